@@ -1,0 +1,5 @@
+pub mod Sizes
+pub mod Opcodes
+pub mod Operands
+pub mod Rows
+pub mod Registers

@@ -1,0 +1,93 @@
+-- Which operands a row takes, and how an operand is spelled.
+use Rattle.std.specs.Prelude.{◌≡◌, ℕ, ◌+◌, ◌*◌, ◌/◌, ◌%◌, ◌^◌, ◌<◌, Bool, true, false, ◌&&◌, ◌||◌, ◌==◌, not, nat_lt, List, [], ◌∷◌, ◌++◌, if◌then◌else◌}
+use Rattle.mb_instr.specs.declared.size.Size.{Size}
+use Rattle.mb_instr.specs.declared.size.Size.TheVariants as size
+use Rattle.mb_instr.specs.declared.operand.Ea.{Ea}
+use Rattle.mb_instr.specs.declared.operand.Ea.TheVariants.{Dn, An, Ind, Post, Pre, Disp, Index, AbsW, AbsL, PcDisp, PcIndex, Imm}
+use Rattle.mb_instr.specs.declared.operand.Ext.{Ext}
+use Rattle.mb_instr.specs.declared.operand.Ext.TheVariants.{Brief, Full}
+use Rattle.mb_instr.specs.declared.operand.OperandClass.{OperandClass}
+use Rattle.mb_instr.specs.declared.operand.OperandClass.TheVariants.{DataRegister, AbsoluteLong, Immediate}
+
+-- the modes and registers of a class
+abbrev pub allows : OperandClass → ℕ → ℕ → Bool
+allows DataRegister mode lower = mode == 0
+allows AbsoluteLong mode lower = (mode == 7) && (lower == 1)
+allows Immediate mode lower = (mode == 7) && (lower == 4)
+
+-- the mode and the register that the first word has
+abbrev pub mode : Ea → ℕ
+mode (Dn n) = 0
+mode (An n) = 1
+mode (Ind n) = 2
+mode (Post n) = 3
+mode (Pre n) = 4
+mode (Disp n d) = 5
+mode (Index n e) = 6
+mode _ = 7
+
+abbrev pub lower : Ea → ℕ
+lower (Dn n) = n
+lower (An n) = n
+lower (Ind n) = n
+lower (Post n) = n
+lower (Pre n) = n
+lower (Disp n d) = n
+lower (Index n e) = n
+lower (AbsW a) = 0
+lower (AbsL a) = 1
+lower (PcDisp d) = 2
+lower (PcIndex e) = 3
+lower (Imm v) = 4
+
+abbrev pub long : ℕ → List ℕ
+long v = v / 65536 ∷ v % 65536 ∷ []
+
+-- a full word's displacement: none, a word, a long
+abbrev pub wide : ℕ → ℕ → List ℕ
+wide width v = if width == 2 then v ∷ [] else if width == 3 then long v else []
+
+abbrev pub fits : ℕ → ℕ → Bool
+fits width v = if width == 2 then nat_lt v 65536 else if width == 3 then true else v == 0
+
+abbrev pub is_full : ℕ → Bool
+is_full w = (w / 2 ^ 3 % 2 == 0) && not (w / 2 ^ 4 % 4 == 0) && (if w / 2 ^ 6 % 2 == 0 then not (w % 8 == 4) else nat_lt (w % 8) 4)
+
+abbrev pub is_ext : Ext → Bool
+is_ext (Brief w) = w / 2 ^ 8 % 2 == 0
+is_ext (Full w bd od) = not (w / 2 ^ 8 % 2 == 0) && is_full w && fits (w / 2 ^ 4 % 4) bd && fits (w % 4) od
+
+abbrev pub ext : Ext → List ℕ
+ext (Brief w) = w ∷ []
+ext (Full w bd od) = w ∷ wide (w / 2 ^ 4 % 4) bd ++ wide (w % 4) od
+
+abbrev pub is_immediate : Size → ℕ → Bool
+is_immediate size.Byte v = nat_lt v 65536
+is_immediate size.Word v = nat_lt v 65536
+is_immediate size.Long v = true
+
+abbrev pub immediate : Size → ℕ → List ℕ
+immediate size.Byte v = v ∷ []
+immediate size.Word v = v ∷ []
+immediate size.Long v = long v
+
+-- the words behind the first
+abbrev pub more : Size → Ea → List ℕ
+more size (Disp n d) = d ∷ []
+more size (Index n e) = ext e
+more size (AbsW a) = a ∷ []
+more size (AbsL a) = long a
+more size (PcDisp d) = d ∷ []
+more size (PcIndex e) = ext e
+more size (Imm v) = immediate size v
+more size _ = []
+
+abbrev pub is_spelled : Size → Ea → Bool
+is_spelled size (Index n e) = is_ext e
+is_spelled size (PcIndex e) = is_ext e
+is_spelled size (Imm v) = is_immediate size v
+is_spelled size _ = true
+
+-- an operand of the class that has a spelling
+abbrev pub takes : OperandClass → Size → Ea → Bool
+takes class size ea = allows class (mode ea) (lower ea) && is_spelled size ea

@@ -1,0 +1,32 @@
+-- The registers that user mode sees, as a part of all registers.
+use Rattle.std.specs.Prelude.{ℕ, ◌+◌, ◌-◌, ◌/◌, ◌%◌, ◌^◌, ◌==◌, Bool, List, [], ◌∷◌, ◌++◌, take, slice_index, if◌then◌else◌}
+use Rattle.mb_instr.specs.declared.registers.Plain.{Plain}
+use Rattle.mb_instr.specs.declared.registers.Regs.{Regs}
+
+-- S: supervisor mode
+abbrev pub is_supervisor : ℕ → Bool
+is_supervisor sr = sr / 2 ^ 13 % 2 == 1
+
+-- M: the master stack
+abbrev pub is_master : ℕ → Bool
+is_master sr = sr / 2 ^ 12 % 2 == 1
+
+-- A7: USP where S is clear, ISP where S is set and M is clear, MSP where both are set
+abbrev pub active_stack : Regs → ℕ
+active_stack r = if is_supervisor r.sr then (if is_master r.sr then r.msp else r.isp) else r.usp
+
+unfoldable pub plain_of : Regs → Plain
+plain_of r = record { d = r.d; a = r.a ++ active_stack r ∷ []; pc = r.pc; ccr = r.sr % 2 ^ 5 }
+
+-- the status register with other condition codes
+abbrev pub with_ccr : ℕ → ℕ → ℕ
+with_ccr sr ccr = sr - sr % 2 ^ 5 + ccr % 2 ^ 5
+
+-- the active stack pointer becomes this
+abbrev pub with_stack : Regs → ℕ → Regs
+with_stack r top =
+    if is_supervisor r.sr then (if is_master r.sr then record r { msp = top } else record r { isp = top })
+    else record r { usp = top }
+
+unfoldable pub with_plain : Regs → Plain → Regs
+with_plain r p = record (with_stack r (slice_index p.a 7)) { d = p.d; a = take 7 p.a; pc = p.pc; sr = with_ccr r.sr p.ccr }

@@ -1,0 +1,10 @@
+//! The state of a machine, as its outcome shows it.
+//!
+//! A term crate: the definition of the machine, the board and the texts stand on it.
+#![tactic(auto)]
+
+mod outcome;
+mod processor;
+
+pub use outcome::{Outcome, RunState};
+pub use processor::Cpu;

@@ -1,0 +1,2 @@
+pub mod Routine
+pub mod Pieces

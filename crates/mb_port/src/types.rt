@@ -1,0 +1,81 @@
+//! The words of the bus.
+
+/// The address space of an access: the manual's user or supervisor space.
+#[derive(Clone, Copy, Debug, PartialEq, Eq)]
+pub enum Space {
+    User,
+    Super,
+}
+
+/// A naturally aligned part of an operand: 1, 2 or 4 bytes at a multiple of their number.
+#[derive(Clone, Copy, Debug, Default, PartialEq, Eq)]
+pub struct Piece {
+    /// The logical address of the first byte.
+    pub at: u32,
+    /// How many bytes: 1, 2 or 4.
+    pub len: u8,
+}
+
+/// A refused access.
+#[derive(Clone, Copy, Debug, PartialEq, Eq)]
+pub struct Fault {
+    /// The logical address of the piece that was refused.
+    pub at: u32,
+    /// Its length in bytes; 16 for a line.
+    pub len: u8,
+    pub space: Space,
+    /// An instruction word, not an operand.
+    pub code: bool,
+    /// A write, or a check for writing.
+    pub write: bool,
+    /// Refused by the translation; else nothing answers at the physical place.
+    pub atc: bool,
+}
+
+/// A physical piece.
+#[derive(Clone, Copy, Debug, Default, PartialEq, Eq)]
+pub struct Place {
+    /// The physical address of the first byte.
+    pub at: u32,
+    /// How many bytes: 1, 2 or 4.
+    pub len: u8,
+}
+
+/// The registers of the memory management unit.
+#[derive(Clone, Copy, Debug, PartialEq, Eq)]
+pub struct Mmu {
+    pub tc: u32,
+    pub itt0: u32,
+    pub itt1: u32,
+    pub dtt0: u32,
+    pub dtt1: u32,
+    pub mmusr: u32,
+    pub urp: u32,
+    pub srp: u32,
+}
+
+/// The name of one register of [`Mmu`].
+#[derive(Clone, Copy, Debug, PartialEq, Eq)]
+pub enum MmuReg {
+    Tc,
+    Itt0,
+    Itt1,
+    Dtt0,
+    Dtt1,
+    Mmusr,
+    Urp,
+    Srp,
+}
+
+/// Which kept translations are dropped. A page is a number of 4 KiB, below 2^20.
+#[derive(Clone, Copy, Debug, PartialEq, Eq)]
+pub enum Flush {
+    /// All (`PFLUSHA`).
+    All,
+    /// All without the global bit (`PFLUSHAN`).
+    AllLocal,
+    /// Those of a page (`PFLUSH`).
+    Page(Space, u32),
+    /// Those of a page without the global bit (`PFLUSHN`).
+    PageLocal(Space, u32),
+}
