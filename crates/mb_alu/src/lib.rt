@@ -16,4 +16,4 @@ mod tests;
 pub use bitwise::{LogicKind, logic};
 pub use conditions::{Conditions, Flagged};
 pub use extension::extend;
-pub use sums::add;
+pub use sums::{add, compare, sub};
