@@ -3,3 +3,5 @@ pub mod Signs
 pub mod Sums
 pub mod Logic
 pub mod Extend
+pub mod Products
+pub mod Wholes

@@ -1,11 +1,11 @@
 -- Sums and differences.
-use Rattle.std.specs.Prelude.{ℕ, ◌+◌, ◌-◌, pos, ◌+ℤ◌, ◌-ℤ◌, Bool, false, ◌&&◌, ◌||◌, not, nat_le, nat_lt}
+use Rattle.std.specs.Prelude.{ℕ, ◌+◌, ◌-◌, pos, ◌+ℤ◌, ◌-ℤ◌, Bool, true, false, ◌&&◌, ◌||◌, not, nat_le, nat_lt}
 use Rattle.mb_instr.specs.declared.size.Size.{Size}
 use Rattle.mb_instr.specs.Sizes.{values_of, low_of}
 use Rattle.mb_alu.specs.declared.conditions.Flagged.{Flagged}
 use Rattle.mb_alu.specs.declared.conditions.Conditions.{Conditions}
 use Rattle.mb_alu.specs.Conditions.{bit, conditions_of, ccr_of}
-use Rattle.mb_alu.specs.Signs.{is_negative, is_zero, signed_of, fits_signed}
+use Rattle.mb_alu.specs.Signs.{is_negative, is_zero, signed_of, fits}
 
 -- X, where the sum or the difference is extended
 abbrev pub carry_in : Bool → ℕ → ℕ
@@ -28,7 +28,7 @@ add_of size x y ccr extended =
         x = carry;
         n = is_negative size sum;
         z = zero_of size sum ccr extended;
-        v = not (fits_signed size signed_sum);
+        v = not (fits true (values_of size) signed_sum);
         c = carry;
       });
     }
@@ -48,7 +48,7 @@ difference_codes size x y ccr extended =
       x = borrow;
       n = is_negative size difference;
       z = zero_of size difference ccr extended;
-      v = not (fits_signed size signed_difference);
+      v = not (fits true (values_of size) signed_difference);
       c = borrow;
     }
 
