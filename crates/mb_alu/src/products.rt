@@ -23,7 +23,7 @@ fn overflow(signed: bool, width: Width, product: Whole) -> bool
     ensures { result ≡ overflows signed width (whole_of product) }
 {
     match width {
-        Width::Long => !product.fits(signed, 0x8000_0000),
+        Width::Long => !product.fits(signed, width),
         Width::Word | Width::Wide => false,
     }
 }

@@ -50,14 +50,14 @@ pub fn div(signed: bool, width: Width, divisor: u32, dividend: u64, ccr: u8) -> 
     ensures { result ≡ div_of signed width divisor dividend ccr }
 {
     let before = Conditions::of(ccr);
-    let by = Whole::short(signed, width, divisor);
-    if by.magnitude == 0 {
+    if width.short(u64::from(divisor)) == 0 {
         let codes = Conditions { c: false, ..before };
         return Divided::ZeroDivide(codes.ccr());
     }
+    let by = Whole::short(signed, width, divisor);
     let from = Whole::long(signed, width, dividend);
     let quotient = from.quotient(by);
-    if !quotient.fits(signed, width.short_half()) {
+    if !quotient.fits(signed, width) {
         let codes = Conditions {
             v: true,
             c: false,

@@ -1,8 +1,8 @@
 //! Whole numbers of up to 64 bits and a sign.
 
-ghost use Rattle.std.specs.Prelude.{◌≡◌, ◌*◌, ◌^◌, ◌<◌, ◌≤◌, ◌*ℤ◌, int_div, int_rem};
+ghost use Rattle.std.specs.Prelude.{◌≡◌, ◌*◌, ◌%◌, ◌^◌, ◌<◌, ◌≤◌, ◌*ℤ◌, int_div, int_rem};
 ghost use Rattle.mb_alu.specs.Signs.{read_of, fits, modulo};
-ghost use Rattle.mb_alu.specs.Products.{short_of, long_of};
+ghost use Rattle.mb_alu.specs.Products.{short_values, short_of, long_of};
 ghost use Rattle.mb_alu.specs.Wholes.{whole_of};
 
 use crate::width::Width;
@@ -21,6 +21,7 @@ impl Whole {
         requires { value < 2 * half }
         ensures value { whole_of result ≡ read_of signed (2 * half) value }
         ensures bound { result.magnitude ≤ value }
+        ensures nonzero { 0 < value → 0 < result.magnitude }
     {
         if signed && value >= half {
             Whole {
@@ -40,6 +41,7 @@ impl Whole {
     pub(crate) fn short(signed: bool, width: Width, value: u32) -> Whole
         ensures value { whole_of result ≡ short_of signed width value }
         ensures bound { result.magnitude < 2 ^ 32 }
+        ensures nonzero { 0 < value % short_values width → 0 < result.magnitude }
     {
         match width {
             Width::Word => Whole::read(signed, 0x8000, u64::from(value & 0xFFFF)),
@@ -72,7 +74,7 @@ impl Whole {
 
     /// Whether it is among the numbers below twice `half`, read unsigned or signed.
     #[inline(always)]
-    pub(crate) fn fits(self, signed: bool, half: u64) -> bool
+    fn is_within(self, signed: bool, half: u64) -> bool
         requires low { 0 < half }
         requires high { half < 2 ^ 32 }
         ensures { result ≡ fits signed (2 * half) (whole_of self) }
@@ -83,6 +85,17 @@ impl Whole {
             self.magnitude <= half
         } else {
             self.magnitude < half
+        }
+    }
+
+    /// Whether it can be a factor or a quotient of the width.
+    #[inline(always)]
+    pub(crate) fn fits(self, signed: bool, width: Width) -> bool
+        ensures { result ≡ fits signed (short_values width) (whole_of self) }
+    {
+        match width {
+            Width::Word => self.is_within(signed, 0x8000),
+            Width::Long | Width::Wide => self.is_within(signed, 0x8000_0000),
         }
     }
 
