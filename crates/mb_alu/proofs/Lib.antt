@@ -1,1 +1,3 @@
 pub mod Carries
+pub mod Words
+pub mod Steps

@@ -5,3 +5,4 @@ pub mod Logic
 pub mod Extend
 pub mod Products
 pub mod Wholes
+pub mod Shifts

@@ -11,6 +11,7 @@ mod conditions;
 mod extension;
 mod products;
 mod quotients;
+mod shifts;
 mod sums;
 #[cfg(test)]
 mod tests;
@@ -22,5 +23,6 @@ pub use conditions::{Conditions, Flagged};
 pub use extension::extend;
 pub use products::{Product, mul};
 pub use quotients::{Divided, div};
+pub use shifts::ShiftKind;
 pub use sums::{add, compare, sub};
 pub use width::Width;
