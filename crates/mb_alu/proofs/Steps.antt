@@ -11,7 +11,9 @@ use Rattle.mb_alu.specs.declared.shifts.ShiftKind.{ShiftKind}
 use Rattle.mb_alu.specs.declared.shifts.ShiftKind.TheVariants.{As, Ls, Rox, Ro}
 use Rattle.mb_alu.specs.Conditions.{bit}
 use Rattle.mb_alu.specs.Signs.{is_negative}
-use Rattle.mb_alu.specs.Shifts.{Shifting, shifted_by_one, by_one, entering, repeated}
+use Rattle.mb_alu.specs.declared.shifts.Shifting.{Shifting}
+use Rattle.mb_alu.specs.AtOnce.{halved, has_room, rotates}
+use Rattle.mb_alu.specs.Shifts.{shifted_by_one, by_one, leaving, entering, extend_after, is_arithmetic, repeated}
 
 -- the bits stay below the number of values
 pub by_one-below : (left : Bool) (size : Size) (enters : Bool) (value : ℕ) → value < values_of size → by_one left size enters value < values_of size
@@ -77,14 +79,15 @@ right_values size s (suc n) =
 
 -- to the right with the sign entering, a negative operand is the complement of one that is not
 right_next : (size : Size) (v n w : ℕ) → v < values_of size →
-    w ≡ cond (is_negative size v) (values_of size - 1 - (values_of size - 1 - v) / 2 ^ n) (v / 2 ^ n) →
-    by_one false size (is_negative size w) w ≡ cond (is_negative size v) (values_of size - 1 - (values_of size - 1 - v) / 2 ^ suc n) (v / 2 ^ suc n)
+    w ≡ halved size n v →
+    by_one false size (is_negative size w) w ≡ halved size (suc n) v
 right_next size v n w h e =
     next size v w (v / 2 ^ n) (v / 2 ^ suc n) ((values_of size - 1 - v) / 2 ^ n) ((values_of size - 1 - v) / 2 ^ suc n)
-    h (shr_le v n) (shr_le (values_of size - 1 - v) n) (halved v) (halved (values_of size - 1 - v)) e
+    h (shr_le v n) (shr_le (values_of size - 1 - v) n) (half_of v) (half_of (values_of size - 1 - v)) e
   where
-    halved : (u : ℕ) → u / 2 ^ suc n ≡ u / 2 ^ n / 2
-    halved u = sym (shr-shr u n 1 ∙ ap (λ k. u / 2 ^ k) (omega arith))
+    half_of : (u : ℕ) → u / 2 ^ suc n ≡ u / 2 ^ n / 2
+    half_of u = sym (shr-shr u n 1 ∙ ap (λ k. u / 2 ^ k) (omega arith))
+
     next : (size : Size) (v w p p' q q' : ℕ) → v < values_of size → p ≤ v → q ≤ values_of size - 1 - v → p' ≡ p / 2 → q' ≡ q / 2 →
         w ≡ cond (is_negative size v) (values_of size - 1 - q) p →
         by_one false size (is_negative size w) w ≡ cond (is_negative size v) (values_of size - 1 - q') p'
@@ -93,8 +96,7 @@ right_next size v n w h e =
     next Long v w p p' q q' h a b c d e = grind (arith, nat_tests)
 
 pub right_values_signed : (size : Size) (s : Shifting) → s.value < values_of size → (n : ℕ) →
-    (repeated n (shifted_by_one As false size) s).value
-    ≡ cond (is_negative size s.value) (values_of size - 1 - (values_of size - 1 - s.value) / 2 ^ n) (s.value / 2 ^ n)
+    (repeated n (shifted_by_one As false size) s).value ≡ halved size n s.value
 unfolding repeated
 right_values_signed Byte s h zero = grind (arith, nat_tests)
 right_values_signed Word s h zero = grind (arith, nat_tests)
@@ -102,26 +104,21 @@ right_values_signed Long s h zero = grind (arith, nat_tests)
 right_values_signed size s h (suc n) =
     right_next size s.value n (repeated n (shifted_by_one As false size) s).value h (right_values_signed size s h n)
 
--- Whether v, in two's complement, times 2 ^ n is in the signed range: the magnitude of a negative
--- number may be as much as half the number of values, that of another must be less
-abbrev pub is_roomy : Size → ℕ → ℕ → Bool
-is_roomy size v n = cond (is_negative size v) (nat_le ((values_of size - v) * 2 ^ n) (values_of size / 2)) (nat_lt (v * 2 ^ n) (values_of size / 2))
-
 -- the sign changes at the shift after n where the product leaves the signed range with the next factor 2
 roomy_next : (size : Size) (v n w : ℕ) → v < values_of size → w ≡ low_of size (v * 2 ^ n) →
-    (not (is_roomy size v n) || not (beq (is_negative size w) (is_negative size (by_one true size false w)))) ≡ not (is_roomy size v (suc n))
+    (not (has_room size n v) || not (beq (is_negative size w) (is_negative size (by_one true size false w)))) ≡ not (has_room size (suc n) v)
 roomy_next size v n w h e =
     let doubled : v * 2 ^ suc n ≡ 2 * (v * 2 ^ n) = rw two-pow-succ (omega arith) in
     let doubled' : (values_of size - v) * 2 ^ suc n ≡ 2 * ((values_of size - v) * 2 ^ n) = rw two-pow-succ (omega arith) in
     let whole : v * 2 ^ n + (values_of size - v) * 2 ^ n ≡ values_of size * 2 ^ n =
-        sym (add-mul v (values_of size - v) (2 ^ n)) ∙ ap (λ k. k * 2 ^ n) (omega arith) in
+    sym (add-mul v (values_of size - v) (2 ^ n)) ∙ ap (λ k. k * 2 ^ n) (omega arith) in
     next size v w (v * 2 ^ n) (v * 2 ^ suc n) ((values_of size - v) * 2 ^ n) ((values_of size - v) * 2 ^ suc n) (2 ^ n)
     h whole (mul-pos (omega arith) (pow_pos n)) doubled doubled' e
   where
     next : (size : Size) (v w p p' q q' t : ℕ) → v < values_of size → p + q ≡ values_of size * t → 0 < q → p' ≡ 2 * p → q' ≡ 2 * q →
         w ≡ low_of size p →
         (not (cond (is_negative size v) (nat_le q (values_of size / 2)) (nat_lt p (values_of size / 2)))
-            || not (beq (is_negative size w) (is_negative size (by_one true size false w))))
+        || not (beq (is_negative size w) (is_negative size (by_one true size false w))))
         ≡ not (cond (is_negative size v) (nat_le q' (values_of size / 2)) (nat_lt p' (values_of size / 2)))
     next Byte v w p p' q q' t h a b c d e = grind (arith, nat_tests)
     next Word v w p p' q q' t h a b c d e = grind (arith, nat_tests)
@@ -129,14 +126,14 @@ roomy_next size v n w h e =
 
 -- V of an arithmetic shift to the left: the signed operand times the power of two leaves the range
 pub left_overflows : (size : Size) (s : Shifting) → s.value < values_of size → s.v ≡ false →
-    (n : ℕ) → (repeated n (shifted_by_one As true size) s).v ≡ not (is_roomy size s.value n)
+    (n : ℕ) → (repeated n (shifted_by_one As true size) s).v ≡ not (has_room size n s.value)
 unfolding repeated
 left_overflows Byte s h e zero = grind (arith, nat_tests)
 left_overflows Word s h e zero = grind (arith, nat_tests)
 left_overflows Long s h e zero = grind (arith, nat_tests)
 left_overflows size s h e (suc n) =
     let before : Shifting = repeated n (shifted_by_one As true size) s in
-    let same : before.v ≡ not (is_roomy size s.value n) = left_overflows size s h e n in
+    let same : before.v ≡ not (has_room size n s.value) = left_overflows size s h e n in
     ap (λ v. v || not (beq (is_negative size before.value) (is_negative size (by_one true size false before.value)))) same
     ∙ roomy_next size s.value n before.value h (left_values_signed size s h n)
 
@@ -154,27 +151,40 @@ right_overflows size s h e (suc n) =
     let before : Shifting = repeated n (shifted_by_one As false size) s in
     let same : before.v ≡ false = right_overflows size s h e n in
     let stays : not (beq (is_negative size before.value) (is_negative size (by_one false size (is_negative size before.value) before.value))) ≡ false =
-        sign_stays size before.value (repeated-below As false size s h n) in
+    sign_stays size before.value (repeated-below As false size s h n) in
     rw (same, stays) refl
 
 -- only arithmetic shifts set V
-pub logical_overflows : (left : Bool) (size : Size) (s : Shifting) → s.v ≡ false → (n : ℕ) → (repeated n (shifted_by_one Ls left size) s).v ≡ false
+pub others_overflow : (kind : ShiftKind) (left : Bool) (size : Size) (s : Shifting) → is_arithmetic kind ≡ false → s.v ≡ false →
+    (n : ℕ) → (repeated n (shifted_by_one kind left size) s).v ≡ false
 unfolding repeated
-logical_overflows left size s e zero = e
-logical_overflows left size s e (suc n) = rw (logical_overflows left size s e n) refl
-
-pub extended_overflows : (left : Bool) (size : Size) (s : Shifting) → s.v ≡ false → (n : ℕ) → (repeated n (shifted_by_one Rox left size) s).v ≡ false
-unfolding repeated
-extended_overflows left size s e zero = e
-extended_overflows left size s e (suc n) = rw (extended_overflows left size s e n) refl
-
-pub rotated_overflows : (left : Bool) (size : Size) (s : Shifting) → s.v ≡ false → (n : ℕ) → (repeated n (shifted_by_one Ro left size) s).v ≡ false
-unfolding repeated
-rotated_overflows left size s e zero = e
-rotated_overflows left size s e (suc n) = rw (rotated_overflows left size s e n) refl
+others_overflow kind left size s k e zero = e
+others_overflow kind left size s k e (suc n) = rw (others_overflow kind left size s k e n, k) refl
 
 -- a rotate without X keeps it
 pub rotated_keeps : (left : Bool) (size : Size) (s : Shifting) → (n : ℕ) → (repeated n (shifted_by_one Ro left size) s).x ≡ s.x
 unfolding repeated
 rotated_keeps left size s zero = refl
 rotated_keeps left size s (suc n) = rotated_keeps left size s n
+
+-- the last shift by one bit; where X takes no part, it may be any
+pub last_is : (kind : ShiftKind) (left : Bool) (size : Size) (s : Shifting) (value : ℕ) (x overflow : Bool) →
+    value ≡ s.value → (rotates kind ≡ true → x ≡ s.x) → overflow ≡ (shifted_by_one kind left size s).v →
+    ◌≡◌ {A = Shifting}
+    (record {
+      value = by_one left size (entering kind left size x value) value;
+      x = extend_after kind x (leaving left size value);
+      c = leaving left size value;
+      v = overflow;
+    })
+    (shifted_by_one kind left size s)
+last_is As true size s value x overflow e f o = rw (e, o) refl
+last_is As false size s value x overflow e f o = rw (e, o) refl
+last_is Ls left size s value x overflow e f o = rw (e, o) refl
+last_is Rox left size s value x overflow e f o = rw (e, o, f refl) refl
+last_is Ro left size s value x overflow e f o = rw (e, o, f refl) refl
+
+pub repeated_last : (step : Shifting → Shifting) (s : Shifting) (count : ℕ) → 0 < count → repeated count step s ≡ step (repeated (count - 1) step s)
+unfolding repeated
+repeated_last step s zero h = absurd (omega arith)
+repeated_last step s (suc n) h = let e : suc n - 1 ≡ n = omega arith in rw e refl

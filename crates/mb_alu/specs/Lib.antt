@@ -6,3 +6,4 @@ pub mod Extend
 pub mod Products
 pub mod Wholes
 pub mod Shifts
+pub mod AtOnce

@@ -4,17 +4,11 @@ use Rattle.std.specs.Bool.{beq}
 use Rattle.mb_instr.specs.declared.size.Size.{Size}
 use Rattle.mb_instr.specs.Sizes.{values_of, low_of}
 use Rattle.mb_alu.specs.declared.conditions.Flagged.{Flagged}
+use Rattle.mb_alu.specs.declared.shifts.Shifting.{Shifting}
 use Rattle.mb_alu.specs.declared.shifts.ShiftKind.{ShiftKind}
 use Rattle.mb_alu.specs.declared.shifts.ShiftKind.TheVariants.{As, Ls, Rox, Ro}
 use Rattle.mb_alu.specs.Conditions.{bit, conditions_of, ccr_of}
 use Rattle.mb_alu.specs.Signs.{is_negative, is_zero}
-
--- an operand under way: its bits, X, the last bit that left it, and whether its sign has changed
-pub record Shifting : Type 0 where
-  pub value : ℕ
-  pub x : Bool
-  pub c : Bool
-  pub v : Bool
 
 -- the bit that leaves: the highest to the left, the lowest to the right
 abbrev pub leaving : Bool → Size → ℕ → Bool
@@ -62,9 +56,11 @@ unfoldable pub repeated : ℕ → (Shifting → Shifting) → Shifting → Shift
 repeated zero step s = s
 repeated (suc n) step s = step (repeated n step s)
 
+abbrev pub unshifted : ShiftKind → ℕ → Bool → Shifting
+unshifted kind value x = record { value = value; x = x; c = carry_before kind x; v = false }
+
 abbrev pub shifted : ShiftKind → Bool → Size → ℕ → ℕ → Bool → Shifting
-shifted kind left size count value x =
-    repeated count (shifted_by_one kind left size) (record { value = value; x = x; c = carry_before kind x; v = false })
+shifted kind left size count value x = repeated count (shifted_by_one kind left size) (unshifted kind value x)
 
 abbrev pub shift_flagged : Size → Shifting → Flagged
 shift_flagged size end = record {

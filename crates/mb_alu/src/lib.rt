@@ -23,6 +23,6 @@ pub use conditions::{Conditions, Flagged};
 pub use extension::extend;
 pub use products::{Product, mul};
 pub use quotients::{Divided, div};
-pub use shifts::ShiftKind;
+pub use shifts::{ShiftKind, shift};
 pub use sums::{add, compare, sub};
 pub use width::Width;

@@ -1,5 +1,5 @@
 use Rattle.mb_alu.proofs.Words.{exchanged_is, exchanged-bound}
-use Rattle.mb_alu.proofs.shifts.exchanged.Goals as goal
+use Rattle.mb_alu.proofs.shifts.exchange.Goals as goal
 
 pub returns-clause-value : goal.returns-clause-value
 returns-clause-value c = exchanged_is c.args.word c.args.bits c.args.lower c.requires.bits c.requires.lower c.requires.word
