@@ -16,5 +16,5 @@ returns-else-left c = λ x.
 pub returns-in-Ls : goal.returns-in-Ls
 returns-in-Ls c = λ x.
     let other : is_arithmetic c.args.kind ≡ false =
-        elim c.in-Ls.is [ inl e ↦ rw e refl | inr r ↦ elim r [ inl e ↦ rw e refl | inr e ↦ rw e refl ] ] in
+    elim c.in-Ls.is [ inl e ↦ rw e refl | inr r ↦ elim r [ inl e ↦ rw e refl | inr e ↦ rw e refl ] ] in
     sym (others_overflow c.args.kind c.args.left c.args.size (unshifted c.args.kind c.args.value x) other refl c.args.count)

@@ -16,8 +16,9 @@ word : (c : goal.After-bits-3) → c.turn-turned.result ≡ extended_word c.args
 unfolding end
 word c =
     cc (
-        extended_words c.args.left c.args.size (unshifted Rox c.args.value c.args.x) c.requires c.args.count,
-        extended_bits c.args.size c.args.x c.args.value c.requires)
+      extended_words c.args.left c.args.size (unshifted Rox c.args.value c.args.x) c.requires c.args.count,
+      extended_bits c.args.size c.args.x c.args.value c.requires,
+    )
 
 below : (c : goal.After-bits-3) → (end c).value < values_of c.args.size
 unfolding end
