@@ -1,7 +1,7 @@
 -- What so many shifts by one bit come to.
-use Rattle.std.proofs.Common.{ℕ, zero, suc, ◌≡◌, ◌+◌, ◌-◌, ◌*◌, ◌/◌, ◌%◌, ◌^◌, ◌<◌, ◌≤◌, arith, add-mul, ap, ◌∙◌, sym, refl, Bool, true, false, not, ◌&&◌, ◌||◌, ◌==◌, nat_le, nat_lt, cond}
+use Rattle.std.proofs.Common.{ℕ, zero, suc, ◌≡◌, ◌+◌, ◌-◌, ◌*◌, ◌/◌, ◌^◌, ◌<◌, ◌≤◌, arith, add-mul, ap, ◌∙◌, sym, refl, Bool, true, false, not, ◌||◌, nat_le, nat_lt, cond}
 use Rattle.std.proofs.Math.Nat.{two-pow-succ, mul-pos}
-use Rattle.std.proofs.lemmas.Nat.{pow-add, shr-shr, shr_le, pow_pos}
+use Rattle.std.proofs.lemmas.Nat.{shr-shr, shr_le, pow_pos}
 use Rattle.std.proofs.lemmas.Bool.Decides.{nat_tests}
 use Rattle.std.specs.Bool.{beq}
 use Rattle.mb_instr.specs.declared.size.Size.{Size}
@@ -9,7 +9,6 @@ use Rattle.mb_instr.specs.declared.size.Size.TheVariants.{Byte, Word, Long}
 use Rattle.mb_instr.specs.Sizes.{values_of, low_of}
 use Rattle.mb_alu.specs.declared.shifts.ShiftKind.{ShiftKind}
 use Rattle.mb_alu.specs.declared.shifts.ShiftKind.TheVariants.{As, Ls, Rox, Ro}
-use Rattle.mb_alu.specs.Conditions.{bit}
 use Rattle.mb_alu.specs.Signs.{is_negative}
 use Rattle.mb_alu.specs.declared.shifts.Shifting.{Shifting}
 use Rattle.mb_alu.specs.AtOnce.{halved, has_room, rotates}

@@ -1,5 +1,5 @@
 -- Rotates: a word that is turned bit by bit is a word whose two parts change places.
-use Rattle.std.proofs.Common.{ℕ, zero, suc, ◌≡◌, ◌+◌, ◌-◌, ◌*◌, ◌/◌, ◌%◌, ◌^◌, ◌<◌, ◌≤◌, arith, ap, ◌∙◌, sym, refl, Bool, true, false, not, ◌==◌, bit_or}
+use Rattle.std.proofs.Common.{ℕ, zero, suc, ◌≡◌, ◌+◌, ◌-◌, ◌*◌, ◌/◌, ◌%◌, ◌^◌, ◌<◌, arith, ap, ◌∙◌, sym, refl, Bool, true, false, not, ◌==◌, bit_or}
 use Rattle.std.proofs.Math.Nat.{two-pow-succ}
 use Rattle.std.proofs.lemmas.Nat.{pow-add, pow_pos, mul-add-lt, shr_split, shr_below, mod_below, div-add-mod', or_shifted}
 use Rattle.std.proofs.lemmas.Bool.Decides.{nat_tests}
@@ -11,8 +11,8 @@ use Rattle.mb_alu.specs.Conditions.{bit}
 use Rattle.mb_alu.specs.Signs.{is_negative}
 use Rattle.mb_alu.specs.declared.shifts.Shifting.{Shifting}
 use Rattle.mb_alu.specs.Shifts.{shifted_by_one, by_one, entering, repeated}
-use Rattle.mb_alu.specs.AtOnce.{exchanged, turned}
-use Rattle.mb_alu.proofs.Steps.{by_one-below, repeated-below}
+use Rattle.mb_alu.specs.AtOnce.{turned}
+use Rattle.mb_alu.proofs.Steps.{by_one-below}
 
 repeated-zero : (step : Shifting → Shifting) (s : Shifting) → repeated zero step s ≡ s
 unfolding repeated

@@ -1,5 +1,5 @@
 -- Products and quotients.
-use Rattle.std.specs.Prelude.{ℕ, ◌^◌, ◌/◌, ◌%◌, ◌==◌, ℤ, ◌*ℤ◌, int_div, int_rem, Bool, true, false, ◌&&◌, not, nat_le, if◌then◌else◌}
+use Rattle.std.specs.Prelude.{ℕ, ◌^◌, ◌/◌, ◌%◌, ◌==◌, ℤ, ◌*ℤ◌, int_div, int_rem, Bool, true, false, not, nat_le, if◌then◌else◌}
 use Rattle.mb_alu.specs.declared.conditions.Conditions.{Conditions}
 use Rattle.mb_alu.specs.declared.width.Width.{Width}
 use Rattle.mb_alu.specs.declared.width.Width.TheVariants.{Word, Long, Wide}

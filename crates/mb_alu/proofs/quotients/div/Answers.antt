@@ -1,7 +1,6 @@
-use Rattle.std.proofs.Common.{◌≡◌, ℕ, Bool, true, false, ◌%◌, ◌==◌, arith, sym, ◌∙◌}
-use Rattle.std.proofs.lemmas.Grind.{common_steps}
+use Rattle.std.proofs.Common.{◌≡◌, true, false, ◌%◌, ◌==◌, arith, sym, ◌∙◌}
 use Rattle.std.proofs.lemmas.Bool.Decides.{nat_tests}
-use Rattle.mb_alu.specs.Products.{div_of, short_values, quotient_of, remainder_of, divided_of}
+use Rattle.mb_alu.specs.Products.{div_of, short_values, quotient_of, remainder_of}
 use Rattle.mb_alu.specs.Signs.{fits}
 use Rattle.mb_alu.specs.Wholes.{whole_of}
 use Rattle.mb_alu.proofs.quotients.div.Goals as goal

@@ -1,5 +1,5 @@
-use Rattle.std.proofs.Common.{◌≡◌, ◌<◌, ◌^◌, ◌/◌, ap, ◌∙◌, not, nat_eq}
-use Rattle.mb_instr.specs.Sizes.{low_of, values_of, bits_of}
+use Rattle.std.proofs.Common.{◌≡◌, ◌<◌, ap, ◌∙◌}
+use Rattle.mb_instr.specs.Sizes.{low_of, values_of}
 use Rattle.mb_alu.specs.declared.shifts.Shifting.{Shifting}
 use Rattle.mb_alu.specs.declared.shifts.ShiftKind.TheVariants.{Rox}
 use Rattle.mb_alu.specs.Shifts.{unshifted, shifted}
