@@ -27,7 +27,7 @@ has_room size count value = if is_negative size value
     then nat_le ((values_of size - value) * 2 ^ count) (values_of size / 2)
     else nat_lt (value * 2 ^ count) (values_of size / 2)
 
--- where X takes part
+-- the kinds that keep X, or turn it with the operand
 abbrev pub rotates : ShiftKind → Bool
 rotates As = false
 rotates Ls = false

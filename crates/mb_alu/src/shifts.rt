@@ -132,7 +132,7 @@ fn rotated_with_extend(left: bool, size: Size, value: u32, x: bool, count: u8) -
     (cut(size, turned), turned >> bits(size) != 0)
 }
 
-/// The operand after so many shifts, and X where it takes part.
+/// The operand after so many shifts, and after a rotate X too.
 #[inline(always)]
 fn shifted_far(
     kind: ShiftKind,
@@ -284,8 +284,8 @@ impl Shifting {
     }
 }
 
-/// `x` shifted or rotated by `count` bits. C is the last bit that leaves, or without any 0 and for a
-/// rotate with X that X; V says that the sign changed on the way of an arithmetic shift to the left.
+/// `x` shifted or rotated by `count` bits. C is the last bit that leaves; where none does it is 0, or X
+/// for a rotate with X. V says that the sign changed on the way of an arithmetic shift to the left.
 #[inline(always)]
 #[tactic(auto, unfolding(crate::specs::Shifts::shift_of))]
 pub fn shift(kind: ShiftKind, left: bool, size: Size, count: u8, x: u32, ccr: u8) -> Flagged
