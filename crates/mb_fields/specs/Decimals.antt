@@ -1,0 +1,65 @@
+-- Decimal arithmetic on bytes of two digits. The formulas say what comes of digits above 9 too.
+use Rattle.std.specs.Prelude.{ℕ, ◌+◌, ◌*◌, ◌/◌, ◌%◌, ◌^◌, ◌==◌, ℤ, pos, negsuc, ◌-◌, ◌+ℤ◌, ◌-ℤ◌, int_lt, nat_lt, Bool, true, false, ◌&&◌, if◌then◌else◌}
+use Rattle.mb_fields.specs.declared.decimals.Flagged.{Flagged}
+
+abbrev pub bit : Bool → ℕ
+bit false = 0
+bit true = 1
+
+-- the units, and the tens as the byte holds them, 16 times their digit
+abbrev pub low_of : ℕ → ℕ
+low_of x = x % 16
+
+abbrev pub high_of : ℕ → ℕ
+high_of x = x / 16 * 16
+
+-- X is bit 4 of the condition codes
+abbrev pub extend_of : ℕ → ℕ
+extend_of ccr = ccr / 2 ^ 4 % 2
+
+-- Z, bit 2: cleared by a result that is not 0, and else as it was
+abbrev pub zero_after : ℕ → ℕ → ℕ
+zero_after value ccr = if value == 0 then ccr / 2 ^ 2 % 2 else 0
+
+-- X and C take the carry or borrow, N is the highest bit of the result, V is cleared
+abbrev pub decimal_flagged : ℕ → Bool → ℕ → Flagged
+decimal_flagged value carry ccr = record {
+  value = value;
+  ccr = bit carry * 16 + value / 2 ^ 7 * 8 + zero_after value ccr * 4 + bit carry;
+}
+
+-- the units with X, and the sum of all, with 6 more where the units are above 9
+abbrev pub units_sum : ℕ → ℕ → ℕ → ℕ
+units_sum x y ccr = low_of x + low_of y + extend_of ccr
+
+abbrev pub decimal_sum : ℕ → ℕ → ℕ → ℕ
+decimal_sum x y ccr = high_of x + high_of y + units_sum x y ccr + (if nat_lt 9 (units_sum x y ccr) then 6 else 0)
+
+unfoldable pub abcd_of : ℕ → ℕ → ℕ → Flagged
+abcd_of x y ccr =
+    let sum = decimal_sum x y ccr in
+    let carry = nat_lt 159 sum in
+    decimal_flagged ((if carry then sum + 96 else sum) % 256) carry ccr
+
+-- the whole number modulo 256; negsuc n is -(n + 1)
+abbrev pub byte_of : ℤ → ℕ
+byte_of (pos n) = n % 256
+byte_of (negsuc n) = 255 - n % 256
+
+-- the difference y - x of units less X, the whole difference with 6 less where that is below 0
+abbrev pub units_difference : ℕ → ℕ → ℕ → ℤ
+units_difference x y ccr = pos (low_of y) -ℤ pos (low_of x) -ℤ pos (extend_of ccr)
+
+abbrev pub decimal_difference : ℕ → ℕ → ℕ → ℤ
+decimal_difference x y ccr =
+    pos (high_of y) -ℤ pos (high_of x) +ℤ units_difference x y ccr
+    -ℤ (if int_lt (units_difference x y ccr) (pos 0) then pos 6 else pos 0)
+
+-- the bytes' difference less X is below 0: there is a borrow, and the result is 96 less
+abbrev pub borrows : ℕ → ℕ → ℕ → Bool
+borrows x y ccr = int_lt (pos y -ℤ pos x -ℤ pos (extend_of ccr)) (pos 0)
+
+unfoldable pub sbcd_of : ℕ → ℕ → ℕ → Flagged
+sbcd_of x y ccr =
+    let difference = decimal_difference x y ccr -ℤ (if borrows x y ccr then pos 96 else pos 0) in
+    decimal_flagged (byte_of difference) (borrows x y ccr) ccr

@@ -1,0 +1,62 @@
+//! Decimal arithmetic.
+
+ghost use Rattle.std.specs.Prelude.{◌≡◌};
+ghost use Rattle.mb_fields.specs.Decimals.{decimal_flagged, abcd_of, sbcd_of};
+
+/// A result with the condition codes after it.
+#[derive(Clone, Copy, Debug, PartialEq, Eq)]
+pub struct Flagged {
+    /// A byte.
+    pub value: u32,
+    /// X, N, Z, V and C in bits 4 to 0.
+    pub ccr: u8,
+}
+
+#[inline(always)]
+fn with_conditions(value: u8, carry: bool, ccr: u8) -> Flagged
+    ensures { result ≡ decimal_flagged value carry ccr }
+{
+    let carry = u8::from(carry);
+    let zero = if value == 0 { ccr >> 2 & 1 } else { 0 };
+    Flagged {
+        value: u32::from(value),
+        ccr: carry * 16 + (value >> 7) * 8 + zero * 4 + carry,
+    }
+}
+
+/// `x + y + X`, two digits each. A carry of the tens goes to X and C.
+#[tactic(auto, unfolding(crate::specs::Decimals::abcd_of))]
+pub fn abcd(x: u8, y: u8, ccr: u8) -> Flagged
+    ensures { result ≡ abcd_of x y ccr }
+{
+    let (x, y) = (u32::from(x), u32::from(y));
+    let extend = u32::from(ccr >> 4 & 1);
+    let past_units = (x & 0xF) + (y & 0xF) + extend > 9;
+    let sum = x + y + extend + 6 * u32::from(past_units);
+    let carry = sum > 0x9F;
+    let value = (sum + 0x60 * u32::from(carry)) & 0xFF;
+    with_conditions(value as u8, carry, ccr)
+}
+
+/// `y - x - X`, two digits each. A borrow of the tens goes to X and C.
+#[tactic(auto, unfolding(crate::specs::Decimals::sbcd_of))]
+pub fn sbcd(x: u8, y: u8, ccr: u8) -> Flagged
+    ensures { result ≡ sbcd_of x y ccr }
+{
+    let (x, y) = (u32::from(x), u32::from(y));
+    let extend = u32::from(ccr >> 4 & 1);
+    let below_units = (y & 0xF) < (x & 0xF) + extend;
+    let borrow = y < x + extend;
+    let taken = x + extend + 6 * u32::from(below_units) + 0x60 * u32::from(borrow);
+    // Two bytes' values more, so that nothing goes below 0.
+    let value = (0x200 + y - taken) & 0xFF;
+    with_conditions(value as u8, borrow, ccr)
+}
+
+/// `0 - y - X`, two digits each.
+#[inline(always)]
+pub fn nbcd(y: u8, ccr: u8) -> Flagged
+    ensures { result ≡ sbcd_of y 0 ccr }
+{
+    sbcd(y, 0, ccr)
+}
