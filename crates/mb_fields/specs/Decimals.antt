@@ -1,5 +1,5 @@
 -- Decimal arithmetic on bytes of two digits. The formulas say what comes of digits above 9 too.
-use Rattle.std.specs.Prelude.{ℕ, ◌+◌, ◌*◌, ◌/◌, ◌%◌, ◌^◌, ◌==◌, ℤ, pos, negsuc, ◌-◌, ◌+ℤ◌, ◌-ℤ◌, int_lt, nat_lt, Bool, true, false, ◌&&◌, if◌then◌else◌}
+use Rattle.std.specs.Prelude.{ℕ, ◌+◌, ◌*◌, ◌/◌, ◌%◌, ◌^◌, ◌==◌, ◌≡◌, ◌≤◌, ℤ, pos, negsuc, ◌-◌, ◌+ℤ◌, ◌-ℤ◌, int_lt, nat_lt, Bool, true, false, ◌&&◌, if◌then◌else◌}
 use Rattle.mb_fields.specs.declared.decimals.Flagged.{Flagged}
 
 abbrev pub bit : Bool → ℕ
@@ -63,3 +63,27 @@ unfoldable pub sbcd_of : ℕ → ℕ → ℕ → Flagged
 sbcd_of x y ccr =
     let difference = decimal_difference x y ccr -ℤ (if borrows x y ccr then pos 96 else pos 0) in
     decimal_flagged (byte_of difference) (borrows x y ccr) ccr
+
+-- ---- what the formulas come to for decimal digits
+
+-- two decimal digits, and their number
+pub record IsDecimal (x : ℕ) : Type 0 where
+  pub tens : x / 16 ≤ 9
+  pub units : x % 16 ≤ 9
+
+abbrev pub number_of : ℕ → ℕ
+number_of x = x / 16 * 10 + x % 16
+
+-- C is bit 0 of the condition codes
+abbrev pub carry_of : ℕ → ℕ
+carry_of ccr = ccr % 2
+
+-- the decimal sum, with a hundred for the carry
+pub record IsDecimalSum (x y ccr : ℕ) (sum : Flagged) : Type 0 where
+  pub digits : IsDecimal sum.value
+  pub number : number_of sum.value + 100 * carry_of sum.ccr ≡ number_of x + number_of y + extend_of ccr
+
+-- the decimal difference, with a hundred for the borrow
+pub record IsDecimalDifference (x y ccr : ℕ) (difference : Flagged) : Type 0 where
+  pub digits : IsDecimal difference.value
+  pub number : number_of difference.value + number_of x + extend_of ccr ≡ number_of y + 100 * carry_of difference.ccr

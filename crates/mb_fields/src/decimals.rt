@@ -1,7 +1,7 @@
 //! Decimal arithmetic.
 
 ghost use Rattle.std.specs.Prelude.{◌≡◌};
-ghost use Rattle.mb_fields.specs.Decimals.{decimal_flagged, abcd_of, sbcd_of};
+ghost use Rattle.mb_fields.specs.Decimals.{decimal_flagged, abcd_of, sbcd_of, IsDecimal, IsDecimalSum, IsDecimalDifference};
 
 /// A result with the condition codes after it.
 #[derive(Clone, Copy, Debug, PartialEq, Eq)]
@@ -25,9 +25,10 @@ fn with_conditions(value: u8, carry: bool, ccr: u8) -> Flagged
 }
 
 /// `x + y + X`, two digits each. A carry of the tens goes to X and C.
-#[tactic(auto, unfolding(crate::specs::Decimals::abcd_of))]
+#[tactic(auto, unfolding(crate::specs::Decimals::abcd_of), using(crate::proofs::Digits::sum_digits))]
 pub fn abcd(x: u8, y: u8, ccr: u8) -> Flagged
-    ensures { result ≡ abcd_of x y ccr }
+    ensures formula { result ≡ abcd_of x y ccr }
+    ensures decimal { IsDecimal x → IsDecimal y → IsDecimalSum x y ccr result }
 {
     let (x, y) = (u32::from(x), u32::from(y));
     let extend = u32::from(ccr >> 4 & 1);
@@ -41,7 +42,8 @@ pub fn abcd(x: u8, y: u8, ccr: u8) -> Flagged
 /// `y - x - X`, two digits each. A borrow of the tens goes to X and C.
 #[tactic(auto, unfolding(crate::specs::Decimals::sbcd_of))]
 pub fn sbcd(x: u8, y: u8, ccr: u8) -> Flagged
-    ensures { result ≡ sbcd_of x y ccr }
+    ensures formula { result ≡ sbcd_of x y ccr }
+    ensures decimal { IsDecimal x → IsDecimal y → IsDecimalDifference x y ccr result }
 {
     let (x, y) = (u32::from(x), u32::from(y));
     let extend = u32::from(ccr >> 4 & 1);
@@ -56,7 +58,8 @@ pub fn sbcd(x: u8, y: u8, ccr: u8) -> Flagged
 /// `0 - y - X`, two digits each.
 #[inline(always)]
 pub fn nbcd(y: u8, ccr: u8) -> Flagged
-    ensures { result ≡ sbcd_of y 0 ccr }
+    ensures formula { result ≡ sbcd_of y 0 ccr }
+    ensures decimal { IsDecimal y → IsDecimalDifference y 0 ccr result }
 {
     sbcd(y, 0, ccr)
 }

@@ -2,11 +2,12 @@ use Rattle.std.proofs.Common.{◌≡◌, ◌/◌, ◌%◌, ◌∙◌, sym, bit_a
 use Rattle.std.proofs.lemmas.Nat.{and_mask}
 use Rattle.mb_fields.specs.Decimals.{extend_of, sbcd_of}
 use Rattle.mb_fields.proofs.Borrows.{difference_is, borrows_is, flagged_same}
+use Rattle.mb_fields.proofs.Digits.{difference_law}
 use Rattle.mb_fields.proofs.decimals.sbcd.Goals as goal
 
-pub returns : goal.returns
+pub returns-clause-formula : goal.returns-clause-formula
 unfolding sbcd_of
-returns c =
+returns-clause-formula c =
     let x : bit_and c.args.x 15 ≡ c.args.x % 16 = and_mask c.args.x 4 in
     let y : bit_and c.args.y 15 ≡ c.args.y % 16 = and_mask c.args.y 4 in
     let extend : c.from-extend.result ≡ extend_of c.args.ccr = c.from-extend.ensures ∙ and_mask (c.args.ccr / 16) 1 in
@@ -15,3 +16,7 @@ returns c =
         (rw (c.from.ensures, c.from-2.ensures, c.from-x.ensures, c.from-y.ensures, extend, x, y)
             (and_mask _ 8 ∙ sym (difference_is c.args.x c.args.y c.args.ccr (omega arith) (omega arith))))
         (rw (c.from-x.ensures, c.from-y.ensures, extend) (sym (borrows_is c.args.x c.args.y c.args.ccr)))
+
+pub returns-clause-decimal : goal.returns-clause-decimal
+returns-clause-decimal c = λ x y.
+    rw (returns-clause-formula c) (difference_law c.args.x c.args.y c.args.ccr (omega arith) (omega arith) x y)
