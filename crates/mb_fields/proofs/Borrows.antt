@@ -2,7 +2,7 @@
 use Rattle.std.proofs.Common.{ℕ, ◌≡◌, ◌+◌, ◌-◌, ◌*◌, ◌/◌, ◌%◌, ◌<◌, arith, refl, ℤ, Bool, true, false, pos, negsuc, ◌+ℤ◌, ◌-ℤ◌, nat_lt, int_lt, if◌then◌else◌}
 use Rattle.std.proofs.lemmas.Int.{ints}
 use Rattle.std.proofs.lemmas.Bool.Decides.{nat_tests}
-use Rattle.mb_fields.specs.Decimals.{bit, decimal_flagged, byte_of, extend_of, decimal_difference, borrows, units_difference}
+use Rattle.mb_fields.specs.Decimals.{bit, decimal_flagged, byte_of, extend_of, decimal_difference, borrows}
 
 byte_of-up : (z : ℤ) (n : ℕ) → z +ℤ pos 512 ≡ pos n → byte_of z ≡ n % 256
 byte_of-up (pos k) n e = omega (arith, ints)
@@ -15,7 +15,7 @@ below_zero a b e = grind (arith, ints, nat_tests)
 -- the corrected difference, with 512 more
 raised : (x y e : ℕ) (u v : Bool) → x < 256 → y < 256 → e < 2 →
     pos (y / 16 * 16) -ℤ pos (x / 16 * 16) +ℤ (pos (y % 16) -ℤ pos (x % 16) -ℤ pos e)
-        -ℤ (if u then pos 6 else pos 0) -ℤ (if v then pos 96 else pos 0) +ℤ pos 512
+    -ℤ (if u then pos 6 else pos 0) -ℤ (if v then pos 96 else pos 0) +ℤ pos 512
     ≡ pos (512 + y - (x + e + 6 * bit u + 96 * bit v))
 raised x y e true true p q r = omega (arith, ints)
 raised x y e true false p q r = omega (arith, ints)
@@ -32,7 +32,7 @@ pub difference_is : (x y ccr : ℕ) → x < 256 → y < 256 →
 difference_is x y ccr p q =
     rw (below_zero (y % 16) (x % 16) (extend_of ccr), below_zero y x (extend_of ccr))
     (byte_of-up _ _
-        (raised x y (extend_of ccr) (nat_lt (y % 16) (x % 16 + extend_of ccr)) (nat_lt y (x + extend_of ccr)) p q (omega arith)))
+    (raised x y (extend_of ccr) (nat_lt (y % 16) (x % 16 + extend_of ccr)) (nat_lt y (x + extend_of ccr)) p q (omega arith)))
 
 pub flagged_same : (v w : ℕ) (a b : Bool) (ccr : ℕ) → v ≡ w → a ≡ b → decimal_flagged v a ccr ≡ decimal_flagged w b ccr
 flagged_same v w a b ccr p q = rw (p, q) refl

@@ -1,7 +1,7 @@
 -- The formulas of decimal arithmetic, for decimal digits.
-use Rattle.std.proofs.Common.{ℕ, ◌≡◌, ◌+◌, ◌-◌, ◌*◌, ◌/◌, ◌%◌, ◌<◌, ◌≤◌, arith, refl, ap, sym, ◌∙◌, Bool, true, false, ℤ, pos, ◌+ℤ◌, ◌-ℤ◌, nat_lt, if◌then◌else◌, ◌==◌}
+use Rattle.std.proofs.Common.{ℕ, ◌≡◌, ◌+◌, ◌-◌, ◌*◌, ◌/◌, ◌%◌, ◌<◌, ◌≤◌, arith, refl, ap, sym, ◌∙◌, Bool, true, false, pos, ◌-ℤ◌, nat_lt, if◌then◌else◌}
 use Rattle.std.proofs.lemmas.Bool.Decides.{nat_tests}
-use Rattle.mb_fields.specs.Decimals.{bit, decimal_flagged, zero_after, extend_of, number_of, carry_of, IsDecimal, IsDecimalSum, IsDecimalDifference, abcd_of, sbcd_of, decimal_sum, units_sum, decimal_difference, borrows, byte_of}
+use Rattle.mb_fields.specs.Decimals.{bit, decimal_flagged, extend_of, number_of, carry_of, IsDecimal, IsDecimalDifference, sbcd_of, decimal_difference, borrows, byte_of}
 use Rattle.mb_fields.proofs.Borrows.{difference_is, borrows_is}
 
 -- C of the condition codes is the carry
@@ -12,7 +12,7 @@ carry_is v false ccr = omega arith
 pub sum_digits : (a b c d e s : ℕ) → a ≤ 9 → b ≤ 9 → c ≤ 9 → d ≤ 9 → e < 2 →
     s ≡ a * 16 + c * 16 + (b + d + e) + (if nat_lt 9 (b + d + e) then 6 else 0) →
     (((if nat_lt 159 s then s + 96 else s) % 256 / 16 ≤ 9) × ((if nat_lt 159 s then s + 96 else s) % 256 % 16 ≤ 9)
-        × (number_of ((if nat_lt 159 s then s + 96 else s) % 256) + 100 * bit (nat_lt 159 s) ≡ (a * 10 + b) + (c * 10 + d) + e))
+    × (number_of ((if nat_lt 159 s then s + 96 else s) % 256) + 100 * bit (nat_lt 159 s) ≡ (a * 10 + b) + (c * 10 + d) + e))
 sum_digits a b c d e s p q r t l h = grind (arith, nat_tests)
 
 difference_digits : (a b c d e : ℕ) → a ≤ 9 → b ≤ 9 → c ≤ 9 → d ≤ 9 → e < 2 → (u v : Bool) → (n : ℕ) →
@@ -35,11 +35,11 @@ difference_law x y ccr p q dx dy =
     let ey : y / 16 * 16 + y % 16 ≡ y = omega arith in
     let vs : v ≡ nat_lt (y / 16 * 16 + y % 16) (x / 16 * 16 + x % 16 + extend_of ccr) = rw (ex, ey) (borrows_is x y ccr) in
     let ns : n ≡ (512 + (y / 16 * 16 + y % 16) - ((x / 16 * 16 + x % 16) + extend_of ccr + 6 * bit u + 96 * bit v)) % 256 =
-        rw (ex, ey)
-        (difference_is x y ccr p q
-        ∙ ap (λ b. (512 + y - (x + extend_of ccr + 6 * bit u + 96 * bit b)) % 256) (sym (borrows_is x y ccr))) in
+    rw (ex, ey)
+    (difference_is x y ccr p q
+    ∙ ap (λ b. (512 + y - (x + extend_of ccr + 6 * bit u + 96 * bit b)) % 256) (sym (borrows_is x y ccr))) in
     let all : (n / 16 ≤ 9) × (n % 16 ≤ 9) × (number_of n + (x / 16 * 10 + x % 16) + extend_of ccr ≡ (y / 16 * 10 + y % 16) + 100 * bit v) =
-        difference_digits (x / 16) (x % 16) (y / 16) (y % 16) (extend_of ccr) dx.tens dx.units dy.tens dy.units (omega arith) u v n refl vs ns in
+    difference_digits (x / 16) (x % 16) (y / 16) (y % 16) (extend_of ccr) dx.tens dx.units dy.tens dy.units (omega arith) u v n refl vs ns in
     record {
       digits = record { tens = all.0; units = all.1 };
       number = rw (carry_is n v ccr) all.2;

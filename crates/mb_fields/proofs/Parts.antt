@@ -1,5 +1,5 @@
 -- Words cut into parts, and the zeros before the first one.
-use Rattle.std.proofs.Common.{ℕ, zero, suc, ◌≡◌, ◌+◌, ◌-◌, ◌*◌, ◌/◌, ◌%◌, ◌^◌, ◌<◌, ◌≤◌, arith, bit_and, bit_or, ap, ◌∙◌, sym, refl, nat_lt, Bool, true, false, inl, inr}
+use Rattle.std.proofs.Common.{ℕ, zero, suc, ◌≡◌, ◌+◌, ◌-◌, ◌*◌, ◌/◌, ◌%◌, ◌^◌, ◌<◌, ◌≤◌, arith, bit_and, bit_or, nat_lt, true, false, inl, inr}
 use Rattle.std.proofs.lemmas.Nat.{and_mask, shl_whole, or_shifted, shr_below, mod_below, mul-add-lt, pow_pos, pow-add, leading_length}
 use Rattle.std.proofs.lemmas.Bool.{cases_lt}
 use Rattle.std.proofs.lemmas.Bool.Decides.{nat_tests}
@@ -24,14 +24,14 @@ module _ (word offset width rest value : ℕ) (narrow : (offset + width) + rest 
       ≡ (word / 2 ^ (rest + width) * 2 ^ width + value % 2 ^ width) * 2 ^ rest + word % 2 ^ rest
   put_together =
       let first : word / 2 ^ (rest + width) * 2 ^ width % 18446744073709551616 ≡ word / 2 ^ (rest + width) * 2 ^ width =
-          shl_whole (word / 2 ^ (rest + width)) offset width 64 before (omega arith) in
+      shl_whole (word / 2 ^ (rest + width)) offset width 64 before (omega arith) in
       let second : (word / 2 ^ (rest + width) * 2 ^ width + value % 2 ^ width) * 2 ^ rest % 18446744073709551616
-          ≡ (word / 2 ^ (rest + width) * 2 ^ width + value % 2 ^ width) * 2 ^ rest =
-          shl_whole (word / 2 ^ (rest + width) * 2 ^ width + value % 2 ^ width) (offset + width) rest 64 high (omega arith) in
+      ≡ (word / 2 ^ (rest + width) * 2 ^ width + value % 2 ^ width) * 2 ^ rest =
+      shl_whole (word / 2 ^ (rest + width) * 2 ^ width + value % 2 ^ width) (offset + width) rest 64 high (omega arith) in
       let mask : bit_and value (2 ^ width - 1) ≡ value % 2 ^ width = and_mask value width in
       let mask' : bit_and word (2 ^ rest - 1) ≡ word % 2 ^ rest = and_mask word rest in
       let inner : bit_or (word / 2 ^ (rest + width) * 2 ^ width) (value % 2 ^ width) ≡ word / 2 ^ (rest + width) * 2 ^ width + value % 2 ^ width =
-          or_shifted (word / 2 ^ (rest + width)) width (value % 2 ^ width) field in
+      or_shifted (word / 2 ^ (rest + width)) width (value % 2 ^ width) field in
       rw (mask, mask', first, inner, second)
       (or_shifted (word / 2 ^ (rest + width) * 2 ^ width + value % 2 ^ width) rest (word % 2 ^ rest) (mod_below word (2 ^ rest) (pow_pos rest)))
 
@@ -41,13 +41,13 @@ unfolding first_of
 first_length zero n h = (0, omega arith, h, omega arith)
 first_length (suc width) n h =
     elim (cases_lt n (2 ^ width)) [
-        inl l ↦
-            let t : nat_lt n (2 ^ width) ≡ true = grind (arith, nat_tests) in
-            let more = first_length width n l in
-            (more.0, rw t (omega (arith, more.1)), more.2, more.3)
-    |   inr l ↦
-            let t : nat_lt n (2 ^ width) ≡ false = grind (arith, nat_tests) in
-            (suc width, rw t (omega arith), h, rw two-pow-succ (omega arith))
+      | inl l ↦
+          let t : nat_lt n (2 ^ width) ≡ true = grind (arith, nat_tests) in
+          let more = first_length width n l in
+          (more.0, rw t (omega (arith, more.1)), more.2, more.3)
+      | inr l ↦
+          let t : nat_lt n (2 ^ width) ≡ false = grind (arith, nat_tests) in
+          (suc width, rw t (omega arith), h, rw two-pow-succ (omega arith))
     ]
 
 -- there is one such length

@@ -1,5 +1,5 @@
 -- Decimal arithmetic on bytes of two digits. The formulas say what comes of digits above 9 too.
-use Rattle.std.specs.Prelude.{ℕ, ◌+◌, ◌*◌, ◌/◌, ◌%◌, ◌^◌, ◌==◌, ◌≡◌, ◌≤◌, ℤ, pos, negsuc, ◌-◌, ◌+ℤ◌, ◌-ℤ◌, int_lt, nat_lt, Bool, true, false, ◌&&◌, if◌then◌else◌}
+use Rattle.std.specs.Prelude.{ℕ, ◌+◌, ◌*◌, ◌/◌, ◌%◌, ◌^◌, ◌==◌, ◌≡◌, ◌≤◌, ℤ, pos, negsuc, ◌-◌, ◌+ℤ◌, ◌-ℤ◌, int_lt, nat_lt, Bool, true, false, if◌then◌else◌}
 use Rattle.mb_fields.specs.declared.decimals.Flagged.{Flagged}
 
 abbrev pub bit : Bool → ℕ

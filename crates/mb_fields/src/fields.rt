@@ -41,7 +41,6 @@ pub fn field_put(word: u64, bits: u8, offset: u8, width: u8, value: u32) -> u64
 }
 
 /// How many zeros stand before the first one in a field of `width` bits: all of them where it is 0.
-#[tactic(auto, unfolding(crate::specs::Fields::first_of))]
 pub fn field_first(value: u32, width: u8) -> u8
     requires some { 1 ≤ width }
     requires width { width ≤ 32 }

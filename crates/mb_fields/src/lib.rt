@@ -7,6 +7,8 @@
 mod decimals;
 mod fields;
 mod packing;
+#[cfg(test)]
+mod tests;
 
 pub use decimals::{Flagged, abcd, nbcd, sbcd};
 pub use fields::{field_first, field_get, field_put};

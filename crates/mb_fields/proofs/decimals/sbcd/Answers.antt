@@ -13,9 +13,9 @@ returns-clause-formula c =
     let extend : c.from-extend.result ≡ extend_of c.args.ccr = c.from-extend.ensures ∙ and_mask (c.args.ccr / 16) 1 in
     c.with_conditions.ensures
     ∙ flagged_same _ _ _ _ c.args.ccr
-        (rw (c.from.ensures, c.from-2.ensures, c.from-x.ensures, c.from-y.ensures, extend, x, y)
-            (and_mask _ 8 ∙ sym (difference_is c.args.x c.args.y c.args.ccr (omega arith) (omega arith))))
-        (rw (c.from-x.ensures, c.from-y.ensures, extend) (sym (borrows_is c.args.x c.args.y c.args.ccr)))
+    (rw (c.from.ensures, c.from-2.ensures, c.from-x.ensures, c.from-y.ensures, extend, x, y)
+    (and_mask _ 8 ∙ sym (difference_is c.args.x c.args.y c.args.ccr (omega arith) (omega arith))))
+    (rw (c.from-x.ensures, c.from-y.ensures, extend) (sym (borrows_is c.args.x c.args.y c.args.ccr)))
 
 pub returns-clause-decimal : goal.returns-clause-decimal
 returns-clause-decimal c = λ x y.
