@@ -1,5 +1,5 @@
 -- Products and quotients.
-use Rattle.std.specs.Prelude.{ℕ, ◌^◌, ◌/◌, ◌%◌, ◌==◌, ℤ, ◌*ℤ◌, int_div, int_rem, Bool, true, false, not, nat_le, if◌then◌else◌}
+use Rattle.std.specs.Prelude.{ℕ, ⊤, ◌<◌, ◌^◌, ◌/◌, ◌%◌, ◌==◌, ℤ, ◌*ℤ◌, int_div, int_rem, Bool, true, false, not, nat_le, if◌then◌else◌}
 use Rattle.mb_alu.specs.declared.conditions.Conditions.{Conditions}
 use Rattle.mb_alu.specs.declared.width.Width.{Width}
 use Rattle.mb_alu.specs.declared.width.Width.TheVariants.{Word, Long, Wide}
@@ -63,6 +63,11 @@ abbrev pub divided_of : Width → ℤ → ℤ → ℕ → Divided
 divided_of width quotient remainder ccr =
     let value = modulo (short_values width) quotient in
     Done value (modulo (short_values width) remainder) (ccr_of (result_codes (short_values width) value false ccr))
+
+-- quotient and remainder are as short as the width says
+abbrev pub IsBounded : Width → Divided → Type 0
+IsBounded width (Done quotient remainder ccr) = (quotient < short_values width) × (remainder < short_values width)
+IsBounded width _ = ⊤
 
 -- a divisor of 0 clears C; a quotient that does not fit sets V and clears C; else there is a result
 unfoldable pub div_of : Bool → Width → ℕ → ℕ → ℕ → Divided

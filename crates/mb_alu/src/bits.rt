@@ -1,6 +1,6 @@
 //! The low bytes of an operand, and its sign.
 
-ghost use Rattle.std.specs.Prelude.{◌≡◌, ◌/◌};
+ghost use Rattle.std.specs.Prelude.{◌≡◌, ◌<◌, ◌/◌};
 ghost use Rattle.mb_instr.specs.Sizes.{low_of, values_of};
 ghost use Rattle.mb_alu.specs.Signs.{is_negative};
 
@@ -9,7 +9,8 @@ use mb_instr::Size;
 /// The low bytes that count at the size.
 #[inline(always)]
 pub(crate) fn low(size: Size, value: u32) -> u32
-    ensures { result ≡ low_of size value }
+    ensures value { result ≡ low_of size value }
+    ensures bound { result < values_of size }
 {
     match size {
         Size::Byte => value & 0xFF,
@@ -21,7 +22,8 @@ pub(crate) fn low(size: Size, value: u32) -> u32
 /// The low bytes of a whole number that count at the size.
 #[inline(always)]
 pub(crate) fn cut(size: Size, whole: u64) -> u32
-    ensures { result ≡ low_of size whole }
+    ensures value { result ≡ low_of size whole }
+    ensures bound { result < values_of size }
 {
     low(size, (whole & 0xFFFF_FFFF) as u32)
 }

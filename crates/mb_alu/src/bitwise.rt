@@ -1,6 +1,7 @@
 //! Logic.
 
-ghost use Rattle.std.specs.Prelude.{◌≡◌};
+ghost use Rattle.std.specs.Prelude.{◌≡◌, ◌<◌};
+ghost use Rattle.mb_instr.specs.Sizes.{values_of};
 ghost use Rattle.mb_alu.specs.Logic.{moved_of, combined, logic_of};
 
 use crate::bits::{low, sign};
@@ -23,7 +24,8 @@ pub enum LogicKind {
 #[inline(always)]
 #[tactic(auto, unfolding(crate::specs::Logic::moved_of))]
 pub(crate) fn moved(size: Size, value: u32, ccr: u8) -> Flagged
-    ensures { result ≡ moved_of size value ccr }
+    ensures means { result ≡ moved_of size value ccr }
+    ensures bound { result.value < values_of size }
 {
     let codes = Conditions {
         x: Conditions::of(ccr).x,
@@ -55,7 +57,8 @@ fn combine(kind: LogicKind, x: u32, y: u32) -> u32
 #[inline(always)]
 #[tactic(auto, unfolding(crate::specs::Logic::logic_of))]
 pub fn logic(kind: LogicKind, size: Size, x: u32, y: u32, ccr: u8) -> Flagged
-    ensures { result ≡ logic_of kind size x y ccr }
+    ensures means { result ≡ logic_of kind size x y ccr }
+    ensures bound { result.value < values_of size }
 {
     moved(size, combine(kind, x, y), ccr)
 }

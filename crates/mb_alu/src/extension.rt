@@ -1,6 +1,7 @@
 //! Sign extension.
 
-ghost use Rattle.std.specs.Prelude.{◌≡◌};
+ghost use Rattle.std.specs.Prelude.{◌≡◌, ◌<◌};
+ghost use Rattle.mb_instr.specs.Sizes.{values_of};
 ghost use Rattle.mb_alu.specs.Extend.{long_of, extend_of};
 
 use crate::bits::{low, sign};
@@ -26,7 +27,8 @@ pub(crate) fn extended(from: Size, value: u32) -> u32
 #[inline(always)]
 #[tactic(auto, unfolding(crate::specs::Extend::extend_of))]
 pub fn extend(from: Size, to: Size, x: u32, ccr: u8) -> Flagged
-    ensures { result ≡ extend_of from to x ccr }
+    ensures means { result ≡ extend_of from to x ccr }
+    ensures bound { result.value < values_of to }
 {
     moved(to, extended(from, x), ccr)
 }

@@ -1,7 +1,7 @@
 //! Products.
 
-ghost use Rattle.std.specs.Prelude.{◌≡◌};
-ghost use Rattle.mb_alu.specs.Products.{mul_of, overflows};
+ghost use Rattle.std.specs.Prelude.{◌≡◌, ◌<◌};
+ghost use Rattle.mb_alu.specs.Products.{long_values, mul_of, overflows};
 ghost use Rattle.mb_alu.specs.Wholes.{whole_of};
 
 use crate::conditions::Conditions;
@@ -32,7 +32,8 @@ fn overflow(signed: bool, width: Width, product: Whole) -> bool
 #[inline(always)]
 #[tactic(auto, unfolding(crate::specs::Products::mul_of))]
 pub fn mul(signed: bool, width: Width, x: u32, y: u32, ccr: u8) -> Product
-    ensures { result ≡ mul_of signed width x y ccr }
+    ensures means { result ≡ mul_of signed width x y ccr }
+    ensures bound { result.value < long_values width }
 {
     let product = Whole::short(signed, width, x).times(Whole::short(signed, width, y));
     let value = width.long(product.bits());

@@ -1,7 +1,7 @@
 //! Quotients.
 
 ghost use Rattle.std.specs.Prelude.{◌≡◌};
-ghost use Rattle.mb_alu.specs.Products.{divided_of, div_of};
+ghost use Rattle.mb_alu.specs.Products.{divided_of, div_of, IsBounded};
 ghost use Rattle.mb_alu.specs.Wholes.{whole_of};
 
 use crate::conditions::Conditions;
@@ -26,7 +26,8 @@ pub enum Divided {
 /// The answer of a division whose quotient fits.
 #[inline(always)]
 fn done(width: Width, quotient: Whole, remainder: Whole, ccr: u8) -> Divided
-    ensures { result ≡ divided_of width (whole_of quotient) (whole_of remainder) ccr }
+    ensures means { result ≡ divided_of width (whole_of quotient) (whole_of remainder) ccr }
+    ensures bound { IsBounded width result }
 {
     let value = width.short(quotient.bits());
     let codes = Conditions {
@@ -47,7 +48,8 @@ fn done(width: Width, quotient: Whole, remainder: Whole, ccr: u8) -> Divided
 /// sign. After an overflow N and Z are as before, after a division by zero all but C.
 #[tactic(auto, unfolding(crate::specs::Products::div_of))]
 pub fn div(signed: bool, width: Width, divisor: u32, dividend: u64, ccr: u8) -> Divided
-    ensures { result ≡ div_of signed width divisor dividend ccr }
+    ensures means { result ≡ div_of signed width divisor dividend ccr }
+    ensures bound { IsBounded width result }
 {
     let before = Conditions::of(ccr);
     if width.short(u64::from(divisor)) == 0 {

@@ -222,7 +222,8 @@ fn extend_after(kind: ShiftKind, x: bool, leaves: bool) -> bool
 #[inline(always)]
 fn shift_by_one(left: bool, size: Size, enters: bool, value: u32) -> u32
     requires { value < values_of size }
-    ensures { result ≡ by_one left size enters value }
+    ensures means { result ≡ by_one left size enters value }
+    ensures bound { result < values_of size }
 {
     if left {
         cut(size, 2 * u64::from(value) + u64::from(enters))
@@ -254,7 +255,8 @@ impl Shifting {
         requires some { 0 < count }
         requires counted { count < 64 }
         requires low { value < values_of size }
-        ensures { result ≡ shifted kind left size count value x }
+        ensures means { result ≡ shifted kind left size count value x }
+        ensures bound { result.value < values_of size }
     {
         let (last, extend) = shifted_far(kind, left, size, value, x, count - 1);
         let carry = leaves(left, size, last);
@@ -290,7 +292,8 @@ impl Shifting {
 #[tactic(auto, unfolding(crate::specs::Shifts::shift_of))]
 pub fn shift(kind: ShiftKind, left: bool, size: Size, count: u8, x: u32, ccr: u8) -> Flagged
     requires { count < 64 }
-    ensures { result ≡ shift_of kind left size count x ccr }
+    ensures means { result ≡ shift_of kind left size count x ccr }
+    ensures bound { result.value < values_of size }
 {
     let extend = Conditions::of(ccr).x;
     let value = low(size, x);

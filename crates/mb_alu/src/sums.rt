@@ -1,6 +1,7 @@
 //! Sums and differences.
 
-ghost use Rattle.std.specs.Prelude.{◌≡◌};
+ghost use Rattle.std.specs.Prelude.{◌≡◌, ◌<◌};
+ghost use Rattle.mb_instr.specs.Sizes.{values_of};
 ghost use Rattle.mb_alu.specs.Sums.{add_of, difference_of, difference_codes, sub_of, compare_of};
 
 use crate::bits::{cut, low, sign};
@@ -11,7 +12,8 @@ use mb_instr::Size;
 #[inline(always)]
 #[tactic(auto, unfolding(crate::specs::Sums::add_of))]
 pub fn add(size: Size, x: u32, y: u32, ccr: u8, extended: bool) -> Flagged
-    ensures { result ≡ add_of size x y ccr extended }
+    ensures means { result ≡ add_of size x y ccr extended }
+    ensures bound { result.value < values_of size }
 {
     let before = Conditions::of(ccr);
     let sum = u64::from(low(size, y)) + u64::from(low(size, x)) + u64::from(extended & before.x);
@@ -35,6 +37,7 @@ pub fn add(size: Size, x: u32, y: u32, ccr: u8, extended: bool) -> Flagged
 #[inline(always)]
 fn difference(size: Size, x: u32, y: u32, ccr: u8, extended: bool) -> (u32, Conditions)
     ensures value { result.0 ≡ difference_of size x y ccr extended }
+    ensures bound { result.0 < values_of size }
     ensures codes { result.1 ≡ difference_codes size x y ccr extended }
 {
     let before = Conditions::of(ccr);
@@ -57,7 +60,8 @@ fn difference(size: Size, x: u32, y: u32, ccr: u8, extended: bool) -> (u32, Cond
 #[inline(always)]
 #[tactic(auto, unfolding(crate::specs::Sums::sub_of))]
 pub fn sub(size: Size, x: u32, y: u32, ccr: u8, extended: bool) -> Flagged
-    ensures { result ≡ sub_of size x y ccr extended }
+    ensures means { result ≡ sub_of size x y ccr extended }
+    ensures bound { result.value < values_of size }
 {
     let (value, codes) = difference(size, x, y, ccr, extended);
     Flagged {

@@ -19,7 +19,8 @@ impl Width {
     #[inline(always)]
     pub(crate) fn short(self, value: u64) -> u64
         ensures value { result ≡ value % short_values self }
-        ensures bound { result < 2 ^ 32 }
+        ensures bound { result < short_values self }
+        ensures low { result < 2 ^ 32 }
     {
         match self {
             Width::Word => value & 0xFFFF,
@@ -30,7 +31,8 @@ impl Width {
     /// The bits of a product or a dividend.
     #[inline(always)]
     pub(crate) fn long(self, value: u64) -> u64
-        ensures { result ≡ value % long_values self }
+        ensures value { result ≡ value % long_values self }
+        ensures bound { result < long_values self }
     {
         match self {
             Width::Word | Width::Long => value & 0xFFFF_FFFF,

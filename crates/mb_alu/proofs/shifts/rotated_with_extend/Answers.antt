@@ -26,7 +26,7 @@ below c = repeated-below Rox c.args.left c.args.size (unshifted Rox c.args.value
 
 pub returns-clause-value : goal.returns-clause-value
 unfolding end
-returns-clause-value c = c.cut.ensures ∙ ap (low_of c.args.size) (word c) ∙ extended_low c.args.size (end c).x (end c).value (below c)
+returns-clause-value c = c.cut.ensures.value ∙ ap (low_of c.args.size) (word c) ∙ extended_low c.args.size (end c).x (end c).value (below c)
 
 pub returns-clause-extend : goal.returns-clause-extend
 unfolding end
