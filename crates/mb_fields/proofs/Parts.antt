@@ -35,6 +35,13 @@ module _ (word offset width rest value : ℕ) (narrow : (offset + width) + rest 
       rw (mask, mask', first, inner, second)
       (or_shifted (word / 2 ^ (rest + width) * 2 ^ width + value % 2 ^ width) rest (word % 2 ^ rest) (mod_below word (2 ^ rest) (pow_pos rest)))
 
+  pub put_together-below : (word / 2 ^ (rest + width) * 2 ^ width + value % 2 ^ width) * 2 ^ rest + word % 2 ^ rest < 2 ^ ((offset + width) + rest)
+  put_together-below =
+      let e : 2 ^ ((offset + width) + rest) ≡ 2 ^ (offset + width) * 2 ^ rest = pow-add 2 (offset + width) rest in
+      let f = mul-add-lt (word / 2 ^ (rest + width) * 2 ^ width + value % 2 ^ width) (2 ^ rest) (word % 2 ^ rest) (2 ^ (offset + width)) high
+          (mod_below word (2 ^ rest) (pow_pos rest)) in
+      omega arith
+
 -- as many bits as the number has from its first one on stand behind the zeros
 first_length : (width n : ℕ) → n < 2 ^ width → (m : ℕ) × (first_of n width + m ≡ width) × (n < 2 ^ m) × (2 ^ m ≤ 2 * n + 1)
 unfolding first_of

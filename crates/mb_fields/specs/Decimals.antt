@@ -64,6 +64,10 @@ sbcd_of x y ccr =
     let difference = decimal_difference x y ccr -ℤ (if borrows x y ccr then pos 96 else pos 0) in
     decimal_flagged (byte_of difference) (borrows x y ccr) ccr
 
+-- the difference from 0
+unfoldable pub nbcd_of : ℕ → ℕ → Flagged
+nbcd_of y ccr = sbcd_of y 0 ccr
+
 -- ---- what the formulas come to for decimal digits
 
 -- two decimal digits, and their number

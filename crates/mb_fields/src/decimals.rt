@@ -1,7 +1,7 @@
 //! Decimal arithmetic.
 
-ghost use Rattle.std.specs.Prelude.{◌≡◌};
-ghost use Rattle.mb_fields.specs.Decimals.{decimal_flagged, abcd_of, sbcd_of, IsDecimal, IsDecimalSum, IsDecimalDifference};
+ghost use Rattle.std.specs.Prelude.{◌≡◌, ◌<◌, ◌^◌};
+ghost use Rattle.mb_fields.specs.Decimals.{decimal_flagged, abcd_of, sbcd_of, nbcd_of, IsDecimal, IsDecimalSum, IsDecimalDifference};
 
 /// A result with the condition codes after it.
 #[derive(Clone, Copy, Debug, PartialEq, Eq)]
@@ -14,7 +14,8 @@ pub struct Flagged {
 
 #[inline(always)]
 fn with_conditions(value: u8, carry: bool, ccr: u8) -> Flagged
-    ensures { result ≡ decimal_flagged value carry ccr }
+    ensures means { result ≡ decimal_flagged value carry ccr }
+    ensures bound { result.value < 2 ^ 8 }
 {
     let carry = u8::from(carry);
     let zero = if value == 0 { ccr >> 2 & 1 } else { 0 };
@@ -27,7 +28,8 @@ fn with_conditions(value: u8, carry: bool, ccr: u8) -> Flagged
 /// `x + y + X`, two digits each. A carry of the tens goes to X and C.
 #[tactic(auto, unfolding(crate::specs::Decimals::abcd_of), using(crate::proofs::Digits::sum_digits))]
 pub fn abcd(x: u8, y: u8, ccr: u8) -> Flagged
-    ensures formula { result ≡ abcd_of x y ccr }
+    ensures means { result ≡ abcd_of x y ccr }
+    ensures bound { result.value < 2 ^ 8 }
     ensures decimal { IsDecimal x → IsDecimal y → IsDecimalSum x y ccr result }
 {
     let (x, y) = (u32::from(x), u32::from(y));
@@ -42,7 +44,8 @@ pub fn abcd(x: u8, y: u8, ccr: u8) -> Flagged
 /// `y - x - X`, two digits each. A borrow of the tens goes to X and C.
 #[tactic(auto, unfolding(crate::specs::Decimals::sbcd_of))]
 pub fn sbcd(x: u8, y: u8, ccr: u8) -> Flagged
-    ensures formula { result ≡ sbcd_of x y ccr }
+    ensures means { result ≡ sbcd_of x y ccr }
+    ensures bound { result.value < 2 ^ 8 }
     ensures decimal { IsDecimal x → IsDecimal y → IsDecimalDifference x y ccr result }
 {
     let (x, y) = (u32::from(x), u32::from(y));
@@ -57,8 +60,10 @@ pub fn sbcd(x: u8, y: u8, ccr: u8) -> Flagged
 
 /// `0 - y - X`, two digits each.
 #[inline(always)]
+#[tactic(auto, unfolding(crate::specs::Decimals::nbcd_of))]
 pub fn nbcd(y: u8, ccr: u8) -> Flagged
-    ensures formula { result ≡ sbcd_of y 0 ccr }
+    ensures means { result ≡ nbcd_of y ccr }
+    ensures bound { result.value < 2 ^ 8 }
     ensures decimal { IsDecimal y → IsDecimalDifference y 0 ccr result }
 {
     sbcd(y, 0, ccr)

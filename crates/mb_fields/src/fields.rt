@@ -19,7 +19,8 @@ pub fn field_get(word: u64, bits: u8, offset: u8, width: u8) -> u32
     requires some { 1 ≤ width }
     requires width { width ≤ 32 }
     requires inside { offset + width ≤ bits }
-    ensures { result ≡ field_of word bits offset width }
+    ensures means { result ≡ field_of word bits offset width }
+    ensures bound { result < 2 ^ width }
 {
     (word >> (bits - offset - width) & ones(width)) as u32
 }
@@ -32,7 +33,8 @@ pub fn field_put(word: u64, bits: u8, offset: u8, width: u8, value: u32) -> u64
     requires some { 1 ≤ width }
     requires width { width ≤ 32 }
     requires inside { offset + width ≤ bits }
-    ensures { result ≡ with_field word bits offset width value }
+    ensures means { result ≡ with_field word bits offset width value }
+    ensures bound { result < 2 ^ bits }
 {
     let behind = bits - offset - width;
     let before = word >> (behind + width);
@@ -45,7 +47,8 @@ pub fn field_first(value: u32, width: u8) -> u8
     requires some { 1 ≤ width }
     requires width { width ≤ 32 }
     requires value { value < 2 ^ width }
-    ensures { result ≡ first_of value width }
+    ensures means { result ≡ first_of value width }
+    ensures bound { result ≤ width }
 {
     value.leading_zeros() as u8 - (32 - width)
 }

@@ -5,13 +5,13 @@ use Rattle.mb_fields.proofs.Borrows.{difference_is, borrows_is, flagged_same}
 use Rattle.mb_fields.proofs.Digits.{difference_law}
 use Rattle.mb_fields.proofs.decimals.sbcd.Goals as goal
 
-pub returns-clause-formula : goal.returns-clause-formula
+pub returns-clause-means : goal.returns-clause-means
 unfolding sbcd_of
-returns-clause-formula c =
+returns-clause-means c =
     let x : bit_and c.args.x 15 ≡ c.args.x % 16 = and_mask c.args.x 4 in
     let y : bit_and c.args.y 15 ≡ c.args.y % 16 = and_mask c.args.y 4 in
     let extend : c.from-extend.result ≡ extend_of c.args.ccr = c.from-extend.ensures ∙ and_mask (c.args.ccr / 16) 1 in
-    c.with_conditions.ensures
+    c.with_conditions.ensures.means
     ∙ flagged_same _ _ _ _ c.args.ccr
     (rw (c.from.ensures, c.from-2.ensures, c.from-x.ensures, c.from-y.ensures, extend, x, y)
     (and_mask _ 8 ∙ sym (difference_is c.args.x c.args.y c.args.ccr (omega arith) (omega arith))))
@@ -19,4 +19,4 @@ returns-clause-formula c =
 
 pub returns-clause-decimal : goal.returns-clause-decimal
 returns-clause-decimal c = λ x y.
-    rw (returns-clause-formula c) (difference_law c.args.x c.args.y c.args.ccr (omega arith) (omega arith) x y)
+    rw (returns-clause-means c) (difference_law c.args.x c.args.y c.args.ccr (omega arith) (omega arith) x y)
