@@ -1,0 +1,8 @@
+use Rattle.mb_decode.proofs.Table.{one_answer, none_begins}
+use Rattle.mb_decode.proofs.front.spellings.Goals as goal
+
+pub returns-clause-one_answer : goal.returns-clause-one_answer
+returns-clause-one_answer c = one_answer
+
+pub returns-clause-none_begins : goal.returns-clause-none_begins
+returns-clause-none_begins c = none_begins
