@@ -1,6 +1,6 @@
 //! The board.
 
-ghost use Rattle.std.specs.Prelude.{◌≡◌, ℕ, ◌+◌, ◌^◌, ◌<◌, ◌≤◌, length, replicate, IfOk, MatchResult, Some, None};
+ghost use Rattle.std.specs.Prelude.{◌≡◌, ℕ, ◌+◌, ◌^◌, ◌<◌, ◌≤◌, length, replicate, IfOk, OnOk, MatchResult, Some, None};
 ghost use Rattle.mb_machine.specs.Memory.{overwritten};
 ghost use Rattle.mb_machine.specs.Machine.{Machine, reset_with, stepped, run_of, takes_steps};
 
@@ -72,7 +72,8 @@ impl Board {
     #[tactic(auto, unfolding(mb_machine::specs::Machine::stepped))]
     fn step(&mut self) -> Result<(), Unbuilt>
         requires { self.old.steps + 1 < 2 ^ 32 }
-        ensures { MatchResult result (λ done. stepped self.old ≡ Some self.new) (λ unbuilt. stepped self.old ≡ None) }
+        ensures means { MatchResult result (λ done. stepped self.old ≡ Some self.new) (λ unbuilt. stepped self.old ≡ None) }
+        ensures counted { OnOk result (self.new.steps ≡ self.old.steps + 1) }
     {
         match step(&mut self.cpu, &mut self.bus) {
             StepEnd::Went => {
@@ -107,7 +108,9 @@ impl Board {
             if !self.takes_steps() {
                 return Ok(());
             }
-            self.step()?;
+            if let Err(unbuilt) = self.step() {
+                return Err(unbuilt);
+            }
         }
         Ok(())
     }
