@@ -16,11 +16,11 @@ some_outside ram at (byte ∷ []) some h =
 some_outside ram at (byte ∷ next ∷ bytes) some h =
     elim (cases_lt at ram) [
       | inl below ↦
-        let same : max (suc at) ram ≡ max at ram = omega arith in
-        rw (lt-ltb at ram below, ← same) (some_outside ram (suc at) (next ∷ bytes) (omega arith) (omega arith))
+          let same : max (suc at) ram ≡ max at ram = omega arith in
+          rw (lt-ltb at ram below, ← same) (some_outside ram (suc at) (next ∷ bytes) (omega arith) (omega arith))
       | inr past ↦
-        let greatest : max at ram ≡ at = omega arith in
-        rw (le-ltb at ram past, greatest) refl
+          let greatest : max at ram ≡ at = omega arith in
+          rw (le-ltb at ram past, greatest) refl
     ]
 
 pub none_outside : (ram at : ℕ) (bytes : List ℕ) → length bytes ≡ 0 → first_outside ram at bytes ≡ None

@@ -1,18 +1,16 @@
 //! A text as an image.
 
-ghost use Rattle.std.specs.Prelude.{◌≡◌, ◌<◌, ◌^◌, ◌⊎◌, Bool, ◌↔◌, IsTrue, IfOk, OnOk, Some, None, Err, length};
-ghost use Rattle.mb_srec.specs.Image.{contents_of};
-ghost use Rattle.mb_srec.specs.Records.{after_line, after_lines, after_record, beginning, first_outside, records_of};
-ghost use Rattle.mb_srec.specs.Answers.{Gives, so_far};
+ghost use Rattle.std.specs.Prelude.{◌≡◌, ◌<◌, ◌^◌, All, Err, IfOk, None, Some, length};
 ghost use Rattle.std.specs.Str.Lines.{lines};
-ghost use Rattle.mb_srec.specs.Answers.{said};
-
-use std::alloc::Global;
+ghost use Rattle.mb_srec.specs.Image.{LiesBelow, contents_of};
+ghost use Rattle.mb_srec.specs.Records.{after_line, after_lines, after_record, beginning, first_outside, records_of};
+ghost use Rattle.mb_srec.specs.Answers.{Gives, said, so_far};
 
 use crate::fault::ImageFault;
 use crate::image::{Chunk, Image};
 use crate::line::first_line;
-use crate::record::{record_of, Record};
+use crate::record::{Record, record_of};
+use std::alloc::Global;
 
 /// What the lines so far gave.
 #[derive(Drop)]
@@ -28,6 +26,7 @@ pub(crate) struct Reading {
 pub fn read_image(alloc: Global, text: &[u8], ram: u32) -> Result<Image, ImageFault>
     requires { length text.now < 2 ^ 31 }
     ensures image { IfOk result (λ image. records_of text.now ram ≡ Some (contents_of image)) }
+    ensures in_ram { IfOk result (λ image. All (LiesBelow ram) (contents_of image)) }
     ensures refused { result ≡ Err ImageFault.Refused → records_of text.now ram ≡ None }
 {
     image_of(alloc, text, ram)

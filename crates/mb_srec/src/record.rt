@@ -1,17 +1,15 @@
 //! What one line says.
 
-ghost use Rattle.std.specs.Prelude.{◌≡◌, ◌≤◌, ◌<◌, ◌^◌, ◌+◌, IsTrue, length, drop, sum};
-ghost use Rattle.mb_srec.specs.Kinds.{address_len};
-ghost use Rattle.mb_srec.specs.Records.{bytes_of, checksum_of, has_its_length, meaning_of, record_of, address_of, said_by};
+ghost use Rattle.std.specs.Prelude.{◌≡◌, ◌≤◌, ◌<◌, ◌^◌, IsTrue, Some, length};
+ghost use Rattle.mb_srec.specs.Records.{bytes_of, checksum_of, has_its_length, meaning_of, record_of, said_by};
 ghost use Rattle.mb_srec.specs.Answers.{Gives, said};
-
-use byteorder::{BigEndian, ByteOrder};
-use hex::FromHexError;
-use std::alloc::Global;
 
 use crate::fault::ImageFault;
 use crate::image::Chunk;
 use crate::kind::Kind;
+use byteorder::{BigEndian, ByteOrder};
+use hex::FromHexError;
+use std::alloc::Global;
 
 /// What a record says.
 #[derive(Drop)]
