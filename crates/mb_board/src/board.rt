@@ -1,8 +1,9 @@
 //! The board.
 
 ghost use Rattle.std.specs.Prelude.{◌≡◌, ℕ, ◌+◌, ◌^◌, ◌<◌, ◌≤◌, length, replicate, IfOk, OnOk, MatchResult, Some, None};
+ghost use Rattle.mb_model.specs.Seen.{seen_of};
 ghost use Rattle.mb_machine.specs.Memory.{overwritten};
-ghost use Rattle.mb_machine.specs.Machine.{Machine, reset_with, stepped, run_of, takes_steps};
+ghost use Rattle.mb_machine.specs.Machine.{Machine, reset_with, stepped, run_of, takes_steps, seen_machine};
 
 use crate::bus::PlainBus;
 use mb_meaning::{StepEnd, Unbuilt};
@@ -74,6 +75,7 @@ impl Board {
         requires { self.old.steps + 1 < 2 ^ 32 }
         ensures means { MatchResult result (λ done. stepped self.old ≡ Some self.new) (λ unbuilt. stepped self.old ≡ None) }
         ensures counted { OnOk result (self.new.steps ≡ self.old.steps + 1) }
+        ensures ram { length self.new.ram ≡ length self.old.ram }
     {
         match step(&mut self.cpu, &mut self.bus) {
             StepEnd::Went => {
@@ -102,7 +104,8 @@ impl Board {
     /// open until `reset`.
     pub fn run_bare(&mut self, steps: u32) -> Result<(), Unbuilt>
         requires { self.old.steps + steps < 2 ^ 32 }
-        ensures { MatchResult result (λ done. run_of steps self.old ≡ Some self.new) (λ unbuilt. run_of steps self.old ≡ None) }
+        ensures runs { MatchResult result (λ done. run_of steps self.old ≡ Some self.new) (λ unbuilt. run_of steps self.old ≡ None) }
+        ensures ram { length self.new.ram ≡ length self.old.ram }
     {
         for _ in 0..steps {
             if !self.takes_steps() {
@@ -117,11 +120,7 @@ impl Board {
 
     /// What the board shows.
     pub fn outcome(&self) -> Outcome<'_>
-        ensures cpu { result.cpu.now ≡ self.now.cpu }
-        ensures console { result.console.now ≡ self.now.devices.console }
-        ensures steps { result.steps ≡ self.now.steps }
-        ensures state { result.state ≡ self.now.state }
-        ensures ram { result.ram.now ≡ self.now.ram }
+        ensures { seen_of result ≡ seen_machine self.now }
     {
         Outcome {
             cpu: &self.cpu,

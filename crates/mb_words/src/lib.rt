@@ -6,5 +6,7 @@
 
 mod bare;
 mod number;
+mod reading;
 
-pub use bare::{Bare, read_words};
+pub use bare::Bare;
+pub use reading::read_words;
