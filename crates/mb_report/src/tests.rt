@@ -67,7 +67,7 @@ fn writes_every_place(rt: HostRuntime) {
     ram[0x1f] = 1;
     ram[0x30] = 0xf0;
     let mut cpu = Cpu::at_reset(0xffff_fffe, 0);
-    cpu.regs.d = [
+    let values = [
         1,
         0x20,
         0x300,
@@ -77,6 +77,8 @@ fn writes_every_place(rt: HostRuntime) {
         0x700_0000,
         0x89ab_cdef,
     ];
+    let d = &mut cpu.regs.d;
+    *d = values;
     cpu.regs.sr = 0x1f;
     let outcome = Outcome {
         cpu: &cpu,

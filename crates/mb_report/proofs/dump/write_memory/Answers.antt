@@ -1,6 +1,6 @@
 use Rattle.std.proofs.Common.{◌*◌, take, drop, add-one}
 use Rattle.mb_outside.proofs.PrintLemmas.{more_more}
-use Rattle.mb_report.specs.Text.{memory_line, memory_text, first_rows}
+use Rattle.mb_report.specs.Text.{memory_line, first_rows}
 use Rattle.mb_report.proofs.dump.write_memory.Goals as goal
 
 pub loop-row-preserved : goal.loop-row-preserved
