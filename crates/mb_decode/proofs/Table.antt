@@ -56,12 +56,17 @@ unfinished first ws lt h e =
 
 -- no words: an instruction of one word is still to come
 empty_unfinished : IsUnfinished []
-empty_unfinished = (Nop, 20081, [], record {
-  legal = refl;
-  fields = record { line = omega arith; upper = omega arith; bit = omega arith; size = omega arith; mode = omega arith; lower = omega arith };
-  words = refl;
-  are_words = AreWords-cons 20081 [] (omega arith) AreWords-nil;
-})
+empty_unfinished = (
+  Nop,
+  20081,
+  [],
+  record {
+    legal = refl;
+    fields = record { line = omega arith; upper = omega arith; bit = omega arith; size = omega arith; mode = omega arith; lower = omega arith };
+    words = refl;
+    are_words = AreWords-cons 20081 [] (omega arith) AreWords-nil;
+  },
+)
 
 heads : (a b : ℕ) (x y : List ℕ) → a ∷ x ≡ b ∷ y → (a ≡ b) × (x ≡ y)
 heads a b x y e = (cc, cc)
