@@ -1,13 +1,16 @@
 //! The board's bus: RAM, the console and the power switch.
 
-ghost use Rattle.std.specs.Prelude.{◌≡◌, ℕ, ◌+◌, ◌<◌, ◌≤◌, ◌≢◌, length, true, false, MatchOption};
-ghost use Rattle.mb_machine.specs.Memory.{number_at, with_number};
-ghost use Rattle.mb_machine.specs.Devices.{sent, powered, is_data, is_power};
+ghost use Rattle.std.specs.Prelude.{◌≡◌, ℕ, ◌+◌, ◌<◌, ◌≤◌, ◌≢◌, length, true, false, replicate, IfOk};
+ghost use Rattle.mb_machine.specs.Memory.{number_at, with_number, overwritten};
+ghost use Rattle.mb_machine.specs.Devices.{idle, sent, powered, is_data, is_power};
 ghost use Rattle.mb_machine.specs.Bus.{World, in_ram, loaded, stored, takes_writes, plain_bus, HasPlace, with_register, kept_bits, line_at, with_longs};
+ghost use Rattle.mb_machine.specs.Machine.{mmu_at_reset};
 ghost use Rattle.mb_board.specs.Stores.{Stores};
 
 use byteorder::{BigEndian, ByteOrder};
+use mb_outside::Memory;
 use mb_port::{Fault, Flush, Mmu, MmuReg, Piece, Place, Port, Space};
+use std::alloc::Global;
 use std::marker::Model;
 
 /// Where the byte register DATA stands: what is written there goes to the console.
@@ -17,7 +20,19 @@ const DATA: u32 = 0xfff0_0000;
 const POWER: u32 = 0xfff0_0020;
 
 /// How many bytes the console keeps.
-pub(crate) const CONSOLE_ROOM: usize = 65_536;
+const CONSOLE_ROOM: usize = 65_536;
+
+/// Every register is 0.
+const MMU_AT_RESET: Mmu = Mmu {
+    tc: 0,
+    itt0: 0,
+    itt1: 0,
+    dtt0: 0,
+    dtt1: 0,
+    mmusr: 0,
+    urp: 0,
+    srp: 0,
+};
 
 /// RAM from address 0 on, the console and the power switch. Nothing is translated.
 #[derive(Drop)]
@@ -68,7 +83,79 @@ fn write_number(ram: &mut [u8], at: usize, len: u8, value: u32)
     }
 }
 
+/// Writes bytes from a place on.
+fn write_bytes(ram: &mut [u8], at: usize, bytes: &[u8])
+    requires { at + length bytes.now ≤ length ram.old }
+    ensures { ram.new ≡ overwritten ram.old at bytes.now }
+{
+    ram[at..at + bytes.len()].copy_from_slice(bytes);
+}
+
 impl PlainBus {
+    /// A bus with so many bytes of RAM, all 0, and room for all that the console keeps.
+    pub(crate) fn new(alloc: Global, size: u32) -> Result<PlainBus, Memory>
+        requires { size ≤ 67108864 }
+        ensures { IfOk result (λ bus. bus ≡ record { ram = replicate size 0; mmu = mmu_at_reset; devices = idle }) }
+    {
+        let Ok(ram) = vec![in alloc; 0u8; size as usize] else {
+            return Err(Memory);
+        };
+        let Ok(console) = Vec::with_capacity(alloc, CONSOLE_ROOM) else {
+            return Err(Memory);
+        };
+        Ok(PlainBus {
+            ram,
+            mmu: MMU_AT_RESET,
+            console,
+            lost: 0,
+            off: false,
+        })
+    }
+
+    /// Resets all but RAM.
+    pub(crate) fn reset(&mut self)
+        ensures { self.new ≡ record self.old { mmu = mmu_at_reset; devices = idle } }
+    {
+        self.mmu = MMU_AT_RESET;
+        self.console.clear();
+        self.lost = 0;
+        self.off = false;
+    }
+
+    pub(crate) fn ram(&self) -> &[u8]
+        ensures { result.now ≡ self.now.ram }
+    {
+        &self.ram
+    }
+
+    pub(crate) fn console(&self) -> &[u8]
+        ensures { result.now ≡ self.now.devices.console }
+    {
+        &self.console
+    }
+
+    pub(crate) fn is_off(&self) -> bool
+        ensures { result ≡ self.now.devices.off }
+    {
+        self.off
+    }
+
+    /// The long that stands in RAM.
+    pub(crate) fn long(&self, at: u32) -> u32
+        requires { at + 4 ≤ length self.now.ram }
+        ensures { result ≡ number_at self.now.ram at 4 }
+    {
+        self.number(at, 4)
+    }
+
+    /// Writes RAM from a place on.
+    pub(crate) fn overwrite(&mut self, at: u32, bytes: &[u8])
+        requires { at + length bytes.now ≤ length self.old.ram }
+        ensures { self.new ≡ record self.old { ram = overwritten self.old.ram at bytes.now } }
+    {
+        write_bytes(&mut self.ram, at as usize, bytes);
+    }
+
     #[inline(always)]
     fn in_ram(&self, at: u32, len: u8) -> bool
         ensures { result ≡ in_ram (length self.now.ram) at len }

@@ -6,7 +6,7 @@ use Rattle.mb_instr.specs.declared.size.Size.{Size}
 use Rattle.mb_instr.specs.declared.size.Size.TheVariants.{Byte, Long}
 use Rattle.mb_instr.specs.declared.operand.Ea.{Ea}
 use Rattle.mb_instr.specs.declared.registers.Plain.{Plain}
-use Rattle.mb_alu.specs.declared.logic.LogicKind.TheVariants.{Pass}
+use Rattle.mb_alu.specs.declared.bitwise.LogicKind.TheVariants.{Pass}
 use Rattle.mb_alu.specs.Extend.{extend_of}
 use Rattle.mb_alu.specs.Logic.{logic_of}
 use Rattle.mb_meaning.specs.declared.Ended.TheVariants.{Unbuilt}
