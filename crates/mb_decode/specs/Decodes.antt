@@ -38,6 +38,14 @@ IfWhole Illegal P = ⊤
 IfWhole LineA P = ⊤
 IfWhole LineF P = ⊤
 
+-- P where the words want more
+abbrev pub OnMore : Decoded → Type 0 → Type 0
+OnMore (Whole i n) P = ⊤
+OnMore More P = P
+OnMore Illegal P = ⊤
+OnMore LineA P = ⊤
+OnMore LineF P = ⊤
+
 -- ---- by the table
 
 -- the words begin with a spelling of the instruction, of so many words
@@ -69,6 +77,10 @@ Decodes words LineF = IsOther words × HasLine words (λ line. line ≡ 15)
 -- no words have two answers
 abbrev pub OneAnswer : Type 0
 OneAnswer = (words : List ℕ) (a b : Decoded) → Decodes words a → Decodes words b → a ≡ b
+
+-- a spelling is read as its instruction, whatever follows
+abbrev pub ReadAgain : Type 0
+ReadAgain = (i : Instr) (w rest : List ℕ) → Codes i w → decode_of (w ++ rest) ≡ Whole i (length w)
 
 -- an instruction has at most one spelling
 abbrev pub OneSpelling : Type 0
