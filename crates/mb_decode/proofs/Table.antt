@@ -1,12 +1,12 @@
 -- The table read from words: each answer comes exactly where its fact holds.
-use Rattle.std.proofs.Common.{◌≡◌, ◌≢◌, ℕ, suc, ◌+◌, ◌-◌, ◌/◌, ◌^◌, ◌<◌, ◌≤◌, Bool, true, false, cond, List, [], ◌∷◌, ◌++◌, length, get_or, Result, Ok, Err, refl, sym, ap, subst, ◌∙◌, append_assoc, arith, length-append}
+use Rattle.std.proofs.Common.{◌≡◌, ◌≢◌, ℕ, ◌+◌, ◌-◌, ◌/◌, ◌^◌, ◌<◌, ◌≤◌, Bool, true, false, cond, List, [], ◌∷◌, ◌++◌, length, get_or, Result, Ok, Err, refl, sym, ap, subst, ◌∙◌, append_assoc, arith, length-append}
 use Rattle.std.specs.Prelude.{◌==◌}
 use Rattle.std.proofs.lemmas.List.{append-nil}
 use Rattle.std.proofs.lemmas.List.Elements.{All-from_get_or}
 use Rattle.mb_instr.specs.declared.instruction.Instr.{Instr}
 use Rattle.mb_instr.specs.declared.instruction.Instr.TheVariants.{Nop}
 use Rattle.mb_instr.specs.declared.opcode.Opcode.{Opcode}
-use Rattle.mb_instr.specs.Opcodes.{opcode_of, word_of, IsOpcode}
+use Rattle.mb_instr.specs.Opcodes.{opcode_of, word_of}
 use Rattle.mb_instr.specs.Instructions.{IsInstr}
 use Rattle.mb_instr.specs.Rows.{row, Codes, AreWords}
 use Rattle.mb_instr.proofs.Opcodes.{word_again, opcode_again, IsOpcode-of}
@@ -17,7 +17,7 @@ use Rattle.mb_decode.specs.declared.reading.Stop.TheVariants as stop
 use Rattle.mb_decode.specs.declared.front.Decoded.{Decoded}
 use Rattle.mb_decode.specs.declared.front.Decoded.TheVariants.{Whole, More, Illegal, LineA, LineF}
 use Rattle.mb_decode.specs.RowReading.{row_at}
-use Rattle.mb_decode.specs.Decodes.{no_row, stopped, decode_from, decode_of, IfWhole, OnMore, BeginsWith, IsUnfinished, IsOther, HasLine, Decodes, OneAnswer, ReadAgain, OneSpelling, NoneBegins}
+use Rattle.mb_decode.specs.Decodes.{stopped, decode_from, decode_of, IfWhole, OnMore, BeginsWith, IsUnfinished, IsOther, HasLine, Decodes, OneAnswer, ReadAgain, OneSpelling, NoneBegins}
 use Rattle.mb_decode.proofs.ReadBack.{row_read}
 use Rattle.mb_decode.proofs.Found.{eq_true, eq_false}
 use Rattle.mb_decode.proofs.RowsFound.{Spells, FoundRow, row_found}

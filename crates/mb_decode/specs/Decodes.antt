@@ -1,5 +1,5 @@
 -- What some words begin with: by reading them, and by the table.
-use Rattle.std.specs.Prelude.{◌≡◌, ◌≢◌, ℕ, ◌+◌, ◌-◌, ◌/◌, ◌^◌, ◌<◌, ◌==◌, List, [], ◌∷◌, ◌++◌, length, Ok, Err, if◌then◌else◌, ⊤}
+use Rattle.std.specs.Prelude.{◌≡◌, ◌≢◌, ℕ, ◌+◌, ◌-◌, ◌/◌, ◌^◌, ◌==◌, List, [], ◌∷◌, ◌++◌, length, Ok, Err, if◌then◌else◌, ⊤}
 use Rattle.mb_instr.specs.declared.instruction.Instr.{Instr}
 use Rattle.mb_instr.specs.Opcodes.{opcode_of}
 use Rattle.mb_instr.specs.Rows.{Codes}

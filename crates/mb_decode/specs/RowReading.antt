@@ -1,5 +1,5 @@
 -- Reading each row of the table.
-use Rattle.std.specs.Prelude.{◌≡◌, ℕ, ◌+◌, ◌*◌, ◌/◌, ◌%◌, ◌^◌, ◌<◌, Bool, true, false, ◌&&◌, ◌==◌, not, nat_lt, List, [], ◌∷◌, Result, Ok, Err, if◌then◌else◌}
+use Rattle.std.specs.Prelude.{ℕ, ◌+◌, ◌*◌, Bool, false, ◌&&◌, ◌==◌, not, nat_lt, Result, Ok, Err, if◌then◌else◌}
 use Rattle.mb_instr.specs.declared.size.Size.{Size}
 use Rattle.mb_instr.specs.declared.size.Size.TheVariants as size
 use Rattle.mb_instr.specs.declared.operand.OperandClass.TheVariants.{DataRegister, AbsoluteLong, Immediate}
@@ -10,8 +10,8 @@ use Rattle.mb_instr.specs.declared.instruction.Instr.TheVariants.{Move, Nop, Add
 use Rattle.mb_instr.specs.declared.opcode.Opcode.{Opcode}
 use Rattle.mb_instr.specs.Operands.{allows}
 use Rattle.mb_decode.specs.declared.reading.Stop.{Stop}
-use Rattle.mb_decode.specs.declared.reading.Stop.TheVariants.{More, Illegal}
-use Rattle.mb_decode.specs.Reading.{Reader, reads_then, ◌>>=◌, give, illegal, known, when_legal, word_at, long_at, operand_at, size_of}
+use Rattle.mb_decode.specs.declared.reading.Stop.TheVariants.{Illegal}
+use Rattle.mb_decode.specs.Reading.{Reader, ◌>>=◌, give, illegal, known, when_legal, word_at, long_at, operand_at, size_of}
 
 -- bits 7 to 0 of the first word
 abbrev pub low_byte : Opcode → ℕ

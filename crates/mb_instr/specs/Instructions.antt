@@ -1,5 +1,5 @@
 -- The ranges of an instruction's parts.
-use Rattle.std.specs.Prelude.{ℕ, ◌^◌, ◌<◌, ◌≤◌, ⊤}
+use Rattle.std.specs.Prelude.{◌^◌, ◌<◌, ◌≤◌, ⊤}
 use Rattle.mb_instr.specs.declared.instruction.Branch.{Branch}
 use Rattle.mb_instr.specs.declared.instruction.Branch.TheVariants.{Byte, Word, Long}
 use Rattle.mb_instr.specs.declared.instruction.Instr.{Instr}

@@ -1,5 +1,5 @@
 -- A first word and its six fields.
-use Rattle.std.specs.Prelude.{◌≡◌, ℕ, ◌+◌, ◌*◌, ◌/◌, ◌%◌, ◌^◌, ◌<◌}
+use Rattle.std.specs.Prelude.{ℕ, ◌+◌, ◌*◌, ◌/◌, ◌%◌, ◌^◌, ◌<◌}
 use Rattle.mb_instr.specs.declared.opcode.Opcode.{Opcode}
 
 abbrev pub opcode_of : ℕ → Opcode
