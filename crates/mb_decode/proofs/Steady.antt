@@ -23,6 +23,7 @@ pub record Completion {A : Type 0} (r : Reader A) (ws : List ℕ) : Type 0 where
   pub are_words : AreWords (word ∷ others)
   pub reads : r (ws ++ word ∷ others) ≡ Ok (value, [])
 
+-- how a reader stands to more words
 pub record Steady {A : Type 0} (r : Reader A) : Type 0 where
   pub longer : (ws x : List ℕ) (a : A) (rest : List ℕ) → r ws ≡ Ok (a, rest) → r (ws ++ x) ≡ Ok (a, rest ++ x)
   pub stays : (ws x : List ℕ) → r ws ≡ Err Illegal → r (ws ++ x) ≡ Err Illegal

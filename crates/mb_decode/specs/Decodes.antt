@@ -15,6 +15,7 @@ use Rattle.mb_decode.specs.RowReading.{row_at}
 abbrev pub no_row : ℕ → Decoded
 no_row first = if first / 2 ^ 12 == 10 then LineA else if first / 2 ^ 12 == 15 then LineF else Illegal
 
+-- the answer where no instruction was read
 abbrev pub stopped : ℕ → Stop → Decoded
 stopped first stop.More = More
 stopped first stop.Illegal = no_row first
@@ -26,6 +27,7 @@ decode_from first rest = elim (row_at (opcode_of first) rest) [
   | Err e ↦ stopped first e
 ]
 
+-- what words begin with; the empty list is less than any instruction
 unfoldable pub decode_of : List ℕ → Decoded
 decode_of [] = More
 decode_of (first ∷ rest) = decode_from first rest
@@ -65,6 +67,7 @@ abbrev pub HasLine : List ℕ → (ℕ → Type 0) → Type 0
 HasLine [] P = ⊥
 HasLine (w ∷ ws) P = P (w / 2 ^ 12)
 
+-- the answer is right
 abbrev pub Decodes : List ℕ → Decoded → Type 0
 Decodes words (Whole i n) = BeginsWith words i n
 Decodes words More = IsUnfinished words

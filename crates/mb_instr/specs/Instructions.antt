@@ -12,6 +12,7 @@ IsBranch (Byte b) = (0 < b) × (b < 255)
 IsBranch (Word w) = w < 2 ^ 16
 IsBranch (Long l) = l < 2 ^ 32
 
+-- what an instruction of the table has in its fields
 abbrev pub IsInstr : Instr → Type 0
 IsInstr (Move size destination source) = IsEa size destination × IsEa size source
 IsInstr Nop = ⊤
