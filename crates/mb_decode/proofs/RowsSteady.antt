@@ -1,30 +1,16 @@
 -- Each reader under more words.
-use Rattle.std.proofs.Common.{◌≡◌, ◌≢◌, ℕ, ◌+◌, ◌*◌, ◌/◌, ◌%◌, ◌<◌, ◌≤◌, ◌^◌, Bool, true, false, cond, List, [], ◌∷◌, ◌++◌, Result, Ok, Err, ◌⊎◌, inl, inr, refl, sym, ap, subst, ◌∙◌, append_assoc, arith}
-use Rattle.std.specs.Prelude.{◌&&◌, ◌==◌, not, nat_lt}
-use Rattle.std.proofs.lemmas.Bool.Decides.{nat_tests}
+use Rattle.std.proofs.Common.{◌≡◌, ℕ, ◌/◌, ◌%◌, ◌^◌, Bool, true, false, cond, Result, Err, arith}
+use Rattle.std.specs.Prelude.{◌==◌, nat_lt}
 use Rattle.mb_instr.specs.declared.size.Size.{Size}
 use Rattle.mb_instr.specs.declared.size.Size.TheVariants as size
-use Rattle.mb_instr.specs.declared.operand.Ea.{Ea}
-use Rattle.mb_instr.specs.declared.operand.Ea.TheVariants.{Dn, An, Ind, Post, Pre, Disp, Index, AbsW, AbsL, PcDisp, PcIndex, Imm}
-use Rattle.mb_instr.specs.declared.operand.Ext.{Ext}
-use Rattle.mb_instr.specs.declared.operand.Ext.TheVariants.{Brief, Full}
-use Rattle.mb_instr.specs.declared.operand.OperandClass.{OperandClass}
-use Rattle.mb_instr.specs.declared.operand.OperandClass.TheVariants.{DataRegister, AbsoluteLong, Immediate}
-use Rattle.mb_instr.specs.declared.instruction.Branch.{Branch}
-use Rattle.mb_instr.specs.declared.instruction.Branch.TheVariants.{Byte, Word, Long}
-use Rattle.mb_instr.specs.declared.instruction.Instr.{Instr}
-use Rattle.mb_instr.specs.declared.instruction.Instr.TheVariants.{Move, Nop, Addq, Bcc, Moveq}
+use Rattle.mb_instr.specs.declared.operand.Ext.TheVariants.{Brief}
 use Rattle.mb_instr.specs.declared.opcode.Opcode.{Opcode}
-use Rattle.mb_instr.specs.Opcodes.{opcode_of, word_of, IsOpcode}
-use Rattle.mb_instr.specs.Operands.{allows, mode, lower, more, is_spelled, takes, long, wide, fits, is_full, is_ext, ext, is_immediate, immediate}
-use Rattle.mb_instr.specs.Rows.{Row, row, op, bits, move_bits, branch_byte, branch_words, is_move, is_addq, is_bcc, Codes, AreWords}
-use Rattle.mb_instr.proofs.Words.{AreWords-nil, AreWords-cons, AreWords-head, AreWords-tail, AreWords-append}
-use Rattle.mb_instr.proofs.Ranges.{and_is}
+use Rattle.mb_instr.specs.Operands.{is_full}
 use Rattle.mb_decode.specs.declared.reading.Stop.{Stop}
-use Rattle.mb_decode.specs.declared.reading.Stop.TheVariants.{More, Illegal}
-use Rattle.mb_decode.specs.Reading.{Reader, reads_then, give, illegal, known, when_legal, word_at, long_at, wide_at, full_at, ext_at, immediate_at, operand_at, size_of}
-use Rattle.mb_decode.specs.RowReading.{low_byte, move_size, move_mode, allows_move, move_at, allows_addq, quick_of, addq_at, branch_at, condition_of, allows_bcc, bcc_at, line_4, row_at}
-use Rattle.mb_decode.proofs.Steady.{Readable, Completion, Steady, then_steady, then_readable, give_steady, give_readable, illegal_steady, cond_steady, cond_readable, known_steady, word_steady, word_readable, always, word_ends, word_then_readable}
+use Rattle.mb_decode.specs.declared.reading.Stop.TheVariants.{More}
+use Rattle.mb_decode.specs.Reading.{Reader, reads_then, give, long_at, wide_at, full_at, ext_at, immediate_at, operand_at, size_of}
+use Rattle.mb_decode.specs.RowReading.{move_size, allows_move, move_at, allows_addq, addq_at, branch_at, bcc_at, line_4, row_at}
+use Rattle.mb_decode.proofs.Steady.{Readable, Steady, then_steady, then_readable, give_steady, give_readable, illegal_steady, cond_steady, cond_readable, known_steady, word_steady, word_readable, always, word_ends, word_then_readable}
 
 -- a reader of anything, and a value made of it
 made_steady : {A B : Type 0} (r : Reader A) (make : A → B) → Steady r → Steady (reads_then r (λ a. give (make a)))

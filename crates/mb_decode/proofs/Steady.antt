@@ -1,30 +1,11 @@
 -- What a reader does as more words come: what it read stays, what is illegal stays so, and where it
 -- wants more there are words that complete it.
-use Rattle.std.proofs.Common.{◌≡◌, ◌≢◌, ℕ, ◌+◌, ◌*◌, ◌/◌, ◌%◌, ◌<◌, ◌≤◌, ◌^◌, Bool, true, false, cond, List, [], ◌∷◌, ◌++◌, Result, Ok, Err, ◌⊎◌, inl, inr, refl, sym, ap, subst, ◌∙◌, append_assoc, arith}
-use Rattle.std.specs.Prelude.{◌&&◌, ◌==◌, not, nat_lt}
-use Rattle.std.proofs.lemmas.Bool.Decides.{nat_tests}
-use Rattle.mb_instr.specs.declared.size.Size.{Size}
-use Rattle.mb_instr.specs.declared.size.Size.TheVariants as size
-use Rattle.mb_instr.specs.declared.operand.Ea.{Ea}
-use Rattle.mb_instr.specs.declared.operand.Ea.TheVariants.{Dn, An, Ind, Post, Pre, Disp, Index, AbsW, AbsL, PcDisp, PcIndex, Imm}
-use Rattle.mb_instr.specs.declared.operand.Ext.{Ext}
-use Rattle.mb_instr.specs.declared.operand.Ext.TheVariants.{Brief, Full}
-use Rattle.mb_instr.specs.declared.operand.OperandClass.{OperandClass}
-use Rattle.mb_instr.specs.declared.operand.OperandClass.TheVariants.{DataRegister, AbsoluteLong, Immediate}
-use Rattle.mb_instr.specs.declared.instruction.Branch.{Branch}
-use Rattle.mb_instr.specs.declared.instruction.Branch.TheVariants.{Byte, Word, Long}
-use Rattle.mb_instr.specs.declared.instruction.Instr.{Instr}
-use Rattle.mb_instr.specs.declared.instruction.Instr.TheVariants.{Move, Nop, Addq, Bcc, Moveq}
-use Rattle.mb_instr.specs.declared.opcode.Opcode.{Opcode}
-use Rattle.mb_instr.specs.Opcodes.{opcode_of, word_of, IsOpcode}
-use Rattle.mb_instr.specs.Operands.{allows, mode, lower, more, is_spelled, takes, long, wide, fits, is_full, is_ext, ext, is_immediate, immediate}
-use Rattle.mb_instr.specs.Rows.{Row, row, op, bits, move_bits, branch_byte, branch_words, is_move, is_addq, is_bcc, Codes, AreWords}
-use Rattle.mb_instr.proofs.Words.{AreWords-nil, AreWords-cons, AreWords-head, AreWords-tail, AreWords-append}
-use Rattle.mb_instr.proofs.Ranges.{and_is}
+use Rattle.std.proofs.Common.{◌≡◌, ℕ, ◌<◌, ◌^◌, Bool, true, false, cond, List, [], ◌∷◌, ◌++◌, Result, Ok, Err, ◌⊎◌, inl, inr, refl, sym, ap, ◌∙◌, append_assoc, arith}
+use Rattle.mb_instr.specs.Rows.{AreWords}
+use Rattle.mb_instr.proofs.Words.{AreWords-nil, AreWords-cons, AreWords-append}
 use Rattle.mb_decode.specs.declared.reading.Stop.{Stop}
 use Rattle.mb_decode.specs.declared.reading.Stop.TheVariants.{More, Illegal}
-use Rattle.mb_decode.specs.Reading.{Reader, reads_then, give, illegal, known, when_legal, word_at, long_at, wide_at, full_at, ext_at, immediate_at, operand_at, size_of}
-use Rattle.mb_decode.specs.RowReading.{low_byte, move_size, move_mode, allows_move, move_at, allows_addq, quick_of, addq_at, branch_at, condition_of, allows_bcc, bcc_at, line_4, row_at}
+use Rattle.mb_decode.specs.Reading.{Reader, reads_then, give, illegal, known, word_at}
 use Rattle.mb_decode.proofs.ReadBack.{next}
 
 -- words that a reader reads to their end
@@ -42,6 +23,7 @@ pub record Completion {A : Type 0} (r : Reader A) (ws : List ℕ) : Type 0 where
   pub are_words : AreWords (word ∷ others)
   pub reads : r (ws ++ word ∷ others) ≡ Ok (value, [])
 
+-- how a reader stands to more words
 pub record Steady {A : Type 0} (r : Reader A) : Type 0 where
   pub longer : (ws x : List ℕ) (a : A) (rest : List ℕ) → r ws ≡ Ok (a, rest) → r (ws ++ x) ≡ Ok (a, rest ++ x)
   pub stays : (ws x : List ℕ) → r ws ≡ Err Illegal → r (ws ++ x) ≡ Err Illegal

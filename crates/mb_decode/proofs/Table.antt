@@ -1,12 +1,12 @@
 -- The table read from words: each answer comes exactly where its fact holds.
-use Rattle.std.proofs.Common.{◌≡◌, ◌≢◌, ℕ, suc, ◌+◌, ◌-◌, ◌/◌, ◌^◌, ◌<◌, ◌≤◌, Bool, true, false, cond, List, [], ◌∷◌, ◌++◌, length, get_or, Result, Ok, Err, refl, sym, ap, subst, ◌∙◌, append_assoc, arith, length-append}
+use Rattle.std.proofs.Common.{◌≡◌, ◌≢◌, ℕ, ◌+◌, ◌-◌, ◌/◌, ◌^◌, ◌<◌, ◌≤◌, Bool, true, false, cond, List, [], ◌∷◌, ◌++◌, length, get_or, Result, Ok, Err, refl, sym, ap, subst, ◌∙◌, append_assoc, arith, length-append}
 use Rattle.std.specs.Prelude.{◌==◌}
 use Rattle.std.proofs.lemmas.List.{append-nil}
 use Rattle.std.proofs.lemmas.List.Elements.{All-from_get_or}
 use Rattle.mb_instr.specs.declared.instruction.Instr.{Instr}
 use Rattle.mb_instr.specs.declared.instruction.Instr.TheVariants.{Nop}
 use Rattle.mb_instr.specs.declared.opcode.Opcode.{Opcode}
-use Rattle.mb_instr.specs.Opcodes.{opcode_of, word_of, IsOpcode}
+use Rattle.mb_instr.specs.Opcodes.{opcode_of, word_of}
 use Rattle.mb_instr.specs.Instructions.{IsInstr}
 use Rattle.mb_instr.specs.Rows.{row, Codes, AreWords}
 use Rattle.mb_instr.proofs.Opcodes.{word_again, opcode_again, IsOpcode-of}
@@ -17,7 +17,7 @@ use Rattle.mb_decode.specs.declared.reading.Stop.TheVariants as stop
 use Rattle.mb_decode.specs.declared.front.Decoded.{Decoded}
 use Rattle.mb_decode.specs.declared.front.Decoded.TheVariants.{Whole, More, Illegal, LineA, LineF}
 use Rattle.mb_decode.specs.RowReading.{row_at}
-use Rattle.mb_decode.specs.Decodes.{no_row, stopped, decode_from, decode_of, IfWhole, BeginsWith, IsUnfinished, IsOther, HasLine, Decodes, OneAnswer, OneSpelling, NoneBegins}
+use Rattle.mb_decode.specs.Decodes.{stopped, decode_from, decode_of, IfWhole, OnMore, BeginsWith, IsUnfinished, IsOther, HasLine, Decodes, OneAnswer, ReadAgain, OneSpelling, NoneBegins}
 use Rattle.mb_decode.proofs.ReadBack.{row_read}
 use Rattle.mb_decode.proofs.Found.{eq_true, eq_false}
 use Rattle.mb_decode.proofs.RowsFound.{Spells, FoundRow, row_found}
@@ -56,12 +56,17 @@ unfinished first ws lt h e =
 
 -- no words: an instruction of one word is still to come
 empty_unfinished : IsUnfinished []
-empty_unfinished = (Nop, 20081, [], record {
-  legal = refl;
-  fields = record { line = omega arith; upper = omega arith; bit = omega arith; size = omega arith; mode = omega arith; lower = omega arith };
-  words = refl;
-  are_words = AreWords-cons 20081 [] (omega arith) AreWords-nil;
-})
+empty_unfinished = (
+  Nop,
+  20081,
+  [],
+  record {
+    legal = refl;
+    fields = record { line = omega arith; upper = omega arith; bit = omega arith; size = omega arith; mode = omega arith; lower = omega arith };
+    words = refl;
+    are_words = AreWords-cons 20081 [] (omega arith) AreWords-nil;
+  },
+)
 
 heads : (a b : ℕ) (x y : List ℕ) → a ∷ x ≡ b ∷ y → (a ≡ b) × (x ≡ y)
 heads a b x y e = (cc, cc)
@@ -117,7 +122,15 @@ length_of ws Illegal d = tt
 length_of ws LineA d = tt
 length_of ws LineF d = tt
 
--- and is in range
+-- words that want more are at most 10
+pub unfinished_length : (ws : List ℕ) (r : Decoded) → Decodes ws r → OnMore r (length ws ≤ 10)
+unfinished_length ws (Whole i n) d = tt
+unfinished_length ws More u = let c = Codes-length u.0 (ws ++ u.1 ∷ u.2) u.3 in omega (arith, c.1, length-append ws (u.1 ∷ u.2))
+unfinished_length ws Illegal d = tt
+unfinished_length ws LineA d = tt
+unfinished_length ws LineF d = tt
+
+-- a whole instruction is in range
 pub valid_of : (ws : List ℕ) (r : Decoded) → Decodes ws r → IfWhole r (λ i n. IsInstr i)
 valid_of ws (Whole i n) b = IsInstr-codes i b.0 b.2
 valid_of ws More d = tt
@@ -139,6 +152,20 @@ at_opcode p first ws r e h = subst (λ (q : Opcode). row_at q ws ≡ r) e h
 
 -- ---- laws of the table
 
+from_read : (first : ℕ) (ws : List ℕ) (i : Instr) (rest : List ℕ) → row_at (opcode_of first) ws ≡ read i rest → decode_from first ws ≡ Whole i (1 + (length ws - length rest))
+unfolding decode_from
+from_read first ws i rest e = ap (λ (r : Result (Instr × List ℕ) Stop). elim r [ Ok x ↦ Whole x.0 (1 + (length ws - length x.1)) | Err d ↦ stopped first d ]) e
+
+again : (i : Instr) (first : ℕ) (further rest : List ℕ) → Codes i (first ∷ further) → decode_of (first ∷ further ++ rest) ≡ Whole i (length (first ∷ further))
+unfolding decode_of
+again i first further rest c =
+    let n-is : 1 + (length (further ++ rest) - length rest) ≡ length (first ∷ further) = omega (arith, length-append further rest) in
+    from_read first (further ++ rest) i rest (spelled_read first (further ++ rest) i (first ∷ further) rest c refl) ∙ ap (λ (n : ℕ). Whole i n) n-is
+
+pub read_again : ReadAgain
+read_again i [] rest c = absurd (omega (arith, (Codes-length i [] c).0))
+read_again i (first ∷ further) rest c = again i first further rest c
+
 pub one_spelling : OneSpelling
 one_spelling i w v c d = c.words ∙ sym d.words
 
@@ -151,7 +178,7 @@ none_begins i j w v a b c d e =
     let same : i ≡ j = ap (λ r. elim r [ Ok x ↦ x.0 | Err d ↦ i ]) (sym at_i ∙ at_j) in
     (same, c.words ∙ sym (subst (λ (k : Instr). v ≡ word_of (row k).opcode ∷ (row k).further) (sym same) d.words))
 
-one_whole : (ws : List ℕ) (i j : Instr) (n m : ℕ) → BeginsWith ws i n → BeginsWith ws j m → Decoded.Whole i n ≡ Decoded.Whole j m
+one_whole : (ws : List ℕ) (i j : Instr) (n m : ℕ) → BeginsWith ws i n → BeginsWith ws j m → Whole i n ≡ Whole j m
 one_whole ws i j n m x y =
     let same = none_begins i j x.0 y.0 x.1 y.1 x.2 y.2 (sym x.3 ∙ y.3) in
     let i-is = same.0 in

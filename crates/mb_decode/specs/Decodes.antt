@@ -1,5 +1,5 @@
 -- What some words begin with: by reading them, and by the table.
-use Rattle.std.specs.Prelude.{◌≡◌, ◌≢◌, ℕ, ◌+◌, ◌-◌, ◌/◌, ◌^◌, ◌<◌, ◌==◌, List, [], ◌∷◌, ◌++◌, length, Ok, Err, if◌then◌else◌, ⊤}
+use Rattle.std.specs.Prelude.{◌≡◌, ◌≢◌, ℕ, ◌+◌, ◌-◌, ◌/◌, ◌^◌, ◌==◌, List, [], ◌∷◌, ◌++◌, length, Ok, Err, if◌then◌else◌, ⊤}
 use Rattle.mb_instr.specs.declared.instruction.Instr.{Instr}
 use Rattle.mb_instr.specs.Opcodes.{opcode_of}
 use Rattle.mb_instr.specs.Rows.{Codes}
@@ -15,6 +15,7 @@ use Rattle.mb_decode.specs.RowReading.{row_at}
 abbrev pub no_row : ℕ → Decoded
 no_row first = if first / 2 ^ 12 == 10 then LineA else if first / 2 ^ 12 == 15 then LineF else Illegal
 
+-- the answer where no instruction was read
 abbrev pub stopped : ℕ → Stop → Decoded
 stopped first stop.More = More
 stopped first stop.Illegal = no_row first
@@ -26,6 +27,7 @@ decode_from first rest = elim (row_at (opcode_of first) rest) [
   | Err e ↦ stopped first e
 ]
 
+-- what words begin with; the empty list is less than any instruction
 unfoldable pub decode_of : List ℕ → Decoded
 decode_of [] = More
 decode_of (first ∷ rest) = decode_from first rest
@@ -37,6 +39,14 @@ IfWhole More P = ⊤
 IfWhole Illegal P = ⊤
 IfWhole LineA P = ⊤
 IfWhole LineF P = ⊤
+
+-- P where the words want more
+abbrev pub OnMore : Decoded → Type 0 → Type 0
+OnMore (Whole i n) P = ⊤
+OnMore More P = P
+OnMore Illegal P = ⊤
+OnMore LineA P = ⊤
+OnMore LineF P = ⊤
 
 -- ---- by the table
 
@@ -57,6 +67,7 @@ abbrev pub HasLine : List ℕ → (ℕ → Type 0) → Type 0
 HasLine [] P = ⊥
 HasLine (w ∷ ws) P = P (w / 2 ^ 12)
 
+-- the answer is right
 abbrev pub Decodes : List ℕ → Decoded → Type 0
 Decodes words (Whole i n) = BeginsWith words i n
 Decodes words More = IsUnfinished words
@@ -69,6 +80,10 @@ Decodes words LineF = IsOther words × HasLine words (λ line. line ≡ 15)
 -- no words have two answers
 abbrev pub OneAnswer : Type 0
 OneAnswer = (words : List ℕ) (a b : Decoded) → Decodes words a → Decodes words b → a ≡ b
+
+-- a spelling is read as its instruction, whatever follows
+abbrev pub ReadAgain : Type 0
+ReadAgain = (i : Instr) (w rest : List ℕ) → Codes i w → decode_of (w ++ rest) ≡ Whole i (length w)
 
 -- an instruction has at most one spelling
 abbrev pub OneSpelling : Type 0

@@ -1,5 +1,5 @@
 -- Reading words from left to right.
-use Rattle.std.specs.Prelude.{◌≡◌, ℕ, ◌+◌, ◌*◌, ◌/◌, ◌%◌, ◌^◌, ◌<◌, Bool, true, false, ◌==◌, List, [], ◌∷◌, Result, Ok, Err, if◌then◌else◌}
+use Rattle.std.specs.Prelude.{◌≡◌, ℕ, ◌+◌, ◌*◌, ◌/◌, ◌%◌, ◌^◌, Bool, ◌==◌, List, [], ◌∷◌, Result, Ok, Err, if◌then◌else◌}
 use Rattle.mb_instr.specs.declared.size.Size.{Size}
 use Rattle.mb_instr.specs.declared.size.Size.TheVariants as size
 use Rattle.mb_instr.specs.declared.operand.Ea.{Ea}
@@ -31,6 +31,7 @@ r >>= f = reads_then r f
 abbrev pub give : {A : Type 0} → A → Reader A
 give a ws = Ok (a, ws)
 
+-- no row has the words, whatever follows
 abbrev pub illegal : {A : Type 0} → Reader A
 illegal ws = Err Illegal
 
@@ -43,11 +44,12 @@ known (Err e) ws = Err e
 abbrev pub when_legal : {A : Type 0} → Bool → Reader A → Reader A
 when_legal test r = if test then r else illegal
 
+-- the next word
 unfoldable pub word_at : Reader ℕ
 word_at [] = Err More
 word_at (w ∷ ws) = Ok (w, ws)
 
--- the high word first
+-- two words, the high one first
 unfoldable pub long_at : Reader ℕ
 long_at = do
   high ← word_at
@@ -71,6 +73,7 @@ ext_at = do
   w ← word_at
   if w / 2 ^ 8 % 2 == 0 then give (Brief w) else when_legal (is_full w) (full_at w)
 
+-- a byte immediate takes a whole word
 unfoldable pub immediate_at : Size → Reader ℕ
 immediate_at size.Byte = word_at
 immediate_at size.Word = word_at

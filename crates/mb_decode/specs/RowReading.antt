@@ -1,5 +1,5 @@
 -- Reading each row of the table.
-use Rattle.std.specs.Prelude.{◌≡◌, ℕ, ◌+◌, ◌*◌, ◌/◌, ◌%◌, ◌^◌, ◌<◌, Bool, true, false, ◌&&◌, ◌==◌, not, nat_lt, List, [], ◌∷◌, Result, Ok, Err, if◌then◌else◌}
+use Rattle.std.specs.Prelude.{ℕ, ◌+◌, ◌*◌, Bool, false, ◌&&◌, ◌==◌, not, nat_lt, Result, Ok, Err, if◌then◌else◌}
 use Rattle.mb_instr.specs.declared.size.Size.{Size}
 use Rattle.mb_instr.specs.declared.size.Size.TheVariants as size
 use Rattle.mb_instr.specs.declared.operand.OperandClass.TheVariants.{DataRegister, AbsoluteLong, Immediate}
@@ -10,8 +10,8 @@ use Rattle.mb_instr.specs.declared.instruction.Instr.TheVariants.{Move, Nop, Add
 use Rattle.mb_instr.specs.declared.opcode.Opcode.{Opcode}
 use Rattle.mb_instr.specs.Operands.{allows}
 use Rattle.mb_decode.specs.declared.reading.Stop.{Stop}
-use Rattle.mb_decode.specs.declared.reading.Stop.TheVariants.{More, Illegal}
-use Rattle.mb_decode.specs.Reading.{Reader, reads_then, ◌>>=◌, give, illegal, known, when_legal, word_at, long_at, operand_at, size_of}
+use Rattle.mb_decode.specs.declared.reading.Stop.TheVariants.{Illegal}
+use Rattle.mb_decode.specs.Reading.{Reader, ◌>>=◌, give, illegal, known, when_legal, word_at, long_at, operand_at, size_of}
 
 -- bits 7 to 0 of the first word
 abbrev pub low_byte : Opcode → ℕ
@@ -34,6 +34,7 @@ allows_move size.Byte p = allows DataRegister p.mode p.lower && allows AbsoluteL
 allows_move size.Word p = false
 allows_move size.Long p = allows Immediate p.mode p.lower && allows AbsoluteLong (move_mode p) p.upper
 
+-- the source's words stand before the destination's
 unfoldable pub move_at : Opcode → Reader Instr
 move_at p = known (move_size p.line) >>= λ s. when_legal (allows_move s p) (do
   source ← operand_at s p.mode p.lower
@@ -50,16 +51,19 @@ allows_addq size.Long p = allows DataRegister p.mode p.lower
 abbrev pub quick_of : ℕ → ℕ
 quick_of field = if field == 0 then 8 else field
 
+-- the size is tested before the class
 unfoldable pub addq_at : Opcode → Reader Instr
 addq_at p = known (size_of p.size) >>= λ s. when_legal (allows_addq s p) (do
   ea ← operand_at s p.mode p.lower
   give (Addq (quick_of p.upper) s ea))
 
+-- a displacement byte of 0 says a word, $FF a long
 unfoldable pub branch_at : ℕ → Reader Branch
 branch_at byte =
     if byte == 0 then (word_at >>= λ w. give (Word w)) else
     if byte == 255 then (long_at >>= λ l. give (Long l)) else give (Byte byte)
 
+-- bits 11 to 8
 abbrev pub condition_of : Opcode → ℕ
 condition_of p = p.upper * 2 + p.bit
 
@@ -67,6 +71,7 @@ condition_of p = p.upper * 2 + p.bit
 abbrev pub allows_bcc : ℕ → ℕ → Bool
 allows_bcc condition byte = (condition == 0) && not (byte == 0) && not (byte == 255)
 
+-- condition 0 is BRA
 unfoldable pub bcc_at : Opcode → Reader Instr
 bcc_at p = when_legal (allows_bcc (condition_of p) (low_byte p)) (do
   d ← branch_at (low_byte p)

@@ -1,8 +1,8 @@
 //! The instruction at the front of some words.
 
-ghost use Rattle.std.specs.Prelude.{◌≡◌, ◌≤◌};
+ghost use Rattle.std.specs.Prelude.{◌≡◌, ◌≤◌, length};
 ghost use Rattle.mb_instr.specs.Instructions.{IsInstr};
-ghost use Rattle.mb_decode.specs.Decodes.{decode_of, decode_from, no_row, Decodes, IfWhole, OneAnswer, OneSpelling, NoneBegins};
+ghost use Rattle.mb_decode.specs.Decodes.{decode_of, decode_from, no_row, Decodes, IfWhole, OnMore, OneAnswer, ReadAgain, OneSpelling, NoneBegins};
 
 use crate::reading::Stop;
 use crate::rows::row;
@@ -15,11 +15,11 @@ pub enum Decoded {
     Whole(Instr, u8),
     /// Less than a whole instruction: more words can complete it.
     More,
-    /// No instruction, whatever follows, and no line of coprocessors or emulators either.
+    /// No instruction, whatever follows, and the first word's top digit is neither $A nor $F.
     Illegal,
-    /// No instruction: the first word's top digit is $A.
+    /// No instruction, whatever follows, and the first word's top digit is $A.
     LineA,
-    /// No instruction: the first word's top digit is $F.
+    /// No instruction, whatever follows, and the first word's top digit is $F.
     LineF,
 }
 
@@ -30,6 +30,7 @@ pub fn decode(words: &[u16]) -> Decoded
     ensures means { result ≡ decode_of words.now }
     ensures decodes { Decodes words.now result }
     ensures length { IfWhole result (λ i n. (1 ≤ n) × (n ≤ 11)) }
+    ensures unfinished { OnMore result (length words.now ≤ 10) }
     ensures valid { IfWhole result (λ i n. IsInstr i) }
 {
     match words {
@@ -65,10 +66,11 @@ fn no_row(first: u16) -> Decoded
     }
 }
 
-/// The table as a language: no words have two answers, an instruction has at most one spelling, and
-/// no spelling begins another.
+/// The table as a language: no words have two answers, a spelling is read as its instruction, an
+/// instruction has at most one spelling, and no spelling begins another.
 pub fn spellings()
     ensures one_answer { OneAnswer }
+    ensures read_again { ReadAgain }
     ensures one_spelling { OneSpelling }
     ensures none_begins { NoneBegins }
 {}

@@ -49,8 +49,7 @@ fn allows_move(size: Size, op: Opcode) -> bool
         Size::Word => return false,
         Size::Long => OperandClass::Immediate,
     };
-    source.allows(op.mode, op.lower)
-        && OperandClass::AbsoluteLong.allows(move_mode(op), op.upper)
+    source.allows(op.mode, op.lower) && OperandClass::AbsoluteLong.allows(move_mode(op), op.upper)
 }
 
 /// MOVE: the source's words stand before the destination's.

@@ -1,5 +1,5 @@
 -- What has a spelling is in range.
-use Rattle.std.proofs.Common.{◌≡◌, ℕ, ◌+◌, ◌<◌, ◌≤◌, ◌/◌, ◌%◌, ◌^◌, Bool, true, false, cond, List, [], ◌∷◌, ◌++◌, subst, refl, arith, IsTrue}
+use Rattle.std.proofs.Common.{◌≡◌, ℕ, ◌<◌, ◌≤◌, ◌/◌, ◌%◌, ◌^◌, Bool, true, false, cond, List, [], ◌∷◌, subst, refl, arith}
 use Rattle.std.specs.Prelude.{◌&&◌, ◌==◌, not, nat_lt}
 use Rattle.std.proofs.lemmas.Bool.Decides.{nat_tests}
 use Rattle.mb_instr.specs.declared.size.Size.{Size}
@@ -15,7 +15,7 @@ use Rattle.mb_instr.specs.declared.instruction.Branch.TheVariants as branch
 use Rattle.mb_instr.specs.declared.instruction.Instr.{Instr}
 use Rattle.mb_instr.specs.declared.instruction.Instr.TheVariants.{Move, Nop, Addq, Bcc, Moveq}
 use Rattle.mb_instr.specs.Opcodes.{word_of, IsOpcode}
-use Rattle.mb_instr.specs.Operands.{allows, mode, lower, more, long, wide, fits, is_full, is_ext, ext, is_immediate, immediate, is_spelled, takes, IsExt, IsImmediate, IsEa}
+use Rattle.mb_instr.specs.Operands.{allows, mode, lower, more, long, wide, fits, is_full, is_ext, ext, immediate, is_spelled, takes, IsExt, IsImmediate, IsEa}
 use Rattle.mb_instr.specs.Instructions.{IsBranch, IsInstr}
 use Rattle.mb_instr.specs.Rows.{row, is_move, is_addq, is_bcc, branch_byte, branch_words, Codes, AreWords}
 use Rattle.mb_instr.proofs.Words.{AreWords-head, AreWords-tail, AreWords-left, AreWords-right}

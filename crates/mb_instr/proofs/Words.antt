@@ -1,5 +1,5 @@
 -- Lists of words, and how many words a spelling has.
-use Rattle.std.proofs.Common.{◌≡◌, ℕ, ◌+◌, ◌<◌, ◌≤◌, ◌/◌, ◌%◌, ◌^◌, ◌==◌, Bool, true, false, cond, List, [], ◌∷◌, ◌++◌, length, All, ap, refl, arith, length-append}
+use Rattle.std.proofs.Common.{ℕ, ◌<◌, ◌≤◌, ◌/◌, ◌%◌, ◌^◌, ◌==◌, Bool, true, false, cond, List, [], ◌∷◌, ◌++◌, length, ap, arith, length-append}
 use Rattle.std.proofs.lemmas.List.Elements.{All-nil, All-cons, All-head, All-tail, All-append}
 use Rattle.mb_instr.specs.declared.size.Size.{Size}
 use Rattle.mb_instr.specs.declared.size.Size.TheVariants as size
@@ -11,7 +11,7 @@ use Rattle.mb_instr.specs.declared.instruction.Branch.{Branch}
 use Rattle.mb_instr.specs.declared.instruction.Branch.TheVariants as branch
 use Rattle.mb_instr.specs.declared.instruction.Instr.{Instr}
 use Rattle.mb_instr.specs.declared.instruction.Instr.TheVariants.{Move, Nop, Addq, Bcc, Moveq}
-use Rattle.mb_instr.specs.Operands.{more, wide, long, ext, immediate}
+use Rattle.mb_instr.specs.Operands.{more, wide, ext, immediate}
 use Rattle.mb_instr.specs.Rows.{row, branch_words, Codes, AreWords}
 
 abbrev pub IsWord : ℕ → Type 0

@@ -1,5 +1,5 @@
 -- The ranges of an instruction's parts.
-use Rattle.std.specs.Prelude.{ℕ, ◌^◌, ◌<◌, ◌≤◌, ⊤}
+use Rattle.std.specs.Prelude.{◌^◌, ◌<◌, ◌≤◌, ⊤}
 use Rattle.mb_instr.specs.declared.instruction.Branch.{Branch}
 use Rattle.mb_instr.specs.declared.instruction.Branch.TheVariants.{Byte, Word, Long}
 use Rattle.mb_instr.specs.declared.instruction.Instr.{Instr}
@@ -12,6 +12,7 @@ IsBranch (Byte b) = (0 < b) × (b < 255)
 IsBranch (Word w) = w < 2 ^ 16
 IsBranch (Long l) = l < 2 ^ 32
 
+-- what an instruction of the table has in its fields
 abbrev pub IsInstr : Instr → Type 0
 IsInstr (Move size destination source) = IsEa size destination × IsEa size source
 IsInstr Nop = ⊤

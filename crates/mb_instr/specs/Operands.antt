@@ -1,5 +1,5 @@
 -- Which operands a row takes, and how an operand is spelled.
-use Rattle.std.specs.Prelude.{◌≡◌, ℕ, ◌+◌, ◌*◌, ◌/◌, ◌%◌, ◌^◌, ◌<◌, Bool, true, false, ◌&&◌, ◌||◌, ◌==◌, not, nat_lt, List, [], ◌∷◌, ◌++◌, if◌then◌else◌}
+use Rattle.std.specs.Prelude.{ℕ, ◌/◌, ◌%◌, ◌^◌, ◌<◌, Bool, true, ◌&&◌, ◌==◌, not, nat_lt, List, [], ◌∷◌, ◌++◌, if◌then◌else◌}
 use Rattle.mb_instr.specs.declared.size.Size.{Size}
 use Rattle.mb_instr.specs.declared.size.Size.TheVariants as size
 use Rattle.mb_instr.specs.declared.operand.Ea.{Ea}
@@ -94,6 +94,7 @@ takes class size ea = allows class (mode ea) (lower ea) && is_spelled size ea
 
 -- ---- the ranges of an operand's parts
 
+-- extension words, and displacements of 32 bits
 abbrev pub IsExt : Ext → Type 0
 IsExt (Brief w) = w < 2 ^ 16
 IsExt (Full w bd od) = (w < 2 ^ 16) × (bd < 2 ^ 32) × (od < 2 ^ 32)
@@ -104,6 +105,7 @@ IsImmediate size.Byte v = v < 2 ^ 16
 IsImmediate size.Word v = v < 2 ^ 16
 IsImmediate size.Long v = v < 2 ^ 32
 
+-- registers are 0 to 7, and what is spelled by words fits them
 abbrev pub IsEa : Size → Ea → Type 0
 IsEa size (Dn n) = n < 8
 IsEa size (An n) = n < 8
