@@ -14,5 +14,3 @@ mod top;
 pub use end::End;
 pub use top::run_program;
 
-#[cfg(test)]
-mod tests;
