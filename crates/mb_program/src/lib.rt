@@ -14,3 +14,6 @@ mod top;
 pub use end::End;
 pub use top::run_program;
 
+
+#[cfg(test)]
+mod tests;
