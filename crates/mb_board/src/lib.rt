@@ -8,3 +8,6 @@ mod board;
 mod bus;
 
 pub use board::Board;
+
+#[cfg(test)]
+mod tests;

@@ -14,6 +14,5 @@ mod top;
 pub use end::End;
 pub use top::run_program;
 
-
 #[cfg(test)]
 mod tests;

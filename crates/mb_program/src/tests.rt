@@ -92,7 +92,10 @@ const ROWS: [Row; 28] = [
         image: b"S10B00000001000000000400EF\nS1150400704113C0FFF0000023FC00000001FFF0002044\nS9030000FC\n",
         steps: "0",
         status: 0,
-        lines: &[b"state running\nsteps 0\nconsole 0\nD0 00000000\n", b"PC 00000400\n"],
+        lines: &[
+            b"state running\nsteps 0\nconsole 0\nD0 00000000\n",
+            b"PC 00000400\n",
+        ],
     },
     Row {
         what: "a loop of a million steps",
@@ -246,7 +249,10 @@ const ROWS: [Row; 28] = [
         image: b"S10B00000001000000000400EF\nS10B040070FF13C00000FFFFB0\nS9030000FC\n",
         steps: "2",
         status: 0,
-        lines: &[b"0000FFF0 000000000000000000000000000000FF\n", b"SR 00002708\n"],
+        lines: &[
+            b"0000FFF0 000000000000000000000000000000FF\n",
+            b"SR 00002708\n",
+        ],
     },
     Row {
         what: "a long store at the end of RAM",
@@ -291,7 +297,11 @@ fn machines_run(rt: HostRuntime) -> Result<(), Fail> {
         let words = format!(in rt.alloc(); "mbx bare hello.s19 --ram 64 --steps {}", row.steps)?;
         let ran = run_text(rt.alloc(), &words, row.image, NOTHING).expect(&rt, "ample memory");
         assert_eq!(rt; ran.status, row.status, "{}", row.what);
-        let silent: &[u8] = if row.status == 0 { b"" } else { b"mbx: not built\n" };
+        let silent: &[u8] = if row.status == 0 {
+            b""
+        } else {
+            b"mbx: not built\n"
+        };
         assert_eq!(rt; ran.diag.bytes(), silent, "{}", row.what);
         assert_eq!(rt; ran.out.bytes().is_empty(), row.status != 0, "{}", row.what);
         for line in row.lines {
@@ -350,7 +360,11 @@ fn words_are_refused(rt: HostRuntime) {
     for line in refused {
         let ran = run_text(rt.alloc(), line, HELLO, NOTHING).expect(&rt, "ample memory");
         assert_eq!(rt; ran.status, 2, "{line}");
-        assert_eq!(rt; ran.diag.bytes(), b"mbx: words refused\n".as_slice(), "{line}");
+        assert_eq!(rt;
+            ran.diag.bytes(),
+            b"mbx: words refused\n".as_slice(),
+            "{line}"
+        );
         assert!(rt; ran.out.bytes().is_empty(), "{line}");
     }
 }
@@ -384,7 +398,11 @@ fn files_are_refused(rt: HostRuntime) {
     for text in malformed {
         let ran = run_text(rt.alloc(), HELLO_WORDS, text, NOTHING).expect(&rt, "ample memory");
         assert_eq!(rt; ran.status, 3, "{text:?}");
-        assert_eq!(rt; ran.diag.bytes(), b"mbx: hello.s19 refused\n".as_slice(), "{text:?}");
+        assert_eq!(rt;
+            ran.diag.bytes(),
+            b"mbx: hello.s19 refused\n".as_slice(),
+            "{text:?}"
+        );
         assert!(rt; ran.out.bytes().is_empty(), "{text:?}");
     }
 }
@@ -423,7 +441,10 @@ fn a_shelf_fails_at_each_call(rt: HostRuntime) {
     let missing = "mbx bare other.s19 --ram 64 --steps 10";
     let ran = run_text(rt.alloc(), missing, HELLO, NOTHING).expect(&rt, "ample memory");
     assert_eq!(rt; ran.status, 5);
-    assert_eq!(rt; ran.diag.bytes(), b"mbx: other.s19 cannot be read\n".as_slice());
+    assert_eq!(rt;
+        ran.diag.bytes(),
+        b"mbx: other.s19 cannot be read\n".as_slice()
+    );
 }
 
 #[test]
@@ -442,7 +463,11 @@ fn out_fails_at_each_call(rt: HostRuntime) {
             break;
         }
         assert_eq!(rt; ran.status, 6, "{fails}");
-        assert_eq!(rt; ran.diag.bytes(), b"mbx: output failed\n".as_slice(), "{fails}");
+        assert_eq!(rt;
+            ran.diag.bytes(),
+            b"mbx: output failed\n".as_slice(),
+            "{fails}"
+        );
     }
     assert!(rt; whole);
 }

@@ -52,10 +52,21 @@ fn make_bare<'a>(image: &'a str, ram_text: &str, steps_text: &str) -> Option<Bar
 pub fn read_words<'a>(words: &'a [String]) -> Option<Bare<'a>>
     ensures { option_map asked_of result ≡ asked_by (map string_bytes words.entry.now) }
 {
-    let [_program, command, image, ram_option, ram, steps_option, steps] = words else {
+    let [
+        _program,
+        command,
+        image,
+        ram_option,
+        ram,
+        steps_option,
+        steps,
+    ] = words
+    else {
         return None;
     };
-    if command.as_str() == "bare" && ram_option.as_str() == "--ram" && steps_option.as_str() == "--steps"
+    if command.as_str() == "bare"
+        && ram_option.as_str() == "--ram"
+        && steps_option.as_str() == "--steps"
     {
         make_bare(image.as_str(), ram.as_str(), steps.as_str())
     } else {

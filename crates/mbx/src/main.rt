@@ -6,10 +6,9 @@
 use mb_outside::{FileShelf, StdSink, put_all};
 use mb_program::run_program;
 use std::alloc::Global;
-use std::env;
-use std::io;
 use std::process::ExitCode;
 use std::rt::Env;
+use std::{env, io};
 
 /// The words of the command line.
 fn words(rt: &(impl Env + AllocGlobal)) -> io::Result<Vec<String>> {
