@@ -5,6 +5,7 @@ use Rattle.mb_outside.specs.Prints.{Printed, PrintedPart}
 use Rattle.mb_words.specs.Words.{Text, Asked}
 use Rattle.mb_program.specs.Answers.{Answer, shows, refuses, is_unbuilt, Told, answer_of}
 use Rattle.mb_program.specs.Lines.{status_of, line_of}
+use Rattle.mb_program.specs.declared.end.FileWhy.{FileWhy}
 use Rattle.mb_program.specs.declared.end.End.{End}
 use Rattle.mb_program.specs.declared.end.End.TheVariants.{Done, Words, Refused, Unread, Output, Memory, Unbuilt}
 
@@ -28,25 +29,25 @@ PutsNothing a = (a.put_after ≡ a.put) × (a.out_after ≡ a.out)
 -- the answer is a text, which out has gained
 abbrev pub IsShown : Around → Answer → Type 0
 IsShown a (shows text) = Printed a.out a.out_after a.put a.put_after text
-IsShown a (refuses name) = ⊥
+IsShown a (refuses name why) = ⊥
 IsShown a is_unbuilt = ⊥
 
 -- the answer is a text, of which out has gained a first part before it failed
 abbrev pub IsCut : Around → Answer → Type 0
 IsCut a (shows text) = PrintedPart a.out a.out_after a.put a.put_after text
-IsCut a (refuses name) = ⊥
+IsCut a (refuses name why) = ⊥
 IsCut a is_unbuilt = ⊥
 
--- the answer is that this file is refused
-abbrev pub IsRefused : Text → Answer → Type 0
-IsRefused name (shows text) = ⊥
-IsRefused name (refuses n) = n ≡ name
-IsRefused name is_unbuilt = ⊥
+-- the answer is that this file is refused, and why
+abbrev pub IsRefused : Text → FileWhy → Answer → Type 0
+IsRefused name why (shows text) = ⊥
+IsRefused name why (refuses n w) = (n ≡ name) × (w ≡ why)
+IsRefused name why is_unbuilt = ⊥
 
 -- the answer is that a step is not built
 abbrev pub IsUnbuilt : Answer → Type 0
 IsUnbuilt (shows text) = ⊥
-IsUnbuilt (refuses name) = ⊥
+IsUnbuilt (refuses name why) = ⊥
 IsUnbuilt is_unbuilt = ⊤
 
 -- Each end of a command with its cause, by its answer where that is known. `image` is the name of its
@@ -54,7 +55,7 @@ IsUnbuilt is_unbuilt = ⊤
 abbrev pub CommandEnds : Text → Option Answer → Around → End → Type 0
 CommandEnds image answer a Done = ReadsWell a × (a.put_after ≡ a.put) × IfSome answer (IsShown a)
 CommandEnds image answer a Words = ⊥
-CommandEnds image answer a (Refused name) = (name.now ≡ image) × ReadsWell a × PutsNothing a × IfSome answer (IsRefused name.now)
+CommandEnds image answer a (Refused name why) = (name.now ≡ image) × ReadsWell a × PutsNothing a × IfSome answer (IsRefused name.now why)
 CommandEnds image answer a (Unread name) = (name.now ≡ image) × Rose a.read a.read_after × PutsNothing a
 CommandEnds image answer a Output = ReadsWell a × Rose a.put a.put_after × IfSome answer (IsCut a)
 CommandEnds image answer a Memory = ReadsWell a × PutsNothing a

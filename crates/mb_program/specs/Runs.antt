@@ -7,7 +7,7 @@ use Rattle.mb_program.specs.declared.running.RunFault.TheVariants.{Memory, NoIma
 
 abbrev pub RunFaults : Ran → RunFault → Type 0
 RunFaults ran Memory = ⊤
-RunFaults ran NoImage = ran ≡ no_image
+RunFaults ran (NoImage why) = ran ≡ no_image why
 RunFaults ran Unbuilt = ran ≡ unbuilt
 
 -- The board is the machine after the run, or the fault is its cause; want of memory is free.

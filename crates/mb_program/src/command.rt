@@ -6,7 +6,7 @@ ghost use Rattle.mb_program.specs.Answers.{answer_of};
 ghost use Rattle.mb_program.specs.Ends.{Ends, CommandEnds, IsWhole};
 ghost use Rattle.mb_program.specs.Causes.{image_of};
 
-use crate::end::End;
+use crate::end::{End, FileWhy};
 use crate::running::{RunFault, run_bytes};
 use mb_outside::{LoadFault, Shelf, Sink, load};
 use mb_report::write_outcome;
@@ -31,12 +31,12 @@ fn run_bare<'a, F: Shelf, O: Sink>(
         Ok(bytes) => bytes,
         Err(LoadFault::Memory) => return End::Memory,
         Err(LoadFault::Failed) => return End::Unread(bare.image),
-        Err(LoadFault::TooLong) => return End::Refused(bare.image),
+        Err(LoadFault::TooLong) => return End::Refused(bare.image, FileWhy::TooLong),
     };
     let board = match run_bytes(alloc, bare, &bytes) {
         Ok(board) => board,
         Err(RunFault::Memory) => return End::Memory,
-        Err(RunFault::NoImage) => return End::Refused(bare.image),
+        Err(RunFault::NoImage(why)) => return End::Refused(bare.image, why),
         Err(RunFault::Unbuilt) => return End::Unbuilt,
     };
     match write_outcome(1, &board.outcome(), out) {

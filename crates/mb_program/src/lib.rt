@@ -11,7 +11,7 @@ mod end;
 mod running;
 mod top;
 
-pub use end::End;
+pub use end::{End, FileWhy};
 pub use top::run_program;
 
 #[cfg(test)]

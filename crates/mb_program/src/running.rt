@@ -5,9 +5,10 @@ ghost use Rattle.mb_srec.specs.Image.{content_of, all_contents, contents_of, Lie
 ghost use Rattle.mb_machine.specs.Memory.{overwritten};
 ghost use Rattle.mb_machine.specs.Machine.{start, with_contents};
 ghost use Rattle.mb_words.specs.Words.{asked_of};
-ghost use Rattle.mb_program.specs.Answers.{ran_of};
+ghost use Rattle.mb_program.specs.Answers.{ran_of, why_of};
 ghost use Rattle.mb_program.specs.Runs.{Runs};
 
+use crate::end::FileWhy;
 use mb_board::Board;
 use mb_outside::Memory;
 use mb_srec::{Chunk, Image, ImageFault, read_image};
@@ -20,7 +21,7 @@ pub enum RunFault {
     /// Memory ran out.
     Memory,
     /// The bytes are no image for this RAM.
-    NoImage,
+    NoImage(FileWhy),
     /// A step is not built.
     Unbuilt,
 }
@@ -63,6 +64,17 @@ fn start_board(alloc: Global, image: &Image, size: u32) -> Result<Board, Memory>
     Ok(board)
 }
 
+/// Why a text's first fault refuses its file.
+fn why(fault: ImageFault) -> FileWhy
+    ensures { result ≡ why_of fault }
+{
+    match fault {
+        ImageFault::Line { number, why } => FileWhy::Line { number, why },
+        ImageFault::Outside { at } => FileWhy::Outside { at },
+        ImageFault::NoEnd | ImageFault::Memory => FileWhy::NoEnd,
+    }
+}
+
 /// Reads an image, and runs it on a board of its own.
 #[tactic(auto, unfolding(crate::specs::Answers::ran_of))]
 pub fn run_bytes(alloc: Global, bare: &Bare, bytes: &[u8]) -> Result<Board, RunFault>
@@ -74,7 +86,7 @@ pub fn run_bytes(alloc: Global, bare: &Bare, bytes: &[u8]) -> Result<Board, RunF
     let image = match read_image(alloc, bytes, size) {
         Ok(image) => image,
         Err(ImageFault::Memory) => return Err(RunFault::Memory),
-        Err(ImageFault::Refused) => return Err(RunFault::NoImage),
+        Err(fault) => return Err(RunFault::NoImage(why(fault))),
     };
     let Ok(mut board) = start_board(alloc, &image, size) else {
         return Err(RunFault::Memory);

@@ -3,8 +3,8 @@
 ghost use Rattle.std.specs.Prelude.{◌≡◌, ◌<◌, ◌⊎◌, ◌↔◌, map, string_bytes, true, is_some, Some, None};
 ghost use Rattle.mb_outside.specs.Counts.{Rose};
 ghost use Rattle.mb_words.specs.Words.{asked_by};
-ghost use Rattle.mb_program.specs.Ends.{EndsWith, IsSaid, IsShown, IsCut, IsUnbuilt};
-ghost use Rattle.mb_program.specs.Causes.{Answers, IsAnswered, RefusesImage, FailsNowhere, IsComplete, image_of, line_for};
+ghost use Rattle.mb_program.specs.Ends.{EndsWith, IsShown, IsCut, IsUnbuilt};
+ghost use Rattle.mb_program.specs.Causes.{Answers, IsAnswered, RefusesImage, FailsNowhere, IsComplete, image_of, Says};
 
 use crate::command::run_words;
 use crate::diagnosis::{status, tell};
@@ -16,7 +16,7 @@ use std::alloc::Global;
 ///
 /// - 0: the outcome text was written to out.
 /// - 2: the words ask for nothing.
-/// - 3: the file has more than 67,108,864 bytes, or is no image for this RAM.
+/// - 3: the file has more than 67,108,864 bytes, or is no image for this RAM; the line on diag says why.
 /// - 5: the shelf failed.
 /// - 6: out failed, and has a first part of the text.
 /// - 7: memory ran out.
@@ -65,8 +65,9 @@ pub fn run_program<F: Shelf, O: Sink, E: Sink>(
     // Where the answer is known and nothing fails, it is given, unless memory runs out.
     ensures complete { IsComplete (asked_by (map string_bytes words.entry.now)) (F.told shelf.old) (record { read = F.faults shelf.old; read_after = F.faults shelf.new; put = O.faults out.old; put_after = O.faults out.new; out = O.taken out.old; out_after = O.taken out.new }) result }
 
-    // Diag gains exactly the line of the status, or a first part of it where diag fails.
-    ensures said { IsSaid (record { out = E.taken diag.old; out_after = E.taken diag.new; put = E.faults diag.old; put_after = E.faults diag.new }) (line_for (image_of (asked_by (map string_bytes words.entry.now))) result) }
+    // Diag gains exactly the line of the status, or a first part of it where diag fails; the line of a
+    // refused image has the reason.
+    ensures said { Says (asked_by (map string_bytes words.entry.now)) (F.told shelf.old) (record { out = E.taken diag.old; out_after = E.taken diag.new; put = E.faults diag.old; put_after = E.faults diag.new }) result }
 {
     let end = run_words(alloc, words, shelf, out);
     let _ = tell(diag, end);
