@@ -28,7 +28,7 @@ lines_one text some e =
     let none : All (λ x. is_line_feed x ≡ false) text = λ k d lt. fails_before_first is_line_feed text k d (omega arith) in
     ap lines_of_parts (slice_split_none is_line_feed text none) ∙ one_part text some
 
-more_parts : (part : List ℕ) (parts : List (List ℕ)) → 0 < length parts → lines_of_parts (part ∷ parts) ≡ strip_carriage_return part ∷ lines_of_parts parts
+pub more_parts : (part : List ℕ) (parts : List (List ℕ)) → 0 < length parts → lines_of_parts (part ∷ parts) ≡ strip_carriage_return part ∷ lines_of_parts parts
 more_parts part [] h = absurd (omega arith)
 more_parts part (x ∷ xs) h = refl
 
