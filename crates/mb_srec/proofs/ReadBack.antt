@@ -1,30 +1,29 @@
 -- What is written is read back.
 use Rattle.std.proofs.Math.Seq.{take-append_seam, get_or-append_seam}
-use Rattle.std.proofs.lemmas.Bool.Decides.{nat_tests}
-use Rattle.std.proofs.Common.{◌≡◌, ℕ, zero, suc, ◌+◌, ◌-◌, ◌*◌, ◌/◌, ◌%◌, ◌^◌, ◌≤◌, ◌<◌, Bool, true, false, ◌&&◌, cond, eqb, ltb, not, List, [], ◌∷◌, ◌++◌, length, take, drop, get_or, Option, Some, None, Result, Ok, Err, refl, sym, ap, subst, ◌∙◌, append_assoc, add-one, inl, inr, arith, rules}
-use Rattle.std.specs.Prelude.{All, slice_get, codes, is_some, IsOkAnd, sum}
-use Rattle.std.specs.List.{AllByRecursion, AllPass, flat_map, list_all, slice_split}
+use Rattle.std.proofs.Common.{◌≡◌, ℕ, zero, suc, ◌+◌, ◌-◌, ◌*◌, ◌/◌, ◌%◌, ◌^◌, ◌≤◌, ◌<◌, Bool, true, false, ◌&&◌, ltb, List, [], ◌∷◌, ◌++◌, length, take, drop, get_or, Option, Some, None, Result, Ok, refl, sym, ap, subst, ◌∙◌, append_assoc, inl, inr, arith}
+use Rattle.std.specs.Prelude.{All, slice_get, codes}
+use Rattle.std.specs.List.{AllByRecursion, flat_map, list_all, slice_split}
 use Rattle.std.specs.Option.{option_or}
 use Rattle.std.specs.Str.Lines.{lines, lines_of_parts, strip_carriage_return}
 use Rattle.std.proofs.lemmas.Bool.{cases_lt, lt-ltb, le-ltb, lt-leb, ltb-true, eq-eqb, ne_eqb}
-use Rattle.std.proofs.lemmas.List.{append-nil, drop_all, length-append, length-drop, length-take, get_or_past}
+use Rattle.std.proofs.lemmas.List.{append-nil, length-append, length-drop, length-take, get_or_past}
 use Rattle.std.proofs.lemmas.List.Concat.{flat_map-cons}
 use Rattle.std.proofs.lemmas.List.Elements.{All-cons, All-take, All-drop, recursion_from_All}
 use Rattle.std.proofs.lemmas.List.Splits.{slice_split_at, length-slice_split}
 use Rattle.std.proofs.lemmas.List.Sums.{AllPass-from_list_all}
 use Rattle.std.proofs.lemmas.Option.{slice_get_past}
 use Rattle.hex.proofs.OnLiterals.{hex_on_literals}
-use Rattle.hex.specs.Hex.{IsBytes, decode_of, encode_upper, hex_digit_value, is_hex_digit}
+use Rattle.hex.specs.Hex.{IsBytes, encode_upper, is_hex_digit}
 use Rattle.hex.proofs.HexLemmas.{decode_of-encode_upper, decode_of-ok}
 use Rattle.byteorder.specs.Endian.{big_bytes, big_number}
-use Rattle.byteorder.specs.Numbers.{big_number-reads_back, length-bytes_high_first}
+use Rattle.byteorder.specs.Numbers.{big_number-reads_back}
 use Rattle.mb_srec.specs.declared.fault.ImageFault.{ImageFault}
 use Rattle.mb_srec.specs.declared.kind.Kind.TheVariants.{S3}
 use Rattle.mb_srec.specs.Image.{LiesBelow, byte_of, byte_at}
-use Rattle.mb_srec.specs.Records.{◌>>=◌, Record, Data, Reading, checksum_of, summed, has_its_length, has_its_checksum, said_by, meaning_of, record_of, after_record, with_record, after_line, after_lines, beginning, at_end, records_of, first_outside}
+use Rattle.mb_srec.specs.Records.{◌>>=◌, Data, Reading, checksum_of, summed, has_its_length, has_its_checksum, said_by, meaning_of, record_of, after_record, with_record, after_line, after_lines, beginning, at_end, records_of}
 use Rattle.mb_srec.specs.Written.{IsContent, SameBytes, counted, data_line, data_lines, chunk_lines, header_line, end_line, text_of}
 use Rattle.mb_srec.proofs.Lines.{is_line_feed, more_parts}
-use Rattle.mb_srec.proofs.Outside.{all_inside, none_outside}
+use Rattle.mb_srec.proofs.Outside.{all_inside}
 
 -- ---- bytes at addresses
 

@@ -1,5 +1,5 @@
 -- How an answer of the code stands to what the definition gives.
-use Rattle.std.specs.Prelude.{◌≡◌, List, ℕ, Result, Ok, Err}
+use Rattle.std.specs.Prelude.{◌≡◌, Result, Ok, Err}
 use Rattle.mb_srec.specs.declared.fault.ImageFault.{ImageFault}
 use Rattle.mb_srec.specs.declared.fault.ImageFault.TheVariants.{Memory, Line, Outside, NoEnd}
 use Rattle.mb_srec.specs.declared.fault.RecordWhy.{RecordWhy}

@@ -1,8 +1,7 @@
-use Rattle.std.proofs.Common.{◌≡◌, ◌++◌, ap, refl, sym, ◌∙◌, subst}
+use Rattle.std.proofs.Common.{refl, sym, ◌∙◌, subst}
 use Rattle.std.specs.Prelude.{All}
-use Rattle.std.specs.List.{flat_map}
-use Rattle.mb_srec.specs.Image.{IsAddressed, all_contents, contents_of}
-use Rattle.mb_srec.specs.Written.{chunk_lines, header_line, end_line, text_of}
+use Rattle.mb_srec.specs.Image.{IsAddressed, contents_of}
+use Rattle.mb_srec.specs.Written.{header_line, end_line, text_of}
 use Rattle.mb_srec.proofs.Pieces.{of_chunk, chunk_pushed, all_written}
 use Rattle.mb_srec.proofs.writing.write_records.Goals as goal
 
