@@ -8,7 +8,8 @@ ghost use Rattle.mb_srec.specs.Written.{IsContent, SameBytes, chunk_lines, count
 use crate::image::{Chunk, Image};
 use crate::record::checksum_of;
 use byteorder::{BigEndian, ByteOrder};
-use std::alloc::{AllocError, Global};
+use mb_outside::Memory;
+use std::alloc::Global;
 
 /// How many bytes a written record has, but for the last of a chunk.
 const RECORD_LEN: usize = 16;
@@ -16,7 +17,7 @@ const RECORD_LEN: usize = 16;
 /// Writes an image as S-records with 32-bit addresses: an empty header, for each chunk records of 16
 /// bytes and one of the rest, and the end. Only memory may be wanting.
 #[tactic(auto, unfolding(crate::specs::Written::text_of))]
-pub fn write_records(alloc: Global, image: &Image) -> Result<Vec<u8>, AllocError>
+pub fn write_records(alloc: Global, image: &Image) -> Result<Vec<u8>, Memory>
     requires { All IsAddressed (contents_of image.now) }
     ensures { IfOk result (λ text. text.items ≡ text_of (contents_of image.now)) }
 {
@@ -28,7 +29,7 @@ pub fn write_records(alloc: Global, image: &Image) -> Result<Vec<u8>, AllocError
     Ok(text)
 }
 
-fn push_chunk(alloc: Global, text: &mut Vec<u8>, chunk: &Chunk) -> Result<(), AllocError>
+fn push_chunk(alloc: Global, text: &mut Vec<u8>, chunk: &Chunk) -> Result<(), Memory>
     requires { IsAddressed (content_of chunk.now) }
     ensures { OnOk result (text.new.items ≡ text.old.items ++ chunk_lines (content_of chunk.now)) }
 {
@@ -44,7 +45,7 @@ fn push_chunk(alloc: Global, text: &mut Vec<u8>, chunk: &Chunk) -> Result<(), Al
 }
 
 #[tactic(auto, unfolding(crate::specs::Written::data_line))]
-fn push_data(alloc: Global, text: &mut Vec<u8>, at: u32, data: &[u8]) -> Result<(), AllocError>
+fn push_data(alloc: Global, text: &mut Vec<u8>, at: u32, data: &[u8]) -> Result<(), Memory>
     requires { length «data».now ≤ 16 }
     ensures { OnOk result (text.new.items ≡ text.old.items ++ data_line at «data».now) }
 {
@@ -56,7 +57,7 @@ fn push_data(alloc: Global, text: &mut Vec<u8>, at: u32, data: &[u8]) -> Result<
 }
 
 /// Count, address, data and checksum.
-fn record_bytes(alloc: Global, at: u32, data: &[u8]) -> Result<Vec<u8>, AllocError>
+fn record_bytes(alloc: Global, at: u32, data: &[u8]) -> Result<Vec<u8>, Memory>
     requires { length «data».now ≤ 16 }
     ensures { IfOk result (λ bytes. bytes.items ≡ counted at «data».now ++ checksum_of (counted at «data».now) ∷ []) }
 {
