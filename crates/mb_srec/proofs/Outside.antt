@@ -1,5 +1,5 @@
 -- Addresses that are not below the size of RAM.
-use Rattle.std.proofs.Common.{◌≡◌, ℕ, suc, ◌+◌, ◌<◌, ◌≤◌, sym, Bool, true, false, cond, ltb, List, [], ◌∷◌, length, Option, Some, None, refl, max, inl, inr, arith}
+use Rattle.std.proofs.Common.{◌≡◌, ℕ, suc, ◌+◌, ◌<◌, ◌≤◌, List, [], ◌∷◌, length, Some, None, refl, max, inl, inr, arith}
 use Rattle.std.proofs.lemmas.Bool.{cases_lt, lt-ltb, le-ltb}
 use Rattle.mb_srec.specs.Records.{first_outside}
 

@@ -1,6 +1,5 @@
-use Rattle.std.proofs.Common.{◌≡◌, ◌∷◌, length, drop, take, ◌+◌, ◌-◌, ap, ◌∙◌, sym, refl, arith}
+use Rattle.std.proofs.Common.{◌≡◌, length, drop, take, ◌+◌, ◌-◌, sym, arith}
 use Rattle.std.proofs.lemmas.List.{take_all, length-drop}
-use Rattle.std.specs.Str.Lines.{lines}
 use Rattle.mb_srec.proofs.Lines.{lines_one, lines_cut}
 use Rattle.mb_srec.proofs.line.first_line.Goals as goal
 
