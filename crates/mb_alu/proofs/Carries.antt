@@ -1,6 +1,5 @@
 -- Carry and overflow of machine words against those of whole numbers.
-use Rattle.std.proofs.Common.{ℕ, ◌≡◌, ◌+◌, ◌-◌, ◌*◌, ◌%◌, ◌^◌, ◌<◌, ◌≤◌, arith, Bool, true, false, not, ◌&&◌, ◌||◌, nat_eq, bit_and, pos, ◌+ℤ◌, ◌-ℤ◌, ◌==◌, nat_le, refl, ap}
-use Rattle.std.proofs.lemmas.Grind.{common_steps}
+use Rattle.std.proofs.Common.{ℕ, ◌≡◌, ◌+◌, ◌-◌, ◌/◌, ◌≤◌, arith, Bool, true, false, not, ◌&&◌, pos, ◌+ℤ◌, ◌-ℤ◌, ◌==◌, nat_le, ap}
 use Rattle.std.proofs.lemmas.Int.{ints}
 use Rattle.std.proofs.lemmas.Bool.Decides.{nat_tests}
 use Rattle.std.proofs.Math.Bool.{beq}
@@ -8,7 +7,7 @@ use Rattle.mb_instr.specs.declared.size.Size.{Size}
 use Rattle.mb_instr.specs.declared.size.Size.TheVariants.{Byte, Word, Long}
 use Rattle.mb_instr.specs.Sizes.{values_of, low_of}
 use Rattle.mb_alu.specs.Conditions.{bit}
-use Rattle.mb_alu.specs.Signs.{half_of, is_negative, signed_of, fits_signed}
+use Rattle.mb_alu.specs.Signs.{is_negative, signed_of, fits}
 
 -- a number that is cut differs from itself exactly where it reaches the number of values
 pub carries : (size : Size) (s : ℕ) → not (low_of size s == s) ≡ nat_le (values_of size) s
@@ -19,7 +18,7 @@ carries Long s = grind (arith, nat_tests)
 -- a sum overflows where its terms have one sign and it has the other
 pub sum_overflows : (size : Size) (x y : ℕ) (e : Bool) →
     (beq (is_negative size x) (is_negative size y) && not (beq (is_negative size x) (is_negative size (low_of size y + low_of size x + bit e))))
-    ≡ not (fits_signed size (signed_of size y +ℤ signed_of size x +ℤ pos (bit e)))
+    ≡ not (fits true (values_of size) (signed_of size y +ℤ signed_of size x +ℤ pos (bit e)))
 sum_overflows Byte x y true = grind (arith, ints, nat_tests)
 sum_overflows Byte x y false = grind (arith, ints, nat_tests)
 sum_overflows Word x y true = grind (arith, ints, nat_tests)
@@ -34,4 +33,29 @@ low_of-cut Word s = grind arith
 low_of-cut Long s = grind arith
 
 pub is_negative-cut : (size : Size) (s : ℕ) → is_negative size (low_of size s) ≡ is_negative size s
-is_negative-cut size s = ap (λ n. nat_le (half_of size) n) (low_of-cut size s)
+is_negative-cut size s = ap (λ n. nat_le (values_of size / 2) n) (low_of-cut size s)
+
+-- 2 ^ 32 is a multiple of each number of values
+pub low_of-wrap : (size : Size) (y t : ℕ) → t ≤ values_of size → low_of size (y + 4294967296 - t) ≡ low_of size (y + values_of size - t)
+low_of-wrap Byte y t h = omega arith
+low_of-wrap Word y t h = omega arith
+low_of-wrap Long y t h = omega arith
+
+pub low_of-add_bit : (size : Size) (x : ℕ) (e : Bool) → low_of size x + bit e ≤ values_of size
+low_of-add_bit Byte x true = omega arith
+low_of-add_bit Byte x false = omega arith
+low_of-add_bit Word x true = omega arith
+low_of-add_bit Word x false = omega arith
+low_of-add_bit Long x true = omega arith
+low_of-add_bit Long x false = omega arith
+
+-- a difference overflows where its terms have two signs and it has not that of the first
+pub difference_overflows : (size : Size) (x y : ℕ) (e : Bool) →
+    (not (beq (is_negative size x) (is_negative size y)) && not (beq (is_negative size y) (is_negative size (low_of size y + values_of size - (low_of size x + bit e)))))
+    ≡ not (fits true (values_of size) (signed_of size y -ℤ signed_of size x -ℤ pos (bit e)))
+difference_overflows Byte x y true = grind (arith, ints, nat_tests)
+difference_overflows Byte x y false = grind (arith, ints, nat_tests)
+difference_overflows Word x y true = grind (arith, ints, nat_tests)
+difference_overflows Word x y false = grind (arith, ints, nat_tests)
+difference_overflows Long x y true = grind (arith, ints, nat_tests)
+difference_overflows Long x y false = grind (arith, ints, nat_tests)

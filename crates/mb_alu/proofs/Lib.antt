@@ -1,1 +1,4 @@
 pub mod Carries
+pub mod Words
+pub mod Steps
+pub mod Turns

@@ -3,3 +3,7 @@ pub mod Signs
 pub mod Sums
 pub mod Logic
 pub mod Extend
+pub mod Products
+pub mod Wholes
+pub mod Shifts
+pub mod AtOnce

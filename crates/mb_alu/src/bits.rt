@@ -1,7 +1,7 @@
 //! The low bytes of an operand, and its sign.
 
-ghost use Rattle.std.specs.Prelude.{◌≡◌, ◌<◌, ◌^◌};
-ghost use Rattle.mb_instr.specs.Sizes.{low_of, bits_of};
+ghost use Rattle.std.specs.Prelude.{◌≡◌, ◌/◌};
+ghost use Rattle.mb_instr.specs.Sizes.{low_of, values_of};
 ghost use Rattle.mb_alu.specs.Signs.{is_negative};
 
 use mb_instr::Size;
@@ -26,15 +26,22 @@ pub(crate) fn cut(size: Size, whole: u64) -> u32
     low(size, (whole & 0xFFFF_FFFF) as u32)
 }
 
+/// How many values of the size are not negative when they are read signed.
+#[inline(always)]
+pub(crate) fn half(size: Size) -> u32
+    ensures { result ≡ values_of size / 2 }
+{
+    match size {
+        Size::Byte => 0x80,
+        Size::Word => 0x8000,
+        Size::Long => 0x8000_0000,
+    }
+}
+
 /// The sign: the highest bit of the low bytes that count at the size.
 #[inline(always)]
 pub(crate) fn sign(size: Size, value: u32) -> bool
     ensures { result ≡ is_negative size value }
 {
-    let half = match size {
-        Size::Byte => 0x80,
-        Size::Word => 0x8000,
-        Size::Long => 0x8000_0000,
-    };
-    low(size, value) >= half
+    low(size, value) >= half(size)
 }

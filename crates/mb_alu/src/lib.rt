@@ -9,11 +9,20 @@ mod bits;
 mod bitwise;
 mod conditions;
 mod extension;
+mod products;
+mod quotients;
+mod shifts;
 mod sums;
 #[cfg(test)]
 mod tests;
+mod whole;
+mod width;
 
 pub use bitwise::{LogicKind, logic};
 pub use conditions::{Conditions, Flagged};
 pub use extension::extend;
-pub use sums::add;
+pub use products::{Product, mul};
+pub use quotients::{Divided, div};
+pub use shifts::{ShiftKind, shift};
+pub use sums::{add, compare, sub};
+pub use width::Width;

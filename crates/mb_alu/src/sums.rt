@@ -1,7 +1,7 @@
 //! Sums and differences.
 
 ghost use Rattle.std.specs.Prelude.{◌≡◌};
-ghost use Rattle.mb_alu.specs.Sums.{add_of};
+ghost use Rattle.mb_alu.specs.Sums.{add_of, difference_of, difference_codes, sub_of, compare_of};
 
 use crate::bits::{cut, low, sign};
 use crate::conditions::{Conditions, Flagged};
@@ -29,4 +29,53 @@ pub fn add(size: Size, x: u32, y: u32, ccr: u8, extended: bool) -> Flagged
         value,
         ccr: codes.ccr(),
     }
+}
+
+/// `y - x`, less X where `extended`, with its condition codes.
+#[inline(always)]
+fn difference(size: Size, x: u32, y: u32, ccr: u8, extended: bool) -> (u32, Conditions)
+    ensures value { result.0 ≡ difference_of size x y ccr extended }
+    ensures codes { result.1 ≡ difference_codes size x y ccr extended }
+{
+    let before = Conditions::of(ccr);
+    let from = u64::from(low(size, y));
+    let taken = u64::from(low(size, x)) + u64::from(extended & before.x);
+    let value = cut(size, from + 0x1_0000_0000 - taken);
+    let borrow = from < taken;
+    let negative = sign(size, value);
+    let codes = Conditions {
+        x: borrow,
+        n: negative,
+        z: (value == 0) & (!extended | before.z),
+        v: (sign(size, x) != sign(size, y)) & (sign(size, y) != negative),
+        c: borrow,
+    };
+    (value, codes)
+}
+
+/// `y - x`, less X where `extended` (`SUBX`, and `NEGX` with `y` 0). X becomes the borrow.
+#[inline(always)]
+#[tactic(auto, unfolding(crate::specs::Sums::sub_of))]
+pub fn sub(size: Size, x: u32, y: u32, ccr: u8, extended: bool) -> Flagged
+    ensures { result ≡ sub_of size x y ccr extended }
+{
+    let (value, codes) = difference(size, x, y, ccr, extended);
+    Flagged {
+        value,
+        ccr: codes.ccr(),
+    }
+}
+
+/// The condition codes of `y - x`. X stays.
+#[inline(always)]
+#[tactic(auto, unfolding(crate::specs::Sums::compare_of))]
+pub fn compare(size: Size, x: u32, y: u32, ccr: u8) -> u8
+    ensures { result ≡ compare_of size x y ccr }
+{
+    let (_, codes) = difference(size, x, y, ccr, false);
+    let codes = Conditions {
+        x: Conditions::of(ccr).x,
+        ..codes
+    };
+    codes.ccr()
 }
