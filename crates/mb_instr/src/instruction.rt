@@ -24,9 +24,19 @@ pub enum Instr {
     /// `NOP`.
     Nop,
     /// `ADDQ`: adds 1 to 8.
-    Addq { quick: u8, size: Size, ea: Ea },
+    Addq {
+        quick: u8,
+        size: Size,
+        ea: Ea,
+    },
     /// `Bcc`; condition 0 is `BRA`.
-    Bcc { condition: u8, displacement: Branch },
+    Bcc {
+        condition: u8,
+        displacement: Branch,
+    },
     /// `MOVEQ`.
-    Moveq { register: u8, immediate: u8 },
+    Moveq {
+        register: u8,
+        immediate: u8,
+    },
 }

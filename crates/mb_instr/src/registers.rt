@@ -1,7 +1,7 @@
 //! Registers.
 
-ghost use Rattle.std.specs.Prelude.{◌≡◌, ◌<◌, length};
-ghost use Rattle.mb_instr.specs.Registers.{plain_of, with_plain};
+ghost use Rattle.std.specs.Prelude.{◌≡◌};
+ghost use Rattle.mb_instr.specs.Registers.{is_supervisor, is_master, active_stack, with_stack, plain_of, with_plain};
 
 /// The registers that a program in user mode sees.
 #[derive(Clone, Copy, Debug, PartialEq, Eq)]
@@ -32,17 +32,44 @@ pub struct Regs {
 }
 
 impl Regs {
-    fn active_stack(&self) -> u32 {
-        if self.sr / 0x2000 % 2 == 0 {
+    fn is_supervisor(&self) -> bool
+        ensures { result ≡ is_supervisor self.now.sr }
+    {
+        self.sr >> 13 & 1 == 1
+    }
+
+    fn is_master(&self) -> bool
+        ensures { result ≡ is_master self.now.sr }
+    {
+        self.sr >> 12 & 1 == 1
+    }
+
+    fn active_stack(&self) -> u32
+        ensures { result ≡ active_stack self.now }
+    {
+        if !self.is_supervisor() {
             self.usp
-        } else if self.sr / 0x1000 % 2 == 0 {
-            self.isp
-        } else {
+        } else if self.is_master() {
             self.msp
+        } else {
+            self.isp
+        }
+    }
+
+    fn set_active_stack(&mut self, top: u32)
+        ensures { self.new ≡ with_stack self.old top }
+    {
+        if !self.is_supervisor() {
+            self.usp = top;
+        } else if self.is_master() {
+            self.msp = top;
+        } else {
+            self.isp = top;
         }
     }
 
     /// The registers that user mode sees, with the active stack pointer as A7.
+    #[tactic(auto, unfolding(crate::specs::Registers::plain_of), using(crate::proofs::Arrays::seven_and_one))]
     pub fn plain(&self) -> Plain
         ensures { result ≡ plain_of self.now }
     {
@@ -51,26 +78,21 @@ impl Regs {
             d: self.d,
             a: [a0, a1, a2, a3, a4, a5, a6, self.active_stack()],
             pc: self.pc,
-            ccr: (self.sr & 31) as u8,
+            ccr: (self.sr % 32) as u8,
         }
     }
 
     /// Makes these the registers that user mode sees. Only the low five bits of `ccr` count; S and M,
     /// which choose the active stack pointer, stay.
+    #[tactic(auto, unfolding(crate::specs::Registers::with_plain), using(crate::proofs::Arrays::seven_of_eight))]
     pub fn set_plain(&mut self, p: &Plain)
         ensures { self.new ≡ with_plain self.old p.now }
     {
         let [a0, a1, a2, a3, a4, a5, a6, top] = p.a;
+        self.set_active_stack(top);
         self.d = p.d;
         self.a = [a0, a1, a2, a3, a4, a5, a6];
-        if self.sr / 0x2000 % 2 == 0 {
-            self.usp = top;
-        } else if self.sr / 0x1000 % 2 == 0 {
-            self.isp = top;
-        } else {
-            self.msp = top;
-        }
         self.pc = p.pc;
-        self.sr = self.sr - self.sr % 32 + (p.ccr % 32) as u16;
+        self.sr = self.sr - self.sr % 32 + u16::from(p.ccr % 32);
     }
 }
