@@ -15,3 +15,5 @@ pub use types::{Fault, Flush, Mmu, MmuReg, Piece, Place, Space};
 
 #[cfg(test)]
 mod tests;
+#[cfg(test)]
+mod vector_port;
