@@ -1,5 +1,5 @@
 -- The fields of a frame in order, and its bytes.
-use Rattle.std.specs.Prelude.{◌≡◌, ℕ, ◌+◌, ◌*◌, ◌++◌, List, [], ◌∷◌, take, drop}
+use Rattle.std.specs.Prelude.{◌≡◌, ◌<◌, ℕ, ◌+◌, ◌*◌, ◌^◌, ◌++◌, List, [], ◌∷◌, length, take, drop, All}
 use Rattle.byteorder.specs.Endian.{big_bytes}
 use Rattle.mb_frames.specs.declared.frame.Access.{Access}
 use Rattle.mb_frames.specs.declared.frame.Frame.{Frame}
@@ -58,3 +58,15 @@ frame_bytes f = bytes_of_fields (fields_of f)
 -- the field stands in the bytes at its offset
 abbrev pub StandsIn : List ℕ → Field → Type 0
 StandsIn bytes f = take f.size (drop f.offset bytes) ≡ big_bytes f.size f.value
+
+-- the field's value has no more than its bytes
+abbrev pub Fits : Field → Type 0
+Fits f = f.value < 256 ^ f.size
+
+-- a frame as the code holds it: each field fits, and the vector offset has twelve bits
+abbrev pub IsFrame : Frame → Type 0
+IsFrame f = (offset_of f < 0x1000) × All Fits (fields_of f)
+
+-- the bytes begin with the frame's
+abbrev pub BeginsWith : List ℕ → Frame → Type 0
+BeginsWith b f = b ≡ frame_bytes f ++ drop (length (frame_bytes f)) b

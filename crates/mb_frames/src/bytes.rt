@@ -1,12 +1,12 @@
 //! Frames as bytes.
 
-ghost use Rattle.std.specs.Prelude.{◌≡◌, ℕ, ◌+◌, ◌*◌, ◌<◌, ◌≤◌, ◌++◌, List, length, drop, take, All, Some, IsNone, IfSome, ◌↔◌, ◌⊎◌};
+ghost use Rattle.std.specs.Prelude.{◌≡◌, ℕ, nat_le, if◌then◌else◌, ◌+◌, ◌*◌, ◌^◌, ◌<◌, ◌≤◌, ◌++◌, List, length, drop, take, All, Some, IsNone, IfSome, ◌↔◌, ◌⊎◌};
 ghost use Rattle.std.specs.List.{flat_map};
 ghost use Rattle.arrayvec.specs.ArrayVec.{array_vec_len};
 ghost use Rattle.byteorder.specs.Endian.{big_bytes};
 ghost use Rattle.mb_frames.specs.declared.frame.Frame.{Frame};
-ghost use Rattle.mb_frames.specs.Layout.{bytes_of_fields, fields_of, fields_of_access, frame_bytes, head, offset_of, StandsIn};
-ghost use Rattle.mb_frames.specs.Reading.{access_in, frame_in, long_at, word_at};
+ghost use Rattle.mb_frames.specs.Layout.{BeginsWith, Fits, IsFrame, bytes_of_fields, fields_of, fields_of_access, frame_bytes, head, offset_of, StandsIn};
+ghost use Rattle.mb_frames.specs.Reading.{IsFormat, access_in, format_in, frame_in, frame_length, frame_of_format, long_at, word_at};
 
 use arrayvec::ArrayVec;
 use byteorder::{BigEndian, ByteOrder};
@@ -16,7 +16,8 @@ use crate::frame::{Access, Frame};
 /// Appends words, the higher byte of each first.
 fn push_words(bytes: &mut ArrayVec<u8, 60>, words: &[u16])
     requires { array_vec_len bytes.old + 2 * length words.now ≤ 60 }
-    ensures { bytes.new.items ≡ bytes.old.items ++ flat_map (λ word. big_bytes 2 word) words.now }
+    ensures bytes { bytes.new.items ≡ bytes.old.items ++ flat_map (λ word. big_bytes 2 word) words.now }
+    ensures fits { All (λ word. word < 256 ^ 2) words.now }
 {
     for word in words {
         let mut high_first = [0; 2];
@@ -28,7 +29,8 @@ fn push_words(bytes: &mut ArrayVec<u8, 60>, words: &[u16])
 /// Appends longs, the highest byte of each first.
 fn push_longs(bytes: &mut ArrayVec<u8, 60>, longs: &[u32])
     requires { array_vec_len bytes.old + 4 * length longs.now ≤ 60 }
-    ensures { bytes.new.items ≡ bytes.old.items ++ flat_map (λ long. big_bytes 4 long) longs.now }
+    ensures bytes { bytes.new.items ≡ bytes.old.items ++ flat_map (λ long. big_bytes 4 long) longs.now }
+    ensures fits { All (λ long. long < 256 ^ 4) longs.now }
 {
     for long in longs {
         let mut high_first = [0; 4];
@@ -42,7 +44,8 @@ fn push_head(bytes: &mut ArrayVec<u8, 60>, sr: u16, pc: u32, format: u16, offset
     requires room { array_vec_len bytes.old + 8 ≤ 60 }
     requires format { format < 16 }
     requires offset { offset < 0x1000 }
-    ensures { bytes.new.items ≡ bytes.old.items ++ bytes_of_fields (head sr pc format offset) }
+    ensures bytes { bytes.new.items ≡ bytes.old.items ++ bytes_of_fields (head sr pc format offset) }
+    ensures fits { All Fits (head sr pc format offset) }
 {
     push_words(bytes, &[sr]);
     push_longs(bytes, &[pc]);
@@ -52,7 +55,8 @@ fn push_head(bytes: &mut ArrayVec<u8, 60>, sr: u16, pc: u32, format: u16, offset
 /// Appends the fields of an access error.
 fn push_access(bytes: &mut ArrayVec<u8, 60>, access: Access)
     requires { array_vec_len bytes.old + 52 ≤ 60 }
-    ensures { bytes.new.items ≡ bytes.old.items ++ bytes_of_fields (fields_of_access access) }
+    ensures bytes { bytes.new.items ≡ bytes.old.items ++ bytes_of_fields (fields_of_access access) }
+    ensures fits { All Fits (fields_of_access access) }
 {
     push_longs(bytes, &[access.ea]);
     push_words(bytes, &[access.ssw, access.wb3s, access.wb2s, access.wb1s]);
@@ -65,24 +69,25 @@ fn push_access(bytes: &mut ArrayVec<u8, 60>, access: Access)
     );
 }
 
-/// The bytes of a frame, as they stand in memory from its lowest address on.
+/// Appends a frame.
 #[tactic(auto, unfolding(crate::specs::Layout::frame_bytes))]
-pub fn to_bytes(f: &Frame) -> ArrayVec<u8, 60>
-    requires { offset_of f.now < 0x1000 }
-    ensures bytes { result.items ≡ frame_bytes f.now }
+fn push_frame(bytes: &mut ArrayVec<u8, 60>, f: &Frame)
+    requires empty { array_vec_len bytes.old ≡ 0 }
+    requires offset { offset_of f.now < 0x1000 }
+    ensures bytes { bytes.new.items ≡ bytes.old.items ++ frame_bytes f.now }
+    ensures fits { All Fits (fields_of f.now) }
 {
-    let mut bytes = ArrayVec::new();
     match *f {
-        Frame::Short { sr, pc, offset } => push_head(&mut bytes, sr, pc, 0, offset),
-        Frame::Throwaway { sr, pc, offset } => push_head(&mut bytes, sr, pc, 1, offset),
+        Frame::Short { sr, pc, offset } => push_head(bytes, sr, pc, 0, offset),
+        Frame::Throwaway { sr, pc, offset } => push_head(bytes, sr, pc, 1, offset),
         Frame::Address {
             sr,
             pc,
             offset,
             address,
         } => {
-            push_head(&mut bytes, sr, pc, 2, offset);
-            push_longs(&mut bytes, &[address]);
+            push_head(bytes, sr, pc, 2, offset);
+            push_longs(bytes, &[address]);
         }
         Frame::Access {
             sr,
@@ -90,10 +95,21 @@ pub fn to_bytes(f: &Frame) -> ArrayVec<u8, 60>
             offset,
             access,
         } => {
-            push_head(&mut bytes, sr, pc, 7, offset);
-            push_access(&mut bytes, access);
+            push_head(bytes, sr, pc, 7, offset);
+            push_access(bytes, access);
         }
     }
+}
+
+/// The bytes of a frame, as they stand in memory from its lowest address on.
+pub fn to_bytes(f: &Frame) -> ArrayVec<u8, 60>
+    requires { offset_of f.now < 0x1000 }
+    ensures bytes { result.items ≡ frame_bytes f.now }
+    ensures fields { All (StandsIn result.items) (fields_of f.now) }
+    ensures read_back { frame_in result.items ≡ Some f.now }
+{
+    let mut bytes = ArrayVec::new();
+    push_frame(&mut bytes, f);
     bytes
 }
 
@@ -139,19 +155,15 @@ fn access_from(b: &[u8]) -> Access
     }
 }
 
-/// The frame that the bytes begin with.
-#[tactic(auto, unfolding(crate::specs::Reading::frame_in))]
-pub fn from_bytes(b: &[u8]) -> Option<Frame>
-    ensures frame { result ≡ frame_in b.now }
+/// The frame of a format, if the bytes are long enough for it and the format is one of the four.
+fn frame_of_format(format: u16, b: &[u8]) -> Option<Frame>
+    requires { 8 ≤ length b.now }
+    ensures { result ≡ (if nat_le (frame_length format) (length b.now) then frame_of_format format b.now else None) }
 {
-    if b.len() < 8 {
-        return None;
-    }
     let sr = word_at(b, 0);
     let pc = long_at(b, 2);
-    let format = word_at(b, 6);
-    let offset = format % 0x1000;
-    match format / 0x1000 {
+    let offset = word_at(b, 6) % 0x1000;
+    match format {
         0 => Some(Frame::Short { sr, pc, offset }),
         1 => Some(Frame::Throwaway { sr, pc, offset }),
         2 if b.len() >= 12 => Some(Frame::Address {
@@ -168,4 +180,18 @@ pub fn from_bytes(b: &[u8]) -> Option<Frame>
         }),
         _ => None,
     }
+}
+
+/// The frame that the bytes begin with. What follows it is not read.
+#[tactic(auto, unfolding(crate::specs::Reading::frame_in))]
+pub fn from_bytes(b: &[u8]) -> Option<Frame>
+    ensures frame { result ≡ frame_in b.now }
+    ensures none { IsNone result ↔ ((length b.now < frame_length (format_in b.now)) ⊎ ¬ IsFormat (format_in b.now)) }
+    ensures begins { IfSome result (BeginsWith b.now) }
+    ensures whole { (f : Frame) (rest : List ℕ) → IsFrame f → b.now ≡ frame_bytes f ++ rest → result ≡ Some f }
+{
+    if b.len() < 8 {
+        return None;
+    }
+    frame_of_format(word_at(b, 6) / 0x1000, b)
 }
