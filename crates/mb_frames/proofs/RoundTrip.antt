@@ -9,8 +9,8 @@ use Rattle.std.proofs.lemmas.List.Elements.{recursion_from_All, All-from_recursi
 use Rattle.mb_frames.specs.declared.frame.Access.{Access}
 use Rattle.mb_frames.specs.declared.frame.Frame.{Frame}
 use Rattle.mb_frames.specs.declared.frame.Frame.TheVariants as frame
-use Rattle.mb_frames.specs.Layout.{BeginsWith, Field, Fits, IsFrame, StandsIn, bytes_of_fields, fields_of, fields_of_access, frame_bytes, head, long, offset_of, word}
-use Rattle.mb_frames.specs.Reading.{IsFormat, access_in, format_in, frame_in, frame_length, frame_of_format, long_at, offset_in, word_at}
+use Rattle.mb_frames.specs.Layout.{BeginsWith, Field, Fits, IsFormat, IsFrame, StandsIn, bytes_of_fields, fields_of, fields_of_access, format_of, frame_bytes, frame_length, head, long, offset_of, word}
+use Rattle.mb_frames.specs.Reading.{access_in, format_in, frame_in, frame_of_format, long_at, offset_in, word_at}
 use Rattle.mb_frames.proofs.Fields.{AreAdjacent, ReadsAs, fields_read, fields_stand, fields_written, length-bytes_of_fields, size_of}
 
 word-read : (b : List ℕ) (place value : ℕ) → ReadsAs b (word place value) → word_at b place ≡ value
@@ -217,3 +217,11 @@ pub frame_bytes-stand_alone : (b : List ℕ) (f : Frame) → b ≡ frame_bytes f
 frame_bytes-stand_alone b f e =
     let P : List ℕ → Type 0 = λ b. All (StandsIn b) (fields_of f) in
     subst P (append-nil (frame_bytes f) ∙ sym e) (frame_bytes-stand f [])
+
+-- how many bytes a frame has
+pub length-frame_bytes : (f : Frame) → length (frame_bytes f) ≡ frame_length (format_of f)
+unfolding frame_bytes
+length-frame_bytes (frame.Short sr pc offset) = refl
+length-frame_bytes (frame.Throwaway sr pc offset) = refl
+length-frame_bytes (frame.Address sr pc offset address) = refl
+length-frame_bytes (frame.Access sr pc offset access) = refl

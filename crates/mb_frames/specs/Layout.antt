@@ -1,5 +1,5 @@
 -- The fields of a frame in order, and its bytes.
-use Rattle.std.specs.Prelude.{◌≡◌, ◌<◌, ℕ, ◌+◌, ◌*◌, ◌^◌, ◌++◌, List, [], ◌∷◌, length, take, drop, All}
+use Rattle.std.specs.Prelude.{◌≡◌, ◌<◌, ◌⊎◌, ◌==◌, if◌then◌else◌, ℕ, ◌+◌, ◌*◌, ◌^◌, ◌++◌, List, [], ◌∷◌, length, take, drop, All}
 use Rattle.byteorder.specs.Endian.{big_bytes}
 use Rattle.mb_frames.specs.declared.frame.Access.{Access}
 use Rattle.mb_frames.specs.declared.frame.Frame.{Frame}
@@ -32,12 +32,27 @@ fields_of_access a =
     ∷ long 0x28 a.wb1a ∷ long 0x2C a.wb1d
     ∷ long 0x30 a.pd1 ∷ long 0x34 a.pd2 ∷ long 0x38 a.pd3 ∷ []
 
--- the fields of a frame, by its format
+-- the format number of a frame
+abbrev pub format_of : Frame → ℕ
+format_of (frame.Short sr pc offset) = 0
+format_of (frame.Throwaway sr pc offset) = 1
+format_of (frame.Address sr pc offset address) = 2
+format_of (frame.Access sr pc offset access) = 7
+
+-- the fields of a frame
 abbrev pub fields_of : Frame → List Field
 fields_of (frame.Short sr pc offset) = head sr pc 0 offset
 fields_of (frame.Throwaway sr pc offset) = head sr pc 1 offset
 fields_of (frame.Address sr pc offset address) = head sr pc 2 offset ++ long 0x08 address ∷ []
 fields_of (frame.Access sr pc offset access) = head sr pc 7 offset ++ fields_of_access access
+
+-- the formats of the four frames
+abbrev pub IsFormat : ℕ → Type 0
+IsFormat n = (n ≡ 0) ⊎ (n ≡ 1) ⊎ (n ≡ 2) ⊎ (n ≡ 7)
+
+-- how many bytes a frame of a format has
+abbrev pub frame_length : ℕ → ℕ
+frame_length format = if format == 7 then 60 else if format == 2 then 12 else 8
 
 -- the vector offset of a frame
 abbrev pub offset_of : Frame → ℕ

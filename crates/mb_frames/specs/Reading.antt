@@ -1,9 +1,10 @@
 -- The frame that stands at the beginning of bytes.
-use Rattle.std.specs.Prelude.{ℕ, ◌/◌, ◌%◌, ◌<◌, ◌≡◌, ◌⊎◌, ◌==◌, ◌&&◌, nat_le, if◌then◌else◌, Option, Some, None, List, length, drop}
+use Rattle.std.specs.Prelude.{ℕ, ◌/◌, ◌%◌, ◌==◌, nat_le, if◌then◌else◌, Option, Some, None, List, length, drop}
 use Rattle.byteorder.specs.Endian.{big_number}
 use Rattle.mb_frames.specs.declared.frame.Access.{Access}
 use Rattle.mb_frames.specs.declared.frame.Frame.{Frame}
 use Rattle.mb_frames.specs.declared.frame.Frame.TheVariants as frame
+use Rattle.mb_frames.specs.Layout.{frame_length}
 
 -- the word, and the long, at a place
 unfoldable pub word_at : List ℕ → ℕ → ℕ
@@ -19,14 +20,6 @@ format_in b = word_at b 0x06 / 0x1000
 -- its other bits
 abbrev pub offset_in : List ℕ → ℕ
 offset_in b = word_at b 0x06 % 0x1000
-
--- the formats of the four frames
-abbrev pub IsFormat : ℕ → Type 0
-IsFormat n = (n ≡ 0) ⊎ (n ≡ 1) ⊎ (n ≡ 2) ⊎ (n ≡ 7)
-
--- how many bytes a frame of a format has
-abbrev pub frame_length : ℕ → ℕ
-frame_length format = if format == 7 then 60 else if format == 2 then 12 else 8
 
 -- the fields of an access error
 abbrev pub access_in : List ℕ → Access

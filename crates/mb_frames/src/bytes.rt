@@ -5,8 +5,8 @@ ghost use Rattle.std.specs.List.{flat_map};
 ghost use Rattle.arrayvec.specs.ArrayVec.{array_vec_len};
 ghost use Rattle.byteorder.specs.Endian.{big_bytes};
 ghost use Rattle.mb_frames.specs.declared.frame.Frame.{Frame};
-ghost use Rattle.mb_frames.specs.Layout.{BeginsWith, Fits, IsFrame, bytes_of_fields, fields_of, fields_of_access, frame_bytes, head, offset_of, StandsIn};
-ghost use Rattle.mb_frames.specs.Reading.{IsFormat, access_in, format_in, frame_in, frame_length, frame_of_format, long_at, word_at};
+ghost use Rattle.mb_frames.specs.Layout.{BeginsWith, Fits, IsFormat, IsFrame, bytes_of_fields, fields_of, fields_of_access, format_of, frame_bytes, frame_length, head, offset_of, StandsIn};
+ghost use Rattle.mb_frames.specs.Reading.{access_in, format_in, frame_in, frame_of_format, long_at, word_at};
 
 use arrayvec::ArrayVec;
 use byteorder::{BigEndian, ByteOrder};
@@ -105,6 +105,7 @@ fn push_frame(bytes: &mut ArrayVec<u8, 60>, f: &Frame)
 pub fn to_bytes(f: &Frame) -> ArrayVec<u8, 60>
     requires { offset_of f.now < 0x1000 }
     ensures bytes { result.items ≡ frame_bytes f.now }
+    ensures len { array_vec_len result ≡ frame_length (format_of f.now) }
     ensures fields { All (StandsIn result.items) (fields_of f.now) }
     ensures read_back { frame_in result.items ≡ Some f.now }
 {

@@ -6,8 +6,10 @@
 
 mod bytes;
 mod frame;
+mod laws;
 mod pend;
 
 pub use bytes::{from_bytes, to_bytes};
 pub use frame::{Access, Frame};
+pub use laws::worked_frames;
 pub use pend::Pend;
