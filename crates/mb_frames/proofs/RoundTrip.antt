@@ -35,13 +35,21 @@ frame_in-format b format e long_enough =
 access-read : (b : List ℕ) (a : Access) → AllByRecursion (ReadsAs b) (fields_of_access a) → access_in b ≡ a
 access-read b a (ea, (ssw, (wb3s, (wb2s, (wb1s, (fa, (wb3a, (wb3d, (wb2a, (wb2d, (wb1a, (wb1d, (pd1, (pd2, (pd3, end))))))))))))))) =
     rw (
-      long-read b 0x08 _ ea, word-read b 0x0C _ ssw,
-      word-read b 0x0E _ wb3s, word-read b 0x10 _ wb2s, word-read b 0x12 _ wb1s,
+      long-read b 0x08 _ ea,
+      word-read b 0x0C _ ssw,
+      word-read b 0x0E _ wb3s,
+      word-read b 0x10 _ wb2s,
+      word-read b 0x12 _ wb1s,
       long-read b 0x14 _ fa,
-      long-read b 0x18 _ wb3a, long-read b 0x1C _ wb3d,
-      long-read b 0x20 _ wb2a, long-read b 0x24 _ wb2d,
-      long-read b 0x28 _ wb1a, long-read b 0x2C _ wb1d,
-      long-read b 0x30 _ pd1, long-read b 0x34 _ pd2, long-read b 0x38 _ pd3
+      long-read b 0x18 _ wb3a,
+      long-read b 0x1C _ wb3d,
+      long-read b 0x20 _ wb2a,
+      long-read b 0x24 _ wb2d,
+      long-read b 0x28 _ wb1a,
+      long-read b 0x2C _ wb1d,
+      long-read b 0x30 _ pd1,
+      long-read b 0x34 _ pd2,
+      long-read b 0x38 _ pd3,
     ) refl
 
 -- where the fields of a frame are read, the frame is
@@ -125,22 +133,29 @@ access-written : (b : List ℕ) → format_in b ≡ 7 → 60 ≤ length b → ((
     → BeginsWith b (frame.Access (word_at b 0) (long_at b 2) (offset_in b) (access_in b))
 unfolding word_at long_at
 access-written b e room bytes =
-    frame_bytes-read b (frame.Access (word_at b 0) (long_at b 2) (offset_in b) (access_in b)) room bytes
-    (refl, (refl, (format_word (word_at b 6) 7 e,
-    (refl, (refl, (refl, (refl, (refl, (refl, (refl, (refl, (refl, (refl, (refl, (refl, (refl, (refl, (refl, tt))))))))))))))))))
+    frame_bytes-read b (frame.Access (word_at b 0) (long_at b 2) (offset_in b) (access_in b)) room bytes (
+      refl,
+      (
+        refl,
+        (
+          format_word (word_at b 6) 7 e,
+          (refl, (refl, (refl, (refl, (refl, (refl, (refl, (refl, (refl, (refl, (refl, (refl, (refl, (refl, (refl, tt))))))))))))))),
+        ),
+      ),
+    )
 
 frame_of_format-written : (b : List ℕ) (format : ℕ) → format_in b ≡ format → frame_length format ≤ length b
     → ((i : ℕ) → slice_index b i < 256) → IfSome (frame_of_format format b) (BeginsWith b)
 frame_of_format-written b format e room bytes =
     elim (eqb_tells format 0) [
-      inl short ↦ rw (short.1) (short-written b (e ∙ short.1) (rw (short.1) at room) bytes)
-    | inr not_short ↦ rw (not_short.0) (elim (eqb_tells format 1) [
-        inl throwaway ↦ rw (throwaway.1) (throwaway-written b (e ∙ throwaway.1) (rw (throwaway.1) at room) bytes)
-      | inr not_throwaway ↦ rw (not_throwaway.0) (elim (eqb_tells format 2) [
-          inl address ↦ rw (address.1) (address-written b (e ∙ address.1) (rw (address.1) at room) bytes)
-        | inr not_address ↦ rw (not_address.0) (elim (eqb_tells format 7) [
-            inl access ↦ rw (access.1) (access-written b (e ∙ access.1) (rw (access.1) at room) bytes)
-          | inr not_access ↦ rw (not_access.0) tt
+      | inl short ↦ rw (short.1) (short-written b (e ∙ short.1) (rw (short.1) at room) bytes)
+      | inr not_short ↦ rw (not_short.0) (elim (eqb_tells format 1) [
+        | inl throwaway ↦ rw (throwaway.1) (throwaway-written b (e ∙ throwaway.1) (rw (throwaway.1) at room) bytes)
+        | inr not_throwaway ↦ rw (not_throwaway.0) (elim (eqb_tells format 2) [
+          | inl address ↦ rw (address.1) (address-written b (e ∙ address.1) (rw (address.1) at room) bytes)
+          | inr not_address ↦ rw (not_address.0) (elim (eqb_tells format 7) [
+            | inl access ↦ rw (access.1) (access-written b (e ∙ access.1) (rw (access.1) at room) bytes)
+            | inr not_access ↦ rw (not_access.0) tt
           ])
         ])
       ])
@@ -151,23 +166,23 @@ pub frame_bytes-frame_in : (b : List ℕ) → ((i : ℕ) → slice_index b i < 2
 unfolding frame_in
 frame_bytes-frame_in b bytes =
     elim (leb_tells (frame_length (format_in b)) (length b)) [
-      inl room ↦ rw (room.0) (frame_of_format-written b (format_in b) refl (room.1) bytes)
-    | inr short ↦ rw (short.0) tt
+      | inl room ↦ rw (room.0) (frame_of_format-written b (format_in b) refl (room.1) bytes)
+      | inr short ↦ rw (short.0) tt
     ]
 
 -- a format that is none of the four has no frame
 frame_of_format-none : (b : List ℕ) (format : ℕ) → IsNone (frame_of_format format b) ↔ ¬ IsFormat format
 frame_of_format-none b format =
     elim (eqb_tells format 0) [
-      inl short ↦ rw (short.1) ((λ none other. absurd (let e : true ≡ false = none in cc)), (λ other. absurd (other (inl refl))))
-    | inr not_short ↦ rw (not_short.0) (elim (eqb_tells format 1) [
-        inl throwaway ↦ rw (throwaway.1) ((λ none other. absurd (let e : true ≡ false = none in cc)), (λ other. absurd (other (inr (inl refl)))))
-      | inr not_throwaway ↦ rw (not_throwaway.0) (elim (eqb_tells format 2) [
-          inl address ↦ rw (address.1) ((λ none other. absurd (let e : true ≡ false = none in cc)), (λ other. absurd (other (inr (inr (inl refl))))))
-        | inr not_address ↦ rw (not_address.0) (elim (eqb_tells format 7) [
-            inl access ↦ rw (access.1) ((λ none other. absurd (let e : true ≡ false = none in cc)), (λ other. absurd (other (inr (inr (inr refl))))))
-          | inr not_access ↦ rw (not_access.0)
-            ((λ none known. grind arith), (λ other. refl))
+      | inl short ↦ rw (short.1) ((λ none other. absurd (let e : true ≡ false = none in cc)), (λ other. absurd (other (inl refl))))
+      | inr not_short ↦ rw (not_short.0) (elim (eqb_tells format 1) [
+        | inl throwaway ↦ rw (throwaway.1) ((λ none other. absurd (let e : true ≡ false = none in cc)), (λ other. absurd (other (inr (inl refl)))))
+        | inr not_throwaway ↦ rw (not_throwaway.0) (elim (eqb_tells format 2) [
+          | inl address ↦ rw (address.1) ((λ none other. absurd (let e : true ≡ false = none in cc)), (λ other. absurd (other (inr (inr (inl refl))))))
+          | inr not_address ↦ rw (not_address.0) (elim (eqb_tells format 7) [
+            | inl access ↦ rw (access.1) ((λ none other. absurd (let e : true ≡ false = none in cc)), (λ other. absurd (other (inr (inr (inr refl))))))
+            | inr not_access ↦ rw (not_access.0)
+                ((λ none known. grind arith), (λ other. refl))
           ])
         ])
       ])
@@ -180,9 +195,9 @@ unfolding frame_in
 frame_in-none b =
     let known = frame_of_format-none b (format_in b) in
     elim (leb_tells (frame_length (format_in b)) (length b)) [
-      inl room ↦ rw (room.0)
-        ((λ none. inr (known.0 none)), (λ cause. elim cause [ inl short ↦ absurd (omega arith) | inr other ↦ known.1 other ]))
-    | inr short ↦ rw (short.0) ((λ none. inl (short.1)), (λ cause. refl))
+      | inl room ↦ rw (room.0)
+          ((λ none. inr (known.0 none)), (λ cause. elim cause [ inl short ↦ absurd (omega arith) | inr other ↦ known.1 other ]))
+      | inr short ↦ rw (short.0) ((λ none. inl (short.1)), (λ cause. refl))
     ]
 
 -- the same for a list that is known to be a frame's bytes
@@ -208,8 +223,8 @@ pub frame_in-short : (b : List ℕ) → length b < 8 → frame_in b ≡ None
 unfolding frame_in
 frame_in-short b short =
     elim (leb_tells (frame_length (format_in b)) (length b)) [
-      inl room ↦ absurd (let least = frame_length-least (format_in b) in omega arith)
-    | inr cut ↦ rw (cut.0) refl
+      | inl room ↦ absurd (let least = frame_length-least (format_in b) in omega arith)
+      | inr cut ↦ rw (cut.0) refl
     ]
 
 -- the bytes of a frame alone hold its fields

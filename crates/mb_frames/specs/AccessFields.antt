@@ -71,9 +71,22 @@ memory_aligned p = p.value % 2 ^ (8 * p.len) * 2 ^ (8 * (4 - p.at % 4 - p.len))
 -- the fields where nothing has a meaning
 abbrev pub no_fields : Access
 no_fields = record {
-    ea = 0; ssw = 0; wb3s = 0; wb2s = 0; wb1s = 0; fa = 0;
-    wb3a = 0; wb3d = 0; wb2a = 0; wb2d = 0; wb1a = 0; wb1d = 0; pd1 = 0; pd2 = 0; pd3 = 0
-  }
+  ea = 0;
+  ssw = 0;
+  wb3s = 0;
+  wb2s = 0;
+  wb1s = 0;
+  fa = 0;
+  wb3a = 0;
+  wb3d = 0;
+  wb2a = 0;
+  wb2d = 0;
+  wb1a = 0;
+  wb1d = 0;
+  pd1 = 0;
+  pd2 = 0;
+  pd3 = 0;
+}
 
 -- the writebacks, where there is a piece for them
 abbrev pub with_writeback_1 : Space → Option Pend → Access → Access
@@ -99,7 +112,7 @@ read_fields fault first page =
     record no_fields {
       ea = ea;
       ssw = status fault ea page + bit_if fault.write lk_bit + rw_bit;
-      fa = fault.at
+      fa = fault.at;
     }
 
 -- A write was refused: the first piece of `rest` is the refused one, the others come after it in order.
@@ -120,7 +133,10 @@ line_fields fault line page =
       fa = fault.at;
       wb1s = writeback_status fault.space 16;
       wb1a = fault.at;
-      wb1d = slice_index line 0; pd1 = slice_index line 1; pd2 = slice_index line 2; pd3 = slice_index line 3
+      wb1d = slice_index line 0;
+      pd1 = slice_index line 1;
+      pd2 = slice_index line 2;
+      pd3 = slice_index line 3;
     }
 
 -- of the operation word of a MOVEM, the high half of `words`: whether it loads (bit 10), the bytes of a
@@ -147,7 +163,9 @@ movem_fields fault first done words next page =
       ea = first;
       ssw = status fault (transfer_at words first done) page + cm_bit + bit_if (is_load words) rw_bit;
       fa = fault.at;
-      pd1 = next; pd2 = words; pd3 = done
+      pd1 = next;
+      pd2 = words;
+      pd3 = done;
     }
 
 -- The check of a frame's piece was refused: a write of supervisor data that is an operand of its own.
@@ -156,7 +174,7 @@ check_fields fault =
     record no_fields {
       ea = fault.at;
       ssw = bit_if fault.atc atc_bit + access_bits fault.len Super false;
-      fa = fault.at
+      fa = fault.at;
     }
 
 -- the five cases

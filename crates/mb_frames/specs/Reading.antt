@@ -24,15 +24,22 @@ offset_in b = word_at b 0x06 % 0x1000
 -- the fields of an access error
 abbrev pub access_in : List ℕ → Access
 access_in b = record {
-    ea = long_at b 0x08;
-    ssw = word_at b 0x0C;
-    wb3s = word_at b 0x0E; wb2s = word_at b 0x10; wb1s = word_at b 0x12;
-    fa = long_at b 0x14;
-    wb3a = long_at b 0x18; wb3d = long_at b 0x1C;
-    wb2a = long_at b 0x20; wb2d = long_at b 0x24;
-    wb1a = long_at b 0x28; wb1d = long_at b 0x2C;
-    pd1 = long_at b 0x30; pd2 = long_at b 0x34; pd3 = long_at b 0x38
-  }
+  ea = long_at b 0x08;
+  ssw = word_at b 0x0C;
+  wb3s = word_at b 0x0E;
+  wb2s = word_at b 0x10;
+  wb1s = word_at b 0x12;
+  fa = long_at b 0x14;
+  wb3a = long_at b 0x18;
+  wb3d = long_at b 0x1C;
+  wb2a = long_at b 0x20;
+  wb2d = long_at b 0x24;
+  wb1a = long_at b 0x28;
+  wb1d = long_at b 0x2C;
+  pd1 = long_at b 0x30;
+  pd2 = long_at b 0x34;
+  pd3 = long_at b 0x38;
+}
 
 -- the frame of a format that the bytes hold
 abbrev pub frame_of_format : ℕ → List ℕ → Option Frame

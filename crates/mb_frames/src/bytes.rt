@@ -8,10 +8,9 @@ ghost use Rattle.mb_frames.specs.declared.frame.Frame.{Frame};
 ghost use Rattle.mb_frames.specs.Layout.{BeginsWith, Fits, IsFormat, IsFrame, bytes_of_fields, fields_of, fields_of_access, format_of, frame_bytes, frame_length, head, offset_of, StandsIn};
 ghost use Rattle.mb_frames.specs.Reading.{access_in, format_in, frame_in, frame_of_format, long_at, word_at};
 
+use crate::frame::{Access, Frame};
 use arrayvec::ArrayVec;
 use byteorder::{BigEndian, ByteOrder};
-
-use crate::frame::{Access, Frame};
 
 /// Appends words, the higher byte of each first.
 fn push_words(bytes: &mut ArrayVec<u8, 60>, words: &[u16])
@@ -63,8 +62,16 @@ fn push_access(bytes: &mut ArrayVec<u8, 60>, access: Access)
     push_longs(
         bytes,
         &[
-            access.fa, access.wb3a, access.wb3d, access.wb2a, access.wb2d, access.wb1a,
-            access.wb1d, access.pd1, access.pd2, access.pd3,
+            access.fa,
+            access.wb3a,
+            access.wb3d,
+            access.wb2a,
+            access.wb2d,
+            access.wb1a,
+            access.wb1d,
+            access.pd1,
+            access.pd2,
+            access.pd3,
         ],
     );
 }

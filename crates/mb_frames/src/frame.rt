@@ -4,9 +4,17 @@
 #[derive(Clone, Copy, Debug, PartialEq, Eq)]
 pub enum Frame {
     /// Format $0, 8 bytes: the status register, the program counter and the vector offset.
-    Short { sr: u16, pc: u32, offset: u16 },
+    Short {
+        sr: u16,
+        pc: u32,
+        offset: u16,
+    },
     /// Format $1, 8 bytes: on the interrupt stack, above a frame on the master stack.
-    Throwaway { sr: u16, pc: u32, offset: u16 },
+    Throwaway {
+        sr: u16,
+        pc: u32,
+        offset: u16,
+    },
     /// Format $2, 12 bytes: with the address of the instruction that trapped.
     Address {
         sr: u16,
