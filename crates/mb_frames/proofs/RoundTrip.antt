@@ -1,6 +1,5 @@
 -- Reading a frame and its bytes undo one another.
-use Rattle.std.proofs.Common.{◌/◌, ◌%◌, ◌≡◌, ℕ, zero, suc, ◌+◌, ◌*◌, ◌^◌, ◌<◌, ◌≤◌, List, [], ◌∷◌, ◌++◌, length, take, drop, slice_index, Option, Some, None, Bool, true, false, nat_le, refl, sym, ap, ◌∙◌, arith, subst, if◌then◌else◌, append-nil, length-append, inl, inr}
-use Rattle.std.proofs.lemmas.Nat.{div-mul-add}
+use Rattle.std.proofs.Common.{◌/◌, ◌%◌, ◌≡◌, ℕ, ◌+◌, ◌*◌, ◌<◌, ◌≤◌, List, [], ◌++◌, length, drop, slice_index, Some, None, true, false, nat_le, refl, sym, ap, ◌∙◌, arith, subst, if◌then◌else◌, append-nil, length-append, inl, inr}
 use Rattle.std.proofs.lemmas.Bool.{le-leb}
 use Rattle.std.specs.List.{AllByRecursion}
 use Rattle.std.specs.Prelude.{All, IfSome, IsNone, ◌↔◌, ◌⊎◌}
@@ -9,7 +8,7 @@ use Rattle.std.proofs.lemmas.List.Elements.{recursion_from_All, All-from_recursi
 use Rattle.mb_frames.specs.declared.frame.Access.{Access}
 use Rattle.mb_frames.specs.declared.frame.Frame.{Frame}
 use Rattle.mb_frames.specs.declared.frame.Frame.TheVariants as frame
-use Rattle.mb_frames.specs.Layout.{BeginsWith, Field, Fits, IsFormat, IsFrame, StandsIn, bytes_of_fields, fields_of, fields_of_access, format_of, frame_bytes, frame_length, head, long, offset_of, word}
+use Rattle.mb_frames.specs.Layout.{BeginsWith, Fits, IsFormat, IsFrame, StandsIn, bytes_of_fields, fields_of, fields_of_access, format_of, frame_bytes, frame_length, long, offset_of, word}
 use Rattle.mb_frames.specs.Reading.{access_in, format_in, frame_in, frame_of_format, long_at, offset_in, word_at}
 use Rattle.mb_frames.proofs.Fields.{AreAdjacent, ReadsAs, fields_read, fields_stand, fields_written, length-bytes_of_fields, size_of}
 
@@ -85,7 +84,7 @@ frame_bytes-stand f rest =
     All-from_recursion (StandsIn (frame_bytes f ++ rest)) (fields_of f)
     (fields_stand (frame_bytes f ++ rest) (fields_of f) 0 rest (fields-adjacent f) refl)
 
--- THE ROUND TRIP: what a frame's bytes are read as, whatever follows
+-- the round trip: a frame's bytes are read as the frame, whatever follows
 pub frame_in-frame_bytes : (f : Frame) (rest : List ℕ) → IsFrame f → frame_in (frame_bytes f ++ rest) ≡ Some f
 unfolding frame_bytes
 frame_in-frame_bytes f rest h =
@@ -161,7 +160,7 @@ frame_of_format-written b format e room bytes =
       ])
     ]
 
--- WHAT IS READ STANDS THERE: bytes that are read as a frame begin with the frame's bytes
+-- bytes that are read as a frame begin with the frame's bytes
 pub frame_bytes-frame_in : (b : List ℕ) → ((i : ℕ) → slice_index b i < 256) → IfSome (frame_in b) (BeginsWith b)
 unfolding frame_in
 frame_bytes-frame_in b bytes =
@@ -188,7 +187,7 @@ frame_of_format-none b format =
       ])
     ]
 
--- WHERE NOTHING IS READ: the bytes are shorter than their frame, or the format is another
+-- where nothing is read the bytes are shorter than their frame, or the format is another
 pub frame_in-none : (b : List ℕ)
     → IsNone (frame_in b) ↔ ((length b < frame_length (format_in b)) ⊎ ¬ IsFormat (format_in b))
 unfolding frame_in

@@ -1,5 +1,5 @@
 -- SSW's bits from CT on are clear in the five cases.
-use Rattle.std.proofs.Common.{◌≡◌, refl, lit≤, if◌then◌else◌, ℕ, ◌+◌, ◌*◌, ◌^◌, ◌<◌, ◌≤◌, ◌&&◌, Bool, true, false, Option, Some, None, List, arith}
+use Rattle.std.proofs.Common.{◌≡◌, refl, lit≤, if◌then◌else◌, ℕ, ◌+◌, ◌^◌, ◌<◌, ◌≤◌, ◌&&◌, Bool, true, false, Option, Some, None, arith}
 use Rattle.std.specs.Prelude.{slice_get}
 use Rattle.std.proofs.lemmas.Bool.Decides.{nat_tests}
 use Rattle.mb_port.specs.declared.types.Fault.{Fault}

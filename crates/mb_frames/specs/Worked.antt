@@ -1,8 +1,7 @@
 -- Frames of access errors that were worked out by hand, on a board with pages of 4 KiB.
-use Rattle.std.specs.Prelude.{◌≡◌, ℕ, Bool, true, false, List, [], ◌∷◌}
+use Rattle.std.specs.Prelude.{◌≡◌, ℕ, Bool, true, false, [], ◌∷◌}
 use Rattle.mb_port.specs.declared.types.Space.TheVariants.{Super, User}
 use Rattle.mb_port.specs.declared.types.Fault.{Fault}
-use Rattle.mb_frames.specs.declared.frame.Access.{Access}
 use Rattle.mb_frames.specs.declared.pend.Pend.{Pend}
 use Rattle.mb_frames.specs.AccessFields.{Check, Line, Movem, Read, Write, access_fields}
 

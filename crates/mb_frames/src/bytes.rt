@@ -38,7 +38,7 @@ fn push_longs(bytes: &mut ArrayVec<u8, 60>, longs: &[u32])
     }
 }
 
-/// Appends what every frame begins with.
+/// Appends what every frame begins with: the status register, the program counter, the format word.
 fn push_head(bytes: &mut ArrayVec<u8, 60>, sr: u16, pc: u32, format: u16, offset: u16)
     requires room { array_vec_len bytes.old + 8 ≤ 60 }
     requires format { format < 16 }
@@ -51,7 +51,7 @@ fn push_head(bytes: &mut ArrayVec<u8, 60>, sr: u16, pc: u32, format: u16, offset
     push_words(bytes, &[format * 0x1000 + offset]);
 }
 
-/// Appends the fields of an access error.
+/// Appends the fields of an access error. They fit, by their types.
 fn push_access(bytes: &mut ArrayVec<u8, 60>, access: Access)
     requires { array_vec_len bytes.old + 52 ≤ 60 }
     ensures bytes { bytes.new.items ≡ bytes.old.items ++ bytes_of_fields (fields_of_access access) }
@@ -113,6 +113,8 @@ pub fn to_bytes(f: &Frame) -> ArrayVec<u8, 60>
     requires { offset_of f.now < 0x1000 }
     ensures bytes { result.items ≡ frame_bytes f.now }
     ensures len { array_vec_len result ≡ frame_length (format_of f.now) }
+
+    // Each field at its offset.
     ensures fields { All (StandsIn result.items) (fields_of f.now) }
     ensures read_back { frame_in result.items ≡ Some f.now }
 {
@@ -195,6 +197,8 @@ fn frame_of_format(format: u16, b: &[u8]) -> Option<Frame>
 pub fn from_bytes(b: &[u8]) -> Option<Frame>
     ensures frame { result ≡ frame_in b.now }
     ensures none { IsNone result ↔ ((length b.now < frame_length (format_in b.now)) ⊎ ¬ IsFormat (format_in b.now)) }
+
+    // What is read stands there, and what stands there is read, whatever follows.
     ensures begins { IfSome result (BeginsWith b.now) }
     ensures whole { (f : Frame) (rest : List ℕ) → IsFrame f → b.now ≡ frame_bytes f ++ rest → result ≡ Some f }
 {

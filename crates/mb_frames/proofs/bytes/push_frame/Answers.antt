@@ -1,6 +1,5 @@
-use Rattle.std.proofs.Common.{[], ◌∷◌}
 use Rattle.std.proofs.lemmas.List.Elements.{All-append}
-use Rattle.mb_frames.specs.Layout.{Fits, fields_of, fields_of_access, head}
+use Rattle.mb_frames.specs.Layout.{Fits, fields_of_access, head}
 use Rattle.mb_frames.proofs.bytes.push_frame.Goals as goal
 
 pub returns-in-Access-clause-fits : goal.returns-in-Access-clause-fits

@@ -1,5 +1,4 @@
 use Rattle.std.proofs.Common.{refl}
-use Rattle.mb_frames.specs.Layout.{frame_bytes}
 use Rattle.mb_frames.proofs.RoundTrip.{frame_bytes-stand_alone, frame_in-bytes, length-frame_bytes}
 use Rattle.mb_frames.proofs.bytes.to_bytes.Goals as goal
 
