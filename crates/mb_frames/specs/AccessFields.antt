@@ -4,6 +4,8 @@ use Rattle.std.specs.Prelude.{ℕ, ◌+◌, ◌-◌, ◌*◌, ◌/◌, ◌%◌, 
 use Rattle.mb_port.specs.declared.types.Space.{Space}
 use Rattle.mb_port.specs.declared.types.Space.TheVariants.{User, Super}
 use Rattle.mb_port.specs.declared.types.Fault.{Fault}
+use Rattle.mb_port.specs.declared.types.Piece.{Piece}
+use Rattle.mb_port.specs.Pieces.{laid, span_of}
 use Rattle.mb_frames.specs.declared.frame.Access.{Access}
 use Rattle.mb_frames.specs.declared.pend.Pend.{Pend}
 
@@ -60,13 +62,17 @@ status fault start page =
 abbrev pub writeback_status : Space → (len : ℕ) → ℕ
 writeback_status space len = 2 ^ 7 + access_bits len space false
 
--- the piece's value as a register holds it: in the low bytes, the others 0
-abbrev pub register_aligned : Pend → ℕ
-register_aligned p = p.value % 2 ^ (8 * p.len)
+-- the piece that is pending
+abbrev pub piece_of : Pend → Piece
+piece_of p = record { at = p.at; len = p.len }
 
--- the piece's value as the long of memory around it holds it: at its place there, the other bytes 0
+-- its value as a register holds it: in the low bytes, the others 0
+abbrev pub register_aligned : Pend → ℕ
+register_aligned p = p.value % span_of (piece_of p)
+
+-- its value as the long of memory around it holds it: at its place there, the other bytes 0
 abbrev pub memory_aligned : Pend → ℕ
-memory_aligned p = p.value % 2 ^ (8 * p.len) * 2 ^ (8 * (4 - p.at % 4 - p.len))
+memory_aligned p = laid (piece_of p) p.value
 
 -- the fields where nothing has a meaning
 abbrev pub no_fields : Access

@@ -5,7 +5,7 @@ ghost use Rattle.mb_frames.specs.AccessFields.{AccessCase, access_fields};
 ghost use Rattle.mb_frames.specs.Worked.{FetchFromInvalidPage, LineIntoInvalidPage, LockedPastMemory, MovemDownIntoInvalidPage, MovemFromInvalidPage, MovemIntoDevice, MovemIntoInvalidPage, ReadIntoInvalidPage, StackOnInvalidPage, WriteIntoInvalidPage, WritePastMemory};
 
 /// The fields of an access error are those of frames that were worked out by hand.
-#[tactic(auto, unfolding(crate::specs::AccessFields::read_fields, crate::specs::AccessFields::write_fields, crate::specs::AccessFields::line_fields, crate::specs::AccessFields::movem_fields, crate::specs::AccessFields::check_fields))]
+#[tactic(auto, unfolding(crate::specs::AccessFields::read_fields, crate::specs::AccessFields::write_fields, crate::specs::AccessFields::line_fields, crate::specs::AccessFields::movem_fields, crate::specs::AccessFields::check_fields, mb_port::specs::Pieces::laid, mb_port::specs::Pieces::span_of, mb_port::specs::Pieces::weight_of))]
 pub fn worked_frames()
     ensures fetch_from_invalid_page { FetchFromInvalidPage }
     ensures read_into_invalid_page { ReadIntoInvalidPage }

@@ -1,0 +1,4 @@
+pub mod Image
+pub mod Kinds
+pub mod Records
+pub mod Answers

@@ -1,0 +1,20 @@
+//! Motorola S-records: a text with data at addresses, as a program to be loaded comes.
+//!
+//! [`read_image`] stands between a file and a memory: it knows neither, and the layers above load
+//! the chunks of its [`Image`]. The grammar is the definition `records_of` of `specs/Records`, by
+//! lines and records.
+#![tactic(auto)]
+
+mod fault;
+mod image;
+mod kind;
+mod line;
+mod reading;
+mod record;
+
+pub use fault::ImageFault;
+pub use image::{Chunk, Image};
+pub use reading::read_image;
+
+#[cfg(test)]
+mod tests;
