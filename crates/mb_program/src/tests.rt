@@ -370,61 +370,50 @@ fn words_are_refused(rt: HostRuntime) {
 }
 
 #[test]
-fn files_are_refused(rt: HostRuntime) {
-    let malformed: [&[u8]; 22] = [
-        b"",
-        b"S104000001FA\n",
-        b"S10B00000001000000000400EE\nS9030000FC\n",
-        b"S0050000686929\nS9030000FC\n",
-        b"S20500000001F9\nS9030000FC\n",
-        b"S5030000FC\nS9030000FC\n",
-        b"s9030000FC\n",
-        b"S",
-        b"S9",
-        b"S9030000FC \n",
-        b" \nS9030000FC\n",
-        b"S10400000GFA\nS9030000FC\n",
-        b"S9030000F\n",
-        b"S1FF0000\nS9030000FC\n",
-        b"S103000001FA\nS9030000FC\n",
-        b"S10200FD\nS9030000FC\n",
-        b"S904000005F6\n",
-        b"S9030000FC\nS104000001FA\n",
-        b"S9030000FC\nS9030000FC\n",
-        b"S9030000FC\r",
-        b"S9030000FC\r\r\n",
-        b"hello\n",
+fn files_are_refused(rt: HostRuntime) -> Result<(), Fail> {
+    let malformed: [(&[u8], &str); 23] = [
+        (b"", "no end"),
+        (b"S104000001FA\n", "no end"),
+        (b"S10B00000001000000000400EE\nS9030000FC\n", "line 1: sum"),
+        (b"S5030001FB\nS9030000FC\n", "line 1: count"),
+        (b"s9030000FC\n", "line 1: kind"),
+        (b"S", "line 1: kind"),
+        (b"S4030000FC\n", "line 1: kind"),
+        (b"hello\n", "line 1: kind"),
+        (b" \nS9030000FC\n", "line 1: kind"),
+        (b"S9", "line 1: length"),
+        (b"S1FF0000\nS9030000FC\n", "line 1: length"),
+        (b"S103000001FA\nS9030000FC\n", "line 1: length"),
+        (b"\n\r\nS10200FD\nS9030000FC\n", "line 3: length"),
+        (b"S904000005F6\n", "line 1: length"),
+        (b"S9030000FC \n", "line 1: digits"),
+        (b"S10400000GFA\nS9030000FC\n", "line 1: digits"),
+        (b"S9030000F\n", "line 1: digits"),
+        (b"S9030000FC\r", "line 1: digits"),
+        (b"S9030000FC\r\r\n", "line 1: digits"),
+        (b"S9030000FC\nS104000001FA\n", "line 2: after"),
+        (b"S104000001FA\nS9030000FC\nS9030000FC\n", "line 3: after"),
+        (b"S20501000000F9\nS9030000FC\n", "outside 00010000"),
+        (b"S105FFFF0102F9\nS9030000FC\n", "outside 00010000"),
     ];
-    for text in malformed {
+    for (text, why) in malformed {
         let ran = run_text(rt.alloc(), HELLO_WORDS, text, NOTHING).expect(&rt, "ample memory");
-        assert_eq!(rt; ran.status, 3, "{text:?}");
-        assert_eq!(rt;
-            ran.diag.bytes(),
-            b"mbx: hello.s19 refused\n".as_slice(),
-            "{text:?}"
-        );
-        assert!(rt; ran.out.bytes().is_empty(), "{text:?}");
+        let line = format!(in rt.alloc(); "mbx: hello.s19 {why}\n")?;
+        assert_eq!(rt; ran.status, 3, "{why}");
+        assert_eq!(rt; ran.diag.bytes(), line.as_bytes());
+        assert!(rt; ran.out.bytes().is_empty(), "{why}");
     }
-}
-
-/// The example with so many bytes: empty lines follow its last record.
-fn padded(alloc: Global, size: usize) -> Option<Vec<u8>> {
-    let mut bytes = vec![in alloc; b'\n'; size].ok()?;
-    if bytes.len() < HELLO.len() {
-        return None;
-    }
-    bytes[..HELLO.len()].copy_from_slice(HELLO);
-    Some(bytes)
+    Ok(())
 }
 
 #[test]
-fn a_file_has_a_greatest_length(rt: HostRuntime) {
-    for (size, status) in [(67_108_864, 0), (67_108_865, 3)] {
-        let bytes = padded(rt.alloc(), size).expect(&rt, "ample memory");
-        let ran = run(rt.alloc(), HELLO_WORDS, bytes, NOTHING).expect(&rt, "ample memory");
-        assert_eq!(rt; ran.status, status, "{size}");
-        assert_eq!(rt; ran.out.bytes().is_empty(), status != 0, "{size}");
-    }
+fn a_file_has_a_greatest_length(rt: HostRuntime) -> Result<(), Fail> {
+    let bytes = vec![in rt.alloc(); b'\n'; 67_108_865]?;
+    let ran = run(rt.alloc(), HELLO_WORDS, bytes, NOTHING).expect(&rt, "ample memory");
+    assert_eq!(rt; ran.status, 3);
+    assert_eq!(rt; ran.diag.bytes(), b"mbx: hello.s19 too long\n".as_slice());
+    assert!(rt; ran.out.bytes().is_empty());
+    Ok(())
 }
 
 #[test]
