@@ -131,3 +131,6 @@ impl Board {
         }
     }
 }
+
+#[cfg(test)]
+mod tests;

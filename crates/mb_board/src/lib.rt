@@ -8,6 +8,3 @@ mod board;
 mod bus;
 
 pub use board::Board;
-
-#[cfg(test)]
-mod tests;

@@ -1,6 +1,6 @@
 -- A run by its first step.
-use Rattle.std.proofs.Common.{◌≡◌, ◌∙◌, ℕ, zero, suc, true, false, refl}
-use Rattle.std.specs.Prelude.{Option, Some, None}
+use Rattle.std.proofs.Common.{◌≡◌, ℕ, zero, suc, true, false, refl}
+use Rattle.std.specs.Prelude.{Some, None}
 use Rattle.mb_machine.specs.Machine.{Machine, stepped, takes_steps, run_of}
 
 -- a step is taken, and the rest of the run follows

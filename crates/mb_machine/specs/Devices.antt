@@ -1,5 +1,5 @@
 -- The devices so far: the console's DATA register and POWER.
-use Rattle.std.specs.Prelude.{ℕ, ◌+◌, ◌-◌, ◌%◌, ◌^◌, ◌==◌, ◌&&◌, Bool, true, false, List, [], ◌∷◌, ◌++◌, length, min, nat_lt, if◌then◌else◌}
+use Rattle.std.specs.Prelude.{ℕ, ◌+◌, ◌-◌, ◌^◌, ◌==◌, ◌&&◌, Bool, true, false, List, [], ◌∷◌, ◌++◌, length, min, nat_lt, if◌then◌else◌}
 
 pub record Devices : Type 0 where
   -- the bytes that the console keeps, in order of sending

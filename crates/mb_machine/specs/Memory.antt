@@ -1,5 +1,5 @@
 -- Memory as a list of bytes, and big-endian numbers in it.
-use Rattle.std.specs.Prelude.{ℕ, ◌+◌, List, [], ◌∷◌, ◌++◌, length, take, drop}
+use Rattle.std.specs.Prelude.{ℕ, ◌+◌, List, ◌++◌, length, take, drop}
 use Rattle.byteorder.specs.Endian.{big_number, big_bytes}
 
 -- the number that so many bytes spell from a place on, the highest byte first

@@ -1,5 +1,5 @@
 -- How instructions end, with the registers then.
-use Rattle.std.specs.Prelude.{Bool, false, true, Option, Some, None, Result, Ok, Err}
+use Rattle.std.specs.Prelude.{false, true, Option, Some, None, Result, Ok, Err}
 use Rattle.mb_port.specs.Routine.{Routine, Return}
 use Rattle.mb_instr.specs.declared.registers.Plain.{Plain}
 use Rattle.mb_meaning.specs.declared.Ended.{Ended}

@@ -1,6 +1,6 @@
 -- MOVEQ and MOVE.
-use Rattle.std.specs.Prelude.{ℕ, Result, Ok, Err}
-use Rattle.mb_port.specs.Routine.{Routine, Return, Then, ◌>>=◌, ◌>>◌, failing}
+use Rattle.std.specs.Prelude.{ℕ, Result, Ok}
+use Rattle.mb_port.specs.Routine.{Routine, Return, ◌>>◌, failing}
 use Rattle.mb_port.specs.declared.types.Space.{Space}
 use Rattle.mb_instr.specs.declared.size.Size.{Size}
 use Rattle.mb_instr.specs.declared.size.Size.TheVariants.{Byte, Long}

@@ -1,8 +1,7 @@
 -- Operands: registers, immediates, and stores to memory.
-use Rattle.std.specs.Prelude.{ℕ, ◌%◌, ◌==◌, Option, Some, None, Result, Ok, Err, slice_index, slice_set}
+use Rattle.std.specs.Prelude.{ℕ, ◌%◌, ◌==◌, Option, Some, None, Result, Err, slice_index, slice_set}
 use Rattle.mb_port.specs.Routine.{Routine, Return, choose, failing, write}
 use Rattle.mb_port.specs.declared.types.Space.{Space}
-use Rattle.mb_port.specs.declared.types.Piece.{Piece}
 use Rattle.mb_instr.specs.declared.size.Size.{Size}
 use Rattle.mb_instr.specs.declared.operand.Ea.{Ea}
 use Rattle.mb_instr.specs.declared.operand.Ea.TheVariants.{Dn, AbsL, Imm}

@@ -1,5 +1,5 @@
 -- What a command comes to, by the bytes that its files have.
-use Rattle.std.specs.Prelude.{ℕ, ◌*◌, List, length, Option, Some, None, Result, Ok, Err, option_map, if◌then◌else◌, nat_lt}
+use Rattle.std.specs.Prelude.{ℕ, ◌*◌, length, Option, Some, None, Result, Ok, Err, option_map, if◌then◌else◌, nat_lt}
 use Rattle.mb_srec.specs.Records.{records_of}
 use Rattle.mb_srec.specs.declared.fault.ImageFault.{ImageFault}
 use Rattle.mb_srec.specs.declared.fault.ImageFault.TheVariants as fault

@@ -1,5 +1,5 @@
 -- What each status says of its cause, in one fact a status.
-use Rattle.std.specs.Prelude.{◌≡◌, ◌⊎◌, ⊤, ℕ, [], Option, Some, None, IfSome, MatchBool, codes, if◌then◌else◌, ◌==◌}
+use Rattle.std.specs.Prelude.{◌≡◌, ◌⊎◌, ℕ, [], Option, Some, None, IfSome, MatchBool, codes, if◌then◌else◌, ◌==◌}
 use Rattle.mb_outside.specs.Counts.{Rose}
 use Rattle.mb_outside.specs.Sink.{Grows}
 use Rattle.mb_words.specs.Words.{Text, Asked}

@@ -1,13 +1,11 @@
 -- Fetching one more word.
-use Rattle.std.proofs.Common.{◌≡◌, ◌∙◌, ℕ, suc, ◌+◌, ◌-◌, ◌<◌, ◌%◌, ◌^◌, List, [], ◌∷◌, ◌++◌, Result, Ok, Err, ◌⊎◌, inl, inr, refl, ap, sym, arith}
+use Rattle.std.proofs.Common.{◌≡◌, ℕ, suc, ◌+◌, ◌%◌, ◌^◌, List, [], ◌∷◌, ◌++◌, Result, Ok, Err, ◌⊎◌, inl, inr, refl}
 use Rattle.mb_port.specs.Routine.{Bus, Routine, run, Fetch}
 use Rattle.mb_port.specs.declared.types.Space.{Space}
 use Rattle.mb_port.specs.declared.types.Fault.{Fault}
 use Rattle.mb_decode.specs.declared.front.Decoded.{Decoded}
-use Rattle.mb_decode.specs.declared.front.Decoded.TheVariants.{Whole, More, Illegal, LineA, LineF}
+use Rattle.mb_decode.specs.declared.front.Decoded.TheVariants.{Illegal, LineA, LineF}
 use Rattle.mb_decode.specs.Decodes.{decode_of}
-use Rattle.mb_instr.specs.declared.instruction.Instr.{Instr}
-use Rattle.mb_meaning.specs.declared.Unbuilt.{Unbuilt}
 use Rattle.mb_meaning.specs.Step.{Found, found_of, judged}
 
 abbrev Answered : {S : Type 0} → Bus S → Space → ℕ → S → Result ℕ Fault → S → Type 0

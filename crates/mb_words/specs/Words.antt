@@ -1,5 +1,5 @@
 -- The words of the command line, and what they ask for.
-use Rattle.std.specs.Prelude.{◌+◌, ◌-◌, ◌*◌, ◌%◌, ◌==◌, ◌&&◌, ◌||◌, not, ℕ, Bool, true, false, List, [], ◌∷◌, length, Option, Some, None, option_and_then, if◌then◌else◌, nat_lt, nat_le, codes}
+use Rattle.std.specs.Prelude.{◌+◌, ◌-◌, ◌*◌, ◌%◌, ◌==◌, ◌&&◌, ◌||◌, not, ℕ, Bool, false, List, [], ◌∷◌, length, Option, Some, None, option_and_then, if◌then◌else◌, nat_lt, nat_le, codes}
 use Rattle.std.specs.Str.{bytes_eq}
 use Rattle.mb_words.specs.declared.bare.Bare.{Bare}
 

@@ -1,4 +1,4 @@
-use Rattle.std.proofs.Common.{◌≡◌, ◌∙◌, ◌-◌, ◌+◌, ◌%◌, ℕ, suc, ap, sym, arith}
+use Rattle.std.proofs.Common.{◌∙◌, ◌-◌, ◌+◌, ℕ, ap, sym, arith}
 use Rattle.mb_decode.specs.Decodes.{decode_of}
 use Rattle.mb_meaning.specs.Step.{most_words}
 use Rattle.mb_step.proofs.FoundLemmas.{fetched, unfetched, exhausted, unlisted}

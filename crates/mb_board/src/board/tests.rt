@@ -1,6 +1,6 @@
 //! Each public call once, and sums at the ends of their range.
 
-use crate::Board;
+use super::Board;
 use mb_model::RunState;
 
 /// `ADDQ.L #q,D0` over D0, and what D0 and SR are then.
