@@ -1,6 +1,5 @@
 -- Arrays by their elements.
 use Rattle.std.proofs.Common.{◌≡◌, ℕ, List, [], ◌∷◌, ◌++◌, length, get_or, take, refl, arith}
-use Rattle.std.proofs.lemmas.Grind.{common_steps}
 
 pub seven_and_one : (xs : List ℕ) (x : ℕ) → length xs ≡ 7
     → get_or xs 0 0 ∷ get_or xs 1 0 ∷ get_or xs 2 0 ∷ get_or xs 3 0 ∷ get_or xs 4 0 ∷ get_or xs 5 0 ∷ get_or xs 6 0 ∷ x ∷ [] ≡ xs ++ x ∷ []

@@ -1,1 +1,4 @@
 pub mod Arrays
+pub mod Opcodes
+pub mod Words
+pub mod Ranges

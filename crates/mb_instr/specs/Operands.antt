@@ -1,5 +1,5 @@
 -- Which operands a row takes, and how an operand is spelled.
-use Rattle.std.specs.Prelude.{◌≡◌, ℕ, ◌+◌, ◌*◌, ◌/◌, ◌%◌, ◌^◌, ◌<◌, Bool, true, false, ◌&&◌, ◌||◌, ◌==◌, not, nat_lt, List, [], ◌∷◌, ◌++◌, if◌then◌else◌}
+use Rattle.std.specs.Prelude.{ℕ, ◌/◌, ◌%◌, ◌^◌, ◌<◌, Bool, true, ◌&&◌, ◌==◌, not, nat_lt, List, [], ◌∷◌, ◌++◌, if◌then◌else◌}
 use Rattle.mb_instr.specs.declared.size.Size.{Size}
 use Rattle.mb_instr.specs.declared.size.Size.TheVariants as size
 use Rattle.mb_instr.specs.declared.operand.Ea.{Ea}
@@ -91,3 +91,31 @@ is_spelled size _ = true
 -- an operand of the class that has a spelling
 abbrev pub takes : OperandClass → Size → Ea → Bool
 takes class size ea = allows class (mode ea) (lower ea) && is_spelled size ea
+
+-- ---- the ranges of an operand's parts
+
+-- extension words, and displacements of 32 bits
+abbrev pub IsExt : Ext → Type 0
+IsExt (Brief w) = w < 2 ^ 16
+IsExt (Full w bd od) = (w < 2 ^ 16) × (bd < 2 ^ 32) × (od < 2 ^ 32)
+
+-- a byte immediate is kept as its whole word
+abbrev pub IsImmediate : Size → ℕ → Type 0
+IsImmediate size.Byte v = v < 2 ^ 16
+IsImmediate size.Word v = v < 2 ^ 16
+IsImmediate size.Long v = v < 2 ^ 32
+
+-- registers are 0 to 7, and what is spelled by words fits them
+abbrev pub IsEa : Size → Ea → Type 0
+IsEa size (Dn n) = n < 8
+IsEa size (An n) = n < 8
+IsEa size (Ind n) = n < 8
+IsEa size (Post n) = n < 8
+IsEa size (Pre n) = n < 8
+IsEa size (Disp n d) = (n < 8) × (d < 2 ^ 16)
+IsEa size (Index n e) = (n < 8) × IsExt e
+IsEa size (AbsW a) = a < 2 ^ 16
+IsEa size (AbsL a) = a < 2 ^ 32
+IsEa size (PcDisp d) = d < 2 ^ 16
+IsEa size (PcIndex e) = IsExt e
+IsEa size (Imm v) = IsImmediate size v

@@ -1,5 +1,5 @@
 -- The table of instructions, row by row.
-use Rattle.std.specs.Prelude.{◌≡◌, ℕ, ◌+◌, ◌*◌, ◌/◌, ◌%◌, ◌^◌, ◌<◌, Bool, true, false, ◌&&◌, ◌==◌, not, nat_lt, List, [], ◌∷◌, ◌++◌}
+use Rattle.std.specs.Prelude.{◌≡◌, ℕ, ◌/◌, ◌%◌, ◌^◌, ◌<◌, Bool, true, false, ◌&&◌, ◌==◌, not, nat_lt, List, [], ◌∷◌, ◌++◌, All}
 use Rattle.mb_instr.specs.declared.size.Size.{Size}
 use Rattle.mb_instr.specs.declared.size.Size.TheVariants as size
 use Rattle.mb_instr.specs.declared.operand.Ea.{Ea}
@@ -71,8 +71,13 @@ row (Addq q s ea) = record { legal = is_addq q s ea; opcode = op 5 (q % 8) 0 (bi
 row (Bcc c d) = record { legal = is_bcc c d; opcode = op 6 (c / 2) (c % 2) (branch_byte d / 64) (branch_byte d / 8 % 8) (branch_byte d % 8); further = branch_words d }
 row (Moveq d n) = record { legal = true; opcode = op 7 d 0 (n / 64) (n / 8 % 8) (n % 8); further = [] }
 
+-- each is a word
+abbrev pub AreWords : List ℕ → Type 0
+AreWords ws = All (λ w. w < 2 ^ 16) ws
+
 -- These words spell the instruction.
 pub record Codes (i : Instr) (w : List ℕ) : Type 0 where
   pub legal : (row i).legal ≡ true
   pub fields : IsOpcode (row i).opcode
   pub words : w ≡ word_of (row i).opcode ∷ (row i).further
+  pub are_words : AreWords w

@@ -22,6 +22,7 @@ pub struct Opcode {
 
 impl Opcode {
     /// The fields of a word.
+    #[inline(always)]
     pub fn of(word: u16) -> Opcode
         ensures fields { result ≡ opcode_of word }
         ensures in_range { IsOpcode result }

@@ -55,6 +55,7 @@ pub enum OperandClass {
 
 impl OperandClass {
     /// Whether the class has the operand of this mode and register field.
+    #[inline(always)]
     pub fn allows(self, mode: u8, lower: u8) -> bool
         ensures { result ≡ allows self mode lower }
     {

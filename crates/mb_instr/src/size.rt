@@ -13,6 +13,7 @@ pub enum Size {
 
 impl Size {
     /// How many bytes: 1, 2 or 4.
+    #[inline(always)]
     pub fn bytes(self) -> u8
         ensures { result ≡ bytes_of self }
     {

@@ -1,0 +1,4 @@
+pub mod Cuts
+pub mod Fewest
+pub mod Whole
+pub mod Laid

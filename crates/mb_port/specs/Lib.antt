@@ -1,2 +1,3 @@
 pub mod Routine
 pub mod Pieces
+pub mod VectorBus

@@ -1,5 +1,5 @@
 -- Pieces of operands.
-use Rattle.std.specs.Prelude.{ℕ, ◌%◌, ◌<◌, ◌≤◌, ◌≡◌, ◌≢◌, List, [], ◌∷◌}
+use Rattle.std.specs.Prelude.{ℕ, zero, suc, ◌+◌, ◌-◌, ◌*◌, ◌/◌, ◌%◌, ◌^◌, ◌<◌, ◌≤◌, ◌≡◌, ◌≢◌, List, [], ◌∷◌, ◌++◌, length, ◌&&◌, ◌==◌, nat_le, if◌then◌else◌}
 use Rattle.mb_port.specs.declared.types.Piece.{Piece}
 
 -- 1, 2 or 4 bytes, at a multiple of that
@@ -9,3 +9,64 @@ IsPiece p = (0 < p.len) × (p.len ≤ 4) × (p.len ≢ 3) × (2 ≤ p.len → p.
 abbrev pub ArePieces : List Piece → Type 0
 ArePieces [] = Unit {0}
 ArePieces (p ∷ ps) = IsPiece p × ArePieces ps
+
+-- how many bytes they have
+abbrev pub total : List Piece → ℕ
+total [] = 0
+total (p ∷ ps) = p.len + total ps
+
+-- the length of the longest piece that begins here and fits into so many bytes
+unfoldable pub piece_len : ℕ → ℕ → ℕ
+piece_len at left = if (at % 4 == 0) && nat_le 4 left then 4 else (if (at % 2 == 0) && nat_le 2 left then 2 else 1)
+
+-- the greedy cut into at most so many pieces
+abbrev pub cut : ℕ → ℕ → ℕ → List Piece
+cut zero at left = []
+cut (suc n) at zero = []
+cut (suc n) at (suc left) = record { at = at; len = piece_len at (suc left) } ∷ cut n ((at + piece_len at (suc left)) % 2 ^ 32) (suc left - piece_len at (suc left))
+
+-- the greedy cut of an operand of one to five bytes
+unfoldable pub split_of : ℕ → ℕ → List Piece
+split_of at len = cut 3 at len
+
+-- the addresses of so many bytes, in order
+unfoldable pub bytes_from : ℕ → ℕ → List ℕ
+bytes_from at zero = []
+bytes_from at (suc n) = at % 2 ^ 32 ∷ bytes_from (at + 1) n
+
+-- the addresses of the pieces' bytes, in order
+unfoldable pub bytes_of : List Piece → List ℕ
+bytes_of [] = []
+bytes_of (p ∷ ps) = bytes_from p.at p.len ++ bytes_of ps
+
+-- The piece begins here and fits, and no longer one does.
+pub record IsLongest (at left : ℕ) (p : Piece) : Type 0 where
+  pub here : p.at ≡ at
+  pub aligned : IsPiece p
+  pub fits : p.len ≤ left
+  pub longest : (q : Piece) → IsPiece q → q.at ≡ at → q.len ≤ left → q.len ≤ p.len
+
+-- Each piece is the longest where it begins, and nothing is left behind the last.
+unfoldable pub IsGreedy : ℕ → ℕ → List Piece → Type 0
+IsGreedy at left [] = left ≡ 0
+IsGreedy at left (p ∷ ps) = IsLongest at left p × IsGreedy ((at + p.len) % 2 ^ 32) (left - p.len) ps
+
+-- No pieces that have these bytes in order are fewer.
+unfoldable pub IsFewest : List Piece → Type 0
+IsFewest pieces = (others : List Piece) → ArePieces others → bytes_of others ≡ bytes_of pieces → length pieces ≤ length others
+
+-- how many values a piece can have
+unfoldable pub span_of : Piece → ℕ
+span_of p = 2 ^ (8 * p.len)
+
+-- what the piece's last byte counts for in the long at its address rounded down to a multiple of 4
+unfoldable pub weight_of : Piece → ℕ
+weight_of p = 2 ^ (8 * (4 - p.at % 4 - p.len))
+
+-- the piece's value in its long: its bytes where they stand in memory, the rest 0
+unfoldable pub laid : Piece → ℕ → ℕ
+laid p value = value % span_of p * weight_of p
+
+-- the value whose bytes stand there
+unfoldable pub unlaid : Piece → ℕ → ℕ
+unlaid p long = long / weight_of p % span_of p

@@ -4,7 +4,16 @@
 #![tactic(auto)]
 
 mod bus;
+mod longs;
+mod pieces;
 mod types;
 
 pub use bus::Port;
+pub use longs::{lay, unlay};
+pub use pieces::split;
 pub use types::{Fault, Flush, Mmu, MmuReg, Piece, Place, Space};
+
+#[cfg(test)]
+mod tests;
+#[cfg(test)]
+mod vector_port;

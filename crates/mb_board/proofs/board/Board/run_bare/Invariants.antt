@@ -1,0 +1,10 @@
+use Rattle.std.proofs.Common.{◌≡◌, ◌+◌, ◌-◌, ◌<◌, ◌^◌, length}
+use Rattle.mb_machine.specs.Machine.{run_of}
+use Rattle.mb_board.proofs.board.Board.run_bare.Given as goal
+
+abbrev pub invariant-loop : goal.invariant-loop
+invariant-loop l = record {
+  run : run_of (l.steps - l.counter) l.self ≡ run_of l.steps l.initial.self;
+  room : l.self.steps + (l.steps - l.counter) < 2 ^ 32;
+  ram : length l.self.ram ≡ length l.initial.self.ram;
+}

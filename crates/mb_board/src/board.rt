@@ -1,0 +1,136 @@
+//! The board.
+
+ghost use Rattle.std.specs.Prelude.{◌≡◌, ℕ, ◌+◌, ◌^◌, ◌<◌, ◌≤◌, length, replicate, IfOk, OnOk, MatchResult, Some, None};
+ghost use Rattle.mb_model.specs.Seen.{seen_of};
+ghost use Rattle.mb_machine.specs.Memory.{overwritten};
+ghost use Rattle.mb_machine.specs.Machine.{Machine, reset_with, stepped, run_of, takes_steps, seen_machine};
+
+use crate::bus::PlainBus;
+use mb_meaning::{StepEnd, Unbuilt};
+use mb_model::{Cpu, Outcome, RunState};
+use mb_outside::Memory;
+use mb_step::step;
+use std::alloc::Global;
+use std::marker::Model;
+
+/// A machine: its processor beside the bus of its memory and devices.
+#[derive(Drop)]
+pub struct Board {
+    cpu: Cpu,
+    bus: PlainBus,
+    steps: u32,
+    state: RunState,
+}
+
+impl Model for Board {
+    ghost use Rattle.mb_machine.specs.Machine.{Machine};
+
+    ghost Value = { Machine };
+
+    ghost view = { λ b. record { cpu = b.cpu; mmu = b.bus.mmu; ram = b.bus.ram; devices = b.bus.devices; steps = b.steps; state = b.state } };
+}
+
+impl Board {
+    /// A board with so many bytes of RAM, all 0, as it is after reset. It takes all the memory that
+    /// it will need.
+    pub fn new(alloc: Global, size: u32) -> Result<Board, Memory>
+        requires { (8 ≤ size) × (size ≤ 67108864) }
+        ensures { IfOk result (λ board. board ≡ reset_with (replicate size 0)) }
+    {
+        let bus = PlainBus::new(alloc, size)?;
+        let mut board = Board {
+            cpu: Cpu::at_reset(0, 0),
+            bus,
+            steps: 0,
+            state: RunState::Running,
+        };
+        board.reset();
+        Ok(board)
+    }
+
+    /// Writes RAM from a physical address on.
+    pub fn write_phys(&mut self, at: u32, bytes: &[u8])
+        requires { at + length bytes.now ≤ length self.old.ram }
+        ensures { self.new ≡ record self.old { ram = overwritten self.old.ram at bytes.now } }
+    {
+        self.bus.overwrite(at, bytes);
+    }
+
+    /// Resets all but RAM: the stack pointer and the program counter come from the longs at 0 and 4.
+    #[tactic(auto, unfolding(mb_machine::specs::Machine::reset_with))]
+    pub fn reset(&mut self)
+        requires { 8 ≤ length self.old.ram }
+        ensures { self.new ≡ reset_with self.old.ram }
+    {
+        self.bus.reset();
+        self.cpu = Cpu::at_reset(self.bus.long(0), self.bus.long(4));
+        self.steps = 0;
+        self.state = RunState::Running;
+    }
+
+    /// One step. Where it is not built, nothing more is said of the board than its RAM size.
+    #[inline(always)]
+    #[tactic(auto, unfolding(mb_machine::specs::Machine::stepped))]
+    fn step(&mut self) -> Result<(), Unbuilt>
+        requires { self.old.steps + 1 < 2 ^ 32 }
+        ensures means { MatchResult result (λ done. stepped self.old ≡ Some self.new) (λ unbuilt. stepped self.old ≡ None) }
+        ensures counted { OnOk result (self.new.steps ≡ self.old.steps + 1) }
+        ensures ram { length self.new.ram ≡ length self.old.ram }
+    {
+        match step(&mut self.cpu, &mut self.bus) {
+            StepEnd::Went => {
+                self.steps += 1;
+                if self.bus.is_off() {
+                    self.state = RunState::Off;
+                }
+                Ok(())
+            }
+            StepEnd::Unbuilt => Err(Unbuilt),
+        }
+    }
+
+    fn takes_steps(&self) -> bool
+        ensures { result ≡ takes_steps self.now.state }
+    {
+        match self.state {
+            RunState::Running | RunState::Stopped => true,
+            RunState::Halted | RunState::Off => false,
+        }
+    }
+
+    /// Takes so many steps, or fewer where the machine halts or is switched off. It takes no memory.
+    ///
+    /// `Unbuilt` comes exactly where one of these steps is not built; what the board then is, is left
+    /// open until `reset`.
+    pub fn run_bare(&mut self, steps: u32) -> Result<(), Unbuilt>
+        requires { self.old.steps + steps < 2 ^ 32 }
+        ensures runs { MatchResult result (λ done. run_of steps self.old ≡ Some self.new) (λ unbuilt. run_of steps self.old ≡ None) }
+        ensures ram { length self.new.ram ≡ length self.old.ram }
+    {
+        for _ in 0..steps {
+            if !self.takes_steps() {
+                return Ok(());
+            }
+            if let Err(unbuilt) = self.step() {
+                return Err(unbuilt);
+            }
+        }
+        Ok(())
+    }
+
+    /// What the board shows.
+    pub fn outcome(&self) -> Outcome<'_>
+        ensures { seen_of result ≡ seen_machine self.now }
+    {
+        Outcome {
+            cpu: &self.cpu,
+            console: self.bus.console(),
+            steps: self.steps,
+            state: self.state,
+            ram: self.bus.ram(),
+        }
+    }
+}
+
+#[cfg(test)]
+mod tests;

@@ -1,0 +1,103 @@
+-- Reading words from left to right.
+use Rattle.std.specs.Prelude.{◌≡◌, ℕ, ◌+◌, ◌*◌, ◌/◌, ◌%◌, ◌^◌, Bool, ◌==◌, List, [], ◌∷◌, Result, Ok, Err, if◌then◌else◌}
+use Rattle.mb_instr.specs.declared.size.Size.{Size}
+use Rattle.mb_instr.specs.declared.size.Size.TheVariants as size
+use Rattle.mb_instr.specs.declared.operand.Ea.{Ea}
+use Rattle.mb_instr.specs.declared.operand.Ea.TheVariants.{Dn, An, Ind, Post, Pre, Disp, Index, AbsW, AbsL, PcDisp, PcIndex, Imm}
+use Rattle.mb_instr.specs.declared.operand.Ext.{Ext}
+use Rattle.mb_instr.specs.declared.operand.Ext.TheVariants.{Brief, Full}
+use Rattle.mb_instr.specs.Operands.{is_full}
+use Rattle.mb_decode.specs.declared.reading.Stop.{Stop}
+use Rattle.mb_decode.specs.declared.reading.Stop.TheVariants.{More, Illegal}
+
+-- a reader of values, and the words behind what it read
+abbrev pub Reader : Type 0 → Type 0
+Reader A = List ℕ → Result (A × List ℕ) Stop
+
+-- what a function returned, seen by view, is what a reader gives
+abbrev pub Gives : {X Y : Type 0} → (X → Y) → Result X Stop → Result Y Stop → Type 0
+Gives view (Ok x) read = read ≡ Ok (view x)
+Gives view (Err e) read = read ≡ Err e
+
+-- a reader, and then the reader that its value chooses
+unfoldable pub reads_then : {A B : Type 0} → Reader A → (A → Reader B) → Reader B
+reads_then r f ws = elim (r ws) [ Ok x ↦ f x.0 x.1 | Err e ↦ Err e ]
+
+infixl 10 ◌>>=◌
+abbrev pub ◌>>=◌ : {A B : Type 0} → Reader A → (A → Reader B) → Reader B
+r >>= f = reads_then r f
+
+-- a value that takes no word
+abbrev pub give : {A : Type 0} → A → Reader A
+give a ws = Ok (a, ws)
+
+-- no row has the words, whatever follows
+abbrev pub illegal : {A : Type 0} → Reader A
+illegal ws = Err Illegal
+
+-- a value that the first word alone determines
+abbrev pub known : {A : Type 0} → Result A Stop → Reader A
+known (Ok a) ws = Ok (a, ws)
+known (Err e) ws = Err e
+
+-- the test comes before any word is read
+abbrev pub when_legal : {A : Type 0} → Bool → Reader A → Reader A
+when_legal test r = if test then r else illegal
+
+-- the next word
+unfoldable pub word_at : Reader ℕ
+word_at [] = Err More
+word_at (w ∷ ws) = Ok (w, ws)
+
+-- two words, the high one first
+unfoldable pub long_at : Reader ℕ
+long_at = do
+  high ← word_at
+  low ← word_at
+  give (high * 65536 + low)
+
+-- a displacement of the full format, whose size field is 2 for a word, 3 for a long
+unfoldable pub wide_at : ℕ → Reader ℕ
+wide_at width = if width == 2 then word_at else if width == 3 then long_at else give 0
+
+-- what follows a full extension word: the base displacement, then the outer displacement
+unfoldable pub full_at : ℕ → Reader Ext
+full_at w = do
+  bd ← wide_at (w / 2 ^ 4 % 4)
+  od ← wide_at (w % 4)
+  give (Full w bd od)
+
+-- bit 8 of the extension word says which format
+unfoldable pub ext_at : Reader Ext
+ext_at = do
+  w ← word_at
+  if w / 2 ^ 8 % 2 == 0 then give (Brief w) else when_legal (is_full w) (full_at w)
+
+-- a byte immediate takes a whole word
+unfoldable pub immediate_at : Size → Reader ℕ
+immediate_at size.Byte = word_at
+immediate_at size.Word = word_at
+immediate_at size.Long = long_at
+
+-- the operand of a mode and a register field; mode 7 has no register above 4
+unfoldable pub operand_at : Size → ℕ → ℕ → Reader Ea
+operand_at size mode lower =
+    if mode == 0 then give (Dn lower) else
+    if mode == 1 then give (An lower) else
+    if mode == 2 then give (Ind lower) else
+    if mode == 3 then give (Post lower) else
+    if mode == 4 then give (Pre lower) else
+    if mode == 5 then (word_at >>= λ d. give (Disp lower d)) else
+    if mode == 6 then (ext_at >>= λ e. give (Index lower e)) else
+    if lower == 0 then (word_at >>= λ a. give (AbsW a)) else
+    if lower == 1 then (long_at >>= λ a. give (AbsL a)) else
+    if lower == 2 then (word_at >>= λ d. give (PcDisp d)) else
+    if lower == 3 then (ext_at >>= λ e. give (PcIndex e)) else
+    (immediate_at size >>= λ v. give (Imm v))
+
+-- the size field of most rows
+abbrev pub size_of : ℕ → Result Size Stop
+size_of field =
+    if field == 0 then Ok size.Byte else
+    if field == 1 then Ok size.Word else
+    if field == 2 then Ok size.Long else Err Illegal

@@ -1,0 +1,14 @@
+//! From words to instructions.
+//!
+//! The inverse of the table of spellings in `mb_instr`, read from left to right: what the words that
+//! have been fetched so far begin with. It stands on `mb_instr` alone and knows no bus.
+#![tactic(auto)]
+
+mod front;
+mod reading;
+mod rows;
+
+pub use front::{Decoded, decode, spellings};
+
+#[cfg(test)]
+mod tests;

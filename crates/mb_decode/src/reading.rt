@@ -1,0 +1,174 @@
+//! Readers of what stands behind the first word.
+
+ghost use Rattle.std.specs.Prelude.{◌≡◌};
+ghost use Rattle.mb_instr.specs.Operands.{is_full};
+ghost use Rattle.mb_decode.specs.Reading.{Gives, word_at, long_at, wide_at, full_at, ext_at, immediate_at, operand_at, size_of};
+
+use mb_instr::{Ea, Ext, Size};
+
+/// Why no instruction was read.
+#[derive(Clone, Copy, Debug, PartialEq, Eq)]
+pub enum Stop {
+    /// The words ended, and others can complete the instruction.
+    More,
+    /// No row has these words.
+    Illegal,
+}
+
+/// A value, and the words behind what was read.
+pub type Reading<'a, T> = Result<(T, &'a [u16]), Stop>;
+
+#[inline(always)]
+#[tactic(auto, unfolding(crate::specs::Reading::word_at))]
+pub fn word(words: &[u16]) -> Reading<'_, u16>
+    ensures { Gives (λ x. (x.0, x.1.now)) result (word_at words.now) }
+{
+    match words {
+        [] => Err(Stop::More),
+        [first, rest @ ..] => Ok((*first, rest)),
+    }
+}
+
+/// Two words, the high one first.
+#[inline(always)]
+#[tactic(auto, unfolding(crate::specs::Reading::reads_then, crate::specs::Reading::long_at))]
+pub fn long(words: &[u16]) -> Reading<'_, u32>
+    ensures { Gives (λ x. (x.0, x.1.now)) result (long_at words.now) }
+{
+    let (high, rest) = word(words)?;
+    let (low, rest) = word(rest)?;
+    Ok((u32::from(high) << 16 | u32::from(low), rest))
+}
+
+/// A word as a number of 32 bits, not sign-extended.
+#[inline(always)]
+fn wide_word(words: &[u16]) -> Reading<'_, u32>
+    ensures { Gives (λ x. (x.0, x.1.now)) result (word_at words.now) }
+{
+    let (value, rest) = word(words)?;
+    Ok((u32::from(value), rest))
+}
+
+/// A displacement of the full format, whose size field is 2 for a word, 3 for a long.
+#[tactic(auto, unfolding(crate::specs::Reading::wide_at))]
+fn wide(width: u16, words: &[u16]) -> Reading<'_, u32>
+    ensures { Gives (λ x. (x.0, x.1.now)) result (wide_at width words.now) }
+{
+    match width {
+        2 => wide_word(words),
+        3 => long(words),
+        _ => Ok((0, words)),
+    }
+}
+
+/// Whether the table has the word as a full extension word.
+pub fn is_full(word: u16) -> bool
+    ensures { result ≡ is_full word }
+{
+    let indirect = word & 7;
+    let known = if (word >> 6) & 1 == 0 {
+        indirect != 4
+    } else {
+        indirect < 4
+    };
+    (word >> 3) & 1 == 0 && (word >> 4) & 3 != 0 && known
+}
+
+/// The displacements behind a full extension word.
+#[tactic(auto, unfolding(crate::specs::Reading::reads_then, crate::specs::Reading::full_at))]
+fn full(first: u16, words: &[u16]) -> Reading<'_, Ext>
+    ensures { Gives (λ x. (x.0, x.1.now)) result (full_at first words.now) }
+{
+    let (bd, rest) = wide((first >> 4) & 3, words)?;
+    let (od, rest) = wide(first & 3, rest)?;
+    let extension = Ext::Full {
+        word: first,
+        bd,
+        od,
+    };
+    Ok((extension, rest))
+}
+
+#[inline(always)]
+#[tactic(auto, unfolding(crate::specs::Reading::reads_then, crate::specs::Reading::ext_at))]
+fn extension(words: &[u16]) -> Reading<'_, Ext>
+    ensures { Gives (λ x. (x.0, x.1.now)) result (ext_at words.now) }
+{
+    let (first, rest) = word(words)?;
+    if (first >> 8) & 1 == 0 {
+        Ok((Ext::Brief(first), rest))
+    } else if is_full(first) {
+        full(first, rest)
+    } else {
+        Err(Stop::Illegal)
+    }
+}
+
+#[inline(always)]
+#[tactic(auto, unfolding(crate::specs::Reading::immediate_at))]
+fn immediate(size: Size, words: &[u16]) -> Reading<'_, u32>
+    ensures { Gives (λ x. (x.0, x.1.now)) result (immediate_at size words.now) }
+{
+    match size {
+        Size::Byte | Size::Word => wide_word(words),
+        Size::Long => long(words),
+    }
+}
+
+/// The operand whose mode and register field stand in the first word. Its class has been tested.
+#[inline(always)]
+#[tactic(auto, unfolding(crate::specs::Reading::reads_then, crate::specs::Reading::operand_at))]
+pub fn operand(size: Size, mode: u8, lower: u8, words: &[u16]) -> Reading<'_, Ea>
+    ensures { Gives (λ x. (x.0, x.1.now)) result (operand_at size mode lower words.now) }
+{
+    match mode {
+        0 => Ok((Ea::Dn(lower), words)),
+        1 => Ok((Ea::An(lower), words)),
+        2 => Ok((Ea::Ind(lower), words)),
+        3 => Ok((Ea::Post(lower), words)),
+        4 => Ok((Ea::Pre(lower), words)),
+        5 => {
+            let (displacement, rest) = word(words)?;
+            Ok((Ea::Disp(lower, displacement), rest))
+        }
+        6 => {
+            let (index, rest) = extension(words)?;
+            Ok((Ea::Index(lower, index), rest))
+        }
+        _ => match lower {
+            0 => {
+                let (address, rest) = word(words)?;
+                Ok((Ea::AbsW(address), rest))
+            }
+            1 => {
+                let (address, rest) = long(words)?;
+                Ok((Ea::AbsL(address), rest))
+            }
+            2 => {
+                let (displacement, rest) = word(words)?;
+                Ok((Ea::PcDisp(displacement), rest))
+            }
+            3 => {
+                let (index, rest) = extension(words)?;
+                Ok((Ea::PcIndex(index), rest))
+            }
+            _ => {
+                let (value, rest) = immediate(size, words)?;
+                Ok((Ea::Imm(value), rest))
+            }
+        },
+    }
+}
+
+/// The size that the size field of most rows says.
+#[inline(always)]
+pub fn size_of(field: u8) -> Result<Size, Stop>
+    ensures { result ≡ size_of field }
+{
+    match field {
+        0 => Ok(Size::Byte),
+        1 => Ok(Size::Word),
+        2 => Ok(Size::Long),
+        _ => Err(Stop::Illegal),
+    }
+}

@@ -1,0 +1,4 @@
+pub mod Numbers
+pub mod Fields
+pub mod RoundTrip
+pub mod TraceBit

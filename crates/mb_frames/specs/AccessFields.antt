@@ -1,0 +1,200 @@
+-- What the frame of an access error holds, in each of its five cases. The places of the fields and of
+-- their bits are the processor's; what stands in them in which case is this board's own choice.
+use Rattle.std.specs.Prelude.{ℕ, ◌+◌, ◌-◌, ◌*◌, ◌/◌, ◌%◌, ◌^◌, ◌==◌, ◌&&◌, Bool, true, false, not, if◌then◌else◌, Option, Some, None, List, slice_get, slice_index}
+use Rattle.mb_port.specs.declared.types.Space.{Space}
+use Rattle.mb_port.specs.declared.types.Space.TheVariants.{User, Super}
+use Rattle.mb_port.specs.declared.types.Fault.{Fault}
+use Rattle.mb_port.specs.declared.types.Piece.{Piece}
+use Rattle.mb_port.specs.Pieces.{laid, span_of}
+use Rattle.mb_frames.specs.declared.frame.Access.{Access}
+use Rattle.mb_frames.specs.declared.pend.Pend.{Pend}
+
+-- SIZE: 00 long, 01 byte, 10 word, 11 line
+abbrev pub size_code : ℕ → ℕ
+size_code len = if len == 1 then 1 else if len == 2 then 2 else if len == 16 then 3 else 0
+
+-- TT: 01 for a line of MOVE16, 00 for every other access
+abbrev pub transfer_type : ℕ → ℕ
+transfer_type len = if len == 16 then 1 else 0
+
+-- TM: 1 user data, 2 user code, 5 supervisor data, 6 supervisor code
+abbrev pub transfer_modifier : Space → Bool → ℕ
+transfer_modifier User false = 1
+transfer_modifier User true = 2
+transfer_modifier Super false = 5
+transfer_modifier Super true = 6
+
+-- the low seven bits of SSW and WBnS: SIZE 6-5, TT 4-3, TM 2-0
+abbrev pub access_bits : (len : ℕ) → Space → (code : Bool) → ℕ
+access_bits len space code = size_code len * 2 ^ 5 + transfer_type len * 2 ^ 3 + transfer_modifier space code
+
+-- the bits of SSW above them; CP 15, CU 14 and X 7 stay clear, and CT 13 does in these fields
+abbrev pub cm_bit : ℕ
+cm_bit = 2 ^ 12
+
+abbrev pub ma_bit : ℕ
+ma_bit = 2 ^ 11
+
+abbrev pub atc_bit : ℕ
+atc_bit = 2 ^ 10
+
+abbrev pub lk_bit : ℕ
+lk_bit = 2 ^ 9
+
+abbrev pub rw_bit : ℕ
+rw_bit = 2 ^ 8
+
+-- a bit where it is set
+abbrev pub bit_if : Bool → ℕ → ℕ
+bit_if set bit = if set then bit else 0
+
+abbrev pub is_other_page : (page a b : ℕ) → Bool
+is_other_page page a b = not (a / page == b / page)
+
+-- SSW with neither CM, LK nor RW, for an operand or a transfer that begins at `start`. MA is set where the
+-- translation refused another page than the one where it begins
+abbrev pub status : Fault → (start page : ℕ) → ℕ
+status fault start page =
+    bit_if (fault.atc && is_other_page page fault.at start) ma_bit + bit_if fault.atc atc_bit
+    + access_bits fault.len fault.space fault.code
+
+-- WBnS of a writeback that is valid: V 7; the data space of the fault
+abbrev pub writeback_status : Space → (len : ℕ) → ℕ
+writeback_status space len = 2 ^ 7 + access_bits len space false
+
+-- the piece that is pending
+abbrev pub piece_of : Pend → Piece
+piece_of p = record { at = p.at; len = p.len }
+
+-- its value as a register holds it: in the low bytes, the others 0
+abbrev pub register_aligned : Pend → ℕ
+register_aligned p = p.value % span_of (piece_of p)
+
+-- its value as the long of memory around it holds it: at its place there, the other bytes 0
+abbrev pub memory_aligned : Pend → ℕ
+memory_aligned p = laid (piece_of p) p.value
+
+-- the fields where nothing has a meaning
+abbrev pub no_fields : Access
+no_fields = record {
+  ea = 0;
+  ssw = 0;
+  wb3s = 0;
+  wb2s = 0;
+  wb1s = 0;
+  fa = 0;
+  wb3a = 0;
+  wb3d = 0;
+  wb2a = 0;
+  wb2d = 0;
+  wb1a = 0;
+  wb1d = 0;
+  pd1 = 0;
+  pd2 = 0;
+  pd3 = 0;
+}
+
+-- the writebacks, where there is a piece for them
+abbrev pub with_writeback_1 : Space → Option Pend → Access → Access
+with_writeback_1 space None a = a
+with_writeback_1 space (Some p) a =
+    record a { wb1s = writeback_status space p.len; wb1a = p.at; wb1d = memory_aligned p }
+
+abbrev pub with_writeback_2 : Space → Option Pend → Access → Access
+with_writeback_2 space None a = a
+with_writeback_2 space (Some p) a =
+    record a { wb2s = writeback_status space p.len; wb2a = p.at; wb2d = register_aligned p }
+
+abbrev pub with_writeback_3 : Space → Option Pend → Access → Access
+with_writeback_3 space None a = a
+with_writeback_3 space (Some p) a =
+    record a { wb3s = writeback_status space p.len; wb3a = p.at; wb3d = register_aligned p }
+
+-- A fetch, a read or a locked check was refused, of an operand whose first byte is `first`: RW, and LK for a
+-- locked check. The operand of a fetch is the word itself.
+unfoldable pub read_fields : Fault → (first page : ℕ) → Access
+read_fields fault first page =
+    let ea = if fault.code then fault.at else first in
+    record no_fields {
+      ea = ea;
+      ssw = status fault ea page + bit_if fault.write lk_bit + rw_bit;
+      fa = fault.at;
+    }
+
+-- A write was refused: the first piece of `rest` is the refused one, the others come after it in order.
+-- Where `rest` is empty nothing is to be written.
+unfoldable pub write_fields : Fault → (first : ℕ) → (rest : List Pend) → (page : ℕ) → Access
+write_fields fault first rest page =
+    with_writeback_1 fault.space (slice_get rest 0)
+    (with_writeback_2 fault.space (slice_get rest 1)
+    (with_writeback_3 fault.space (slice_get rest 2)
+    (record no_fields { ea = first; ssw = status fault first page; fa = fault.at })))
+
+-- The write of a line was refused, whose four longs are these.
+unfoldable pub line_fields : Fault → (line : List ℕ) → (page : ℕ) → Access
+line_fields fault line page =
+    record no_fields {
+      ea = fault.at;
+      ssw = status fault fault.at page;
+      fa = fault.at;
+      wb1s = writeback_status fault.space 16;
+      wb1a = fault.at;
+      wb1d = slice_index line 0;
+      pd1 = slice_index line 1;
+      pd2 = slice_index line 2;
+      pd3 = slice_index line 3;
+    }
+
+-- of the operation word of a MOVEM, the high half of `words`: whether it loads (bit 10), the bytes of a
+-- transfer (bit 6), and whether it goes down, by -(An), whose mode in bits 5-3 is 4
+abbrev pub is_load : ℕ → Bool
+is_load words = words / 2 ^ 16 / 2 ^ 10 % 2 == 1
+
+abbrev pub transfer_length : ℕ → ℕ
+transfer_length words = if words / 2 ^ 16 / 2 ^ 6 % 2 == 1 then 4 else 2
+
+abbrev pub goes_down : ℕ → Bool
+goes_down words = words / 2 ^ 16 / 2 ^ 3 % 8 == 4
+
+-- the first byte of the transfer that follows `done` whole ones, the first of which is at `first`
+abbrev pub transfer_at : (words first done : ℕ) → ℕ
+transfer_at words first done =
+    let passed = transfer_length words * done in
+    if goes_down words then (first + 2 ^ 32 - passed) % 2 ^ 32 else (first + passed) % 2 ^ 32
+
+-- A transfer of a MOVEM was refused after `done` whole ones. `words` are the operation and mask words.
+unfoldable pub movem_fields : Fault → (first done words next page : ℕ) → Access
+movem_fields fault first done words next page =
+    record no_fields {
+      ea = first;
+      ssw = status fault (transfer_at words first done) page + cm_bit + bit_if (is_load words) rw_bit;
+      fa = fault.at;
+      pd1 = next;
+      pd2 = words;
+      pd3 = done;
+    }
+
+-- The check of a frame's piece was refused: a write of supervisor data that is an operand of its own.
+unfoldable pub check_fields : Fault → Access
+check_fields fault =
+    record no_fields {
+      ea = fault.at;
+      ssw = bit_if fault.atc atc_bit + access_bits fault.len Super false;
+      fa = fault.at;
+    }
+
+-- the five cases
+pub data AccessCase : Type 0 where
+  Read : (fault : Fault) (first : ℕ) → AccessCase
+  Write : (fault : Fault) (first : ℕ) (rest : List Pend) → AccessCase
+  Line : (fault : Fault) (line : List ℕ) → AccessCase
+  Movem : (fault : Fault) (first done words next : ℕ) → AccessCase
+  Check : (fault : Fault) → AccessCase
+
+-- the fields in a case, with pages of so many bytes
+abbrev pub access_fields : AccessCase → (page : ℕ) → Access
+access_fields (Read fault first) page = read_fields fault first page
+access_fields (Write fault first rest) page = write_fields fault first rest page
+access_fields (Line fault line) page = line_fields fault line page
+access_fields (Movem fault first done words next) page = movem_fields fault first done words next page
+access_fields (Check fault) page = check_fields fault

@@ -1,0 +1,87 @@
+-- The fields of a frame in order, and its bytes.
+use Rattle.std.specs.Prelude.{◌≡◌, ◌<◌, ◌⊎◌, ◌==◌, if◌then◌else◌, ℕ, ◌+◌, ◌*◌, ◌^◌, ◌++◌, List, [], ◌∷◌, length, take, drop, All}
+use Rattle.byteorder.specs.Endian.{big_bytes}
+use Rattle.mb_frames.specs.declared.frame.Access.{Access}
+use Rattle.mb_frames.specs.declared.frame.Frame.{Frame}
+use Rattle.mb_frames.specs.declared.frame.Frame.TheVariants as frame
+
+-- a field: the place of its first byte in the frame, how many bytes it has, and its value
+pub record Field : Type 0 where
+  pub offset : ℕ
+  pub size : ℕ
+  pub value : ℕ
+
+abbrev pub word : ℕ → ℕ → Field
+word offset value = record { offset = offset; size = 2; value = value }
+
+abbrev pub long : ℕ → ℕ → Field
+long offset value = record { offset = offset; size = 4; value = value }
+
+-- what every frame begins with: SR, PC, and the format above the vector offset
+abbrev pub head : (sr pc format offset : ℕ) → List Field
+head sr pc format offset = word 0x00 sr ∷ long 0x02 pc ∷ word 0x06 (format * 0x1000 + offset) ∷ []
+
+-- what the frame of an access error has besides
+abbrev pub fields_of_access : Access → List Field
+fields_of_access a =
+    long 0x08 a.ea ∷ word 0x0C a.ssw
+    ∷ word 0x0E a.wb3s ∷ word 0x10 a.wb2s ∷ word 0x12 a.wb1s
+    ∷ long 0x14 a.fa
+    ∷ long 0x18 a.wb3a ∷ long 0x1C a.wb3d
+    ∷ long 0x20 a.wb2a ∷ long 0x24 a.wb2d
+    ∷ long 0x28 a.wb1a ∷ long 0x2C a.wb1d
+    ∷ long 0x30 a.pd1 ∷ long 0x34 a.pd2 ∷ long 0x38 a.pd3 ∷ []
+
+-- the format number of a frame
+abbrev pub format_of : Frame → ℕ
+format_of (frame.Short sr pc offset) = 0
+format_of (frame.Throwaway sr pc offset) = 1
+format_of (frame.Address sr pc offset address) = 2
+format_of (frame.Access sr pc offset access) = 7
+
+-- the fields of a frame
+abbrev pub fields_of : Frame → List Field
+fields_of (frame.Short sr pc offset) = head sr pc 0 offset
+fields_of (frame.Throwaway sr pc offset) = head sr pc 1 offset
+fields_of (frame.Address sr pc offset address) = head sr pc 2 offset ++ long 0x08 address ∷ []
+fields_of (frame.Access sr pc offset access) = head sr pc 7 offset ++ fields_of_access access
+
+-- the formats of the four frames
+abbrev pub IsFormat : ℕ → Type 0
+IsFormat n = (n ≡ 0) ⊎ (n ≡ 1) ⊎ (n ≡ 2) ⊎ (n ≡ 7)
+
+-- how many bytes a frame of a format has
+abbrev pub frame_length : ℕ → ℕ
+frame_length format = if format == 7 then 60 else if format == 2 then 12 else 8
+
+-- the vector offset of a frame
+abbrev pub offset_of : Frame → ℕ
+offset_of (frame.Short sr pc offset) = offset
+offset_of (frame.Throwaway sr pc offset) = offset
+offset_of (frame.Address sr pc offset address) = offset
+offset_of (frame.Access sr pc offset access) = offset
+
+-- the bytes of fields that follow one another, each with its highest byte first
+abbrev pub bytes_of_fields : List Field → List ℕ
+bytes_of_fields [] = []
+bytes_of_fields (f ∷ fs) = big_bytes f.size f.value ++ bytes_of_fields fs
+
+-- the bytes of a frame
+unfoldable pub frame_bytes : Frame → List ℕ
+frame_bytes f = bytes_of_fields (fields_of f)
+
+-- the field stands in the bytes at its offset
+abbrev pub StandsIn : List ℕ → Field → Type 0
+StandsIn bytes f = take f.size (drop f.offset bytes) ≡ big_bytes f.size f.value
+
+-- the field's value has no more than its bytes
+abbrev pub Fits : Field → Type 0
+Fits f = f.value < 256 ^ f.size
+
+-- a frame as the code holds it: each field fits, and the vector offset has twelve bits
+abbrev pub IsFrame : Frame → Type 0
+IsFrame f = (offset_of f < 0x1000) × All Fits (fields_of f)
+
+-- the bytes begin with the frame's
+abbrev pub BeginsWith : List ℕ → Frame → Type 0
+BeginsWith b f = b ≡ frame_bytes f ++ drop (length (frame_bytes f)) b

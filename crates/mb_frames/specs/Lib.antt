@@ -1,0 +1,4 @@
+pub mod Layout
+pub mod Reading
+pub mod AccessFields
+pub mod Worked

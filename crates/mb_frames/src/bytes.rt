@@ -1,0 +1,209 @@
+//! Frames as bytes.
+
+ghost use Rattle.std.specs.Prelude.{◌≡◌, ℕ, nat_le, if◌then◌else◌, ◌+◌, ◌*◌, ◌^◌, ◌<◌, ◌≤◌, ◌++◌, List, length, drop, take, All, Some, IsNone, IfSome, ◌↔◌, ◌⊎◌};
+ghost use Rattle.std.specs.List.{flat_map};
+ghost use Rattle.arrayvec.specs.ArrayVec.{array_vec_len};
+ghost use Rattle.byteorder.specs.Endian.{big_bytes};
+ghost use Rattle.mb_frames.specs.declared.frame.Frame.{Frame};
+ghost use Rattle.mb_frames.specs.Layout.{BeginsWith, Fits, IsFormat, IsFrame, bytes_of_fields, fields_of, fields_of_access, format_of, frame_bytes, frame_length, head, offset_of, StandsIn};
+ghost use Rattle.mb_frames.specs.Reading.{access_in, format_in, frame_in, frame_of_format, long_at, word_at};
+
+use crate::frame::{Access, Frame};
+use arrayvec::ArrayVec;
+use byteorder::{BigEndian, ByteOrder};
+
+/// Appends words, the higher byte of each first.
+fn push_words(bytes: &mut ArrayVec<u8, 60>, words: &[u16])
+    requires { array_vec_len bytes.old + 2 * length words.now ≤ 60 }
+    ensures bytes { bytes.new.items ≡ bytes.old.items ++ flat_map (λ word. big_bytes 2 word) words.now }
+    ensures fits { All (λ word. word < 256 ^ 2) words.now }
+{
+    for word in words {
+        let mut high_first = [0; 2];
+        BigEndian::write_u16(&mut high_first, *word);
+        bytes.try_extend_from_slice(&high_first).unwrap();
+    }
+}
+
+/// Appends longs, the highest byte of each first.
+fn push_longs(bytes: &mut ArrayVec<u8, 60>, longs: &[u32])
+    requires { array_vec_len bytes.old + 4 * length longs.now ≤ 60 }
+    ensures bytes { bytes.new.items ≡ bytes.old.items ++ flat_map (λ long. big_bytes 4 long) longs.now }
+    ensures fits { All (λ long. long < 256 ^ 4) longs.now }
+{
+    for long in longs {
+        let mut high_first = [0; 4];
+        BigEndian::write_u32(&mut high_first, *long);
+        bytes.try_extend_from_slice(&high_first).unwrap();
+    }
+}
+
+/// Appends what every frame begins with: the status register, the program counter, the format word.
+fn push_head(bytes: &mut ArrayVec<u8, 60>, sr: u16, pc: u32, format: u16, offset: u16)
+    requires room { array_vec_len bytes.old + 8 ≤ 60 }
+    requires format { format < 16 }
+    requires offset { offset < 0x1000 }
+    ensures bytes { bytes.new.items ≡ bytes.old.items ++ bytes_of_fields (head sr pc format offset) }
+    ensures fits { All Fits (head sr pc format offset) }
+{
+    push_words(bytes, &[sr]);
+    push_longs(bytes, &[pc]);
+    push_words(bytes, &[format * 0x1000 + offset]);
+}
+
+/// Appends the fields of an access error. They fit, by their types.
+fn push_access(bytes: &mut ArrayVec<u8, 60>, access: Access)
+    requires { array_vec_len bytes.old + 52 ≤ 60 }
+    ensures bytes { bytes.new.items ≡ bytes.old.items ++ bytes_of_fields (fields_of_access access) }
+    ensures fits { All Fits (fields_of_access access) }
+{
+    push_longs(bytes, &[access.ea]);
+    push_words(bytes, &[access.ssw, access.wb3s, access.wb2s, access.wb1s]);
+    push_longs(
+        bytes,
+        &[
+            access.fa,
+            access.wb3a,
+            access.wb3d,
+            access.wb2a,
+            access.wb2d,
+            access.wb1a,
+            access.wb1d,
+            access.pd1,
+            access.pd2,
+            access.pd3,
+        ],
+    );
+}
+
+/// Appends a frame.
+#[tactic(auto, unfolding(crate::specs::Layout::frame_bytes))]
+fn push_frame(bytes: &mut ArrayVec<u8, 60>, f: &Frame)
+    requires empty { array_vec_len bytes.old ≡ 0 }
+    requires offset { offset_of f.now < 0x1000 }
+    ensures bytes { bytes.new.items ≡ bytes.old.items ++ frame_bytes f.now }
+    ensures fits { All Fits (fields_of f.now) }
+{
+    match *f {
+        Frame::Short { sr, pc, offset } => push_head(bytes, sr, pc, 0, offset),
+        Frame::Throwaway { sr, pc, offset } => push_head(bytes, sr, pc, 1, offset),
+        Frame::Address {
+            sr,
+            pc,
+            offset,
+            address,
+        } => {
+            push_head(bytes, sr, pc, 2, offset);
+            push_longs(bytes, &[address]);
+        }
+        Frame::Access {
+            sr,
+            pc,
+            offset,
+            access,
+        } => {
+            push_head(bytes, sr, pc, 7, offset);
+            push_access(bytes, access);
+        }
+    }
+}
+
+/// The bytes of a frame, as they stand in memory from its lowest address on.
+pub fn to_bytes(f: &Frame) -> ArrayVec<u8, 60>
+    requires { offset_of f.now < 0x1000 }
+    ensures bytes { result.items ≡ frame_bytes f.now }
+    ensures len { array_vec_len result ≡ frame_length (format_of f.now) }
+
+    // Each field at its offset.
+    ensures fields { All (StandsIn result.items) (fields_of f.now) }
+    ensures read_back { frame_in result.items ≡ Some f.now }
+{
+    let mut bytes = ArrayVec::new();
+    push_frame(&mut bytes, f);
+    bytes
+}
+
+/// The word at a place, the higher byte first.
+#[tactic(auto, unfolding(crate::specs::Reading::word_at))]
+fn word_at(b: &[u8], place: usize) -> u16
+    requires { place + 2 ≤ length b.now }
+    ensures { result ≡ word_at b.now place }
+{
+    BigEndian::read_u16(&b[place..])
+}
+
+/// The long at a place, the highest byte first.
+#[tactic(auto, unfolding(crate::specs::Reading::long_at))]
+fn long_at(b: &[u8], place: usize) -> u32
+    requires { place + 4 ≤ length b.now }
+    ensures { result ≡ long_at b.now place }
+{
+    BigEndian::read_u32(&b[place..])
+}
+
+/// The fields of an access error, from the bytes of its frame.
+fn access_from(b: &[u8]) -> Access
+    requires { 60 ≤ length b.now }
+    ensures { result ≡ access_in b.now }
+{
+    Access {
+        ea: long_at(b, 0x08),
+        ssw: word_at(b, 0x0c),
+        wb3s: word_at(b, 0x0e),
+        wb2s: word_at(b, 0x10),
+        wb1s: word_at(b, 0x12),
+        fa: long_at(b, 0x14),
+        wb3a: long_at(b, 0x18),
+        wb3d: long_at(b, 0x1c),
+        wb2a: long_at(b, 0x20),
+        wb2d: long_at(b, 0x24),
+        wb1a: long_at(b, 0x28),
+        wb1d: long_at(b, 0x2c),
+        pd1: long_at(b, 0x30),
+        pd2: long_at(b, 0x34),
+        pd3: long_at(b, 0x38),
+    }
+}
+
+/// The frame of a format, if the bytes are long enough for it and the format is one of the four.
+fn frame_of_format(format: u16, b: &[u8]) -> Option<Frame>
+    requires { 8 ≤ length b.now }
+    ensures { result ≡ (if nat_le (frame_length format) (length b.now) then frame_of_format format b.now else None) }
+{
+    let sr = word_at(b, 0);
+    let pc = long_at(b, 2);
+    let offset = word_at(b, 6) % 0x1000;
+    match format {
+        0 => Some(Frame::Short { sr, pc, offset }),
+        1 => Some(Frame::Throwaway { sr, pc, offset }),
+        2 if b.len() >= 12 => Some(Frame::Address {
+            sr,
+            pc,
+            offset,
+            address: long_at(b, 8),
+        }),
+        7 if b.len() >= 60 => Some(Frame::Access {
+            sr,
+            pc,
+            offset,
+            access: access_from(b),
+        }),
+        _ => None,
+    }
+}
+
+/// The frame that the bytes begin with. What follows it is not read.
+#[tactic(auto, unfolding(crate::specs::Reading::frame_in))]
+pub fn from_bytes(b: &[u8]) -> Option<Frame>
+    ensures frame { result ≡ frame_in b.now }
+    ensures none { IsNone result ↔ ((length b.now < frame_length (format_in b.now)) ⊎ ¬ IsFormat (format_in b.now)) }
+
+    // What is read stands there, and what stands there is read, whatever follows.
+    ensures begins { IfSome result (BeginsWith b.now) }
+    ensures whole { (f : Frame) (rest : List ℕ) → IsFrame f → b.now ≡ frame_bytes f ++ rest → result ≡ Some f }
+{
+    if b.len() < 8 {
+        return None;
+    }
+    frame_of_format(word_at(b, 6) / 0x1000, b)
+}

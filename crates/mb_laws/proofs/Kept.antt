@@ -1,0 +1,51 @@
+-- What each call of a bus keeps, every routine keeps.
+use Rattle.std.specs.Prelude.{◌≡◌, refl, Bool, true, false}
+use Rattle.std.proofs.Common.{ap, ◌∙◌, sym}
+use Rattle.mb_port.specs.Routine.{Call, Routine, Return, Ask, Then, Bus, run}
+use Rattle.mb_laws.specs.Until.{Until, Ended, Stopped, then_until, ask_until, run_until, state_of}
+use Rattle.mb_laws.specs.Keeps.{Keeps, KeepsAllowed, LeavesAlone, lifted}
+
+pub run_keeps : {S A : Type 0} {P : S → Type 0} {bus : Bus S} → Keeps P bus → (m : Routine A) (s : S) → P s → P ((run bus m s).1)
+run_keeps h (Return a) s p = p
+run_keeps h (Ask c) s p = h.call c s p
+run_keeps {bus = bus} h (Then m f) s p = run_keeps h (f ((run bus m s).0)) ((run bus m s).1) (run_keeps h m s p)
+
+ask_keeps : {S : Type 0} (P : S → Type 0) (bus : Bus S) (c : Call) (s : S) (b : Bool) → P s → (b ≡ true → P ((bus c s).1))
+    → P (state_of (ask_until b (bus c s) (Ask c) s))
+ask_keeps P bus c s true p h = h refl
+ask_keeps P bus c s false p h = p
+
+then_keeps : {S A B : Type 0} (P : S → Type 0) (f : A → Routine B) (go : A → S → Until S B) (u : Until S A) → P (state_of u)
+    → ((a : A) (t : S) → P t → P (state_of (go a t)))
+    → P (state_of (then_until u go f))
+then_keeps P f go (Ended a t) p more = more a t p
+then_keeps P f go (Stopped rest t) p more = p
+
+-- what each call that is allowed keeps, holds where the routine ended or stopped
+pub until_keeps : {S A : Type 0} {P : S → Type 0} {allowed : Call → S → Bool} {bus : Bus S} → KeepsAllowed P allowed bus
+    → (m : Routine A) (s : S) → P s → P (state_of (run_until allowed bus m s))
+until_keeps h (Return a) s p = p
+until_keeps {P = P} {allowed = allowed} {bus = bus} h (Ask c) s p = ask_keeps P bus c s (allowed c s) p (λ e. h.call c s e p)
+until_keeps {P = P} {allowed = allowed} {bus = bus} h (Then m f) s p = then_keeps P f _ (run_until allowed bus m s) (until_keeps h m s p) (λ a t q. until_keeps h (f a) t q)
+
+pub run_leaves : {S N A : Type 0} {part : S → N} {bus : Bus S} → LeavesAlone part bus → (m : Routine A) (s : S)
+    → part ((run bus m s).1) ≡ part s
+run_leaves h (Return a) s = refl
+run_leaves h (Ask c) s = h.call c s
+run_leaves {bus = bus} h (Then m f) s = run_leaves h (f ((run bus m s).0)) ((run bus m s).1) ∙ run_leaves h m s
+
+-- a routine over a bus beside something else is the routine over the bus
+pub run_lifted : {S N A : Type 0} (bus : Bus S) (m : Routine A) (s : S) (n : N)
+    → run (lifted bus) m (s, n) ≡ ((run bus m s).0, ((run bus m s).1, n))
+run_lifted bus (Return a) s n = refl
+run_lifted bus (Ask c) s n = refl
+run_lifted {S = S} {N = N} bus (Then {A = A} m f) s n =
+    ap (λ (r : A × (S × N)). run (lifted bus) (f (r.0)) (r.1)) (run_lifted bus m s n) ∙ run_lifted bus (f ((run bus m s).0)) ((run bus m s).1) n
+
+pub lifted_run : {S N A : Type 0} (bus : Bus S) (m : Routine A) (s t : S) (n k : N) (a : A)
+    → run (lifted bus) m (s, n) ≡ (a, (t, k)) → run bus m s ≡ (a, t)
+lifted_run {S = S} {N = N} {A = A} bus m s t n k a e = ap (λ (r : A × (S × N)). (r.0, (r.1).0)) (sym (run_lifted bus m s n) ∙ e)
+
+pub lifted_beside : {S N A : Type 0} (bus : Bus S) (m : Routine A) (s t : S) (n k : N) (a : A)
+    → run (lifted bus) m (s, n) ≡ (a, (t, k)) → k ≡ n
+lifted_beside {S = S} {N = N} {A = A} bus m s t n k a e = sym (ap (λ (r : A × (S × N)). (r.1).1) (sym (run_lifted bus m s n) ∙ e))

@@ -1,0 +1,4 @@
+pub mod Memory
+pub mod Devices
+pub mod Bus
+pub mod Machine

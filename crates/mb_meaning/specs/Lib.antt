@@ -1,0 +1,6 @@
+pub mod Ends
+pub mod Operands
+pub mod Moves
+pub mod Arithmetic
+pub mod Flow
+pub mod Step

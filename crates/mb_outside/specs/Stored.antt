@@ -1,0 +1,21 @@
+-- Files in memory.
+use Rattle.std.specs.Prelude.{◌==◌, ℕ, Bool, List, length, find, Option, option_map, String, string_bytes, Vec}
+use Rattle.std.specs.List.{list_any}
+use Rattle.std.specs.Str.{bytes_eq}
+use Rattle.std.specs.declared.alloc.Global.{Global}
+
+-- names with their bytes
+abbrev pub Stored : Type 0
+Stored = List (String Global × Vec ℕ Global)
+
+-- the bytes of the first file of this name
+abbrev pub stored_bytes : Stored → List ℕ → Option (List ℕ)
+stored_bytes files name =
+    option_map (λ file. file.1.items) (find (λ file. bytes_eq (string_bytes file.0) name) files)
+
+-- Is the call of this number, counted from 1, one of those that fail?
+abbrev pub is_listed : List ℕ → ℕ → Bool
+is_listed fails call = list_any (λ n. n == call) fails
+
+abbrev pub is_empty_list : List ℕ → Bool
+is_empty_list xs = length xs == 0

@@ -1,0 +1,51 @@
+//! The pieces of an operand.
+
+ghost use Rattle.std.specs.Prelude.{◌≡◌, ◌<◌, ◌≤◌, length};
+ghost use Rattle.mb_port.specs.Pieces.{piece_len as longest, split_of, total, bytes_from, bytes_of, ArePieces, IsGreedy, IsFewest};
+
+use crate::types::Piece;
+use arrayvec::ArrayVec;
+
+/// The length of the longest piece that begins at `at` and fits into `left` bytes.
+#[tactic(auto, unfolding(crate::specs::Pieces::piece_len))]
+fn piece_len(at: u32, left: u8) -> u8
+    requires { 0 < left }
+    ensures value { result ≡ longest at left }
+    ensures fits { (0 < result) × (result ≤ left) }
+{
+    if at % 4 == 0 && left >= 4 {
+        4
+    } else if at % 2 == 0 && left >= 2 {
+        2
+    } else {
+        1
+    }
+}
+
+/// Cuts an operand of one to five bytes greedily into naturally aligned pieces of four, two or one
+/// byte, in order of address. Addresses wrap at 2^32.
+#[tactic(auto, using(crate::proofs::Cuts::cut_step, crate::proofs::Cuts::cut_none), unfolding(crate::specs::Pieces::split_of))]
+pub fn split(at: u32, len: u8) -> ArrayVec<Piece, 3>
+    requires { (1 ≤ len) × (len ≤ 5) }
+    ensures pieces { result.items ≡ split_of at len }
+    ensures aligned { ArePieces result.items }
+    ensures bytes { bytes_of result.items ≡ bytes_from at len }
+    ensures whole { total result.items ≡ len }
+    ensures greedy { IsGreedy at len result.items }
+    ensures fewest { IsFewest result.items }
+    ensures few { (1 ≤ length result.items) × (length result.items ≤ 3) }
+{
+    let mut pieces = ArrayVec::new();
+    let mut next = at;
+    let mut left = len;
+    for i in 0..3usize {
+        if left == 0 {
+            break;
+        }
+        let len = piece_len(next, left);
+        pieces.push(Piece { at: next, len });
+        next = next.wrapping_add(len as u32);
+        left -= len;
+    }
+    pieces
+}

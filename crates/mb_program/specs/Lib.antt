@@ -1,0 +1,5 @@
+pub mod Answers
+pub mod Lines
+pub mod Ends
+pub mod Causes
+pub mod Runs

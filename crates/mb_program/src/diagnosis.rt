@@ -1,0 +1,123 @@
+//! What is said on diag.
+
+ghost use Rattle.std.specs.Prelude.{◌≡◌};
+ghost use Rattle.mb_outside.specs.Prints.{Prints, PrintsMore};
+ghost use Rattle.mb_program.specs.Lines.{line_of, named, named_file, reason_of, why_text, status_of};
+
+use crate::end::{End, FileWhy};
+use itoa::Buffer;
+use mb_outside::{Sink, SinkFault, put_all, put_more};
+use mb_report::hex8;
+use mb_srec::RecordWhy;
+
+/// Begins a line that names a file.
+fn name_file<E: Sink>(diag: &mut E, name: &str) -> Result<(), SinkFault>
+    ensures { Prints (E.taken diag.old) (E.taken diag.new) (E.faults diag.old) (E.faults diag.new) (named_file name.now) result }
+{
+    let begun = put_all(diag, b"mbx: ");
+    put_more(diag, begun, name.as_bytes())
+}
+
+/// The word for what is wrong with a record.
+fn reason(why: RecordWhy) -> &'static [u8]
+    ensures { result.now ≡ reason_of why }
+{
+    match why {
+        RecordWhy::Kind => b"kind",
+        RecordWhy::Digits => b"digits",
+        RecordWhy::Length => b"length",
+        RecordWhy::Sum => b"sum",
+        RecordWhy::Count => b"count",
+        RecordWhy::After => b"after",
+    }
+}
+
+/// Says why a file is refused, where nothing has failed so far.
+fn say_why<E: Sink>(
+    diag: &mut E,
+    so_far: Result<(), SinkFault>,
+    why: FileWhy,
+) -> Result<(), SinkFault>
+    ensures { PrintsMore so_far (E.taken diag.old) (E.taken diag.new) (E.faults diag.old) (E.faults diag.new) (why_text why) result }
+{
+    match why {
+        FileWhy::TooLong => put_more(diag, so_far, b" too long\n"),
+        FileWhy::Line { number, why } => say_line(diag, so_far, number, why),
+        FileWhy::Outside { at } => say_outside(diag, so_far, at),
+        FileWhy::NoEnd => put_more(diag, so_far, b" no end\n"),
+    }
+}
+
+fn say_line<E: Sink>(
+    diag: &mut E,
+    so_far: Result<(), SinkFault>,
+    number: u32,
+    why: RecordWhy,
+) -> Result<(), SinkFault>
+    ensures { PrintsMore so_far (E.taken diag.old) (E.taken diag.new) (E.faults diag.old) (E.faults diag.new) (why_text (FileWhy.Line number why)) result }
+{
+    let mut buffer = Buffer::new();
+    let begun = put_more(diag, so_far, b" line ");
+    let numbered = put_more(diag, begun, buffer.format(number).as_bytes());
+    let parted = put_more(diag, numbered, b": ");
+    let told = put_more(diag, parted, reason(why));
+    put_more(diag, told, b"\n")
+}
+
+fn say_outside<E: Sink>(
+    diag: &mut E,
+    so_far: Result<(), SinkFault>,
+    at: u32,
+) -> Result<(), SinkFault>
+    ensures { PrintsMore so_far (E.taken diag.old) (E.taken diag.new) (E.faults diag.old) (E.faults diag.new) (why_text (FileWhy.Outside at)) result }
+{
+    let begun = put_more(diag, so_far, b" outside ");
+    let told = put_more(diag, begun, &hex8(at));
+    put_more(diag, told, b"\n")
+}
+
+/// Says something of a file.
+fn say<E: Sink>(diag: &mut E, name: &str, rest: &[u8]) -> Result<(), SinkFault>
+    ensures { Prints (E.taken diag.old) (E.taken diag.new) (E.faults diag.old) (E.faults diag.new) (named name.now rest.now) result }
+{
+    let begun = name_file(diag, name);
+    put_more(diag, begun, rest)
+}
+
+/// Says of a file why it is refused.
+fn say_refused<E: Sink>(diag: &mut E, name: &str, why: FileWhy) -> Result<(), SinkFault>
+    ensures { Prints (E.taken diag.old) (E.taken diag.new) (E.faults diag.old) (E.faults diag.new) (named name.now (why_text why)) result }
+{
+    let begun = name_file(diag, name);
+    say_why(diag, begun, why)
+}
+
+/// Says how a run ended; nothing where all was done.
+pub fn tell<E: Sink>(diag: &mut E, end: End) -> Result<(), SinkFault>
+    ensures { Prints (E.taken diag.old) (E.taken diag.new) (E.faults diag.old) (E.faults diag.new) (line_of end.entry) result }
+{
+    match end {
+        End::Done => put_all(diag, b""),
+        End::Words => put_all(diag, b"mbx: words refused\n"),
+        End::Refused(name, why) => say_refused(diag, name, why),
+        End::Unread(name) => say(diag, name, b" cannot be read\n"),
+        End::Output => put_all(diag, b"mbx: output failed\n"),
+        End::Memory => put_all(diag, b"mbx: no memory\n"),
+        End::Unbuilt => put_all(diag, b"mbx: not built\n"),
+    }
+}
+
+/// The exit status of an end.
+pub fn status(end: End) -> u8
+    ensures { result ≡ status_of end.entry }
+{
+    match end {
+        End::Done => 0,
+        End::Words => 2,
+        End::Refused(_, _) => 3,
+        End::Unread(_) => 5,
+        End::Output => 6,
+        End::Memory => 7,
+        End::Unbuilt => 8,
+    }
+}

@@ -1,0 +1,18 @@
+//! All that the program does, over any shelf and any sinks: the top call.
+//!
+//! [`run_program`] reads the words, runs their command and says how it ended. Its contract says of
+//! each end what caused it; `specs/Ends` has the relation, `specs/Answers` what a command comes to by
+//! the definition of the machine.
+#![tactic(auto)]
+
+mod command;
+mod diagnosis;
+mod end;
+mod running;
+mod top;
+
+pub use end::{End, FileWhy};
+pub use top::run_program;
+
+#[cfg(test)]
+mod tests;

@@ -1,0 +1,87 @@
+-- The outcome text: lines of ASCII, each ended by LF.
+use Rattle.std.specs.Prelude.{ℕ, ◌+◌, ◌-◌, ◌*◌, ◌/◌, ◌++◌, ◌==◌, zero, suc, Bool, List, [], ◌∷◌, length, take, drop, slice_index, if◌then◌else◌, codes, decimal}
+use Rattle.std.specs.List.{list_all, flat_map}
+use Rattle.mb_report.specs.Digits.{digits, hex8}
+use Rattle.mb_model.specs.declared.processor.Cpu.{Cpu}
+use Rattle.mb_model.specs.declared.outcome.RunState.{RunState}
+use Rattle.mb_model.specs.declared.outcome.RunState.TheVariants.{Running, Stopped, Halted, Off}
+use Rattle.mb_model.specs.Seen.{Seen}
+
+-- a name, a space and a word
+abbrev pub word_line : List ℕ → List ℕ → List ℕ
+word_line name word = name ++ 32 ∷ [] ++ word ++ 10 ∷ []
+
+-- a name and a decimal number
+abbrev pub count_line : List ℕ → ℕ → List ℕ
+count_line name n = word_line name (decimal n)
+
+-- Rows of `width` bytes, each written by `line` with the place where it begins: the first `count`.
+abbrev pub first_rows : (ℕ → List ℕ → List ℕ) → ℕ → List ℕ → ℕ → List ℕ
+first_rows line width bytes zero = []
+first_rows line width bytes (suc count) =
+    first_rows line width bytes count ++ line (width * count) (take width (drop (width * count) bytes))
+
+-- all of them; the last row has what is left
+abbrev pub all_rows : (ℕ → List ℕ → List ℕ) → ℕ → List ℕ → List ℕ
+all_rows line width bytes = first_rows line width bytes ((length bytes + (width - 1)) / width)
+
+abbrev pub state_word : RunState → List ℕ
+state_word Running = codes "running"
+state_word Stopped = codes "stopped"
+state_word Halted = codes "halted"
+state_word Off = codes "off"
+
+-- which guest, its state and how many steps it took
+unfoldable pub head_text : ℕ → RunState → ℕ → List ℕ
+head_text guest state steps =
+    count_line (codes "guest") guest ++ word_line (codes "state") (state_word state) ++ count_line (codes "steps") steps
+
+-- a row of a dump: two digits a byte
+abbrev pub dump_line : ℕ → List ℕ → List ℕ
+dump_line at row = digits row ++ 10 ∷ []
+
+-- how many bytes, and the bytes in rows of 32
+unfoldable pub console_text : List ℕ → List ℕ
+console_text bytes = count_line (codes "console") (length bytes) ++ all_rows dump_line 32 bytes
+
+-- the registers that the text names
+abbrev pub registers_of : Cpu → List (List ℕ × ℕ)
+registers_of cpu =
+    (codes "D0", slice_index cpu.regs.d 0)
+    ∷ (codes "D1", slice_index cpu.regs.d 1)
+    ∷ (codes "D2", slice_index cpu.regs.d 2)
+    ∷ (codes "D3", slice_index cpu.regs.d 3)
+    ∷ (codes "D4", slice_index cpu.regs.d 4)
+    ∷ (codes "D5", slice_index cpu.regs.d 5)
+    ∷ (codes "D6", slice_index cpu.regs.d 6)
+    ∷ (codes "D7", slice_index cpu.regs.d 7)
+    ∷ (codes "ISP", cpu.regs.isp)
+    ∷ (codes "PC", cpu.regs.pc)
+    ∷ (codes "SR", cpu.regs.sr)
+    ∷ []
+
+-- a name and eight digits
+abbrev pub register_line : List ℕ × ℕ → List ℕ
+register_line (name, value) = word_line name (hex8 value)
+
+unfoldable pub registers_text : Cpu → List ℕ
+registers_text cpu = flat_map register_line (registers_of cpu)
+
+abbrev pub is_zero : List ℕ → Bool
+is_zero row = list_all (λ byte. byte == 0) row
+
+-- a row of memory with its address, or nothing where it is all zero
+abbrev pub memory_line : ℕ → List ℕ → List ℕ
+memory_line at row = if is_zero row then [] else word_line (hex8 at) (digits row)
+
+unfoldable pub memory_text : List ℕ → List ℕ
+memory_text ram = all_rows memory_line 16 ram
+
+-- the whole text of a guest's outcome
+unfoldable pub outcome_text : ℕ → Seen → List ℕ
+outcome_text guest seen =
+    head_text guest seen.state seen.steps
+    ++ console_text seen.console
+    ++ registers_text seen.cpu
+    ++ memory_text seen.ram
+    ++ codes "end\n"

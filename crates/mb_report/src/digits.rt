@@ -1,0 +1,31 @@
+//! Hexadecimal digits.
+
+ghost use Rattle.std.specs.Prelude.{◌≡◌, ◌<◌};
+ghost use Rattle.mb_report.specs.Digits.{hex_digit, hex2, hex8};
+
+fn hex_digit(d: u8) -> u8
+    requires { d < 16 }
+    ensures { result ≡ hex_digit d }
+{
+    if d < 10 { b'0' + d } else { b'A' + (d - 10) }
+}
+
+/// The two digits of a byte, in upper case, the high one first.
+pub fn hex2(byte: u8) -> [u8; 2]
+    ensures { result ≡ hex2 byte }
+{
+    [hex_digit(byte / 16), hex_digit(byte % 16)]
+}
+
+/// The eight digits of a long, in upper case.
+#[tactic(auto, unfolding(crate::specs::Digits::hex8))]
+pub fn hex8(value: u32) -> [u8; 8]
+    ensures { result ≡ hex8 value }
+{
+    let [first, second, third, fourth] = value.to_be_bytes();
+    let [a, b] = hex2(first);
+    let [c, d] = hex2(second);
+    let [e, f] = hex2(third);
+    let [g, h] = hex2(fourth);
+    [a, b, c, d, e, f, g, h]
+}

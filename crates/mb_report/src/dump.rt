@@ -1,0 +1,113 @@
+//! Rows of bytes.
+
+ghost use Rattle.std.specs.Prelude.{◌≡◌, ◌+◌, ◌*◌, ◌<◌, ◌≤◌, ◌^◌, ◌++◌, length, take, drop};
+ghost use Rattle.arrayvec.specs.ArrayVec.{array_vec_len};
+ghost use Rattle.mb_outside.specs.Prints.{PrintsMore};
+ghost use Rattle.mb_report.specs.Digits.{digits, hex8};
+ghost use Rattle.mb_report.specs.Text.{word_line, is_zero, dump_line, memory_line, memory_text, all_rows};
+
+use crate::digits::{hex2, hex8};
+use arrayvec::ArrayVec;
+use mb_outside::{Sink, SinkFault, put_more};
+
+/// A line before it is put. The longest is a row of 32 bytes.
+type Line = ArrayVec<u8, 65>;
+
+/// The `width` bytes from `at` on, or what is left of them.
+fn row_at(bytes: &[u8], at: usize, width: usize) -> &[u8]
+    requires { (at ≤ length bytes.now) × (at + width < 2 ^ 64) }
+    ensures row { result.now ≡ take width (drop at bytes.now) }
+    ensures short { length result.now ≤ width }
+{
+    &bytes[at..bytes.len().min(at + width)]
+}
+
+fn push_digits(line: &mut Line, bytes: &[u8])
+    requires { array_vec_len line.old + 2 * length bytes.now ≤ 65 }
+    ensures pushed { line.new.items ≡ line.old.items ++ digits bytes.now }
+    ensures len { array_vec_len line.new ≡ array_vec_len line.old + 2 * length bytes.now }
+{
+    for byte in bytes {
+        let [high, low] = hex2(*byte);
+        line.push(high);
+        line.push(low);
+    }
+}
+
+fn dump_line(row: &[u8]) -> Line
+    requires { length row.now ≤ 32 }
+    ensures { result.items ≡ dump_line 0 row.now }
+{
+    let mut line = Line::new();
+    push_digits(&mut line, row);
+    line.push(b'\n');
+    line
+}
+
+#[tactic(auto, unfolding(crate::specs::Digits::hex8))]
+fn memory_line(address: u32, row: &[u8]) -> Line
+    requires { length row.now ≤ 16 }
+    ensures { result.items ≡ word_line (hex8 address) (digits row.now) }
+{
+    let mut line = Line::new();
+    push_digits(&mut line, &address.to_be_bytes());
+    line.push(b' ');
+    push_digits(&mut line, row);
+    line.push(b'\n');
+    line
+}
+
+/// Writes bytes in rows of 32.
+pub(crate) fn write_dump<O: Sink>(
+    out: &mut O,
+    so_far: Result<(), SinkFault>,
+    bytes: &[u8],
+) -> Result<(), SinkFault>
+    ensures { PrintsMore so_far (O.taken out.old) (O.taken out.new) (O.faults out.old) (O.faults out.new) (all_rows dump_line 32 bytes.now) result }
+{
+    let mut done = so_far;
+    for row in 0..(bytes.len() + 31) / 32 {
+        done = put_more(out, done, &dump_line(row_at(bytes, 32 * row, 32)));
+    }
+    done
+}
+
+fn is_zero(row: &[u8]) -> bool
+    ensures { result ≡ is_zero row.now }
+{
+    row.iter().all(|byte| *byte == 0)
+}
+
+/// Writes a row of memory with its address, or nothing where it is all zero.
+fn write_memory_row<O: Sink>(
+    out: &mut O,
+    so_far: Result<(), SinkFault>,
+    address: u32,
+    row: &[u8],
+) -> Result<(), SinkFault>
+    requires { length row.now ≤ 16 }
+    ensures { PrintsMore so_far (O.taken out.old) (O.taken out.new) (O.faults out.old) (O.faults out.new) (memory_line address row.now) result }
+{
+    if is_zero(row) {
+        return so_far;
+    }
+    put_more(out, so_far, &memory_line(address, row))
+}
+
+/// Writes the rows of 16 bytes of a memory that are not all zero.
+#[tactic(auto, unfolding(crate::specs::Text::memory_text))]
+pub(crate) fn write_memory<O: Sink>(
+    out: &mut O,
+    so_far: Result<(), SinkFault>,
+    ram: &[u8],
+) -> Result<(), SinkFault>
+    requires { length ram.now ≤ 2 ^ 32 }
+    ensures { PrintsMore so_far (O.taken out.old) (O.taken out.new) (O.faults out.old) (O.faults out.new) (memory_text ram.now) result }
+{
+    let mut done = so_far;
+    for row in 0..(ram.len() + 15) / 16 {
+        let at = 16 * row;
+        done = write_memory_row(out, done, at as u32, row_at(ram, at, 16));
+    }
+    done
+}

@@ -1,0 +1,15 @@
+//! The text of a machine's outcome, exact to the byte and written with no memory taken.
+//!
+//! A part of the board's layer: it stands on the sinks and on what an outcome shows, and the program
+//! prints with it. The text is defined in `specs/Text`, its digits in `specs/Digits`.
+#![tactic(auto)]
+
+mod digits;
+mod dump;
+mod outcome;
+
+pub use digits::{hex2, hex8};
+pub use outcome::write_outcome;
+
+#[cfg(test)]
+mod tests;

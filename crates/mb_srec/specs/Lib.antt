@@ -1,0 +1,5 @@
+pub mod Image
+pub mod Kinds
+pub mod Records
+pub mod Written
+pub mod Answers

@@ -1,0 +1,10 @@
+use Rattle.std.proofs.Common.{◌≡◌, ◌<◌, ◌^◌, ◌≤◌, drop, length}
+use Rattle.mb_words.specs.Words.{digits_after}
+use Rattle.mb_words.proofs.number.number.Given as goal
+
+abbrev pub invariant-loop-digit : goal.invariant-loop-digit
+invariant-loop-digit l = record {
+  reads : digits_after l.value (drop l.digit-index l.digits) ≡ digits_after 0 l.digits;
+  small : l.value < 10 ^ l.digit-index;
+  short : length l.digits ≤ 10;
+}

@@ -1,0 +1,12 @@
+//! The words of the command line.
+//!
+//! Below the top call: it turns the words into a command with its values, or refuses them. The grammar
+//! is the definition `asked_by` of `specs/Words`.
+#![tactic(auto)]
+
+mod bare;
+mod number;
+mod reading;
+
+pub use bare::Bare;
+pub use reading::read_words;
