@@ -1,9 +1,9 @@
 -- Writing a big-endian number into memory.
-use Rattle.std.proofs.Common.{◌≡◌, ◌∙◌, ℕ, suc, ◌+◌, ◌-◌, ◌/◌, ◌%◌, ◌^◌, ◌<◌, ◌≤◌, List, [], ◌∷◌, ◌++◌, length, set, take, drop, refl, ap, sym, arith, append_assoc, add-one}
+use Rattle.std.proofs.Common.{◌≡◌, ◌∙◌, ℕ, suc, ◌+◌, ◌/◌, ◌%◌, ◌<◌, List, [], ◌∷◌, ◌++◌, length, set, take, drop, refl, ap, sym, arith, append_assoc, add-one}
 use Rattle.std.proofs.lemmas.List.{drop-drop, drop-take, append-nil, set_split}
 use Rattle.byteorder.specs.Endian.{big_bytes}
 use Rattle.byteorder.specs.Numbers.{length-bytes_high_first}
-use Rattle.mb_machine.specs.Memory.{overwritten, with_number}
+use Rattle.mb_machine.specs.Memory.{with_number}
 
 drop_take : (n : ℕ) (xs : List ℕ) → drop n (take n xs) ≡ []
 drop_take n xs = let e : n + 0 ≡ n = omega arith in rw e at (drop-take n 0 xs)

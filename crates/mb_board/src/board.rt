@@ -33,9 +33,11 @@ impl Model for Board {
 impl Board {
     /// A board with so many bytes of RAM, all 0, as it is after reset. It takes all the memory that
     /// it will need.
+    #[tactic(auto, unfolding(mb_machine::specs::Machine::reset_with))]
     pub fn new(alloc: Global, size: u32) -> Result<Board, Memory>
         requires { (8 ≤ size) × (size ≤ 67108864) }
-        ensures { IfOk result (λ board. board ≡ reset_with (replicate size 0)) }
+        ensures made { IfOk result (λ board. board ≡ reset_with (replicate size 0)) }
+        ensures ram { IfOk result (λ board. length board.ram ≡ size) }
     {
         let bus = PlainBus::new(alloc, size)?;
         let mut board = Board {
@@ -49,9 +51,11 @@ impl Board {
     }
 
     /// Writes RAM from a physical address on.
+    #[tactic(auto, using(mb_machine::proofs::MemoryLemmas::lengths))]
     pub fn write_phys(&mut self, at: u32, bytes: &[u8])
         requires { at + length bytes.now ≤ length self.old.ram }
-        ensures { self.new ≡ record self.old { ram = overwritten self.old.ram at bytes.now } }
+        ensures after { self.new ≡ record self.old { ram = overwritten self.old.ram at bytes.now } }
+        ensures ram { length self.new.ram ≡ length self.old.ram }
     {
         self.bus.overwrite(at, bytes);
     }
@@ -60,7 +64,9 @@ impl Board {
     #[tactic(auto, unfolding(mb_machine::specs::Machine::reset_with))]
     pub fn reset(&mut self)
         requires { 8 ≤ length self.old.ram }
-        ensures { self.new ≡ reset_with self.old.ram }
+        ensures after { self.new ≡ reset_with self.old.ram }
+        ensures ram { self.new.ram ≡ self.old.ram }
+        ensures unrun { self.new.steps ≡ 0 }
     {
         self.bus.reset();
         self.cpu = Cpu::at_reset(self.bus.long(0), self.bus.long(4));

@@ -1,4 +1,4 @@
-use Rattle.std.proofs.Common.{◌≡◌, ◌∙◌, ◌+◌, ◌-◌, ◌<◌, ◌^◌, suc, sym, arith, true, false}
+use Rattle.std.proofs.Common.{◌∙◌, ◌+◌, ◌-◌, sym, arith}
 use Rattle.mb_machine.proofs.RunLemmas.{run_of-step, run_of-unbuilt, run_of-still, run_of-zero}
 use Rattle.mb_board.proofs.board.Board.run_bare.Goals as goal
 
