@@ -39,7 +39,7 @@ module _ (word offset width rest value : ℕ) (narrow : (offset + width) + rest 
   put_together-below =
       let e : 2 ^ ((offset + width) + rest) ≡ 2 ^ (offset + width) * 2 ^ rest = pow-add 2 (offset + width) rest in
       let f = mul-add-lt (word / 2 ^ (rest + width) * 2 ^ width + value % 2 ^ width) (2 ^ rest) (word % 2 ^ rest) (2 ^ (offset + width)) high
-          (mod_below word (2 ^ rest) (pow_pos rest)) in
+      (mod_below word (2 ^ rest) (pow_pos rest)) in
       omega arith
 
 -- as many bits as the number has from its first one on stand behind the zeros

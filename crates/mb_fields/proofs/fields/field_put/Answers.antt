@@ -18,4 +18,4 @@ returns-clause-bound c =
     let whole : (c.args.offset + c.args.width) + (c.args.bits - (c.args.offset + c.args.width)) ≡ c.args.bits = omega arith in
     rw (returns-clause-means c)
     (rw whole at (put_together-below c.args.word c.args.offset c.args.width (c.args.bits - (c.args.offset + c.args.width)) c.args.value
-        (omega arith) (rw whole c.requires.word)))
+    (omega arith) (rw whole c.requires.word)))
