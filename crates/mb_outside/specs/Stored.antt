@@ -1,5 +1,5 @@
 -- Files in memory.
-use Rattle.std.specs.Prelude.{◌==◌, ℕ, Bool, List, length, find, Option, option_map, String, string_bytes, Vec}
+use Rattle.std.specs.Prelude.{◌==◌, ℕ, Bool, List, [], length, find, Option, Some, option_map, unwrap_or, String, string_bytes, Vec}
 use Rattle.std.specs.List.{list_any}
 use Rattle.std.specs.Str.{bytes_eq}
 use Rattle.std.specs.declared.alloc.Global.{Global}
@@ -12,6 +12,10 @@ Stored = List (String Global × Vec ℕ Global)
 abbrev pub stored_bytes : Stored → List ℕ → Option (List ℕ)
 stored_bytes files name =
     option_map (λ file. file.1.items) (find (λ file. bytes_eq (string_bytes file.0) name) files)
+
+-- the same, where a missing file reads as an empty one
+abbrev pub stored_or_empty : Stored → List ℕ → Option (List ℕ)
+stored_or_empty files name = Some (unwrap_or (stored_bytes files name) [])
 
 -- Is the call of this number, counted from 1, one of those that fail?
 abbrev pub is_listed : List ℕ → ℕ → Bool

@@ -1,8 +1,8 @@
 //! Calls with ample memory, and what no clause says: the real files and streams.
 
 use crate::{
-    Failed, FileShelf, LoadFault, MemShelf, MemSink, Shelf, ShelfFault, Sink, SinkFault, StdSink,
-    load, put_all, put_more,
+    Failed, FileShelf, LoadFault, MemShelf, MemSink, NoFailShelf, NoFailSink, Shelf, ShelfFault,
+    Sink, SinkFault, StdSink, load, put_all, put_more,
 };
 use std::alloc::Global;
 use std::fs::File;
@@ -101,6 +101,33 @@ fn load_reads_whole_files(rt: HostRuntime) {
         };
         assert_eq!(rt; got, want, "{name} of at most {most}, fails {fails}");
     }
+}
+
+#[test]
+fn nothing_fails(rt: HostRuntime) {
+    let hello = Vec::from_slice(rt.alloc(), b"hello").expect(&rt, "ample memory");
+    let name = String::from_str(rt.alloc(), "hello").expect(&rt, "ample memory");
+    let mut files = Vec::new(rt.alloc());
+    files.push((name, hello)).expect(&rt, "ample memory");
+    let mut shelf = NoFailShelf::new(files);
+    let rows: [(&str, usize, Result<usize, LoadFault>); 4] = [
+        ("hello", 5, Ok(5)),
+        ("hello", 4, Err(LoadFault::TooLong)),
+        ("missing", 5, Ok(0)),
+        ("missing", 0, Ok(0)),
+    ];
+    for (name, most, want) in rows {
+        let got = match load(rt.alloc(), &mut shelf, name, most) {
+            Ok(bytes) => Ok(bytes.len()),
+            Err(fault) => Err(fault),
+        };
+        assert_eq!(rt; got, want, "{name} of at most {most}");
+    }
+    let mut sink = NoFailSink::new();
+    assert_eq!(rt; put_all(&mut sink, b"hello"), Ok(()));
+    assert_eq!(rt; sink.put(b""), Ok(0));
+    assert_eq!(rt; sink.put(b"12"), Ok(2));
+    assert_eq!(rt; sink.bytes(), 7);
 }
 
 #[test]

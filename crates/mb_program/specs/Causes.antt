@@ -39,9 +39,10 @@ LeadsTo a status (shows text) = IsWritten a status text
 LeadsTo a status (refuses name why) = (status ≡ 3) ⊎ (status ≡ 7)
 LeadsTo a status is_unbuilt = (status ≡ 8) ⊎ (status ≡ 7)
 
--- Where the words ask for something whose answer is known, and nothing fails, that answer is given.
+-- Words that ask for nothing are refused. Where they ask for something whose answer is known, and nothing
+-- fails, that answer is given. Either way memory may have run out.
 abbrev pub IsComplete : Option Asked → Told → Around → ℕ → Type 0
-IsComplete None told a status = status ≡ 2
+IsComplete None told a status = (status ≡ 2) ⊎ (status ≡ 7)
 IsComplete (Some asked) told a status = FailsNowhere a → IfSome (answer_of asked told) (LeadsTo a status)
 
 -- the line of a status other than 3, for a command whose file has this name

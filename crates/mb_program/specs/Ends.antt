@@ -61,9 +61,10 @@ CommandEnds image answer a Output = ReadsWell a × Rose a.put a.put_after × IfS
 CommandEnds image answer a Memory = ReadsWell a × PutsNothing a
 CommandEnds image answer a Unbuilt = ReadsWell a × PutsNothing a × IfSome answer IsUnbuilt
 
--- where the words ask for nothing, they are refused
+-- where the words ask for nothing, they are refused, or memory ran out before that was known
 abbrev pub WordsEnd : Around → End → Type 0
 WordsEnd a Words = ReadsWell a × PutsNothing a
+WordsEnd a Memory = ReadsWell a × PutsNothing a
 WordsEnd a _ = ⊥
 
 -- not for want of reading: the shelf is whole and tells the file

@@ -10,7 +10,7 @@ use crate::end::{End, FileWhy};
 use crate::running::{RunFault, run_bytes};
 use mb_outside::{LoadFault, Shelf, Sink, load};
 use mb_report::write_outcome;
-use mb_words::{Bare, read_words};
+use mb_words::{Bare, WordsFault, read_words};
 use std::alloc::Global;
 
 /// The most bytes of a file.
@@ -55,8 +55,9 @@ pub fn run_words<'a, F: Shelf, O: Sink>(
     ensures ends { Ends (asked_by (map string_bytes words.entry.now)) (F.told shelf.old) (record { read = F.faults shelf.old; read_after = F.faults shelf.new; put = O.faults out.old; put_after = O.faults out.new; out = O.taken out.old; out_after = O.taken out.new }) result }
     ensures whole { IsWhole (F.whole shelf.old) (F.told shelf.old (image_of (asked_by (map string_bytes words.entry.now)))) result }
 {
-    match read_words(words) {
-        Some(bare) => run_bare(alloc, &bare, shelf, out),
-        None => End::Words,
+    match read_words(alloc, words) {
+        Ok(bare) => run_bare(alloc, &bare, shelf, out),
+        Err(WordsFault::Refused) => End::Words,
+        Err(WordsFault::Memory) => End::Memory,
     }
 }

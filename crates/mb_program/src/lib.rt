@@ -10,9 +10,11 @@ mod diagnosis;
 mod end;
 mod running;
 mod top;
+mod unfailing;
 
 pub use end::{End, FileWhy};
 pub use top::run_program;
+pub use unfailing::run_unfailing;
 
 #[cfg(test)]
 mod tests;

@@ -1,6 +1,6 @@
 //! Whole runs in memory: what no clause says, and each answer once with ample memory.
 
-use crate::run_program;
+use crate::{run_program, run_unfailing};
 use mb_outside::{MemShelf, MemSink};
 use std::alloc::Global;
 use std::test::Fail;
@@ -321,26 +321,71 @@ fn the_whole_text_is_written(rt: HostRuntime) {
 
 #[test]
 fn words_are_refused(rt: HostRuntime) {
-    let refused: [&str; 34] = [
+    let refused: [&str; 85] = [
         "mbx",
         "mbx bare",
         "mbx help",
+        "mbx -",
+        "mbx --",
+        "mbx --help",
+        "mbx -h",
+        "mbx --version",
+        "mbx -V",
+        "mbx help bare",
+        "mbx bare help",
+        "mbx Bare hello.s19 --ram 64 --steps 10",
+        "mbx bar hello.s19 --ram 64 --steps 10",
+        "mbx host hello.s19 --ram 64 --steps 10",
+        "mbx  hello.s19 --ram 64 --steps 10",
+        "bare hello.s19 --ram 64 --steps 10",
+        "mbx --ram 64 bare hello.s19 --steps 10",
+        "mbx -- bare hello.s19 --ram 64 --steps 10",
         "mbx bare hello.s19",
         "mbx bare hello.s19 --ram 64",
-        "mbx bare hello.s19 --ram 64 --steps",
-        "mbx bare hello.s19 --steps 10 --ram 64",
-        "mbx bare --ram 64 --steps 10 hello.s19",
-        "mbx bare hello.s19 --ram 64 --steps 10 more",
+        "mbx bare hello.s19 --steps 10",
+        "mbx bare --ram 64 --steps 10",
+        "mbx bare hello.s19 --ram 64 --steps 10 hello.s19",
+        "mbx bare hello.s19 hello.s19 --ram 64 --steps 10",
         "mbx bare hello.s19 --ram 64 --steps 10 ",
-        "mbx  hello.s19 --ram 64 --steps 10",
         "mbx bare  --ram 64 --steps 10",
-        "mbx bare -hello.s19 --ram 64 --steps 10",
+        "mbx bare --ram 64 --steps 10 -- ",
+        "mbx bare hello.s19 --ram 64 --steps",
+        "mbx bare hello.s19 --steps 10 --ram",
+        "mbx bare hello.s19 --ram --steps 10",
+        "mbx bare hello.s19 --ram -- 64 --steps 10",
+        "mbx bare hello.s19 --ram= --steps=10",
+        "mbx bare hello.s19 --ram=64 --steps=",
+        "mbx bare hello.s19 --ram  --steps 10",
+        "mbx bare hello.s19 --ram 64 --ram 64 --steps 10",
+        "mbx bare hello.s19 --ram=64 --ram=64 --steps 10",
+        "mbx bare hello.s19 --ram 64 --steps 10 --steps 10",
         "mbx bare - --ram 64 --steps 10",
-        "mbx Bare hello.s19 --ram 64 --steps 10",
-        "mbx host hello.s19 --ram 64 --steps 10",
+        "mbx bare hello.s19 --ram - --steps 10",
+        "mbx bare hello.s19 - --ram 64 --steps 10",
+        "mbx bare hello.s19 --ram 64 --steps 10 -",
+        "mbx bare -hello.s19 --ram 64 --steps 10",
+        "mbx bare -h --ram 64 --steps 10",
+        "mbx bare --hello.s19 --ram 64 --steps 10",
+        "mbx bare hello.s19 --ram 64 --steps 10 --help",
+        "mbx bare hello.s19 --ram 64 --steps 10 -h",
+        "mbx bare --help",
+        "mbx bare --version",
+        "mbx bare hello.s19 --ram 64 --steps 10 --version",
+        "mbx bare hello.s19 --ram 64 --steps 10 -V",
         "mbx bare hello.s19 -ram 64 --steps 10",
+        "mbx bare hello.s19 --ra 64 --steps 10",
+        "mbx bare hello.s19 --ram 64 --step 10",
         "mbx bare hello.s19 --RAM 64 --steps 10",
-        "mbx bare hello.s19 --ram=64 --steps 10 0",
+        "mbx bare --image hello.s19 --ram 64 --steps 10",
+        "mbx bare --IMAGE=hello.s19 --ram 64 --steps 10",
+        "mbx bare hello.s19 ---ram 64 --steps 10",
+        "mbx bare hello.s19 --=64 --steps 10",
+        "mbx bare hello.s19 --ram 64 --steps 10 --script hello.s19",
+        "mbx bare hello.s19 --ram 64 --steps 10 --script=hello.s19",
+        "mbx bare --ram 64 --steps 10 --",
+        "mbx bare hello.s19 --ram 64 -- --steps 10",
+        "mbx bare hello.s19 --ram 64 --steps 10 -- --",
+        "mbx bare --ram 64 --steps 10 -- hello.s19 hello.s19",
         "mbx bare hello.s19 --ram 63 --steps 10",
         "mbx bare hello.s19 --ram 65 --steps 10",
         "mbx bare hello.s19 --ram 0 --steps 10",
@@ -348,14 +393,20 @@ fn words_are_refused(rt: HostRuntime) {
         "mbx bare hello.s19 --ram 00000000064 --steps 10",
         "mbx bare hello.s19 --ram 64k --steps 10",
         "mbx bare hello.s19 --ram +64 --steps 10",
+        "mbx bare hello.s19 --ram=+64 --steps 10",
         "mbx bare hello.s19 --ram -64 --steps 10",
-        "mbx bare hello.s19 --ram  --steps 10",
+        "mbx bare hello.s19 --ram=-64 --steps 10",
+        "mbx bare hello.s19 --ram 0x40 --steps 10",
+        "mbx bare hello.s19 --ram==64 --steps 10",
+        "mbx bare hello.s19 --ram=64=64 --steps 10",
         "mbx bare hello.s19 --ram 64 --steps 4294967296",
         "mbx bare hello.s19 --ram 64 --steps 99999999999",
+        "mbx bare hello.s19 --ram 64 --steps 00000000010",
         "mbx bare hello.s19 --ram 64 --steps ten",
         "mbx bare hello.s19 --ram 64 --steps 1.5",
-        "mbx bare hello.s19 --ram 64 --step 10",
-        "bare hello.s19 --ram 64 --steps 10",
+        "mbx bare hello.s19 --ram 64 --steps ١٠",
+        "mbx bäre hello.s19 --ram 64 --steps 10",
+        "mbx bare hello.s19 –ram 64 --steps 10",
     ];
     for line in refused {
         let ran = run_text(rt.alloc(), line, HELLO, NOTHING).expect(&rt, "ample memory");
@@ -367,6 +418,58 @@ fn words_are_refused(rt: HostRuntime) {
         );
         assert!(rt; ran.out.bytes().is_empty(), "{line}");
     }
+}
+
+#[test]
+fn words_are_taken_in_any_order(rt: HostRuntime) {
+    let taken: [&str; 17] = [
+        "mbx bare hello.s19 --ram 64 --steps 10",
+        "mbx bare hello.s19 --steps 10 --ram 64",
+        "mbx bare --ram 64 --steps 10 hello.s19",
+        "mbx bare --ram 64 hello.s19 --steps 10",
+        "mbx bare --steps=10 hello.s19 --ram 64",
+        "mbx bare --steps=10 --ram=64 hello.s19",
+        "mbx bare hello.s19 --ram=64 --steps=10",
+        "mbx bare hello.s19 --steps 10 --ram=64",
+        "mbx bare --ram 64 --steps 10 -- hello.s19",
+        "mbx bare hello.s19 --ram 64 --steps 10 --",
+        "mbx bare --ram 64 hello.s19 --steps 10 --",
+        " bare hello.s19 --ram 64 --steps 10",
+        "-- bare hello.s19 --ram 64 --steps 10",
+        "mbx bare hello.s19 --ram 0000000064 --steps 0000000010",
+        "mbx bare hello.s19 --ram 064 --steps=010",
+        "mbx bare hello.s19 --ram 64 --steps 3",
+        "mbx bare hello.s19 --ram 64 --steps 4294967295",
+    ];
+    for line in taken {
+        let ran = run_text(rt.alloc(), line, HELLO, NOTHING).expect(&rt, "ample memory");
+        assert_eq!(rt; ran.status, 0, "{line}");
+        assert_eq!(rt; ran.out.bytes(), HELLO_TEXT, "{line}");
+        assert!(rt; ran.diag.bytes().is_empty(), "{line}");
+    }
+}
+
+#[test]
+fn words_name_other_files(rt: HostRuntime) -> Result<(), Fail> {
+    let named: [(&str, &str); 10] = [
+        ("mbx bare --ram 64 --steps 10 -- -", "-"),
+        ("mbx bare --ram 64 --steps 10 -- --", "--"),
+        ("mbx bare --ram 64 --steps 10 -- --ram", "--ram"),
+        ("mbx bare --ram 64 --steps 10 -- -a.s19", "-a.s19"),
+        ("mbx bare --ram 64 --steps 10 -- --help", "--help"),
+        ("mbx bare bär.s19 --ram 64 --steps 10", "bär.s19"),
+        ("mbx bare --ram 64 --steps 10 画像", "画像"),
+        ("mbx bare bare --ram 64 --steps 10", "bare"),
+        ("mbx bare 64 --ram 64 --steps 10", "64"),
+        ("mbx bare a=b --ram 64 --steps 10", "a=b"),
+    ];
+    for (line, name) in named {
+        let ran = run_text(rt.alloc(), line, HELLO, NOTHING).expect(&rt, "ample memory");
+        let unread = format!(in rt.alloc(); "mbx: {name} cannot be read\n")?;
+        assert_eq!(rt; ran.status, 5, "{line}");
+        assert_eq!(rt; ran.diag.bytes(), unread.as_bytes(), "{line}");
+    }
+    Ok(())
 }
 
 #[test]
@@ -434,6 +537,24 @@ fn a_shelf_fails_at_each_call(rt: HostRuntime) {
         ran.diag.bytes(),
         b"mbx: other.s19 cannot be read\n".as_slice()
     );
+}
+
+#[test]
+fn nothing_outside_fails(rt: HostRuntime) {
+    let rows: [(&str, u8); 4] = [
+        (HELLO_WORDS, 0),
+        ("mbx bare other.s19 --ram 64 --steps 10", 3),
+        ("mbx bare hello.s19 --ram 63 --steps 10", 2),
+        ("mbx bare - --ram 64 --steps 10", 2),
+    ];
+    for (line, status) in rows {
+        let words = split_words(rt.alloc(), line).expect(&rt, "ample memory");
+        let mut files = Vec::new(rt.alloc());
+        let name = String::from_str(rt.alloc(), "hello.s19").expect(&rt, "ample memory");
+        let hello = Vec::from_slice(rt.alloc(), HELLO).expect(&rt, "ample memory");
+        files.push((name, hello)).expect(&rt, "ample memory");
+        assert_eq!(rt; run_unfailing(rt.alloc(), &words, files), status, "{line}");
+    }
 }
 
 #[test]

@@ -1,6 +1,6 @@
 //! The top call.
 
-ghost use Rattle.std.specs.Prelude.{◌≡◌, ◌<◌, ◌⊎◌, ◌↔◌, map, string_bytes, true, is_some, Some, None};
+ghost use Rattle.std.specs.Prelude.{◌≡◌, ◌<◌, ◌⊎◌, map, string_bytes, true, is_some, Some, None};
 ghost use Rattle.mb_outside.specs.Counts.{Rose};
 ghost use Rattle.mb_words.specs.Words.{asked_by};
 ghost use Rattle.mb_program.specs.Ends.{EndsWith, IsShown, IsCut, IsUnbuilt};
@@ -31,8 +31,9 @@ pub fn run_program<F: Shelf, O: Sink, E: Sink>(
     // The run has an end, with its cause; its status is the result, and its line is put on diag.
     ensures ends { EndsWith (asked_by (map string_bytes words.entry.now)) (F.told shelf.old) (record { read = F.faults shelf.old; read_after = F.faults shelf.new; put = O.faults out.old; put_after = O.faults out.new; out = O.taken out.old; out_after = O.taken out.new }) (record { out = E.taken diag.old; out_after = E.taken diag.new; put = E.faults diag.old; put_after = E.faults diag.new }) result }
 
-    // The words are refused exactly where they ask for nothing.
-    ensures words_exactly { (result ≡ 2) ↔ (asked_by (map string_bytes words.entry.now) ≡ None) }
+    // The words are refused only where they ask for nothing, and always, unless memory runs out.
+    ensures words_only { result ≡ 2 → asked_by (map string_bytes words.entry.now) ≡ None }
+    ensures words_always { asked_by (map string_bytes words.entry.now) ≡ None → (result ≡ 2) ⊎ (result ≡ 7) }
 
     // The image is refused only where it is too long or no image, and always where it is told to be so
     // and neither the shelf fails nor memory runs out.

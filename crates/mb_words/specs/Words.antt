@@ -1,10 +1,11 @@
 -- The words of the command line, and what they ask for.
-use Rattle.std.specs.Prelude.{◌+◌, ◌-◌, ◌*◌, ◌%◌, ◌==◌, ◌&&◌, ◌||◌, not, ℕ, Bool, false, List, [], ◌∷◌, length, Option, Some, None, option_and_then, if◌then◌else◌, nat_lt, nat_le, codes}
+use Rattle.std.specs.Prelude.{◌≡◌, ◌+◌, ◌-◌, ◌*◌, ◌%◌, ◌==◌, ◌&&◌, ◌||◌, not, ℕ, Bool, true, List, [], ◌∷◌, length, Option, Some, None, Result, Ok, Err, option_and_then, if◌then◌else◌, nat_lt, nat_le, codes}
 use Rattle.std.specs.Str.{bytes_eq}
+pub use Rattle.mb_forms.specs.Forms.{Text}
+use Rattle.mb_forms.specs.Forms.{Form, Use, read, value_in}
+use Rattle.mb_forms.specs.Clap.{FaultFits}
+use Rattle.mb_forms.specs.declared.fault.WordsFault.{WordsFault}
 use Rattle.mb_words.specs.declared.bare.Bare.{Bare}
-
-abbrev pub Text : Type 0
-Text = List ℕ
 
 -- a machine by its image, its RAM in KiB and its steps
 pub record Asked : Type 0 where
@@ -45,18 +46,38 @@ is_steps n = nat_le n 4294967295
 abbrev pub steps_of : Text → Option ℕ
 steps_of text = option_and_then (tested is_steps) (number_of text)
 
--- a file's name: not empty, and no `-` at its beginning
+-- a file's name is not empty
 abbrev pub is_name : Text → Bool
-is_name [] = false
-is_name (first ∷ rest) = not (first == 45)
+is_name name = not (length name == 0)
 
 abbrev pub asked_for : Text → Option ℕ → Option ℕ → Option Asked
 asked_for image (Some ram) (Some steps) = if is_name image then Some (record { image = image; ram = ram; steps = steps }) else None
 asked_for image _ _ = None
 
--- `PROGRAM bare IMAGE --ram KIB --steps N`, in this order; other words ask for nothing
+-- `bare IMAGE --ram KIB --steps N`
+abbrev pub bare_form : Form
+bare_form = record {
+  name = codes "bare";
+  positionals = codes "IMAGE" ∷ [];
+  options = record { name = codes "ram"; required = true } ∷ record { name = codes "steps"; required = true } ∷ [];
+}
+
+abbrev pub asked_with : Option Text → Option Text → Option Text → Option Asked
+asked_with (Some image) (Some ram) (Some steps) = asked_for image (ram_of ram) (steps_of steps)
+asked_with _ _ _ = None
+
+-- what the values of `bare` ask for
+abbrev pub bare_asks : List Use → Option Asked
+bare_asks uses = asked_with (value_in (codes "IMAGE") uses) (value_in (codes "ram") uses) (value_in (codes "steps") uses)
+
+-- What the words ask for: `PROGRAM COMMAND`, and then the command's own words in its form. Other words ask
+-- for nothing.
 unfoldable pub asked_by : List Text → Option Asked
-asked_by (program ∷ command ∷ image ∷ ram_option ∷ ram ∷ steps_option ∷ steps ∷ []) =
-    if bytes_eq command (codes "bare") && bytes_eq ram_option (codes "--ram") && bytes_eq steps_option (codes "--steps")
-    then asked_for image (ram_of ram) (steps_of steps) else None
+asked_by (program ∷ command ∷ words) =
+    if bytes_eq command (codes "bare") then option_and_then bare_asks (read bare_form words) else None
 asked_by _ = None
+
+-- The words were read as what they ask for, or refused where they ask for nothing; want of memory is free.
+abbrev pub ReadsWords : Option Asked → Result Bare WordsFault → Type 0
+ReadsWords asked (Ok bare) = asked ≡ Some (asked_of bare)
+ReadsWords asked (Err fault) = FaultFits asked fault

@@ -5,7 +5,7 @@ ghost use Rattle.std.specs.Prelude.{◌≡◌, ◌≤◌, ◌%◌};
 /// `bare`: a machine by its image, its RAM and its steps.
 #[derive(Clone, Copy, Debug, Drop)]
 pub struct Bare<'a> {
-    /// The name of the image's file. It is not empty and does not begin with `-`.
+    /// The name of the image's file. It is not empty.
     pub image: &'a str,
     /// In KiB: 64 to 16,384, a multiple of 64.
     pub ram: u32,

@@ -1,7 +1,8 @@
 //! The words of the command line.
 //!
-//! Below the top call: it turns the words into a command with its values, or refuses them. The grammar
-//! is the definition `asked_by` of `specs/Words`.
+//! Below the top call: it turns the words into a command with its values, or refuses them. Each command
+//! has its form, by which `mb_forms` reads its words; what they ask for is the definition `asked_by` of
+//! `specs/Words`.
 #![tactic(auto)]
 
 mod bare;
@@ -9,4 +10,5 @@ mod number;
 mod reading;
 
 pub use bare::Bare;
+pub use mb_forms::WordsFault;
 pub use reading::read_words;

@@ -1,10 +1,16 @@
 //! Reading the words.
 
-ghost use Rattle.std.specs.Prelude.{◌≡◌, map, string_bytes, option_map};
-ghost use Rattle.mb_words.specs.Words.{asked_of, ram_of, steps_of, is_name, asked_for, asked_by};
+ghost use Rattle.std.specs.Prelude.{◌≡◌, map, string_bytes, option_map, option_and_then, IfOk};
+ghost use Rattle.clap.specs.Words.{app_of};
+ghost use Rattle.mb_forms.specs.Forms.{read};
+ghost use Rattle.mb_forms.specs.Clap.{form_app};
+ghost use Rattle.mb_words.specs.Words.{asked_of, ram_of, steps_of, is_name, asked_for, asked_with, asked_by, bare_form, bare_asks, ReadsWords};
 
 use crate::bare::Bare;
 use crate::number::number;
+use clap::Command;
+use mb_forms::{WordsFault, command, option, parse, positional};
+use std::alloc::{AllocError, Global};
 
 fn ram(text: &str) -> Option<u32>
     ensures { result ≡ ram_of text.now }
@@ -26,50 +32,66 @@ fn steps(text: &str) -> Option<u32>
     Some(steps as u32)
 }
 
-fn is_name(text: &str) -> bool
-    ensures { result ≡ is_name text.now }
-{
-    match text.as_bytes() {
-        [] => false,
-        [first, ..] => *first != b'-',
-    }
-}
-
 fn make_bare<'a>(image: &'a str, ram_text: &str, steps_text: &str) -> Option<Bare<'a>>
     ensures { option_map asked_of result ≡ asked_for image.entry.now (ram_of ram_text.now) (steps_of steps_text.now) }
 {
     let ram = ram(ram_text)?;
     let steps = steps(steps_text)?;
-    if !is_name(image) {
+    if image.is_empty() {
         return None;
     }
     Some(Bare { image, ram, steps })
 }
 
-/// Reads the words, of which the first is the program's name: exactly `bare IMAGE --ram KIB --steps N`,
-/// in this order. `None` for all others.
-#[tactic(auto, unfolding(crate::specs::Words::asked_by))]
-pub fn read_words<'a>(words: &'a [String]) -> Option<Bare<'a>>
-    ensures { option_map asked_of result ≡ asked_by (map string_bytes words.entry.now) }
+/// The form of `bare`, as a command of `clap`.
+fn bare_command<'a>(alloc: Global) -> Result<Command<'a>, AllocError>
+    ensures { IfOk result (λ c. app_of c ≡ form_app bare_form) }
 {
-    let [
-        _program,
-        command,
-        image,
-        ram_option,
-        ram,
-        steps_option,
-        steps,
-    ] = words
-    else {
-        return None;
+    command(alloc, "bare")
+        .arg(positional(alloc, "IMAGE"))?
+        .arg(option(alloc, "ram", true))?
+        .arg(option(alloc, "steps", true))
+}
+
+/// The command that these values make.
+fn from_values<'a>(
+    image: Option<&'a str>,
+    ram: Option<&str>,
+    steps: Option<&str>,
+) -> Option<Bare<'a>>
+    ensures { option_map asked_of result ≡ asked_with (option_map (λ s. s.now) image.entry) (option_map (λ s. s.now) ram.entry) (option_map (λ s. s.now) steps.entry) }
+{
+    make_bare(image?, ram?, steps?)
+}
+
+/// Reads the words behind `bare`.
+fn read_bare<'a>(alloc: Global, words: &'a [String]) -> Result<Bare<'a>, WordsFault>
+    ensures { ReadsWords (option_and_then bare_asks (read bare_form (map string_bytes words.entry.now))) result }
+{
+    let Ok(command) = bare_command(alloc) else {
+        return Err(WordsFault::Memory);
     };
-    if command.as_str() == "bare"
-        && ram_option.as_str() == "--ram"
-        && steps_option.as_str() == "--steps"
-    {
-        make_bare(image.as_str(), ram.as_str(), steps.as_str())
-    } else {
-        None
+    let matches = parse(command, words)?;
+    let image = matches.get_str("IMAGE");
+    let ram = matches.get_str("ram");
+    let steps = matches.get_str("steps");
+    match from_values(image, ram, steps) {
+        Some(bare) => Ok(bare),
+        None => Err(WordsFault::Refused),
     }
+}
+
+/// Reads the words: the program's name, the command, and then its own words. `Refused` is answered only
+/// where they ask for nothing; `Memory` can come whatever they ask for.
+#[tactic(auto, unfolding(crate::specs::Words::asked_by))]
+pub fn read_words<'a>(alloc: Global, words: &'a [String]) -> Result<Bare<'a>, WordsFault>
+    ensures { ReadsWords (asked_by (map string_bytes words.entry.now)) result }
+{
+    let [_program, command, rest @ ..] = words else {
+        return Err(WordsFault::Refused);
+    };
+    if command.as_str() != "bare" {
+        return Err(WordsFault::Refused);
+    }
+    read_bare(alloc, rest)
 }

@@ -1,0 +1,5 @@
+pub mod Steps
+pub mod Looks
+pub mod Reading
+pub mod Whole
+pub mod Parsed
