@@ -86,7 +86,7 @@ struct Row<'a> {
     lines: &'a [&'a [u8]],
 }
 
-const ROWS: [Row; 28] = [
+const ROWS: [Row; 30] = [
     Row {
         what: "no step is taken",
         image: b"S10B00000001000000000400EF\nS1150400704113C0FFF0000023FC00000001FFF0002044\nS9030000FC\n",
@@ -208,6 +208,20 @@ const ROWS: [Row; 28] = [
         steps: "1",
         status: 8,
         lines: &[],
+    },
+    Row {
+        what: "a store to STATUS at the second step",
+        image: b"S10B00000001000000000400EF\nS10B04004E7113C0FFF000016E\nS9030000FC\n",
+        steps: "2",
+        status: 8,
+        lines: &[],
+    },
+    Row {
+        what: "a store to STATUS behind the bound",
+        image: b"S10B00000001000000000400EF\nS10B04004E7113C0FFF000016E\nS9030000FC\n",
+        steps: "1",
+        status: 0,
+        lines: &[b"PC 00000402\n"],
     },
     Row {
         what: "a long store to DATA",
