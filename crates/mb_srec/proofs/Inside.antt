@@ -1,9 +1,9 @@
 -- The data of an image lie in RAM.
 use Rattle.std.proofs.Common.{◌≡◌, ℕ, ◌+◌, Bool, true, false, cond, not, List, [], ◌∷◌, length, Option, Some, None, Result, Ok, Err, refl, subst, inl, inr}
 use Rattle.std.specs.Prelude.{IfOk, All}
-use Rattle.std.specs.Str.Lines.{lines}
 use Rattle.std.proofs.lemmas.Bool.{cases_lt}
 use Rattle.std.proofs.lemmas.List.Elements.{All-nil, All-push}
+use Rattle.mb_lines.specs.Lines.{Line, numbered}
 use Rattle.mb_srec.specs.declared.fault.ImageFault.{ImageFault}
 use Rattle.mb_srec.specs.declared.image.Image.{Image}
 use Rattle.mb_srec.specs.Image.{LiesBelow, contents_of}
@@ -53,18 +53,17 @@ unfolding after_record
 record_inside ram number so_far next said e inside =
     taken_inside ram so_far next said (chosen so_far.ended _ _ next (chosen (not (counts_right so_far said)) _ _ next e)) inside
 
-line_inside : (ram number : ℕ) (so_far next : Reading) (line : List ℕ) → after_line ram number so_far line ≡ Ok next → Within ram so_far.contents → Within ram next.contents
+line_inside : (ram : ℕ) (so_far next : Reading) (line : Line) → after_line ram so_far line ≡ Ok next → Within ram so_far.contents → Within ram next.contents
 unfolding after_line
-line_inside ram number so_far next [] e inside = subst (λ (r : Reading). Within ram r.contents) (same so_far next e) inside
-line_inside ram number so_far next (character ∷ characters) e inside =
-    let said = bound (at_line number (record_of (character ∷ characters))) (λ r. after_record ram number so_far r) next e in
-    record_inside ram number so_far next said.0 said.2 inside
+line_inside ram so_far next line e inside =
+    let said = bound (at_line line.number (record_of line.characters)) (λ r. after_record ram line.number so_far r) next e in
+    record_inside ram line.number so_far next said.0 said.2 inside
 
-lines_inside : (ram number : ℕ) (so_far last : Reading) (all : List (List ℕ)) → after_lines ram number so_far all ≡ Ok last → Within ram so_far.contents → Within ram last.contents
-lines_inside ram number so_far last [] e inside = subst (λ (r : Reading). Within ram r.contents) (same so_far last e) inside
-lines_inside ram number so_far last (line ∷ others) e inside =
-    let next = bound (after_line ram number so_far line) (λ r. after_lines ram (number + 1) r others) last e in
-    lines_inside ram (number + 1) next.0 last others next.2 (line_inside ram number so_far next.0 line next.1 inside)
+lines_inside : (ram : ℕ) (so_far last : Reading) (all : List Line) → after_lines ram so_far all ≡ Ok last → Within ram so_far.contents → Within ram last.contents
+lines_inside ram so_far last [] e inside = subst (λ (r : Reading). Within ram r.contents) (same so_far last e) inside
+lines_inside ram so_far last (line ∷ others) e inside =
+    let next = bound (after_line ram so_far line) (λ r. after_lines ram r others) last e in
+    lines_inside ram next.0 last others next.2 (line_inside ram so_far next.0 line next.1 inside)
 
 ended : (b : Bool) (x y : List (ℕ × List ℕ)) (fault : ImageFault) → cond b (Ok x) (Err fault) ≡ Ok y → x ≡ y
 ended true x y fault e = same x y e
@@ -73,8 +72,8 @@ ended false x y fault e = absurd cc
 pub records_inside : (text : List ℕ) (ram : ℕ) (contents : List (ℕ × List ℕ)) → records_of text ram ≡ Ok contents → All (LiesBelow ram) contents
 unfolding records_of at_end
 records_inside text ram contents e =
-    let last = bound (after_lines ram 1 beginning (lines text)) at_end contents e in
-    subst (Within ram) (ended last.0.ended last.0.contents contents _ last.2) (lines_inside ram 1 beginning last.0 (lines text) last.1 (All-nil (LiesBelow ram)))
+    let last = bound (after_lines ram beginning (numbered text)) at_end contents e in
+    subst (Within ram) (ended last.0.ended last.0.contents contents _ last.2) (lines_inside ram beginning last.0 (numbered text) last.1 (All-nil (LiesBelow ram)))
 
 pub image_inside : (text : List ℕ) (ram : ℕ) (r : Result Image ImageFault) → Gives contents_of r (records_of text ram) → IfOk r (λ image. All (LiesBelow ram) (contents_of image))
 image_inside text ram (Ok image) given = records_inside text ram (contents_of image) given

@@ -2,14 +2,12 @@
 use Rattle.std.proofs.Math.Seq.{take-append_seam, get_or-append_seam}
 use Rattle.std.proofs.Common.{◌≡◌, ℕ, zero, suc, ◌+◌, ◌-◌, ◌*◌, ◌/◌, ◌%◌, ◌^◌, ◌≤◌, ◌<◌, Bool, true, false, ◌&&◌, ltb, List, [], ◌∷◌, ◌++◌, length, take, drop, get_or, Option, Some, None, Result, Ok, refl, sym, ap, subst, ◌∙◌, append_assoc, inl, inr, arith}
 use Rattle.std.specs.Prelude.{All, slice_get, codes}
-use Rattle.std.specs.List.{AllByRecursion, flat_map, list_all, slice_split}
+use Rattle.std.specs.List.{AllByRecursion, flat_map, list_all}
 use Rattle.std.specs.Option.{option_or}
-use Rattle.std.specs.Str.Lines.{lines, lines_of_parts, strip_carriage_return}
-use Rattle.std.proofs.lemmas.Bool.{cases_lt, lt-ltb, le-ltb, lt-leb, ltb-true, eq-eqb, ne_eqb}
+use Rattle.std.proofs.lemmas.Bool.{cases_lt, lt-ltb, le-ltb, lt-leb, ltb-true, eq-eqb}
 use Rattle.std.proofs.lemmas.List.{append-nil, length-append, length-drop, length-take, get_or_past}
 use Rattle.std.proofs.lemmas.List.Concat.{flat_map-cons}
 use Rattle.std.proofs.lemmas.List.Elements.{All-cons, All-take, All-drop, recursion_from_All}
-use Rattle.std.proofs.lemmas.List.Splits.{slice_split_at, length-slice_split}
 use Rattle.std.proofs.lemmas.List.Sums.{AllPass-from_list_all}
 use Rattle.std.proofs.lemmas.Option.{slice_get_past}
 use Rattle.hex.proofs.OnLiterals.{hex_on_literals}
@@ -17,12 +15,13 @@ use Rattle.hex.specs.Hex.{IsBytes, encode_upper, is_hex_digit}
 use Rattle.hex.proofs.HexLemmas.{decode_of-encode_upper, decode_of-ok}
 use Rattle.byteorder.specs.Endian.{big_bytes, big_number}
 use Rattle.byteorder.specs.Numbers.{big_number-reads_back}
+use Rattle.mb_lines.specs.Lines.{Line, lines_in, numbered_from}
+use Rattle.mb_lines.proofs.Written.{IsPlain, first_written, none_written}
 use Rattle.mb_srec.specs.declared.fault.ImageFault.{ImageFault}
 use Rattle.mb_srec.specs.declared.kind.Kind.TheVariants.{S3}
 use Rattle.mb_srec.specs.Image.{LiesBelow, byte_of, byte_at}
 use Rattle.mb_srec.specs.Records.{◌>>=◌, Data, Reading, checksum_of, summed, has_its_length, has_its_checksum, said_by, meaning_of, record_of, after_record, with_record, after_line, after_lines, beginning, at_end, records_of}
 use Rattle.mb_srec.specs.Written.{IsContent, SameBytes, counted, data_line, data_lines, chunk_lines, header_line, end_line, text_of}
-use Rattle.mb_srec.proofs.Lines.{is_line_feed, more_parts}
 use Rattle.mb_srec.proofs.Outside.{all_inside}
 
 -- ---- bytes at addresses
@@ -85,27 +84,6 @@ byte_at-pieces (suc n) at bytes address h =
     ∙ byte_of-parts at bytes address
 
 -- ---- lines
-
--- characters that end no line
-abbrev IsPlain : List ℕ → Type 0
-IsPlain line = All (λ c. 13 < c) line
-
-strip_plain : (line : List ℕ) → IsPlain line → strip_carriage_return line ≡ line
-strip_plain [] h = refl
-strip_plain (c ∷ line) h =
-    let last : 13 < get_or (c ∷ line) (length (c ∷ line) - 1) 0 = h (length (c ∷ line) - 1) 0 (omega arith) in
-    rw (ne_eqb (get_or (c ∷ line) (length (c ∷ line) - 1) 0) 13 (λ e. omega arith)) refl
-
-no_line_feed : (line : List ℕ) → IsPlain line → All (λ c. is_line_feed c ≡ false) line
-no_line_feed line h k d lt = let above = h k d lt in ne_eqb (get_or line k d) 10 (λ e. omega arith)
-
-cut : (line rest : List ℕ) → IsPlain line → lines ((line ++ 10 ∷ []) ++ rest) ≡ line ∷ lines rest
-cut line rest plain =
-    let parts : 0 < length (slice_split is_line_feed rest) = omega (arith, length-slice_split is_line_feed rest) in
-    ap lines (append_assoc line (10 ∷ []) rest)
-    ∙ (ap lines_of_parts (slice_split_at is_line_feed line 10 rest (no_line_feed line plain) refl)
-    ∙ (more_parts line (slice_split is_line_feed rest) parts
-    ∙ ap (λ (l : List ℕ). l ∷ lines rest) (strip_plain line plain)))
 
 digit_plain : (c : ℕ) → is_hex_digit c ≡ true → 13 < c
 digit_plain c h =
@@ -202,26 +180,32 @@ line_plain at bytes short fits =
     All-cons (λ c. 13 < c) 83 (51 ∷ digits) (omega arith) (All-cons (λ c. 13 < c) 51 digits (omega arith) (encoded_plain (whole at bytes) (bytes-whole at bytes short fits)))
 
 line_read : (ram number at : ℕ) (so_far : Reading) (bytes : List ℕ) → length bytes ≤ 16 → IsBytes bytes → at < 2 ^ 32 → at + length bytes ≤ ram → so_far.ended ≡ false
-    → after_line ram number so_far (codes "S3" ++ encode_upper (whole at bytes)) ≡ Ok (record { contents = so_far.contents ++ (at, bytes) ∷ []; ended = false })
+    → after_line ram so_far (record { number = number; characters = codes "S3" ++ encode_upper (whole at bytes) }) ≡ Ok (record { contents = so_far.contents ++ (at, bytes) ∷ []; ended = false })
 unfolding after_line after_record with_record
 line_read ram number at so_far bytes short fits addressed inside running =
     rw (record_read at bytes short fits addressed, running, all_inside ram at bytes inside) refl
 
-after_first : (ram number : ℕ) (so_far next : Reading) (line : List ℕ) (text rest : List ℕ) → lines text ≡ line ∷ lines rest → after_line ram number so_far line ≡ Ok next
-    → after_lines ram number so_far (lines text) ≡ after_lines ram (number + 1) next (lines rest)
-after_first ram number so_far next line text rest first read =
-    ap (after_lines ram number so_far) first ∙ ap (λ (x : Result Reading ImageFault). x >>= λ s. after_lines ram (number + 1) s (lines rest)) read
+-- the lines of a text, the first of which has the number
+abbrev text_lines : ℕ → List ℕ → List Line
+text_lines number text = numbered_from number (lines_in text)
+
+after_first : (ram number : ℕ) (so_far next : Reading) (line text rest : List ℕ) → text ≡ (line ++ 10 ∷ []) ++ rest → 0 < length line → IsPlain line → after_line ram so_far (record { number = number; characters = line }) ≡ Ok next
+    → after_lines ram so_far (text_lines number text) ≡ after_lines ram next (text_lines (number + 1) rest)
+after_first ram number so_far next line text rest cut some plain read =
+    ap (λ (t : List ℕ). after_lines ram so_far (text_lines number t)) cut
+    ∙ (ap (after_lines ram so_far) (first_written number line rest some plain)
+    ∙ ap (λ (x : Result Reading ImageFault). x >>= λ s. after_lines ram s (text_lines (number + 1) rest)) read)
 
 IsBytes-take : (n : ℕ) (bytes : List ℕ) → All (λ b. b < 256) bytes → IsBytes (take n bytes)
 IsBytes-take n bytes fits = bytes-of_all (take n bytes) (All-take (λ b. b < 256) n bytes fits)
 
 pieces_read : (n ram number at : ℕ) (so_far : Reading) (bytes rest : List ℕ) → so_far.ended ≡ false → n ≡ (length bytes + 15) / 16 → All (λ b. b < 256) bytes
     → (0 < length bytes → at + length bytes ≤ 2 ^ 32) → LiesBelow ram (at, bytes)
-    → after_lines ram number so_far (lines (data_lines n at bytes ++ rest)) ≡ after_lines ram (number + n) (record { contents = so_far.contents ++ pieces n at bytes; ended = false }) (lines rest)
+    → after_lines ram so_far (text_lines number (data_lines n at bytes ++ rest)) ≡ after_lines ram (record { contents = so_far.contents ++ pieces n at bytes; ended = false }) (text_lines (number + n) rest)
 unfolding pieces data_line
 pieces_read zero ram number at so_far bytes rest running count fits addressed inside =
     let none : so_far.contents ++ [] ≡ so_far.contents = append-nil so_far.contents in
-    rw (none, ← running) (ap (λ (k : ℕ). after_lines ram k so_far (lines rest)) (omega arith))
+    rw (none, ← running) (ap (λ (k : ℕ). after_lines ram so_far (text_lines k rest)) (omega arith))
 pieces_read (suc n) ram number at so_far bytes rest running count fits addressed inside =
     let some : 0 < length bytes = omega arith in
     let piece = take 16 bytes in
@@ -233,24 +217,23 @@ pieces_read (suc n) ram number at so_far bytes rest running count fits addressed
     let below : at + length bytes ≤ 2 ^ 32 = addressed some in
     let within : at + length bytes ≤ ram = inside some in
     let text : (data_line at piece ++ data_lines n (at + 16) left) ++ rest ≡ (line ++ 10 ∷ []) ++ after = append_assoc (data_line at piece) (data_lines n (at + 16) left) rest in
-    let first : lines ((data_line at piece ++ data_lines n (at + 16) left) ++ rest) ≡ line ∷ lines after = ap lines text ∙ cut line after (line_plain at piece short (IsBytes-take 16 bytes fits)) in
     let read = line_read ram number at so_far piece short (IsBytes-take 16 bytes fits) (omega arith) (omega (arith, length-take 16 bytes)) running in
     let others : n ≡ (length left + 15) / 16 = omega (arith, length-drop 16 bytes) in
     let numbers : number + 1 + n ≡ number + suc n = omega arith in
     let contents = append_assoc so_far.contents ((at, piece) ∷ []) (pieces n (at + 16) left) in
-    after_first ram number so_far next line ((data_line at piece ++ data_lines n (at + 16) left) ++ rest) after first read
+    after_first ram number so_far next line ((data_line at piece ++ data_lines n (at + 16) left) ++ rest) after text (omega arith) (line_plain at piece short (IsBytes-take 16 bytes fits)) read
     ∙ (pieces_read n ram (number + 1) (at + 16) next left rest refl others (All-drop (λ b. b < 256) 16 bytes fits) (λ more. omega (arith, length-drop 16 bytes)) (λ more. omega (arith, length-drop 16 bytes))
-    ∙ (ap (λ (k : ℕ). after_lines ram k (record { contents = next.contents ++ pieces n (at + 16) left; ended = false }) (lines rest)) numbers
-    ∙ ap (λ (cs : List (ℕ × List ℕ)). after_lines ram (number + suc n) (record { contents = cs; ended = false }) (lines rest)) contents))
+    ∙ (ap (λ (k : ℕ). after_lines ram (record { contents = next.contents ++ pieces n (at + 16) left; ended = false }) (text_lines k rest)) numbers
+    ∙ ap (λ (cs : List (ℕ × List ℕ)). after_lines ram (record { contents = cs; ended = false }) (text_lines (number + suc n) rest)) contents))
 
 chunk_read : (ram number : ℕ) (so_far : Reading) (content : ℕ × List ℕ) (rest : List ℕ) → so_far.ended ≡ false → IsContent content → LiesBelow ram content
-    → after_lines ram number so_far (lines (chunk_lines content ++ rest)) ≡ after_lines ram (number + (length content.1 + 15) / 16) (record { contents = so_far.contents ++ pieces_of content; ended = false }) (lines rest)
+    → after_lines ram so_far (text_lines number (chunk_lines content ++ rest)) ≡ after_lines ram (record { contents = so_far.contents ++ pieces_of content; ended = false }) (text_lines (number + (length content.1 + 15) / 16) rest)
 chunk_read ram number so_far (at, bytes) rest running fits inside =
     pieces_read ((length bytes + 15) / 16) ram number at so_far bytes rest running refl fits.0 (λ some. fits.1) inside
 
 -- reading the chunks' records goes on at some line
 chunks_read : (ram number : ℕ) (so_far : Reading) (contents : List (ℕ × List ℕ)) (rest : List ℕ) → so_far.ended ≡ false → AllByRecursion IsContent contents → AllByRecursion (LiesBelow ram) contents
-    → (next : ℕ) × (after_lines ram number so_far (lines (flat_map chunk_lines contents ++ rest)) ≡ after_lines ram next (record { contents = so_far.contents ++ flat_map pieces_of contents; ended = false }) (lines rest))
+    → (next : ℕ) × (after_lines ram so_far (text_lines number (flat_map chunk_lines contents ++ rest)) ≡ after_lines ram (record { contents = so_far.contents ++ flat_map pieces_of contents; ended = false }) (text_lines next rest))
 chunks_read ram number so_far [] rest running fits inside =
     let none : so_far.contents ++ [] ≡ so_far.contents = append-nil so_far.contents in
     (number, rw (none, ← running) refl)
@@ -264,19 +247,19 @@ chunks_read ram number so_far (content ∷ contents) rest running fits inside =
     let gathered : (so_far.contents ++ pieces_of content) ++ flat_map pieces_of contents ≡ so_far.contents ++ flat_map pieces_of (content ∷ contents) =
     append_assoc so_far.contents (pieces_of content) (flat_map pieces_of contents) ∙ ap (λ (cs : List (ℕ × List ℕ)). so_far.contents ++ cs) (sym (flat_map-cons pieces_of content contents)) in (
       others.0,
-      ap (λ (t : List ℕ). after_lines ram number so_far (lines t)) text
+      ap (λ (t : List ℕ). after_lines ram so_far (text_lines number t)) text
           ∙ (chunk_read ram number so_far content left running fits.0 inside.0
           ∙ (others.1
-          ∙ ap (λ (cs : List (ℕ × List ℕ)). after_lines ram others.0 (record { contents = cs; ended = false }) (lines rest)) gathered)),
+          ∙ ap (λ (cs : List (ℕ × List ℕ)). after_lines ram (record { contents = cs; ended = false }) (text_lines others.0 rest)) gathered)),
     )
 
 -- ---- the whole text
 
-header_read : (ram number : ℕ) → after_line ram number beginning (codes "S0030000FC") ≡ Ok beginning
+header_read : (ram number : ℕ) → after_line ram beginning (record { number = number; characters = codes "S0030000FC" }) ≡ Ok beginning
 unfolding hex_on_literals record_of meaning_of said_by after_line after_record with_record
 header_read ram number = refl
 
-end_read : (ram number : ℕ) (so_far : Reading) → so_far.ended ≡ false → after_line ram number so_far (codes "S70500000000FA") ≡ Ok (record { contents = so_far.contents; ended = true })
+end_read : (ram number : ℕ) (so_far : Reading) → so_far.ended ≡ false → after_line ram so_far (record { number = number; characters = codes "S70500000000FA" }) ≡ Ok (record { contents = so_far.contents; ended = true })
 unfolding hex_on_literals record_of meaning_of said_by after_line after_record with_record
 end_read ram number so_far running = rw running refl
 
@@ -290,13 +273,15 @@ text_read contents ram fits inside =
     let header = codes "S0030000FC" in
     let last = codes "S70500000000FA" in
     let text : (header_line ++ middle) ++ end_line ≡ (header ++ 10 ∷ []) ++ (middle ++ end_line) = append_assoc header_line middle end_line in
-    let first : lines ((header_line ++ middle) ++ end_line) ≡ header ∷ lines (middle ++ end_line) = ap lines text ∙ cut header (middle ++ end_line) (plain_literal header refl) in
     let body = chunks_read ram 2 beginning contents end_line refl fits inside in
     let all : Reading = record { contents = flat_map pieces_of contents; ended = false } in
-    let end : lines end_line ≡ last ∷ lines [] = ap lines (sym (append-nil end_line)) ∙ cut last [] (plain_literal last refl) in
-    let done : after_lines ram 1 beginning (lines ((header_line ++ middle) ++ end_line)) ≡ Ok (record { contents = flat_map pieces_of contents; ended = true }) =
-    after_first ram 1 beginning beginning header ((header_line ++ middle) ++ end_line) (middle ++ end_line) first (header_read ram 1)
-    ∙ (body.1 ∙ after_first ram body.0 all (record { contents = flat_map pieces_of contents; ended = true }) last end_line [] end (end_read ram body.0 all refl)) in
+    let ended : Reading = record { contents = flat_map pieces_of contents; ended = true } in
+    let end : end_line ≡ (last ++ 10 ∷ []) ++ [] = sym (append-nil end_line) in
+    let done : after_lines ram beginning (text_lines 1 ((header_line ++ middle) ++ end_line)) ≡ Ok (record { contents = flat_map pieces_of contents; ended = true }) =
+    after_first ram 1 beginning beginning header ((header_line ++ middle) ++ end_line) (middle ++ end_line) text (omega arith) (plain_literal header refl) (header_read ram 1)
+    ∙ (body.1
+    ∙ (after_first ram body.0 all ended last end_line [] end (omega arith) (plain_literal last refl) (end_read ram body.0 all refl)
+    ∙ ap (λ (ls : List (List ℕ)). after_lines ram ended (numbered_from (body.0 + 1) ls)) none_written)) in
     ap (λ (x : Result Reading ImageFault). x >>= at_end) done
 
 same_byte : (contents : List (ℕ × List ℕ)) (address : ℕ) → byte_at (flat_map pieces_of contents) address ≡ byte_at contents address

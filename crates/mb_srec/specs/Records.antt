@@ -1,12 +1,12 @@
 -- The grammar of S-records: what a line says, and what a list of lines says.
 use Rattle.std.specs.Prelude.{ℕ, suc, ◌+◌, ◌-◌, ◌%◌, Bool, true, false, ◌&&◌, ◌||◌, ◌==◌, not, nat_lt, if◌then◌else◌, List, [], ◌∷◌, ◌++◌, length, take, drop, slice_index, sum, Option, Some, None, Result, Ok, Err}
-use Rattle.std.specs.Str.Lines.{lines}
 use Rattle.std.specs.Option.{ok_or}
 use Rattle.std.specs.Result.{result_ok}
 use Rattle.hex.specs.Hex.{decode_of}
 use Rattle.byteorder.specs.Endian.{big_number}
+use Rattle.mb_lines.specs.Lines.{Line, numbered}
 use Rattle.mb_srec.specs.declared.fault.ImageFault.{ImageFault}
-use Rattle.mb_srec.specs.declared.fault.ImageFault.TheVariants.{Line, Outside, NoEnd}
+use Rattle.mb_srec.specs.declared.fault.ImageFault.TheVariants as fault
 use Rattle.mb_srec.specs.declared.fault.RecordWhy.{RecordWhy}
 use Rattle.mb_srec.specs.declared.fault.RecordWhy.TheVariants as why
 use Rattle.mb_srec.specs.declared.kind.Kind.{Kind}
@@ -103,7 +103,7 @@ counts_right so_far _ = true
 
 abbrev pub unless_outside : {A : Type 0} → Option ℕ → A → Result A ImageFault
 unless_outside None next = Ok next
-unless_outside (Some at) next = Err (Outside at)
+unless_outside (Some at) next = Err (fault.Outside at)
 
 unfoldable pub with_record : ℕ → Reading → Record → Result Reading ImageFault
 with_record ram so_far Header = Ok so_far
@@ -115,31 +115,29 @@ with_record ram so_far End = Ok (record { contents = so_far.contents; ended = tr
 -- what a line's record makes of what the lines before gave
 unfoldable pub after_record : ℕ → ℕ → Reading → Record → Result Reading ImageFault
 after_record ram number so_far said =
-    if not (counts_right so_far said) then Err (Line number why.Count)
-    else if so_far.ended then Err (Line number why.After)
+    if not (counts_right so_far said) then Err (fault.Line number why.Count)
+    else if so_far.ended then Err (fault.Line number why.After)
     else with_record ram so_far said
 
 abbrev pub at_line : {A : Type 0} → ℕ → Result A RecordWhy → Result A ImageFault
 at_line number (Ok x) = Ok x
-at_line number (Err reason) = Err (Line number reason)
+at_line number (Err reason) = Err (fault.Line number reason)
 
--- a line without characters is passed over
-unfoldable pub after_line : ℕ → ℕ → Reading → List ℕ → Result Reading ImageFault
-after_line ram number so_far [] = Ok so_far
-after_line ram number so_far (character ∷ characters) = do
-  said ← at_line number (record_of (character ∷ characters))
-  after_record ram number so_far said
+-- what a line makes of what the lines before gave
+unfoldable pub after_line : ℕ → Reading → Line → Result Reading ImageFault
+after_line ram so_far line = do
+  said ← at_line line.number (record_of line.characters)
+  after_record ram line.number so_far said
 
--- lines of which the first has the number
-abbrev pub after_lines : ℕ → ℕ → Reading → List (List ℕ) → Result Reading ImageFault
-after_lines ram number so_far [] = Ok so_far
-after_lines ram number so_far (line ∷ others) = do
-  next ← after_line ram number so_far line
-  after_lines ram (number + 1) next others
+abbrev pub after_lines : ℕ → Reading → List Line → Result Reading ImageFault
+after_lines ram so_far [] = Ok so_far
+after_lines ram so_far (line ∷ lines) = do
+  next ← after_line ram so_far line
+  after_lines ram next lines
 
 unfoldable pub at_end : Reading → Result (List (ℕ × List ℕ)) ImageFault
-at_end so_far = if so_far.ended then Ok so_far.contents else Err NoEnd
+at_end so_far = if so_far.ended then Ok so_far.contents else Err fault.NoEnd
 
 -- The data records of a text in their order, or the first fault in order of lines, for a RAM of this size.
 unfoldable pub records_of : List ℕ → ℕ → Result (List (ℕ × List ℕ)) ImageFault
-records_of text ram = after_lines ram 1 beginning (lines text) >>= at_end
+records_of text ram = after_lines ram beginning (numbered text) >>= at_end

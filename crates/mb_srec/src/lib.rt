@@ -9,7 +9,6 @@
 mod fault;
 mod image;
 mod kind;
-mod line;
 mod reading;
 mod record;
 mod writing;

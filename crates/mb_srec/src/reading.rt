@@ -1,15 +1,16 @@
 //! A text as an image.
 
 ghost use Rattle.std.specs.Prelude.{◌≡◌, ◌<◌, ◌^◌, All, IfErr, IfOk, Ok, length};
-ghost use Rattle.std.specs.Str.Lines.{lines};
+ghost use Rattle.mb_lines.specs.Lines.{numbered};
+ghost use Rattle.mb_lines.specs.Answers.{line_said};
 ghost use Rattle.mb_srec.specs.Image.{LiesBelow, contents_of};
 ghost use Rattle.mb_srec.specs.Records.{after_line, after_lines, after_record, at_line, beginning, counts_right, first_outside, record_of, records_of, with_record};
 ghost use Rattle.mb_srec.specs.Answers.{Faults, Gives, said, so_far};
 
 use crate::fault::{ImageFault, RecordWhy};
 use crate::image::{Chunk, Image};
-use crate::line::first_line;
 use crate::record::{Record, RecordFault, record_of};
+use mb_lines::{Line, Lines};
 use std::alloc::Global;
 
 /// What the lines so far gave.
@@ -47,39 +48,26 @@ fn image_of(alloc: Global, text: &[u8], ram: u32) -> Result<Image, ImageFault>
 
 fn read_lines(alloc: Global, text: &[u8], ram: u32) -> Result<Reading, ImageFault>
     requires { length text.now < 2 ^ 31 }
-    ensures { Gives so_far result (after_lines ram 1 beginning (lines text.now)) }
+    ensures { Gives so_far result (after_lines ram beginning (numbered text.now)) }
 {
     let mut reading = Reading {
         chunks: Vec::new(alloc),
         ended: false,
     };
-    let mut rest = text;
-    let mut number = 0;
-    'lines: while !rest.is_empty() {
-        let (line, after) = first_line(rest);
-        rest = after;
-        number += 1;
-        reading.read_line(alloc, number, line, ram)?;
+    let mut lines = Lines::new(text);
+    while let Some(line) = lines.next_line() {
+        reading.read_line(alloc, line, ram)?;
     }
     Ok(reading)
 }
 
 impl Reading {
     #[tactic(auto, unfolding(crate::specs::Records::after_line))]
-    fn read_line(
-        &mut self,
-        alloc: Global,
-        number: u32,
-        line: &[u8],
-        ram: u32,
-    ) -> Result<(), ImageFault>
-        ensures { Gives (λ _. so_far self.new) result (after_line ram number (so_far self.old) line.now) }
+    fn read_line(&mut self, alloc: Global, line: Line, ram: u32) -> Result<(), ImageFault>
+        ensures { Gives (λ _. so_far self.new) result (after_line ram (so_far self.old) (line_said line.entry)) }
     {
-        if line.is_empty() {
-            return Ok(());
-        }
-        let found = record_at(alloc, number, line)?;
-        self.add(number, found, ram)
+        let found = record_at(alloc, line.number, line.characters)?;
+        self.add(line.number, found, ram)
     }
 
     /// Adds what a line says, unless a count is wrong or the end came before.

@@ -1,0 +1,6 @@
+pub mod Numbers
+pub mod Order
+pub mod Cuts
+pub mod Pairs
+pub mod Names
+pub mod Entries

@@ -1,0 +1,74 @@
+-- How an answer of the code stands to what a definition gives.
+use Rattle.std.specs.Prelude.{◌≡◌, ℕ, List, length, map, option_map, string_bytes, Result, Ok, Err}
+use denote.Ref.{Bor}
+use Rattle.mb_script.specs.declared.fault.LineFault.{LineFault}
+use Rattle.mb_script.specs.declared.fault.LineFault.TheVariants.{Memory, Line}
+use Rattle.mb_script.specs.declared.fault.LineWhy.{LineWhy}
+use Rattle.mb_script.specs.declared.fault.Refusal.{Refusal}
+use Rattle.mb_script.specs.declared.fault.Refusal.TheVariants as refusal
+use Rattle.mb_script.specs.declared.entry.Entry.{Entry}
+use Rattle.mb_script.specs.declared.script_line.Parts.{Parts}
+use Rattle.mb_script.specs.declared.script_line.Written.{Written}
+use Rattle.mb_script.specs.declared.script_line.Written.TheVariants as written
+use Rattle.mb_script.specs.declared.plan.GuestPlan.{GuestPlan}
+use Rattle.mb_script.specs.declared.plan.SessionPlan.{SessionPlan}
+use Rattle.mb_script.specs.declared.session_line.Fields.{Fields}
+use Rattle.mb_script.specs.Plan.{Guest, Plan}
+use Rattle.mb_script.specs.Scripts as scripts
+use Rattle.mb_script.specs.Sessions as sessions
+
+-- a fault is the one that is given, unless memory ran out
+abbrev pub Faults : {Y : Type 0} → LineFault → Result Y LineFault → Type 0
+Faults Memory given = Unit {0}
+Faults (Line number why) given = given ≡ Err (Line number why)
+
+-- the answer, seen by view, is what is given, unless memory ran out
+abbrev pub Gives : {X Y : Type 0} → (X → Y) → Result X LineFault → Result Y LineFault → Type 0
+Gives view (Ok x) given = given ≡ Ok (view x)
+Gives view (Err fault) given = Faults fault given
+
+-- the same for what one line says by itself
+abbrev pub FaultsAlone : {Y : Type 0} → Refusal → Result Y LineWhy → Type 0
+FaultsAlone refusal.Memory given = Unit {0}
+FaultsAlone (refusal.Why why) given = given ≡ Err why
+
+abbrev pub GivesAlone : {X Y : Type 0} → (X → Y) → Result X Refusal → Result Y LineWhy → Type 0
+GivesAlone view (Ok x) given = given ≡ Ok (view x)
+GivesAlone view (Err fault) given = FaultsAlone fault given
+
+-- the fault of a line with its number
+abbrev pub fault_at : ℕ → Refusal → LineFault
+fault_at number refusal.Memory = Memory
+fault_at number (refusal.Why why) = Line number why
+
+abbrev pub cut_said : Bor (List ℕ) × Bor (List ℕ) → List ℕ × List ℕ
+cut_said cut = (cut.0.now, cut.1.now)
+
+abbrev pub written_said : Written → scripts.Written
+written_said (written.Hex digits) = scripts.Hex digits.now
+written_said (written.Text text) = scripts.Text text.now
+written_said (written.WithLineFeed text) = scripts.WithLineFeed text.now
+
+-- how many characters write the bytes
+abbrev pub written_len : Written → ℕ
+written_len (written.Hex digits) = length digits.now
+written_len (written.Text text) = length text.now
+written_len (written.WithLineFeed text) = length text.now
+
+abbrev pub parts_said : Parts → scripts.Parts
+parts_said parts = record { step = parts.step.now; written = written_said parts.written }
+
+abbrev pub entry_said : Entry → scripts.Entry
+entry_said entry = record { step = entry.step; bytes = entry.bytes.items }
+
+abbrev pub bytes_said : Bor (List ℕ) → List ℕ
+bytes_said word = word.now
+
+abbrev pub fields_said : Fields → sessions.Fields
+fields_said fields = record { ram = fields.ram.now; steps = fields.steps.now; image = fields.image.now; script = fields.script.now }
+
+abbrev pub guest_said : GuestPlan → Guest
+guest_said guest = record { ram = guest.ram; steps = guest.steps; image = string_bytes guest.image; script = option_map string_bytes guest.script }
+
+abbrev pub plan_said : SessionPlan → Plan
+plan_said plan = record { board = plan.board; slice = plan.slice; guests = map guest_said plan.guests.items }

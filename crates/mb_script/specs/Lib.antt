@@ -1,0 +1,7 @@
+pub mod Script
+pub mod Lines
+pub mod Words
+pub mod Scripts
+pub mod Plan
+pub mod Sessions
+pub mod Answers

@@ -1,0 +1,34 @@
+-- The lines of a text that say something, and the first fault among them.
+use Rattle.std.specs.Prelude.{ℕ, ◌==◌, not, Bool, false, List, [], ◌∷◌, Result, Ok, Err}
+use Rattle.std.specs.List.{filter}
+use Rattle.mb_lines.specs.Lines.{Line, numbered}
+use Rattle.mb_script.specs.declared.fault.LineFault.{LineFault}
+use Rattle.mb_script.specs.declared.fault.LineFault.TheVariants as fault
+use Rattle.mb_script.specs.declared.fault.LineWhy.{LineWhy}
+
+-- the second step, if the first gave a value
+infixl 10 ◌>>=◌
+abbrev pub ◌>>=◌ : {A B E : Type 0} → Result A E → (A → Result B E) → Result B E
+(Ok x) >>= f = f x
+(Err e) >>= f = Err e
+
+-- a line of which the first character is `#`
+abbrev pub is_comment : List ℕ → Bool
+is_comment [] = false
+is_comment (character ∷ characters) = character == 35
+
+-- the lines that are no comments
+abbrev pub statements : List Line → List Line
+statements lines = filter (λ line. not (is_comment line.characters)) lines
+
+-- lines without characters and comments are passed over, and counted
+abbrev pub statements_of : List ℕ → List Line
+statements_of text = statements (numbered text)
+
+abbrev pub at_line : {A : Type 0} → ℕ → Result A LineWhy → Result A LineFault
+at_line number (Ok x) = Ok x
+at_line number (Err why) = Err (fault.Line number why)
+
+-- what a rule reads from a line
+abbrev pub read_by : {A : Type 0} → (List ℕ → Result A LineWhy) → Line → Result A LineFault
+read_by rule line = at_line line.number (rule line.characters)

@@ -1,0 +1,29 @@
+-- The plan of a board and its guests.
+use Rattle.std.specs.Prelude.{◌≡◌, ℕ, ◌%◌, ◌≤◌, ◌==◌, nat_le, Bool, ◌&&◌, List, Option}
+
+-- A machine, with its RAM in KiB, a bound on its steps, and the names of its files.
+pub record Guest : Type 0 where
+  pub ram : ℕ
+  pub steps : ℕ
+  pub image : List ℕ
+  pub script : Option (List ℕ)
+
+-- A board in KiB, the steps of a turn, and the machines.
+pub record Plan : Type 0 where
+  pub board : ℕ
+  pub slice : ℕ
+  pub guests : List Guest
+
+-- 64 to 16,384 KiB, a multiple of 64
+abbrev pub is_ram : ℕ → Bool
+is_ram kib = nat_le 64 kib && nat_le kib 16384 && (kib % 64 == 0)
+
+abbrev pub IsRam : ℕ → Type 0
+IsRam kib = (64 ≤ kib) × (kib ≤ 16384) × (kib % 64 ≡ 0)
+
+-- 128 to 65,536 KiB, a multiple of 64
+abbrev pub is_board : ℕ → Bool
+is_board kib = nat_le 128 kib && nat_le kib 65536 && (kib % 64 == 0)
+
+abbrev pub IsBoard : ℕ → Type 0
+IsBoard kib = (128 ≤ kib) × (kib ≤ 65536) × (kib % 64 ≡ 0)

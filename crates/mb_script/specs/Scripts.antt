@@ -1,0 +1,100 @@
+-- The grammar of scripts: what a line says, and what a list of lines says.
+use Rattle.std.specs.Prelude.{ℕ, Bool, nat_le, nat_lt, ◌&&◌, if◌then◌else◌, List, [], ◌∷◌, ◌++◌, map, Option, Some, None, option_map, option_and_then, Result, Ok, Err, codes}
+use Rattle.std.specs.List.{list_all}
+use Rattle.std.specs.Str.{bytes_eq}
+use Rattle.std.specs.Option.{ok_or}
+use Rattle.std.specs.Result.{result_ok}
+use Rattle.hex.specs.Hex.{decode_of}
+use Rattle.mb_lines.specs.Lines.{Line}
+use Rattle.mb_script.specs.declared.fault.LineFault.{LineFault}
+use Rattle.mb_script.specs.declared.fault.LineWhy.{LineWhy}
+use Rattle.mb_script.specs.declared.fault.LineWhy.TheVariants as why
+use Rattle.mb_script.specs.Lines.{◌>>=◌, read_by, statements_of}
+use Rattle.mb_script.specs.Words.{cut_at_space, is_word, number_of, tested}
+
+-- How a line writes the bytes of its entry.
+pub data Written : Type 0 where
+  Hex : List ℕ → Written
+  Text : List ℕ → Written
+  WithLineFeed : List ℕ → Written
+
+-- The words of a line.
+pub record Parts : Type 0 where
+  pub step : List ℕ
+  pub written : Written
+
+-- `hex PAIRS`, `text REST` or `line REST`; PAIRS is one word, REST is all that is left of the line
+abbrev pub written_by : List ℕ × List ℕ → Option Written
+written_by (form, rest) =
+    if bytes_eq form (codes "hex") then option_map Hex (tested is_word rest)
+    else if bytes_eq form (codes "text") then Some (Text rest)
+    else if bytes_eq form (codes "line") then Some (WithLineFeed rest)
+    else None
+
+-- what stands behind `at STEP`
+unfoldable pub written_as : List ℕ → Option Written
+written_as words = option_and_then written_by (cut_at_space words)
+
+abbrev pub with_step : List ℕ × List ℕ → Option Parts
+with_step (step, words) =
+    if is_word step then option_map (λ written. record { step = step; written = written }) (written_as words) else None
+
+abbrev pub behind_at : List ℕ × List ℕ → Option Parts
+behind_at (first, words) = if bytes_eq first (codes "at") then option_and_then with_step (cut_at_space words) else None
+
+-- a line `at STEP` and the bytes that are due, with single spaces between the words
+unfoldable pub parts_of : List ℕ → Option Parts
+parts_of line = option_and_then behind_at (cut_at_space line)
+
+-- 1 to 4,294,967,295
+abbrev pub step_of : List ℕ → Option ℕ
+step_of word = option_and_then (tested (nat_le 1)) (number_of word)
+
+abbrev pub is_printable : ℕ → Bool
+is_printable character = nat_le 32 character && nat_le character 126
+
+abbrev pub printable : List ℕ → Option (List ℕ)
+printable text = tested (list_all is_printable) text
+
+-- hexadecimal digits of either case in pairs, or printable characters; a line has a LF at its end
+unfoldable pub bytes_of : Written → Option (List ℕ)
+bytes_of (Hex digits) = result_ok (decode_of digits)
+bytes_of (Text characters) = printable characters
+bytes_of (WithLineFeed characters) = option_map (λ text. text ++ 10 ∷ []) (printable characters)
+
+-- Bytes that arrive at a step.
+pub record Entry : Type 0 where
+  pub step : ℕ
+  pub bytes : List ℕ
+
+-- what a line says by itself
+unfoldable pub entry_of : List ℕ → Result Entry LineWhy
+entry_of line = do
+  parts ← ok_or (parts_of line) why.Word
+  step ← ok_or (step_of parts.step) why.Number
+  bytes ← ok_or (bytes_of parts.written) why.Digits
+  Ok (record { step = step; bytes = bytes })
+
+-- a step is not smaller than that of the line before
+abbrev pub not_before : ℕ → Entry → Result Entry LineWhy
+not_before last entry = if nat_lt entry.step last then Err why.Order else Ok entry
+
+-- what a line says behind a line of the step `last`
+unfoldable pub entry_after : ℕ → List ℕ → Result Entry LineWhy
+entry_after last line = entry_of line >>= not_before last
+
+-- each byte with the step
+abbrev pub at_step : ℕ → List ℕ → List (ℕ × ℕ)
+at_step step bytes = map (λ byte. (step, byte)) bytes
+
+-- the steps and bytes of all lines behind a line of the step `last`
+abbrev pub entries_after : ℕ → List Line → Result (List (ℕ × ℕ)) LineFault
+entries_after last [] = Ok []
+entries_after last (line ∷ lines) = do
+  entry ← read_by (entry_after last) line
+  later ← entries_after entry.step lines
+  Ok (at_step entry.step entry.bytes ++ later)
+
+-- The steps and bytes of a script's text, or the first fault in order of lines.
+unfoldable pub script_of : List ℕ → Result (List (ℕ × ℕ)) LineFault
+script_of text = entries_after 0 (statements_of text)

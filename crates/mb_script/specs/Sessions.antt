@@ -1,0 +1,134 @@
+-- The grammar of session files: what a line says, and what a list of lines says.
+use Rattle.std.specs.Prelude.{ℕ, ◌+◌, ◌==◌, nat_le, not, Bool, ◌&&◌, ◌||◌, if◌then◌else◌, List, [], ◌∷◌, length, Option, Some, None, option_and_then, Result, Ok, Err, codes}
+use Rattle.std.specs.List.{filter, list_all, slice_split}
+use Rattle.std.specs.Str.{bytes_eq}
+use Rattle.std.specs.Option.{ok_or}
+use Rattle.mb_script.specs.declared.fault.LineFault.{LineFault}
+use Rattle.mb_script.specs.declared.fault.LineFault.TheVariants as fault
+use Rattle.mb_script.specs.declared.fault.LineWhy.{LineWhy}
+use Rattle.mb_script.specs.declared.fault.LineWhy.TheVariants as why
+use Rattle.mb_lines.specs.Lines.{lines_in, Line}
+use Rattle.mb_script.specs.Lines.{◌>>=◌, read_by, statements_of}
+use Rattle.mb_script.specs.Plan.{Guest, Plan, is_ram, is_board}
+use Rattle.mb_script.specs.Words.{number_of, tested}
+
+-- space or tab
+abbrev pub is_blank : ℕ → Bool
+is_blank character = (character == 32) || (character == 9)
+
+abbrev pub is_some_word : List ℕ → Bool
+is_some_word word = not (length word == 0)
+
+-- words are parted by spaces and tabs, which may also stand at the ends
+abbrev pub words_of : List ℕ → List (List ℕ)
+words_of line = filter is_some_word (slice_split is_blank line)
+
+-- $21 to $7E
+abbrev pub is_graphic : ℕ → Bool
+is_graphic character = nat_le 33 character && nat_le character 126
+
+-- one character or more, and all of them graphic
+abbrev pub is_name : List ℕ → Bool
+is_name word = is_some_word word && list_all is_graphic word
+
+-- session files are of version 1
+abbrev pub version_of : List ℕ → Option ℕ
+version_of word = option_and_then (tested (λ n. n == 1)) (number_of word)
+
+abbrev pub board_of : List ℕ → Option ℕ
+board_of word = option_and_then (tested is_board) (number_of word)
+
+abbrev pub slice_of : List ℕ → Option ℕ
+slice_of word = option_and_then (tested (nat_le 1)) (number_of word)
+
+abbrev pub ram_of : List ℕ → Option ℕ
+ram_of word = option_and_then (tested is_ram) (number_of word)
+
+-- `-` stands for no script
+abbrev pub script_named : List ℕ → Option (List ℕ)
+script_named word = if bytes_eq word (codes "-") then None else Some word
+
+-- the second of two words, of which the first is the keyword
+abbrev pub argument_of : List ℕ → List (List ℕ) → Option (List ℕ)
+argument_of keyword (first ∷ second ∷ []) = if bytes_eq first keyword then Some second else None
+argument_of keyword _ = None
+
+-- The words behind `guest`.
+pub record Fields : Type 0 where
+  pub ram : List ℕ
+  pub steps : List ℕ
+  pub image : List ℕ
+  pub script : List ℕ
+
+-- `guest RAM STEPS IMAGE SCRIPT`
+unfoldable pub fields_of : List (List ℕ) → Option Fields
+fields_of (first ∷ ram ∷ steps ∷ image ∷ script ∷ []) =
+    if bytes_eq first (codes "guest") && is_name image && is_name script
+    then Some (record { ram = ram; steps = steps; image = image; script = script })
+    else None
+fields_of _ = None
+
+-- the guest that a line's words name
+unfoldable pub guest_of : List (List ℕ) → Result Guest LineWhy
+guest_of words = do
+  fields ← ok_or (fields_of words) why.Word
+  ram ← ok_or (ram_of fields.ram) why.Number
+  steps ← ok_or (number_of fields.steps) why.Number
+  Ok (record { ram = ram; steps = steps; image = fields.image; script = script_named fields.script })
+
+-- the word behind the keyword of a line
+abbrev pub argument_in : List ℕ → List ℕ → Result (List ℕ) LineWhy
+argument_in keyword line = ok_or (argument_of keyword (words_of line)) why.Word
+
+-- `session 1`
+unfoldable pub session_line : List ℕ → Result ℕ LineWhy
+session_line line = argument_in (codes "session") line >>= λ word. ok_or (version_of word) why.Number
+
+-- `board KIB`
+unfoldable pub board_line : List ℕ → Result ℕ LineWhy
+board_line line = argument_in (codes "board") line >>= λ word. ok_or (board_of word) why.Number
+
+-- `slice N`
+unfoldable pub slice_line : List ℕ → Result ℕ LineWhy
+slice_line line = argument_in (codes "slice") line >>= λ word. ok_or (slice_of word) why.Number
+
+-- there are at most sixteen guests
+abbrev pub unless_sixteen : ℕ → Guest → Result Guest LineWhy
+unless_sixteen count guest = if count == 16 then Err why.Many else Ok guest
+
+-- a guest behind so many others
+unfoldable pub guest_line : ℕ → List ℕ → Result Guest LineWhy
+guest_line count line = guest_of (words_of line) >>= unless_sixteen count
+
+-- what the next line says, and the lines behind it; where there is none, a word is missing in the line after the last
+abbrev pub due : {A : Type 0} → ℕ → (List ℕ → Result A LineWhy) → List Line → Result (A × List Line) LineFault
+due past rule [] = Err (fault.Line past why.Word)
+due past rule (line ∷ later) = read_by rule line >>= λ said. Ok (said, later)
+
+-- the guests of all lines, behind so many others
+abbrev pub guests_after : ℕ → List Line → Result (List Guest) LineFault
+guests_after count [] = Ok []
+guests_after count (line ∷ lines) = do
+  guest ← read_by (guest_line count) line
+  later ← guests_after (count + 1) lines
+  Ok (guest ∷ later)
+
+-- one guest or more
+unfoldable pub guests_of : ℕ → List Line → Result (List Guest) LineFault
+guests_of past lines = do
+  guest ← due past (guest_line 0) lines
+  others ← guests_after 1 guest.1
+  Ok (guest.0 ∷ others)
+
+-- a session, its board, its slice, and its guests; past is the number of the line after the last
+unfoldable pub plan_of : ℕ → List Line → Result Plan LineFault
+plan_of past lines = do
+  session ← due past session_line lines
+  board ← due past board_line session.1
+  slice ← due past slice_line board.1
+  guests ← guests_of past slice.1
+  Ok (record { board = board.0; slice = slice.0; guests = guests })
+
+-- The plan of a session file, or the first fault in order of lines.
+unfoldable pub session_of : List ℕ → Result Plan LineFault
+session_of text = plan_of (length (lines_in text) + 1) (statements_of text)

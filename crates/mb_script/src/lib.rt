@@ -1,0 +1,27 @@
+//! The texts that a user writes for a run: scripts of terminal input and session files.
+//!
+//! Both readers stand between a file and the machines and know neither. Each grammar is a definition,
+//! by lines and words: `script_of` of `specs/Scripts` gives what arrives at which step, and
+//! `session_of` of `specs/Sessions` the plan of a board and its guests. `specs/Lines` says what they
+//! share: how a text is cut into lines, which lines are passed over, and which fault is the first.
+#![tactic(auto)]
+
+mod entry;
+mod fault;
+mod number;
+mod plan;
+mod script;
+mod script_line;
+mod script_reading;
+mod session_line;
+mod session_reading;
+mod statement;
+
+pub use fault::{LineFault, LineWhy};
+pub use plan::{GuestPlan, SessionPlan};
+pub use script::Script;
+pub use script_reading::read_script;
+pub use session_reading::read_session;
+
+#[cfg(test)]
+mod tests;

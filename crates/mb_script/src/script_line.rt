@@ -1,0 +1,181 @@
+//! What one line of a script says by itself.
+
+ghost use Rattle.std.specs.Prelude.{◌≡◌, ◌≤◌, ◌+◌, IfOk, IfSome, length, option_map, position};
+ghost use Rattle.std.specs.List.{list_all};
+ghost use Rattle.std.specs.Option.{ok_or};
+ghost use Rattle.std.specs.Result.{result_ok};
+ghost use Rattle.hex.specs.Hex.{decode_of};
+ghost use Rattle.mb_script.specs.declared.fault.LineWhy.TheVariants as why;
+ghost use Rattle.mb_script.specs.Words.{cut_at_space, is_space, is_word};
+ghost use Rattle.mb_script.specs.Scripts.{bytes_of, entry_of, is_printable, parts_of, printable, step_of, written_as};
+ghost use Rattle.mb_script.specs.Answers.{GivesAlone, cut_said, entry_said, parts_said, written_len, written_said};
+
+use crate::entry::Entry;
+use crate::fault::{LineWhy, Refusal};
+use crate::number::number_of;
+use hex::FromHexError;
+use std::alloc::Global;
+
+/// How a line writes the bytes of its entry.
+#[derive(Clone, Copy)]
+enum Written<'a> {
+    /// As pairs of hexadecimal digits.
+    Hex(&'a [u8]),
+    /// As they are.
+    Text(&'a [u8]),
+    /// As they are, with a LF behind them.
+    WithLineFeed(&'a [u8]),
+}
+
+/// The words of a line.
+#[derive(Clone, Copy)]
+struct Parts<'a> {
+    step: &'a [u8],
+    written: Written<'a>,
+}
+
+/// The entry that stands in a line.
+#[tactic(auto, unfolding(crate::specs::Scripts::entry_of))]
+pub(crate) fn entry_of(alloc: Global, line: &[u8]) -> Result<Entry, Refusal>
+    ensures given { GivesAlone entry_said result (entry_of line.now) }
+    ensures short { IfOk result (λ entry. length entry.bytes.items ≤ length line.now) }
+{
+    let Some(parts) = parts_of(line) else {
+        return Err(Refusal::Why(LineWhy::Word));
+    };
+    let Some(step) = step_of(parts.step) else {
+        return Err(Refusal::Why(LineWhy::Number));
+    };
+    let bytes = bytes_of(alloc, parts.written)?;
+    Ok(Entry { step, bytes })
+}
+
+/// What comes before the first space, and what comes after it.
+#[tactic(auto, using(crate::proofs::Cuts::cut_found, crate::proofs::Cuts::cut_none))]
+fn cut_at_space(line: &[u8]) -> Option<(&[u8], &[u8])>
+    ensures given { option_map cut_said result ≡ cut_at_space line.now }
+    ensures short { IfSome result (λ cut. length cut.1.now + 1 ≤ length line.now) }
+{
+    match space(line) {
+        None => None,
+        Some(end) => Some((&line[..end], &line[end + 1..])),
+    }
+}
+
+/// The place of the first space.
+fn space(line: &[u8]) -> Option<usize>
+    ensures { result ≡ position is_space line.now }
+{
+    line.iter().position(|&character| character == b' ')
+}
+
+/// One or more characters, and no space.
+fn is_word(characters: &[u8]) -> bool
+    ensures { result ≡ is_word characters.now }
+{
+    !characters.is_empty() && characters.iter().all(|&character| character != b' ')
+}
+
+/// The words of a line `at STEP ..`.
+#[tactic(auto, unfolding(crate::specs::Scripts::parts_of))]
+fn parts_of(line: &[u8]) -> Option<Parts<'_>>
+    ensures given { option_map parts_said result ≡ parts_of line.now }
+    ensures short { IfSome result (λ parts. written_len parts.written + 1 ≤ length line.now) }
+{
+    let (first, words) = cut_at_space(line)?;
+    if first != b"at".as_slice() {
+        return None;
+    }
+    let (step, words) = cut_at_space(words)?;
+    if !is_word(step) {
+        return None;
+    }
+    let written = written_as(words)?;
+    Some(Parts { step, written })
+}
+
+/// What stands behind `at STEP `.
+#[tactic(auto, unfolding(crate::specs::Scripts::written_as))]
+fn written_as(words: &[u8]) -> Option<Written<'_>>
+    ensures given { option_map written_said result ≡ written_as words.now }
+    ensures short { IfSome result (λ written. written_len written ≤ length words.now) }
+{
+    let (form, rest) = cut_at_space(words)?;
+    if form == b"hex".as_slice() {
+        if !is_word(rest) {
+            return None;
+        }
+        Some(Written::Hex(rest))
+    } else if form == b"text".as_slice() {
+        Some(Written::Text(rest))
+    } else if form == b"line".as_slice() {
+        Some(Written::WithLineFeed(rest))
+    } else {
+        None
+    }
+}
+
+/// 1 to 4,294,967,295.
+fn step_of(word: &[u8]) -> Option<u32>
+    ensures given { result ≡ step_of word.now }
+    ensures from_one { IfSome result (λ step. 1 ≤ step) }
+{
+    let step = number_of(word)?;
+    if step == 0 {
+        return None;
+    }
+    Some(step)
+}
+
+/// The bytes that are written.
+#[tactic(auto, unfolding(crate::specs::Scripts::bytes_of))]
+fn bytes_of(alloc: Global, written: Written) -> Result<Vec<u8>, Refusal>
+    ensures given { GivesAlone (λ bytes. bytes.items) result (ok_or (bytes_of (written_said written.entry)) why.Digits) }
+    ensures short { IfOk result (λ bytes. length bytes.items ≤ written_len written.entry + 1) }
+{
+    match written {
+        Written::Hex(digits) => bytes_of_pairs(alloc, digits),
+        Written::Text(text) => printable(alloc, text),
+        Written::WithLineFeed(text) => {
+            let mut bytes = printable(alloc, text)?;
+            bytes.push(b'\n')?;
+            Ok(bytes)
+        }
+    }
+}
+
+/// The bytes that pairs of hexadecimal digits spell.
+#[tactic(auto, using(crate::proofs::Pairs::shorter))]
+fn bytes_of_pairs(alloc: Global, digits: &[u8]) -> Result<Vec<u8>, Refusal>
+    ensures given { GivesAlone (λ bytes. bytes.items) result (ok_or (result_ok (decode_of digits.now)) why.Digits) }
+    ensures short { IfOk result (λ bytes. length bytes.items ≤ length digits.now) }
+{
+    match hex::decode(alloc, digits) {
+        Ok(bytes) => Ok(bytes),
+        Err(FromHexError::OutOfMemory) => Err(Refusal::Memory),
+        Err(_) => Err(Refusal::Why(LineWhy::Digits)),
+    }
+}
+
+/// A text of bytes from $20 to $7E.
+fn printable(alloc: Global, text: &[u8]) -> Result<Vec<u8>, Refusal>
+    ensures given { GivesAlone (λ bytes. bytes.items) result (ok_or (printable text.now) why.Digits) }
+    ensures short { IfOk result (λ bytes. length bytes.items ≤ length text.now) }
+{
+    if !are_printable(text) {
+        return Err(Refusal::Why(LineWhy::Digits));
+    }
+    Ok(Vec::from_slice(alloc, text)?)
+}
+
+fn are_printable(text: &[u8]) -> bool
+    ensures { result ≡ list_all is_printable text.now }
+{
+    text.iter().all(|&character| is_printable(character))
+}
+
+fn is_printable(character: u8) -> bool
+    ensures { result ≡ is_printable character }
+{
+    matches!(character, b' '..=b'~')
+}

@@ -1,0 +1,219 @@
+//! What one line of a session file says by itself.
+
+ghost use Rattle.std.specs.Prelude.{◌≡◌, ◌≢◌, ◌≤◌, IfOk, IfSome, IsTrue, OnOk, map, option_map, string_bytes};
+ghost use Rattle.mb_script.specs.Plan.{IsBoard, IsRam};
+ghost use Rattle.mb_script.specs.Sessions.{argument_in, argument_of, board_line, board_of, fields_of, guest_line, guest_of, is_blank, is_graphic, is_name, ram_of, script_named, session_line, slice_line, slice_of, version_of, words_of};
+ghost use Rattle.mb_script.specs.Answers.{GivesAlone, bytes_said, fields_said, guest_said};
+
+use crate::fault::{LineWhy, Refusal};
+use crate::number::number_of;
+use crate::plan::GuestPlan;
+use std::alloc::{AllocError, Global};
+
+/// The words behind `guest`.
+#[derive(Clone, Copy)]
+struct Fields<'a> {
+    ram: &'a [u8],
+    steps: &'a [u8],
+    image: &'a [u8],
+    script: &'a [u8],
+}
+
+/// The number in a line `session 1`.
+#[tactic(auto, unfolding(crate::specs::Sessions::session_line))]
+pub(crate) fn version(alloc: Global, line: &[u8]) -> Result<u32, Refusal>
+    ensures { GivesAlone (λ version. version) result (session_line line.now) }
+{
+    let word = argument(alloc, b"session", line)?;
+    version_of(word).ok_or(Refusal::Why(LineWhy::Number))
+}
+
+/// The number in a line `board KIB`.
+#[tactic(auto, unfolding(crate::specs::Sessions::board_line))]
+pub(crate) fn board(alloc: Global, line: &[u8]) -> Result<u32, Refusal>
+    ensures given { GivesAlone (λ kib. kib) result (board_line line.now) }
+    ensures in_range { IfOk result IsBoard }
+{
+    let word = argument(alloc, b"board", line)?;
+    board_of(word).ok_or(Refusal::Why(LineWhy::Number))
+}
+
+/// The number in a line `slice N`.
+#[tactic(auto, unfolding(crate::specs::Sessions::slice_line))]
+pub(crate) fn slice(alloc: Global, line: &[u8]) -> Result<u32, Refusal>
+    ensures given { GivesAlone (λ steps. steps) result (slice_line line.now) }
+    ensures in_range { IfOk result (λ steps. 1 ≤ steps) }
+{
+    let word = argument(alloc, b"slice", line)?;
+    slice_of(word).ok_or(Refusal::Why(LineWhy::Number))
+}
+
+/// The guest in a line, behind so many others.
+#[tactic(auto, unfolding(crate::specs::Sessions::guest_line))]
+pub(crate) fn guest(alloc: Global, count: usize, line: &[u8]) -> Result<GuestPlan, Refusal>
+    ensures given { GivesAlone guest_said result (guest_line count line.now) }
+    ensures few { OnOk result (count ≢ 16) }
+{
+    let words = words_of(alloc, line)?;
+    let guest = guest_of(alloc, &words)?;
+    if count == 16 {
+        return Err(Refusal::Why(LineWhy::Many));
+    }
+    Ok(guest)
+}
+
+/// The second of the two words of a line, of which the first is the keyword.
+fn argument<'a>(alloc: Global, keyword: &[u8], line: &'a [u8]) -> Result<&'a [u8], Refusal>
+    ensures { GivesAlone bytes_said result (argument_in keyword.now line.entry.now) }
+{
+    let words = words_of(alloc, line)?;
+    argument_of(keyword, &words).ok_or(Refusal::Why(LineWhy::Word))
+}
+
+/// The words of a line, which are parted by spaces and tabs.
+fn words_of<'a>(alloc: Global, line: &'a [u8]) -> Result<Vec<&'a [u8]>, AllocError>
+    ensures { IfOk result (λ words. map bytes_said words.items ≡ words_of line.entry.now) }
+{
+    line.split(|&character| is_blank(character))
+        .filter(|word| !word.is_empty())
+        .collect(alloc)
+}
+
+/// A space or a tab.
+fn is_blank(character: u8) -> bool
+    ensures { result ≡ is_blank character }
+{
+    matches!(character, b' ' | b'\t')
+}
+
+/// The second of two words, of which the first is the keyword.
+fn argument_of<'a>(keyword: &[u8], words: &[&'a [u8]]) -> Option<&'a [u8]>
+    ensures { option_map bytes_said result ≡ argument_of keyword.now (map bytes_said words.now) }
+{
+    match words {
+        [first, second] if *first == keyword => Some(*second),
+        _ => None,
+    }
+}
+
+/// The version of a session file, which is 1.
+fn version_of(word: &[u8]) -> Option<u32>
+    ensures { result ≡ version_of word.now }
+{
+    let version = number_of(word)?;
+    if version != 1 {
+        return None;
+    }
+    Some(version)
+}
+
+/// The size of a board's memory in KiB.
+fn board_of(word: &[u8]) -> Option<u32>
+    ensures given { result ≡ board_of word.now }
+    ensures in_range { IfSome result IsBoard }
+{
+    let kib = number_of(word)?;
+    if kib < 128 || kib > 65_536 || kib % 64 != 0 {
+        return None;
+    }
+    Some(kib)
+}
+
+/// The steps of a turn.
+fn slice_of(word: &[u8]) -> Option<u32>
+    ensures given { result ≡ slice_of word.now }
+    ensures in_range { IfSome result (λ steps. 1 ≤ steps) }
+{
+    let steps = number_of(word)?;
+    if steps == 0 {
+        return None;
+    }
+    Some(steps)
+}
+
+/// The size of a guest's RAM in KiB.
+fn ram_of(word: &[u8]) -> Option<u32>
+    ensures given { result ≡ ram_of word.now }
+    ensures in_range { IfSome result IsRam }
+{
+    let kib = number_of(word)?;
+    if kib < 64 || kib > 16_384 || kib % 64 != 0 {
+        return None;
+    }
+    Some(kib)
+}
+
+/// One character or more of $21 to $7E.
+fn is_name(word: &[u8]) -> bool
+    ensures { result ≡ is_name word.now }
+{
+    !word.is_empty() && word.iter().all(|&character| is_graphic(character))
+}
+
+fn is_graphic(character: u8) -> bool
+    ensures { result ≡ is_graphic character }
+{
+    matches!(character, b'!'..=b'~')
+}
+
+/// The text of a name.
+fn text_of(alloc: Global, name: &[u8]) -> Result<String, AllocError>
+    requires { IsTrue (is_name name.now) }
+    ensures { IfOk result (λ text. string_bytes text ≡ name.now) }
+{
+    match str::from_utf8(name) {
+        Ok(text) => String::from_str(alloc, text),
+        Err(_) => unreachable!(),
+    }
+}
+
+/// The name of a script, where `-` stands for none.
+fn script_named(alloc: Global, name: &[u8]) -> Result<Option<String>, AllocError>
+    requires { IsTrue (is_name name.now) }
+    ensures { IfOk result (λ script. option_map string_bytes script ≡ script_named name.now) }
+{
+    if name == b"-".as_slice() {
+        return Ok(None);
+    }
+    Ok(Some(text_of(alloc, name)?))
+}
+
+/// `guest RAM STEPS IMAGE SCRIPT`.
+#[tactic(auto, unfolding(crate::specs::Sessions::fields_of))]
+fn fields_of<'a>(words: &[&'a [u8]]) -> Option<Fields<'a>>
+    ensures given { option_map fields_said result ≡ fields_of (map bytes_said words.now) }
+    ensures image { IfSome result (λ fields. IsTrue (is_name fields.image.now)) }
+    ensures script { IfSome result (λ fields. IsTrue (is_name fields.script.now)) }
+{
+    let [first, ram, steps, image, script] = words else {
+        return None;
+    };
+    if *first != b"guest".as_slice() || !is_name(image) || !is_name(script) {
+        return None;
+    }
+    Some(Fields {
+        ram,
+        steps,
+        image,
+        script,
+    })
+}
+
+/// The guest that a line's words name.
+#[tactic(auto, unfolding(crate::specs::Sessions::guest_of))]
+fn guest_of(alloc: Global, words: &[&[u8]]) -> Result<GuestPlan, Refusal>
+    ensures { GivesAlone guest_said result (guest_of (map bytes_said words.now)) }
+{
+    let Some(fields) = fields_of(words) else {
+        return Err(Refusal::Why(LineWhy::Word));
+    };
+    let Some(ram) = ram_of(fields.ram) else {
+        return Err(Refusal::Why(LineWhy::Number));
+    };
+    let Some(steps) = number_of(fields.steps) else {
+        return Err(Refusal::Why(LineWhy::Number));
+    };
+    let image = text_of(alloc, fields.image)?;
+    let script = script_named(alloc, fields.script)?;
+    Ok(GuestPlan::new(ram, steps, image, script))
+}

@@ -1,0 +1,100 @@
+//! A text as the plan of a session.
+
+ghost use Rattle.std.specs.Prelude.{◌≡◌, ◌≢◌, ◌<◌, ◌≤◌, ◌^◌, IfErr, IfOk, Ok, OnOk, length, map};
+ghost use Rattle.mb_lines.specs.Lines.{left, past};
+ghost use Rattle.mb_lines.specs.Answers.{line_said};
+ghost use Rattle.mb_script.specs.Lines.{read_by, statements};
+ghost use Rattle.mb_script.specs.Plan.{IsBoard};
+ghost use Rattle.mb_script.specs.Sessions.{board_line, due, guest_line, guests_after, guests_of, plan_of, session_line, session_of, slice_line};
+ghost use Rattle.mb_script.specs.Answers.{Faults, Gives, guest_said, plan_said};
+
+use crate::fault::LineFault;
+use crate::plan::{GuestPlan, SessionPlan};
+use crate::session_line;
+use crate::statement::{due_statement, next_statement};
+use mb_lines::{Line, Lines};
+use std::alloc::Global;
+
+/// Reads a session file: the lines `session 1`, `board KIB`, `slice N` and then one to sixteen
+/// `guest RAM STEPS IMAGE SCRIPT`, with words that are parted by spaces and tabs.
+///
+/// KIB and RAM are sizes in KiB, N is the steps of a slice, STEPS a bound on a guest's steps. IMAGE and
+/// SCRIPT are names of files, of the bytes from $21 to $7E; the script `-` is none. Empty lines and
+/// lines that begin with `#` are passed over, but counted. Of the faults only the first in order of
+/// lines is told, and of one line the first in the order of [`LineWhy`](crate::LineWhy); in a text that
+/// ends too early the line after the last one lacks a word.
+#[tactic(auto, unfolding(crate::specs::Sessions::session_of))]
+pub fn read_session(alloc: Global, text: &[u8]) -> Result<SessionPlan, LineFault>
+    requires { length text.now < 2 ^ 31 }
+    ensures plan { IfOk result (λ plan. session_of text.now ≡ Ok (plan_said plan)) }
+    ensures fault { IfErr result (λ fault. Faults fault (session_of text.now)) }
+{
+    plan_of(alloc, &mut Lines::new(text))
+}
+
+/// The plan that is left to read.
+#[tactic(auto, unfolding(crate::specs::Sessions::plan_of))]
+fn plan_of(alloc: Global, lines: &mut Lines) -> Result<SessionPlan, LineFault>
+    ensures { Gives plan_said result (plan_of (past lines.old) (statements (left lines.old))) }
+{
+    version(alloc, lines)?;
+    let board = board(alloc, lines)?;
+    let slice = slice(alloc, lines)?;
+    let guests = guests(alloc, lines)?;
+    Ok(SessionPlan::new(board, slice, guests))
+}
+
+fn version(alloc: Global, lines: &mut Lines) -> Result<u32, LineFault>
+    ensures given { Gives (λ version. (version, statements (left lines.new))) result (due (past lines.old) session_line (statements (left lines.old))) }
+    ensures past { past lines.new ≡ past lines.old }
+{
+    let line = due_statement(lines)?;
+    let version = session_line::version(alloc, line.characters);
+    version.map_err(|refusal| refusal.at(line.number))
+}
+
+fn board(alloc: Global, lines: &mut Lines) -> Result<u32, LineFault>
+    ensures given { Gives (λ board. (board, statements (left lines.new))) result (due (past lines.old) board_line (statements (left lines.old))) }
+    ensures in_range { IfOk result IsBoard }
+    ensures past { past lines.new ≡ past lines.old }
+{
+    let line = due_statement(lines)?;
+    let board = session_line::board(alloc, line.characters);
+    board.map_err(|refusal| refusal.at(line.number))
+}
+
+fn slice(alloc: Global, lines: &mut Lines) -> Result<u32, LineFault>
+    ensures given { Gives (λ slice. (slice, statements (left lines.new))) result (due (past lines.old) slice_line (statements (left lines.old))) }
+    ensures in_range { IfOk result (λ slice. 1 ≤ slice) }
+    ensures past { past lines.new ≡ past lines.old }
+{
+    let line = due_statement(lines)?;
+    let slice = session_line::slice(alloc, line.characters);
+    slice.map_err(|refusal| refusal.at(line.number))
+}
+
+/// One guest or more.
+#[tactic(auto, unfolding(crate::specs::Sessions::guests_of))]
+fn guests(alloc: Global, lines: &mut Lines) -> Result<Vec<GuestPlan>, LineFault>
+    ensures given { Gives (λ guests. map guest_said guests.items) result (guests_of (past lines.old) (statements (left lines.old))) }
+    ensures some { IfOk result (λ guests. 1 ≤ length guests.items) }
+    ensures few { IfOk result (λ guests. length guests.items ≤ 16) }
+{
+    let mut guests = Vec::new(alloc);
+    let first = due_statement(lines)?;
+    guests.push(guest_in(alloc, 0, first)?)?;
+    while let Some(line) = next_statement(lines) {
+        let guest = guest_in(alloc, guests.len(), line)?;
+        guests.push(guest)?;
+    }
+    Ok(guests)
+}
+
+/// The guest in a line, behind so many others.
+fn guest_in(alloc: Global, count: usize, line: Line) -> Result<GuestPlan, LineFault>
+    ensures given { Gives guest_said result (read_by (guest_line count) (line_said line.entry)) }
+    ensures few { OnOk result (count ≢ 16) }
+{
+    let guest = session_line::guest(alloc, count, line.characters);
+    guest.map_err(|refusal| refusal.at(line.number))
+}

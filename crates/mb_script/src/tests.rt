@@ -1,0 +1,444 @@
+use super::*;
+use std::test::Fail;
+
+type Entries<'a> = &'a [(u32, u8)];
+
+fn has_entries(script: &Script, want: Entries) -> bool {
+    let count = script.count();
+    let same = (0..count)
+        .zip(want)
+        .all(|(place, entry)| script.entry(place) == Some(*entry));
+    count as usize == want.len() && same && script.entry(count) == None
+}
+
+/// The bytes from $21 to $7E.
+const ALL_GRAPHIC: &[u8] =
+    b"!\"#$%&'()*+,-./0123456789:;<=>?@ABCDEFGHIJKLMNOPQRSTUVWXYZ[\\]^_`abcdefghijklmnopqrstuvwxyz{|}~";
+
+/// The bytes from $20 to $7E.
+const ALL_PRINTABLE: &[u8] =
+    b" !\"#$%&'()*+,-./0123456789:;<=>?@ABCDEFGHIJKLMNOPQRSTUVWXYZ[\\]^_`abcdefghijklmnopqrstuvwxyz{|}~";
+
+#[test]
+fn reads_scripts(rt: HostRuntime) -> Result<(), Fail> {
+    let table: [(&[u8], Entries); 16] = [
+        (b"", &[]),
+        (b"\n\r\n# at x\n#\n", &[]),
+        (
+            b"at 1 hex 000102030405060708090A0B0C0D0E0F10",
+            &[
+                (1, 0),
+                (1, 1),
+                (1, 2),
+                (1, 3),
+                (1, 4),
+                (1, 5),
+                (1, 6),
+                (1, 7),
+                (1, 8),
+                (1, 9),
+                (1, 10),
+                (1, 11),
+                (1, 12),
+                (1, 13),
+                (1, 14),
+                (1, 15),
+                (1, 16),
+            ],
+        ),
+        (b"at 7 hex aAfF0d\n", &[(7, 0xAA), (7, 0xFF), (7, 0x0D)]),
+        (b"at 5 text ls\n", &[(5, b'l'), (5, b's')]),
+        (b"at 5 line ls\r\n", &[(5, b'l'), (5, b's'), (5, 10)]),
+        (b"at 5 line \n", &[(5, 10)]),
+        (b"at 5 text ", &[]),
+        (b"at 5 text  a \n", &[(5, b' '), (5, b'a'), (5, b' ')]),
+        (
+            b"at 5 text # hex\n",
+            &[(5, b'#'), (5, b' '), (5, b'h'), (5, b'e'), (5, b'x')],
+        ),
+        (
+            b"at 9 hex 41\n# between\n\nat 9 line \nat 10 text B",
+            &[(9, 0x41), (9, 10), (10, 0x42)],
+        ),
+        (b"at 0000000000000000000005 hex 41\n", &[(5, 0x41)]),
+        (b"at 4294967295 hex 41\n", &[(4_294_967_295, 0x41)]),
+        (
+            b"at 1 text at\r\nat 1 text at",
+            &[(1, b'a'), (1, b't'), (1, b'a'), (1, b't')],
+        ),
+        (b"at 1 text \r\nat 2 line \r\n", &[(2, 10)]),
+        (b"at 3 text \nat 3 text ~\n", &[(3, b'~')]),
+    ];
+    for (text, want) in table {
+        assert!(rt; text.len() < 1000);
+        let script = read_script(rt.alloc(), text)?;
+        assert!(rt; has_entries(&script, want), "{text:?}");
+    }
+    Ok(())
+}
+
+#[test]
+fn reads_every_printable_byte(rt: HostRuntime) -> Result<(), Fail> {
+    let mut text = Vec::from_slice(rt.alloc(), b"at 1 text ")?;
+    text.extend_from_slice(ALL_PRINTABLE)?;
+    assert!(rt; text.len() < 1000);
+    let script = read_script(rt.alloc(), &text)?;
+    assert_eq!(rt; script.count(), 95);
+    for byte in 0x20..=0x7E {
+        assert_eq!(rt; script.entry(u32::from(byte - 0x20)), Some((1, byte)));
+    }
+    assert_eq!(rt; script.entry(95), None);
+    Ok(())
+}
+
+const fn line(number: u32, why: LineWhy) -> LineFault {
+    LineFault::Line { number, why }
+}
+
+#[test]
+fn tells_faults_of_scripts(rt: HostRuntime) {
+    let table: [(&[u8], u32, LineWhy); 49] = [
+        (b"At 5 hex 41\n", 1, LineWhy::Word),
+        (b"at\n", 1, LineWhy::Word),
+        (b"at 5\n", 1, LineWhy::Word),
+        (b"at 5 hex\n", 1, LineWhy::Word),
+        (b"at 5 hex ", 1, LineWhy::Word),
+        (b"at 5 text\n", 1, LineWhy::Word),
+        (b"at 5 line", 1, LineWhy::Word),
+        (b"at 5 byte 41\n", 1, LineWhy::Word),
+        (b"at 5 hexx 41\n", 1, LineWhy::Word),
+        (b"at 5 hex 41 42\n", 1, LineWhy::Word),
+        (b"at 5 hex 41 \n", 1, LineWhy::Word),
+        (b"at 5 hex  41\n", 1, LineWhy::Word),
+        (b"at  5 hex 41\n", 1, LineWhy::Word),
+        (b"at  hex 41\n", 1, LineWhy::Word),
+        (b" at 5 hex 41\n", 1, LineWhy::Word),
+        (b" # no comment\n", 1, LineWhy::Word),
+        (b"at 5 hex 41 # no comment\n", 1, LineWhy::Word),
+        (b"at\t5 hex 41\n", 1, LineWhy::Word),
+        (b"\n\r\n# three lines\n \n", 4, LineWhy::Word),
+        (b"\r", 1, LineWhy::Word),
+        (b"at 1 abort\n", 1, LineWhy::Word),
+        (b"at 1 text a\nat 1 tex a\n", 2, LineWhy::Word),
+        (b"at 0 hex 41\n", 1, LineWhy::Number),
+        (b"at 4294967296 hex 41\n", 1, LineWhy::Number),
+        (
+            b"at 99999999999999999999999999 hex 41\n",
+            1,
+            LineWhy::Number,
+        ),
+        (b"at 4294967295x hex 41\n", 1, LineWhy::Number),
+        (b"at +5 hex 41\n", 1, LineWhy::Number),
+        (b"at -1 hex 41\n", 1, LineWhy::Number),
+        (b"at $5 hex 41\n", 1, LineWhy::Number),
+        (b"at : hex 41\n", 1, LineWhy::Number),
+        (b"at / hex 41\n", 1, LineWhy::Number),
+        (b"# one\nat 0 line \n", 2, LineWhy::Number),
+        (b"at 5 hex 4\n", 1, LineWhy::Digits),
+        (b"at 5 hex 4G\n", 1, LineWhy::Digits),
+        (b"at 5 hex 41\t\n", 1, LineWhy::Digits),
+        (b"at 5 hex 41\r", 1, LineWhy::Digits),
+        (b"at 5 text a\r\r\n", 1, LineWhy::Digits),
+        (b"at 5 text \x1F\n", 1, LineWhy::Digits),
+        (b"at 5 text \x7F\n", 1, LineWhy::Digits),
+        (b"at 5 line \xC3\xA4\n", 1, LineWhy::Digits),
+        (b"at 5 hex 41\n\nat 5 text \t\n", 3, LineWhy::Digits),
+        (b"at 6 hex 41\nat 5 hex 41\n", 2, LineWhy::Order),
+        (b"at 6 text \n#\nat 5 hex 41\n", 3, LineWhy::Order),
+        // Two faults in one line.
+        (b"at x hex\n", 1, LineWhy::Word),
+        (b"at 0 hex 4\n", 1, LineWhy::Number),
+        (b"at 6 hex 41\nat 5 hex 4\n", 2, LineWhy::Digits),
+        (b"at 6 hex 41\nat 0 hex 41\n", 2, LineWhy::Number),
+        (b"at 6 hex 41\nat 5 hex 41 \n", 2, LineWhy::Word),
+        // Faults in two lines.
+        (b"at 6 hex 4\nat 5 hax 41\n", 1, LineWhy::Digits),
+    ];
+    for (text, number, why) in table {
+        assert!(rt; text.len() < 1000);
+        let answer = read_script(rt.alloc(), text);
+        assert_eq!(rt; answer.err(), Some(line(number, why)), "{text:?}");
+    }
+}
+
+#[test]
+fn prints_faults(rt: HostRuntime) -> Result<(), Fail> {
+    let table = [
+        (LineFault::Memory, "no memory"),
+        (line(1, LineWhy::Word), "line 1: word"),
+        (line(20, LineWhy::Number), "line 20: number"),
+        (line(3, LineWhy::Digits), "line 3: digits"),
+        (line(4, LineWhy::Order), "line 4: order"),
+        (line(5, LineWhy::Many), "line 5: many"),
+    ];
+    for (fault, want) in table {
+        assert_eq!(rt; fault.to_string(rt.alloc())?.as_str(), want);
+    }
+    Ok(())
+}
+
+type Named<'a> = (u32, u32, &'a str, Option<&'a str>);
+
+fn is_plan(plan: &SessionPlan, board: u32, slice: u32, want: &[Named]) -> bool {
+    let guests = plan.guests();
+    plan.board() == board
+        && plan.slice() == slice
+        && guests.len() == want.len()
+        && guests.iter().zip(want).all(|(guest, (ram, steps, image, script))| {
+            let numbers = guest.ram() == *ram && guest.steps() == *steps;
+            numbers && guest.image() == *image && guest.script() == *script
+        })
+}
+
+/// Sixteen guests, behind `session 1`, `board 65536` and `slice 1`.
+const SIXTEEN: &[u8] = b"session 1\nboard 65536\nslice 1\n\
+guest 64 1 a -\nguest 64 1 a -\nguest 64 1 a -\nguest 64 1 a -\n\
+guest 64 1 a -\nguest 64 1 a -\nguest 64 1 a -\nguest 64 1 a -\n\
+guest 64 1 a -\nguest 64 1 a -\nguest 64 1 a -\nguest 64 1 a -\n\
+guest 64 1 a -\nguest 64 1 a -\nguest 64 1 a -\nguest 64 1 a -\n";
+
+#[test]
+fn reads_sessions(rt: HostRuntime) -> Result<(), Fail> {
+    let table: [(&[u8], u32, u32, &[Named]); 9] = [
+        (
+            b"session 1\nboard 448\nslice 100\nguest 64 20000 three.s19 -\nguest 128 10 one.s19 keys.txt\n",
+            448,
+            100,
+            &[
+                (64, 20_000, "three.s19", None),
+                (128, 10, "one.s19", Some("keys.txt")),
+            ],
+        ),
+        (
+            b"session 1\r\nboard 128\r\nslice 1\r\nguest 64 0 a b\r\n",
+            128,
+            1,
+            &[(64, 0, "a", Some("b"))],
+        ),
+        (
+            b"# first\n\n \tsession\t 1 \n\r\nboard\t65536\t\n#\nslice  4294967295\n\t guest 16384 \t 4294967295  a.s19 \t- \n# last",
+            65_536,
+            4_294_967_295,
+            &[(16_384, 4_294_967_295, "a.s19", None)],
+        ),
+        (
+            b"session 01\nboard 000128\nslice 0000000000000000001\nguest 00064 007 -- -a",
+            128,
+            1,
+            &[(64, 7, "--", Some("-a"))],
+        ),
+        (
+            b"session 1\nboard 128\nslice 1\nguest 64 1 - -",
+            128,
+            1,
+            &[(64, 1, "-", None)],
+        ),
+        (
+            b"session 1\nboard 128\nslice 1\nguest 64 1 !~ !\"#$%&'()*+,-./09:;<=>?@AZ[\\]^_`az{|}~",
+            128,
+            1,
+            &[(
+                64,
+                1,
+                "!~",
+                Some("!\"#$%&'()*+,-./09:;<=>?@AZ[\\]^_`az{|}~"),
+            )],
+        ),
+        (
+            b"session 1\nboard 128\nslice 1\nguest 64 1 guest session",
+            128,
+            1,
+            &[(64, 1, "guest", Some("session"))],
+        ),
+        (
+            b"session 1\nboard 128\nslice 1\nguest 64 1 #a #",
+            128,
+            1,
+            &[(64, 1, "#a", Some("#"))],
+        ),
+        (
+            SIXTEEN,
+            65_536,
+            1,
+            &[
+                (64, 1, "a", None),
+                (64, 1, "a", None),
+                (64, 1, "a", None),
+                (64, 1, "a", None),
+                (64, 1, "a", None),
+                (64, 1, "a", None),
+                (64, 1, "a", None),
+                (64, 1, "a", None),
+                (64, 1, "a", None),
+                (64, 1, "a", None),
+                (64, 1, "a", None),
+                (64, 1, "a", None),
+                (64, 1, "a", None),
+                (64, 1, "a", None),
+                (64, 1, "a", None),
+                (64, 1, "a", None),
+            ],
+        ),
+    ];
+    for (text, board, slice, guests) in table {
+        assert!(rt; text.len() < 1000);
+        let plan = read_session(rt.alloc(), text)?;
+        assert!(rt; is_plan(&plan, board, slice, guests), "{text:?}");
+    }
+    Ok(())
+}
+
+#[test]
+fn reads_every_byte_of_a_name(rt: HostRuntime) -> Result<(), Fail> {
+    let mut text = Vec::from_slice(rt.alloc(), b"session 1\nboard 128\nslice 1\nguest 64 1 ")?;
+    text.extend_from_slice(ALL_GRAPHIC)?;
+    text.extend_from_slice(b" ")?;
+    text.extend_from_slice(ALL_GRAPHIC)?;
+    assert!(rt; text.len() < 1000);
+    let plan = read_session(rt.alloc(), &text)?;
+    assert_eq!(rt; plan.guests().len(), 1);
+    let guest = &plan.guests()[0];
+    assert_eq!(rt; guest.image().as_bytes(), ALL_GRAPHIC);
+    assert_eq!(rt;
+        guest.script().map(|name| name.as_bytes()),
+        Some(ALL_GRAPHIC)
+    );
+    Ok(())
+}
+
+#[test]
+fn tells_faults_of_sessions(rt: HostRuntime) {
+    let table: [(&[u8], u32, LineWhy); 44] = [
+        // Too early an end.
+        (b"", 1, LineWhy::Word),
+        (b"\n", 2, LineWhy::Word),
+        (b"# none", 2, LineWhy::Word),
+        (b"session 1", 2, LineWhy::Word),
+        (b"session 1\n\n\n", 4, LineWhy::Word),
+        (b"session 1\nboard 128\n", 3, LineWhy::Word),
+        (b"session 1\nboard 128\nslice 1\n", 4, LineWhy::Word),
+        (
+            b"session 1\nboard 128\nslice 1\n# guest 64 1 a -",
+            5,
+            LineWhy::Word,
+        ),
+        // Other words, or others in their order.
+        (b"session\n", 1, LineWhy::Word),
+        (b"session 1 1\n", 1, LineWhy::Word),
+        (b"sessions 1\n", 1, LineWhy::Word),
+        (b"session1\n", 1, LineWhy::Word),
+        (b"Session 1\n", 1, LineWhy::Word),
+        (b" \t \n", 1, LineWhy::Word),
+        (b" # no comment\n", 1, LineWhy::Word),
+        (b"session 1 # no comment\n", 1, LineWhy::Word),
+        (b"board 128\n", 1, LineWhy::Word),
+        (b"session 1\nslice 1\n", 2, LineWhy::Word),
+        (b"session 1\nboard 128\nboard 128\n", 3, LineWhy::Word),
+        (
+            b"session 1\nboard 128\nslice 1\nslice 1\n",
+            4,
+            LineWhy::Word,
+        ),
+        (
+            b"session 1\nboard 128\nslice 1\nguest 64 1 a\n",
+            4,
+            LineWhy::Word,
+        ),
+        (
+            b"session 1\nboard 128\nslice 1\nguest 64 1 a - -\n",
+            4,
+            LineWhy::Word,
+        ),
+        (
+            b"session 1\nboard 128\nslice 1\nguest 64 1 a\x7F -\n",
+            4,
+            LineWhy::Word,
+        ),
+        (
+            b"session 1\nboard 128\nslice 1\nguest 64 1 a \xC3\xA4\n",
+            4,
+            LineWhy::Word,
+        ),
+        (
+            b"session 1\nboard 128\nslice 1\nguest 64 1 a -\nturn 1 5\n",
+            5,
+            LineWhy::Word,
+        ),
+        (
+            b"session 1\nboard 128\nslice 1\nguest 64 1 a -\r",
+            4,
+            LineWhy::Word,
+        ),
+        // No numbers, or others than there may be.
+        (b"session 2\n", 1, LineWhy::Number),
+        (b"session 0\n", 1, LineWhy::Number),
+        (b"session one\n", 1, LineWhy::Number),
+        (b"session 4294967297\n", 1, LineWhy::Number),
+        (b"session 1\nboard 64\n", 2, LineWhy::Number),
+        (b"session 1\nboard 160\n", 2, LineWhy::Number),
+        (b"session 1\nboard 65600\n", 2, LineWhy::Number),
+        (b"session 1\nboard 128\nslice 0\n", 3, LineWhy::Number),
+        (
+            b"session 1\nboard 128\nslice 4294967296\n",
+            3,
+            LineWhy::Number,
+        ),
+        (
+            b"session 1\nboard 128\nslice 1\nguest 0 1 a -\n",
+            4,
+            LineWhy::Number,
+        ),
+        (
+            b"session 1\nboard 128\nslice 1\nguest 96 1 a -\n",
+            4,
+            LineWhy::Number,
+        ),
+        (
+            b"session 1\nboard 128\nslice 1\nguest 16448 1 a -\n",
+            4,
+            LineWhy::Number,
+        ),
+        (
+            b"session 1\nboard 128\nslice 1\nguest 64 -1 a -\n",
+            4,
+            LineWhy::Number,
+        ),
+        (
+            b"session 1\nboard 128\nslice 1\nguest 64 4294967296 a -\n",
+            4,
+            LineWhy::Number,
+        ),
+        // Two faults in one line, and faults in two lines.
+        (b"session x y\n", 1, LineWhy::Word),
+        (
+            b"session 1\nboard 128\nslice 1\nguest 65 1 a\n",
+            4,
+            LineWhy::Word,
+        ),
+        (b"session 2\nboard 1\n", 1, LineWhy::Number),
+        (b"session 1\nboard 129\nslice\n", 2, LineWhy::Number),
+    ];
+    for (text, number, why) in table {
+        assert!(rt; text.len() < 1000);
+        let answer = read_session(rt.alloc(), text);
+        assert_eq!(rt; answer.err(), Some(line(number, why)), "{text:?}");
+    }
+}
+
+#[test]
+fn tells_a_seventeenth_guest(rt: HostRuntime) -> Result<(), Fail> {
+    let table: [(&[u8], u32, LineWhy); 4] = [
+        (b"guest 64 1 a -\n", 20, LineWhy::Many),
+        (b"# comment\nguest 64 1 a -", 21, LineWhy::Many),
+        (b"guest 64 x a -\n", 20, LineWhy::Number),
+        (b"guest 64 1\n", 20, LineWhy::Word),
+    ];
+    for (more, number, why) in table {
+        let mut text = Vec::from_slice(rt.alloc(), SIXTEEN)?;
+        text.extend_from_slice(more)?;
+        assert!(rt; text.len() < 1000);
+        let answer = read_session(rt.alloc(), &text);
+        assert_eq!(rt; answer.err(), Some(line(number, why)), "{more:?}");
+    }
+    Ok(())
+}
