@@ -1,4 +1,5 @@
 use super::*;
+use std::alloc::{AllocError, Global};
 use std::test::Fail;
 
 type Entries<'a> = &'a [(u32, u8)];
@@ -190,8 +191,11 @@ fn is_plan(plan: &SessionPlan, board: u32, slice: u32, want: &[Named]) -> bool {
         })
 }
 
-/// Sixteen guests, behind `session 1`, `board 65536` and `slice 1`.
-const SIXTEEN: &[u8] = b"session 1\nboard 65536\nslice 1\n\
+/// The lines before the guests.
+const HEAD: &[u8] = b"session 1\nboard 128\nslice 1\n";
+
+/// Sixteen guests behind these lines.
+const SIXTEEN: &[u8] = b"session 1\nboard 128\nslice 1\n\
 guest 64 1 a -\nguest 64 1 a -\nguest 64 1 a -\nguest 64 1 a -\n\
 guest 64 1 a -\nguest 64 1 a -\nguest 64 1 a -\nguest 64 1 a -\n\
 guest 64 1 a -\nguest 64 1 a -\nguest 64 1 a -\nguest 64 1 a -\n\
@@ -199,7 +203,7 @@ guest 64 1 a -\nguest 64 1 a -\nguest 64 1 a -\nguest 64 1 a -\n";
 
 #[test]
 fn reads_sessions(rt: HostRuntime) -> Result<(), Fail> {
-    let table: [(&[u8], u32, u32, &[Named]); 9] = [
+    let table: [(&[u8], u32, u32, &[Named]); 6] = [
         (
             b"session 1\nboard 448\nslice 100\nguest 64 20000 three.s19 -\nguest 128 10 one.s19 keys.txt\n",
             448,
@@ -228,57 +232,16 @@ fn reads_sessions(rt: HostRuntime) -> Result<(), Fail> {
             &[(64, 7, "--", Some("-a"))],
         ),
         (
-            b"session 1\nboard 128\nslice 1\nguest 64 1 - -",
-            128,
-            1,
-            &[(64, 1, "-", None)],
-        ),
-        (
-            b"session 1\nboard 128\nslice 1\nguest 64 1 !~ !\"#$%&'()*+,-./09:;<=>?@AZ[\\]^_`az{|}~",
-            128,
-            1,
-            &[(
-                64,
-                1,
-                "!~",
-                Some("!\"#$%&'()*+,-./09:;<=>?@AZ[\\]^_`az{|}~"),
-            )],
-        ),
-        (
-            b"session 1\nboard 128\nslice 1\nguest 64 1 guest session",
-            128,
-            1,
-            &[(64, 1, "guest", Some("session"))],
-        ),
-        (
-            b"session 1\nboard 128\nslice 1\nguest 64 1 #a #",
-            128,
-            1,
-            &[(64, 1, "#a", Some("#"))],
-        ),
-        (
-            SIXTEEN,
-            65_536,
-            1,
+            b"session 1\nboard 192\nslice 2\nguest 64 1 - -\nguest 64 1 guest session\nguest 64 1 #a #",
+            192,
+            2,
             &[
-                (64, 1, "a", None),
-                (64, 1, "a", None),
-                (64, 1, "a", None),
-                (64, 1, "a", None),
-                (64, 1, "a", None),
-                (64, 1, "a", None),
-                (64, 1, "a", None),
-                (64, 1, "a", None),
-                (64, 1, "a", None),
-                (64, 1, "a", None),
-                (64, 1, "a", None),
-                (64, 1, "a", None),
-                (64, 1, "a", None),
-                (64, 1, "a", None),
-                (64, 1, "a", None),
-                (64, 1, "a", None),
+                (64, 1, "-", None),
+                (64, 1, "guest", Some("session")),
+                (64, 1, "#a", Some("#")),
             ],
         ),
+        (SIXTEEN, 128, 1, &[(64, 1, "a", None); 16]),
     ];
     for (text, board, slice, guests) in table {
         assert!(rt; text.len() < 1000);
@@ -290,7 +253,8 @@ fn reads_sessions(rt: HostRuntime) -> Result<(), Fail> {
 
 #[test]
 fn reads_every_byte_of_a_name(rt: HostRuntime) -> Result<(), Fail> {
-    let mut text = Vec::from_slice(rt.alloc(), b"session 1\nboard 128\nslice 1\nguest 64 1 ")?;
+    let mut text = Vec::from_slice(rt.alloc(), HEAD)?;
+    text.extend_from_slice(b"guest 64 1 ")?;
     text.extend_from_slice(ALL_GRAPHIC)?;
     text.extend_from_slice(b" ")?;
     text.extend_from_slice(ALL_GRAPHIC)?;
@@ -306,9 +270,25 @@ fn reads_every_byte_of_a_name(rt: HostRuntime) -> Result<(), Fail> {
     Ok(())
 }
 
+type Faulty<'a> = (&'a [u8], u32, LineWhy);
+
+/// Whether a session file of these lines, behind others, has the fault.
+fn tells(
+    rt: &impl Alloc<A = Global>,
+    front: &[u8],
+    (more, number, why): Faulty,
+) -> Result<bool, AllocError> {
+    let mut text = Vec::from_slice(rt.alloc(), front)?;
+    text.extend_from_slice(more)?;
+    if text.len() >= 1000 {
+        return Ok(false);
+    }
+    Ok(read_session(rt.alloc(), &text).err() == Some(line(number, why)))
+}
+
 #[test]
-fn tells_faults_of_sessions(rt: HostRuntime) {
-    let table: [(&[u8], u32, LineWhy); 44] = [
+fn tells_faults_of_heads(rt: HostRuntime) -> Result<(), Fail> {
+    let table: [Faulty; 31] = [
         // Too early an end.
         (b"", 1, LineWhy::Word),
         (b"\n", 2, LineWhy::Word),
@@ -316,12 +296,6 @@ fn tells_faults_of_sessions(rt: HostRuntime) {
         (b"session 1", 2, LineWhy::Word),
         (b"session 1\n\n\n", 4, LineWhy::Word),
         (b"session 1\nboard 128\n", 3, LineWhy::Word),
-        (b"session 1\nboard 128\nslice 1\n", 4, LineWhy::Word),
-        (
-            b"session 1\nboard 128\nslice 1\n# guest 64 1 a -",
-            5,
-            LineWhy::Word,
-        ),
         // Other words, or others in their order.
         (b"session\n", 1, LineWhy::Word),
         (b"session 1 1\n", 1, LineWhy::Word),
@@ -334,41 +308,6 @@ fn tells_faults_of_sessions(rt: HostRuntime) {
         (b"board 128\n", 1, LineWhy::Word),
         (b"session 1\nslice 1\n", 2, LineWhy::Word),
         (b"session 1\nboard 128\nboard 128\n", 3, LineWhy::Word),
-        (
-            b"session 1\nboard 128\nslice 1\nslice 1\n",
-            4,
-            LineWhy::Word,
-        ),
-        (
-            b"session 1\nboard 128\nslice 1\nguest 64 1 a\n",
-            4,
-            LineWhy::Word,
-        ),
-        (
-            b"session 1\nboard 128\nslice 1\nguest 64 1 a - -\n",
-            4,
-            LineWhy::Word,
-        ),
-        (
-            b"session 1\nboard 128\nslice 1\nguest 64 1 a\x7F -\n",
-            4,
-            LineWhy::Word,
-        ),
-        (
-            b"session 1\nboard 128\nslice 1\nguest 64 1 a \xC3\xA4\n",
-            4,
-            LineWhy::Word,
-        ),
-        (
-            b"session 1\nboard 128\nslice 1\nguest 64 1 a -\nturn 1 5\n",
-            5,
-            LineWhy::Word,
-        ),
-        (
-            b"session 1\nboard 128\nslice 1\nguest 64 1 a -\r",
-            4,
-            LineWhy::Word,
-        ),
         // No numbers, or others than there may be.
         (b"session 2\n", 1, LineWhy::Number),
         (b"session 0\n", 1, LineWhy::Number),
@@ -377,68 +316,68 @@ fn tells_faults_of_sessions(rt: HostRuntime) {
         (b"session 1\nboard 64\n", 2, LineWhy::Number),
         (b"session 1\nboard 160\n", 2, LineWhy::Number),
         (b"session 1\nboard 65600\n", 2, LineWhy::Number),
+        (b"session 1\nboard 4294967424\n", 2, LineWhy::Number),
         (b"session 1\nboard 128\nslice 0\n", 3, LineWhy::Number),
         (
             b"session 1\nboard 128\nslice 4294967296\n",
             3,
             LineWhy::Number,
         ),
-        (
-            b"session 1\nboard 128\nslice 1\nguest 0 1 a -\n",
-            4,
-            LineWhy::Number,
-        ),
-        (
-            b"session 1\nboard 128\nslice 1\nguest 96 1 a -\n",
-            4,
-            LineWhy::Number,
-        ),
-        (
-            b"session 1\nboard 128\nslice 1\nguest 16448 1 a -\n",
-            4,
-            LineWhy::Number,
-        ),
-        (
-            b"session 1\nboard 128\nslice 1\nguest 64 -1 a -\n",
-            4,
-            LineWhy::Number,
-        ),
-        (
-            b"session 1\nboard 128\nslice 1\nguest 64 4294967296 a -\n",
-            4,
-            LineWhy::Number,
-        ),
         // Two faults in one line, and faults in two lines.
         (b"session x y\n", 1, LineWhy::Word),
-        (
-            b"session 1\nboard 128\nslice 1\nguest 65 1 a\n",
-            4,
-            LineWhy::Word,
-        ),
         (b"session 2\nboard 1\n", 1, LineWhy::Number),
         (b"session 1\nboard 129\nslice\n", 2, LineWhy::Number),
+        (b"session 1\nboards 129\n", 2, LineWhy::Word),
     ];
-    for (text, number, why) in table {
-        assert!(rt; text.len() < 1000);
-        let answer = read_session(rt.alloc(), text);
-        assert_eq!(rt; answer.err(), Some(line(number, why)), "{text:?}");
+    for row in table {
+        assert!(rt; tells(&rt, b"", row)?, "{row:?}");
     }
+    Ok(())
+}
+
+#[test]
+fn tells_faults_of_guests(rt: HostRuntime) -> Result<(), Fail> {
+    let table: [Faulty; 22] = [
+        (b"", 4, LineWhy::Word),
+        (b"# guest 64 1 a -", 5, LineWhy::Word),
+        (b"slice 1\n", 4, LineWhy::Word),
+        (b"guest 64 1 a\n", 4, LineWhy::Word),
+        (b"guest 64 1 a - -\n", 4, LineWhy::Word),
+        (b"guest 64 1 a\x7F -\n", 4, LineWhy::Word),
+        (b"guest 64 1 a \x1F\n", 4, LineWhy::Word),
+        (b"guest 64 1 a \xC3\xA4\n", 4, LineWhy::Word),
+        (b"guest 64 1 a -\r", 4, LineWhy::Word),
+        (b"guest 64 1 a -\nturn 1 5\n", 5, LineWhy::Word),
+        (b"guest 64 1 a -\n \n", 5, LineWhy::Word),
+        (b"guest 0 1 a -\n", 4, LineWhy::Number),
+        (b"guest 96 1 a -\n", 4, LineWhy::Number),
+        (b"guest 16448 1 a -\n", 4, LineWhy::Number),
+        (b"guest 64K 1 a -\n", 4, LineWhy::Number),
+        (b"guest 64 -1 a -\n", 4, LineWhy::Number),
+        (b"guest 64 1. a -\n", 4, LineWhy::Number),
+        (b"guest 64 4294967296 a -\n", 4, LineWhy::Number),
+        (b"guest 64 1 a -\n\nguest 64 x a -\n", 6, LineWhy::Number),
+        // Two faults in one line, and faults in two lines.
+        (b"guest 65 1 a\n", 4, LineWhy::Word),
+        (b"guest 65 1 a \x7F\n", 4, LineWhy::Word),
+        (b"guest 65 1 a -\nguest 64\n", 4, LineWhy::Number),
+    ];
+    for row in table {
+        assert!(rt; tells(&rt, HEAD, row)?, "{row:?}");
+    }
+    Ok(())
 }
 
 #[test]
 fn tells_a_seventeenth_guest(rt: HostRuntime) -> Result<(), Fail> {
-    let table: [(&[u8], u32, LineWhy); 4] = [
+    let table: [Faulty; 4] = [
         (b"guest 64 1 a -\n", 20, LineWhy::Many),
         (b"# comment\nguest 64 1 a -", 21, LineWhy::Many),
         (b"guest 64 x a -\n", 20, LineWhy::Number),
         (b"guest 64 1\n", 20, LineWhy::Word),
     ];
-    for (more, number, why) in table {
-        let mut text = Vec::from_slice(rt.alloc(), SIXTEEN)?;
-        text.extend_from_slice(more)?;
-        assert!(rt; text.len() < 1000);
-        let answer = read_session(rt.alloc(), &text);
-        assert_eq!(rt; answer.err(), Some(line(number, why)), "{more:?}");
+    for row in table {
+        assert!(rt; tells(&rt, SIXTEEN, row)?, "{row:?}");
     }
     Ok(())
 }
