@@ -45,6 +45,17 @@ abbrev pub IsComplete : Option Asked → Told → Around → ℕ → Type 0
 IsComplete None told a status = (status ≡ 2) ⊎ (status ≡ 7)
 IsComplete (Some asked) told a status = FailsNowhere a → IfSome (answer_of asked told) (LeadsTo a status)
 
+-- what an answer leads to over files and sinks that cannot fail
+abbrev pub LeadsUnfailingTo : ℕ → Answer → Type 0
+LeadsUnfailingTo status (shows text) = (status ≡ 0) ⊎ (status ≡ 7)
+LeadsUnfailingTo status (refuses name why) = (status ≡ 3) ⊎ (status ≡ 7)
+LeadsUnfailingTo status is_unbuilt = (status ≡ 8) ⊎ (status ≡ 7)
+
+-- the words are refused, or the answer to them is given; either way memory may have run out
+abbrev pub IsUnfailing : Option Asked → Told → ℕ → Type 0
+IsUnfailing None told status = (status ≡ 2) ⊎ (status ≡ 7)
+IsUnfailing (Some asked) told status = IfSome (answer_of asked told) (LeadsUnfailingTo status)
+
 -- the line of a status other than 3, for a command whose file has this name
 abbrev pub line_for : Text → ℕ → Text
 line_for image status =
