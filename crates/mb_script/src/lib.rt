@@ -3,7 +3,7 @@
 //! Both readers stand between a file and the machines and know neither. Each grammar is a definition,
 //! by lines and words: `script_of` of `specs/Scripts` gives what arrives at which step, and
 //! `session_of` of `specs/Sessions` the plan of a board and its guests. `specs/Lines` says what they
-//! share: how a text is cut into lines, which lines are passed over, and which fault is the first.
+//! share: comments, and how a line's fault is told. The lines of a text are those of `mb_lines`.
 #![tactic(auto)]
 
 mod entry;
