@@ -69,10 +69,26 @@ abbrev pub IsBounded : Width → Divided → Type 0
 IsBounded width (Done quotient remainder ccr) = (quotient < short_values width) × (remainder < short_values width)
 IsBounded width _ = ⊤
 
+-- which of its three cases a division came to
+abbrev pub IsZeroDivide : Divided → Type 0
+IsZeroDivide (ZeroDivide ccr) = ⊤
+IsZeroDivide _ = ⊥
+
+abbrev pub IsOverflow : Divided → Type 0
+IsOverflow (Overflow ccr) = ⊤
+IsOverflow _ = ⊥
+
+abbrev pub IsDone : Divided → Type 0
+IsDone (Done quotient remainder ccr) = ⊤
+IsDone _ = ⊥
+
+-- the quotient can have the width, where the divisor is not 0
+abbrev pub has_quotient : Bool → Width → ℕ → ℕ → Bool
+has_quotient signed width divisor dividend = fits signed (short_values width) (quotient_of signed width divisor dividend)
+
 -- a divisor of 0 clears C; a quotient that does not fit sets V and clears C; else there is a result
 unfoldable pub div_of : Bool → Width → ℕ → ℕ → ℕ → Divided
 div_of signed width divisor dividend ccr =
-    let quotient = quotient_of signed width divisor dividend in
     if divisor % short_values width == 0 then ZeroDivide (ccr_of (record (conditions_of ccr) { c = false }))
-    else if not (fits signed (short_values width) quotient) then Overflow (ccr_of (record (conditions_of ccr) { v = true; c = false }))
-    else divided_of width quotient (remainder_of signed width divisor dividend) ccr
+    else if not (has_quotient signed width divisor dividend) then Overflow (ccr_of (record (conditions_of ccr) { v = true; c = false }))
+    else divided_of width (quotient_of signed width divisor dividend) (remainder_of signed width divisor dividend) ccr

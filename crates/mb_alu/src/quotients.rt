@@ -1,7 +1,7 @@
 //! Quotients.
 
-ghost use Rattle.std.specs.Prelude.{◌≡◌};
-ghost use Rattle.mb_alu.specs.Products.{divided_of, div_of, IsBounded};
+ghost use Rattle.std.specs.Prelude.{◌≡◌, ◌<◌, ◌%◌, ◌↔◌, true, false};
+ghost use Rattle.mb_alu.specs.Products.{divided_of, div_of, has_quotient, short_values, IsBounded, IsDone, IsOverflow, IsZeroDivide};
 ghost use Rattle.mb_alu.specs.Wholes.{whole_of};
 
 use crate::conditions::Conditions;
@@ -50,6 +50,11 @@ fn done(width: Width, quotient: Whole, remainder: Whole, ccr: u8) -> Divided
 pub fn div(signed: bool, width: Width, divisor: u32, dividend: u64, ccr: u8) -> Divided
     ensures means { result ≡ div_of signed width divisor dividend ccr }
     ensures bound { IsBounded width result }
+
+    // Each of the three cases, exactly where it comes.
+    ensures zero_divide { IsZeroDivide result ↔ (divisor % short_values width ≡ 0) }
+    ensures overflow { IsOverflow result ↔ ((0 < divisor % short_values width) × (has_quotient signed width divisor dividend ≡ false)) }
+    ensures done { IsDone result ↔ ((0 < divisor % short_values width) × (has_quotient signed width divisor dividend ≡ true)) }
 {
     let before = Conditions::of(ccr);
     if width.short(u64::from(divisor)) == 0 {

@@ -1,17 +1,16 @@
 -- `clap` takes the words of a form exactly where they read, with the same values.
-use Rattle.std.proofs.Common.{◌≡◌, ◌∙◌, ◌⊎◌, ◌==◌, ◌+◌, ◌<◌, inl, inr, ℕ, suc, length, Bool, true, false, cond, List, [], ◌∷◌, ◌++◌, map, ap, sym, refl, rules, arith, Option, Some, None, subst, append_assoc}
-use Rattle.std.specs.Prelude.{not, ◌&&◌, ◌||◌, if◌then◌else◌, is_some, option_map, option_and_then, find, fold, min, slice_get}
-use Rattle.std.specs.List.{list_any, list_all}
+use Rattle.std.proofs.Common.{◌≡◌, ◌∙◌, ◌⊎◌, ◌+◌, ◌<◌, inl, inr, ℕ, suc, length, Bool, true, false, cond, List, [], ◌∷◌, ◌++◌, map, ap, sym, refl, arith, Option, Some, None}
+use Rattle.std.specs.Prelude.{not, ◌&&◌, ◌||◌, if◌then◌else◌, is_some, option_map, option_and_then, fold, min, slice_get}
 use Rattle.std.specs.Str.{bytes_eq}
 use Rattle.std.proofs.lemmas.Option.{slice_get_within}
 use Rattle.clap.specs.Lexer.{long_of, short_of, usize_max}
 use Rattle.clap.specs.Kinds.{Kinds, or_else}
-use Rattle.clap.specs.Walk.{Held, Row, Rule, Waiting, Walk, idle, option, walked, arg_by_id, arg_by_long, arg_by_index, has_row, settled, used as spec_used, finished, with_default}
+use Rattle.clap.specs.Walk.{Held, Row, Walk, idle, option, walked, arg_by_index, has_row, settled, used as spec_used, with_default}
 use Rattle.clap.specs.Faults.{turn_fault, settle_fault, use_fault, defaults_fault, check_fault}
 use Rattle.clap.specs.declared.error.kind.ErrorKind.{ErrorKind}
 use Rattle.clap.specs.declared.error.kind.ErrorKind.TheVariants as kind
-use Rattle.mb_forms.specs.Forms.{Text, Opt, Form, Use, Mode, any, value_of, rest, has_use, find_option, has_required, begins_with_dash, ends_options, dashes_ok, IsNumbered, uses_of, finish, after, positional_use, option_use, read}
-use Rattle.mb_forms.specs.Clap.{plain_rule, option_rule, positional_rule, form_rules, form_shape, row_at, walk_at, pending_of_use, rows_from, rows_at_end, no_kinds}
+use Rattle.mb_forms.specs.Forms.{Text, Opt, Form, Use, any, value_of, rest, has_use, find_option, has_required, begins_with_dash, ends_options, dashes_ok, IsNumbered, uses_of, finish, after, positional_use, option_use, read}
+use Rattle.mb_forms.specs.Clap.{option_rule, positional_rule, form_rules, form_shape, row_at, walk_at, pending_of_use, rows_from, rows_at_end, no_kinds}
 use Rattle.mb_forms.proofs.Steps.{use_at, has_row_at, used_at, turn_ends, wait_ends, turn_unknown, wait_unknown, turn_attached, turn_named, turn_positional, turn_stray, wait_plain, wait_option, rest_positional, rest_stray, rest_empty}
 use Rattle.mb_forms.proofs.Looks.{bool_cases, option_cases, same_text, by_long, Known, known_positional, known_option, by_place, no_defaults, fold_same, missing_at, text_is, and_true}
 

@@ -1,16 +1,15 @@
 -- Each step of `clap` on a form.
-use Rattle.std.proofs.Common.{◌≡◌, ◌∙◌, ◌+◌, ℕ, suc, Bool, true, false, cond, List, [], ◌∷◌, ◌++◌, map, ap, sym, refl, rules, arith, Option, Some, None, subst, append-nil}
-use Rattle.std.specs.Prelude.{not, ◌&&◌, ◌||◌, if◌then◌else◌, is_some, option_map, find, length, min}
-use Rattle.std.specs.List.{list_any, list_all}
+use Rattle.std.proofs.Common.{◌≡◌, ◌∙◌, ◌+◌, ℕ, suc, Bool, true, false, cond, List, [], ◌∷◌, ◌++◌, map, ap, sym, refl, Option, Some, None, append-nil}
+use Rattle.std.specs.Prelude.{◌&&◌, ◌||◌, min}
 use Rattle.std.specs.Str.{bytes_eq}
 use Rattle.clap.specs.Lexer.{long_of, short_of, usize_max}
 use Rattle.clap.specs.Kinds.{Kinds, or_else}
-use Rattle.clap.specs.Walk.{Held, Row, Rule, Waiting, Walk, idle, option, positional, walked, arg_by_id, arg_by_long, arg_by_index, has_row, settled, used as spec_used, without, at_row, has_long, more_values}
+use Rattle.clap.specs.Walk.{Row, Waiting, idle, option, walked, arg_by_id, arg_by_long, arg_by_index, has_row, settled, used as spec_used, without, at_row, more_values}
 use Rattle.clap.specs.declared.parser.matches.ValueSource.TheVariants.{CommandLine}
 use Rattle.clap.specs.Faults.{turn_fault, settle_fault, use_fault}
 use Rattle.clap.specs.declared.error.kind.ErrorKind.TheVariants as kind
-use Rattle.mb_forms.specs.Forms.{Text, Opt, Form, Use, has_use, find_option}
-use Rattle.mb_forms.specs.Clap.{plain_rule, option_rule, positional_rule, form_rules, form_shape, row_at, walk_at, pending_of_use}
+use Rattle.mb_forms.specs.Forms.{Text, Opt, Form, Use, has_use}
+use Rattle.mb_forms.specs.Clap.{plain_rule, option_rule, positional_rule, form_rules, form_shape, row_at, walk_at}
 
 and_false : (b : Bool) → (b && false) ≡ false
 and_false true = refl

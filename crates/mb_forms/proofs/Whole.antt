@@ -1,14 +1,13 @@
 -- `clap` and a form agree on all words.
-use Rattle.std.proofs.Common.{◌≡◌, ◌∙◌, ◌⊎◌, ◌+◌, ◌<◌, ◌≤◌, inl, inr, Bool, true, false, cond, List, [], ◌∷◌, ◌++◌, map, length, ap, sym, refl, arith, Option, Some, None, ℕ, suc}
-use Rattle.std.specs.Prelude.{not, ◌&&◌, ◌||◌, if◌then◌else◌, is_some, option_map, option_and_then, fold, min, slice_get, count_by}
+use Rattle.std.proofs.Common.{◌≡◌, ◌∙◌, ◌+◌, ◌≤◌, inl, inr, Bool, true, false, cond, List, [], ◌∷◌, ◌++◌, map, length, ap, sym, refl, arith, Option, Some, None, ℕ, suc}
+use Rattle.std.specs.Prelude.{not, ◌&&◌, ◌||◌, if◌then◌else◌, is_some, option_map, fold, min, slice_get, count_by}
 use Rattle.std.specs.List.{list_all, list_any}
-use Rattle.std.specs.Str.{bytes_eq}
 use Rattle.clap.specs.Lexer.{long_of, usize_max}
 use Rattle.clap.specs.Kinds.{Kinds, or_else}
 use Rattle.clap.specs.Walk.{Row, Rule, Walk, walk, walked, finished, settled, nothing_held, idle, rows_after, is_early_multiple}
-use Rattle.clap.specs.Faults.{turn_fault, walk_fault, settle_fault, defaults_fault, check_fault, fault_of, entered_fault, built_fault, is_simple_and_free, is_free_app}
-use Rattle.clap.specs.Simple.{App, Shape, built, entered, matches_of, filled_from, filled, names_of, is_simple, is_buildable, is_ready, is_ready_leaf}
-use Rattle.mb_forms.specs.Forms.{Text, Opt, Form, Use, Mode, any, value_of, rest, find_option, begins_with_dash, ends_options, dashes_ok, IsNumbered, uses_of, option_use, positional_use, after, read}
+use Rattle.clap.specs.Faults.{turn_fault, walk_fault, settle_fault, defaults_fault, check_fault, entered_fault, built_fault, is_simple_and_free, is_free_app}
+use Rattle.clap.specs.Simple.{App, Shape, built, entered, filled_from, names_of, is_simple, is_buildable, is_ready, is_ready_leaf}
+use Rattle.mb_forms.specs.Forms.{Text, Opt, Form, Use, any, value_of, find_option, begins_with_dash, ends_options, dashes_ok, IsNumbered, uses_of, option_use, positional_use, after, read}
 use Rattle.mb_forms.specs.Clap.{plain_rule, option_rule, option_arg, positional_arg, positional_rule, positional_rules, form_rules, form_shape, form_app, row_at, walk_at, rows_from, no_kinds, clap_gives, Agrees}
 use Rattle.mb_forms.proofs.Looks.{bool_cases, option_cases}
 use Rattle.mb_forms.proofs.Reading.{reads}

@@ -1,10 +1,10 @@
 -- The same commands for `clap`, and what it gives for the words.
-use Rattle.std.specs.Prelude.{◌≡◌, ◌&&◌, ⊤, ℕ, suc, Bool, true, false, List, [], ◌∷◌, ◌++◌, Option, Some, None, Result, Ok, Err, if◌then◌else◌, map, option_map}
+use Rattle.std.specs.Prelude.{◌≡◌, ⊤, ℕ, suc, Bool, true, false, List, [], ◌∷◌, ◌++◌, Option, Some, None, Result, Ok, Err, if◌then◌else◌, map, option_map}
 use Rattle.clap.specs.Words.{found_of, rows_of}
-use Rattle.clap.specs.Walk.{Held, Row, Rule, Waiting, Walk, idle, option, walked, finished, settled}
+use Rattle.clap.specs.Walk.{Row, Rule, Waiting, Walk, walked, finished, settled}
 use Rattle.clap.specs.Kinds.{Kinds, or_else}
 use Rattle.clap.specs.Faults.{turn_fault, settle_fault, defaults_fault, check_fault, fault_of}
-use Rattle.clap.specs.Simple.{App, Shape, new_rule, new_shape, built, matches_of}
+use Rattle.clap.specs.Simple.{App, Shape, new_rule, new_shape, matches_of}
 use Rattle.clap.specs.Values.{reading_of}
 use Rattle.clap.specs.declared.parser.matches.ArgMatches.{ArgMatches}
 use Rattle.clap.specs.declared.parser.matches.ValueSource.TheVariants.{CommandLine}

@@ -205,13 +205,10 @@ guest 64 1 a -\nguest 64 1 a -\nguest 64 1 a -\nguest 64 1 a -\n";
 fn reads_sessions(rt: HostRuntime) -> Result<(), Fail> {
     let table: [(&[u8], u32, u32, &[Named]); 6] = [
         (
-            b"session 1\nboard 448\nslice 100\nguest 64 20000 three.s19 -\nguest 128 10 one.s19 keys.txt\n",
-            448,
-            100,
-            &[
-                (64, 20_000, "three.s19", None),
-                (128, 10, "one.s19", Some("keys.txt")),
-            ],
+            b"session 1\nboard 320\nslice 1000\nguest 64 10 a.s19 -\nguest 64 50000 fill.s19 -\n",
+            320,
+            1000,
+            &[(64, 10, "a.s19", None), (64, 50_000, "fill.s19", None)],
         ),
         (
             b"session 1\r\nboard 128\r\nslice 1\r\nguest 64 0 a b\r\n",

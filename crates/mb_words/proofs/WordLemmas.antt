@@ -1,5 +1,5 @@
 -- From what the words of a form give to what the words ask for.
-use Rattle.std.proofs.Common.{◌≡◌, ◌<◌, List, [], ◌∷◌, map, refl, arith, length, Option, Some, None, string_bytes}
+use Rattle.std.proofs.Common.{◌≡◌, ◌<◌, List, [], ◌∷◌, map, refl, arith, length, Option, None, string_bytes}
 use Rattle.std.specs.Prelude.{option_and_then, String}
 use Rattle.std.specs.declared.alloc.Global.{Global}
 use Rattle.mb_forms.specs.Forms.{Use, IsNumbered}

@@ -1,5 +1,4 @@
-use Rattle.std.proofs.Common.{◌≡◌, ◌∙◌, ap, true}
-use Rattle.clap.specs.Words.{app_of, new_app}
+use Rattle.std.proofs.Common.{◌∙◌, ap, true}
 use Rattle.clap.specs.Simple.{app_of_fields, on_top}
 use Rattle.mb_forms.proofs.arguments.command.Goals as goal
 

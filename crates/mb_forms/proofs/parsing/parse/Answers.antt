@@ -1,8 +1,7 @@
-use Rattle.std.proofs.Common.{◌≡◌, ◌∙◌, ap, sym, map, string_bytes, true, List}
+use Rattle.std.proofs.Common.{◌≡◌, ◌∙◌, ap, sym, map, string_bytes, true}
 use Rattle.clap.specs.Words.{App, app_of, is_simple, matches_of}
 use Rattle.clap.specs.Faults.{fault_of, is_simple_and_free}
 use Rattle.mb_forms.specs.Forms.{dashes_ok}
-use Rattle.mb_forms.specs.Clap.{form_app}
 use Rattle.mb_forms.proofs.Whole.{refused_dash, form_is_simple, form_is_free}
 use Rattle.mb_forms.proofs.Parsed.{taken, err_fits}
 use Rattle.mb_forms.proofs.parsing.parse.Goals as goal

@@ -1,8 +1,8 @@
-use Rattle.std.proofs.Common.{◌≡◌, ◌∙◌, sym, subst, codes, map, string_bytes, option_map, Option, List}
+use Rattle.std.proofs.Common.{◌∙◌, sym, subst, codes, map, string_bytes}
 use Rattle.std.specs.Prelude.{option_and_then}
 use Rattle.std.proofs.lemmas.Result.{err_from_is_err_and}
 use Rattle.clap.specs.Words.{found_of}
-use Rattle.mb_forms.specs.Forms.{read, value_in}
+use Rattle.mb_forms.specs.Forms.{read}
 use Rattle.mb_forms.specs.Clap.{FaultFits}
 use Rattle.mb_forms.specs.declared.fault.WordsFault.{WordsFault}
 use Rattle.mb_forms.proofs.Parsed.{value_found}
