@@ -1,7 +1,7 @@
 -- Entries behind others.
 use Rattle.std.proofs.Common.{List, ◌++◌, Result, Ok}
 use Rattle.mb_script.specs.declared.fault.LineFault.{LineFault}
-use Rattle.mb_script.specs.Lines.{◌>>=◌}
+use Rattle.mb_lines.specs.Results.{◌>>=◌}
 
 -- what was read, and then what is read
 abbrev pub with_front : {A : Type 0} → List A → Result (List A) LineFault → Result (List A) LineFault

@@ -6,12 +6,6 @@ use Rattle.mb_script.specs.declared.fault.LineFault.{LineFault}
 use Rattle.mb_script.specs.declared.fault.LineFault.TheVariants as fault
 use Rattle.mb_script.specs.declared.fault.LineWhy.{LineWhy}
 
--- the second step, if the first gave a value
-infixl 10 ◌>>=◌
-abbrev pub ◌>>=◌ : {A B E : Type 0} → Result A E → (A → Result B E) → Result B E
-(Ok x) >>= f = f x
-(Err e) >>= f = Err e
-
 -- a line of which the first character is `#`
 abbrev pub is_comment : List ℕ → Bool
 is_comment [] = false

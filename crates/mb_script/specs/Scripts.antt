@@ -9,7 +9,8 @@ use Rattle.mb_lines.specs.Lines.{Line}
 use Rattle.mb_script.specs.declared.fault.LineFault.{LineFault}
 use Rattle.mb_script.specs.declared.fault.LineWhy.{LineWhy}
 use Rattle.mb_script.specs.declared.fault.LineWhy.TheVariants as why
-use Rattle.mb_script.specs.Lines.{◌>>=◌, read_by, statements_of}
+use Rattle.mb_lines.specs.Results.{◌>>=◌}
+use Rattle.mb_script.specs.Lines.{read_by, statements_of}
 use Rattle.mb_script.specs.Words.{cut_at_space, is_word, number_of, tested}
 
 -- How a line writes the bytes of its entry.

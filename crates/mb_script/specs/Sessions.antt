@@ -8,7 +8,8 @@ use Rattle.mb_script.specs.declared.fault.LineFault.TheVariants as fault
 use Rattle.mb_script.specs.declared.fault.LineWhy.{LineWhy}
 use Rattle.mb_script.specs.declared.fault.LineWhy.TheVariants as why
 use Rattle.mb_lines.specs.Lines.{lines_in, Line}
-use Rattle.mb_script.specs.Lines.{◌>>=◌, read_by, statements_of}
+use Rattle.mb_lines.specs.Results.{◌>>=◌}
+use Rattle.mb_script.specs.Lines.{read_by, statements_of}
 use Rattle.mb_script.specs.Plan.{Guest, Plan, is_ram, is_board}
 use Rattle.mb_script.specs.Words.{number_of, tested}
 

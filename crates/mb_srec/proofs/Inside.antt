@@ -8,7 +8,8 @@ use Rattle.mb_srec.specs.declared.fault.ImageFault.{ImageFault}
 use Rattle.mb_srec.specs.declared.image.Image.{Image}
 use Rattle.mb_srec.specs.Image.{LiesBelow, contents_of}
 use Rattle.mb_srec.specs.Answers.{Gives}
-use Rattle.mb_srec.specs.Records.{◌>>=◌, Record, Header, Data, Count, End, Reading, beginning, first_outside, counts_right, unless_outside, with_record, at_line, record_of, after_record, after_line, after_lines, at_end, records_of}
+use Rattle.mb_lines.specs.Results.{◌>>=◌}
+use Rattle.mb_srec.specs.Records.{Record, Header, Data, Count, End, Reading, beginning, first_outside, counts_right, unless_outside, with_record, at_line, record_of, after_record, after_line, after_lines, at_end, records_of}
 use Rattle.mb_srec.proofs.Outside.{some_outside}
 
 abbrev Within : ℕ → List (ℕ × List ℕ) → Type 0

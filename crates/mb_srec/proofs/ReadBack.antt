@@ -20,7 +20,8 @@ use Rattle.mb_lines.proofs.Written.{IsPlain, first_written, none_written}
 use Rattle.mb_srec.specs.declared.fault.ImageFault.{ImageFault}
 use Rattle.mb_srec.specs.declared.kind.Kind.TheVariants.{S3}
 use Rattle.mb_srec.specs.Image.{LiesBelow, byte_of, byte_at}
-use Rattle.mb_srec.specs.Records.{◌>>=◌, Data, Reading, checksum_of, summed, has_its_length, has_its_checksum, said_by, meaning_of, record_of, after_record, with_record, after_line, after_lines, beginning, at_end, records_of}
+use Rattle.mb_lines.specs.Results.{◌>>=◌}
+use Rattle.mb_srec.specs.Records.{Data, Reading, checksum_of, summed, has_its_length, has_its_checksum, said_by, meaning_of, record_of, after_record, with_record, after_line, after_lines, beginning, at_end, records_of}
 use Rattle.mb_srec.specs.Written.{IsContent, SameBytes, counted, data_line, data_lines, chunk_lines, header_line, end_line, text_of}
 use Rattle.mb_srec.proofs.Outside.{all_inside}
 

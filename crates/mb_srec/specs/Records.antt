@@ -5,6 +5,7 @@ use Rattle.std.specs.Result.{result_ok}
 use Rattle.hex.specs.Hex.{decode_of}
 use Rattle.byteorder.specs.Endian.{big_number}
 use Rattle.mb_lines.specs.Lines.{Line, numbered}
+use Rattle.mb_lines.specs.Results.{◌>>=◌}
 use Rattle.mb_srec.specs.declared.fault.ImageFault.{ImageFault}
 use Rattle.mb_srec.specs.declared.fault.ImageFault.TheVariants as fault
 use Rattle.mb_srec.specs.declared.fault.RecordWhy.{RecordWhy}
@@ -19,12 +20,6 @@ pub data Record : Type 0 where
   Data : ℕ → List ℕ → Record  -- bytes, the first of them at the address
   Count : ℕ → Record  -- so many data records came before
   End : Record
-
--- the second step, if the first gave a value
-infixl 10 ◌>>=◌
-abbrev pub ◌>>=◌ : {A B E : Type 0} → Result A E → (A → Result B E) → Result B E
-(Ok x) >>= f = f x
-(Err e) >>= f = Err e
 
 -- the bytes that pairs of hexadecimal digits of either case spell
 abbrev pub bytes_of : List ℕ → Option (List ℕ)
