@@ -4,7 +4,8 @@ use Rattle.std.proofs.lemmas.List.{append-nil}
 use Rattle.mb_port.specs.declared.types.Piece.{Piece}
 use Rattle.mb_port.specs.Pieces.{piece_len, cut, bytes_from, bytes_of, IsPiece, ArePieces, IsLongest, IsGreedy}
 
-cut_more : (n at left : ℕ) → 0 < left → cut (suc n) at left ≡ record { at = at; len = piece_len at left } ∷ cut n ((at + piece_len at left) % 2 ^ 32) (left - piece_len at left)
+cut_more : (n at left : ℕ) → 0 < left
+    → cut (suc n) at left ≡ record { at = at; len = piece_len at left } ∷ cut n ((at + piece_len at left) % 2 ^ 32) (left - piece_len at left)
 cut_more n at zero h = absurd (omega arith)
 cut_more n at (suc left) h = refl
 
@@ -108,7 +109,8 @@ unfolding bytes_from
 bytes_join zero m at = bytes_same m ((at + 0) % 2 ^ 32) at (omega arith) ∙ ap (bytes_from at) (omega arith)
 bytes_join (suc n) m at =
     let e : suc n + m ≡ suc (n + m) = omega arith in
-    rw e (ap (λ l. at % 2 ^ 32 ∷ l) (ap (λ l. bytes_from (at + 1) n ++ l) (bytes_same m ((at + suc n) % 2 ^ 32) ((at + 1 + n) % 2 ^ 32) (omega arith)) ∙ bytes_join n m (at + 1)))
+    rw e (ap (λ l. at % 2 ^ 32 ∷ l)
+    (ap (λ l. bytes_from (at + 1) n ++ l) (bytes_same m ((at + suc n) % 2 ^ 32) ((at + 1 + n) % 2 ^ 32) (omega arith)) ∙ bytes_join n m (at + 1)))
 
 pub cut_bytes : (n at left : ℕ) → rest_of n at left ≡ 0 → bytes_of (cut n at left) ≡ bytes_from at left
 unfolding rest_of left_after after bytes_of bytes_from
@@ -121,3 +123,6 @@ cut_bytes (suc n) at (suc left) h =
     let whole : bytes_from at k ++ bytes_of (cut n (after at (suc left)) (suc left - k)) ≡ bytes_from at (suc left) =
     ap (λ l. bytes_from at k ++ l) (cut_bytes n _ _ h) ∙ bytes_join k (suc left - k) at ∙ ap (bytes_from at) e in
     whole
+
+-- one more piece of the cut, and its end
+pub ruleset cutting = (cut_step, cut_none)

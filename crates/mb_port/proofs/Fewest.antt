@@ -1,5 +1,6 @@
 -- No cut of an operand of at most five bytes has fewer pieces than the greedy one.
-use Rattle.std.proofs.Common.{◌≡◌, ℕ, zero, suc, ◌+◌, ◌-◌, ◌%◌, ◌^◌, ◌<◌, ◌≤◌, Bool, true, false, ◌&&◌, not, List, [], ◌∷◌, ◌++◌, length, refl, ap, arith, sym, ◌∙◌}
+use Rattle.std.proofs.Common.{◌≡◌, ℕ, zero, suc, ◌+◌, ◌-◌, ◌%◌, ◌^◌, ◌<◌, ◌≤◌, Bool, true, false, ◌&&◌, not, List, [], ◌∷◌, ◌++◌, length, refl, ap, arith, sym}
+use Rattle.std.proofs.Common.{◌∙◌}
 use Rattle.std.specs.Prelude.{◌==◌, ◌||◌, nat_le}
 use Rattle.std.proofs.lemmas.Bool.{leb-true}
 use Rattle.std.proofs.lemmas.List.{append_cancel_left, length-append}
@@ -58,7 +59,8 @@ count_same (suc n) at more zero h = refl
 count_same (suc n) at more (suc left) h =
     let e = len_same at more (suc left) h in
     ap suc (ap (λ k. length (cut n ((at + k) % 2 ^ 32) (suc left - k))) e
-    ∙ count_same n ((at + piece_len more (suc left)) % 2 ^ 32) ((more + piece_len more (suc left)) % 2 ^ 32) (suc left - piece_len more (suc left)) (omega arith))
+    ∙ count_same n ((at + piece_len more (suc left)) % 2 ^ 32) ((more + piece_len more (suc left)) % 2 ^ 32)
+    (suc left - piece_len more (suc left)) (omega arith))
 
 stands : (q : Piece) (left : ℕ) → IsPiece q → q.len ≤ left → may_stand (q.at % 4) left q.len ≡ true
 unfolding may_stand
@@ -96,7 +98,8 @@ rests : (q : Piece) (at left : ℕ) (more : List ℕ) → 0 < q.len → bytes_fr
 rests q at left more some e =
     let same : q.at % 2 ^ 32 ≡ at % 2 ^ 32 = heads q.at at q.len left more some e in
     let lens : q.len + length more ≡ left =
-    ap (λ n. n + length more) (sym (length-bytes_from q.at q.len)) ∙ sym (length-append (bytes_from q.at q.len) more) ∙ ap length e ∙ length-bytes_from at left in
+    ap (λ n. n + length more) (sym (length-bytes_from q.at q.len))
+    ∙ sym (length-append (bytes_from q.at q.len) more) ∙ ap length e ∙ length-bytes_from at left in
     let fits : q.len ≤ left = omega arith in
     let sum : q.len + (left - q.len) ≡ left = omega arith in
     let joined : bytes_from q.at q.len ++ bytes_from ((q.at + q.len) % 2 ^ 32) (left - q.len) ≡ bytes_from q.at left =

@@ -3,9 +3,9 @@ use Rattle.std.proofs.Common.{◌≡◌, ℕ, zero, suc, ◌≢◌, [], ◌∷�
 use Rattle.std.specs.Prelude.{bit_and}
 use Rattle.std.specs.Int.{bytes_high_first}
 use Rattle.std.proofs.lemmas.Nat.{pow-add, pow_pos, shl-shr, and_mask}
-use Rattle.std.proofs.Math.Nat.{pow-le-pow_right, mul-lt-mul_of_pos_right, mod-eq_of_lt, mod-mod}
+use Rattle.std.proofs.Math.Nat.{pow-succ', pow-le-pow_right, mul-lt-mul_of_pos_right, mod-eq_of_lt, mod-mod}
 use Rattle.mb_port.specs.declared.types.Piece.{Piece}
-use Rattle.mb_port.specs.Pieces.{IsPiece, span_of, weight_of, laid, unlaid}
+use Rattle.mb_port.specs.Pieces.{IsPiece, laid, unlaid}
 
 -- a value of k bits, further up by j, is below 2 ^ 32
 shifted_fits : (v k j : ℕ) → k + j ≤ 32 → v % 2 ^ k * 2 ^ j < 2 ^ 32
@@ -38,7 +38,7 @@ ones (suc (suc (suc (suc zero)))) h = refl
 ones (suc (suc (suc (suc (suc n))))) h = absurd (omega arith)
 
 pub unlaid_laid : (p : Piece) (value : ℕ) → unlaid p (laid p value) ≡ value % 2 ^ (8 * p.len)
-unfolding unlaid laid span_of weight_of
+unfolding unlaid laid
 unlaid_laid p value =
     let k = 8 * p.len in
     let some : 0 < 2 ^ k = pow_pos k in
@@ -47,18 +47,33 @@ unlaid_laid p value =
 -- what `lay` computes, taken back
 pub unlaid_shifted : (p : Piece) (value m j : ℕ) → m ≡ 2 ^ (8 * p.len) - 1 → j ≡ 8 * (4 - p.at % 4 - p.len) → 8 * p.len + j ≤ 32
     → unlaid p (bit_and value m * 2 ^ j % 2 ^ 32) ≡ value % 2 ^ (8 * p.len)
-unfolding laid span_of weight_of
+unfolding laid
 unlaid_shifted p value m j e f h =
     let laid_is : bit_and value m * 2 ^ j % 2 ^ 32 ≡ laid p value = mask_shifted value m (8 * p.len) j e h ∙ ap (λ n. value % 2 ^ (8 * p.len) * 2 ^ n) f in
     ap (unlaid p) laid_is ∙ unlaid_laid p value
 
-pub unlaid_fits : (p : Piece) (long : ℕ) → unlaid p long < 2 ^ (8 * p.len)
-unfolding unlaid span_of
-unlaid_fits p long = let some : 0 < 2 ^ (8 * p.len) = pow_pos (8 * p.len) in omega arith
+-- how many values so many bytes have
+span : (len : ℕ) → 2 ^ (8 * len) ≡ 256 ^ len
+span zero = refl
+span (suc n) =
+    let before = span n in
+    let e : 8 * suc n ≡ 8 * n + 8 = omega arith in
+    let split : 2 ^ (8 * n + 8) ≡ 2 ^ (8 * n) * 256 = pow-add 2 (8 * n) 8 in
+    let more : 256 ^ suc n ≡ 256 * 256 ^ n = pow-succ' 256 n in
+    ap (λ (k : ℕ). 2 ^ k) e ∙ omega arith
+
+-- what `unlay` computes has the piece's bytes alone
+pub masked_fits : (long m j len : ℕ) → m ≡ 2 ^ (8 * len) - 1 → bit_and (long / 2 ^ j) m < 256 ^ len
+masked_fits long m j len e =
+    let some : 0 < 2 ^ (8 * len) = pow_pos (8 * len) in
+    let bytes = span len in
+    let value = shift_masked long m (8 * len) j e in
+    omega arith
 
 -- The bytes of the long, by the seven places of a piece.
 abbrev Stands : ℕ → ℕ → ℕ → Type 0
-Stands place len value = bytes_high_first 4 (value % 2 ^ (8 * len) * 2 ^ (8 * (4 - place - len))) ≡ replicate place 0 ++ bytes_high_first len value ++ replicate (4 - place - len) 0
+Stands place len value =
+    bytes_high_first 4 (value % 2 ^ (8 * len) * 2 ^ (8 * (4 - place - len))) ≡ replicate place 0 ++ bytes_high_first len value ++ replicate (4 - place - len) 0
 
 cells : (a b c d e f g h : ℕ) → a ≡ e → b ≡ f → c ≡ g → d ≡ h → a ∷ b ∷ c ∷ d ∷ [] ≡ e ∷ f ∷ g ∷ h ∷ []
 cells a b c d e f g h p q r s = cc
@@ -85,8 +100,9 @@ in_long p h = grind arith
 two_even : (p : Piece) → IsPiece p → p.len ≡ 2 → p.at % 4 % 2 ≡ 0
 two_even p h two = let even : p.at % 2 ≡ 0 = h.3 (omega arith) in omega arith
 
-pub laid_bytes : (p : Piece) (value : ℕ) → IsPiece p → bytes_high_first 4 (laid p value) ≡ replicate (p.at % 4) 0 ++ bytes_high_first p.len value ++ replicate (4 - p.at % 4 - p.len) 0
-unfolding laid span_of weight_of
+pub laid_bytes : (p : Piece) (value : ℕ) → IsPiece p
+    → bytes_high_first 4 (laid p value) ≡ replicate (p.at % 4) 0 ++ bytes_high_first p.len value ++ replicate (4 - p.at % 4 - p.len) 0
+unfolding laid
 laid_bytes p value h =
     stands (p.at % 4) p.len value (omega arith) h.0 (in_long p h) h.2 (two_even p h)
 
@@ -114,29 +130,29 @@ taken zero (suc (suc (suc (suc zero)))) long a b c d e = cells _ _ _ _ _ _ _ _ (
 taken zero (suc (suc (suc (suc (suc len))))) long a b c d e = absurd (omega arith)
 
 pub unlaid_bytes : (p : Piece) (long : ℕ) → IsPiece p → bytes_high_first p.len (unlaid p long) ≡ take p.len (drop (p.at % 4) (bytes_high_first 4 long))
-unfolding unlaid span_of weight_of
+unfolding unlaid
 unlaid_bytes p long h = taken (p.at % 4) p.len long (omega arith) h.0 (in_long p h) h.2 (two_even p h)
 
 -- the same of what `lay` and `unlay` compute
 pub laid_shifted : (p : Piece) (value m j : ℕ) → IsPiece p → m ≡ 2 ^ (8 * p.len) - 1 → j ≡ 8 * (4 - p.at % 4 - p.len) → 8 * p.len + j ≤ 32
     → bytes_high_first 4 (bit_and value m * 2 ^ j % 2 ^ 32) ≡ replicate (p.at % 4) 0 ++ bytes_high_first p.len value ++ replicate (4 - p.at % 4 - p.len) 0
-unfolding laid span_of weight_of
+unfolding laid
 laid_shifted p value m j is e f h =
     let laid_is : bit_and value m * 2 ^ j % 2 ^ 32 ≡ laid p value = mask_shifted value m (8 * p.len) j e h ∙ ap (λ n. value % 2 ^ (8 * p.len) * 2 ^ n) f in
     ap (bytes_high_first 4) laid_is ∙ laid_bytes p value is
 
 pub unlaid_shifted_bytes : (p : Piece) (long m j : ℕ) → IsPiece p → m ≡ 2 ^ (8 * p.len) - 1 → j ≡ 8 * (4 - p.at % 4 - p.len)
     → bytes_high_first p.len (bit_and (long / 2 ^ j) m) ≡ take p.len (drop (p.at % 4) (bytes_high_first 4 long))
-unfolding unlaid span_of weight_of
+unfolding unlaid
 unlaid_shifted_bytes p long m j is e f =
     let unlaid_is : bit_and (long / 2 ^ j) m ≡ unlaid p long = shift_masked long m (8 * p.len) j e ∙ ap (λ n. long / 2 ^ n % 2 ^ (8 * p.len)) f in
     ap (bytes_high_first p.len) unlaid_is ∙ unlaid_bytes p long is
 
 pub unlaid_back : (p : Piece) (long m j : ℕ) → m ≡ 2 ^ (8 * p.len) - 1 → j ≡ 8 * (4 - p.at % 4 - p.len)
     → (value : ℕ) → long ≡ laid p value → bit_and (long / 2 ^ j) m ≡ value % 2 ^ (8 * p.len)
-unfolding unlaid span_of weight_of
+unfolding unlaid
 unlaid_back p long m j e f value h =
     let unlaid_is : bit_and (long / 2 ^ j) m ≡ unlaid p long = shift_masked long m (8 * p.len) j e ∙ ap (λ n. long / 2 ^ n % 2 ^ (8 * p.len)) f in
     unlaid_is ∙ ap (unlaid p) h ∙ unlaid_laid p value
 
-pub ruleset laying = (mask_shifted, shift_masked, unlaid_shifted, unlaid_fits, laid_shifted, unlaid_shifted_bytes, unlaid_back)
+pub ruleset laying = (mask_shifted, shift_masked, unlaid_shifted, masked_fits, laid_shifted, unlaid_shifted_bytes, unlaid_back)

@@ -10,7 +10,8 @@ length-bytes_of : (ps : List Piece) → length (bytes_of ps) ≡ total ps
 unfolding bytes_of
 length-bytes_of [] = refl
 length-bytes_of (p ∷ ps) =
-    length-append (bytes_from p.at p.len) (bytes_of ps) ∙ ap (λ n. n + length (bytes_of ps)) (length-bytes_from p.at p.len) ∙ ap (λ n. p.len + n) (length-bytes_of ps)
+    length-append (bytes_from p.at p.len) (bytes_of ps) ∙ ap (λ n. n + length (bytes_of ps)) (length-bytes_from p.at p.len)
+    ∙ ap (λ n. p.len + n) (length-bytes_of ps)
 
 length-cut : (n at left : ℕ) → length (cut n at left) ≤ n
 length-cut zero at left = omega arith
@@ -52,8 +53,10 @@ from_cut : (at len : ℕ) (pieces : List Piece) → 1 ≤ len → len ≤ 5 → 
 from_cut at len pieces least most e = subst (λ (ps : List Piece). IsSplit at len ps) (sym e) (cut_split at len least most)
 
 -- after three pieces, and where nothing is left
-pub after_three : (i next left at len : ℕ) (pieces : List Piece) → 1 ≤ len → len ≤ 5 → 3 ≤ i → pieces ++ cut (3 - i) next left ≡ cut 3 at len → IsSplit at len pieces
+pub after_three : (i next left at len : ℕ) (pieces : List Piece) → 1 ≤ len → len ≤ 5 → 3 ≤ i
+    → pieces ++ cut (3 - i) next left ≡ cut 3 at len → IsSplit at len pieces
 after_three i next left at len pieces least most all_done told = from_cut at len pieces least most (cut_end i next left pieces (cut 3 at len) all_done told)
 
-pub after_last : (i next left at len : ℕ) (pieces : List Piece) → 1 ≤ len → len ≤ 5 → left ≡ 0 → pieces ++ cut (3 - i) next left ≡ cut 3 at len → IsSplit at len pieces
+pub after_last : (i next left at len : ℕ) (pieces : List Piece) → 1 ≤ len → len ≤ 5 → left ≡ 0
+    → pieces ++ cut (3 - i) next left ≡ cut 3 at len → IsSplit at len pieces
 after_last i next left at len pieces least most none told = from_cut at len pieces least most (cut_break i next left pieces (cut 3 at len) none told)

@@ -1,3 +1,4 @@
 pub mod Routine
+pub mod Flushes
 pub mod Pieces
-pub mod VectorBus
+pub mod Registers

@@ -1,5 +1,6 @@
 -- Pieces of operands.
-use Rattle.std.specs.Prelude.{ℕ, zero, suc, ◌+◌, ◌-◌, ◌*◌, ◌/◌, ◌%◌, ◌^◌, ◌<◌, ◌≤◌, ◌≡◌, ◌≢◌, List, [], ◌∷◌, ◌++◌, length, ◌&&◌, ◌==◌, nat_le, if◌then◌else◌}
+use Rattle.std.specs.Prelude.{ℕ, zero, suc, ◌+◌, ◌-◌, ◌*◌, ◌/◌, ◌%◌, ◌^◌, ◌<◌, ◌≤◌, ◌≡◌, ◌≢◌, List, [], ◌∷◌, ◌++◌}
+use Rattle.std.specs.Prelude.{length, ◌&&◌, ◌==◌, nat_le, if◌then◌else◌}
 use Rattle.mb_port.specs.declared.types.Piece.{Piece}
 
 -- 1, 2 or 4 bytes, at a multiple of that
@@ -23,7 +24,9 @@ piece_len at left = if (at % 4 == 0) && nat_le 4 left then 4 else (if (at % 2 ==
 abbrev pub cut : ℕ → ℕ → ℕ → List Piece
 cut zero at left = []
 cut (suc n) at zero = []
-cut (suc n) at (suc left) = record { at = at; len = piece_len at (suc left) } ∷ cut n ((at + piece_len at (suc left)) % 2 ^ 32) (suc left - piece_len at (suc left))
+cut (suc n) at (suc left) =
+    let len = piece_len at (suc left) in
+    record { at = at; len = len } ∷ cut n ((at + len) % 2 ^ 32) (suc left - len)
 
 -- the greedy cut of an operand of one to five bytes
 unfoldable pub split_of : ℕ → ℕ → List Piece
@@ -53,14 +56,15 @@ IsGreedy at left (p ∷ ps) = IsLongest at left p × IsGreedy ((at + p.len) % 2 
 
 -- No pieces that have these bytes in order are fewer.
 unfoldable pub IsFewest : List Piece → Type 0
-IsFewest pieces = (others : List Piece) → ArePieces others → bytes_of others ≡ bytes_of pieces → length pieces ≤ length others
+IsFewest pieces =
+    (others : List Piece) → ArePieces others → bytes_of others ≡ bytes_of pieces → length pieces ≤ length others
 
 -- how many values a piece can have
-unfoldable pub span_of : Piece → ℕ
+abbrev pub span_of : Piece → ℕ
 span_of p = 2 ^ (8 * p.len)
 
 -- what the piece's last byte counts for in the long at its address rounded down to a multiple of 4
-unfoldable pub weight_of : Piece → ℕ
+abbrev pub weight_of : Piece → ℕ
 weight_of p = 2 ^ (8 * (4 - p.at % 4 - p.len))
 
 -- the piece's value in its long: its bytes where they stand in memory, the rest 0

@@ -1,8 +1,9 @@
 //! The bus.
 
-ghost use Rattle.std.specs.Prelude.{◌≡◌, ℕ, ◌%◌, IfOk};
+ghost use Rattle.std.specs.Prelude.{◌≡◌, ℕ, ◌<◌, ◌%◌, ◌^◌, IfOk};
 ghost use Rattle.mb_port.specs.Routine.{Bus, Call};
 ghost use Rattle.mb_port.specs.Pieces.{IsPiece};
+ghost use Rattle.mb_port.specs.Flushes.{NamesPage};
 ghost use Rattle.mb_port.specs.declared.types.Place.{Place};
 
 use crate::types::{Fault, Flush, Mmu, MmuReg, Piece, Place, Space};
@@ -33,12 +34,14 @@ pub trait Port {
     fn fetch(&mut self, space: Space, at: u32) -> Result<u16, Fault>
         requires { at % 2 ≡ 0 }
         ensures means { bus (Call.Fetch space at) (world self.old) ≡ (result, world self.new) }
+        ensures range { IfOk result (λ word. word < 256 ^ 2) }
         ensures rest { rest self.new ≡ rest self.old };
 
     /// Reads a piece of an operand: its big-endian value.
     fn read(&mut self, space: Space, piece: Piece) -> Result<u32, Fault>
         requires { IsPiece piece }
         ensures means { bus (Call.Read space piece) (world self.old) ≡ (result, world self.new) }
+        ensures range { IfOk result (λ value. value < 256 ^ piece.len) }
         ensures rest { rest self.new ≡ rest self.old };
 
     /// Writes a piece of an operand. Bytes of `value` above the piece are ignored.
@@ -70,6 +73,7 @@ pub trait Port {
     fn get(&mut self, place: Place) -> u32
         requires { exists (rest self.old) place }
         ensures means { bus (Call.Get place) (world self.old) ≡ (result, world self.new) }
+        ensures range { result < 256 ^ place.len }
         ensures rest { rest self.new ≡ rest self.old };
 
     /// Writes a physical piece, without translation.
@@ -89,6 +93,7 @@ pub trait Port {
 
     /// Drops kept translations.
     fn flush(&mut self, what: Flush)
+        requires { NamesPage what }
         ensures means { bus (Call.FlushKept what) (world self.old) ≡ (result, world self.new) }
         ensures rest { rest self.new ≡ rest self.old };
 

@@ -15,5 +15,3 @@ pub use types::{Fault, Flush, Mmu, MmuReg, Piece, Place, Space};
 
 #[cfg(test)]
 mod tests;
-#[cfg(test)]
-mod vector_port;

@@ -26,7 +26,7 @@ fn mask(piece: Piece) -> u32
 
 /// The memory-aligned form of a value: the piece's bytes stand where its address modulo 4 puts them
 /// in a long, and the rest is 0. Bytes of `value` above the piece are ignored.
-#[tactic(auto, using(crate::proofs::Laid::laying), unfolding(crate::specs::Pieces::laid, crate::specs::Pieces::span_of, crate::specs::Pieces::weight_of))]
+#[tactic(auto, using(crate::proofs::Laid::laying), unfolding(crate::specs::Pieces::laid))]
 pub fn lay(piece: Piece, value: u32) -> u32
     requires { IsPiece piece }
     ensures meaning { result ≡ laid piece value }
@@ -38,13 +38,13 @@ pub fn lay(piece: Piece, value: u32) -> u32
 }
 
 /// The value whose bytes stand at the piece's place in a long. The other bytes are ignored.
-#[tactic(auto, using(crate::proofs::Laid::laying), unfolding(crate::specs::Pieces::unlaid, crate::specs::Pieces::span_of, crate::specs::Pieces::weight_of))]
+#[tactic(auto, using(crate::proofs::Laid::laying), unfolding(crate::specs::Pieces::unlaid))]
 pub fn unlay(piece: Piece, long: u32) -> u32
     requires { IsPiece piece }
     ensures meaning { result ≡ unlaid piece long }
     ensures bytes { bytes_high_first piece.len result ≡ take piece.len (drop (piece.at % 4) (bytes_high_first 4 long)) }
     ensures inverse { (value : ℕ) → long ≡ laid piece value → result ≡ value % 2 ^ (8 * piece.len) }
-    ensures fits { result < 2 ^ (8 * piece.len) }
+    ensures fits { result < 256 ^ piece.len }
 {
     (long >> bits_below(piece)) & mask(piece)
 }

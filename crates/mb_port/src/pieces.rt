@@ -1,7 +1,8 @@
 //! The pieces of an operand.
 
 ghost use Rattle.std.specs.Prelude.{◌≡◌, ◌<◌, ◌≤◌, length};
-ghost use Rattle.mb_port.specs.Pieces.{piece_len as longest, split_of, total, bytes_from, bytes_of, ArePieces, IsGreedy, IsFewest};
+ghost use Rattle.mb_port.specs.Pieces.{piece_len as longest, split_of, total, bytes_from, bytes_of, ArePieces};
+ghost use Rattle.mb_port.specs.Pieces.{IsGreedy, IsFewest};
 
 use crate::types::Piece;
 use arrayvec::ArrayVec;
@@ -24,7 +25,7 @@ fn piece_len(at: u32, left: u8) -> u8
 
 /// Cuts an operand of one to five bytes greedily into naturally aligned pieces of four, two or one
 /// byte, in order of address. Addresses wrap at 2^32.
-#[tactic(auto, using(crate::proofs::Cuts::cut_step, crate::proofs::Cuts::cut_none), unfolding(crate::specs::Pieces::split_of))]
+#[tactic(auto, using(crate::proofs::Cuts::cutting), unfolding(crate::specs::Pieces::split_of))]
 pub fn split(at: u32, len: u8) -> ArrayVec<Piece, 3>
     requires { (1 ≤ len) × (len ≤ 5) }
     ensures pieces { result.items ≡ split_of at len }

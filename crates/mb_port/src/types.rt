@@ -1,5 +1,8 @@
 //! The words of the bus.
 
+ghost use Rattle.std.specs.Prelude.{◌≡◌};
+ghost use Rattle.mb_port.specs.Registers.{with_mmu_register};
+
 /// The address space of an access: the manual's user or supervisor space.
 #[derive(Clone, Copy, Debug, PartialEq, Eq)]
 pub enum Space {
@@ -65,6 +68,24 @@ pub enum MmuReg {
     Mmusr,
     Urp,
     Srp,
+}
+
+impl Mmu {
+    /// Writes one register, with all bits of the value.
+    pub fn set(&mut self, which: MmuReg, value: u32)
+        ensures { self.new ≡ with_mmu_register self.old which value }
+    {
+        match which {
+            MmuReg::Tc => self.tc = value,
+            MmuReg::Itt0 => self.itt0 = value,
+            MmuReg::Itt1 => self.itt1 = value,
+            MmuReg::Dtt0 => self.dtt0 = value,
+            MmuReg::Dtt1 => self.dtt1 = value,
+            MmuReg::Mmusr => self.mmusr = value,
+            MmuReg::Urp => self.urp = value,
+            MmuReg::Srp => self.srp = value,
+        }
+    }
 }
 
 /// Which kept translations are dropped. A page is a number of 4 KiB, below 2^20.

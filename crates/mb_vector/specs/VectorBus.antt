@@ -1,14 +1,15 @@
 -- A bus over a vector of longs, without translation: a memory for tests.
-use Rattle.std.specs.Prelude.{ℕ, ◌+◌, ◌-◌, ◌/◌, ◌^◌, ◌<◌, ◌&&◌, ◌||◌, Bool, true, false, Result, Ok, Err, List, [], ◌∷◌, length, slice_index, slice_set, nat_le, nat_lt, bit_and, bit_or, if◌then◌else◌}
-use Rattle.mb_port.specs.Routine.{Fetch, Read, Write, ReadLine, WriteLine, Probe, Get, Put, ReadMmu, SetMmu, FlushKept, Test, ResetDevices, Bus}
+use Rattle.std.specs.Prelude.{ℕ, ◌+◌, ◌-◌, ◌/◌, ◌^◌, ◌<◌, ◌&&◌, ◌||◌, Bool, true, false, Result, Ok, Err, List, [], ◌∷◌}
+use Rattle.std.specs.Prelude.{length, slice_index, slice_set, nat_le, nat_lt, bit_and, bit_or, if◌then◌else◌}
+use Rattle.mb_port.specs.Routine.{Fetch, Read, Write, ReadLine, WriteLine, Probe, Get, Put, ReadMmu, SetMmu, FlushKept}
+use Rattle.mb_port.specs.Routine.{Test, ResetDevices, Bus}
 use Rattle.mb_port.specs.Pieces.{IsPiece, laid, unlaid}
 use Rattle.mb_port.specs.declared.types.Space.{Space}
 use Rattle.mb_port.specs.declared.types.Piece.{Piece}
 use Rattle.mb_port.specs.declared.types.Place.{Place}
 use Rattle.mb_port.specs.declared.types.Fault.{Fault}
 use Rattle.mb_port.specs.declared.types.Mmu.{Mmu}
-use Rattle.mb_port.specs.declared.types.MmuReg.{MmuReg}
-use Rattle.mb_port.specs.declared.types.MmuReg.TheVariants as reg
+use Rattle.mb_port.specs.Registers.{with_mmu_register}
 
 -- longs from address 0 on, a byte that no access may touch, and registers that do nothing
 pub record Memory : Type 0 where
@@ -28,16 +29,6 @@ HasPlace size place = IsPiece (piece_at place.at place.len) × (place.at / 4 < s
 abbrev pub is_refused : Memory → ℕ → ℕ → Bool
 is_refused m at len = nat_lt (length m.longs) (at / 4 + (len + 3) / 4) || (nat_le at m.hole && nat_lt m.hole (at + len))
 
-abbrev pub with_register : Mmu → MmuReg → ℕ → Mmu
-with_register m reg.Tc v = record m { tc = v }
-with_register m reg.Itt0 v = record m { itt0 = v }
-with_register m reg.Itt1 v = record m { itt1 = v }
-with_register m reg.Dtt0 v = record m { dtt0 = v }
-with_register m reg.Dtt1 v = record m { dtt1 = v }
-with_register m reg.Mmusr v = record m { mmusr = v }
-with_register m reg.Urp v = record m { urp = v }
-with_register m reg.Srp v = record m { srp = v }
-
 abbrev pub value_at : Memory → Piece → ℕ
 value_at m p = unlaid p (slice_index m.longs (p.at / 4))
 
@@ -52,10 +43,16 @@ abbrev pub with_value : Memory → Piece → ℕ → Memory
 with_value m p value = with_long m (p.at / 4) (replaced p (slice_index m.longs (p.at / 4)) value)
 
 abbrev pub line_of : Memory → ℕ → List ℕ
-line_of m i = slice_index m.longs i ∷ slice_index m.longs (i + 1) ∷ slice_index m.longs (i + 2) ∷ slice_index m.longs (i + 3) ∷ []
+line_of m i =
+    let long = slice_index m.longs in
+    long i ∷ long (i + 1) ∷ long (i + 2) ∷ long (i + 3) ∷ []
 
 abbrev pub with_line : Memory → ℕ → List ℕ → Memory
-with_line m i line = with_long (with_long (with_long (with_long m i (slice_index line 0)) (i + 1) (slice_index line 1)) (i + 2) (slice_index line 2)) (i + 3) (slice_index line 3)
+with_line m i line =
+    let one = with_long m i (slice_index line 0) in
+    let two = with_long one (i + 1) (slice_index line 1) in
+    let three = with_long two (i + 2) (slice_index line 2) in
+    with_long three (i + 3) (slice_index line 3)
 
 abbrev pub fault_at : Space → ℕ → ℕ → Bool → Bool → Fault
 fault_at space at len code write = record { at = at; len = len; space = space; code = code; write = write; atc = false }
@@ -69,12 +66,14 @@ vector_bus (Fetch space at) m = unless_refused m (value_at m (piece_at at 2), m)
 vector_bus (Read space p) m = unless_refused m (value_at m p, m) (fault_at space p.at p.len false false)
 vector_bus (Write space p value) m = unless_refused m (tt, with_value m p value) (fault_at space p.at p.len false true)
 vector_bus (ReadLine space at) m = unless_refused m (line_of m (at / 4), m) (fault_at space at 16 false false)
-vector_bus (WriteLine space at line) m = unless_refused m (tt, with_line m (at / 4) line) (fault_at space at 16 false true)
-vector_bus (Probe space p) m = unless_refused m (record { at = p.at; len = p.len }, m) (fault_at space p.at p.len false true)
+vector_bus (WriteLine space at line) m =
+    unless_refused m (tt, with_line m (at / 4) line) (fault_at space at 16 false true)
+vector_bus (Probe space p) m =
+    unless_refused m (record { at = p.at; len = p.len }, m) (fault_at space p.at p.len false true)
 vector_bus (Get place) m = (value_at m (piece_at place.at place.len), m)
 vector_bus (Put place value) m = (tt, with_value m (piece_at place.at place.len) value)
 vector_bus ReadMmu m = (m.mmu, m)
-vector_bus (SetMmu which value) m = (tt, record m { mmu = with_register m.mmu which value })
+vector_bus (SetMmu which value) m = (tt, record m { mmu = with_mmu_register m.mmu which value })
 vector_bus (FlushKept what) m = (tt, m)
 vector_bus (Test space at write) m = (0, m)
 vector_bus ResetDevices m = (tt, m)

@@ -1,12 +1,13 @@
-//! A port over a vector, as the tests of generic code take one.
+//! The port.
 //!
 //! What it does is `vector_bus`; the trait's clauses are proved from it with no file.
 
-ghost use Rattle.std.specs.Prelude.{◌≡◌, ℕ, ◌*◌, ◌/◌, ◌^◌, ◌<◌, length};
+ghost use Rattle.std.specs.Prelude.{◌≡◌, ℕ, ◌*◌, ◌/◌, ◌^◌, ◌<◌, length, replicate, IfOk};
 ghost use Rattle.mb_port.specs.Pieces.{IsPiece};
-ghost use Rattle.mb_port.specs.VectorBus.{Memory, HasPlace, is_refused, value_at, with_value, with_register, vector_bus};
+ghost use Rattle.mb_vector.specs.VectorBus.{Memory, HasPlace, is_refused, value_at, with_value};
+ghost use Rattle.mb_vector.specs.VectorBus.{vector_bus};
 
-use crate::{Fault, Flush, Mmu, MmuReg, Piece, Place, Port, Space, lay, unlay};
+use mb_port::{Fault, Flush, Mmu, MmuReg, Piece, Place, Port, Space, lay, unlay};
 use std::alloc::{AllocError, Global};
 
 /// Longs from address 0 on. An access beyond them, or one that touches the byte at `hole`, is refused.
@@ -18,8 +19,30 @@ pub struct VectorPort {
 }
 
 impl VectorPort {
+    /// So many longs of 0, all registers 0.
+    pub fn new(alloc: Global, longs: usize, hole: u32) -> Result<VectorPort, AllocError>
+        ensures { IfOk result (λ port. (port.longs.items ≡ replicate longs 0) × (port.hole ≡ hole)) }
+    {
+        let mmu = Mmu {
+            tc: 0,
+            itt0: 0,
+            itt1: 0,
+            dtt0: 0,
+            dtt1: 0,
+            mmusr: 0,
+            urp: 0,
+            srp: 0,
+        };
+        Ok(VectorPort {
+            longs: vec![in alloc; 0; longs]?,
+            hole,
+            mmu,
+        })
+    }
+
     fn refuses(&self, at: u32, len: u8) -> bool
-        ensures { result ≡ is_refused (record { longs = self.now.longs.items; hole = self.now.hole; mmu = self.now.mmu }) at len }
+        ensures { result ≡
+            is_refused (record { longs = self.now.longs.items; hole = self.now.hole; mmu = self.now.mmu }) at len }
     {
         let end = at as u64 + len as u64;
         let longs = (at / 4) as usize + (len as usize + 3) / 4;
@@ -29,8 +52,9 @@ impl VectorPort {
     fn value(&self, piece: Piece) -> u32
         requires piece { IsPiece piece }
         requires there { piece.at / 4 < length self.now.longs.items }
-        ensures value { result ≡ value_at (record { longs = self.now.longs.items; hole = self.now.hole; mmu = self.now.mmu }) piece }
-        ensures fits { result < 2 ^ (8 * piece.len) }
+        ensures value { result ≡
+            value_at (record { longs = self.now.longs.items; hole = self.now.hole; mmu = self.now.mmu }) piece }
+        ensures fits { result < 256 ^ piece.len }
     {
         unlay(piece, self.longs[(piece.at / 4) as usize])
     }
@@ -38,26 +62,12 @@ impl VectorPort {
     fn set_value(&mut self, piece: Piece, value: u32)
         requires piece { IsPiece piece }
         requires there { piece.at / 4 < length self.old.longs.items }
-        ensures longs { self.new.longs.items ≡ (with_value (record { longs = self.old.longs.items; hole = self.old.hole; mmu = self.old.mmu }) piece value).longs }
+        ensures longs { self.new.longs.items ≡ (with_value
+            (record { longs = self.old.longs.items; hole = self.old.hole; mmu = self.old.mmu }) piece value).longs }
         ensures rest { (self.new.hole ≡ self.old.hole) × (self.new.mmu ≡ self.old.mmu) }
     {
         let long = &mut self.longs[(piece.at / 4) as usize];
         *long = *long & !lay(piece, u32::MAX) | lay(piece, value);
-    }
-}
-
-fn set_register(mmu: &mut Mmu, which: MmuReg, value: u32)
-    ensures { mmu.new ≡ with_register mmu.old which value }
-{
-    match which {
-        MmuReg::Tc => mmu.tc = value,
-        MmuReg::Itt0 => mmu.itt0 = value,
-        MmuReg::Itt1 => mmu.itt1 = value,
-        MmuReg::Dtt0 => mmu.dtt0 = value,
-        MmuReg::Dtt1 => mmu.dtt1 = value,
-        MmuReg::Mmusr => mmu.mmusr = value,
-        MmuReg::Urp => mmu.urp = value,
-        MmuReg::Srp => mmu.srp = value,
     }
 }
 
@@ -194,7 +204,7 @@ impl Port for VectorPort {
     }
 
     fn set_mmu(&mut self, which: MmuReg, value: u32) {
-        set_register(&mut self.mmu, which, value);
+        self.mmu.set(which, value);
     }
 
     fn flush(&mut self, _what: Flush) {}
@@ -204,70 +214,4 @@ impl Port for VectorPort {
     }
 
     fn reset_devices(&mut self) {}
-}
-
-/// Four longs, with a hole in the last.
-fn port_of(alloc: Global) -> Result<VectorPort, AllocError> {
-    Ok(VectorPort {
-        longs: vec![in alloc; 0x0011_2233, 0x4455_6677, 0x8899_AABB, 0xCCDD_EEFF]?,
-        hole: 13,
-        mmu: Mmu {
-            tc: 0,
-            itt0: 0,
-            itt1: 0,
-            dtt0: 0,
-            dtt1: 0,
-            mmusr: 0,
-            urp: 0,
-            srp: 0,
-        },
-    })
-}
-
-/// Adds one to a byte, and answers what it was: generic code, which knows the port by its bound.
-fn bump<P: Port>(port: &mut P, at: u32) -> Result<u32, Fault> {
-    let byte = Piece { at, len: 1 };
-    let old = port.read(Space::User, byte)?;
-    port.write(Space::User, byte, old.wrapping_add(1))?;
-    Ok(old)
-}
-
-#[test]
-fn bytes_and_words(rt: HostRuntime) -> Result<(), AllocError> {
-    let mut port = port_of(rt.alloc())?;
-    assert_eq!(rt; port.fetch(Space::User, 6), Ok(0x6677));
-    assert_eq!(rt; bump(&mut port, 5), Ok(0x55));
-    assert_eq!(rt;
-        port.read(Space::User, Piece { at: 4, len: 4 }),
-        Ok(0x4456_6677)
-    );
-    assert!(rt; bump(&mut port, 13).is_err());
-    assert!(rt; bump(&mut port, 16).is_err());
-    Ok(())
-}
-
-#[test]
-fn places(rt: HostRuntime) -> Result<(), AllocError> {
-    let mut port = port_of(rt.alloc())?;
-    if let Ok(place) = port.probe(Space::Super, Piece { at: 2, len: 2 }) {
-        assert_eq!(rt; port.get(place), 0x2233);
-        port.put(place, 0xFFFF_ABCD);
-    }
-    assert_eq!(rt;
-        port.read(Space::User, Piece { at: 0, len: 4 }),
-        Ok(0x0011_ABCD)
-    );
-    Ok(())
-}
-
-#[test]
-fn lines_and_registers(rt: HostRuntime) -> Result<(), AllocError> {
-    let mut port = port_of(rt.alloc())?;
-    assert!(rt; port.read_line(Space::User, 0).is_err());
-    port.hole = u32::MAX;
-    assert_eq!(rt; port.write_line(Space::User, 0, [1, 2, 3, 4]), Ok(()));
-    assert_eq!(rt; port.read_line(Space::User, 0), Ok([1, 2, 3, 4]));
-    port.set_mmu(MmuReg::Dtt1, 7);
-    assert_eq!(rt; port.mmu().dtt1, 7);
-    Ok(())
 }
