@@ -18,7 +18,8 @@ pub finish_until : {S A : Type 0} (allowed : Call → S → Bool) (bus : Bus S) 
     → finish bus (run_until allowed bus m s) ≡ run bus m s
 finish_until allowed bus (Return a) s = refl
 finish_until allowed bus (Ask c) s = finish_ask (allowed c s) bus c s
-finish_until allowed bus (Then m f) s = finish_then allowed bus f (run_until allowed bus m s) (run bus m s) (finish_until allowed bus m s) (λ a t. finish_until allowed bus (f a) t)
+finish_until allowed bus (Then m f) s = finish_then allowed bus f (run_until allowed bus m s) (run bus m s) (finish_until allowed bus m s)
+    (λ a t. finish_until allowed bus (f a) t)
 
 at_ask : {S : Type 0} (allowed : Call → S → Bool) (bus : Bus S) (c : Call) (s : S) (b : Bool) → allowed c s ≡ b
     → AtRefused allowed (ask_until b (bus c s) (Ask c) s)
@@ -35,4 +36,5 @@ pub stops_at_refused : {S A : Type 0} (allowed : Call → S → Bool) (bus : Bus
     → AtRefused allowed (run_until allowed bus m s)
 stops_at_refused allowed bus (Return a) s = tt
 stops_at_refused allowed bus (Ask c) s = at_ask allowed bus c s (allowed c s) refl
-stops_at_refused allowed bus (Then m f) s = at_then allowed f _ (run_until allowed bus m s) (stops_at_refused allowed bus m s) (λ a t. stops_at_refused allowed bus (f a) t)
+stops_at_refused allowed bus (Then m f) s = at_then allowed f _ (run_until allowed bus m s) (stops_at_refused allowed bus m s)
+    (λ a t. stops_at_refused allowed bus (f a) t)

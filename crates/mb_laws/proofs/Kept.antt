@@ -2,7 +2,7 @@
 use Rattle.std.specs.Prelude.{◌≡◌, refl, Bool, true, false}
 use Rattle.std.proofs.Common.{ap, ◌∙◌, sym}
 use Rattle.mb_port.specs.Routine.{Call, Routine, Return, Ask, Then, Bus, run}
-use Rattle.mb_laws.specs.Until.{Until, Ended, Stopped, then_until, ask_until, run_until, state_of}
+use Rattle.mb_laws.specs.Until.{Until, Ended, Stopped, then_until, ask_until, run_until, state_of, GoesOn, AlongUntil}
 use Rattle.mb_laws.specs.Keeps.{Keeps, KeepsAllowed, LeavesAlone, lifted}
 
 pub run_keeps : {S A : Type 0} {P : S → Type 0} {bus : Bus S} → Keeps P bus → (m : Routine A) (s : S) → P s → P ((run bus m s).1)
@@ -15,18 +15,21 @@ ask_keeps : {S : Type 0} (P : S → Type 0) (bus : Bus S) (c : Call) (s : S) (b 
 ask_keeps P bus c s true p h = h refl
 ask_keeps P bus c s false p h = p
 
-then_keeps : {S A B : Type 0} (P : S → Type 0) (f : A → Routine B) (go : A → S → Until S B) (u : Until S A) → P (state_of u)
-    → ((a : A) (t : S) → P t → P (state_of (go a t)))
+then_keeps : {S A B : Type 0} (P : S → Type 0) (f : A → Routine B) (go : A → S → Until S B) (Lawful : A → S → Type 0) (u : Until S A)
+    → P (state_of u) → GoesOn u Lawful → ((a : A) (t : S) → P t → Lawful a t → P (state_of (go a t)))
     → P (state_of (then_until u go f))
-then_keeps P f go (Ended a t) p more = more a t p
-then_keeps P f go (Stopped rest t) p more = p
+then_keeps P f go Lawful (Ended a t) p l more = more a t p l
+then_keeps P f go Lawful (Stopped rest t) p l more = p
 
--- what each call that is allowed keeps, holds where the routine ended or stopped
-pub until_keeps : {S A : Type 0} {P : S → Type 0} {allowed : Call → S → Bool} {bus : Bus S} → KeepsAllowed P allowed bus
-    → (m : Routine A) (s : S) → P s → P (state_of (run_until allowed bus m s))
-until_keeps h (Return a) s p = p
-until_keeps {P = P} {allowed = allowed} {bus = bus} h (Ask c) s p = ask_keeps P bus c s (allowed c s) p (λ e. h.call c s e p)
-until_keeps {P = P} {allowed = allowed} {bus = bus} h (Then m f) s p = then_keeps P f _ (run_until allowed bus m s) (until_keeps h m s p) (λ a t q. until_keeps h (f a) t q)
+-- What each lawful call that is allowed keeps, holds where a routine of lawful calls ended or stopped.
+pub until_keeps : {S A : Type 0} {P : S → Type 0} {lawful : Call → S → Type 0} {allowed : Call → S → Bool} {bus : Bus S}
+    → KeepsAllowed P lawful allowed bus → (m : Routine A) (s : S) → P s → AlongUntil lawful allowed bus m s
+    → P (state_of (run_until allowed bus m s))
+until_keeps h (Return a) s p l = p
+until_keeps {P = P} {allowed = allowed} {bus = bus} h (Ask c) s p l = ask_keeps P bus c s (allowed c s) p (λ e. h.call c s l e p)
+until_keeps {P = P} {lawful = lawful} {allowed = allowed} {bus = bus} h (Then m f) s p l =
+    then_keeps P f _ (λ a t. AlongUntil lawful allowed bus (f a) t) (run_until allowed bus m s) (until_keeps h m s p l.0) l.1
+    (λ a t q k. until_keeps h (f a) t q k)
 
 pub run_leaves : {S N A : Type 0} {part : S → N} {bus : Bus S} → LeavesAlone part bus → (m : Routine A) (s : S)
     → part ((run bus m s).1) ≡ part s

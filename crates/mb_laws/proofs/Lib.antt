@@ -3,4 +3,8 @@ pub mod Kept
 pub mod Simulated
 pub mod Related
 pub mod Told
+pub mod Probed
 pub mod Trees
+pub mod Twinned
+pub mod TwinTrees
+pub mod Between

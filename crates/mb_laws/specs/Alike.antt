@@ -4,9 +4,10 @@ use Rattle.mb_port.specs.Routine.{Call, Routine, Bus}
 use Rattle.mb_laws.specs.Until.{Until, Ended, Stopped}
 use Rattle.mb_laws.specs.Tree.{tree_of}
 
--- On related states a lawful call is allowed on both sides or on neither. Where it is, both answer alike, and keep the relation.
--- Lawful are the calls that routines make: of other calls nothing is asked.
-pub record Alike {S T : Type 0} (R : S → T → Type 0) (lawful : Call → S → Type 0) (allowed : Call → S → Bool) (permitted : Call → T → Bool)
+-- On related states a lawful call is allowed on both sides or on neither. Where it is, both answer alike, and keep the
+-- relation. Lawful are the calls that routines make: of other calls nothing is asked.
+pub record Alike {S T : Type 0} (R : S → T → Type 0) (lawful : Call → S → Type 0) (allowed : Call → S → Bool)
+    (permitted : Call → T → Bool)
     (bus : Bus S) (peer : Bus T) : Type 0 where
   pub leave : (c : Call) (s : S) (t : T) → R s t → lawful c s → allowed c s ≡ permitted c t
   pub answer : (c : Call) (s : S) (t : T) → R s t → lawful c s → allowed c s ≡ true → (bus c s).0 ≡ (peer c t).0
@@ -25,6 +26,7 @@ Meets R (Stopped m s) (Ended b t) = ⊥
 Meets R (Stopped m s) (Stopped n t) = (tree_of m ≡ tree_of n) × R s t
 
 -- On related states both answer alike at each lawful call, and keep the relation.
-pub record Mirrors {S T : Type 0} (R : S → T → Type 0) (lawful : Call → S → Type 0) (bus : Bus S) (peer : Bus T) : Type 0 where
+pub record Mirrors {S T : Type 0} (R : S → T → Type 0) (lawful : Call → S → Type 0) (bus : Bus S) (peer : Bus T) : Type
+    0 where
   pub answer : (c : Call) (s : S) (t : T) → R s t → lawful c s → (bus c s).0 ≡ (peer c t).0
   pub kept : (c : Call) (s : S) (t : T) → R s t → lawful c s → R ((bus c s).1) ((peer c t).1)

@@ -6,9 +6,10 @@ use Rattle.mb_port.specs.Routine.{Call, Bus}
 pub record Keeps {S : Type 0} (P : S → Type 0) (bus : Bus S) : Type 0 where
   pub call : (c : Call) (s : S) → P s → P ((bus c s).1)
 
--- Each call that is allowed keeps it.
-pub record KeepsAllowed {S : Type 0} (P : S → Type 0) (allowed : Call → S → Bool) (bus : Bus S) : Type 0 where
-  pub call : (c : Call) (s : S) → allowed c s ≡ true → P s → P ((bus c s).1)
+-- Each lawful call that is allowed keeps it.
+pub record KeepsAllowed {S : Type 0} (P : S → Type 0) (lawful : Call → S → Type 0) (allowed : Call → S → Bool)
+    (bus : Bus S) : Type 0 where
+  pub call : (c : Call) (s : S) → lawful c s → allowed c s ≡ true → P s → P ((bus c s).1)
 
 -- Each call leaves a part of the state alone.
 pub record LeavesAlone {S N : Type 0} (part : S → N) (bus : Bus S) : Type 0 where

@@ -1,6 +1,10 @@
--- The laws at one state type, lists of numbers, with tests for facts and relations, and trees of calls for routines.
+-- The laws as clauses say them: at every state type and every answer, with tests for facts and relations, and trees of
+-- calls for routines.
 use Rattle.std.specs.Prelude.{◌≡◌, ℕ, Bool, true, false, IsTrue, List, Result, Ok, Err, ◌⊎◌}
-use Rattle.mb_port.specs.Routine.{Call, Fetch, Read, Write, ReadLine, WriteLine, Probe, Answer, Routine, Return, Ask, Then, Bus, run, choose, tried, either, ◌>>=◌, failing, caught, sure, fetch, read, write, read_line, write_line, probe}
+use Rattle.mb_port.specs.Routine.{Call, Fetch, Read, Write, ReadLine, WriteLine, Probe, Answer}
+use Rattle.mb_port.specs.Routine.{Routine, Return, Ask, Then, Bus, run, choose, tried, either, ◌>>=◌, failing, caught}
+use Rattle.mb_port.specs.Routine.{sure}
+use Rattle.mb_port.specs.Routine.{fetch, read, write, read_line, write_line, probe, get, put}
 use Rattle.mb_port.specs.declared.types.Space.{Space}
 use Rattle.mb_port.specs.declared.types.Piece.{Piece}
 use Rattle.mb_port.specs.declared.types.Place.{Place}
@@ -9,196 +13,283 @@ use Rattle.mb_laws.specs.Until.{run_until, finish, state_of, AtRefused, AlongUnt
 use Rattle.mb_laws.specs.Keeps.{Keeps, KeepsAllowed, LeavesAlone, lifted}
 use Rattle.mb_laws.specs.Alike.{Alike, Mirrors, Meets}
 use Rattle.mb_laws.specs.Relations.{Steps, Runs, Along, Admits, MayFollow, NoChoice, Agree}
-use Rattle.mb_laws.specs.Refusal.{Refuses, Fact, of_fault, any_call, Tells, Ends, Faulting, HasNoFault, Plain}
+use Rattle.mb_laws.specs.Refusal.{Refuses, Fact, of_fault, any_call, Tells, Ends, Faulting, HasNoFault, Faultless}
 use Rattle.mb_laws.specs.Tree.{Tree, tree_of, routine_of}
-
-abbrev pub State : Type 0
-State = List ℕ
+use Rattle.mb_laws.specs.Probing.{IsOpen, OpensProbed}
+use Rattle.mb_laws.specs.Twin.{Kin, TwinTrees, AlikeOn, MeetsOn}
 
 -- Tests, as the facts and relations that the laws speak of.
-abbrev pub Passes : (State → Bool) → State → Type 0
+abbrev pub Passes : {S : Type 0} → (S → Bool) → S → Type 0
 Passes p s = IsTrue (p s)
 
-abbrev pub Related : (State → State → Bool) → State → State → Type 0
+abbrev pub Related : {S T : Type 0} → (S → T → Bool) → S → T → Type 0
 Related r s t = IsTrue (r s t)
 
-abbrev pub IsLawful : (Call → State → Bool) → Call → State → Type 0
+abbrev pub IsLawful : {S : Type 0} → (Call → S → Bool) → Call → S → Type 0
 IsLawful p c s = IsTrue (p c s)
 
-abbrev pub May : ((c : Call) → State → Answer c → State → Bool) → Steps State
+abbrev pub May : {S : Type 0} → ((c : Call) → S → Answer c → S → Bool) → Steps S
 May step c s a t = IsTrue (step c s a t)
 
-abbrev pub After : {A : Type 0} → (A → State → Bool) → A → State → Type 0
+abbrev pub After : {S A : Type 0} → (A → S → Bool) → A → S → Type 0
 After p a s = IsTrue (p a s)
 
-abbrev pub Says : {A E : Type 0} → (State → E → Bool) → Fact State A E
+abbrev pub Says : {S A E : Type 0} → (S → E → Bool) → Fact S A E
 Says p = of_fault (λ t e. IsTrue (p t e))
 
 -- A routine and what follows it is the tree of its calls.
-abbrev pub RoutinesAreTrees : Type 0
-RoutinesAreTrees = (bus : Bus State) (m : Tree ℕ) (f : ℕ → Tree ℕ) (s : State)
-    → let whole = Then (routine_of m) (λ a. routine_of (f a)) in run bus (routine_of (tree_of whole)) s ≡ run bus whole s
+abbrev pub RoutinesAreTrees : Type 0 → Type 0 → Type 0 → Type 0
+RoutinesAreTrees S A B = (bus : Bus S) (m : Tree A) (f : A → Tree B) (s : S)
+    → let whole = Then (routine_of m) (λ a. routine_of (f a)) in run bus (routine_of (tree_of whole)) s ≡ run bus whole
+    s
 
 -- What each call keeps, a routine keeps.
-abbrev pub RoutinesKeep : Type 0
-RoutinesKeep = (p : State → Bool) (bus : Bus State) → Keeps (Passes p) bus
-    → (m : Tree ℕ) (s : State) → Passes p s → Passes p ((run bus (routine_of m) s).1)
+abbrev pub RoutinesKeep : Type 0 → Type 0 → Type 0
+RoutinesKeep S A = (p : S → Bool) (bus : Bus S) → Keeps (Passes p) bus
+    → (m : Tree A) (s : S) → Passes p s → Passes p ((run bus (routine_of m) s).1)
 
--- What each allowed call keeps, a routine keeps up to its first call that is not allowed.
-abbrev pub RoutinesKeepUntil : Type 0
-RoutinesKeepUntil = (p : State → Bool) (allowed : Call → State → Bool) (bus : Bus State) → KeepsAllowed (Passes p) allowed bus
-    → (m : Tree ℕ) (s : State) → Passes p s → Passes p (state_of (run_until allowed bus (routine_of m) s))
+-- What each lawful call that is allowed keeps, a routine of lawful calls keeps up to its first call that is not
+-- allowed.
+abbrev pub RoutinesKeepUntil : Type 0 → Type 0 → Type 0
+RoutinesKeepUntil S A = (p : S → Bool) (lawful allowed : Call → S → Bool) (bus : Bus S)
+    → KeepsAllowed (Passes p) (IsLawful lawful) allowed bus → (m : Tree A) (s : S) → Passes p s
+    → AlongUntil (IsLawful lawful) allowed bus (routine_of m) s
+    → Passes p (state_of (run_until allowed bus (routine_of m) s))
 
 -- What each call leaves alone, a routine leaves alone.
-abbrev pub RoutinesLeaveAlone : Type 0
-RoutinesLeaveAlone = (part : State → ℕ) (bus : Bus State) → LeavesAlone part bus
-    → (m : Tree ℕ) (s : State) → part ((run bus (routine_of m) s).1) ≡ part s
+abbrev pub RoutinesLeaveAlone : Type 0 → Type 0 → Type 0 → Type 0
+RoutinesLeaveAlone S N A = (part : S → N) (bus : Bus S) → LeavesAlone part bus
+    → (m : Tree A) (s : S) → part ((run bus (routine_of m) s).1) ≡ part s
 
 -- A routine over a bus beside something else is the routine over the bus.
-abbrev pub RoutinesBeside : Type 0
-RoutinesBeside = (bus : Bus State) (m : Tree ℕ) (s : State) (n : ℕ)
+abbrev pub RoutinesBeside : Type 0 → Type 0 → Type 0 → Type 0
+RoutinesBeside S N A = (bus : Bus S) (m : Tree A) (s : S) (n : N)
     → run (lifted bus) (routine_of m) (s, n) ≡ ((run bus (routine_of m) s).0, ((run bus (routine_of m) s).1, n))
 
 -- A routine that is run until its first call that is not allowed, and then finished, is run whole.
-abbrev pub FinishedIsWhole : Type 0
-FinishedIsWhole = (allowed : Call → State → Bool) (bus : Bus State) (m : Tree ℕ) (s : State)
+abbrev pub FinishedIsWhole : Type 0 → Type 0 → Type 0
+FinishedIsWhole S A = (allowed : Call → S → Bool) (bus : Bus S) (m : Tree A) (s : S)
     → finish bus (run_until allowed bus (routine_of m) s) ≡ run bus (routine_of m) s
 
 -- It stops at a call that is not allowed.
-abbrev pub StopsAtRefused : Type 0
-StopsAtRefused = (allowed : Call → State → Bool) (bus : Bus State) (m : Tree ℕ) (s : State)
+abbrev pub StopsAtRefused : Type 0 → Type 0 → Type 0
+StopsAtRefused S A = (allowed : Call → S → Bool) (bus : Bus S) (m : Tree A) (s : S)
     → AtRefused allowed (run_until allowed bus (routine_of m) s)
 
 -- Two buses that are alike run a routine alike, until the same refused call.
-abbrev pub AlikeRunsMeet : Type 0
-AlikeRunsMeet = (r : State → State → Bool) (lawful allowed permitted : Call → State → Bool) (bus peer : Bus State)
-    → Alike (Related r) (IsLawful lawful) allowed permitted bus peer
-    → (m : Tree ℕ) (s t : State) → Related r s t → AlongUntil (IsLawful lawful) allowed bus (routine_of m) s
+abbrev pub AlikeRunsMeet : Type 0 → Type 0 → Type 0 → Type 0
+AlikeRunsMeet S T A = (r : S → T → Bool) (lawful allowed : Call → S → Bool) (permitted : Call → T → Bool)
+    (bus : Bus S) (peer : Bus T) → Alike (Related r) (IsLawful lawful) allowed permitted bus peer
+    → (m : Tree A) (s : S) (t : T) → Related r s t → AlongUntil (IsLawful lawful) allowed bus (routine_of m) s
     → Meets (Related r) (run_until allowed bus (routine_of m) s) (run_until permitted peer (routine_of m) t)
 
 -- The same where every call is lawful.
-abbrev pub AlikeRunsMeetEverywhere : Type 0
-AlikeRunsMeetEverywhere = (r : State → State → Bool) (allowed permitted : Call → State → Bool) (bus peer : Bus State)
-    → Alike (Related r) any_call allowed permitted bus peer → (m : Tree ℕ) (s t : State) → Related r s t
+abbrev pub AlikeRunsMeetEverywhere : Type 0 → Type 0 → Type 0 → Type 0
+AlikeRunsMeetEverywhere S T A = (r : S → T → Bool) (allowed : Call → S → Bool) (permitted : Call → T → Bool)
+    (bus : Bus S) (peer : Bus T) → Alike (Related r) any_call allowed permitted bus peer
+    → (m : Tree A) (s : S) (t : T) → Related r s t
     → Meets (Related r) (run_until allowed bus (routine_of m) s) (run_until permitted peer (routine_of m) t)
 
 -- Two buses that answer alike at every lawful call run a routine alike to its end.
-abbrev pub MirroredRunsMeet : Type 0
-MirroredRunsMeet = (r : State → State → Bool) (lawful : Call → State → Bool) (bus peer : Bus State)
+abbrev pub MirroredRunsMeet : Type 0 → Type 0 → Type 0 → Type 0
+MirroredRunsMeet S T A = (r : S → T → Bool) (lawful : Call → S → Bool) (bus : Bus S) (peer : Bus T)
     → Mirrors (Related r) (IsLawful lawful) bus peer
-    → (m : Tree ℕ) (s t : State) → Related r s t → Along (IsLawful lawful) bus (routine_of m) s
+    → (m : Tree A) (s : S) (t : T) → Related r s t → Along (IsLawful lawful) bus (routine_of m) s
     → ((run bus (routine_of m) s).0 ≡ (run peer (routine_of m) t).0)
     × Related r ((run bus (routine_of m) s).1) ((run peer (routine_of m) t).1)
 
 -- A run by a bus is a run by every relation that admits the bus's answers.
-abbrev pub RunsAreAdmitted : Type 0
-RunsAreAdmitted = (step : (c : Call) → State → Answer c → State → Bool) (bus : Bus State) → Admits (May step) bus
-    → (m : Tree ℕ) (s : State) → Runs (May step) (routine_of m) s ((run bus (routine_of m) s).0) ((run bus (routine_of m) s).1)
+abbrev pub RunsAreAdmitted : Type 0 → Type 0 → Type 0
+RunsAreAdmitted S A = (step : (c : Call) → S → Answer c → S → Bool) (bus : Bus S) → Admits (May step) bus
+    → (m : Tree A) (s : S) → Runs (May step) (routine_of m) s ((run bus (routine_of m) s).0)
+    ((run bus (routine_of m) s).1)
 
 -- A choosing bus that may follow each call may follow a routine.
-abbrev pub RunsMayFollow : Type 0
-RunsMayFollow = (r : State → State → Bool) (lawful : Call → State → Bool) (bus : Bus State)
-    (step : (c : Call) → State → Answer c → State → Bool) → MayFollow (Related r) (IsLawful lawful) bus (May step)
-    → (m : Tree ℕ) (s t : State) → Related r s t → Along (IsLawful lawful) bus (routine_of m) s
-    → (u : State) × Runs (May step) (routine_of m) t ((run bus (routine_of m) s).0) u × Related r ((run bus (routine_of m) s).1) u
+abbrev pub RunsMayFollow : Type 0 → Type 0 → Type 0 → Type 0
+RunsMayFollow S T A = (r : S → T → Bool) (lawful : Call → S → Bool) (bus : Bus S)
+    (step : (c : Call) → T → Answer c → T → Bool) → MayFollow (Related r) (IsLawful lawful) bus (May step)
+    → (m : Tree A) (s : S) (t : T) → Related r s t → Along (IsLawful lawful) bus (routine_of m) s
+    → (u : T) × Runs (May step) (routine_of m) t ((run bus (routine_of m) s).0) u
+    × Related r ((run bus (routine_of m) s).1) u
 
 -- Where a choosing bus has no choice along a run, each of its runs is that run.
-abbrev pub RunsHaveNoChoice : Type 0
-RunsHaveNoChoice = (r : State → State → Bool) (p : Call → State → Bool) (bus : Bus State)
-    (step : (c : Call) → State → Answer c → State → Bool) → NoChoice (Related r) (IsLawful p) bus (May step)
-    → (m : Tree ℕ) (s t : State) (a : ℕ) (u : State) → Related r s t → Along (IsLawful p) bus (routine_of m) s
-    → Runs (May step) (routine_of m) t a u → ((run bus (routine_of m) s).0 ≡ a) × Related r ((run bus (routine_of m) s).1) u
+abbrev pub RunsHaveNoChoice : Type 0 → Type 0 → Type 0 → Type 0
+RunsHaveNoChoice S T A = (r : S → T → Bool) (p : Call → S → Bool) (bus : Bus S)
+    (step : (c : Call) → T → Answer c → T → Bool) → NoChoice (Related r) (IsLawful p) bus (May step)
+    → (m : Tree A) (s : S) (t : T) (a : A) (u : T) → Related r s t → Along (IsLawful p) bus (routine_of m) s
+    → Runs (May step) (routine_of m) t a u
+    → ((run bus (routine_of m) s).0 ≡ a) × Related r ((run bus (routine_of m) s).1) u
 
 -- Two buses that agree along a run give one result.
-abbrev pub RunsAgree : Type 0
-RunsAgree = (bus peer : Bus State) (m : Tree ℕ) (s : State) → Along (Agree bus peer) bus (routine_of m) s
+abbrev pub RunsAgree : Type 0 → Type 0 → Type 0
+RunsAgree S A = (bus peer : Bus S) (m : Tree A) (s : S) → Along (Agree bus peer) bus (routine_of m) s
     → run bus (routine_of m) s ≡ run peer (routine_of m) s
 
--- a bus, with the calls that are lawful and those that are allowed
-pub record Leave : Type 0 where
-  pub lawful : Call → State → Bool
-  pub allowed : Call → State → Bool
-  pub bus : Bus State
+-- a bus that refuses calls: which calls are lawful, which are allowed, and which states are the same in what matters
+pub record RefusingBus (S : Type 0) : Type 0 where
+  pub same : S → S → Bool
+  pub lawful : Call → S → Bool
+  pub allowed : Call → S → Bool
+  pub bus : Bus S
 
-abbrev pub Telling : {A E : Type 0} → Leave → (State → Bool) → Routine (Result A E) → (State → E → Bool) → (A → State → Bool) → Type 0
-Telling x before m p after = Tells (IsLawful x.lawful) x.allowed x.bus (Passes before) m (Says p) (After after)
+abbrev pub IsRefusing : {S : Type 0} → RefusingBus S → Type 0
+IsRefusing x = Refuses (Related x.same) (IsLawful x.lawful) x.allowed x.bus
 
-abbrev pub Ending : {A : Type 0} → Leave → (State → Bool) → Routine A → (A → State → Bool) → Type 0
+abbrev pub Telling : {S A E : Type 0}
+    → RefusingBus S → (S → Bool) → Routine (Result A E) → (S → E → Bool) → (A → S → Bool) → Type 0
+Telling x before m p after =
+    Tells (Related x.same) (IsLawful x.lawful) x.allowed x.bus (Passes before) m (Says p) (After after)
+
+abbrev pub Ending : {S A : Type 0} → RefusingBus S → (S → Bool) → Routine A → (A → S → Bool) → Type 0
 Ending x before m after = Ends (IsLawful x.lawful) x.allowed x.bus (Passes before) m (After after)
 
--- a single call that can fault, as Faulting says, with tests
-abbrev pub Tested : {A : Type 0} → (State → Type 0) → (State → Bool) → (State → Result A Fault × State) → (State → Bool)
-    → Routine (Result A Fault) → (State → Fault → Bool) → (A → State → Bool) → Type 0
-Tested lawful leave answer before m p after = Faulting lawful leave answer (Passes before) m (Says p) (After after)
+-- what is known of a single call that can fault: it is this routine, and the bus gives it this answer
+abbrev pub Calling : {S A : Type 0} → RefusingBus S → (S → Bool) → Call → (S → Result A Fault × S)
+    → Routine (Result A Fault) → (S → Fault → Bool) → (A → S → Bool) → Type 0
+Calling x before c answer m p after =
+    Faulting (Related x.same) (IsLawful x.lawful c) (x.allowed c) answer (Passes before) m (Says p) (After after)
 
 -- Over a bus that refuses what is not allowed, a single call tells, and one that has no fault ends.
-pub record CallsTell (x : Leave) (before : State → Bool) (p : State → Fault → Bool) : Type 0 where
-  pub fetch : (space : Space) (at : ℕ) (after : ℕ → State → Bool) → let c = Fetch space at in
-      Tested (IsLawful x.lawful c) (x.allowed c) (x.bus c) before (fetch space at) p after → Telling x before (fetch space at) p after
-  pub read : (space : Space) (piece : Piece) (after : ℕ → State → Bool) → let c = Read space piece in
-      Tested (IsLawful x.lawful c) (x.allowed c) (x.bus c) before (read space piece) p after → Telling x before (read space piece) p after
-  pub write : (space : Space) (piece : Piece) (value : ℕ) (after : Unit {0} → State → Bool) → let c = Write space piece value in
-      Tested (IsLawful x.lawful c) (x.allowed c) (x.bus c) before (write space piece value) p after
-      → Telling x before (write space piece value) p after
-  pub read_line : (space : Space) (at : ℕ) (after : List ℕ → State → Bool) → let c = ReadLine space at in
-      Tested (IsLawful x.lawful c) (x.allowed c) (x.bus c) before (read_line space at) p after → Telling x before (read_line space at) p after
-  pub write_line : (space : Space) (at : ℕ) (line : List ℕ) (after : Unit {0} → State → Bool) → let c = WriteLine space at line in
-      Tested (IsLawful x.lawful c) (x.allowed c) (x.bus c) before (write_line space at line) p after
-      → Telling x before (write_line space at line) p after
-  pub probe : (space : Space) (piece : Piece) (after : Place → State → Bool) → let c = Probe space piece in
-      Tested (IsLawful x.lawful c) (x.allowed c) (x.bus c) before (probe space piece) p after → Telling x before (probe space piece) p after
-  pub plain : (c : Call) (after : Answer c → State → Bool) → HasNoFault c
-      → Plain (IsLawful x.lawful) x.bus c (Passes before) (After after) → Ending x before (Ask c) after
+pub record CallsTell {S : Type 0} (x : RefusingBus S) (before : S → Bool) (p : S → Fault → Bool) : Type 0 where
+  pub a_fetch_tells : (space : Space) (at : ℕ) (after : ℕ → S → Bool) →
+      let c = Fetch space at in let m = fetch space at in
+      Calling x before c (x.bus c) m p after → Telling x before m p after
+  pub a_read_tells : (space : Space) (piece : Piece) (after : ℕ → S → Bool) →
+      let c = Read space piece in let m = read space piece in
+      Calling x before c (x.bus c) m p after → Telling x before m p after
+  pub a_write_tells : (space : Space) (piece : Piece) (value : ℕ) (after : Unit {0} → S → Bool) →
+      let c = Write space piece value in let m = write space piece value in
+      Calling x before c (x.bus c) m p after → Telling x before m p after
+  pub a_line_read_tells : (space : Space) (at : ℕ) (after : List ℕ → S → Bool) →
+      let c = ReadLine space at in let m = read_line space at in
+      Calling x before c (x.bus c) m p after → Telling x before m p after
+  pub a_line_write_tells : (space : Space) (at : ℕ) (line : List ℕ) (after : Unit {0} → S → Bool) →
+      let c = WriteLine space at line in let m = write_line space at line in
+      Calling x before c (x.bus c) m p after → Telling x before m p after
+  pub a_probe_tells : (space : Space) (piece : Piece) (after : Place → S → Bool) →
+      let c = Probe space piece in let m = probe space piece in
+      Calling x before c (x.bus c) m p after → Telling x before m p after
+  pub a_faultless_call_ends : (c : Call) (after : Answer c → S → Bool) → HasNoFault c
+      → Faultless (IsLawful x.lawful) x.bus c (Passes before) (After after) → Ending x before (Ask c) after
 
-abbrev pub RefusedCallsTell : Type 0
-RefusedCallsTell = (x : Leave) (before : State → Bool) (p : State → Fault → Bool) → Refuses x.allowed x.bus → CallsTell x before p
+abbrev pub RefusedCallsTell : Type 0 → Type 0
+RefusedCallsTell S = (x : RefusingBus S) (before : S → Bool) (p : S → Fault → Bool) → IsRefusing x
+    → CallsTell x before p
 
--- What is put together of routines that tell, tells.
-pub record TellsTogether (x : Leave) (before : State → Bool) (p : State → ℕ → Bool) (mid after : ℕ → State → Bool) : Type 0 where
-  pub answer : (a : ℕ) → ((s : State) → Passes before s → After after a s) → Telling x before (Return (Ok a)) p after
-  pub fault : (e : ℕ) → Telling x before (Return (Err e)) p after
-  pub bind : (m : Tree (Result ℕ ℕ)) (f : ℕ → Tree (Result ℕ ℕ)) → Telling x before (routine_of m) p mid
-      → ((a : ℕ) → Telling x (mid a) (routine_of (f a)) p after)
+-- In states of an invariant that opens what is probed, an answered probe names an open place, and what is open is got
+-- and put with no refusal.
+pub record OpenedCallsEnd {S : Type 0} (x : RefusingBus S) (inside : S → Bool) (p : S → Fault → Bool) : Type 0 where
+  pub a_probe_opens : (space : Space) (piece : Piece) → let c = Probe space piece in
+      ((s : S) → Passes inside s → IsLawful x.lawful c s)
+      → ((s u : S) (fault : Fault) → Passes inside s → x.allowed c s ≡ false → x.bus c s ≡ (Err fault, u)
+      → Related x.same s u → IsTrue (p s fault))
+      → Tells (Related x.same) (IsLawful x.lawful) x.allowed x.bus (Passes inside) (probe space piece) (Says p)
+      (λ place s. Passes inside s × IsOpen (Passes inside) (IsLawful x.lawful) place × (place.len ≡ piece.len))
+  pub an_open_get_ends : (place : Place) → IsOpen (Passes inside) (IsLawful x.lawful) place
+      → Ending x inside (get place) (λ value s. inside s)
+  pub an_open_put_ends : (place : Place) (value : ℕ) → IsOpen (Passes inside) (IsLawful x.lawful) place
+      → Ending x inside (put place value) (λ done s. inside s)
+
+abbrev pub ProbedPlacesAreOpen : Type 0 → Type 0
+ProbedPlacesAreOpen S = (x : RefusingBus S) (inside : S → Bool) (p : S → Fault → Bool) → IsRefusing x
+    → OpensProbed (Passes inside) (IsLawful x.lawful) x.bus → OpenedCallsEnd x inside p
+
+-- What is put together of routines that tell, tells; and of routines that are never refused a call, is never refused
+-- one.
+pub record TellsTogether {S A B F : Type 0} (E : Type 0) (x : RefusingBus S) (before : S → Bool)
+    (p : S → F → Bool) (mid : A → S → Bool) (after : B → S → Bool) : Type 0 where
+  pub an_answer_tells : (b : B) → ((s : S) → Passes before s → After after b s)
+      → Telling x before (Return (Ok b)) p after
+  pub a_fault_tells : (f : F) → Telling x before (Return (Err f)) p after
+  pub a_bind_tells : (m : Tree (Result A F)) (f : A → Tree (Result B F)) → Telling x before (routine_of m) p mid
+      → ((a : A) → Telling x (mid a) (routine_of (f a)) p after)
       → Telling x before (routine_of m >>= λ a. routine_of (f a)) p after
-  pub mapped : (value : ℕ → ℕ) (m : Tree (Result ℕ ℕ)) → Telling x before (routine_of m) (λ s e. p s (value e)) after
+  pub another_fault_tells : (value : E → F) (m : Tree (Result B E))
+      → Telling x before (routine_of m) (λ s e. p s (value e)) after
       → Telling x before (failing value (routine_of m)) p after
-  pub catches : (value : ℕ → ℕ) (m : Tree (Result ℕ ℕ)) (f : ℕ → Tree (Result ℕ ℕ))
+  pub a_caught_fault_tells : (value : E → F) (m : Tree (Result A E)) (f : A → Tree (Result B F))
       → Telling x before (routine_of m) (λ s e. p s (value e)) mid
-      → ((a : ℕ) → Telling x (mid a) (routine_of (f a)) p after)
+      → ((a : A) → Telling x (mid a) (routine_of (f a)) p after)
       → Telling x before (caught (routine_of m) (λ e. Return (Err (value e))) (λ a. routine_of (f a))) p after
-  pub chosen : (b : Bool) (m n : Tree (Result ℕ ℕ)) → (b ≡ true → Telling x before (routine_of m) p after)
-      → (b ≡ false → Telling x before (routine_of n) p after) → Telling x before (choose b (routine_of m) (routine_of n)) p after
-  pub tries : (r : Result ℕ ℕ) (f : ℕ → Tree (Result ℕ ℕ)) → ((a : ℕ) → r ≡ Ok a → Telling x before (routine_of (f a)) p after)
+  pub a_choice_tells : (b : Bool) (m n : Tree (Result B F)) → (b ≡ true → Telling x before (routine_of m) p after)
+      → (b ≡ false → Telling x before (routine_of n) p after)
+      → Telling x before (choose b (routine_of m) (routine_of n)) p after
+  pub a_result_tells : (r : Result A F) (f : A → Tree (Result B F))
+      → ((a : A) → r ≡ Ok a → Telling x before (routine_of (f a)) p after)
       → Telling x before (tried r (λ a. routine_of (f a))) p after
-  pub splits : (r : Result ℕ ℕ) (g f : ℕ → Tree (Result ℕ ℕ))
-      → ((e : ℕ) → r ≡ Err e → Telling x before (routine_of (g e)) p after)
-      → ((a : ℕ) → r ≡ Ok a → Telling x before (routine_of (f a)) p after)
+  pub either_result_tells : (r : Result A E) (g : E → Tree (Result B F)) (f : A → Tree (Result B F))
+      → ((e : E) → r ≡ Err e → Telling x before (routine_of (g e)) p after)
+      → ((a : A) → r ≡ Ok a → Telling x before (routine_of (f a)) p after)
       → Telling x before (either r (λ e. routine_of (g e)) (λ a. routine_of (f a))) p after
-  pub following : (m : Tree ℕ) (f : ℕ → Tree (Result ℕ ℕ)) → Ending x before (routine_of m) mid
-      → ((a : ℕ) → Telling x (mid a) (routine_of (f a)) p after)
+  pub what_follows_tells : (m : Tree A) (f : A → Tree (Result B F)) → Ending x before (routine_of m) mid
+      → ((a : A) → Telling x (mid a) (routine_of (f a)) p after)
       → Telling x before (Then (routine_of m) (λ a. routine_of (f a))) p after
-  pub surely : (m : Tree ℕ) → Ending x before (routine_of m) after → Telling x before (sure (routine_of m)) p after
-  pub ending_answer : (a : ℕ) → ((s : State) → Passes before s → After after a s) → Ending x before (Return a) after
-  pub ending_chosen : (b : Bool) (m n : Tree ℕ) → (b ≡ true → Ending x before (routine_of m) after)
-      → (b ≡ false → Ending x before (routine_of n) after) → Ending x before (choose b (routine_of m) (routine_of n)) after
-  pub ending : (m : Tree ℕ) (f : ℕ → Tree ℕ) → Ending x before (routine_of m) mid
-      → ((a : ℕ) → Ending x (mid a) (routine_of (f a)) after)
+  pub a_sure_answer_tells : (m : Tree B) → Ending x before (routine_of m) after
+      → Telling x before (sure (routine_of m)) p after
+  pub less_is_told : (earlier : S → Bool) (q : S → F → Bool) (later : B → S → Bool) (m : Tree (Result B F))
+      → Telling x before (routine_of m) p after
+      → ((s : S) → Passes earlier s → Passes before s) → ((s : S) (f : F) → IsTrue (p s f) → IsTrue (q s f))
+      → ((b : B) (s : S) → After after b s → After later b s) → Telling x earlier (routine_of m) q later
+  pub an_answer_ends : (b : B) → ((s : S) → Passes before s → After after b s) → Ending x before (Return b) after
+  pub a_choice_ends : (b : Bool) (m n : Tree B) → (b ≡ true → Ending x before (routine_of m) after)
+      → (b ≡ false → Ending x before (routine_of n) after)
+      → Ending x before (choose b (routine_of m) (routine_of n)) after
+  pub what_follows_ends : (m : Tree A) (f : A → Tree B) → Ending x before (routine_of m) mid
+      → ((a : A) → Ending x (mid a) (routine_of (f a)) after)
       → Ending x before (Then (routine_of m) (λ a. routine_of (f a))) after
-  pub weaker : (earlier : State → Bool) (q : State → ℕ → Bool) (m : Tree (Result ℕ ℕ)) → Telling x before (routine_of m) p mid
-      → ((s : State) → Passes earlier s → Passes before s) → ((s : State) (e : ℕ) → IsTrue (p s e) → IsTrue (q s e))
-      → ((a : ℕ) (s : State) → After mid a s → After after a s) → Telling x earlier (routine_of m) q after
 
-abbrev pub RefusalsCompose : Type 0
-RefusalsCompose = (x : Leave) (before : State → Bool) (p : State → ℕ → Bool) (mid after : ℕ → State → Bool) → TellsTogether x before p mid after
+abbrev pub RefusalsCompose : Type 0 → Type 0 → Type 0 → Type 0 → Type 0 → Type 0
+RefusalsCompose S A B E F = (x : RefusingBus S) (before : S → Bool) (p : S → F → Bool) (mid : A → S → Bool)
+    (after : B → S → Bool) → TellsTogether E x before p mid after
 
--- Of a bus that refuses calls, and one that is alike where calls are allowed, the runs of a routine that tells give one answer, in
--- related states. Or the first ends at once with its fault value, at a refused call, and the second goes on with the rest.
-abbrev pub RefusalsAreFollowed : Type 0
-RefusalsAreFollowed = (r : State → State → Bool) (x : Leave) (permitted : Call → State → Bool) (peer : Bus State)
-    (before : State → Bool) (p : State → ℕ → Bool) (after : ℕ → State → Bool)
+-- Of a bus that refuses calls, and one that is alike where calls are allowed, the runs of a routine that tells give one
+-- answer, in related states. Or the first ends at once with its fault value, at a refused call, in a state that is the
+-- same in what matters, and the second goes on with the rest.
+abbrev pub RefusalsAreFollowed : Type 0 → Type 0 → Type 0 → Type 0 → Type 0
+RefusalsAreFollowed S T A E = (r : S → T → Bool) (x : RefusingBus S) (permitted : Call → T → Bool) (peer : Bus T)
+    (before : S → Bool) (p : S → E → Bool) (after : A → S → Bool)
     → Alike (Related r) (IsLawful x.lawful) x.allowed permitted x.bus peer
-    → (m : Tree (Result ℕ ℕ)) → Telling x before (routine_of m) p after → (s t : State) → Related r s t → Passes before s
+    → (m : Tree (Result A E)) → Telling x before (routine_of m) p after
+    → (s : S) (t : T) → Related r s t → Passes before s
     → (((run x.bus (routine_of m) s).0 ≡ (run peer (routine_of m) t).0)
     × Related r ((run x.bus (routine_of m) s).1) ((run peer (routine_of m) t).1))
-    ⊎ ((rest : Tree (Result ℕ ℕ)) × (now : State) × (there : State) × (e : ℕ) × Related r now there × IsTrue (p now e)
-    × (run x.bus (routine_of m) s ≡ (Err e, now)) × (run peer (routine_of m) t ≡ run peer (routine_of rest) there))
+    ⊎ ((rest : Tree (Result A E)) × (now : S) × (later : S) × (there : T) × (e : E)
+    × Related r now there × Related x.same now later × IsTrue (p now e)
+    × (run x.bus (routine_of m) s ≡ (Err e, later)) × (run peer (routine_of m) t ≡ run peer (routine_of rest) there))
+
+-- which call stands for which, which there may be, and when answers say the same, by tests
+pub record KinTests : Type 0 where
+  pub on : Call → Call
+  pub may_be : Call → Bool
+  pub like : (d : Call) → Answer (on d) → Answer d → Bool
+
+abbrev pub kin_of : KinTests → Kin
+kin_of k = record { on = k.on; may_be = λ d. IsTrue (k.may_be d); like = λ d a b. IsTrue (k.like d a b) }
+
+-- Over buses that are alike call by call, twins come equally far: to related ends, or to twin rests at the same refused
+-- call, in related states.
+abbrev pub TwinRunsMeet : Type 0 → Type 0 → Type 0 → Type 0 → Type 0
+TwinRunsMeet S T A B = (k : KinTests) (r : S → T → Bool) (lawful allowed : Call → S → Bool)
+    (permitted : Call → T → Bool) (bus : Bus S) (peer : Bus T)
+    → AlikeOn (kin_of k) (Related r) (IsLawful lawful) allowed permitted bus peer
+    → (same : A → B → Bool) (m : Tree A) (n : Tree B) → TwinTrees (kin_of k) (Related same) m n
+    → (s : S) (t : T) → Related r s t → AlongUntil (IsLawful lawful) allowed bus (routine_of m) s
+    → MeetsOn (kin_of k) (Related r) (Related same) (run_until allowed bus (routine_of m) s)
+    (run_until permitted peer (routine_of n) t)
+
+-- Where the first of two twins tells, both come to related ends, in related states. Or the first ends at once with its
+-- fault value, at a refused call, in a state that is the same in what matters, and the second goes on with the twin of
+-- the rest.
+abbrev pub RefusedTwinsAreFollowed : Type 0 → Type 0 → Type 0 → Type 0 → Type 0 → Type 0
+RefusedTwinsAreFollowed S T A B E = (k : KinTests) (r : S → T → Bool) (x : RefusingBus S) (permitted : Call → T → Bool)
+    (peer : Bus T) (before : S → Bool) (p : S → E → Bool) (after : A → S → Bool)
+    → AlikeOn (kin_of k) (Related r) (IsLawful x.lawful) x.allowed permitted x.bus peer
+    → (same : Result A E → B → Bool) (m : Tree (Result A E)) (n : Tree B)
+    → TwinTrees (kin_of k) (Related same) m n → Telling x before (routine_of m) p after
+    → (s : S) (t : T) → Related r s t → Passes before s
+    → (Related same ((run x.bus (routine_of m) s).0) ((run peer (routine_of n) t).0)
+    × Related r ((run x.bus (routine_of m) s).1) ((run peer (routine_of n) t).1))
+    ⊎ ((rest : Tree (Result A E)) × (twin : Tree B) × (now : S) × (later : S) × (there : T) × (e : E)
+    × TwinTrees (kin_of k) (Related same) rest twin
+    × Related r now there × Related x.same now later × IsTrue (p now e)
+    × (run x.bus (routine_of m) s ≡ (Err e, later)) × (run peer (routine_of n) t ≡ run peer (routine_of twin) there))

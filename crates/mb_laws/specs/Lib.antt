@@ -4,4 +4,7 @@ pub mod Alike
 pub mod Relations
 pub mod Refusal
 pub mod Tree
+pub mod Twin
+pub mod Between
+pub mod Probing
 pub mod Laws

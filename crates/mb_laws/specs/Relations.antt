@@ -23,13 +23,15 @@ pub record Admits {S : Type 0} (step : Steps S) (bus : Bus S) : Type 0 where
   pub call : (c : Call) (s : S) → step c s ((bus c s).0) ((bus c s).1)
 
 -- Whatever the bus does at a lawful call, the choosing bus may do too, on related states.
-pub record MayFollow {S T : Type 0} (R : S → T → Type 0) (lawful : Call → S → Type 0) (bus : Bus S) (step : Steps T) : Type 0 where
+pub record MayFollow {S T : Type 0} (R : S → T → Type 0) (lawful : Call → S → Type 0) (bus : Bus S)
+    (step : Steps T) : Type 0 where
   pub call : (c : Call) (s : S) (t : T) → R s t → lawful c s → (u : T) × step c t ((bus c s).0) u × R ((bus c s).1) u
 
 -- Where the fact holds the choosing bus has no choice: it does what the bus does, on related states.
-pub record NoChoice {S T : Type 0} (R : S → T → Type 0) (P : Call → S → Type 0) (bus : Bus S) (step : Steps T) : Type 0 where
-  pub call : (c : Call) (s : S) (t : T) (a : Answer c) (u : T) → R s t → P c s → step c t a u
-      → ((bus c s).0 ≡ a) × R ((bus c s).1) u
+pub record NoChoice {S T : Type 0} (R : S → T → Type 0) (P : Call → S → Type 0) (bus : Bus S) (step : Steps T) : Type 0
+  where
+    pub call : (c : Call) (s : S) (t : T) (a : Answer c) (u : T) → R s t → P c s → step c t a u
+        → ((bus c s).0 ≡ a) × R ((bus c s).1) u
 
 -- Both buses do the same at this call.
 abbrev pub Agree : {S : Type 0} → Bus S → Bus S → Call → S → Type 0

@@ -52,4 +52,5 @@ GoesOn (Stopped rest s) P = Unit {0}
 abbrev pub AlongUntil : {S A : Type 0} → (Call → S → Type 0) → (Call → S → Bool) → Bus S → Routine A → S → Type 0
 AlongUntil P allowed bus (Return a) s = Unit {0}
 AlongUntil P allowed bus (Ask c) s = P c s
-AlongUntil P allowed bus (Then m f) s = AlongUntil P allowed bus m s × GoesOn (run_until allowed bus m s) (λ a t. AlongUntil P allowed bus (f a) t)
+AlongUntil P allowed bus (Then m f) s = AlongUntil P allowed bus m s
+    × GoesOn (run_until allowed bus m s) (λ a t. AlongUntil P allowed bus (f a) t)
