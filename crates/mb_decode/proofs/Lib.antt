@@ -1,6 +1,14 @@
 pub mod ReadBack
 pub mod Found
-pub mod RowsFound
 pub mod Steady
-pub mod RowsSteady
+pub mod Shapes
+pub mod Fields
+pub mod Line0
+pub mod Line1
+pub mod Line4
+pub mod Line5
+pub mod Line8
+pub mod Line14
+pub mod Line15
+pub mod EachRow
 pub mod Table

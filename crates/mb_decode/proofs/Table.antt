@@ -1,27 +1,28 @@
 -- The table read from words: each answer comes exactly where its fact holds.
-use Rattle.std.proofs.Common.{◌≡◌, ◌≢◌, ℕ, ◌+◌, ◌-◌, ◌/◌, ◌^◌, ◌<◌, ◌≤◌, Bool, true, false, cond, List, [], ◌∷◌, ◌++◌, length, get_or, Result, Ok, Err, refl, sym, ap, subst, ◌∙◌, append_assoc, arith, length-append}
+use Rattle.std.proofs.Common.{◌≡◌, ◌≢◌, ℕ, ◌+◌, ◌-◌, ◌/◌, ◌^◌, ◌<◌, ◌≤◌, Bool, true, false, cond, List, [], ◌∷◌, ◌++◌, length, get_or, Result, Ok, Err, refl}
+use Rattle.std.proofs.Common.{sym, ap, subst, ◌∙◌, append_assoc, arith, length-append}
 use Rattle.std.specs.Prelude.{◌==◌}
 use Rattle.std.proofs.lemmas.List.{append-nil}
 use Rattle.std.proofs.lemmas.List.Elements.{All-from_get_or}
 use Rattle.mb_instr.specs.declared.instruction.Instr.{Instr}
-use Rattle.mb_instr.specs.declared.instruction.Instr.TheVariants.{Nop}
+use Rattle.mb_instr.specs.declared.instruction.Instr.TheVariants.{Flow}
+use Rattle.mb_instr.specs.declared.instruction.Flow.TheVariants.{Nop}
 use Rattle.mb_instr.specs.declared.opcode.Opcode.{Opcode}
 use Rattle.mb_instr.specs.Opcodes.{opcode_of, word_of}
-use Rattle.mb_instr.specs.Instructions.{IsInstr}
-use Rattle.mb_instr.specs.Rows.{row, Codes, AreWords}
+use Rattle.mb_instr.specs.Rows.{row}
+use Rattle.mb_instr.specs.Codes.{IsInstr, Codes, AreWords}
 use Rattle.mb_instr.proofs.Opcodes.{word_again, opcode_again, IsOpcode-of}
-use Rattle.mb_instr.proofs.Words.{IsWord, AreWords-nil, AreWords-cons, AreWords-head, AreWords-tail, AreWords-left, AreWords-append, Codes-length}
-use Rattle.mb_instr.proofs.Ranges.{IsInstr-codes}
+use Rattle.mb_instr.proofs.Words.{IsWord, AreWords-nil, AreWords-head, AreWords-tail, AreWords-left, AreWords-append, Codes-length}
 use Rattle.mb_decode.specs.declared.reading.Stop.{Stop}
 use Rattle.mb_decode.specs.declared.reading.Stop.TheVariants as stop
 use Rattle.mb_decode.specs.declared.front.Decoded.{Decoded}
 use Rattle.mb_decode.specs.declared.front.Decoded.TheVariants.{Whole, More, Illegal, LineA, LineF}
 use Rattle.mb_decode.specs.RowReading.{row_at}
-use Rattle.mb_decode.specs.Decodes.{stopped, decode_from, decode_of, IfWhole, OnMore, BeginsWith, IsUnfinished, IsOther, HasLine, Decodes, OneAnswer, ReadAgain, OneSpelling, NoneBegins}
-use Rattle.mb_decode.proofs.ReadBack.{row_read}
+use Rattle.mb_decode.specs.Decodes.{stopped, decode_from, decode_of, IfWhole, OnMore, BeginsWith, IsUnfinished, IsOther, HasLine, Decodes, OneAnswer, ReadAgain}
+use Rattle.mb_decode.specs.Decodes.{OneSpelling, NoneBegins, AllDecoded}
 use Rattle.mb_decode.proofs.Found.{eq_true, eq_false}
-use Rattle.mb_decode.proofs.RowsFound.{Spells, FoundRow, row_found}
-use Rattle.mb_decode.proofs.RowsSteady.{row_steady}
+use Rattle.mb_decode.proofs.Shapes.{Fits, Found}
+use Rattle.mb_decode.proofs.EachRow.{row_read, row_shape}
 
 -- the words of a slice are words
 pub words_from_type : (ws : List ℕ) → ((i : ℕ) → get_or ws i 0 < 2 ^ 16) → AreWords ws
@@ -30,41 +31,51 @@ words_from_type ws h = All-from_get_or IsWord ws 0 (λ i lt. h i)
 abbrev read : Instr → List ℕ → Result (Instr × List ℕ) Stop
 read i rest = Ok (i, rest)
 
-spells_at : (first : ℕ) (ws : List ℕ) (i : Instr) (rest : List ℕ) → first < 2 ^ 16 → AreWords ws → row_at (opcode_of first) ws ≡ read i rest → Spells (opcode_of first) ws i rest
-spells_at first ws i rest lt h e = subst (FoundRow (opcode_of first) ws) e (row_found (opcode_of first) ws (IsOpcode-of first lt) h)
+spells_at : (first : ℕ) (ws : List ℕ) (i : Instr) (rest : List ℕ) → first < 2 ^ 16 → AreWords ws → row_at (opcode_of first) ws ≡ read i rest →
+    Fits (row i) (opcode_of first) ws rest
+spells_at first ws i rest lt h e = subst (Found row (opcode_of first) ws) e ((row_shape (opcode_of first) (IsOpcode-of first lt)).found ws h)
 
-codes_at : (first : ℕ) (ws : List ℕ) (i : Instr) (rest : List ℕ) → first < 2 ^ 16 → AreWords ws → Spells (opcode_of first) ws i rest → Codes i (first ∷ (row i).further)
+codes_at : (first : ℕ) (ws : List ℕ) (i : Instr) (rest : List ℕ) → first < 2 ^ 16 → AreWords ws → Fits (row i) (opcode_of first) ws rest →
+    Codes i (first ∷ (row i).further)
 codes_at first ws i rest lt h s = record {
-  legal = s.legal;
-  fields = rw s.opcode (IsOpcode-of first lt);
+  has = record {
+    legal = s.legal;
+    fields = rw s.opcode (IsOpcode-of first lt);
+    are_words = AreWords-left (row i).further rest (subst AreWords s.taken.parts h);
+  };
   words = ap (λ (w : ℕ). w ∷ (row i).further) (sym (ap word_of s.opcode ∙ word_again first));
-  are_words = AreWords-cons first (row i).further lt (AreWords-left (row i).further rest (subst AreWords s.taken.parts h));
 }
 
-whole : (first : ℕ) (ws : List ℕ) (i : Instr) (rest : List ℕ) → first < 2 ^ 16 → AreWords ws → row_at (opcode_of first) ws ≡ read i rest → BeginsWith (first ∷ ws) i (1 + (length ws - length rest))
+whole : (first : ℕ) (ws : List ℕ) (i : Instr) (rest : List ℕ) → first < 2 ^ 16 → AreWords ws → row_at (opcode_of first) ws ≡ read i rest →
+    BeginsWith (first ∷ ws) i (1 + (length ws - length rest))
 whole first ws i rest lt h e =
     let s = spells_at first ws i rest lt h e in
     let parts = s.taken.parts in
-    (first ∷ (row i).further, rest, codes_at first ws i rest lt h s, ap (λ (t : List ℕ). first ∷ t) parts, omega (arith, ap length parts, length-append (row i).further rest))
+    let text = codes_at first ws i rest lt h s in
+    let split = ap (λ (t : List ℕ). first ∷ t) parts in
+    (first ∷ (row i).further, rest, text, split, omega (arith, ap length parts, length-append (row i).further rest))
 
 unfinished : (first : ℕ) (ws : List ℕ) → first < 2 ^ 16 → AreWords ws → row_at (opcode_of first) ws ≡ Err stop.More → IsUnfinished (first ∷ ws)
 unfinished first ws lt h e =
-    let c = (row_steady (opcode_of first)).completes ws e in
+    let c = (row_shape (opcode_of first) (IsOpcode-of first lt)).steady.completes ws e in
     let all = AreWords-append ws (c.word ∷ c.others) h c.are_words in
     let s = spells_at first (ws ++ c.word ∷ c.others) c.value [] lt all c.reads in
-    (c.value, c.word, c.others, subst (Codes c.value) (ap (λ (t : List ℕ). first ∷ t) (sym (s.taken.parts ∙ append-nil (row c.value).further))) (codes_at first _ c.value [] lt all s))
+    let parts = ap (λ (t : List ℕ). first ∷ t) (sym (s.taken.parts ∙ append-nil (row c.value).further)) in
+    (c.value, c.word, c.others, subst (Codes c.value) parts (codes_at first _ c.value [] lt all s))
 
 -- no words: an instruction of one word is still to come
 empty_unfinished : IsUnfinished []
 empty_unfinished = (
-  Nop,
+  Flow Nop,
   20081,
   [],
   record {
-    legal = refl;
-    fields = record { line = omega arith; upper = omega arith; bit = omega arith; size = omega arith; mode = omega arith; lower = omega arith };
+    has = record {
+      legal = refl;
+      fields = record { line = omega arith; upper = omega arith; bit = omega arith; size = omega arith; mode = omega arith; lower = omega arith };
+      are_words = AreWords-nil;
+    };
     words = refl;
-    are_words = AreWords-cons 20081 [] (omega arith) AreWords-nil;
   },
 )
 
@@ -75,28 +86,33 @@ heads a b x y e = (cc, cc)
 spelled_read : (first : ℕ) (ws : List ℕ) (i : Instr) (w rest : List ℕ) → Codes i w → first ∷ ws ≡ w ++ rest → row_at (opcode_of first) ws ≡ read i rest
 spelled_read first ws i w rest c e =
     let h = heads first (word_of (row i).opcode) ws ((row i).further ++ rest) (e ∙ ap (λ (t : List ℕ). t ++ rest) c.words) in
-    rw (h.0, h.1, opcode_again (row i).opcode c.fields) (row_read i rest c.legal)
+    rw (h.0, h.1, opcode_again (row i).opcode c.has.fields) (row_read i rest c.has.legal)
 
 not_both : (x : Instr × List ℕ) → read x.0 x.1 ≡ Err stop.Illegal → ⊥
 not_both x e = cc
 
-other : (first : ℕ) (ws : List ℕ) → row_at (opcode_of first) ws ≡ Err stop.Illegal → IsOther (first ∷ ws)
-other first ws e = (
+other : (first : ℕ) (ws : List ℕ) → first < 2 ^ 16 → row_at (opcode_of first) ws ≡ Err stop.Illegal → IsOther (first ∷ ws)
+other first ws lt e = (
   λ i n b. absurd (not_both (i, b.1) (sym (spelled_read first ws i b.0 b.1 b.2 b.3) ∙ e)),
-  λ u. absurd (not_both (u.0, []) (sym (spelled_read first (ws ++ u.1 ∷ u.2) u.0 (first ∷ ws ++ u.1 ∷ u.2) [] u.3 (sym (append-nil _))) ∙ (row_steady (opcode_of first)).stays ws (u.1 ∷ u.2) e)),
+  λ u. absurd
+      (not_both (u.0, []) (
+      sym (spelled_read first (ws ++ u.1 ∷ u.2) u.0 (first ∷ ws ++ u.1 ∷ u.2) [] u.3 (sym (append-nil _))) ∙
+      (row_shape (opcode_of first) (IsOpcode-of first lt)).steady.stays ws (u.1 ∷ u.2) e)),
 )
 
 -- ---- decode_of
 
-no_row_cases : (first : ℕ) (ws : List ℕ) (a f : Bool) → (first / 2 ^ 12 == 10) ≡ a → (first / 2 ^ 12 == 15) ≡ f → IsOther (first ∷ ws) → Decodes (first ∷ ws) (cond a LineA (cond f LineF Illegal))
+no_row_cases : (first : ℕ) (ws : List ℕ) (a f : Bool) → (first / 2 ^ 12 == 10) ≡ a → (first / 2 ^ 12 == 15) ≡ f → IsOther (first ∷ ws) →
+    Decodes (first ∷ ws) (cond a LineA (cond f LineF Illegal))
 no_row_cases first ws true f ea ef o = (o, eq_true (first / 2 ^ 12) 10 ea)
 no_row_cases first ws false true ea ef o = (o, eq_true (first / 2 ^ 12) 15 ef)
 no_row_cases first ws false false ea ef o = (o, (eq_false (first / 2 ^ 12) 10 ea, eq_false (first / 2 ^ 12) 15 ef))
 
-from_cases : (first : ℕ) (ws : List ℕ) (r : Result (Instr × List ℕ) Stop) → row_at (opcode_of first) ws ≡ r → first < 2 ^ 16 → AreWords ws → Decodes (first ∷ ws) (elim r [ Ok x ↦ Whole x.0 (1 + (length ws - length x.1)) | Err d ↦ stopped first d ])
+from_cases : (first : ℕ) (ws : List ℕ) (r : Result (Instr × List ℕ) Stop) → row_at (opcode_of first) ws ≡ r → first < 2 ^ 16 → AreWords ws →
+    Decodes (first ∷ ws) (elim r [ Ok x ↦ Whole x.0 (1 + (length ws - length x.1)) | Err d ↦ stopped first d ])
 from_cases first ws (Ok x) e lt h = whole first ws x.0 x.1 lt h e
 from_cases first ws (Err stop.More) e lt h = unfinished first ws lt h e
-from_cases first ws (Err stop.Illegal) e lt h = no_row_cases first ws (first / 2 ^ 12 == 10) (first / 2 ^ 12 == 15) refl refl (other first ws e)
+from_cases first ws (Err stop.Illegal) e lt h = no_row_cases first ws (first / 2 ^ 12 == 10) (first / 2 ^ 12 == 15) refl refl (other first ws lt e)
 
 decodes_from : (first : ℕ) (ws : List ℕ) → first < 2 ^ 16 → AreWords ws → Decodes (first ∷ ws) (decode_from first ws)
 unfolding decode_from
@@ -132,27 +148,31 @@ unfinished_length ws LineF d = tt
 
 -- a whole instruction is in range
 pub valid_of : (ws : List ℕ) (r : Decoded) → Decodes ws r → IfWhole r (λ i n. IsInstr i)
-valid_of ws (Whole i n) b = IsInstr-codes i b.0 b.2
+valid_of ws (Whole i n) b = b.2.has
 valid_of ws More d = tt
 valid_of ws Illegal d = tt
 valid_of ws LineA d = tt
 valid_of ws LineF d = tt
 
 -- what a reader left is no longer than what it was given
-pub after_shorter : (first : ℕ) (ws : List ℕ) (i : Instr) (rest : List ℕ) → first < 2 ^ 16 → AreWords ws → row_at (opcode_of first) ws ≡ read i rest → length rest ≤ length ws
+pub after_shorter : (first : ℕ) (ws : List ℕ) (i : Instr) (rest : List ℕ) → first < 2 ^ 16 → AreWords ws → row_at (opcode_of first) ws ≡ read i rest →
+    length rest ≤ length ws
 after_shorter first ws i rest lt h e =
     let parts = (spells_at first ws i rest lt h e).taken.parts in
     omega (arith, ap length parts, length-append (row i).further rest)
 
-pub taken_length : (first : ℕ) (ws : List ℕ) (i : Instr) (rest : List ℕ) → first < 2 ^ 16 → AreWords ws → row_at (opcode_of first) ws ≡ read i rest → 1 + (length ws - length rest) ≤ 11
+pub taken_length : (first : ℕ) (ws : List ℕ) (i : Instr) (rest : List ℕ) → first < 2 ^ 16 → AreWords ws → row_at (opcode_of first) ws ≡ read i rest →
+    1 + (length ws - length rest) ≤ 11
 taken_length first ws i rest lt h e = (length_of (first ∷ ws) (Whole i (1 + (length ws - length rest))) (whole first ws i rest lt h e)).1
 
-pub at_opcode : (p : Opcode) (first : ℕ) (ws : List ℕ) (r : Result (Instr × List ℕ) Stop) → p ≡ opcode_of first → row_at p ws ≡ r → row_at (opcode_of first) ws ≡ r
+pub at_opcode : (p : Opcode) (first : ℕ) (ws : List ℕ) (r : Result (Instr × List ℕ) Stop) → p ≡ opcode_of first → row_at p ws ≡ r →
+    row_at (opcode_of first) ws ≡ r
 at_opcode p first ws r e h = subst (λ (q : Opcode). row_at q ws ≡ r) e h
 
 -- ---- laws of the table
 
-from_read : (first : ℕ) (ws : List ℕ) (i : Instr) (rest : List ℕ) → row_at (opcode_of first) ws ≡ read i rest → decode_from first ws ≡ Whole i (1 + (length ws - length rest))
+from_read : (first : ℕ) (ws : List ℕ) (i : Instr) (rest : List ℕ) → row_at (opcode_of first) ws ≡ read i rest →
+    decode_from first ws ≡ Whole i (1 + (length ws - length rest))
 unfolding decode_from
 from_read first ws i rest e = ap (λ (r : Result (Instr × List ℕ) Stop). elim r [ Ok x ↦ Whole x.0 (1 + (length ws - length x.1)) | Err d ↦ stopped first d ]) e
 
@@ -165,6 +185,10 @@ again i first further rest c =
 pub read_again : ReadAgain
 read_again i [] rest c = absurd (omega (arith, (Codes-length i [] c).0))
 read_again i (first ∷ further) rest c = again i first further rest c
+
+-- an instruction's words alone are read as it
+pub read_back : (i : Instr) (w : List ℕ) → Codes i w → decode_of w ≡ Whole i (length w)
+read_back i w c = ap decode_of (sym (append-nil w)) ∙ read_again i w [] c
 
 pub one_spelling : OneSpelling
 one_spelling i w v c d = c.words ∙ sym d.words
@@ -188,7 +212,8 @@ one_whole ws i j n m x y =
 whole_unfinished : (ws : List ℕ) (i : Instr) (n : ℕ) → BeginsWith ws i n → IsUnfinished ws → ⊥
 whole_unfinished ws i n x y =
     let longer = ws ++ y.1 ∷ y.2 in
-    let parts : x.0 ++ (x.1 ++ y.1 ∷ y.2) ≡ longer ++ [] = sym (append_assoc x.0 x.1 (y.1 ∷ y.2)) ∙ ap (λ (t : List ℕ). t ++ y.1 ∷ y.2) (sym x.3) ∙ sym (append-nil longer) in
+    let parts : x.0 ++ (x.1 ++ y.1 ∷ y.2) ≡ longer ++ [] = sym (append_assoc x.0 x.1 (y.1 ∷ y.2)) ∙ ap (λ (t : List ℕ). t ++ y.1 ∷ y.2) (sym x.3) ∙ sym
+    (append-nil longer) in
     let same = none_begins i y.0 x.0 longer (x.1 ++ y.1 ∷ y.2) [] x.2 y.3 parts in
     omega (arith, ap length same.1, ap length x.3, length-append x.0 x.1, length-append ws (y.1 ∷ y.2))
 
@@ -234,3 +259,6 @@ one_answer ws LineF More x y = absurd (x.0.1 y)
 one_answer ws LineF Illegal x y = absurd (lines_differ ws IsF IsNeither (λ n p q. q.1 p) x.1 y.1)
 one_answer ws LineF LineA x y = absurd (lines_differ ws IsA IsF a_not_f y.1 x.1)
 one_answer ws LineF LineF x y = refl
+
+pub all_decoded : AllDecoded
+all_decoded ws h = decodes_of ws h

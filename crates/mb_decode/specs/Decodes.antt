@@ -1,8 +1,9 @@
 -- What some words begin with: by reading them, and by the table.
-use Rattle.std.specs.Prelude.{◌≡◌, ◌≢◌, ℕ, ◌+◌, ◌-◌, ◌/◌, ◌^◌, ◌==◌, List, [], ◌∷◌, ◌++◌, length, Ok, Err, if◌then◌else◌, ⊤}
+use Rattle.std.specs.Prelude.{◌≡◌, ◌≢◌, ℕ, ◌+◌, ◌-◌, ◌/◌, ◌^◌, ◌==◌, List, [], ◌∷◌, ◌++◌, length}
+use Rattle.std.specs.Prelude.{Ok, Err, if◌then◌else◌, ⊤}
 use Rattle.mb_instr.specs.declared.instruction.Instr.{Instr}
 use Rattle.mb_instr.specs.Opcodes.{opcode_of}
-use Rattle.mb_instr.specs.Rows.{Codes}
+use Rattle.mb_instr.specs.Codes.{Codes, AreWords}
 use Rattle.mb_decode.specs.declared.reading.Stop.{Stop}
 use Rattle.mb_decode.specs.declared.reading.Stop.TheVariants as stop
 use Rattle.mb_decode.specs.declared.front.Decoded.{Decoded}
@@ -92,3 +93,7 @@ OneSpelling = (i : Instr) (w v : List ℕ) → Codes i w → Codes i v → w ≡
 -- words that begin with two spellings begin with one
 abbrev pub NoneBegins : Type 0
 NoneBegins = (i j : Instr) (w v a b : List ℕ) → Codes i w → Codes j v → w ++ a ≡ v ++ b → (i ≡ j) × (w ≡ v)
+
+-- reading words answers what the table says of them
+abbrev pub AllDecoded : Type 0
+AllDecoded = (words : List ℕ) → AreWords words → Decodes words (decode_of words)

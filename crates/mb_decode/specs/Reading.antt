@@ -1,12 +1,23 @@
 -- Reading words from left to right.
-use Rattle.std.specs.Prelude.{◌≡◌, ℕ, ◌+◌, ◌*◌, ◌/◌, ◌%◌, ◌^◌, Bool, ◌==◌, List, [], ◌∷◌, Result, Ok, Err, if◌then◌else◌}
+use Rattle.std.specs.Prelude.{◌≡◌, ℕ, ◌+◌, ◌*◌, ◌/◌, ◌%◌, ◌^◌, Bool, ◌==◌, List, [], ◌∷◌}
+use Rattle.std.specs.Prelude.{Result, Ok, Err, Some, None, if◌then◌else◌}
 use Rattle.mb_instr.specs.declared.size.Size.{Size}
 use Rattle.mb_instr.specs.declared.size.Size.TheVariants as size
 use Rattle.mb_instr.specs.declared.operand.Ea.{Ea}
-use Rattle.mb_instr.specs.declared.operand.Ea.TheVariants.{Dn, An, Ind, Post, Pre, Disp, Index, AbsW, AbsL, PcDisp, PcIndex, Imm}
+use Rattle.mb_instr.specs.declared.operand.Ea.TheVariants.{Dn, An, Ind, Post, Pre, Disp, Index}
+use Rattle.mb_instr.specs.declared.operand.Ea.TheVariants.{AbsW, AbsL, PcDisp, PcIndex, Imm}
 use Rattle.mb_instr.specs.declared.operand.Ext.{Ext}
 use Rattle.mb_instr.specs.declared.operand.Ext.TheVariants.{Brief, Full}
-use Rattle.mb_instr.specs.Operands.{is_full}
+use Rattle.mb_instr.specs.declared.operand.OperandClass.{OperandClass}
+use Rattle.mb_instr.specs.declared.rule.WordRule.{WordRule}
+use Rattle.mb_instr.specs.declared.kinds.Branch.{Branch}
+use Rattle.mb_instr.specs.declared.kinds.Branch.TheVariants as branch
+use Rattle.mb_instr.specs.declared.kinds.TrapOperand.{TrapOperand}
+use Rattle.mb_instr.specs.declared.kinds.TrapOperand.TheVariants as trap
+use Rattle.mb_instr.specs.declared.opcode.Opcode.{Opcode}
+use Rattle.mb_instr.specs.Sizes.{size_of}
+use Rattle.mb_instr.specs.Rules.{holds}
+use Rattle.mb_instr.specs.Operands.{is_full, allows}
 use Rattle.mb_decode.specs.declared.reading.Stop.{Stop}
 use Rattle.mb_decode.specs.declared.reading.Stop.TheVariants.{More, Illegal}
 
@@ -34,11 +45,6 @@ give a ws = Ok (a, ws)
 -- no row has the words, whatever follows
 abbrev pub illegal : {A : Type 0} → Reader A
 illegal ws = Err Illegal
-
--- a value that the first word alone determines
-abbrev pub known : {A : Type 0} → Result A Stop → Reader A
-known (Ok a) ws = Ok (a, ws)
-known (Err e) ws = Err e
 
 -- the test comes before any word is read
 abbrev pub when_legal : {A : Type 0} → Bool → Reader A → Reader A
@@ -95,9 +101,51 @@ operand_at size mode lower =
     if lower == 3 then (ext_at >>= λ e. give (PcIndex e)) else
     (immediate_at size >>= λ v. give (Imm v))
 
--- the size field of most rows
-abbrev pub size_of : ℕ → Result Size Stop
-size_of field =
-    if field == 0 then Ok size.Byte else
-    if field == 1 then Ok size.Word else
-    if field == 2 then Ok size.Long else Err Illegal
+-- ---- what rows have in common
+
+-- what is made of the parts that were read
+abbrev pub made : {A B : Type 0} → Reader A → (A → B) → Reader B
+made r make = r >>= λ x. give (make x)
+
+-- the size field of most rows, where 3 is no size
+abbrev pub by_size : {A : Type 0} → ℕ → (Size → Reader A) → Reader A
+by_size field f = elim (size_of field) [ Some s ↦ f s | None ↦ illegal ]
+
+-- a word that the rule allows
+unfoldable pub ruled_at : WordRule → Reader ℕ
+ruled_at rule = word_at >>= λ w. when_legal (holds rule w) (give w)
+
+-- an operand of the class in the low six bits
+unfoldable pub ea_at : OperandClass → Size → Opcode → Reader Ea
+ea_at class s p = when_legal (allows class s p.mode p.lower) (operand_at s p.mode p.lower)
+
+-- the same, and its size in the size field
+unfoldable pub sized_at : OperandClass → Opcode → Reader (Size × Ea)
+sized_at class p = by_size p.size (λ s. made (ea_at class s p) (λ ea. (s, ea)))
+
+-- a word that the rule allows, and then the operand's words
+unfoldable pub word_ea_at : WordRule → OperandClass → Size → Opcode → Reader (ℕ × Ea)
+word_ea_at rule class s p = when_legal (allows class s p.mode p.lower) (do
+  w ← ruled_at rule
+  ea ← operand_at s p.mode p.lower
+  give (w, ea))
+
+-- an immediate, and then the operand's words, of the size in the size field
+unfoldable pub immediate_ea_at : OperandClass → Opcode → Reader (Size × ℕ × Ea)
+immediate_ea_at class p = by_size p.size (λ s. when_legal (allows class s p.mode p.lower) (do
+  v ← immediate_at s
+  ea ← operand_at s p.mode p.lower
+  give (s, v, ea)))
+
+-- a displacement byte of 0 says a word, $FF a long
+unfoldable pub branch_at : ℕ → Reader Branch
+branch_at byte =
+    if byte == 0 then made word_at (λ w. branch.Word w) else
+    if byte == 255 then made long_at (λ l. branch.Long l) else give (branch.Byte byte)
+
+-- what stands behind TRAPcc
+unfoldable pub trap_operand_at : ℕ → Reader TrapOperand
+trap_operand_at lower =
+    if lower == 2 then made word_at (λ w. trap.Word w) else
+    if lower == 3 then made long_at (λ l. trap.Long l) else
+    if lower == 4 then give trap.Nothing else illegal

@@ -1,8 +1,9 @@
 //! The instruction at the front of some words.
 
 ghost use Rattle.std.specs.Prelude.{◌≡◌, ◌≤◌, length};
-ghost use Rattle.mb_instr.specs.Instructions.{IsInstr};
-ghost use Rattle.mb_decode.specs.Decodes.{decode_of, decode_from, no_row, Decodes, IfWhole, OnMore, OneAnswer, ReadAgain, OneSpelling, NoneBegins};
+ghost use Rattle.mb_instr.specs.Codes.{IsInstr};
+ghost use Rattle.mb_decode.specs.Decodes.{decode_of, decode_from, no_row, Decodes, IfWhole, OnMore};
+ghost use Rattle.mb_decode.specs.Decodes.{AllDecoded, OneAnswer, ReadAgain, OneSpelling, NoneBegins};
 
 use crate::reading::Stop;
 use crate::rows::row;
@@ -24,7 +25,6 @@ pub enum Decoded {
 }
 
 /// The instruction at the front of the words. Words behind it are not looked at.
-#[inline(always)]
 #[tactic(auto, unfolding(crate::specs::Decodes::decode_of))]
 pub fn decode(words: &[u16]) -> Decoded
     ensures means { result ≡ decode_of words.now }
@@ -40,7 +40,6 @@ pub fn decode(words: &[u16]) -> Decoded
 }
 
 /// The instruction that a first word begins.
-#[inline(always)]
 #[tactic(auto, unfolding(crate::specs::Decodes::decode_from))]
 fn decode_from(first: u16, rest: &[u16]) -> Decoded
     ensures { result ≡ decode_from first rest.now }
@@ -69,6 +68,7 @@ fn no_row(first: u16) -> Decoded
 /// The table as a language: no words have two answers, a spelling is read as its instruction, an
 /// instruction has at most one spelling, and no spelling begins another.
 pub fn spellings()
+    ensures all_decoded { AllDecoded }
     ensures one_answer { OneAnswer }
     ensures read_again { ReadAgain }
     ensures one_spelling { OneSpelling }

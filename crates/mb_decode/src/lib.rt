@@ -4,9 +4,16 @@
 //! have been fetched so far begin with. It stands on `mb_instr` alone and knows no bus.
 #![tactic(auto)]
 
+mod caches;
 mod front;
+mod immediates;
+mod miscellaneous;
+mod moves;
+mod quick;
 mod reading;
+mod registers;
 mod rows;
+mod shifts;
 
 pub use front::{Decoded, decode, spellings};
 

@@ -1,10 +1,12 @@
 //! Readers of what stands behind the first word.
 
 ghost use Rattle.std.specs.Prelude.{◌≡◌};
-ghost use Rattle.mb_instr.specs.Operands.{is_full};
-ghost use Rattle.mb_decode.specs.Reading.{Gives, word_at, long_at, wide_at, full_at, ext_at, immediate_at, operand_at, size_of};
+ghost use Rattle.mb_instr.specs.Operands.{is_full, allows};
+ghost use Rattle.mb_decode.specs.Reading.{Gives, word_at, long_at, wide_at, full_at, ext_at, immediate_at, operand_at};
+ghost use Rattle.mb_decode.specs.Reading.{ruled_at, ea_at, sized_at, word_ea_at, immediate_ea_at};
+ghost use Rattle.mb_decode.specs.Reading.{branch_at, trap_operand_at};
 
-use mb_instr::{Ea, Ext, Size};
+use mb_instr::{Branch, Ea, Ext, Opcode, OperandClass, Size, TrapOperand, WordRule};
 
 /// Why no instruction was read.
 #[derive(Clone, Copy, Debug, PartialEq, Eq)]
@@ -160,15 +162,116 @@ pub fn operand(size: Size, mode: u8, lower: u8, words: &[u16]) -> Reading<'_, Ea
     }
 }
 
-/// The size that the size field of most rows says.
+/// A word that the rule allows.
 #[inline(always)]
-pub fn size_of(field: u8) -> Result<Size, Stop>
-    ensures { result ≡ size_of field }
+#[tactic(auto, unfolding(crate::specs::Reading::reads_then, crate::specs::Reading::ruled_at))]
+pub fn ruled(rule: WordRule, words: &[u16]) -> Reading<'_, u16>
+    ensures { Gives (λ x. (x.0, x.1.now)) result (ruled_at rule words.now) }
 {
-    match field {
-        0 => Ok(Size::Byte),
-        1 => Ok(Size::Word),
-        2 => Ok(Size::Long),
+    let (word, rest) = word(words)?;
+    if !rule.allows(word) {
+        return Err(Stop::Illegal);
+    }
+    Ok((word, rest))
+}
+
+/// An operand of the class in the low six bits.
+#[inline(always)]
+#[tactic(auto, unfolding(crate::specs::Reading::ea_at))]
+pub fn ea(class: OperandClass, size: Size, op: Opcode, words: &[u16]) -> Reading<'_, Ea>
+    ensures { Gives (λ x. (x.0, x.1.now)) result (ea_at class size op words.now) }
+{
+    if !class.allows(size, op.mode, op.lower) {
+        return Err(Stop::Illegal);
+    }
+    operand(size, op.mode, op.lower, words)
+}
+
+/// An operand of the class, whose size stands in the size field.
+#[inline(always)]
+#[tactic(auto, unfolding(crate::specs::Reading::reads_then, crate::specs::Reading::sized_at))]
+pub fn sized(class: OperandClass, op: Opcode, words: &[u16]) -> Reading<'_, (Size, Ea)>
+    ensures { Gives (λ x. (x.0, x.1.now)) result (sized_at class op words.now) }
+{
+    let Some(size) = Size::of(op.size) else {
+        return Err(Stop::Illegal);
+    };
+    let (ea, rest) = ea(class, size, op, words)?;
+    Ok(((size, ea), rest))
+}
+
+/// A word that the rule allows, and then the words of an operand of the class.
+#[inline(always)]
+#[tactic(auto, unfolding(crate::specs::Reading::reads_then, crate::specs::Reading::word_ea_at))]
+pub fn word_ea(
+    rule: WordRule,
+    class: OperandClass,
+    size: Size,
+    op: Opcode,
+    words: &[u16],
+) -> Reading<'_, (u16, Ea)>
+    ensures { Gives (λ x. (x.0, x.1.now)) result (word_ea_at rule class size op words.now) }
+{
+    if !class.allows(size, op.mode, op.lower) {
+        return Err(Stop::Illegal);
+    }
+    let (word, rest) = ruled(rule, words)?;
+    let (ea, rest) = operand(size, op.mode, op.lower, rest)?;
+    Ok(((word, ea), rest))
+}
+
+/// An immediate and an operand of the class, both of the size in the size field.
+#[inline(always)]
+#[tactic(auto, unfolding(crate::specs::Reading::reads_then, crate::specs::Reading::immediate_ea_at))]
+pub fn immediate_ea(class: OperandClass, op: Opcode, words: &[u16]) -> Reading<'_, (Size, u32, Ea)>
+    ensures { Gives (λ x. (x.0, x.1.now)) result (immediate_ea_at class op words.now) }
+{
+    let Some(size) = Size::of(op.size) else {
+        return Err(Stop::Illegal);
+    };
+    if !class.allows(size, op.mode, op.lower) {
+        return Err(Stop::Illegal);
+    }
+    let (value, rest) = immediate(size, words)?;
+    let (ea, rest) = operand(size, op.mode, op.lower, rest)?;
+    Ok(((size, value, ea), rest))
+}
+
+/// The displacement that a branch's displacement byte says.
+#[inline(always)]
+#[tactic(auto, unfolding(crate::specs::Reading::reads_then, crate::specs::Reading::branch_at))]
+pub fn branch(byte: u8, words: &[u16]) -> Reading<'_, Branch>
+    ensures { Gives (λ x. (x.0, x.1.now)) result (branch_at byte words.now) }
+{
+    match byte {
+        0 => {
+            let (displacement, rest) = word(words)?;
+            Ok((Branch::Word(displacement), rest))
+        }
+        0xff => {
+            let (displacement, rest) = long(words)?;
+            Ok((Branch::Long(displacement), rest))
+        }
+        _ => Ok((Branch::Byte(byte), words)),
+    }
+}
+
+/// What stands behind TRAPcc.
+#[inline(always)]
+#[tactic(auto, unfolding(crate::specs::Reading::reads_then, crate::specs::Reading::trap_operand_at))]
+pub fn trap_operand(lower: u8, words: &[u16]) -> Reading<'_, TrapOperand>
+    ensures { Gives (λ x. (x.0, x.1.now)) result (trap_operand_at lower words.now) }
+{
+    match lower {
+        2 => {
+            let (value, rest) = word(words)?;
+            Ok((TrapOperand::Word(value), rest))
+        }
+        3 => {
+            let (value, rest) = long(words)?;
+            Ok((TrapOperand::Long(value), rest))
+        }
+        4 => Ok((TrapOperand::Nothing, words)),
         _ => Err(Stop::Illegal),
     }
 }

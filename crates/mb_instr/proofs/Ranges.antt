@@ -1,5 +1,5 @@
 -- What has a spelling is in range.
-use Rattle.std.proofs.Common.{◌≡◌, ℕ, ◌<◌, ◌≤◌, ◌/◌, ◌%◌, ◌^◌, Bool, true, false, cond, List, [], ◌∷◌, subst, refl, arith}
+use Rattle.std.proofs.Common.{◌≡◌, ℕ, ◌<◌, ◌≤◌, ◌/◌, ◌%◌, ◌^◌, Bool, true, false, cond, [], ◌∷◌, refl, arith}
 use Rattle.std.specs.Prelude.{◌&&◌, ◌==◌, not, nat_lt}
 use Rattle.std.proofs.lemmas.Bool.Decides.{nat_tests}
 use Rattle.mb_instr.specs.declared.size.Size.{Size}
@@ -7,17 +7,21 @@ use Rattle.mb_instr.specs.declared.size.Size.TheVariants as size
 use Rattle.mb_instr.specs.declared.operand.Ea.{Ea}
 use Rattle.mb_instr.specs.declared.operand.Ea.TheVariants.{Dn, An, Ind, Post, Pre, Disp, Index, AbsW, AbsL, PcDisp, PcIndex, Imm}
 use Rattle.mb_instr.specs.declared.operand.OperandClass.{OperandClass}
-use Rattle.mb_instr.specs.declared.operand.OperandClass.TheVariants.{DataRegister, AbsoluteLong, Immediate}
+use Rattle.mb_instr.specs.declared.operand.OperandClass.TheVariants.{All, DataAlterable}
 use Rattle.mb_instr.specs.declared.operand.Ext.{Ext}
 use Rattle.mb_instr.specs.declared.operand.Ext.TheVariants.{Brief, Full}
-use Rattle.mb_instr.specs.declared.instruction.Branch.{Branch}
-use Rattle.mb_instr.specs.declared.instruction.Branch.TheVariants as branch
-use Rattle.mb_instr.specs.declared.instruction.Instr.{Instr}
-use Rattle.mb_instr.specs.declared.instruction.Instr.TheVariants.{Move, Nop, Addq, Bcc, Moveq}
-use Rattle.mb_instr.specs.Opcodes.{word_of, IsOpcode}
-use Rattle.mb_instr.specs.Operands.{allows, mode, lower, more, long, wide, fits, is_full, is_ext, ext, immediate, is_spelled, takes, IsExt, IsImmediate, IsEa}
-use Rattle.mb_instr.specs.Instructions.{IsBranch, IsInstr}
-use Rattle.mb_instr.specs.Rows.{row, is_move, is_addq, is_bcc, branch_byte, branch_words, Codes, AreWords}
+use Rattle.mb_instr.specs.declared.rule.WordRule.{WordRule}
+use Rattle.mb_instr.specs.declared.kinds.Branch.{Branch}
+use Rattle.mb_instr.specs.declared.kinds.Branch.TheVariants as branch
+use Rattle.mb_instr.specs.declared.kinds.Condition.{Condition}
+use Rattle.mb_instr.specs.declared.instruction.Move.TheVariants as move
+use Rattle.mb_instr.specs.declared.instruction.Flow.TheVariants as flow
+use Rattle.mb_instr.specs.declared.instruction.Instr.TheVariants as instr
+use Rattle.mb_instr.specs.Operands.{allows, mode, lower, more, long, wide, fits, is_full, is_ext, ext, immediate, is_immediate}
+use Rattle.mb_instr.specs.Operands.{is_spelled, takes, IsExt, IsImmediate, IsEa}
+use Rattle.mb_instr.specs.Rules.{holds}
+use Rattle.mb_instr.specs.Shapes.{Row, at_ea, word_ea, immediate_ea, when, branch_byte, branch_words, is_branch, IsBranch, is_quick}
+use Rattle.mb_instr.specs.Codes.{Has, IsInstr, AreWords}
 use Rattle.mb_instr.proofs.Words.{AreWords-head, AreWords-tail, AreWords-left, AreWords-right}
 
 pub and_is : (a b : Bool) → (a && b) ≡ true → (a ≡ true) × (b ≡ true)
@@ -25,10 +29,11 @@ and_is true true e = (refl, refl)
 and_is true false e = absurd cc
 and_is false b e = absurd cc
 
-long_range : (v : ℕ) → AreWords (long v) → v < 2 ^ 32
+pub long_range : (v : ℕ) → AreWords (long v) → v < 2 ^ 32
 long_range v h = let high = AreWords-head (v / 65536) (v % 65536 ∷ []) h in omega arith
 
-wide_cases : (two three : Bool) (v : ℕ) → cond two (nat_lt v 65536) (cond three true (v == 0)) ≡ true → AreWords (cond two (v ∷ []) (cond three (long v) [])) → v < 2 ^ 32
+wide_cases : (two three : Bool) (v : ℕ) → cond two (nat_lt v 65536) (cond three true (v == 0)) ≡ true →
+    AreWords (cond two (v ∷ []) (cond three (long v) [])) → v < 2 ^ 32
 wide_cases true three v h w = let lt = AreWords-head v [] w in omega arith
 wide_cases false true v h w = long_range v w
 wide_cases false false v h w = grind (arith, nat_tests)
@@ -36,15 +41,18 @@ wide_cases false false v h w = grind (arith, nat_tests)
 wide_range : (width v : ℕ) → fits width v ≡ true → AreWords (wide width v) → v < 2 ^ 32
 wide_range width v h w = wide_cases (width == 2) (width == 3) v h w
 
-ext_range : (e : Ext) → is_ext e ≡ true → AreWords (ext e) → IsExt e
+pub ext_range : (e : Ext) → is_ext e ≡ true → AreWords (ext e) → IsExt e
 ext_range (Brief w) h ws = AreWords-head w [] ws
 ext_range (Full w bd od) h ws =
     let a = and_is (not (w / 2 ^ 8 % 2 == 0) && is_full w && fits (w / 2 ^ 4 % 4) bd) (fits (w % 4) od) h in
     let b = and_is (not (w / 2 ^ 8 % 2 == 0) && is_full w) (fits (w / 2 ^ 4 % 4) bd) a.0 in
-    let behind = AreWords-tail w _ ws in
-    (AreWords-head w _ ws, wide_range (w / 2 ^ 4 % 4) bd b.1 (AreWords-left _ _ behind), wide_range (w % 4) od a.1 (AreWords-right (wide (w / 2 ^ 4 % 4) bd) _ behind))
+    let behind = AreWords-tail w _ ws in (
+      AreWords-head w _ ws,
+      wide_range (w / 2 ^ 4 % 4) bd b.1 (AreWords-left _ _ behind),
+      wide_range (w % 4) od a.1 (AreWords-right (wide (w / 2 ^ 4 % 4) bd) _ behind),
+    )
 
-immediate_range : (s : Size) (v : ℕ) → AreWords (immediate s v) → IsImmediate s v
+pub immediate_range : (s : Size) (v : ℕ) → AreWords (immediate s v) → IsImmediate s v
 immediate_range size.Byte v h = AreWords-head v [] h
 immediate_range size.Word v h = AreWords-head v [] h
 immediate_range size.Long v h = long_range v h
@@ -63,49 +71,52 @@ ea_range s (PcDisp d) h r w = AreWords-head d [] w
 ea_range s (PcIndex e) h r w = ext_range e h w
 ea_range s (Imm v) h r w = immediate_range s v w
 
-takes_spelled : (class : OperandClass) (s : Size) (ea : Ea) → takes class s ea ≡ true → is_spelled s ea ≡ true
-takes_spelled class s ea h = (and_is (allows class (mode ea) (lower ea)) (is_spelled s ea) h).1
+pub takes_range : (class : OperandClass) (s : Size) (ea : Ea) → takes class s ea ≡ true → lower ea < 8 → AreWords (more s ea) → IsEa s ea
+takes_range class s ea h r w = ea_range s ea (and_is (allows class s (mode ea) (lower ea)) (is_spelled s ea) h).1 r w
 
-move_spelled : (s : Size) (e d : Ea) → is_move s e d ≡ true → (is_spelled s e ≡ true) × (is_spelled s d ≡ true)
-move_spelled size.Byte e d h =
-    let p = and_is (takes DataRegister size.Byte e) (takes AbsoluteLong size.Byte d) h in
-    (takes_spelled DataRegister size.Byte e p.0, takes_spelled AbsoluteLong size.Byte d p.1)
-move_spelled size.Word e d h = absurd cc
-move_spelled size.Long e d h =
-    let p = and_is (takes Immediate size.Long e) (takes AbsoluteLong size.Long d) h in
-    (takes_spelled Immediate size.Long e p.0, takes_spelled AbsoluteLong size.Long d p.1)
+-- ---- the parts of a value that is in its row
 
-addq_range : (q : ℕ) (s : Size) (ea : Ea) → is_addq q s ea ≡ true → (1 ≤ q) × (q ≤ 8) × (is_spelled s ea ≡ true)
-addq_range q size.Byte ea h = absurd cc
-addq_range q size.Word ea h = absurd cc
-addq_range q size.Long ea h =
-    let p = and_is (nat_lt 0 q && nat_lt q 9) (takes DataRegister size.Long ea) h in
-    let quick = p.0 in
-    (grind (arith, nat_tests), grind (arith, nat_tests), takes_spelled DataRegister size.Long ea p.1)
+-- a row for some values alone
+pub when_has : (test : Bool) (r : Row) → Has (when test r) → (test ≡ true) × Has r
+when_has test r h =
+    let both = and_is test r.legal h.legal in
+    (both.0, record { legal = both.1; fields = h.fields; are_words = h.are_words })
 
-branch_range : (c : ℕ) (d : Branch) → is_bcc c d ≡ true → branch_byte d / 64 < 4 → AreWords (branch_words d) → IsBranch d
-branch_range c (branch.Byte b) h byte w = (grind (arith, nat_tests), grind (arith, nat_tests))
-branch_range c (branch.Word d) h byte w = AreWords-head d [] w
-branch_range c (branch.Long d) h byte w = long_range d w
+pub at_ea_range : (class : OperandClass) (s : Size) (a b c f : ℕ) (ea : Ea) → Has (at_ea class s a b c f ea) → IsEa s ea
+at_ea_range class s a b c f ea h = let fields = h.fields in takes_range class s ea h.legal fields.lower h.are_words
 
-row_range : (i : Instr) → (row i).legal ≡ true → IsOpcode (row i).opcode → AreWords (row i).further → IsInstr i
-row_range (Move s d e) legal f w =
-    let p = move_spelled s e d legal in
-    (ea_range s d p.1 f.upper (AreWords-right (more s e) _ w), ea_range s e p.0 f.lower (AreWords-left _ (more s d) w))
-row_range Nop legal f w = tt
-row_range (Addq q s ea) legal f w =
-    let p = addq_range q s ea legal in
-    (p.0, p.1, ea_range s ea p.2 f.lower w)
-row_range (Bcc c d) legal f w =
-    let upper = f.upper in
-    let size = f.size in
-    (omega arith, branch_range c d legal size w)
-row_range (Moveq r n) legal f w =
-    let size = f.size in
-    (f.upper, omega arith)
+pub word_ea_range : (rule : WordRule) (class : OperandClass) (s : Size) (a b c f w : ℕ) (ea : Ea) → Has (word_ea rule class s a b c f w ea) →
+    (w < 2 ^ 16) × (holds rule w ≡ true) × IsEa s ea
+word_ea_range rule class s a b c f w ea h =
+    let fields = h.fields in
+    let both = and_is (holds rule w) (takes class s ea) h.legal in
+    (AreWords-head w (more s ea) h.are_words, both.0, takes_range class s ea both.1 fields.lower (AreWords-tail w (more s ea) h.are_words))
 
--- an instruction that has a spelling is in range
-pub IsInstr-codes : (i : Instr) (w : List ℕ) → Codes i w → IsInstr i
-IsInstr-codes i w c =
-    let words = subst AreWords c.words c.are_words in
-    row_range i c.legal c.fields (AreWords-tail (word_of (row i).opcode) (row i).further words)
+pub immediate_ea_range : (class : OperandClass) (a b c : ℕ) (s : Size) (v : ℕ) (ea : Ea) → Has (immediate_ea class a b c s v ea) →
+    IsImmediate s v × IsEa s ea
+immediate_ea_range class a b c s v ea h =
+    let fields = h.fields in
+    let both = and_is (is_immediate s v) (takes class s ea) h.legal in (
+      immediate_range s v (AreWords-left (immediate s v) (more s ea) h.are_words),
+      takes_range class s ea both.1 fields.lower (AreWords-right (immediate s v) (more s ea) h.are_words),
+    )
+
+pub move_range : (s : Size) (d e : Ea) → IsInstr (instr.Move (move.Move s d e)) → IsEa s d × IsEa s e
+move_range s d e h =
+    let fields = h.fields in
+    let both = and_is (takes All s e) (takes DataAlterable s d) h.legal in (
+      takes_range DataAlterable s d both.1 fields.upper (AreWords-right (more s e) (more s d) h.are_words),
+      takes_range All s e both.0 fields.lower (AreWords-left (more s e) (more s d) h.are_words),
+    )
+
+branch_parts : (d : Branch) → is_branch d ≡ true → branch_byte d / 64 < 4 → AreWords (branch_words d) → IsBranch d
+branch_parts (branch.Byte b) h byte w = (grind (arith, nat_tests), grind (arith, nat_tests))
+branch_parts (branch.Word d) h byte w = AreWords-head d [] w
+branch_parts (branch.Long d) h byte w = long_range d w
+
+pub branch_range : (c : Condition) (d : Branch) → IsInstr (instr.Flow (flow.Bcc c d)) → IsBranch d
+branch_range c d h = let fields = h.fields in branch_parts d h.legal fields.size h.are_words
+
+-- 1 to 8
+pub quick_range : (q : ℕ) → is_quick q ≡ true → (1 ≤ q) × (q ≤ 8)
+quick_range q h = (grind (arith, nat_tests), grind (arith, nat_tests))

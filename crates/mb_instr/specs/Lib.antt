@@ -1,6 +1,10 @@
 pub mod Sizes
+pub mod Kinds
+pub mod Rules
 pub mod Opcodes
 pub mod Operands
+pub mod Shapes
 pub mod Rows
-pub mod Instructions
+pub mod Codes
+pub mod Families
 pub mod Registers

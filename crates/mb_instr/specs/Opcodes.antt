@@ -1,10 +1,17 @@
 -- A first word and its six fields.
-use Rattle.std.specs.Prelude.{ℕ, ◌+◌, ◌*◌, ◌/◌, ◌%◌, ◌^◌, ◌<◌}
+use Rattle.std.specs.Prelude.{ℕ, ◌+◌, ◌*◌, ◌/◌, ◌%◌, ◌^◌, ◌<◌, Bool, ◌&&◌, nat_lt}
 use Rattle.mb_instr.specs.declared.opcode.Opcode.{Opcode}
 
 -- the fields of a word
 abbrev pub opcode_of : ℕ → Opcode
-opcode_of w = record { line = w / 2 ^ 12; upper = w / 2 ^ 9 % 8; bit = w / 2 ^ 8 % 2; size = w / 2 ^ 6 % 4; mode = w / 2 ^ 3 % 8; lower = w % 8 }
+opcode_of w = record {
+  line = w / 2 ^ 12;
+  upper = w / 2 ^ 9 % 8;
+  bit = w / 2 ^ 8 % 2;
+  size = w / 2 ^ 6 % 4;
+  mode = w / 2 ^ 3 % 8;
+  lower = w % 8;
+}
 
 -- the word that the fields make
 abbrev pub word_of : Opcode → ℕ
@@ -18,3 +25,7 @@ pub record IsOpcode (p : Opcode) : Type 0 where
   pub size : p.size < 4
   pub mode : p.mode < 8
   pub lower : p.lower < 8
+
+abbrev pub is_opcode : Opcode → Bool
+is_opcode p =
+    nat_lt p.line 16 && nat_lt p.upper 8 && nat_lt p.bit 2 && nat_lt p.size 4 && nat_lt p.mode 8 && nat_lt p.lower 8

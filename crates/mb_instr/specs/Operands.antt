@@ -1,19 +1,50 @@
 -- Which operands a row takes, and how an operand is spelled.
-use Rattle.std.specs.Prelude.{ℕ, ◌/◌, ◌%◌, ◌^◌, ◌<◌, Bool, true, ◌&&◌, ◌==◌, not, nat_lt, List, [], ◌∷◌, ◌++◌, if◌then◌else◌}
+use Rattle.std.specs.Prelude.{ℕ, ◌/◌, ◌%◌, ◌^◌, ◌<◌, Bool, true, false, ◌&&◌, ◌||◌, ◌==◌, not, nat_lt}
+use Rattle.std.specs.Prelude.{List, [], ◌∷◌, ◌++◌, Option, Some, None, if◌then◌else◌}
 use Rattle.mb_instr.specs.declared.size.Size.{Size}
 use Rattle.mb_instr.specs.declared.size.Size.TheVariants as size
 use Rattle.mb_instr.specs.declared.operand.Ea.{Ea}
-use Rattle.mb_instr.specs.declared.operand.Ea.TheVariants.{Dn, An, Ind, Post, Pre, Disp, Index, AbsW, AbsL, PcDisp, PcIndex, Imm}
+use Rattle.mb_instr.specs.declared.operand.Ea.TheVariants.{Dn, An, Ind, Post, Pre, Disp, Index}
+use Rattle.mb_instr.specs.declared.operand.Ea.TheVariants.{AbsW, AbsL, PcDisp, PcIndex, Imm}
 use Rattle.mb_instr.specs.declared.operand.Ext.{Ext}
 use Rattle.mb_instr.specs.declared.operand.Ext.TheVariants.{Brief, Full}
 use Rattle.mb_instr.specs.declared.operand.OperandClass.{OperandClass}
-use Rattle.mb_instr.specs.declared.operand.OperandClass.TheVariants.{DataRegister, AbsoluteLong, Immediate}
+use Rattle.mb_instr.specs.declared.operand.OperandClass.TheVariants.{All, Data, Alterable, DataAlterable}
+use Rattle.mb_instr.specs.declared.operand.OperandClass.TheVariants.{DataAlterableOrPc, MemoryAlterable, Control}
+use Rattle.mb_instr.specs.declared.operand.OperandClass.TheVariants.{ControlAlterable, StoreList, LoadList}
+use Rattle.mb_instr.specs.declared.operand.OperandClass.TheVariants.{FieldSource, FieldTarget}
+
+-- memory that has one address
+abbrev pub is_control : ℕ → ℕ → Bool
+is_control mode lower = (mode == 2) || (mode == 5) || (mode == 6) || ((mode == 7) && nat_lt lower 4)
+
+-- the same, that can be written
+abbrev pub is_control_alterable : ℕ → ℕ → Bool
+is_control_alterable mode lower = (mode == 2) || (mode == 5) || (mode == 6) || ((mode == 7) && nat_lt lower 2)
+
+abbrev pub is_byte : Size → Bool
+is_byte size.Byte = true
+is_byte size.Word = false
+is_byte size.Long = false
+
+-- An has no bytes
+abbrev pub has_size : Size → ℕ → Bool
+has_size size mode = not (mode == 1) || not (is_byte size)
 
 -- the modes and registers of a class
-abbrev pub allows : OperandClass → ℕ → ℕ → Bool
-allows DataRegister mode lower = mode == 0
-allows AbsoluteLong mode lower = (mode == 7) && (lower == 1)
-allows Immediate mode lower = (mode == 7) && (lower == 4)
+abbrev pub allows : OperandClass → Size → ℕ → ℕ → Bool
+allows All size mode lower = (nat_lt mode 7 || nat_lt lower 5) && has_size size mode
+allows Data size mode lower = (nat_lt mode 7 || nat_lt lower 5) && not (mode == 1)
+allows Alterable size mode lower = (nat_lt mode 7 || nat_lt lower 2) && has_size size mode
+allows DataAlterable size mode lower = (nat_lt mode 7 || nat_lt lower 2) && not (mode == 1)
+allows DataAlterableOrPc size mode lower = (nat_lt mode 7 || nat_lt lower 4) && not (mode == 1)
+allows MemoryAlterable size mode lower = (nat_lt mode 7 || nat_lt lower 2) && nat_lt 1 mode
+allows Control size mode lower = is_control mode lower
+allows ControlAlterable size mode lower = is_control_alterable mode lower
+allows StoreList size mode lower = (mode == 4) || is_control_alterable mode lower
+allows LoadList size mode lower = (mode == 3) || is_control mode lower
+allows FieldSource size mode lower = (mode == 0) || is_control mode lower
+allows FieldTarget size mode lower = (mode == 0) || is_control_alterable mode lower
 
 -- the mode and the register that the first word has
 abbrev pub mode : Ea → ℕ
@@ -47,11 +78,15 @@ long v = v / 65536 ∷ v % 65536 ∷ []
 abbrev pub wide : ℕ → ℕ → List ℕ
 wide width v = if width == 2 then v ∷ [] else if width == 3 then long v else []
 
+-- such a displacement has its width, and is 0 where there is none
 abbrev pub fits : ℕ → ℕ → Bool
 fits width v = if width == 2 then nat_lt v 65536 else if width == 3 then true else v == 0
 
+-- a full word's forms: bit 3 is 0, a base displacement is named, and so is a kind of indirection
 abbrev pub is_full : ℕ → Bool
-is_full w = (w / 2 ^ 3 % 2 == 0) && not (w / 2 ^ 4 % 4 == 0) && (if w / 2 ^ 6 % 2 == 0 then not (w % 8 == 4) else nat_lt (w % 8) 4)
+is_full w =
+    (w / 2 ^ 3 % 2 == 0) && not (w / 2 ^ 4 % 4 == 0) &&
+    (if w / 2 ^ 6 % 2 == 0 then not (w % 8 == 4) else nat_lt (w % 8) 4)
 
 abbrev pub is_ext : Ext → Bool
 is_ext (Brief w) = w / 2 ^ 8 % 2 == 0
@@ -90,7 +125,12 @@ is_spelled size _ = true
 
 -- an operand of the class that has a spelling
 abbrev pub takes : OperandClass → Size → Ea → Bool
-takes class size ea = allows class (mode ea) (lower ea) && is_spelled size ea
+takes class size ea = allows class size (mode ea) (lower ea) && is_spelled size ea
+
+-- the number of an address register
+abbrev pub address_number : Ea → Option ℕ
+address_number (An n) = Some n
+address_number _ = None
 
 -- ---- the ranges of an operand's parts
 

@@ -1,5 +1,5 @@
 -- The registers that user mode sees, as a part of all registers.
-use Rattle.std.specs.Prelude.{ℕ, ◌+◌, ◌-◌, ◌/◌, ◌%◌, ◌^◌, ◌==◌, Bool, [], ◌∷◌, ◌++◌, take, slice_index, if◌then◌else◌}
+use Rattle.std.specs.Prelude.{ℕ, ◌+◌, ◌-◌, ◌/◌, ◌%◌, ◌^◌, ◌==◌, Bool, nat_lt, [], ◌∷◌, ◌++◌, take, slice_index, slice_set, if◌then◌else◌}
 use Rattle.mb_instr.specs.declared.registers.Plain.{Plain}
 use Rattle.mb_instr.specs.declared.registers.Regs.{Regs}
 
@@ -29,4 +29,33 @@ with_stack r top =
     else record r { usp = top }
 
 unfoldable pub with_plain : Regs → Plain → Regs
-with_plain r p = record (with_stack r (slice_index p.a 7)) { d = p.d; a = take 7 p.a; pc = p.pc; sr = with_ccr r.sr p.ccr }
+with_plain r p = record (with_stack r (slice_index p.a 7)) {
+  d = p.d;
+  a = take 7 p.a;
+  pc = p.pc;
+  sr = with_ccr r.sr p.ccr;
+}
+
+-- ---- one register
+
+-- data register n
+abbrev pub data_register : Plain → ℕ → ℕ
+data_register p n = slice_index p.d n
+
+abbrev pub with_data_register : Plain → ℕ → ℕ → Plain
+with_data_register p n value = record p { d = slice_set p.d n value }
+
+-- address register n; A7 is the active stack pointer
+abbrev pub address_register : Plain → ℕ → ℕ
+address_register p n = slice_index p.a n
+
+abbrev pub with_address_register : Plain → ℕ → ℕ → Plain
+with_address_register p n value = record p { a = slice_set p.a n value }
+
+-- register n of all sixteen: 0 to 7 are the data registers, 8 to 15 the address registers
+abbrev pub register_of : Plain → ℕ → ℕ
+register_of p n = if nat_lt n 8 then data_register p n else address_register p (n - 8)
+
+abbrev pub with_register : Plain → ℕ → ℕ → Plain
+with_register p n value =
+    if nat_lt n 8 then with_data_register p n value else with_address_register p (n - 8) value

@@ -1,83 +1,184 @@
 -- The table of instructions, row by row.
-use Rattle.std.specs.Prelude.{◌≡◌, ℕ, ◌/◌, ◌%◌, ◌^◌, ◌<◌, Bool, true, false, ◌&&◌, ◌==◌, not, nat_lt, List, [], ◌∷◌, ◌++◌, All}
-use Rattle.mb_instr.specs.declared.size.Size.{Size}
+use Rattle.std.specs.Prelude.{ℕ, ◌+◌, ◌*◌, ◌/◌, ◌%◌, Bool, true, ◌&&◌, ◌||◌, nat_lt}
+use Rattle.std.specs.Prelude.{List, [], ◌∷◌, ◌++◌, if◌then◌else◌}
 use Rattle.mb_instr.specs.declared.size.Size.TheVariants as size
-use Rattle.mb_instr.specs.declared.operand.Ea.{Ea}
-use Rattle.mb_instr.specs.declared.operand.OperandClass.TheVariants.{DataRegister, AbsoluteLong, Immediate}
-use Rattle.mb_instr.specs.declared.instruction.Branch.{Branch}
-use Rattle.mb_instr.specs.declared.instruction.Branch.TheVariants.{Byte, Word, Long}
+use Rattle.mb_instr.specs.declared.operand.OperandClass.TheVariants.{All, Data, Alterable, DataAlterable}
+use Rattle.mb_instr.specs.declared.operand.OperandClass.TheVariants.{DataAlterableOrPc, MemoryAlterable, Control}
+use Rattle.mb_instr.specs.declared.operand.OperandClass.TheVariants.{StoreList, LoadList}
+use Rattle.mb_instr.specs.declared.rule.WordRule.TheVariants as rule
+use Rattle.mb_instr.specs.declared.kinds.Exchange.{Exchange}
+use Rattle.mb_instr.specs.declared.kinds.Exchange.TheVariants as exchange
+use Rattle.mb_instr.specs.declared.kinds.TrapOperand.{TrapOperand}
+use Rattle.mb_instr.specs.declared.kinds.TrapOperand.TheVariants as trap
+use Rattle.mb_instr.specs.declared.instruction.Move.{Move}
+use Rattle.mb_instr.specs.declared.instruction.Move.TheVariants as move
+use Rattle.mb_instr.specs.declared.instruction.Arith.{Arith}
+use Rattle.mb_instr.specs.declared.instruction.Arith.TheVariants as arith
+use Rattle.mb_instr.specs.declared.instruction.Flow.{Flow}
+use Rattle.mb_instr.specs.declared.instruction.Flow.TheVariants as flow
+use Rattle.mb_instr.specs.declared.instruction.System.{System}
+use Rattle.mb_instr.specs.declared.instruction.System.TheVariants as system
 use Rattle.mb_instr.specs.declared.instruction.Instr.{Instr}
-use Rattle.mb_instr.specs.declared.instruction.Instr.TheVariants.{Move, Nop, Addq, Bcc, Moveq}
-use Rattle.mb_instr.specs.declared.opcode.Opcode.{Opcode}
-use Rattle.mb_instr.specs.Opcodes.{word_of, IsOpcode}
+use Rattle.mb_instr.specs.declared.instruction.Instr.TheVariants as instr
+use Rattle.mb_instr.specs.Sizes.{size_bits, move_bits, chk_bits, long_bit, not_byte}
+use Rattle.mb_instr.specs.Kinds.{flag, bit_bits, shift_bits, field_bits, line_bits, caches_bits, scope_bits}
+use Rattle.mb_instr.specs.Kinds.{flush_bits, condition_bits, bit_class, bit_class_immediate, field_class, field_rule, side}
+use Rattle.mb_instr.specs.Rules.{holds}
 use Rattle.mb_instr.specs.Operands.{takes, more, mode, lower, long}
+use Rattle.mb_instr.specs.Shapes.{Row, op, bare, with_word, with_long, with_ruled, at_ea, sized, word_ea, immediate_ea}
+use Rattle.mb_instr.specs.Shapes.{when, on_condition, branch_byte, branch_words, is_branch, is_quick}
 
--- line, upper register, bit 8, size, mode, lower register
-abbrev pub op : ℕ → ℕ → ℕ → ℕ → ℕ → ℕ → Opcode
-op a b c s m r = record { line = a; upper = b; bit = c; size = s; mode = m; lower = r }
+-- EXG's size and mode
+abbrev pub exchange_bits : Exchange → ℕ
+exchange_bits exchange.Data = 1
+exchange_bits exchange.Address = 1
+exchange_bits exchange.DataAddress = 2
 
--- the size field of most rows
-abbrev pub bits : Size → ℕ
-bits size.Byte = 0
-bits size.Word = 1
-bits size.Long = 2
+abbrev pub exchange_mode : Exchange → ℕ
+exchange_mode exchange.Data = 0
+exchange_mode exchange.Address = 1
+exchange_mode exchange.DataAddress = 1
 
--- the size field of MOVE
-abbrev pub move_bits : Size → ℕ
-move_bits size.Byte = 1
-move_bits size.Word = 3
-move_bits size.Long = 2
+-- TRAPcc's register field, and the words behind it
+abbrev pub trap_lower : TrapOperand → ℕ
+trap_lower (trap.Word w) = 2
+trap_lower (trap.Long l) = 3
+trap_lower trap.Nothing = 4
 
--- the displacement byte of a branch's first word, and the words behind it
-abbrev pub branch_byte : Branch → ℕ
-branch_byte (Byte b) = b
-branch_byte (Word w) = 0
-branch_byte (Long l) = 255
+abbrev pub trap_words : TrapOperand → List ℕ
+trap_words (trap.Word w) = w ∷ []
+trap_words (trap.Long l) = long l
+trap_words trap.Nothing = []
 
-abbrev pub branch_words : Branch → List ℕ
-branch_words (Byte b) = []
-branch_words (Word w) = w ∷ []
-branch_words (Long l) = long l
+-- an immediate count 8 is spelled 0
+abbrev pub count_field : Bool → ℕ → ℕ
+count_field by_register count = if by_register then count else count % 8
 
--- One row of the table: whether it has the value, the first word's fields, and the further words.
-pub record Row : Type 0 where
-  pub legal : Bool
-  pub opcode : Opcode
-  pub further : List ℕ
+-- ---- the rows
 
--- so far: MOVE.B Dn,abs.L and MOVE.L #,abs.L
-abbrev pub is_move : Size → Ea → Ea → Bool
-is_move size.Byte source destination = takes DataRegister size.Byte source && takes AbsoluteLong size.Byte destination
-is_move size.Word source destination = false
-is_move size.Long source destination = takes Immediate size.Long source && takes AbsoluteLong size.Long destination
+abbrev pub move_row : Move → Row
+move_row (move.Exg x k y) = bare (op 12 x 1 (exchange_bits k) (exchange_mode k) y)
+move_row (move.FromCcr ea) = at_ea DataAlterable size.Word 4 1 0 3 ea
+move_row (move.Lea a ea) = at_ea Control size.Long 4 a 1 3 ea
+move_row (move.LinkL a d) = with_long (op 4 4 0 0 1 a) d
+move_row (move.LinkW a d) = with_word (op 4 7 0 1 2 a) d
+move_row (move.Move s d e) = record {
+  legal = takes All s e && takes DataAlterable s d;
+  opcode = op (move_bits s) (lower d) (mode d / 4) (mode d % 4) (mode e) (lower e);
+  further = more s e ++ more s d;
+}
+move_row (move.Move16Abs k a l) = with_long (op 15 3 0 0 (line_bits k) a) l
+move_row (move.Move16Post x w) = with_ruled rule.Line (op 15 3 0 0 4 x) w
+move_row (move.Movea s a ea) = when (not_byte s) (at_ea All s (move_bits s) a 0 1 ea)
+move_row (move.MovemLoad s ea w) = when (not_byte s) (word_ea rule.Any LoadList s 4 6 0 (2 + long_bit s) w ea)
+move_row (move.MovemStore s ea w) = when (not_byte s) (word_ea rule.Any StoreList s 4 4 0 (2 + long_bit s) w ea)
+move_row (move.Movep d k s a w) = when (not_byte s) (with_word (op 0 d 1 (flag k * 2 + long_bit s) 1 a) w)
+move_row (move.Moveq d n) = bare (op 7 d 0 (n / 64) (n / 8 % 8) (n % 8))
+move_row (move.Pea ea) = at_ea Control size.Long 4 4 0 1 ea
+move_row (move.Scc c ea) = at_ea DataAlterable size.Byte 5 (condition_bits c / 2) (condition_bits c % 2) 3 ea
+move_row (move.Swap d) = bare (op 4 4 0 1 0 d)
+move_row (move.ToCcr ea) = at_ea Data size.Word 4 2 0 3 ea
+move_row (move.Unlk a) = bare (op 4 7 0 1 3 a)
 
--- so far: ADDQ.L to Dn
-abbrev pub is_addq : ℕ → Size → Ea → Bool
-is_addq quick size.Byte ea = false
-is_addq quick size.Word ea = false
-is_addq quick size.Long ea = nat_lt 0 quick && nat_lt quick 9 && takes DataRegister size.Long ea
+abbrev pub arith_row : Arith → Row
+arith_row (arith.Abcd x m y) = bare (op 12 x 1 0 (flag m) y)
+arith_row (arith.Add d k s ea) = sized (side All k) 13 d (flag k) s ea
+arith_row (arith.Adda a s ea) = when (not_byte s) (at_ea All s 13 a (long_bit s) 3 ea)
+arith_row (arith.Addi s ea v) = immediate_ea DataAlterable 0 3 0 s v ea
+arith_row (arith.Addq q s ea) = when (is_quick q) (sized Alterable 5 (q % 8) 0 s ea)
+arith_row (arith.Addx x s m y) = bare (op 13 x 1 (size_bits s) (flag m) y)
+arith_row (arith.And d k s ea) = sized (side Data k) 12 d (flag k) s ea
+arith_row (arith.Andi s ea v) = immediate_ea DataAlterable 0 1 0 s v ea
+arith_row (arith.AndiCcr w) = with_word (op 0 1 0 0 7 4) w
+arith_row (arith.BitImm k ea w) = word_ea rule.Any (bit_class_immediate k) size.Byte 0 4 0 (bit_bits k) w ea
+arith_row (arith.BitReg d k ea) = at_ea (bit_class k) size.Byte 0 d 1 (bit_bits k) ea
+arith_row (arith.Cas s ea w) = word_ea rule.Swap MemoryAlterable s 0 (5 + size_bits s) 0 3 w ea
+arith_row (arith.Cas2 s w v) = record {
+  legal = not_byte s && holds rule.SwapPair w && holds rule.SwapPair v;
+  opcode = op 0 (5 + size_bits s) 0 3 7 4;
+  further = w ∷ v ∷ [];
+}
+arith_row (arith.Clr s ea) = sized DataAlterable 4 1 0 s ea
+arith_row (arith.Cmp d s ea) = sized All 11 d 0 s ea
+arith_row (arith.Cmp2 s ea w) = word_ea rule.Compare Control s 0 (size_bits s) 0 3 w ea
+arith_row (arith.Cmpa a s ea) = when (not_byte s) (at_ea All s 11 a (long_bit s) 3 ea)
+arith_row (arith.Cmpi s ea v) = immediate_ea DataAlterableOrPc 0 6 0 s v ea
+arith_row (arith.Cmpm x s y) = bare (op 11 x 1 (size_bits s) 1 y)
+arith_row (arith.DivL ea w) = word_ea rule.LongPair Data size.Long 4 6 0 1 w ea
+arith_row (arith.DivW d g ea) = at_ea Data size.Word 8 d (flag g) 3 ea
+arith_row (arith.Eor d s ea) = sized DataAlterable 11 d 1 s ea
+arith_row (arith.Eori s ea v) = immediate_ea DataAlterable 0 5 0 s v ea
+arith_row (arith.EoriCcr w) = with_word (op 0 5 0 0 7 4) w
+arith_row (arith.ExtL d) = bare (op 4 4 0 3 0 d)
+arith_row (arith.ExtW d) = bare (op 4 4 0 2 0 d)
+arith_row (arith.ExtbL d) = bare (op 4 4 1 3 0 d)
+arith_row (arith.Field k ea w) =
+    word_ea (field_rule k) (field_class k) size.Long 14 (4 + field_bits k / 2) (field_bits k % 2) 3 w ea
+arith_row (arith.MulL ea w) = word_ea rule.LongPair Data size.Long 4 6 0 0 w ea
+arith_row (arith.MulW d g ea) = at_ea Data size.Word 12 d (flag g) 3 ea
+arith_row (arith.Nbcd ea) = at_ea DataAlterable size.Byte 4 4 0 0 ea
+arith_row (arith.Neg s ea) = sized DataAlterable 4 2 0 s ea
+arith_row (arith.Negx s ea) = sized DataAlterable 4 0 0 s ea
+arith_row (arith.Not s ea) = sized DataAlterable 4 3 0 s ea
+arith_row (arith.Or d k s ea) = sized (side Data k) 8 d (flag k) s ea
+arith_row (arith.Ori s ea v) = immediate_ea DataAlterable 0 0 0 s v ea
+arith_row (arith.OriCcr w) = with_word (op 0 0 0 0 7 4) w
+arith_row (arith.Pack x m y w) = with_word (op 8 x 1 1 (flag m) y) w
+arith_row (arith.Sbcd x m y) = bare (op 8 x 1 0 (flag m) y)
+arith_row (arith.ShiftMem k l ea) = at_ea MemoryAlterable size.Word 14 (shift_bits k) (flag l) 3 ea
+arith_row (arith.ShiftReg n l s i k r) =
+    when (i || is_quick n) (bare (op 14 (count_field i n) (flag l) (size_bits s) (flag i * 4 + shift_bits k) r))
+arith_row (arith.Sub d k s ea) = sized (side All k) 9 d (flag k) s ea
+arith_row (arith.Suba a s ea) = when (not_byte s) (at_ea All s 9 a (long_bit s) 3 ea)
+arith_row (arith.Subi s ea v) = immediate_ea DataAlterable 0 2 0 s v ea
+arith_row (arith.Subq q s ea) = when (is_quick q) (sized Alterable 5 (q % 8) 1 s ea)
+arith_row (arith.Subx x s m y) = bare (op 9 x 1 (size_bits s) (flag m) y)
+arith_row (arith.Tas ea) = at_ea DataAlterable size.Byte 4 5 0 3 ea
+arith_row (arith.Tst s ea) = sized All 4 5 0 s ea
+arith_row (arith.Unpk x m y w) = with_word (op 8 x 1 2 (flag m) y) w
 
--- so far: BRA with a displacement byte, neither 0 nor $FF
-abbrev pub is_bcc : ℕ → Branch → Bool
-is_bcc condition (Byte b) = (condition == 0) && not (b == 0) && not (b == 255)
-is_bcc condition (Word w) = false
-is_bcc condition (Long l) = false
+abbrev pub flow_row : Flow → Row
+flow_row (flow.Bcc c d) = record {
+  legal = is_branch d;
+  opcode = on_condition 6 c (branch_byte d / 64) (branch_byte d / 8 % 8) (branch_byte d % 8);
+  further = branch_words d;
+}
+flow_row (flow.Chk d s ea) = when (not_byte s) (at_ea Data s 4 d 1 (chk_bits s) ea)
+flow_row (flow.Chk2 s ea w) = word_ea rule.Check Control s 0 (size_bits s) 0 3 w ea
+flow_row (flow.Dbcc c d w) = with_word (on_condition 5 c 3 1 d) w
+flow_row (flow.Jmp ea) = at_ea Control size.Long 4 7 0 3 ea
+flow_row (flow.Jsr ea) = at_ea Control size.Long 4 7 0 2 ea
+flow_row flow.Nop = bare (op 4 7 0 1 6 1)
+flow_row (flow.Rtd d) = with_word (op 4 7 0 1 6 4) d
+flow_row flow.Rtr = bare (op 4 7 0 1 6 7)
+flow_row flow.Rts = bare (op 4 7 0 1 6 5)
+flow_row (flow.Trap n) = when (nat_lt n 16) (bare (op 4 7 0 1 (n / 8) (n % 8)))
+flow_row (flow.Trapcc c o) = record {
+  legal = true;
+  opcode = on_condition 5 c 3 7 (trap_lower o);
+  further = trap_words o;
+}
+flow_row flow.Trapv = bare (op 4 7 0 1 6 6)
 
--- the row of each instruction
+abbrev pub system_row : System → Row
+system_row (system.AndiSr w) = with_word (op 0 1 0 1 7 4) w
+system_row (system.Cinv c s a) = bare (op 15 2 0 (caches_bits c) (scope_bits s) a)
+system_row (system.Cpush c s a) = bare (op 15 2 0 (caches_bits c) (4 + scope_bits s) a)
+system_row (system.EoriSr w) = with_word (op 0 5 0 1 7 4) w
+system_row (system.FromSr ea) = at_ea DataAlterable size.Word 4 0 0 3 ea
+system_row (system.MoveUsp k a) = bare (op 4 7 0 1 (4 + flag k) a)
+system_row (system.Movec k w) = with_ruled rule.Control (op 4 7 0 1 7 (2 + flag k)) w
+system_row (system.Moves s ea w) = word_ea rule.Bounds MemoryAlterable s 0 7 0 (size_bits s) w ea
+system_row (system.OriSr w) = with_word (op 0 0 0 1 7 4) w
+system_row (system.Pflush k a) = bare (op 15 2 1 0 (flush_bits k) a)
+system_row (system.Ptest k a) = bare (op 15 2 1 1 (flag k * 4 + 1) a)
+system_row system.Reset = bare (op 4 7 0 1 6 0)
+system_row system.Rte = bare (op 4 7 0 1 6 3)
+system_row (system.Stop w) = with_word (op 4 7 0 1 6 2) w
+system_row (system.ToSr ea) = at_ea Data size.Word 4 3 0 3 ea
+
 abbrev pub row : Instr → Row
-row (Move s d e) = record { legal = is_move s e d; opcode = op (move_bits s) (lower d) (mode d / 4) (mode d % 4) (mode e) (lower e); further = more s e ++ more s d }
-row Nop = record { legal = true; opcode = op 4 7 0 1 6 1; further = [] }
-row (Addq q s ea) = record { legal = is_addq q s ea; opcode = op 5 (q % 8) 0 (bits s) (mode ea) (lower ea); further = more s ea }
-row (Bcc c d) = record { legal = is_bcc c d; opcode = op 6 (c / 2) (c % 2) (branch_byte d / 64) (branch_byte d / 8 % 8) (branch_byte d % 8); further = branch_words d }
-row (Moveq d n) = record { legal = true; opcode = op 7 d 0 (n / 64) (n / 8 % 8) (n % 8); further = [] }
-
--- each is a word
-abbrev pub AreWords : List ℕ → Type 0
-AreWords ws = All (λ w. w < 2 ^ 16) ws
-
--- These words spell the instruction.
-pub record Codes (i : Instr) (w : List ℕ) : Type 0 where
-  pub legal : (row i).legal ≡ true
-  pub fields : IsOpcode (row i).opcode
-  pub words : w ≡ word_of (row i).opcode ∷ (row i).further
-  pub are_words : AreWords w
+row (instr.Move i) = move_row i
+row (instr.Arith i) = arith_row i
+row (instr.Flow i) = flow_row i
+row (instr.System i) = system_row i

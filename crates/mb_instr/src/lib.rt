@@ -5,13 +5,20 @@
 #![tactic(auto)]
 
 mod instruction;
+mod kinds;
 mod opcode;
 mod operand;
 mod registers;
+mod rule;
 mod size;
 
-pub use instruction::{Branch, Instr};
+pub use instruction::{Arith, Family, Flow, Instr, Move, System, family_of, is_privileged};
+pub use kinds::{
+    BitKind, Branch, CacheScope, Caches, Condition, Exchange, FieldKind, FlushKind, LineMove,
+    ShiftKind, TrapOperand,
+};
 pub use opcode::Opcode;
 pub use operand::{Ea, Ext, OperandClass};
 pub use registers::{Plain, Regs};
+pub use rule::WordRule;
 pub use size::Size;

@@ -1,6 +1,7 @@
 //! Registers.
 
-ghost use Rattle.std.specs.Prelude.{◌≡◌};
+ghost use Rattle.std.specs.Prelude.{◌≡◌, ◌<◌};
+ghost use Rattle.mb_instr.specs.Registers.{register_of, with_register};
 ghost use Rattle.mb_instr.specs.Registers.{is_supervisor, is_master, active_stack, with_stack, plain_of, with_plain};
 
 /// The registers that a program in user mode sees.
@@ -12,6 +13,34 @@ pub struct Plain {
     pub pc: u32,
     /// X, N, Z, V and C in bits 4 to 0.
     pub ccr: u8,
+}
+
+impl Plain {
+    /// Register `n` of all sixteen: 0 to 7 are D0 to D7, 8 to 15 are A0 to A7.
+    #[inline(always)]
+    pub fn register(&self, n: u8) -> u32
+        requires { n < 16 }
+        ensures { result ≡ register_of self.now n }
+    {
+        if n < 8 {
+            self.d[n as usize]
+        } else {
+            self.a[n as usize - 8]
+        }
+    }
+
+    /// Makes this the value of register `n` of all sixteen.
+    #[inline(always)]
+    pub fn set_register(&mut self, n: u8, value: u32)
+        requires { n < 16 }
+        ensures { self.new ≡ with_register self.old n value }
+    {
+        if n < 8 {
+            self.d[n as usize] = value;
+        } else {
+            self.a[n as usize - 8] = value;
+        }
+    }
 }
 
 /// All registers of the processor's programming model but the control registers.
