@@ -51,7 +51,8 @@ low_of-add_bit Long x false = omega arith
 
 -- a difference overflows where its terms have two signs and it has not that of the first
 pub difference_overflows : (size : Size) (x y : ℕ) (e : Bool) →
-    (not (beq (is_negative size x) (is_negative size y)) && not (beq (is_negative size y) (is_negative size (low_of size y + values_of size - (low_of size x + bit e)))))
+    (not (beq (is_negative size x) (is_negative size y))
+    && not (beq (is_negative size y) (is_negative size (low_of size y + values_of size - (low_of size x + bit e)))))
     ≡ not (fits true (values_of size) (signed_of size y -ℤ signed_of size x -ℤ pos (bit e)))
 difference_overflows Byte x y true = grind (arith, ints, nat_tests)
 difference_overflows Byte x y false = grind (arith, ints, nat_tests)

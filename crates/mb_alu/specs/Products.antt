@@ -21,9 +21,11 @@ long_values Word = 2 ^ 32
 long_values Long = 2 ^ 32
 long_values Wide = 2 ^ 64
 
+-- a factor or a divisor of the width, read as a whole number
 abbrev pub short_of : Bool → Width → ℕ → ℤ
 short_of signed width n = read_of signed (short_values width) (n % short_values width)
 
+-- a product or a dividend of the width, read as a whole number
 abbrev pub long_of : Bool → Width → ℕ → ℤ
 long_of signed width n = read_of signed (long_values width) (n % long_values width)
 
@@ -84,11 +86,13 @@ IsDone _ = ⊥
 
 -- the quotient can have the width, where the divisor is not 0
 abbrev pub has_quotient : Bool → Width → ℕ → ℕ → Bool
-has_quotient signed width divisor dividend = fits signed (short_values width) (quotient_of signed width divisor dividend)
+has_quotient signed width divisor dividend =
+    fits signed (short_values width) (quotient_of signed width divisor dividend)
 
 -- a divisor of 0 clears C; a quotient that does not fit sets V and clears C; else there is a result
 unfoldable pub div_of : Bool → Width → ℕ → ℕ → ℕ → Divided
 div_of signed width divisor dividend ccr =
     if divisor % short_values width == 0 then ZeroDivide (ccr_of (record (conditions_of ccr) { c = false }))
-    else if not (has_quotient signed width divisor dividend) then Overflow (ccr_of (record (conditions_of ccr) { v = true; c = false }))
+    else if not (has_quotient signed width divisor dividend)
+    then Overflow (ccr_of (record (conditions_of ccr) { v = true; c = false }))
     else divided_of width (quotient_of signed width divisor dividend) (remainder_of signed width divisor dividend) ccr

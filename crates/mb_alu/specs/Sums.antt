@@ -35,7 +35,8 @@ add_of size x y ccr extended =
 
 -- y - x, less X where extended, modulo the number of values
 abbrev pub difference_of : Size → ℕ → ℕ → ℕ → Bool → ℕ
-difference_of size x y ccr extended = low_of size (low_of size y + values_of size - (low_of size x + carry_in extended ccr))
+difference_of size x y ccr extended =
+    low_of size (low_of size y + values_of size - (low_of size x + carry_in extended ccr))
 
 -- carry is that more is taken away than is there, overflow that the signed difference leaves the
 -- signed range

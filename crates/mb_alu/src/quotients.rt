@@ -53,8 +53,10 @@ pub fn div(signed: bool, width: Width, divisor: u32, dividend: u64, ccr: u8) -> 
 
     // Each of the three cases, exactly where it comes.
     ensures zero_divide { IsZeroDivide result ↔ (divisor % short_values width ≡ 0) }
-    ensures overflow { IsOverflow result ↔ ((0 < divisor % short_values width) × (has_quotient signed width divisor dividend ≡ false)) }
-    ensures done { IsDone result ↔ ((0 < divisor % short_values width) × (has_quotient signed width divisor dividend ≡ true)) }
+    ensures overflow { IsOverflow result
+        ↔ ((0 < divisor % short_values width) × (has_quotient signed width divisor dividend ≡ false)) }
+    ensures done { IsDone result
+        ↔ ((0 < divisor % short_values width) × (has_quotient signed width divisor dividend ≡ true)) }
 {
     let before = Conditions::of(ccr);
     if width.short(u64::from(divisor)) == 0 {

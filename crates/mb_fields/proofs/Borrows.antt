@@ -2,11 +2,11 @@
 use Rattle.std.proofs.Common.{ℕ, ◌≡◌, ◌+◌, ◌-◌, ◌*◌, ◌/◌, ◌%◌, ◌<◌, arith, refl, ℤ, Bool, true, false, pos, negsuc, ◌+ℤ◌, ◌-ℤ◌, nat_lt, int_lt, if◌then◌else◌}
 use Rattle.std.proofs.lemmas.Int.{ints}
 use Rattle.std.proofs.lemmas.Bool.Decides.{nat_tests}
-use Rattle.mb_fields.specs.Decimals.{bit, decimal_flagged, byte_of, extend_of, decimal_difference, borrows}
+use Rattle.mb_fields.specs.Decimals.{bit, decimal_flagged, modulo_256, extend_bit, decimal_difference, borrows}
 
-byte_of-up : (z : ℤ) (n : ℕ) → z +ℤ pos 512 ≡ pos n → byte_of z ≡ n % 256
-byte_of-up (pos k) n e = omega (arith, ints)
-byte_of-up (negsuc k) n e = omega (arith, ints)
+modulo_256-up : (z : ℤ) (n : ℕ) → z +ℤ pos 512 ≡ pos n → modulo_256 z ≡ n % 256
+modulo_256-up (pos k) n e = omega (arith, ints)
+modulo_256-up (negsuc k) n e = omega (arith, ints)
 
 -- a difference of naturals is below 0 where more is taken away than is there
 below_zero : (a b e : ℕ) → int_lt (pos a -ℤ pos b -ℤ pos e) (pos 0) ≡ nat_lt a (b + e)
@@ -22,17 +22,17 @@ raised x y e true false p q r = omega (arith, ints)
 raised x y e false true p q r = omega (arith, ints)
 raised x y e false false p q r = omega (arith, ints)
 
-pub borrows_is : (x y ccr : ℕ) → borrows x y ccr ≡ nat_lt y (x + extend_of ccr)
-borrows_is x y ccr = below_zero y x (extend_of ccr)
+pub borrows_is : (x y ccr : ℕ) → borrows x y ccr ≡ nat_lt y (x + extend_bit ccr)
+borrows_is x y ccr = below_zero y x (extend_bit ccr)
 
 -- the formula of the difference in whole numbers that stay above 0
 pub difference_is : (x y ccr : ℕ) → x < 256 → y < 256 →
-    byte_of (decimal_difference x y ccr -ℤ (if borrows x y ccr then pos 96 else pos 0))
-    ≡ (512 + y - (x + extend_of ccr + 6 * bit (nat_lt (y % 16) (x % 16 + extend_of ccr)) + 96 * bit (nat_lt y (x + extend_of ccr)))) % 256
+    modulo_256 (decimal_difference x y ccr -ℤ (if borrows x y ccr then pos 96 else pos 0))
+    ≡ (512 + y - (x + extend_bit ccr + 6 * bit (nat_lt (y % 16) (x % 16 + extend_bit ccr)) + 96 * bit (nat_lt y (x + extend_bit ccr)))) % 256
 difference_is x y ccr p q =
-    rw (below_zero (y % 16) (x % 16) (extend_of ccr), below_zero y x (extend_of ccr))
-    (byte_of-up _ _
-    (raised x y (extend_of ccr) (nat_lt (y % 16) (x % 16 + extend_of ccr)) (nat_lt y (x + extend_of ccr)) p q (omega arith)))
+    rw (below_zero (y % 16) (x % 16) (extend_bit ccr), below_zero y x (extend_bit ccr))
+    (modulo_256-up _ _
+    (raised x y (extend_bit ccr) (nat_lt (y % 16) (x % 16 + extend_bit ccr)) (nat_lt y (x + extend_bit ccr)) p q (omega arith)))
 
 pub flagged_same : (v w : ℕ) (a b : Bool) (ccr : ℕ) → v ≡ w → a ≡ b → decimal_flagged v a ccr ≡ decimal_flagged w b ccr
 flagged_same v w a b ccr p q = rw (p, q) refl

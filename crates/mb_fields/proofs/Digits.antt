@@ -1,24 +1,24 @@
 -- The formulas of decimal arithmetic, for decimal digits.
 use Rattle.std.proofs.Common.{ℕ, ◌≡◌, ◌+◌, ◌-◌, ◌*◌, ◌/◌, ◌%◌, ◌<◌, ◌≤◌, arith, refl, ap, sym, ◌∙◌, Bool, true, false, pos, ◌-ℤ◌, nat_lt, if◌then◌else◌}
 use Rattle.std.proofs.lemmas.Bool.Decides.{nat_tests}
-use Rattle.mb_fields.specs.Decimals.{bit, decimal_flagged, extend_of, number_of, carry_of, IsDecimal, IsDecimalDifference, sbcd_of, decimal_difference, borrows, byte_of}
+use Rattle.mb_fields.specs.Decimals.{bit, decimal_flagged, extend_bit, decimal_value, carry_bit, IsDecimal, IsDecimalDifference, sbcd_of, decimal_difference, borrows, modulo_256}
 use Rattle.mb_fields.proofs.Borrows.{difference_is, borrows_is}
 
 -- C of the condition codes is the carry
-carry_is : (v : ℕ) (a : Bool) (ccr : ℕ) → carry_of (decimal_flagged v a ccr).ccr ≡ bit a
+carry_is : (v : ℕ) (a : Bool) (ccr : ℕ) → carry_bit (decimal_flagged v a ccr).ccr ≡ bit a
 carry_is v true ccr = omega arith
 carry_is v false ccr = omega arith
 
 pub sum_digits : (a b c d e s : ℕ) → a ≤ 9 → b ≤ 9 → c ≤ 9 → d ≤ 9 → e < 2 →
     s ≡ a * 16 + c * 16 + (b + d + e) + (if nat_lt 9 (b + d + e) then 6 else 0) →
     (((if nat_lt 159 s then s + 96 else s) % 256 / 16 ≤ 9) × ((if nat_lt 159 s then s + 96 else s) % 256 % 16 ≤ 9)
-    × (number_of ((if nat_lt 159 s then s + 96 else s) % 256) + 100 * bit (nat_lt 159 s) ≡ (a * 10 + b) + (c * 10 + d) + e))
+    × (decimal_value ((if nat_lt 159 s then s + 96 else s) % 256) + 100 * bit (nat_lt 159 s) ≡ (a * 10 + b) + (c * 10 + d) + e))
 sum_digits a b c d e s p q r t l h = grind (arith, nat_tests)
 
 difference_digits : (a b c d e : ℕ) → a ≤ 9 → b ≤ 9 → c ≤ 9 → d ≤ 9 → e < 2 → (u v : Bool) → (n : ℕ) →
     u ≡ nat_lt d (b + e) → v ≡ nat_lt (c * 16 + d) (a * 16 + b + e) →
     n ≡ (512 + (c * 16 + d) - ((a * 16 + b) + e + 6 * bit u + 96 * bit v)) % 256 →
-    (n / 16 ≤ 9) × (n % 16 ≤ 9) × (number_of n + (a * 10 + b) + e ≡ (c * 10 + d) + 100 * bit v)
+    (n / 16 ≤ 9) × (n % 16 ≤ 9) × (decimal_value n + (a * 10 + b) + e ≡ (c * 10 + d) + 100 * bit v)
 difference_digits a b c d e p q r t l true true n f g h = grind (arith, nat_tests)
 difference_digits a b c d e p q r t l true false n f g h = grind (arith, nat_tests)
 difference_digits a b c d e p q r t l false true n f g h = grind (arith, nat_tests)
@@ -29,17 +29,17 @@ pub difference_law : (x y ccr : ℕ) → x < 256 → y < 256 → IsDecimal x →
 unfolding sbcd_of
 difference_law x y ccr p q dx dy =
     let v : Bool = borrows x y ccr in
-    let u : Bool = nat_lt (y % 16) (x % 16 + extend_of ccr) in
-    let n : ℕ = byte_of (decimal_difference x y ccr -ℤ (if borrows x y ccr then pos 96 else pos 0)) in
+    let u : Bool = nat_lt (y % 16) (x % 16 + extend_bit ccr) in
+    let n : ℕ = modulo_256 (decimal_difference x y ccr -ℤ (if borrows x y ccr then pos 96 else pos 0)) in
     let ex : x / 16 * 16 + x % 16 ≡ x = omega arith in
     let ey : y / 16 * 16 + y % 16 ≡ y = omega arith in
-    let vs : v ≡ nat_lt (y / 16 * 16 + y % 16) (x / 16 * 16 + x % 16 + extend_of ccr) = rw (ex, ey) (borrows_is x y ccr) in
-    let ns : n ≡ (512 + (y / 16 * 16 + y % 16) - ((x / 16 * 16 + x % 16) + extend_of ccr + 6 * bit u + 96 * bit v)) % 256 =
+    let vs : v ≡ nat_lt (y / 16 * 16 + y % 16) (x / 16 * 16 + x % 16 + extend_bit ccr) = rw (ex, ey) (borrows_is x y ccr) in
+    let ns : n ≡ (512 + (y / 16 * 16 + y % 16) - ((x / 16 * 16 + x % 16) + extend_bit ccr + 6 * bit u + 96 * bit v)) % 256 =
     rw (ex, ey)
     (difference_is x y ccr p q
-    ∙ ap (λ b. (512 + y - (x + extend_of ccr + 6 * bit u + 96 * bit b)) % 256) (sym (borrows_is x y ccr))) in
-    let all : (n / 16 ≤ 9) × (n % 16 ≤ 9) × (number_of n + (x / 16 * 10 + x % 16) + extend_of ccr ≡ (y / 16 * 10 + y % 16) + 100 * bit v) =
-    difference_digits (x / 16) (x % 16) (y / 16) (y % 16) (extend_of ccr) dx.tens dx.units dy.tens dy.units (omega arith) u v n refl vs ns in
+    ∙ ap (λ b. (512 + y - (x + extend_bit ccr + 6 * bit u + 96 * bit b)) % 256) (sym (borrows_is x y ccr))) in
+    let all : (n / 16 ≤ 9) × (n % 16 ≤ 9) × (decimal_value n + (x / 16 * 10 + x % 16) + extend_bit ccr ≡ (y / 16 * 10 + y % 16) + 100 * bit v) =
+    difference_digits (x / 16) (x % 16) (y / 16) (y % 16) (extend_bit ccr) dx.tens dx.units dy.tens dy.units (omega arith) u v n refl vs ns in
     record {
       digits = record { tens = all.0; units = all.1 };
       number = rw (carry_is n v ccr) all.2;

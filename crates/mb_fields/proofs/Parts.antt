@@ -17,10 +17,15 @@ module _ (word offset width rest value : ℕ) (narrow : (offset + width) + rest 
   field = mod_below value (2 ^ width) (pow_pos width)
 
   high : word / 2 ^ (rest + width) * 2 ^ width + value % 2 ^ width < 2 ^ (offset + width)
-  high = let e : 2 ^ (offset + width) ≡ 2 ^ offset * 2 ^ width = pow-add 2 offset width in rw e (let h = mul-add-lt (word / 2 ^ (rest + width)) (2 ^ width) (value % 2 ^ width) (2 ^ offset) before field in omega arith)
+  high =
+      let e : 2 ^ (offset + width) ≡ 2 ^ offset * 2 ^ width = pow-add 2 offset width in
+      let h = mul-add-lt (word / 2 ^ (rest + width)) (2 ^ width) (value % 2 ^ width) (2 ^ offset) before field in
+      rw e (omega arith)
 
   pub put_together :
-      bit_or (bit_or (word / 2 ^ (rest + width) * 2 ^ width % 18446744073709551616) (bit_and value (2 ^ width - 1)) * 2 ^ rest % 18446744073709551616) (bit_and word (2 ^ rest - 1))
+      bit_or
+      (bit_or (word / 2 ^ (rest + width) * 2 ^ width % 18446744073709551616) (bit_and value (2 ^ width - 1)) * 2 ^ rest % 18446744073709551616)
+      (bit_and word (2 ^ rest - 1))
       ≡ (word / 2 ^ (rest + width) * 2 ^ width + value % 2 ^ width) * 2 ^ rest + word % 2 ^ rest
   put_together =
       let first : word / 2 ^ (rest + width) * 2 ^ width % 18446744073709551616 ≡ word / 2 ^ (rest + width) * 2 ^ width =
@@ -67,7 +72,8 @@ same_length n m k h e = elim (cases_lt m k) [ inl l ↦ absurd (longer l) | inr 
         let twice : 2 ^ suc m ≡ 2 ^ m + 2 ^ m = two-pow-succ m in
         omega arith
 
-pub first_is : (n width : ℕ) → width ≤ 32 → n < 2 ^ width → (32 - width ≤ count_leading_zeros 32 n) × (count_leading_zeros 32 n - (32 - width) ≡ first_of n width)
+pub first_is : (n width : ℕ) → width ≤ 32 → n < 2 ^ width
+    → (32 - width ≤ count_leading_zeros 32 n) × (count_leading_zeros 32 n - (32 - width) ≡ first_of n width)
 first_is n width w h =
     let long : n < 2 ^ 32 = (let wide : 2 ^ width ≤ 2 ^ 32 = pow_mono w in omega arith) in
     let a = leading_length 32 n long in

@@ -7,15 +7,15 @@ bit false = 0
 bit true = 1
 
 -- the units, and the tens as the byte holds them, 16 times their digit
-abbrev pub low_of : ℕ → ℕ
-low_of x = x % 16
+abbrev pub units_of : ℕ → ℕ
+units_of x = x % 16
 
-abbrev pub high_of : ℕ → ℕ
-high_of x = x / 16 * 16
+abbrev pub tens_of : ℕ → ℕ
+tens_of x = x / 16 * 16
 
 -- X is bit 4 of the condition codes
-abbrev pub extend_of : ℕ → ℕ
-extend_of ccr = ccr / 2 ^ 4 % 2
+abbrev pub extend_bit : ℕ → ℕ
+extend_bit ccr = ccr / 2 ^ 4 % 2
 
 -- Z, bit 2: cleared by a result that is not 0, and else as it was
 abbrev pub zero_after : ℕ → ℕ → ℕ
@@ -30,10 +30,10 @@ decimal_flagged value carry ccr = record {
 
 -- the units with X, and the sum of all, with 6 more where the units are above 9
 abbrev pub units_sum : ℕ → ℕ → ℕ → ℕ
-units_sum x y ccr = low_of x + low_of y + extend_of ccr
+units_sum x y ccr = units_of x + units_of y + extend_bit ccr
 
 abbrev pub decimal_sum : ℕ → ℕ → ℕ → ℕ
-decimal_sum x y ccr = high_of x + high_of y + units_sum x y ccr + (if nat_lt 9 (units_sum x y ccr) then 6 else 0)
+decimal_sum x y ccr = tens_of x + tens_of y + units_sum x y ccr + (if nat_lt 9 (units_sum x y ccr) then 6 else 0)
 
 unfoldable pub abcd_of : ℕ → ℕ → ℕ → Flagged
 abcd_of x y ccr =
@@ -42,27 +42,27 @@ abcd_of x y ccr =
     decimal_flagged ((if carry then sum + 96 else sum) % 256) carry ccr
 
 -- the whole number modulo 256; negsuc n is -(n + 1)
-abbrev pub byte_of : ℤ → ℕ
-byte_of (pos n) = n % 256
-byte_of (negsuc n) = 255 - n % 256
+abbrev pub modulo_256 : ℤ → ℕ
+modulo_256 (pos n) = n % 256
+modulo_256 (negsuc n) = 255 - n % 256
 
 -- the difference y - x of units less X, the whole difference with 6 less where that is below 0
 abbrev pub units_difference : ℕ → ℕ → ℕ → ℤ
-units_difference x y ccr = pos (low_of y) -ℤ pos (low_of x) -ℤ pos (extend_of ccr)
+units_difference x y ccr = pos (units_of y) -ℤ pos (units_of x) -ℤ pos (extend_bit ccr)
 
 abbrev pub decimal_difference : ℕ → ℕ → ℕ → ℤ
 decimal_difference x y ccr =
-    pos (high_of y) -ℤ pos (high_of x) +ℤ units_difference x y ccr
+    pos (tens_of y) -ℤ pos (tens_of x) +ℤ units_difference x y ccr
     -ℤ (if int_lt (units_difference x y ccr) (pos 0) then pos 6 else pos 0)
 
 -- the bytes' difference less X is below 0: there is a borrow, and the result is 96 less
 abbrev pub borrows : ℕ → ℕ → ℕ → Bool
-borrows x y ccr = int_lt (pos y -ℤ pos x -ℤ pos (extend_of ccr)) (pos 0)
+borrows x y ccr = int_lt (pos y -ℤ pos x -ℤ pos (extend_bit ccr)) (pos 0)
 
 unfoldable pub sbcd_of : ℕ → ℕ → ℕ → Flagged
 sbcd_of x y ccr =
     let difference = decimal_difference x y ccr -ℤ (if borrows x y ccr then pos 96 else pos 0) in
-    decimal_flagged (byte_of difference) (borrows x y ccr) ccr
+    decimal_flagged (modulo_256 difference) (borrows x y ccr) ccr
 
 -- the difference from 0
 unfoldable pub nbcd_of : ℕ → ℕ → Flagged
@@ -75,19 +75,21 @@ pub record IsDecimal (x : ℕ) : Type 0 where
   pub tens : x / 16 ≤ 9
   pub units : x % 16 ≤ 9
 
-abbrev pub number_of : ℕ → ℕ
-number_of x = x / 16 * 10 + x % 16
+abbrev pub decimal_value : ℕ → ℕ
+decimal_value x = x / 16 * 10 + x % 16
 
 -- C is bit 0 of the condition codes
-abbrev pub carry_of : ℕ → ℕ
-carry_of ccr = ccr % 2
+abbrev pub carry_bit : ℕ → ℕ
+carry_bit ccr = ccr % 2
 
 -- the decimal sum, with a hundred for the carry
 pub record IsDecimalSum (x y ccr : ℕ) (sum : Flagged) : Type 0 where
   pub digits : IsDecimal sum.value
-  pub number : number_of sum.value + 100 * carry_of sum.ccr ≡ number_of x + number_of y + extend_of ccr
+  pub number : decimal_value sum.value + 100 * carry_bit sum.ccr ≡ decimal_value x + decimal_value y + extend_bit ccr
 
 -- the decimal difference, with a hundred for the borrow
 pub record IsDecimalDifference (x y ccr : ℕ) (difference : Flagged) : Type 0 where
   pub digits : IsDecimal difference.value
-  pub number : number_of difference.value + number_of x + extend_of ccr ≡ number_of y + 100 * carry_of difference.ccr
+  pub number :
+      decimal_value difference.value + decimal_value x + extend_bit ccr
+      ≡ decimal_value y + 100 * carry_bit difference.ccr

@@ -36,7 +36,8 @@ pub fields_stand : (b : List ℕ) (fs : List Field) (place : ℕ) (rest : List �
     → drop place b ≡ bytes_of_fields fs ++ rest → AllByRecursion (StandsIn b) fs
 fields_stand b [] place rest adjacent h = tt
 fields_stand b (f ∷ fs) place rest adjacent h =
-    let here : drop place b ≡ big_bytes f.size f.value ++ (bytes_of_fields fs ++ rest) = h ∙ append_assoc (big_bytes f.size f.value) (bytes_of_fields fs) rest in
+    let here : drop place b ≡ big_bytes f.size f.value ++ (bytes_of_fields fs ++ rest) =
+    h ∙ append_assoc (big_bytes f.size f.value) (bytes_of_fields fs) rest in
     let size = length-bytes_high_first f.size f.value in
     let place_is = adjacent.0 in
     let taken : take (length (big_bytes f.size f.value)) (big_bytes f.size f.value ++ (bytes_of_fields fs ++ rest)) ≡ big_bytes f.size f.value =

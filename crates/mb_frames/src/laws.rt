@@ -2,22 +2,28 @@
 
 ghost use Rattle.std.specs.Prelude.{◌<◌, ◌^◌, ℕ};
 ghost use Rattle.mb_frames.specs.AccessFields.{AccessCase, access_fields};
-ghost use Rattle.mb_frames.specs.Worked.{FetchFromInvalidPage, LineIntoInvalidPage, LockedPastMemory, MovemDownIntoInvalidPage, MovemFromInvalidPage, MovemIntoDevice, MovemIntoInvalidPage, ReadIntoInvalidPage, StackOnInvalidPage, WriteIntoInvalidPage, WritePastMemory};
+ghost use Rattle.mb_frames.specs.Worked.{FetchFromInvalidPage, LineIntoInvalidPage, LockedPastMemory, MovemDownIntoInvalidPage, MovemFromInvalidPage, MovemIntoDevice, MovemIntoInvalidPage, OtherFieldsAreZero, ReadIntoInvalidPage, StackOnInvalidPage, StackPastMemory, UserLinePastMemory, UserWriteOnInvalidPage, WriteIntoInvalidPage, WriteOfNothing, WritePastMemory, WriteWithinLargePage};
 
 /// The fields of an access error are those of frames that were worked out by hand.
 #[tactic(auto, unfolding(crate::specs::AccessFields::read_fields, crate::specs::AccessFields::write_fields, crate::specs::AccessFields::line_fields, crate::specs::AccessFields::movem_fields, crate::specs::AccessFields::check_fields, mb_port::specs::Pieces::laid, mb_port::specs::Pieces::span_of, mb_port::specs::Pieces::weight_of))]
 pub fn worked_frames()
+    ensures other_fields_are_zero { OtherFieldsAreZero }
     ensures fetch_from_invalid_page { FetchFromInvalidPage }
     ensures read_into_invalid_page { ReadIntoInvalidPage }
     ensures locked_past_memory { LockedPastMemory }
     ensures write_into_invalid_page { WriteIntoInvalidPage }
     ensures write_past_memory { WritePastMemory }
+    ensures user_write_on_invalid_page { UserWriteOnInvalidPage }
+    ensures write_within_large_page { WriteWithinLargePage }
+    ensures write_of_nothing { WriteOfNothing }
     ensures movem_into_invalid_page { MovemIntoInvalidPage }
     ensures movem_into_device { MovemIntoDevice }
-    ensures line_into_invalid_page { LineIntoInvalidPage }
     ensures movem_down_into_invalid_page { MovemDownIntoInvalidPage }
     ensures movem_from_invalid_page { MovemFromInvalidPage }
+    ensures line_into_invalid_page { LineIntoInvalidPage }
+    ensures user_line_past_memory { UserLinePastMemory }
     ensures stack_on_invalid_page { StackOnInvalidPage }
+    ensures stack_past_memory { StackPastMemory }
 {}
 
 /// In each of the five cases the bits of the special status word from CT on are clear: where a trace

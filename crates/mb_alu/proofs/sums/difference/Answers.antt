@@ -15,4 +15,9 @@ returns-clause-codes c =
     let e : Bool = c.args.extended && (conditions_of c.args.ccr).x in
     let t : ℕ = low_of c.args.size c.args.x + bit e in
     let d : ℕ = low_of c.args.size c.args.y + values_of c.args.size - t in
-    cc (low_of-wrap c.args.size (low_of c.args.size c.args.y) t (low_of-add_bit c.args.size c.args.x e), low_of-cut c.args.size d, is_negative-cut c.args.size d, difference_overflows c.args.size c.args.x c.args.y e)
+    cc (
+      low_of-wrap c.args.size (low_of c.args.size c.args.y) t (low_of-add_bit c.args.size c.args.x e),
+      low_of-cut c.args.size d,
+      is_negative-cut c.args.size d,
+      difference_overflows c.args.size c.args.x c.args.y e,
+    )

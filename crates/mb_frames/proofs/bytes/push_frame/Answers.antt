@@ -4,4 +4,6 @@ use Rattle.mb_frames.proofs.bytes.push_frame.Goals as goal
 
 pub returns-in-Access-clause-fits : goal.returns-in-Access-clause-fits
 returns-in-Access-clause-fits c =
-    rw (c.in-Access.is) (All-append Fits (head c.in-Access.sr c.in-Access.pc 7 c.in-Access.offset) (fields_of_access c.in-Access.access) c.push_head-in-Access.ensures.fits c.push_access.ensures.fits)
+    let first = head c.in-Access.sr c.in-Access.pc 7 c.in-Access.offset in
+    let others = fields_of_access c.in-Access.access in
+    rw (c.in-Access.is) (All-append Fits first others c.push_head-in-Access.ensures.fits c.push_access.ensures.fits)
