@@ -1,0 +1,86 @@
+-- The addressing modes.
+use Rattle.std.specs.Prelude.{ℕ, ◌+◌, ◌/◌, ◌%◌, ◌^◌, ◌==◌, nat_lt, Result, Ok, Err, if◌then◌else◌}
+use Rattle.mb_port.specs.Routine.{Routine, Return, ◌>>=◌, choose}
+use Rattle.mb_port.specs.declared.types.Space.{Space}
+use Rattle.mb_ea.specs.declared.reading.ReadFault.{ReadFault}
+use Rattle.mb_instr.specs.declared.size.Size.{Size}
+use Rattle.mb_instr.specs.declared.size.Size.TheVariants.{Byte, Word}
+use Rattle.mb_instr.specs.declared.operand.Ea.{Ea}
+use Rattle.mb_instr.specs.declared.operand.Ea.TheVariants.{Dn, An, Ind, Post, Pre, Disp, Index}
+use Rattle.mb_instr.specs.declared.operand.Ea.TheVariants.{AbsW, AbsL, PcDisp, PcIndex, Imm}
+use Rattle.mb_instr.specs.declared.operand.Ext.{Ext}
+use Rattle.mb_instr.specs.declared.operand.Ext.TheVariants.{Brief, Full}
+use Rattle.mb_instr.specs.declared.registers.Plain.{Plain}
+use Rattle.mb_instr.specs.Sizes.{low_of, sign_extended}
+use Rattle.mb_instr.specs.Registers.{address_register, with_address_register}
+use Rattle.mb_ea.specs.declared.addresses.Target.{Target}
+use Rattle.mb_ea.specs.declared.addresses.Target.TheVariants.{Reg, Memory, Value}
+use Rattle.mb_ea.specs.declared.resolving.Parts.{Parts}
+use Rattle.mb_ea.specs.Reading.{read_of}
+use Rattle.mb_ea.specs.Addresses.{sum, difference, step_of, index_of, displacement_of}
+
+-- what a full extension word spells: bit 7 leaves the base out, bit 6 the index
+abbrev pub parts_of : ℕ → ℕ → ℕ → ℕ → Plain → Parts
+parts_of base w bd od p = record {
+  base = if w / 2 ^ 7 % 2 == 1 then 0 else base;
+  displacement = displacement_of (w / 2 ^ 4 % 4) bd;
+  index = if w / 2 ^ 6 % 2 == 1 then 0 else index_of w p;
+  outer = displacement_of (w % 4) od;
+}
+
+-- the address, where it is the long that stands in memory and an outer displacement
+abbrev pub indirect_of : Space → ℕ → ℕ → Routine (Result ℕ ReadFault)
+indirect_of space at outer = do
+  long ← read_of space at 4
+  Return (Ok (sum long outer))
+
+-- without indirection; preindexed, where the index counts before the long is read; postindexed, where it
+-- counts after
+unfoldable pub full_of : ℕ → Parts → Space → Routine (Result ℕ ReadFault)
+full_of w parts space =
+    choose (w % 8 == 0) (Return (Ok (sum (sum parts.base parts.displacement) parts.index)))
+    (choose (nat_lt (w % 8) 4) (indirect_of space (sum (sum parts.base parts.displacement) parts.index) parts.outer)
+    (indirect_of space (sum parts.base parts.displacement) (sum parts.index parts.outer)))
+
+-- a base with an index
+unfoldable pub indexed_of : ℕ → Ext → Space → Plain → Routine (Result ℕ ReadFault)
+indexed_of base (Brief w) space p = Return (Ok (sum (sum base (sign_extended Byte w)) (index_of w p)))
+indexed_of base (Full w bd od) space p = full_of w (parts_of base w bd od p) space
+
+-- A target, and the registers after it was formed.
+pub record Resolved : Type 0 where
+  pub target : Target
+  pub plain : Plain
+
+-- a target that leaves the registers as they were
+abbrev pub found : Target → Plain → Routine (Result Resolved ReadFault)
+found target p = Return (Ok (record { target = target; plain = p }))
+
+abbrev pub in_memory : Plain → Routine (Result ℕ ReadFault) → Routine (Result Resolved ReadFault)
+in_memory p address = do
+  at ← address
+  found (Memory at) p
+
+-- The target of an operand. `word_at` is the address of its first extension word, which is the base of the
+-- modes relative to the PC. A memory indirection reads its long in data space.
+unfoldable pub resolve_of : Ea → Size → ℕ → Space → Plain → Routine (Result Resolved ReadFault)
+resolve_of (Dn n) size word_at space p = found (Reg n) p
+resolve_of (An n) size word_at space p = found (Reg (8 + n)) p
+resolve_of (Ind n) size word_at space p = found (Memory (address_register p n)) p
+resolve_of (Post n) size word_at space p =
+    found (Memory (address_register p n)) (with_address_register p n (sum (address_register p n) (step_of size n)))
+resolve_of (Pre n) size word_at space p =
+    let at = difference (address_register p n) (step_of size n) in
+    found (Memory at) (with_address_register p n at)
+resolve_of (Disp n d) size word_at space p = found (Memory (sum (address_register p n) (sign_extended Word d))) p
+resolve_of (Index n e) size word_at space p = in_memory p (indexed_of (address_register p n) e space p)
+resolve_of (AbsW a) size word_at space p = found (Memory (sign_extended Word a)) p
+resolve_of (AbsL a) size word_at space p = found (Memory a) p
+resolve_of (PcDisp d) size word_at space p = found (Memory (sum word_at (sign_extended Word d))) p
+resolve_of (PcIndex e) size word_at space p = in_memory p (indexed_of word_at e space p)
+resolve_of (Imm v) size word_at space p = found (Value (low_of size v)) p
+
+-- what a call answered, with the registers after it
+abbrev pub resolved : Result Target ReadFault → Plain → Result Resolved ReadFault
+resolved (Ok target) p = Ok (record { target = target; plain = p })
+resolved (Err fault) p = Err fault

@@ -1,0 +1,4 @@
+pub mod Writing
+pub mod Transfers
+pub mod Moving
+pub mod Laws

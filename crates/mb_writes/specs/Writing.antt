@@ -1,0 +1,59 @@
+-- Writes of operands.
+use Rattle.std.specs.Prelude.{ℕ, ◌-◌, ◌*◌, ◌/◌, ◌%◌, ◌^◌, ◌≤◌, ◌≡◌, List, [], ◌∷◌, ◌++◌, length, Result, Ok}
+use Rattle.mb_port.specs.Routine.{Routine, Return, ◌>>◌, failing, write}
+use Rattle.mb_port.specs.Pieces.{split_of, IsPiece}
+use Rattle.mb_port.specs.declared.types.Space.{Space}
+use Rattle.mb_port.specs.declared.types.Piece.{Piece}
+use Rattle.mb_port.specs.declared.types.Fault.{Fault}
+use Rattle.mb_frames.specs.declared.pend.Pend.{Pend}
+use Rattle.mb_frames.specs.AccessFields.{piece_of}
+use Rattle.mb_writes.specs.declared.ends.WriteFault.{WriteFault}
+
+-- of a big-endian number, the `len` bytes that begin so many bytes before its end
+unfoldable pub part_of : ℕ → ℕ → ℕ → ℕ
+part_of value before_end len = value / 2 ^ (8 * (before_end - len)) % 2 ^ (8 * len)
+
+-- each piece with its part of the number
+abbrev pub parts_of : List Piece → ℕ → ℕ → List Pend
+parts_of [] before_end value = []
+parts_of (p ∷ ps) before_end value =
+    record { at = p.at; len = p.len; value = part_of value before_end p.len } ∷ parts_of ps (before_end - p.len) value
+
+-- what is to be written for an operand of one to five bytes
+unfoldable pub pending_of : ℕ → ℕ → ℕ → List Pend
+pending_of at len value = parts_of (split_of at len) len value
+
+-- each has the place and length of a piece
+abbrev pub ArePending : List Pend → Type 0
+ArePending [] = Unit {0}
+ArePending (p ∷ ps) = IsPiece (piece_of p) × ArePending ps
+
+-- the fault, with the pieces that are left
+abbrev pub left_by : ℕ → List Pend → Fault → WriteFault
+left_by first rest fault = record { fault = fault; first = first; rest = record { items = rest } }
+
+-- Pieces are written in their order. A refused one is left, and so are all that come after it.
+abbrev pub write_all : Space → ℕ → List Pend → Routine (Result (Unit {0}) WriteFault)
+write_all space first [] = Return (Ok tt)
+write_all space first (p ∷ ps) = do
+  failing (left_by first (p ∷ ps)) (write space (piece_of p) p.value)
+  write_all space first ps
+
+-- an operand of one to five bytes
+unfoldable pub put_of : Space → ℕ → ℕ → ℕ → Routine (Result (Unit {0}) WriteFault)
+put_of space at len value = write_all space at (pending_of at len value)
+
+-- where the first of them is
+abbrev pub first_of : List Pend → ℕ
+first_of [] = 0
+first_of (p ∷ ps) = p.at
+
+-- what a refused write left
+unfoldable pub complete_of : Space → List Pend → Routine (Result (Unit {0}) WriteFault)
+complete_of space pending = write_all space (first_of pending) pending
+
+-- The list is the end of the other, and not empty.
+pub record IsLeft (rest pending : List Pend) : Type 0 where
+  pub done : List Pend
+  pub last : done ++ rest ≡ pending
+  pub some : 1 ≤ length rest

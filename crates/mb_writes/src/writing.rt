@@ -1,0 +1,139 @@
+//! Writes of operands.
+
+ghost use Rattle.std.specs.Prelude.{◌≡◌, ◌<◌, ◌≤◌, ◌^◌, ◌*◌, length, IfErr};
+ghost use Rattle.mb_port.specs.Routine.{run};
+ghost use Rattle.mb_port.specs.Pieces.{ArePieces};
+ghost use Rattle.mb_instr.specs.Sizes.{bytes_of, low_of};
+ghost use Rattle.mb_writes.specs.Writing.{part_of, parts_of, pending_of, ArePending, IsLeft};
+ghost use Rattle.mb_writes.specs.Writing.{left_by, write_all, put_of, complete_of};
+
+use crate::ends::WriteFault;
+use arrayvec::ArrayVec;
+use mb_frames::Pend;
+use mb_instr::Size;
+use mb_port::{Fault, Piece, Port, Space, split};
+
+/// Of a number, the `len` bytes that begin `before_end` bytes before its end.
+#[tactic(auto, unfolding(crate::specs::Writing::part_of))]
+fn part(value: u64, before_end: u8, len: u8) -> u32
+    requires { (before_end ≤ 5) × (len ≤ 4) }
+    ensures { result ≡ part_of value before_end len }
+{
+    ((value >> (8 * before_end.saturating_sub(len))) % (1u64 << (8 * len))) as u32
+}
+
+/// Each piece with its part of the number.
+fn parts(pieces: &[Piece], len: u8, value: u64) -> ArrayVec<Pend, 3>
+    requires few { length pieces.now ≤ 3 }
+    requires aligned { ArePieces pieces.now }
+    requires short { len ≤ 5 }
+    ensures items { result.items ≡ parts_of pieces.now len value }
+    ensures pending { ArePending result.items }
+{
+    let mut before_end = len;
+    let mut pending = ArrayVec::new();
+    for piece in pieces {
+        pending.push(Pend {
+            at: piece.at,
+            len: piece.len,
+            value: part(value, before_end, piece.len),
+        });
+        before_end = before_end.saturating_sub(piece.len);
+    }
+    pending
+}
+
+/// What a refused write leaves.
+fn left(fault: Fault, first: u32, rest: &[Pend]) -> WriteFault
+    requires { length rest.now ≤ 3 }
+    ensures { result ≡ left_by first rest.now fault }
+{
+    let mut left = ArrayVec::new();
+    for pend in rest {
+        left.push(*pend);
+    }
+    WriteFault {
+        fault,
+        first,
+        rest: left,
+    }
+}
+
+/// Writes pieces in their order.
+fn write_pieces<P: Port>(
+    pending: &[Pend],
+    first: u32,
+    space: Space,
+    port: &mut P,
+) -> Result<(), WriteFault>
+    requires few { length pending.now ≤ 3 }
+    requires pieces { ArePending pending.now }
+    ensures means { run P.bus (write_all space first pending.now) (P.world port.old) ≡ (result, P.world port.new) }
+    ensures left { IfErr result (λ refused. IsLeft refused.rest.items pending.now) }
+    ensures rest { P.rest port.new ≡ P.rest port.old }
+{
+    for (i, pend) in pending.iter().enumerate() {
+        let piece = Piece {
+            at: pend.at,
+            len: pend.len,
+        };
+        if let Err(fault) = port.write(space, piece, pend.value) {
+            return Err(left(fault, first, &pending[i..]));
+        }
+    }
+    Ok(())
+}
+
+/// Writes what a refused write left, in its order.
+///
+/// At most three pieces. A refused one is left again, with those after it; `first` is then the address of
+/// the first piece that was handed in.
+#[tactic(auto, unfolding(crate::specs::Writing::complete_of))]
+pub fn complete<P: Port>(pending: &[Pend], space: Space, port: &mut P) -> Result<(), WriteFault>
+    requires few { length pending.now ≤ 3 }
+    requires pieces { ArePending pending.now }
+    ensures means { run P.bus (complete_of space pending.now) (P.world port.old) ≡ (result, P.world port.new) }
+    ensures left { IfErr result (λ refused. IsLeft refused.rest.items pending.now) }
+    ensures rest { P.rest port.new ≡ P.rest port.old }
+{
+    let first = match pending {
+        [] => 0,
+        [pend, ..] => pend.at,
+    };
+    write_pieces(pending, first, space, port)
+}
+
+/// Writes an operand of one to five bytes, cut into pieces in order of address. Bytes of `value` above
+/// `len` do not count.
+pub fn put_pieces<P: Port>(
+    space: Space,
+    at: u32,
+    len: u8,
+    value: u64,
+    port: &mut P,
+) -> Result<(), WriteFault>
+    requires { (1 ≤ len) × (len ≤ 5) }
+    ensures means { run P.bus (put_of space at len value) (P.world port.old) ≡ (result, P.world port.new) }
+    ensures left { IfErr result (λ refused. IsLeft refused.rest.items (pending_of at len value)) }
+    ensures rest { P.rest port.new ≡ P.rest port.old }
+{
+    let pieces = split(at, len);
+    let pending = parts(pieces.as_slice(), len, value);
+    write_pieces(pending.as_slice(), at, space, port)
+}
+
+/// Writes an operand of a size, as [`put_pieces`] does.
+#[inline(always)]
+pub fn put_value<P: Port>(
+    space: Space,
+    at: u32,
+    size: Size,
+    value: u32,
+    port: &mut P,
+) -> Result<(), WriteFault>
+    ensures means { run P.bus (put_of space at (bytes_of size) value) (P.world port.old) ≡ (result, P.world port.new) }
+    ensures left { IfErr result (λ refused. IsLeft refused.rest.items (pending_of at (bytes_of size) value)) }
+    ensures rest { P.rest port.new ≡ P.rest port.old }
+{
+    put_pieces(space, at, size.bytes(), u64::from(value), port)
+}
