@@ -1,0 +1,95 @@
+-- The devices of the board and what happens to them: the serial line with its console, the timer, the power switch.
+use Rattle.std.specs.Prelude.{ℕ, ◌+◌, ◌-◌, ◌^◌, ◌==◌, ◌&&◌, Bool, true, false, not, List, [], ◌∷◌, ◌++◌, length, drop, min, nat_lt, slice_get, unwrap_or, if◌then◌else◌}
+
+pub record DeviceState : Type 0 where
+  -- the bytes of RAM
+  pub ram : ℕ
+  -- the bytes that were received and not read, the oldest first
+  pub queue : List ℕ
+  -- a byte was received when the queue was full
+  pub overrun : Bool
+  -- CTRL: a received byte asks for an interrupt
+  pub enabled : Bool
+  -- the bytes that the console keeps, in order of sending
+  pub console : List ℕ
+  -- how many bytes were sent and not kept
+  pub lost : ℕ
+  pub period : ℕ
+  pub count : ℕ
+  -- the timer asks for an interrupt
+  pub pending : Bool
+  -- the machine is to be switched off at the end of the step
+  pub off : Bool
+
+-- how many bytes the receive queue holds, and how many the console keeps
+abbrev pub queue_room : ℕ
+queue_room = 16
+
+abbrev pub console_room : ℕ
+console_room = 65536
+
+-- as a machine has them at its start
+unfoldable pub idle : (ram : ℕ) → DeviceState
+idle ram = record {
+  ram = ram;
+  queue = [];
+  overrun = false;
+  enabled = false;
+  console = [];
+  lost = 0;
+  period = 0;
+  count = 0;
+  pending = false;
+  off = false;
+}
+
+-- ---- the serial line
+
+abbrev pub has_received : DeviceState → Bool
+has_received d = not (length d.queue == 0)
+
+-- a byte arrives: it is queued, or dropped with an overrun
+unfoldable pub received : ℕ → DeviceState → DeviceState
+received byte d =
+    if nat_lt (length d.queue) queue_room then record d { queue = d.queue ++ byte ∷ [] }
+    else record d { overrun = true }
+
+-- the oldest received byte, 0 where there is none, and the queue without it
+abbrev pub oldest : DeviceState → ℕ
+oldest d = unwrap_or (slice_get d.queue 0) 0
+
+abbrev pub without_oldest : DeviceState → DeviceState
+without_oldest d = record d { queue = drop 1 d.queue }
+
+-- a byte is sent: the console keeps it, or counts it as lost. The count stands still at 2^64 - 1
+unfoldable pub sent : ℕ → DeviceState → DeviceState
+sent byte d =
+    if nat_lt (length d.console) console_room then record d { console = d.console ++ byte ∷ [] }
+    else record d { lost = min (d.lost + 1) (2 ^ 64 - 1) }
+
+-- ---- the timer
+
+-- PERIOD is set, and COUNT starts from it
+abbrev pub started : ℕ → DeviceState → DeviceState
+started period d = record d { period = period; count = period }
+
+-- COUNT falls by 1. Where it reaches 0 the timer asks for an interrupt, and COUNT starts again
+abbrev pub counted : DeviceState → DeviceState
+counted d =
+    let count = d.count - 1 in
+    if count == 0 then record d { pending = true; count = d.period } else record d { count = count }
+
+-- one step of the machine: a timer of period 0 stands still
+unfoldable pub ticked : DeviceState → DeviceState
+ticked d = if d.period == 0 then d else counted d
+
+-- ---- interrupts, RESET
+
+-- the level that is asked for: 6 by the timer, 4 by a received byte where that is enabled, else 0
+unfoldable pub level_of : DeviceState → ℕ
+level_of d = if d.pending then 6 else if d.enabled && has_received d then 4 else 0
+
+-- the instruction RESET: the console stays
+unfoldable pub reset_of : DeviceState → DeviceState
+reset_of d =
+    record d { queue = []; overrun = false; enabled = false; period = 0; count = 0; pending = false }

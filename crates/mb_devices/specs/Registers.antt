@@ -1,0 +1,82 @@
+-- The registers of the devices: where each stands, what reading it gives and what writing it does.
+use Rattle.std.specs.Prelude.{ℕ, ◌+◌, ◌*◌, ◌%◌, ◌^◌, ◌==◌, ◌&&◌, Bool, true, false, List, [], ◌∷◌, Option, Some, None, if◌then◌else◌}
+use Rattle.std.specs.List.{find}
+use Rattle.mb_port.specs.declared.types.Place.{Place}
+use Rattle.mb_devices.specs.declared.register.Register.{Register}
+use Rattle.mb_devices.specs.declared.register.Register.TheVariants.{Data, Status, Ctrl, Period, Count, Ack, Power, Size}
+use Rattle.mb_devices.specs.Devices.{DeviceState, has_received, oldest, sent, started, without_oldest}
+
+-- where the devices stand
+abbrev pub base : ℕ
+base = 0xFFF00000
+
+pub record Row : Type 0 where
+  -- its place behind the base, and how many bytes it has
+  pub offset : ℕ
+  pub size : ℕ
+  -- its value, and what reading it leaves
+  pub value : DeviceState → ℕ
+  pub after_read : DeviceState → DeviceState
+  -- what writing a value leaves
+  pub written : ℕ → DeviceState → DeviceState
+
+abbrev pub bit : Bool → ℕ
+bit false = 0
+bit true = 1
+
+-- STATUS: bit 0 a byte is received, bit 1 always set, bit 2 overrun
+abbrev pub status_of : DeviceState → ℕ
+status_of d = bit (has_received d) + 2 + 4 * bit d.overrun
+
+-- the value 1 switches off, every other is ignored
+abbrev pub powered : ℕ → DeviceState → DeviceState
+powered value d = if value == 1 then record d { off = true } else d
+
+abbrev pub unchanged : DeviceState → DeviceState
+unchanged d = d
+
+abbrev pub ignored : ℕ → DeviceState → DeviceState
+ignored value d = d
+
+abbrev pub register : (offset size : ℕ) → (value : DeviceState → ℕ) → (after_read : DeviceState → DeviceState)
+    → (written : ℕ → DeviceState → DeviceState) → Row
+register offset size value after_read written =
+    record { offset = offset; size = size; value = value; after_read = after_read; written = written }
+
+-- the table: a line a register
+abbrev pub row : Register → Row
+row Data = register 0x00 1 oldest without_oldest (λ value. sent (value % 2 ^ 8))
+row Status = register 0x01 1 status_of unchanged (λ value d. record d { overrun = false })
+row Ctrl = register 0x02 1 (λ d. bit d.enabled) unchanged (λ value d. record d { enabled = value % 2 == 1 })
+row Period = register 0x10 4 (λ d. d.period) unchanged started
+row Count = register 0x14 4 (λ d. d.count) unchanged ignored
+row Ack = register 0x18 4 (λ d. bit d.pending) unchanged (λ value d. record d { pending = false })
+row Power = register 0x20 4 (λ d. 0) unchanged powered
+row Size = register 0x24 4 (λ d. d.ram) unchanged ignored
+
+abbrev pub registers : List Register
+registers = Data ∷ Status ∷ Ctrl ∷ Period ∷ Count ∷ Ack ∷ Power ∷ Size ∷ []
+
+-- the place is that of the register, with its size
+abbrev pub stands_at : Place → Register → Bool
+stands_at place r = (place.at == base + (row r).offset) && (place.len == (row r).size)
+
+-- the register of just that address and size
+unfoldable pub register_at : Place → Option Register
+register_at place = find (stands_at place) registers
+
+-- what a read answers and what it leaves; none, and nothing changed, where there is no register
+abbrev pub read_register : Option Register → DeviceState → Option ℕ × DeviceState
+read_register (Some r) d = (Some ((row r).value d), (row r).after_read d)
+read_register None d = (None, d)
+
+unfoldable pub read_of : Place → DeviceState → Option ℕ × DeviceState
+read_of place d = read_register (register_at place) d
+
+-- the same of a write
+abbrev pub write_register : Option Register → ℕ → DeviceState → Option (Unit {0}) × DeviceState
+write_register (Some r) value d = (Some tt, (row r).written value d)
+write_register None value d = (None, d)
+
+unfoldable pub write_of : Place → ℕ → DeviceState → Option (Unit {0}) × DeviceState
+write_of place value d = write_register (register_at place) value d

@@ -1,0 +1,292 @@
+//! The devices.
+
+ghost use Rattle.std.specs.Prelude.{◌≡◌, ◌<◌, ◌≤◌, ◌^◌, ◌↔◌, length, is_some, IfOk, IfSome, IsNone, None};
+ghost use Rattle.mb_devices.specs.Devices.{counted, has_received, idle, level_of, oldest, received, reset_of, sent, started, ticked, without_oldest};
+ghost use Rattle.mb_devices.specs.Registers.{bit, powered, read_of, register_at, status_of, write_of};
+
+use crate::register::Register;
+use arrayvec::ArrayVec;
+use circular_buffer::HeapCircularBuffer;
+use mb_outside::Memory;
+use mb_port::Place;
+use std::alloc::Global;
+use std::marker::Model;
+
+/// How many received bytes are queued.
+const QUEUE_ROOM: usize = 16;
+
+/// How many sent bytes the console keeps.
+const CONSOLE_ROOM: usize = 65_536;
+
+/// The devices of a board. All memory that they need is taken by `new`.
+#[derive(Drop)]
+pub struct Devices {
+    ram: u32,
+    queue: HeapCircularBuffer<u8>,
+    overrun: bool,
+    enabled: bool,
+    console: Vec<u8>,
+    lost: u64,
+    period: u32,
+    count: u32,
+    pending: bool,
+    off: bool,
+}
+
+impl Model for Devices {
+    ghost use Rattle.mb_devices.specs.Devices.{DeviceState};
+
+    ghost Value = { DeviceState };
+
+    ghost use Rattle.mb_devices.specs.Inside.{IsSound, state_of};
+
+    ghost view = { state_of };
+
+    ghost invariant = { IsSound };
+}
+
+impl Devices {
+    /// Idle devices of a board with so many bytes of RAM. They take here all the memory that they need.
+    #[tactic(auto, unfolding(crate::specs::Devices::idle))]
+    pub fn new(alloc: Global, ram: u32) -> Result<Devices, Memory>
+        ensures { IfOk result (λ devices. devices ≡ idle ram) }
+    {
+        let Ok(queue) = HeapCircularBuffer::with_capacity(alloc, QUEUE_ROOM) else {
+            return Err(Memory);
+        };
+        let Ok(console) = Vec::with_capacity(alloc, CONSOLE_ROOM) else {
+            return Err(Memory);
+        };
+        Ok(Devices {
+            ram,
+            queue,
+            overrun: false,
+            enabled: false,
+            console,
+            lost: 0,
+            period: 0,
+            count: 0,
+            pending: false,
+            off: false,
+        })
+    }
+
+    /// Whether there is a register of just this address and size.
+    pub fn has(&self, place: Place) -> bool
+        ensures { result ≡ is_some (register_at place) }
+    {
+        Register::at(place).is_some()
+    }
+
+    /// Takes the oldest received byte; 0 where there is none.
+    fn take_byte(&mut self) -> u8
+        ensures byte { result ≡ oldest self.old }
+        ensures after { self.new ≡ without_oldest self.old }
+    {
+        self.queue.pop_front().unwrap_or(0)
+    }
+
+    /// The console keeps a byte, or counts it as lost.
+    #[tactic(auto, unfolding(crate::specs::Devices::sent))]
+    fn send(&mut self, byte: u8)
+        ensures { self.new ≡ sent byte self.old }
+    {
+        if self.console.len() < CONSOLE_ROOM {
+            self.console.push_reserved(byte);
+        } else {
+            self.lost = self.lost.saturating_add(1);
+        }
+    }
+
+    /// Reads a register: bytes and longs in the low bits. `None` comes exactly where there is no
+    /// register of just this address and size.
+    #[tactic(auto, unfolding(crate::specs::Registers::read_of))]
+    pub fn read(&mut self, place: Place) -> Option<u32>
+        ensures means { (result, self.new) ≡ read_of place self.old }
+        ensures none { IsNone result ↔ (register_at place ≡ None) }
+        ensures unchanged { IsNone result → self.new ≡ self.old }
+        ensures bound { IfSome result (λ value. value < 256 ^ place.len) }
+    {
+        Some(match Register::at(place)? {
+            Register::Data => u32::from(self.take_byte()),
+            Register::Status => self.status(),
+            Register::Ctrl => self.ctrl(),
+            Register::Period => self.period,
+            Register::Count => self.count,
+            Register::Ack => self.pending(),
+            Register::Power => 0,
+            Register::Size => self.ram,
+        })
+    }
+
+    /// Writes a register; at a byte the low byte counts. A register that can only be read ignores it.
+    /// `None` comes exactly where there is no register of just this address and size.
+    #[tactic(auto, unfolding(crate::specs::Registers::write_of))]
+    pub fn write(&mut self, place: Place, value: u32) -> Option<()>
+        ensures means { (result, self.new) ≡ write_of place value self.old }
+        ensures none { IsNone result ↔ (register_at place ≡ None) }
+        ensures unchanged { IsNone result → self.new ≡ self.old }
+    {
+        match Register::at(place)? {
+            Register::Data => self.send((value & 0xff) as u8),
+            Register::Status => self.overrun = false,
+            Register::Ctrl => self.enabled = value & 1 == 1,
+            Register::Period => self.start(value),
+            Register::Ack => self.pending = false,
+            Register::Power => self.set_power(value),
+            Register::Count | Register::Size => {}
+        }
+        Some(())
+    }
+
+    /// Sets PERIOD, and COUNT to start from it.
+    fn start(&mut self, period: u32)
+        ensures { self.new ≡ started period self.old }
+    {
+        self.period = period;
+        self.count = period;
+    }
+
+    /// 1 switches off when the step ends.
+    fn set_power(&mut self, value: u32)
+        ensures { self.new ≡ powered value self.old }
+    {
+        if value == 1 {
+            self.off = true;
+        }
+    }
+
+    /// A byte arrives on the serial line. Where the queue is full it is dropped and overrun is set.
+    #[tactic(auto, unfolding(crate::specs::Devices::received))]
+    pub fn receive(&mut self, byte: u8)
+        ensures { self.new ≡ received byte self.old }
+    {
+        if self.queue.try_push_back(byte).is_err() {
+            self.overrun = true;
+        }
+    }
+
+    /// One step of the machine passes: the timer counts it.
+    #[tactic(auto, unfolding(crate::specs::Devices::ticked))]
+    pub fn tick(&mut self)
+        ensures { self.new ≡ ticked self.old }
+    {
+        if self.period == 0 {
+            return;
+        }
+        self.count -= 1;
+        if self.count == 0 {
+            self.pending = true;
+            self.count = self.period;
+        }
+    }
+
+    /// The interrupt level that is asked for: 0, 4 or 6.
+    #[tactic(auto, unfolding(crate::specs::Devices::level_of))]
+    pub fn level(&self) -> u8
+        ensures { result ≡ level_of self.now }
+    {
+        if self.pending {
+            6
+        } else if self.enabled && !self.queue.is_empty() {
+            4
+        } else {
+            0
+        }
+    }
+
+    /// What the instruction RESET does: all but the console, its lost count and the power switch is
+    /// as at the start.
+    #[tactic(auto, unfolding(crate::specs::Devices::reset_of))]
+    pub fn reset(&mut self)
+        ensures { self.new ≡ reset_of self.old }
+    {
+        self.queue.clear();
+        self.overrun = false;
+        self.enabled = false;
+        self.period = 0;
+        self.count = 0;
+        self.pending = false;
+    }
+
+    /// The devices become as `new` makes them for the same RAM.
+    #[tactic(auto, unfolding(crate::specs::Devices::idle, crate::specs::Devices::reset_of))]
+    pub fn restart(&mut self)
+        ensures { self.new ≡ idle self.old.ram }
+    {
+        self.reset();
+        self.console.clear();
+        self.lost = 0;
+        self.off = false;
+    }
+
+    /// Whether the machine is to be switched off at the end of the step.
+    pub fn is_off(&self) -> bool
+        ensures { result ≡ self.now.off }
+    {
+        self.off
+    }
+
+    /// The bytes that the console keeps, in order of sending: the first 65,536.
+    pub fn console(&self) -> &[u8]
+        ensures bytes { result.now ≡ self.now.console }
+        ensures room { length result.now ≤ 65536 }
+    {
+        &self.console
+    }
+
+    /// How many bytes were sent and not kept. The count stands still at 2^64 - 1.
+    pub fn lost(&self) -> u64
+        ensures { result ≡ self.now.lost }
+    {
+        self.lost
+    }
+
+    /// The bytes that were received and not read, the oldest first.
+    pub fn queue(&self) -> ArrayVec<u8, 16>
+        ensures { result.items ≡ self.now.queue }
+    {
+        let (first, rest) = self.queue.as_slices();
+        let mut queue = ArrayVec::new();
+        queue.try_extend_from_slice(first).unwrap();
+        queue.try_extend_from_slice(rest).unwrap();
+        queue
+    }
+
+    /// CTRL: bit 0 is set where a received byte asks for an interrupt.
+    pub fn ctrl(&self) -> u32
+        ensures { result ≡ bit self.now.enabled }
+    {
+        u32::from(self.enabled)
+    }
+
+    /// STATUS: a byte is received in bit 0, bit 1 is set, overrun in bit 2.
+    pub fn status(&self) -> u32
+        ensures { result ≡ status_of self.now }
+    {
+        u32::from(!self.queue.is_empty()) + 2 + 4 * u32::from(self.overrun)
+    }
+
+    /// After how many steps the timer asks for an interrupt; 0 where it stands still.
+    pub fn period(&self) -> u32
+        ensures { result ≡ self.now.period }
+    {
+        self.period
+    }
+
+    /// How many of these steps are left: 0 where the timer stands still, and only there.
+    pub fn count(&self) -> u32
+        ensures value { result ≡ self.now.count }
+        ensures within { result ≤ self.now.period }
+        ensures runs { 0 < self.now.period → 0 < result }
+    {
+        self.count
+    }
+
+    /// 1 where the timer asks for an interrupt, else 0.
+    pub fn pending(&self) -> u32
+        ensures { result ≡ bit self.now.pending }
+    {
+        u32::from(self.pending)
+    }
+}

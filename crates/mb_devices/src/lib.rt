@@ -1,0 +1,15 @@
+//! The devices of the board: the serial line with its receive queue and its console, the timer, the
+//! power switch, and the size of memory.
+//!
+//! A part: it knows neither processor nor memory. A board asks it for the register at a physical place,
+//! tells it each step and each received byte, and reads the level of the interrupt that it asks for.
+//! `specs/Devices` says what happens to the devices, `specs/Registers` has the table of their registers.
+#![tactic(auto)]
+
+mod devices;
+mod register;
+
+pub use devices::Devices;
+
+#[cfg(test)]
+mod tests;

@@ -1,0 +1,173 @@
+//! What each operation leaves, and each limit once.
+
+use super::Devices;
+use mb_port::Place;
+
+const BASE: u32 = 0xfff0_0000;
+
+#[derive(Clone, Copy, Debug)]
+enum Act {
+    Receive(u8),
+    Read(u32, u8),
+    Write(u32, u8, u32),
+    Tick,
+    Reset,
+    Restart,
+}
+
+fn place(offset: u32, len: u8) -> Place {
+    Place {
+        at: BASE.wrapping_add(offset),
+        len,
+    }
+}
+
+/// What a read gives, 0 for any other operation that is taken.
+fn answer(devices: &mut Devices, act: Act) -> Option<u32> {
+    match act {
+        Act::Read(offset, len) => return devices.read(place(offset, len)),
+        Act::Write(offset, len, value) => devices.write(place(offset, len), value)?,
+        Act::Receive(byte) => devices.receive(byte),
+        Act::Tick => devices.tick(),
+        Act::Reset => devices.reset(),
+        Act::Restart => devices.restart(),
+    }
+    Some(0)
+}
+
+/// STATUS, CTRL, PERIOD, COUNT, pending, the level, how many bytes the console has, and off.
+fn left(devices: &Devices) -> [u32; 8] {
+    [
+        devices.status(),
+        devices.ctrl(),
+        devices.period(),
+        devices.count(),
+        devices.pending(),
+        u32::from(devices.level()),
+        devices.console().len() as u32,
+        u32::from(devices.is_off()),
+    ]
+}
+
+#[test]
+fn each_operation_leaves(rt: HostRuntime) {
+    let rows: [(Act, u32, [u32; 8]); 32] = [
+        (Act::Tick, 0, [2, 0, 0, 0, 0, 0, 0, 0]),
+        (Act::Receive(0x41), 0, [3, 0, 0, 0, 0, 0, 0, 0]),
+        (Act::Write(0x02, 1, 0xff), 0, [3, 1, 0, 0, 0, 4, 0, 0]),
+        (Act::Read(0x02, 1), 1, [3, 1, 0, 0, 0, 4, 0, 0]),
+        (Act::Write(0x02, 1, 0xfe), 0, [3, 0, 0, 0, 0, 0, 0, 0]),
+        (Act::Write(0x02, 1, 1), 0, [3, 1, 0, 0, 0, 4, 0, 0]),
+        (Act::Write(0x01, 1, 0), 0, [3, 1, 0, 0, 0, 4, 0, 0]),
+        (Act::Read(0x01, 1), 3, [3, 1, 0, 0, 0, 4, 0, 0]),
+        (Act::Write(0x10, 4, 2), 0, [3, 1, 2, 2, 0, 4, 0, 0]),
+        (Act::Tick, 0, [3, 1, 2, 1, 0, 4, 0, 0]),
+        (Act::Write(0x14, 4, 9), 0, [3, 1, 2, 1, 0, 4, 0, 0]),
+        (Act::Tick, 0, [3, 1, 2, 2, 1, 6, 0, 0]),
+        (Act::Read(0x18, 4), 1, [3, 1, 2, 2, 1, 6, 0, 0]),
+        (Act::Tick, 0, [3, 1, 2, 1, 1, 6, 0, 0]),
+        (Act::Read(0x14, 4), 1, [3, 1, 2, 1, 1, 6, 0, 0]),
+        (Act::Write(0x18, 4, 0), 0, [3, 1, 2, 1, 0, 4, 0, 0]),
+        (Act::Read(0x18, 4), 0, [3, 1, 2, 1, 0, 4, 0, 0]),
+        (Act::Write(0x10, 4, 5), 0, [3, 1, 5, 5, 0, 4, 0, 0]),
+        (Act::Read(0x10, 4), 5, [3, 1, 5, 5, 0, 4, 0, 0]),
+        (Act::Read(0x00, 1), 0x41, [2, 1, 5, 5, 0, 0, 0, 0]),
+        (Act::Read(0x00, 1), 0, [2, 1, 5, 5, 0, 0, 0, 0]),
+        (Act::Read(0x24, 4), 0x1_0000, [2, 1, 5, 5, 0, 0, 0, 0]),
+        (Act::Write(0x24, 4, 7), 0, [2, 1, 5, 5, 0, 0, 0, 0]),
+        (Act::Read(0x24, 4), 0x1_0000, [2, 1, 5, 5, 0, 0, 0, 0]),
+        (Act::Read(0x20, 4), 0, [2, 1, 5, 5, 0, 0, 0, 0]),
+        (Act::Write(0x20, 4, 2), 0, [2, 1, 5, 5, 0, 0, 0, 0]),
+        (Act::Write(0x00, 1, 0x1ff), 0, [2, 1, 5, 5, 0, 0, 1, 0]),
+        (Act::Receive(0x42), 0, [3, 1, 5, 5, 0, 4, 1, 0]),
+        (Act::Reset, 0, [2, 0, 0, 0, 0, 0, 1, 0]),
+        (Act::Write(0x20, 4, 1), 0, [2, 0, 0, 0, 0, 0, 1, 1]),
+        (Act::Read(0x20, 4), 0, [2, 0, 0, 0, 0, 0, 1, 1]),
+        (Act::Restart, 0, [2, 0, 0, 0, 0, 0, 0, 0]),
+    ];
+    let mut devices = Devices::new(rt.alloc(), 0x1_0000).expect(&rt, "ample memory");
+    for (act, value, after) in rows {
+        assert_eq!(rt; answer(&mut devices, act), Some(value), "{act:?}");
+        assert_eq!(rt; left(&devices), after, "{act:?}");
+    }
+}
+
+#[test]
+fn a_register_has_one_size(rt: HostRuntime) {
+    let mut devices = Devices::new(rt.alloc(), 0x1_0000).expect(&rt, "ample memory");
+    devices.receive(0x41);
+    let there = [
+        (0x00, 1),
+        (0x01, 1),
+        (0x02, 1),
+        (0x10, 4),
+        (0x14, 4),
+        (0x18, 4),
+        (0x20, 4),
+        (0x24, 4),
+    ];
+    for offset in 0..0x30 {
+        for len in [1u8, 2, 4] {
+            let has = there.contains(&(offset, len));
+            assert_eq!(rt; devices.has(place(offset, len)), has, "{offset} {len}");
+            if !has {
+                assert_eq!(rt; devices.read(place(offset, len)), None, "{offset} {len}");
+                assert_eq!(rt;
+                    devices.write(place(offset, len), 1),
+                    None,
+                    "{offset} {len}"
+                );
+            }
+        }
+    }
+    assert!(rt; !devices.has(Place { at: 0x24, len: 4 }));
+    assert_eq!(rt; left(&devices), [3, 0, 0, 0, 0, 0, 0, 0]);
+}
+
+#[test]
+fn the_seventeenth_byte_is_dropped(rt: HostRuntime) {
+    let mut devices = Devices::new(rt.alloc(), 0x1_0000).expect(&rt, "ample memory");
+    for byte in 0..=16 {
+        devices.receive(byte);
+    }
+    let kept: [u8; 16] = [0, 1, 2, 3, 4, 5, 6, 7, 8, 9, 10, 11, 12, 13, 14, 15];
+    assert_eq!(rt; devices.queue().as_slice(), &kept[..]);
+    assert_eq!(rt; devices.status(), 7);
+    assert_eq!(rt; devices.write(place(0x01, 1), 0), Some(()));
+    assert_eq!(rt; devices.status(), 3);
+    for byte in kept {
+        assert_eq!(rt; devices.read(place(0x00, 1)), Some(u32::from(byte)));
+    }
+    assert_eq!(rt; devices.status(), 2);
+}
+
+#[test]
+fn the_timer_asks_each_period(rt: HostRuntime) {
+    let mut devices = Devices::new(rt.alloc(), 0x1_0000).expect(&rt, "ample memory");
+    assert_eq!(rt; devices.write(place(0x10, 4), 3), Some(()));
+    let counts = [2, 1, 3, 2, 1, 3, 2, 1, 3];
+    for count in counts {
+        devices.tick();
+        assert_eq!(rt; devices.count(), count);
+        assert_eq!(rt; devices.pending(), u32::from(count == 3));
+        assert_eq!(rt; devices.write(place(0x18, 4), 0xffff_ffff), Some(()));
+        assert_eq!(rt; devices.pending(), 0);
+    }
+}
+
+#[test]
+fn a_full_console_counts(rt: HostRuntime) {
+    let mut devices = Devices::new(rt.alloc(), 0x1_0000).expect(&rt, "ample memory");
+    for i in 0..65_538 {
+        assert_eq!(rt; devices.write(place(0x00, 1), i), Some(()));
+    }
+    assert_eq!(rt; devices.console().len(), 65_536);
+    assert_eq!(rt; devices.console()[0x1234], 0x34);
+    assert_eq!(rt; devices.lost(), 2);
+    devices.reset();
+    assert_eq!(rt; devices.console().len(), 65_536);
+    assert_eq!(rt; devices.lost(), 2);
+    devices.restart();
+    assert_eq!(rt; devices.console().len(), 0);
+    assert_eq!(rt; devices.lost(), 0);
+}
