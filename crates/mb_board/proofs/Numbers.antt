@@ -1,5 +1,5 @@
 -- Writing a big-endian number into memory.
-use Rattle.std.proofs.Common.{◌≡◌, ◌∙◌, ℕ, suc, ◌+◌, ◌/◌, ◌%◌, ◌<◌, List, [], ◌∷◌, ◌++◌, length, set, take, drop, refl, ap, sym, arith, append_assoc, add-one}
+use Rattle.std.proofs.Common.{◌≡◌, ◌∙◌, ℕ, zero, suc, ◌+◌, ◌^◌, ◌/◌, ◌%◌, ◌<◌, List, [], ◌∷◌, ◌++◌, length, set, take, drop, refl, ap, sym, arith, append_assoc, add-one}
 use Rattle.std.proofs.lemmas.List.{drop-drop, drop-take, append-nil, set_split}
 use Rattle.byteorder.specs.Endian.{big_bytes}
 use Rattle.byteorder.specs.Numbers.{length-bytes_high_first}
@@ -33,3 +33,8 @@ written_two ram buf at len value k l e b =
 pub set_byte : (ram : List ℕ) (at len value : ℕ) → len ≡ 1 → at < length ram → set ram at (value % 256) ≡ with_number ram at len value
 set_byte ram at len value l h =
     rw (l, add-one at) (set_split ram at (value % 256) h ∙ sym (append_assoc (take at ram) (value % 256 ∷ []) (drop (suc at) ram)))
+
+-- a range of bytes holds 0
+pub some_range : (n : ℕ) → 0 < 256 ^ n
+some_range zero = omega arith
+some_range (suc n) = let some = some_range n in omega (arith, some)

@@ -3,15 +3,19 @@
 ghost use Rattle.std.specs.Prelude.{◌≡◌, ℕ, ◌+◌, ◌^◌, ◌<◌, ◌≤◌, length, replicate, IfOk, OnOk, MatchResult, Some, None};
 ghost use Rattle.mb_model.specs.Seen.{seen_of};
 ghost use Rattle.mb_machine.specs.Memory.{overwritten};
-ghost use Rattle.mb_machine.specs.Machine.{Machine, reset_with, stepped, run_of, takes_steps, seen_machine};
+ghost use Rattle.mb_machine.specs.Machine.{Machine, interrupted, reset_with, stepped, run_of, takes_steps, seen_machine};
 
 use crate::bus::PlainBus;
-use mb_meaning::{StepEnd, Unbuilt};
+use mb_meaning::StepEnd;
 use mb_model::{Cpu, Outcome, RunState};
 use mb_outside::Memory;
 use mb_step::step;
 use std::alloc::Global;
 use std::marker::Model;
+
+/// A step needs what is not built yet: the entry of an exception or of an interrupt.
+#[derive(Clone, Copy, Debug, PartialEq, Eq)]
+pub struct Unbuilt;
 
 /// A machine: its processor beside the bus of its memory and devices.
 #[derive(Drop)]
@@ -27,7 +31,14 @@ impl Model for Board {
 
     ghost Value = { Machine };
 
-    ghost view = { λ b. record { cpu = b.cpu; mmu = b.bus.mmu; ram = b.bus.ram; devices = b.bus.devices; steps = b.steps; state = b.state } };
+    ghost view = { λ b. record {
+      cpu = b.cpu;
+      mmu = b.bus.mmu;
+      ram = b.bus.ram;
+      devices = b.bus.devices;
+      steps = b.steps;
+      state = b.state;
+    } };
 }
 
 impl Board {
@@ -79,10 +90,15 @@ impl Board {
     #[tactic(auto, unfolding(mb_machine::specs::Machine::stepped))]
     fn step(&mut self) -> Result<(), Unbuilt>
         requires { self.old.steps + 1 < 2 ^ 32 }
-        ensures means { MatchResult result (λ done. stepped self.old ≡ Some self.new) (λ unbuilt. stepped self.old ≡ None) }
+        ensures means { MatchResult result
+            (λ done. stepped self.old ≡ Some self.new) (λ unbuilt. stepped self.old ≡ None) }
         ensures counted { OnOk result (self.new.steps ≡ self.old.steps + 1) }
         ensures ram { length self.new.ram ≡ length self.old.ram }
     {
+        self.bus.tick();
+        if self.interrupted() {
+            return Err(Unbuilt);
+        }
         match step(&mut self.cpu, &mut self.bus) {
             StepEnd::Went => {
                 self.steps += 1;
@@ -93,6 +109,14 @@ impl Board {
             }
             StepEnd::Unbuilt => Err(Unbuilt),
         }
+    }
+
+    /// Whether the devices ask for an interrupt above the mask.
+    #[inline(always)]
+    fn interrupted(&self) -> bool
+        ensures { result ≡ interrupted self.now }
+    {
+        u16::from(self.bus.level()) > self.cpu.regs.sr >> 8 & 7
     }
 
     fn takes_steps(&self) -> bool
@@ -110,7 +134,8 @@ impl Board {
     /// open until `reset`.
     pub fn run_bare(&mut self, steps: u32) -> Result<(), Unbuilt>
         requires { self.old.steps + steps < 2 ^ 32 }
-        ensures runs { MatchResult result (λ done. run_of steps self.old ≡ Some self.new) (λ unbuilt. run_of steps self.old ≡ None) }
+        ensures runs { MatchResult result
+            (λ done. run_of steps self.old ≡ Some self.new) (λ unbuilt. run_of steps self.old ≡ None) }
         ensures ram { length self.new.ram ≡ length self.old.ram }
     {
         for _ in 0..steps {

@@ -1,26 +1,19 @@
-//! The board's bus: RAM, the console and the power switch.
+//! The board's bus: RAM and the registers of the devices.
 
-ghost use Rattle.std.specs.Prelude.{◌≡◌, ℕ, ◌+◌, ◌<◌, ◌≤◌, ◌≢◌, length, true, false, replicate, IfOk};
+ghost use Rattle.std.specs.Prelude.{◌≡◌, ℕ, ◌+◌, ◌^◌, ◌<◌, ◌≤◌, ◌≢◌, length, true, false, replicate, IfOk, IfSome};
 ghost use Rattle.mb_machine.specs.Memory.{number_at, with_number, overwritten};
-ghost use Rattle.mb_machine.specs.Devices.{idle, sent, powered, is_data, is_power};
-ghost use Rattle.mb_machine.specs.Bus.{World, in_ram, loaded, stored, takes_writes, plain_bus, HasPlace, with_register, kept_bits, line_at, with_longs};
+ghost use Rattle.mb_devices.specs.Devices.{idle, level_of, reset_of, ticked};
+ghost use Rattle.mb_machine.specs.Bus.{World, in_ram, loaded, place_of, stored, taken, takes_writes, plain_bus, HasPlace};
+ghost use Rattle.mb_machine.specs.Bus.{kept_bits, line_at, with_longs};
 ghost use Rattle.mb_machine.specs.Machine.{mmu_at_reset};
 ghost use Rattle.mb_board.specs.Stores.{Stores};
 
 use byteorder::{BigEndian, ByteOrder};
+use mb_devices::Devices;
 use mb_outside::Memory;
 use mb_port::{Fault, Flush, Mmu, MmuReg, Piece, Place, Port, Space};
 use std::alloc::Global;
 use std::marker::Model;
-
-/// Where the byte register DATA stands: what is written there goes to the console.
-const DATA: u32 = 0xfff0_0000;
-
-/// Where the long register POWER stands: a 1 switches off.
-const POWER: u32 = 0xfff0_0020;
-
-/// How many bytes the console keeps.
-const CONSOLE_ROOM: usize = 65_536;
 
 /// Every register is 0.
 const MMU_AT_RESET: Mmu = Mmu {
@@ -34,25 +27,23 @@ const MMU_AT_RESET: Mmu = Mmu {
     srp: 0,
 };
 
-/// RAM from address 0 on, the console and the power switch. Nothing is translated.
+/// RAM from address 0 on, and the devices. Nothing is translated.
 #[derive(Drop)]
 pub struct PlainBus {
     ram: Vec<u8>,
     mmu: Mmu,
-    console: Vec<u8>,
-    lost: u64,
-    off: bool,
+    devices: Devices,
 }
 
 impl Model for PlainBus {
-    ghost use Rattle.std.specs.Prelude.{◌≤◌, length, vec_len, vec_capacity};
+    ghost use Rattle.std.specs.Prelude.{◌≡◌, ◌≤◌, length, vec_len};
     ghost use Rattle.mb_machine.specs.Bus.{World};
 
     ghost Value = { World };
 
-    ghost view = { λ b. record { ram = b.ram.items; mmu = b.mmu; devices = record { console = b.console.items; lost = b.lost; off = b.off } } };
+    ghost view = { λ b. record { ram = b.ram.items; mmu = b.mmu; devices = b.devices } };
 
-    ghost invariant = { λ b. (vec_len b.ram ≤ 67108864) × (vec_len b.console ≤ 65536) × (65536 ≤ vec_capacity b.console) };
+    ghost invariant = { λ b. (vec_len b.ram ≤ 67108864) × (b.devices.ram ≡ length b.ram.items) };
 }
 
 /// A refused access of this bus: nothing answers at the place.
@@ -92,34 +83,47 @@ fn write_bytes(ram: &mut [u8], at: usize, bytes: &[u8])
 }
 
 impl PlainBus {
-    /// A bus with so many bytes of RAM, all 0, and room for all that the console keeps.
+    /// A bus with so many bytes of RAM, all 0, and idle devices.
+    #[tactic(auto, using(mb_devices::proofs::Sizes::sizes))]
     pub(crate) fn new(alloc: Global, size: u32) -> Result<PlainBus, Memory>
         requires { size ≤ 67108864 }
-        ensures { IfOk result (λ bus. bus ≡ record { ram = replicate size 0; mmu = mmu_at_reset; devices = idle }) }
+        ensures { IfOk result (λ bus.
+            bus ≡ record { ram = replicate size 0; mmu = mmu_at_reset; devices = idle size }) }
     {
         let Ok(ram) = vec![in alloc; 0u8; size as usize] else {
-            return Err(Memory);
-        };
-        let Ok(console) = Vec::with_capacity(alloc, CONSOLE_ROOM) else {
             return Err(Memory);
         };
         Ok(PlainBus {
             ram,
             mmu: MMU_AT_RESET,
-            console,
-            lost: 0,
-            off: false,
+            devices: Devices::new(alloc, size)?,
         })
     }
 
     /// Resets all but RAM.
+    #[tactic(auto, using(mb_devices::proofs::Sizes::sizes))]
     pub(crate) fn reset(&mut self)
-        ensures { self.new ≡ record self.old { mmu = mmu_at_reset; devices = idle } }
+        ensures { self.new ≡ record self.old { mmu = mmu_at_reset; devices = idle (length self.old.ram) } }
     {
         self.mmu = MMU_AT_RESET;
-        self.console.clear();
-        self.lost = 0;
-        self.off = false;
+        self.devices.restart();
+    }
+
+    /// A step begins: the timer counts it.
+    #[inline(always)]
+    #[tactic(auto, using(mb_devices::proofs::Sizes::sizes))]
+    pub(crate) fn tick(&mut self)
+        ensures { self.new ≡ record self.old { devices = ticked self.old.devices } }
+    {
+        self.devices.tick();
+    }
+
+    /// The interrupt level that the devices ask for.
+    #[inline(always)]
+    pub(crate) fn level(&self) -> u8
+        ensures { result ≡ level_of self.now.devices }
+    {
+        self.devices.level()
     }
 
     pub(crate) fn ram(&self) -> &[u8]
@@ -131,13 +135,13 @@ impl PlainBus {
     pub(crate) fn console(&self) -> &[u8]
         ensures { result.now ≡ self.now.devices.console }
     {
-        &self.console
+        self.devices.console()
     }
 
     pub(crate) fn is_off(&self) -> bool
         ensures { result ≡ self.now.devices.off }
     {
-        self.off
+        self.devices.is_off()
     }
 
     /// The long that stands in RAM.
@@ -168,7 +172,8 @@ impl PlainBus {
     fn number(&self, at: u32, len: u8) -> u32
         requires size { (0 < len) × (len ≤ 4) × (len ≢ 3) }
         requires inside { at + len ≤ length self.now.ram }
-        ensures { result ≡ number_at self.now.ram at len }
+        ensures value { result ≡ number_at self.now.ram at len }
+        ensures range { result < 256 ^ len }
     {
         let bytes = &self.ram[at as usize..];
         match len {
@@ -188,27 +193,6 @@ impl PlainBus {
     {
         write_number(&mut self.ram, at as usize, len, value);
     }
-
-    /// The console keeps a byte, or counts it as lost.
-    #[tactic(auto, unfolding(mb_machine::specs::Devices::sent))]
-    fn send(&mut self, byte: u8)
-        ensures { self.new ≡ record self.old { devices = sent self.old.devices byte } }
-    {
-        if self.console.len() < CONSOLE_ROOM {
-            self.console.push(byte).unwrap();
-        } else {
-            self.lost = self.lost.saturating_add(1);
-        }
-    }
-
-    #[tactic(auto, unfolding(mb_machine::specs::Devices::powered))]
-    fn switch(&mut self, value: u32)
-        ensures { self.new ≡ record self.old { devices = powered self.old.devices value } }
-    {
-        if value == 1 {
-            self.off = true;
-        }
-    }
 }
 
 /// The bits that a register of the memory management unit keeps.
@@ -223,35 +207,7 @@ fn kept_bits(which: MmuReg) -> u32
     }
 }
 
-fn set_register(mmu: &mut Mmu, which: MmuReg, value: u32)
-    ensures { mmu.new ≡ with_register mmu.old which value }
-{
-    match which {
-        MmuReg::Tc => mmu.tc = value,
-        MmuReg::Itt0 => mmu.itt0 = value,
-        MmuReg::Itt1 => mmu.itt1 = value,
-        MmuReg::Dtt0 => mmu.dtt0 = value,
-        MmuReg::Dtt1 => mmu.dtt1 = value,
-        MmuReg::Mmusr => mmu.mmusr = value,
-        MmuReg::Urp => mmu.urp = value,
-        MmuReg::Srp => mmu.srp = value,
-    }
-}
-
 impl PlainBus {
-    /// The number that stands in RAM, if it lies there.
-    #[inline(always)]
-    fn load(&self, at: u32, len: u8) -> Option<u32>
-        requires size { (0 < len) × (len ≤ 4) × (len ≢ 3) }
-        ensures { result ≡ loaded self.now.ram at len }
-    {
-        if self.in_ram(at, len) {
-            Some(self.number(at, len))
-        } else {
-            None
-        }
-    }
-
     /// The word that stands in RAM, if it lies there.
     #[inline(always)]
     fn word(&self, at: u32) -> Option<u16>
@@ -264,30 +220,53 @@ impl PlainBus {
         }
     }
 
-    /// Writes RAM, DATA or POWER. `None` where nothing takes the write, and nothing has changed.
+    /// Reads RAM or a register. `None` where nothing answers the read, and nothing has changed.
     #[inline(always)]
-    #[tactic(auto, unfolding(mb_machine::specs::Bus::stored))]
-    fn store(&mut self, at: u32, len: u8, value: u32) -> Option<()>
-        requires size { (0 < len) × (len ≤ 4) × (len ≢ 3) }
-        ensures stored { Stores (stored self.old at len value) self.old self.new result }
+    #[tactic(auto, unfolding(mb_machine::specs::Bus::taken), using(mb_devices::proofs::Sizes::sizes))]
+    fn take(&mut self, place: Place) -> Option<u32>
+        requires size { (0 < place.len) × (place.len ≤ 4) × (place.len ≢ 3) }
+        ensures taken { (result, self.new) ≡ taken self.old place }
+        ensures range { IfSome result (λ number. number < 256 ^ place.len) }
         ensures size { length self.new.ram ≡ length self.old.ram }
     {
-        if self.in_ram(at, len) {
-            self.set_number(at, len, value);
-        } else if at == DATA && len == 1 {
-            self.send((value & 0xff) as u8);
-        } else if at == POWER && len == 4 {
-            self.switch(value);
+        if self.in_ram(place.at, place.len) {
+            Some(self.number(place.at, place.len))
         } else {
-            return None;
+            self.devices.read(place)
         }
-        Some(())
     }
 
-    fn takes_writes(&self, at: u32, len: u8) -> bool
-        ensures { result ≡ takes_writes (length self.now.ram) at len }
+    /// Writes RAM or a register. `None` where nothing takes the write, and nothing has changed.
+    #[inline(always)]
+    #[tactic(auto, unfolding(mb_machine::specs::Bus::stored), using(mb_devices::proofs::Sizes::sizes))]
+    fn store(&mut self, place: Place, value: u32) -> Option<()>
+        requires size { (0 < place.len) × (place.len ≤ 4) × (place.len ≢ 3) }
+        ensures stored { Stores (stored self.old place value) self.old self.new result }
+        ensures size { length self.new.ram ≡ length self.old.ram }
     {
-        self.in_ram(at, len) || (at == DATA && len == 1) || (at == POWER && len == 4)
+        if self.in_ram(place.at, place.len) {
+            self.set_number(place.at, place.len, value);
+            Some(())
+        } else {
+            self.devices.write(place, value)
+        }
+    }
+
+    fn takes_writes(&self, place: Place) -> bool
+        ensures { result ≡ takes_writes (length self.now.ram) place }
+    {
+        self.in_ram(place.at, place.len) || self.devices.has(place)
+    }
+}
+
+/// The place of a piece that is not translated.
+#[inline(always)]
+fn place_of(piece: Piece) -> Place
+    ensures { result ≡ place_of piece }
+{
+    Place {
+        at: piece.at,
+        len: piece.len,
     }
 }
 
@@ -315,7 +294,7 @@ impl Port for PlainBus {
 
     #[inline(always)]
     fn read(&mut self, space: Space, piece: Piece) -> Result<u32, Fault> {
-        match self.load(piece.at, piece.len) {
+        match self.take(place_of(piece)) {
             Some(value) => Ok(value),
             None => Err(bus_error(piece.at, piece.len, space, false, false)),
         }
@@ -323,7 +302,7 @@ impl Port for PlainBus {
 
     #[inline(always)]
     fn write(&mut self, space: Space, piece: Piece, value: u32) -> Result<(), Fault> {
-        match self.store(piece.at, piece.len, value) {
+        match self.store(place_of(piece), value) {
             Some(()) => Ok(()),
             None => Err(bus_error(piece.at, piece.len, space, false, true)),
         }
@@ -354,21 +333,21 @@ impl Port for PlainBus {
     }
 
     fn probe(&mut self, space: Space, piece: Piece) -> Result<Place, Fault> {
-        if !self.takes_writes(piece.at, piece.len) {
+        if !self.takes_writes(place_of(piece)) {
             return Err(bus_error(piece.at, piece.len, space, false, true));
         }
-        Ok(Place {
-            at: piece.at,
-            len: piece.len,
-        })
+        Ok(place_of(piece))
     }
 
     fn get(&mut self, place: Place) -> u32 {
-        self.load(place.at, place.len).unwrap_or(0)
+        match self.take(place) {
+            Some(value) => value,
+            None => 0,
+        }
     }
 
     fn put(&mut self, place: Place, value: u32) {
-        let _ = self.store(place.at, place.len, value);
+        let _ = self.store(place, value);
     }
 
     fn mmu(&self) -> Mmu {
@@ -376,7 +355,7 @@ impl Port for PlainBus {
     }
 
     fn set_mmu(&mut self, which: MmuReg, value: u32) {
-        set_register(&mut self.mmu, which, value & kept_bits(which));
+        self.mmu.set(which, value & kept_bits(which));
     }
 
     fn flush(&mut self, _what: Flush) {}
@@ -385,5 +364,8 @@ impl Port for PlainBus {
         0
     }
 
-    fn reset_devices(&mut self) {}
+    #[tactic(auto, unfolding(mb_machine::specs::Bus::plain_bus), using(mb_devices::proofs::Sizes::sizes))]
+    fn reset_devices(&mut self) {
+        self.devices.reset();
+    }
 }

@@ -7,4 +7,4 @@
 mod board;
 mod bus;
 
-pub use board::Board;
+pub use board::{Board, Unbuilt};

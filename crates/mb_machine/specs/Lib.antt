@@ -1,4 +1,3 @@
 pub mod Memory
-pub mod Devices
 pub mod Bus
 pub mod Machine

@@ -1,5 +1,6 @@
 -- The machine, its start, its steps and its runs.
-use Rattle.std.specs.Prelude.{ℕ, zero, suc, ◌+◌, Bool, true, false, List, [], ◌∷◌, replicate, Option, Some, None, option_and_then, if◌then◌else◌}
+use Rattle.std.specs.Prelude.{ℕ, zero, suc, ◌+◌, Bool, true, false, List, [], ◌∷◌, length, replicate, Option, Some, None}
+use Rattle.std.specs.Prelude.{option_and_then, nat_lt, ◌/◌, ◌%◌, ◌^◌, if◌then◌else◌}
 use Rattle.mb_port.specs.Routine.{run}
 use Rattle.mb_port.specs.declared.types.Mmu.{Mmu}
 use Rattle.mb_model.specs.declared.processor.Cpu.{Cpu}
@@ -10,15 +11,15 @@ use Rattle.mb_model.specs.Seen.{Seen}
 use Rattle.mb_meaning.specs.declared.StepEnd.{StepEnd}
 use Rattle.mb_meaning.specs.declared.StepEnd.TheVariants.{Went, Unbuilt}
 use Rattle.mb_meaning.specs.Step.{step_of}
+use Rattle.mb_devices.specs.Devices.{DeviceState, idle, level_of, ticked}
 use Rattle.mb_machine.specs.Memory.{number_at, overwritten}
-use Rattle.mb_machine.specs.Devices.{Devices, idle}
 use Rattle.mb_machine.specs.Bus.{World, plain_bus}
 
 pub record Machine : Type 0 where
   pub cpu : Cpu
   pub mmu : Mmu
   pub ram : List ℕ
-  pub devices : Devices
+  pub devices : DeviceState
   pub steps : ℕ
   pub state : RunState
 
@@ -41,7 +42,7 @@ reset_with ram = record {
   cpu = at_reset (number_at ram 0 4) (number_at ram 4 4);
   mmu = mmu_at_reset;
   ram = ram;
-  devices = idle;
+  devices = idle (length ram);
   steps = 0;
   state = Running;
 }
@@ -54,7 +55,7 @@ abbrev pub world_of : Machine → World
 world_of m = record { ram = m.ram; mmu = m.mmu; devices = m.devices }
 
 -- the state after a step: switched off, or as it was
-abbrev pub state_after : RunState → Devices → RunState
+abbrev pub state_after : RunState → DeviceState → RunState
 state_after state d = if d.off then Off else state
 
 -- a machine with another processor and world, one step later
@@ -75,9 +76,25 @@ next_by m Unbuilt cpu w = None
 abbrev pub next_of : Machine → (StepEnd × Cpu) × World → Option Machine
 next_of m r = next_by m r.0.0 r.0.1 r.1
 
+-- the interrupt mask, bits 10 to 8 of SR
+abbrev pub interrupt_mask : Machine → ℕ
+interrupt_mask m = m.cpu.regs.sr / 2 ^ 8 % 2 ^ 3
+
+-- an interrupt is asked for above the mask
+abbrev pub interrupted : Machine → Bool
+interrupted m = nat_lt (interrupt_mask m) (level_of m.devices)
+
+-- a step begins: the timer ticks
+abbrev pub begun : Machine → Machine
+begun m = record m { devices = ticked m.devices }
+
+-- the rest of a step: the entry of an interrupt, which is not built, or an instruction
+abbrev pub continued : Machine → Option Machine
+continued m = if interrupted m then None else next_of m (run plain_bus (step_of m.cpu) (world_of m))
+
 -- the machine after one step, where the step is built
 unfoldable pub stepped : Machine → Option Machine
-stepped m = next_of m (run plain_bus (step_of m.cpu) (world_of m))
+stepped m = continued (begun m)
 
 -- halted and switched-off machines take no step
 abbrev pub takes_steps : RunState → Bool

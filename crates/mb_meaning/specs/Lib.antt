@@ -1,5 +1,6 @@
 pub mod Ends
 pub mod Operands
+pub mod Conditions
 pub mod Moves
 pub mod Arithmetic
 pub mod Flow

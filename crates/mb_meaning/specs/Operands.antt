@@ -1,35 +1,60 @@
--- Operands: registers, immediates, and stores to memory.
-use Rattle.std.specs.Prelude.{ℕ, ◌%◌, ◌==◌, Option, Some, None, Result, Err, slice_index, slice_set}
-use Rattle.mb_port.specs.Routine.{Routine, Return, choose, failing, write}
+-- Operands: what stands there, and what is put there.
+use Rattle.std.specs.Prelude.{ℕ, ◌+◌, ◌-◌, ◌*◌, length, Result, Ok, Err}
+use Rattle.mb_port.specs.Routine.{Routine, Return, ◌>>=◌, ◌>>◌}
 use Rattle.mb_port.specs.declared.types.Space.{Space}
 use Rattle.mb_instr.specs.declared.size.Size.{Size}
 use Rattle.mb_instr.specs.declared.operand.Ea.{Ea}
-use Rattle.mb_instr.specs.declared.operand.Ea.TheVariants.{Dn, AbsL, Imm}
 use Rattle.mb_instr.specs.declared.registers.Plain.{Plain}
 use Rattle.mb_instr.specs.Sizes.{bytes_of, low_of}
-use Rattle.mb_meaning.specs.declared.Unbuilt.{Unbuilt}
+use Rattle.mb_instr.specs.Operands.{more}
+use Rattle.mb_instr.specs.Registers.{register_of, with_register}
+use Rattle.mb_ea.specs.declared.addresses.Target.{Target}
+use Rattle.mb_ea.specs.declared.addresses.Target.TheVariants.{Reg, Memory, Value}
+use Rattle.mb_ea.specs.declared.reading.ReadFault.{ReadFault}
+use Rattle.mb_ea.specs.Addresses.{sum}
+use Rattle.mb_ea.specs.Reading.{read_of}
+use Rattle.mb_ea.specs.Resolve.{resolve_of}
+use Rattle.mb_writes.specs.declared.ends.WriteFault.{WriteFault}
+use Rattle.mb_writes.specs.Writing.{put_of}
 
--- data register n
-abbrev pub data_register : Plain → ℕ → ℕ
-data_register p n = slice_index p.d n
+-- the address of the first extension word of an instruction of one word
+abbrev pub first_word : ℕ → ℕ
+first_word at = sum at 2
 
-abbrev pub with_data_register : Plain → ℕ → ℕ → Plain
-with_data_register p n value = record p { d = slice_set p.d n value }
+-- the address of the words behind those of an operand
+abbrev pub behind : Size → Ea → ℕ → ℕ
+behind size ea word_at = sum word_at (2 * length (more size ea))
 
--- the value of a source operand, so far a data register or an immediate
-unfoldable pub source_of : Size → Ea → Plain → Option ℕ
-source_of size (Dn n) p = Some (low_of size (data_register p n))
-source_of size (Imm value) p = Some (low_of size value)
-source_of size _ p = None
+-- what stands there: the low bytes of a register, the bytes in memory, or the value itself
+unfoldable pub load_of : Target → Size → Space → Plain → Routine (Result ℕ ReadFault)
+load_of (Reg n) size space p = Return (Ok (low_of size (register_of p n)))
+load_of (Memory at) size space p = read_of space at (bytes_of size)
+load_of (Value v) size space p = Return (Ok v)
 
--- the address of an operand in memory, so far an absolute long
-unfoldable pub address_of : Ea → Option ℕ
-address_of (AbsL address) = Some address
-address_of _ = None
+-- a number with other low bytes
+abbrev pub with_low : Size → ℕ → ℕ → ℕ
+with_low size old value = old - low_of size old + low_of size value
 
--- A store: the operand is one piece, at a multiple of its size. Others are not built.
-unfoldable pub store_of : Size → ℕ → ℕ → Space → Routine (Result (Unit {0}) Unbuilt)
-store_of size at value space =
-    choose (at % bytes_of size == 0)
-    (failing (λ fault. record {}) (write space (record { at = at; len = bytes_of size }) value))
-    (Return (Err (record {})))
+-- Puts a value there: in the low bytes of a register, the others staying, or in memory.
+unfoldable pub store_of : Target → Size → ℕ → Space → Plain → Routine (Result Plain WriteFault)
+store_of (Reg n) size value space p = Return (Ok (with_register p n (with_low size (register_of p n) value)))
+store_of (Memory at) size value space p = put_of space at (bytes_of size) value >> Return (Ok p)
+store_of (Value v) size value space p = Return (Ok p)
+
+-- An operand that was read: where it stands, its value, and the registers then.
+pub record Fetched : Type 0 where
+  pub target : Target
+  pub value : ℕ
+  pub plain : Plain
+
+-- an operand is resolved, and then read
+unfoldable pub operand_of : Size → Ea → ℕ → Space → Plain → Routine (Result Fetched ReadFault)
+operand_of size ea word_at space p = do
+  resolved ← resolve_of ea size word_at space p
+  value ← load_of resolved.target size space resolved.plain
+  Return (Ok (record { target = resolved.target; value = value; plain = resolved.plain }))
+
+-- what a store answered, with the registers after it
+abbrev pub stored : Result (Unit {0}) WriteFault → Plain → Result Plain WriteFault
+stored (Ok done) p = Ok p
+stored (Err refused) p = Err refused

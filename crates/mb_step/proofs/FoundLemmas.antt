@@ -1,12 +1,13 @@
 -- Fetching one more word.
-use Rattle.std.proofs.Common.{◌≡◌, ℕ, suc, ◌+◌, ◌%◌, ◌^◌, List, [], ◌∷◌, ◌++◌, Result, Ok, Err, ◌⊎◌, inl, inr, refl}
+use Rattle.std.proofs.Common.{◌≡◌, ℕ, suc, ◌+◌, ◌%◌, ◌^◌, List, [], ◌∷◌, ◌++◌, Result, Ok, Err, refl}
 use Rattle.mb_port.specs.Routine.{Bus, Routine, run, Fetch}
 use Rattle.mb_port.specs.declared.types.Space.{Space}
 use Rattle.mb_port.specs.declared.types.Fault.{Fault}
 use Rattle.mb_decode.specs.declared.front.Decoded.{Decoded}
-use Rattle.mb_decode.specs.declared.front.Decoded.TheVariants.{Illegal, LineA, LineF}
 use Rattle.mb_decode.specs.Decodes.{decode_of}
-use Rattle.mb_meaning.specs.Step.{Found, found_of, judged}
+use Rattle.mb_ea.specs.Reading.{refused_in}
+use Rattle.mb_writes.specs.declared.ends.Ended.TheVariants as ended
+use Rattle.mb_meaning.specs.Step.{Found, illegal, found_of, judged}
 
 abbrev Answered : {S : Type 0} → Bus S → Space → ℕ → S → Result ℕ Fault → S → Type 0
 Answered bus space at s answer t = bus (Fetch space at) s ≡ (answer, t)
@@ -21,19 +22,12 @@ fetched bus m n space at words word s t now d e h w k = rw (e, found_of, h, k, w
 -- no word came
 pub unfetched : {S : Type 0} (bus : Bus S) (m n : ℕ) (space : Space) (at : ℕ) (words : List ℕ) (fault : Fault) (s t : S) → m ≡ suc n
     → Answered bus space at s (Err fault) t
-    → run bus (found_of m space at words) s ≡ (Err (record {}), t)
+    → run bus (found_of m space at words) s ≡ (Err (ended.ReadFault (refused_in at fault)), t)
 unfolding found_of
 unfetched bus m n space at words fault s t e h = rw (e, found_of, h) refl
 
 -- no more words are asked for
 pub exhausted : {S : Type 0} (bus : Bus S) (m : ℕ) (space : Space) (at : ℕ) (words : List ℕ) (s : S) → m ≡ 0
-    → run bus (found_of m space at words) s ≡ (Err (record {}), s)
+    → run bus (found_of m space at words) s ≡ (Err illegal, s)
 unfolding found_of
 exhausted bus m space at words s e = rw (e, found_of) refl
-
--- words that are no instruction
-pub unlisted : {S : Type 0} (bus : Bus S) (d : Decoded) (more : Routine Found) (t : S) → (d ≡ Illegal) ⊎ ((d ≡ LineA) ⊎ (d ≡ LineF))
-    → run bus (judged d more) t ≡ (Err (record {}), t)
-unlisted bus d more t (inl e) = rw e refl
-unlisted bus d more t (inr (inl e)) = rw e refl
-unlisted bus d more t (inr (inr e)) = rw e refl

@@ -4,12 +4,14 @@
 #![tactic(auto)]
 
 mod arithmetic;
+mod conditions;
 mod fetching;
 mod flow;
+mod movem;
 mod moves;
 mod operands;
 mod performing;
 mod stepping;
 
 pub use performing::perform;
-pub use stepping::step;
+pub use stepping::{attempt, step};

@@ -1,72 +1,109 @@
-//! Operands: registers, immediates, and stores to memory.
+//! Operands: what stands there, and what is put there.
 
-ghost use Rattle.std.specs.Prelude.{◌≡◌};
+ghost use Rattle.std.specs.Prelude.{◌≡◌, ◌<◌, OnErr, IfOk};
 ghost use Rattle.mb_port.specs.Routine.{run};
-ghost use Rattle.mb_instr.specs.Sizes.{low_of};
+ghost use Rattle.mb_instr.specs.Sizes.{values_of};
 ghost use Rattle.mb_instr.specs.Operands.{IsEa};
-ghost use Rattle.mb_meaning.specs.Operands.{source_of, address_of, store_of};
+ghost use Rattle.mb_ea.specs.Addresses.{IsTarget};
+ghost use Rattle.mb_meaning.specs.Operands.{behind, with_low, load_of, store_of, operand_of, stored};
+ghost use Rattle.mb_step.specs.Fetched.{fetched, IsOperand};
 
+use mb_ea::{ReadFault, Target, read_value, resolve};
 use mb_instr::{Ea, Plain, Size};
-use mb_meaning::Unbuilt;
-use mb_port::{Piece, Port, Space};
+use mb_port::{Port, Space};
+use mb_writes::{WriteFault, put_value};
 
-/// The low bytes that count at the size.
+/// An operand that was read.
+#[derive(Clone, Copy)]
+pub struct Operand {
+    pub target: Target,
+    /// In its low bytes, at the size.
+    pub value: u32,
+}
+
+/// The address of the words behind those of an operand whose first word is at `word_at`.
 #[inline(always)]
-fn low(size: Size, value: u32) -> u32
-    ensures { result ≡ low_of size value }
+pub fn behind(size: Size, ea: &Ea, word_at: u32) -> u32
+    ensures { result ≡ behind size ea.now word_at }
 {
-    match size {
-        Size::Byte => value & 0xff,
-        Size::Word => value & 0xffff,
-        Size::Long => value,
+    word_at.wrapping_add(2 * u32::from(ea.words(size)))
+}
+
+/// What stands at a target.
+#[inline(always)]
+#[tactic(auto, unfolding(mb_meaning::specs::Operands::load_of))]
+fn load<P: Port>(
+    target: Target,
+    size: Size,
+    plain: &Plain,
+    space: Space,
+    port: &mut P,
+) -> Result<u32, ReadFault>
+    requires { IsTarget size target }
+    ensures means { run P.bus (load_of target size space plain.now) (P.world port.old) ≡ (result, P.world port.new) }
+    ensures range { IfOk result (λ value. value < values_of size) }
+    ensures rest { P.rest port.new ≡ P.rest port.old }
+{
+    match target {
+        Target::Reg(n) => Ok(size.low(plain.register(n))),
+        Target::Memory(at) => read_value(space, at, size, port),
+        Target::Value(value) => Ok(value),
     }
 }
 
-/// The value of a source operand.
+/// A number with other low bytes.
 #[inline(always)]
-#[tactic(auto, unfolding(mb_meaning::specs::Operands::source_of))]
-pub fn source(size: Size, operand: &Ea, plain: &Plain) -> Option<u32>
-    requires { IsEa size operand.now }
-    ensures { result ≡ source_of size operand.now plain.now }
+fn with_low(size: Size, old: u32, value: u32) -> u32
+    ensures { result ≡ with_low size old value }
 {
-    match *operand {
-        Ea::Dn(n) => Some(low(size, plain.d[n as usize])),
-        Ea::Imm(value) => Some(low(size, value)),
-        _ => None,
-    }
+    old - size.low(old) + size.low(value)
 }
 
-/// The address of an operand in memory.
-#[inline(always)]
-#[tactic(auto, unfolding(mb_meaning::specs::Operands::address_of))]
-pub fn address(operand: &Ea) -> Option<u32>
-    ensures { result ≡ address_of operand.now }
-{
-    match *operand {
-        Ea::AbsL(address) => Some(address),
-        _ => None,
-    }
-}
-
-/// Stores an operand that is one piece.
+/// Puts a value at a target.
 #[inline(always)]
 #[tactic(auto, unfolding(mb_meaning::specs::Operands::store_of))]
 pub fn store<P: Port>(
+    target: Target,
     size: Size,
-    at: u32,
     value: u32,
     space: Space,
+    plain: &mut Plain,
     port: &mut P,
-) -> Result<(), Unbuilt>
-    ensures means { run P.bus (store_of size at value space) (P.world port.old) ≡ (result, P.world port.new) }
+) -> Result<(), WriteFault>
+    requires { IsTarget size target }
+    ensures means { run P.bus (store_of target size value space plain.old) (P.world port.old)
+        ≡ (stored result plain.new, P.world port.new) }
+    ensures unchanged { OnErr result (plain.new ≡ plain.old) }
     ensures rest { P.rest port.new ≡ P.rest port.old }
 {
-    let len = size.bytes();
-    if at % u32::from(len) != 0 {
-        return Err(Unbuilt);
+    match target {
+        Target::Reg(n) => {
+            plain.set_register(n, with_low(size, plain.register(n), value));
+            Ok(())
+        }
+        Target::Memory(at) => put_value(space, at, size, value, port),
+        Target::Value(_) => Ok(()),
     }
-    match port.write(space, Piece { at, len }, value) {
-        Ok(()) => Ok(()),
-        Err(_) => Err(Unbuilt),
-    }
+}
+
+/// Reads an operand. Its first extension word is at `word_at`.
+#[inline(always)]
+#[tactic(auto, unfolding(mb_meaning::specs::Operands::operand_of))]
+pub fn fetch_operand<P: Port>(
+    size: Size,
+    ea: &Ea,
+    word_at: u32,
+    space: Space,
+    plain: &mut Plain,
+    port: &mut P,
+) -> Result<Operand, ReadFault>
+    requires { IsEa size ea.now }
+    ensures means { run P.bus (operand_of size ea.now word_at space plain.old) (P.world port.old)
+        ≡ (fetched result plain.new, P.world port.new) }
+    ensures operand { IfOk result (IsOperand size) }
+    ensures rest { P.rest port.new ≡ P.rest port.old }
+{
+    let target = resolve(ea, size, plain, word_at, space, port)?;
+    let value = load(target, size, plain, space, port)?;
+    Ok(Operand { target, value })
 }

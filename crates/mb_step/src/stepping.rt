@@ -1,16 +1,20 @@
 //! A step.
 
-ghost use Rattle.std.specs.Prelude.{◌≡◌, ◌≤◌};
+ghost use Rattle.std.specs.Prelude.{◌≡◌};
 ghost use Rattle.mb_port.specs.Routine.{run};
-ghost use Rattle.mb_instr.specs.Instructions.{IsInstr};
-ghost use Rattle.mb_meaning.specs.Step.{space_of, past, carried_of, step_of};
+ghost use Rattle.mb_meaning.specs.Ends.{closing};
+ghost use Rattle.mb_meaning.specs.Step.{space_of, attempt_of, finished, step_of};
 
 use crate::fetching::fetch_instruction;
 use crate::performing::perform;
-use mb_instr::{Instr, Plain};
-use mb_meaning::{Ended, StepEnd};
+use mb_instr::Plain;
+use mb_meaning::StepEnd;
 use mb_model::Cpu;
 use mb_port::{Port, Space};
+use mb_writes::Ended;
+
+/// The vector of an odd PC.
+const ODD_COUNTER: u8 = 3;
 
 /// The space of the processor's accesses.
 #[inline(always)]
@@ -24,46 +28,53 @@ fn space(sr: u16) -> Space
     }
 }
 
-/// The registers of user mode, with PC past the words of the instruction.
+/// Fetches the instruction that stands at PC and carries it out. All accesses are made in `space`.
 #[inline(always)]
-fn past(cpu: &Cpu, length: u8) -> Plain
-    ensures { result ≡ past cpu.now length }
-{
-    let mut plain = cpu.regs.plain();
-    plain.pc = cpu.regs.pc.wrapping_add(2 * u32::from(length));
-    plain
-}
-
-/// Carries out the instruction that was found at PC.
-#[inline(always)]
-#[tactic(auto, unfolding(mb_meaning::specs::Step::carried_of))]
-fn carry_out<P: Port>(instruction: &Instr, length: u8, cpu: &mut Cpu, port: &mut P) -> StepEnd
-    requires { IsInstr instruction.now }
-    ensures means { run P.bus (carried_of instruction.now length cpu.old) (P.world port.old) ≡ ((result, cpu.new), P.world port.new) }
+#[tactic(auto, unfolding(mb_meaning::specs::Step::attempt_of))]
+pub fn attempt<P: Port>(space: Space, plain: &mut Plain, port: &mut P) -> Ended
+    ensures means { run P.bus (closing (attempt_of space plain.old)) (P.world port.old)
+        ≡ ((result, plain.new), P.world port.new) }
     ensures rest { P.rest port.new ≡ P.rest port.old }
 {
-    let space = space(cpu.regs.sr);
-    let mut plain = past(cpu, length);
-    let end = perform(instruction, cpu.regs.pc, space, &mut plain, port);
-    cpu.regs.set_plain(&plain);
-    match end {
-        Ended::Done { .. } => StepEnd::Went,
-        Ended::Unbuilt => StepEnd::Unbuilt,
+    let at = plain.pc;
+    if at % 2 == 1 {
+        return Ended::Refused(ODD_COUNTER);
+    }
+    match fetch_instruction(space, at, port) {
+        Ok((instruction, length)) => {
+            plain.pc = at.wrapping_add(2 * u32::from(length));
+            perform(&instruction, at, space, plain, port)
+        }
+        Err(ended) => ended,
     }
 }
 
-/// One step of the processor.
+/// What follows an attempt that ended so, with these registers.
+#[inline(always)]
+#[tactic(auto, unfolding(mb_meaning::specs::Step::finished))]
+fn finish(ended: Ended, plain: &Plain, cpu: &mut Cpu) -> StepEnd
+    ensures { (result, cpu.new) ≡ finished cpu.old (ended, plain.now) }
+{
+    cpu.regs.set_plain(plain);
+    match ended {
+        Ended::Done { .. } => StepEnd::Went,
+        Ended::Trap(_)
+        | Ended::Refused(_)
+        | Ended::ReadFault(_)
+        | Ended::WriteFault(_)
+        | Ended::LineFault { .. }
+        | Ended::Movem(_) => StepEnd::Unbuilt,
+    }
+}
+
+/// One step of the processor: an attempt, and its finish.
 #[inline(always)]
 #[tactic(auto, unfolding(mb_meaning::specs::Step::step_of))]
 pub fn step<P: Port>(cpu: &mut Cpu, port: &mut P) -> StepEnd
     ensures means { run P.bus (step_of cpu.old) (P.world port.old) ≡ ((result, cpu.new), P.world port.new) }
     ensures rest { P.rest port.new ≡ P.rest port.old }
 {
-    if cpu.regs.pc % 2 == 1 {
-        return StepEnd::Unbuilt;
-    }
-    match fetch_instruction(space(cpu.regs.sr), cpu.regs.pc, port) {
-        Ok((instruction, length)) => carry_out(&instruction, length, cpu, port),
-        Err(_) => StepEnd::Unbuilt,
-    }
+    let mut plain = cpu.regs.plain();
+    let ended = attempt(space(cpu.regs.sr), &mut plain, port);
+    finish(ended, &plain, cpu)
 }

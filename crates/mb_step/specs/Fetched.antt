@@ -1,0 +1,18 @@
+-- Operands that were read.
+use Rattle.std.specs.Prelude.{◌<◌, Result, Ok, Err}
+use Rattle.mb_instr.specs.declared.size.Size.{Size}
+use Rattle.mb_instr.specs.declared.registers.Plain.{Plain}
+use Rattle.mb_instr.specs.Sizes.{values_of}
+use Rattle.mb_ea.specs.declared.reading.ReadFault.{ReadFault}
+use Rattle.mb_ea.specs.Addresses.{IsTarget}
+use Rattle.mb_meaning.specs.Operands.{Fetched}
+use Rattle.mb_step.specs.declared.operands.Operand.{Operand}
+
+-- what a call answered, with the registers after it
+abbrev pub fetched : Result Operand ReadFault → Plain → Result Fetched ReadFault
+fetched (Ok operand) p = Ok (record { target = operand.target; value = operand.value; plain = p })
+fetched (Err refused) p = Err refused
+
+-- its parts are in range
+abbrev pub IsOperand : Size → Operand → Type 0
+IsOperand size operand = IsTarget size operand.target × (operand.value < values_of size)

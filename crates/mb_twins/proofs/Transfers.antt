@@ -1,0 +1,70 @@
+-- MOVEM: its transfers, and the instruction.
+use Rattle.std.specs.Prelude.{refl, ℕ, ◌+◌, ◌≡◌, Bool, List, [], ◌∷◌, drop}
+use Rattle.mb_laws.specs.Twin.{returned, Results}
+use Rattle.mb_laws.specs.Between.{Setting, Equal, between}
+use Rattle.mb_laws.proofs.Twinned.{twins_choose}
+use Rattle.mb_instr.specs.declared.size.Size.{Size}
+use Rattle.mb_instr.specs.declared.operand.Ea.{Ea}
+use Rattle.mb_instr.specs.declared.registers.Plain.{Plain}
+use Rattle.mb_instr.specs.Sizes.{bytes_of}
+use Rattle.mb_ea.specs.Addresses.{sum}
+use Rattle.mb_writes.specs.declared.transfers.Movem.{Movem}
+use Rattle.mb_writes.specs.declared.transfers.Transfer.{Transfer}
+use Rattle.mb_writes.specs.Transfers.{transfers_of}
+use Rattle.mb_writes.specs.Moving.{Halfway, stored_of, store_all, loaded_of, load_all, storing, transfer_of}
+use Rattle.mb_meaning.specs.Operands.{first_word}
+use Rattle.mb_meaning.specs.Moves.{movem_by, movem_place, movem_of}
+use Rattle.mb_twins.specs.Twins.{SameRead, SameWrite, SameTransfer, SameStop}
+use Rattle.mb_twins.proofs.Parts.{Rows, TwinParts, Reads, then_twins, failing_twins, reading_twins}
+use Rattle.mb_twins.proofs.Operands.{read_twins, resolve_twins, put_twins}
+
+-- both came equally far, with the same registers
+abbrev SameHalfway : Setting → Halfway → Halfway → Type 0
+SameHalfway x a b = SameTransfer x a.fault b.fault × (a.plain ≡ b.plain)
+
+store_all_twins : (x : Setting) (m : Movem) (p : Plain) (first done : ℕ) (ts : List Transfer)
+    → TwinParts x (SameTransfer x) (store_all m x.here p first done ts) (store_all m x.there p first done ts)
+store_all_twins x m p first done [] = returned refl
+store_all_twins x m p first done (t ∷ ts) =
+    then_twins x (SameTransfer x)
+    (failing_twins x (SameWrite x) (SameTransfer x) (λ e f h. record { fault = h.fault; first = refl; done = refl })
+    (put_twins x t.at (bytes_of m.size) (stored_of m.mode m.size p t.register)))
+    (λ stored. store_all_twins x m p first (done + 1) ts)
+
+load_all_twins : (x : Setting) (m : Movem) (first done : ℕ) (ts : List Transfer) (p : Plain)
+    → TwinParts x (SameHalfway x) (load_all m x.here first done ts p) (load_all m x.there first done ts p)
+load_all_twins x m first done [] p = returned refl
+load_all_twins x m first done (t ∷ ts) p =
+    then_twins x (SameHalfway x)
+    (failing_twins x (SameRead x) (SameHalfway x) (λ e f h. (record { fault = h.fault; first = refl; done = refl }, refl))
+    (read_twins x t.at (bytes_of m.size)))
+    (λ value. load_all_twins x m first (done + 1) ts (loaded_of m.mode m.size p t.register value))
+
+stores_twins : (x : Setting) (m : Movem) (ea done : ℕ) (p : Plain) → TwinParts x (SameHalfway x) (storing m ea done x.here p) (storing m ea done x.there p)
+stores_twins x m ea done p =
+    then_twins x (SameHalfway x)
+    (failing_twins x (SameTransfer x) (SameHalfway x) (λ e f h. (h, refl)) (store_all_twins x m p ea done (drop done (transfers_of m ea))))
+    (λ stored. returned refl)
+
+transfer_twins : (x : Setting) (m : Movem) (ea done : ℕ) (p : Plain)
+    → TwinParts x (SameHalfway x) (transfer_of m ea done x.here p) (transfer_of m ea done x.there p)
+unfolding transfer_of
+transfer_twins x m ea done p =
+    then_twins x (SameHalfway x)
+    (twins_choose (between x) (Results Equal (SameHalfway x)) m.is_load _ _ _ _
+    (load_all_twins x m ea done (drop done (transfers_of m ea)) p) (stores_twins x m ea done p))
+    (λ moved. returned refl)
+
+place_twins : (x : Setting) (size : Size) (ea : Ea) (word_at : ℕ) (p : Plain)
+    → Reads x (movem_place size ea word_at x.here p) (movem_place size ea word_at x.there p)
+unfolding movem_place
+place_twins x size ea word_at p = then_twins x (SameRead x) (resolve_twins x ea size word_at p) (λ resolved. returned refl)
+
+pub movem_twins : (x : Setting) (is_load : Bool) (size : Size) (ea : Ea) (mask at : ℕ) (p : Plain)
+    → Rows x (movem_of is_load size ea mask at x.here p) (movem_of is_load size ea mask at x.there p)
+unfolding movem_of
+movem_twins x is_load size ea mask at p =
+    then_twins x (SameStop x) (reading_twins x p (place_twins x size ea (sum (first_word at) 2) p)) (λ place.
+    then_twins x (SameStop x)
+    (failing_twins x (SameHalfway x) (SameStop x) (λ e f h. h) (transfer_twins x (movem_by is_load size ea mask) place 0 p))
+    (λ moved. returned refl))

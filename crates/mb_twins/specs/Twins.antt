@@ -1,0 +1,60 @@
+-- Instructions in two spaces.
+use Rattle.std.specs.Prelude.{◌≡◌, ℕ}
+use Rattle.mb_laws.specs.Tree.{tree_of}
+use Rattle.mb_laws.specs.Twin.{TwinTrees, Results}
+use Rattle.mb_laws.specs.Between.{Setting, Equal, SameFault, between}
+use Rattle.mb_instr.specs.declared.instruction.Instr.{Instr}
+use Rattle.mb_instr.specs.declared.registers.Plain.{Plain}
+use Rattle.mb_ea.specs.declared.reading.ReadFault.{ReadFault}
+use Rattle.mb_writes.specs.declared.ends.WriteFault.{WriteFault}
+use Rattle.mb_writes.specs.declared.ends.MovemFault.{MovemFault}
+use Rattle.mb_writes.specs.declared.ends.Ended.{Ended}
+use Rattle.mb_writes.specs.declared.ends.Ended.TheVariants as ended
+use Rattle.mb_meaning.specs.Ends.{Stopped, Performed}
+use Rattle.mb_meaning.specs.Step.{perform_of, attempt_of}
+
+-- the same refused read, with the fault in the second's space
+pub record SameRead (x : Setting) (f g : ReadFault) : Type 0 where
+  pub fault : SameFault x f.fault g.fault
+  pub first : f.first ≡ g.first
+
+-- the same refused write, with the fault in the second's space
+pub record SameWrite (x : Setting) (f g : WriteFault) : Type 0 where
+  pub fault : SameFault x f.fault g.fault
+  pub first : f.first ≡ g.first
+  pub rest : f.rest ≡ g.rest
+
+-- the same refused transfer, with the fault in the second's space
+pub record SameTransfer (x : Setting) (f g : MovemFault) : Type 0 where
+  pub fault : SameFault x f.fault g.fault
+  pub first : f.first ≡ g.first
+  pub done : f.done ≡ g.done
+
+-- ends that say the same; a fault in one would be the same fault in the other's space
+abbrev pub SameEnd : Setting → Ended → Ended → Type 0
+SameEnd x (ended.Done flow) (ended.Done other) = flow ≡ other
+SameEnd x (ended.Trap vector) (ended.Trap other) = vector ≡ other
+SameEnd x (ended.Refused vector) (ended.Refused other) = vector ≡ other
+SameEnd x (ended.ReadFault f) (ended.ReadFault g) = SameRead x f g
+SameEnd x (ended.WriteFault f) (ended.WriteFault g) = SameWrite x f g
+SameEnd x (ended.LineFault f line) (ended.LineFault g other) = SameFault x f g × (line ≡ other)
+SameEnd x (ended.Movem f) (ended.Movem g) = SameTransfer x f g
+SameEnd x _ _ = ⊥
+
+-- both ended so, with the same registers
+abbrev pub SameStop : Setting → Stopped → Stopped → Type 0
+SameStop x a b = SameEnd x a.ended b.ended × (a.plain ≡ b.plain)
+
+-- both were carried out alike, or ended alike
+abbrev pub SamePerformed : Setting → Performed → Performed → Type 0
+SamePerformed x = Results Equal (SameStop x)
+
+-- each instruction
+abbrev pub RowsAreTwins : Type 0
+RowsAreTwins = (x : Setting) (i : Instr) (at : ℕ) (p : Plain)
+    → TwinTrees (between x) (SamePerformed x) (tree_of (perform_of i at x.here p)) (tree_of (perform_of i at x.there p))
+
+-- a whole attempt, with the fetching of its words
+abbrev pub AttemptsAreTwins : Type 0
+AttemptsAreTwins = (x : Setting) (p : Plain)
+    → TwinTrees (between x) (SamePerformed x) (tree_of (attempt_of x.here p)) (tree_of (attempt_of x.there p))
