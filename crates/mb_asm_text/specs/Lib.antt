@@ -1,0 +1,4 @@
+pub mod Kinds
+pub mod Cut
+pub mod Front
+pub mod Answers
