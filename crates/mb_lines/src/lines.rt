@@ -49,7 +49,9 @@ impl<'a> Lines<'a> {
 
     /// The next line that has characters.
     pub fn next_line(&mut self) -> Option<Line<'a>>
-        ensures left { MatchOption result (left self.old ≡ []) (λ line. left self.old ≡ line_said line ∷ left self.new) }
+        ensures left { MatchOption result (left self.old ≡ [])
+            (λ line. left self.old ≡ line_said line ∷ left self.new) }
+        ensures count { IfSome result (λ line. self.new.count ≡ line.number) }
         ensures end { IfNone result (self.new.count + 1 ≡ past self.old) }
         ensures past { past self.new ≡ past self.old }
         ensures room { IfSome result (λ line. length line.characters.now + room self.new ≤ room self.old) }

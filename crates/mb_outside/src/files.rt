@@ -39,21 +39,19 @@ impl<F: Read + Seek + Drop> OpenFile<F> {
 /// fails closes it.
 #[derive(Drop)]
 pub struct FileShelf<R: Files + Drop> {
-    alloc: Global,
     rt: R,
     open: Option<OpenFile<R::File>>,
     faults: u64,
 }
 
 impl<R: Files + Drop> FileShelf<R> {
-    /// A shelf over the runtime's files. The allocator is for the name of the open file.
-    pub fn new(alloc: Global, rt: R) -> FileShelf<R>
+    /// A shelf over the runtime's files.
+    pub fn new(rt: R) -> FileShelf<R>
         ensures told { ⟦<FileShelf<R> as Shelf>⟧.told result ≡ λ name. None }
         ensures whole { ⟦<FileShelf<R> as Shelf>⟧.whole result ≡ false }
         ensures faults { ⟦<FileShelf<R> as Shelf>⟧.faults result ≡ 0 }
     {
         FileShelf {
-            alloc,
             rt,
             open: None,
             faults: 0,
@@ -61,7 +59,7 @@ impl<R: Files + Drop> FileShelf<R> {
     }
 
     /// Takes out the open file if it has this name, and else opens the file.
-    fn take_open(&mut self, name: &str) -> io::Result<OpenFile<R::File>>
+    fn take_open(&mut self, alloc: Global, name: &str) -> io::Result<OpenFile<R::File>>
         ensures { self.new.faults ≡ self.old.faults }
     {
         if let Some(open) = self.open.take() {
@@ -70,17 +68,17 @@ impl<R: Files + Drop> FileShelf<R> {
             }
         }
         Ok(OpenFile {
-            name: String::from_str(self.alloc, name)?,
+            name: String::from_str(alloc, name)?,
             file: File::open(&self.rt, name)?,
             position: 0,
         })
     }
 
-    fn read_at(&mut self, name: &str, at: u64, buf: &mut [u8]) -> io::Result<usize>
+    fn read_at(&mut self, alloc: Global, name: &str, at: u64, buf: &mut [u8]) -> io::Result<usize>
         ensures count { ReadsAtMost result buf.new }
         ensures faults { self.new.faults ≡ self.old.faults }
     {
-        let mut open = self.take_open(name)?;
+        let mut open = self.take_open(alloc, name)?;
         let count = open.read_at(at, buf)?;
         self.open = Some(open);
         Ok(count)
@@ -94,8 +92,14 @@ impl<R: Files + Drop> Shelf for FileShelf<R> {
 
     ghost faults = { λ s. s.faults };
 
-    fn piece(&mut self, name: &str, at: u64, buf: &mut [u8]) -> Result<usize, ShelfFault> {
-        match self.read_at(name, at, buf) {
+    fn piece(
+        &mut self,
+        alloc: Global,
+        name: &str,
+        at: u64,
+        buf: &mut [u8],
+    ) -> Result<usize, ShelfFault> {
+        match self.read_at(alloc, name, at, buf) {
             Ok(count) => Ok(count),
             Err(e) if e.kind() == io::ErrorKind::OutOfMemory => Err(ShelfFault::Memory),
             Err(_) => {

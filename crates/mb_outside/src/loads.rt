@@ -28,7 +28,8 @@ pub fn load<S: Shelf>(
     ensures told { S.told shelf.new ≡ S.told shelf.old }
     ensures same { S.whole shelf.new ≡ S.whole shelf.old }
     ensures loads { Loads (S.told shelf.old name.now) most (S.faults shelf.old) (S.faults shelf.new) result }
-    ensures whole { S.whole shelf.old ≡ true → is_some (S.told shelf.old name.now) ≡ true → IsErrOf result LoadFault.Failed → ⊥ }
+    ensures whole { S.whole shelf.old ≡ true → is_some (S.told shelf.old name.now) ≡ true
+        → IsErrOf result LoadFault.Failed → ⊥ }
 {
     let mut buf = piece_buffer(alloc)?;
     load_by(alloc, shelf, name, most, &mut buf)
@@ -57,12 +58,13 @@ fn load_by<S: Shelf>(
     ensures told { S.told shelf.new ≡ S.told shelf.old }
     ensures same { S.whole shelf.new ≡ S.whole shelf.old }
     ensures loads { Loads (S.told shelf.old name.now) most (S.faults shelf.old) (S.faults shelf.new) result }
-    ensures whole { S.whole shelf.old ≡ true → is_some (S.told shelf.old name.now) ≡ true → IsErrOf result LoadFault.Failed → ⊥ }
+    ensures whole { S.whole shelf.old ≡ true → is_some (S.told shelf.old name.now) ≡ true
+        → IsErrOf result LoadFault.Failed → ⊥ }
 {
     let mut bytes = Vec::new(alloc);
     loop {
         let at = bytes.len();
-        let count = match shelf.piece(name, at as u64, buf) {
+        let count = match shelf.piece(alloc, name, at as u64, buf) {
             Ok(count) => count,
             Err(ShelfFault::Memory) => return Err(LoadFault::Memory),
             Err(ShelfFault::Failed) => return Err(LoadFault::Failed),

@@ -1,6 +1,7 @@
 //! Shelves and sinks in memory.
 
-ghost use Rattle.std.specs.Prelude.{◌≡◌, ◌-◌, ◌<◌, ◌≤◌, ◌==◌, ◌||◌, ◌&&◌, nat_lt, Some, vec_len, vec_capacity, length, [], IfOk, IsErrOf, true, is_some, is_none, is_err, min, take, IfSome, option_map};
+ghost use Rattle.std.specs.Prelude.{◌≡◌, ◌-◌, ◌<◌, ◌≤◌, ◌==◌, ◌||◌, ◌&&◌, nat_lt, true, Some, is_some, is_none, IfSome, option_map};
+ghost use Rattle.std.specs.Prelude.{[], length, take, vec_len, vec_capacity, min, is_err, IfOk, IsErrOf};
 ghost use Rattle.mb_outside.specs.Counts.{next_count};
 ghost use Rattle.mb_outside.specs.Shelf.{GivesPiece, PieceOf, ShelfCause};
 ghost use Rattle.mb_outside.specs.Sink.{Grows, taken_by, TakesSome, SinkCause};
@@ -83,18 +84,27 @@ impl Shelf for MemShelf {
 
     ghost faults = { λ s. s.faults };
 
-    fn piece(&mut self, name: &str, at: u64, buf: &mut [u8]) -> Result<usize, ShelfFault>
+    fn piece(
+        &mut self,
+        _alloc: Global,
+        name: &str,
+        at: u64,
+        buf: &mut [u8],
+    ) -> Result<usize, ShelfFault>
         ensures told { stored_bytes self.new.files.items ≡ stored_bytes self.old.files.items }
         ensures same { is_empty_list self.new.fails.items ≡ is_empty_list self.old.fails.items }
         ensures piece { GivesPiece (stored_bytes self.old.files.items name.now) at buf.new result }
         ensures cause { ShelfCause self.old.faults self.new.faults result }
-        ensures whole { is_empty_list self.old.fails.items ≡ true → is_some (stored_bytes self.old.files.items name.now) ≡ true → IsErrOf result ShelfFault.Failed → ⊥ }
+        ensures whole { is_empty_list self.old.fails.items ≡ true
+            → is_some (stored_bytes self.old.files.items name.now) ≡ true → IsErrOf result ShelfFault.Failed → ⊥ }
 
         ensures no_memory { IsErrOf result ShelfFault.Memory → ⊥ }
         ensures calls { (self.new.calls ≡ next_count self.old.calls) × (self.new.fails.items ≡ self.old.fails.items) }
         // It fails exactly where the call is listed or the file is missing, and else gives all that has room.
-        ensures fails { is_err result ≡ (is_listed self.old.fails.items self.new.calls || is_none (stored_bytes self.old.files.items name.now)) }
-        ensures count { IfOk result (λ n. IfSome (stored_bytes self.old.files.items name.now) (λ bytes. n ≡ min (length bytes - at) (length buf.old))) }
+        ensures fails { is_err result ≡ (is_listed self.old.fails.items self.new.calls
+            || is_none (stored_bytes self.old.files.items name.now)) }
+        ensures count { IfOk result (λ n. IfSome (stored_bytes self.old.files.items name.now)
+            (λ bytes. n ≡ min (length bytes - at) (length buf.old))) }
     {
         self.calls = self.calls.saturating_add(1);
         if self.fails.contains(&self.calls) {
@@ -162,7 +172,8 @@ impl Sink for MemSink {
         ensures calls { (self.new.calls ≡ next_count self.old.calls) × (self.new.fails.items ≡ self.old.fails.items) }
         ensures room { self.new.room ≡ self.old.room }
         // It fails exactly where the call is listed or a byte has no room, and else takes all that has.
-        ensures fails { is_err result ≡ (is_listed self.old.fails.items self.new.calls || (vec_len self.old.bytes == self.old.room && nat_lt 0 (length bytes.now))) }
+        ensures fails { is_err result ≡ (is_listed self.old.fails.items self.new.calls
+            || (vec_len self.old.bytes == self.old.room && nat_lt 0 (length bytes.now))) }
         ensures taken_all { IfOk result (λ n. n ≡ min (length bytes.now) (self.old.room - vec_len self.old.bytes)) }
     {
         self.calls = self.calls.saturating_add(1);

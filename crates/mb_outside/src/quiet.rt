@@ -8,6 +8,7 @@ ghost use Rattle.mb_outside.specs.Stored.{stored_or_empty};
 
 use crate::memory::{bytes_of, copy_piece};
 use crate::{Failed, Shelf, ShelfFault, Sink};
+use std::alloc::Global;
 
 /// Files in memory that never fail: one that is missing reads as an empty one. It tells them all and
 /// takes no memory.
@@ -34,7 +35,13 @@ impl Shelf for NoFailShelf {
 
     ghost faults = { λ s. 0 };
 
-    fn piece(&mut self, name: &str, at: u64, buf: &mut [u8]) -> Result<usize, ShelfFault>
+    fn piece(
+        &mut self,
+        _alloc: Global,
+        name: &str,
+        at: u64,
+        buf: &mut [u8],
+    ) -> Result<usize, ShelfFault>
         ensures told { stored_or_empty self.new.files.items ≡ stored_or_empty self.old.files.items }
         ensures piece { GivesPiece (stored_or_empty self.old.files.items name.now) at buf.new result }
         ensures cause { ShelfCause 0 0 result }
@@ -42,7 +49,8 @@ impl Shelf for NoFailShelf {
         ensures files { self.new.files.items ≡ self.old.files.items }
         // It answers always, with all that has room.
         ensures never { is_err result ≡ false }
-        ensures count { IfOk result (λ n. IfSome (stored_or_empty self.old.files.items name.now) (λ bytes. n ≡ min (length bytes - at) (length buf.old))) }
+        ensures count { IfOk result (λ n. IfSome (stored_or_empty self.old.files.items name.now)
+            (λ bytes. n ≡ min (length bytes - at) (length buf.old))) }
     {
         match bytes_of(&self.files, name) {
             Some(bytes) => Ok(copy_piece(bytes, at, buf)),

@@ -1,6 +1,8 @@
 //! The real sink.
 
 ghost use Rattle.std.specs.Prelude.{◌≡◌, None};
+ghost use Rattle.std.specs.Io.KnownBytes.{WriteAppends};
+ghost use Rattle.mb_outside.specs.Sink.{TakesSome, SinkCause};
 
 use crate::{Failed, Sink};
 use std::io::Write;
@@ -27,7 +29,13 @@ impl<W: Write + Drop> Sink for StdSink<W> {
 
     ghost faults = { λ s. s.faults };
 
-    fn put(&mut self, bytes: &[u8]) -> Result<usize, Failed> {
+    fn put(&mut self, bytes: &[u8]) -> Result<usize, Failed>
+        ensures count { TakesSome bytes.now result }
+        ensures cause { SinkCause self.old.faults self.new.faults result }
+
+        // A stream that tells its bytes has taken just so many first bytes, and none where the call failed.
+        ensures written { WriteAppends (W.contents self.old.stream) (W.contents self.new.stream) result bytes.now }
+    {
         match self.stream.write(bytes) {
             Ok(count) if count > 0 || bytes.is_empty() => Ok(count),
             _ => {

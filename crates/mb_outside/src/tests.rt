@@ -6,6 +6,7 @@ use crate::{
 };
 use std::alloc::Global;
 use std::fs::File;
+use std::io::Cursor;
 use std::{env, fs};
 
 /// A shelf with an empty file, one of five bytes and one of two pieces.
@@ -44,7 +45,7 @@ fn mem_shelf_gives_pieces(rt: HostRuntime) {
     ];
     for (name, at, room, want) in rows {
         let mut buf = [0u8; 8];
-        let got = shelf.piece(name, at, &mut buf[..room.min(8)]);
+        let got = shelf.piece(rt.alloc(), name, at, &mut buf[..room.min(8)]);
         match want {
             Ok(bytes) => {
                 assert_eq!(rt; got, Ok(bytes.len()), "{name} at {at}");
@@ -138,7 +139,8 @@ fn file_shelf_reads_files(rt: HostRuntime) {
         .expect(&rt, "ample memory");
     let file = path.as_str();
     fs::write(&rt, file, b"hello").expect(&rt, "a file");
-    let mut shelf = FileShelf::new(rt.alloc(), rt);
+    let alloc = rt.alloc();
+    let mut shelf = FileShelf::new(rt);
     let rows: [(&str, u64, Result<&[u8], ShelfFault>); 8] = [
         (file, 0, Ok(b"hel")),
         (file, 3, Ok(b"lo")),
@@ -151,7 +153,7 @@ fn file_shelf_reads_files(rt: HostRuntime) {
     ];
     for (name, at, want) in rows {
         let mut buf = [0u8; 3];
-        let got = shelf.piece(name, at, &mut buf);
+        let got = shelf.piece(alloc, name, at, &mut buf);
         match want {
             Ok(bytes) => {
                 assert_eq!(rt; got, Ok(bytes.len()), "{name} at {at}");
@@ -170,4 +172,9 @@ fn std_sink_writes(rt: HostRuntime) {
     assert_eq!(rt; taking.put(b"hello"), Ok(5));
     assert_eq!(rt; full.put(b"hello"), Err(Failed));
     assert_eq!(rt; put_all(&mut full, b""), Ok(()));
+    // room for three bytes
+    let mut short = StdSink::new(Cursor::new([0u8; 3]));
+    assert_eq!(rt; short.put(b"hello"), Ok(3));
+    assert_eq!(rt; short.put(b"lo"), Err(Failed));
+    assert_eq!(rt; short.put(b""), Ok(0));
 }

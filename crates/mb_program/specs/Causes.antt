@@ -1,81 +1,128 @@
--- What each status says of its cause, in one fact a status.
-use Rattle.std.specs.Prelude.{◌≡◌, ◌⊎◌, ℕ, [], Option, Some, None, IfSome, MatchBool, codes, if◌then◌else◌, ◌==◌}
+-- What each status says of its cause.
+use Rattle.std.specs.Prelude.{◌≡◌, ◌⊎◌, ◌<◌, ⊤, ℕ, ◌==◌, true, [], codes, if◌then◌else◌}
+use Rattle.std.specs.Prelude.{Option, Some, None, IfSome, is_some, MatchBool}
 use Rattle.mb_outside.specs.Counts.{Rose}
 use Rattle.mb_outside.specs.Sink.{Grows}
 use Rattle.mb_words.specs.Words.{Text, Asked}
-use Rattle.mb_program.specs.Answers.{Answer, shows, refuses, is_unbuilt, Told, answer_of}
-use Rattle.mb_program.specs.Ends.{Around, Said, IsSaid, IsRefused}
+use Rattle.mb_program.specs.Answers.{Shown, Answer, shows, refuses, lacks, answer_of}
+use Rattle.mb_program.specs.Ends.{Around, Said, IsSaid, IsShown, IsCut, IsRefused, IsUnbuilt, IsFileOf, AnswerIs}
 use Rattle.mb_program.specs.Lines.{named, why_text}
 use Rattle.mb_program.specs.declared.end.FileWhy.{FileWhy}
 
--- the words ask for something, and where the answer to it is known it is one of these
-abbrev pub Answers : Option Asked → Told → (Asked → Answer → Type 0) → Type 0
-Answers None told P = ⊥
-Answers (Some asked) told P = IfSome (answer_of asked told) (P asked)
+-- the words ask for a command, for which this holds
+abbrev pub Asks : Option Asked → (Asked → Type 0) → Type 0
+Asks None P = ⊥
+Asks (Some asked) P = P asked
 
--- the words ask for something whose answer is known and is one of these
-abbrev pub IsAnswered : Option Asked → Told → (Asked → Answer → Type 0) → Type 0
-IsAnswered None told P = ⊥
-IsAnswered (Some asked) told P = (answer : Answer) × (answer_of asked told ≡ Some answer) × P asked answer
+-- the words ask for a command, and where the answer is known, it is so
+abbrev pub AsksFor : Option Asked → Around → (Answer → Type 0) → Type 0
+AsksFor asked a P = Asks asked (λ command. AnswerIs command a P)
+
+-- the words ask for a command whose answer is known, and it is so
+abbrev pub IsKnown : Option Asked → Around → (Answer → Type 0) → Type 0
+IsKnown asked a P =
+    Asks asked (λ command. (answer : Answer) × (answer_of command a.shelf.told ≡ Some answer) × P answer)
+
+-- a file is refused
+abbrev pub IsRefusal : Answer → Type 0
+IsRefusal (refuses name why) = ⊤
+IsRefusal _ = ⊥
+
+-- the shelf is whole and tells every file of the command
+abbrev pub IsAllTold : Option Asked → Around → Type 0
+IsAllTold asked a =
+    (a.shelf.whole ≡ true) × Asks asked (λ command. is_some (answer_of command a.shelf.told) ≡ true)
 
 -- neither the shelf nor out has failed in this call
 abbrev pub FailsNowhere : Around → Type 0
-FailsNowhere a = (Rose a.read a.read_after → ⊥) × (Rose a.put a.put_after → ⊥)
+FailsNowhere a = (Rose a.shelf.faults a.shelf_after.faults → ⊥) × (Rose a.out.faults a.out_after.faults → ⊥)
 
--- the image is refused
-abbrev pub RefusesImage : Asked → Answer → Type 0
-RefusesImage asked (shows text) = ⊥
-RefusesImage asked (refuses name why) = name ≡ asked.image
-RefusesImage asked is_unbuilt = ⊥
-
--- the status is 0 and out has gained exactly the text; or memory ran out and out is as before
-abbrev pub IsWritten : Around → ℕ → Text → Type 0
-IsWritten a status text =
-    ((status ≡ 0) × Grows a.out a.out_after text) ⊎ ((status ≡ 7) × (a.out_after ≡ a.out))
+-- the status is that of what is shown, and out has gained exactly its text; or memory ran out and out is as before
+abbrev pub IsWritten : Around → ℕ → Shown → Type 0
+IsWritten a status shown =
+    ((status ≡ shown.status) × Grows a.out.taken a.out_after.taken shown.text)
+    ⊎ ((status ≡ 7) × (a.out_after.taken ≡ a.out.taken))
 
 -- what an answer leads to where nothing fails
 abbrev pub LeadsTo : Around → ℕ → Answer → Type 0
-LeadsTo a status (shows text) = IsWritten a status text
+LeadsTo a status (shows shown) = IsWritten a status shown
 LeadsTo a status (refuses name why) = (status ≡ 3) ⊎ (status ≡ 7)
-LeadsTo a status is_unbuilt = (status ≡ 8) ⊎ (status ≡ 7)
+LeadsTo a status (lacks cause) = (status ≡ 8) ⊎ (status ≡ 7)
 
 -- Words that ask for nothing are refused. Where they ask for something whose answer is known, and nothing
 -- fails, that answer is given. Either way memory may have run out.
-abbrev pub IsComplete : Option Asked → Told → Around → ℕ → Type 0
-IsComplete None told a status = (status ≡ 2) ⊎ (status ≡ 7)
-IsComplete (Some asked) told a status = FailsNowhere a → IfSome (answer_of asked told) (LeadsTo a status)
+abbrev pub IsComplete : Option Asked → Around → ℕ → Type 0
+IsComplete None a status = (status ≡ 2) ⊎ (status ≡ 7)
+IsComplete (Some asked) a status = FailsNowhere a → AnswerIs asked a (LeadsTo a status)
 
--- what an answer leads to over files and sinks that cannot fail
-abbrev pub LeadsUnfailingTo : ℕ → Answer → Type 0
-LeadsUnfailingTo status (shows text) = (status ≡ 0) ⊎ (status ≡ 7)
-LeadsUnfailingTo status (refuses name why) = (status ≡ 3) ⊎ (status ≡ 7)
-LeadsUnfailingTo status is_unbuilt = (status ≡ 8) ⊎ (status ≡ 7)
-
--- the words are refused, or the answer to them is given; either way memory may have run out
-abbrev pub IsUnfailing : Option Asked → Told → ℕ → Type 0
-IsUnfailing None told status = (status ≡ 2) ⊎ (status ≡ 7)
-IsUnfailing (Some asked) told status = IfSome (answer_of asked told) (LeadsUnfailingTo status)
-
--- the line of a status other than 3, for a command whose file has this name
-abbrev pub line_for : Text → ℕ → Text
-line_for image status =
+-- the line of a status that names no file
+abbrev pub line_for : ℕ → Text
+line_for status =
     if status == 2 then codes "mbx: words refused\n"
-    else if status == 5 then named image (codes " cannot be read\n")
     else if status == 6 then codes "mbx: output failed\n"
     else if status == 7 then codes "mbx: no memory\n"
     else if status == 8 then codes "mbx: not built\n"
     else []
 
--- the name of the file that the words ask for
-abbrev pub image_of : Option Asked → Text
-image_of None = []
-image_of (Some asked) = asked.image
+-- the line that refuses a file of the command, with the reason that the answer has, was put
+abbrev pub SaysRefused : Option Asked → Around → Said → Type 0
+SaysRefused asked a s = Asks asked (λ command. (name : Text) × (why : FileWhy)
+    × IsFileOf command a name
+    × AnswerIs command a (IsRefused name why)
+    × IsSaid s (named name (why_text why)))
 
--- the line that refuses the image was put, with the reason for it
-abbrev pub SaysRefused : Option Asked → Told → Said → Type 0
-SaysRefused asked told s =
-    (why : FileWhy) × IsSaid s (named (image_of asked) (why_text why)) × Answers asked told (λ a. IsRefused a.image why)
+-- the line that names a file of the command as one that cannot be read was put
+abbrev pub SaysUnread : Option Asked → Around → Said → Type 0
+SaysUnread asked a s = Asks asked (λ command. (name : Text)
+    × IsFileOf command a name
+    × IsSaid s (named name (codes " cannot be read\n")))
 
 -- the line of the status was put, or a first part of it before diag failed, and nothing more
-abbrev pub Says : Option Asked → Told → Said → ℕ → Type 0
-Says asked told s status = MatchBool (status == 3) (SaysRefused asked told s) (IsSaid s (line_for (image_of asked) status))
+abbrev pub Says : Option Asked → Around → Said → ℕ → Type 0
+Says asked a s status =
+    MatchBool (status == 3) (SaysRefused asked a s)
+    (MatchBool (status == 5) (SaysUnread asked a s) (IsSaid s (line_for status)))
+
+-- What stands after a run of the program.
+pub record Causes (asked : Option Asked) (a : Around) (said : Said) (status : ℕ) : Type 0 where
+  -- Words are refused only where they ask for nothing, and always, unless memory runs out.
+  pub words_only : status ≡ 2 → asked ≡ None
+  pub words_always : asked ≡ None → (status ≡ 2) ⊎ (status ≡ 7)
+  -- A file is refused only where the answer is that, and always, unless the shelf fails or memory runs out.
+  pub refused_only : status ≡ 3 → AsksFor asked a IsRefusal
+  pub refused_always : IsKnown asked a IsRefusal → (status ≡ 3) ⊎ ((status ≡ 5) ⊎ (status ≡ 7))
+  -- A fault of reading comes only, and always, where the shelf has failed, and never where it is whole and tells
+  -- every file of the command.
+  pub unread_only : status ≡ 5 → Rose a.shelf.faults a.shelf_after.faults
+  pub unread_always : a.shelf.faults < a.shelf_after.faults → status ≡ 5
+  pub unread_never : IsAllTold asked a → status ≡ 5 → ⊥
+  -- A fault of output comes only, and always, where out has failed, and what out took is a first part of the text.
+  pub output_only : status ≡ 6 → Rose a.out.faults a.out_after.faults
+  pub output_always : a.out.faults < a.out_after.faults → status ≡ 6
+  pub output_part : status ≡ 6 → AsksFor asked a (IsCut a)
+  -- A step that is not built is the cause only where one of the steps asked for is so, and always, unless the shelf
+  -- fails or memory runs out.
+  pub unbuilt_only : status ≡ 8 → AsksFor asked a IsUnbuilt
+  pub unbuilt_always : IsKnown asked a IsUnbuilt → (status ≡ 8) ⊎ ((status ≡ 5) ⊎ (status ≡ 7))
+  -- All was done only where out has gained exactly the text.
+  pub done_only : status ≡ 0 → AsksFor asked a (IsShown a)
+  -- Nothing goes to out, but at the end of a run or where out fails.
+  pub silent : (status ≡ 0 → ⊥) → (status ≡ 6 → ⊥) → a.out_after.taken ≡ a.out.taken
+  -- Where the answer is known and nothing fails, it is given, unless memory runs out.
+  pub complete : IsComplete asked a status
+  -- Diag gains exactly the line of the status, or a first part of it where diag fails.
+  pub says : Says asked a said status
+  -- What the shelf tells, and whether it is whole, are as before.
+  pub same_told : a.shelf_after.told ≡ a.shelf.told
+  pub same_whole : a.shelf_after.whole ≡ a.shelf.whole
+
+-- what an answer leads to over files and sinks that cannot fail
+abbrev pub LeadsUnfailingTo : ℕ → Answer → Type 0
+LeadsUnfailingTo status (shows shown) = (status ≡ shown.status) ⊎ (status ≡ 7)
+LeadsUnfailingTo status (refuses name why) = (status ≡ 3) ⊎ (status ≡ 7)
+LeadsUnfailingTo status (lacks cause) = (status ≡ 8) ⊎ (status ≡ 7)
+
+-- the words are refused, or the answer to them is given; either way memory may have run out
+abbrev pub IsUnfailing : Option Asked → (Text → Option Text) → ℕ → Type 0
+IsUnfailing None told status = (status ≡ 2) ⊎ (status ≡ 7)
+IsUnfailing (Some asked) told status = IfSome (answer_of asked told) (LeadsUnfailingTo status)

@@ -1,65 +1,108 @@
 -- How a run may end, each end with its cause.
-use Rattle.std.specs.Prelude.{◌≡◌, ◌⊎◌, ⊤, ℕ, Bool, true, Option, Some, None, is_some, IfSome}
+use Rattle.std.specs.Prelude.{◌≡◌, ◌⊎◌, ⊤, ℕ, [], Bool, true, Option, Some, None, is_some, IfSome}
 use Rattle.mb_outside.specs.Counts.{Rose}
 use Rattle.mb_outside.specs.Prints.{Printed, PrintedPart}
 use Rattle.mb_words.specs.Words.{Text, Asked}
-use Rattle.mb_program.specs.Answers.{Answer, shows, refuses, is_unbuilt, Told, answer_of}
+use Rattle.mb_program.specs.Answers.{Answer, shows, refuses, lacks, unbuilt, Told, Names, course_of, answer_of}
 use Rattle.mb_program.specs.Lines.{status_of, line_of}
 use Rattle.mb_program.specs.declared.end.FileWhy.{FileWhy}
 use Rattle.mb_program.specs.declared.end.End.{End}
 use Rattle.mb_program.specs.declared.end.End.TheVariants.{Done, Words, Refused, Unread, Output, Memory, Unbuilt}
 
--- the counts of the shelf and of out, and what out has, before a run and after it
+-- ---- what stands around a run
+
+-- A shelf: what it tells, whether it is whole, and its count of faults.
+pub record ShelfSeen : Type 0 where
+  pub told : Told
+  pub whole : Bool
+  pub faults : ℕ
+
+-- A sink: what it took, where it tells that, and its count of faults.
+pub record SinkSeen : Type 0 where
+  pub taken : Option Text
+  pub faults : ℕ
+
+abbrev pub shelf_seen : {S : Type 0} → (S → Told) → (S → Bool) → (S → ℕ) → S → ShelfSeen
+shelf_seen told whole faults s = record { told = told s; whole = whole s; faults = faults s }
+
+abbrev pub sink_seen : {S : Type 0} → (S → Option Text) → (S → ℕ) → S → SinkSeen
+sink_seen taken faults s = record { taken = taken s; faults = faults s }
+
+-- The shelf and out, before a run and after it.
 pub record Around : Type 0 where
-  pub read : ℕ
-  pub read_after : ℕ
-  pub put : ℕ
-  pub put_after : ℕ
-  pub out : Option Text
-  pub out_after : Option Text
+  pub shelf : ShelfSeen
+  pub shelf_after : ShelfSeen
+  pub out : SinkSeen
+  pub out_after : SinkSeen
+
+-- the shelf tells what it told, and is whole where it was
+abbrev pub KeepsShelf : Around → Type 0
+KeepsShelf a = (a.shelf_after.told ≡ a.shelf.told) × (a.shelf_after.whole ≡ a.shelf.whole)
 
 -- the shelf has not failed
 abbrev pub ReadsWell : Around → Type 0
-ReadsWell a = a.read_after ≡ a.read
+ReadsWell a = a.shelf_after.faults ≡ a.shelf.faults
+
+-- the shelf has failed
+abbrev pub ReadsBadly : Around → Type 0
+ReadsBadly a = Rose a.shelf.faults a.shelf_after.faults
 
 -- nothing was put on out
 abbrev pub PutsNothing : Around → Type 0
-PutsNothing a = (a.put_after ≡ a.put) × (a.out_after ≡ a.out)
+PutsNothing a = (a.out_after.faults ≡ a.out.faults) × (a.out_after.taken ≡ a.out.taken)
 
--- the answer is a text, which out has gained
+-- ---- what an answer is
+
+-- a text, which out has gained; nothing is said beside it, and the status is 0
 abbrev pub IsShown : Around → Answer → Type 0
-IsShown a (shows text) = Printed a.out a.out_after a.put a.put_after text
-IsShown a (refuses name why) = ⊥
-IsShown a is_unbuilt = ⊥
+IsShown a (shows shown) =
+    Printed a.out.taken a.out_after.taken a.out.faults a.out_after.faults shown.text
+    × (shown.lines ≡ [])
+    × (shown.status ≡ 0)
+IsShown a _ = ⊥
 
--- the answer is a text, of which out has gained a first part before it failed
+-- a text, of which out has gained a first part before it failed
 abbrev pub IsCut : Around → Answer → Type 0
-IsCut a (shows text) = PrintedPart a.out a.out_after a.put a.put_after text
-IsCut a (refuses name why) = ⊥
-IsCut a is_unbuilt = ⊥
+IsCut a (shows shown) = PrintedPart a.out.taken a.out_after.taken a.out.faults a.out_after.faults shown.text
+IsCut a _ = ⊥
 
--- the answer is that this file is refused, and why
+-- that this file is refused, and why
 abbrev pub IsRefused : Text → FileWhy → Answer → Type 0
-IsRefused name why (shows text) = ⊥
 IsRefused name why (refuses n w) = (n ≡ name) × (w ≡ why)
-IsRefused name why is_unbuilt = ⊥
+IsRefused name why _ = ⊥
 
--- the answer is that a step is not built
+-- that a step is not built
 abbrev pub IsUnbuilt : Answer → Type 0
-IsUnbuilt (shows text) = ⊥
-IsUnbuilt (refuses name why) = ⊥
-IsUnbuilt is_unbuilt = ⊤
+IsUnbuilt (lacks unbuilt) = ⊤
+IsUnbuilt _ = ⊥
 
--- Each end of a command with its cause, by its answer where that is known. `image` is the name of its
--- file.
-abbrev pub CommandEnds : Text → Option Answer → Around → End → Type 0
-CommandEnds image answer a Done = ReadsWell a × (a.put_after ≡ a.put) × IfSome answer (IsShown a)
-CommandEnds image answer a Words = ⊥
-CommandEnds image answer a (Refused name why) = (name.now ≡ image) × ReadsWell a × PutsNothing a × IfSome answer (IsRefused name.now why)
-CommandEnds image answer a (Unread name) = (name.now ≡ image) × Rose a.read a.read_after × PutsNothing a
-CommandEnds image answer a Output = ReadsWell a × Rose a.put a.put_after × IfSome answer (IsCut a)
-CommandEnds image answer a Memory = ReadsWell a × PutsNothing a
-CommandEnds image answer a Unbuilt = ReadsWell a × PutsNothing a × IfSome answer IsUnbuilt
+-- ---- ends
+
+-- the file is one of those of the command
+abbrev pub IsFileOf : Asked → Around → Text → Type 0
+IsFileOf asked a name = Names a.shelf.told (course_of asked) name
+
+-- where the answer is known, it is so
+abbrev pub AnswerIs : Asked → Around → (Answer → Type 0) → Type 0
+AnswerIs asked a P = IfSome (answer_of asked a.shelf.told) P
+
+-- a whole shelf does not tell this file
+abbrev pub IsMissing : Around → Text → Type 0
+IsMissing a name = a.shelf.whole ≡ true → is_some (a.shelf.told name) ≡ true → ⊥
+
+-- Each end of a command with its cause.
+abbrev pub CommandEnds : Asked → Around → End → Type 0
+CommandEnds asked a Done =
+    ReadsWell a × (a.out_after.faults ≡ a.out.faults) × AnswerIs asked a (IsShown a)
+CommandEnds asked a Words = ⊥
+CommandEnds asked a (Refused name why) =
+    IsFileOf asked a name.now × ReadsWell a × PutsNothing a × AnswerIs asked a (IsRefused name.now why)
+CommandEnds asked a (Unread name) =
+    IsFileOf asked a name.now × IsMissing a name.now × ReadsBadly a × PutsNothing a
+CommandEnds asked a Output =
+    ReadsWell a × Rose a.out.faults a.out_after.faults × AnswerIs asked a (IsCut a)
+CommandEnds asked a Memory = ReadsWell a × PutsNothing a
+CommandEnds asked a Unbuilt = ReadsWell a × PutsNothing a × AnswerIs asked a IsUnbuilt
 
 -- where the words ask for nothing, they are refused, or memory ran out before that was known
 abbrev pub WordsEnd : Around → End → Type 0
@@ -67,32 +110,26 @@ WordsEnd a Words = ReadsWell a × PutsNothing a
 WordsEnd a Memory = ReadsWell a × PutsNothing a
 WordsEnd a _ = ⊥
 
--- not for want of reading: the shelf is whole and tells the file
-abbrev pub IsRead : End → Type 0
-IsRead (Unread name) = ⊥
-IsRead _ = ⊤
+abbrev pub Ends : Option Asked → Around → End → Type 0
+Ends None a end = WordsEnd a end
+Ends (Some asked) a end = CommandEnds asked a end
 
-abbrev pub IsWhole : Bool → Option Text → End → Type 0
-IsWhole whole told end = whole ≡ true → is_some told ≡ true → IsRead end
+-- ---- diag
 
-abbrev pub Ends : Option Asked → Told → Around → End → Type 0
-Ends None told a end = WordsEnd a end
-Ends (Some asked) told a end = CommandEnds asked.image (answer_of asked told) a end
-
--- what diag has and its count, before a run and after it
+-- Diag, before a run and after it.
 pub record Said : Type 0 where
-  pub put : ℕ
-  pub put_after : ℕ
-  pub out : Option Text
-  pub out_after : Option Text
+  pub diag : SinkSeen
+  pub diag_after : SinkSeen
 
 -- the line was put on diag, or a first part of it before diag failed, and nothing more
 abbrev pub IsSaid : Said → Text → Type 0
-IsSaid s line = Printed s.out s.out_after s.put s.put_after line ⊎ PrintedPart s.out s.out_after s.put s.put_after line
+IsSaid s line =
+    Printed s.diag.taken s.diag_after.taken s.diag.faults s.diag_after.faults line
+    ⊎ PrintedPart s.diag.taken s.diag_after.taken s.diag.faults s.diag_after.faults line
 
 -- The run ended in one of its ways, with this status and its line on diag.
-pub record EndsWith (asked : Option Asked) (told : Told) (around : Around) (said : Said) (status : ℕ) : Type 0 where
+pub record EndsWith (asked : Option Asked) (around : Around) (said : Said) (status : ℕ) : Type 0 where
   pub end : End
   pub status_is : status ≡ status_of end
-  pub caused : Ends asked told around end
+  pub caused : Ends asked around end
   pub line : IsSaid said (line_of end)

@@ -12,7 +12,8 @@ use mb_srec::RecordWhy;
 
 /// Begins a line that names a file.
 fn name_file<E: Sink>(diag: &mut E, name: &str) -> Result<(), SinkFault>
-    ensures { Prints (E.taken diag.old) (E.taken diag.new) (E.faults diag.old) (E.faults diag.new) (named_file name.now) result }
+    ensures { Prints (E.taken diag.old) (E.taken diag.new) (E.faults diag.old) (E.faults diag.new)
+        (named_file name.now) result }
 {
     let begun = put_all(diag, b"mbx: ");
     put_more(diag, begun, name.as_bytes())
@@ -38,7 +39,8 @@ fn say_why<E: Sink>(
     so_far: Result<(), SinkFault>,
     why: FileWhy,
 ) -> Result<(), SinkFault>
-    ensures { PrintsMore so_far (E.taken diag.old) (E.taken diag.new) (E.faults diag.old) (E.faults diag.new) (why_text why) result }
+    ensures { PrintsMore so_far (E.taken diag.old) (E.taken diag.new) (E.faults diag.old) (E.faults diag.new)
+        (why_text why) result }
 {
     match why {
         FileWhy::TooLong => put_more(diag, so_far, b" too long\n"),
@@ -54,7 +56,8 @@ fn say_line<E: Sink>(
     number: u32,
     why: RecordWhy,
 ) -> Result<(), SinkFault>
-    ensures { PrintsMore so_far (E.taken diag.old) (E.taken diag.new) (E.faults diag.old) (E.faults diag.new) (why_text (FileWhy.Line number why)) result }
+    ensures { PrintsMore so_far (E.taken diag.old) (E.taken diag.new) (E.faults diag.old) (E.faults diag.new)
+        (why_text (FileWhy.Line number why)) result }
 {
     let mut buffer = Buffer::new();
     let begun = put_more(diag, so_far, b" line ");
@@ -69,7 +72,8 @@ fn say_outside<E: Sink>(
     so_far: Result<(), SinkFault>,
     at: u32,
 ) -> Result<(), SinkFault>
-    ensures { PrintsMore so_far (E.taken diag.old) (E.taken diag.new) (E.faults diag.old) (E.faults diag.new) (why_text (FileWhy.Outside at)) result }
+    ensures { PrintsMore so_far (E.taken diag.old) (E.taken diag.new) (E.faults diag.old) (E.faults diag.new)
+        (why_text (FileWhy.Outside at)) result }
 {
     let begun = put_more(diag, so_far, b" outside ");
     let told = put_more(diag, begun, &hex8(at));
@@ -78,7 +82,8 @@ fn say_outside<E: Sink>(
 
 /// Says something of a file.
 fn say<E: Sink>(diag: &mut E, name: &str, rest: &[u8]) -> Result<(), SinkFault>
-    ensures { Prints (E.taken diag.old) (E.taken diag.new) (E.faults diag.old) (E.faults diag.new) (named name.now rest.now) result }
+    ensures { Prints (E.taken diag.old) (E.taken diag.new) (E.faults diag.old) (E.faults diag.new)
+        (named name.now rest.now) result }
 {
     let begun = name_file(diag, name);
     put_more(diag, begun, rest)
@@ -86,7 +91,8 @@ fn say<E: Sink>(diag: &mut E, name: &str, rest: &[u8]) -> Result<(), SinkFault>
 
 /// Says of a file why it is refused.
 fn say_refused<E: Sink>(diag: &mut E, name: &str, why: FileWhy) -> Result<(), SinkFault>
-    ensures { Prints (E.taken diag.old) (E.taken diag.new) (E.faults diag.old) (E.faults diag.new) (named name.now (why_text why)) result }
+    ensures { Prints (E.taken diag.old) (E.taken diag.new) (E.faults diag.old) (E.faults diag.new)
+        (named name.now (why_text why)) result }
 {
     let begun = name_file(diag, name);
     say_why(diag, begun, why)
@@ -94,7 +100,8 @@ fn say_refused<E: Sink>(diag: &mut E, name: &str, why: FileWhy) -> Result<(), Si
 
 /// Says how a run ended; nothing where all was done.
 pub fn tell<E: Sink>(diag: &mut E, end: End) -> Result<(), SinkFault>
-    ensures { Prints (E.taken diag.old) (E.taken diag.new) (E.faults diag.old) (E.faults diag.new) (line_of end.entry) result }
+    ensures { Prints (E.taken diag.old) (E.taken diag.new) (E.faults diag.old) (E.faults diag.new)
+        (line_of end.entry) result }
 {
     match end {
         End::Done => put_all(diag, b""),

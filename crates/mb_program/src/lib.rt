@@ -1,8 +1,8 @@
 //! All that the program does, over any shelf and any sinks: the top call.
 //!
 //! [`run_program`] reads the words, runs their command and says how it ended. Its contract says of
-//! each end what caused it; `specs/Ends` has the relation, `specs/Answers` what a command comes to by
-//! the definition of the machine.
+//! each end what caused it; `specs/Ends` has the relation and `specs/Causes` the facts, one a field;
+//! `specs/Answers` has what a command comes to by what its files hold.
 #![tactic(auto)]
 
 mod command;

@@ -4,9 +4,9 @@ ghost use Rattle.std.specs.Prelude.{◌≡◌, ◌^◌, ◌<◌, ◌≤◌, leng
 ghost use Rattle.mb_srec.specs.Image.{content_of, all_contents, contents_of, LiesBelow};
 ghost use Rattle.mb_machine.specs.Memory.{overwritten};
 ghost use Rattle.mb_machine.specs.Machine.{start, with_contents};
-ghost use Rattle.mb_words.specs.Words.{asked_of};
-ghost use Rattle.mb_program.specs.Answers.{ran_of, why_of};
-ghost use Rattle.mb_program.specs.Runs.{Runs};
+ghost use Rattle.mb_words.specs.Words.{run_said};
+ghost use Rattle.mb_program.specs.Answers.{ran_of};
+ghost use Rattle.mb_program.specs.Runs.{Runs, run_fault_of};
 
 use crate::end::FileWhy;
 use mb_board::Board;
@@ -26,11 +26,26 @@ pub enum RunFault {
     Unbuilt,
 }
 
+impl From<ImageFault> for RunFault {
+    ghost from_gives = { λ given fault. fault ≡ run_fault_of given };
+
+    fn from(fault: ImageFault) -> RunFault {
+        match fault {
+            ImageFault::Memory => RunFault::Memory,
+            ImageFault::Line { number, why } => RunFault::NoImage(FileWhy::Line { number, why }),
+            ImageFault::Outside { at } => RunFault::NoImage(FileWhy::Outside { at }),
+            ImageFault::NoEnd => RunFault::NoImage(FileWhy::NoEnd),
+        }
+    }
+}
+
 /// Writes a chunk that lies in RAM.
 #[tactic(auto, using(mb_machine::proofs::MemoryLemmas::writes))]
 fn write_chunk(board: &mut Board, chunk: &Chunk)
     requires lies { LiesBelow (length board.old.ram) (content_of chunk.now) }
-    ensures after { board.new ≡ record board.old { ram = overwritten board.old.ram (content_of chunk.now).0 (content_of chunk.now).1 } }
+    ensures after { board.new ≡ record board.old {
+      ram = overwritten board.old.ram (content_of chunk.now).0 (content_of chunk.now).1;
+    } }
     ensures size { length board.new.ram ≡ length board.old.ram }
 {
     if !chunk.bytes().is_empty() {
@@ -64,29 +79,17 @@ fn start_board(alloc: Global, image: &Image, size: u32) -> Result<Board, Memory>
     Ok(board)
 }
 
-/// Why a text's first fault refuses its file.
-fn why(fault: ImageFault) -> FileWhy
-    ensures { result ≡ why_of fault }
-{
-    match fault {
-        ImageFault::Line { number, why } => FileWhy::Line { number, why },
-        ImageFault::Outside { at } => FileWhy::Outside { at },
-        ImageFault::NoEnd | ImageFault::Memory => FileWhy::NoEnd,
-    }
-}
-
 /// Reads an image, and runs it on a board of its own.
 #[tactic(auto, unfolding(crate::specs::Answers::ran_of))]
 pub fn run_bytes(alloc: Global, bare: &Bare, bytes: &[u8]) -> Result<Board, RunFault>
     requires { length bytes.now < 2 ^ 31 }
-    ensures runs { Runs (ran_of (asked_of bare.now) bytes.now) result }
+    ensures runs { Runs (ran_of (run_said bare.now) bytes.now) result }
     ensures ram { IfOk result (λ board. length board.ram ≤ 67108864) }
 {
     let size = 1024 * bare.ram;
     let image = match read_image(alloc, bytes, size) {
         Ok(image) => image,
-        Err(ImageFault::Memory) => return Err(RunFault::Memory),
-        Err(fault) => return Err(RunFault::NoImage(why(fault))),
+        Err(fault) => return Err(RunFault::from(fault)),
     };
     let Ok(mut board) = start_board(alloc, &image, size) else {
         return Err(RunFault::Memory);

@@ -1,8 +1,8 @@
 -- Entries behind others.
 use Rattle.std.proofs.Common.{List, ◌++◌, Result, Ok}
-use Rattle.mb_script.specs.declared.fault.LineFault.{LineFault}
+use Rattle.mb_script.specs.Faults.{Fault}
 use Rattle.mb_lines.specs.Results.{◌>>=◌}
 
 -- what was read, and then what is read
-abbrev pub with_front : {A : Type 0} → List A → Result (List A) LineFault → Result (List A) LineFault
+abbrev pub with_front : {A : Type 0} → List A → Result (List A) Fault → Result (List A) Fault
 with_front front read = read >>= λ later. Ok (front ++ later)

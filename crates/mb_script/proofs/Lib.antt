@@ -4,3 +4,4 @@ pub mod Cuts
 pub mod Pairs
 pub mod Names
 pub mod Entries
+pub mod Rams

@@ -13,17 +13,18 @@ use Rattle.mb_script.specs.declared.script_line.Written.TheVariants as written
 use Rattle.mb_script.specs.declared.plan.GuestPlan.{GuestPlan}
 use Rattle.mb_script.specs.declared.plan.SessionPlan.{SessionPlan}
 use Rattle.mb_script.specs.declared.session_line.Fields.{Fields}
+use Rattle.mb_script.specs.Faults.{Fault}
 use Rattle.mb_script.specs.Plan.{Guest, Plan}
 use Rattle.mb_script.specs.Scripts as scripts
 use Rattle.mb_script.specs.Sessions as sessions
 
 -- a fault is the one that is given, unless memory ran out
-abbrev pub Faults : {Y : Type 0} → LineFault → Result Y LineFault → Type 0
+abbrev pub Faults : {Y : Type 0} → LineFault → Result Y Fault → Type 0
 Faults Memory given = Unit {0}
-Faults (Line number why) given = given ≡ Err (Line number why)
+Faults (Line number why) given = given ≡ Err (record { number = number; why = why })
 
 -- the answer, seen by view, is what is given, unless memory ran out
-abbrev pub Gives : {X Y : Type 0} → (X → Y) → Result X LineFault → Result Y LineFault → Type 0
+abbrev pub Gives : {X Y : Type 0} → (X → Y) → Result X LineFault → Result Y Fault → Type 0
 Gives view (Ok x) given = given ≡ Ok (view x)
 Gives view (Err fault) given = Faults fault given
 
@@ -65,10 +66,24 @@ abbrev pub bytes_said : Bor (List ℕ) → List ℕ
 bytes_said word = word.now
 
 abbrev pub fields_said : Fields → sessions.Fields
-fields_said fields = record { ram = fields.ram.now; steps = fields.steps.now; image = fields.image.now; script = fields.script.now }
+fields_said fields = record {
+  ram = fields.ram.now;
+  steps = fields.steps.now;
+  image = fields.image.now;
+  script = fields.script.now;
+}
 
 abbrev pub guest_said : GuestPlan → Guest
-guest_said guest = record { ram = guest.ram; steps = guest.steps; image = string_bytes guest.image; script = option_map string_bytes guest.script }
+guest_said guest = record {
+  ram = guest.ram;
+  steps = guest.steps;
+  image = string_bytes guest.image;
+  script = option_map string_bytes guest.script;
+}
 
 abbrev pub plan_said : SessionPlan → Plan
-plan_said plan = record { board = plan.board; slice = plan.slice; guests = map guest_said plan.guests.items }
+plan_said plan = record {
+  board = plan.board;
+  slice = plan.slice;
+  guests = map guest_said plan.guests.items;
+}

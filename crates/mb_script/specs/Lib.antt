@@ -5,3 +5,4 @@ pub mod Scripts
 pub mod Plan
 pub mod Sessions
 pub mod Answers
+pub mod Faults

@@ -2,9 +2,8 @@
 use Rattle.std.specs.Prelude.{ℕ, ◌==◌, not, Bool, false, List, [], ◌∷◌, Result, Ok, Err}
 use Rattle.std.specs.List.{filter}
 use Rattle.mb_lines.specs.Lines.{Line, numbered}
-use Rattle.mb_script.specs.declared.fault.LineFault.{LineFault}
-use Rattle.mb_script.specs.declared.fault.LineFault.TheVariants as fault
 use Rattle.mb_script.specs.declared.fault.LineWhy.{LineWhy}
+use Rattle.mb_script.specs.Faults.{Fault}
 
 -- a line of which the first character is `#`
 abbrev pub is_comment : List ℕ → Bool
@@ -19,10 +18,10 @@ statements lines = filter (λ line. not (is_comment line.characters)) lines
 abbrev pub statements_of : List ℕ → List Line
 statements_of text = statements (numbered text)
 
-abbrev pub at_line : {A : Type 0} → ℕ → Result A LineWhy → Result A LineFault
+abbrev pub at_line : {A : Type 0} → ℕ → Result A LineWhy → Result A Fault
 at_line number (Ok x) = Ok x
-at_line number (Err why) = Err (fault.Line number why)
+at_line number (Err why) = Err (record { number = number; why = why })
 
 -- what a rule reads from a line
-abbrev pub read_by : {A : Type 0} → (List ℕ → Result A LineWhy) → Line → Result A LineFault
+abbrev pub read_by : {A : Type 0} → (List ℕ → Result A LineWhy) → Line → Result A Fault
 read_by rule line = at_line line.number (rule line.characters)

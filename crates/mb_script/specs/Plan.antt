@@ -1,5 +1,5 @@
 -- The plan of a board and its guests.
-use Rattle.std.specs.Prelude.{◌≡◌, ℕ, ◌%◌, ◌≤◌, ◌==◌, nat_le, Bool, ◌&&◌, List, Option}
+use Rattle.std.specs.Prelude.{◌≡◌, ℕ, ◌%◌, ◌≤◌, ◌==◌, nat_le, Bool, ◌&&◌, List, length, All, Option}
 
 -- A machine, with its RAM in KiB, a bound on its steps, and the names of its files.
 pub record Guest : Type 0 where
@@ -27,3 +27,14 @@ is_board kib = nat_le 128 kib && nat_le kib 65536 && (kib % 64 == 0)
 
 abbrev pub IsBoard : ℕ → Type 0
 IsBoard kib = (128 ≤ kib) × (kib ≤ 65536) × (kib % 64 ≡ 0)
+
+abbrev pub AreRams : List Guest → Type 0
+AreRams guests = All (λ guest. IsRam guest.ram) guests
+
+-- The sizes and numbers of a plan are in their ranges, and it has one to sixteen guests.
+pub record IsInRange (plan : Plan) : Type 0 where
+  pub board : IsBoard plan.board
+  pub slice : 1 ≤ plan.slice
+  pub some : 1 ≤ length plan.guests
+  pub few : length plan.guests ≤ 16
+  pub rams : AreRams plan.guests

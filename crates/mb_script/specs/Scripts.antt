@@ -6,9 +6,9 @@ use Rattle.std.specs.Option.{ok_or}
 use Rattle.std.specs.Result.{result_ok}
 use Rattle.hex.specs.Hex.{decode_of}
 use Rattle.mb_lines.specs.Lines.{Line}
-use Rattle.mb_script.specs.declared.fault.LineFault.{LineFault}
 use Rattle.mb_script.specs.declared.fault.LineWhy.{LineWhy}
 use Rattle.mb_script.specs.declared.fault.LineWhy.TheVariants as why
+use Rattle.mb_script.specs.Faults.{Fault}
 use Rattle.mb_lines.specs.Results.{◌>>=◌}
 use Rattle.mb_script.specs.Lines.{read_by, statements_of}
 use Rattle.mb_script.specs.Words.{cut_at_space, is_word, number_of, tested}
@@ -89,7 +89,7 @@ abbrev pub at_step : ℕ → List ℕ → List (ℕ × ℕ)
 at_step step bytes = map (λ byte. (step, byte)) bytes
 
 -- the steps and bytes of all lines behind a line of the step `last`
-abbrev pub entries_after : ℕ → List Line → Result (List (ℕ × ℕ)) LineFault
+abbrev pub entries_after : ℕ → List Line → Result (List (ℕ × ℕ)) Fault
 entries_after last [] = Ok []
 entries_after last (line ∷ lines) = do
   entry ← read_by (entry_after last) line
@@ -97,5 +97,5 @@ entries_after last (line ∷ lines) = do
   Ok (at_step entry.step entry.bytes ++ later)
 
 -- The steps and bytes of a script's text, or the first fault in order of lines.
-unfoldable pub script_of : List ℕ → Result (List (ℕ × ℕ)) LineFault
+unfoldable pub script_of : List ℕ → Result (List (ℕ × ℕ)) Fault
 script_of text = entries_after 0 (statements_of text)

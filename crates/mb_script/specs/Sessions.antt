@@ -1,12 +1,12 @@
 -- The grammar of session files: what a line says, and what a list of lines says.
-use Rattle.std.specs.Prelude.{ℕ, ◌+◌, ◌==◌, nat_le, not, Bool, ◌&&◌, ◌||◌, if◌then◌else◌, List, [], ◌∷◌, length, Option, Some, None, option_and_then, Result, Ok, Err, codes}
+use Rattle.std.specs.Prelude.{ℕ, ◌+◌, ◌==◌, nat_le, not, Bool, ◌&&◌, ◌||◌, if◌then◌else◌, List, [], ◌∷◌, length, codes}
+use Rattle.std.specs.Prelude.{Option, Some, None, option_and_then, Result, Ok, Err}
 use Rattle.std.specs.List.{filter, list_all, slice_split}
 use Rattle.std.specs.Str.{bytes_eq}
 use Rattle.std.specs.Option.{ok_or}
-use Rattle.mb_script.specs.declared.fault.LineFault.{LineFault}
-use Rattle.mb_script.specs.declared.fault.LineFault.TheVariants as fault
 use Rattle.mb_script.specs.declared.fault.LineWhy.{LineWhy}
 use Rattle.mb_script.specs.declared.fault.LineWhy.TheVariants as why
+use Rattle.mb_script.specs.Faults.{Fault}
 use Rattle.mb_lines.specs.Lines.{lines_in, Line}
 use Rattle.mb_lines.specs.Results.{◌>>=◌}
 use Rattle.mb_script.specs.Lines.{read_by, statements_of}
@@ -101,13 +101,14 @@ unless_sixteen count guest = if count == 16 then Err why.Many else Ok guest
 unfoldable pub guest_line : ℕ → List ℕ → Result Guest LineWhy
 guest_line count line = guest_of (words_of line) >>= unless_sixteen count
 
--- what the next line says, and the lines behind it; where there is none, a word is missing in the line after the last
-abbrev pub due : {A : Type 0} → ℕ → (List ℕ → Result A LineWhy) → List Line → Result (A × List Line) LineFault
-due past rule [] = Err (fault.Line past why.Word)
+-- what the next line says, and the lines behind it; where there is none, a word is missing in the line after
+-- the last
+abbrev pub due : {A : Type 0} → ℕ → (List ℕ → Result A LineWhy) → List Line → Result (A × List Line) Fault
+due past rule [] = Err (record { number = past; why = why.Word })
 due past rule (line ∷ later) = read_by rule line >>= λ said. Ok (said, later)
 
 -- the guests of all lines, behind so many others
-abbrev pub guests_after : ℕ → List Line → Result (List Guest) LineFault
+abbrev pub guests_after : ℕ → List Line → Result (List Guest) Fault
 guests_after count [] = Ok []
 guests_after count (line ∷ lines) = do
   guest ← read_by (guest_line count) line
@@ -115,14 +116,14 @@ guests_after count (line ∷ lines) = do
   Ok (guest ∷ later)
 
 -- one guest or more
-unfoldable pub guests_of : ℕ → List Line → Result (List Guest) LineFault
+unfoldable pub guests_of : ℕ → List Line → Result (List Guest) Fault
 guests_of past lines = do
   guest ← due past (guest_line 0) lines
   others ← guests_after 1 guest.1
   Ok (guest.0 ∷ others)
 
 -- a session, its board, its slice, and its guests; past is the number of the line after the last
-unfoldable pub plan_of : ℕ → List Line → Result Plan LineFault
+unfoldable pub plan_of : ℕ → List Line → Result Plan Fault
 plan_of past lines = do
   session ← due past session_line lines
   board ← due past board_line session.1
@@ -131,5 +132,5 @@ plan_of past lines = do
   Ok (record { board = board.0; slice = slice.0; guests = guests })
 
 -- The plan of a session file, or the first fault in order of lines.
-unfoldable pub session_of : List ℕ → Result Plan LineFault
+unfoldable pub session_of : List ℕ → Result Plan Fault
 session_of text = plan_of (length (lines_in text) + 1) (statements_of text)

@@ -52,6 +52,7 @@ pub(crate) fn slice(alloc: Global, line: &[u8]) -> Result<u32, Refusal>
 #[tactic(auto, unfolding(crate::specs::Sessions::guest_line))]
 pub(crate) fn guest(alloc: Global, count: usize, line: &[u8]) -> Result<GuestPlan, Refusal>
     ensures given { GivesAlone guest_said result (guest_line count line.now) }
+    ensures ram { IfOk result (λ guest. IsRam (guest_said guest).ram) }
     ensures few { OnOk result (count ≢ 16) }
 {
     let words = words_of(alloc, line)?;
@@ -202,7 +203,8 @@ fn fields_of<'a>(words: &[&'a [u8]]) -> Option<Fields<'a>>
 /// The guest that a line's words name.
 #[tactic(auto, unfolding(crate::specs::Sessions::guest_of))]
 fn guest_of(alloc: Global, words: &[&[u8]]) -> Result<GuestPlan, Refusal>
-    ensures { GivesAlone guest_said result (guest_of (map bytes_said words.now)) }
+    ensures given { GivesAlone guest_said result (guest_of (map bytes_said words.now)) }
+    ensures ram { IfOk result (λ guest. IsRam (guest_said guest).ram) }
 {
     let Some(fields) = fields_of(words) else {
         return Err(Refusal::Why(LineWhy::Word));

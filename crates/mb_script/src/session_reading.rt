@@ -4,8 +4,9 @@ ghost use Rattle.std.specs.Prelude.{◌≡◌, ◌≢◌, ◌<◌, ◌≤◌, �
 ghost use Rattle.mb_lines.specs.Lines.{left, past};
 ghost use Rattle.mb_lines.specs.Answers.{line_said};
 ghost use Rattle.mb_script.specs.Lines.{read_by, statements};
-ghost use Rattle.mb_script.specs.Plan.{IsBoard};
-ghost use Rattle.mb_script.specs.Sessions.{board_line, due, guest_line, guests_after, guests_of, plan_of, session_line, session_of, slice_line};
+ghost use Rattle.mb_script.specs.Plan.{AreRams, IsBoard, IsInRange, IsRam};
+ghost use Rattle.mb_script.specs.Sessions.{guest_line, guests_after, guests_of, plan_of, session_of};
+ghost use Rattle.mb_script.specs.Sessions.{board_line, due, session_line, slice_line};
 ghost use Rattle.mb_script.specs.Answers.{Faults, Gives, guest_said, plan_said};
 
 use crate::fault::LineFault;
@@ -27,6 +28,7 @@ use std::alloc::Global;
 pub fn read_session(alloc: Global, text: &[u8]) -> Result<SessionPlan, LineFault>
     requires { length text.now < 2 ^ 31 }
     ensures plan { IfOk result (λ plan. session_of text.now ≡ Ok (plan_said plan)) }
+    ensures in_range { IfOk result (λ plan. IsInRange (plan_said plan)) }
     ensures fault { IfErr result (λ fault. Faults fault (session_of text.now)) }
 {
     plan_of(alloc, &mut Lines::new(text))
@@ -35,7 +37,8 @@ pub fn read_session(alloc: Global, text: &[u8]) -> Result<SessionPlan, LineFault
 /// The plan that is left to read.
 #[tactic(auto, unfolding(crate::specs::Sessions::plan_of))]
 fn plan_of(alloc: Global, lines: &mut Lines) -> Result<SessionPlan, LineFault>
-    ensures { Gives plan_said result (plan_of (past lines.old) (statements (left lines.old))) }
+    ensures given { Gives plan_said result (plan_of (past lines.old) (statements (left lines.old))) }
+    ensures in_range { IfOk result (λ plan. IsInRange (plan_said plan)) }
 {
     version(alloc, lines)?;
     let board = board(alloc, lines)?;
@@ -45,7 +48,8 @@ fn plan_of(alloc: Global, lines: &mut Lines) -> Result<SessionPlan, LineFault>
 }
 
 fn version(alloc: Global, lines: &mut Lines) -> Result<u32, LineFault>
-    ensures given { Gives (λ version. (version, statements (left lines.new))) result (due (past lines.old) session_line (statements (left lines.old))) }
+    ensures given { Gives (λ version. (version, statements (left lines.new))) result
+        (due (past lines.old) session_line (statements (left lines.old))) }
     ensures past { past lines.new ≡ past lines.old }
 {
     let line = due_statement(lines)?;
@@ -54,7 +58,8 @@ fn version(alloc: Global, lines: &mut Lines) -> Result<u32, LineFault>
 }
 
 fn board(alloc: Global, lines: &mut Lines) -> Result<u32, LineFault>
-    ensures given { Gives (λ board. (board, statements (left lines.new))) result (due (past lines.old) board_line (statements (left lines.old))) }
+    ensures given { Gives (λ board. (board, statements (left lines.new))) result
+        (due (past lines.old) board_line (statements (left lines.old))) }
     ensures in_range { IfOk result IsBoard }
     ensures past { past lines.new ≡ past lines.old }
 {
@@ -64,7 +69,8 @@ fn board(alloc: Global, lines: &mut Lines) -> Result<u32, LineFault>
 }
 
 fn slice(alloc: Global, lines: &mut Lines) -> Result<u32, LineFault>
-    ensures given { Gives (λ slice. (slice, statements (left lines.new))) result (due (past lines.old) slice_line (statements (left lines.old))) }
+    ensures given { Gives (λ slice. (slice, statements (left lines.new))) result
+        (due (past lines.old) slice_line (statements (left lines.old))) }
     ensures in_range { IfOk result (λ slice. 1 ≤ slice) }
     ensures past { past lines.new ≡ past lines.old }
 {
@@ -76,9 +82,11 @@ fn slice(alloc: Global, lines: &mut Lines) -> Result<u32, LineFault>
 /// One guest or more.
 #[tactic(auto, unfolding(crate::specs::Sessions::guests_of))]
 fn guests(alloc: Global, lines: &mut Lines) -> Result<Vec<GuestPlan>, LineFault>
-    ensures given { Gives (λ guests. map guest_said guests.items) result (guests_of (past lines.old) (statements (left lines.old))) }
+    ensures given { Gives (λ guests. map guest_said guests.items) result
+        (guests_of (past lines.old) (statements (left lines.old))) }
     ensures some { IfOk result (λ guests. 1 ≤ length guests.items) }
     ensures few { IfOk result (λ guests. length guests.items ≤ 16) }
+    ensures rams { IfOk result (λ guests. AreRams (map guest_said guests.items)) }
 {
     let mut guests = Vec::new(alloc);
     let first = due_statement(lines)?;
@@ -93,6 +101,7 @@ fn guests(alloc: Global, lines: &mut Lines) -> Result<Vec<GuestPlan>, LineFault>
 /// The guest in a line, behind so many others.
 fn guest_in(alloc: Global, count: usize, line: Line) -> Result<GuestPlan, LineFault>
     ensures given { Gives guest_said result (read_by (guest_line count) (line_said line.entry)) }
+    ensures ram { IfOk result (λ guest. IsRam (guest_said guest).ram) }
     ensures few { OnOk result (count ≢ 16) }
 {
     let guest = session_line::guest(alloc, count, line.characters);

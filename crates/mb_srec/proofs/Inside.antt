@@ -5,6 +5,7 @@ use Rattle.std.proofs.lemmas.Bool.{cases_lt}
 use Rattle.std.proofs.lemmas.List.Elements.{All-nil, All-push}
 use Rattle.mb_lines.specs.Lines.{Line, numbered}
 use Rattle.mb_srec.specs.declared.fault.ImageFault.{ImageFault}
+use Rattle.mb_srec.specs.Faults.{Fault}
 use Rattle.mb_srec.specs.declared.image.Image.{Image}
 use Rattle.mb_srec.specs.Image.{LiesBelow, contents_of}
 use Rattle.mb_srec.specs.Answers.{Gives}
@@ -22,15 +23,15 @@ lies_below ram at bytes none some =
       | inr inside ↦ inside
     ]
 
-chosen : {A : Type 0} (b : Bool) (fault : ImageFault) (x : Result A ImageFault) (y : A) → cond b (Err fault) x ≡ Ok y → x ≡ Ok y
+chosen : {A : Type 0} (b : Bool) (fault : Fault) (x : Result A Fault) (y : A) → cond b (Err fault) x ≡ Ok y → x ≡ Ok y
 chosen true fault x y e = absurd cc
 chosen false fault x y e = e
 
-bound : {A B : Type 0} (x : Result A ImageFault) (f : A → Result B ImageFault) (y : B) → (x >>= f) ≡ Ok y → (a : A) × (x ≡ Ok a) × (f a ≡ Ok y)
+bound : {A B : Type 0} (x : Result A Fault) (f : A → Result B Fault) (y : B) → (x >>= f) ≡ Ok y → (a : A) × (x ≡ Ok a) × (f a ≡ Ok y)
 bound (Err fault) f y e = absurd cc
 bound (Ok a) f y e = (a, refl, e)
 
-abbrev is : {A : Type 0} → A → Result A ImageFault
+abbrev is : {A : Type 0} → A → Result A Fault
 is x = Ok x
 
 same : {A : Type 0} (x y : A) → is x ≡ is y → x ≡ y
@@ -66,7 +67,7 @@ lines_inside ram so_far last (line ∷ others) e inside =
     let next = bound (after_line ram so_far line) (λ r. after_lines ram r others) last e in
     lines_inside ram next.0 last others next.2 (line_inside ram so_far next.0 line next.1 inside)
 
-ended : (b : Bool) (x y : List (ℕ × List ℕ)) (fault : ImageFault) → cond b (Ok x) (Err fault) ≡ Ok y → x ≡ y
+ended : (b : Bool) (x y : List (ℕ × List ℕ)) (fault : Fault) → cond b (Ok x) (Err fault) ≡ Ok y → x ≡ y
 ended true x y fault e = same x y e
 ended false x y fault e = absurd cc
 

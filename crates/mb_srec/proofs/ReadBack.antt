@@ -17,7 +17,7 @@ use Rattle.byteorder.specs.Endian.{big_bytes, big_number}
 use Rattle.byteorder.specs.Numbers.{big_number-reads_back}
 use Rattle.mb_lines.specs.Lines.{Line, lines_in, numbered_from}
 use Rattle.mb_lines.proofs.Written.{IsPlain, first_written, none_written}
-use Rattle.mb_srec.specs.declared.fault.ImageFault.{ImageFault}
+use Rattle.mb_srec.specs.Faults.{Fault}
 use Rattle.mb_srec.specs.declared.kind.Kind.TheVariants.{S3}
 use Rattle.mb_srec.specs.Image.{LiesBelow, byte_of, byte_at}
 use Rattle.mb_lines.specs.Results.{◌>>=◌}
@@ -195,7 +195,7 @@ after_first : (ram number : ℕ) (so_far next : Reading) (line text rest : List 
 after_first ram number so_far next line text rest cut some plain read =
     ap (λ (t : List ℕ). after_lines ram so_far (text_lines number t)) cut
     ∙ (ap (after_lines ram so_far) (first_written number line rest some plain)
-    ∙ ap (λ (x : Result Reading ImageFault). x >>= λ s. after_lines ram s (text_lines (number + 1) rest)) read)
+    ∙ ap (λ (x : Result Reading Fault). x >>= λ s. after_lines ram s (text_lines (number + 1) rest)) read)
 
 IsBytes-take : (n : ℕ) (bytes : List ℕ) → All (λ b. b < 256) bytes → IsBytes (take n bytes)
 IsBytes-take n bytes fits = bytes-of_all (take n bytes) (All-take (λ b. b < 256) n bytes fits)
@@ -283,7 +283,7 @@ text_read contents ram fits inside =
     ∙ (body.1
     ∙ (after_first ram body.0 all ended last end_line [] end (omega arith) (plain_literal last refl) (end_read ram body.0 all refl)
     ∙ ap (λ (ls : List (List ℕ)). after_lines ram ended (numbered_from (body.0 + 1) ls)) none_written)) in
-    ap (λ (x : Result Reading ImageFault). x >>= at_end) done
+    ap (λ (x : Result Reading Fault). x >>= at_end) done
 
 same_byte : (contents : List (ℕ × List ℕ)) (address : ℕ) → byte_at (flat_map pieces_of contents) address ≡ byte_at contents address
 same_byte [] address = refl

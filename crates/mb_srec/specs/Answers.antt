@@ -8,20 +8,22 @@ use Rattle.mb_srec.specs.declared.record.RecordFault.TheVariants as line_fault
 use Rattle.mb_srec.specs.declared.record.Record.{Record}
 use Rattle.mb_srec.specs.declared.record.Record.TheVariants.{Header, Data, Count, End}
 use Rattle.mb_srec.specs.declared.reading.Reading.{Reading}
+use Rattle.mb_srec.specs.Faults.{Fault}
+use Rattle.mb_srec.specs.Faults as fault
 use Rattle.mb_srec.specs.Image.{all_contents}
 use Rattle.mb_srec.specs.Records as records
 
 -- a fault is the one that is given, unless memory ran out
-abbrev pub Faults : {Y : Type 0} → ImageFault → Result Y ImageFault → Type 0
+abbrev pub Faults : {Y : Type 0} → ImageFault → Result Y Fault → Type 0
 Faults Memory given = Unit {0}
-Faults (Line number why) given = given ≡ Err (Line number why)
-Faults (Outside at) given = given ≡ Err (Outside at)
-Faults NoEnd given = given ≡ Err NoEnd
+Faults (Line number why) given = given ≡ Err (fault.Line number why)
+Faults (Outside at) given = given ≡ Err (fault.Outside at)
+Faults NoEnd given = given ≡ Err fault.NoEnd
 
 -- the answer, seen by view, is what is given, unless memory ran out
-abbrev pub Gives : {X Y : Type 0} → (X → Y) → Result X ImageFault → Result Y ImageFault → Type 0
+abbrev pub Gives : {X Y : Type 0} → (X → Y) → Result X ImageFault → Result Y Fault → Type 0
 Gives view (Ok x) given = given ≡ Ok (view x)
-Gives view (Err fault) given = Faults fault given
+Gives view (Err e) given = Faults e given
 
 -- the same for what one line says by itself
 abbrev pub FaultsAlone : {Y : Type 0} → RecordFault → Result Y RecordWhy → Type 0
@@ -30,7 +32,7 @@ FaultsAlone (line_fault.Why why) given = given ≡ Err why
 
 abbrev pub GivesAlone : {X Y : Type 0} → (X → Y) → Result X RecordFault → Result Y RecordWhy → Type 0
 GivesAlone view (Ok x) given = given ≡ Ok (view x)
-GivesAlone view (Err fault) given = FaultsAlone fault given
+GivesAlone view (Err e) given = FaultsAlone e given
 
 abbrev pub said : Record → records.Record
 said Header = records.Header

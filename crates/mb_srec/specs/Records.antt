@@ -1,13 +1,14 @@
 -- The grammar of S-records: what a line says, and what a list of lines says.
-use Rattle.std.specs.Prelude.{ℕ, suc, ◌+◌, ◌-◌, ◌%◌, Bool, true, false, ◌&&◌, ◌||◌, ◌==◌, not, nat_lt, if◌then◌else◌, List, [], ◌∷◌, ◌++◌, length, take, drop, slice_index, sum, Option, Some, None, Result, Ok, Err}
+use Rattle.std.specs.Prelude.{ℕ, suc, ◌+◌, ◌-◌, ◌%◌, nat_lt, Bool, true, false, ◌&&◌, ◌||◌, ◌==◌, not, if◌then◌else◌}
+use Rattle.std.specs.Prelude.{List, [], ◌∷◌, ◌++◌, length, take, drop, slice_index, sum, Option, Some, None, Result, Ok, Err}
 use Rattle.std.specs.Option.{ok_or}
 use Rattle.std.specs.Result.{result_ok}
 use Rattle.hex.specs.Hex.{decode_of}
 use Rattle.byteorder.specs.Endian.{big_number}
 use Rattle.mb_lines.specs.Lines.{Line, numbered}
 use Rattle.mb_lines.specs.Results.{◌>>=◌}
-use Rattle.mb_srec.specs.declared.fault.ImageFault.{ImageFault}
-use Rattle.mb_srec.specs.declared.fault.ImageFault.TheVariants as fault
+use Rattle.mb_srec.specs.Faults.{Fault}
+use Rattle.mb_srec.specs.Faults as fault
 use Rattle.mb_srec.specs.declared.fault.RecordWhy.{RecordWhy}
 use Rattle.mb_srec.specs.declared.fault.RecordWhy.TheVariants as why
 use Rattle.mb_srec.specs.declared.kind.Kind.{Kind}
@@ -33,7 +34,9 @@ checksum_of bytes = 255 - sum bytes % 256
 abbrev pub has_its_length : Kind → List ℕ → Bool
 has_its_length kind [] = false
 has_its_length kind (count ∷ rest) =
-    (count == length rest) && nat_lt (address_len kind) count && (may_hold_data kind || (count == address_len kind + 1))
+    (count == length rest)
+    && nat_lt (address_len kind) count
+    && (may_hold_data kind || (count == address_len kind + 1))
 
 -- all bytes but the last
 abbrev pub summed : List ℕ → List ℕ
@@ -96,43 +99,44 @@ abbrev pub counts_right : Reading → Record → Bool
 counts_right so_far (Count number) = number == length so_far.contents
 counts_right so_far _ = true
 
-abbrev pub unless_outside : {A : Type 0} → Option ℕ → A → Result A ImageFault
+abbrev pub unless_outside : {A : Type 0} → Option ℕ → A → Result A Fault
 unless_outside None next = Ok next
 unless_outside (Some at) next = Err (fault.Outside at)
 
-unfoldable pub with_record : ℕ → Reading → Record → Result Reading ImageFault
+unfoldable pub with_record : ℕ → Reading → Record → Result Reading Fault
 with_record ram so_far Header = Ok so_far
 with_record ram so_far (Data at bytes) =
-    unless_outside (first_outside ram at bytes) (record { contents = so_far.contents ++ (at, bytes) ∷ []; ended = so_far.ended })
+    unless_outside (first_outside ram at bytes)
+    (record { contents = so_far.contents ++ (at, bytes) ∷ []; ended = so_far.ended })
 with_record ram so_far (Count number) = Ok so_far
 with_record ram so_far End = Ok (record { contents = so_far.contents; ended = true })
 
 -- what a line's record makes of what the lines before gave
-unfoldable pub after_record : ℕ → ℕ → Reading → Record → Result Reading ImageFault
+unfoldable pub after_record : ℕ → ℕ → Reading → Record → Result Reading Fault
 after_record ram number so_far said =
     if not (counts_right so_far said) then Err (fault.Line number why.Count)
     else if so_far.ended then Err (fault.Line number why.After)
     else with_record ram so_far said
 
-abbrev pub at_line : {A : Type 0} → ℕ → Result A RecordWhy → Result A ImageFault
+abbrev pub at_line : {A : Type 0} → ℕ → Result A RecordWhy → Result A Fault
 at_line number (Ok x) = Ok x
 at_line number (Err reason) = Err (fault.Line number reason)
 
 -- what a line makes of what the lines before gave
-unfoldable pub after_line : ℕ → Reading → Line → Result Reading ImageFault
+unfoldable pub after_line : ℕ → Reading → Line → Result Reading Fault
 after_line ram so_far line = do
   said ← at_line line.number (record_of line.characters)
   after_record ram line.number so_far said
 
-abbrev pub after_lines : ℕ → Reading → List Line → Result Reading ImageFault
+abbrev pub after_lines : ℕ → Reading → List Line → Result Reading Fault
 after_lines ram so_far [] = Ok so_far
 after_lines ram so_far (line ∷ lines) = do
   next ← after_line ram so_far line
   after_lines ram next lines
 
-unfoldable pub at_end : Reading → Result (List (ℕ × List ℕ)) ImageFault
+unfoldable pub at_end : Reading → Result (List (ℕ × List ℕ)) Fault
 at_end so_far = if so_far.ended then Ok so_far.contents else Err fault.NoEnd
 
 -- The data records of a text in their order, or the first fault in order of lines, for a RAM of this size.
-unfoldable pub records_of : List ℕ → ℕ → Result (List (ℕ × List ℕ)) ImageFault
+unfoldable pub records_of : List ℕ → ℕ → Result (List (ℕ × List ℕ)) Fault
 records_of text ram = after_lines ram beginning (numbered text) >>= at_end

@@ -3,7 +3,7 @@ use Rattle.std.specs.Prelude.{◌≡◌, ℕ, zero, suc, ◌+◌, ◌/◌, ◌<�
 use Rattle.std.specs.List.{flat_map}
 use Rattle.hex.specs.Hex.{encode_upper}
 use Rattle.byteorder.specs.Endian.{big_bytes}
-use Rattle.mb_srec.specs.declared.fault.ImageFault.{ImageFault}
+use Rattle.mb_srec.specs.Faults.{Fault}
 use Rattle.mb_srec.specs.Image.{IsAddressed, byte_at}
 use Rattle.mb_srec.specs.Records.{checksum_of}
 
@@ -41,5 +41,5 @@ abbrev pub IsContent : ℕ × List ℕ → Type 0
 IsContent (at, bytes) = All (λ byte. byte < 256) bytes × IsAddressed (at, bytes)
 
 -- what was read has the same bytes at the same addresses, and no others
-abbrev pub SameBytes : List (ℕ × List ℕ) → Result (List (ℕ × List ℕ)) ImageFault → Type 0
+abbrev pub SameBytes : List (ℕ × List ℕ) → Result (List (ℕ × List ℕ)) Fault → Type 0
 SameBytes contents given = IsOkAnd given (λ read. (address : ℕ) → byte_at read address ≡ byte_at contents address)

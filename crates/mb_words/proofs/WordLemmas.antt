@@ -6,12 +6,12 @@ use Rattle.mb_forms.specs.Forms.{Use, IsNumbered}
 use Rattle.mb_forms.specs.Clap.{FaultFits}
 use Rattle.mb_forms.specs.declared.fault.WordsFault.{WordsFault}
 use Rattle.mb_forms.specs.declared.fault.WordsFault.TheVariants.{Memory, Refused}
-use Rattle.mb_words.specs.Words.{bare_form, bare_asks, asked_by}
+use Rattle.mb_words.specs.Words.{bare_form, bare_run, asked_by}
 
 pub bare_is_numbered : IsNumbered bare_form
 bare_is_numbered = omega arith
 
-pub same_fault : (given : Option (List Use)) (fault : WordsFault) → FaultFits given fault → FaultFits (option_and_then bare_asks given) fault
+pub same_fault : (given : Option (List Use)) (fault : WordsFault) → FaultFits given fault → FaultFits (option_and_then bare_run given) fault
 same_fault given Memory h = tt
 same_fault given Refused h = rw h refl
 

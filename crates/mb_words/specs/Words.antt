@@ -1,20 +1,30 @@
 -- The words of the command line, and what they ask for.
-use Rattle.std.specs.Prelude.{◌≡◌, ◌+◌, ◌-◌, ◌*◌, ◌%◌, ◌==◌, ◌&&◌, ◌||◌, not, ℕ, Bool, true, List, [], ◌∷◌, length, Option, Some, None, Result, Ok, Err, option_and_then, if◌then◌else◌, nat_lt, nat_le, codes}
+use Rattle.std.specs.Prelude.{◌≡◌, ◌+◌, ◌-◌, ◌*◌, ◌%◌, ◌==◌, ◌&&◌, ◌||◌, not, ℕ, nat_lt, nat_le, Bool, true, if◌then◌else◌}
+use Rattle.std.specs.Prelude.{List, [], ◌∷◌, length, codes, Option, Some, None, option_map, option_and_then, Result, Ok, Err}
 use Rattle.std.specs.Str.{bytes_eq}
 pub use Rattle.mb_forms.specs.Forms.{Text}
 use Rattle.mb_forms.specs.Forms.{Form, Use, read, value_in}
 use Rattle.mb_forms.specs.Clap.{FaultFits}
 use Rattle.mb_forms.specs.declared.fault.WordsFault.{WordsFault}
 use Rattle.mb_words.specs.declared.bare.Bare.{Bare}
+use Rattle.mb_words.specs.declared.command.Command.{Command}
+use Rattle.mb_words.specs.declared.command.Command.TheVariants as command
 
--- a machine by its image, its RAM in KiB and its steps
-pub record Asked : Type 0 where
+-- a run of a machine: the name of its image's file, its RAM in KiB and its steps
+pub record Run : Type 0 where
   pub image : Text
   pub ram : ℕ
   pub steps : ℕ
 
-abbrev pub asked_of : Bare → Asked
-asked_of bare = record { image = bare.image.now; ram = bare.ram; steps = bare.steps }
+-- what words can ask for: a command with its values
+pub data Asked : Type 0 where
+  bare : Run → Asked
+
+abbrev pub run_said : Bare → Run
+run_said b = record { image = b.image.now; ram = b.ram; steps = b.steps }
+
+abbrev pub asked_of : Command → Asked
+asked_of (command.Bare b) = bare (run_said b)
 
 abbrev pub is_digit : ℕ → Bool
 is_digit byte = nat_le 48 byte && nat_le byte 57
@@ -50,34 +60,39 @@ steps_of text = option_and_then (tested is_steps) (number_of text)
 abbrev pub is_name : Text → Bool
 is_name name = not (length name == 0)
 
-abbrev pub asked_for : Text → Option ℕ → Option ℕ → Option Asked
-asked_for image (Some ram) (Some steps) = if is_name image then Some (record { image = image; ram = ram; steps = steps }) else None
-asked_for image _ _ = None
+abbrev pub run_for : Text → Option ℕ → Option ℕ → Option Run
+run_for image (Some ram) (Some steps) =
+    if is_name image then Some (record { image = image; ram = ram; steps = steps }) else None
+run_for image _ _ = None
 
 -- `bare IMAGE --ram KIB --steps N`
 abbrev pub bare_form : Form
 bare_form = record {
   name = codes "bare";
   positionals = codes "IMAGE" ∷ [];
-  options = record { name = codes "ram"; required = true } ∷ record { name = codes "steps"; required = true } ∷ [];
+  options =
+      record { name = codes "ram"; required = true }
+      ∷ record { name = codes "steps"; required = true }
+      ∷ [];
 }
 
-abbrev pub asked_with : Option Text → Option Text → Option Text → Option Asked
-asked_with (Some image) (Some ram) (Some steps) = asked_for image (ram_of ram) (steps_of steps)
-asked_with _ _ _ = None
+abbrev pub run_with : Option Text → Option Text → Option Text → Option Run
+run_with (Some image) (Some ram) (Some steps) = run_for image (ram_of ram) (steps_of steps)
+run_with _ _ _ = None
 
--- what the values of `bare` ask for
-abbrev pub bare_asks : List Use → Option Asked
-bare_asks uses = asked_with (value_in (codes "IMAGE") uses) (value_in (codes "ram") uses) (value_in (codes "steps") uses)
+-- the run that the values of `bare` ask for
+abbrev pub bare_run : List Use → Option Run
+bare_run uses = run_with (value_in (codes "IMAGE") uses) (value_in (codes "ram") uses) (value_in (codes "steps") uses)
 
 -- What the words ask for: `PROGRAM COMMAND`, and then the command's own words in its form. Other words ask
 -- for nothing.
 unfoldable pub asked_by : List Text → Option Asked
-asked_by (program ∷ command ∷ words) =
-    if bytes_eq command (codes "bare") then option_and_then bare_asks (read bare_form words) else None
+asked_by (program ∷ name ∷ words) =
+    if bytes_eq name (codes "bare") then option_map bare (option_and_then bare_run (read bare_form words))
+    else None
 asked_by _ = None
 
--- The words were read as what they ask for, or refused where they ask for nothing; want of memory is free.
-abbrev pub ReadsWords : Option Asked → Result Bare WordsFault → Type 0
-ReadsWords asked (Ok bare) = asked ≡ Some (asked_of bare)
-ReadsWords asked (Err fault) = FaultFits asked fault
+-- What was read is what the words give, seen so, or they were refused and give nothing; want of memory is free.
+abbrev pub ReadsAs : {X Y : Type 0} → (X → Y) → Option Y → Result X WordsFault → Type 0
+ReadsAs view given (Ok x) = given ≡ Some (view x)
+ReadsAs view given (Err fault) = FaultFits given fault

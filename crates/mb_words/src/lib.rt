@@ -6,9 +6,11 @@
 #![tactic(auto)]
 
 mod bare;
+mod command;
 mod number;
 mod reading;
 
 pub use bare::Bare;
+pub use command::Command;
 pub use mb_forms::WordsFault;
 pub use reading::read_words;

@@ -35,6 +35,6 @@ fn main(rt: HostRuntime) -> ExitCode {
             return ExitCode::from(2);
         }
     };
-    let mut shelf = FileShelf::new(alloc, rt);
+    let mut shelf = FileShelf::new(rt);
     ExitCode::from(run_program(alloc, &words, &mut shelf, &mut out, &mut diag))
 }

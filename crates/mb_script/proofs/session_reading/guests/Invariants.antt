@@ -3,6 +3,7 @@ use Rattle.std.proofs.Common.{◌≡◌, ◌≤◌, length, map}
 use Rattle.mb_lines.specs.Lines.{left, past}
 use Rattle.mb_script.specs.Answers.{guest_said}
 use Rattle.mb_script.specs.Lines.{statements}
+use Rattle.mb_script.specs.Plan.{AreRams}
 use Rattle.mb_script.specs.Sessions.{guests_after, guests_of}
 use Rattle.mb_script.proofs.Entries.{with_front}
 use Rattle.mb_script.proofs.session_reading.guests.Given as goal
@@ -13,6 +14,7 @@ invariant-loop-line l = record {
   past : past l.lines ≡ past l.fn.lines;
   some : 1 ≤ length l.guests.items;
   few : length l.guests.items ≤ 16;
+  rams : AreRams (map guest_said l.guests.items);
 }
 
 abbrev pub decreases-loop-line : goal.decreases-loop-line

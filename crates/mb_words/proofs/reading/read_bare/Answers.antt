@@ -6,7 +6,7 @@ use Rattle.mb_forms.specs.Forms.{read}
 use Rattle.mb_forms.specs.Clap.{FaultFits}
 use Rattle.mb_forms.specs.declared.fault.WordsFault.{WordsFault}
 use Rattle.mb_forms.proofs.Parsed.{value_found}
-use Rattle.mb_words.specs.Words.{bare_form, bare_asks}
+use Rattle.mb_words.specs.Words.{bare_form, bare_run}
 use Rattle.mb_words.proofs.WordLemmas.{bare_is_numbered, same_fault}
 use Rattle.mb_words.proofs.reading.read_bare.Goals as goal
 
@@ -15,7 +15,7 @@ returns-in_err-matches c =
     let given = read bare_form (map string_bytes c.args.words.now) in
     let handed_up = err_from_is_err_and c.from_residual.result c.from_residual.ensures.1 in
     let fits = same_fault given c.in_err-matches.field-0.0 (c.in_err-matches.ensures.reads bare_form bare_is_numbered c.in-Ok.ensures) in
-    rw handed_up.1 (subst (λ (fault : WordsFault). FaultFits (option_and_then bare_asks given) fault) (sym handed_up.2) fits)
+    rw handed_up.1 (subst (λ (fault : WordsFault). FaultFits (option_and_then bare_run given) fault) (sym handed_up.2) fits)
 
 pub returns-in-Some : goal.returns-in-Some
 returns-in-Some c =

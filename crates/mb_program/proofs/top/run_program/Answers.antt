@@ -1,0 +1,25 @@
+use Rattle.std.proofs.Common.{rules, sym, ◌∙◌}
+use Rattle.mb_program.proofs.FileLemmas.{unread_never}
+use Rattle.mb_program.proofs.top.run_program.Goals as goal
+
+pub returns-clause-causes : goal.returns-clause-causes
+returns-clause-causes g c = record {
+  words_only = search rules;
+  words_always = search rules;
+  refused_only = search rules;
+  refused_always = search rules;
+  unread_only = search rules;
+  unread_always = search rules;
+  unread_never = λ all is. unread_never _ _ c.run_words-end.result c.run_words-end.ensures.ends all (sym c.status.ensures ∙ is);
+  output_only = search rules;
+  output_always = search rules;
+  output_part = search rules;
+  unbuilt_only = search rules;
+  unbuilt_always = search rules;
+  done_only = search rules;
+  silent = search rules;
+  complete = search rules;
+  says = search rules;
+  same_told = search rules;
+  same_whole = search rules;
+}

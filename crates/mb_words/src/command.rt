@@ -1,0 +1,9 @@
+//! The commands.
+
+use crate::bare::Bare;
+
+/// A command with its values.
+#[derive(Clone, Copy, Debug, Drop)]
+pub enum Command<'a> {
+    Bare(Bare<'a>),
+}
