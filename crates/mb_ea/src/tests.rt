@@ -3,7 +3,7 @@
 ghost use Rattle.std.specs.Prelude.{IsTrue};
 ghost use Rattle.mb_instr.specs.Operands.{IsEa};
 
-use crate::{Target, read_operand, read_value, resolve};
+use crate::{ReadFault, Target, read_operand, read_value, resolve};
 use mb_instr::{Ea, Ext, Plain, Size};
 use mb_port::{Piece, Port, Space};
 use mb_vector::VectorPort;
@@ -50,399 +50,247 @@ fn is_operand(ea: Ea) -> bool
     }
 }
 
+/// An operand, the address of its first extension word, the base, the index register, a long in memory with its
+/// address, and the address that two emulators make of it.
+type Case = (Ea, u32, u32, u32, (u32, u32), u32);
+
+/// `(An)` with an index, by a brief word.
+fn brief(n: u8, word: u16) -> Ea {
+    Ea::Index(n, Ext::Brief(word))
+}
+
+/// The PC with an index, by a brief word.
+fn pc_brief(word: u16) -> Ea {
+    Ea::PcIndex(Ext::Brief(word))
+}
+
+/// `(An)` with a full word and its displacements.
+fn full(n: u8, word: u16, bd: u32, od: u32) -> Ea {
+    Ea::Index(n, Ext::Full { word, bd, od })
+}
+
+/// The PC with a full word and its displacements.
+fn pc_full(word: u16, bd: u32, od: u32) -> Ea {
+    Ea::PcIndex(Ext::Full { word, bd, od })
+}
+
+/// Where the operand of a case stands.
+fn found(case: &Case, alloc: Global) -> Result<Result<Target, ReadFault>, AllocError> {
+    let (ea, word_at, base, index, (at, long), _) = *case;
+    let mut port = memory(alloc, at, long)?;
+    let mut plain = registers(&ea, base, index);
+    if is_operand(ea) {
+        Ok(resolve(&ea, Size::Long, &mut plain, word_at, Space::User, &mut port))
+    } else {
+        Ok(Ok(Target::Value(0)))
+    }
+}
+
 #[test]
+#[rattlefmt::skip]
 fn addresses_from_outside(rt: HostRuntime) -> Result<(), AllocError> {
-    // An operand, the address of its first extension word, the base, the index register, a long in
-    // memory, and the address that two emulators make of it.
-    let cases: [(Ea, u32, u32, u32, (u32, u32), u32); 34] = [
-        (
-            Ea::Index(
-                0,
-                Ext::Full {
-                    word: 0x43D0,
-                    bd: 0x0,
-                    od: 0x0,
-                },
-            ),
-            0x532,
-            0x88CC,
-            0xA831F05E,
-            (0x0, 0x0),
-            0x0,
-        ),
-        (
-            Ea::Index(
-                3,
-                Ext::Full {
-                    word: 0x7F61,
-                    bd: 0x7EB1,
-                    od: 0x0,
-                },
-            ),
-            0xA50,
-            0x569A,
-            0x3028A6DC,
-            (0xD54B, 0xC),
-            0xC,
-        ),
-        (
-            Ea::Index(
-                5,
-                Ext::Full {
-                    word: 0x3136,
-                    bd: 0x5E5354FD,
-                    od: 0xEA11,
-                },
-            ),
-            0xDC2,
-            0xA1AD0FB0,
-            0x404D9A87,
-            (0x64AD, 0x7BA0),
-            0x38,
-        ),
-        (
-            Ea::Index(
-                7,
-                Ext::Full {
-                    word: 0x8BA0,
-                    bd: 0x20F2,
-                    od: 0x0,
-                },
-            ),
-            0xD9C,
-            0x7F48,
-            0x820B,
-            (0x0, 0x0),
-            0x12508,
-        ),
-        (Ea::AbsW(0x1922), 0xB4A, 0x0, 0x0, (0x0, 0x0), 0x1922),
-        (
-            Ea::PcIndex(Ext::Full {
-                word: 0xFB13,
-                bd: 0x0,
-                od: 0xEC,
-            }),
-            0xD96,
-            0x0,
-            0x3371,
-            (0x7478, 0x7F14),
-            0x8000,
-        ),
-        (
-            Ea::PcIndex(Ext::Full {
-                word: 0x8930,
-                bd: 0xBF7511DD,
-                od: 0x0,
-            }),
-            0x9F2,
-            0x0,
-            0x408BAF38,
-            (0x0, 0x0),
-            0xCB07,
-        ),
-        (
-            Ea::Index(
-                0,
-                Ext::Full {
-                    word: 0xA952,
-                    bd: 0x0,
-                    od: 0xFC68,
-                },
-            ),
-            0x671E,
-            0x1B6B,
-            0x9A5F,
-            (0x1B6B, 0x3AD),
-            0x15,
-        ),
-        (
-            Ea::Index(
-                2,
-                Ext::Full {
-                    word: 0xDB70,
-                    bd: 0x110,
-                    od: 0x0,
-                },
-            ),
-            0xA40,
-            0xFF0,
-            0x5237,
-            (0x0, 0x0),
-            0x1100,
-        ),
-        (
-            Ea::Index(
-                3,
-                Ext::Full {
-                    word: 0x83E1,
-                    bd: 0x718D,
-                    od: 0x0,
-                },
-            ),
-            0x644,
-            0xBBB4,
-            0x5BFE,
-            (0x718D, 0x0),
-            0x0,
-        ),
-        (
-            Ea::Index(
-                4,
-                Ext::Full {
-                    word: 0x0537,
-                    bd: 0xFFFFFFE1,
-                    od: 0xEDFD835F,
-                },
-            ),
-            0x670,
-            0x2DB2,
-            0xC50E51D7,
-            (0x2D93, 0x12023545),
-            0x10000,
-        ),
-        (
-            Ea::Index(
-                7,
-                Ext::Full {
-                    word: 0x5D11,
-                    bd: 0x0,
-                    od: 0x0,
-                },
-            ),
-            0xAEA2,
-            0x642F9C7B,
-            0xA6F42AE4,
-            (0x480B, 0xCF60),
-            0xCF60,
-        ),
-        (Ea::AbsW(0xE916), 0xC9A, 0x0, 0x0, (0x0, 0x0), 0xFFFFE916),
-        (
-            Ea::PcIndex(Ext::Brief(0xA8E9)),
-            0x8A0,
-            0x0,
-            0x7FFFF7F7,
-            (0x0, 0x0),
-            0x80000080,
-        ),
-        (
-            Ea::PcIndex(Ext::Full {
-                word: 0xBB73,
-                bd: 0x49B5,
-                od: 0x6E,
-            }),
-            0x72C8,
-            0x0,
-            0xC13A,
-            (0xBC7D, 0xBCD11723),
-            0xBCD11791,
-        ),
-        (
-            Ea::PcIndex(Ext::Brief(0x3086)),
-            0x95F0,
-            0x0,
-            0x20D2CBEA,
-            (0x0, 0x0),
-            0x6160,
-        ),
-        (
-            Ea::PcIndex(Ext::Full {
-                word: 0xFF91,
-                bd: 0x0,
-                od: 0x0,
-            }),
-            0xAB5E,
-            0x0,
-            0xB8B,
-            (0x5C58, 0xB),
-            0xB,
-        ),
-        (
-            Ea::PcIndex(Ext::Full {
-                word: 0x9BD2,
-                bd: 0x0,
-                od: 0xD776,
-            }),
-            0x28E4,
-            0x0,
-            0x2C14,
-            (0x0, 0xB004),
-            0x877A,
-        ),
-        (
-            Ea::PcIndex(Ext::Full {
-                word: 0xF932,
-                bd: 0x80363D37,
-                od: 0xD659,
-            }),
-            0x7CE,
-            0x0,
-            0x7FCA95B1,
-            (0xDAB6, 0x5E3E),
-            0x3497,
-        ),
-        (
-            Ea::Index(
-                1,
-                Ext::Full {
-                    word: 0xAD15,
-                    bd: 0x0,
-                    od: 0x0,
-                },
-            ),
-            0x928,
-            0xA15B,
-            0x4C43,
-            (0xA15B, 0x7FFECEF3),
-            0x7FFFFFFF,
-        ),
-        (
-            Ea::Index(
-                3,
-                Ext::Full {
-                    word: 0x29A7,
-                    bd: 0x5E84,
-                    od: 0x4E,
-                },
-            ),
-            0xCF8,
-            0xC281,
-            0xFFFFFFD3,
-            (0x5E84, 0x4D51),
-            0x4D72,
-        ),
-        (Ea::PcDisp(0xEBF9), 0x58AA, 0x0, 0x0, (0x0, 0x0), 0x44A3),
-        (
-            Ea::PcIndex(Ext::Full {
-                word: 0x45A6,
-                bd: 0x1C2E,
-                od: 0x2B22,
-            }),
-            0x714,
-            0x0,
-            0x0,
-            (0x1C2E, 0x70C1),
-            0x9BE3,
-        ),
-        (
-            Ea::Disp(7, 0xBB37),
-            0xA294,
-            0xAA28569A,
-            0x0,
-            (0x0, 0x0),
-            0xAA2811D1,
-        ),
-        (Ea::PcDisp(0x5515), 0x51A, 0x0, 0x0, (0x0, 0x0), 0x5A2F),
-        (
-            Ea::PcIndex(Ext::Full {
-                word: 0x6DA2,
-                bd: 0x2458,
-                od: 0xAF9B,
-            }),
-            0xC940,
-            0x0,
-            0x2770,
-            (0xC218, 0x503F),
-            0xFFFFFFDA,
-        ),
-        (Ea::Ind(2), 0x878E, 0xF346ACC9, 0x0, (0x0, 0x0), 0xF346ACC9),
-        (Ea::Disp(6, 0x1368), 0xB028, 0xBB09, 0x0, (0x0, 0x0), 0xCE71),
-        (
-            Ea::Index(
-                2,
-                Ext::Full {
-                    word: 0xDFD3,
-                    bd: 0x0,
-                    od: 0xFFFFC8E1,
-                },
-            ),
-            0x680,
-            0xC8FC,
-            0xA16E,
-            (0x0, 0x4818),
-            0x10F9,
-        ),
-        (
-            Ea::Index(
-                5,
-                Ext::Full {
-                    word: 0x53A5,
-                    bd: 0x3FDF,
-                    od: 0x0,
-                },
-            ),
-            0xA17C,
-            0x71CE,
-            0x29751050,
-            (0x3FDF, 0xAE09),
-            0xCEA9,
-        ),
-        (
-            Ea::AbsL(0x40451408),
-            0x832,
-            0x0,
-            0x0,
-            (0x0, 0x0),
-            0x40451408,
-        ),
-        (
-            Ea::PcIndex(Ext::Brief(0x0E53)),
-            0xC24C,
-            0x0,
-            0xFFFFF7AC,
-            (0x0, 0x0),
-            0x7FFF,
-        ),
-        (
-            Ea::PcIndex(Ext::Full {
-                word: 0x4F93,
-                bd: 0x0,
-                od: 0xA9,
-            }),
-            0x2C9E,
-            0x0,
-            0x559,
-            (0x2AC8, 0x3E185E0F),
-            0x3E185EB8,
-        ),
-        (
-            Ea::Index(5, Ext::Brief(0x9AFA)),
-            0x414,
-            0x5940,
-            0x1363,
-            (0x0, 0x0),
-            0x8000,
-        ),
+    let cases: [Case; 12] = [
+        (Ea::AbsL(0x4045_1408), 0x832, 0, 0, (0, 0), 0x4045_1408),
+        (Ea::AbsW(0x1922), 0xB4A, 0, 0, (0, 0), 0x1922),
+        (Ea::AbsW(0xE916), 0xC9A, 0, 0, (0, 0), 0xFFFF_E916),
+        (brief(5, 0x9AFA), 0x414, 0x5940, 0x1363, (0, 0), 0x8000),
+        (brief(5, 0xFCB1), 0x9F2, 0xFFFD_ABC4, 0x9526, (0, 0), 0xD),
+        (pc_brief(0x3086), 0x95F0, 0, 0x20D2_CBEA, (0, 0), 0x6160),
+        (pc_brief(0xA8E9), 0x8A0, 0, 0x7FFF_F7F7, (0, 0), 0x8000_0080),
+        (Ea::Disp(6, 0x1368), 0xB028, 0xBB09, 0, (0, 0), 0xCE71),
+        (Ea::Disp(7, 0xBB37), 0xA294, 0xAA28_569A, 0, (0, 0), 0xAA28_11D1),
+        (Ea::Ind(2), 0x878E, 0xF346_ACC9, 0, (0, 0), 0xF346_ACC9),
+        (Ea::PcDisp(0x5515), 0x51A, 0, 0, (0, 0), 0x5A2F),
+        (Ea::PcDisp(0xEBF9), 0x58AA, 0, 0, (0, 0), 0x44A3),
     ];
-    for (ea, word_at, base, index, (at, long), wanted) in cases {
-        let mut port = memory(rt.alloc(), at, long)?;
-        let mut plain = registers(&ea, base, index);
-        assert!(rt; is_operand(ea));
-        let found = resolve(&ea, Size::Long, &mut plain, word_at, Space::User, &mut port);
-        assert_eq!(rt; found, Ok(Target::Memory(wanted)), "{ea:?}");
+    for case in cases {
+        assert_eq!(rt; found(&case, rt.alloc())?, Ok(Target::Memory(case.5)), "{:?}", case.0);
     }
     Ok(())
 }
 
 #[test]
+#[rattlefmt::skip]
+fn full_words_from_outside(rt: HostRuntime) -> Result<(), AllocError> {
+    let cases: [Case; 66] = [
+        (full(0, 0xAF10, 0, 0), 0x969A, 0xFFFF_9D6B, 0x192F, (0, 0), 0x66E3),
+        (full(7, 0x5D11, 0, 0), 0xAEA2, 0x642F_9C7B, 0xA6F4_2AE4, (0x480B, 0xCF60), 0xCF60),
+        (full(3, 0x4512, 0, 0x7F9B), 0xB934, 0xFFFF_718F, 0x5955_5493, (0xC3DB, 0xF49), 0x8EE4),
+        (full(1, 0x3513, 0, 0xA872_9D50), 0xA7D8, 0xA4E0, 0x274B_0000, (0xA4E0, 0x578D_62BF), 0xF),
+        (full(3, 0x8D15, 0, 0), 0x52C, 0xC283, 0x572B, (0xC283, 0xFFFF_67A6), 0xC452),
+        (full(3, 0x3F16, 0, 0x30A1), 0x687E, 0x9246, 0xB029_1309, (0x9246, 0x8552_8E00), 0x069B_56E9),
+        (full(6, 0x9B17, 0, 0x2568_2911), 0xB3A, 0x90DC, 0x6DEF, (0x90DC, 0xDA96_FAF4), 0xFFFF_FFE3),
+        (full(4, 0xA320, 0x6F2, 0), 0x4B14, 0xC565, 0xB9A0, (0, 0), 0x3F97),
+        (full(6, 0x4B21, 0x87D3, 0), 0xA5A, 0x5064_0E31, 0x57CE_73C2, (0x7D88, 0xFFFA_0000), 0xFFFA_0000),
+        (full(3, 0xDD22, 0xCE46, 0x9AC0), 0xA378, 0xFFFE_0F82, 0xB1A9, (0xA46C, 0xDEBC), 0x797C),
+        (full(1, 0xFF23, 0x7FD3, 0x2F29_CA18), 0x83A, 0xFFFA_05A8, 0xB3E6, (0x24AB, 0xD0D6_EE26), 0xB83E),
+        (full(2, 0x5F25, 0x79ED, 0), 0x42A8, 0x5267, 0x803F_CB3E, (0xCC54, 0xFE01_FE4C), 0x583C),
+        (full(4, 0xF926, 0x7875, 0x944B), 0x5E2, 0x702, 0x80BE, (0x7F77, 0xFFFF_EB2C), 0x35),
+        (full(3, 0x3B27, 0x1D00, 0x97), 0xC80, 0x8713, 0x39, (0xA413, 0xFFFF_FEC7), 0xFFFF_FFD0),
+        (full(4, 0x1F30, 0x0D81_3CF3, 0), 0xBC6, 0x1DCB_1498, 0x1A96_75CF, (0, 0), 3),
+        (full(4, 0xF31, 0x240A_BCDF, 0), 0xC90A, 0x1E46_D3C8, 0x17B5_D009, (0x10EF, 0x3622_946E), 0x3622_946E),
+        (full(5, 0x3F32, 0x5EE6_149E, 0xEB97), 0x8D74, 0x14B2_A26D, 0x518D_0000, (0xB70B, 0x6AA7_8909), 0x6AA7_74A0),
+        (full(0, 0xAF33, 0xDD, 0x21), 0xC56E, 0xFFFC_530B, 0x83A3, (0x7100, 0x5433_5921), 0x5433_5942),
+        (full(1, 0x4335, 0x7B, 0), 0xB62, 0x7A0D, 0x37, (0x7A88, 0x9893), 0x9901),
+        (full(1, 0x7D36, 0xE2C4_7E31, 0x74), 0x5FB8, 0x1D3B_CBF9, 0xB221_C068, (0x4A2A, 0x3779_697A), 0x6B8E),
+        (full(4, 0x537, 0xFFFF_FFE1, 0xEDFD_835F), 0x670, 0x2DB2, 0xC50E_51D7, (0x2D93, 0x1202_3545), 0x0001_0000),
+        (full(1, 0x5B50, 0, 0), 0x866, 0x6BA6_6451, 0x14, (0, 0), 0x6BA6_6451),
+        (full(2, 0x8B51, 0, 0), 0xACB6, 0x8960, 0xA97F, (0x8960, 0xFFFF_FFF2), 0xFFFF_FFF2),
+        (full(4, 0xF752, 0, 0x6D5B), 0x2706, 0x5448, 0xBD56, (0x5448, 0xFFFF_92AD), 8),
+        (full(2, 0x753, 0, 0x7994_F58C), 0x8962, 0x529C, 0x25, (0x529C, 0x866B_8690), 0x7C1C),
+        (full(5, 0xDF60, 0xD9A9, 0), 0xA436, 0x4485_397B, 0x4485_397B, (0, 0), 0x4485_1324),
+        (full(2, 0x4761, 0x48FB, 0), 0x560, 0x3268, 0xFFFF_FFCD, (0x7B63, 4), 4),
+        (full(0, 0x6D62, 0xEA03, 0xCD2F), 0x65CA, 0x52CA, 0x7F, (0x3CCD, 0x0001_32D0), 0xFFFF),
+        (full(0, 0xC363, 0x3C76, 0x6655_B85E), 0x414, 0x5BF6, 0x9517, (0x986C, 0xFF8C_AF37), 0x65E2_6795),
+        (full(3, 0xA770, 0xFE, 0), 0x1172, 0x0800_6402, 0x670E, (0, 0), 0x0800_6500),
+        (full(1, 0x9F71, 0xA616_2607, 0), 0x5CA, 0x59EA_47F4, 0x59EA_47F4, (0x6DFB, 0xA07B_4862), 0xA07B_4862),
+        (full(0, 0xBD72, 0xEF7D_D89E, 0xD0E), 0x57E, 0x1082_FE63, 0xC1C0, (0xD701, 0xBCEB), 0xC9F9),
+        (full(5, 0xBB73, 0x4E9F_C44D, 0x21), 0x734, 0xB160_CAFF, 0x8DB1, (0x8F4C, 0xA4BB), 0xA4DC),
+        (full(2, 0x2F90, 0, 0), 0x8C8, 0xBA56, 0x1514, (0, 0), 0xA8A0),
+        (full(0, 0x8391, 0, 0), 0xB20, 0xC025_2905, 0xC025_2905, (0x520A, 0x1AF0), 0x1AF0),
+        (full(7, 0x2F92, 0, 0x6E30), 0xC2C, 0x831E, 0x11E2, (0x8F10, 0xFFFF_C73F), 0x356F),
+        (full(5, 0x1793, 0, 0xE91D_ACC2), 0xA06, 0x8C75, 0x8E4D_0F93, (0x7C98, 0x16E2_9F2D), 0x4BEF),
+        (full(3, 0x8F95, 0, 0), 0x814, 0xDB0F, 0xFFFF_F74D, (0, 0x5712), 0x117A),
+        (full(4, 0x7196, 0, 0xF8D1), 0x2288, 0x553A, 0xEF6F_0596, (0, 0x890A), 0x8771),
+        (full(6, 0x4D97, 0, 0xE16D_5F14), 0x8F0, 0x8CF2, 0x1900_9295, (0, 0xC92E), 0x4570_7296),
+        (full(3, 0xDDA0, 0x17EC, 0), 0xDB4, 0xB9F2, 0x0552_5B55, (0, 0), 0x1549_8540),
+        (full(3, 0x5FA1, 0x9E5B, 0), 0xBE50, 0x2D09, 0x2391, (0xBAE3, 0xFFFF_FFDF), 0xFFFF_FFDF),
+        (full(6, 0x3BA2, 0x3E8B, 0x98A8), 0x6C6, 0x3072, 0xE6F, (0x5B69, 0xD5E4), 0x6E8C),
+        (full(1, 0xEBA3, 0xA40A, 0x0F2B_A30B), 0x658, 0x229E, 0x6D73, (0x7EF0, 0xF0D4_D6A8), 0x79B3),
+        (full(7, 0xFBA5, 0x54A6, 0), 0xBDC, 0x3948, 0x3948, (0x54A6, 0x3B30), 0xADC0),
+        (full(4, 0xE9A6, 0x679D, 0x1D8F), 0xBE2, 0x13FD, 0xAEFE, (0x679D, 0xFFFF_85C8), 0x5255),
+        (full(5, 0xF3A7, 0x7AD4, 0xC3), 0xA7A, 0x50F0, 0x4D16, (0x7AD4, 0xE40), 0xA92F),
+        (full(4, 0xBBB0, 0x455E_5099, 0), 0x305A, 0x8346, 0x2464_075F, (0, 0), 0x8E26_5F57),
+        (full(4, 0x8FB1, 0xFFFF_FFE2, 0), 0x960, 0x40EB, 0x1961, (0xCAEA, 0x116A_8AD2), 0x116A_8AD2),
+        (full(2, 0xEFB2, 0x0CD8_82A1, 0x1BC6), 0xBE50, 0x4E4D, 0xFE64_FF73, (0x7E39, 0x3664), 0x522A),
+        (full(2, 0x5DB3, 0xB5, 0xAC), 0x8FB4, 0xCF42, 0x1807, (0x60D1, 0xEE00_8154), 0xEE00_8200),
+        (full(0, 0x61B5, 0x68FC, 0), 0x5DA, 0x8A24, 0x7712_0752, (0x68FC, 0x2F00_78AE), 0x2F00_8000),
+        (full(2, 0x83B6, 0x9A4D, 0x1133), 0x438, 0xD966, 0x68CC, (0x9A4D, 0xFFFF_1D44), 0xF),
+        (full(0, 0x9BB7, 0x87E7, 0x9FAF_695D), 0x69E, 0xA048, 0x6CA0, (0x87E7, 0x6050_70DF), 0xB37C),
+        (full(0, 0x43D0, 0, 0), 0x532, 0x88CC, 0xA831_F05E, (0, 0), 0),
+        (full(2, 0x95D1, 0, 0), 0x154C, 0x441A, 0xB6A2, (0, 0x66CA), 0x66CA),
+        (full(5, 0xEBD2, 0, 0x7116), 0xD12, 0xB2DE, 0x935C, (0, 0x33F8), 0xA50E),
+        (full(2, 0xDFD3, 0, 0xFFFF_C8E1), 0x680, 0xC8FC, 0xA16E, (0, 0x4818), 0x10F9),
+        (full(6, 0xF9E0, 0xFFE8, 0), 0x2886, 0x5073, 0x91E6, (0, 0), 0xFFFF_FFE8),
+        (full(1, 0xFDE1, 0x2ACB, 0), 0x8A22, 0xC3DA, 0x78A2, (0x2ACB, 0x2520_3804), 0x2520_3804),
+        (full(4, 0x8BE2, 0x204F, 0xCAFD), 0xB80, 0x96CE, 0x6E54, (0x204F, 0x0001_092D), 0xD42A),
+        (full(3, 0x6DE3, 0x5637, 0x881E_5600), 0x870, 0xDCD5, 0x65, (0x5637, 0x77E1_E858), 0x3E58),
+        (full(1, 0xF1F0, 0xB2AA, 0), 0xAE8, 0x66CC, 0x3048, (0, 0), 0xB2AA),
+        (full(4, 0xC3F1, 0x45F2, 0), 0xABF6, 0x49DA, 0x49DA, (0x45F2, 0xFF), 0xFF),
+        (full(6, 0x4BF2, 0xB1C8, 0x64EF), 0x3882, 0xD109, 0x10, (0xB1C8, 0xE483_2ECB), 0xE483_93BA),
+        (full(2, 0xEFF3, 0x8DA9, 0x11), 0xAA82, 0x897A, 0x7FA8, (0x8DA9, 0x7FEF), 0x8000),
+    ];
+    for case in cases {
+        assert_eq!(rt; found(&case, rt.alloc())?, Ok(Target::Memory(case.5)), "{:?}", case.0);
+    }
+    Ok(())
+}
+
+#[test]
+#[rattlefmt::skip]
+fn full_words_of_the_pc_from_outside(rt: HostRuntime) -> Result<(), AllocError> {
+    let cases: [Case; 66] = [
+        (pc_full(0xB10, 0, 0), 0x4DE0, 0, 0x1814, (0, 0), 0x7E08),
+        (pc_full(0xCB11, 0, 0), 0xAB22, 0, 0xFFFF_D9CB, (0x5EB8, 0xC0E9), 0xC0E9),
+        (pc_full(0x3512, 0, 0xB88E), 0xD80E, 0, 0x4204_F44F, (0xA94A, 0xFC27), 0xB4B5),
+        (pc_full(0xFB13, 0, 0xEC), 0xD96, 0, 0x3371, (0x7478, 0x7F14), 0x8000),
+        (pc_full(0xFB15, 0, 0), 0x8262, 0, 0x3CD6, (0x8262, 0xFB15_0000), 0xFB15_79AC),
+        (pc_full(0x1B16, 0, 0xD809), 0x4886, 0, 0xFFFF_FFC1, (0x4886, 0x1B16_D809), 0x1B16_AF94),
+        (pc_full(0xEB17, 0, 0xFFFF_FFC3), 0x636, 0, 0x5C48, (0x636, 0xEB17_FFFF), 0xEB18_B852),
+        (pc_full(0xCF20, 0xC75D, 0), 0x728, 0, 0x0C6C_A8E3, (0, 0), 0x6365_159D),
+        (pc_full(0x9D21, 0xE196, 0), 0xCDA, 0, 0x305D, (0xAFE4, 0xF066_0000), 0xF066_0000),
+        (pc_full(0x9522, 0xE321, 0xA418), 0x926, 0, 0x8756_0C4E, (0x1D7F, 0xC67B), 0x6A93),
+        (pc_full(0x5723, 0x6502, 0xD2EC_36F7), 0xA3E4, 0, 0xA051_F0E7, (0x901E, 0x113D_307F), 0xE429_6776),
+        (pc_full(0x7925, 0x37C1, 0), 0x6820, 0, 0xFFFF_FFF1, (0x9FE1, 0x625D), 0x624E),
+        (pc_full(0xE126, 0xF185, 0x9341), 0x3840, 0, 0xABC9, (0x29C5, 0xC0F7), 1),
+        (pc_full(0x6B27, 0xEE1C, 0xCF), 0x3014, 0, 0xFFFF_FFC6, (0x1E30, 0xDACD), 0xDB28),
+        (pc_full(0x7B30, 0xF4, 0), 0x6306, 0, 0xDF31_7E15, (0, 0), 0xBE63_6024),
+        (pc_full(0x1131, 0x9E8D, 0), 0xA1E, 0, 0x8000, (0x28AB, 0x7FFF_FFFF), 0x7FFF_FFFF),
+        (pc_full(0x9D32, 0xE672_3612, 0xF099), 0xA6E, 0, 0x0663_A1AB, (0xC72C, 0x2C03_AE76), 0x2C03_9F0F),
+        (pc_full(0x333, 0x73, 0xFFFF_FF38), 0x2F92, 0, 0x1F3E_0114, (0x322D, 0x77ED), 0x7725),
+        (pc_full(0x5335, 0x111C, 0), 0x651C, 0, 0x2367_7191, (0x7638, 0xFFFF_1DDD), 0xFF),
+        (pc_full(0x2D36, 0x1224, 0x8BD3), 0x67E, 0, 0xFFFF_FFF0, (0x18A2, 0x0001_1728), 0xA2BB),
+        (pc_full(0x7B37, 0x495E, 0x7F17_7CFD), 0x9DA, 0, 0x37, (0x5338, 0x1E02_CD7A), 0x9D1A_4AE5),
+        (pc_full(0xDD50, 0, 0), 0x7E2, 0, 0x8E69, (0, 0), 0x7E2),
+        (pc_full(0xD751, 0, 0), 0x52E, 0, 0x3F4D, (0x52E, 0xD751_0000), 0xD751_0000),
+        (pc_full(0x7F52, 0, 0x3780), 0x6B86, 0, 0x6436_2872, (0x6B86, 0x7F52_3780), 0x7F52_6F00),
+        (pc_full(0xE753, 0, 5), 0xBBC, 0, 0xC029, (0xBBC, 0xE753_0000), 0xE753_0005),
+        (pc_full(0x5360, 0x2E24, 0), 0x8CA, 0, 0x0001_0000, (0, 0), 0x36EE),
+        (pc_full(0xE761, 0x7BE8, 0), 0x4F0E, 0, 0x6D1F, (0xCAF6, 0x9020), 0x9020),
+        (pc_full(0x4362, 0x16BA, 0xA37), 0xDEC, 0, 0xFFFF_FFF3, (0x24A6, 0xCDDD), 0xD814),
+        (pc_full(0xEF63, 0x7A6A, 0x19FB_7842), 0xB14, 0, 0x2A50, (0x857E, 0x00D2_8617), 0x1ACD_FE59),
+        (pc_full(0x3B70, 0xD456, 0), 0x464, 0, 0x0911_5261, (0, 0), 0xD8BA),
+        (pc_full(0x9B71, 0x331F, 0), 0x8D4, 0, 0xB13A, (0x3BF3, 0x9CD9), 0x9CD9),
+        (pc_full(0x5F72, 0xA0A9, 0x3132), 0x49C, 0, 0x9826_2670, (0xA545, 0x3623), 0x6755),
+        (pc_full(0xBB73, 0x49B5, 0x6E), 0x72C8, 0, 0xC13A, (0xBC7D, 0xBCD1_1723), 0xBCD1_1791),
+        (pc_full(0x6790, 0, 0), 0x9CF2, 0, 0x9AD2_1B8F, (0, 0), 0xDC78),
+        (pc_full(0x1B91, 0, 0), 0x6C6, 0, 0x915, (0x122A, 0xC), 0xC),
+        (pc_full(0xD92, 0, 0x7147), 0x78A, 0, 0xA79, (0x29E4, 0xFFFF_CB61), 0x3CA8),
+        (pc_full(0x4F93, 0, 0xA9), 0x2C9E, 0, 0x559, (0x2AC8, 0x3E18_5E0F), 0x3E18_5EB8),
+        (pc_full(0x6595, 0, 0), 0x63A, 0, 0xFF, (0, 0x3178), 0x3574),
+        (pc_full(0x3996, 0, 0xB1C4), 0x6404, 0, 0xFFFF_7C69, (0, 0xD1D0), 0xFFFF_FFFD),
+        (pc_full(0xA597, 0, 0x907C_C458), 0xCF2, 0, 0xC18E, (0, 0xA832), 0x907C_72C2),
+        (pc_full(0xDDA0, 0xDD94, 0), 0xB1A, 0, 0x0C49_C5F8, (0, 0), 0x3126_F574),
+        (pc_full(0x6DA1, 0x220E, 0), 0x3818, 0, 0xAD, (0x24C2, 0x8000_0000), 0x8000_0000),
+        (pc_full(0x53A2, 0x988C, 0x2953), 0xB0C4, 0, 0x1483_5081, (0x398E, 0x2CFF), 0x5652),
+        (pc_full(0x8BA3, 0xA7FF, 0xDEBE_683D), 0x750, 0, 0x421A, (0x2C33, 0x317A_B85B), 0x1039_2098),
+        (pc_full(0x95A5, 0x7D8C, 0), 0xD6C, 0, 0xC117, (0x7D8C, 0xFB92), 0xFFFF_FFEE),
+        (pc_full(0x7FA6, 0x6AD0, 0x5EBF), 0x42E, 0, 0xECC6_4135, (0x6AD0, 0x2B53_FEB1), 0x9186_6718),
+        (pc_full(0xA3A7, 0x28C4, 0xD070_C89E), 0x7E20, 0, 0x6AC1, (0x28C4, 0x2F8F_3B0A), 0xD92A),
+        (pc_full(0x9FB0, 0xC5FF_006D, 0), 0xAA58, 0, 0x0740_1FF6, (0, 0), 0x1D),
+        (pc_full(0x9FB1, 0xBBD8_E3F9, 0), 0xB80, 0, 0x0884_F0B0, (0x6979, 0x63F5), 0x63F5),
+        (pc_full(0x8DB2, 0xFFFF_5CFD, 0x77FD), 0x1702, 0, 0x584D, (0xBE31, 0xD355_0043), 0xD355_7840),
+        (pc_full(0xB3B3, 0x93E9, 0xFFFF_FF3E), 0x43FE, 0, 0xCEC3, (0x316F, 0x9E), 0xFFFF_FFDC),
+        (pc_full(0x91B5, 0x4E3F, 0), 0xC7E, 0, 0xB0DD, (0x4E3F, 0x0001_09F7), 0xBAD4),
+        (pc_full(0xC1B6, 0x8691, 0xAF4B), 0xD5C, 0, 0x62A3, (0x8691, 0x26DD_C46A), 0x26DD_D658),
+        (pc_full(0xF5B7, 0x366B, 0xFFFF_FEE7), 0x7A8, 0, 0xD836, (0x366B, 0xF67A_230F), 0xF679_82CE),
+        (pc_full(0xC9D0, 0, 0), 0x46C, 0, 0x73C3, (0, 0), 0),
+        (pc_full(0x2FD1, 0, 0), 0x971C, 0, 0x3500_1502, (0, 0x6ABC), 0x6ABC),
+        (pc_full(0xE3D2, 0, 0xB375), 0x700, 0, 0x9EC8, (0, 0xDBDA), 0x8F4F),
+        (pc_full(0xA7D3, 0, 0x94FF_3BBC), 0xA20, 0, 0x590E, (0, 0xCD44), 0x9500_0900),
+        (pc_full(0x23E0, 0xFFFE, 0), 0x44A, 0, 0x1036_3538, (0, 0), 0xFFFF_FFFE),
+        (pc_full(0xEDE1, 0x5A53, 0), 0xCD2, 0, 0xB6DB, (0x5A53, 0x5033), 0x5033),
+        (pc_full(0x3DE2, 0x7CEC, 0x96B8), 0x86A, 0, 0x80, (0x7CEC, 0x0001_1871), 0xAF29),
+        (pc_full(0x29E3, 0x6CDB, 0xA959_0940), 0x6CA, 0, 0x42FE_6C13, (0x6CDB, 0x8829_56C6), 0x3182_6006),
+        (pc_full(0x5F0, 0xD0E5, 0), 0x97C, 0, 0xFFFF_FFD7, (0, 0), 0xD0E5),
+        (pc_full(0xEDF1, 0xAF2C, 0), 0xCA1E, 0, 0x945E, (0xAF2C, 0x8064), 0x8064),
+        (pc_full(0x6DF2, 0xDDD1, 0xCCE8), 0xDA4, 0, 0x30, (0xDDD1, 0xC7C3), 0x94AB),
+        (pc_full(0xFF3, 0x9F5C, 0xFFFF_FFF9), 0x9A6, 0, 0x32D3_0A17, (0x9F5C, 0x3818), 0x3811),
+    ];
+    for case in cases {
+        assert_eq!(rt; found(&case, rt.alloc())?, Ok(Target::Memory(case.5)), "{:?}", case.0);
+    }
+    Ok(())
+}
+
+#[test]
+#[rattlefmt::skip]
 fn registers_that_step(rt: HostRuntime) -> Result<(), AllocError> {
-    // An operand, its size, the target, and the address register afterwards; before it is $1000.
+    // An operand, its size, the address register before, the target, and the register afterwards: from outside where
+    // the register steps, by hand where it stays.
     let steps = [
-        (Ea::Post(3), Size::Byte, Target::Memory(0x1000), 0x1001),
-        (Ea::Post(3), Size::Word, Target::Memory(0x1000), 0x1002),
-        (Ea::Post(3), Size::Long, Target::Memory(0x1000), 0x1004),
-        (Ea::Post(7), Size::Byte, Target::Memory(0x1000), 0x1002),
-        (Ea::Pre(3), Size::Byte, Target::Memory(0xFFF), 0xFFF),
-        (Ea::Pre(7), Size::Byte, Target::Memory(0xFFE), 0xFFE),
-        (Ea::Pre(7), Size::Long, Target::Memory(0xFFC), 0xFFC),
-        (Ea::Ind(3), Size::Long, Target::Memory(0x1000), 0x1000),
-        (Ea::Dn(3), Size::Long, Target::Reg(3), 0x1000),
-        (Ea::An(3), Size::Long, Target::Reg(11), 0x1000),
+        (Ea::Post(2), Size::Byte, 0xD778, Target::Memory(0xD778), 0xD779),
+        (Ea::Post(7), Size::Byte, 0x5BF0, Target::Memory(0x5BF0), 0x5BF2),
+        (Ea::Post(6), Size::Word, 0xB313, Target::Memory(0xB313), 0xB315),
+        (Ea::Post(7), Size::Word, 0xC952, Target::Memory(0xC952), 0xC954),
+        (Ea::Post(5), Size::Long, 0x8B49, Target::Memory(0x8B49), 0x8B4D),
+        (Ea::Post(7), Size::Long, 0xD38F, Target::Memory(0xD38F), 0xD393),
+        (Ea::Pre(0), Size::Byte, 0x4C00, Target::Memory(0x4BFF), 0x4BFF),
+        (Ea::Pre(7), Size::Byte, 0x4630, Target::Memory(0x462E), 0x462E),
+        (Ea::Pre(3), Size::Word, 0x316F, Target::Memory(0x316D), 0x316D),
+        (Ea::Pre(7), Size::Word, 0xC300, Target::Memory(0xC2FE), 0xC2FE),
+        (Ea::Pre(0), Size::Long, 0xAE12, Target::Memory(0xAE0E), 0xAE0E),
+        (Ea::Pre(7), Size::Long, 0x53B3, Target::Memory(0x53AF), 0x53AF),
+        (Ea::Ind(3), Size::Long, 0x1000, Target::Memory(0x1000), 0x1000),
+        (Ea::Dn(3), Size::Long, 0x1000, Target::Reg(3), 0x1000),
+        (Ea::An(3), Size::Long, 0x1000, Target::Reg(11), 0x1000),
+        (Ea::Imm(0x1234), Size::Byte, 0x1000, Target::Value(0x34), 0x1000),
     ];
     let mut port = memory(rt.alloc(), 0, 0)?;
-    for (ea, size, target, after) in steps {
+    for (ea, size, before, target, after) in steps {
         let mut plain = Plain {
             d: [0; 8],
-            a: [0x1000; 8],
+            a: [before; 8],
             pc: 0,
             ccr: 0,
         };
@@ -450,7 +298,7 @@ fn registers_that_step(rt: HostRuntime) -> Result<(), AllocError> {
         let found = resolve(&ea, size, &mut plain, 0, Space::User, &mut port);
         assert_eq!(rt; found, Ok(target), "{ea:?}");
         let register = match ea {
-            Ea::Post(7) | Ea::Pre(7) => plain.a[7],
+            Ea::Post(n) | Ea::Pre(n) => plain.a[n as usize],
             _ => plain.a[3],
         };
         assert_eq!(rt; register, after, "{ea:?}");

@@ -2,10 +2,24 @@
 
 ghost use Rattle.std.specs.Prelude.{◌<◌, ◌^◌, ℕ};
 ghost use Rattle.mb_frames.specs.AccessFields.{AccessCase, access_fields};
-ghost use Rattle.mb_frames.specs.Worked.{FetchFromInvalidPage, LineIntoInvalidPage, LockedPastMemory, MovemDownIntoInvalidPage, MovemFromInvalidPage, MovemIntoDevice, MovemIntoInvalidPage, OtherFieldsAreZero, ReadIntoInvalidPage, StackOnInvalidPage, StackPastMemory, UserLinePastMemory, UserWriteOnInvalidPage, WriteIntoInvalidPage, WriteOfNothing, WritePastMemory, WriteWithinLargePage};
+ghost use Rattle.mb_frames.specs.Worked.{FetchFromInvalidPage, LineIntoInvalidPage, LockedPastMemory, OtherFieldsAreZero};
+ghost use Rattle.mb_frames.specs.Worked.{MovemDownIntoInvalidPage, MovemFromInvalidPage, MovemIntoDevice};
+ghost use Rattle.mb_frames.specs.Worked.{MovemIntoInvalidPage, ReadIntoInvalidPage, StackOnInvalidPage, StackPastMemory};
+ghost use Rattle.mb_frames.specs.Worked.{UserLinePastMemory, UserWriteOnInvalidPage, WriteIntoInvalidPage};
+ghost use Rattle.mb_frames.specs.Worked.{WriteOfNothing, WritePastMemory, WriteWithinLargePage};
 
 /// The fields of an access error are those of frames that were worked out by hand.
-#[tactic(auto, unfolding(crate::specs::AccessFields::read_fields, crate::specs::AccessFields::write_fields, crate::specs::AccessFields::line_fields, crate::specs::AccessFields::movem_fields, crate::specs::AccessFields::check_fields, mb_port::specs::Pieces::laid, mb_port::specs::Pieces::span_of, mb_port::specs::Pieces::weight_of))]
+#[rattlefmt::skip]
+#[tactic(auto, unfolding(
+    crate::specs::AccessFields::read_fields,
+    crate::specs::AccessFields::write_fields,
+    crate::specs::AccessFields::line_fields,
+    crate::specs::AccessFields::movem_fields,
+    crate::specs::AccessFields::check_fields,
+    mb_port::specs::Pieces::laid,
+    mb_port::specs::Pieces::span_of,
+    mb_port::specs::Pieces::weight_of,
+))]
 pub fn worked_frames()
     ensures other_fields_are_zero { OtherFieldsAreZero }
     ensures fetch_from_invalid_page { FetchFromInvalidPage }
