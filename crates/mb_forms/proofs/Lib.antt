@@ -3,3 +3,4 @@ pub mod Looks
 pub mod Reading
 pub mod Whole
 pub mod Parsed
+pub mod Made

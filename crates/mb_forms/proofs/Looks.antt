@@ -132,7 +132,8 @@ default_none rows id l i r = let n : (has_row id rows || true) ≡ true = or_tru
 options_default : (rows : List Row) (os : List Opt) → defaults_fault rows (map option_rule os) ≡ []
 unfolding defaults_fault
 options_default rows [] = refl
-options_default rows (o ∷ os) = rw (default_none rows o.name (Some o.name) None o.required, default_same rows o.name (Some o.name) None o.required) (options_default rows os)
+options_default rows (o ∷ os) =
+    rw (default_none rows o.name (Some o.name) None o.required, default_same rows o.name (Some o.name) None o.required) (options_default rows os)
 
 words_default : (rows : List Row) (i : ℕ) (ps : List Text) (os : List Opt) → defaults_fault rows (positional_rules i ps ++ map option_rule os) ≡ []
 unfolding defaults_fault
@@ -144,12 +145,14 @@ no_defaults form rows = words_default rows 1 form.positionals form.options
 
 fold_options : (rows : List Row) (os : List Opt) → fold with_default rows (map option_rule os) ≡ rows
 fold_options rows [] = refl
-fold_options rows (o ∷ os) = ap (λ (r : List Row). fold with_default r (map option_rule os)) (default_same rows o.name (Some o.name) None o.required) ∙ fold_options rows os
+fold_options rows (o ∷ os) = ap (λ (r : List Row). fold with_default r (map option_rule os)) (default_same rows o.name (Some o.name) None o.required)
+    ∙ fold_options rows os
 
 fold_words : (rows : List Row) (i : ℕ) (ps : List Text) (os : List Opt) → fold with_default rows (positional_rules i ps ++ map option_rule os) ≡ rows
 fold_words rows i [] os = fold_options rows os
 fold_words rows i (p ∷ ps) os =
-    ap (λ (r : List Row). fold with_default r (positional_rules (suc i) ps ++ map option_rule os)) (default_same rows p None (Some i) true) ∙ fold_words rows (suc i) ps os
+    ap (λ (r : List Row). fold with_default r (positional_rules (suc i) ps ++ map option_rule os)) (default_same rows p None (Some i) true)
+    ∙ fold_words rows (suc i) ps os
 
 pub fold_same : (form : Form) (rows : List Row) → fold with_default rows (form_rules form) ≡ rows
 fold_same form rows = fold_words rows 1 form.positionals form.options
@@ -164,7 +167,8 @@ split_both true a o = refl
 split_both false a o = refl
 
 missing_in : (front : List Use) (os : List Opt)
-    → list_any (λ a. a.required && not (is_given a.id (map row_at front))) (map option_rule os) ≡ not (list_all (λ o. not o.required || has_use o.name front) os)
+    → list_any (λ a. a.required && not (is_given a.id (map row_at front))) (map option_rule os)
+    ≡ not (list_all (λ o. not o.required || has_use o.name front) os)
 missing_in front [] = refl
 missing_in front (o ∷ os) = rw (given_at o.name front, missing_in front os) (split o.required (has_use o.name front) _)
 

@@ -12,7 +12,8 @@ use Rattle.clap.specs.declared.error.kind.ErrorKind.TheVariants as kind
 use Rattle.clap.specs.declared.parser.matches.Found.{Found}
 use Rattle.clap.proofs.WalkLemmas.{first_value-rows}
 use Rattle.mb_forms.specs.Forms.{Text, Form, Use, IsNumbered, dashes_ok, read, value_in}
-use Rattle.mb_forms.specs.Clap.{form_app, row_at, no_kinds, FaultFits}
+use Rattle.mb_forms.specs.Clap.{form_app, row_at, use_at, no_kinds}
+use Rattle.mb_forms.specs.Said.{FaultFits}
 use Rattle.mb_forms.specs.declared.fault.WordsFault.{WordsFault}
 use Rattle.mb_forms.specs.declared.fault.WordsFault.TheVariants.{Memory, Refused}
 use Rattle.mb_forms.proofs.Whole.{taken_by_clap}
@@ -42,10 +43,12 @@ among_some k [] h = absurd h
 among_some k (x ∷ xs) h = refl
 
 -- a fault: they do not
-pub refused : (form : Form) (words : List Text) (k : ErrorKind) → IsNumbered form → dashes_ok words ≡ true → IsAmong k (fault_of (form_app form) words) → read form words ≡ None
+pub refused : (form : Form) (words : List Text) (k : ErrorKind) → IsNumbered form → dashes_ok words ≡ true → IsAmong k (fault_of (form_app form) words)
+    → read form words ≡ None
 refused form words k few ok h =
     none_mapped (read form words)
-    (sym (ap (λ (b : Bool). cond b (Some (matches_of (form_app form) words)) None) (among_some k (fault_of (form_app form) words) h)) ∙ taken_by_clap form words few ok)
+    (sym (ap (λ (b : Bool). cond b (Some (matches_of (form_app form) words)) None) (among_some k (fault_of (form_app form) words) h))
+    ∙ taken_by_clap form words few ok)
 
 fault_fits : (given : Option (List Use)) (f : WordsFault) → (f ≡ Refused → given ≡ None) → FaultFits given f
 fault_fits given Memory h = tt
@@ -66,3 +69,30 @@ first_at id (u ∷ us) = elim (bool_cases (bytes_eq u.0 id)) [ inl t ↦ rw t re
 
 pub value_found : (f : Found) (id : Text) (uses : List Use) → rows_of f ≡ map row_at uses → first_value f id ≡ value_in id uses
 value_found f id uses e = first_value-rows f id ∙ ap (first_of id) e ∙ first_at id uses
+
+-- ---- the uses that are kept as rows
+
+-- the rows have the uses that the words give
+pub record Matched (form : Form) (words : List Text) (rows : List Row) : Type 0 where
+  pub uses : List Use
+  pub given : read form words ≡ Some uses
+  pub rows_are : rows ≡ map row_at uses
+
+pub matched : (form : Form) (words : List Text) (rows : List Row) → IsNumbered form → dashes_ok words ≡ true
+    → fault_of (form_app form) words ≡ [] → rows ≡ matches_of (form_app form) words → Matched form words rows
+matched form words rows few ok none e =
+    let read = taken form words few ok none in
+    record { uses = read.0; given = read.1; rows_are = e ∙ read.2 }
+
+kept : (uses : List Use) → map use_at (map row_at uses) ≡ uses
+kept [] = refl
+kept (u ∷ us) = ap (λ (rest : List Use). u ∷ rest) (kept us)
+
+pub given_kept : (form : Form) (words : List Text) (rows : List Row) → Matched form words rows
+    → read form words ≡ Some (map use_at rows)
+given_kept form words rows m =
+    m.given ∙ ap (λ (us : List Use). Some us) (sym (ap (map use_at) m.rows_are ∙ kept m.uses))
+
+pub rows_kept : (form : Form) (words : List Text) (rows : List Row) → Matched form words rows
+    → rows ≡ map row_at (map use_at rows)
+rows_kept form words rows m = m.rows_are ∙ ap (map row_at) (sym (ap (map use_at) m.rows_are ∙ kept m.uses))

@@ -110,12 +110,16 @@ finished_at form front =
 
 -- the end of a walk, by what settling its last use gives
 abbrev end_of : Form → Kinds → Held → Option (List Row)
-end_of form k h = if no_kinds (or_else k (or_else (defaults_fault h.rows (form_rules form)) (check_fault (form_shape form) (fold with_default h.rows (form_rules form)) false)))
+end_of form k h =
+    if no_kinds (or_else k
+    (or_else (defaults_fault h.rows (form_rules form)) (check_fault (form_shape form) (fold with_default h.rows (form_rules form)) false)))
     then Some (fold with_default h.rows (form_rules form)) else None
 
 end_settled : (form : Form) (front : List Use) → end_of form [] (held_at front None) ≡ result form front None (Some [])
 end_settled form front =
-    ap (λ (k : Kinds). if no_kinds (or_else [] (or_else k (check_fault (form_shape form) (fold with_default (map row_at front) (form_rules form)) false))) then Some (fold with_default (map row_at front) (form_rules form)) else None) (no_defaults form (map row_at front))
+    ap (λ (k : Kinds).
+    if no_kinds (or_else [] (or_else k (check_fault (form_shape form) (fold with_default (map row_at front) (form_rules form)) false)))
+    then Some (fold with_default (map row_at front) (form_rules form)) else None) (no_defaults form (map row_at front))
     ∙ ap (λ (rs : List Row). if no_kinds (check_fault (form_shape form) rs false) then Some rs else None) (fold_same form (map row_at front))
     ∙ finished_at form front
 
@@ -123,7 +127,8 @@ ends_at : (form : Form) (front : List Use) (p : Option Use) (met : ℕ) (trailin
     → rows_at_end (form_shape form) (walk_at front (pending_of_use p) idle met trailing) ≡ result form front p (Some [])
 ends_at form front p met trailing k = elim (settle form front p k) [
   | inl c ↦ ap (λ (k : Kinds). end_of form k (settled (form_rules form) (held_at front p))) c.fault ∙ sym (clash_none form front p c (Some []))
-  | inr s ↦ ap (λ (k : Kinds). end_of form k (settled (form_rules form) (held_at front p))) s.fault ∙ ap (end_of form []) s.after ∙ end_settled form s.next ∙ sym (settled_same form front p s (Some []))
+  | inr s ↦ ap (λ (k : Kinds). end_of form k (settled (form_rules form) (held_at front p))) s.fault ∙ ap (end_of form []) s.after ∙ end_settled form s.next
+      ∙ sym (settled_same form front p s (Some []))
 ]
 
 -- ---- words after `--`
@@ -146,7 +151,8 @@ next_place : (form : Form) (met : ℕ) (name : Text) → IsNumbered form → sli
 next_place form met name few e = let within : met < length form.positionals = slice_get_within form.positionals met name e in omega arith
 
 -- the rule of a place
-place_of : (form : Form) (met : ℕ) (o : Option Text) → slice_get form.positionals met ≡ o → arg_by_index (form_rules form) (suc met) ≡ option_map (positional_rule (suc met)) o
+place_of : (form : Form) (met : ℕ) (o : Option Text) → slice_get form.positionals met ≡ o
+    → arg_by_index (form_rules form) (suc met) ≡ option_map (positional_rule (suc met)) o
 place_of form met o e = by_place form met ∙ ap (option_map (positional_rule (suc met))) e
 
 abbrev RestClaim : Form → List Text → Type 0
@@ -160,8 +166,10 @@ rest_placed form x xs few next front p met k name e =
     let t = rest_positional form front (pending_of_use p) met x name (place_of form met (Some name) e) (next_place form met name few e) in
     let u : Use = (name, x) in
     elim (settle form front p k) [
-      | inl c ↦ steps_none form (walk_at front (pending_of_use p) idle met true) x xs c.kind_is [] (t.0 ∙ c.fault) ∙ sym (clash_none form front p c (after u (uses_of form rest (suc met) xs)))
-      | inr s ↦ steps_to form (walk_at front (pending_of_use p) idle met true) (walk_at s.next (Some (name, x ∷ [])) idle (suc met) true) x xs (t.0 ∙ s.fault) (t.1 ∙ ap (positional_at name x met true) s.after)
+      | inl c ↦ steps_none form (walk_at front (pending_of_use p) idle met true) x xs c.kind_is [] (t.0 ∙ c.fault)
+          ∙ sym (clash_none form front p c (after u (uses_of form rest (suc met) xs)))
+      | inr s ↦ steps_to form (walk_at front (pending_of_use p) idle met true) (walk_at s.next (Some (name, x ∷ [])) idle (suc met) true) x xs
+          (t.0 ∙ s.fault) (t.1 ∙ ap (positional_at name x met true) s.after)
           ∙ next s.next (Some u) (suc met) (known_positional form met name e)
           ∙ sym (pending_next form s.next u (uses_of form rest (suc met) xs))
           ∙ sym (settled_same form front p s (after u (uses_of form rest (suc met) xs)))
@@ -169,7 +177,8 @@ rest_placed form x xs few next front p met k name e =
 
 rest_step : (form : Form) (x : Text) (xs : List Text) → IsNumbered form → RestClaim form xs → RestClaim form (x ∷ xs)
 rest_step form x xs few next front p met k = elim (option_cases (slice_get form.positionals met)) [
-  | inl n ↦ rw n (steps_none form (walk_at front (pending_of_use p) idle met true) x xs kind.UnknownArgument [] (rest_stray form front (pending_of_use p) idle met x (place_of form met None n)))
+  | inl n ↦ rw n (steps_none form (walk_at front (pending_of_use p) idle met true) x xs kind.UnknownArgument []
+      (rest_stray form front (pending_of_use p) idle met x (place_of form met None n)))
   | inr o ↦ rw (o.1) (rest_placed form x xs few next front p met k o.0 o.1)
 ]
 
@@ -182,7 +191,8 @@ empty_none : (form : Form) (ws : List Text) (front : List Use) (o : Text) (met :
     → S form (walk_at front (Some (o, [])) (option o) met true) ws ≡ None
 empty_none form [] front o met k = let rule = k.3 in rw rule refl
 empty_none form (x ∷ xs) front o met k = elim (option_cases (slice_get form.positionals met)) [
-  | inl n ↦ steps_none form (walk_at front (Some (o, [])) (option o) met true) x xs kind.UnknownArgument [] (rest_stray form front (Some (o, [])) (option o) met x (place_of form met None n))
+  | inl n ↦ steps_none form (walk_at front (Some (o, [])) (option o) met true) x xs kind.UnknownArgument []
+      (rest_stray form front (Some (o, [])) (option o) met x (place_of form met None n))
   | inr p ↦ steps_none form (walk_at front (Some (o, [])) (option o) met true) x xs kind.InvalidValue []
       (rest_empty form front o met x p.0 k.0 k.1 k.2 (place_of form met (Some p.0) p.1) k.3)
 ]
@@ -241,7 +251,8 @@ plain_uses form x xs met q = let e = q.ends in let d = q.dash in rw (e, d) refl
 dash_none : (form : Form) (o x : Text) (xs : List Text) (met : ℕ) → begins_with_dash x ≡ true → uses_of form (value_of o) met (x ∷ xs) ≡ None
 dash_none form o x xs met d = rw d refl
 
-value_uses : (form : Form) (o x : Text) (xs : List Text) (met : ℕ) → begins_with_dash x ≡ false → uses_of form (value_of o) met (x ∷ xs) ≡ after (o, x) (uses_of form any met xs)
+value_uses : (form : Form) (o x : Text) (xs : List Text) (met : ℕ) → begins_with_dash x ≡ false
+    → uses_of form (value_of o) met (x ∷ xs) ≡ after (o, x) (uses_of form any met xs)
 value_uses form o x xs met d = rw d refl
 
 -- a walk that waits for nothing, by its rows
@@ -288,7 +299,8 @@ abbrev attached_fault : Opt → Text → Kinds → Held → Kinds
 attached_fault o t k h = or_else (or_else k (use_fault false (option_rule o) (t ∷ []) h.rows)) []
 
 attached : (form : Form) (x : Text) (xs : List Text) → AnyClaim form xs → (front : List Use) (p : Option Use) (met : ℕ) → KnownUse form p
-    → (name t : Text) (o : Opt) → bytes_eq x (45 ∷ 45 ∷ []) ≡ false → long_of x ≡ Some (name, Some t) → find_option name form.options ≡ Some o → dashes_ok xs ≡ true
+    → (name t : Text) (o : Opt) → bytes_eq x (45 ∷ 45 ∷ []) ≡ false → long_of x ≡ Some (name, Some t) → find_option name form.options ≡ Some o
+    → dashes_ok xs ≡ true
     → S form (walk_at front (pending_of_use p) idle met false) (x ∷ xs) ≡ result form front p (after (o.name, t) (uses_of form any met xs))
 attached form x xs next front p met k name t o e l found ok =
     let w = walk_at front (pending_of_use p) idle met false in
@@ -296,16 +308,19 @@ attached form x xs next front p met k name t o e l found ok =
     let uses = uses_of form any met xs in
     let step = turn_attached form front (pending_of_use p) met x name t o e l (by_long form name ∙ ap (option_map option_rule) found) in
     elim (settle form front p k) [
-      | inl c ↦ steps_none form w x xs c.kind_is [] (step.0 ∙ ap (λ (f : Kinds). attached_fault o t f (settled (form_rules form) (held_at front p))) c.fault) ∙ sym (clash_none form front p c (after u uses))
+      | inl c ↦ steps_none form w x xs c.kind_is [] (step.0 ∙ ap (λ (f : Kinds). attached_fault o t f (settled (form_rules form) (held_at front p))) c.fault)
+          ∙ sym (clash_none form front p c (after u uses))
       | inr s ↦
           let fault = step.0 ∙ ap (λ (f : Kinds). attached_fault o t f (settled (form_rules form) (held_at front p))) s.fault
           ∙ ap (attached_fault o t []) s.after ∙ ap (λ (f : Kinds). or_else f []) (use_at o.name (Some o.name) None o.required t (map row_at s.next))
           ∙ ap (λ (b : Bool). or_else (cond b (kind.ArgumentConflict ∷ []) []) []) (has_row_at o.name s.next) in
-          let right : result form front p (after u uses) ≡ result form s.next (Some u) uses = settled_same form front p s (after u uses) ∙ pending_next form s.next u uses in
+          let right : result form front p (after u uses) ≡ result form s.next (Some u) uses =
+          settled_same form front p s (after u uses) ∙ pending_next form s.next u uses in
           elim (bool_cases (has_use o.name s.next)) [
             | inl twice ↦ steps_none form w x xs kind.ArgumentConflict [] (fault ∙ ap (λ (b : Bool). or_else (cond b (kind.ArgumentConflict ∷ []) []) []) twice)
                 ∙ sym (right ∙ twice_none form s.next u uses twice)
-            | inr fresh ↦ steps_to form w (walk_at (s.next ++ u ∷ []) None idle met false) x xs (fault ∙ ap (λ (b : Bool). or_else (cond b (kind.ArgumentConflict ∷ []) []) []) fresh)
+            | inr fresh ↦ steps_to form w (walk_at (s.next ++ u ∷ []) None idle met false) x xs
+                (fault ∙ ap (λ (b : Bool). or_else (cond b (kind.ArgumentConflict ∷ []) []) []) fresh)
                 (step.1 ∙ ap (attached_at o t met) s.after
                 ∙ ap (λ (rs : List Row). walk_rows rs met) (used_at o.name (Some o.name) None o.required t s.next fresh))
                 ∙ next (s.next ++ u ∷ []) None met tt ok
@@ -332,7 +347,8 @@ named form x xs next front p met k name o e l found ok =
     let step = turn_named form front (pending_of_use p) met x name o e l (by_long form name ∙ ap (option_map option_rule) found) in
     elim (settle form front p k) [
       | inl c ↦ steps_none form w x xs c.kind_is [] (step.0 ∙ ap (λ (f : Kinds). or_else f []) c.fault) ∙ sym (clash_none form front p c uses)
-      | inr s ↦ steps_to form w (walk_at s.next (Some (o.name, [])) (option o.name) met false) x xs (step.0 ∙ ap (λ (f : Kinds). or_else f []) s.fault) (step.1 ∙ ap (named_at o met) s.after)
+      | inr s ↦ steps_to form w (walk_at s.next (Some (o.name, [])) (option o.name) met false) x xs (step.0 ∙ ap (λ (f : Kinds). or_else f []) s.fault)
+          (step.1 ∙ ap (named_at o met) s.after)
           ∙ next s.next o.name met (known_option form name o found) ok
           ∙ sym (settled_same form front p s uses)
     ]
@@ -344,17 +360,20 @@ placed_at form x xs few next front p met k q name e =
     let w = walk_at front (pending_of_use p) idle met false in
     let u : Use = (name, x) in
     let uses = uses_of form any (suc met) xs in
-    let step = turn_positional form front (pending_of_use p) met x name q.ends q.long q.short (place_of form met (Some name) e) (next_place form met name few e) in
+    let step = turn_positional form front (pending_of_use p) met x name q.ends q.long q.short (place_of form met (Some name) e)
+    (next_place form met name few e) in
     elim (settle form front p k) [
       | inl c ↦ steps_none form w x xs c.kind_is [] (step.0 ∙ c.fault) ∙ sym (clash_none form front p c (after u uses))
-      | inr s ↦ steps_to form w (walk_at s.next (Some (name, x ∷ [])) idle (suc met) false) x xs (step.0 ∙ s.fault) (step.1 ∙ ap (positional_at name x met false) s.after)
+      | inr s ↦ steps_to form w (walk_at s.next (Some (name, x ∷ [])) idle (suc met) false) x xs (step.0 ∙ s.fault)
+          (step.1 ∙ ap (positional_at name x met false) s.after)
           ∙ next s.next (Some u) (suc met) (known_positional form met name e) q.ok
           ∙ sym (settled_same form front p s (after u uses) ∙ pending_next form s.next u uses)
     ]
 
 placed : (form : Form) (x : Text) (xs : List Text) → IsNumbered form → AnyClaim form xs → (front : List Use) (p : Option Use) (met : ℕ) → KnownUse form p
     → IsPlainWord x xs
-    → S form (walk_at front (pending_of_use p) idle met false) (x ∷ xs) ≡ result form front p (positional_use (slice_get form.positionals met) x (uses_of form any (suc met) xs))
+    → S form (walk_at front (pending_of_use p) idle met false) (x ∷ xs)
+    ≡ result form front p (positional_use (slice_get form.positionals met) x (uses_of form any (suc met) xs))
 placed form x xs few next front p met k q = elim (option_cases (slice_get form.positionals met)) [
   | inl n ↦ rw n (steps_none form (walk_at front (pending_of_use p) idle met false) x xs kind.UnknownArgument []
       (turn_stray form front (pending_of_use p) met x q.ends q.long q.short (place_of form met None n)))

@@ -19,7 +19,8 @@ and_false false = refl
 pub use_at : (id : Text) (long : Option Text) (index : Option ℕ) (required : Bool) (v : Text) (rows : List Row)
     → use_fault false (plain_rule id long index required) (v ∷ []) rows ≡ cond (has_row id rows) (kind.ArgumentConflict ∷ []) []
 use_at id long index required v rows =
-    elim (has_row id rows) as (λ b. or_else (cond (b && true) (kind.ArgumentConflict ∷ []) []) [] ≡ cond b (kind.ArgumentConflict ∷ []) []) [ true ↦ refl | false ↦ refl ]
+    elim (has_row id rows) as (λ b. or_else (cond (b && true) (kind.ArgumentConflict ∷ []) []) []
+    ≡ cond b (kind.ArgumentConflict ∷ []) []) [ true ↦ refl | false ↦ refl ]
 
 pub has_row_at : (id : Text) (front : List Use) → has_row id (map row_at front) ≡ has_use id front
 has_row_at id [] = refl
@@ -83,7 +84,13 @@ pub turn_attached : (form : Form) (front : List Use) (pending : Option (Text × 
     ≡ or_else (or_else (settle_fault (form_rules form) false (walk_at front pending idle met false).held)
     (use_fault false (option_rule o) (t ∷ []) (settled (form_rules form) (walk_at front pending idle met false).held).rows)) [])
     × (walked (form_rules form) [] (walk_at front pending idle met false) w
-    ≡ record (walk_at front pending idle met false) { held = record { rows = spec_used (option_rule o) (t ∷ []) (settled (form_rules form) (walk_at front pending idle met false).held).rows; pending = None; skip = 0 } })
+    ≡ record (walk_at front pending idle met false) {
+      held = record {
+        rows = spec_used (option_rule o) (t ∷ []) (settled (form_rules form) (walk_at front pending idle met false).held).rows;
+        pending = None;
+        skip = 0;
+      };
+    })
 unfolding walked
 turn_attached form front pending met w name t o e l a = (rw (e, l, a) refl, rw (e, l, a) refl)
 
@@ -93,7 +100,10 @@ pub turn_named : (form : Form) (front : List Use) (pending : Option (Text × Lis
     → (turn_fault (form_shape form) [] (walk_at front pending idle met false) w
     ≡ or_else (settle_fault (form_rules form) false (walk_at front pending idle met false).held) [])
     × (walked (form_rules form) [] (walk_at front pending idle met false) w
-    ≡ record (walk_at front pending idle met false) { held = record (settled (form_rules form) (walk_at front pending idle met false).held) { pending = Some (o.name, []) }; waiting = option o.name })
+    ≡ record (walk_at front pending idle met false) {
+      held = record (settled (form_rules form) (walk_at front pending idle met false).held) { pending = Some (o.name, []) };
+      waiting = option o.name;
+    })
 unfolding walked
 turn_named form front pending met w name o e l a = (rw (e, l, a) refl, rw (e, l, a) refl)
 
@@ -104,7 +114,9 @@ pub turn_positional : (form : Form) (front : List Use) (pending : Option (Text �
     → (turn_fault (form_shape form) [] (walk_at front pending idle met false) w
     ≡ settle_fault (form_rules form) false (walk_at front pending idle met false).held)
     × (walked (form_rules form) [] (walk_at front pending idle met false) w
-    ≡ record (walk_at front pending idle (suc met) false) { held = record (settled (form_rules form) (walk_at front pending idle met false).held) { pending = Some (name, w ∷ []) } })
+    ≡ record (walk_at front pending idle (suc met) false) {
+      held = record (settled (form_rules form) (walk_at front pending idle met false).held) { pending = Some (name, w ∷ []) };
+    })
 unfolding walked
 turn_positional form front None met w name e l s i b = (rw (e, l, s, i) refl, rw (e, l, s, i, b) refl)
 turn_positional form front (Some p) met w name e l s i b =
@@ -139,7 +151,9 @@ pub rest_positional : (form : Form) (front : List Use) (pending : Option (Text �
     → (turn_fault (form_shape form) [] (walk_at front pending idle met true) w
     ≡ settle_fault (form_rules form) false (walk_at front pending idle met true).held)
     × (walked (form_rules form) [] (walk_at front pending idle met true) w
-    ≡ record (walk_at front pending idle (suc met) true) { held = record (settled (form_rules form) (walk_at front pending idle met true).held) { pending = Some (name, w ∷ []) } })
+    ≡ record (walk_at front pending idle (suc met) true) {
+      held = record (settled (form_rules form) (walk_at front pending idle met true).held) { pending = Some (name, w ∷ []) };
+    })
 unfolding walked
 rest_positional form front None met w name i b = (rw i refl, rw (i, b) refl)
 rest_positional form front (Some p) met w name i b =

@@ -85,7 +85,8 @@ form_is_free form few =
 -- the faults after the walk
 abbrev end_kinds : Form → Walk → Kinds
 end_kinds form w = or_else (settle_fault (form_rules form) false w.held)
-    (or_else (defaults_fault (settled (form_rules form) w.held).rows (form_rules form)) (check_fault (form_shape form) (finished (form_rules form) w.held) false))
+    (or_else (defaults_fault (settled (form_rules form) w.held).rows (form_rules form))
+    (check_fault (form_shape form) (finished (form_rules form) w.held) false))
 
 one_more : {X : Type 0} (k more end : Kinds) (r : Option X) (x : X) → r ≡ cond (no_kinds (or_else more end)) (Some x) None
     → cond (no_kinds k) r None ≡ cond (no_kinds (or_else (or_else k more) end)) (Some x) None
@@ -93,14 +94,18 @@ one_more [] more end r x e = e
 one_more (k ∷ ks) more end r x e = refl
 
 gather : (form : Form) (ws : List Text) (w : Walk)
-    → rows_from (form_shape form) w ws ≡ cond (no_kinds (or_else (walk_fault (form_shape form) [] w ws) (end_kinds form (fold (walked (form_rules form) []) w ws))))
+    → rows_from (form_shape form) w ws
+    ≡ cond (no_kinds (or_else (walk_fault (form_shape form) [] w ws) (end_kinds form (fold (walked (form_rules form) []) w ws))))
     (Some (finished (form_rules form) (fold (walked (form_rules form) []) w ws).held)) None
 unfolding walk_fault
 gather form [] w = refl
-gather form (x ∷ xs) w = one_more (turn_fault (form_shape form) [] w x) (walk_fault (form_shape form) [] (walked (form_rules form) [] w x) xs) (end_kinds form (fold (walked (form_rules form) []) w (x ∷ xs))) _ _ (gather form xs (walked (form_rules form) [] w x))
+gather form (x ∷ xs) w =
+    one_more (turn_fault (form_shape form) [] w x) (walk_fault (form_shape form) [] (walked (form_rules form) [] w x) xs)
+    (end_kinds form (fold (walked (form_rules form) []) w (x ∷ xs))) _ _ (gather form xs (walked (form_rules form) [] w x))
 
 -- a command with no subcommand enters none
-none_entered : (s : Shape) (stop : Option (Text × List Text)) → (entered_fault (record { top = s; subs = [] }) stop ≡ []) × (is_some (entered (record { top = s; subs = [] }) stop) ≡ false)
+none_entered : (s : Shape) (stop : Option (Text × List Text)) → (entered_fault (record { top = s; subs = [] }) stop ≡ [])
+    × (is_some (entered (record { top = s; subs = [] }) stop) ≡ false)
 none_entered s None = (refl, refl)
 none_entered s (Some p) = (refl, refl)
 
@@ -157,10 +162,12 @@ bad_words form x xs next met h =
         | inl n ↦ rw (ends, d, n) refl
         | inr p ↦ let l = p.1 in let bad : dashes_ok xs ≡ false = rw (d, l) at parts.1 in rw (ends, d, l) (long_none form xs met p.0 next bad)
       ]
-      | inr d ↦ let bad : dashes_ok xs ≡ false = rw d at parts.1 in rw (ends, d) (positional_none (slice_get form.positionals met) x _ (next.words (suc met) bad))
+      | inr d ↦ let bad : dashes_ok xs ≡ false = rw d at parts.1 in
+          rw (ends, d) (positional_none (slice_get form.positionals met) x _ (next.words (suc met) bad))
     ]
 
-bad_values : (form : Form) (x : Text) (xs : List Text) → BothNone form xs → (o : Text) (met : ℕ) → dashes_ok (x ∷ xs) ≡ false → uses_of form (value_of o) met (x ∷ xs) ≡ None
+bad_values : (form : Form) (x : Text) (xs : List Text) → BothNone form xs → (o : Text) (met : ℕ) → dashes_ok (x ∷ xs) ≡ false
+    → uses_of form (value_of o) met (x ∷ xs) ≡ None
 bad_values form x xs next o met h =
     let parts = or_parts (ends_options x) ((not (begins_with_dash x) || is_some (long_of x)) && dashes_ok xs) h in
     elim (bool_cases (begins_with_dash x)) [

@@ -1,18 +1,14 @@
 -- The same commands for `clap`, and what it gives for the words.
-use Rattle.std.specs.Prelude.{◌≡◌, ⊤, ℕ, suc, Bool, true, false, List, [], ◌∷◌, ◌++◌, Option, Some, None, Result, Ok, Err, if◌then◌else◌, map, option_map}
-use Rattle.clap.specs.Words.{found_of, rows_of}
+use Rattle.std.specs.Prelude.{◌≡◌, ℕ, suc, Bool, true, false, List, [], ◌∷◌, ◌++◌, Option, Some, None, if◌then◌else◌, map, option_map, get_or}
 use Rattle.clap.specs.Walk.{Row, Rule, Waiting, Walk, walked, finished, settled}
 use Rattle.clap.specs.Kinds.{Kinds, or_else}
 use Rattle.clap.specs.Faults.{turn_fault, settle_fault, defaults_fault, check_fault, fault_of}
 use Rattle.clap.specs.Simple.{App, Shape, new_rule, new_shape, matches_of}
 use Rattle.clap.specs.Values.{reading_of}
-use Rattle.clap.specs.declared.parser.matches.ArgMatches.{ArgMatches}
 use Rattle.clap.specs.declared.parser.matches.ValueSource.TheVariants.{CommandLine}
 use Rattle.clap.specs.declared.builder.action.ArgAction.TheVariants.{Set}
 use Rattle.clap.specs.declared.builder.value_parser.ValueParser.TheVariants as vp
 use Rattle.mb_forms.specs.Forms.{Text, Opt, Form, Use, dashes_ok, read}
-use Rattle.mb_forms.specs.declared.fault.WordsFault.{WordsFault}
-use Rattle.mb_forms.specs.declared.fault.WordsFault.TheVariants.{Memory, Refused}
 
 -- ---- the command as our code makes it
 
@@ -70,7 +66,17 @@ form_shape form = record (empty_shape form.name) {
 -- ---- the walk over the words
 
 abbrev pub row_at : Use → Row
-row_at u = record { id = u.0; values = u.1 ∷ []; count = None; source = Some CommandLine; reading = reading_of vp.String }
+row_at u = record {
+  id = u.0;
+  values = u.1 ∷ [];
+  count = None;
+  source = Some CommandLine;
+  reading = reading_of vp.String;
+}
+
+-- the use that a row has
+abbrev pub use_at : Row → Use
+use_at r = (r.id, get_or r.values 0 [])
 
 -- where the walk stands after these uses, the last of them pending
 abbrev pub pending_of_use : Option Use → Option (Text × List Text)
@@ -110,13 +116,3 @@ clap_gives app words = if no_kinds (fault_of app words) then Some (matches_of ap
 abbrev pub Agrees : Form → List Text → Type 0
 Agrees form words =
     (if dashes_ok words then clap_gives (form_app form) words else None) ≡ option_map (map row_at) (read form words)
-
--- why words were not read; want of memory is free
-abbrev pub FaultFits : {A : Type 0} → Option A → WordsFault → Type 0
-FaultFits given Memory = ⊤
-FaultFits given Refused = given ≡ None
-
--- The matches are the uses that the words give, or the words give none and are refused.
-abbrev pub Parses : Option (List Use) → Result ArgMatches WordsFault → Type 0
-Parses given (Ok m) = (uses : List Use) × (given ≡ Some uses) × (rows_of (found_of m) ≡ map row_at uses)
-Parses given (Err fault) = FaultFits given fault

@@ -60,7 +60,8 @@ option_use (Some o) (Some v) uses next = after (o.name, v) uses
 option_use (Some o) None uses next = next o.name
 
 -- a word that begins with `-`: `--name=value`, `--name`, or none of the form's
-abbrev pub dash_use : Form → Option (Text × Option Text) → Option (List Use) → (Text → Option (List Use)) → Option (List Use)
+abbrev pub dash_use : Form → Option (Text × Option Text) → Option (List Use)
+    → (Text → Option (List Use)) → Option (List Use)
 dash_use form None uses next = None
 dash_use form (Some p) uses next = option_use (find_option p.0 form.options) p.1 uses next
 

@@ -1,13 +1,15 @@
-//! Reading words by a command.
+//! Reading words by a form.
 
 ghost use Rattle.std.specs.Prelude.{◌≡◌, map, string_bytes};
-ghost use Rattle.clap.specs.Words.{app_of};
-ghost use Rattle.mb_forms.specs.Forms.{Form, IsNumbered, dashes_ok, read};
-ghost use Rattle.mb_forms.specs.Clap.{form_app, Parses};
+ghost use Rattle.mb_forms.specs.Forms.{dashes_ok, read};
+ghost use Rattle.mb_forms.specs.Said.{ReadsAs, form_said};
 
+use crate::arguments::command_of;
 use crate::fault::WordsFault;
+use crate::form::Form;
+use crate::uses::Uses;
 use clap::error::ErrorKind;
-use clap::{ArgMatches, Command};
+use std::alloc::Global;
 
 /// Before `--`, no word begins with one hyphen alone.
 fn dashes_ok(words: &[String]) -> bool
@@ -33,15 +35,22 @@ fn fault_of(kind: ErrorKind) -> WordsFault
     }
 }
 
-/// Reads the words behind a command's name, for the command of any form.
-pub fn parse<'a>(command: Command<'a>, words: &'a [String]) -> Result<ArgMatches<'a>, WordsFault>
-    ensures reads { (form : Form) → IsNumbered form → app_of command.entry ≡ form_app form → Parses (read form (map string_bytes words.entry.now)) result }
+/// Reads the words behind a command's name by its form.
+pub fn parse<'a>(
+    alloc: Global,
+    form: &Form<'a>,
+    words: &'a [String],
+) -> Result<Uses<'a>, WordsFault>
+    ensures reads { ReadsAs (λ uses. uses) (read (form_said form.now) (map string_bytes words.entry.now)) result }
 {
     if !dashes_ok(words) {
         return Err(WordsFault::Refused);
     }
+    let Ok(command) = command_of(alloc, form) else {
+        return Err(WordsFault::Memory);
+    };
     match command.try_get_matches_from(words) {
-        Ok(matches) => Ok(matches),
+        Ok(matches) => Ok(Uses { matches }),
         Err(error) => Err(fault_of(error.kind())),
     }
 }

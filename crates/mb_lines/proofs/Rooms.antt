@@ -14,12 +14,15 @@ taken : (n : ℕ) (line : List ℕ) → length (take n line) ≤ length line
 taken n line = omega (arith, length-take n line)
 
 without_carriage_return : (line : List ℕ) → length (no_cr line) ≤ length line
-without_carriage_return line = shorter_if (nat_lt 0 (length line) && slice_index line (length line - 1) == 13) (take (length line - 1) line) line (length line) (taken (length line - 1) line) (omega arith)
+without_carriage_return line =
+    shorter_if (nat_lt 0 (length line) && slice_index line (length line - 1) == 13) (take (length line - 1) line) line (length line)
+    (taken (length line - 1) line) (omega arith)
 
 without_end : (line : List ℕ) → length (without_terminator line) ≤ length line
 without_end line =
     let front = take (length line - 1) line in
-    shorter_if (nat_lt 0 (length line) && slice_index line (length line - 1) == 10) (no_cr front) line (length line) (omega (arith, without_carriage_return front, taken (length line - 1) line)) (omega arith)
+    shorter_if (nat_lt 0 (length line) && slice_index line (length line - 1) == 10) (no_cr front) line (length line)
+    (omega (arith, without_carriage_return front, taken (length line - 1) line)) (omega arith)
 
 lines_from_room : (n : ℕ) (text : List ℕ) → sum_by length (map without_terminator (lines_from n text)) ≤ length text
 unfolding lines_from

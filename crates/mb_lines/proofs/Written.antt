@@ -27,7 +27,8 @@ no_carriage_return [] plain = refl
 no_carriage_return (character ∷ characters) plain =
     let line : List ℕ = character ∷ characters in
     let last : 13 < get_or line (length line - 1) 0 = plain (length line - 1) 0 (omega arith) in
-    unchosen (nat_lt 0 (length line)) (slice_index line (length line - 1) == 13) (take (length line - 1) line) line (ne_eqb (slice_index line (length line - 1)) 13 (λ e. omega arith))
+    unchosen (nat_lt 0 (length line)) (slice_index line (length line - 1) == 13) (take (length line - 1) line) line
+    (ne_eqb (slice_index line (length line - 1)) 13 (λ e. omega arith))
 
 last_of : (line : List ℕ) → slice_index (line ++ 10 ∷ []) (length (line ++ 10 ∷ []) - 1) ≡ 10
 last_of line =
@@ -39,7 +40,8 @@ without_end line plain =
     let whole = line ++ 10 ∷ [] in
     let place : length whole - 1 ≡ length line = omega (arith, length-append line (10 ∷ [])) in
     let front : take (length whole - 1) whole ≡ line = ap (λ (n : ℕ). take n whole) place ∙ take-append_seam line (10 ∷ []) in
-    chosen (nat_lt 0 (length whole)) (slice_index whole (length whole - 1) == 10) (no_cr (take (length whole - 1) whole)) whole (lt-ltb 0 (length whole) (omega (arith, length-append line (10 ∷ [])))) (eq-eqb _ _ (last_of line))
+    chosen (nat_lt 0 (length whole)) (slice_index whole (length whole - 1) == 10) (no_cr (take (length whole - 1) whole)) whole
+    (lt-ltb 0 (length whole) (omega (arith, length-append line (10 ∷ [])))) (eq-eqb _ _ (last_of line))
     ∙ (ap no_cr front ∙ no_carriage_return line plain)
 
 one_line : (line : List ℕ) → IsPlain line → lines_of (line ++ 10 ∷ []) ≡ (line ++ 10 ∷ []) ∷ []
@@ -56,7 +58,8 @@ cut line rest plain =
     ∙ (ap (λ (ls : List (List ℕ)). map without_terminator (ls ++ lines_of rest)) (one_line line plain)
     ∙ ap (λ (l : List ℕ). l ∷ lines_in rest) (without_end line plain))
 
-first : (number : ℕ) (line : List ℕ) (lines : List (List ℕ)) → 0 < length line → numbered_from number (line ∷ lines) ≡ record { number = number; characters = line } ∷ numbered_from (number + 1) lines
+first : (number : ℕ) (line : List ℕ) (lines : List (List ℕ)) → 0 < length line
+    → numbered_from number (line ∷ lines) ≡ record { number = number; characters = line } ∷ numbered_from (number + 1) lines
 first number [] lines some = absurd (omega arith)
 first number (character ∷ characters) lines some = refl
 

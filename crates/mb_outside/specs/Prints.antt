@@ -21,6 +21,7 @@ Prints old new before now text (Ok _) = Printed old new before now text
 Prints old new before now text (Err _) = PrintedPart old new before now text
 
 -- The same, going on from what was printed before: after a failure nothing more is put.
-abbrev pub PrintsMore : {T E U F : Type 0} → Result T E → Option (List ℕ) → Option (List ℕ) → ℕ → ℕ → List ℕ → Result U F → Type 0
+abbrev pub PrintsMore : {T E U F : Type 0} → Result T E → Option (List ℕ) → Option (List ℕ) → ℕ → ℕ → List ℕ
+    → Result U F → Type 0
 PrintsMore (Ok _) old new before now text result = Prints old new before now text result
 PrintsMore (Err _) old new before now text result = (new ≡ old) × (now ≡ before) × IsErr result

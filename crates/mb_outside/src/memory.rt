@@ -166,7 +166,8 @@ impl Sink for MemSink {
 
     fn put(&mut self, bytes: &[u8]) -> Result<usize, Failed>
         ensures count { TakesSome bytes.now result }
-        ensures taken { Grows (Some self.old.bytes.items) (Some self.new.bytes.items) (take (taken_by result) bytes.now) }
+        ensures taken { Grows (Some self.old.bytes.items) (Some self.new.bytes.items)
+            (take (taken_by result) bytes.now) }
         ensures cause { SinkCause self.old.faults self.new.faults result }
 
         ensures calls { (self.new.calls ≡ next_count self.old.calls) × (self.new.fails.items ≡ self.old.fails.items) }

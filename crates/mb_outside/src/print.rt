@@ -34,7 +34,8 @@ pub fn put_more<K: Sink>(
     so_far: Result<(), SinkFault>,
     bytes: &[u8],
 ) -> Result<(), SinkFault>
-    ensures { PrintsMore so_far (K.taken sink.old) (K.taken sink.new) (K.faults sink.old) (K.faults sink.new) bytes.now result }
+    ensures { PrintsMore so_far (K.taken sink.old) (K.taken sink.new) (K.faults sink.old) (K.faults sink.new)
+        bytes.now result }
 {
     match so_far {
         Ok(()) => put_all(sink, bytes),

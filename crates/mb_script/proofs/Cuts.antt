@@ -11,7 +11,8 @@ pub cut_none : (line : List ℕ) → None ≡ position is_space line → None �
 unfolding parts
 cut_none line e = ap (option_map (parts line)) e
 
-pub cut_found : (line : List ℕ) (end : ℕ) → Some end ≡ position is_space line → Some (take end line, take (length line - (end + 1)) (drop (end + 1) line)) ≡ cut_at_space line
+pub cut_found : (line : List ℕ) (end : ℕ) → Some end ≡ position is_space line
+    → Some (take end line, take (length line - (end + 1)) (drop (end + 1) line)) ≡ cut_at_space line
 unfolding parts
 cut_found line end e =
     let whole : take (length line - (end + 1)) (drop (end + 1) line) ≡ drop (end + 1) line = take_all _ _ (omega (arith, length-drop (end + 1) line)) in

@@ -5,3 +5,4 @@ pub mod Pairs
 pub mod Names
 pub mod Entries
 pub mod Rams
+pub mod Enough

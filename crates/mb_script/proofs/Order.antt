@@ -30,8 +30,10 @@ lawful last entries h few = record {
 }
 
 -- an entry was added, and those of the bytes after it are still to be added
-pub entry_pushed : (step byte : ℕ) (entries new whole : List (ℕ × ℕ)) (bytes : List ℕ) (i : ℕ) → i < length bytes → byte ≡ get_or bytes i byte → new ≡ entries ++ (step, byte) ∷ []
+pub entry_pushed : (step byte : ℕ) (entries new whole : List (ℕ × ℕ)) (bytes : List ℕ) (i : ℕ) → i < length bytes → byte ≡ get_or bytes i byte
+    → new ≡ entries ++ (step, byte) ∷ []
     → entries ++ at_step step (drop i bytes) ≡ whole → new ++ at_step step (drop (i + 1) bytes) ≡ whole
 entry_pushed step byte entries new whole bytes i within there added so_far =
     let first : drop i bytes ≡ byte ∷ drop (suc i) bytes = drop-cons bytes i byte within ∙ ap (λ (b : ℕ). b ∷ drop (suc i) bytes) (sym there) in
-    rw (added, add-one) (append_assoc entries ((step, byte) ∷ []) (at_step step (drop (suc i) bytes)) ∙ (sym (ap (λ (bs : List ℕ). entries ++ at_step step bs) first) ∙ so_far))
+    rw (added, add-one) (append_assoc entries ((step, byte) ∷ []) (at_step step (drop (suc i) bytes))
+    ∙ (sym (ap (λ (bs : List ℕ). entries ++ at_step step bs) first) ∙ so_far))

@@ -130,7 +130,8 @@ fn step_of(word: &[u8]) -> Option<u32>
 /// The bytes that are written.
 #[tactic(auto, unfolding(crate::specs::Scripts::bytes_of))]
 fn bytes_of(alloc: Global, written: Written) -> Result<Vec<u8>, Refusal>
-    ensures given { GivesAlone (λ bytes. bytes.items) result (ok_or (bytes_of (written_said written.entry)) why.Digits) }
+    ensures given { GivesAlone (λ bytes. bytes.items) result
+        (ok_or (bytes_of (written_said written.entry)) why.Digits) }
     ensures short { IfOk result (λ bytes. length bytes.items ≤ written_len written.entry + 1) }
 {
     match written {

@@ -1,6 +1,6 @@
 //! What one line of a session file says by itself.
 
-ghost use Rattle.std.specs.Prelude.{◌≡◌, ◌≢◌, ◌≤◌, IfOk, IfSome, IsTrue, OnOk, map, option_map, string_bytes};
+ghost use Rattle.std.specs.Prelude.{◌≡◌, ◌≢◌, ◌≤◌, IfOk, IfSome, IsTrue, OnOk, map, option_map, string_bytes, take};
 ghost use Rattle.mb_script.specs.Plan.{IsBoard, IsRam};
 ghost use Rattle.mb_script.specs.Sessions.{argument_in, argument_of, board_line, board_of, fields_of, guest_line, guest_of, is_blank, is_graphic, is_name, ram_of, script_named, session_line, slice_line, slice_of, version_of, words_of};
 ghost use Rattle.mb_script.specs.Answers.{GivesAlone, bytes_said, fields_said, guest_said};
@@ -9,6 +9,9 @@ use crate::fault::{LineWhy, Refusal};
 use crate::number::number_of;
 use crate::plan::GuestPlan;
 use std::alloc::{AllocError, Global};
+
+/// No line has so many words.
+const ENOUGH_WORDS: usize = 6;
 
 /// The words behind `guest`.
 #[derive(Clone, Copy)]
@@ -49,13 +52,13 @@ pub(crate) fn slice(alloc: Global, line: &[u8]) -> Result<u32, Refusal>
 }
 
 /// The guest in a line, behind so many others.
-#[tactic(auto, unfolding(crate::specs::Sessions::guest_line))]
+#[tactic(auto, using(crate::proofs::Enough::guest_by_six), unfolding(crate::specs::Sessions::guest_line))]
 pub(crate) fn guest(alloc: Global, count: usize, line: &[u8]) -> Result<GuestPlan, Refusal>
     ensures given { GivesAlone guest_said result (guest_line count line.now) }
     ensures ram { IfOk result (λ guest. IsRam (guest_said guest).ram) }
     ensures few { OnOk result (count ≢ 16) }
 {
-    let words = words_of(alloc, line)?;
+    let words = first_words(alloc, line)?;
     let guest = guest_of(alloc, &words)?;
     if count == 16 {
         return Err(Refusal::Why(LineWhy::Many));
@@ -64,19 +67,21 @@ pub(crate) fn guest(alloc: Global, count: usize, line: &[u8]) -> Result<GuestPla
 }
 
 /// The second of the two words of a line, of which the first is the keyword.
+#[tactic(auto, using(crate::proofs::Enough::argument_by_six))]
 fn argument<'a>(alloc: Global, keyword: &[u8], line: &'a [u8]) -> Result<&'a [u8], Refusal>
     ensures { GivesAlone bytes_said result (argument_in keyword.now line.entry.now) }
 {
-    let words = words_of(alloc, line)?;
+    let words = first_words(alloc, line)?;
     argument_of(keyword, &words).ok_or(Refusal::Why(LineWhy::Word))
 }
 
-/// The words of a line, which are parted by spaces and tabs.
-fn words_of<'a>(alloc: Global, line: &'a [u8]) -> Result<Vec<&'a [u8]>, AllocError>
-    ensures { IfOk result (λ words. map bytes_said words.items ≡ words_of line.entry.now) }
+/// The first words of a line, which are parted by spaces and tabs; as many as say whether it has too many.
+fn first_words<'a>(alloc: Global, line: &'a [u8]) -> Result<Vec<&'a [u8]>, AllocError>
+    ensures { IfOk result (λ words. map bytes_said words.items ≡ take 6 (words_of line.entry.now)) }
 {
     line.split(|&character| is_blank(character))
         .filter(|word| !word.is_empty())
+        .take(ENOUGH_WORDS)
         .collect(alloc)
 }
 

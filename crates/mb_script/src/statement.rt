@@ -11,7 +11,8 @@ use mb_lines::{Line, Lines};
 
 /// The next line that is no comment.
 pub(crate) fn next_statement<'a>(lines: &mut Lines<'a>) -> Option<Line<'a>>
-    ensures left { MatchOption result (statements (left lines.old) ≡ []) (λ line. statements (left lines.old) ≡ line_said line ∷ statements (left lines.new)) }
+    ensures left { MatchOption result (statements (left lines.old) ≡ [])
+        (λ line. statements (left lines.old) ≡ line_said line ∷ statements (left lines.new)) }
     ensures end { IfNone result (lines.new.count + 1 ≡ past lines.old) }
     ensures past { past lines.new ≡ past lines.old }
     ensures room { IfSome result (λ line. length line.characters.now + room lines.new ≤ room lines.old) }
@@ -26,7 +27,9 @@ pub(crate) fn next_statement<'a>(lines: &mut Lines<'a>) -> Option<Line<'a>>
 
 /// The same, where a line must be there.
 pub(crate) fn due_statement<'a>(lines: &mut Lines<'a>) -> Result<Line<'a>, LineFault>
-    ensures left { MatchResult result (λ line. statements (left lines.old) ≡ line_said line ∷ statements (left lines.new)) (λ _. statements (left lines.old) ≡ []) }
+    ensures left { MatchResult result
+        (λ line. statements (left lines.old) ≡ line_said line ∷ statements (left lines.new))
+        (λ _. statements (left lines.old) ≡ []) }
     ensures missing { IfErr result (λ fault. fault ≡ LineFault.Line (past lines.old) why.Word) }
     ensures past { past lines.new ≡ past lines.old }
 {

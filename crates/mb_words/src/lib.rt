@@ -6,9 +6,10 @@
 #![tactic(auto)]
 
 mod bare;
+mod bare_words;
 mod command;
-mod number;
 mod reading;
+mod values;
 
 pub use bare::Bare;
 pub use command::Command;

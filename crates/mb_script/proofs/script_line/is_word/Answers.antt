@@ -8,5 +8,6 @@ use Rattle.mb_script.proofs.script_line.is_word.Goals as goal
 
 pub returns-then-not-is_empty : goal.returns-then-not-is_empty
 returns-then-not-is_empty c =
-    let all = all_from_yields_List (λ character. not (is_space character)) _ _ c.all.result c.all.ensures.ran (YieldsList-from_slice c.args.characters.now cc) (λ x b q k. search (rules, tests)) in
+    let all = all_from_yields_List (λ character. not (is_space character)) _ _ c.all.result c.all.ensures.ran (YieldsList-from_slice c.args.characters.now cc)
+    (λ x b q k. search (rules, tests)) in
     grind (arith, nat_tests)

@@ -10,7 +10,8 @@ use Rattle.mb_script.proofs.session_reading.guests.Given as goal
 
 abbrev pub invariant-loop-line : goal.invariant-loop-line
 invariant-loop-line l = record {
-  guests : with_front (map guest_said l.guests.items) (guests_after (length l.guests.items) (statements (left l.lines))) ≡ guests_of (past l.fn.lines) (statements (left l.fn.lines));
+  guests : with_front (map guest_said l.guests.items) (guests_after (length l.guests.items) (statements (left l.lines)))
+      ≡ guests_of (past l.fn.lines) (statements (left l.fn.lines));
   past : past l.lines ≡ past l.fn.lines;
   some : 1 ≤ length l.guests.items;
   few : length l.guests.items ≤ 16;

@@ -1,6 +1,6 @@
 use Rattle.std.proofs.Common.{◌∙◌, ap, true}
 use Rattle.clap.specs.Simple.{app_of_fields, on_top}
-use Rattle.mb_forms.proofs.arguments.command.Goals as goal
+use Rattle.mb_forms.proofs.arguments.bare_command.Goals as goal
 
 pub returns : goal.returns
 returns c = record {

@@ -1,6 +1,6 @@
 use Rattle.std.proofs.Common.{◌≡◌, ◌<◌, ◌^◌, ◌≤◌, drop, length}
-use Rattle.mb_words.specs.Words.{digits_after}
-use Rattle.mb_words.proofs.number.number.Given as goal
+use Rattle.mb_words.specs.Values.{digits_after}
+use Rattle.mb_words.proofs.values.number.Given as goal
 
 abbrev pub invariant-loop-digit : goal.invariant-loop-digit
 invariant-loop-digit l = record {

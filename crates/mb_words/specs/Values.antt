@@ -1,0 +1,39 @@
+-- What a value of the command line says by itself.
+use Rattle.std.specs.Prelude.{◌≡◌, ◌≤◌, ◌+◌, ◌-◌, ◌*◌, ◌%◌, ◌==◌, ◌&&◌, ◌||◌, not, ℕ, nat_lt, nat_le, Bool, if◌then◌else◌}
+use Rattle.std.specs.Prelude.{List, [], ◌∷◌, length, Option, Some, None, option_and_then}
+use Rattle.mb_forms.specs.Forms.{Text, Use, value_in}
+
+-- a value that passes a test
+abbrev pub tested : {A : Type 0} → (A → Bool) → A → Option A
+tested test value = if test value then Some value else None
+
+-- a file's name, which is not empty
+abbrev pub name_of : Text → Option Text
+name_of text = tested (λ name. not (length name == 0)) text
+
+abbrev pub is_digit : ℕ → Bool
+is_digit byte = nat_le 48 byte && nat_le byte 57
+
+-- the number that digits spell after those that spell n
+abbrev pub digits_after : ℕ → Text → Option ℕ
+digits_after n [] = Some n
+digits_after n (digit ∷ digits) = if is_digit digit then digits_after (10 * n + (digit - 48)) digits else None
+
+-- one to ten decimal digits
+abbrev pub number_of : Text → Option ℕ
+number_of text = if (length text == 0) || nat_lt 10 (length text) then None else digits_after 0 text
+
+-- a number from the least to the most
+abbrev pub ranged : ℕ → ℕ → Text → Option ℕ
+ranged least most text = option_and_then (tested (λ n. nat_le least n && nat_le n most)) (number_of text)
+
+-- the RAM of a machine in KiB: 64 to 16,384, a multiple of 64
+abbrev pub ram_of : Text → Option ℕ
+ram_of text = option_and_then (tested (λ kib. kib % 64 == 0)) (ranged 64 16384 text)
+
+abbrev pub IsRam : ℕ → Type 0
+IsRam kib = (64 ≤ kib) × (kib ≤ 16384) × (kib % 64 ≡ 0)
+
+-- what the value of a name says, where it has one
+abbrev pub said_by : {A : Type 0} → (Text → Option A) → Text → List Use → Option A
+said_by says name uses = option_and_then says (value_in name uses)

@@ -1,0 +1,56 @@
+//! What a value of the command line says by itself.
+
+ghost use Rattle.std.specs.Prelude.{◌≡◌, ◌*◌, ◌^◌, ◌<◌, ◌≤◌, IfSome, option_map};
+ghost use Rattle.mb_forms.specs.Said.{text_said};
+ghost use Rattle.mb_words.specs.Values.{IsRam, name_of, number_of, ram_of, ranged};
+
+/// A file's name, which is not empty.
+pub(crate) fn name(text: &str) -> Option<&str>
+    ensures { option_map text_said result ≡ name_of text.entry.now }
+{
+    if text.is_empty() {
+        return None;
+    }
+    Some(text)
+}
+
+/// One to ten decimal digits.
+fn number(text: &str) -> Option<u64>
+    ensures { result ≡ number_of text.now }
+{
+    let digits = text.as_bytes();
+    if digits.is_empty() || digits.len() > 10 {
+        return None;
+    }
+    let mut value = 0u64;
+    for digit in digits {
+        if *digit < b'0' || *digit > b'9' {
+            return None;
+        }
+        value = 10 * value + u64::from(*digit - b'0');
+    }
+    Some(value)
+}
+
+/// A number from the least to the most.
+pub(crate) fn ranged(least: u32, most: u32, text: &str) -> Option<u32>
+    ensures { result ≡ ranged least most text.now }
+{
+    let value = number(text)?;
+    if value < u64::from(least) || value > u64::from(most) {
+        return None;
+    }
+    Some(value as u32)
+}
+
+/// The RAM of a machine in KiB: 64 to 16,384, a multiple of 64.
+pub(crate) fn ram(text: &str) -> Option<u32>
+    ensures given { result ≡ ram_of text.now }
+    ensures in_range { IfSome result IsRam }
+{
+    let kib = ranged(64, 16_384, text)?;
+    if kib % 64 != 0 {
+        return None;
+    }
+    Some(kib)
+}
