@@ -16,6 +16,7 @@ use crate::shifts::line_14;
 use mb_instr::{Instr, Opcode};
 
 /// Lines 0 to 7.
+#[inline(always)]
 #[tactic(auto, unfolding(crate::specs::Reading::reads_then, crate::specs::RowReading::low_line))]
 fn low_line(op: Opcode, words: &[u16]) -> Reading<'_, Instr>
     requires { IsOpcode op }
@@ -32,6 +33,7 @@ fn low_line(op: Opcode, words: &[u16]) -> Reading<'_, Instr>
 }
 
 /// Lines 8 to 15.
+#[inline(always)]
 #[tactic(auto, unfolding(crate::specs::Reading::reads_then, crate::specs::RowReading::high_line))]
 fn high_line(op: Opcode, words: &[u16]) -> Reading<'_, Instr>
     requires { IsOpcode op }
@@ -48,6 +50,7 @@ fn high_line(op: Opcode, words: &[u16]) -> Reading<'_, Instr>
 }
 
 /// The row of a first word.
+#[inline(always)]
 #[tactic(auto, unfolding(crate::specs::Reading::reads_then, crate::specs::RowReading::row_at))]
 pub fn row(op: Opcode, words: &[u16]) -> Reading<'_, Instr>
     requires { IsOpcode op }

@@ -9,7 +9,7 @@ mod reading;
 mod resolving;
 
 pub use addresses::Target;
-pub use reading::{ReadFault, read_operand, read_value};
+pub use reading::{ReadFault, join, read_operand, read_value};
 pub use resolving::resolve;
 
 #[cfg(test)]

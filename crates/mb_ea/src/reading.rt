@@ -18,7 +18,7 @@ pub struct ReadFault {
 }
 
 /// A number of `len` bytes with a piece of `more` bytes behind it.
-fn join(value: u64, len: u8, part: u32, more: u8) -> u64
+pub fn join(value: u64, len: u8, part: u32, more: u8) -> u64
     requires fits { len + more ≤ 5 }
     requires few { more ≤ 4 }
     requires value { value < 256 ^ len }

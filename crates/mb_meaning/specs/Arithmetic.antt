@@ -1,34 +1,104 @@
--- ADDQ.
-use Rattle.std.specs.Prelude.{ℕ, false, Option, Some, None}
-use Rattle.mb_port.specs.Routine.{Routine, Return, ◌>>=◌}
+-- Rows of two operands, a source and a destination.
+use Rattle.std.specs.Prelude.{ℕ, Bool, true, false, Option, Some, None, Result, Ok}
+use Rattle.mb_port.specs.Routine.{Routine, Return, ◌>>=◌, choose}
 use Rattle.mb_port.specs.declared.types.Space.{Space}
 use Rattle.mb_instr.specs.declared.size.Size.{Size}
+use Rattle.mb_instr.specs.declared.size.Size.TheVariants.{Long}
 use Rattle.mb_instr.specs.declared.operand.Ea.{Ea}
+use Rattle.mb_instr.specs.declared.operand.Ea.TheVariants.{Dn, Pre}
 use Rattle.mb_instr.specs.declared.registers.Plain.{Plain}
+use Rattle.mb_instr.specs.Sizes.{sign_extended}
 use Rattle.mb_instr.specs.Operands.{address_number}
 use Rattle.mb_instr.specs.Registers.{address_register, with_address_register}
-use Rattle.mb_alu.specs.Sums.{add_of}
-use Rattle.mb_ea.specs.Addresses.{sum}
+use Rattle.mb_alu.specs.declared.conditions.Flagged.{Flagged}
+use Rattle.mb_alu.specs.Sums.{add_of, sub_of, compare_of}
+use Rattle.mb_ea.specs.declared.reading.ReadFault.{ReadFault}
 use Rattle.mb_meaning.specs.Ends.{Performed, carried, reading}
-use Rattle.mb_meaning.specs.Operands.{first_word, operand_of}
-use Rattle.mb_meaning.specs.Moves.{storing}
+use Rattle.mb_meaning.specs.Operands.{Fetched, first_word, behind, operand_of, storing}
+use Rattle.mb_meaning.specs.Modifying.{modifying}
 
--- ADDQ to an operand: the sum goes back, and all five condition codes are ADD's
-abbrev pub added_to : ℕ → Size → Ea → ℕ → Space → Plain → Routine Performed
-added_to quick size ea at space p = do
-  operand ← reading p (operand_of size ea (first_word at) space p)
-  let result = add_of size quick operand.value operand.plain.ccr false
-  storing operand.target size result.value space (record operand.plain { ccr = result.ccr })
+-- ---- operations, of a source, a destination and the condition codes
 
--- ADDQ to an address register: all of it counts, whatever the size, and no condition code changes
-abbrev pub address_added : ℕ → ℕ → Plain → Plain
-address_added quick n p = with_address_register p n (sum (address_register p n) quick)
+abbrev pub added : Size → ℕ → ℕ → ℕ → Flagged
+added size source destination ccr = add_of size source destination ccr false
 
--- by the number of the address register, where the operand is one
-abbrev pub adding : Option ℕ → ℕ → Size → Ea → ℕ → Space → Plain → Routine Performed
-adding (Some n) quick size ea at space p = Return (carried (address_added quick n p))
-adding None quick size ea at space p = added_to quick size ea at space p
+abbrev pub subtracted : Size → ℕ → ℕ → ℕ → Flagged
+subtracted size source destination ccr = sub_of size source destination ccr false
 
--- ADDQ
-unfoldable pub addq_of : ℕ → Size → Ea → ℕ → Space → Plain → Routine Performed
-addq_of quick size ea at space p = adding (address_number ea) quick size ea at space p
+-- the same with X, and Z is only cleared
+abbrev pub added_extended : Size → ℕ → ℕ → ℕ → Flagged
+added_extended size source destination ccr = add_of size source destination ccr true
+
+abbrev pub subtracted_extended : Size → ℕ → ℕ → ℕ → Flagged
+subtracted_extended size source destination ccr = sub_of size source destination ccr true
+
+-- ---- two operands
+
+-- Two operands that were read: the source's value, and the destination.
+pub record Pair : Type 0 where
+  pub source : ℕ
+  pub destination : Fetched
+
+-- Two operands are read, the source first. Its words stand before those of the destination.
+unfoldable pub pair_of : Size → Ea → Ea → ℕ → Space → Plain → Routine (Result Pair ReadFault)
+pair_of size source destination word_at space p = do
+  from ← operand_of size source word_at space p
+  to ← operand_of size destination (behind size source word_at) space from.plain
+  Return (Ok (record { source = from.value; destination = to }))
+
+-- What an operation makes of a source and a destination goes to the destination. An immediate is a source.
+unfoldable pub combining : (ℕ → ℕ → ℕ → Flagged) → Size → Ea → Ea → ℕ → Space → Plain → Routine Performed
+combining operation size source destination at space p = do
+  pair ← reading p (pair_of size source destination (first_word at) space p)
+  let to = pair.destination
+  let result = operation pair.source to.value to.plain.ccr
+  storing to.target size result.value space (record to.plain { ccr = result.ccr })
+
+-- A source is compared with a destination, and only the condition codes change.
+unfoldable pub comparing : Size → Ea → Ea → ℕ → Space → Plain → Routine Performed
+comparing size source destination at space p = do
+  pair ← reading p (pair_of size source destination (first_word at) space p)
+  let to = pair.destination
+  Return (carried (record to.plain { ccr = compare_of size pair.source to.value to.plain.ccr }))
+
+-- ADD, SUB, AND and OR: from a data register to an operand, or from the operand to the register
+unfoldable pub either_way : (ℕ → ℕ → ℕ → Flagged) → ℕ → Bool → Size → Ea → ℕ → Space → Plain → Routine Performed
+either_way operation register to_memory size ea at space p =
+    choose to_memory (combining operation size (Dn register) ea at space p)
+    (combining operation size ea (Dn register) at space p)
+
+-- ADDX and SUBX: two data registers, or memory below two address registers
+unfoldable pub chaining : (ℕ → ℕ → ℕ → Flagged) → Size → Bool → ℕ → ℕ → ℕ → Space → Plain → Routine Performed
+chaining operation size in_memory source destination at space p =
+    choose in_memory (combining operation size (Pre source) (Pre destination) at space p)
+    (combining operation size (Dn source) (Dn destination) at space p)
+
+-- ---- quick values
+
+-- ADDQ and SUBQ: of an address register all of it counts, whatever the size, and no condition code changes
+abbrev pub quick_to : Option ℕ → (ℕ → ℕ → Flagged) → (ℕ → ℕ) → Size → Ea → ℕ → Space → Plain → Routine Performed
+quick_to (Some n) change moved size ea at space p =
+    Return (carried (with_address_register p n (moved (address_register p n))))
+quick_to None change moved size ea at space p = modifying change size ea (first_word at) space p
+
+-- by the number of the address register, where the operand is one: how an operand changes, and how an address moves
+unfoldable pub quick_of : (ℕ → ℕ → Flagged) → (ℕ → ℕ) → Size → Ea → ℕ → Space → Plain → Routine Performed
+quick_of change moved size ea at space p = quick_to (address_number ea) change moved size ea at space p
+
+-- ---- operands that are only read
+
+-- An operand is read, and its value and the registers then say how the instruction ends.
+unfoldable pub taking : (ℕ → Plain → Performed) → Size → Ea → ℕ → Space → Plain → Routine Performed
+taking effect size ea word_at space p = do
+  operand ← reading p (operand_of size ea word_at space p)
+  Return (effect operand.value operand.plain)
+
+-- ADDA and SUBA: a word is extended by its sign, all of the address register counts, and no condition code changes
+abbrev pub address_moved : (ℕ → ℕ → ℕ) → ℕ → Size → ℕ → Plain → Performed
+address_moved moved n size value p =
+    carried (with_address_register p n (moved (address_register p n) (sign_extended size value)))
+
+-- CMPA: the same with the comparison of longs
+abbrev pub address_compared : ℕ → Size → ℕ → Plain → Performed
+address_compared n size value p =
+    carried (record p { ccr = compare_of Long (sign_extended size value) (address_register p n) p.ccr })

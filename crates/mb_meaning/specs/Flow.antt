@@ -1,19 +1,19 @@
--- BRA, BSR and Bcc.
-use Rattle.std.specs.Prelude.{ℕ, Bool, true, false, if◌then◌else◌}
-use Rattle.mb_port.specs.Routine.{Routine, Return, ◌>>◌, choose}
+-- BRA, BSR, Bcc, DBcc, JMP and JSR.
+use Rattle.std.specs.Prelude.{ℕ, ◌-◌, ◌^◌, ◌==◌, Bool, true, false, if◌then◌else◌}
+use Rattle.mb_port.specs.Routine.{Routine, Return, ◌>>=◌, ◌>>◌, choose}
 use Rattle.mb_port.specs.declared.types.Space.{Space}
-use Rattle.mb_instr.specs.declared.size.Size.TheVariants.{Byte, Word}
+use Rattle.mb_instr.specs.declared.size.Size.TheVariants.{Byte, Word, Long}
+use Rattle.mb_instr.specs.declared.operand.Ea.{Ea}
 use Rattle.mb_instr.specs.declared.kinds.Branch.{Branch}
 use Rattle.mb_instr.specs.declared.kinds.Branch.TheVariants as displacement
 use Rattle.mb_instr.specs.declared.kinds.Condition.{Condition}
 use Rattle.mb_instr.specs.declared.kinds.Condition.TheVariants as condition
 use Rattle.mb_instr.specs.declared.registers.Plain.{Plain}
-use Rattle.mb_instr.specs.Sizes.{sign_extended}
-use Rattle.mb_instr.specs.Registers.{address_register, with_address_register}
+use Rattle.mb_instr.specs.Sizes.{low_of, sign_extended}
+use Rattle.mb_instr.specs.Registers.{data_register, with_data_register, address_register}
 use Rattle.mb_ea.specs.Addresses.{sum, difference}
-use Rattle.mb_writes.specs.Writing.{put_of}
-use Rattle.mb_meaning.specs.Ends.{Performed, carried, jumped, writing}
-use Rattle.mb_meaning.specs.Operands.{first_word}
+use Rattle.mb_meaning.specs.Ends.{Performed, carried, jumped, reading}
+use Rattle.mb_meaning.specs.Operands.{first_word, with_low, address_of, lowered, pushing}
 use Rattle.mb_meaning.specs.Conditions.{is_met}
 
 -- a displacement as a signed long
@@ -45,15 +45,11 @@ is_call condition.LessThan = false
 is_call condition.GreaterThan = false
 is_call condition.LessOrEqual = false
 
--- the stack with one more long
-abbrev pub pushed : Plain → Plain
-pushed p = with_address_register p 7 (difference (address_register p 7) 4)
-
 -- the next instruction's address is pushed, and the flow goes to the target
 unfoldable pub call_of : ℕ → Space → Plain → Routine Performed
 call_of target space p =
-    let after = record (pushed p) { pc = target } in
-    writing after (put_of space (difference (address_register p 7) 4) 4 p.pc) >> Return (jumped after)
+    let after = record (lowered p) { pc = target } in
+    pushing p.pc (address_register after 7) space after >> Return (jumped after)
 
 -- to the target where the condition is met, else to the next instruction
 unfoldable pub branched : Condition → ℕ → Plain → Performed
@@ -63,3 +59,31 @@ branched c target p = if is_met c p.ccr then jumped (record p { pc = target }) e
 unfoldable pub branch_of : Condition → Branch → ℕ → Space → Plain → Routine Performed
 branch_of c d at space p =
     choose (is_call c) (call_of (target_of at d) space p) (Return (branched c (target_of at d) p))
+
+-- a data register whose low word, which counts, is less by one
+abbrev pub counted_down : ℕ → Plain → Plain
+counted_down n p =
+    let count = data_register p n in
+    with_data_register p n (with_low Word count (difference count 1))
+
+-- the count falls by one, and the flow goes to the target unless it fell to -1
+unfoldable pub looped : ℕ → ℕ → Plain → Performed
+looped n target p =
+    let after = counted_down n p in
+    if low_of Word (data_register after n) == 2 ^ 16 - 1 then carried after else jumped (record after { pc = target })
+
+-- DBcc: to the next instruction where the condition is met, else one more turn where the count allows it
+unfoldable pub dbcc_of : Condition → ℕ → ℕ → ℕ → Plain → Performed
+dbcc_of c n d at p = if is_met c p.ccr then carried p else looped n (target_of at (displacement.Word d)) p
+
+-- JMP: to the address of the operand
+unfoldable pub jmp_of : Ea → ℕ → Space → Plain → Routine Performed
+jmp_of ea at space p = do
+  target ← reading p (address_of Long ea (first_word at) space p)
+  Return (jumped (record p { pc = target }))
+
+-- JSR: the address is formed, then the next instruction's is pushed
+unfoldable pub jsr_of : Ea → ℕ → Space → Plain → Routine Performed
+jsr_of ea at space p = do
+  target ← reading p (address_of Long ea (first_word at) space p)
+  call_of target space p

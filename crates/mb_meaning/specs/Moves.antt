@@ -1,5 +1,5 @@
--- MOVEQ, MOVE, MOVE to CCR, and MOVEM.
-use Rattle.std.specs.Prelude.{ℕ, ◌%◌, ◌^◌, Bool, Result, Ok}
+-- MOVEQ, MOVE, MOVEA, LEA, EXG, SWAP, MOVE to and from CCR, Scc, and MOVEM.
+use Rattle.std.specs.Prelude.{ℕ, ◌+◌, ◌-◌, ◌*◌, ◌/◌, ◌%◌, ◌^◌, Bool, if◌then◌else◌, Result}
 use Rattle.mb_port.specs.Routine.{Routine, Return, ◌>>=◌, failing}
 use Rattle.mb_port.specs.declared.types.Space.{Space}
 use Rattle.mb_instr.specs.declared.size.Size.{Size}
@@ -7,13 +7,15 @@ use Rattle.mb_instr.specs.declared.size.Size.TheVariants.{Byte, Word, Long}
 use Rattle.mb_instr.specs.declared.operand.Ea.{Ea}
 use Rattle.mb_instr.specs.declared.operand.Ea.TheVariants.{Post, Pre}
 use Rattle.mb_instr.specs.declared.registers.Plain.{Plain}
-use Rattle.mb_instr.specs.Registers.{with_data_register}
+use Rattle.mb_instr.specs.declared.kinds.Condition.{Condition}
+use Rattle.mb_instr.specs.declared.kinds.Exchange.{Exchange}
+use Rattle.mb_instr.specs.declared.kinds.Exchange.TheVariants as exchange
+use Rattle.mb_instr.specs.Sizes.{sign_extended}
+use Rattle.mb_instr.specs.Registers.{register_of, with_register, data_register, with_data_register}
+use Rattle.mb_instr.specs.Registers.{with_address_register}
 use Rattle.mb_alu.specs.declared.bitwise.LogicKind.TheVariants.{Pass}
 use Rattle.mb_alu.specs.Extend.{extend_of}
 use Rattle.mb_alu.specs.Logic.{logic_of}
-use Rattle.mb_ea.specs.declared.addresses.Target.{Target}
-use Rattle.mb_ea.specs.declared.addresses.Target.TheVariants.{Reg, Memory, Value}
-use Rattle.mb_ea.specs.declared.reading.ReadFault.{ReadFault}
 use Rattle.mb_ea.specs.Addresses.{sum}
 use Rattle.mb_ea.specs.Resolve.{resolve_of}
 use Rattle.mb_writes.specs.declared.transfers.Movem.{Movem}
@@ -21,8 +23,9 @@ use Rattle.mb_writes.specs.declared.transfers.MovemMode.{MovemMode}
 use Rattle.mb_writes.specs.declared.transfers.MovemMode.TheVariants as mode
 use Rattle.mb_writes.specs.declared.ends.Ended.TheVariants as ended
 use Rattle.mb_writes.specs.Moving.{Halfway, transfer_of}
-use Rattle.mb_meaning.specs.Ends.{Performed, Stopped, carried, reading, writing}
-use Rattle.mb_meaning.specs.Operands.{first_word, behind, operand_of, store_of}
+use Rattle.mb_meaning.specs.Conditions.{is_met}
+use Rattle.mb_meaning.specs.Ends.{Performed, Stopped, carried, reading}
+use Rattle.mb_meaning.specs.Operands.{first_word, behind, operand_of, address_of, storing}
 
 -- MOVEQ: the byte, sign-extended; N and Z by it, V and C are cleared, X stays
 unfoldable pub moveq_of : ℕ → ℕ → Plain → Plain
@@ -34,12 +37,6 @@ moveq_of register immediate p =
 abbrev pub move_flags : Size → ℕ → Plain → Plain
 move_flags size value p = record p { ccr = (logic_of Pass size value 0 p.ccr).ccr }
 
--- the last part of an instruction: a value goes to its target, and the registers are these but for that
-abbrev pub storing : Target → Size → ℕ → Space → Plain → Routine Performed
-storing target size value space after = do
-  done ← writing after (store_of target size value space after)
-  Return (carried done)
-
 -- MOVE: the source is read before the destination's address is formed, and the pieces are written last
 unfoldable pub move_of : Size → Ea → Ea → ℕ → Space → Plain → Routine Performed
 move_of size destination source at space p = do
@@ -47,11 +44,55 @@ move_of size destination source at space p = do
   to ← reading p (resolve_of destination size (behind size source (first_word at)) space from.plain)
   storing to.target size from.value space (move_flags size from.value to.plain)
 
+-- MOVEA: the source, read at its size, goes to the whole register with its sign; no condition code changes
+unfoldable pub movea_of : Size → ℕ → Ea → ℕ → Space → Plain → Routine Performed
+movea_of size n source at space p = do
+  from ← reading p (operand_of size source (first_word at) space p)
+  Return (carried (with_address_register from.plain n (sign_extended size from.value)))
+
+-- LEA: the address of an operand, which is not read
+unfoldable pub lea_of : ℕ → Ea → ℕ → Space → Plain → Routine Performed
+lea_of n ea at space p = do
+  place ← reading p (address_of Long ea (first_word at) space p)
+  Return (carried (with_address_register p n place))
+
+-- two of all sixteen registers with each other's values
+abbrev pub exchanged : ℕ → ℕ → Plain → Plain
+exchanged m n p = with_register (with_register p m (register_of p n)) n (register_of p m)
+
+-- EXG: all 32 bits of two data registers, of two address registers, or of a data and an address register
+unfoldable pub exg_of : Exchange → ℕ → ℕ → Plain → Plain
+exg_of exchange.Data x y p = exchanged x y p
+exg_of exchange.Address x y p = exchanged (8 + x) (8 + y) p
+exg_of exchange.DataAddress x y p = exchanged x (8 + y) p
+
+-- SWAP: the halves of a long change places; N and Z by the long, V and C are cleared, X stays
+unfoldable pub swap_of : ℕ → Plain → Plain
+swap_of n p =
+    let swapped = data_register p n % 2 ^ 16 * 2 ^ 16 + data_register p n / 2 ^ 16 in
+    move_flags Long swapped (with_data_register p n swapped)
+
 -- MOVE to CCR: a word is read, and its low five bits are the condition codes
 unfoldable pub to_ccr_of : Ea → ℕ → Space → Plain → Routine Performed
 to_ccr_of ea at space p = do
   operand ← reading p (operand_of Word ea (first_word at) space p)
   Return (carried (record operand.plain { ccr = operand.value % 2 ^ 5 }))
+
+-- MOVE from CCR: a word with X, N, Z, V and C in bits 4 to 0; the destination is not read
+unfoldable pub from_ccr_of : Ea → ℕ → Space → Plain → Routine Performed
+from_ccr_of ea at space p = do
+  to ← reading p (resolve_of ea Word (first_word at) space p)
+  storing to.target Word (p.ccr % 2 ^ 5) space to.plain
+
+-- a byte of ones, or of zeros
+abbrev pub byte_of : Bool → ℕ
+byte_of met = if met then 2 ^ 8 - 1 else 0
+
+-- Scc: ones where the condition is met, else zeros; the destination is not read
+unfoldable pub scc_of : Condition → Ea → ℕ → Space → Plain → Routine Performed
+scc_of c ea at space p = do
+  to ← reading p (resolve_of ea Byte (first_word at) space p)
+  storing to.target Byte (byte_of (is_met c p.ccr)) space to.plain
 
 -- what becomes of the address register of a MOVEM's operand
 abbrev pub movem_mode : Ea → MovemMode
@@ -63,18 +104,6 @@ movem_mode _ = mode.Control
 abbrev pub movem_by : Bool → Size → Ea → ℕ → Movem
 movem_by is_load size ea mask = record { is_load = is_load; size = size; mode = movem_mode ea; mask = mask }
 
--- where an operand of one address stands
-abbrev pub place_of : Target → ℕ
-place_of (Memory at) = at
-place_of (Reg n) = 0
-place_of (Value v) = 0
-
--- The address of a MOVEM's first transfer. `(An)+` and `-(An)` step at the end alone.
-unfoldable pub movem_place : Size → Ea → ℕ → Space → Plain → Routine (Result ℕ ReadFault)
-movem_place size ea word_at space p = do
-  resolved ← resolve_of ea size word_at space p
-  Return (Ok (place_of resolved.target))
-
 -- a refused transfer ends the instruction, with what was loaded so far
 abbrev pub transferring : Routine (Result Plain Halfway) → Routine (Result Plain Stopped)
 transferring m = failing (λ halfway. record { ended = ended.Movem halfway.fault; plain = halfway.plain }) m
@@ -82,6 +111,6 @@ transferring m = failing (λ halfway. record { ended = ended.Movem halfway.fault
 -- MOVEM: behind the mask, the operand's own words
 unfoldable pub movem_of : Bool → Size → Ea → ℕ → ℕ → Space → Plain → Routine Performed
 movem_of is_load size ea mask at space p = do
-  place ← reading p (movem_place size ea (sum (first_word at) 2) space p)
+  place ← reading p (address_of size ea (sum (first_word at) 2) space p)
   moved ← transferring (transfer_of (movem_by is_load size ea mask) place 0 space p)
   Return (carried moved)

@@ -7,15 +7,16 @@ use Rattle.mb_instr.specs.declared.operand.Ea.{Ea}
 use Rattle.mb_instr.specs.declared.registers.Plain.{Plain}
 use Rattle.mb_instr.specs.Sizes.{bytes_of, low_of}
 use Rattle.mb_instr.specs.Operands.{more}
-use Rattle.mb_instr.specs.Registers.{register_of, with_register}
+use Rattle.mb_instr.specs.Registers.{register_of, with_register, address_register, with_address_register}
 use Rattle.mb_ea.specs.declared.addresses.Target.{Target}
 use Rattle.mb_ea.specs.declared.addresses.Target.TheVariants.{Reg, Memory, Value}
 use Rattle.mb_ea.specs.declared.reading.ReadFault.{ReadFault}
-use Rattle.mb_ea.specs.Addresses.{sum}
+use Rattle.mb_ea.specs.Addresses.{sum, difference}
 use Rattle.mb_ea.specs.Reading.{read_of}
 use Rattle.mb_ea.specs.Resolve.{resolve_of}
 use Rattle.mb_writes.specs.declared.ends.WriteFault.{WriteFault}
 use Rattle.mb_writes.specs.Writing.{put_of}
+use Rattle.mb_meaning.specs.Ends.{Performed, Stopped, carried, writing}
 
 -- the address of the first extension word of an instruction of one word
 abbrev pub first_word : ℕ → ℕ
@@ -53,6 +54,35 @@ operand_of size ea word_at space p = do
   resolved ← resolve_of ea size word_at space p
   value ← load_of resolved.target size space resolved.plain
   Return (Ok (record { target = resolved.target; value = value; plain = resolved.plain }))
+
+-- where an operand of one address stands
+abbrev pub place_of : Target → ℕ
+place_of (Memory at) = at
+place_of (Reg n) = 0
+place_of (Value v) = 0
+
+-- The address of an operand, which is not read. `(An)+` and `-(An)` do not step here.
+unfoldable pub address_of : Size → Ea → ℕ → Space → Plain → Routine (Result ℕ ReadFault)
+address_of size ea word_at space p = do
+  resolved ← resolve_of ea size word_at space p
+  Return (Ok (place_of resolved.target))
+
+-- The last part of an instruction: a value goes to its target. The registers are these but for that.
+unfoldable pub storing : Target → Size → ℕ → Space → Plain → Routine Performed
+storing target size value space after = do
+  done ← writing after (store_of target size value space after)
+  Return (carried done)
+
+-- the stack with one more long, and with one less
+abbrev pub lowered : Plain → Plain
+lowered p = with_address_register p 7 (difference (address_register p 7) 4)
+
+abbrev pub raised : Plain → Plain
+raised p = with_address_register p 7 (sum (address_register p 7) 4)
+
+-- A long goes onto the stack, whose new top is given. After the instruction the registers are these.
+unfoldable pub pushing : ℕ → ℕ → Space → Plain → Routine (Result (Unit {0}) Stopped)
+pushing value top space after = writing after (put_of space top 4 value)
 
 -- what a store answered, with the registers after it
 abbrev pub stored : Result (Unit {0}) WriteFault → Plain → Result Plain WriteFault

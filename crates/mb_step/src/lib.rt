@@ -3,15 +3,10 @@
 //! Each function here does what its routine of `mb_meaning` does, whatever the bus.
 #![tactic(auto)]
 
-mod arithmetic;
-mod conditions;
-mod fetching;
-mod flow;
-mod movem;
-mod moves;
-mod operands;
+mod attempting;
 mod performing;
 mod stepping;
 
+pub use attempting::attempt;
 pub use performing::perform;
-pub use stepping::{attempt, step};
+pub use stepping::step;

@@ -2,19 +2,14 @@
 
 ghost use Rattle.std.specs.Prelude.{◌≡◌};
 ghost use Rattle.mb_port.specs.Routine.{run};
-ghost use Rattle.mb_meaning.specs.Ends.{closing};
-ghost use Rattle.mb_meaning.specs.Step.{space_of, attempt_of, finished, step_of};
+ghost use Rattle.mb_meaning.specs.Step.{space_of, finished, step_of};
 
-use crate::fetching::fetch_instruction;
-use crate::performing::perform;
+use crate::attempting::attempt;
 use mb_instr::Plain;
 use mb_meaning::StepEnd;
 use mb_model::Cpu;
 use mb_port::{Port, Space};
 use mb_writes::Ended;
-
-/// The vector of an odd PC.
-const ODD_COUNTER: u8 = 3;
 
 /// The space of the processor's accesses.
 #[inline(always)]
@@ -25,27 +20,6 @@ fn space(sr: u16) -> Space
         Space::Super
     } else {
         Space::User
-    }
-}
-
-/// Fetches the instruction that stands at PC and carries it out. All accesses are made in `space`.
-#[inline(always)]
-#[tactic(auto, unfolding(mb_meaning::specs::Step::attempt_of))]
-pub fn attempt<P: Port>(space: Space, plain: &mut Plain, port: &mut P) -> Ended
-    ensures means { run P.bus (closing (attempt_of space plain.old)) (P.world port.old)
-        ≡ ((result, plain.new), P.world port.new) }
-    ensures rest { P.rest port.new ≡ P.rest port.old }
-{
-    let at = plain.pc;
-    if at % 2 == 1 {
-        return Ended::Refused(ODD_COUNTER);
-    }
-    match fetch_instruction(space, at, port) {
-        Ok((instruction, length)) => {
-            plain.pc = at.wrapping_add(2 * u32::from(length));
-            perform(&instruction, at, space, plain, port)
-        }
-        Err(ended) => ended,
     }
 }
 

@@ -22,13 +22,13 @@ use Rattle.mb_ea.specs.Addresses.{sum}
 use Rattle.mb_ea.specs.Reading.{read_pieces, read_cut, read_of}
 use Rattle.mb_ea.specs.Resolve.{indirect_of, full_of, parts_of, indexed_of, in_memory, resolve_of}
 use Rattle.mb_writes.specs.Writing.{pending_of, write_all, put_of}
-use Rattle.mb_meaning.specs.Operands.{load_of, store_of, operand_of}
-use Rattle.mb_twins.specs.Twins.{SameRead, SameWrite}
-use Rattle.mb_twins.proofs.Parts.{TwinParts, Reads, Writes, then_twins, failing_twins}
+use Rattle.mb_meaning.specs.Operands.{load_of, store_of, operand_of, address_of, storing, pushing}
+use Rattle.mb_twins.specs.Twins.{SameRead, SameWrite, SameStop}
+use Rattle.mb_twins.proofs.Parts.{Rows, Stages, TwinParts, Reads, Writes, then_twins, failing_twins, writing_twins}
 
 -- ---- what stands in memory
 
-pieces_twins : (x : Setting) (pieces : List Piece) (value : ℕ)
+pub pieces_twins : (x : Setting) (pieces : List Piece) (value : ℕ)
     → TwinParts x (SameFault x) (read_pieces x.here pieces value) (read_pieces x.there pieces value)
 pieces_twins x [] value = returned refl
 pieces_twins x (p ∷ ps) value = then_twins x (SameFault x) (twin_read x p) (λ v. pieces_twins x ps (value * 256 ^ p.len + v))
@@ -87,6 +87,11 @@ operand_twins x size ea word_at p =
     then_twins x (SameRead x) (resolve_twins x ea size word_at p) (λ resolved.
     then_twins x (SameRead x) (load_twins x resolved.target size resolved.plain) (λ value. returned refl))
 
+pub address_twins : (x : Setting) (size : Size) (ea : Ea) (word_at : ℕ) (p : Plain)
+    → Reads x (address_of size ea word_at x.here p) (address_of size ea word_at x.there p)
+unfolding address_of
+address_twins x size ea word_at p = then_twins x (SameRead x) (resolve_twins x ea size word_at p) (λ resolved. returned refl)
+
 -- ---- operands that are written
 
 pub write_all_twins : (x : Setting) (first : ℕ) (pending : List Pend) → Writes x (write_all x.here first pending) (write_all x.there first pending)
@@ -106,3 +111,15 @@ unfolding store_of
 store_twins x (Reg n) size value p = returned refl
 store_twins x (Memory at) size value p = then_twins x (SameWrite x) (put_twins x at (bytes_of size) value) (λ done. returned refl)
 store_twins x (Value v) size value p = returned refl
+
+-- ---- the last parts of instructions
+
+pub storing_twins : (x : Setting) (target : Target) (size : Size) (value : ℕ) (after : Plain)
+    → Rows x (storing target size value x.here after) (storing target size value x.there after)
+unfolding storing
+storing_twins x target size value after =
+    then_twins x (SameStop x) (writing_twins x after (store_twins x target size value after)) (λ done. returned refl)
+
+pub pushing_twins : (x : Setting) (value top : ℕ) (after : Plain) → Stages x (pushing value top x.here after) (pushing value top x.there after)
+unfolding pushing
+pushing_twins x value top after = writing_twins x after (put_twins x top 4 value)

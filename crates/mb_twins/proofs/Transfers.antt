@@ -13,10 +13,10 @@ use Rattle.mb_writes.specs.declared.transfers.Transfer.{Transfer}
 use Rattle.mb_writes.specs.Transfers.{transfers_of}
 use Rattle.mb_writes.specs.Moving.{Halfway, stored_of, store_all, loaded_of, load_all, storing, transfer_of}
 use Rattle.mb_meaning.specs.Operands.{first_word}
-use Rattle.mb_meaning.specs.Moves.{movem_by, movem_place, movem_of}
+use Rattle.mb_meaning.specs.Moves.{movem_by, movem_of}
 use Rattle.mb_twins.specs.Twins.{SameRead, SameWrite, SameTransfer, SameStop}
-use Rattle.mb_twins.proofs.Parts.{Rows, TwinParts, Reads, then_twins, failing_twins, reading_twins}
-use Rattle.mb_twins.proofs.Operands.{read_twins, resolve_twins, put_twins}
+use Rattle.mb_twins.proofs.Parts.{Rows, TwinParts, then_twins, failing_twins, reading_twins}
+use Rattle.mb_twins.proofs.Operands.{read_twins, address_twins, put_twins}
 
 -- both came equally far, with the same registers
 abbrev SameHalfway : Setting → Halfway → Halfway → Type 0
@@ -55,16 +55,11 @@ transfer_twins x m ea done p =
     (load_all_twins x m ea done (drop done (transfers_of m ea)) p) (stores_twins x m ea done p))
     (λ moved. returned refl)
 
-place_twins : (x : Setting) (size : Size) (ea : Ea) (word_at : ℕ) (p : Plain)
-    → Reads x (movem_place size ea word_at x.here p) (movem_place size ea word_at x.there p)
-unfolding movem_place
-place_twins x size ea word_at p = then_twins x (SameRead x) (resolve_twins x ea size word_at p) (λ resolved. returned refl)
-
 pub movem_twins : (x : Setting) (is_load : Bool) (size : Size) (ea : Ea) (mask at : ℕ) (p : Plain)
     → Rows x (movem_of is_load size ea mask at x.here p) (movem_of is_load size ea mask at x.there p)
 unfolding movem_of
 movem_twins x is_load size ea mask at p =
-    then_twins x (SameStop x) (reading_twins x p (place_twins x size ea (sum (first_word at) 2) p)) (λ place.
+    then_twins x (SameStop x) (reading_twins x p (address_twins x size ea (sum (first_word at) 2) p)) (λ place.
     then_twins x (SameStop x)
     (failing_twins x (SameHalfway x) (SameStop x) (λ e f h. h) (transfer_twins x (movem_by is_load size ea mask) place 0 p))
     (λ moved. returned refl))

@@ -2,9 +2,9 @@
 use Rattle.std.proofs.Common.{◌≡◌, ℕ, ◌-◌, ◌<◌, List, [], ◌∷◌, ◌++◌, take, drop, length, length-drop, take-append-drop, subst, sym, ap, ◌∙◌, arith}
 use Rattle.std.proofs.lemmas.List.{take_rest}
 use Rattle.mb_port.specs.declared.types.Piece.{Piece}
-use Rattle.mb_port.specs.Pieces.{split_of, ArePieces}
+use Rattle.mb_port.specs.Pieces.{ArePieces}
 use Rattle.mb_frames.specs.declared.pend.Pend.{Pend}
-use Rattle.mb_writes.specs.Writing.{parts_of, pending_of, ArePending, IsLeft}
+use Rattle.mb_writes.specs.Writing.{parts_of, ArePending, IsLeft}
 
 are_pending : (pieces : List Piece) (before_end value : ℕ) → ArePieces pieces → ArePending (parts_of pieces before_end value)
 are_pending [] before_end value h = tt
@@ -22,10 +22,3 @@ left_from i rest pending h e =
       last = ap (λ (more : List Pend). take i pending ++ more) all ∙ take-append-drop i pending;
       some = omega (arith, ap length all, length-drop {A = Pend});
     }
-
--- the parts of the pieces of a cut are what is to be written
-pub handed_on : (at len value : ℕ) (cut seen : List Piece) (parts handed : List Pend) → cut ≡ split_of at len → seen ≡ cut →
-    parts ≡ parts_of seen len value → handed ≡ parts → handed ≡ pending_of at len value
-unfolding pending_of
-handed_on at len value cut seen parts handed is_cut is_seen is_parts is_handed =
-    is_handed ∙ is_parts ∙ ap (λ (ps : List Piece). parts_of ps len value) (is_seen ∙ is_cut)

@@ -1,10 +1,13 @@
 -- Writes of operands.
-use Rattle.std.specs.Prelude.{ℕ, ◌-◌, ◌*◌, ◌/◌, ◌%◌, ◌^◌, ◌≤◌, ◌≡◌, List, [], ◌∷◌, ◌++◌, length, Result, Ok}
+use Rattle.std.specs.Prelude.{ℕ, zero, suc, ◌+◌, ◌-◌, ◌*◌, ◌/◌, ◌%◌, ◌^◌, ◌≤◌, ◌≡◌}
+use Rattle.std.specs.Prelude.{List, [], ◌∷◌, ◌++◌, length, Result, Ok}
 use Rattle.mb_port.specs.Routine.{Routine, Return, ◌>>◌, failing, write}
 use Rattle.mb_port.specs.Pieces.{split_of, IsPiece}
 use Rattle.mb_port.specs.declared.types.Space.{Space}
 use Rattle.mb_port.specs.declared.types.Piece.{Piece}
 use Rattle.mb_port.specs.declared.types.Fault.{Fault}
+use Rattle.mb_instr.specs.declared.size.Size.{Size}
+use Rattle.mb_instr.specs.declared.size.Size.TheVariants.{Byte, Word, Long}
 use Rattle.mb_frames.specs.declared.pend.Pend.{Pend}
 use Rattle.mb_frames.specs.AccessFields.{piece_of}
 use Rattle.mb_writes.specs.declared.ends.WriteFault.{WriteFault}
@@ -42,6 +45,20 @@ write_all space first (p ∷ ps) = do
 -- an operand of one to five bytes
 unfoldable pub put_of : Space → ℕ → ℕ → ℕ → Routine (Result (Unit {0}) WriteFault)
 put_of space at len value = write_all space at (pending_of at len value)
+
+-- so many single bytes, at every second address
+abbrev pub apart : ℕ → ℕ → List Piece
+apart at zero = []
+apart at (suc n) = record { at = at; len = 1 } ∷ apart ((at + 2) % 2 ^ 32) n
+
+-- An operand whose bytes stand at every second address, each a piece. Of a long whose first byte is refused nothing is
+-- left to be written.
+unfoldable pub put_apart_of : Space → ℕ → Size → ℕ → Routine (Result (Unit {0}) WriteFault)
+put_apart_of space at Byte value = write_all space at (parts_of (apart at 1) 1 value)
+put_apart_of space at Word value = write_all space at (parts_of (apart at 2) 2 value)
+put_apart_of space at Long value = do
+  failing (left_by at []) (write space (record { at = at; len = 1 }) (part_of value 4 1))
+  write_all space at (parts_of (apart ((at + 2) % 2 ^ 32) 3) 3 value)
 
 -- where the first of them is
 abbrev pub first_of : List Pend → ℕ

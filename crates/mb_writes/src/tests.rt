@@ -5,9 +5,9 @@ ghost use Rattle.mb_port.specs.Pieces.{IsPiece};
 ghost use Rattle.mb_frames.specs.AccessFields.{piece_of};
 ghost use Rattle.mb_writes.specs.Writing.{ArePending};
 
-use crate::{Movem, complete, continue_movem, count, put_pieces, transfer};
+use crate::{Movem, complete, continue_movem, count, put_apart, put_pieces, transfer};
 use mb_frames::Pend;
-use mb_instr::Plain;
+use mb_instr::{Plain, Size};
 use mb_port::Space;
 use mb_vector::VectorPort;
 use std::alloc::{AllocError, Global};
@@ -202,6 +202,72 @@ fn refused_pieces(rt: HostRuntime) -> Result<(), AllocError> {
             assert_eq!(rt; refused.rest.len(), rest.len(), "{len} bytes at {at}");
             for (pend, piece) in refused.rest.iter().zip(rest) {
                 assert_eq!(rt; (pend.at, pend.len, pend.value), *piece);
+            }
+            port.hole = u32::MAX;
+            let left = refused.rest.as_slice();
+            assert!(rt; are_pending(left));
+            assert_eq!(rt; complete(left, Space::User, &mut port), Ok(()));
+        }
+        assert_eq!(rt; port.longs.as_slice(), whole.as_slice());
+    }
+    Ok(())
+}
+
+#[test]
+fn refused_bytes_apart(rt: HostRuntime) -> Result<(), AllocError> {
+    // A size, the byte that refuses, the two longs of memory then, the address, length and value of each byte
+    // that is left, and the longs when they are written.
+    let cases: [(Size, u32, [u32; 2], &[(u32, u8, u32)], [u32; 2]); 6] = [
+        (
+            Size::Word,
+            1,
+            [0, 0],
+            &[(1, 1, 0x44), (3, 1, 0x55)],
+            [0x0044_0055, 0],
+        ),
+        (
+            Size::Word,
+            3,
+            [0x0044_0000, 0],
+            &[(3, 1, 0x55)],
+            [0x0044_0055, 0],
+        ),
+        (Size::Long, 1, [0, 0], &[], [0, 0]),
+        (
+            Size::Long,
+            3,
+            [0x0022_0000, 0],
+            &[(3, 1, 0x33), (5, 1, 0x44), (7, 1, 0x55)],
+            [0x0022_0033, 0x0044_0055],
+        ),
+        (
+            Size::Long,
+            5,
+            [0x0022_0033, 0],
+            &[(5, 1, 0x44), (7, 1, 0x55)],
+            [0x0022_0033, 0x0044_0055],
+        ),
+        (
+            Size::Long,
+            7,
+            [0x0022_0033, 0x0044_0000],
+            &[(7, 1, 0x55)],
+            [0x0022_0033, 0x0044_0055],
+        ),
+    ];
+    for (size, hole, then, rest, whole) in cases {
+        let mut port = VectorPort::new(rt.alloc(), 2, hole)?;
+        let put = put_apart(Space::User, 1, size, 0x2233_4455, &mut port);
+        assert!(rt; put.is_err(), "byte {hole}");
+        assert_eq!(rt; port.longs.as_slice(), then.as_slice());
+        if let Err(refused) = put {
+            assert_eq!(rt;
+                (refused.first, refused.fault.at, refused.fault.len),
+                (1, hole, 1)
+            );
+            assert_eq!(rt; refused.rest.len(), rest.len(), "byte {hole}");
+            for (pend, byte) in refused.rest.iter().zip(rest) {
+                assert_eq!(rt; (pend.at, pend.len, pend.value), *byte);
             }
             port.hole = u32::MAX;
             let left = refused.rest.as_slice();

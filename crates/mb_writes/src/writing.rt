@@ -5,7 +5,7 @@ ghost use Rattle.mb_port.specs.Routine.{run};
 ghost use Rattle.mb_port.specs.Pieces.{ArePieces};
 ghost use Rattle.mb_instr.specs.Sizes.{bytes_of, low_of};
 ghost use Rattle.mb_writes.specs.Writing.{part_of, parts_of, pending_of, ArePending, IsLeft};
-ghost use Rattle.mb_writes.specs.Writing.{left_by, write_all, put_of, complete_of};
+ghost use Rattle.mb_writes.specs.Writing.{left_by, write_all, put_of, apart, put_apart_of, complete_of};
 
 use crate::ends::WriteFault;
 use arrayvec::ArrayVec;
@@ -15,7 +15,7 @@ use mb_port::{Fault, Piece, Port, Space, split};
 
 /// Of a number, the `len` bytes that begin `before_end` bytes before its end.
 #[tactic(auto, unfolding(crate::specs::Writing::part_of))]
-fn part(value: u64, before_end: u8, len: u8) -> u32
+pub fn part(value: u64, before_end: u8, len: u8) -> u32
     requires { (before_end ≤ 5) × (len ≤ 4) }
     ensures { result ≡ part_of value before_end len }
 {
@@ -103,6 +103,27 @@ pub fn complete<P: Port>(pending: &[Pend], space: Space, port: &mut P) -> Result
     write_pieces(pending, first, space, port)
 }
 
+/// Writes pieces in their order, each with its part of the number.
+fn put_parts<P: Port>(
+    space: Space,
+    first: u32,
+    pieces: &[Piece],
+    len: u8,
+    value: u64,
+    port: &mut P,
+) -> Result<(), WriteFault>
+    requires few { length pieces.now ≤ 3 }
+    requires aligned { ArePieces pieces.now }
+    requires short { len ≤ 5 }
+    ensures means { run P.bus (write_all space first (parts_of pieces.now len value)) (P.world port.old)
+        ≡ (result, P.world port.new) }
+    ensures left { IfErr result (λ refused. IsLeft refused.rest.items (parts_of pieces.now len value)) }
+    ensures rest { P.rest port.new ≡ P.rest port.old }
+{
+    let pending = parts(pieces, len, value);
+    write_pieces(pending.as_slice(), first, space, port)
+}
+
 /// Writes an operand of one to five bytes, cut into pieces in order of address. Bytes of `value` above
 /// `len` do not count.
 pub fn put_pieces<P: Port>(
@@ -118,8 +139,7 @@ pub fn put_pieces<P: Port>(
     ensures rest { P.rest port.new ≡ P.rest port.old }
 {
     let pieces = split(at, len);
-    let pending = parts(pieces.as_slice(), len, value);
-    write_pieces(pending.as_slice(), at, space, port)
+    put_parts(space, at, pieces.as_slice(), len, value, port)
 }
 
 /// Writes an operand of a size, as [`put_pieces`] does.
@@ -136,4 +156,42 @@ pub fn put_value<P: Port>(
     ensures rest { P.rest port.new ≡ P.rest port.old }
 {
     put_pieces(space, at, size.bytes(), u64::from(value), port)
+}
+
+/// A single byte as a piece.
+fn byte_at(at: u32) -> Piece
+    ensures { result ≡ record { at = at; len = 1 } }
+{
+    Piece { at, len: 1 }
+}
+
+/// Writes an operand whose bytes stand at every second address, each a piece, the highest first.
+///
+/// A refused byte is left with those after it, three at most: of a long whose first byte is refused nothing is left.
+#[tactic(auto, unfolding(crate::specs::Writing::put_apart_of))]
+pub fn put_apart<P: Port>(
+    space: Space,
+    at: u32,
+    size: Size,
+    value: u32,
+    port: &mut P,
+) -> Result<(), WriteFault>
+    ensures means { run P.bus (put_apart_of space at size value) (P.world port.old) ≡ (result, P.world port.new) }
+    ensures rest { P.rest port.new ≡ P.rest port.old }
+{
+    let value = u64::from(value);
+    let first = byte_at(at);
+    let second = byte_at(at.wrapping_add(2));
+    match size {
+        Size::Byte => put_parts(space, at, &[first], 1, value, port),
+        Size::Word => put_parts(space, at, &[first, second], 2, value, port),
+        Size::Long => {
+            if let Err(fault) = port.write(space, first, part(value, 4, 1)) {
+                return Err(left(fault, at, &[]));
+            }
+            let third = byte_at(second.at.wrapping_add(2));
+            let fourth = byte_at(third.at.wrapping_add(2));
+            put_parts(space, at, &[second, third, fourth], 3, value, port)
+        }
+    }
 }

@@ -1,0 +1,128 @@
+-- The instructions on bit fields. Their word is `0nnn Oooo ooWw wwww`.
+use Rattle.std.specs.Prelude.{ℕ, ◌+◌, ◌-◌, ◌*◌, ◌/◌, ◌%◌, ◌^◌, ◌==◌, nat_lt, Bool, true, false, if◌then◌else◌}
+use Rattle.std.specs.Int.{w32, rotate_left, rotate_right}
+use Rattle.mb_port.specs.Routine.{Routine, Return, ◌>>=◌, ◌>>◌, choose}
+use Rattle.mb_port.specs.declared.types.Space.{Space}
+use Rattle.mb_instr.specs.declared.size.Size.TheVariants.{Long}
+use Rattle.mb_instr.specs.declared.operand.Ea.{Ea}
+use Rattle.mb_instr.specs.declared.operand.Ea.TheVariants.{Dn}
+use Rattle.mb_instr.specs.declared.kinds.FieldKind.{FieldKind}
+use Rattle.mb_instr.specs.declared.kinds.FieldKind.TheVariants as field
+use Rattle.mb_instr.specs.declared.registers.Plain.{Plain}
+use Rattle.mb_instr.specs.Registers.{data_register, with_data_register}
+use Rattle.mb_alu.specs.declared.bitwise.LogicKind.TheVariants.{Pass}
+use Rattle.mb_alu.specs.Logic.{logic_of}
+use Rattle.mb_fields.specs.Fields.{field_of, with_field, first_of}
+use Rattle.mb_ea.specs.Addresses.{sum}
+use Rattle.mb_ea.specs.Reading.{read_of}
+use Rattle.mb_writes.specs.Writing.{put_of}
+use Rattle.mb_meaning.specs.Ends.{Performed, carried, reading, writing}
+use Rattle.mb_meaning.specs.Operands.{first_word, address_of}
+
+-- the data register in bits 14 to 12
+abbrev pub named_by : ℕ → ℕ
+named_by word = word / 2 ^ 12 % 8
+
+-- the offset: where bit 11 is 1, the data register in bits 8 to 6, else bits 10 to 6
+abbrev pub offset_of : ℕ → Plain → ℕ
+offset_of word p = if word / 2 ^ 11 % 2 == 1 then data_register p (word / 2 ^ 6 % 8) else word / 2 ^ 6 % 32
+
+-- the width modulo 32: where bit 5 is 1, of the data register in bits 2 to 0, else bits 4 to 0
+abbrev pub width_bits : ℕ → Plain → ℕ
+width_bits word p = if word / 2 ^ 5 % 2 == 1 then data_register p (word % 8) % 32 else word % 32
+
+-- the width, 0 meaning 32
+abbrev pub width_of : ℕ → Plain → ℕ
+width_of word p = if width_bits word p == 0 then 32 else width_bits word p
+
+-- the row writes its field
+abbrev pub is_change : FieldKind → Bool
+is_change field.Test = false
+is_change field.ExtractUnsigned = false
+is_change field.ExtractSigned = false
+is_change field.FindFirst = false
+is_change field.Change = true
+is_change field.Clear = true
+is_change field.Set = true
+is_change field.Insert = true
+
+-- the field after the row; BFINS inserts the low bits of a register
+abbrev pub field_after : FieldKind → ℕ → ℕ → ℕ → ℕ
+field_after field.Change width old value = 2 ^ width - 1 - old
+field_after field.Clear width old value = 0
+field_after field.Set width old value = 2 ^ width - 1
+field_after field.Insert width old value = value % 2 ^ width
+field_after _ width old value = old
+
+-- N and Z by a field of that width, V and C are cleared, X stays
+abbrev pub field_flags : ℕ → ℕ → ℕ → ℕ
+field_flags width value ccr = (logic_of Pass Long (value * 2 ^ (32 - width)) 0 ccr).ccr
+
+-- the field whose flags are set: the inserted one for BFINS, else the old one
+abbrev pub field_seen : FieldKind → ℕ → ℕ → ℕ → ℕ
+field_seen field.Insert width old value = value % 2 ^ width
+field_seen _ width old value = old
+
+-- the field with its sign
+abbrev pub field_signed : ℕ → ℕ → ℕ
+field_signed width old = if nat_lt old (2 ^ (width - 1)) then old else old + (2 ^ 32 - 2 ^ width)
+
+-- what goes to the register that the word names: the field, with zeros or its sign, or the offset of its first one
+abbrev pub with_result : FieldKind → ℕ → ℕ → ℕ → ℕ → Plain → Plain
+with_result field.ExtractUnsigned n offset width old p = with_data_register p n old
+with_result field.ExtractSigned n offset width old p = with_data_register p n (field_signed width old)
+with_result field.FindFirst n offset width old p = with_data_register p n (sum offset (first_of old width))
+with_result _ n offset width old p = p
+
+-- the registers after a row whose field was that
+unfoldable pub field_done : FieldKind → ℕ → ℕ → Plain → Plain
+field_done kind word old p =
+    let width = width_of word p in
+    let seen = field_seen kind width old (data_register p (named_by word)) in
+    record (with_result kind (named_by word) (offset_of word p) width old p) { ccr = field_flags width seen p.ccr }
+
+-- ---- a field in a data register, where it wraps round
+
+-- the register begins with its field where it is rotated by the offset, and is rotated back with the new one
+unfoldable pub field_in_register : FieldKind → ℕ → ℕ → Plain → Plain
+field_in_register kind word n p =
+    let width = width_of word p in
+    let turned = rotate_left w32 (data_register p n) (offset_of word p) in
+    let old = field_of turned 32 0 width in
+    let new = field_after kind width old (data_register p (named_by word)) in
+    let changed = rotate_right w32 (with_field turned 32 0 width new) (offset_of word p) in
+    let done = field_done kind word old p in
+    if is_change kind then with_data_register done n changed else done
+
+-- ---- a field in memory
+
+-- the bytes from the operand's address to the field's first byte: the signed offset divided by 8, rounded down
+abbrev pub bytes_before : ℕ → ℕ
+bytes_before offset = if nat_lt offset (2 ^ 31) then offset / 8 else offset / 8 + (2 ^ 32 - 2 ^ 29)
+
+-- how many bytes hold the field, one to five
+abbrev pub bytes_held : ℕ → ℕ → ℕ
+bytes_held offset width = (offset % 8 + width + 7) / 8
+
+-- exactly the bytes that hold the field are read and, where the row changes it, written
+unfoldable pub field_in_memory : FieldKind → ℕ → ℕ → Space → Plain → Routine Performed
+field_in_memory kind word address space p =
+    let offset = offset_of word p in
+    let width = width_of word p in
+    let first = sum address (bytes_before offset) in
+    let held = bytes_held offset width in do
+      bytes ← reading p (read_of space first held)
+      let old = field_of bytes (8 * held) (offset % 8) width
+      let new = field_after kind width old (data_register p (named_by word))
+      let changed = with_field bytes (8 * held) (offset % 8) width new
+      let done = field_done kind word old p
+      choose (is_change kind)
+          (writing done (put_of space first held changed) >> Return (carried done))
+          (Return (carried done))
+
+-- BFTST, BFEXTU, BFCHG, BFEXTS, BFCLR, BFFFO, BFSET and BFINS: behind the word, the operand's own words
+unfoldable pub field_row_of : FieldKind → Ea → ℕ → ℕ → Space → Plain → Routine Performed
+field_row_of kind (Dn n) word at space p = Return (carried (field_in_register kind word n p))
+field_row_of kind ea word at space p = do
+  address ← reading p (address_of Long ea (sum (first_word at) 2) space p)
+  field_in_memory kind word address space p

@@ -1,0 +1,51 @@
+-- BTST, BCHG, BCLR and BSET.
+use Rattle.std.specs.Prelude.{ℕ, ◌+◌, ◌*◌, ◌/◌, ◌%◌, ◌^◌, Bool, true, false, not}
+use Rattle.mb_port.specs.Routine.{Routine, Return, ◌>>=◌}
+use Rattle.mb_port.specs.declared.types.Space.{Space}
+use Rattle.mb_instr.specs.declared.size.Size.{Size}
+use Rattle.mb_instr.specs.declared.size.Size.TheVariants.{Byte, Long}
+use Rattle.mb_instr.specs.declared.operand.Ea.{Ea}
+use Rattle.mb_instr.specs.declared.operand.Ea.TheVariants.{Dn}
+use Rattle.mb_instr.specs.declared.kinds.BitKind.{BitKind}
+use Rattle.mb_instr.specs.declared.kinds.BitKind.TheVariants.{Test, Change, Clear, Set}
+use Rattle.mb_instr.specs.declared.registers.Plain.{Plain}
+use Rattle.mb_instr.specs.Sizes.{bits_of}
+use Rattle.mb_alu.specs.declared.conditions.Flagged.{Flagged}
+use Rattle.mb_alu.specs.Conditions.{bit, is_set, conditions_of, ccr_of}
+use Rattle.mb_meaning.specs.Ends.{Performed, carried, reading}
+use Rattle.mb_meaning.specs.Operands.{operand_of}
+use Rattle.mb_meaning.specs.Modifying.{modifying}
+
+-- the bit is one of a data register, which is a long, or of a byte
+abbrev pub bit_size : Ea → Size
+bit_size (Dn n) = Long
+bit_size _ = Byte
+
+-- The value with that bit: what stands above it, the bit, and what stands below it.
+abbrev pub with_bit : ℕ → ℕ → Bool → ℕ
+with_bit place value b = (value / 2 ^ place / 2 * 2 + bit b) * 2 ^ place + value % 2 ^ place
+
+-- the value with that bit inverted, cleared or set
+abbrev pub bit_after : BitKind → ℕ → ℕ → ℕ
+bit_after Test place value = value
+bit_after Change place value = with_bit place value (not (is_set value place))
+bit_after Clear place value = with_bit place value false
+bit_after Set place value = with_bit place value true
+
+-- The bit's number counts modulo the bits of the operand. Z is the complement of the bit, the other codes stay.
+unfoldable pub bit_changed : BitKind → ℕ → Size → ℕ → ℕ → Flagged
+bit_changed kind number size value ccr =
+    let place = number % bits_of size in
+    record {
+      value = bit_after kind place value;
+      ccr = ccr_of (record (conditions_of ccr) { z = not (is_set value place) });
+    }
+
+-- BTST only reads its operand; the others write it back
+unfoldable pub bit_row_of : BitKind → ℕ → Ea → ℕ → Space → Plain → Routine Performed
+bit_row_of Test number ea word_at space p = do
+  operand ← reading p (operand_of (bit_size ea) ea word_at space p)
+  let tested = bit_changed Test number (bit_size ea) operand.value operand.plain.ccr
+  Return (carried (record operand.plain { ccr = tested.ccr }))
+bit_row_of kind number ea word_at space p =
+    modifying (bit_changed kind number (bit_size ea)) (bit_size ea) ea word_at space p

@@ -1,0 +1,99 @@
+-- CHK, CHK2 and CMP2.
+use Rattle.std.specs.Prelude.{ℕ, ◌/◌, ◌^◌, ◌==◌, pos, int_lt, Bool, ◌||◌, nat_lt, Result, Ok, if◌then◌else◌}
+use Rattle.mb_port.specs.Routine.{Routine, Return, ◌>>=◌}
+use Rattle.mb_port.specs.declared.types.Space.{Space}
+use Rattle.mb_instr.specs.declared.size.Size.{Size}
+use Rattle.mb_instr.specs.declared.size.Size.TheVariants.{Long}
+use Rattle.mb_instr.specs.declared.operand.Ea.{Ea}
+use Rattle.mb_instr.specs.declared.registers.Plain.{Plain}
+use Rattle.mb_instr.specs.Sizes.{bytes_of, low_of, sign_extended}
+use Rattle.mb_instr.specs.Registers.{data_register, register_of}
+use Rattle.mb_alu.specs.declared.conditions.Conditions.{Conditions}
+use Rattle.mb_alu.specs.Conditions.{conditions_of, ccr_of}
+use Rattle.mb_alu.specs.Signs.{signed_of}
+use Rattle.mb_ea.specs.declared.reading.ReadFault.{ReadFault}
+use Rattle.mb_ea.specs.Addresses.{sum, difference}
+use Rattle.mb_ea.specs.Reading.{read_of}
+use Rattle.mb_meaning.specs.Ends.{Performed, carried, stopped, reading}
+use Rattle.mb_meaning.specs.Operands.{first_word, operand_of, address_of}
+use Rattle.mb_meaning.specs.Traps.{out_of_bounds}
+
+-- ---- one bound
+
+-- below 0, of the low bytes that count
+abbrev pub is_below : Size → ℕ → Bool
+is_below size value = int_lt (signed_of size value) (pos 0)
+
+-- above a bound, both signed
+abbrev pub is_above : Size → ℕ → ℕ → Bool
+is_above size bound value = int_lt (signed_of size bound) (signed_of size value)
+
+-- a value below 0 or above the bound traps; then N says whether it is below 0, and the other condition codes stay
+unfoldable pub checked : Size → ℕ → ℕ → Plain → Performed
+checked size bound value p =
+    if is_below size value || is_above size bound value
+    then stopped out_of_bounds (record p { ccr = ccr_of (record (conditions_of p.ccr) { n = is_below size value }) })
+    else carried p
+
+-- CHK: the value is a data register's, and the operand is the bound
+unfoldable pub chk_of : ℕ → Size → Ea → ℕ → Space → Plain → Routine Performed
+chk_of n size ea at space p = do
+  bound ← reading p (operand_of size ea (first_word at) space p)
+  Return (checked size bound.value (data_register bound.plain n) bound.plain)
+
+-- ---- two bounds
+
+-- the register that is compared: bit 15 of the word says an address register, bits 14 to 12 are its number
+abbrev pub compared_register : ℕ → ℕ
+compared_register w = w / 2 ^ 12
+
+-- of a data register the low bytes are compared, of an address register all of it
+abbrev pub compared_size : Size → ℕ → Size
+compared_size size n = if nat_lt n 8 then size else Long
+
+-- how far a number is above the lower bound, modulo the number of values
+abbrev pub above : Size → ℕ → ℕ → ℕ
+above size lower x = low_of size (difference x lower)
+
+-- the same low bytes
+abbrev pub is_same : Size → ℕ → ℕ → Bool
+is_same size x y = low_of size x == low_of size y
+
+-- Z: the value is a bound. C: it is further above the lower bound than the upper bound is. X, N and V stay.
+abbrev pub bounds_codes : Size → ℕ → ℕ → ℕ → Conditions → Conditions
+bounds_codes size lower upper value codes = record codes {
+  z = is_same size value lower || is_same size value upper;
+  c = nat_lt (above size lower upper) (above size lower value);
+}
+
+-- The condition codes of a register compared with two bounds. They are extended by their sign, which counts for an
+-- address register.
+unfoldable pub compared : Size → ℕ → ℕ → ℕ → Plain → ℕ
+compared size lower upper n p =
+    ccr_of (bounds_codes (compared_size size n) (sign_extended size lower) (sign_extended size upper) (register_of p n)
+    (conditions_of p.ccr))
+
+-- The condition codes of CHK2 and CMP2. The bounds are two operands, the lower one first; the words of their address
+-- are behind the word that names the register.
+unfoldable pub bounds_of : Size → Ea → ℕ → ℕ → Space → Plain → Routine (Result ℕ ReadFault)
+bounds_of size ea w at space p = do
+  place ← address_of size ea (sum (first_word at) 2) space p
+  lower ← read_of space place (bytes_of size)
+  upper ← read_of space (sum place (bytes_of size)) (bytes_of size)
+  Return (Ok (compared size lower upper (compared_register w) p))
+
+-- CMP2
+unfoldable pub cmp2_of : Size → Ea → ℕ → ℕ → Space → Plain → Routine Performed
+cmp2_of size ea w at space p = do
+  ccr ← reading p (bounds_of size ea w at space p)
+  Return (carried (record p { ccr = ccr }))
+
+-- a value out of bounds, which C says, traps
+unfoldable pub checked_carry : Plain → Performed
+checked_carry p = if (conditions_of p.ccr).c then stopped out_of_bounds p else carried p
+
+-- CHK2
+unfoldable pub chk2_of : Size → Ea → ℕ → ℕ → Space → Plain → Routine Performed
+chk2_of size ea w at space p = do
+  ccr ← reading p (bounds_of size ea w at space p)
+  Return (checked_carry (record p { ccr = ccr }))

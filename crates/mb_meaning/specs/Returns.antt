@@ -1,0 +1,39 @@
+-- RTS, RTD and RTR.
+use Rattle.std.specs.Prelude.{ℕ, ◌%◌, ◌^◌}
+use Rattle.mb_port.specs.Routine.{Routine, Return, ◌>>=◌}
+use Rattle.mb_port.specs.declared.types.Space.{Space}
+use Rattle.mb_instr.specs.declared.size.Size.TheVariants.{Word, Long}
+use Rattle.mb_instr.specs.declared.registers.Plain.{Plain}
+use Rattle.mb_instr.specs.Sizes.{bytes_of, sign_extended}
+use Rattle.mb_instr.specs.Registers.{address_register, with_address_register}
+use Rattle.mb_ea.specs.Addresses.{sum}
+use Rattle.mb_ea.specs.Reading.{read_of}
+use Rattle.mb_meaning.specs.Ends.{Performed, jumped, reading}
+use Rattle.mb_meaning.specs.Operands.{raised}
+
+-- RTS: to the address on the stack, which is taken from it
+unfoldable pub rts_of : Space → Plain → Routine Performed
+rts_of space p = do
+  target ← reading p (read_of space (address_register p 7) (bytes_of Long))
+  Return (jumped (record (raised p) { pc = target }))
+
+-- the stack, moved by a signed word
+abbrev pub deallocated : ℕ → Plain → Plain
+deallocated d p = with_address_register p 7 (sum (address_register p 7) (sign_extended Word d))
+
+-- RTD: the same, and then the displacement is added to the stack pointer
+unfoldable pub rtd_of : ℕ → Space → Plain → Routine Performed
+rtd_of d space p = do
+  target ← reading p (read_of space (address_register p 7) (bytes_of Long))
+  Return (jumped (record (deallocated d (raised p)) { pc = target }))
+
+-- the stack with one word less
+abbrev pub word_raised : Plain → Plain
+word_raised p = with_address_register p 7 (sum (address_register p 7) 2)
+
+-- RTR: a word on the stack, whose low five bits are the condition codes, and behind it the address
+unfoldable pub rtr_of : Space → Plain → Routine Performed
+rtr_of space p = do
+  codes ← reading p (read_of space (address_register p 7) (bytes_of Word))
+  target ← reading p (read_of space (address_register (word_raised p) 7) (bytes_of Long))
+  Return (jumped (record (raised (word_raised p)) { pc = target; ccr = codes % 2 ^ 5 }))

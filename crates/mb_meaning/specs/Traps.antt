@@ -1,0 +1,31 @@
+-- TRAP, TRAPcc and TRAPV.
+use Rattle.std.specs.Prelude.{ℕ, ◌+◌, if◌then◌else◌}
+use Rattle.mb_instr.specs.declared.kinds.Condition.{Condition}
+use Rattle.mb_instr.specs.declared.kinds.Condition.TheVariants.{OverflowSet}
+use Rattle.mb_instr.specs.declared.registers.Plain.{Plain}
+use Rattle.mb_writes.specs.declared.ends.Ended.{Ended}
+use Rattle.mb_writes.specs.declared.ends.Ended.TheVariants as ended
+use Rattle.mb_meaning.specs.Ends.{Performed, carried, stopped}
+use Rattle.mb_meaning.specs.Conditions.{is_met}
+
+-- the vectors of traps
+abbrev pub out_of_bounds : Ended
+out_of_bounds = ended.Trap 6
+
+abbrev pub conditional_trap : Ended
+conditional_trap = ended.Trap 7
+
+abbrev pub numbered_trap : ℕ → Ended
+numbered_trap number = ended.Trap (32 + number)
+
+-- TRAP
+unfoldable pub trap_of : ℕ → Plain → Performed
+trap_of number p = stopped (numbered_trap number) p
+
+-- TRAPcc, whose operand is passed over: a trap where the condition is met
+unfoldable pub trapcc_of : Condition → Plain → Performed
+trapcc_of c p = if is_met c p.ccr then stopped conditional_trap p else carried p
+
+-- TRAPV: a trap on overflow
+unfoldable pub trapv_of : Plain → Performed
+trapv_of p = trapcc_of OverflowSet p

@@ -1,0 +1,54 @@
+-- Rows of one operand, and immediates to CCR.
+use Rattle.std.specs.Prelude.{ℕ, ◌%◌, ◌^◌, true, false}
+use Rattle.mb_port.specs.Routine.{Routine, ◌>>=◌}
+use Rattle.mb_port.specs.declared.types.Space.{Space}
+use Rattle.mb_instr.specs.declared.size.Size.{Size}
+use Rattle.mb_instr.specs.declared.size.Size.TheVariants.{Byte}
+use Rattle.mb_instr.specs.declared.operand.Ea.{Ea}
+use Rattle.mb_instr.specs.declared.registers.Plain.{Plain}
+use Rattle.mb_instr.specs.Registers.{data_register, with_data_register}
+use Rattle.mb_alu.specs.declared.conditions.Flagged.{Flagged}
+use Rattle.mb_alu.specs.declared.bitwise.LogicKind.{LogicKind}
+use Rattle.mb_alu.specs.declared.bitwise.LogicKind.TheVariants.{Not}
+use Rattle.mb_alu.specs.Extend.{extend_of}
+use Rattle.mb_alu.specs.Logic.{logic_of}
+use Rattle.mb_alu.specs.Sums.{sub_of}
+use Rattle.mb_ea.specs.Resolve.{resolve_of}
+use Rattle.mb_meaning.specs.Ends.{Performed, carried, reading}
+use Rattle.mb_meaning.specs.Operands.{first_word, with_low, storing}
+use Rattle.mb_meaning.specs.Moves.{move_flags}
+
+-- NEG: 0 less the operand
+abbrev pub negated : Size → ℕ → ℕ → Flagged
+negated size value ccr = sub_of size value 0 ccr false
+
+-- NEGX: 0 less the operand and X
+abbrev pub negated_extended : Size → ℕ → ℕ → Flagged
+negated_extended size value ccr = sub_of size value 0 ccr true
+
+-- NOT
+abbrev pub complemented : Size → ℕ → ℕ → Flagged
+complemented size value ccr = logic_of Not size value 0 ccr
+
+-- CLR: 0 is moved to the operand, which is not read
+unfoldable pub clr_of : Size → Ea → ℕ → Space → Plain → Routine Performed
+clr_of size ea at space p = do
+  to ← reading p (resolve_of ea size (first_word at) space p)
+  storing to.target size 0 space (move_flags size 0 to.plain)
+
+-- TST
+abbrev pub tested : Size → ℕ → Plain → Performed
+tested size value p = carried (move_flags size value p)
+
+-- the low bytes of a data register become these, and the condition codes too
+abbrev pub in_register : ℕ → Size → Flagged → Plain → Plain
+in_register n size result p =
+    record (with_data_register p n (with_low size (data_register p n) result.value)) { ccr = result.ccr }
+
+-- EXT and EXTB
+unfoldable pub ext_of : Size → Size → ℕ → Plain → Plain
+ext_of from to register p = in_register register to (extend_of from to (data_register p register) p.ccr) p
+
+-- ORI, ANDI and EORI to CCR: the low five bits of the word count
+unfoldable pub ccr_by : LogicKind → ℕ → Plain → Plain
+ccr_by kind word p = record p { ccr = (logic_of kind Byte word p.ccr p.ccr).value % 2 ^ 5 }

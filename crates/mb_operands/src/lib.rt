@@ -1,0 +1,15 @@
+//! Operands as instructions use them, the sixteen conditions, and comparisons with bounds.
+//!
+//! What reads, writes and pushes operands is here once, for the instructions of all families. Each function does
+//! what its routine of `mb_meaning` does, whatever the bus.
+#![tactic(auto)]
+
+mod bounds;
+mod conditions;
+mod operands;
+
+pub use bounds::compare_bounds;
+pub use conditions::is_met;
+pub use operands::{
+    Operand, behind, fetch_operand, find_address, finish_with, place, push, with_low,
+};

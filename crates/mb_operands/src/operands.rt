@@ -1,0 +1,185 @@
+//! Operands: what stands there, and what is put there.
+
+ghost use Rattle.std.specs.Prelude.{◌≡◌, ◌<◌, OnErr, IfOk};
+ghost use Rattle.mb_port.specs.Routine.{run};
+ghost use Rattle.mb_instr.specs.Sizes.{values_of};
+ghost use Rattle.mb_instr.specs.Operands.{IsEa};
+ghost use Rattle.mb_ea.specs.Addresses.{IsTarget};
+ghost use Rattle.mb_meaning.specs.Operands.{behind, with_low, load_of, store_of, operand_of, stored, address_of};
+ghost use Rattle.mb_meaning.specs.Operands.{place_of, storing, pushing};
+ghost use Rattle.mb_meaning.specs.Ends.{carried_by};
+ghost use Rattle.mb_operands.specs.Fetched.{fetched, pushed, IsOperand};
+
+use mb_ea::{ReadFault, Target, read_value, resolve};
+use mb_instr::{Ea, Plain, Size};
+use mb_port::{Port, Space};
+use mb_writes::{Ended, WriteFault, put_value};
+
+/// An operand that was read.
+#[derive(Clone, Copy)]
+pub struct Operand {
+    pub target: Target,
+    /// In its low bytes, at the size.
+    pub value: u32,
+}
+
+/// The address of the words behind those of an operand whose first word is at `word_at`.
+#[inline(always)]
+pub fn behind(size: Size, ea: &Ea, word_at: u32) -> u32
+    ensures { result ≡ behind size ea.now word_at }
+{
+    word_at.wrapping_add(2 * u32::from(ea.words(size)))
+}
+
+/// What stands at a target.
+#[inline(always)]
+#[tactic(auto, unfolding(mb_meaning::specs::Operands::load_of))]
+fn load<P: Port>(
+    target: Target,
+    size: Size,
+    plain: &Plain,
+    space: Space,
+    port: &mut P,
+) -> Result<u32, ReadFault>
+    requires { IsTarget size target }
+    ensures means { run P.bus (load_of target size space plain.now) (P.world port.old) ≡ (result, P.world port.new) }
+    ensures range { IfOk result (λ value. value < values_of size) }
+    ensures rest { P.rest port.new ≡ P.rest port.old }
+{
+    match target {
+        Target::Reg(n) => Ok(size.low(plain.register(n))),
+        Target::Memory(at) => read_value(space, at, size, port),
+        Target::Value(value) => Ok(value),
+    }
+}
+
+/// A number with other low bytes.
+#[inline(always)]
+pub fn with_low(size: Size, old: u32, value: u32) -> u32
+    ensures { result ≡ with_low size old value }
+{
+    old - size.low(old) + size.low(value)
+}
+
+/// Puts a value at a target.
+#[inline(always)]
+#[tactic(auto, unfolding(mb_meaning::specs::Operands::store_of))]
+fn store<P: Port>(
+    target: Target,
+    size: Size,
+    value: u32,
+    space: Space,
+    plain: &mut Plain,
+    port: &mut P,
+) -> Result<(), WriteFault>
+    requires { IsTarget size target }
+    ensures means { run P.bus (store_of target size value space plain.old) (P.world port.old)
+        ≡ (stored result plain.new, P.world port.new) }
+    ensures unchanged { OnErr result (plain.new ≡ plain.old) }
+    ensures rest { P.rest port.new ≡ P.rest port.old }
+{
+    match target {
+        Target::Reg(n) => {
+            plain.set_register(n, with_low(size, plain.register(n), value));
+            Ok(())
+        }
+        Target::Memory(at) => put_value(space, at, size, value, port),
+        Target::Value(_) => Ok(()),
+    }
+}
+
+/// Reads an operand. Its first extension word is at `word_at`.
+#[inline(always)]
+#[tactic(auto, unfolding(mb_meaning::specs::Operands::operand_of))]
+pub fn fetch_operand<P: Port>(
+    size: Size,
+    ea: &Ea,
+    word_at: u32,
+    space: Space,
+    plain: &mut Plain,
+    port: &mut P,
+) -> Result<Operand, ReadFault>
+    requires { IsEa size ea.now }
+    ensures means { run P.bus (operand_of size ea.now word_at space plain.old) (P.world port.old)
+        ≡ (fetched result plain.new, P.world port.new) }
+    ensures operand { IfOk result (IsOperand size) }
+    ensures rest { P.rest port.new ≡ P.rest port.old }
+{
+    let target = resolve(ea, size, plain, word_at, space, port)?;
+    let value = load(target, size, plain, space, port)?;
+    Ok(Operand { target, value })
+}
+
+/// Where an operand of one address stands.
+#[inline(always)]
+pub fn place(target: Target) -> u32
+    ensures { result ≡ place_of target }
+{
+    match target {
+        Target::Memory(at) => at,
+        Target::Reg(_) | Target::Value(_) => 0,
+    }
+}
+
+/// The address of an operand, which is not read. `(An)+` and `-(An)` do not step here.
+#[inline(always)]
+#[tactic(auto, unfolding(mb_meaning::specs::Operands::address_of))]
+pub fn find_address<P: Port>(
+    size: Size,
+    ea: &Ea,
+    word_at: u32,
+    space: Space,
+    plain: &Plain,
+    port: &mut P,
+) -> Result<u32, ReadFault>
+    requires { IsEa size ea.now }
+    ensures means { run P.bus (address_of size ea.now word_at space plain.now) (P.world port.old)
+        ≡ (result, P.world port.new) }
+    ensures rest { P.rest port.new ≡ P.rest port.old }
+{
+    let mut stepped = *plain;
+    let target = resolve(ea, size, &mut stepped, word_at, space, port)?;
+    Ok(place(target))
+}
+
+/// The last part of an instruction: a value goes to its target.
+#[inline(always)]
+#[tactic(auto, unfolding(mb_meaning::specs::Operands::storing))]
+pub fn finish_with<P: Port>(
+    target: Target,
+    size: Size,
+    value: u32,
+    space: Space,
+    plain: &mut Plain,
+    port: &mut P,
+) -> Result<(), Ended>
+    requires { IsTarget size target }
+    ensures means { run P.bus (storing target size value space plain.old) (P.world port.old)
+        ≡ (carried_by result plain.new, P.world port.new) }
+    ensures rest { P.rest port.new ≡ P.rest port.old }
+{
+    match store(target, size, value, space, plain, port) {
+        Ok(()) => Ok(()),
+        Err(refused) => Err(Ended::WriteFault(refused)),
+    }
+}
+
+/// Puts a long onto the stack, whose new top is `top`. The registers are those after the instruction.
+#[inline(always)]
+#[tactic(auto, unfolding(mb_meaning::specs::Operands::pushing))]
+pub fn push<P: Port>(
+    value: u32,
+    top: u32,
+    space: Space,
+    plain: &Plain,
+    port: &mut P,
+) -> Result<(), Ended>
+    ensures means { run P.bus (pushing value top space plain.now) (P.world port.old)
+        ≡ (pushed result plain.now, P.world port.new) }
+    ensures rest { P.rest port.new ≡ P.rest port.old }
+{
+    match put_value(space, top, Size::Long, value, port) {
+        Ok(()) => Ok(()),
+        Err(refused) => Err(Ended::WriteFault(refused)),
+    }
+}

@@ -1,0 +1,25 @@
+-- Numbers of a field's width.
+use Rattle.std.proofs.Common.{◌≡◌, ℕ, zero, suc, ◌-◌, ◌*◌, ◌%◌, ◌^◌, ◌<◌, ◌≤◌, refl, ap, ◌∙◌, subst, arith}
+use Rattle.std.specs.Prelude.{bit_and}
+use Rattle.std.proofs.lemmas.Nat.{and_mask, shl_whole}
+
+-- the low bits of a number, by a mask
+pub masked : (v m k : ℕ) → m ≡ 2 ^ k - 1 → bit_and v m ≡ v % 2 ^ k
+masked v m k e = ap (bit_and v) e ∙ and_mask v k
+
+-- a field at the top of a long
+pub at_the_top : (v k : ℕ) → k ≤ 32 → v < 2 ^ k → v * 2 ^ (32 - k) % 2 ^ 32 ≡ v * 2 ^ (32 - k)
+at_the_top v k h less = shl_whole v k (32 - k) 32 less (omega arith)
+
+-- the bits of one to five bytes
+pub bits_of_bytes : (n : ℕ) → n ≤ 5 → 256 ^ n ≡ 2 ^ (8 * n)
+bits_of_bytes zero h = refl
+bits_of_bytes (suc zero) h = refl
+bits_of_bytes (suc (suc zero)) h = refl
+bits_of_bytes (suc (suc (suc zero))) h = refl
+bits_of_bytes (suc (suc (suc (suc zero)))) h = refl
+bits_of_bytes (suc (suc (suc (suc (suc zero))))) h = refl
+bits_of_bytes (suc (suc (suc (suc (suc (suc n)))))) h = absurd (omega arith)
+
+pub in_bits : (x n : ℕ) → n ≤ 5 → x < 256 ^ n → x < 2 ^ (8 * n)
+in_bits x n h less = subst (λ (m : ℕ). x < m) (bits_of_bytes n h) less

@@ -1,0 +1,31 @@
+-- What becomes of an operand that is only read.
+use Rattle.std.specs.Prelude.{ℕ, ⊤, ◌<◌}
+use Rattle.mb_instr.specs.declared.size.Size.{Size}
+use Rattle.mb_instr.specs.declared.registers.Plain.{Plain}
+use Rattle.mb_meaning.specs.Ends.{Performed}
+use Rattle.mb_meaning.specs.Arithmetic.{address_moved, address_compared}
+use Rattle.mb_meaning.specs.Unary.{tested}
+use Rattle.mb_meaning.specs.Products.{multiplied_by_word, word_divided, multiplied_by_long, long_divided}
+use Rattle.mb_ops_arith.specs.Changes.{moved_of}
+use Rattle.mb_ops_arith.specs.declared.taking.Effect.{Effect}
+use Rattle.mb_ops_arith.specs.declared.taking.Effect.TheVariants as effect
+
+-- how the instruction ends by the operand's value and the registers
+abbrev pub effect_of : Effect → Size → ℕ → Plain → Performed
+effect_of effect.Test size value p = tested size value p
+effect_of (effect.MoveAddress sum register) size value p = address_moved (moved_of sum) register size value p
+effect_of (effect.CompareAddress register) size value p = address_compared register size value p
+effect_of (effect.MultiplyWord is_signed register) size value p = multiplied_by_word is_signed register value p
+effect_of (effect.MultiplyLong word) size value p = multiplied_by_long word value p
+effect_of (effect.DivideWord is_signed register) size value p = word_divided is_signed register value p
+effect_of (effect.DivideLong word) size value p = long_divided word value p
+
+-- its register is one of eight
+abbrev pub IsEffect : Effect → Type 0
+IsEffect effect.Test = ⊤
+IsEffect (effect.MoveAddress sum register) = register < 8
+IsEffect (effect.CompareAddress register) = register < 8
+IsEffect (effect.MultiplyWord is_signed register) = register < 8
+IsEffect (effect.MultiplyLong word) = ⊤
+IsEffect (effect.DivideWord is_signed register) = register < 8
+IsEffect (effect.DivideLong word) = ⊤

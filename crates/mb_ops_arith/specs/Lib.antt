@@ -1,0 +1,6 @@
+pub mod Changes
+pub mod Effects
+pub mod Pairs
+pub mod Counts
+pub mod Decimals
+pub mod Locking

@@ -1,0 +1,141 @@
+//! BTST, BCHG, BCLR and BSET.
+
+ghost use Rattle.std.specs.Prelude.{◌≡◌, ◌<◌, ◌^◌};
+ghost use Rattle.mb_port.specs.Routine.{run};
+ghost use Rattle.mb_instr.specs.Operands.{IsEa};
+ghost use Rattle.mb_meaning.specs.Ends.{carried_by};
+ghost use Rattle.mb_meaning.specs.Bits.{bit_size, bit_after, bit_changed, bit_row_of};
+
+use crate::modifying::modify;
+use crate::operations::Change;
+use mb_alu::{Conditions, Flagged};
+use mb_instr::{BitKind, Ea, Plain, Size};
+use mb_operands::fetch_operand;
+use mb_port::{Port, Space};
+use mb_writes::Ended;
+
+/// The size of the operand that the bit is one of.
+#[inline(always)]
+fn bit_size(ea: &Ea) -> Size
+    requires { IsEa Size.Byte ea.now }
+    ensures value { result ≡ bit_size ea.now }
+    ensures range { IsEa result ea.now }
+{
+    match *ea {
+        Ea::Dn(_) => Size::Long,
+        Ea::An(_)
+        | Ea::Ind(_)
+        | Ea::Post(_)
+        | Ea::Pre(_)
+        | Ea::Disp(_, _)
+        | Ea::Index(_, _)
+        | Ea::AbsW(_)
+        | Ea::AbsL(_)
+        | Ea::PcDisp(_)
+        | Ea::PcIndex(_)
+        | Ea::Imm(_) => Size::Byte,
+    }
+}
+
+/// The number that has that bit alone.
+#[inline(always)]
+fn alone(place: u32) -> u32
+    requires { place < 32 }
+    ensures { result ≡ 2 ^ place }
+{
+    1 << place
+}
+
+/// The value with that bit inverted, cleared or set.
+#[inline(always)]
+fn bit_after(kind: BitKind, place: u32, value: u32) -> u32
+    requires { place < 32 }
+    ensures { result ≡ bit_after kind place value }
+{
+    let bit = alone(place);
+    match kind {
+        BitKind::Test => value,
+        BitKind::Change => value ^ bit,
+        BitKind::Clear => value & !bit,
+        BitKind::Set => value | bit,
+    }
+}
+
+/// The value after the row, and the condition codes: Z is the complement of the bit, whose number counts modulo the
+/// bits of the operand.
+#[inline(always)]
+#[tactic(auto, unfolding(mb_meaning::specs::Bits::bit_changed))]
+pub(crate) fn change_bit(kind: BitKind, number: u32, size: Size, value: u32, ccr: u8) -> Flagged
+    ensures { result ≡ bit_changed kind number size value ccr }
+{
+    let place = number % (8 * u32::from(size.bytes()));
+    let codes = Conditions {
+        z: value >> place & 1 == 0,
+        ..Conditions::of(ccr)
+    };
+    Flagged {
+        value: bit_after(kind, place, value),
+        ccr: codes.ccr(),
+    }
+}
+
+/// BTST.
+#[inline(always)]
+#[tactic(auto, unfolding(mb_meaning::specs::Bits::bit_row_of))]
+fn test_bit<P: Port>(
+    number: u32,
+    ea: &Ea,
+    word_at: u32,
+    space: Space,
+    plain: &mut Plain,
+    port: &mut P,
+) -> Result<(), Ended>
+    requires { IsEa Size.Byte ea.now }
+    ensures means { run P.bus (bit_row_of BitKind.Test number ea.now word_at space plain.old) (P.world port.old)
+        ≡ (carried_by result plain.new, P.world port.new) }
+    ensures rest { P.rest port.new ≡ P.rest port.old }
+{
+    let mut next = *plain;
+    let size = bit_size(ea);
+    match fetch_operand(size, ea, word_at, space, &mut next, port) {
+        Ok(operand) => {
+            next.ccr = change_bit(BitKind::Test, number, size, operand.value, next.ccr).ccr;
+            *plain = next;
+            Ok(())
+        }
+        Err(refused) => Err(Ended::ReadFault(refused)),
+    }
+}
+
+/// BTST, BCHG, BCLR and BSET. The operand's first extension word is at `word_at`.
+#[inline(always)]
+#[tactic(auto, unfolding(mb_meaning::specs::Bits::bit_row_of))]
+pub(crate) fn bit_row<P: Port>(
+    kind: BitKind,
+    number: u32,
+    ea: &Ea,
+    word_at: u32,
+    space: Space,
+    plain: &mut Plain,
+    port: &mut P,
+) -> Result<(), Ended>
+    requires { IsEa Size.Byte ea.now }
+    ensures means { run P.bus (bit_row_of kind number ea.now word_at space plain.old) (P.world port.old)
+        ≡ (carried_by result plain.new, P.world port.new) }
+    ensures rest { P.rest port.new ≡ P.rest port.old }
+{
+    match kind {
+        BitKind::Test => test_bit(number, ea, word_at, space, plain, port),
+        BitKind::Change | BitKind::Clear | BitKind::Set => {
+            modify(
+                Change::Bit(kind, number),
+                bit_size(ea),
+                ea,
+                word_at,
+                space,
+                plain,
+                port,
+            )
+        }
+    }
+}

@@ -1,0 +1,38 @@
+//! CMP2.
+
+ghost use Rattle.std.specs.Prelude.{◌≡◌};
+ghost use Rattle.mb_port.specs.Routine.{run};
+ghost use Rattle.mb_instr.specs.Operands.{IsEa};
+ghost use Rattle.mb_meaning.specs.Ends.{carried_by};
+ghost use Rattle.mb_meaning.specs.Bounds.{cmp2_of};
+
+use mb_instr::{Ea, Plain, Size};
+use mb_operands::compare_bounds;
+use mb_port::{Port, Space};
+use mb_writes::Ended;
+
+/// CMP2; the word says which register is compared.
+#[inline(always)]
+#[tactic(auto, unfolding(mb_meaning::specs::Bounds::cmp2_of))]
+pub fn compare_with_bounds<P: Port>(
+    size: Size,
+    ea: &Ea,
+    word: u16,
+    at: u32,
+    space: Space,
+    plain: &mut Plain,
+    port: &mut P,
+) -> Result<(), Ended>
+    requires { IsEa size ea.now }
+    ensures means { run P.bus (cmp2_of size ea.now word at space plain.old) (P.world port.old)
+        ≡ (carried_by result plain.new, P.world port.new) }
+    ensures rest { P.rest port.new ≡ P.rest port.old }
+{
+    match compare_bounds(size, ea, word, at, space, plain, port) {
+        Ok(ccr) => {
+            plain.ccr = ccr;
+            Ok(())
+        }
+        Err(refused) => Err(Ended::ReadFault(refused)),
+    }
+}

@@ -1,0 +1,22 @@
+//! The instructions that compute, over any bus, one small function a row.
+//!
+//! Each function does what its routine of `mb_meaning` does, whatever the bus.
+#![tactic(auto)]
+
+mod bit_fields;
+mod bits;
+mod bounds;
+mod decimals;
+mod locked;
+mod locking;
+mod modifying;
+mod operations;
+mod pairs;
+mod performing;
+mod products;
+mod quick;
+mod shifts;
+mod taking;
+mod unary;
+
+pub use performing::perform_arith;

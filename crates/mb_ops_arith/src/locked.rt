@@ -1,0 +1,249 @@
+//! TAS, CAS and CAS2.
+
+ghost use Rattle.std.specs.Prelude.{◌≡◌, ◌<◌};
+ghost use Rattle.mb_port.specs.Routine.{run};
+ghost use Rattle.mb_instr.specs.Operands.{IsEa};
+ghost use Rattle.mb_instr.specs.Sizes.{values_of};
+ghost use Rattle.mb_meaning.specs.Ends.{carried_by};
+ghost use Rattle.mb_meaning.specs.Operands.{place_of};
+ghost use Rattle.mb_meaning.specs.Locked.{test_and_set, tas_in_memory, tas_of, compared_by, update_by, pointer_by};
+ghost use Rattle.mb_meaning.specs.Locked.{cas_codes, cas_loaded, cas_equal, cas_at, cas_of};
+ghost use Rattle.mb_meaning.specs.Locked.{cas2_codes, cas2_equal, cas2_of};
+
+use crate::locking::{get_operand, probe_operand, put_operand};
+use crate::modifying::modify;
+use crate::operations::Change;
+use mb_alu::{Flagged, LogicKind, compare, logic};
+use mb_ea::resolve;
+use mb_instr::{Ea, Plain, Size};
+use mb_operands::{place, with_low};
+use mb_port::{Port, Space};
+use mb_writes::Ended;
+
+/// The byte with bit 7 set, and the condition codes by the byte as it was.
+#[inline(always)]
+pub(crate) fn test_and_set(value: u32, ccr: u8) -> Flagged
+    ensures { result ≡ test_and_set value ccr }
+{
+    Flagged {
+        value: value | 0x80,
+        ccr: logic(LogicKind::Pass, Size::Byte, value, 0, ccr).ccr,
+    }
+}
+
+/// TAS in memory, where the registers are `next` after the operand's address was formed. The byte is always written.
+#[inline(always)]
+#[tactic(auto, unfolding(mb_meaning::specs::Locked::tas_in_memory))]
+fn tas_in_memory<P: Port>(
+    address: u32,
+    next: &Plain,
+    space: Space,
+    plain: &mut Plain,
+    port: &mut P,
+) -> Result<(), Ended>
+    ensures means { run P.bus (tas_in_memory address space plain.old next.now) (P.world port.old)
+        ≡ (carried_by result plain.new, P.world port.new) }
+    ensures rest { P.rest port.new ≡ P.rest port.old }
+{
+    let places = match probe_operand(space, address, Size::Byte, port) {
+        Ok(places) => places,
+        Err(refused) => return Err(Ended::ReadFault(refused)),
+    };
+    let value = get_operand(&places, Size::Byte, port);
+    let set = test_and_set(value, next.ccr);
+    put_operand(&places, Size::Byte, set.value, port);
+    *plain = *next;
+    plain.ccr = set.ccr;
+    Ok(())
+}
+
+/// TAS.
+#[inline(always)]
+#[tactic(auto, unfolding(mb_meaning::specs::Locked::tas_of))]
+pub(crate) fn tas<P: Port>(
+    ea: &Ea,
+    at: u32,
+    space: Space,
+    plain: &mut Plain,
+    port: &mut P,
+) -> Result<(), Ended>
+    requires { IsEa Size.Byte ea.now }
+    ensures means { run P.bus (tas_of ea.now at space plain.old) (P.world port.old)
+        ≡ (carried_by result plain.new, P.world port.new) }
+    ensures rest { P.rest port.new ≡ P.rest port.old }
+{
+    let word_at = at.wrapping_add(2);
+    if let Ea::Dn(_) = *ea {
+        return modify(
+            Change::TestAndSet,
+            Size::Byte,
+            ea,
+            word_at,
+            space,
+            plain,
+            port,
+        );
+    }
+    let mut next = *plain;
+    match resolve(ea, Size::Byte, &mut next, word_at, space, port) {
+        Ok(target) => tas_in_memory(place(target), &next, space, plain, port),
+        Err(refused) => Err(Ended::ReadFault(refused)),
+    }
+}
+
+/// The number of the data register Dc.
+#[inline(always)]
+fn compared(word: u16) -> usize
+    ensures value { result ≡ compared_by word }
+    ensures range { result < 8 }
+{
+    (word & 7) as usize
+}
+
+/// The number of the data register Du.
+#[inline(always)]
+fn update(word: u16) -> usize
+    ensures value { result ≡ update_by word }
+    ensures range { result < 8 }
+{
+    (word >> 6 & 7) as usize
+}
+
+/// The number of the register that holds the operand's address, of all sixteen.
+#[inline(always)]
+fn pointer(word: u16) -> u8
+    ensures value { result ≡ pointer_by word }
+    ensures range { result < 16 }
+{
+    (word >> 12) as u8
+}
+
+/// The condition codes of the operand less Dc.
+#[inline(always)]
+fn codes(size: Size, word: u16, value: u32, plain: &Plain) -> u8
+    ensures { result ≡ cas_codes size word value plain.now }
+{
+    compare(size, plain.d[compared(word)], value, plain.ccr)
+}
+
+/// Whether Dc and the operand are the same.
+#[inline(always)]
+fn is_equal(size: Size, word: u16, value: u32, plain: &Plain) -> bool
+    ensures { result ≡ cas_equal size word value plain.now }
+{
+    size.low(plain.d[compared(word)]) == value
+}
+
+/// Puts the operand into the low bytes of Dc.
+#[inline(always)]
+fn load_compared(size: Size, word: u16, value: u32, plain: &mut Plain)
+    ensures { plain.new ≡ cas_loaded size word value plain.old }
+{
+    let n = compared(word);
+    plain.d[n] = with_low(size, plain.d[n], value);
+}
+
+/// CAS at an address, where the registers are `next` after it was formed.
+#[inline(always)]
+#[tactic(auto, unfolding(mb_meaning::specs::Locked::cas_at))]
+fn cas_at<P: Port>(
+    size: Size,
+    word: u16,
+    address: u32,
+    next: &Plain,
+    space: Space,
+    plain: &mut Plain,
+    port: &mut P,
+) -> Result<(), Ended>
+    ensures means { run P.bus (cas_at size word address space plain.old next.now) (P.world port.old)
+        ≡ (carried_by result plain.new, P.world port.new) }
+    ensures rest { P.rest port.new ≡ P.rest port.old }
+{
+    let places = match probe_operand(space, address, size, port) {
+        Ok(places) => places,
+        Err(refused) => return Err(Ended::ReadFault(refused)),
+    };
+    let value = get_operand(&places, size, port);
+    *plain = *next;
+    plain.ccr = codes(size, word, value, next);
+    if is_equal(size, word, value, next) {
+        put_operand(&places, size, next.d[update(word)], port);
+    } else {
+        load_compared(size, word, value, plain);
+    }
+    Ok(())
+}
+
+/// CAS.
+#[inline(always)]
+#[tactic(auto, unfolding(mb_meaning::specs::Locked::cas_of))]
+pub(crate) fn cas<P: Port>(
+    size: Size,
+    ea: &Ea,
+    word: u16,
+    at: u32,
+    space: Space,
+    plain: &mut Plain,
+    port: &mut P,
+) -> Result<(), Ended>
+    requires { IsEa size ea.now }
+    ensures means { run P.bus (cas_of size ea.now word at space plain.old) (P.world port.old)
+        ≡ (carried_by result plain.new, P.world port.new) }
+    ensures rest { P.rest port.new ≡ P.rest port.old }
+{
+    let mut next = *plain;
+    let word_at = at.wrapping_add(2).wrapping_add(2);
+    match resolve(ea, size, &mut next, word_at, space, port) {
+        Ok(target) => cas_at(size, word, place(target), &next, space, plain, port),
+        Err(refused) => Err(Ended::ReadFault(refused)),
+    }
+}
+
+/// The condition codes of CAS2: of the first operand that is not the same as its Dc, else of operand 2.
+#[inline(always)]
+fn pair_codes(size: Size, first: u16, second: u16, one: u32, two: u32, plain: &Plain) -> u8
+    ensures { result ≡ cas2_codes size first second one two plain.now }
+{
+    if is_equal(size, first, one, plain) {
+        codes(size, second, two, plain)
+    } else {
+        codes(size, first, one, plain)
+    }
+}
+
+/// CAS2: both operands are checked and read. Where both are the same as theirs, operand 1 is written first.
+#[inline(always)]
+#[tactic(auto, unfolding(mb_meaning::specs::Locked::cas2_of))]
+pub(crate) fn cas2<P: Port>(
+    size: Size,
+    first: u16,
+    second: u16,
+    space: Space,
+    plain: &mut Plain,
+    port: &mut P,
+) -> Result<(), Ended>
+    ensures means { run P.bus (cas2_of size first second space plain.old) (P.world port.old)
+        ≡ (carried_by result plain.new, P.world port.new) }
+    ensures rest { P.rest port.new ≡ P.rest port.old }
+{
+    let places = match probe_operand(space, plain.register(pointer(first)), size, port) {
+        Ok(places) => places,
+        Err(refused) => return Err(Ended::ReadFault(refused)),
+    };
+    let others = match probe_operand(space, plain.register(pointer(second)), size, port) {
+        Ok(others) => others,
+        Err(refused) => return Err(Ended::ReadFault(refused)),
+    };
+    let one = get_operand(&places, size, port);
+    let two = get_operand(&others, size, port);
+    let codes = pair_codes(size, first, second, one, two, plain);
+    if is_equal(size, first, one, plain) && is_equal(size, second, two, plain) {
+        put_operand(&places, size, plain.d[update(first)], port);
+        put_operand(&others, size, plain.d[update(second)], port);
+    } else {
+        load_compared(size, second, two, plain);
+        load_compared(size, first, one, plain);
+    }
+    plain.ccr = codes;
+    Ok(())
+}

@@ -1,0 +1,42 @@
+//! Operands that are read, changed and written back.
+
+ghost use Rattle.std.specs.Prelude.{◌≡◌};
+ghost use Rattle.mb_port.specs.Routine.{run};
+ghost use Rattle.mb_instr.specs.Operands.{IsEa};
+ghost use Rattle.mb_meaning.specs.Ends.{carried_by};
+ghost use Rattle.mb_meaning.specs.Modifying.{modifying};
+ghost use Rattle.mb_ops_arith.specs.Changes.{change_of};
+
+use crate::operations::Change;
+use mb_instr::{Ea, Plain, Size};
+use mb_operands::{fetch_operand, finish_with};
+use mb_port::{Port, Space};
+use mb_writes::Ended;
+
+/// Reads an operand, changes it, and writes it back. Its first extension word is at `word_at`.
+#[inline(always)]
+#[tactic(auto, unfolding(mb_meaning::specs::Modifying::modifying))]
+pub(crate) fn modify<P: Port>(
+    change: Change,
+    size: Size,
+    ea: &Ea,
+    word_at: u32,
+    space: Space,
+    plain: &mut Plain,
+    port: &mut P,
+) -> Result<(), Ended>
+    requires { IsEa size ea.now }
+    ensures means { run P.bus (modifying (change_of change size) size ea.now word_at space plain.old) (P.world port.old)
+        ≡ (carried_by result plain.new, P.world port.new) }
+    ensures rest { P.rest port.new ≡ P.rest port.old }
+{
+    let mut next = *plain;
+    let operand = match fetch_operand(size, ea, word_at, space, &mut next, port) {
+        Ok(operand) => operand,
+        Err(refused) => return Err(Ended::ReadFault(refused)),
+    };
+    let changed = change.apply(size, operand.value, next.ccr);
+    next.ccr = changed.ccr;
+    *plain = next;
+    finish_with(operand.target, size, changed.value, space, plain, port)
+}

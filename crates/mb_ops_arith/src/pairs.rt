@@ -1,0 +1,216 @@
+//! Rows of a source and a destination.
+
+ghost use Rattle.std.specs.Prelude.{◌≡◌, ◌<◌, IfOk};
+ghost use Rattle.mb_port.specs.Routine.{run};
+ghost use Rattle.mb_instr.specs.Operands.{IsEa, IsImmediate};
+ghost use Rattle.mb_instr.specs.declared.operand.Ea.TheVariants.{Imm};
+ghost use Rattle.mb_operands.specs.Fetched.{IsOperand};
+ghost use Rattle.mb_meaning.specs.Ends.{carried_by};
+ghost use Rattle.mb_meaning.specs.Arithmetic.{pair_of, combining, comparing, either_way, chaining};
+ghost use Rattle.mb_ops_arith.specs.Changes.{operation_of};
+ghost use Rattle.mb_ops_arith.specs.Pairs.{paired};
+
+use crate::operations::Operation;
+use mb_alu::compare;
+use mb_ea::ReadFault;
+use mb_instr::{Ea, Plain, Size};
+use mb_operands::{Operand, behind, fetch_operand, finish_with};
+use mb_port::{Port, Space};
+use mb_writes::Ended;
+
+/// Two operands that were read.
+#[derive(Clone, Copy)]
+pub(crate) struct Pair {
+    /// The source's value.
+    pub(crate) source: u32,
+    pub(crate) destination: Operand,
+}
+
+/// Reads two operands, the source first. Its words stand before those of the destination.
+#[inline(always)]
+#[tactic(auto, unfolding(mb_meaning::specs::Arithmetic::pair_of))]
+pub(crate) fn fetch_pair<P: Port>(
+    size: Size,
+    source: &Ea,
+    destination: &Ea,
+    word_at: u32,
+    space: Space,
+    plain: &mut Plain,
+    port: &mut P,
+) -> Result<Pair, ReadFault>
+    requires source { IsEa size source.now }
+    requires destination { IsEa size destination.now }
+    ensures means { run P.bus (pair_of size source.now destination.now word_at space plain.old) (P.world port.old)
+        ≡ (paired result plain.new, P.world port.new) }
+    ensures operand { IfOk result (λ pair. IsOperand size pair.destination) }
+    ensures rest { P.rest port.new ≡ P.rest port.old }
+{
+    let from = fetch_operand(size, source, word_at, space, plain, port)?;
+    let behind = behind(size, source, word_at);
+    let to = fetch_operand(size, destination, behind, space, plain, port)?;
+    Ok(Pair {
+        source: from.value,
+        destination: to,
+    })
+}
+
+/// What the operation makes of a source and a destination goes to the destination.
+#[inline(always)]
+#[tactic(auto, unfolding(mb_meaning::specs::Arithmetic::combining))]
+pub(crate) fn combine<P: Port>(
+    operation: Operation,
+    size: Size,
+    source: &Ea,
+    destination: &Ea,
+    at: u32,
+    space: Space,
+    plain: &mut Plain,
+    port: &mut P,
+) -> Result<(), Ended>
+    requires source { IsEa size source.now }
+    requires destination { IsEa size destination.now }
+    ensures means { run P.bus (combining (operation_of operation size) size source.now destination.now at space plain.old) (P.world port.old)
+        ≡ (carried_by result plain.new, P.world port.new) }
+    ensures rest { P.rest port.new ≡ P.rest port.old }
+{
+    let mut next = *plain;
+    let word_at = at.wrapping_add(2);
+    let pair = match fetch_pair(size, source, destination, word_at, space, &mut next, port) {
+        Ok(pair) => pair,
+        Err(refused) => return Err(Ended::ReadFault(refused)),
+    };
+    let to = pair.destination;
+    let result = operation.apply(size, pair.source, to.value, next.ccr);
+    next.ccr = result.ccr;
+    *plain = next;
+    finish_with(to.target, size, result.value, space, plain, port)
+}
+
+/// Compares a source with a destination. Only the condition codes change.
+#[inline(always)]
+#[tactic(auto, unfolding(mb_meaning::specs::Arithmetic::comparing))]
+pub(crate) fn compare_pair<P: Port>(
+    size: Size,
+    source: &Ea,
+    destination: &Ea,
+    at: u32,
+    space: Space,
+    plain: &mut Plain,
+    port: &mut P,
+) -> Result<(), Ended>
+    requires source { IsEa size source.now }
+    requires destination { IsEa size destination.now }
+    ensures means { run P.bus (comparing size source.now destination.now at space plain.old) (P.world port.old)
+        ≡ (carried_by result plain.new, P.world port.new) }
+    ensures rest { P.rest port.new ≡ P.rest port.old }
+{
+    let mut next = *plain;
+    let word_at = at.wrapping_add(2);
+    let pair = match fetch_pair(size, source, destination, word_at, space, &mut next, port) {
+        Ok(pair) => pair,
+        Err(refused) => return Err(Ended::ReadFault(refused)),
+    };
+    next.ccr = compare(size, pair.source, pair.destination.value, next.ccr);
+    *plain = next;
+    Ok(())
+}
+
+/// ADD, SUB, AND and OR: from a data register to an operand, or from the operand to the register.
+#[tactic(auto, unfolding(mb_meaning::specs::Arithmetic::either_way))]
+pub(crate) fn combine_either_way<P: Port>(
+    operation: Operation,
+    register: u8,
+    to_memory: bool,
+    size: Size,
+    ea: &Ea,
+    at: u32,
+    space: Space,
+    plain: &mut Plain,
+    port: &mut P,
+) -> Result<(), Ended>
+    requires operand { IsEa size ea.now }
+    requires register { register < 8 }
+    ensures means { run P.bus (either_way (operation_of operation size) register to_memory size ea.now at space plain.old) (P.world port.old)
+        ≡ (carried_by result plain.new, P.world port.new) }
+    ensures rest { P.rest port.new ≡ P.rest port.old }
+{
+    let register = Ea::Dn(register);
+    if to_memory {
+        combine(operation, size, &register, ea, at, space, plain, port)
+    } else {
+        combine(operation, size, ea, &register, at, space, plain, port)
+    }
+}
+
+/// ADDX and SUBX: two data registers, or memory below two address registers.
+#[tactic(auto, unfolding(mb_meaning::specs::Arithmetic::chaining))]
+pub(crate) fn chain<P: Port>(
+    operation: Operation,
+    size: Size,
+    in_memory: bool,
+    source: u8,
+    destination: u8,
+    at: u32,
+    space: Space,
+    plain: &mut Plain,
+    port: &mut P,
+) -> Result<(), Ended>
+    requires source { source < 8 }
+    requires destination { destination < 8 }
+    ensures means { run P.bus (chaining (operation_of operation size) size in_memory source destination at space plain.old) (P.world port.old)
+        ≡ (carried_by result plain.new, P.world port.new) }
+    ensures rest { P.rest port.new ≡ P.rest port.old }
+{
+    if in_memory {
+        combine(
+            operation,
+            size,
+            &Ea::Pre(source),
+            &Ea::Pre(destination),
+            at,
+            space,
+            plain,
+            port,
+        )
+    } else {
+        combine(
+            operation,
+            size,
+            &Ea::Dn(source),
+            &Ea::Dn(destination),
+            at,
+            space,
+            plain,
+            port,
+        )
+    }
+}
+
+/// The operation with an immediate, whose words stand before those of the operand.
+pub(crate) fn combine_immediate<P: Port>(
+    operation: Operation,
+    immediate: u32,
+    size: Size,
+    ea: &Ea,
+    at: u32,
+    space: Space,
+    plain: &mut Plain,
+    port: &mut P,
+) -> Result<(), Ended>
+    requires immediate { IsImmediate size immediate }
+    requires operand { IsEa size ea.now }
+    ensures means { run P.bus (combining (operation_of operation size) size (Imm immediate) ea.now at space plain.old) (P.world port.old)
+        ≡ (carried_by result plain.new, P.world port.new) }
+    ensures rest { P.rest port.new ≡ P.rest port.old }
+{
+    combine(
+        operation,
+        size,
+        &Ea::Imm(immediate),
+        ea,
+        at,
+        space,
+        plain,
+        port,
+    )
+}

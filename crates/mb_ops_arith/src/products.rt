@@ -1,0 +1,204 @@
+//! Multiplication and division.
+
+ghost use Rattle.std.specs.Prelude.{◌≡◌, ◌<◌, ◌^◌};
+ghost use Rattle.mb_alu.specs.Products.{IsBounded};
+ghost use Rattle.mb_alu.specs.declared.width.Width.TheVariants as width;
+ghost use Rattle.mb_meaning.specs.Ends.{carried, carried_by};
+ghost use Rattle.mb_meaning.specs.Products.{multiplied_by_word, divided_by_word, word_divided};
+ghost use Rattle.mb_meaning.specs.Products.{low_register, high_register, is_signed, is_wide};
+ghost use Rattle.mb_meaning.specs.Products.{multiplied_long, multiplied_wide, multiplied_by_long};
+ghost use Rattle.mb_meaning.specs.Products.{dividend_of, width_of, divided_by_long, long_divided};
+
+use mb_alu::{Divided, Width, div, mul};
+use mb_instr::Plain;
+use mb_writes::Ended;
+
+/// The vector of a division by zero.
+const ZERO_DIVIDE: u8 = 5;
+
+/// MULU.W and MULS.W: the product is the whole register.
+#[inline(always)]
+pub(crate) fn multiply_word(signed: bool, register: u8, value: u32, plain: &mut Plain)
+    requires { register < 8 }
+    ensures { carried plain.new ≡ multiplied_by_word signed register value plain.old }
+{
+    let n = register as usize;
+    let product = mul(signed, Width::Word, value, plain.d[n], plain.ccr);
+    plain.d[n] = product.value as u32;
+    plain.ccr = product.ccr;
+}
+
+/// What a division by a word leaves: the quotient in the low word of the register, the remainder in the high one.
+#[inline(always)]
+fn leave_words(register: u8, divided: Divided, plain: &mut Plain) -> Result<(), Ended>
+    requires register { register < 8 }
+    requires divided { IsBounded width.Word divided }
+    ensures { carried_by result plain.new ≡ divided_by_word register divided plain.old }
+{
+    match divided {
+        Divided::Done {
+            quotient,
+            remainder,
+            ccr,
+        } => {
+            plain.d[register as usize] = remainder * 0x1_0000 + quotient;
+            plain.ccr = ccr;
+            Ok(())
+        }
+        Divided::Overflow(ccr) => {
+            plain.ccr = ccr;
+            Ok(())
+        }
+        Divided::ZeroDivide(ccr) => {
+            plain.ccr = ccr;
+            Err(Ended::Trap(ZERO_DIVIDE))
+        }
+    }
+}
+
+/// DIVU.W and DIVS.W.
+#[inline(always)]
+pub(crate) fn divide_word(
+    signed: bool,
+    register: u8,
+    value: u32,
+    plain: &mut Plain,
+) -> Result<(), Ended>
+    requires { register < 8 }
+    ensures { carried_by result plain.new ≡ word_divided signed register value plain.old }
+{
+    let dividend = u64::from(plain.d[register as usize]);
+    let divided = div(signed, Width::Word, value, dividend, plain.ccr);
+    leave_words(register, divided, plain)
+}
+
+/// The register of the low long, or of the quotient.
+#[inline(always)]
+fn low_register(word: u16) -> usize
+    ensures value { result ≡ low_register word }
+    ensures range { result < 8 }
+{
+    (word >> 12 & 7) as usize
+}
+
+/// The register of the high long, or of the remainder.
+#[inline(always)]
+fn high_register(word: u16) -> usize
+    ensures value { result ≡ high_register word }
+    ensures range { result < 8 }
+{
+    (word & 7) as usize
+}
+
+/// Whether the numbers are signed.
+#[inline(always)]
+fn is_signed(word: u16) -> bool
+    ensures { result ≡ is_signed word }
+{
+    word >> 11 & 1 == 1
+}
+
+/// Whether the product or the dividend has 64 bits.
+#[inline(always)]
+fn is_wide(word: u16) -> bool
+    ensures { result ≡ is_wide word }
+{
+    word >> 10 & 1 == 1
+}
+
+/// MULU.L and MULS.L with a product of 32 bits.
+#[inline(always)]
+fn multiply_to_long(word: u16, value: u32, plain: &mut Plain)
+    ensures { plain.new ≡ multiplied_long word value plain.old }
+{
+    let n = low_register(word);
+    let product = mul(is_signed(word), Width::Long, value, plain.d[n], plain.ccr);
+    plain.d[n] = product.value as u32;
+    plain.ccr = product.ccr;
+}
+
+/// The same with a product of 64 bits: the register of the low long is written first.
+#[inline(always)]
+fn multiply_to_wide(word: u16, value: u32, plain: &mut Plain)
+    ensures { plain.new ≡ multiplied_wide word value plain.old }
+{
+    let n = low_register(word);
+    let product = mul(is_signed(word), Width::Wide, value, plain.d[n], plain.ccr);
+    plain.d[n] = (product.value & 0xFFFF_FFFF) as u32;
+    plain.d[high_register(word)] = (product.value >> 32) as u32;
+    plain.ccr = product.ccr;
+}
+
+/// MULU.L and MULS.L.
+#[inline(always)]
+pub(crate) fn multiply_long(word: u16, value: u32, plain: &mut Plain)
+    ensures { carried plain.new ≡ multiplied_by_long word value plain.old }
+{
+    if is_wide(word) {
+        multiply_to_wide(word, value, plain);
+    } else {
+        multiply_to_long(word, value, plain);
+    }
+}
+
+/// The dividend: 64 bits in two registers, or 32 in one.
+#[inline(always)]
+fn dividend(word: u16, plain: &Plain) -> u64
+    ensures { result ≡ dividend_of word plain.now }
+{
+    let low = u64::from(plain.d[low_register(word)]);
+    if is_wide(word) {
+        u64::from(plain.d[high_register(word)]) * 0x1_0000_0000 + low
+    } else {
+        low
+    }
+}
+
+/// How wide the operands of a division are.
+#[inline(always)]
+fn width(word: u16) -> Width
+    ensures { result ≡ width_of word }
+{
+    if is_wide(word) {
+        Width::Wide
+    } else {
+        Width::Long
+    }
+}
+
+/// What a division by a long leaves. The register of the remainder is written first.
+#[inline(always)]
+fn leave_longs(word: u16, divided: Divided, plain: &mut Plain) -> Result<(), Ended>
+    ensures { carried_by result plain.new ≡ divided_by_long word divided plain.old }
+{
+    match divided {
+        Divided::Done {
+            quotient,
+            remainder,
+            ccr,
+        } => {
+            plain.d[high_register(word)] = remainder;
+            plain.d[low_register(word)] = quotient;
+            plain.ccr = ccr;
+            Ok(())
+        }
+        Divided::Overflow(ccr) => {
+            plain.ccr = ccr;
+            Ok(())
+        }
+        Divided::ZeroDivide(ccr) => {
+            plain.ccr = ccr;
+            Err(Ended::Trap(ZERO_DIVIDE))
+        }
+    }
+}
+
+/// DIVUL.L, DIVSL.L, DIVU.L and DIVS.L.
+#[inline(always)]
+pub(crate) fn divide_long(word: u16, value: u32, plain: &mut Plain) -> Result<(), Ended>
+    ensures { carried_by result plain.new ≡ long_divided word value plain.old }
+{
+    let dividend = dividend(word, plain);
+    let divided = div(is_signed(word), width(word), value, dividend, plain.ccr);
+    leave_longs(word, divided, plain)
+}

@@ -1,0 +1,46 @@
+//! ADDQ and SUBQ.
+
+ghost use Rattle.std.specs.Prelude.{◌≡◌, ◌<◌};
+ghost use Rattle.mb_port.specs.Routine.{run};
+ghost use Rattle.mb_instr.specs.Operands.{IsEa};
+ghost use Rattle.mb_meaning.specs.Ends.{carried_by};
+ghost use Rattle.mb_meaning.specs.Arithmetic.{quick_of};
+ghost use Rattle.mb_ops_arith.specs.Changes.{moved_of, sum_of};
+
+use crate::modifying::modify;
+use crate::operations::{Change, Operation, Sum};
+use mb_instr::{Ea, Plain, Size};
+use mb_port::{Port, Space};
+use mb_writes::Ended;
+
+/// Of an address register all of it counts, and no condition code changes.
+#[tactic(auto, unfolding(mb_meaning::specs::Arithmetic::quick_of))]
+pub(crate) fn combine_quick<P: Port>(
+    sum: Sum,
+    quick: u8,
+    size: Size,
+    ea: &Ea,
+    at: u32,
+    space: Space,
+    plain: &mut Plain,
+    port: &mut P,
+) -> Result<(), Ended>
+    requires { IsEa size ea.now }
+    ensures means { run P.bus
+        (quick_of (sum_of sum size quick) (λ address. moved_of sum address quick) size ea.now at space plain.old) (P.world port.old)
+        ≡ (carried_by result plain.new, P.world port.new) }
+    ensures rest { P.rest port.new ≡ P.rest port.old }
+{
+    let quick = u32::from(quick);
+    match ea.address_number() {
+        Some(n) => {
+            let n = n as usize;
+            plain.a[n] = sum.moved(plain.a[n], quick);
+            Ok(())
+        }
+        None => {
+            let change = Change::By(Operation::Sum(sum), quick);
+            modify(change, size, ea, at.wrapping_add(2), space, plain, port)
+        }
+    }
+}

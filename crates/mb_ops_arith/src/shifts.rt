@@ -1,0 +1,60 @@
+//! Shifts and rotates.
+
+ghost use Rattle.std.specs.Prelude.{◌≡◌, ◌<◌};
+ghost use Rattle.mb_meaning.specs.Shifts.{shift_by, count_of, shift_register_of};
+ghost use Rattle.mb_ops_arith.specs.Counts.{IsCount};
+
+use crate::unary::put_in_register;
+use mb_alu::{ShiftKind as AluShift, shift};
+use mb_instr::{Plain, ShiftKind, Size};
+
+/// A count in a register is less than this: of the register it is taken modulo this.
+const COUNTS: u32 = 64;
+
+/// What the instruction's kind is to the arithmetic.
+#[inline(always)]
+pub(crate) fn shift_by(kind: ShiftKind) -> AluShift
+    ensures { result ≡ shift_by kind }
+{
+    match kind {
+        ShiftKind::Arithmetic => AluShift::As,
+        ShiftKind::Logical => AluShift::Ls,
+        ShiftKind::RotateExtended => AluShift::Rox,
+        ShiftKind::Rotate => AluShift::Ro,
+    }
+}
+
+/// By how many bits: the number, or what is in the data register of that number.
+#[inline(always)]
+fn count(by_register: bool, number: u8, plain: &Plain) -> u8
+    requires { IsCount by_register number }
+    ensures value { result ≡ count_of by_register number plain.now }
+    ensures range { result < 64 }
+{
+    if by_register {
+        (plain.d[number as usize] % COUNTS) as u8
+    } else {
+        number
+    }
+}
+
+/// A shift or rotate of a data register.
+#[tactic(auto, unfolding(mb_meaning::specs::Shifts::shift_register_of))]
+pub(crate) fn shift_register(
+    kind: ShiftKind,
+    is_left: bool,
+    size: Size,
+    by_register: bool,
+    number: u8,
+    register: u8,
+    plain: &mut Plain,
+)
+    requires number { IsCount by_register number }
+    requires register { register < 8 }
+    ensures { plain.new ≡ shift_register_of kind is_left size (count_of by_register number plain.old) register plain.old }
+{
+    let count = count(by_register, number, plain);
+    let value = plain.d[register as usize];
+    let shifted = shift(shift_by(kind), is_left, size, count, value, plain.ccr);
+    put_in_register(register, size, shifted, plain);
+}

@@ -1,0 +1,91 @@
+//! Operands that are only read.
+
+ghost use Rattle.std.specs.Prelude.{◌≡◌, ◌<◌};
+ghost use Rattle.mb_port.specs.Routine.{run};
+ghost use Rattle.mb_instr.specs.Operands.{IsEa};
+ghost use Rattle.mb_meaning.specs.Ends.{carried_by};
+ghost use Rattle.mb_meaning.specs.Arithmetic.{taking};
+ghost use Rattle.mb_ops_arith.specs.Effects.{effect_of, IsEffect};
+
+use crate::operations::Sum;
+use crate::products::{divide_long, divide_word, multiply_long, multiply_word};
+use mb_alu::{LogicKind, compare, logic};
+use mb_instr::{Ea, Plain, Size};
+use mb_operands::fetch_operand;
+use mb_port::{Port, Space};
+use mb_writes::Ended;
+
+/// What becomes of an operand that is only read.
+#[derive(Clone, Copy)]
+pub(crate) enum Effect {
+    /// The condition codes are those of a move.
+    Test,
+    /// An address register moves by the operand, which is extended by its sign.
+    MoveAddress(Sum, u8),
+    /// The operand, extended by its sign, is compared with an address register.
+    CompareAddress(u8),
+    MultiplyWord { is_signed: bool, register: u8 },
+    /// By its word, `0lll sw00 0000 0hhh`.
+    MultiplyLong(u16),
+    DivideWord { is_signed: bool, register: u8 },
+    /// By its word, `0lll sw00 0000 0hhh`.
+    DivideLong(u16),
+}
+
+impl Effect {
+    /// Does what it says by the operand's value.
+    #[inline(always)]
+    fn apply(self, size: Size, value: u32, plain: &mut Plain) -> Result<(), Ended>
+        requires { IsEffect self }
+        ensures { carried_by result plain.new ≡ effect_of self size value plain.old }
+    {
+        match self {
+            Effect::Test => plain.ccr = logic(LogicKind::Pass, size, value, 0, plain.ccr).ccr,
+            Effect::MoveAddress(sum, register) => {
+                let n = register as usize;
+                plain.a[n] = sum.moved(plain.a[n], size.sign_extend(value));
+            }
+            Effect::CompareAddress(register) => {
+                let extended = size.sign_extend(value);
+                plain.ccr = compare(Size::Long, extended, plain.a[register as usize], plain.ccr);
+            }
+            Effect::MultiplyWord {
+                is_signed,
+                register,
+            } => multiply_word(is_signed, register, value, plain),
+            Effect::MultiplyLong(word) => multiply_long(word, value, plain),
+            Effect::DivideWord {
+                is_signed,
+                register,
+            } => return divide_word(is_signed, register, value, plain),
+            Effect::DivideLong(word) => return divide_long(word, value, plain),
+        }
+        Ok(())
+    }
+}
+
+/// Reads an operand, whose first extension word is at `word_at`, and does by it what the effect says.
+#[tactic(auto, unfolding(mb_meaning::specs::Arithmetic::taking))]
+pub(crate) fn take<P: Port>(
+    effect: Effect,
+    size: Size,
+    ea: &Ea,
+    word_at: u32,
+    space: Space,
+    plain: &mut Plain,
+    port: &mut P,
+) -> Result<(), Ended>
+    requires operand { IsEa size ea.now }
+    requires effect { IsEffect effect }
+    ensures means { run P.bus (taking (effect_of effect size) size ea.now word_at space plain.old) (P.world port.old)
+        ≡ (carried_by result plain.new, P.world port.new) }
+    ensures rest { P.rest port.new ≡ P.rest port.old }
+{
+    let mut next = *plain;
+    let operand = match fetch_operand(size, ea, word_at, space, &mut next, port) {
+        Ok(operand) => operand,
+        Err(refused) => return Err(Ended::ReadFault(refused)),
+    };
+    *plain = next;
+    effect.apply(size, operand.value, plain)
+}

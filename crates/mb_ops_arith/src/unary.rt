@@ -1,0 +1,75 @@
+//! Rows of one operand, and immediates to CCR.
+
+ghost use Rattle.std.specs.Prelude.{◌≡◌, ◌<◌};
+ghost use Rattle.mb_port.specs.Routine.{run};
+ghost use Rattle.mb_instr.specs.Operands.{IsEa};
+ghost use Rattle.mb_meaning.specs.Ends.{carried_by};
+ghost use Rattle.mb_meaning.specs.Unary.{clr_of, in_register, ext_of, ccr_by};
+
+use mb_alu::{Flagged, LogicKind, extend, logic};
+use mb_ea::resolve;
+use mb_instr::{Ea, Plain, Size};
+use mb_operands::{finish_with, with_low};
+use mb_port::{Port, Space};
+use mb_writes::Ended;
+
+/// The bits of the condition codes.
+const CODES: u32 = 0x1F;
+
+/// CLR: 0 is moved to the operand, which is not read.
+#[tactic(auto, unfolding(mb_meaning::specs::Unary::clr_of))]
+pub(crate) fn clear<P: Port>(
+    size: Size,
+    ea: &Ea,
+    at: u32,
+    space: Space,
+    plain: &mut Plain,
+    port: &mut P,
+) -> Result<(), Ended>
+    requires { IsEa size ea.now }
+    ensures means { run P.bus (clr_of size ea.now at space plain.old) (P.world port.old)
+        ≡ (carried_by result plain.new, P.world port.new) }
+    ensures rest { P.rest port.new ≡ P.rest port.old }
+{
+    let mut next = *plain;
+    let target = match resolve(ea, size, &mut next, at.wrapping_add(2), space, port) {
+        Ok(target) => target,
+        Err(refused) => return Err(Ended::ReadFault(refused)),
+    };
+    next.ccr = logic(LogicKind::Pass, size, 0, 0, next.ccr).ccr;
+    *plain = next;
+    finish_with(target, size, 0, space, plain, port)
+}
+
+/// Makes these the low bytes of a data register, and the condition codes.
+#[inline(always)]
+pub(crate) fn put_in_register(register: u8, size: Size, flagged: Flagged, plain: &mut Plain)
+    requires { register < 8 }
+    ensures { plain.new ≡ in_register register size flagged plain.old }
+{
+    let n = register as usize;
+    plain.d[n] = with_low(size, plain.d[n], flagged.value);
+    plain.ccr = flagged.ccr;
+}
+
+/// EXT and EXTB.
+#[inline(always)]
+#[tactic(auto, unfolding(mb_meaning::specs::Unary::ext_of))]
+pub(crate) fn extend_register(from: Size, to: Size, register: u8, plain: &mut Plain)
+    requires { register < 8 }
+    ensures { plain.new ≡ ext_of from to register plain.old }
+{
+    let extended = extend(from, to, plain.d[register as usize], plain.ccr);
+    put_in_register(register, to, extended, plain);
+}
+
+/// ORI, ANDI and EORI to CCR.
+#[inline(always)]
+#[tactic(auto, unfolding(mb_meaning::specs::Unary::ccr_by))]
+pub(crate) fn combine_with_ccr(kind: LogicKind, word: u16, plain: &mut Plain)
+    ensures { plain.new ≡ ccr_by kind word plain.old }
+{
+    let before = plain.ccr;
+    let combined = logic(kind, Size::Byte, u32::from(word), u32::from(before), before);
+    plain.ccr = (combined.value & CODES) as u8;
+}

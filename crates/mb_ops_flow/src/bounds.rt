@@ -1,0 +1,118 @@
+//! CHK and CHK2.
+
+ghost use Rattle.std.specs.Prelude.{◌≡◌, ◌<◌};
+ghost use Rattle.mb_port.specs.Routine.{run};
+ghost use Rattle.mb_instr.specs.Operands.{IsEa};
+ghost use Rattle.mb_alu.specs.Signs.{signed_of};
+ghost use Rattle.mb_meaning.specs.Ends.{performed_by};
+ghost use Rattle.mb_meaning.specs.Bounds.{checked, chk_of, checked_carry, chk2_of};
+
+use mb_alu::Conditions;
+use mb_instr::{Ea, Plain, Size};
+use mb_operands::{compare_bounds, fetch_operand};
+use mb_port::{Port, Space};
+use mb_writes::Ended;
+
+/// The vector of a value out of bounds.
+const OUT_OF_BOUNDS: u8 = 6;
+
+/// The signed value of the low bytes that count.
+#[inline(always)]
+fn signed(size: Size, value: u32) -> i64
+    ensures { result ≡ signed_of size value }
+{
+    let low = i64::from(size.low(value));
+    match size {
+        Size::Byte if low >= 0x80 => low - 0x100,
+        Size::Word if low >= 0x8000 => low - 0x1_0000,
+        Size::Long if low >= 0x8000_0000 => low - 0x1_0000_0000,
+        Size::Byte | Size::Word | Size::Long => low,
+    }
+}
+
+/// A value below 0 or above the bound traps; then N says whether it is below 0, and the other condition codes stay.
+#[inline(always)]
+#[tactic(auto, unfolding(mb_meaning::specs::Bounds::checked))]
+fn check_bound(size: Size, bound: u32, value: u32, plain: &mut Plain) -> Result<bool, Ended>
+    ensures { performed_by result plain.new ≡ checked size bound value plain.old }
+{
+    let bound = signed(size, bound);
+    let value = signed(size, value);
+    if value < 0 || bound < value {
+        let codes = Conditions {
+            n: value < 0,
+            ..Conditions::of(plain.ccr)
+        };
+        plain.ccr = codes.ccr();
+        Err(Ended::Trap(OUT_OF_BOUNDS))
+    } else {
+        Ok(false)
+    }
+}
+
+/// CHK.
+#[inline(always)]
+#[tactic(auto, unfolding(mb_meaning::specs::Bounds::chk_of))]
+pub fn check<P: Port>(
+    register: u8,
+    size: Size,
+    ea: &Ea,
+    at: u32,
+    space: Space,
+    plain: &mut Plain,
+    port: &mut P,
+) -> Result<bool, Ended>
+    requires register { register < 8 }
+    requires operand { IsEa size ea.now }
+    ensures means { run P.bus (chk_of register size ea.now at space plain.old) (P.world port.old)
+        ≡ (performed_by result plain.new, P.world port.new) }
+    ensures rest { P.rest port.new ≡ P.rest port.old }
+{
+    let mut next = *plain;
+    match fetch_operand(size, ea, at.wrapping_add(2), space, &mut next, port) {
+        Ok(bound) => {
+            *plain = next;
+            check_bound(size, bound.value, plain.d[register as usize], plain)
+        }
+        Err(refused) => Err(Ended::ReadFault(refused)),
+    }
+}
+
+/// A value out of bounds, which C says, traps.
+#[inline(always)]
+#[tactic(auto, unfolding(mb_meaning::specs::Bounds::checked_carry))]
+fn check_carry(plain: &Plain) -> Result<bool, Ended>
+    ensures { performed_by result plain.now ≡ checked_carry plain.now }
+{
+    if Conditions::of(plain.ccr).c {
+        Err(Ended::Trap(OUT_OF_BOUNDS))
+    } else {
+        Ok(false)
+    }
+}
+
+/// CHK2; the word says which register is compared.
+#[inline(always)]
+#[tactic(auto, unfolding(mb_meaning::specs::Bounds::chk2_of))]
+pub fn check_bounds<P: Port>(
+    size: Size,
+    ea: &Ea,
+    word: u16,
+    at: u32,
+    space: Space,
+    plain: &mut Plain,
+    port: &mut P,
+) -> Result<bool, Ended>
+    requires { IsEa size ea.now }
+    ensures means { run P.bus (chk2_of size ea.now word at space plain.old) (P.world port.old)
+        ≡ (performed_by result plain.new, P.world port.new) }
+    ensures rest { P.rest port.new ≡ P.rest port.old }
+{
+    match compare_bounds(size, ea, word, at, space, plain, port) {
+        Ok(ccr) => {
+            plain.ccr = ccr;
+            check_carry(plain)
+        }
+        Err(refused) => Err(Ended::ReadFault(refused)),
+    }
+}

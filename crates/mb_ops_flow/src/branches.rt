@@ -1,0 +1,112 @@
+//! BRA, BSR and Bcc.
+
+ghost use Rattle.std.specs.Prelude.{◌≡◌, ◌<◌, ◌^◌};
+ghost use Rattle.mb_port.specs.Routine.{run};
+ghost use Rattle.mb_meaning.specs.Ends.{performed_by};
+ghost use Rattle.mb_meaning.specs.Flow.{displacement_of, target_of, is_call, call_of, branched, branch_of};
+
+use mb_instr::{Branch, Condition, Plain, Size};
+use mb_operands::{is_met, push};
+use mb_port::{Port, Space};
+use mb_writes::Ended;
+
+/// A displacement as a signed long.
+#[inline(always)]
+fn displacement(branch: Branch) -> u32
+    ensures { result ≡ displacement_of branch }
+{
+    match branch {
+        Branch::Byte(byte) => Size::Byte.sign_extend(u32::from(byte)),
+        Branch::Word(word) => Size::Word.sign_extend(u32::from(word)),
+        Branch::Long(long) => long,
+    }
+}
+
+/// Where a branch at `at` goes.
+#[inline(always)]
+pub(crate) fn target(at: u32, branch: Branch) -> u32
+    ensures { result ≡ target_of at branch }
+{
+    at.wrapping_add(2).wrapping_add(displacement(branch))
+}
+
+/// Whether it is the condition F, which BSR has in a branch.
+#[inline(always)]
+fn is_call(condition: Condition) -> bool
+    ensures { result ≡ is_call condition }
+{
+    match condition {
+        Condition::False => true,
+        Condition::True
+        | Condition::High
+        | Condition::LowOrSame
+        | Condition::CarryClear
+        | Condition::CarrySet
+        | Condition::NotEqual
+        | Condition::Equal
+        | Condition::OverflowClear
+        | Condition::OverflowSet
+        | Condition::Plus
+        | Condition::Minus
+        | Condition::GreaterOrEqual
+        | Condition::LessThan
+        | Condition::GreaterThan
+        | Condition::LessOrEqual => false,
+    }
+}
+
+/// Pushes the next instruction's address and goes to the target.
+#[inline(always)]
+#[tactic(auto, unfolding(mb_meaning::specs::Flow::call_of))]
+pub(crate) fn call<P: Port>(
+    target: u32,
+    space: Space,
+    plain: &mut Plain,
+    port: &mut P,
+) -> Result<bool, Ended>
+    ensures means { run P.bus (call_of target space plain.old) (P.world port.old)
+        ≡ (performed_by result plain.new, P.world port.new) }
+    ensures rest { P.rest port.new ≡ P.rest port.old }
+{
+    let next = plain.pc;
+    plain.a[7] = plain.a[7].wrapping_sub(4);
+    plain.pc = target;
+    push(next, plain.a[7], space, plain, port)?;
+    Ok(true)
+}
+
+/// Goes to the target where the condition is met. The answer is whether it does.
+#[inline(always)]
+#[tactic(auto, unfolding(mb_meaning::specs::Flow::branched))]
+fn go_if_met(condition: Condition, target: u32, plain: &mut Plain) -> bool
+    ensures { performed_by (Ok result) plain.new ≡ branched condition target plain.old }
+{
+    let met = is_met(condition, plain.ccr);
+    if met {
+        plain.pc = target;
+    }
+    met
+}
+
+/// Bcc, with BRA for the condition T and BSR for F. The answer is whether it changed the flow of control.
+#[inline(always)]
+#[tactic(auto, unfolding(mb_meaning::specs::Flow::branch_of))]
+pub fn branch<P: Port>(
+    condition: Condition,
+    branch: Branch,
+    at: u32,
+    space: Space,
+    plain: &mut Plain,
+    port: &mut P,
+) -> Result<bool, Ended>
+    ensures means { run P.bus (branch_of condition branch at space plain.old) (P.world port.old)
+        ≡ (performed_by result plain.new, P.world port.new) }
+    ensures rest { P.rest port.new ≡ P.rest port.old }
+{
+    let target = target(at, branch);
+    if is_call(condition) {
+        call(target, space, plain, port)
+    } else {
+        Ok(go_if_met(condition, target, plain))
+    }
+}

@@ -1,0 +1,58 @@
+//! JMP and JSR.
+
+ghost use Rattle.std.specs.Prelude.{◌≡◌};
+ghost use Rattle.mb_port.specs.Routine.{run};
+ghost use Rattle.mb_instr.specs.Operands.{IsEa};
+ghost use Rattle.mb_meaning.specs.Ends.{performed_by};
+ghost use Rattle.mb_meaning.specs.Flow.{jmp_of, jsr_of};
+
+use crate::branches::call;
+use mb_instr::{Ea, Plain, Size};
+use mb_operands::find_address;
+use mb_port::{Port, Space};
+use mb_writes::Ended;
+
+/// JMP: to the address of the operand.
+#[inline(always)]
+#[tactic(auto, unfolding(mb_meaning::specs::Flow::jmp_of))]
+pub fn jump<P: Port>(
+    ea: &Ea,
+    at: u32,
+    space: Space,
+    plain: &mut Plain,
+    port: &mut P,
+) -> Result<bool, Ended>
+    requires { IsEa Size.Long ea.now }
+    ensures means { run P.bus (jmp_of ea.now at space plain.old) (P.world port.old)
+        ≡ (performed_by result plain.new, P.world port.new) }
+    ensures rest { P.rest port.new ≡ P.rest port.old }
+{
+    match find_address(Size::Long, ea, at.wrapping_add(2), space, plain, port) {
+        Ok(target) => {
+            plain.pc = target;
+            Ok(true)
+        }
+        Err(refused) => Err(Ended::ReadFault(refused)),
+    }
+}
+
+/// JSR: the address is formed, then the next instruction's is pushed.
+#[inline(always)]
+#[tactic(auto, unfolding(mb_meaning::specs::Flow::jsr_of))]
+pub fn jump_to_subroutine<P: Port>(
+    ea: &Ea,
+    at: u32,
+    space: Space,
+    plain: &mut Plain,
+    port: &mut P,
+) -> Result<bool, Ended>
+    requires { IsEa Size.Long ea.now }
+    ensures means { run P.bus (jsr_of ea.now at space plain.old) (P.world port.old)
+        ≡ (performed_by result plain.new, P.world port.new) }
+    ensures rest { P.rest port.new ≡ P.rest port.old }
+{
+    match find_address(Size::Long, ea, at.wrapping_add(2), space, plain, port) {
+        Ok(target) => call(target, space, plain, port),
+        Err(refused) => Err(Ended::ReadFault(refused)),
+    }
+}

@@ -1,0 +1,14 @@
+//! The instructions that go elsewhere, over any bus, one small function a row.
+//!
+//! Each function does what its routine of `mb_meaning` does, whatever the bus.
+#![tactic(auto)]
+
+mod bounds;
+mod branches;
+mod jumps;
+mod loops;
+mod performing;
+mod returns;
+mod traps;
+
+pub use performing::perform_flow;

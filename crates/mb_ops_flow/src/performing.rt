@@ -1,0 +1,79 @@
+//! Instructions that go elsewhere, each by its row.
+
+ghost use Rattle.std.specs.Prelude.{◌≡◌};
+ghost use Rattle.mb_port.specs.Routine.{run};
+ghost use Rattle.mb_instr.specs.Codes.{IsInstr};
+ghost use Rattle.mb_instr.specs.declared.instruction.Instr.TheVariants as instr;
+ghost use Rattle.mb_meaning.specs.Ends.{closing, performed_by};
+ghost use Rattle.mb_meaning.specs.Step.{perform_flow_of};
+
+use crate::bounds::{check, check_bounds};
+use crate::branches::branch;
+use crate::jumps::{jump, jump_to_subroutine};
+use crate::loops::loop_unless;
+use crate::returns::{return_and_deallocate, return_and_restore, return_from_subroutine};
+use crate::traps::{trap, trap_if, trap_on_overflow};
+use mb_instr::{Flow, Plain};
+use mb_port::{Port, Space};
+use mb_writes::Ended;
+
+/// Carries out the instruction by its row. The answer is whether it changed the flow of control, or how it ended
+/// otherwise.
+#[inline(always)]
+#[tactic(auto, unfolding(mb_meaning::specs::Step::perform_flow_of))]
+fn carry_out<P: Port>(
+    instruction: &Flow,
+    at: u32,
+    space: Space,
+    plain: &mut Plain,
+    port: &mut P,
+) -> Result<bool, Ended>
+    requires { IsInstr (instr.Flow instruction.now) }
+    ensures means { run P.bus (perform_flow_of instruction.now at space plain.old) (P.world port.old)
+        ≡ (performed_by result plain.new, P.world port.new) }
+    ensures rest { P.rest port.new ≡ P.rest port.old }
+{
+    match instruction {
+        Flow::Nop => Ok(false),
+        Flow::Bcc {
+            condition,
+            displacement,
+        } => branch(*condition, *displacement, at, space, plain, port),
+        Flow::Chk { register, size, ea } => check(*register, *size, ea, at, space, plain, port),
+        Flow::Chk2 { size, ea, word } => check_bounds(*size, ea, *word, at, space, plain, port),
+        Flow::Dbcc {
+            condition,
+            register,
+            displacement,
+        } => Ok(loop_unless(*condition, *register, *displacement, at, plain)),
+        Flow::Jmp { ea } => jump(ea, at, space, plain, port),
+        Flow::Jsr { ea } => jump_to_subroutine(ea, at, space, plain, port),
+        Flow::Rtd { displacement } => return_and_deallocate(*displacement, space, plain, port),
+        Flow::Rtr => return_and_restore(space, plain, port),
+        Flow::Rts => return_from_subroutine(space, plain, port),
+        Flow::Trap { number } => trap(*number, plain),
+        Flow::Trapcc { condition, .. } => trap_if(*condition, plain),
+        Flow::Trapv => trap_on_overflow(plain),
+    }
+}
+
+/// Carries out an instruction that goes elsewhere, which stands at `at`. PC is past its words already. All
+/// accesses are made in `space`.
+#[inline(always)]
+pub fn perform_flow<P: Port>(
+    instruction: &Flow,
+    at: u32,
+    space: Space,
+    plain: &mut Plain,
+    port: &mut P,
+) -> Ended
+    requires { IsInstr (instr.Flow instruction.now) }
+    ensures means { run P.bus (closing (perform_flow_of instruction.now at space plain.old)) (P.world port.old)
+        ≡ ((result, plain.new), P.world port.new) }
+    ensures rest { P.rest port.new ≡ P.rest port.old }
+{
+    match carry_out(instruction, at, space, plain, port) {
+        Ok(flow) => Ended::Done { flow },
+        Err(ended) => ended,
+    }
+}

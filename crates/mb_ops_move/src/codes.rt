@@ -1,0 +1,98 @@
+//! MOVE to and from CCR, and Scc.
+
+ghost use Rattle.std.specs.Prelude.{◌≡◌, ◌<◌, ◌^◌};
+ghost use Rattle.mb_port.specs.Routine.{run};
+ghost use Rattle.mb_instr.specs.Operands.{IsEa};
+ghost use Rattle.mb_meaning.specs.Moves.{to_ccr_of, from_ccr_of, byte_of, scc_of};
+ghost use Rattle.mb_meaning.specs.Ends.{carried_by};
+
+use mb_ea::resolve;
+use mb_instr::{Condition, Ea, Plain, Size};
+use mb_operands::{fetch_operand, finish_with, is_met};
+use mb_port::{Port, Space};
+use mb_writes::Ended;
+
+/// MOVE to CCR: a word is read, and its low five bits are the condition codes.
+#[inline(always)]
+#[tactic(auto, unfolding(mb_meaning::specs::Moves::to_ccr_of))]
+pub fn move_to_ccr<P: Port>(
+    ea: &Ea,
+    at: u32,
+    space: Space,
+    plain: &mut Plain,
+    port: &mut P,
+) -> Result<(), Ended>
+    requires { IsEa Size.Word ea.now }
+    ensures means { run P.bus (to_ccr_of ea.now at space plain.old) (P.world port.old)
+        ≡ (carried_by result plain.new, P.world port.new) }
+    ensures rest { P.rest port.new ≡ P.rest port.old }
+{
+    let mut next = *plain;
+    match fetch_operand(Size::Word, ea, at.wrapping_add(2), space, &mut next, port) {
+        Ok(operand) => {
+            next.ccr = (operand.value % 32) as u8;
+            *plain = next;
+            Ok(())
+        }
+        Err(refused) => Err(Ended::ReadFault(refused)),
+    }
+}
+
+/// MOVE from CCR: a word with X, N, Z, V and C in bits 4 to 0. The destination is not read.
+#[inline(always)]
+#[tactic(auto, unfolding(mb_meaning::specs::Moves::from_ccr_of))]
+pub fn move_from_ccr<P: Port>(
+    ea: &Ea,
+    at: u32,
+    space: Space,
+    plain: &mut Plain,
+    port: &mut P,
+) -> Result<(), Ended>
+    requires { IsEa Size.Word ea.now }
+    ensures means { run P.bus (from_ccr_of ea.now at space plain.old) (P.world port.old)
+        ≡ (carried_by result plain.new, P.world port.new) }
+    ensures rest { P.rest port.new ≡ P.rest port.old }
+{
+    let mut next = *plain;
+    let target = match resolve(ea, Size::Word, &mut next, at.wrapping_add(2), space, port) {
+        Ok(target) => target,
+        Err(refused) => return Err(Ended::ReadFault(refused)),
+    };
+    let codes = u32::from(plain.ccr % 32);
+    *plain = next;
+    finish_with(target, Size::Word, codes, space, plain, port)
+}
+
+/// A byte of ones, or of zeros.
+#[inline(always)]
+fn byte_of(met: bool) -> u32
+    ensures { result ≡ byte_of met }
+{
+    if met { 0xff } else { 0 }
+}
+
+/// Scc: ones where the condition is met, else zeros. The destination is not read.
+#[inline(always)]
+#[tactic(auto, unfolding(mb_meaning::specs::Moves::scc_of))]
+pub fn set_by_condition<P: Port>(
+    condition: Condition,
+    ea: &Ea,
+    at: u32,
+    space: Space,
+    plain: &mut Plain,
+    port: &mut P,
+) -> Result<(), Ended>
+    requires { IsEa Size.Byte ea.now }
+    ensures means { run P.bus (scc_of condition ea.now at space plain.old) (P.world port.old)
+        ≡ (carried_by result plain.new, P.world port.new) }
+    ensures rest { P.rest port.new ≡ P.rest port.old }
+{
+    let mut next = *plain;
+    let target = match resolve(ea, Size::Byte, &mut next, at.wrapping_add(2), space, port) {
+        Ok(target) => target,
+        Err(refused) => return Err(Ended::ReadFault(refused)),
+    };
+    let byte = byte_of(is_met(condition, plain.ccr));
+    *plain = next;
+    finish_with(target, Size::Byte, byte, space, plain, port)
+}

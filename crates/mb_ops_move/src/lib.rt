@@ -1,0 +1,15 @@
+//! The instructions that move, over any bus, one small function a row.
+//!
+//! Each function does what its routine of `mb_meaning` does, whatever the bus.
+#![tactic(auto)]
+
+mod codes;
+mod lines;
+mod movem;
+mod moves;
+mod performing;
+mod peripheral;
+mod registers;
+mod stack;
+
+pub use performing::perform_move;

@@ -1,0 +1,135 @@
+//! MOVE16.
+
+ghost use Rattle.std.specs.Prelude.{◌≡◌, ◌<◌, ◌%◌};
+ghost use Rattle.mb_port.specs.Routine.{run};
+ghost use Rattle.mb_meaning.specs.Ends.{carried_by};
+ghost use Rattle.mb_meaning.specs.Lines.{line_at, line_moved, past_line, past_lines, destination_in};
+ghost use Rattle.mb_meaning.specs.Lines.{move16_absolute_of, move16_of};
+
+use mb_ea::ReadFault;
+use mb_instr::{LineMove, Plain};
+use mb_port::{Port, Space};
+use mb_writes::Ended;
+
+/// How many bytes a line has.
+const LINE: u32 = 16;
+
+/// The line that has an address.
+#[inline(always)]
+fn line_at(address: u32) -> u32
+    ensures value { result ≡ line_at address }
+    ensures aligned { result % 16 ≡ 0 }
+{
+    address / LINE * LINE
+}
+
+/// Reads a line, and then writes it. The registers after the instruction are `after`.
+#[inline(always)]
+#[tactic(auto, unfolding(mb_meaning::specs::Lines::line_moved))]
+fn move_line<P: Port>(
+    from: u32,
+    to: u32,
+    after: &Plain,
+    space: Space,
+    plain: &mut Plain,
+    port: &mut P,
+) -> Result<(), Ended>
+    ensures means { run P.bus (line_moved from to after.now space plain.old) (P.world port.old)
+        ≡ (carried_by result plain.new, P.world port.new) }
+    ensures rest { P.rest port.new ≡ P.rest port.old }
+{
+    let first = line_at(from);
+    let line = match port.read_line(space, first) {
+        Ok(line) => line,
+        Err(fault) => return Err(Ended::ReadFault(ReadFault { fault, first })),
+    };
+    *plain = *after;
+    match port.write_line(space, line_at(to), line) {
+        Ok(()) => Ok(()),
+        Err(fault) => Err(Ended::LineFault { fault, line }),
+    }
+}
+
+/// Steps an address register past a line.
+#[inline(always)]
+fn step_past_line(register: u8, plain: &mut Plain)
+    requires { register < 8 }
+    ensures { plain.new ≡ past_line register plain.old }
+{
+    let register = register as usize;
+    plain.a[register] = plain.a[register].wrapping_add(LINE);
+}
+
+/// MOVE16 between `(An)+` or `(An)` and an absolute address.
+#[tactic(auto, unfolding(mb_meaning::specs::Lines::move16_absolute_of))]
+pub fn move_line_absolute<P: Port>(
+    kind: LineMove,
+    register: u8,
+    place: u32,
+    space: Space,
+    plain: &mut Plain,
+    port: &mut P,
+) -> Result<(), Ended>
+    requires { register < 8 }
+    ensures means { run P.bus (move16_absolute_of kind register place space plain.old) (P.world port.old)
+        ≡ (carried_by result plain.new, P.world port.new) }
+    ensures rest { P.rest port.new ≡ P.rest port.old }
+{
+    let address = plain.a[register as usize];
+    let mut after = *plain;
+    match kind {
+        LineMove::PostToAbsolute => {
+            step_past_line(register, &mut after);
+            move_line(address, place, &after, space, plain, port)
+        }
+        LineMove::AbsoluteToPost => {
+            step_past_line(register, &mut after);
+            move_line(place, address, &after, space, plain, port)
+        }
+        LineMove::IndirectToAbsolute => move_line(address, place, &after, space, plain, port),
+        LineMove::AbsoluteToIndirect => move_line(place, address, &after, space, plain, port),
+    }
+}
+
+/// Steps both registers past a line; one that is both steps once.
+#[inline(always)]
+fn step_past_lines(x: u8, y: u8, plain: &mut Plain)
+    requires { (x < 8) × (y < 8) }
+    ensures { plain.new ≡ past_lines x y plain.old }
+{
+    step_past_line(x, plain);
+    if x != y {
+        step_past_line(y, plain);
+    }
+}
+
+/// The register of the destination, in bits 14 to 12 of the word.
+#[inline(always)]
+fn destination(word: u16) -> u8
+    ensures value { result ≡ destination_in word }
+    ensures register { result < 8 }
+{
+    (word >> 12 & 7) as u8
+}
+
+/// MOVE16 `(Ax)+,(Ay)+`.
+#[tactic(auto, unfolding(mb_meaning::specs::Lines::move16_of))]
+pub fn move_line_post<P: Port>(
+    x: u8,
+    word: u16,
+    space: Space,
+    plain: &mut Plain,
+    port: &mut P,
+) -> Result<(), Ended>
+    requires { x < 8 }
+    ensures means { run P.bus (move16_of x word space plain.old) (P.world port.old)
+        ≡ (carried_by result plain.new, P.world port.new) }
+    ensures rest { P.rest port.new ≡ P.rest port.old }
+{
+    let y = destination(word);
+    let from = plain.a[x as usize];
+    let to = plain.a[y as usize];
+    let mut after = *plain;
+    step_past_lines(x, y, &mut after);
+    move_line(from, to, &after, space, plain, port)
+}

@@ -1,0 +1,69 @@
+//! MOVEM.
+
+ghost use Rattle.std.specs.Prelude.{◌≡◌, ◌<◌, ◌^◌};
+ghost use Rattle.mb_port.specs.Routine.{run};
+ghost use Rattle.mb_instr.specs.Operands.{IsEa};
+ghost use Rattle.mb_writes.specs.Transfers.{IsMode};
+ghost use Rattle.mb_meaning.specs.Ends.{carried_by};
+ghost use Rattle.mb_meaning.specs.Moves.{movem_mode, movem_of};
+
+use mb_instr::{Ea, Plain, Size};
+use mb_operands::find_address;
+use mb_port::{Port, Space};
+use mb_writes::{Ended, Movem, MovemMode, transfer};
+
+/// What becomes of the address register of a MOVEM's operand.
+fn mode(size: Size, ea: &Ea) -> MovemMode
+    requires { IsEa size ea.now }
+    ensures value { result ≡ movem_mode ea.now }
+    ensures range { IsMode result }
+{
+    match *ea {
+        Ea::Post(n) => MovemMode::Post(n),
+        Ea::Pre(n) => MovemMode::Pre(n),
+        Ea::Dn(_)
+        | Ea::An(_)
+        | Ea::Ind(_)
+        | Ea::Disp(_, _)
+        | Ea::Index(_, _)
+        | Ea::AbsW(_)
+        | Ea::AbsL(_)
+        | Ea::PcDisp(_)
+        | Ea::PcIndex(_)
+        | Ea::Imm(_) => MovemMode::Control,
+    }
+}
+
+/// MOVEM: the transfers begin where the operand stands; its words are behind the mask.
+#[tactic(auto, unfolding(mb_meaning::specs::Moves::movem_of))]
+pub fn movem<P: Port>(
+    is_load: bool,
+    size: Size,
+    ea: &Ea,
+    mask: u16,
+    at: u32,
+    space: Space,
+    plain: &mut Plain,
+    port: &mut P,
+) -> Result<(), Ended>
+    requires { IsEa size ea.now }
+    ensures means { run P.bus (movem_of is_load size ea.now mask at space plain.old) (P.world port.old)
+        ≡ (carried_by result plain.new, P.world port.new) }
+    ensures rest { P.rest port.new ≡ P.rest port.old }
+{
+    let word_at = at.wrapping_add(2).wrapping_add(2);
+    let place = match find_address(size, ea, word_at, space, plain, port) {
+        Ok(place) => place,
+        Err(refused) => return Err(Ended::ReadFault(refused)),
+    };
+    let movem = Movem {
+        is_load,
+        size,
+        mode: mode(size, ea),
+        mask,
+    };
+    match transfer(&movem, place, 0, plain, space, port) {
+        Ok(()) => Ok(()),
+        Err(refused) => Err(Ended::Movem(refused)),
+    }
+}

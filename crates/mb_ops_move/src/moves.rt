@@ -1,0 +1,115 @@
+//! MOVEQ, MOVE, MOVEA and LEA.
+
+ghost use Rattle.std.specs.Prelude.{◌≡◌, ◌<◌};
+ghost use Rattle.mb_port.specs.Routine.{run};
+ghost use Rattle.mb_instr.specs.Operands.{IsEa};
+ghost use Rattle.mb_meaning.specs.Moves.{moveq_of, move_of, movea_of, lea_of};
+ghost use Rattle.mb_meaning.specs.Ends.{carried_by};
+
+use mb_alu::{LogicKind, extend, logic};
+use mb_ea::resolve;
+use mb_instr::{Ea, Plain, Size};
+use mb_operands::{behind, fetch_operand, find_address, finish_with};
+use mb_port::{Port, Space};
+use mb_writes::Ended;
+
+/// MOVEQ: the byte, sign-extended.
+#[inline(always)]
+#[tactic(auto, unfolding(mb_meaning::specs::Moves::moveq_of))]
+pub fn moveq(register: u8, immediate: u8, plain: &mut Plain)
+    requires { register < 8 }
+    ensures { plain.new ≡ moveq_of register immediate plain.old }
+{
+    let extended = extend(Size::Byte, Size::Long, u32::from(immediate), plain.ccr);
+    plain.d[register as usize] = extended.value;
+    plain.ccr = extended.ccr;
+}
+
+/// MOVE: the source is read before the destination's address is formed, and the pieces are written last.
+#[inline(always)]
+#[tactic(auto, unfolding(mb_meaning::specs::Moves::move_of))]
+pub fn move_operand<P: Port>(
+    size: Size,
+    destination: &Ea,
+    from: &Ea,
+    at: u32,
+    space: Space,
+    plain: &mut Plain,
+    port: &mut P,
+) -> Result<(), Ended>
+    requires destination { IsEa size destination.now }
+    requires source { IsEa size from.now }
+    ensures means { run P.bus (move_of size destination.now from.now at space plain.old) (P.world port.old)
+        ≡ (carried_by result plain.new, P.world port.new) }
+    ensures rest { P.rest port.new ≡ P.rest port.old }
+{
+    let mut next = *plain;
+    let word_at = at.wrapping_add(2);
+    let source = match fetch_operand(size, from, word_at, space, &mut next, port) {
+        Ok(source) => source,
+        Err(refused) => return Err(Ended::ReadFault(refused)),
+    };
+    let target_word_at = behind(size, from, word_at);
+    let target = match resolve(destination, size, &mut next, target_word_at, space, port) {
+        Ok(target) => target,
+        Err(refused) => return Err(Ended::ReadFault(refused)),
+    };
+    *plain = next;
+    plain.ccr = logic(LogicKind::Pass, size, source.value, 0, plain.ccr).ccr;
+    finish_with(target, size, source.value, space, plain, port)
+}
+
+/// MOVEA: the source, read at its size, goes to the whole register with its sign.
+#[inline(always)]
+#[tactic(auto, unfolding(mb_meaning::specs::Moves::movea_of))]
+pub fn move_address<P: Port>(
+    size: Size,
+    register: u8,
+    from: &Ea,
+    at: u32,
+    space: Space,
+    plain: &mut Plain,
+    port: &mut P,
+) -> Result<(), Ended>
+    requires source { IsEa size from.now }
+    requires register { register < 8 }
+    ensures means { run P.bus (movea_of size register from.now at space plain.old) (P.world port.old)
+        ≡ (carried_by result plain.new, P.world port.new) }
+    ensures rest { P.rest port.new ≡ P.rest port.old }
+{
+    let mut next = *plain;
+    match fetch_operand(size, from, at.wrapping_add(2), space, &mut next, port) {
+        Ok(source) => {
+            next.a[register as usize] = size.sign_extend(source.value);
+            *plain = next;
+            Ok(())
+        }
+        Err(refused) => Err(Ended::ReadFault(refused)),
+    }
+}
+
+/// LEA: the address of an operand, which is not read.
+#[inline(always)]
+#[tactic(auto, unfolding(mb_meaning::specs::Moves::lea_of))]
+pub fn load_address<P: Port>(
+    register: u8,
+    ea: &Ea,
+    at: u32,
+    space: Space,
+    plain: &mut Plain,
+    port: &mut P,
+) -> Result<(), Ended>
+    requires operand { IsEa Size.Long ea.now }
+    requires register { register < 8 }
+    ensures means { run P.bus (lea_of register ea.now at space plain.old) (P.world port.old)
+        ≡ (carried_by result plain.new, P.world port.new) }
+    ensures rest { P.rest port.new ≡ P.rest port.old }
+{
+    match find_address(Size::Long, ea, at.wrapping_add(2), space, plain, port) {
+        Ok(place) => {
+            plain.a[register as usize] = place;
+            Ok(())
+        }
+        Err(refused) => Err(Ended::ReadFault(refused)),
+    }
+}

@@ -1,0 +1,121 @@
+//! Instructions that move, each by its row.
+
+ghost use Rattle.std.specs.Prelude.{◌≡◌};
+ghost use Rattle.mb_port.specs.Routine.{run};
+ghost use Rattle.mb_instr.specs.Codes.{IsInstr};
+ghost use Rattle.mb_instr.specs.declared.instruction.Instr.TheVariants as instr;
+ghost use Rattle.mb_meaning.specs.Ends.{closing, carried_by};
+ghost use Rattle.mb_meaning.specs.Step.{perform_move_of};
+
+use crate::codes::{move_from_ccr, move_to_ccr, set_by_condition};
+use crate::lines::{move_line_absolute, move_line_post};
+use crate::movem::movem;
+use crate::moves::{load_address, move_address, move_operand, moveq};
+use crate::peripheral::move_peripheral;
+use crate::registers::{exchange, swap};
+use crate::stack::{link, push_address, unlink};
+use mb_instr::{Move, Plain, Size};
+use mb_port::{Port, Space};
+use mb_writes::Ended;
+
+/// Carries out the instruction by its row. None changes the flow of control.
+#[inline(always)]
+#[tactic(auto, unfolding(mb_meaning::specs::Step::perform_move_of))]
+fn carry_out<P: Port>(
+    instruction: &Move,
+    at: u32,
+    space: Space,
+    plain: &mut Plain,
+    port: &mut P,
+) -> Result<(), Ended>
+    requires { IsInstr (instr.Move instruction.now) }
+    ensures means { run P.bus (perform_move_of instruction.now at space plain.old) (P.world port.old)
+        ≡ (carried_by result plain.new, P.world port.new) }
+    ensures rest { P.rest port.new ≡ P.rest port.old }
+{
+    match instruction {
+        Move::Move {
+            size,
+            destination,
+            source,
+        } => move_operand(*size, destination, source, at, space, plain, port)?,
+        Move::Moveq {
+            register,
+            immediate,
+        } => moveq(*register, *immediate, plain),
+        Move::MovemLoad { size, ea, mask } => {
+            movem(true, *size, ea, *mask, at, space, plain, port)?;
+        }
+        Move::MovemStore { size, ea, mask } => {
+            movem(false, *size, ea, *mask, at, space, plain, port)?;
+        }
+        Move::Movea {
+            size,
+            register,
+            source,
+        } => move_address(*size, *register, source, at, space, plain, port)?,
+        Move::Lea { register, ea } => load_address(*register, ea, at, space, plain, port)?,
+        Move::Exg { x, kind, y } => exchange(*x, *kind, *y, plain),
+        Move::Swap { register } => swap(*register, plain),
+        Move::ToCcr { ea } => move_to_ccr(ea, at, space, plain, port)?,
+        Move::FromCcr { ea } => move_from_ccr(ea, at, space, plain, port)?,
+        Move::Scc { condition, ea } => set_by_condition(*condition, ea, at, space, plain, port)?,
+        Move::Pea { ea } => push_address(ea, at, space, plain, port)?,
+        Move::LinkW {
+            register,
+            displacement,
+        } => {
+            let displacement = Size::Word.sign_extend(u32::from(*displacement));
+            link(*register, displacement, space, plain, port)?;
+        }
+        Move::LinkL {
+            register,
+            displacement,
+        } => link(*register, *displacement, space, plain, port)?,
+        Move::Unlk { register } => unlink(*register, space, plain, port)?,
+        Move::Movep {
+            register,
+            is_store,
+            size,
+            address,
+            displacement,
+        } => move_peripheral(
+            *register,
+            *is_store,
+            *size,
+            *address,
+            *displacement,
+            space,
+            plain,
+            port,
+        )?,
+        Move::Move16Abs {
+            kind,
+            register,
+            address,
+        } => move_line_absolute(*kind, *register, *address, space, plain, port)?,
+        Move::Move16Post { x, word } => move_line_post(*x, *word, space, plain, port)?,
+    }
+    Ok(())
+}
+
+/// Carries out an instruction that moves, which stands at `at`. PC is past its words already. All
+/// accesses are made in `space`.
+#[inline(always)]
+pub fn perform_move<P: Port>(
+    instruction: &Move,
+    at: u32,
+    space: Space,
+    plain: &mut Plain,
+    port: &mut P,
+) -> Ended
+    requires { IsInstr (instr.Move instruction.now) }
+    ensures means { run P.bus (closing (perform_move_of instruction.now at space plain.old)) (P.world port.old)
+        ≡ ((result, plain.new), P.world port.new) }
+    ensures rest { P.rest port.new ≡ P.rest port.old }
+{
+    match carry_out(instruction, at, space, plain, port) {
+        Ok(()) => Ended::Done { flow: false },
+        Err(ended) => ended,
+    }
+}

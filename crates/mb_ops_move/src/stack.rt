@@ -1,0 +1,86 @@
+//! PEA, LINK and UNLK.
+
+ghost use Rattle.std.specs.Prelude.{◌≡◌, ◌<◌};
+ghost use Rattle.mb_port.specs.Routine.{run};
+ghost use Rattle.mb_instr.specs.Operands.{IsEa};
+ghost use Rattle.mb_meaning.specs.Ends.{carried_by};
+ghost use Rattle.mb_meaning.specs.Stack.{pea_of, link_of, unlk_of};
+
+use mb_ea::read_value;
+use mb_instr::{Ea, Plain, Size};
+use mb_operands::{find_address, push};
+use mb_port::{Port, Space};
+use mb_writes::Ended;
+
+/// PEA: the address of an operand is formed, and then pushed.
+#[inline(always)]
+#[tactic(auto, unfolding(mb_meaning::specs::Stack::pea_of))]
+pub fn push_address<P: Port>(
+    ea: &Ea,
+    at: u32,
+    space: Space,
+    plain: &mut Plain,
+    port: &mut P,
+) -> Result<(), Ended>
+    requires { IsEa Size.Long ea.now }
+    ensures means { run P.bus (pea_of ea.now at space plain.old) (P.world port.old)
+        ≡ (carried_by result plain.new, P.world port.new) }
+    ensures rest { P.rest port.new ≡ P.rest port.old }
+{
+    let place = match find_address(Size::Long, ea, at.wrapping_add(2), space, plain, port) {
+        Ok(place) => place,
+        Err(refused) => return Err(Ended::ReadFault(refused)),
+    };
+    plain.a[7] = plain.a[7].wrapping_sub(4);
+    push(place, plain.a[7], space, plain, port)
+}
+
+/// LINK: the register is pushed, A7 itself with its new value, and becomes A7, which then moves by the displacement.
+#[inline(always)]
+#[tactic(auto, unfolding(mb_meaning::specs::Stack::link_of))]
+pub fn link<P: Port>(
+    register: u8,
+    displacement: u32,
+    space: Space,
+    plain: &mut Plain,
+    port: &mut P,
+) -> Result<(), Ended>
+    requires { register < 8 }
+    ensures means { run P.bus (link_of register displacement space plain.old) (P.world port.old)
+        ≡ (carried_by result plain.new, P.world port.new) }
+    ensures rest { P.rest port.new ≡ P.rest port.old }
+{
+    let register = register as usize;
+    let frame = plain.a[7].wrapping_sub(4);
+    plain.a[7] = frame;
+    let pushed = plain.a[register];
+    plain.a[register] = frame;
+    plain.a[7] = frame.wrapping_add(displacement);
+    push(pushed, frame, space, plain, port)
+}
+
+/// UNLK: A7 becomes the register, which gets the long there, and rises. A7 itself becomes the long.
+#[inline(always)]
+#[tactic(auto, unfolding(mb_meaning::specs::Stack::unlk_of))]
+pub fn unlink<P: Port>(
+    register: u8,
+    space: Space,
+    plain: &mut Plain,
+    port: &mut P,
+) -> Result<(), Ended>
+    requires { register < 8 }
+    ensures means { run P.bus (unlk_of register space plain.old) (P.world port.old)
+        ≡ (carried_by result plain.new, P.world port.new) }
+    ensures rest { P.rest port.new ≡ P.rest port.old }
+{
+    let register = register as usize;
+    let frame = plain.a[register];
+    match read_value(space, frame, Size::Long, port) {
+        Ok(value) => {
+            plain.a[7] = frame.wrapping_add(4);
+            plain.a[register] = value;
+            Ok(())
+        }
+        Err(refused) => Err(Ended::ReadFault(refused)),
+    }
+}

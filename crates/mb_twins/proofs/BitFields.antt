@@ -1,0 +1,42 @@
+-- Bit fields.
+use Rattle.std.specs.Prelude.{refl, ℕ, ◌*◌, ◌%◌}
+use Rattle.mb_laws.specs.Twin.{returned}
+use Rattle.mb_laws.specs.Between.{Setting, between}
+use Rattle.mb_laws.proofs.Twinned.{twins_choose}
+use Rattle.mb_instr.specs.declared.size.Size.TheVariants.{Long}
+use Rattle.mb_instr.specs.declared.operand.Ea.{Ea}
+use Rattle.mb_instr.specs.declared.operand.Ea.TheVariants.{Dn}
+use Rattle.mb_instr.specs.declared.kinds.FieldKind.{FieldKind}
+use Rattle.mb_instr.specs.declared.registers.Plain.{Plain}
+use Rattle.mb_instr.specs.Registers.{data_register}
+use Rattle.mb_fields.specs.Fields.{field_of, with_field}
+use Rattle.mb_ea.specs.Addresses.{sum}
+use Rattle.mb_meaning.specs.Operands.{first_word}
+use Rattle.mb_meaning.specs.BitFields.{named_by, offset_of, width_of, is_change, field_after, field_done, bytes_before, bytes_held, field_in_memory, field_row_of}
+use Rattle.mb_twins.specs.Twins.{SameStop, SamePerformed}
+use Rattle.mb_twins.proofs.Parts.{Rows, then_twins, reading_twins, writing_twins}
+use Rattle.mb_twins.proofs.Operands.{address_twins, read_twins, put_twins}
+
+in_memory_twins : (x : Setting) (kind : FieldKind) (word address : ℕ) (p : Plain)
+    → Rows x (field_in_memory kind word address x.here p) (field_in_memory kind word address x.there p)
+unfolding field_in_memory
+in_memory_twins x kind word address p =
+    let offset = offset_of word p in
+    let width = width_of word p in
+    let first = sum address (bytes_before offset) in
+    let held = bytes_held offset width in
+    then_twins x (SameStop x) (reading_twins x p (read_twins x first held)) (λ bytes.
+    let old = field_of bytes (8 * held) (offset % 8) width in
+    let new = field_after kind width old (data_register p (named_by word)) in
+    twins_choose (between x) (SamePerformed x) (is_change kind) _ _ _ _
+    (then_twins x (SameStop x)
+    (writing_twins x (field_done kind word old p) (put_twins x first held (with_field bytes (8 * held) (offset % 8) width new)))
+    (λ done. returned refl))
+    (returned refl))
+
+pub field_row_twins : (x : Setting) (kind : FieldKind) (ea : Ea) (word at : ℕ) (p : Plain)
+    → Rows x (field_row_of kind ea word at x.here p) (field_row_of kind ea word at x.there p)
+unfolding field_row_of
+field_row_twins x kind (Dn n) word at p = returned refl
+field_row_twins x kind ea word at p =
+    then_twins x (SameStop x) (reading_twins x p (address_twins x Long ea (sum (first_word at) 2) p)) (λ address. in_memory_twins x kind word address p)
