@@ -1,0 +1,48 @@
+-- Bit fields.
+use Rattle.std.specs.Prelude.{ℕ, ◌*◌, ◌%◌, false}
+use Rattle.mb_port.specs.declared.types.Space.{Space}
+use Rattle.mb_instr.specs.declared.registers.Plain.{Plain}
+use Rattle.mb_writes.specs.declared.transfers.Movem.{Movem}
+use Rattle.mb_tells.specs.Guarded.{Guarded, Guards}
+use Rattle.mb_tells.specs.Left.{Row}
+use Rattle.mb_tells.specs.Laws.{AreLongs}
+use Rattle.mb_laws.proofs.Told.{tells_choose}
+use Rattle.mb_instr.specs.declared.size.Size.TheVariants.{Long}
+use Rattle.mb_instr.specs.declared.operand.Ea.{Ea}
+use Rattle.mb_instr.specs.declared.operand.Ea.TheVariants.{Dn}
+use Rattle.mb_instr.specs.declared.kinds.FieldKind.{FieldKind}
+use Rattle.mb_instr.specs.Registers.{data_register}
+use Rattle.mb_fields.specs.Fields.{field_of, with_field}
+use Rattle.mb_ea.specs.Addresses.{sum}
+use Rattle.mb_meaning.specs.Ends.{Carried}
+use Rattle.mb_meaning.specs.Operands.{first_word}
+use Rattle.mb_meaning.specs.BitFields.{named_by, offset_of, width_of, is_change, field_after, field_done}
+use Rattle.mb_meaning.specs.BitFields.{bytes_before, bytes_held, field_in_memory, field_row_of}
+use Rattle.mb_tells.proofs.Longs.{sum_long}
+use Rattle.mb_tells.proofs.Ranges.{IsFormed}
+use Rattle.mb_tells.proofs.Parts.{row_reading, row_done, row_writing}
+use Rattle.mb_tells.proofs.Operands.{reading_tells, address_tells, writing_tells}
+
+module _ {S : Type 0} (x : Guarded S) (space : Space) (g : Guards x space) {moves : Movem → Type 0} where
+  in_memory_tells : (kind : FieldKind) (word address : ℕ) (p : Plain) → Row x space p moves (field_in_memory kind word address space p)
+  unfolding field_in_memory
+  in_memory_tells kind word address p =
+      let offset = offset_of word p in
+      let width = width_of word p in
+      let first = sum address (bytes_before offset) in
+      let held = bytes_held offset width in
+      let lt = sum_long address (bytes_before offset) in
+      row_reading x space (reading_tells x space g first held lt) (λ bytes read.
+      let old = field_of bytes (8 * held) (offset % 8) width in
+      let new = field_after kind width old (data_register p (named_by word)) in
+      let done : Carried = record { flow = false; plain = field_done kind word old p } in
+      tells_choose (is_change kind) _ _
+      (λ e. row_writing x space tt (λ written. done) (writing_tells x space g first held (with_field bytes (8 * held) (offset % 8) width new) lt))
+      (λ e. row_done x space done))
+
+  pub field_row_tells : (kind : FieldKind) (ea : Ea) (word at : ℕ) (p : Plain) → IsFormed ea → AreLongs p.a
+      → Row x space p moves (field_row_of kind ea word at space p)
+  unfolding field_row_of
+  field_row_tells kind (Dn n) word at p is longs = row_done x space _
+  field_row_tells kind ea word at p is longs =
+      row_reading x space (address_tells x space g Long ea (sum (first_word at) 2) p is longs) (λ address found. in_memory_tells kind word address p)

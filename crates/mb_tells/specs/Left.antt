@@ -1,0 +1,110 @@
+-- What the end of an instruction says of what was left to do, where one of its calls was refused.
+use Rattle.std.specs.Prelude.{◌≡◌, ◌⊎◌, ℕ, Some, Result, Ok, List, []}
+use Rattle.mb_port.specs.Routine.{Call, Answer, Routine, Return, ◌>>=◌, ◌>>◌, write_line}
+use Rattle.mb_port.specs.declared.types.Space.{Space}
+use Rattle.mb_port.specs.declared.types.Fault.{Fault}
+use Rattle.mb_laws.specs.Until.{first_call}
+use Rattle.mb_laws.specs.Refusal.{IsFault, Fact, Tells}
+use Rattle.mb_laws.specs.Tree.{Tree, Do, tree_of}
+use Rattle.mb_instr.specs.declared.registers.Plain.{Plain}
+use Rattle.mb_frames.specs.declared.pend.Pend.{Pend}
+use Rattle.mb_writes.specs.declared.transfers.Movem.{Movem}
+use Rattle.mb_writes.specs.declared.ends.Ended.{Ended}
+use Rattle.mb_writes.specs.declared.ends.Ended.TheVariants as ended
+use Rattle.mb_writes.specs.declared.ends.WriteFault.{WriteFault}
+use Rattle.mb_writes.specs.declared.ends.MovemFault.{MovemFault}
+use Rattle.mb_writes.specs.Writing.{write_all}
+use Rattle.mb_writes.specs.Moving.{transfer_of}
+use Rattle.mb_meaning.specs.Ends.{Carried, Stopped, Performed, carried, writing, ending}
+use Rattle.mb_meaning.specs.Moves.{transferring}
+use Rattle.mb_tells.specs.Guarded.{Guarded, quiet}
+
+-- The routines make the same calls, whatever is answered, and end alike: they do the same over every bus.
+abbrev pub SameCalls : {A : Type 0} → Routine A → Routine A → Type 0
+SameCalls m n = tree_of m ≡ tree_of n
+
+-- The rest is what comes of the whole behind its first calls, whose answers have this property.
+pub data Resumes {A : Type 0} (P : (c : Call) → Answer c → Type 0) : Tree A → Tree A → Type 0 where
+  here : {whole : Tree A} → Resumes P whole whole
+  later : (c : Call) (answer : Answer c) {next : Answer c → Tree A} {rest : Tree A} → P c answer
+      → Resumes P (next answer) rest → Resumes P (Do c next) rest
+
+-- The fault is what the bus answers to the call that the rest begins with, the refused one.
+abbrev pub Answered : {S A : Type 0} → Guarded S → Routine A → S → Fault → Type 0
+Answered x rest t fault = (c : Call) × (first_call rest ≡ Some c) × IsFault c ((x.bus c t).0) fault
+
+-- what is left where a write was refused: these pieces are written, and the instruction is carried out
+abbrev pub completing : Space → ℕ → List Pend → Carried → Routine Performed
+completing space first pieces done = writing done.plain (write_all space first pieces) >> Return (Ok done)
+
+-- what is left where the write of a line was refused: it is written, and the instruction is carried out
+abbrev pub line_completing : Space → ℕ → List ℕ → Carried → Routine Performed
+line_completing space at line done =
+    ending (λ fault. ended.LineFault fault line) done.plain (write_line space at line) >> Return (Ok done)
+
+-- a MOVEM from a transfer on, whose first one is at `first`
+abbrev pub moving : Movem → ℕ → ℕ → Space → Plain → Routine Performed
+moving m first done space p = transferring (transfer_of m first done space p) >>= λ moved. Return (carried moved)
+
+-- The instruction has written nothing, and its registers are as before: it can begin again.
+abbrev pub Again : {S : Type 0} → Guarded S → Plain → S → Plain → Type 0
+Again x before t after = x.unwritten t × (after ≡ before)
+
+-- The rest is to write the pieces that the fault names, and no more.
+abbrev pub Completes : Space → Routine Performed → WriteFault → Plain → Type 0
+Completes space rest refused after = (done : Carried) × (done.plain ≡ after)
+    × SameCalls rest (completing space refused.first refused.rest.items done)
+
+-- A refused write that names no piece wrote none, and the instruction begins again.
+abbrev pub WriteLeft : {S : Type 0} → Guarded S → Space → Plain → Routine Performed → S → WriteFault → Plain
+    → Type 0
+WriteLeft x space before rest t refused after =
+    (Again x before t after × (refused.rest.items ≡ [])) ⊎ Completes space rest refused after
+
+-- The rest is to write the line that the fault names, and no more.
+abbrev pub CompletesLine : Space → Routine Performed → List ℕ → Plain → Type 0
+CompletesLine space rest line after = (at : ℕ) × (done : Carried) × (done.plain ≡ after)
+    × SameCalls rest (line_completing space at line done)
+
+-- The rest is the MOVEM from the refused transfer on, with the registers that it has now. It begins at the refused
+-- piece of that transfer: the pieces before it stand, so that the transfer can be done again from its first byte.
+abbrev pub Continues : {S : Type 0} → Guarded S → Space → (Movem → Type 0) → Routine Performed → S → MovemFault
+    → Plain → Type 0
+Continues x space moves rest t refused after = (m : Movem) × moves m
+    × Resumes (λ c answer. x.stands c answer t) (tree_of (moving m refused.first refused.done space after))
+    (tree_of rest)
+
+-- What each end says of the rest, for an instruction that began with the registers `before`, and has the registers
+-- `after` now. `moves` says which MOVEM it is. No other end comes of a refused call.
+abbrev pub LeftBy : {S : Type 0} → Guarded S → Space → Plain → (Movem → Type 0) → Routine Performed → S → Ended
+    → Plain → Type 0
+LeftBy x space before moves rest t (ended.Done flow) after = ⊥
+LeftBy x space before moves rest t (ended.Trap vector) after = ⊥
+LeftBy x space before moves rest t (ended.Refused vector) after = ⊥
+LeftBy x space before moves rest t (ended.ReadFault refused) after =
+    Answered x rest t refused.fault × Again x before t after
+LeftBy x space before moves rest t (ended.WriteFault refused) after = Answered x rest t refused.fault
+    × WriteLeft x space before rest t refused after
+LeftBy x space before moves rest t (ended.LineFault fault line) after = Answered x rest t fault
+    × CompletesLine space rest line after
+LeftBy x space before moves rest t (ended.Movem refused) after = Answered x rest t refused.fault
+    × Continues x space moves rest t refused after
+
+abbrev pub Left : {S : Type 0} → Guarded S → Space → Plain → (Movem → Type 0) → Fact S Carried Stopped
+Left x space before moves rest t stop = LeftBy x space before moves rest t stop.ended stop.plain
+
+-- The routine tells this of a refused call. It begins in a state of `before`, and where it answers, of `after`.
+abbrev pub Telling : {S A E : Type 0} → Guarded S → (S → Type 0) → Routine (Result A E) → Fact S A E
+    → (A → S → Type 0) → Type 0
+Telling x before m fact after = Tells x.same x.lawful x.allowed x.bus before m fact after
+
+-- An instruction that began with these registers tells what was left of it, and keeps the invariant.
+abbrev pub Row : {S : Type 0} → Guarded S → Space → Plain → (Movem → Type 0) → Routine Performed → Type 0
+Row x space before moves m = Telling x (quiet x) m (Left x space before moves) (λ done s. x.serving s)
+
+-- The same of a whole attempt: the registers before it are these but for PC, which is past the words of the instruction
+-- where they are fetched.
+abbrev pub Attempt : {S : Type 0} → Guarded S → Space → Plain → (Movem → Type 0) → Routine Performed → Type 0
+Attempt x space p moves m = Telling x (quiet x) m
+    (λ rest t stop. (before : Plain) × (record before { pc = p.pc } ≡ p) × Left x space before moves rest t stop)
+    (λ done s. x.serving s)
