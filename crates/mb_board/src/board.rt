@@ -3,7 +3,7 @@
 ghost use Rattle.std.specs.Prelude.{◌≡◌, ℕ, ◌+◌, ◌^◌, ◌<◌, ◌≤◌, length, replicate, IfOk, OnOk, MatchResult, Some, None};
 ghost use Rattle.mb_model.specs.Seen.{seen_of};
 ghost use Rattle.mb_machine.specs.Memory.{overwritten};
-ghost use Rattle.mb_machine.specs.Machine.{Machine, interrupted, reset_with, stepped, run_of, takes_steps, seen_machine};
+ghost use Rattle.mb_machine.specs.Machine.{Machine, interrupted, reset_with, stepped, run_of, takes_steps, seen_machine, with_ram};
 
 use crate::bus::PlainBus;
 use mb_meaning::StepEnd;
@@ -33,9 +33,7 @@ impl Model for Board {
 
     ghost view = { λ b. record {
       cpu = b.cpu;
-      mmu = b.bus.mmu;
-      ram = b.bus.ram;
-      devices = b.bus.devices;
+      world = b.bus;
       steps = b.steps;
       state = b.state;
     } };
@@ -48,7 +46,7 @@ impl Board {
     pub fn new(alloc: Global, size: u32) -> Result<Board, Memory>
         requires { (8 ≤ size) × (size ≤ 67108864) }
         ensures made { IfOk result (λ board. board ≡ reset_with (replicate size 0)) }
-        ensures ram { IfOk result (λ board. length board.ram ≡ size) }
+        ensures ram { IfOk result (λ board. length board.world.ram ≡ size) }
     {
         let bus = PlainBus::new(alloc, size)?;
         let mut board = Board {
@@ -64,9 +62,9 @@ impl Board {
     /// Writes RAM from a physical address on.
     #[tactic(auto, using(mb_machine::proofs::MemoryLemmas::lengths))]
     pub fn write_phys(&mut self, at: u32, bytes: &[u8])
-        requires { at + length bytes.now ≤ length self.old.ram }
-        ensures after { self.new ≡ record self.old { ram = overwritten self.old.ram at bytes.now } }
-        ensures ram { length self.new.ram ≡ length self.old.ram }
+        requires { at + length bytes.now ≤ length self.old.world.ram }
+        ensures after { self.new ≡ with_ram self.old (overwritten self.old.world.ram at bytes.now) }
+        ensures ram { length self.new.world.ram ≡ length self.old.world.ram }
     {
         self.bus.overwrite(at, bytes);
     }
@@ -74,9 +72,9 @@ impl Board {
     /// Resets all but RAM: the stack pointer and the program counter come from the longs at 0 and 4.
     #[tactic(auto, unfolding(mb_machine::specs::Machine::reset_with))]
     pub fn reset(&mut self)
-        requires { 8 ≤ length self.old.ram }
-        ensures after { self.new ≡ reset_with self.old.ram }
-        ensures ram { self.new.ram ≡ self.old.ram }
+        requires { 8 ≤ length self.old.world.ram }
+        ensures after { self.new ≡ reset_with self.old.world.ram }
+        ensures ram { self.new.world.ram ≡ self.old.world.ram }
         ensures unrun { self.new.steps ≡ 0 }
     {
         self.bus.reset();
@@ -93,7 +91,7 @@ impl Board {
         ensures means { MatchResult result
             (λ done. stepped self.old ≡ Some self.new) (λ unbuilt. stepped self.old ≡ None) }
         ensures counted { OnOk result (self.new.steps ≡ self.old.steps + 1) }
-        ensures ram { length self.new.ram ≡ length self.old.ram }
+        ensures ram { length self.new.world.ram ≡ length self.old.world.ram }
     {
         self.bus.tick();
         if self.interrupted() {
@@ -136,7 +134,7 @@ impl Board {
         requires { self.old.steps + steps < 2 ^ 32 }
         ensures runs { MatchResult result
             (λ done. run_of steps self.old ≡ Some self.new) (λ unbuilt. run_of steps self.old ≡ None) }
-        ensures ram { length self.new.ram ≡ length self.old.ram }
+        ensures ram { length self.new.world.ram ≡ length self.old.world.ram }
     {
         for _ in 0..steps {
             if !self.takes_steps() {
@@ -153,9 +151,18 @@ impl Board {
     pub fn outcome(&self) -> Outcome<'_>
         ensures { seen_of result ≡ seen_machine self.now }
     {
+        let devices = self.bus.devices();
         Outcome {
             cpu: &self.cpu,
-            console: self.bus.console(),
+            mmu: self.bus.mmu(),
+            console: devices.console(),
+            lost: devices.lost(),
+            queue: devices.queue(),
+            ctrl: devices.ctrl(),
+            status: devices.status(),
+            period: devices.period(),
+            count: devices.count(),
+            pending: devices.pending(),
             steps: self.steps,
             state: self.state,
             ram: self.bus.ram(),

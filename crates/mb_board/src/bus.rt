@@ -3,7 +3,7 @@
 ghost use Rattle.std.specs.Prelude.{◌≡◌, ℕ, ◌+◌, ◌^◌, ◌<◌, ◌≤◌, ◌≢◌, length, true, false, replicate, IfOk, IfSome};
 ghost use Rattle.mb_machine.specs.Memory.{number_at, with_number, overwritten};
 ghost use Rattle.mb_devices.specs.Devices.{idle, level_of, reset_of, ticked};
-ghost use Rattle.mb_machine.specs.Bus.{World, in_ram, loaded, place_of, stored, taken, takes_writes, plain_bus, HasPlace};
+ghost use Rattle.mb_machine.specs.Bus.{World, in_ram, place_of, stored, taken, takes_writes, plain_bus, HasPlace};
 ghost use Rattle.mb_machine.specs.Bus.{kept_bits, line_at, with_longs};
 ghost use Rattle.mb_machine.specs.Machine.{mmu_at_reset};
 ghost use Rattle.mb_board.specs.Stores.{Stores};
@@ -132,10 +132,16 @@ impl PlainBus {
         &self.ram
     }
 
-    pub(crate) fn console(&self) -> &[u8]
-        ensures { result.now ≡ self.now.devices.console }
+    pub(crate) fn mmu(&self) -> &Mmu
+        ensures { result.now ≡ self.now.mmu }
     {
-        self.devices.console()
+        &self.mmu
+    }
+
+    pub(crate) fn devices(&self) -> &Devices
+        ensures { result.now ≡ self.now.devices }
+    {
+        &self.devices
     }
 
     pub(crate) fn is_off(&self) -> bool
@@ -208,21 +214,9 @@ fn kept_bits(which: MmuReg) -> u32
 }
 
 impl PlainBus {
-    /// The word that stands in RAM, if it lies there.
-    #[inline(always)]
-    fn word(&self, at: u32) -> Option<u16>
-        ensures { result ≡ loaded self.now.ram at 2 }
-    {
-        if self.in_ram(at, 2) {
-            Some(BigEndian::read_u16(&self.ram[at as usize..]))
-        } else {
-            None
-        }
-    }
-
     /// Reads RAM or a register. `None` where nothing answers the read, and nothing has changed.
     #[inline(always)]
-    #[tactic(auto, unfolding(mb_machine::specs::Bus::taken), using(mb_devices::proofs::Sizes::sizes))]
+    #[tactic(auto, using(mb_machine::proofs::BusLemmas::reads, mb_devices::proofs::Sizes::sizes))]
     fn take(&mut self, place: Place) -> Option<u32>
         requires size { (0 < place.len) × (place.len ≤ 4) × (place.len ≢ 3) }
         ensures taken { (result, self.new) ≡ taken self.old place }
@@ -238,7 +232,7 @@ impl PlainBus {
 
     /// Writes RAM or a register. `None` where nothing takes the write, and nothing has changed.
     #[inline(always)]
-    #[tactic(auto, unfolding(mb_machine::specs::Bus::stored), using(mb_devices::proofs::Sizes::sizes))]
+    #[tactic(auto, using(mb_machine::proofs::BusLemmas::writes, mb_devices::proofs::Sizes::sizes))]
     fn store(&mut self, place: Place, value: u32) -> Option<()>
         requires size { (0 < place.len) × (place.len ≤ 4) × (place.len ≢ 3) }
         ensures stored { Stores (stored self.old place value) self.old self.new result }
@@ -252,6 +246,7 @@ impl PlainBus {
         }
     }
 
+    #[tactic(auto, using(mb_machine::proofs::BusLemmas::takes))]
     fn takes_writes(&self, place: Place) -> bool
         ensures { result ≡ takes_writes (length self.now.ram) place }
     {
@@ -286,8 +281,8 @@ impl Port for PlainBus {
 
     #[inline(always)]
     fn fetch(&mut self, space: Space, at: u32) -> Result<u16, Fault> {
-        match self.word(at) {
-            Some(word) => Ok(word),
+        match self.take(Place { at, len: 2 }) {
+            Some(word) => Ok(word as u16),
             None => Err(bus_error(at, 2, space, true, false)),
         }
     }

@@ -10,6 +10,7 @@ mod devices;
 mod register;
 
 pub use devices::Devices;
+pub use register::Register;
 
 #[cfg(test)]
 mod tests;

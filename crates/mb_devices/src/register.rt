@@ -10,7 +10,7 @@ const BASE: u32 = 0xfff0_0000;
 
 /// A register of a device. Each exists at its own size alone.
 #[derive(Clone, Copy, Debug, PartialEq, Eq)]
-pub(crate) enum Register {
+pub enum Register {
     /// A byte: reading takes the oldest received byte, writing sends one.
     Data,
     /// A byte: whether a byte is received, in bit 0, and whether one was dropped, in bit 2.

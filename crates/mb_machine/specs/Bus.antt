@@ -1,6 +1,6 @@
 -- The bus of a machine without translation: RAM from address 0 on, and the registers of the devices.
-use Rattle.std.specs.Prelude.{ℕ, ◌+◌, ◌<◌, ◌≤◌, ◌≡◌, ◌≢◌, ◌||◌, Bool, true, false, List, [], ◌∷◌, length}
-use Rattle.std.specs.Prelude.{bit_and, nat_le, Option, Some, None, is_some, Result, Ok, Err, unwrap_or, if◌then◌else◌}
+use Rattle.std.specs.Prelude.{ℕ, ◌+◌, ◌<◌, ◌≤◌, ◌≡◌, ◌≢◌, Bool, true, false, List, [], ◌∷◌, length}
+use Rattle.std.specs.Prelude.{bit_and, nat_le, Option, Some, None, Result, Ok, Err, unwrap_or, if◌then◌else◌}
 use Rattle.mb_port.specs.Routine.{Bus, Fetch, Read, Write, ReadLine, WriteLine, Probe, Get, Put, ReadMmu, SetMmu}
 use Rattle.mb_port.specs.Routine.{FlushKept, Test, ResetDevices}
 use Rattle.mb_port.specs.declared.types.Space.{Space}
@@ -12,7 +12,8 @@ use Rattle.mb_port.specs.declared.types.MmuReg.{MmuReg}
 use Rattle.mb_port.specs.declared.types.MmuReg.TheVariants.{Tc, Itt0, Itt1, Dtt0, Dtt1, Mmusr, Urp, Srp}
 use Rattle.mb_port.specs.Registers.{with_mmu_register}
 use Rattle.mb_devices.specs.Devices.{DeviceState, reset_of}
-use Rattle.mb_devices.specs.Registers.{read_of, register_at, write_of}
+use Rattle.mb_devices.specs.declared.register.Register.{Register}
+use Rattle.mb_devices.specs.Registers.{row, register_at}
 use Rattle.mb_machine.specs.Memory.{number_at, with_number}
 
 -- what the bus reads and changes
@@ -25,34 +26,47 @@ pub record World : Type 0 where
 abbrev pub in_ram : ℕ → ℕ → ℕ → Bool
 in_ram size at len = nat_le (at + len) size
 
--- the number that stands in RAM, if it lies there
-abbrev pub loaded : List ℕ → ℕ → ℕ → Option ℕ
-loaded ram at len = if in_ram (length ram) at len then Some (number_at ram at len) else None
+-- where a physical piece stands: RAM holds the whole of it, a register is of just its address and size, or nothing is
+-- there
+pub data Stand : Type 0 where
+  memory : Stand
+  register : Register → Stand
+  nowhere : Stand
 
--- the world after its devices did something, with what they answered
-abbrev pub read_devices : World → Option ℕ × DeviceState → Option ℕ × World
-read_devices w answer = (answer.0, record w { devices = answer.1 })
+abbrev pub among_registers : Option Register → Stand
+among_registers (Some r) = register r
+among_registers None = nowhere
 
-abbrev pub wrote_devices : World → Option (Unit {0}) × DeviceState → Option World
-wrote_devices w (Some done, devices) = Some (record w { devices = devices })
-wrote_devices w (None, devices) = None
+unfoldable pub stand_of : ℕ → Place → Stand
+stand_of size place = if in_ram size place.at place.len then memory else among_registers (register_at place)
 
--- a read of RAM, else of a register of just that address and size; nothing else answers one
+-- what reading there answers, with the world after it
+abbrev pub taken_at : Stand → Place → World → Option ℕ × World
+taken_at memory place w = (Some (number_at w.ram place.at place.len), w)
+taken_at (register r) place w = (Some ((row r).value w.devices), record w { devices = (row r).after_read w.devices })
+taken_at nowhere place w = (None, w)
+
+-- the world after writing there
+abbrev pub stored_at : Stand → Place → ℕ → World → Option World
+stored_at memory place value w = Some (record w { ram = with_number w.ram place.at place.len value })
+stored_at (register r) place value w = Some (record w { devices = (row r).written value w.devices })
+stored_at nowhere place value w = None
+
+-- a read and a write of a physical piece, wherever it stands
 unfoldable pub taken : World → Place → Option ℕ × World
-taken w place =
-    if in_ram (length w.ram) place.at place.len then (Some (number_at w.ram place.at place.len), w)
-    else read_devices w (read_of place w.devices)
+taken w place = taken_at (stand_of (length w.ram) place) place w
 
--- a write of the same; nothing else takes one
 unfoldable pub stored : World → Place → ℕ → Option World
-stored w place value =
-    if in_ram (length w.ram) place.at place.len then
-    Some (record w { ram = with_number w.ram place.at place.len value })
-    else wrote_devices w (write_of place value w.devices)
+stored w place value = stored_at (stand_of (length w.ram) place) place value w
 
--- what takes a write: a piece of RAM, or a register
+abbrev pub is_somewhere : Stand → Bool
+is_somewhere memory = true
+is_somewhere (register r) = true
+is_somewhere nowhere = false
+
+-- what takes a write
 abbrev pub takes_writes : ℕ → Place → Bool
-takes_writes size place = in_ram size place.at place.len || is_some (register_at place)
+takes_writes size place = is_somewhere (stand_of size place)
 
 -- the place of a piece that is not translated
 abbrev pub place_of : Piece → Place
@@ -97,9 +111,14 @@ with_longs ram at (value ∷ values) = with_longs (with_number ram at 4 value) (
 abbrev pub read : Option ℕ × World → Fault → Result ℕ Fault × World
 read answer fault = (answered answer.0 fault, answer.1)
 
--- Each call. Nothing is kept, so a flush does nothing; no page is resident, so a test answers 0.
+-- the place of an instruction word
+abbrev pub word_place : ℕ → Place
+word_place at = record { at = at; len = 2 }
+
+-- Each call. A line stands in RAM alone. Nothing is kept, so a flush does nothing; no page is resident, so a test
+-- answers 0.
 unfoldable pub plain_bus : Bus World
-plain_bus (Fetch space at) w = (answered (loaded w.ram at 2) (bus_error at 2 space true false), w)
+plain_bus (Fetch space at) w = read (taken w (word_place at)) (bus_error at 2 space true false)
 plain_bus (Read space p) w = read (taken w (place_of p)) (bus_error p.at p.len space false false)
 plain_bus (Write space p value) w = wrote w (stored w (place_of p) value) (bus_error p.at p.len space false true)
 plain_bus (ReadLine space at) w =

@@ -12,14 +12,14 @@ use Rattle.mb_meaning.specs.declared.StepEnd.{StepEnd}
 use Rattle.mb_meaning.specs.declared.StepEnd.TheVariants.{Went, Unbuilt}
 use Rattle.mb_meaning.specs.Step.{step_of}
 use Rattle.mb_devices.specs.Devices.{DeviceState, idle, level_of, ticked}
+use Rattle.mb_devices.specs.Registers.{bit, status_of}
 use Rattle.mb_machine.specs.Memory.{number_at, overwritten}
 use Rattle.mb_machine.specs.Bus.{World, plain_bus}
 
 pub record Machine : Type 0 where
   pub cpu : Cpu
-  pub mmu : Mmu
-  pub ram : List ℕ
-  pub devices : DeviceState
+  -- what its bus reads and changes
+  pub world : World
   pub steps : ℕ
   pub state : RunState
 
@@ -35,14 +35,15 @@ with_contents ram (chunk ∷ chunks) = with_contents (overwritten ram chunk.0 ch
 abbrev pub mmu_at_reset : Mmu
 mmu_at_reset = record { tc = 0; itt0 = 0; itt1 = 0; dtt0 = 0; dtt1 = 0; mmusr = 0; urp = 0; srp = 0 }
 
+abbrev pub world_at_reset : List ℕ → World
+world_at_reset ram = record { ram = ram; mmu = mmu_at_reset; devices = idle (length ram) }
+
 -- A machine with this memory after reset: ISP is the long at 0, PC the long at 4, the devices are
 -- idle, and no step is taken.
 unfoldable pub reset_with : List ℕ → Machine
 reset_with ram = record {
   cpu = at_reset (number_at ram 0 4) (number_at ram 4 4);
-  mmu = mmu_at_reset;
-  ram = ram;
-  devices = idle (length ram);
+  world = world_at_reset ram;
   steps = 0;
   state = Running;
 }
@@ -51,8 +52,12 @@ reset_with ram = record {
 abbrev pub start : Contents → ℕ → Machine
 start contents size = reset_with (with_contents (replicate size 0) contents)
 
-abbrev pub world_of : Machine → World
-world_of m = record { ram = m.ram; mmu = m.mmu; devices = m.devices }
+-- a machine with other memory, or with other devices
+abbrev pub with_ram : Machine → List ℕ → Machine
+with_ram m ram = record m { world = record m.world { ram = ram } }
+
+abbrev pub with_devices : Machine → DeviceState → Machine
+with_devices m devices = record m { world = record m.world { devices = devices } }
 
 -- the state after a step: switched off, or as it was
 abbrev pub state_after : RunState → DeviceState → RunState
@@ -62,9 +67,7 @@ state_after state d = if d.off then Off else state
 abbrev pub next_with : Machine → Cpu → World → Machine
 next_with m cpu w = record {
   cpu = cpu;
-  mmu = w.mmu;
-  ram = w.ram;
-  devices = w.devices;
+  world = w;
   steps = m.steps + 1;
   state = state_after m.state w.devices;
 }
@@ -82,15 +85,15 @@ interrupt_mask m = m.cpu.regs.sr / 2 ^ 8 % 2 ^ 3
 
 -- an interrupt is asked for above the mask
 abbrev pub interrupted : Machine → Bool
-interrupted m = nat_lt (interrupt_mask m) (level_of m.devices)
+interrupted m = nat_lt (interrupt_mask m) (level_of m.world.devices)
 
 -- a step begins: the timer ticks
 abbrev pub begun : Machine → Machine
-begun m = record m { devices = ticked m.devices }
+begun m = with_devices m (ticked m.world.devices)
 
 -- the rest of a step: the entry of an interrupt, which is not built, or an instruction
 abbrev pub continued : Machine → Option Machine
-continued m = if interrupted m then None else next_of m (run plain_bus (step_of m.cpu) (world_of m))
+continued m = if interrupted m then None else next_of m (run plain_bus (step_of m.cpu) m.world)
 
 -- the machine after one step, where the step is built
 unfoldable pub stepped : Machine → Option Machine
@@ -111,4 +114,18 @@ run_of (suc n) m = if takes_steps m.state then option_and_then (run_of n) (stepp
 
 -- what its outcome shows
 abbrev pub seen_machine : Machine → Seen
-seen_machine m = record { cpu = m.cpu; console = m.devices.console; steps = m.steps; state = m.state; ram = m.ram }
+seen_machine m = record {
+  cpu = m.cpu;
+  mmu = m.world.mmu;
+  console = m.world.devices.console;
+  lost = m.world.devices.lost;
+  queue = m.world.devices.queue;
+  ctrl = bit m.world.devices.enabled;
+  status = status_of m.world.devices;
+  period = m.world.devices.period;
+  count = m.world.devices.count;
+  pending = bit m.world.devices.pending;
+  steps = m.steps;
+  state = m.state;
+  ram = m.world.ram;
+}

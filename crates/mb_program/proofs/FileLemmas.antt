@@ -1,6 +1,6 @@
 -- The files of a command, and what a shelf tells of them.
 use Rattle.std.proofs.Common.{◌≡◌, ◌≤◌, inl, inr, Bool, true, false, cond, length, refl, sym, subst, Option, Some, None}
-use Rattle.std.specs.Prelude.{is_some, option_and_then, nat_lt}
+use Rattle.std.specs.Prelude.{is_some, option_and_then, nat_lt, string_bytes}
 use Rattle.std.proofs.lemmas.Bool.{le-ltb}
 use Rattle.mb_words.specs.Words.{Text, Asked}
 use Rattle.mb_program.specs.Answers.{Answer, Told, File, Course, reads, ends, most_of, unless_long, answer_at, answer_of, course_of, Names}
@@ -47,7 +47,7 @@ unread_never None a end h all e = all.1
 unread_never (Some asked) a Done h all e = absurd cc
 unread_never (Some asked) a Words h all e = absurd h
 unread_never (Some asked) a (Refused name why) h all e = absurd cc
-unread_never (Some asked) a (Unread name) h all e = h.1 all.0 (named_is_told a.shelf.told (course_of asked) name.now all.1 h.0)
+unread_never (Some asked) a (Unread name) h all e = h.1 all.0 (named_is_told a.shelf.told (course_of asked) (string_bytes name) all.1 h.0)
 unread_never (Some asked) a Output h all e = absurd cc
 unread_never (Some asked) a Memory h all e = absurd cc
 unread_never (Some asked) a Unbuilt h all e = absurd cc

@@ -9,6 +9,7 @@ use Rattle.mb_report.specs.Text.{outcome_text}
 use Rattle.mb_words.specs.Words.{Text, Run, Asked, bare}
 use Rattle.mb_program.specs.declared.end.FileWhy.{FileWhy}
 use Rattle.mb_program.specs.declared.end.FileWhy.TheVariants.{TooLong, Line, Outside, NoEnd}
+use Rattle.mb_program.specs.declared.end.Reason.TheVariants.{Record}
 
 -- ---- answers
 
@@ -80,7 +81,7 @@ Names told (ends answer) name = ⊥
 
 -- why the first fault of a text refuses its file
 abbrev pub why_of : Fault → FileWhy
-why_of (fault.Line number reason) = Line number reason
+why_of (fault.Line number why) = Line number (Record why)
 why_of (fault.Outside at) = Outside at
 why_of fault.NoEnd = NoEnd
 

@@ -1,5 +1,5 @@
 -- How a run may end, each end with its cause.
-use Rattle.std.specs.Prelude.{◌≡◌, ◌⊎◌, ⊤, ℕ, [], Bool, true, Option, Some, None, is_some, IfSome}
+use Rattle.std.specs.Prelude.{◌≡◌, ◌⊎◌, ⊤, ℕ, [], Bool, true, Option, Some, None, is_some, IfSome, string_bytes}
 use Rattle.mb_outside.specs.Counts.{Rose}
 use Rattle.mb_outside.specs.Prints.{Printed, PrintedPart}
 use Rattle.mb_words.specs.Words.{Text, Asked}
@@ -96,9 +96,10 @@ CommandEnds asked a Done =
     ReadsWell a × (a.out_after.faults ≡ a.out.faults) × AnswerIs asked a (IsShown a)
 CommandEnds asked a Words = ⊥
 CommandEnds asked a (Refused name why) =
-    IsFileOf asked a name.now × ReadsWell a × PutsNothing a × AnswerIs asked a (IsRefused name.now why)
+    IsFileOf asked a (string_bytes name) × ReadsWell a × PutsNothing a
+    × AnswerIs asked a (IsRefused (string_bytes name) why)
 CommandEnds asked a (Unread name) =
-    IsFileOf asked a name.now × IsMissing a name.now × ReadsBadly a × PutsNothing a
+    IsFileOf asked a (string_bytes name) × IsMissing a (string_bytes name) × ReadsBadly a × PutsNothing a
 CommandEnds asked a Output =
     ReadsWell a × Rose a.out.faults a.out_after.faults × AnswerIs asked a (IsCut a)
 CommandEnds asked a Memory = ReadsWell a × PutsNothing a

@@ -1,11 +1,15 @@
 -- What a run says on diag, and its status.
-use Rattle.std.specs.Prelude.{◌++◌, ℕ, [], codes, decimal}
+use Rattle.std.specs.Prelude.{◌++◌, ℕ, [], codes, decimal, string_bytes}
 use Rattle.mb_srec.specs.declared.fault.RecordWhy.{RecordWhy}
 use Rattle.mb_srec.specs.declared.fault.RecordWhy.TheVariants as why
+use Rattle.mb_script.specs.declared.fault.LineWhy.{LineWhy}
+use Rattle.mb_script.specs.declared.fault.LineWhy.TheVariants as line_why
 use Rattle.mb_report.specs.Digits.{hex8}
 use Rattle.mb_words.specs.Words.{Text}
 use Rattle.mb_program.specs.declared.end.FileWhy.{FileWhy}
 use Rattle.mb_program.specs.declared.end.FileWhy.TheVariants.{TooLong, Line, Outside, NoEnd}
+use Rattle.mb_program.specs.declared.end.Reason.{Reason}
+use Rattle.mb_program.specs.declared.end.Reason.TheVariants as reason
 use Rattle.mb_program.specs.declared.end.End.{End}
 use Rattle.mb_program.specs.declared.end.End.TheVariants.{Done, Words, Refused, Unread, Output, Memory, Unbuilt}
 
@@ -17,26 +21,37 @@ named_file name = codes "mbx: " ++ name
 abbrev pub named : Text → Text → Text
 named name rest = named_file name ++ rest
 
-abbrev pub reason_of : RecordWhy → Text
-reason_of why.Kind = codes "kind"
-reason_of why.Digits = codes "digits"
-reason_of why.Length = codes "length"
-reason_of why.Sum = codes "sum"
-reason_of why.Count = codes "count"
-reason_of why.After = codes "after"
+abbrev pub record_reason : RecordWhy → Text
+record_reason why.Kind = codes "kind"
+record_reason why.Digits = codes "digits"
+record_reason why.Length = codes "length"
+record_reason why.Sum = codes "sum"
+record_reason why.Count = codes "count"
+record_reason why.After = codes "after"
+
+abbrev pub line_reason : LineWhy → Text
+line_reason line_why.Word = codes "word"
+line_reason line_why.Number = codes "number"
+line_reason line_why.Digits = codes "digits"
+line_reason line_why.Order = codes "order"
+line_reason line_why.Many = codes "many"
+
+abbrev pub reason_of : Reason → Text
+reason_of (reason.Record why) = record_reason why
+reason_of (reason.Words why) = line_reason why
 
 -- why a file is refused, behind its name
 abbrev pub why_text : FileWhy → Text
 why_text TooLong = codes " too long\n"
-why_text (Line number reason) = codes " line " ++ decimal number ++ codes ": " ++ reason_of reason ++ codes "\n"
+why_text (Line number why) = codes " line " ++ decimal number ++ codes ": " ++ reason_of why ++ codes "\n"
 why_text (Outside at) = codes " outside " ++ hex8 at ++ codes "\n"
 why_text NoEnd = codes " no end\n"
 
 abbrev pub line_of : End → Text
 line_of Done = []
 line_of Words = codes "mbx: words refused\n"
-line_of (Refused name why) = named name.now (why_text why)
-line_of (Unread name) = named name.now (codes " cannot be read\n")
+line_of (Refused name why) = named (string_bytes name) (why_text why)
+line_of (Unread name) = named (string_bytes name) (codes " cannot be read\n")
 line_of Output = codes "mbx: output failed\n"
 line_of Memory = codes "mbx: no memory\n"
 line_of Unbuilt = codes "mbx: not built\n"

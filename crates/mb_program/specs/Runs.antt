@@ -5,6 +5,7 @@ use Rattle.mb_srec.specs.declared.fault.ImageFault.{ImageFault}
 use Rattle.mb_srec.specs.declared.fault.ImageFault.TheVariants as fault
 use Rattle.mb_program.specs.Answers.{Ran, no_image, unbuilt_step, ended}
 use Rattle.mb_program.specs.declared.end.FileWhy.TheVariants.{Line, Outside, NoEnd}
+use Rattle.mb_program.specs.declared.end.Reason.TheVariants.{Record}
 use Rattle.mb_program.specs.declared.running.RunFault.{RunFault}
 use Rattle.mb_program.specs.declared.running.RunFault.TheVariants.{Memory, NoImage, Unbuilt}
 
@@ -21,6 +22,6 @@ Runs ran (Err fault) = RunFaults ran fault
 -- what a fault of reading an image is for its run
 abbrev pub run_fault_of : ImageFault → RunFault
 run_fault_of fault.Memory = Memory
-run_fault_of (fault.Line number reason) = NoImage (Line number reason)
+run_fault_of (fault.Line number why) = NoImage (Line number (Record why))
 run_fault_of (fault.Outside at) = NoImage (Outside at)
 run_fault_of fault.NoEnd = NoImage NoEnd

@@ -16,12 +16,7 @@ const MOST_BYTES: usize = 67_108_864;
 
 /// `bare`: loads the image, runs it and writes the outcome.
 #[tactic(auto, unfolding(crate::specs::Answers::answer_of, crate::specs::Answers::course_of))]
-fn run_bare<'a, F: Shelf, O: Sink>(
-    alloc: Global,
-    run: &Bare<'a>,
-    shelf: &mut F,
-    out: &mut O,
-) -> End<'a>
+fn run_bare<F: Shelf, O: Sink>(alloc: Global, run: &Bare, shelf: &mut F, out: &mut O) -> End
     ensures ends { CommandEnds (bare (run_said run.now)) (record {
       shelf = shelf_seen F.told F.whole F.faults shelf.old;
       shelf_after = shelf_seen F.told F.whole F.faults shelf.new;
@@ -31,16 +26,19 @@ fn run_bare<'a, F: Shelf, O: Sink>(
     ensures told { F.told shelf.new ≡ F.told shelf.old }
     ensures whole { F.whole shelf.new ≡ F.whole shelf.old }
 {
+    let Ok(name) = String::from_str(alloc, run.image) else {
+        return End::Memory;
+    };
     let bytes = match load(alloc, shelf, run.image, MOST_BYTES) {
         Ok(bytes) => bytes,
         Err(LoadFault::Memory) => return End::Memory,
-        Err(LoadFault::Failed) => return End::Unread(run.image),
-        Err(LoadFault::TooLong) => return End::Refused(run.image, FileWhy::TooLong),
+        Err(LoadFault::Failed) => return End::Unread(name),
+        Err(LoadFault::TooLong) => return End::Refused(name, FileWhy::TooLong),
     };
     let board = match run_bytes(alloc, run, &bytes) {
         Ok(board) => board,
         Err(RunFault::Memory) => return End::Memory,
-        Err(RunFault::NoImage(why)) => return End::Refused(run.image, why),
+        Err(RunFault::NoImage(why)) => return End::Refused(name, why),
         Err(RunFault::Unbuilt) => return End::Unbuilt,
     };
     match write_outcome(1, &board.outcome(), out) {
@@ -50,13 +48,13 @@ fn run_bare<'a, F: Shelf, O: Sink>(
 }
 
 /// Reads the words, and runs their command.
-pub fn run_words<'a, F: Shelf, O: Sink>(
+pub fn run_words<F: Shelf, O: Sink>(
     alloc: Global,
-    words: &'a [String],
+    words: &[String],
     shelf: &mut F,
     out: &mut O,
-) -> End<'a>
-    ensures ends { Ends (asked_by (map string_bytes words.entry.now)) (record {
+) -> End
+    ensures ends { Ends (asked_by (map string_bytes words.now)) (record {
       shelf = shelf_seen F.told F.whole F.faults shelf.old;
       shelf_after = shelf_seen F.told F.whole F.faults shelf.new;
       out = sink_seen O.taken O.faults out.old;

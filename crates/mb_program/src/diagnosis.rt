@@ -2,12 +2,13 @@
 
 ghost use Rattle.std.specs.Prelude.{◌≡◌};
 ghost use Rattle.mb_outside.specs.Prints.{Prints, PrintsMore};
-ghost use Rattle.mb_program.specs.Lines.{line_of, named, named_file, reason_of, why_text, status_of};
+ghost use Rattle.mb_program.specs.Lines.{line_of, line_reason, named, named_file, reason_of, record_reason, why_text, status_of};
 
-use crate::end::{End, FileWhy};
+use crate::end::{End, FileWhy, Reason};
 use itoa::Buffer;
 use mb_outside::{Sink, SinkFault, put_all, put_more};
 use mb_report::hex8;
+use mb_script::LineWhy;
 use mb_srec::RecordWhy;
 
 /// Begins a line that names a file.
@@ -19,9 +20,30 @@ fn name_file<E: Sink>(diag: &mut E, name: &str) -> Result<(), SinkFault>
     put_more(diag, begun, name.as_bytes())
 }
 
-/// The word for what is wrong with a record.
-fn reason(why: RecordWhy) -> &'static [u8]
+/// The word for what is wrong with a line.
+fn reason(why: Reason) -> &'static [u8]
     ensures { result.now ≡ reason_of why }
+{
+    match why {
+        Reason::Record(why) => record_reason(why),
+        Reason::Words(why) => line_reason(why),
+    }
+}
+
+fn line_reason(why: LineWhy) -> &'static [u8]
+    ensures { result.now ≡ line_reason why }
+{
+    match why {
+        LineWhy::Word => b"word",
+        LineWhy::Number => b"number",
+        LineWhy::Digits => b"digits",
+        LineWhy::Order => b"order",
+        LineWhy::Many => b"many",
+    }
+}
+
+fn record_reason(why: RecordWhy) -> &'static [u8]
+    ensures { result.now ≡ record_reason why }
 {
     match why {
         RecordWhy::Kind => b"kind",
@@ -54,7 +76,7 @@ fn say_line<E: Sink>(
     diag: &mut E,
     so_far: Result<(), SinkFault>,
     number: u32,
-    why: RecordWhy,
+    why: Reason,
 ) -> Result<(), SinkFault>
     ensures { PrintsMore so_far (E.taken diag.old) (E.taken diag.new) (E.faults diag.old) (E.faults diag.new)
         (why_text (FileWhy.Line number why)) result }
@@ -99,15 +121,15 @@ fn say_refused<E: Sink>(diag: &mut E, name: &str, why: FileWhy) -> Result<(), Si
 }
 
 /// Says how a run ended; nothing where all was done.
-pub fn tell<E: Sink>(diag: &mut E, end: End) -> Result<(), SinkFault>
+pub fn tell<E: Sink>(diag: &mut E, end: &End) -> Result<(), SinkFault>
     ensures { Prints (E.taken diag.old) (E.taken diag.new) (E.faults diag.old) (E.faults diag.new)
-        (line_of end.entry) result }
+        (line_of end.now) result }
 {
     match end {
         End::Done => put_all(diag, b""),
         End::Words => put_all(diag, b"mbx: words refused\n"),
-        End::Refused(name, why) => say_refused(diag, name, why),
-        End::Unread(name) => say(diag, name, b" cannot be read\n"),
+        End::Refused(name, why) => say_refused(diag, name.as_str(), *why),
+        End::Unread(name) => say(diag, name.as_str(), b" cannot be read\n"),
         End::Output => put_all(diag, b"mbx: output failed\n"),
         End::Memory => put_all(diag, b"mbx: no memory\n"),
         End::Unbuilt => put_all(diag, b"mbx: not built\n"),
@@ -115,8 +137,8 @@ pub fn tell<E: Sink>(diag: &mut E, end: End) -> Result<(), SinkFault>
 }
 
 /// The exit status of an end.
-pub fn status(end: End) -> u8
-    ensures { result ≡ status_of end.entry }
+pub fn status(end: &End) -> u8
+    ensures { result ≡ status_of end.now }
 {
     match end {
         End::Done => 0,

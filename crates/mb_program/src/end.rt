@@ -1,14 +1,24 @@
 //! How a run ends.
 
+use mb_script::LineWhy;
 use mb_srec::RecordWhy;
 
-/// Why a file is refused.
+/// Why a line of a file does not stand.
+#[derive(Clone, Copy, Debug, PartialEq, Eq)]
+pub enum Reason {
+    /// It is no record of an image, or stands where it may not.
+    Record(RecordWhy),
+    /// It is no line of a script or of a session file.
+    Words(LineWhy),
+}
+
+/// Why a file is refused, whatever it is read as.
 #[derive(Clone, Copy, Debug, PartialEq, Eq)]
 pub enum FileWhy {
     /// It has more than 67,108,864 bytes.
     TooLong,
-    /// A line of this number, counted from 1, is no record, or stands where it may not.
-    Line { number: u32, why: RecordWhy },
+    /// The line of this number, counted from 1, does not stand.
+    Line { number: u32, why: Reason },
     /// A byte of data has this address, which is not in RAM.
     Outside { at: u32 },
     /// No record ends the image.
@@ -16,16 +26,16 @@ pub enum FileWhy {
 }
 
 /// How a run ended, each way with its status and its line for diag.
-#[derive(Clone, Copy, Debug)]
-pub enum End<'a> {
+#[derive(Debug, Drop)]
+pub enum End {
     /// The text was written.
     Done,
     /// The words ask for nothing.
     Words,
     /// A file is refused.
-    Refused(&'a str, FileWhy),
+    Refused(String, FileWhy),
     /// A file could not be read.
-    Unread(&'a str),
+    Unread(String),
     /// A sink failed before it had the whole text.
     Output,
     /// Memory ran out before the text was begun.

@@ -12,7 +12,7 @@ mod running;
 mod top;
 mod unfailing;
 
-pub use end::{End, FileWhy};
+pub use end::{End, FileWhy, Reason};
 pub use top::run_program;
 pub use unfailing::run_unfailing;
 

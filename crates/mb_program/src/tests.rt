@@ -12,9 +12,14 @@ S9030000FC\n";
 
 const HELLO_WORDS: &str = "mbx bare hello.s19 --ram 64 --steps 10";
 
-const HELLO_TEXT: &[u8] = b"guest 1\nstate off\nsteps 3\nconsole 1\n41\n\
+const HELLO_TEXT: &[u8] = b"guest 1\nstate off\nsteps 3\nconsole 1\n41\nlost 0\nqueue 0\n\
 D0 00000041\nD1 00000000\nD2 00000000\nD3 00000000\nD4 00000000\nD5 00000000\nD6 00000000\nD7 00000000\n\
-ISP 00010000\nPC 00000412\nSR 00002700\n\
+A0 00000000\nA1 00000000\nA2 00000000\nA3 00000000\nA4 00000000\nA5 00000000\nA6 00000000\n\
+USP 00000000\nISP 00010000\nMSP 00000000\nPC 00000412\nSR 00002700\n\
+VBR 00000000\nSFC 00000000\nDFC 00000000\nCACR 00000000\n\
+TC 00000000\nITT0 00000000\nITT1 00000000\nDTT0 00000000\n\
+DTT1 00000000\nMMUSR 00000000\nURP 00000000\nSRP 00000000\n\
+CTRL 00000000\nSTATUS 00000002\nPERIOD 00000000\nCOUNT 00000000\nPENDING 00000000\n\
 00000000 00010000000004000000000000000000\n\
 00000400 704113C0FFF0000023FC00000001FFF0\n\
 00000410 00200000000000000000000000000000\n\
@@ -86,14 +91,14 @@ struct Row<'a> {
     lines: &'a [&'a [u8]],
 }
 
-const ROWS: [Row; 30] = [
+const ROWS: [Row; 33] = [
     Row {
         what: "no step is taken",
         image: b"S10B00000001000000000400EF\nS1150400704113C0FFF0000023FC00000001FFF0002044\nS9030000FC\n",
         steps: "0",
         status: 0,
         lines: &[
-            b"state running\nsteps 0\nconsole 0\nD0 00000000\n",
+            b"state running\nsteps 0\nconsole 0\nlost 0\nqueue 0\nD0 00000000\n",
             b"PC 00000400\n",
         ],
     },
@@ -302,6 +307,27 @@ const ROWS: [Row; 30] = [
         steps: "2",
         status: 0,
         lines: &[b"D0 00000080\n", b"SR 00002700\n"],
+    },
+    Row {
+        what: "a word with its sign, shifted",
+        image: b"S10B00000001000000000400EF\nS10B0400303C800048C0E2809A\nS9030000FC\n",
+        steps: "3",
+        status: 0,
+        lines: &[b"D0 FFFFC000\n", b"PC 00000408\n", b"SR 00002708\n"],
+    },
+    Row {
+        what: "a quotient that does not fit",
+        image: b"S10B00000001000000000400EF\nS10D0400203C0001000080FC000114\nS9030000FC\n",
+        steps: "2",
+        status: 0,
+        lines: &[b"D0 00010000\n", b"PC 0000040A\n", b"SR 00002702\n"],
+    },
+    Row {
+        what: "a loop that counts down, and the switch",
+        image: b"S10B00000001000000000400EF\nS1130400700951C8FFFE23FC00000001FFF000202A\nS9030000FC\n",
+        steps: "12",
+        status: 0,
+        lines: &[b"state off\nsteps 12\n", b"D0 0000FFFF\n", b"PC 00000410\n"],
     },
 ];
 

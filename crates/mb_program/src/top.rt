@@ -55,6 +55,6 @@ pub fn run_program<F: Shelf, O: Sink, E: Sink>(
         result }
 {
     let end = run_words(alloc, words, shelf, out);
-    let _ = tell(diag, end);
-    status(end)
+    let _ = tell(diag, &end);
+    status(&end)
 }

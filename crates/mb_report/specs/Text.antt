@@ -2,7 +2,6 @@
 use Rattle.std.specs.Prelude.{ℕ, ◌+◌, ◌-◌, ◌*◌, ◌/◌, ◌++◌, ◌==◌, zero, suc, Bool, List, [], ◌∷◌, length, take, drop, slice_index, if◌then◌else◌, codes, decimal}
 use Rattle.std.specs.List.{list_all, flat_map}
 use Rattle.mb_report.specs.Digits.{digits, hex8}
-use Rattle.mb_model.specs.declared.processor.Cpu.{Cpu}
 use Rattle.mb_model.specs.declared.outcome.RunState.{RunState}
 use Rattle.mb_model.specs.declared.outcome.RunState.TheVariants.{Running, Stopped, Halted, Off}
 use Rattle.mb_model.specs.Seen.{Seen}
@@ -40,32 +39,58 @@ head_text guest state steps =
 abbrev pub dump_line : ℕ → List ℕ → List ℕ
 dump_line at row = digits row ++ 10 ∷ []
 
--- how many bytes, and the bytes in rows of 32
-unfoldable pub console_text : List ℕ → List ℕ
-console_text bytes = count_line (codes "console") (length bytes) ++ all_rows dump_line 32 bytes
+-- a name with how many bytes there are, and the bytes in rows of 32
+unfoldable pub bytes_text : List ℕ → List ℕ → List ℕ
+bytes_text name bytes = count_line name (length bytes) ++ all_rows dump_line 32 bytes
 
--- the registers that the text names
-abbrev pub registers_of : Cpu → List (List ℕ × ℕ)
-registers_of cpu =
-    (codes "D0", slice_index cpu.regs.d 0)
-    ∷ (codes "D1", slice_index cpu.regs.d 1)
-    ∷ (codes "D2", slice_index cpu.regs.d 2)
-    ∷ (codes "D3", slice_index cpu.regs.d 3)
-    ∷ (codes "D4", slice_index cpu.regs.d 4)
-    ∷ (codes "D5", slice_index cpu.regs.d 5)
-    ∷ (codes "D6", slice_index cpu.regs.d 6)
-    ∷ (codes "D7", slice_index cpu.regs.d 7)
-    ∷ (codes "ISP", cpu.regs.isp)
-    ∷ (codes "PC", cpu.regs.pc)
-    ∷ (codes "SR", cpu.regs.sr)
+-- what the text names with eight digits
+abbrev pub registers_of : Seen → List (List ℕ × ℕ)
+registers_of seen =
+    (codes "D0", slice_index seen.cpu.regs.d 0)
+    ∷ (codes "D1", slice_index seen.cpu.regs.d 1)
+    ∷ (codes "D2", slice_index seen.cpu.regs.d 2)
+    ∷ (codes "D3", slice_index seen.cpu.regs.d 3)
+    ∷ (codes "D4", slice_index seen.cpu.regs.d 4)
+    ∷ (codes "D5", slice_index seen.cpu.regs.d 5)
+    ∷ (codes "D6", slice_index seen.cpu.regs.d 6)
+    ∷ (codes "D7", slice_index seen.cpu.regs.d 7)
+    ∷ (codes "A0", slice_index seen.cpu.regs.a 0)
+    ∷ (codes "A1", slice_index seen.cpu.regs.a 1)
+    ∷ (codes "A2", slice_index seen.cpu.regs.a 2)
+    ∷ (codes "A3", slice_index seen.cpu.regs.a 3)
+    ∷ (codes "A4", slice_index seen.cpu.regs.a 4)
+    ∷ (codes "A5", slice_index seen.cpu.regs.a 5)
+    ∷ (codes "A6", slice_index seen.cpu.regs.a 6)
+    ∷ (codes "USP", seen.cpu.regs.usp)
+    ∷ (codes "ISP", seen.cpu.regs.isp)
+    ∷ (codes "MSP", seen.cpu.regs.msp)
+    ∷ (codes "PC", seen.cpu.regs.pc)
+    ∷ (codes "SR", seen.cpu.regs.sr)
+    ∷ (codes "VBR", seen.cpu.vbr)
+    ∷ (codes "SFC", seen.cpu.sfc)
+    ∷ (codes "DFC", seen.cpu.dfc)
+    ∷ (codes "CACR", seen.cpu.cacr)
+    ∷ (codes "TC", seen.mmu.tc)
+    ∷ (codes "ITT0", seen.mmu.itt0)
+    ∷ (codes "ITT1", seen.mmu.itt1)
+    ∷ (codes "DTT0", seen.mmu.dtt0)
+    ∷ (codes "DTT1", seen.mmu.dtt1)
+    ∷ (codes "MMUSR", seen.mmu.mmusr)
+    ∷ (codes "URP", seen.mmu.urp)
+    ∷ (codes "SRP", seen.mmu.srp)
+    ∷ (codes "CTRL", seen.ctrl)
+    ∷ (codes "STATUS", seen.status)
+    ∷ (codes "PERIOD", seen.period)
+    ∷ (codes "COUNT", seen.count)
+    ∷ (codes "PENDING", seen.pending)
     ∷ []
 
 -- a name and eight digits
 abbrev pub register_line : List ℕ × ℕ → List ℕ
 register_line (name, value) = word_line name (hex8 value)
 
-unfoldable pub registers_text : Cpu → List ℕ
-registers_text cpu = flat_map register_line (registers_of cpu)
+unfoldable pub registers_text : Seen → List ℕ
+registers_text seen = flat_map register_line (registers_of seen)
 
 abbrev pub is_zero : List ℕ → Bool
 is_zero row = list_all (λ byte. byte == 0) row
@@ -81,7 +106,9 @@ memory_text ram = all_rows memory_line 16 ram
 unfoldable pub outcome_text : ℕ → Seen → List ℕ
 outcome_text guest seen =
     head_text guest seen.state seen.steps
-    ++ console_text seen.console
-    ++ registers_text seen.cpu
+    ++ bytes_text (codes "console") seen.console
+    ++ count_line (codes "lost") seen.lost
+    ++ bytes_text (codes "queue") seen.queue
+    ++ registers_text seen
     ++ memory_text seen.ram
     ++ codes "end\n"

@@ -4,10 +4,12 @@
 //! prints with it. The text is defined in `specs/Text`, its digits in `specs/Digits`.
 #![tactic(auto)]
 
+mod comparison;
 mod digits;
 mod dump;
 mod outcome;
 
+pub use comparison::same;
 pub use digits::{hex2, hex8};
 pub use outcome::write_outcome;
 

@@ -3,13 +3,14 @@
 ghost use Rattle.std.specs.Prelude.{◌≡◌, ◌≤◌, ◌^◌, length, map};
 ghost use Rattle.mb_outside.specs.Prints.{Prints, PrintsMore};
 ghost use Rattle.mb_model.specs.Seen.{seen_of};
-ghost use Rattle.mb_report.specs.Text.{word_line, count_line, state_word, head_text, console_text, registers_of, registers_text, register_line, outcome_text};
+ghost use Rattle.mb_report.specs.Text.{word_line, count_line, state_word, head_text, bytes_text, registers_of};
+ghost use Rattle.mb_report.specs.Text.{registers_text, register_line, outcome_text};
 ghost use Rattle.std.specs.List.{flat_map};
 
 use crate::digits::hex8;
 use crate::dump::{write_dump, write_memory};
 use itoa::Buffer;
-use mb_model::{Cpu, Outcome, RunState};
+use mb_model::{Outcome, RunState};
 use mb_outside::{Sink, SinkFault, put_more};
 
 /// Writes a name, a space and a word.
@@ -68,24 +69,25 @@ fn write_head<O: Sink>(
     write_count(out, told, b"steps", u64::from(steps))
 }
 
-/// Writes how many bytes were sent to the console, and the bytes.
-#[tactic(auto, unfolding(crate::specs::Text::console_text))]
-fn write_console<O: Sink>(
+/// Writes a name with how many bytes there are, and the bytes.
+#[tactic(auto, unfolding(crate::specs::Text::bytes_text))]
+fn write_bytes<O: Sink>(
     out: &mut O,
     so_far: Result<(), SinkFault>,
-    console: &[u8],
+    name: &[u8],
+    bytes: &[u8],
 ) -> Result<(), SinkFault>
-    ensures { PrintsMore so_far (O.taken out.old) (O.taken out.new) (O.faults out.old) (O.faults out.new) (console_text console.now) result }
+    ensures { PrintsMore so_far (O.taken out.old) (O.taken out.new) (O.faults out.old) (O.faults out.new) (bytes_text name.now bytes.now) result }
 {
-    let counted = write_count(out, so_far, b"console", console.len() as u64);
-    write_dump(out, counted, console)
+    let counted = write_count(out, so_far, name, bytes.len() as u64);
+    write_dump(out, counted, bytes)
 }
 
-/// The registers that the text names, in its order.
-fn registers(cpu: &Cpu) -> [(&'static [u8], u32); 11]
-    ensures { map (λ register. (register.0.now, register.1)) result ≡ registers_of cpu.now }
+/// What the text names with eight digits, in its order.
+fn registers(o: &Outcome) -> [(&'static [u8], u32); 37]
+    ensures { map (λ register. (register.0.now, register.1)) result ≡ registers_of (seen_of o.now) }
 {
-    let regs = &cpu.regs;
+    let regs = &o.cpu.regs;
     [
         (b"D0", regs.d[0]),
         (b"D1", regs.d[1]),
@@ -95,9 +97,35 @@ fn registers(cpu: &Cpu) -> [(&'static [u8], u32); 11]
         (b"D5", regs.d[5]),
         (b"D6", regs.d[6]),
         (b"D7", regs.d[7]),
+        (b"A0", regs.a[0]),
+        (b"A1", regs.a[1]),
+        (b"A2", regs.a[2]),
+        (b"A3", regs.a[3]),
+        (b"A4", regs.a[4]),
+        (b"A5", regs.a[5]),
+        (b"A6", regs.a[6]),
+        (b"USP", regs.usp),
         (b"ISP", regs.isp),
+        (b"MSP", regs.msp),
         (b"PC", regs.pc),
         (b"SR", u32::from(regs.sr)),
+        (b"VBR", o.cpu.vbr),
+        (b"SFC", u32::from(o.cpu.sfc)),
+        (b"DFC", u32::from(o.cpu.dfc)),
+        (b"CACR", o.cpu.cacr),
+        (b"TC", o.mmu.tc),
+        (b"ITT0", o.mmu.itt0),
+        (b"ITT1", o.mmu.itt1),
+        (b"DTT0", o.mmu.dtt0),
+        (b"DTT1", o.mmu.dtt1),
+        (b"MMUSR", o.mmu.mmusr),
+        (b"URP", o.mmu.urp),
+        (b"SRP", o.mmu.srp),
+        (b"CTRL", o.ctrl),
+        (b"STATUS", o.status),
+        (b"PERIOD", o.period),
+        (b"COUNT", o.count),
+        (b"PENDING", o.pending),
     ]
 }
 
@@ -116,16 +144,16 @@ fn write_table<O: Sink>(
     done
 }
 
-/// Writes the registers.
+/// Writes the registers of the processor and of the devices.
 #[tactic(auto, unfolding(crate::specs::Text::registers_text))]
 fn write_registers<O: Sink>(
     out: &mut O,
     so_far: Result<(), SinkFault>,
-    cpu: &Cpu,
+    o: &Outcome,
 ) -> Result<(), SinkFault>
-    ensures { PrintsMore so_far (O.taken out.old) (O.taken out.new) (O.faults out.old) (O.faults out.new) (registers_text cpu.now) result }
+    ensures { PrintsMore so_far (O.taken out.old) (O.taken out.new) (O.faults out.old) (O.faults out.new) (registers_text (seen_of o.now)) result }
 {
-    write_table(out, so_far, &registers(cpu))
+    write_table(out, so_far, &registers(o))
 }
 
 /// Writes the outcome text of the guest of this number, from its first line to `end`.
@@ -137,8 +165,10 @@ pub fn write_outcome<O: Sink>(guest: u8, o: &Outcome, out: &mut O) -> Result<(),
     ensures { Prints (O.taken out.old) (O.taken out.new) (O.faults out.old) (O.faults out.new) (outcome_text guest (seen_of o.now)) result }
 {
     let head = write_head(out, Ok(()), guest, o.state, o.steps);
-    let console = write_console(out, head, o.console);
-    let registers = write_registers(out, console, o.cpu);
+    let console = write_bytes(out, head, b"console", o.console);
+    let lost = write_count(out, console, b"lost", o.lost);
+    let queue = write_bytes(out, lost, b"queue", o.queue.as_slice());
+    let registers = write_registers(out, queue, o);
     let memory = write_memory(out, registers, o.ram);
     put_more(out, memory, b"end\n")
 }

@@ -1,17 +1,68 @@
 //! Whole texts.
 
-use crate::write_outcome;
+ghost use Rattle.std.specs.Prelude.{◌≡◌, []};
+ghost use Rattle.mb_model.specs.Seen.{seen_of};
+
+use crate::{same, write_outcome};
+use arrayvec::ArrayVec;
 use mb_model::{Cpu, Outcome, RunState};
 use mb_outside::{MemSink, SinkFault};
+use mb_port::Mmu;
 use std::alloc::Global;
+
+/// The registers of translation after reset.
+const NO_MMU: Mmu = Mmu {
+    tc: 0,
+    itt0: 0,
+    itt1: 0,
+    dtt0: 0,
+    dtt1: 0,
+    mmusr: 0,
+    urp: 0,
+    srp: 0,
+};
+
+/// A machine without RAM that has nothing to show but its registers.
+fn nothing<'a>(cpu: &'a Cpu, mmu: &'a Mmu) -> Outcome<'a>
+    ensures { (seen_of result).ram ≡ [] }
+{
+    Outcome {
+        cpu,
+        mmu,
+        console: b"",
+        lost: 0,
+        queue: ArrayVec::new(),
+        ctrl: 0,
+        status: 2,
+        period: 0,
+        count: 0,
+        pending: 0,
+        steps: 0,
+        state: RunState::Running,
+        ram: b"",
+    }
+}
+
+/// A receive queue with these bytes, or the first sixteen of them.
+fn queue_of(bytes: &[u8]) -> ArrayVec<u8, 16> {
+    let mut queue = ArrayVec::new();
+    for byte in bytes {
+        let _taken = queue.try_push(*byte);
+    }
+    queue
+}
 
 fn zeros(alloc: Global, count: usize) -> Option<Vec<u8>> {
     vec![in alloc; 0u8; count].ok()
 }
 
-const WORKED: &str = "guest 1\nstate off\nsteps 3\nconsole 1\n41\n\
+const WORKED: &str = "guest 1\nstate off\nsteps 3\nconsole 1\n41\nlost 0\nqueue 0\n\
 D0 00000041\nD1 00000000\nD2 00000000\nD3 00000000\nD4 00000000\nD5 00000000\nD6 00000000\nD7 00000000\n\
-ISP 00010000\nPC 00000412\nSR 00002700\n\
+A0 00000000\nA1 00000000\nA2 00000000\nA3 00000000\nA4 00000000\nA5 00000000\nA6 00000000\n\
+USP 00000000\nISP 00010000\nMSP 00000000\nPC 00000412\nSR 00002700\n\
+VBR 00000000\nSFC 00000000\nDFC 00000000\nCACR 00000000\n\
+TC 00000000\nITT0 00000000\nITT1 00000000\nDTT0 00000000\nDTT1 00000000\nMMUSR 00000000\nURP 00000000\nSRP 00000000\n\
+CTRL 00000000\nSTATUS 00000002\nPERIOD 00000000\nCOUNT 00000000\nPENDING 00000000\n\
 00000000 00010000000004000000000000000000\n\
 00000400 704113C0FFF0000023FC00000001FFF0\n\
 00000410 00200000000000000000000000000000\n\
@@ -29,28 +80,33 @@ fn writes_a_program_that_ended(rt: HostRuntime) {
     let mut cpu = Cpu::at_reset(0x1_0000, 0x412);
     cpu.regs.d[0] = 0x41;
     let outcome = Outcome {
-        cpu: &cpu,
         console: b"A",
         steps: 3,
         state: RunState::Off,
         ram: &ram,
+        ..nothing(&cpu, &NO_MMU)
     };
     let text = WORKED.as_bytes();
-    assert_eq!(rt; text.len(), 302);
-    for (room, want) in [(100, Err(SinkFault)), (301, Err(SinkFault)), (302, Ok(()))] {
+    assert_eq!(rt; text.len(), 667);
+    for (room, want) in [(100, Err(SinkFault)), (666, Err(SinkFault)), (667, Ok(()))] {
         let mut out = MemSink::new(rt.alloc(), room, Vec::new(rt.alloc())).expect(
             &rt,
             "ample memory",
         );
         assert_eq!(rt; write_outcome(1, &outcome, &mut out), want, "room {room}");
-        assert_eq!(rt; out.bytes(), &text[..room.min(302)], "room {room}");
+        assert_eq!(rt; out.bytes(), &text[..room.min(667)], "room {room}");
     }
 }
 
 const FULL: &str = "guest 16\nstate running\nsteps 4294967295\nconsole 33\n\
 000102030405060708090A0B0C0D0E0F101112131415161718191A1B1C1D1EFF\n20\n\
+lost 18446744073709551615\nqueue 3\n0D0A7F\n\
 D0 00000001\nD1 00000020\nD2 00000300\nD3 00004000\nD4 00050000\nD5 00600000\nD6 07000000\nD7 89ABCDEF\n\
-ISP FFFFFFFE\nPC 00000000\nSR 0000001F\n\
+A0 00000010\nA1 00000011\nA2 00000012\nA3 00000013\nA4 00000014\nA5 00000015\nA6 00000016\n\
+USP 00000020\nISP FFFFFFFE\nMSP 00000021\nPC 00000000\nSR 0000001F\n\
+VBR 00000022\nSFC 00000001\nDFC 00000005\nCACR 80008000\n\
+TC 00008000\nITT0 00000031\nITT1 00000032\nDTT0 00000033\nDTT1 00000034\nMMUSR 00000035\nURP 00000036\nSRP 00000037\n\
+CTRL 00000001\nSTATUS 00000007\nPERIOD 00000040\nCOUNT 00000041\nPENDING 00000001\n\
 00000010 00000000000000000000000000000001\n\
 00000030 F0000000000000000000000000000000\n\
 end\n";
@@ -79,10 +135,36 @@ fn writes_every_place(rt: HostRuntime) {
     ];
     let d = &mut cpu.regs.d;
     *d = values;
+    let a = &mut cpu.regs.a;
+    *a = [0x10, 0x11, 0x12, 0x13, 0x14, 0x15, 0x16];
+    cpu.regs.usp = 0x20;
+    cpu.regs.msp = 0x21;
     cpu.regs.sr = 0x1f;
+    cpu.vbr = 0x22;
+    cpu.sfc = 1;
+    cpu.dfc = 5;
+    cpu.cacr = 0x8000_8000;
+    let mmu = Mmu {
+        tc: 0x8000,
+        itt0: 0x31,
+        itt1: 0x32,
+        dtt0: 0x33,
+        dtt1: 0x34,
+        mmusr: 0x35,
+        urp: 0x36,
+        srp: 0x37,
+    };
     let outcome = Outcome {
         cpu: &cpu,
+        mmu: &mmu,
         console: &console,
+        lost: u64::MAX,
+        queue: queue_of(&[13, 10, 127]),
+        ctrl: 1,
+        status: 7,
+        period: 0x40,
+        count: 0x41,
+        pending: 1,
         steps: 4_294_967_295,
         state: RunState::Running,
         ram: &ram,
@@ -98,11 +180,8 @@ fn writes_states(rt: HostRuntime) {
     let cpu = Cpu::at_reset(0, 0);
     for (state, want) in [(RunState::Stopped, "stopped"), (RunState::Halted, "halted")] {
         let outcome = Outcome {
-            cpu: &cpu,
-            console: b"",
-            steps: 0,
             state,
-            ram: b"",
+            ..nothing(&cpu, &NO_MMU)
         };
         let mut out = MemSink::new(rt.alloc(), 1_000, Vec::new(rt.alloc())).expect(
             &rt,
@@ -112,6 +191,67 @@ fn writes_states(rt: HostRuntime) {
         let text = out.bytes();
         assert!(rt; text.starts_with(b"guest 2\nstate "), "{want}");
         assert!(rt; text[14..].starts_with(want.as_bytes()), "{want}");
-        assert!(rt; text.ends_with(b"\nSR 00002700\nend\n"), "{want}");
+        assert!(rt; text.ends_with(b"\nPENDING 00000000\nend\n"), "{want}");
+    }
+}
+
+/// Two outcomes that differ in one thing, whichever it is, are not the same.
+#[test]
+fn tells_outcomes_apart(rt: HostRuntime) {
+    let cpu = Cpu::at_reset(8, 4);
+    let other = Cpu {
+        dfc: 1,
+        ..Cpu::at_reset(8, 4)
+    };
+    let mmu = Mmu {
+        srp: 0x200,
+        ..NO_MMU
+    };
+    let first = || nothing(&cpu, &NO_MMU);
+    let others = [
+        nothing(&other, &NO_MMU),
+        nothing(&cpu, &mmu),
+        Outcome {
+            console: b"A",
+            ..first()
+        },
+        Outcome { lost: 1, ..first() },
+        Outcome {
+            queue: queue_of(&[0]),
+            ..first()
+        },
+        Outcome { ctrl: 1, ..first() },
+        Outcome {
+            status: 3,
+            ..first()
+        },
+        Outcome {
+            period: 1,
+            ..first()
+        },
+        Outcome {
+            count: 1,
+            ..first()
+        },
+        Outcome {
+            pending: 1,
+            ..first()
+        },
+        Outcome {
+            steps: 1,
+            ..first()
+        },
+        Outcome {
+            state: RunState::Off,
+            ..first()
+        },
+        Outcome {
+            ram: &[0; 16],
+            ..first()
+        },
+    ];
+    assert!(rt; same(&first(), &nothing(&Cpu::at_reset(8, 4), &NO_MMU)));
+    for (i, outcome) in others.iter().enumerate() {
+        assert!(rt; !same(&first(), outcome), "{i}");
     }
 }

@@ -6,5 +6,5 @@ abbrev pub invariant-loop : goal.invariant-loop
 invariant-loop l = record {
   run : run_of (l.steps - l.counter) l.self ≡ run_of l.steps l.initial.self;
   room : l.self.steps + (l.steps - l.counter) < 2 ^ 32;
-  ram : length l.self.ram ≡ length l.initial.self.ram;
+  ram : length l.self.world.ram ≡ length l.initial.self.world.ram;
 }
