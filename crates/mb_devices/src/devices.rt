@@ -167,6 +167,7 @@ impl Devices {
     }
 
     /// One step of the machine passes: the timer counts it.
+    #[inline(always)]
     #[tactic(auto, unfolding(crate::specs::Devices::ticked))]
     pub fn tick(&mut self)
         ensures { self.new ≡ ticked self.old }
@@ -182,9 +183,11 @@ impl Devices {
     }
 
     /// The interrupt level that is asked for: 0, 4 or 6.
+    #[inline(always)]
     #[tactic(auto, unfolding(crate::specs::Devices::level_of))]
     pub fn level(&self) -> u8
-        ensures { result ≡ level_of self.now }
+        ensures means { result ≡ level_of self.now }
+        ensures within { result ≤ 6 }
     {
         if self.pending {
             6
@@ -221,6 +224,7 @@ impl Devices {
     }
 
     /// Whether the machine is to be switched off at the end of the step.
+    #[inline(always)]
     pub fn is_off(&self) -> bool
         ensures { result ≡ self.now.off }
     {

@@ -61,19 +61,25 @@ pub struct Regs {
 }
 
 impl Regs {
-    fn is_supervisor(&self) -> bool
+    /// S: supervisor mode.
+    #[inline(always)]
+    pub fn is_supervisor(&self) -> bool
         ensures { result ≡ is_supervisor self.now.sr }
     {
         self.sr >> 13 & 1 == 1
     }
 
-    fn is_master(&self) -> bool
+    /// M: the master stack, where S is set.
+    #[inline(always)]
+    pub fn is_master(&self) -> bool
         ensures { result ≡ is_master self.now.sr }
     {
         self.sr >> 12 & 1 == 1
     }
 
-    fn active_stack(&self) -> u32
+    /// A7: the stack pointer that S and M choose.
+    #[inline(always)]
+    pub fn active_stack(&self) -> u32
         ensures { result ≡ active_stack self.now }
     {
         if !self.is_supervisor() {
@@ -85,7 +91,9 @@ impl Regs {
         }
     }
 
-    fn set_active_stack(&mut self, top: u32)
+    /// Makes this A7.
+    #[inline(always)]
+    pub fn set_active_stack(&mut self, top: u32)
         ensures { self.new ≡ with_stack self.old top }
     {
         if !self.is_supervisor() {

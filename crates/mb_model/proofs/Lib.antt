@@ -1,0 +1,3 @@
+pub mod KeepingLemmas
+pub mod NamesLemmas
+pub mod ApartLemmas

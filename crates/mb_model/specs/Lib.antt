@@ -1,2 +1,5 @@
+pub mod Control
+pub mod Keeping
 pub mod Reset
 pub mod Seen
+pub mod Status

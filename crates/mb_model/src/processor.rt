@@ -2,8 +2,10 @@
 
 ghost use Rattle.std.specs.Prelude.{◌≡◌};
 ghost use Rattle.mb_model.specs.Reset.{at_reset};
+ghost use Rattle.mb_model.specs.Status.{space_of};
 
 use mb_instr::Regs;
+use mb_port::Space;
 
 /// The processor: its registers, its control registers but those of translation, and whether STOP
 /// holds it.
@@ -20,6 +22,18 @@ pub struct Cpu {
 }
 
 impl Cpu {
+    /// The space of its accesses, by S.
+    #[inline(always)]
+    pub fn space(&self) -> Space
+        ensures { result ≡ space_of self.now }
+    {
+        if self.regs.is_supervisor() {
+            Space::Super
+        } else {
+            Space::User
+        }
+    }
+
     /// The processor after reset, with the initial stack pointer and program counter: supervisor
     /// mode, interrupts masked, every other register 0.
     #[tactic(auto, unfolding(crate::specs::Reset::at_reset))]

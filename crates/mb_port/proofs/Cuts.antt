@@ -54,6 +54,25 @@ cut_are zero at left = tt
 cut_are (suc n) at zero = tt
 cut_are (suc n) at (suc left) = (piece_is at (suc left) (omega arith), cut_are n _ _)
 
+-- where there are pieces enough, their number does not matter
+pub cut_enough : (n m at left : ℕ) → left ≤ n → left ≤ m → cut n at left ≡ cut m at left
+cut_enough zero m at zero h k = sym (cut_none m at)
+cut_enough zero m at (suc left) h k = absurd (omega arith)
+cut_enough (suc n) m at zero h k = sym (cut_none m at)
+cut_enough (suc n) zero at (suc left) h k = absurd (omega arith)
+cut_enough (suc n) (suc m) at (suc left) h k =
+    let fits = piece_fits at (suc left) (omega arith) in
+    ap (λ more. record { at = at; len = piece_len at (suc left) } ∷ more) (cut_enough n m _ _ (omega arith) (omega arith))
+
+-- the first piece of a whole cut, and the cut of the bytes behind it
+pub cut_first : (at left : ℕ) → 0 < left
+    → cut left at left ≡ record { at = at; len = piece_len at left }
+    ∷ cut (left - piece_len at left) ((at + piece_len at left) % 2 ^ 32) (left - piece_len at left)
+cut_first at zero h = absurd (omega arith)
+cut_first at (suc left) h =
+    let fits = piece_fits at (suc left) h in
+    ap (λ more. record { at = at; len = piece_len at (suc left) } ∷ more) (cut_enough left _ _ _ (omega arith) (omega arith))
+
 -- what is left after a piece, and where it begins
 left_after : ℕ → ℕ → ℕ
 left_after at left = left - piece_len at left

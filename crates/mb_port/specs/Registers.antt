@@ -13,3 +13,13 @@ with_mmu_register m Dtt1 v = record m { dtt1 = v }
 with_mmu_register m Mmusr v = record m { mmusr = v }
 with_mmu_register m Urp v = record m { urp = v }
 with_mmu_register m Srp v = record m { srp = v }
+
+abbrev pub mmu_register : Mmu → MmuReg → ℕ
+mmu_register m Tc = m.tc
+mmu_register m Itt0 = m.itt0
+mmu_register m Itt1 = m.itt1
+mmu_register m Dtt0 = m.dtt0
+mmu_register m Dtt1 = m.dtt1
+mmu_register m Mmusr = m.mmusr
+mmu_register m Urp = m.urp
+mmu_register m Srp = m.srp

@@ -10,7 +10,7 @@ mod types;
 
 pub use bus::Port;
 pub use longs::{lay, unlay};
-pub use pieces::split;
+pub use pieces::{first_piece, split};
 pub use types::{Fault, Flush, Mmu, MmuReg, Piece, Place, Space};
 
 #[cfg(test)]

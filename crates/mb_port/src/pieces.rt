@@ -1,8 +1,8 @@
 //! The pieces of an operand.
 
-ghost use Rattle.std.specs.Prelude.{◌≡◌, ◌<◌, ◌≤◌, length};
-ghost use Rattle.mb_port.specs.Pieces.{piece_len as longest, split_of, total, bytes_from, bytes_of, ArePieces};
-ghost use Rattle.mb_port.specs.Pieces.{IsGreedy, IsFewest};
+ghost use Rattle.std.specs.Prelude.{◌≡◌, ◌<◌, ◌≤◌, ◌+◌, ◌-◌, ◌%◌, ◌^◌, ◌∷◌, length};
+ghost use Rattle.mb_port.specs.Pieces.{piece_len as longest, cut, split_of, total, bytes_from, bytes_of, ArePieces};
+ghost use Rattle.mb_port.specs.Pieces.{IsPiece, IsGreedy, IsFewest};
 
 use crate::types::Piece;
 use arrayvec::ArrayVec;
@@ -20,6 +20,23 @@ fn piece_len(at: u32, left: u8) -> u8
         2
     } else {
         1
+    }
+}
+
+/// The longest piece that begins at `at` and fits into `left` bytes: the first one of their greedy cut, whose rest is
+/// the cut of the bytes behind it.
+#[tactic(auto, using(crate::proofs::Cuts::cut_first), unfolding(crate::specs::Pieces::piece_len))]
+pub fn first_piece(at: u32, left: u8) -> Piece
+    requires { 0 < left }
+    ensures piece { result ≡ record { at = at; len = longest at left } }
+    ensures aligned { IsPiece result }
+    ensures fits { result.len ≤ left }
+    ensures cut { cut left at left
+        ≡ result ∷ cut (left - result.len) ((at + result.len) % 2 ^ 32) (left - result.len) }
+{
+    Piece {
+        at,
+        len: piece_len(at, left),
     }
 }
 

@@ -1,6 +1,21 @@
 //! Cuts and longs worked by hand.
 
-use crate::{Piece, lay, split, unlay};
+use crate::{Piece, first_piece, lay, split, unlay};
+
+#[test]
+fn first_pieces_by_hand(rt: HostRuntime) {
+    // An address, how many bytes are left, and how many the piece has.
+    for (at, left, len) in [
+        (0x7FC4, 60, 4),
+        (0x7FC6, 60, 2),
+        (0x7FC5, 60, 1),
+        (8, 3, 2),
+        (8, 1, 1),
+    ] {
+        assert!(rt; 1 <= left);
+        assert_eq!(rt; first_piece(at, left), Piece { at, len });
+    }
+}
 
 #[test]
 fn cuts_by_hand(rt: HostRuntime) {

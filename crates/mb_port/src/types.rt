@@ -1,7 +1,7 @@
 //! The words of the bus.
 
 ghost use Rattle.std.specs.Prelude.{◌≡◌};
-ghost use Rattle.mb_port.specs.Registers.{with_mmu_register};
+ghost use Rattle.mb_port.specs.Registers.{mmu_register, with_mmu_register};
 
 /// The address space of an access: the manual's user or supervisor space.
 #[derive(Clone, Copy, Debug, PartialEq, Eq)]
@@ -71,6 +71,23 @@ pub enum MmuReg {
 }
 
 impl Mmu {
+    /// Reads one register.
+    #[inline(always)]
+    pub fn get(&self, which: MmuReg) -> u32
+        ensures { result ≡ mmu_register self.now which }
+    {
+        match which {
+            MmuReg::Tc => self.tc,
+            MmuReg::Itt0 => self.itt0,
+            MmuReg::Itt1 => self.itt1,
+            MmuReg::Dtt0 => self.dtt0,
+            MmuReg::Dtt1 => self.dtt1,
+            MmuReg::Mmusr => self.mmusr,
+            MmuReg::Urp => self.urp,
+            MmuReg::Srp => self.srp,
+        }
+    }
+
     /// Writes one register, with all bits of the value.
     pub fn set(&mut self, which: MmuReg, value: u32)
         ensures { self.new ≡ with_mmu_register self.old which value }
