@@ -1,0 +1,124 @@
+//! The translations that the board keeps.
+
+ghost use Rattle.std.specs.Prelude.{◌≡◌, ◌<◌, ◌+◌, ◌%◌, ◌^◌, IfOk, IfSome, if◌then◌else◌};
+ghost use Rattle.mb_model.specs.Keeping.{NamesPages, entry_for, entry_in, filled, filled_in, flushed, flushed_in};
+ghost use Rattle.mb_model.specs.Keeping.{nothing_kept};
+ghost use Rattle.mb_model.specs.Keeping.{rule_a};
+
+use arrayvec::ArrayVec;
+use mb_model::{Kept, entry_in, place_in};
+use mb_outside::Memory;
+use mb_port::{Flush, Space};
+use std::alloc::Global;
+use std::marker::Model;
+
+/// How many classes there are.
+const CLASSES: usize = 32;
+
+/// How many entries a class keeps.
+const CAPACITY: usize = 4;
+
+/// The entries of a class, the oldest first.
+type Set = ArrayVec<Kept, CAPACITY>;
+
+/// The translations that the board keeps, by its rule: a class of four for each side and page modulo 16.
+///
+/// Nothing shows the order of entries of different classes, so a contract sees one list a class, each in order of
+/// filling.
+#[derive(Drop)]
+pub struct Atc {
+    sets: Vec<Set>,
+}
+
+impl Model for Atc {
+    ghost use Rattle.std.specs.Prelude.{◌≡◌, map, length};
+    ghost use Rattle.std.specs.List.{All};
+    ghost use Rattle.mb_model.specs.Keeping.{KeptLists, NamesPages};
+
+    ghost Value = { KeptLists };
+
+    ghost view = { λ a. map (λ set. set.items) a.sets.items };
+
+    ghost invariant = { λ a. (length a.sets.items ≡ 32) × All (λ set. All NamesPages set.items) a.sets.items };
+}
+
+/// The class of a side and a page.
+#[inline(always)]
+fn class_of(code: bool, page: u32) -> usize
+    ensures class { result ≡ page % 16 + (if code then 16 else 0) }
+    ensures inside { result < 32 }
+{
+    (page % 16) as usize + if code { 16 } else { 0 }
+}
+
+/// Makes an entry the newest of a set.
+#[tactic(auto, using(mb_model::proofs::KeepingLemmas::places), unfolding(mb_model::specs::Keeping::filled_in))]
+fn fill_set(set: &mut Set, k: Kept)
+    ensures { set.new.items ≡ filled_in CAPACITY k set.old.items }
+{
+    match place_in(set, k.space, k.page) {
+        Some(older) => {
+            set.remove(older);
+        }
+        None => {
+            if set.is_full() {
+                set.remove(0);
+            }
+        }
+    }
+    set.push(k);
+}
+
+fn flush_set(set: &mut Set, what: Flush)
+    ensures { set.new.items ≡ flushed_in what set.old.items }
+{
+    set.retain(|k| !k.is_covered(what));
+}
+
+impl Atc {
+    /// Nothing kept. It takes all the memory that it will need.
+    pub fn new(alloc: Global) -> Result<Atc, Memory>
+        ensures { IfOk result (λ atc. atc ≡ nothing_kept rule_a) }
+    {
+        match vec![in alloc; Set::new(); CLASSES] {
+            Ok(sets) => Ok(Atc { sets }),
+            Err(_) => Err(Memory),
+        }
+    }
+
+    /// The entry for an access of a side, space and page. `None` exactly where none is kept.
+    #[inline(always)]
+    #[tactic(auto, using(mb_model::proofs::NamesLemmas::names))]
+    pub fn find(&self, code: bool, space: Space, page: u32) -> Option<Kept>
+        ensures entry { result ≡ entry_for rule_a code space page self.now }
+        ensures names { IfSome result NamesPages }
+    {
+        entry_in(&self.sets[class_of(code, page)], space, page)
+    }
+
+    /// Keeps an entry for a side. An older one of its space and page goes; else, where its class is full, the oldest
+    /// of the class.
+    pub fn fill(&mut self, code: bool, k: Kept)
+        requires { NamesPages k }
+        ensures { self.new ≡ filled rule_a code k self.old }
+    {
+        fill_set(&mut self.sets[class_of(code, k.page)], k);
+    }
+
+    /// Drops entries of both sides.
+    pub fn flush(&mut self, what: Flush)
+        ensures { self.new ≡ flushed what self.old }
+    {
+        for set in self.sets.iter_mut() {
+            flush_set(set, what);
+        }
+    }
+
+    /// Drops all that is kept.
+    pub fn clear(&mut self)
+        ensures { self.new ≡ nothing_kept rule_a }
+    {
+        let _ = &self.sets;
+        self.flush(Flush::All);
+    }
+}

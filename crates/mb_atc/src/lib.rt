@@ -1,0 +1,11 @@
+//! The board's kept translations: four for each side and page modulo 16.
+//!
+//! The board stands on it.
+#![tactic(auto)]
+
+mod atc;
+
+pub use atc::Atc;
+
+#[cfg(test)]
+mod tests;

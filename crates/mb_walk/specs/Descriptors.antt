@@ -1,0 +1,95 @@
+-- The descriptors of the translation tables, as read from their longs.
+use Rattle.std.specs.Prelude.{ℕ, ◌+◌, ◌*◌, ◌/◌, ◌%◌, ◌^◌, ◌==◌, ◌&&◌, ◌||◌, Bool, true, false, not, if◌then◌else◌}
+use Rattle.std.specs.Prelude.{bit_and}
+use Rattle.mb_port.specs.declared.types.Space.{Space}
+use Rattle.mb_port.specs.declared.types.Space.TheVariants.{User, Super}
+use Rattle.mb_model.specs.declared.kept.Kept.{Kept}
+use Rattle.mb_walk.specs.declared.descriptors.TableDescriptor.{TableDescriptor}
+use Rattle.mb_walk.specs.declared.descriptors.PageDescriptor.{PageDescriptor}
+
+-- a long with the bit of this number set
+abbrev pub with_bit : ℕ → ℕ → ℕ
+with_bit long bit = if long / 2 ^ bit % 2 == 1 then long else long + 2 ^ bit
+
+-- an entry of a root or pointer table, as read from its long
+abbrev pub table_descriptor : ℕ → TableDescriptor
+table_descriptor long = record {
+  resident = long / 2 ^ 1 % 2 == 1;
+  protected = long / 2 ^ 2 % 2 == 1;
+  used = long / 2 ^ 3 % 2 == 1;
+}
+
+-- an entry of a page table, as read from its long
+abbrev pub page_descriptor : ℕ → PageDescriptor
+page_descriptor long = record {
+  resident = long % 2 == 1;
+  indirect = long % 4 == 2;
+  protected = long / 2 ^ 2 % 2 == 1;
+  used = long / 2 ^ 3 % 2 == 1;
+  modified = long / 2 ^ 4 % 2 == 1;
+  supervisor = long / 2 ^ 7 % 2 == 1;
+  global = long / 2 ^ 10 % 2 == 1;
+  frame = long / 2 ^ 12;
+}
+
+-- a descriptor marked as used, and as modified
+abbrev pub with_used : ℕ → ℕ
+with_used long = with_bit long 3
+
+abbrev pub with_modified : ℕ → ℕ
+with_modified long = with_bit long 4
+
+-- the place that an indirect descriptor names
+abbrev pub indirection : ℕ → ℕ
+indirection long = long / 4 * 4
+
+-- the bytes of a root or pointer table, and of a page table
+abbrev pub table_bytes : ℕ
+table_bytes = 512
+
+abbrev pub page_table_bytes : ℕ
+page_table_bytes = 256
+
+-- a page's indices: bits 31 to 25, 24 to 18 and 17 to 12 of its address
+abbrev pub root_index : ℕ → ℕ
+root_index page = page / 2 ^ 13
+
+abbrev pub pointer_index : ℕ → ℕ
+pointer_index page = page / 2 ^ 6 % 2 ^ 7
+
+abbrev pub page_index : ℕ → ℕ
+page_index page = page % 2 ^ 6
+
+-- the place of the entry of this index in the table of so many bytes that a root or a descriptor names
+abbrev pub entry_at : ℕ → ℕ → ℕ → ℕ
+entry_at table bytes index = table / bytes * bytes + 4 * index
+
+abbrev pub is_user : Space → Bool
+is_user User = true
+is_user Super = false
+
+-- does a page, reached with write protection above it or not, take writes from a space
+abbrev pub takes_writes : PageDescriptor → Bool → Space → Bool
+takes_writes d protected space = not (protected || d.protected) && not (d.supervisor && is_user space)
+
+-- the long of a page's descriptor once it is marked used, and modified where a write is made that it takes
+abbrev pub marked : ℕ → Bool → Space → Bool → ℕ
+marked long protected space write =
+    if write && takes_writes (page_descriptor long) protected space then with_modified (with_used long)
+    else with_used long
+
+-- what is kept of a page's descriptor
+abbrev pub kept_of : PageDescriptor → Bool → Space → ℕ → Kept
+kept_of d protected space page = record {
+  space = space;
+  page = page;
+  frame = d.frame;
+  w = protected || d.protected;
+  s = d.supervisor;
+  g = d.global;
+  m = d.modified;
+}
+
+-- MMUSR for a page's descriptor: its bits 31 to 12 and 10 to 4, in bit 2 W of it or of a table above it, and R in bit 0
+abbrev pub resident_status : ℕ → Bool → ℕ
+resident_status long w = bit_and long 0xFFFFF7F0 + (if w then 5 else 1)

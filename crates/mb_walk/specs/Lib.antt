@@ -1,0 +1,5 @@
+pub mod Memory
+pub mod Descriptors
+pub mod Transparent
+pub mod Search
+pub mod Laws

@@ -1,0 +1,20 @@
+-- Memory as a list of bytes, and big-endian numbers in it.
+use Rattle.std.specs.Prelude.{ℕ, ◌+◌, ◌^◌, ◌<◌, List, ◌++◌, length, take, drop}
+use Rattle.std.specs.List.{All}
+use Rattle.byteorder.specs.Endian.{big_number, big_bytes}
+
+-- the number that so many bytes spell from a place on, the highest byte first
+abbrev pub number_at : List ℕ → ℕ → ℕ → ℕ
+number_at ram at len = big_number len (drop at ram)
+
+-- memory with these bytes from a place on
+abbrev pub overwritten : List ℕ → ℕ → List ℕ → List ℕ
+overwritten ram at bytes = take at ram ++ bytes ++ drop (at + length bytes) ram
+
+-- memory with a number of so many bytes from a place on
+abbrev pub with_number : List ℕ → ℕ → ℕ → ℕ → List ℕ
+with_number ram at len value = overwritten ram at (big_bytes len value)
+
+-- each element is a byte
+abbrev pub AreBytes : List ℕ → Type 0
+AreBytes ram = All (λ byte. byte < 2 ^ 8) ram

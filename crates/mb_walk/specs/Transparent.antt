@@ -1,0 +1,29 @@
+-- The transparent translation registers: pages whose physical address is the logical one.
+use Rattle.std.specs.Prelude.{ℕ, ◌/◌, ◌%◌, ◌^◌, ◌==◌, ◌&&◌, Bool, not, if◌then◌else◌, bit_or, Option, Some, None}
+use Rattle.mb_port.specs.declared.types.Space.{Space}
+use Rattle.mb_port.specs.declared.types.Space.TheVariants.{User, Super}
+use Rattle.mb_walk.specs.declared.transparency.TransparentRegister.{TransparentRegister}
+
+abbrev pub transparent_register : ℕ → TransparentRegister
+transparent_register long = record {
+  enabled = long / 2 ^ 15 % 2 == 1;
+  spaces = long / 2 ^ 13 % 4;
+  base = long / 2 ^ 24;
+  ignored = long / 2 ^ 16 % 2 ^ 8;
+  protected = long / 2 ^ 2 % 2 == 1;
+}
+
+abbrev pub admits_space : ℕ → Space → Bool
+admits_space spaces User = not (spaces == 1)
+admits_space spaces Super = not (spaces == 0)
+
+-- does it match a page: its number's bits 19 to 12 are the address's bits 31 to 24
+abbrev pub matches : TransparentRegister → Space → ℕ → Bool
+matches r space page =
+    r.enabled && (admits_space r.spaces space && (bit_or (page / 2 ^ 12) r.ignored == bit_or r.base r.ignored))
+
+-- the write protection of the first of two registers that matches a page, where one does
+unfoldable pub transparent_of : ℕ → ℕ → Space → ℕ → Option Bool
+transparent_of tt0 tt1 space page =
+    if matches (transparent_register tt0) space page then Some (transparent_register tt0).protected
+    else if matches (transparent_register tt1) space page then Some (transparent_register tt1).protected else None

@@ -1,0 +1,205 @@
+//! The search through three levels of tables.
+
+ghost use Rattle.std.specs.Prelude.{◌≡◌, ℕ, ◌+◌, ◌*◌, ◌/◌, ◌%◌, ◌<◌, ◌≤◌, ◌^◌, ◌⊎◌, length, IfErr};
+ghost use Rattle.mb_walk.specs.Memory.{number_at, with_number};
+ghost use Rattle.mb_walk.specs.Descriptors.{entry_at, marked, resident_status, with_used as used, is_user};
+ghost use Rattle.mb_model.specs.Keeping.{NamesPages};
+ghost use Rattle.mb_walk.specs.Search.{OnEntry};
+ghost use Rattle.mb_walk.specs.Search.{descended, paged, pointed, ended, search_of, is_inside as stands_inside};
+
+use crate::descriptors::{PageDescriptor, TableDescriptor, with_bit};
+use crate::found::Found;
+use crate::ram::Ram;
+use mb_model::Kept;
+use mb_port::Space;
+
+/// The bytes of a root or pointer table.
+const TABLE_BYTES: u32 = 512;
+
+/// The bytes of a page table.
+const PAGE_TABLE_BYTES: u32 = 256;
+
+/// A search, but for the root.
+#[derive(Clone, Copy)]
+struct Sought {
+    space: Space,
+    /// The number of the page of 4 KiB.
+    page: u32,
+    write: bool,
+}
+
+/// The place of an entry of the table of so many bytes that a root or a descriptor names.
+#[inline(always)]
+fn entry_place(table: u32, bytes: u32, index: u32) -> u32
+    requires bytes { (bytes ≡ TABLE_BYTES) ⊎ (bytes ≡ PAGE_TABLE_BYTES) }
+    requires inside { 4 * index < bytes }
+    ensures place { result ≡ entry_at table bytes index }
+    ensures aligned { result % 4 ≡ 0 }
+{
+    table / bytes * bytes + 4 * index
+}
+
+/// Whether the descriptor at a place stands in memory.
+#[inline(always)]
+fn is_inside<R: Ram>(ram: &R, place: u32) -> bool
+    ensures { result ≡ stands_inside (R.bytes ram.now) place }
+{
+    u64::from(place) + 4 <= u64::from(ram.size())
+}
+
+#[inline(always)]
+fn with_used(long: u32) -> u32
+    ensures { result ≡ used long }
+{
+    with_bit(long, 3)
+}
+
+/// The long of a page's descriptor once it is marked.
+#[inline(always)]
+fn mark(long: u32, protected: bool, sought: Sought) -> u32
+    ensures { result ≡ marked long protected sought.space sought.write }
+{
+    let page = PageDescriptor::of(long);
+    let refused = page.supervisor && matches!(sought.space, Space::User);
+    if sought.write && !(protected || page.protected) && !refused {
+        with_bit(with_used(long), 4)
+    } else {
+        with_used(long)
+    }
+}
+
+/// MMUSR for a page's descriptor, write-protected by it or above it or not.
+#[inline(always)]
+fn status(long: u32, w: bool) -> u32
+    ensures { result ≡ resident_status long w }
+{
+    (long & 0xFFFF_F7F0) + if w { 5 } else { 1 }
+}
+
+/// Reads a table's descriptor, and marks it used where its table is resident.
+#[inline(always)]
+#[tactic(auto, using(crate::proofs::MemoryLemmas::lengths), unfolding(crate::specs::Search::descended))]
+fn descend<R: Ram>(ram: &mut R, place: u32) -> Result<u32, Found>
+    requires { place % 4 ≡ 0 }
+    ensures level { descended (R.bytes ram.old) place ≡ record { ram = R.bytes ram.new; descriptor = result } }
+    ensures end { IfErr result (λ found. (found ≡ Found.Invalid) ⊎ (found ≡ Found.BusError)) }
+    ensures size { length (R.bytes ram.new) ≡ length (R.bytes ram.old) }
+    ensures rest { R.rest ram.new ≡ R.rest ram.old }
+{
+    if !is_inside(ram, place) {
+        return Err(Found::BusError);
+    }
+    let long = ram.long(place);
+    if TableDescriptor::of(long).resident {
+        ram.set_long(place, with_used(long));
+        Ok(long)
+    } else {
+        Err(Found::Invalid)
+    }
+}
+
+/// Marks the resident descriptor of a page.
+#[inline(always)]
+#[tactic(auto, using(crate::proofs::MemoryLemmas::lengths), unfolding(crate::specs::Search::paged))]
+fn reach<R: Ram>(ram: &mut R, place: u32, sought: Sought, protected: bool) -> Found
+    requires aligned { place % 4 ≡ 0 }
+    requires inside { place + 4 ≤ length (R.bytes ram.old) }
+    ensures end { paged (R.bytes ram.old) place sought.space sought.page protected sought.write
+        ≡ record { ram = R.bytes ram.new; found = result } }
+    ensures entry { OnEntry result (λ k. (k.space ≡ sought.space) × (k.page ≡ sought.page) × (k.frame < 2 ^ 20)) }
+    ensures size { length (R.bytes ram.new) ≡ length (R.bytes ram.old) }
+    ensures rest { R.rest ram.new ≡ R.rest ram.old }
+{
+    let long = mark(ram.long(place), protected, sought);
+    ram.set_long(place, long);
+    let page = PageDescriptor::of(long);
+    let kept = Kept {
+        space: sought.space,
+        page: sought.page,
+        frame: page.frame,
+        w: protected || page.protected,
+        s: page.supervisor,
+        g: page.global,
+        m: page.modified,
+    };
+    Found::Entry(kept, status(long, kept.w))
+}
+
+/// Reads the descriptor that an indirect one names.
+#[inline(always)]
+#[tactic(auto, unfolding(crate::specs::Search::pointed))]
+fn follow<R: Ram>(ram: &mut R, place: u32, sought: Sought, protected: bool) -> Found
+    requires { place % 4 ≡ 0 }
+    ensures end { pointed (R.bytes ram.old) place sought.space sought.page protected sought.write
+        ≡ record { ram = R.bytes ram.new; found = result } }
+    ensures entry { OnEntry result (λ k. (k.space ≡ sought.space) × (k.page ≡ sought.page) × (k.frame < 2 ^ 20)) }
+    ensures size { length (R.bytes ram.new) ≡ length (R.bytes ram.old) }
+    ensures rest { R.rest ram.new ≡ R.rest ram.old }
+{
+    if !is_inside(ram, place) {
+        Found::BusError
+    } else if PageDescriptor::of(ram.long(place)).resident {
+        reach(ram, place, sought, protected)
+    } else {
+        Found::Invalid
+    }
+}
+
+/// Reads the entry of the page's table.
+#[inline(always)]
+#[tactic(auto, unfolding(crate::specs::Search::ended))]
+fn end<R: Ram>(ram: &mut R, place: u32, sought: Sought, protected: bool) -> Found
+    requires { place % 4 ≡ 0 }
+    ensures end { ended (R.bytes ram.old) place sought.space sought.page protected sought.write
+        ≡ record { ram = R.bytes ram.new; found = result } }
+    ensures entry { OnEntry result (λ k. (k.space ≡ sought.space) × (k.page ≡ sought.page) × (k.frame < 2 ^ 20)) }
+    ensures size { length (R.bytes ram.new) ≡ length (R.bytes ram.old) }
+    ensures rest { R.rest ram.new ≡ R.rest ram.old }
+{
+    if !is_inside(ram, place) {
+        return Found::BusError;
+    }
+    let long = ram.long(place);
+    let page = PageDescriptor::of(long);
+    if page.resident {
+        reach(ram, place, sought, protected)
+    } else if page.indirect {
+        follow(ram, long / 4 * 4, sought, protected)
+    } else {
+        Found::Invalid
+    }
+}
+
+/// Searches for the page of an address of a space, through the tables below a root, for a write or not.
+///
+/// Each descriptor on the way is marked used, and the page's is marked modified where a write is made that it takes.
+/// The root's bits 8 to 0 are ignored.
+#[tactic(auto, unfolding(crate::specs::Search::search_of))]
+pub fn search<R: Ram>(ram: &mut R, root: u32, space: Space, at: u32, write: bool) -> Found
+    ensures means { search_of (R.bytes ram.old) root space (at / 4096) write
+        ≡ record { ram = R.bytes ram.new; found = result } }
+    ensures entry { OnEntry result (λ k. (k.space ≡ space) × (k.page ≡ at / 4096) × NamesPages k) }
+    ensures size { length (R.bytes ram.new) ≡ length (R.bytes ram.old) }
+    ensures rest { R.rest ram.new ≡ R.rest ram.old }
+{
+    let sought = Sought {
+        space,
+        page: at / 4096,
+        write,
+    };
+    let pointer = match descend(ram, entry_place(root, TABLE_BYTES, at >> 25)) {
+        Ok(pointer) => pointer,
+        Err(found) => return found,
+    };
+    let leaf = match descend(ram, entry_place(pointer, TABLE_BYTES, at >> 18 & 0x7F)) {
+        Ok(leaf) => leaf,
+        Err(found) => return found,
+    };
+    let protected = TableDescriptor::of(pointer).protected || TableDescriptor::of(leaf).protected;
+    end(
+        ram,
+        entry_place(leaf, PAGE_TABLE_BYTES, at >> 12 & 0x3F),
+        sought,
+        protected,
+    )
+}

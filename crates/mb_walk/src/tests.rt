@@ -1,0 +1,202 @@
+//! Walks worked by hand, with each kind of descriptor.
+
+ghost use Rattle.std.specs.Prelude.{◌≡◌, ◌+◌, ◌≤◌, ◌<◌, ◌^◌, length};
+ghost use Rattle.mb_walk.specs.Memory.{number_at, with_number};
+
+use crate::{
+    Found, PageDescriptor, Ram, TableDescriptor, long_at, search, set_long_at, transparent,
+};
+use Space::{Super, User};
+use mb_model::Kept;
+use mb_port::Space;
+use std::alloc::Global;
+
+const SIZE: u32 = 0x9000;
+
+/// Plain memory.
+#[derive(Drop)]
+struct Bytes {
+    memory: Vec<u8>,
+    ghost size: { length memory.items ≡ 0x9000 },
+}
+
+impl Ram for Bytes {
+    ghost bytes = { λ b. b.memory.items };
+
+    ghost Rest = { Unit {0} };
+
+    ghost rest = { λ b. tt };
+
+    fn size(&self) -> u32 {
+        SIZE
+    }
+
+    fn long(&self, at: u32) -> u32 {
+        long_at(&self.memory, at as usize)
+    }
+
+    #[tactic(auto, using(crate::proofs::MemoryLemmas::lengths))]
+    fn set_long(&mut self, at: u32, value: u32) {
+        set_long_at(&mut self.memory, at as usize, value);
+    }
+}
+
+/// Memory of zeros but for these longs.
+fn memory(alloc: Global, longs: &[(u32, u32)]) -> Option<Bytes> {
+    let mut bytes = Bytes {
+        memory: vec![in alloc; 0u8; SIZE as usize].ok()?,
+    };
+    set(&mut bytes, longs);
+    Some(bytes)
+}
+
+fn set(bytes: &mut Bytes, longs: &[(u32, u32)]) {
+    for (at, value) in longs {
+        if at % 4 == 0 && *at <= SIZE - 4 {
+            bytes.set_long(*at, *value);
+        }
+    }
+}
+
+/// The address that the walks below search for, and its page: entry 1 of the root and of the pointer table, entry 3 of
+/// the page table.
+const AT: u32 = 0x0204_3ABC;
+
+/// The tables' descriptors on the way, at $8004 and $8204, with the page table at $8400.
+const TABLES: [(u32, u32); 2] = [(0x8004, 0x0000_8202), (0x8204, 0x0000_8403)];
+
+/// The place of the page's entry.
+const ENTRY: u32 = 0x840C;
+
+/// What is kept of frame $123, and MMUSR.
+fn entry(space: Space, flags: [bool; 4], status: u32) -> Found {
+    let [w, s, g, m] = flags;
+    Found::Entry(
+        Kept {
+            space,
+            page: 0x2043,
+            frame: 0x123,
+            w,
+            s,
+            g,
+            m,
+        },
+        status,
+    )
+}
+
+#[test]
+fn a_root_that_is_its_own_table(rt: HostRuntime) {
+    let mut bytes = memory(rt.alloc(), &[(0x8000, 0x0000_8002)]).expect(&rt, "memory");
+    assert_eq!(rt; search(&mut bytes, 0x8000, Super, 0, false), Found::Invalid);
+    let wanted = memory(rt.alloc(), &[(0x8000, 0x0000_800A)]).expect(&rt, "memory");
+    assert_eq!(rt; bytes.memory, wanted.memory);
+    assert_eq!(rt;
+        search(&mut bytes, 0x10_0000, Super, 0, false),
+        Found::BusError
+    );
+}
+
+#[test]
+#[rattlefmt::skip]
+fn walks_by_hand(rt: HostRuntime) {
+    let [none, w, s, m]: [[bool; 4]; 4] =
+        [[false; 4], [true, false, false, false], [false, true, false, false], [false, false, false, true]];
+    // The space, a write, the longs that stand beside or in place of the tables' and those that hold something else
+    // afterwards, and what is found.
+    let walks: [(Space, bool, &[(u32, u32)], &[(u32, u32)], Found); 20] = [
+        (User, false, &[(ENTRY, 0x0012_3001)], &[(ENTRY, 0x0012_3009)], entry(User, none, 0x0012_3001)),
+        (User, true, &[(ENTRY, 0x0012_3001)], &[(ENTRY, 0x0012_3019)], entry(User, m, 0x0012_3011)),
+        // PDT 3, with G, U1, U0 and CM
+        (Super, false, &[(ENTRY, 0x0012_3763)], &[(ENTRY, 0x0012_376B)],
+         entry(Super, [false, false, true, false], 0x0012_3761)),
+        // used and modified before
+        (User, false, &[(ENTRY, 0x0012_3019)], &[], entry(User, m, 0x0012_3011)),
+        // W of the page, of the pointer table and of the page table; M stays as it was
+        (User, true, &[(ENTRY, 0x0012_3005)], &[(ENTRY, 0x0012_300D)], entry(User, w, 0x0012_3005)),
+        (User, true, &[(ENTRY, 0x0012_3015)], &[(ENTRY, 0x0012_301D)],
+         entry(User, [true, false, false, true], 0x0012_3015)),
+        (User, true, &[(0x8004, 0x0000_8206), (ENTRY, 0x0012_3001)], &[(0x8004, 0x0000_820E), (ENTRY, 0x0012_3009)],
+         entry(User, w, 0x0012_3005)),
+        (User, true, &[(0x8204, 0x0000_8407), (ENTRY, 0x0012_3001)], &[(0x8204, 0x0000_840F), (ENTRY, 0x0012_3009)],
+         entry(User, w, 0x0012_3005)),
+        // S, from each space
+        (User, true, &[(ENTRY, 0x0012_3081)], &[(ENTRY, 0x0012_3089)], entry(User, s, 0x0012_3081)),
+        (Super, true, &[(ENTRY, 0x0012_3081)], &[(ENTRY, 0x0012_3099)],
+         entry(Super, [false, true, false, true], 0x0012_3091)),
+        // bits 7 to 4 of a table's descriptor say nothing
+        (User, true, &[(0x8204, 0x0000_84F3), (ENTRY, 0x0012_3001)], &[(0x8204, 0x0000_84FB), (ENTRY, 0x0012_3019)],
+         entry(User, m, 0x0012_3011)),
+        // indirect, once and twice, and outside memory
+        (User, true, &[(ENTRY, 0x0000_8502), (0x8500, 0x0012_3001)], &[(0x8500, 0x0012_3019)],
+         entry(User, m, 0x0012_3011)),
+        (User, true, &[(ENTRY, 0x0000_8502), (0x8500, 0x0000_8602), (0x8600, 0x0012_3001)], &[], Found::Invalid),
+        (User, true, &[(ENTRY, 0x0000_9002)], &[], Found::BusError),
+        (User, true, &[(ENTRY, 0xFFFF_FFFE)], &[], Found::BusError),
+        // invalid at each level
+        (User, true, &[(ENTRY, 0x0012_3000)], &[], Found::Invalid),
+        (User, true, &[(0x8204, 0x0000_8401)], &[(0x8204, 0x0000_8401)], Found::Invalid),
+        (User, true, &[(0x8004, 0x0000_8201)], &[(0x8004, 0x0000_8201), (0x8204, 0x0000_8403)], Found::Invalid),
+        // a table outside memory
+        (User, true, &[(0x8004, 0x0000_9002)], &[(0x8004, 0x0000_900A), (0x8204, 0x0000_8403)], Found::BusError),
+        (User, true, &[(0x8204, 0xFFFF_FF03)], &[(0x8204, 0xFFFF_FF0B)], Found::BusError),
+    ];
+    for (space, write, longs, left, wanted) in walks {
+        let mut bytes = memory(rt.alloc(), &TABLES).expect(&rt, "memory");
+        set(&mut bytes, longs);
+        let mut after = memory(rt.alloc(), &TABLES).expect(&rt, "memory");
+        set(&mut after, longs);
+        set(&mut after, &[(0x8004, 0x0000_820A), (0x8204, 0x0000_840B)]);
+        set(&mut after, left);
+        assert_eq!(rt; search(&mut bytes, 0x8000, space, AT, write), wanted);
+        assert_eq!(rt; bytes.memory, after.memory, "after {wanted:?}");
+    }
+}
+
+#[test]
+#[rattlefmt::skip]
+fn transparent_registers_by_hand(rt: HostRuntime) {
+    // The two registers, a space, an address, and the write protection of the one that matches.
+    let tries: [(u32, u32, Space, u32, Option<bool>); 12] = [
+        (0, 0, Super, 0, None),
+        (0x00FF_A000, 0, Super, 0x1234_5678, Some(false)),
+        (0x00FF_A000, 0, User, 0x1234_5678, None),
+        (0x0100_8004, 0, User, 0x01AB_CDEF, Some(true)),
+        (0x0100_8004, 0, User, 0x02AB_CDEF, None),
+        (0x0100_8004, 0, Super, 0x01AB_CDEF, None),
+        (0x0100_C000, 0, User, 0x0100_0000, Some(false)),
+        (0x0100_E000, 0, Super, 0x01FF_FFFF, Some(false)),
+        (0x120F_C000, 0, User, 0x1F00_0000, Some(false)),
+        (0x120F_C000, 0, User, 0x2200_0000, None),
+        (0x0100_4000, 0x00FF_C004, User, 0x0100_0000, Some(true)),
+        (0x0100_C000, 0x00FF_C004, User, 0x0100_0000, Some(false)),
+    ];
+    for (tt0, tt1, space, at, wanted) in tries {
+        assert_eq!(rt; transparent(tt0, tt1, space, at), wanted, "{tt0:x} {tt1:x} at {at:x}");
+    }
+}
+
+#[test]
+fn descriptors_and_results_by_hand(rt: HostRuntime) {
+    let table = TableDescriptor::of(0x0000_820E);
+    assert_eq!(rt;
+        (table.resident, table.protected, table.used),
+        (true, true, true)
+    );
+    assert!(rt; !TableDescriptor::of(0x0000_8201).resident);
+    let page = PageDescriptor::of(0x0012_3493);
+    assert_eq!(rt;
+        (page.resident, page.indirect, page.protected, page.used),
+        (true, false, false, false)
+    );
+    assert_eq!(rt;
+        (page.modified, page.supervisor, page.global, page.frame),
+        (true, true, true, 0x123)
+    );
+    assert!(rt; PageDescriptor::of(0x0000_8502).indirect);
+    assert_eq!(rt; entry(User, [false; 4], 0x0012_3001).status(), 0x0012_3001);
+    assert_eq!(rt;
+        (Found::Invalid.status(), Found::BusError.status()),
+        (0, 0x800)
+    );
+}

@@ -1,0 +1,11 @@
+//! A guest's kept translations: 256 of both sides together.
+//!
+//! A guest's bus stands on it.
+#![tactic(auto)]
+
+mod tlb;
+
+pub use tlb::Tlb;
+
+#[cfg(test)]
+mod tests;
