@@ -8,6 +8,8 @@ use Rattle.mb_decode.specs.declared.reading.Stop.{Stop}
 use Rattle.mb_decode.specs.declared.reading.Stop.TheVariants as stop
 use Rattle.mb_decode.specs.declared.front.Decoded.{Decoded}
 use Rattle.mb_decode.specs.declared.front.Decoded.TheVariants.{Whole, More, Illegal, LineA, LineF}
+use Rattle.mb_decode.specs.declared.front.Decoding.{Decoding}
+use Rattle.mb_decode.specs.declared.front.Decoding.TheVariants as decoding
 use Rattle.mb_decode.specs.RowReading.{row_at}
 
 -- ---- by reading
@@ -48,6 +50,14 @@ OnMore More P = P
 OnMore Illegal P = ⊤
 OnMore LineA P = ⊤
 OnMore LineF P = ⊤
+
+-- what was found, with the instruction in its place
+abbrev pub told : Decoding → Instr → Decoded
+told (decoding.Whole n) i = Whole i n
+told decoding.More i = More
+told decoding.Illegal i = Illegal
+told decoding.LineA i = LineA
+told decoding.LineF i = LineF
 
 -- ---- by the table
 

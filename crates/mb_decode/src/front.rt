@@ -1,13 +1,14 @@
 //! The instruction at the front of some words.
 
-ghost use Rattle.std.specs.Prelude.{◌≡◌, ◌≤◌, length};
+ghost use Rattle.std.specs.Prelude.{◌≡◌, ◌≤◌, ◌∷◌, length};
+ghost use Rattle.mb_instr.specs.declared.instruction.Instr.{Instr};
 ghost use Rattle.mb_instr.specs.Codes.{IsInstr};
-ghost use Rattle.mb_decode.specs.Decodes.{decode_of, decode_from, no_row, Decodes, IfWhole, OnMore};
+ghost use Rattle.mb_decode.specs.Decodes.{decode_of, decode_from, no_row, told, Decodes, IfWhole, OnMore};
 ghost use Rattle.mb_decode.specs.Decodes.{AllDecoded, OneAnswer, ReadAgain, OneSpelling, NoneBegins};
 
 use crate::reading::Stop;
 use crate::rows::row;
-use mb_instr::{Instr, Opcode};
+use mb_instr::{Flow, Instr, Opcode};
 
 /// What some words begin with.
 #[derive(Clone, Copy, Debug, PartialEq, Eq)]
@@ -21,6 +22,21 @@ pub enum Decoded {
     /// No instruction, whatever follows, and the first word's top digit is $A.
     LineA,
     /// No instruction, whatever follows, and the first word's top digit is $F.
+    LineF,
+}
+
+/// What some words begin with, where the instruction is in a place of its own.
+#[derive(Clone, Copy, Debug, PartialEq, Eq)]
+pub enum Decoding {
+    /// That instruction, and how many words it takes: 1 to 11.
+    Whole(u8),
+    /// As [`Decoded::More`].
+    More,
+    /// As [`Decoded::Illegal`].
+    Illegal,
+    /// As [`Decoded::LineA`].
+    LineA,
+    /// As [`Decoded::LineF`].
     LineF,
 }
 
@@ -40,28 +56,57 @@ pub fn decode(words: &[u16]) -> Decoded
 }
 
 /// The instruction that a first word begins.
-#[tactic(auto, unfolding(crate::specs::Decodes::decode_from))]
 fn decode_from(first: u16, rest: &[u16]) -> Decoded
-    ensures { result ≡ decode_from first rest.now }
+    ensures { result ≡ decode_of (first ∷ rest.now) }
+{
+    let mut instruction = Instr::Flow(Flow::Nop);
+    match decode_into(first, rest, &mut instruction) {
+        Decoding::Whole(length) => Decoded::Whole(instruction, length),
+        Decoding::More => Decoded::More,
+        Decoding::Illegal => Decoded::Illegal,
+        Decoding::LineA => Decoded::LineA,
+        Decoding::LineF => Decoded::LineF,
+    }
+}
+
+/// Decodes a first word and the words behind it as [`decode`] does, and puts a whole instruction into its place, where
+/// the caller has it without a copy. Where there is none, what stands there then is left open.
+pub fn decode_into(first: u16, rest: &[u16], instruction: &mut Instr) -> Decoding
+    ensures means { told result instruction.new ≡ decode_of (first ∷ rest.now) }
+    ensures decodes { Decodes (first ∷ rest.now) (told result instruction.new) }
+    ensures length { IfWhole (told result instruction.new) (λ i n. (1 ≤ n) × (n ≤ 11)) }
+    ensures unfinished { OnMore (told result instruction.new) (length (first ∷ rest.now) ≤ 10) }
+    ensures valid { IfWhole (told result instruction.new) (λ i n. IsInstr i) }
+{
+    put_from(first, rest, instruction)
+}
+
+/// Puts the instruction that a first word begins.
+#[inline(always)]
+#[tactic(auto, unfolding(crate::specs::Decodes::decode_from, crate::specs::Decodes::decode_of))]
+fn put_from(first: u16, rest: &[u16], instruction: &mut Instr) -> Decoding
+    ensures { told result instruction.new ≡ decode_of (first ∷ rest.now) }
 {
     match row(Opcode::of(first), rest) {
-        Ok((instruction, after)) => {
+        Ok((whole, after)) => {
+            *instruction = whole;
             let length = 1 + (rest.len() - after.len());
-            Decoded::Whole(instruction, length as u8)
+            Decoding::Whole(length as u8)
         }
-        Err(Stop::More) => Decoded::More,
+        Err(Stop::More) => Decoding::More,
         Err(Stop::Illegal) => no_row(first),
     }
 }
 
 /// What a first word without a row is.
-fn no_row(first: u16) -> Decoded
-    ensures { result ≡ no_row first }
+#[inline(always)]
+fn no_row(first: u16) -> Decoding
+    ensures { (i : Instr) → told result i ≡ no_row first }
 {
     match first >> 12 {
-        0xa => Decoded::LineA,
-        0xf => Decoded::LineF,
-        _ => Decoded::Illegal,
+        0xa => Decoding::LineA,
+        0xf => Decoding::LineF,
+        _ => Decoding::Illegal,
     }
 }
 

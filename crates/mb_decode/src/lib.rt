@@ -15,7 +15,7 @@ mod registers;
 mod rows;
 mod shifts;
 
-pub use front::{Decoded, decode, spellings};
+pub use front::{Decoded, Decoding, decode, decode_into, spellings};
 
 #[cfg(test)]
 mod tests;

@@ -30,7 +30,7 @@ one_cut at n e =
     ap (λ k. record { at = at; len = k } ∷ cut 2 ((at + k) % 2 ^ 32) (suc n - k)) e
     ∙ ap (λ k. record { at = at; len = suc n } ∷ cut 2 ((at + suc n) % 2 ^ 32) k) none
 
-one_piece : (size : Size) (at : ℕ) → at % bytes_of size ≡ 0 → split_of at (bytes_of size) ≡ record { at = at; len = bytes_of size } ∷ []
+pub one_piece : (size : Size) (at : ℕ) → at % bytes_of size ≡ 0 → split_of at (bytes_of size) ≡ record { at = at; len = bytes_of size } ∷ []
 unfolding split_of
 one_piece Byte at h = one_cut at 0 (piece_of_byte at)
 one_piece Word at h = one_cut at 1 (piece_of_word at h)

@@ -3,23 +3,14 @@
 ghost use Rattle.std.specs.Prelude.{◌≡◌, ◌<◌};
 ghost use Rattle.mb_port.specs.Routine.{run};
 ghost use Rattle.mb_instr.specs.Operands.{IsEa};
-ghost use Rattle.mb_meaning.specs.Bounds.{compared_register, compared_size, above};
+ghost use Rattle.mb_meaning.specs.Bounds.{compared_size, above};
 ghost use Rattle.mb_meaning.specs.Bounds.{bounds_codes, compared, bounds_of};
 
-use crate::operands::find_address;
+use crate::operands::{find_address, named_register};
 use mb_alu::Conditions;
 use mb_ea::{ReadFault, read_value};
 use mb_instr::{Ea, Plain, Size};
 use mb_port::{Port, Space};
-
-/// The register that is compared: bit 15 of the word says an address register, bits 14 to 12 are its number.
-#[inline(always)]
-fn compared_register(word: u16) -> u8
-    ensures value { result ≡ compared_register word }
-    ensures range { result < 16 }
-{
-    (word >> 12) as u8
-}
 
 /// Of a data register the low bytes are compared, of an address register all of it.
 #[inline(always)]
@@ -89,5 +80,5 @@ pub fn compare_bounds<P: Port>(
     let lower = read_value(space, place, size, port)?;
     let behind = place.wrapping_add(u32::from(size.bytes()));
     let upper = read_value(space, behind, size, port)?;
-    Ok(compare(size, lower, upper, compared_register(word), plain))
+    Ok(compare(size, lower, upper, named_register(word), plain))
 }

@@ -11,5 +11,6 @@ mod operands;
 pub use bounds::compare_bounds;
 pub use conditions::is_met;
 pub use operands::{
-    Operand, behind, fetch_operand, find_address, finish_with, place, push, with_low,
+    Operand, behind, fetch_operand, find_address, finish_with, named_register, place, push,
+    with_low,
 };

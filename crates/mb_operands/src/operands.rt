@@ -5,7 +5,7 @@ ghost use Rattle.mb_port.specs.Routine.{run};
 ghost use Rattle.mb_instr.specs.Sizes.{values_of};
 ghost use Rattle.mb_instr.specs.Operands.{IsEa};
 ghost use Rattle.mb_ea.specs.Addresses.{IsTarget};
-ghost use Rattle.mb_meaning.specs.Operands.{behind, with_low, load_of, store_of, operand_of, stored, address_of};
+ghost use Rattle.mb_meaning.specs.Operands.{behind, named_register, with_low, load_of, store_of, operand_of, stored, address_of};
 ghost use Rattle.mb_meaning.specs.Operands.{place_of, storing, pushing};
 ghost use Rattle.mb_meaning.specs.Ends.{carried_by};
 ghost use Rattle.mb_operands.specs.Fetched.{fetched, pushed, IsOperand};
@@ -21,6 +21,16 @@ pub struct Operand {
     pub target: Target,
     /// In its low bytes, at the size.
     pub value: u32,
+}
+
+/// The register of all sixteen that an instruction's second word names: bit 15 says an address register, bits 14 to 12
+/// are its number.
+#[inline(always)]
+pub fn named_register(word: u16) -> u8
+    ensures value { result ≡ named_register word }
+    ensures range { result < 16 }
+{
+    (word >> 12) as u8
 }
 
 /// The address of the words behind those of an operand whose first word is at `word_at`.

@@ -69,8 +69,9 @@ pub(crate) fn combine<P: Port>(
 ) -> Result<(), Ended>
     requires source { IsEa size source.now }
     requires destination { IsEa size destination.now }
-    ensures means { run P.bus (combining (operation_of operation size) size source.now destination.now at space plain.old) (P.world port.old)
-        ≡ (carried_by result plain.new, P.world port.new) }
+    ensures means { run P.bus
+        (combining (operation_of operation size) size source.now destination.now at space plain.old)
+        (P.world port.old) ≡ (carried_by result plain.new, P.world port.new) }
     ensures rest { P.rest port.new ≡ P.rest port.old }
 {
     let mut next = *plain;
@@ -130,8 +131,9 @@ pub(crate) fn combine_either_way<P: Port>(
 ) -> Result<(), Ended>
     requires operand { IsEa size ea.now }
     requires register { register < 8 }
-    ensures means { run P.bus (either_way (operation_of operation size) register to_memory size ea.now at space plain.old) (P.world port.old)
-        ≡ (carried_by result plain.new, P.world port.new) }
+    ensures means { run P.bus
+        (either_way (operation_of operation size) register to_memory size ea.now at space plain.old)
+        (P.world port.old) ≡ (carried_by result plain.new, P.world port.new) }
     ensures rest { P.rest port.new ≡ P.rest port.old }
 {
     let register = Ea::Dn(register);
@@ -157,8 +159,9 @@ pub(crate) fn chain<P: Port>(
 ) -> Result<(), Ended>
     requires source { source < 8 }
     requires destination { destination < 8 }
-    ensures means { run P.bus (chaining (operation_of operation size) size in_memory source destination at space plain.old) (P.world port.old)
-        ≡ (carried_by result plain.new, P.world port.new) }
+    ensures means { run P.bus
+        (chaining (operation_of operation size) size in_memory source destination at space plain.old)
+        (P.world port.old) ≡ (carried_by result plain.new, P.world port.new) }
     ensures rest { P.rest port.new ≡ P.rest port.old }
 {
     if in_memory {
@@ -199,8 +202,8 @@ pub(crate) fn combine_immediate<P: Port>(
 ) -> Result<(), Ended>
     requires immediate { IsImmediate size immediate }
     requires operand { IsEa size ea.now }
-    ensures means { run P.bus (combining (operation_of operation size) size (Imm immediate) ea.now at space plain.old) (P.world port.old)
-        ≡ (carried_by result plain.new, P.world port.new) }
+    ensures means { run P.bus (combining (operation_of operation size) size (Imm immediate) ea.now at space plain.old)
+        (P.world port.old) ≡ (carried_by result plain.new, P.world port.new) }
     ensures rest { P.rest port.new ≡ P.rest port.old }
 {
     combine(

@@ -5,7 +5,7 @@ ghost use Rattle.mb_port.specs.Routine.{run};
 ghost use Rattle.mb_instr.specs.Codes.{IsInstr};
 ghost use Rattle.mb_instr.specs.declared.instruction.Instr.TheVariants as instr;
 ghost use Rattle.mb_meaning.specs.Ends.{closing, carried_by};
-ghost use Rattle.mb_meaning.specs.Step.{perform_arith_of};
+ghost use Rattle.mb_meaning.specs.Rows.{perform_arith_of};
 
 use crate::bit_fields::bit_field;
 use crate::bits::bit_row;
@@ -41,7 +41,7 @@ const EOR: Operation = Operation::Logic(LogicKind::Eor);
 /// Carries out the instruction by its row.
 #[rattlefmt::skip]
 #[inline(always)]
-#[tactic(auto, unfolding(mb_meaning::specs::Step::perform_arith_of))]
+#[tactic(auto, unfolding(mb_meaning::specs::Rows::perform_arith_of))]
 fn carry_out<P: Port>(
     instruction: &Arith,
     at: u32,

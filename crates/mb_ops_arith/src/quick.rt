@@ -27,8 +27,8 @@ pub(crate) fn combine_quick<P: Port>(
 ) -> Result<(), Ended>
     requires { IsEa size ea.now }
     ensures means { run P.bus
-        (quick_of (sum_of sum size quick) (λ address. moved_of sum address quick) size ea.now at space plain.old) (P.world port.old)
-        ≡ (carried_by result plain.new, P.world port.new) }
+        (quick_of (sum_of sum size quick) (λ address. moved_of sum address quick) size ea.now at space plain.old)
+        (P.world port.old) ≡ (carried_by result plain.new, P.world port.new) }
     ensures rest { P.rest port.new ≡ P.rest port.old }
 {
     let quick = u32::from(quick);

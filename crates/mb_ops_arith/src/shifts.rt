@@ -51,7 +51,8 @@ pub(crate) fn shift_register(
 )
     requires number { IsCount by_register number }
     requires register { register < 8 }
-    ensures { plain.new ≡ shift_register_of kind is_left size (count_of by_register number plain.old) register plain.old }
+    ensures { plain.new
+        ≡ shift_register_of kind is_left size (count_of by_register number plain.old) register plain.old }
 {
     let count = count(by_register, number, plain);
     let value = plain.d[register as usize];

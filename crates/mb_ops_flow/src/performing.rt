@@ -5,7 +5,7 @@ ghost use Rattle.mb_port.specs.Routine.{run};
 ghost use Rattle.mb_instr.specs.Codes.{IsInstr};
 ghost use Rattle.mb_instr.specs.declared.instruction.Instr.TheVariants as instr;
 ghost use Rattle.mb_meaning.specs.Ends.{closing, performed_by};
-ghost use Rattle.mb_meaning.specs.Step.{perform_flow_of};
+ghost use Rattle.mb_meaning.specs.Rows.{perform_flow_of};
 
 use crate::bounds::{check, check_bounds};
 use crate::branches::branch;
@@ -20,7 +20,7 @@ use mb_writes::Ended;
 /// Carries out the instruction by its row. The answer is whether it changed the flow of control, or how it ended
 /// otherwise.
 #[inline(always)]
-#[tactic(auto, unfolding(mb_meaning::specs::Step::perform_flow_of))]
+#[tactic(auto, unfolding(mb_meaning::specs::Rows::perform_flow_of))]
 fn carry_out<P: Port>(
     instruction: &Flow,
     at: u32,

@@ -5,7 +5,7 @@ ghost use Rattle.mb_port.specs.Routine.{run};
 ghost use Rattle.mb_instr.specs.Codes.{IsInstr};
 ghost use Rattle.mb_instr.specs.declared.instruction.Instr.TheVariants as instr;
 ghost use Rattle.mb_meaning.specs.Ends.{closing, carried_by};
-ghost use Rattle.mb_meaning.specs.Step.{perform_move_of};
+ghost use Rattle.mb_meaning.specs.Rows.{perform_move_of};
 
 use crate::codes::{move_from_ccr, move_to_ccr, set_by_condition};
 use crate::lines::{move_line_absolute, move_line_post};
@@ -20,7 +20,7 @@ use mb_writes::Ended;
 
 /// Carries out the instruction by its row. None changes the flow of control.
 #[inline(always)]
-#[tactic(auto, unfolding(mb_meaning::specs::Step::perform_move_of))]
+#[tactic(auto, unfolding(mb_meaning::specs::Rows::perform_move_of))]
 fn carry_out<P: Port>(
     instruction: &Move,
     at: u32,
@@ -38,41 +38,48 @@ fn carry_out<P: Port>(
             size,
             destination,
             source,
-        } => move_operand(*size, destination, source, at, space, plain, port)?,
+        } => move_operand(*size, destination, source, at, space, plain, port),
         Move::Moveq {
             register,
             immediate,
-        } => moveq(*register, *immediate, plain),
-        Move::MovemLoad { size, ea, mask } => {
-            movem(true, *size, ea, *mask, at, space, plain, port)?;
+        } => {
+            moveq(*register, *immediate, plain);
+            Ok(())
         }
+        Move::MovemLoad { size, ea, mask } => movem(true, *size, ea, *mask, at, space, plain, port),
         Move::MovemStore { size, ea, mask } => {
-            movem(false, *size, ea, *mask, at, space, plain, port)?;
+            movem(false, *size, ea, *mask, at, space, plain, port)
         }
         Move::Movea {
             size,
             register,
             source,
-        } => move_address(*size, *register, source, at, space, plain, port)?,
-        Move::Lea { register, ea } => load_address(*register, ea, at, space, plain, port)?,
-        Move::Exg { x, kind, y } => exchange(*x, *kind, *y, plain),
-        Move::Swap { register } => swap(*register, plain),
-        Move::ToCcr { ea } => move_to_ccr(ea, at, space, plain, port)?,
-        Move::FromCcr { ea } => move_from_ccr(ea, at, space, plain, port)?,
-        Move::Scc { condition, ea } => set_by_condition(*condition, ea, at, space, plain, port)?,
-        Move::Pea { ea } => push_address(ea, at, space, plain, port)?,
+        } => move_address(*size, *register, source, at, space, plain, port),
+        Move::Lea { register, ea } => load_address(*register, ea, at, space, plain, port),
+        Move::Exg { x, kind, y } => {
+            exchange(*x, *kind, *y, plain);
+            Ok(())
+        }
+        Move::Swap { register } => {
+            swap(*register, plain);
+            Ok(())
+        }
+        Move::ToCcr { ea } => move_to_ccr(ea, at, space, plain, port),
+        Move::FromCcr { ea } => move_from_ccr(ea, at, space, plain, port),
+        Move::Scc { condition, ea } => set_by_condition(*condition, ea, at, space, plain, port),
+        Move::Pea { ea } => push_address(ea, at, space, plain, port),
         Move::LinkW {
             register,
             displacement,
         } => {
             let displacement = Size::Word.sign_extend(u32::from(*displacement));
-            link(*register, displacement, space, plain, port)?;
+            link(*register, displacement, space, plain, port)
         }
         Move::LinkL {
             register,
             displacement,
-        } => link(*register, *displacement, space, plain, port)?,
-        Move::Unlk { register } => unlink(*register, space, plain, port)?,
+        } => link(*register, *displacement, space, plain, port),
+        Move::Unlk { register } => unlink(*register, space, plain, port),
         Move::Movep {
             register,
             is_store,
@@ -88,15 +95,14 @@ fn carry_out<P: Port>(
             space,
             plain,
             port,
-        )?,
+        ),
         Move::Move16Abs {
             kind,
             register,
             address,
-        } => move_line_absolute(*kind, *register, *address, space, plain, port)?,
-        Move::Move16Post { x, word } => move_line_post(*x, *word, space, plain, port)?,
+        } => move_line_absolute(*kind, *register, *address, space, plain, port),
+        Move::Move16Post { x, word } => move_line_post(*x, *word, space, plain, port),
     }
-    Ok(())
 }
 
 /// Carries out an instruction that moves, which stands at `at`. PC is past its words already. All

@@ -1,3 +1,4 @@
 pub mod Pending
 pub mod Bits
 pub mod Completed
+pub mod Single

@@ -1,8 +1,9 @@
 //! Writes of operands.
 
-ghost use Rattle.std.specs.Prelude.{◌≡◌, ◌<◌, ◌≤◌, ◌^◌, ◌*◌, length, IfErr};
+ghost use Rattle.std.specs.Prelude.{◌≡◌, ◌<◌, ◌≤◌, ◌^◌, ◌*◌, [], ◌∷◌, length, IfErr};
 ghost use Rattle.mb_port.specs.Routine.{run};
-ghost use Rattle.mb_port.specs.Pieces.{ArePieces};
+ghost use Rattle.mb_port.specs.Pieces.{ArePieces, IsPiece};
+ghost use Rattle.mb_frames.specs.AccessFields.{piece_of};
 ghost use Rattle.mb_instr.specs.Sizes.{bytes_of, low_of};
 ghost use Rattle.mb_writes.specs.Writing.{part_of, parts_of, pending_of, ArePending, IsLeft};
 ghost use Rattle.mb_writes.specs.Writing.{left_by, write_all, put_of, apart, put_apart_of, complete_of};
@@ -142,7 +143,25 @@ pub fn put_pieces<P: Port>(
     put_parts(space, at, pieces.as_slice(), len, value, port)
 }
 
-/// Writes an operand of a size, as [`put_pieces`] does.
+/// Writes a piece that is alone.
+#[inline(always)]
+fn write_alone<P: Port>(pend: Pend, space: Space, port: &mut P) -> Result<(), WriteFault>
+    requires { IsPiece (piece_of pend) }
+    ensures means { run P.bus (write_all space pend.at (pend ∷ [])) (P.world port.old) ≡ (result, P.world port.new) }
+    ensures left { IfErr result (λ refused. IsLeft refused.rest.items (pend ∷ [])) }
+    ensures rest { P.rest port.new ≡ P.rest port.old }
+{
+    let piece = Piece {
+        at: pend.at,
+        len: pend.len,
+    };
+    match port.write(space, piece, pend.value) {
+        Ok(()) => Ok(()),
+        Err(fault) => Err(left(fault, pend.at, &[pend])),
+    }
+}
+
+/// Writes an operand of a size, as [`put_pieces`] does. Mostly it is one piece.
 #[inline(always)]
 pub fn put_value<P: Port>(
     space: Space,
@@ -155,7 +174,13 @@ pub fn put_value<P: Port>(
     ensures left { IfErr result (λ refused. IsLeft refused.rest.items (pending_of at (bytes_of size) value)) }
     ensures rest { P.rest port.new ≡ P.rest port.old }
 {
-    put_pieces(space, at, size.bytes(), u64::from(value), port)
+    let len = size.bytes();
+    if at % u32::from(len) == 0 {
+        let value = size.low(value);
+        write_alone(Pend { at, len, value }, space, port)
+    } else {
+        put_pieces(space, at, len, u64::from(value), port)
+    }
 }
 
 /// A single byte as a piece.
