@@ -1,5 +1,5 @@
 -- CHK, CHK2 and CMP2.
-use Rattle.std.specs.Prelude.{ℕ, ◌/◌, ◌^◌, ◌==◌, pos, int_lt, Bool, ◌||◌, nat_lt, Result, Ok, if◌then◌else◌}
+use Rattle.std.specs.Prelude.{ℕ, ◌==◌, pos, int_lt, Bool, ◌||◌, nat_lt, Result, Ok, if◌then◌else◌}
 use Rattle.mb_port.specs.Routine.{Routine, Return, ◌>>=◌}
 use Rattle.mb_port.specs.declared.types.Space.{Space}
 use Rattle.mb_instr.specs.declared.size.Size.{Size}
@@ -15,7 +15,7 @@ use Rattle.mb_ea.specs.declared.reading.ReadFault.{ReadFault}
 use Rattle.mb_ea.specs.Addresses.{sum, difference}
 use Rattle.mb_ea.specs.Reading.{read_of}
 use Rattle.mb_meaning.specs.Ends.{Performed, carried, stopped, reading}
-use Rattle.mb_meaning.specs.Operands.{first_word, operand_of, address_of}
+use Rattle.mb_meaning.specs.Operands.{first_word, operand_of, address_of, named_register}
 use Rattle.mb_meaning.specs.Traps.{out_of_bounds}
 
 -- ---- one bound
@@ -42,10 +42,6 @@ chk_of n size ea at space p = do
   Return (checked size bound.value (data_register bound.plain n) bound.plain)
 
 -- ---- two bounds
-
--- the register that is compared: bit 15 of the word says an address register, bits 14 to 12 are its number
-abbrev pub compared_register : ℕ → ℕ
-compared_register w = w / 2 ^ 12
 
 -- of a data register the low bytes are compared, of an address register all of it
 abbrev pub compared_size : Size → ℕ → Size
@@ -80,7 +76,7 @@ bounds_of size ea w at space p = do
   place ← address_of size ea (sum (first_word at) 2) space p
   lower ← read_of space place (bytes_of size)
   upper ← read_of space (sum place (bytes_of size)) (bytes_of size)
-  Return (Ok (compared size lower upper (compared_register w) p))
+  Return (Ok (compared size lower upper (named_register w) p))
 
 -- CMP2
 unfoldable pub cmp2_of : Size → Ea → ℕ → ℕ → Space → Plain → Routine Performed

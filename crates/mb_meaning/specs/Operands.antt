@@ -1,5 +1,5 @@
 -- Operands: what stands there, and what is put there.
-use Rattle.std.specs.Prelude.{ℕ, ◌+◌, ◌-◌, ◌*◌, length, Result, Ok, Err}
+use Rattle.std.specs.Prelude.{ℕ, ◌+◌, ◌-◌, ◌*◌, ◌/◌, ◌^◌, length, Result, Ok, Err}
 use Rattle.mb_port.specs.Routine.{Routine, Return, ◌>>=◌, ◌>>◌}
 use Rattle.mb_port.specs.declared.types.Space.{Space}
 use Rattle.mb_instr.specs.declared.size.Size.{Size}
@@ -21,6 +21,11 @@ use Rattle.mb_meaning.specs.Ends.{Performed, Stopped, carried, writing}
 -- the address of the first extension word of an instruction of one word
 abbrev pub first_word : ℕ → ℕ
 first_word at = sum at 2
+
+-- the register of all sixteen that an instruction's second word names: bit 15 says an address register, bits 14 to 12
+-- are its number
+abbrev pub named_register : ℕ → ℕ
+named_register word = word / 2 ^ 12
 
 -- the address of the words behind those of an operand
 abbrev pub behind : Size → Ea → ℕ → ℕ

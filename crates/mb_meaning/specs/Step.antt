@@ -1,254 +1,179 @@
--- One step of the processor.
-use Rattle.std.specs.Prelude.{ℕ, zero, suc, ◌+◌, ◌*◌, ◌%◌, ◌^◌, ◌==◌, List, [], ◌∷◌, ◌++◌, true, false, Result, Ok}
-use Rattle.std.specs.Prelude.{Err, if◌then◌else◌}
-use Rattle.mb_port.specs.Routine.{Routine, Return, Then, ◌>>=◌, failing, caught, choose, fetch}
-use Rattle.mb_port.specs.declared.types.Space.{Space}
-use Rattle.mb_port.specs.declared.types.Space.TheVariants.{User, Super}
-use Rattle.mb_instr.specs.declared.size.Size.TheVariants.{Byte, Word, Long}
+-- One step of the processor: the entry of an interrupt, an idle tick, or an instruction with the exceptions that it
+-- causes.
+use Rattle.std.specs.Prelude.{ℕ, ◌+◌, ◌*◌, ◌/◌, ◌%◌, ◌^◌, ◌||◌, ◌&&◌, not, nat_lt, Bool, true, false, List, [], ◌∷◌}
+use Rattle.std.specs.Prelude.{if◌then◌else◌}
+use Rattle.mb_port.specs.Routine.{Routine, Return, Then, caught, choose}
 use Rattle.mb_instr.specs.declared.instruction.Instr.{Instr}
 use Rattle.mb_instr.specs.declared.instruction.Instr.TheVariants as instr
-use Rattle.mb_instr.specs.declared.instruction.Move.{Move}
-use Rattle.mb_instr.specs.declared.instruction.Move.TheVariants as move
-use Rattle.mb_instr.specs.declared.instruction.Arith.{Arith}
-use Rattle.mb_instr.specs.declared.instruction.Arith.TheVariants as arith
-use Rattle.mb_instr.specs.declared.instruction.Flow.{Flow}
-use Rattle.mb_instr.specs.declared.instruction.Flow.TheVariants as flow
-use Rattle.mb_instr.specs.declared.registers.Plain.{Plain}
-use Rattle.mb_instr.specs.Registers.{is_supervisor, plain_of, with_plain, data_register}
-use Rattle.mb_instr.specs.declared.operand.Ea.TheVariants.{Dn, Post, Imm}
-use Rattle.mb_alu.specs.declared.bitwise.LogicKind.TheVariants as logic
-use Rattle.mb_alu.specs.Logic.{logic_of}
-use Rattle.mb_ea.specs.Addresses.{sum, difference}
+use Rattle.mb_instr.specs.declared.instruction.System.{System}
+use Rattle.mb_instr.specs.declared.instruction.System.TheVariants as system
+use Rattle.mb_instr.specs.Codes.{words_of}
+use Rattle.mb_instr.specs.Rows.{row}
+use Rattle.mb_instr.specs.Registers.{is_supervisor, plain_of}
+use Rattle.mb_frames.specs.declared.pend.Pend.{Pend}
+use Rattle.mb_port.specs.declared.types.Fault.{Fault}
+use Rattle.mb_frames.specs.AccessFields.{no_fields, read_fields, write_fields, line_fields, movem_fields, is_load}
 use Rattle.mb_model.specs.declared.processor.Cpu.{Cpu}
-use Rattle.mb_decode.specs.declared.front.Decoded.{Decoded}
-use Rattle.mb_decode.specs.declared.front.Decoded.TheVariants.{Whole, More, Illegal, LineA, LineF}
-use Rattle.mb_decode.specs.Decodes.{decode_of}
-use Rattle.mb_fields.specs.Decimals.{abcd_of, sbcd_of}
-use Rattle.mb_fields.specs.Packing.{pack_of, unpk_of}
-use Rattle.mb_ea.specs.Reading.{refused_in}
+use Rattle.mb_model.specs.Status.{space_of}
+use Rattle.mb_ea.specs.declared.reading.ReadFault.{ReadFault}
+use Rattle.mb_writes.specs.declared.ends.WriteFault.{WriteFault}
+use Rattle.mb_writes.specs.declared.ends.MovemFault.{MovemFault}
 use Rattle.mb_writes.specs.declared.ends.Ended.{Ended}
 use Rattle.mb_writes.specs.declared.ends.Ended.TheVariants as ended
-use Rattle.mb_meaning.specs.declared.StepEnd.{StepEnd}
 use Rattle.mb_meaning.specs.declared.StepEnd.TheVariants as step
-use Rattle.mb_meaning.specs.Ends.{Performed, carried, stopped, End, closed}
-use Rattle.mb_instr.specs.Sizes.{sign_extended}
-use Rattle.mb_meaning.specs.Moves.{moveq_of, move_of, movea_of, lea_of, exg_of, swap_of, movem_of, to_ccr_of}
-use Rattle.mb_meaning.specs.Moves.{from_ccr_of, scc_of}
-use Rattle.mb_meaning.specs.Stack.{pea_of, link_of, unlk_of}
-use Rattle.mb_meaning.specs.Peripheral.{movep_of}
-use Rattle.mb_meaning.specs.Lines.{move16_absolute_of, move16_of}
-use Rattle.mb_meaning.specs.Operands.{first_word}
-use Rattle.mb_meaning.specs.Modifying.{modifying}
-use Rattle.mb_meaning.specs.Arithmetic.{added, subtracted, added_extended, subtracted_extended, combining, comparing}
-use Rattle.mb_meaning.specs.Arithmetic.{either_way, chaining, quick_of, taking, address_moved, address_compared}
-use Rattle.mb_meaning.specs.Unary.{negated, negated_extended, complemented, clr_of, tested, ext_of, ccr_by}
-use Rattle.mb_meaning.specs.Shifts.{count_of, shift_register_of, shifted_by_one}
-use Rattle.mb_meaning.specs.Products.{multiplied_by_word, word_divided, multiplied_by_long, long_divided}
-use Rattle.mb_meaning.specs.Bits.{bit_row_of}
-use Rattle.mb_meaning.specs.Decimals.{negated_decimal, decimal_of, digits_of}
-use Rattle.mb_meaning.specs.BitFields.{field_row_of}
-use Rattle.mb_meaning.specs.Locked.{tas_of, cas_of, cas2_of}
-use Rattle.mb_meaning.specs.Flow.{branch_of, dbcc_of, jmp_of, jsr_of}
-use Rattle.mb_meaning.specs.Returns.{rts_of, rtd_of, rtr_of}
-use Rattle.mb_meaning.specs.Traps.{trap_of, trapcc_of, trapv_of}
-use Rattle.mb_meaning.specs.Bounds.{chk_of, chk2_of, cmp2_of}
+use Rattle.mb_meaning.specs.Ends.{closing}
+use Rattle.mb_meaning.specs.SystemEnds.{with_registers, system_closing}
+use Rattle.mb_meaning.specs.System.{perform_system_of}
+use Rattle.mb_meaning.specs.Return.{Held, continues, return_of, holding}
+use Rattle.mb_meaning.specs.Rows.{perform_of}
+use Rattle.mb_meaning.specs.Attempt.{past, fetched_of}
+use Rattle.mb_meaning.specs.Raise.{Stepped, traces_all, is_due, has_ct, with_ct, access_error_of, interrupt_of}
+use Rattle.mb_meaning.specs.Raise.{tracing_of, trap_of, refused_of}
 
--- the vectors of what is not carried out
-abbrev pub odd_counter : Ended
-odd_counter = ended.Refused 3
+-- the bytes of a page
+abbrev pub page_size : ℕ
+page_size = 4096
 
-abbrev pub illegal : Ended
-illegal = ended.Refused 4
+-- ---- the finish of an instruction
 
-abbrev pub privileged : Ended
-privileged = ended.Refused 8
+-- a fetch, a read or a locked check was refused: all registers are as before
+unfoldable pub unread_of : ReadFault → Cpu → Routine Stepped
+unread_of refused before =
+    access_error_of before.regs.pc (read_fields refused.fault refused.first page_size) before
 
-abbrev pub line_a : Ended
-line_a = ended.Refused 10
+-- a write was refused of an operand that has pieces left: the instruction is otherwise complete, and CT says that a
+-- trace is due
+unfoldable pub unfinished_of : Bool → WriteFault → Cpu → Routine Stepped
+unfinished_of due refused cpu =
+    let fields = write_fields refused.fault refused.first refused.rest.items page_size in
+    access_error_of cpu.regs.pc (with_ct due fields) cpu
 
-abbrev pub line_f : Ended
-line_f = ended.Refused 11
+-- a write was refused of which nothing is left: all registers are as before
+unfoldable pub unbegun_of : WriteFault → Cpu → Routine Stepped
+unbegun_of refused before =
+    access_error_of before.regs.pc (write_fields refused.fault refused.first [] page_size) before
 
--- What moves.
-unfoldable pub perform_move_of : Move → ℕ → Space → Plain → Routine Performed
-perform_move_of (move.Move size destination source) at space p = move_of size destination source at space p
-perform_move_of (move.Moveq register immediate) at space p = Return (carried (moveq_of register immediate p))
-perform_move_of (move.MovemLoad size ea mask) at space p = movem_of true size ea mask at space p
-perform_move_of (move.MovemStore size ea mask) at space p = movem_of false size ea mask at space p
-perform_move_of (move.Movea size register source) at space p = movea_of size register source at space p
-perform_move_of (move.Lea register ea) at space p = lea_of register ea at space p
-perform_move_of (move.Exg x kind y) at space p = Return (carried (exg_of kind x y p))
-perform_move_of (move.Swap register) at space p = Return (carried (swap_of register p))
-perform_move_of (move.ToCcr ea) at space p = to_ccr_of ea at space p
-perform_move_of (move.FromCcr ea) at space p = from_ccr_of ea at space p
-perform_move_of (move.Scc condition ea) at space p = scc_of condition ea at space p
-perform_move_of (move.Pea ea) at space p = pea_of ea at space p
-perform_move_of (move.LinkW register displacement) at space p =
-    link_of register (sign_extended Word displacement) space p
-perform_move_of (move.LinkL register displacement) at space p = link_of register displacement space p
-perform_move_of (move.Unlk register) at space p = unlk_of register space p
-perform_move_of (move.Movep register is_store size address displacement) at space p =
-    movep_of register is_store size address displacement space p
-perform_move_of (move.Move16Abs kind register address) at space p = move16_absolute_of kind register address space p
-perform_move_of (move.Move16Post x word) at space p = move16_of x word space p
+abbrev pub unwritten_of : Bool → WriteFault → List Pend → Cpu → Cpu → Routine Stepped
+unwritten_of due refused [] before cpu = unbegun_of refused before
+unwritten_of due refused (piece ∷ pieces) before cpu = unfinished_of due refused cpu
 
--- What computes.
-unfoldable pub perform_arith_of : Arith → ℕ → Space → Plain → Routine Performed
-perform_arith_of (arith.Add register to_memory size ea) at space p =
-    either_way (added size) register to_memory size ea at space p
-perform_arith_of (arith.Sub register to_memory size ea) at space p =
-    either_way (subtracted size) register to_memory size ea at space p
-perform_arith_of (arith.And register to_memory size ea) at space p =
-    either_way (logic_of logic.And size) register to_memory size ea at space p
-perform_arith_of (arith.Or register to_memory size ea) at space p =
-    either_way (logic_of logic.Or size) register to_memory size ea at space p
-perform_arith_of (arith.Eor register size ea) at space p =
-    either_way (logic_of logic.Eor size) register true size ea at space p
-perform_arith_of (arith.Addi size ea immediate) at space p = combining (added size) size (Imm immediate) ea at space p
-perform_arith_of (arith.Subi size ea immediate) at space p =
-    combining (subtracted size) size (Imm immediate) ea at space p
-perform_arith_of (arith.Andi size ea immediate) at space p =
-    combining (logic_of logic.And size) size (Imm immediate) ea at space p
-perform_arith_of (arith.Ori size ea immediate) at space p =
-    combining (logic_of logic.Or size) size (Imm immediate) ea at space p
-perform_arith_of (arith.Eori size ea immediate) at space p =
-    combining (logic_of logic.Eor size) size (Imm immediate) ea at space p
-perform_arith_of (arith.Addx destination size in_memory source) at space p =
-    chaining (added_extended size) size in_memory source destination at space p
-perform_arith_of (arith.Subx destination size in_memory source) at space p =
-    chaining (subtracted_extended size) size in_memory source destination at space p
-perform_arith_of (arith.Cmp register size ea) at space p = comparing size ea (Dn register) at space p
-perform_arith_of (arith.Cmpi size ea immediate) at space p = comparing size (Imm immediate) ea at space p
-perform_arith_of (arith.Cmpm destination size source) at space p =
-    comparing size (Post source) (Post destination) at space p
-perform_arith_of (arith.Addq quick size ea) at space p =
-    quick_of (added size quick) (λ address. sum address quick) size ea at space p
-perform_arith_of (arith.Subq quick size ea) at space p =
-    quick_of (subtracted size quick) (λ address. difference address quick) size ea at space p
-perform_arith_of (arith.Adda register size ea) at space p =
-    taking (address_moved sum register size) size ea (first_word at) space p
-perform_arith_of (arith.Suba register size ea) at space p =
-    taking (address_moved difference register size) size ea (first_word at) space p
-perform_arith_of (arith.Cmpa register size ea) at space p =
-    taking (address_compared register size) size ea (first_word at) space p
-perform_arith_of (arith.Neg size ea) at space p = modifying (negated size) size ea (first_word at) space p
-perform_arith_of (arith.Negx size ea) at space p = modifying (negated_extended size) size ea (first_word at) space p
-perform_arith_of (arith.Not size ea) at space p = modifying (complemented size) size ea (first_word at) space p
-perform_arith_of (arith.Clr size ea) at space p = clr_of size ea at space p
-perform_arith_of (arith.Tst size ea) at space p = taking (tested size) size ea (first_word at) space p
-perform_arith_of (arith.ExtW register) at space p = Return (carried (ext_of Byte Word register p))
-perform_arith_of (arith.ExtL register) at space p = Return (carried (ext_of Word Long register p))
-perform_arith_of (arith.ExtbL register) at space p = Return (carried (ext_of Byte Long register p))
-perform_arith_of (arith.OriCcr word) at space p = Return (carried (ccr_by logic.Or word p))
-perform_arith_of (arith.AndiCcr word) at space p = Return (carried (ccr_by logic.And word p))
-perform_arith_of (arith.EoriCcr word) at space p = Return (carried (ccr_by logic.Eor word p))
-perform_arith_of (arith.ShiftReg count is_left size by_register kind register) at space p =
-    Return (carried (shift_register_of kind is_left size (count_of by_register count p) register p))
-perform_arith_of (arith.ShiftMem kind is_left ea) at space p =
-    modifying (shifted_by_one kind is_left) Word ea (first_word at) space p
-perform_arith_of (arith.MulW register signed ea) at space p =
-    taking (multiplied_by_word signed register) Word ea (first_word at) space p
-perform_arith_of (arith.MulL ea word) at space p =
-    taking (multiplied_by_long word) Long ea (sum (first_word at) 2) space p
-perform_arith_of (arith.DivW register signed ea) at space p =
-    taking (word_divided signed register) Word ea (first_word at) space p
-perform_arith_of (arith.DivL ea word) at space p = taking (long_divided word) Long ea (sum (first_word at) 2) space p
-perform_arith_of (arith.BitReg register kind ea) at space p =
-    bit_row_of kind (data_register p register) ea (first_word at) space p
-perform_arith_of (arith.BitImm kind ea word) at space p = bit_row_of kind word ea (sum (first_word at) 2) space p
-perform_arith_of (arith.Nbcd ea) at space p = modifying negated_decimal Byte ea (first_word at) space p
-perform_arith_of (arith.Abcd x in_memory y) at space p = decimal_of abcd_of x in_memory y at space p
-perform_arith_of (arith.Sbcd x in_memory y) at space p = decimal_of sbcd_of x in_memory y at space p
-perform_arith_of (arith.Pack x in_memory y word) at space p = digits_of pack_of Word Byte x in_memory y word at space p
-perform_arith_of (arith.Unpk x in_memory y word) at space p = digits_of unpk_of Byte Word x in_memory y word at space p
-perform_arith_of (arith.Field kind ea word) at space p = field_row_of kind ea word at space p
-perform_arith_of (arith.Tas ea) at space p = tas_of ea at space p
-perform_arith_of (arith.Cas size ea word) at space p = cas_of size ea word at space p
-perform_arith_of (arith.Cas2 size first second) at space p = cas2_of size first second space p
-perform_arith_of (arith.Cmp2 size ea word) at space p = cmp2_of size ea word at space p
+-- the write of a line was refused: the instruction is otherwise complete, and CT says that a trace is due
+unfoldable pub line_unwritten_of : Bool → Fault → List ℕ → Cpu → Routine Stepped
+line_unwritten_of due fault line cpu =
+    access_error_of cpu.regs.pc (with_ct due (line_fields fault line page_size)) cpu
 
--- What goes elsewhere.
-unfoldable pub perform_flow_of : Flow → ℕ → Space → Plain → Routine Performed
-perform_flow_of flow.Nop at space p = Return (carried p)
-perform_flow_of (flow.Bcc condition displacement) at space p = branch_of condition displacement at space p
-perform_flow_of (flow.Dbcc condition register displacement) at space p =
-    Return (dbcc_of condition register displacement at p)
-perform_flow_of (flow.Jmp ea) at space p = jmp_of ea at space p
-perform_flow_of (flow.Jsr ea) at space p = jsr_of ea at space p
-perform_flow_of flow.Rts at space p = rts_of space p
-perform_flow_of (flow.Rtd displacement) at space p = rtd_of displacement space p
-perform_flow_of flow.Rtr at space p = rtr_of space p
-perform_flow_of (flow.Trap number) at space p = Return (trap_of number p)
-perform_flow_of (flow.Trapcc condition operand) at space p = Return (trapcc_of condition p)
-perform_flow_of flow.Trapv at space p = Return (trapv_of p)
-perform_flow_of (flow.Chk register size ea) at space p = chk_of register size ea at space p
-perform_flow_of (flow.Chk2 size ea word) at space p = chk2_of size ea word at space p
+-- two words as a long
+abbrev pub long_of : List ℕ → ℕ
+long_of (first ∷ second ∷ others) = first * 2 ^ 16 + second
+long_of _ = 0
 
--- What an instruction does, all accesses in this space. `at` is its address; PC is past it. A privileged one is not
--- carried out here.
-unfoldable pub perform_of : Instr → ℕ → Space → Plain → Routine Performed
-perform_of (instr.Move i) at space p = perform_move_of i at space p
-perform_of (instr.Arith i) at space p = perform_arith_of i at space p
-perform_of (instr.Flow i) at space p = perform_flow_of i at space p
-perform_of (instr.System i) at space p = Return (stopped privileged p)
+-- the operation and mask words of a MOVEM
+abbrev pub movem_words : Instr → ℕ
+movem_words i = long_of (words_of (row i))
 
--- an instruction and how many words it has, or how the attempt ends without one
-abbrev pub Found : Type 0
-Found = Result (Instr × ℕ) Ended
+-- A transfer of a MOVEM was refused: what was loaded stays, and the frame has the PC of the instruction and the next
+-- one. CT says that a trace is due, of a MOVEM that stores alone.
+unfoldable pub untransferred_of : Bool → MovemFault → ℕ → Cpu → Cpu → Routine Stepped
+untransferred_of due refused words before cpu =
+    let fields = movem_fields refused.fault refused.first refused.done words cpu.regs.pc page_size in
+    access_error_of before.regs.pc (with_ct (due && not (is_load words)) fields) cpu
 
--- by what the words are so far: the instruction, what follows with more words, or why there is none
-abbrev pub judged : Decoded → Routine Found → Routine Found
-judged (Whole i n) more = Return (Ok (i, n))
-judged More more = more
-judged Illegal more = Return (Err illegal)
-judged LineA more = Return (Err line_a)
-judged LineF more = Return (Err line_f)
+-- BSR and JSR change the flow, and are the only ones of their family that write.
+abbrev pub is_flow : Instr → Bool
+is_flow (instr.Flow i) = true
+is_flow _ = false
 
--- Words are fetched one at a time, at most so many more, until they are an instruction or can no longer become one. No
--- later word is fetched.
-unfoldable pub found_of : ℕ → Space → ℕ → List ℕ → Routine Found
-found_of zero space at words = Return (Err illegal)
-found_of (suc n) space at words = do
-  word ← failing (λ fault. ended.ReadFault (refused_in at fault)) (fetch space at)
-  judged (decode_of (words ++ word ∷ [])) (found_of n space ((at + 2) % 2 ^ 32) (words ++ word ∷ []))
+-- The finish of an instruction that ended so, by the processor before it and after it. Whether a trace is due is said
+-- by the bits before it.
+unfoldable pub finish_of : Instr → Ended → Cpu → Cpu → Routine Stepped
+finish_of i (ended.Done flow) before cpu = tracing_of (is_due before.regs.sr flow) before.regs.pc cpu
+finish_of i (ended.Trap vector) before cpu = trap_of vector before cpu
+finish_of i (ended.Refused vector) before cpu = refused_of vector before
+finish_of i (ended.ReadFault refused) before cpu = unread_of refused before
+finish_of i (ended.WriteFault refused) before cpu =
+    unwritten_of (is_due before.regs.sr (is_flow i)) refused refused.rest.items before cpu
+finish_of i (ended.LineFault fault line) before cpu = line_unwritten_of (traces_all before.regs.sr) fault line cpu
+finish_of i (ended.Movem refused) before cpu =
+    untransferred_of (traces_all before.regs.sr) refused (movem_words i) before cpu
 
--- the space of the accesses, by S
-abbrev pub space_of : ℕ → Space
-space_of sr = if is_supervisor sr then Super else User
+-- ---- RTE
 
--- the registers with PC past so many words
-abbrev pub past : ℕ → Plain → Plain
-past n p = record p { pc = (p.pc + 2 * n) % 2 ^ 32 }
+-- where no frame of an access error was taken
+abbrev pub nothing_held : Held
+nothing_held = record { access = no_fields; pc = 0 }
 
--- no instruction has more words
-abbrev pub most_words : ℕ
-most_words = 11
+-- after RTE: the trace bits before it ask for a trace, or its frame does, by CT or by T1 where a MOVEM went on
+abbrev pub is_due_by : Held → Cpu → Bool
+is_due_by held cpu = has_ct held.access || (continues held.access && traces_all cpu.regs.sr)
 
--- what of a fetched instruction is done, as an instruction's own routine answers it
-abbrev pub attempted : Space → Plain → Routine Found → Routine Performed
-attempted space p found =
-    caught found (λ end. Return (stopped end p)) (λ found. perform_of found.0 p.pc space (past found.1 p))
+-- A transfer of the MOVEM was refused again: a frame as the one that was taken.
+unfoldable pub untransferred_again_of : Bool → MovemFault → Held → Cpu → Routine Stepped
+untransferred_again_of due refused held cpu =
+    let old = held.access in
+    let fields = movem_fields refused.fault refused.first refused.done old.pd2 old.pd1 page_size in
+    access_error_of held.pc (with_ct (due || has_ct old) fields) cpu
 
--- The attempt: an instruction is fetched at PC, decoded and carried out, all accesses in this space. No word is fetched
--- at an odd PC.
-unfoldable pub attempt_of : Space → Plain → Routine Performed
-attempt_of space p =
-    choose (p.pc % 2 == 1) (Return (stopped odd_counter p)) (attempted space p (found_of most_words space p.pc []))
+-- The finish of RTE. A trace has the address of RTE where the bits before it asked for it, and else the frame's PC.
+unfoldable pub finish_return_of : Ended → Held → Cpu → Cpu → Routine Stepped
+finish_return_of (ended.Done flow) held before cpu =
+    let asked = is_due before.regs.sr flow in
+    tracing_of (asked || is_due_by held cpu) (if asked then before.regs.pc else held.pc) cpu
+finish_return_of (ended.Movem refused) held before cpu =
+    untransferred_again_of (is_due before.regs.sr true) refused held cpu
+finish_return_of end held before cpu = finish_of (instr.System system.Rte) end before cpu
 
--- What is built of a step's ends so far: an instruction that is carried out. Every other end enters an exception.
-abbrev pub step_end : Ended → StepEnd
-step_end (ended.Done flow) = step.Went
-step_end _ = step.Unbuilt
+unfoldable pub rte_of : Cpu → Routine Stepped
+rte_of cpu =
+    Then (holding nothing_held (return_of cpu)) (λ returned. finish_return_of returned.0 returned.2 cpu returned.1)
 
--- how the step ended, and the processor then
-unfoldable pub finished : Cpu → End → StepEnd × Cpu
-finished cpu end = (step_end end.0, record cpu { regs = with_plain cpu.regs end.1 })
+-- ---- an instruction
 
--- The finish: what follows an attempt that ended so.
-abbrev pub finish_of : Cpu → End → Routine (StepEnd × Cpu)
-finish_of cpu end = Return (finished cpu end)
+-- the processor with PC past so many words
+abbrev pub beyond : ℕ → Cpu → Cpu
+beyond n cpu = record cpu { regs = record cpu.regs { pc = (cpu.regs.pc + 2 * n) % 2 ^ 32 } }
 
--- One step: an attempt in the space that S gives, and its finish.
-unfoldable pub step_of : Cpu → Routine (StepEnd × Cpu)
-step_of cpu =
-    Then (attempt_of (space_of cpu.regs.sr) (plain_of cpu.regs)) (λ performed. finish_of cpu (closed performed))
+-- a privileged instruction of so many words, in supervisor mode
+unfoldable pub supervised_of : System → ℕ → Cpu → Routine Stepped
+supervised_of system.Rte n cpu = rte_of cpu
+supervised_of i n cpu =
+    Then (system_closing (perform_system_of i cpu.regs.pc (beyond n cpu)))
+    (λ end. finish_of (instr.System i) end.0 cpu end.1)
+
+-- an instruction of so many words that is not privileged: it knows the space of its accesses alone
+unfoldable pub unprivileged_of : Instr → ℕ → Cpu → Routine Stepped
+unprivileged_of i n cpu =
+    let p = plain_of cpu.regs in
+    Then (closing (perform_of i p.pc (space_of cpu) (past n p)))
+    (λ end. finish_of i end.0 cpu (with_registers end.1 cpu))
+
+-- An instruction is carried out, and finished. A privileged one needs supervisor mode.
+unfoldable pub executed_of : Instr → ℕ → Cpu → Routine Stepped
+executed_of (instr.System i) n cpu =
+    choose (is_supervisor cpu.regs.sr) (supervised_of i n cpu) (refused_of 8 cpu)
+executed_of i n cpu = unprivileged_of i n cpu
+
+-- No instruction was found, or the fetch of a word was refused. Nothing else ends a fetch.
+unfoldable pub unfound_of : Ended → Cpu → Routine Stepped
+unfound_of (ended.Refused vector) cpu = refused_of vector cpu
+unfound_of (ended.ReadFault refused) cpu = unread_of refused cpu
+unfound_of _ cpu = Return (step.Went, cpu)
+
+-- An instruction is fetched at PC, one word at a time, and carried out.
+unfoldable pub instruction_of : Cpu → Routine Stepped
+instruction_of cpu =
+    caught (fetched_of (space_of cpu) cpu.regs.pc)
+    (λ end. unfound_of end cpu)
+    (λ found. executed_of found.0 found.1 cpu)
+
+-- ---- a step
+
+-- the interrupt mask, bits 10 to 8 of SR
+abbrev pub interrupt_mask : Cpu → ℕ
+interrupt_mask cpu = cpu.regs.sr / 2 ^ 8 % 2 ^ 3
+
+-- One step, with an interrupt of this level asked for, or of level 0 for none. Above the mask it is entered, and the
+-- step has nothing else; a processor that is stopped idles.
+unfoldable pub step_of : ℕ → Cpu → Routine Stepped
+step_of level cpu =
+    choose (nat_lt (interrupt_mask cpu) level) (interrupt_of level cpu)
+    (choose cpu.stopped (Return (step.Idle, cpu)) (instruction_of cpu))

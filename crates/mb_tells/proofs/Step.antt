@@ -39,7 +39,8 @@ use Rattle.mb_writes.specs.declared.ends.Ended.{Ended}
 use Rattle.mb_writes.specs.declared.ends.Ended.TheVariants as ended
 use Rattle.mb_writes.specs.declared.transfers.Movem.{Movem}
 use Rattle.mb_meaning.specs.Ends.{Performed}
-use Rattle.mb_meaning.specs.Step.{perform_move_of, perform_arith_of, perform_flow_of, perform_of, Found, judged, found_of, past, most_words, attempt_of}
+use Rattle.mb_meaning.specs.Rows.{perform_move_of, perform_arith_of, perform_flow_of, perform_of}
+use Rattle.mb_meaning.specs.Attempt.{Found, judged, found_of, fetched_of, past, most_words, attempt_of}
 use Rattle.mb_tells.specs.Guarded.{Guarded, Guards, Goes, quiet}
 use Rattle.mb_tells.specs.Left.{Answered, LeftBy, Telling, Row, Attempt}
 use Rattle.mb_tells.specs.Laws.{AreLongs, HasLongs, is_movem, moves, moves_any}
@@ -257,13 +258,17 @@ module _ {S : Type 0} (x : Guarded S) (space : Space) (g : Guards x space) where
   is_even : (n : ℕ) → (n % 2 == 1) ≡ false → n % 2 ≡ 0
   is_even n h = grind (arith, nat_tests)
 
+  fetched_tells : (pc : ℕ) → pc < 2 ^ 32 → Founds (fetched_of space pc)
+  unfolding fetched_of Founds
+  fetched_tells pc lt =
+      tells_choose (pc % 2 == 1) _ _ (λ odd. tells_err _) (λ even. found_tells most_words pc [] AreWords-nil (is_even pc even) lt)
+
   pub attempt_tells : (p : Plain) → HasLongs p → p.pc < 2 ^ 32 → Attempt x space p moves_any (attempt_of space p)
   unfolding attempt_of Founds
   attempt_tells p longs lt =
-      tells_choose (p.pc % 2 == 1) _ _ (λ odd. tells_err _)
-      (λ even. tells_caught (found_of most_words space p.pc []) (λ end. record { ended = end; plain = p })
+      tells_caught (fetched_of space p.pc) (λ end. record { ended = end; plain = p })
       (λ found. perform_of found.0 p.pc space (past found.1 p))
-      (tells_weaker (found_of most_words space p.pc []) (found_tells most_words p.pc [] AreWords-nil (is_even p.pc even) lt) (λ s q. q)
+      (tells_weaker (fetched_of space p.pc) (fetched_tells p.pc lt) (λ s q. q)
       (λ rest t e told. (p, refl, none_found p moves_any rest _ _ t e told)) (λ a t q. q))
       (λ found. knowing x (quiet x) (IsInstr found.0) _ _ _ (λ is.
       tells_weaker _ (perform_tells found.0 p.pc (past found.1 p) is longs) (λ s q. q)
@@ -272,4 +277,4 @@ module _ {S : Type 0} (x : Guarded S) (space : Space) (g : Guards x space) where
         refl,
         looser x space (past found.1 p) (moves found.0) moves_any rest t e.ended e.plain (λ m is. (found.0, is)) told,
       ))
-      (λ a t q. q))))
+      (λ a t q. q)))

@@ -11,7 +11,8 @@ use Rattle.mb_instr.specs.declared.registers.Plain.{Plain}
 use Rattle.mb_instr.specs.Codes.{IsInstr}
 use Rattle.mb_writes.specs.declared.transfers.Movem.{Movem}
 use Rattle.mb_meaning.specs.Moves.{movem_by}
-use Rattle.mb_meaning.specs.Step.{perform_of, attempt_of}
+use Rattle.mb_meaning.specs.Rows.{perform_of}
+use Rattle.mb_meaning.specs.Attempt.{attempt_of}
 use Rattle.mb_tells.specs.Guarded.{Guarded, Guards}
 use Rattle.mb_tells.specs.Left.{Resumes, Row, Attempt}
 

@@ -32,7 +32,8 @@ use Rattle.mb_instr.specs.Registers.{data_register}
 use Rattle.mb_fields.specs.Decimals.{abcd_of, sbcd_of}
 use Rattle.mb_fields.specs.Packing.{pack_of, unpk_of}
 use Rattle.mb_meaning.specs.Decimals.{negated_decimal}
-use Rattle.mb_meaning.specs.Step.{perform_move_of, perform_arith_of, perform_flow_of, perform_of, Found, judged, found_of, past, most_words, attempt_of}
+use Rattle.mb_meaning.specs.Rows.{perform_move_of, perform_arith_of, perform_flow_of, perform_of}
+use Rattle.mb_meaning.specs.Attempt.{Found, judged, found_of, fetched_of, past, most_words, attempt_of}
 use Rattle.mb_twins.specs.Twins.{SameEnd, SamePerformed}
 use Rattle.mb_twins.proofs.Parts.{Rows, TwinParts, then_twins, failing_twins}
 use Rattle.mb_twins.proofs.Moves.{move_twins, movea_twins, lea_twins, to_ccr_twins, from_ccr_twins, scc_twins}
@@ -165,10 +166,13 @@ found_twins x (suc n) at words =
     (failing_twins x (SameFault x) (SameEnd x) (λ e f h. record { fault = h; first = refl }) (twin_fetch x at))
     (λ word. judged_twins x (decode_of (words ++ word ∷ [])) _ _ (found_twins x n ((at + 2) % 2 ^ 32) (words ++ word ∷ [])))
 
+fetched_twins : (x : Setting) (pc : ℕ) → Founds x (fetched_of x.here pc) (fetched_of x.there pc)
+unfolding fetched_of
+fetched_twins x pc = twins_choose (between x) _ (pc % 2 == 1) _ _ _ _ (returned refl) (found_twins x most_words pc [])
+
 pub attempt_twins : (x : Setting) (p : Plain) → Rows x (attempt_of x.here p) (attempt_of x.there p)
 unfolding attempt_of
 attempt_twins x p =
-    twins_choose (between x) (SamePerformed x) (p.pc % 2 == 1) _ _ _ _ (returned (refl, refl))
-    (twins_caught_same (between x) (SameEnd x) (SamePerformed x) _ _ _ _ _ _ (found_twins x most_words p.pc [])
+    twins_caught_same (between x) (SameEnd x) (SamePerformed x) _ _ _ _ _ _ (fetched_twins x p.pc)
     (λ e f h. returned (h, refl))
-    (λ found. perform_twins x found.0 p.pc (past found.1 p)))
+    (λ found. perform_twins x found.0 p.pc (past found.1 p))

@@ -11,7 +11,8 @@ use Rattle.mb_writes.specs.declared.ends.MovemFault.{MovemFault}
 use Rattle.mb_writes.specs.declared.ends.Ended.{Ended}
 use Rattle.mb_writes.specs.declared.ends.Ended.TheVariants as ended
 use Rattle.mb_meaning.specs.Ends.{Stopped, Performed}
-use Rattle.mb_meaning.specs.Step.{perform_of, attempt_of}
+use Rattle.mb_meaning.specs.Rows.{perform_of}
+use Rattle.mb_meaning.specs.Attempt.{attempt_of}
 
 -- the same refused read, with the fault in the second's space
 pub record SameRead (x : Setting) (f g : ReadFault) : Type 0 where

@@ -1,7 +1,8 @@
 use Rattle.mb_laws.specs.Between.{between}
 use Rattle.mb_laws.proofs.TwinTrees.{tree_twins}
 use Rattle.mb_meaning.specs.Ends.{Performed}
-use Rattle.mb_meaning.specs.Step.{perform_of, attempt_of}
+use Rattle.mb_meaning.specs.Rows.{perform_of}
+use Rattle.mb_meaning.specs.Attempt.{attempt_of}
 use Rattle.mb_twins.specs.Twins.{SamePerformed}
 use Rattle.mb_twins.proofs.Step.{perform_twins, attempt_twins}
 use Rattle.mb_twins.proofs.rows_are_twins.Goals as goal

@@ -1,0 +1,69 @@
+-- The attempt: an instruction is fetched, decoded and carried out.
+use Rattle.std.specs.Prelude.{ℕ, zero, suc, ◌+◌, ◌*◌, ◌%◌, ◌^◌, ◌==◌, List, [], ◌∷◌, ◌++◌, Result, Ok, Err}
+use Rattle.mb_port.specs.Routine.{Routine, Return, ◌>>=◌, failing, caught, choose, fetch}
+use Rattle.mb_port.specs.declared.types.Space.{Space}
+use Rattle.mb_instr.specs.declared.instruction.Instr.{Instr}
+use Rattle.mb_instr.specs.declared.registers.Plain.{Plain}
+use Rattle.mb_decode.specs.declared.front.Decoded.{Decoded}
+use Rattle.mb_decode.specs.declared.front.Decoded.TheVariants.{Whole, More, Illegal, LineA, LineF}
+use Rattle.mb_decode.specs.Decodes.{decode_of}
+use Rattle.mb_ea.specs.Reading.{refused_in}
+use Rattle.mb_writes.specs.declared.ends.Ended.{Ended}
+use Rattle.mb_writes.specs.declared.ends.Ended.TheVariants as ended
+use Rattle.mb_meaning.specs.Ends.{Performed, stopped}
+use Rattle.mb_meaning.specs.Rows.{perform_of}
+
+-- the vectors of what is no instruction
+abbrev pub odd_counter : Ended
+odd_counter = ended.Refused 3
+
+abbrev pub illegal : Ended
+illegal = ended.Refused 4
+
+abbrev pub line_a : Ended
+line_a = ended.Refused 10
+
+abbrev pub line_f : Ended
+line_f = ended.Refused 11
+
+-- an instruction and how many words it has, or how the attempt ends without one
+abbrev pub Found : Type 0
+Found = Result (Instr × ℕ) Ended
+
+-- by what the words are so far: the instruction, what follows with more words, or why there is none
+abbrev pub judged : Decoded → Routine Found → Routine Found
+judged (Whole i n) more = Return (Ok (i, n))
+judged More more = more
+judged Illegal more = Return (Err illegal)
+judged LineA more = Return (Err line_a)
+judged LineF more = Return (Err line_f)
+
+-- Words are fetched one at a time, at most so many more, until they are an instruction or can no longer become one. No
+-- later word is fetched.
+unfoldable pub found_of : ℕ → Space → ℕ → List ℕ → Routine Found
+found_of zero space at words = Return (Err illegal)
+found_of (suc n) space at words = do
+  word ← failing (λ fault. ended.ReadFault (refused_in at fault)) (fetch space at)
+  judged (decode_of (words ++ word ∷ [])) (found_of n space ((at + 2) % 2 ^ 32) (words ++ word ∷ []))
+
+-- no instruction has more words
+abbrev pub most_words : ℕ
+most_words = 11
+
+-- The instruction that stands at PC. No word is fetched at an odd PC.
+unfoldable pub fetched_of : Space → ℕ → Routine Found
+fetched_of space pc = choose (pc % 2 == 1) (Return (Err odd_counter)) (found_of most_words space pc [])
+
+-- the registers with PC past so many words
+abbrev pub past : ℕ → Plain → Plain
+past n p = record p { pc = (p.pc + 2 * n) % 2 ^ 32 }
+
+-- what of a fetched instruction is done, as an instruction's own routine answers it
+abbrev pub attempted : Space → Plain → Routine Found → Routine Performed
+attempted space p found =
+    caught found (λ end. Return (stopped end p)) (λ found. perform_of found.0 p.pc space (past found.1 p))
+
+-- The attempt: an instruction is fetched at PC, decoded and carried out, all accesses in this space. A privileged one
+-- is not carried out.
+unfoldable pub attempt_of : Space → Plain → Routine Performed
+attempt_of space p = attempted space p (fetched_of space p.pc)

@@ -1,0 +1,53 @@
+-- MOVEC.
+use Rattle.std.specs.Prelude.{ℕ, ◌%◌, ◌^◌, bit_and, Bool}
+use Rattle.mb_port.specs.Routine.{Routine, Return, Then, choose, mmu, set_mmu}
+use Rattle.mb_port.specs.Registers.{mmu_register}
+use Rattle.mb_instr.specs.Registers.{plain_of, register_of, with_register}
+use Rattle.mb_model.specs.declared.processor.Cpu.{Cpu}
+use Rattle.mb_model.specs.declared.control.ControlRegister.{ControlRegister}
+use Rattle.mb_model.specs.declared.control.ControlRegister.TheVariants as control
+use Rattle.mb_model.specs.Control.{control_of, kept_bits}
+use Rattle.mb_meaning.specs.Operands.{named_register}
+use Rattle.mb_meaning.specs.SystemEnds.{with_registers}
+
+-- the control register that a word names in its other bits
+abbrev pub named_control : ℕ → ControlRegister
+named_control word = control_of (word % 2 ^ 12)
+
+-- what a control register holds; those of the memory management unit stand at the bus
+unfoldable pub control_value : ControlRegister → Cpu → Routine ℕ
+control_value control.Sfc cpu = Return cpu.sfc
+control_value control.Dfc cpu = Return cpu.dfc
+control_value control.Cacr cpu = Return cpu.cacr
+control_value control.Usp cpu = Return cpu.regs.usp
+control_value control.Vbr cpu = Return cpu.vbr
+control_value control.Msp cpu = Return cpu.regs.msp
+control_value control.Isp cpu = Return cpu.regs.isp
+control_value (control.Mmu which) cpu = Then mmu (λ registers. Return (mmu_register registers which))
+
+-- a control register holds this now
+unfoldable pub setting_control : ControlRegister → ℕ → Cpu → Routine Cpu
+setting_control control.Sfc value cpu = Return (record cpu { sfc = value })
+setting_control control.Dfc value cpu = Return (record cpu { dfc = value })
+setting_control control.Cacr value cpu = Return (record cpu { cacr = value })
+setting_control control.Usp value cpu = Return (record cpu { regs = record cpu.regs { usp = value } })
+setting_control control.Vbr value cpu = Return (record cpu { vbr = value })
+setting_control control.Msp value cpu = Return (record cpu { regs = record cpu.regs { msp = value } })
+setting_control control.Isp value cpu = Return (record cpu { regs = record cpu.regs { isp = value } })
+setting_control (control.Mmu which) value cpu = Then (set_mmu which value) (λ done. Return cpu)
+
+-- MOVEC to a control register: it keeps those bits of the other register that it has
+unfoldable pub to_control_of : ℕ → Cpu → Routine Cpu
+to_control_of word cpu =
+    let register = named_control word in
+    setting_control register (bit_and (register_of (plain_of cpu.regs) (named_register word)) (kept_bits register)) cpu
+
+-- MOVEC from a control register: to all of the other one
+unfoldable pub from_control_of : ℕ → Cpu → Routine Cpu
+from_control_of word cpu =
+    Then (control_value (named_control word) cpu)
+    (λ value. Return (with_registers (with_register (plain_of cpu.regs) (named_register word) value) cpu))
+
+-- MOVEC
+abbrev pub movec_of : Bool → ℕ → Cpu → Routine Cpu
+movec_of to_control word cpu = choose to_control (to_control_of word cpu) (from_control_of word cpu)

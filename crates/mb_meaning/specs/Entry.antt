@@ -1,0 +1,175 @@
+-- The entry of an exception.
+use Rattle.std.specs.Prelude.{ℕ, ◌+◌, ◌*◌, ◌/◌, ◌%◌, ◌^◌, ◌≡◌, ◌↔◌, ◌==◌, ◌||◌, ◌&&◌, nat_lt, bit_or}
+use Rattle.std.specs.Prelude.{Bool, false, if◌then◌else◌, List, [], ◌∷◌, length, drop, Option, Some, None, IsSome}
+use Rattle.std.specs.Prelude.{IsTrue, Result, Ok}
+use Rattle.byteorder.specs.Endian.{big_number}
+use Rattle.mb_port.specs.Routine.{Routine, Return, Then, ◌>>=◌, caught, put}
+use Rattle.mb_port.specs.Pieces.{cut}
+use Rattle.mb_port.specs.declared.types.Space.TheVariants.{Super}
+use Rattle.mb_port.specs.declared.types.Place.{Place}
+use Rattle.mb_port.specs.declared.types.Fault.{Fault}
+use Rattle.mb_instr.specs.declared.registers.Regs.{Regs}
+use Rattle.mb_instr.specs.Registers.{is_master, active_stack, with_stack}
+use Rattle.mb_frames.specs.declared.frame.Access.{Access}
+use Rattle.mb_frames.specs.declared.frame.Frame.{Frame}
+use Rattle.mb_frames.specs.declared.frame.Frame.TheVariants as frame
+use Rattle.mb_frames.specs.Layout.{frame_bytes}
+use Rattle.mb_model.specs.declared.processor.Cpu.{Cpu}
+use Rattle.mb_ea.specs.Addresses.{sum, difference}
+use Rattle.mb_ea.specs.Reading.{read_of}
+use Rattle.mb_meaning.specs.declared.entering.Cause.{Cause}
+use Rattle.mb_meaning.specs.declared.entering.Entered.{Entered}
+use Rattle.mb_meaning.specs.declared.entering.Entered.TheVariants as entered
+use Rattle.mb_meaning.specs.Locked.{probe_pieces}
+
+-- ---- causes
+
+-- an interrupt, whose vector is 24 and its level
+abbrev pub is_interrupt : Cause → Bool
+is_interrupt c = nat_lt 0 c.level
+
+-- odd PC, zero divide, CHK and CHK2, TRAPcc and TRAPV, and trace: their frame has an address
+abbrev pub has_address : ℕ → Bool
+has_address vector = (vector == 3) || (vector == 5) || (vector == 6) || (vector == 7) || (vector == 9)
+
+-- ---- the status register
+
+-- S is set, T1 and T0 are cleared
+abbrev pub supervised : ℕ → ℕ
+supervised sr = 2 ^ 13 + sr % 2 ^ 13
+
+-- M is cleared
+abbrev pub without_master : ℕ → ℕ
+without_master sr = sr / 2 ^ 13 * 2 ^ 13 + sr % 2 ^ 12
+
+-- the interrupt mask is the level
+abbrev pub with_mask : ℕ → ℕ → ℕ
+with_mask level sr = sr / 2 ^ 11 * 2 ^ 11 + level * 2 ^ 8 + sr % 2 ^ 8
+
+-- what the handler of a cause begins with, but for M
+abbrev pub handler_sr : Cause → ℕ → ℕ
+handler_sr c sr = if is_interrupt c then with_mask c.level (supervised sr) else supervised sr
+
+-- the saved SR in a throwaway frame: S is set
+abbrev pub thrown_sr : ℕ → ℕ
+thrown_sr sr = bit_or sr (2 ^ 13)
+
+-- ---- frames
+
+-- the frame of a cause, with the saved SR: $7 with an access error's fields, $2 with an address, or $0
+abbrev pub frame_with : Option Access → ℕ → Cause → Frame
+frame_with (Some access) sr c = frame.Access sr c.pc (4 * c.vector) access
+frame_with None sr c =
+    if has_address c.vector then frame.Address sr c.pc (4 * c.vector) c.address
+    else frame.Short sr c.pc (4 * c.vector)
+
+abbrev pub frame_of : ℕ → Cause → Frame
+frame_of sr c = frame_with c.access sr c
+
+-- the frame $1 of an interrupt, above the one on the master stack
+abbrev pub throwaway_of : ℕ → Cause → Frame
+throwaway_of sr c = frame.Throwaway (thrown_sr sr) c.pc (4 * c.vector)
+
+-- the bytes of a frame, and the address of the lowest
+pub record Stacked : Type 0 where
+  pub at : ℕ
+  pub bytes : List ℕ
+
+-- a frame below the active stack's top
+unfoldable pub stacked : Frame → Regs → Stacked
+stacked f r = record { at = difference (active_stack r) (length (frame_bytes f)); bytes = frame_bytes f }
+
+-- The frames of an exception, and the registers once they are written. An interrupt can have a second one.
+pub record Stacking : Type 0 where
+  pub first : Stacked
+  pub second : Option Stacked
+  pub regs : Regs
+
+-- One frame on the active stack. The registers are the handler's already.
+unfoldable pub stacking_one : ℕ → Cause → Regs → Stacking
+stacking_one sr c r =
+    let first = stacked (frame_of sr c) r in
+    record { first = first; second = None; regs = with_stack r first.at }
+
+-- An interrupt with M set: a frame on the master stack, then M is cleared, and a throwaway frame goes to the interrupt
+-- stack.
+unfoldable pub stacking_two : ℕ → Cause → Regs → Stacking
+stacking_two sr c r =
+    let first = stacked (frame_of sr c) r in
+    let cleared = record (with_stack r first.at) { sr = without_master r.sr } in
+    let second = stacked (throwaway_of sr c) cleared in
+    record { first = first; second = Some second; regs = with_stack cleared second.at }
+
+-- what is stacked for a cause; PC is the one that is stacked until the vector is read
+unfoldable pub stacking_of : Cause → Regs → Stacking
+stacking_of c r =
+    let handler = record r { sr = handler_sr c r.sr; pc = c.pc } in
+    if is_interrupt c && is_master r.sr then stacking_two r.sr c handler else stacking_one r.sr c handler
+
+-- ---- checking and writing
+
+-- The pieces of a frame are checked for writing in order, as they are cut greedily from its lowest address on.
+unfoldable pub probe_frame : Stacked → Routine (Result (List Place) Fault)
+probe_frame s = probe_pieces Super (cut (length s.bytes) s.at (length s.bytes)) []
+
+-- bytes go to the checked places, in order
+abbrev pub put_bytes : List Place → List ℕ → Routine (Unit {0})
+put_bytes [] bytes = Return tt
+put_bytes (p ∷ ps) bytes = Then (put p (big_number p.len bytes)) (λ done. put_bytes ps (drop p.len bytes))
+
+-- a second frame, where there is one
+abbrev pub probe_second : Option Stacked → Routine (Result (List Place) Fault)
+probe_second None = Return (Ok [])
+probe_second (Some s) = probe_frame s
+
+abbrev pub put_second : Option Stacked → List Place → Routine (Unit {0})
+put_second None places = Return tt
+put_second (Some s) places = put_bytes places s.bytes
+
+-- where the frames stand
+pub record Places : Type 0 where
+  pub first : List Place
+  pub second : List Place
+
+-- every piece of every frame is checked before any is written
+unfoldable pub check_frames : Stacking → Routine (Result Places Fault)
+check_frames s = do
+  first ← probe_frame s.first
+  second ← probe_second s.second
+  Return (Ok (record { first = first; second = second }))
+
+-- the frames go to the checked places
+unfoldable pub put_frames : Stacking → Places → Routine (Unit {0})
+put_frames s places = Then (put_bytes places.first s.first.bytes) (λ done. put_second s.second places.second)
+
+-- ---- the entry
+
+-- what an entry came to, and the processor then
+abbrev pub Entrance : Type 0
+Entrance = Entered × Cpu
+
+-- A check was refused. Of an access error's frame it halts the processor, with the registers as they were to be
+-- stacked; else they are as before.
+abbrev pub unstacked : Option Access → Fault → Cause → Cpu → Entrance
+unstacked (Some access) fault c cpu = (entered.DoubleFault, record cpu { regs = record cpu.regs { pc = c.pc } })
+unstacked None fault c cpu = (entered.Faulted fault, cpu)
+
+-- the new PC is a long in the table of vectors; where it can't be read the processor halts
+unfoldable pub vectored : Cause → Cpu → Routine Entrance
+vectored c cpu =
+    caught (read_of Super (sum cpu.vbr (4 * c.vector)) 4)
+    (λ refused. Return (entered.DoubleFault, cpu))
+    (λ target. Return (entered.Done, record cpu { regs = record cpu.regs { pc = target } }))
+
+-- an entry ends the stopped state
+abbrev pub awake : Cpu → Cpu
+awake cpu = record cpu { stopped = false }
+
+-- The entry of an exception: SR is saved, the frames are checked, then written, and then the vector is read.
+unfoldable pub enter_of : Cause → Cpu → Routine Entrance
+enter_of c cpu =
+    let stacking = stacking_of c cpu.regs in
+    caught (check_frames stacking)
+    (λ fault. Return (unstacked c.access fault c (awake cpu)))
+    (λ places. Then (put_frames stacking places)
+    (λ done. vectored c (record (awake cpu) { regs = stacking.regs })))

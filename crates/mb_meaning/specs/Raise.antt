@@ -1,0 +1,124 @@
+-- Exceptions in a step: how each is entered, and what follows where its frame has no place.
+use Rattle.std.specs.Prelude.{ℕ, ◌+◌, ◌-◌, ◌/◌, ◌%◌, ◌^◌, ◌==◌, ◌||◌, ◌&&◌, bit_or, Bool, true, false, if◌then◌else◌}
+use Rattle.std.specs.Prelude.{Some, None, Result, Ok, Err}
+use Rattle.mb_port.specs.Routine.{Routine, Return, Then, caught, choose}
+use Rattle.mb_port.specs.declared.types.Fault.{Fault}
+use Rattle.mb_frames.specs.declared.frame.Access.{Access}
+use Rattle.mb_frames.specs.AccessFields.{check_fields}
+use Rattle.mb_model.specs.declared.processor.Cpu.{Cpu}
+use Rattle.mb_meaning.specs.declared.entering.Cause.{Cause}
+use Rattle.mb_meaning.specs.declared.entering.Entered.{Entered}
+use Rattle.mb_meaning.specs.declared.entering.Entered.TheVariants as entered
+use Rattle.mb_meaning.specs.declared.StepEnd.{StepEnd}
+use Rattle.mb_meaning.specs.declared.StepEnd.TheVariants as step
+use Rattle.mb_meaning.specs.Entry.{enter_of}
+
+-- how a step ended, and the processor then
+abbrev pub Stepped : Type 0
+Stepped = StepEnd × Cpu
+
+-- ---- trace bits
+
+-- T1 asks for a trace after each instruction
+abbrev pub traces_all : ℕ → Bool
+traces_all sr = sr / 2 ^ 15 % 2 == 1
+
+-- T0 asks for a trace after each change of flow
+abbrev pub traces_flow : ℕ → Bool
+traces_flow sr = sr / 2 ^ 14 % 2 == 1
+
+-- a trace is due after an instruction that is done, by the bits at its start and whether it changed the flow
+abbrev pub is_due : ℕ → Bool → Bool
+is_due sr flow = traces_all sr || (traces_flow sr && flow)
+
+-- ---- access errors
+
+-- CT: a trace was due. It is bit 13 of SSW.
+abbrev pub has_ct : Access → Bool
+has_ct access = access.ssw / 2 ^ 13 % 2 == 1
+
+abbrev pub with_ct : Bool → Access → Access
+with_ct due access = if due then record access { ssw = bit_or access.ssw (2 ^ 13) } else access
+
+abbrev pub access_cause : ℕ → Access → Cause
+access_cause pc access = record { vector = 2; pc = pc; address = 0; access = Some access; level = 0 }
+
+-- an entry that ends the step
+abbrev pub ends_step : Entered → StepEnd
+ends_step entered.Done = step.Went
+ends_step _ = step.Halted
+
+-- An access error is entered with this PC and these fields. Where its own frame has no place the processor halts.
+unfoldable pub access_error_of : ℕ → Access → Cpu → Routine Stepped
+access_error_of pc access cpu =
+    Then (enter_of (access_cause pc access) cpu) (λ entrance. Return (ends_step entrance.0, entrance.1))
+
+-- ---- other exceptions
+
+-- an exception was entered, or the step ended instead
+abbrev pub Raised : Type 0
+Raised = Result Cpu Stepped
+
+-- what a function answered, beside the processor that it left
+abbrev pub raised_by : Result (Unit {0}) StepEnd → Cpu → Raised
+raised_by (Ok done) cpu = Ok cpu
+raised_by (Err end) cpu = Err (end, cpu)
+
+-- A check of a frame was refused: an access error is entered from the processor as it is kept for that, with its PC.
+-- CT is set where it was a trace's frame.
+unfoldable pub unchecked_of : Bool → Fault → Cpu → Routine Stepped
+unchecked_of is_trace fault kept = access_error_of kept.regs.pc (with_ct is_trace (check_fields fault)) kept
+
+-- what follows an entry that came to this
+abbrev pub raised : Bool → Cpu → Entered → Cpu → Routine Raised
+raised is_trace kept entered.Done cpu = Return (Ok cpu)
+raised is_trace kept (entered.Faulted fault) cpu =
+    Then (unchecked_of is_trace fault kept) (λ stepped. Return (Err stepped))
+raised is_trace kept entered.DoubleFault cpu = Return (Err (step.Halted, cpu))
+
+-- An exception is entered: a trace, or any other one but an access error. `kept` is the processor as an access error
+-- in its place finds it.
+unfoldable pub raise_of : Bool → Cause → Cpu → Cpu → Routine Raised
+raise_of is_trace c kept cpu = Then (enter_of c cpu) (λ entrance. raised is_trace kept entrance.0 entrance.1)
+
+-- an exception that ends the step
+abbrev pub last : Routine Raised → Routine Stepped
+last m = caught m (λ stepped. Return stepped) (λ cpu. Return (step.Went, cpu))
+
+-- ---- interrupts
+
+abbrev pub interrupt_cause : ℕ → ℕ → Cause
+interrupt_cause level pc = record { vector = 24 + level; pc = pc; address = 0; access = None; level = level }
+
+-- The entry of an interrupt. Where its frames have no place no register has changed.
+unfoldable pub interrupt_of : ℕ → Cpu → Routine Stepped
+interrupt_of level cpu = last (raise_of false (interrupt_cause level cpu.regs.pc) cpu cpu)
+
+-- ---- exceptions of instructions
+
+abbrev pub cause_at : ℕ → ℕ → ℕ → Cause
+cause_at vector pc address = record { vector = vector; pc = pc; address = address; access = None; level = 0 }
+
+-- Trace: the frame has the PC now, and the address of the instruction. It is the last exception of a step.
+unfoldable pub trace_of : ℕ → Cpu → Routine Stepped
+trace_of address cpu = last (raise_of true (cause_at 9 cpu.regs.pc address) cpu cpu)
+
+-- a trace of the instruction at an address, where it is due
+abbrev pub tracing_of : Bool → ℕ → Cpu → Routine Stepped
+tracing_of due address cpu = choose due (trace_of address cpu) (Return (step.Went, cpu))
+
+-- An instruction traps: the frame has the next PC, and the address of the instruction. T1 asks for a trace behind it,
+-- with the handler's PC. Where the frame has no place all registers are as before the instruction.
+unfoldable pub trap_of : ℕ → Cpu → Cpu → Routine Stepped
+trap_of vector before cpu =
+    let at = before.regs.pc in
+    caught (raise_of false (cause_at vector cpu.regs.pc at) before cpu)
+    (λ stepped. Return stepped)
+    (λ handler. tracing_of (traces_all before.regs.sr) at handler)
+
+-- An instruction is not carried out: the frame has its own PC, and for an odd PC the even address below. All registers
+-- are as before, and no trace is due.
+unfoldable pub refused_of : ℕ → Cpu → Routine Stepped
+refused_of vector before =
+    let at = before.regs.pc in
+    last (raise_of false (cause_at vector at (at - at % 2)) before before)

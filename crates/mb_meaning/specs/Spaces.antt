@@ -1,0 +1,81 @@
+-- What goes by the function codes SFC and DFC: MOVES, PFLUSH and PTEST.
+use Rattle.std.specs.Prelude.{ℕ, ◌-◌, ◌/◌, ◌%◌, ◌^◌, ◌==◌, Bool, not, nat_lt, if◌then◌else◌}
+use Rattle.mb_port.specs.Routine.{Routine, Return, Then, ◌>>=◌, choose, flush, test, set_mmu}
+use Rattle.mb_port.specs.declared.types.Space.{Space}
+use Rattle.mb_port.specs.declared.types.Space.TheVariants.{User, Super}
+use Rattle.mb_port.specs.declared.types.Flush.{Flush}
+use Rattle.mb_port.specs.declared.types.Flush.TheVariants as dropped
+use Rattle.mb_port.specs.declared.types.MmuReg.TheVariants.{Mmusr}
+use Rattle.mb_instr.specs.declared.size.Size.{Size}
+use Rattle.mb_instr.specs.declared.operand.Ea.{Ea}
+use Rattle.mb_instr.specs.declared.kinds.FlushKind.{FlushKind}
+use Rattle.mb_instr.specs.declared.kinds.FlushKind.TheVariants as kind
+use Rattle.mb_instr.specs.declared.registers.Plain.{Plain}
+use Rattle.mb_instr.specs.Sizes.{bytes_of, sign_extended}
+use Rattle.mb_instr.specs.Registers.{plain_of, register_of, data_register, with_data_register, address_register}
+use Rattle.mb_instr.specs.Registers.{with_address_register}
+use Rattle.mb_ea.specs.declared.addresses.Target.{Target}
+use Rattle.mb_ea.specs.Addresses.{sum}
+use Rattle.mb_ea.specs.Reading.{read_of}
+use Rattle.mb_ea.specs.Resolve.{resolve_of}
+use Rattle.mb_model.specs.declared.processor.Cpu.{Cpu}
+use Rattle.mb_meaning.specs.Operands.{first_word, named_register, with_low, place_of, storing}
+use Rattle.mb_meaning.specs.SystemEnds.{SystemPerformed, completed, reading_for, with_registers, finishing}
+
+-- the space of a function code, by its bit 2
+abbrev pub function_space : ℕ → Space
+function_space code = if code / 2 ^ 2 % 2 == 1 then Super else User
+
+-- ---- MOVES
+
+-- of a data register the low bytes become the value; an address register becomes all of it, with its sign
+abbrev pub taken : Size → ℕ → ℕ → Plain → Plain
+taken size n value p =
+    if nat_lt n 8 then with_data_register p n (with_low size (data_register p n) value)
+    else with_address_register p (n - 8) (sign_extended size value)
+
+-- to memory, in DFC's space. An address register that has stepped is stored with its new value.
+unfoldable pub out_of_register : Size → Target → ℕ → Plain → Cpu → Routine SystemPerformed
+out_of_register size target n p cpu = finishing cpu (storing target size (register_of p n) (function_space cpu.dfc) p)
+
+-- from memory, in SFC's space. An address register that has stepped becomes what was read.
+unfoldable pub into_register : Size → Target → ℕ → Plain → Cpu → Routine SystemPerformed
+into_register size target n p cpu = do
+  value ← reading_for cpu (read_of (function_space cpu.sfc) (place_of target) (bytes_of size))
+  Return (completed (with_registers (taken size n value p) cpu))
+
+-- bit 11 of the word says to memory
+abbrev pub is_store : ℕ → Bool
+is_store word = word / 2 ^ 11 % 2 == 1
+
+-- MOVES: the operand's words are behind the word that names the register. A memory indirection of its address is read
+-- in supervisor space; only the operand itself goes by SFC or DFC.
+unfoldable pub moves_of : Size → Ea → ℕ → ℕ → Cpu → Routine SystemPerformed
+moves_of size ea word at cpu = do
+  to ← reading_for cpu (resolve_of ea size (sum (first_word at) 2) Super (plain_of cpu.regs))
+  choose (is_store word) (out_of_register size to.target (named_register word) to.plain cpu)
+      (into_register size to.target (named_register word) to.plain cpu)
+
+-- ---- pages
+
+-- the page of 4 KiB that has an address
+abbrev pub page_of : ℕ → ℕ
+page_of address = address / 2 ^ 12
+
+-- what PFLUSH drops: of a page in DFC's space, or of all; with the global translations or without them
+abbrev pub flushed_by : FlushKind → ℕ → Cpu → Flush
+flushed_by kind.LocalPage address cpu = dropped.PageLocal (function_space cpu.dfc) (page_of address)
+flushed_by kind.Page address cpu = dropped.Page (function_space cpu.dfc) (page_of address)
+flushed_by kind.AllLocal address cpu = dropped.AllLocal
+flushed_by kind.All address cpu = dropped.All
+
+-- PFLUSH
+unfoldable pub pflush_of : FlushKind → ℕ → Cpu → Routine Cpu
+pflush_of kind n cpu =
+    Then (flush (flushed_by kind (address_register (plain_of cpu.regs) n) cpu)) (λ done. Return cpu)
+
+-- PTEST: the page is tested in DFC's space, for a read or a write, and the answer becomes MMUSR
+unfoldable pub ptest_of : Bool → ℕ → Cpu → Routine Cpu
+ptest_of is_read n cpu =
+    Then (test (function_space cpu.dfc) (address_register (plain_of cpu.regs) n) (not is_read))
+    (λ status. Then (set_mmu Mmusr status) (λ done. Return cpu))

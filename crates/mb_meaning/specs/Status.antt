@@ -1,0 +1,50 @@
+-- ANDI, ORI and EORI to SR, MOVE to and from SR, STOP, and MOVE USP.
+use Rattle.std.specs.Prelude.{ℕ, Bool, true, if◌then◌else◌}
+use Rattle.mb_port.specs.Routine.{Routine, Return, ◌>>=◌}
+use Rattle.mb_port.specs.declared.types.Space.TheVariants.{Super}
+use Rattle.mb_instr.specs.declared.size.Size.TheVariants.{Word}
+use Rattle.mb_instr.specs.declared.operand.Ea.{Ea}
+use Rattle.mb_instr.specs.Registers.{plain_of, address_register, with_address_register}
+use Rattle.mb_alu.specs.declared.bitwise.LogicKind.{LogicKind}
+use Rattle.mb_alu.specs.Logic.{logic_of}
+use Rattle.mb_ea.specs.Resolve.{resolve_of}
+use Rattle.mb_model.specs.declared.processor.Cpu.{Cpu}
+use Rattle.mb_model.specs.Status.{kept_status}
+use Rattle.mb_meaning.specs.Operands.{first_word, operand_of, storing}
+use Rattle.mb_meaning.specs.SystemEnds.{SystemPerformed, redirected, reading_for, with_registers, finishing}
+
+-- SR becomes this. What A7 was stays in its stack pointer, and A7 is now the one that the new S and M choose.
+abbrev pub with_status : ℕ → Cpu → Cpu
+with_status value cpu = record cpu { regs = record cpu.regs { sr = kept_status value } }
+
+-- ANDI, ORI and EORI to SR
+unfoldable pub status_by : LogicKind → ℕ → Cpu → Cpu
+status_by kind word cpu = with_status (logic_of kind Word word cpu.regs.sr 0).value cpu
+
+-- MOVE to SR: a word is read, by the registers as the old S and M give them
+unfoldable pub to_status_of : Ea → ℕ → Cpu → Routine SystemPerformed
+to_status_of ea at cpu = do
+  operand ← reading_for cpu (operand_of Word ea (first_word at) Super (plain_of cpu.regs))
+  Return (redirected (with_status operand.value (with_registers operand.plain cpu)))
+
+-- MOVE from SR: the destination is not read
+unfoldable pub from_status_of : Ea → ℕ → Cpu → Routine SystemPerformed
+from_status_of ea at cpu = do
+  to ← reading_for cpu (resolve_of ea Word (first_word at) Super (plain_of cpu.regs))
+  finishing cpu (storing to.target Word cpu.regs.sr Super to.plain)
+
+-- STOP: SR is loaded, and the processor stops
+unfoldable pub stop_of : ℕ → Cpu → Cpu
+stop_of word cpu = record (with_status word cpu) { stopped = true }
+
+-- MOVE An to USP
+unfoldable pub to_usp_of : ℕ → Cpu → Cpu
+to_usp_of n cpu = record cpu { regs = record cpu.regs { usp = address_register (plain_of cpu.regs) n } }
+
+-- MOVE USP to An
+unfoldable pub from_usp_of : ℕ → Cpu → Cpu
+from_usp_of n cpu = with_registers (with_address_register (plain_of cpu.regs) n cpu.regs.usp) cpu
+
+-- MOVE USP
+abbrev pub move_usp_of : Bool → ℕ → Cpu → Cpu
+move_usp_of from_usp n cpu = if from_usp then from_usp_of n cpu else to_usp_of n cpu
