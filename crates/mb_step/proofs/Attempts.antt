@@ -1,82 +1,41 @@
--- An attempt, with one more word fetched.
-use Rattle.std.proofs.lemmas.Bool.Decides.{nat_tests}
-use Rattle.std.proofs.Common.{◌≡◌, ◌≢◌, Bool, arith, ap, ℕ, suc, ◌+◌, ◌%◌, ◌^◌, ◌==◌, false, List, [], ◌∷◌, ◌++◌, Result, Ok, Err, refl}
-use Rattle.mb_port.specs.Routine.{Bus, Routine, Return, run, Fetch}
-use Rattle.mb_port.specs.declared.types.Space.{Space}
-use Rattle.mb_port.specs.declared.types.Fault.{Fault}
+-- An instruction's step is its attempt and its finish.
+use Rattle.std.proofs.Common.{◌≡◌, ℕ, Bool, true, false, Ok, refl, ap, sym, ◌∙◌}
+use Rattle.std.specs.Prelude.{not}
+use Rattle.mb_port.specs.Routine.{Bus, Return, run, choose}
 use Rattle.mb_instr.specs.declared.instruction.Instr.{Instr}
-use Rattle.mb_instr.specs.declared.registers.Plain.{Plain}
-use Rattle.mb_decode.specs.declared.front.Decoded.{Decoded}
-use Rattle.mb_decode.specs.declared.front.Decoded.TheVariants.{Whole}
-use Rattle.mb_decode.specs.Decodes.{decode_of}
-use Rattle.mb_ea.specs.Reading.{refused_in}
-use Rattle.mb_writes.specs.declared.ends.Ended.TheVariants as ended
+use Rattle.mb_instr.specs.declared.instruction.Instr.TheVariants as instr
+use Rattle.mb_instr.specs.declared.instruction.System.{System}
+use Rattle.mb_instr.specs.Registers.{is_supervisor, plain_of}
+use Rattle.mb_model.specs.declared.processor.Cpu.{Cpu}
+use Rattle.mb_model.specs.Status.{space_of}
 use Rattle.mb_meaning.specs.Ends.{End, closing}
-use Rattle.mb_meaning.specs.Step.{Found, illegal, found_of, judged, attempted, attempt_of, past, perform_of, most_words}
+use Rattle.mb_meaning.specs.Rows.{perform_of}
+use Rattle.mb_meaning.specs.Attempt.{Found, fetched_of, attempted, attempt_of}
+use Rattle.mb_meaning.specs.Raise.{refused_of}
+use Rattle.mb_meaning.specs.Step.{finish_of, supervised_of, unprivileged_of, executed_of, instruction_of}
+use Rattle.mb_step.specs.Attempts.{is_attempted, finished, AttemptThenFinish}
+use Rattle.mb_step.proofs.Fetches.{doing}
 
-abbrev Answered : {S : Type 0} → Bus S → Space → ℕ → S → Result ℕ Fault → S → Type 0
-Answered bus space at s answer t = bus (Fetch space at) s ≡ (answer, t)
+-- what an attempt does with an answer of the fetch
+abbrev attempting : {S : Type 0} → Bus S → Cpu → Found × S → End × S
+attempting bus cpu found = run bus (closing (attempted (space_of cpu) (plain_of cpu.regs) (Return found.0))) found.1
 
--- a word came, and what follows goes by what the words are now
-fetched : {S : Type 0} (bus : Bus S) (m n : ℕ) (space : Space) (at : ℕ) (words : List ℕ) (word : ℕ) (s t : S) (now : List ℕ) (d : Decoded) → m ≡ suc n
-    → Answered bus space at s (Ok word) t → now ≡ words ++ word ∷ [] → d ≡ decode_of now
-    → run bus (found_of m space at words) s ≡ run bus (judged d (found_of n space ((at + 2) % 2 ^ 32) now)) t
-unfolding found_of
-fetched bus m n space at words word s t now d e h w k = rw (e, found_of, h, k, w) refl
+-- a privileged instruction is refused in user mode
+in_user_mode : {S : Type 0} (bus : Bus S) (cpu : Cpu) (t : S) (i : System) (n : ℕ) (supervisor : Bool) → not supervisor ≡ true
+    → run bus (choose supervisor (supervised_of i n cpu) (refused_of 8 cpu)) t ≡ run bus (refused_of 8 cpu) t
+in_user_mode bus cpu t i n false h = refl
+in_user_mode bus cpu t i n true h = absurd (cc h)
 
--- no word came
-unfetched : {S : Type 0} (bus : Bus S) (m n : ℕ) (space : Space) (at : ℕ) (words : List ℕ) (fault : Fault) (s t : S) → m ≡ suc n
-    → Answered bus space at s (Err fault) t
-    → run bus (found_of m space at words) s ≡ (Err (ended.ReadFault (refused_in at fault)), t)
-unfolding found_of
-unfetched bus m n space at words fault s t e h = rw (e, found_of, h) refl
+-- what was found is carried out as the attempt does it, and then finished
+found_then_finish : {S : Type 0} (bus : Bus S) (cpu : Cpu) (t : S) (i : Instr) (n : ℕ) → is_attempted i cpu ≡ true
+    → run bus (executed_of i n cpu) t ≡ finished bus i cpu (attempting bus cpu (Ok (i, n), t))
+unfolding executed_of unprivileged_of finish_of perform_of
+found_then_finish bus cpu t (instr.Move i) n k = refl
+found_then_finish bus cpu t (instr.Arith i) n k = refl
+found_then_finish bus cpu t (instr.Flow i) n k = refl
+found_then_finish bus cpu t (instr.System i) n k = in_user_mode bus cpu t i n (is_supervisor cpu.regs.sr) k
 
--- no more words are asked for
-exhausted : {S : Type 0} (bus : Bus S) (m : ℕ) (space : Space) (at : ℕ) (words : List ℕ) (s : S) → m ≡ 0
-    → run bus (found_of m space at words) s ≡ (Err illegal, s)
-unfolding found_of
-exhausted bus m space at words s e = rw (e, found_of) refl
-
--- ---- the same of an attempt, which goes on with what was found
-
--- an attempt whose words so far are these
-abbrev pub trying : {S : Type 0} → Bus S → Space → Plain → ℕ → ℕ → List ℕ → S → End × S
-trying bus space p m at words s = run bus (closing (attempted space p (found_of m space at words))) s
-
--- what it does with an answer of the fetch
-abbrev doing : {S : Type 0} → Bus S → Space → Plain → Found × S → End × S
-doing bus space p found = run bus (closing (attempted space p (Return found.0))) found.1
-
-pub trying_on : {S : Type 0} (bus : Bus S) (p : Plain) (m n : ℕ) (space : Space) (at : ℕ) (words : List ℕ) (word : ℕ) (s t : S) (now : List ℕ) (d : Decoded)
-    → m ≡ suc n → Answered bus space at s (Ok word) t → now ≡ words ++ word ∷ [] → d ≡ decode_of now
-    → trying bus space p m at words s
-    ≡ run bus (closing (attempted space p (judged d (found_of n space ((at + 2) % 2 ^ 32) now)))) t
-trying_on bus p m n space at words word s t now d e h w k = ap (doing bus space p) (fetched bus m n space at words word s t now d e h w k)
-
-pub trying_without : {S : Type 0} (bus : Bus S) (p : Plain) (m n : ℕ) (space : Space) (at : ℕ) (words : List ℕ) (fault : Fault) (s t : S)
-    → m ≡ suc n → Answered bus space at s (Err fault) t
-    → trying bus space p m at words s ≡ ((ended.ReadFault (refused_in at fault), p), t)
-trying_without bus p m n space at words fault s t e h = ap (doing bus space p) (unfetched bus m n space at words fault s t e h)
-
-pub trying_no_more : {S : Type 0} (bus : Bus S) (p : Plain) (m : ℕ) (space : Space) (at : ℕ) (words : List ℕ) (s : S)
-    → m ≡ 0 → trying bus space p m at words s ≡ ((illegal, p), s)
-trying_no_more bus p m space at words s e = ap (doing bus space p) (exhausted bus m space at words s e)
-
--- an instruction was found, and is carried out
-pub trying_whole : {S : Type 0} (bus : Bus S) (p q : Plain) (space : Space) (more : Routine Found) (t : S) (d : Decoded) (i : Instr) (n : ℕ)
-    → d ≡ Whole i n → q ≡ p
-    → run bus (closing (attempted space p (judged d more))) t ≡ run bus (closing (perform_of i q.pc space (past n q))) t
-trying_whole bus p q space more t d i n h k = rw (h, k) refl
-
--- at an even PC it begins without a word
-begun : {S : Type 0} (bus : Bus S) (space : Space) (p : Plain) (s : S) (odd : Bool) → (p.pc % 2 == 1) ≡ odd → odd ≡ false
-    → run bus (closing (attempt_of space p)) s ≡ trying bus space p most_words p.pc [] s
-unfolding attempt_of
-begun bus space p s odd e h = rw (e, h) refl
-
-unequal : (a b : ℕ) → a ≢ b → (a == b) ≡ false
-unequal a b h = grind (arith, nat_tests)
-
-pub attempted_from : {S : Type 0} (bus : Bus S) (space : Space) (p : Plain) (s : S) → p.pc % 2 ≢ 1
-    → run bus (closing (attempt_of space p)) s ≡ trying bus space p most_words p.pc [] s
-attempted_from bus space p s h = begun bus space p s _ refl (unequal (p.pc % 2) 1 h)
+pub attempt_then_finish : {S : Type 0} → AttemptThenFinish S
+unfolding instruction_of attempt_of plain_of
+attempt_then_finish bus cpu s t i n h k =
+    ap (doing bus cpu) h ∙ found_then_finish bus cpu t i n k ∙ ap (finished bus i cpu) (sym (ap (attempting bus cpu) h))

@@ -1,12 +1,24 @@
-//! One step of the processor, over any bus: an instruction is fetched, decoded and carried out.
+//! One step of the processor, over any bus: the entry of an interrupt, an idle tick, or an instruction with the
+//! exceptions that it causes.
 //!
-//! Each function here does what its routine of `mb_meaning` does, whatever the bus.
+//! Each function here does what its routine of `mb_meaning` does, whatever the bus. An instruction is carried out where
+//! it was decoded, on a copy of the registers; only where it ends otherwise than done is the processor as it was before
+//! kept beside it.
 #![tactic(auto)]
 
-mod attempting;
+mod executing;
+mod fetching;
+mod finishing;
+mod laws;
 mod performing;
+mod raising;
+mod returning;
 mod stepping;
 
-pub use attempting::attempt;
+pub use laws::attempt_then_finish;
+pub use mb_meaning::StepEnd;
 pub use performing::perform;
 pub use stepping::step;
+
+#[cfg(test)]
+mod tests;

@@ -4,7 +4,7 @@ ghost use Rattle.std.specs.Prelude.{◌≡◌};
 ghost use Rattle.mb_port.specs.Routine.{run};
 ghost use Rattle.mb_instr.specs.Codes.{IsInstr};
 ghost use Rattle.mb_meaning.specs.Ends.{closing};
-ghost use Rattle.mb_meaning.specs.Step.{perform_of};
+ghost use Rattle.mb_meaning.specs.Rows.{perform_of};
 
 use mb_instr::{Instr, Plain};
 use mb_ops_arith::perform_arith;
@@ -19,7 +19,7 @@ const PRIVILEGED: u8 = 8;
 /// Carries out the instruction that stands at `at`. PC is past its words already. All accesses are
 /// made in `space`.
 #[inline(always)]
-#[tactic(auto, unfolding(mb_meaning::specs::Step::perform_of))]
+#[tactic(auto, unfolding(mb_meaning::specs::Rows::perform_of))]
 pub fn perform<P: Port>(
     instruction: &Instr,
     at: u32,

@@ -1,54 +1,40 @@
 //! A step.
 
-ghost use Rattle.std.specs.Prelude.{◌≡◌};
+ghost use Rattle.std.specs.Prelude.{◌≡◌, ◌↔◌, ◌<◌, ◌≤◌, true};
 ghost use Rattle.mb_port.specs.Routine.{run};
-ghost use Rattle.mb_meaning.specs.Step.{space_of, finished, step_of};
+ghost use Rattle.mb_meaning.specs.Step.{interrupt_mask, step_of};
 
-use crate::attempting::attempt;
-use mb_instr::Plain;
+use crate::fetching::execute_next;
+use crate::raising::interrupt;
 use mb_meaning::StepEnd;
 use mb_model::Cpu;
-use mb_port::{Port, Space};
-use mb_writes::Ended;
+use mb_port::Port;
 
-/// The space of the processor's accesses.
+/// The interrupt mask, bits 10 to 8 of the status register.
 #[inline(always)]
-fn space(sr: u16) -> Space
-    ensures { result ≡ space_of sr }
+fn interrupt_mask(cpu: &Cpu) -> u8
+    ensures { result ≡ interrupt_mask cpu.now }
 {
-    if sr >> 13 & 1 == 1 {
-        Space::Super
-    } else {
-        Space::User
-    }
+    (cpu.regs.sr >> 8 & 7) as u8
 }
 
-/// What follows an attempt that ended so, with these registers.
-#[inline(always)]
-#[tactic(auto, unfolding(mb_meaning::specs::Step::finished))]
-fn finish(ended: Ended, plain: &Plain, cpu: &mut Cpu) -> StepEnd
-    ensures { (result, cpu.new) ≡ finished cpu.old (ended, plain.now) }
-{
-    cpu.regs.set_plain(plain);
-    match ended {
-        Ended::Done { .. } => StepEnd::Went,
-        Ended::Trap(_)
-        | Ended::Refused(_)
-        | Ended::ReadFault(_)
-        | Ended::WriteFault(_)
-        | Ended::LineFault { .. }
-        | Ended::Movem(_) => StepEnd::Unbuilt,
-    }
-}
-
-/// One step of the processor: an attempt, and its finish.
+/// One step of the processor, with an interrupt of `level` asked for, or of level 0 for none.
+///
+/// An interrupt above the mask is entered, and the step has nothing else. A processor that STOP holds idles. Else the
+/// instruction at PC is carried out, with the exceptions that it causes.
 #[inline(always)]
 #[tactic(auto, unfolding(mb_meaning::specs::Step::step_of))]
-pub fn step<P: Port>(cpu: &mut Cpu, port: &mut P) -> StepEnd
-    ensures means { run P.bus (step_of cpu.old) (P.world port.old) ≡ ((result, cpu.new), P.world port.new) }
+pub fn step<P: Port>(cpu: &mut Cpu, port: &mut P, level: u8) -> StepEnd
+    requires { level < 8 }
+    ensures means { run P.bus (step_of level cpu.old) (P.world port.old) ≡ ((result, cpu.new), P.world port.new) }
+    ensures idle { result ≡ StepEnd.Idle ↔ (level ≤ interrupt_mask cpu.old) × (cpu.old.stopped ≡ true) }
     ensures rest { P.rest port.new ≡ P.rest port.old }
 {
-    let mut plain = cpu.regs.plain();
-    let ended = attempt(space(cpu.regs.sr), &mut plain, port);
-    finish(ended, &plain, cpu)
+    if level > interrupt_mask(cpu) {
+        return interrupt(level, cpu, port);
+    }
+    if cpu.stopped {
+        return StepEnd::Idle;
+    }
+    execute_next(cpu, port)
 }

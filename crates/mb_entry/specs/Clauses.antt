@@ -1,0 +1,62 @@
+-- What the ends of entries and returns tell.
+use Rattle.std.specs.Prelude.{◌≡◌, ◌⊎◌, true}
+use Rattle.mb_port.specs.declared.types.Fault.{Fault}
+use Rattle.mb_instr.specs.declared.registers.Regs.{Regs}
+use Rattle.mb_model.specs.declared.processor.Cpu.{Cpu}
+use Rattle.mb_writes.specs.declared.ends.Ended.{Ended}
+use Rattle.mb_writes.specs.declared.ends.Ended.TheVariants as ended
+use Rattle.mb_meaning.specs.declared.entering.Cause.{Cause}
+use Rattle.mb_meaning.specs.declared.entering.Entered.{Entered}
+use Rattle.mb_meaning.specs.declared.entering.Entered.TheVariants as entered
+use Rattle.mb_meaning.specs.Entry.{stacking_of}
+
+-- Where an entry was carried out, SR and the stacks are as its frames leave them, and PC alone is the handler's. Where
+-- a check was refused no register changed. Where the processor halts its registers are as the frames leave them, or
+-- where those of an access error have no place, as they were with the PC that was to be stacked.
+abbrev pub RegsAfter : Entered → Cause → Regs → Regs → Type 0
+RegsAfter entered.Done c old new = new ≡ record (stacking_of c old).regs { pc = new.pc }
+RegsAfter (entered.Faulted fault) c old new = new ≡ old
+RegsAfter entered.DoubleFault c old new = (new ≡ (stacking_of c old).regs) ⊎ (new ≡ record old { pc = c.pc })
+
+-- Where the vector was read PC alone is another, else nothing is.
+abbrev pub GoesOn : Entered → Cpu → Cpu → Type 0
+GoesOn entered.Done old new = new ≡ record old { regs = record old.regs { pc = new.regs.pc } }
+GoesOn (entered.Faulted fault) old new = ⊥
+GoesOn entered.DoubleFault old new = new ≡ old
+
+-- the fact, where a check was refused
+abbrev pub IfFaulted : Entered → (Fault → Type 0) → Type 0
+IfFaulted entered.Done P = Unit {0}
+IfFaulted (entered.Faulted fault) P = P fault
+IfFaulted entered.DoubleFault P = Unit {0}
+
+-- how a return ends that takes no frame: a format error, or a refused read
+abbrev pub NotTaken : Ended → Type 0
+NotTaken (ended.Done flow) = ⊥
+NotTaken (ended.Trap vector) = ⊥
+NotTaken (ended.Refused vector) = vector ≡ 14
+NotTaken (ended.ReadFault refused) = Unit {0}
+NotTaken (ended.WriteFault refused) = ⊥
+NotTaken (ended.LineFault fault line) = ⊥
+NotTaken (ended.Movem refused) = ⊥
+
+-- how a MOVEM ends that goes on: its instruction changes the flow, or a transfer was refused again
+abbrev pub WentOn : Ended → Type 0
+WentOn (ended.Done flow) = flow ≡ true
+WentOn (ended.Trap vector) = ⊥
+WentOn (ended.Refused vector) = ⊥
+WentOn (ended.ReadFault refused) = ⊥
+WentOn (ended.WriteFault refused) = ⊥
+WentOn (ended.LineFault fault line) = ⊥
+WentOn (ended.Movem refused) = Unit {0}
+
+-- A return is carried out, and T0 asks for a trace; or it is a format error or a refused read, and nothing of the
+-- processor changed; or a transfer of a MOVEM was refused again.
+abbrev pub ReturnEnds : Ended → Cpu → Cpu → Type 0
+ReturnEnds (ended.Done flow) old new = flow ≡ true
+ReturnEnds (ended.Trap vector) old new = ⊥
+ReturnEnds (ended.Refused vector) old new = (vector ≡ 14) × (new ≡ old)
+ReturnEnds (ended.ReadFault refused) old new = new ≡ old
+ReturnEnds (ended.WriteFault refused) old new = ⊥
+ReturnEnds (ended.LineFault fault line) old new = ⊥
+ReturnEnds (ended.Movem refused) old new = Unit {0}

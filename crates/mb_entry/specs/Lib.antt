@@ -1,0 +1,4 @@
+pub mod Stacks
+pub mod Places
+pub mod Takes
+pub mod Clauses

@@ -1,0 +1,72 @@
+//! The entry of an exception.
+
+ghost use Rattle.std.specs.Prelude.{◌≡◌, ◌<◌, false};
+ghost use Rattle.mb_port.specs.Routine.{run};
+ghost use Rattle.mb_meaning.specs.Entry.{stacking_of, check_frames, vectored, unstacked, enter_of};
+ghost use Rattle.mb_entry.specs.Clauses.{RegsAfter, GoesOn, IfFaulted};
+
+use crate::places::{check_frames, put_frames};
+use crate::stacking::{offset, stacking_for};
+use mb_ea::read_value;
+use mb_instr::Size;
+use mb_meaning::{Cause, Entered};
+use mb_model::Cpu;
+use mb_port::{Fault, Port, Space};
+
+/// What follows where a check of the frame was refused.
+fn unstacked(fault: Fault, cause: &Cause, cpu: &mut Cpu) -> Entered
+    ensures means { (result, cpu.new) ≡ unstacked cause.now.access fault cause.now cpu.old }
+    ensures told { IfFaulted result (λ other. other ≡ fault) }
+{
+    if cause.access.is_some() {
+        cpu.regs.pc = cause.pc;
+        Entered::DoubleFault
+    } else {
+        Entered::Faulted(fault)
+    }
+}
+
+/// Goes where the table of vectors says.
+#[tactic(auto, unfolding(mb_meaning::specs::Entry::vectored))]
+fn go_to_handler<P: Port>(cause: &Cause, cpu: &mut Cpu, port: &mut P) -> Entered
+    ensures means { run P.bus (vectored cause.now cpu.old) (P.world port.old)
+        ≡ ((result, cpu.new), P.world port.new) }
+    ensures went { GoesOn result cpu.old cpu.new }
+    ensures rest { P.rest port.new ≡ P.rest port.old }
+{
+    let entry = cpu.vbr.wrapping_add(u32::from(offset(cause.vector)));
+    match read_value(Space::Super, entry, Size::Long, port) {
+        Ok(target) => {
+            cpu.regs.pc = target;
+            Entered::Done
+        }
+        Err(_) => Entered::DoubleFault,
+    }
+}
+
+/// Enters an exception: every piece of every frame is checked before any is written, and the vector is read last.
+#[tactic(auto, unfolding(mb_meaning::specs::Entry::enter_of))]
+pub fn enter<P: Port>(cpu: &mut Cpu, port: &mut P, cause: &Cause) -> Entered
+    requires { cause.now.level < 8 }
+    ensures means { run P.bus (enter_of cause.now cpu.old) (P.world port.old)
+        ≡ ((result, cpu.new), P.world port.new) }
+    ensures registers { RegsAfter result cause.now cpu.old.regs cpu.new.regs }
+    ensures others { cpu.new ≡ record cpu.old { regs = cpu.new.regs; stopped = false } }
+
+    // Where a check was refused nothing was written: the checks alone were made.
+    ensures unwritten { IfFaulted result (λ fault.
+        run P.bus (check_frames (stacking_of cause.now cpu.old.regs)) (P.world port.old)
+        ≡ (Err fault, P.world port.new)) }
+    ensures rest { P.rest port.new ≡ P.rest port.old }
+{
+    let stacking = stacking_for(cause, &cpu.regs);
+    cpu.stopped = false;
+    match check_frames(&stacking, port) {
+        Ok(places) => {
+            put_frames(&stacking, &places, port);
+            cpu.regs = stacking.regs;
+            go_to_handler(cause, cpu, port)
+        }
+        Err(fault) => unstacked(fault, cause, cpu),
+    }
+}

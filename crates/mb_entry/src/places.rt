@@ -1,0 +1,157 @@
+//! Frames are checked for writing, and then written at the checked places.
+
+ghost use Rattle.std.specs.Prelude.{◌≡◌, ◌≤◌, ◌+◌, length, All, IfOk, OnOk};
+ghost use Rattle.mb_port.specs.Routine.{run};
+ghost use Rattle.mb_port.specs.Pieces.{cut};
+ghost use Rattle.mb_meaning.specs.Locked.{probe_pieces};
+ghost use Rattle.mb_meaning.specs.Entry.{probe_frame, probe_second, put_bytes, put_second, check_frames, put_frames};
+ghost use Rattle.mb_entry.specs.Stacks.{seen, seen_second, stacking_seen};
+ghost use Rattle.byteorder.specs.Endian.{big_number};
+ghost use Rattle.mb_entry.specs.Places.{bytes_at, probed, located, places_seen, placed};
+ghost use Rattle.mb_entry.specs.Places.{IsLength, IsOpen, AreOpen, Covers};
+
+use crate::stacking::{Stacked, Stacking};
+use arrayvec::ArrayVec;
+use byteorder::{BigEndian, ByteOrder};
+use mb_port::{Fault, Place, Port, Space, first_piece};
+
+/// The most pieces of a frame: of the sixty bytes of an access error's, at an odd place.
+const MOST_PIECES: usize = 17;
+
+/// Where the frames of an exception stand.
+#[derive(Drop)]
+pub(crate) struct Places {
+    first: ArrayVec<Place, MOST_PIECES>,
+    second: ArrayVec<Place, MOST_PIECES>,
+}
+
+/// Checks `left` bytes from `at` on for writing, in pieces. Where each stands comes behind the places so far.
+fn probe_bytes<P: Port>(
+    at: u32,
+    left: u8,
+    places: &mut ArrayVec<Place, MOST_PIECES>,
+    port: &mut P,
+) -> Result<(), Fault>
+    requires room { length places.old.items + length (cut left at left) ≤ 17 }
+    requires open { All (IsOpen (P.exists (P.rest port.old))) places.old.items }
+    ensures means { run P.bus (probe_pieces Space.Super (cut left at left) places.old.items) (P.world port.old)
+        ≡ (probed result places.new.items, P.world port.new) }
+    ensures open { OnOk result (All (IsOpen (P.exists (P.rest port.new))) places.new.items) }
+    ensures bytes { OnOk result (bytes_at places.new.items ≡ bytes_at places.old.items + left) }
+    ensures rest { P.rest port.new ≡ P.rest port.old }
+{
+    if left == 0 {
+        return Ok(());
+    }
+    let piece = first_piece(at, left);
+    let place = port.probe(Space::Super, piece)?;
+    places.push(place);
+    probe_bytes(
+        at.wrapping_add(u32::from(piece.len)),
+        left - piece.len,
+        places,
+        port,
+    )
+}
+
+/// Checks a frame for writing. The answer is where its pieces stand.
+#[tactic(auto, unfolding(mb_meaning::specs::Entry::probe_frame), using(crate::proofs::Few::at_most_seventeen))]
+fn probe_frame<P: Port>(
+    frame: &Stacked,
+    port: &mut P,
+) -> Result<ArrayVec<Place, MOST_PIECES>, Fault>
+    ensures means { run P.bus (probe_frame (seen frame.now)) (P.world port.old) ≡ (located result, P.world port.new) }
+    ensures open { IfOk result (λ places. AreOpen (P.exists (P.rest port.new)) frame.now.bytes.items places.items) }
+    ensures rest { P.rest port.new ≡ P.rest port.old }
+{
+    let mut places = ArrayVec::new();
+    probe_bytes(frame.at, frame.bytes.len() as u8, &mut places, port)?;
+    Ok(places)
+}
+
+/// Checks a second frame for writing, where there is one.
+fn probe_second<P: Port>(
+    second: &Option<Stacked>,
+    port: &mut P,
+) -> Result<ArrayVec<Place, MOST_PIECES>, Fault>
+    ensures means { run P.bus (probe_second (seen_second second.now)) (P.world port.old)
+        ≡ (located result, P.world port.new) }
+    ensures open { IfOk result (λ places. Covers (P.exists (P.rest port.new)) second.now places.items) }
+    ensures rest { P.rest port.new ≡ P.rest port.old }
+{
+    match second {
+        None => Ok(ArrayVec::new()),
+        Some(frame) => probe_frame(frame, port),
+    }
+}
+
+/// Checks every piece of every frame for writing.
+#[tactic(auto, unfolding(mb_meaning::specs::Entry::check_frames))]
+pub(crate) fn check_frames<P: Port>(stacking: &Stacking, port: &mut P) -> Result<Places, Fault>
+    ensures means { run P.bus (check_frames (stacking_seen stacking.now)) (P.world port.old)
+        ≡ (placed result, P.world port.new) }
+    ensures first { IfOk result (λ places.
+        AreOpen (P.exists (P.rest port.new)) stacking.now.first.bytes.items places.first.items) }
+    ensures second { IfOk result (λ places.
+        Covers (P.exists (P.rest port.new)) stacking.now.second places.second.items) }
+    ensures rest { P.rest port.new ≡ P.rest port.old }
+{
+    let first = probe_frame(&stacking.first, port)?;
+    let second = probe_second(&stacking.second, port)?;
+    Ok(Places { first, second })
+}
+
+/// The big-endian number that a piece's bytes spell.
+fn number(bytes: &[u8], len: u8) -> u32
+    requires piece { IsLength len }
+    requires room { len ≤ length bytes.now }
+    ensures { result ≡ big_number len bytes.now }
+{
+    match len {
+        1 => u32::from(bytes[0]),
+        2 => u32::from(BigEndian::read_u16(bytes)),
+        _ => BigEndian::read_u32(bytes),
+    }
+}
+
+/// Writes bytes at checked places, in their order.
+fn put_bytes<P: Port>(places: &[Place], bytes: &[u8], port: &mut P)
+    requires open { All (IsOpen (P.exists (P.rest port.old))) places.now }
+    requires enough { bytes_at places.now ≤ length bytes.now }
+    ensures means { run P.bus (put_bytes places.now bytes.now) (P.world port.old) ≡ (result, P.world port.new) }
+    ensures rest { P.rest port.new ≡ P.rest port.old }
+{
+    if let [first, rest @ ..] = places {
+        port.put(*first, number(bytes, first.len));
+        put_bytes(rest, &bytes[first.len as usize..], port);
+    }
+}
+
+/// Writes a second frame at its places, where there is one.
+fn put_second<P: Port>(second: &Option<Stacked>, places: &[Place], port: &mut P)
+    requires { Covers (P.exists (P.rest port.old)) second.now places.now }
+    ensures means { run P.bus (put_second (seen_second second.now) places.now) (P.world port.old)
+        ≡ (result, P.world port.new) }
+    ensures rest { P.rest port.new ≡ P.rest port.old }
+{
+    if let Some(frame) = second {
+        put_bytes(places, frame.bytes.as_slice(), port);
+    }
+}
+
+/// Writes the frames at their places.
+#[tactic(auto, unfolding(mb_meaning::specs::Entry::put_frames))]
+pub(crate) fn put_frames<P: Port>(stacking: &Stacking, places: &Places, port: &mut P)
+    requires first { AreOpen (P.exists (P.rest port.old)) stacking.now.first.bytes.items places.now.first.items }
+    requires second { Covers (P.exists (P.rest port.old)) stacking.now.second places.now.second.items }
+    ensures means { run P.bus (put_frames (stacking_seen stacking.now) (places_seen places.now)) (P.world port.old)
+        ≡ (result, P.world port.new) }
+    ensures rest { P.rest port.new ≡ P.rest port.old }
+{
+    put_bytes(
+        places.first.as_slice(),
+        stacking.first.bytes.as_slice(),
+        port,
+    );
+    put_second(&stacking.second, places.second.as_slice(), port);
+}

@@ -1,0 +1,58 @@
+//! The status register in an entry.
+
+ghost use Rattle.std.specs.Prelude.{◌≡◌, ◌<◌};
+ghost use Rattle.mb_meaning.specs.Entry.{supervised, without_master, with_mask, handler_sr, thrown_sr};
+
+use mb_meaning::Cause;
+
+/// Supervisor mode.
+const SUPERVISOR: u16 = 1 << 13;
+
+/// The master stack.
+const MASTER: u16 = 1 << 12;
+
+/// With S set, T1 and T0 cleared.
+#[inline(always)]
+fn supervised(sr: u16) -> u16
+    ensures { result ≡ supervised sr }
+{
+    SUPERVISOR + sr % SUPERVISOR
+}
+
+/// With M cleared.
+#[inline(always)]
+pub(crate) fn without_master(sr: u16) -> u16
+    ensures { result ≡ without_master sr }
+{
+    sr / SUPERVISOR * SUPERVISOR + sr % MASTER
+}
+
+/// With the level as the interrupt mask.
+#[inline(always)]
+fn with_mask(level: u8, sr: u16) -> u16
+    requires { level < 8 }
+    ensures { result ≡ with_mask level sr }
+{
+    sr / 2048 * 2048 + u16::from(level) * 256 + sr % 256
+}
+
+/// What the handler begins with, but for M.
+#[inline(always)]
+pub(crate) fn handler_status(cause: &Cause, sr: u16) -> u16
+    requires { cause.now.level < 8 }
+    ensures { result ≡ handler_sr cause.now sr }
+{
+    if cause.level > 0 {
+        with_mask(cause.level, supervised(sr))
+    } else {
+        supervised(sr)
+    }
+}
+
+/// The saved status register in a throwaway frame.
+#[inline(always)]
+pub(crate) fn thrown_status(sr: u16) -> u16
+    ensures { result ≡ thrown_sr sr }
+{
+    sr | SUPERVISOR
+}

@@ -1,0 +1,145 @@
+//! An instruction that was fetched is carried out, and finished.
+
+ghost use Rattle.std.specs.Prelude.{◌≡◌, ◌≢◌};
+ghost use Rattle.mb_port.specs.Routine.{run};
+ghost use Rattle.mb_instr.specs.Codes.{IsInstr};
+ghost use Rattle.mb_instr.specs.declared.instruction.Instr.TheVariants as instr;
+ghost use Rattle.mb_meaning.specs.Raise.{refused_of};
+ghost use Rattle.mb_meaning.specs.SystemEnds.{with_registers};
+ghost use Rattle.mb_meaning.specs.Step.{finish_of, supervised_of, unprivileged_of, executed_of};
+
+use crate::finishing::finish;
+use crate::performing::perform;
+use crate::raising::{is_due, refuse, trace_if};
+use crate::returning::return_from_exception;
+use mb_instr::{Instr, Plain, System};
+use mb_meaning::StepEnd;
+use mb_model::Cpu;
+use mb_port::Port;
+use mb_system::perform_system;
+use mb_writes::Ended;
+
+/// The vector of a privilege violation.
+const PRIVILEGED: u8 = 8;
+
+/// Carries out a privileged instruction of so many words in supervisor mode.
+#[inline(never)]
+#[tactic(auto, unfolding(mb_meaning::specs::Step::supervised_of))]
+fn execute_supervised<P: Port>(
+    instruction: &Instr,
+    system: &System,
+    length: u8,
+    cpu: &mut Cpu,
+    port: &mut P,
+) -> StepEnd
+    requires row { IsInstr instruction.now }
+    requires system { instruction.now ≡ instr.System system.now }
+    ensures means { run P.bus (supervised_of system.now length cpu.old) (P.world port.old)
+        ≡ ((result, cpu.new), P.world port.new) }
+    ensures busy { result ≢ StepEnd.Idle }
+    ensures rest { P.rest port.new ≡ P.rest port.old }
+{
+    if let System::Rte = system {
+        return return_from_exception(cpu, port);
+    }
+    let before = *cpu;
+    let at = cpu.regs.pc;
+    cpu.regs.pc = at.wrapping_add(2 * u32::from(length));
+    let ended = perform_system(system, at, cpu, port);
+    finish(instruction, &ended, &before, cpu, port)
+}
+
+/// Finishes an instruction that was not done, or that traps.
+#[inline(never)]
+fn finish_undone<P: Port>(
+    instruction: &Instr,
+    ended: &Ended,
+    plain: &Plain,
+    cpu: &mut Cpu,
+    port: &mut P,
+) -> StepEnd
+    requires { IsInstr instruction.now }
+    ensures means { run P.bus (finish_of instruction.now ended.now cpu.old (with_registers plain.now cpu.old))
+        (P.world port.old) ≡ ((result, cpu.new), P.world port.new) }
+    ensures busy { result ≢ StepEnd.Idle }
+    ensures rest { P.rest port.new ≡ P.rest port.old }
+{
+    let before = *cpu;
+    cpu.regs.set_plain(plain);
+    finish(instruction, ended, &before, cpu, port)
+}
+
+/// Finishes an instruction that left these registers.
+#[inline(always)]
+#[tactic(auto, unfolding(mb_meaning::specs::Step::finish_of))]
+fn finish_plain<P: Port>(
+    instruction: &Instr,
+    ended: &Ended,
+    plain: &Plain,
+    cpu: &mut Cpu,
+    port: &mut P,
+) -> StepEnd
+    requires { IsInstr instruction.now }
+    ensures means { run P.bus (finish_of instruction.now ended.now cpu.old (with_registers plain.now cpu.old))
+        (P.world port.old) ≡ ((result, cpu.new), P.world port.new) }
+    ensures busy { result ≢ StepEnd.Idle }
+    ensures rest { P.rest port.new ≡ P.rest port.old }
+{
+    if let Ended::Done { flow } = ended {
+        let due = is_due(cpu.regs.sr, *flow);
+        let at = cpu.regs.pc;
+        cpu.regs.set_plain(plain);
+        return trace_if(due, at, cpu, port);
+    }
+    finish_undone(instruction, ended, plain, cpu, port)
+}
+
+/// Carries out an instruction of so many words that is not privileged.
+#[inline(always)]
+#[tactic(auto, unfolding(mb_meaning::specs::Step::unprivileged_of))]
+fn execute_unprivileged<P: Port>(
+    instruction: &Instr,
+    length: u8,
+    cpu: &mut Cpu,
+    port: &mut P,
+) -> StepEnd
+    requires { IsInstr instruction.now }
+    ensures means { run P.bus (unprivileged_of instruction.now length cpu.old) (P.world port.old)
+        ≡ ((result, cpu.new), P.world port.new) }
+    ensures busy { result ≢ StepEnd.Idle }
+    ensures rest { P.rest port.new ≡ P.rest port.old }
+{
+    let mut plain = cpu.regs.plain();
+    let at = plain.pc;
+    plain.pc = at.wrapping_add(2 * u32::from(length));
+    let ended = perform(instruction, at, cpu.space(), &mut plain, port);
+    finish_plain(instruction, &ended, &plain, cpu, port)
+}
+
+/// Carries out an instruction of so many words that stands at PC. A privileged one needs supervisor mode.
+#[tactic(auto, unfolding(mb_meaning::specs::Step::executed_of))]
+pub(crate) fn execute<P: Port>(
+    instruction: &Instr,
+    length: u8,
+    cpu: &mut Cpu,
+    port: &mut P,
+) -> StepEnd
+    requires { IsInstr instruction.now }
+    ensures means { run P.bus (executed_of instruction.now length cpu.old) (P.world port.old)
+        ≡ ((result, cpu.new), P.world port.new) }
+    ensures busy { result ≢ StepEnd.Idle }
+    ensures rest { P.rest port.new ≡ P.rest port.old }
+{
+    match instruction {
+        Instr::System(system) => {
+            if cpu.regs.is_supervisor() {
+                execute_supervised(instruction, system, length, cpu, port)
+            } else {
+                refuse(PRIVILEGED, cpu, port)
+            }
+        }
+        Instr::Move(_) | Instr::Arith(_) | Instr::Flow(_) => {
+            execute_unprivileged(instruction, length, cpu, port)
+        }
+    }
+}

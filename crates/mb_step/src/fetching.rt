@@ -1,0 +1,102 @@
+//! The instruction that stands at PC is fetched and decoded.
+
+ghost use Rattle.std.specs.Prelude.{◌≡◌, ◌≢◌, ◌-◌, ◌+◌, ◌%◌, ◌^◌, [], ◌∷◌};
+ghost use Rattle.mb_port.specs.Routine.{run};
+ghost use Rattle.mb_model.specs.Status.{space_of};
+ghost use Rattle.mb_ea.specs.Reading.{refused_in};
+ghost use Rattle.mb_meaning.specs.Attempt.{found_of, most_words};
+ghost use Rattle.mb_meaning.specs.Step.{unread_of, instruction_of};
+ghost use Rattle.mb_step.specs.Fetching.{found_executed};
+
+use crate::executing::execute;
+use crate::finishing::finish_unread;
+use crate::raising::refuse;
+use arrayvec::ArrayVec;
+use mb_decode::{Decoding, decode_into};
+use mb_ea::ReadFault;
+use mb_instr::{Flow, Instr};
+use mb_meaning::StepEnd;
+use mb_model::Cpu;
+use mb_port::{Fault, Port};
+
+/// How many words an instruction can have behind its first.
+const MOST_BEHIND: usize = 10;
+
+/// What stands where no instruction was decoded yet.
+const NOTHING: Instr = Instr::Flow(Flow::Nop);
+
+/// The vectors of what is no instruction.
+const ODD_COUNTER: u8 = 3;
+
+const ILLEGAL: u8 = 4;
+
+const LINE_A: u8 = 10;
+
+const LINE_F: u8 = 11;
+
+/// After a refused fetch: that of a read whose operand is the word itself.
+#[inline(never)]
+fn finish_unfetched<P: Port>(fault: Fault, at: u32, cpu: &mut Cpu, port: &mut P) -> StepEnd
+    ensures means { run P.bus (unread_of (refused_in at fault) cpu.old) (P.world port.old)
+        ≡ ((result, cpu.new), P.world port.new) }
+    ensures busy { result ≢ StepEnd.Idle }
+    ensures rest { P.rest port.new ≡ P.rest port.old }
+{
+    finish_unread(&ReadFault { fault, first: at }, cpu, port)
+}
+
+/// Goes on with an instruction that has more words than its first: they are fetched one at a time, until they are an
+/// instruction or can no longer become one.
+fn execute_longer<P: Port>(first: u16, cpu: &mut Cpu, port: &mut P) -> StepEnd
+    requires { cpu.old.regs.pc % 2 ≡ 0 }
+    ensures means { run P.bus (found_executed cpu.old (found_of (most_words - 1) (space_of cpu.old)
+        ((cpu.old.regs.pc + 2) % 2 ^ 32) (first ∷ []))) (P.world port.old) ≡ ((result, cpu.new), P.world port.new) }
+    ensures busy { result ≢ StepEnd.Idle }
+    ensures rest { P.rest port.new ≡ P.rest port.old }
+{
+    let mut behind = ArrayVec::<u16, MOST_BEHIND>::new();
+    let mut instruction = NOTHING;
+    let space = cpu.space();
+    let mut at = cpu.regs.pc.wrapping_add(2);
+    for _ in 0..MOST_BEHIND {
+        match port.fetch(space, at) {
+            Ok(word) => behind.push(word),
+            Err(fault) => return finish_unfetched(fault, at, cpu, port),
+        }
+        match decode_into(first, behind.as_slice(), &mut instruction) {
+            Decoding::Whole(length) => return execute(&instruction, length, cpu, port),
+            Decoding::More => at = at.wrapping_add(2),
+            Decoding::Illegal => return refuse(ILLEGAL, cpu, port),
+            Decoding::LineA => return refuse(LINE_A, cpu, port),
+            Decoding::LineF => return refuse(LINE_F, cpu, port),
+        }
+    }
+    refuse(ILLEGAL, cpu, port)
+}
+
+/// Fetches the instruction that stands at PC and carries it out. No word is fetched behind those that the instruction
+/// needs, and none at an odd PC.
+#[inline(always)]
+#[tactic(auto, unfolding(mb_meaning::specs::Step::instruction_of))]
+pub(crate) fn execute_next<P: Port>(cpu: &mut Cpu, port: &mut P) -> StepEnd
+    ensures means { run P.bus (instruction_of cpu.old) (P.world port.old) ≡ ((result, cpu.new), P.world port.new) }
+    ensures busy { result ≢ StepEnd.Idle }
+    ensures rest { P.rest port.new ≡ P.rest port.old }
+{
+    let at = cpu.regs.pc;
+    if at % 2 == 1 {
+        return refuse(ODD_COUNTER, cpu, port);
+    }
+    let first = match port.fetch(cpu.space(), at) {
+        Ok(word) => word,
+        Err(fault) => return finish_unfetched(fault, at, cpu, port),
+    };
+    let mut instruction = NOTHING;
+    match decode_into(first, &[], &mut instruction) {
+        Decoding::Whole(length) => execute(&instruction, length, cpu, port),
+        Decoding::More => execute_longer(first, cpu, port),
+        Decoding::Illegal => refuse(ILLEGAL, cpu, port),
+        Decoding::LineA => refuse(LINE_A, cpu, port),
+        Decoding::LineF => refuse(LINE_F, cpu, port),
+    }
+}

@@ -1,0 +1,235 @@
+//! Exceptions in a step: how each is entered, and what follows where its frame has no place.
+
+ghost use Rattle.std.specs.Prelude.{◌≡◌, ◌≢◌, ◌<◌, IfErr};
+ghost use Rattle.mb_port.specs.Routine.{run};
+ghost use Rattle.mb_meaning.specs.Raise.{traces_all, traces_flow, is_due, has_ct, with_ct, cause_at, raised_by};
+ghost use Rattle.mb_meaning.specs.Raise.{access_error_of, unchecked_of, raise_of, last, interrupt_of, trace_of};
+ghost use Rattle.mb_meaning.specs.Raise.{tracing_of, trap_of, refused_of};
+
+use mb_entry::{Cause, Entered, check_fields, enter};
+use mb_frames::Access;
+use mb_meaning::StepEnd;
+use mb_model::Cpu;
+use mb_port::{Fault, Port};
+
+/// The vector of an access error.
+const ACCESS_ERROR: u8 = 2;
+
+/// The vector of a trace.
+const TRACE: u8 = 9;
+
+/// The vector of an interrupt, less its level.
+const INTERRUPT: u8 = 24;
+
+/// CT of the special status word: a trace was due.
+const CT: u16 = 1 << 13;
+
+/// T1 asks for a trace after each instruction.
+#[inline(always)]
+pub(crate) fn traces_all(sr: u16) -> bool
+    ensures { result ≡ traces_all sr }
+{
+    sr >> 15 & 1 == 1
+}
+
+/// T0 asks for a trace after each change of flow.
+#[inline(always)]
+fn traces_flow(sr: u16) -> bool
+    ensures { result ≡ traces_flow sr }
+{
+    sr >> 14 & 1 == 1
+}
+
+/// Whether a trace is due after an instruction that is done, by the bits at its start.
+#[inline(always)]
+pub(crate) fn is_due(sr: u16, flow: bool) -> bool
+    ensures { result ≡ is_due sr flow }
+{
+    traces_all(sr) || (traces_flow(sr) && flow)
+}
+
+/// Whether CT is set.
+pub(crate) fn has_ct(access: &Access) -> bool
+    ensures { result ≡ has_ct access.now }
+{
+    access.ssw >> 13 & 1 == 1
+}
+
+/// The fields with CT, where a trace is due.
+pub(crate) fn with_ct(due: bool, access: Access) -> Access
+    ensures { result ≡ with_ct due access }
+{
+    let mut access = access;
+    if due {
+        access.ssw |= CT;
+    }
+    access
+}
+
+/// The cause of an exception that is neither an access error nor an interrupt.
+fn cause_at(vector: u8, pc: u32, address: u32) -> Cause
+    ensures { result ≡ cause_at vector pc address }
+{
+    Cause {
+        vector,
+        pc,
+        address,
+        access: None,
+        level: 0,
+    }
+}
+
+/// Enters an access error, with this PC and these fields. Where its own frame has no place the processor halts.
+#[inline(never)]
+#[tactic(auto, unfolding(mb_meaning::specs::Raise::access_error_of))]
+pub(crate) fn access_error<P: Port>(pc: u32, access: Access, cpu: &mut Cpu, port: &mut P) -> StepEnd
+    ensures means { run P.bus (access_error_of pc access cpu.old) (P.world port.old)
+        ≡ ((result, cpu.new), P.world port.new) }
+    ensures busy { result ≢ StepEnd.Idle }
+    ensures rest { P.rest port.new ≡ P.rest port.old }
+{
+    let cause = Cause {
+        vector: ACCESS_ERROR,
+        pc,
+        address: 0,
+        access: Some(access),
+        level: 0,
+    };
+    match enter(cpu, port, &cause) {
+        Entered::Done => StepEnd::Went,
+        Entered::Faulted(_) | Entered::DoubleFault => StepEnd::Halted,
+    }
+}
+
+/// Enters the access error of a frame that has no place. CT is set where it was a trace's.
+#[inline(never)]
+#[tactic(auto, unfolding(mb_meaning::specs::Raise::unchecked_of))]
+fn unchecked<P: Port>(is_trace: bool, fault: &Fault, cpu: &mut Cpu, port: &mut P) -> StepEnd
+    ensures means { run P.bus (unchecked_of is_trace fault.now cpu.old) (P.world port.old)
+        ≡ ((result, cpu.new), P.world port.new) }
+    ensures busy { result ≢ StepEnd.Idle }
+    ensures rest { P.rest port.new ≡ P.rest port.old }
+{
+    let fields = with_ct(is_trace, check_fields(fault));
+    access_error(cpu.regs.pc, fields, cpu, port)
+}
+
+/// Enters an exception that is no access error. Where its frame has no place the processor becomes `kept`, and an
+/// access error is entered in its place. The error is how the step ended, where the exception was not entered.
+#[inline(never)]
+#[tactic(auto, unfolding(mb_meaning::specs::Raise::raise_of))]
+fn raise<P: Port>(
+    is_trace: bool,
+    cause: &Cause,
+    kept: &Cpu,
+    cpu: &mut Cpu,
+    port: &mut P,
+) -> Result<(), StepEnd>
+    requires { cause.now.level < 8 }
+    ensures means { run P.bus (raise_of is_trace cause.now kept.now cpu.old) (P.world port.old)
+        ≡ (raised_by result cpu.new, P.world port.new) }
+    ensures busy { IfErr result (λ end. end ≢ StepEnd.Idle) }
+    ensures rest { P.rest port.new ≡ P.rest port.old }
+{
+    match enter(cpu, port, cause) {
+        Entered::Done => Ok(()),
+        Entered::Faulted(fault) => {
+            *cpu = *kept;
+            Err(unchecked(is_trace, &fault, cpu, port))
+        }
+        Entered::DoubleFault => Err(StepEnd::Halted),
+    }
+}
+
+/// Enters an exception that is the last of its step, from the processor as it stands.
+#[inline(never)]
+fn raise_last<P: Port>(is_trace: bool, cause: &Cause, cpu: &mut Cpu, port: &mut P) -> StepEnd
+    requires { cause.now.level < 8 }
+    ensures means { run P.bus (last (raise_of is_trace cause.now cpu.old cpu.old)) (P.world port.old)
+        ≡ ((result, cpu.new), P.world port.new) }
+    ensures busy { result ≢ StepEnd.Idle }
+    ensures rest { P.rest port.new ≡ P.rest port.old }
+{
+    let kept = *cpu;
+    match raise(is_trace, cause, &kept, cpu, port) {
+        Ok(()) => StepEnd::Went,
+        Err(end) => end,
+    }
+}
+
+/// Enters an interrupt.
+#[inline(never)]
+#[tactic(auto, unfolding(mb_meaning::specs::Raise::interrupt_of))]
+pub(crate) fn interrupt<P: Port>(level: u8, cpu: &mut Cpu, port: &mut P) -> StepEnd
+    requires { level < 8 }
+    ensures means { run P.bus (interrupt_of level cpu.old) (P.world port.old)
+        ≡ ((result, cpu.new), P.world port.new) }
+    ensures busy { result ≢ StepEnd.Idle }
+    ensures rest { P.rest port.new ≡ P.rest port.old }
+{
+    let cause = Cause {
+        vector: INTERRUPT + level,
+        pc: cpu.regs.pc,
+        address: 0,
+        access: None,
+        level,
+    };
+    raise_last(false, &cause, cpu, port)
+}
+
+/// Enters the trace of the instruction at `address`.
+#[inline(never)]
+#[tactic(auto, unfolding(mb_meaning::specs::Raise::trace_of))]
+pub(crate) fn trace<P: Port>(address: u32, cpu: &mut Cpu, port: &mut P) -> StepEnd
+    ensures means { run P.bus (trace_of address cpu.old) (P.world port.old)
+        ≡ ((result, cpu.new), P.world port.new) }
+    ensures busy { result ≢ StepEnd.Idle }
+    ensures rest { P.rest port.new ≡ P.rest port.old }
+{
+    raise_last(true, &cause_at(TRACE, cpu.regs.pc, address), cpu, port)
+}
+
+/// Enters the trace of the instruction at `address`, where it is due.
+#[inline(always)]
+pub(crate) fn trace_if<P: Port>(due: bool, address: u32, cpu: &mut Cpu, port: &mut P) -> StepEnd
+    ensures means { run P.bus (tracing_of due address cpu.old) (P.world port.old)
+        ≡ ((result, cpu.new), P.world port.new) }
+    ensures busy { result ≢ StepEnd.Idle }
+    ensures rest { P.rest port.new ≡ P.rest port.old }
+{
+    if due {
+        trace(address, cpu, port)
+    } else {
+        StepEnd::Went
+    }
+}
+
+/// Enters the exception of an instruction that traps, and behind it a trace, where T1 asks for one.
+#[inline(never)]
+#[tactic(auto, unfolding(mb_meaning::specs::Raise::trap_of))]
+pub(crate) fn trap<P: Port>(vector: u8, before: &Cpu, cpu: &mut Cpu, port: &mut P) -> StepEnd
+    ensures means { run P.bus (trap_of vector before.now cpu.old) (P.world port.old)
+        ≡ ((result, cpu.new), P.world port.new) }
+    ensures busy { result ≢ StepEnd.Idle }
+    ensures rest { P.rest port.new ≡ P.rest port.old }
+{
+    let at = before.regs.pc;
+    let cause = cause_at(vector, cpu.regs.pc, at);
+    match raise(false, &cause, before, cpu, port) {
+        Ok(()) => trace_if(traces_all(before.regs.sr), at, cpu, port),
+        Err(end) => end,
+    }
+}
+
+/// Enters the exception of an instruction at PC that is not carried out.
+#[inline(never)]
+#[tactic(auto, unfolding(mb_meaning::specs::Raise::refused_of))]
+pub(crate) fn refuse<P: Port>(vector: u8, cpu: &mut Cpu, port: &mut P) -> StepEnd
+    ensures means { run P.bus (refused_of vector cpu.old) (P.world port.old)
+        ≡ ((result, cpu.new), P.world port.new) }
+    ensures busy { result ≢ StepEnd.Idle }
+    ensures rest { P.rest port.new ≡ P.rest port.old }
+{
+    let at = cpu.regs.pc;
+    raise_last(false, &cause_at(vector, at, at - at % 2), cpu, port)
+}

@@ -1,0 +1,94 @@
+//! MOVEC.
+
+ghost use Rattle.std.specs.Prelude.{◌≡◌, ◌<◌, bit_and};
+ghost use Rattle.mb_port.specs.Routine.{run};
+ghost use Rattle.mb_model.specs.Control.{kept_bits};
+ghost use Rattle.mb_meaning.specs.Control.{named_control};
+ghost use Rattle.mb_meaning.specs.Control.{control_value, setting_control, to_control_of, from_control_of, movec_of};
+
+use mb_model::{ControlRegister, Cpu};
+use mb_operands::named_register;
+use mb_port::Port;
+
+/// The control register that a word names in its other bits.
+#[inline(always)]
+fn named_control(word: u16) -> ControlRegister
+    ensures { result ≡ named_control word }
+{
+    ControlRegister::of(word & 0xfff)
+}
+
+/// What a control register holds; those of the memory management unit stand at the bus.
+#[inline(always)]
+#[tactic(auto, unfolding(mb_meaning::specs::Control::control_value))]
+fn control<P: Port>(register: ControlRegister, cpu: &Cpu, port: &P) -> u32
+    ensures { run P.bus (control_value register cpu.now) (P.world port.now) ≡ (result, P.world port.now) }
+{
+    match register {
+        ControlRegister::Sfc => u32::from(cpu.sfc),
+        ControlRegister::Dfc => u32::from(cpu.dfc),
+        ControlRegister::Cacr => cpu.cacr,
+        ControlRegister::Usp => cpu.regs.usp,
+        ControlRegister::Vbr => cpu.vbr,
+        ControlRegister::Msp => cpu.regs.msp,
+        ControlRegister::Isp => cpu.regs.isp,
+        ControlRegister::Mmu(which) => port.mmu().get(which),
+    }
+}
+
+/// Makes a control register hold what it keeps of a value.
+#[inline(always)]
+#[tactic(auto, unfolding(mb_meaning::specs::Control::setting_control))]
+fn set_control<P: Port>(register: ControlRegister, value: u32, cpu: &mut Cpu, port: &mut P)
+    ensures means { run P.bus (setting_control register (bit_and value (kept_bits register)) cpu.old)
+        (P.world port.old) ≡ (cpu.new, P.world port.new) }
+    ensures rest { P.rest port.new ≡ P.rest port.old }
+{
+    let kept = value & register.kept_bits();
+    match register {
+        ControlRegister::Sfc => cpu.sfc = kept as u8,
+        ControlRegister::Dfc => cpu.dfc = kept as u8,
+        ControlRegister::Cacr => cpu.cacr = kept,
+        ControlRegister::Usp => cpu.regs.usp = kept,
+        ControlRegister::Vbr => cpu.vbr = kept,
+        ControlRegister::Msp => cpu.regs.msp = kept,
+        ControlRegister::Isp => cpu.regs.isp = kept,
+        ControlRegister::Mmu(which) => port.set_mmu(which, kept),
+    }
+}
+
+/// MOVEC to a control register.
+#[inline(always)]
+#[tactic(auto, unfolding(mb_meaning::specs::Control::to_control_of))]
+fn move_to_control<P: Port>(word: u16, cpu: &mut Cpu, port: &mut P)
+    ensures means { run P.bus (to_control_of word cpu.old) (P.world port.old) ≡ (cpu.new, P.world port.new) }
+    ensures rest { P.rest port.new ≡ P.rest port.old }
+{
+    let value = cpu.regs.plain().register(named_register(word));
+    set_control(named_control(word), value, cpu, port);
+}
+
+/// MOVEC from a control register: to all of the other one.
+#[inline(always)]
+#[tactic(auto, unfolding(mb_meaning::specs::Control::from_control_of))]
+fn move_from_control<P: Port>(word: u16, cpu: &mut Cpu, port: &P)
+    ensures { run P.bus (from_control_of word cpu.old) (P.world port.now) ≡ (cpu.new, P.world port.now) }
+{
+    let value = control(named_control(word), cpu, port);
+    let mut plain = cpu.regs.plain();
+    plain.set_register(named_register(word), value);
+    cpu.regs.set_plain(&plain);
+}
+
+/// MOVEC.
+#[inline(always)]
+pub(crate) fn move_control<P: Port>(to_control: bool, word: u16, cpu: &mut Cpu, port: &mut P)
+    ensures means { run P.bus (movec_of to_control word cpu.old) (P.world port.old) ≡ (cpu.new, P.world port.new) }
+    ensures rest { P.rest port.new ≡ P.rest port.old }
+{
+    if to_control {
+        move_to_control(word, cpu, port);
+    } else {
+        move_from_control(word, cpu, port);
+    }
+}

@@ -1,0 +1,83 @@
+//! Privileged instructions, each by its row.
+
+ghost use Rattle.std.specs.Prelude.{◌≡◌};
+ghost use Rattle.mb_port.specs.Routine.{run};
+ghost use Rattle.mb_instr.specs.Codes.{IsInstr};
+ghost use Rattle.mb_instr.specs.declared.instruction.Instr.TheVariants as instr;
+ghost use Rattle.mb_meaning.specs.SystemEnds.{system_closing, system_performed_by};
+ghost use Rattle.mb_meaning.specs.System.{perform_system_of};
+
+use crate::control::move_control;
+use crate::spaces::{flush, move_by_function_code, test};
+use crate::status::{change_status, move_from_status, move_to_status, move_usp, stop};
+use mb_alu::LogicKind;
+use mb_instr::System;
+use mb_model::Cpu;
+use mb_port::Port;
+use mb_writes::Ended;
+
+/// The vector of a privilege violation.
+const PRIVILEGED: u8 = 8;
+
+/// Carries out the instruction by its row. The answer is whether T0 asks for a trace after it, or how it ended
+/// otherwise.
+#[inline(always)]
+#[tactic(auto, unfolding(mb_meaning::specs::System::perform_system_of))]
+fn carry_out<P: Port>(
+    instruction: &System,
+    at: u32,
+    cpu: &mut Cpu,
+    port: &mut P,
+) -> Result<bool, Ended>
+    requires { IsInstr (instr.System instruction.now) }
+    ensures means { run P.bus (perform_system_of instruction.now at cpu.old) (P.world port.old)
+        ≡ (system_performed_by result cpu.new, P.world port.new) }
+    ensures rest { P.rest port.new ≡ P.rest port.old }
+{
+    match instruction {
+        System::AndiSr { word } => {
+            change_status(LogicKind::And, *word, cpu);
+            return Ok(true);
+        }
+        System::OriSr { word } => {
+            change_status(LogicKind::Or, *word, cpu);
+            return Ok(true);
+        }
+        System::EoriSr { word } => {
+            change_status(LogicKind::Eor, *word, cpu);
+            return Ok(true);
+        }
+        System::ToSr { ea } => return move_to_status(ea, at, cpu, port),
+        System::FromSr { ea } => move_from_status(ea, at, cpu, port)?,
+        System::Stop { word } => {
+            stop(*word, cpu);
+            return Ok(true);
+        }
+        System::MoveUsp { from_usp, register } => move_usp(*from_usp, *register, cpu),
+        System::Movec { to_control, word } => move_control(*to_control, *word, cpu, port),
+        System::Moves { size, ea, word } => {
+            move_by_function_code(*size, ea, *word, at, cpu, port)?;
+        }
+        System::Reset => port.reset_devices(),
+        System::Cinv { .. } | System::Cpush { .. } => {}
+        System::Pflush { kind, register } => flush(*kind, *register, cpu, port),
+        System::Ptest { is_read, register } => test(*is_read, *register, cpu, port),
+        System::Rte => return Err(Ended::Refused(PRIVILEGED)),
+    }
+    Ok(false)
+}
+
+/// Carries out a privileged instruction in supervisor mode, which stands at `at`. PC is past its words already. RTE,
+/// which goes back from an exception, is not carried out here.
+#[inline(always)]
+pub fn perform_system<P: Port>(instruction: &System, at: u32, cpu: &mut Cpu, port: &mut P) -> Ended
+    requires { IsInstr (instr.System instruction.now) }
+    ensures means { run P.bus (system_closing (perform_system_of instruction.now at cpu.old)) (P.world port.old)
+        ≡ ((result, cpu.new), P.world port.new) }
+    ensures rest { P.rest port.new ≡ P.rest port.old }
+{
+    match carry_out(instruction, at, cpu, port) {
+        Ok(flow) => Ended::Done { flow },
+        Err(ended) => ended,
+    }
+}

@@ -1,0 +1,180 @@
+//! What goes by the function codes SFC and DFC: MOVES, PFLUSH and PTEST.
+
+ghost use Rattle.std.specs.Prelude.{◌≡◌, ◌<◌, ◌^◌};
+ghost use Rattle.mb_port.specs.Routine.{run};
+ghost use Rattle.mb_port.specs.Flushes.{NamesPage};
+ghost use Rattle.mb_instr.specs.Sizes.{values_of};
+ghost use Rattle.mb_instr.specs.Operands.{IsEa};
+ghost use Rattle.mb_ea.specs.Addresses.{IsTarget};
+ghost use Rattle.mb_meaning.specs.SystemEnds.{system_carried_by};
+ghost use Rattle.mb_meaning.specs.Spaces.{function_space, taken, out_of_register, into_register, is_store, moves_of};
+ghost use Rattle.mb_meaning.specs.Spaces.{page_of, flushed_by, pflush_of, ptest_of};
+
+use mb_ea::{Target, read_value, resolve};
+use mb_instr::{Ea, FlushKind, Plain, Size};
+use mb_model::Cpu;
+use mb_operands::{finish_with, named_register, place, with_low};
+use mb_port::{Flush, MmuReg, Port, Space};
+use mb_writes::Ended;
+
+/// The space of a function code, by its bit 2.
+#[inline(always)]
+fn function_space(code: u8) -> Space
+    ensures { result ≡ function_space code }
+{
+    if code >> 2 & 1 == 1 {
+        Space::Super
+    } else {
+        Space::User
+    }
+}
+
+/// Takes a value into a register: into the low bytes of a data register, or with its sign into all of an address
+/// register.
+#[inline(always)]
+fn take(size: Size, register: u8, value: u32, plain: &mut Plain)
+    requires { register < 16 }
+    ensures { plain.new ≡ taken size register value plain.old }
+{
+    if register < 8 {
+        let old = &mut plain.d[register as usize];
+        *old = with_low(size, *old, value);
+    } else {
+        plain.a[register as usize - 8] = size.sign_extend(value);
+    }
+}
+
+/// MOVES to memory, in DFC's space. The registers are those after the address was formed.
+#[inline(always)]
+#[tactic(auto, unfolding(mb_meaning::specs::Spaces::out_of_register))]
+fn move_out<P: Port>(
+    size: Size,
+    target: Target,
+    register: u8,
+    plain: &mut Plain,
+    cpu: &mut Cpu,
+    port: &mut P,
+) -> Result<(), Ended>
+    requires target { IsTarget size target }
+    requires register { register < 16 }
+    ensures means { run P.bus (out_of_register size target register plain.old cpu.old) (P.world port.old)
+        ≡ (system_carried_by result cpu.new, P.world port.new) }
+    ensures rest { P.rest port.new ≡ P.rest port.old }
+{
+    let value = plain.register(register);
+    let done = finish_with(target, size, value, function_space(cpu.dfc), plain, port);
+    cpu.regs.set_plain(plain);
+    done
+}
+
+/// MOVES from memory, in SFC's space. The registers are those after the address was formed.
+#[inline(always)]
+#[tactic(auto, unfolding(mb_meaning::specs::Spaces::into_register))]
+fn move_in<P: Port>(
+    size: Size,
+    target: Target,
+    register: u8,
+    plain: &mut Plain,
+    cpu: &mut Cpu,
+    port: &mut P,
+) -> Result<(), Ended>
+    requires { register < 16 }
+    ensures means { run P.bus (into_register size target register plain.old cpu.old) (P.world port.old)
+        ≡ (system_carried_by result cpu.new, P.world port.new) }
+    ensures rest { P.rest port.new ≡ P.rest port.old }
+{
+    match read_value(function_space(cpu.sfc), place(target), size, port) {
+        Ok(value) => {
+            take(size, register, value, plain);
+            cpu.regs.set_plain(plain);
+            Ok(())
+        }
+        Err(refused) => Err(Ended::ReadFault(refused)),
+    }
+}
+
+/// Bit 11 of the word says to memory.
+#[inline(always)]
+fn is_store(word: u16) -> bool
+    ensures { result ≡ is_store word }
+{
+    word >> 11 & 1 == 1
+}
+
+/// MOVES. A memory indirection of its address is read in supervisor space; only the operand itself goes by SFC or DFC.
+#[inline(always)]
+#[tactic(auto, unfolding(mb_meaning::specs::Spaces::moves_of))]
+pub(crate) fn move_by_function_code<P: Port>(
+    size: Size,
+    ea: &Ea,
+    word: u16,
+    at: u32,
+    cpu: &mut Cpu,
+    port: &mut P,
+) -> Result<(), Ended>
+    requires { IsEa size ea.now }
+    ensures means { run P.bus (moves_of size ea.now word at cpu.old) (P.world port.old)
+        ≡ (system_carried_by result cpu.new, P.world port.new) }
+    ensures rest { P.rest port.new ≡ P.rest port.old }
+{
+    let mut plain = cpu.regs.plain();
+    let word_at = at.wrapping_add(2).wrapping_add(2);
+    let target = match resolve(ea, size, &mut plain, word_at, Space::Super, port) {
+        Ok(target) => target,
+        Err(refused) => return Err(Ended::ReadFault(refused)),
+    };
+    let register = named_register(word);
+    if is_store(word) {
+        move_out(size, target, register, &mut plain, cpu, port)
+    } else {
+        move_in(size, target, register, &mut plain, cpu, port)
+    }
+}
+
+/// The page of 4 KiB that has an address.
+#[inline(always)]
+fn page_of(address: u32) -> u32
+    ensures value { result ≡ page_of address }
+    ensures range { result < 2 ^ 20 }
+{
+    address >> 12
+}
+
+/// What PFLUSH drops.
+#[inline(always)]
+fn flushed_by(kind: FlushKind, address: u32, cpu: &Cpu) -> Flush
+    ensures value { result ≡ flushed_by kind address cpu.now }
+    ensures page { NamesPage result }
+{
+    match kind {
+        FlushKind::LocalPage => Flush::PageLocal(function_space(cpu.dfc), page_of(address)),
+        FlushKind::Page => Flush::Page(function_space(cpu.dfc), page_of(address)),
+        FlushKind::AllLocal => Flush::AllLocal,
+        FlushKind::All => Flush::All,
+    }
+}
+
+/// PFLUSH.
+#[inline(always)]
+#[tactic(auto, unfolding(mb_meaning::specs::Spaces::pflush_of))]
+pub(crate) fn flush<P: Port>(kind: FlushKind, register: u8, cpu: &Cpu, port: &mut P)
+    requires { register < 8 }
+    ensures means { run P.bus (pflush_of kind register cpu.now) (P.world port.old) ≡ (cpu.now, P.world port.new) }
+    ensures rest { P.rest port.new ≡ P.rest port.old }
+{
+    let address = cpu.regs.plain().a[register as usize];
+    port.flush(flushed_by(kind, address, cpu));
+}
+
+/// PTEST: the page is tested in DFC's space, and the answer becomes MMUSR.
+#[inline(always)]
+#[tactic(auto, unfolding(mb_meaning::specs::Spaces::ptest_of))]
+pub(crate) fn test<P: Port>(is_read: bool, register: u8, cpu: &Cpu, port: &mut P)
+    requires { register < 8 }
+    ensures means { run P.bus (ptest_of is_read register cpu.now) (P.world port.old) ≡ (cpu.now, P.world port.new) }
+    ensures rest { P.rest port.new ≡ P.rest port.old }
+{
+    let address = cpu.regs.plain().a[register as usize];
+    let status = port.test(function_space(cpu.dfc), address, !is_read);
+    port.set_mmu(MmuReg::Mmusr, status);
+}
