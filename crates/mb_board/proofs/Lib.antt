@@ -1,1 +1,4 @@
-pub mod Numbers
+pub mod Spelling
+pub mod Modal
+pub mod Due
+pub mod Runs

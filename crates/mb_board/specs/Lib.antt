@@ -1,1 +1,4 @@
 pub mod Stores
+pub mod Modes
+pub mod Arrivals
+pub mod Beside

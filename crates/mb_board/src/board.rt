@@ -1,29 +1,32 @@
 //! The board.
 
-ghost use Rattle.std.specs.Prelude.{◌≡◌, ℕ, ◌+◌, ◌^◌, ◌<◌, ◌≤◌, length, replicate, IfOk, OnOk, MatchResult, Some, None};
+ghost use Rattle.std.specs.Prelude.{◌≡◌, ℕ, ◌+◌, ◌^◌, ◌<◌, ◌≤◌, length, replicate, slice_range, true, IfOk};
+ghost use Rattle.mb_model.specs.Keeping.{rule_a};
 ghost use Rattle.mb_model.specs.Seen.{seen_of};
-ghost use Rattle.mb_machine.specs.Memory.{overwritten};
-ghost use Rattle.mb_machine.specs.Machine.{Machine, interrupted, reset_with, stepped, run_of, takes_steps, seen_machine, with_ram};
+ghost use Rattle.mb_walk.specs.Memory.{overwritten};
+ghost use Rattle.mb_machine.specs.Machine.{Machine, reset_with, run_of, seen_machine, stepping, with_ram};
+ghost use Rattle.mb_machine.specs.Machine.{state_after, takes_steps};
+ghost use Rattle.mb_board.specs.Arrivals.{IsNext};
 
-use crate::bus::PlainBus;
+use crate::bus::BoardBus;
+use crate::receiving::{place_behind, receive};
+use mb_devices::Devices;
 use mb_meaning::StepEnd;
 use mb_model::{Cpu, Outcome, RunState};
 use mb_outside::Memory;
+use mb_script::Script;
 use mb_step::step;
+use mb_walk::Ram;
 use std::alloc::Global;
 use std::marker::Model;
-
-/// A step needs what is not built yet: the entry of an exception or of an interrupt.
-#[derive(Clone, Copy, Debug, PartialEq, Eq)]
-pub struct Unbuilt;
 
 /// A machine: its processor beside the bus of its memory and devices.
 #[derive(Drop)]
 pub struct Board {
-    cpu: Cpu,
-    bus: PlainBus,
-    steps: u32,
-    state: RunState,
+    pub(crate) cpu: Cpu,
+    pub(crate) bus: BoardBus,
+    pub(crate) steps: u32,
+    pub(crate) state: RunState,
 }
 
 impl Model for Board {
@@ -42,13 +45,13 @@ impl Model for Board {
 impl Board {
     /// A board with so many bytes of RAM, all 0, as it is after reset. It takes all the memory that
     /// it will need.
-    #[tactic(auto, unfolding(mb_machine::specs::Machine::reset_with))]
+    #[tactic(auto, unfolding(mb_machine::specs::Machine::reset_with), using(mb_devices::proofs::Sizes::sizes))]
     pub fn new(alloc: Global, size: u32) -> Result<Board, Memory>
         requires { (8 ≤ size) × (size ≤ 67108864) }
-        ensures made { IfOk result (λ board. board ≡ reset_with (replicate size 0)) }
+        ensures made { IfOk result (λ board. board ≡ reset_with rule_a size (replicate size 0)) }
         ensures ram { IfOk result (λ board. length board.world.ram ≡ size) }
     {
-        let bus = PlainBus::new(alloc, size)?;
+        let bus = BoardBus::new(alloc, size)?;
         let mut board = Board {
             cpu: Cpu::at_reset(0, 0),
             bus,
@@ -60,7 +63,7 @@ impl Board {
     }
 
     /// Writes RAM from a physical address on.
-    #[tactic(auto, using(mb_machine::proofs::MemoryLemmas::lengths))]
+    #[tactic(auto, using(mb_walk::proofs::MemoryLemmas::lengths))]
     pub fn write_phys(&mut self, at: u32, bytes: &[u8])
         requires { at + length bytes.now ≤ length self.old.world.ram }
         ensures after { self.new ≡ with_ram self.old (overwritten self.old.world.ram at bytes.now) }
@@ -69,11 +72,21 @@ impl Board {
         self.bus.overwrite(at, bytes);
     }
 
-    /// Resets all but RAM: the stack pointer and the program counter come from the longs at 0 and 4.
+    /// So many bytes of RAM from a physical address on.
+    pub fn memory(&self, at: u32, len: u32) -> &[u8]
+        requires { at + len ≤ length self.now.world.ram }
+        ensures { result.now ≡ slice_range self.now.world.ram at (at + len) }
+    {
+        let at = at as usize;
+        &self.bus.ram()[at..at + len as usize]
+    }
+
+    /// Resets all but RAM: the stack pointer and the program counter come from the longs at 0 and 4, the devices are
+    /// idle with an empty console, nothing is kept, and no step is taken.
     #[tactic(auto, unfolding(mb_machine::specs::Machine::reset_with))]
     pub fn reset(&mut self)
         requires { 8 ≤ length self.old.world.ram }
-        ensures after { self.new ≡ reset_with self.old.world.ram }
+        ensures after { self.new ≡ reset_with rule_a self.old.world.devices.ram self.old.world.ram }
         ensures ram { self.new.world.ram ≡ self.old.world.ram }
         ensures unrun { self.new.steps ≡ 0 }
     {
@@ -81,40 +94,6 @@ impl Board {
         self.cpu = Cpu::at_reset(self.bus.long(0), self.bus.long(4));
         self.steps = 0;
         self.state = RunState::Running;
-    }
-
-    /// One step. Where it is not built, nothing more is said of the board than its RAM size.
-    #[inline(always)]
-    #[tactic(auto, unfolding(mb_machine::specs::Machine::stepped))]
-    fn step(&mut self) -> Result<(), Unbuilt>
-        requires { self.old.steps + 1 < 2 ^ 32 }
-        ensures means { MatchResult result
-            (λ done. stepped self.old ≡ Some self.new) (λ unbuilt. stepped self.old ≡ None) }
-        ensures counted { OnOk result (self.new.steps ≡ self.old.steps + 1) }
-        ensures ram { length self.new.world.ram ≡ length self.old.world.ram }
-    {
-        self.bus.tick();
-        if self.interrupted() {
-            return Err(Unbuilt);
-        }
-        match step(&mut self.cpu, &mut self.bus) {
-            StepEnd::Went => {
-                self.steps += 1;
-                if self.bus.is_off() {
-                    self.state = RunState::Off;
-                }
-                Ok(())
-            }
-            StepEnd::Unbuilt => Err(Unbuilt),
-        }
-    }
-
-    /// Whether the devices ask for an interrupt above the mask.
-    #[inline(always)]
-    fn interrupted(&self) -> bool
-        ensures { result ≡ interrupted self.now }
-    {
-        u16::from(self.bus.level()) > self.cpu.regs.sr >> 8 & 7
     }
 
     fn takes_steps(&self) -> bool
@@ -126,25 +105,71 @@ impl Board {
         }
     }
 
-    /// Takes so many steps, or fewer where the machine halts or is switched off. It takes no memory.
-    ///
-    /// `Unbuilt` comes exactly where one of these steps is not built; what the board then is, is left
-    /// open until `reset`.
-    pub fn run_bare(&mut self, steps: u32) -> Result<(), Unbuilt>
-        requires { self.old.steps + steps < 2 ^ 32 }
-        ensures runs { MatchResult result
-            (λ done. run_of steps self.old ≡ Some self.new) (λ unbuilt. run_of steps self.old ≡ None) }
-        ensures ram { length self.new.world.ram ≡ length self.old.world.ram }
+    /// The state after a step that ended so.
+    #[inline(always)]
+    #[tactic(auto, unfolding(mb_machine::specs::Machine::state_after))]
+    fn state_after(&self, end: StepEnd) -> RunState
+        ensures { result ≡ state_after end self.now.cpu self.now.world.devices }
     {
-        for _ in 0..steps {
-            if !self.takes_steps() {
-                return Ok(());
-            }
-            if let Err(unbuilt) = self.step() {
-                return Err(unbuilt);
+        match end {
+            StepEnd::Halted => RunState::Halted,
+            StepEnd::Went | StepEnd::Idle => {
+                if self.bus.is_off() {
+                    RunState::Off
+                } else if self.cpu.stopped {
+                    RunState::Stopped
+                } else {
+                    RunState::Running
+                }
             }
         }
-        Ok(())
+    }
+
+    /// One step; the script's entries from `next` on are of steps that were not taken yet, and it goes behind those of
+    /// this one.
+    #[inline(always)]
+    #[tactic(auto, unfolding(mb_machine::specs::Machine::stepping, mb_machine::specs::Machine::begun))]
+    fn step_on(&mut self, script: &Script, next: &mut u32) -> StepEnd
+        requires room { self.old.steps + 1 < 2 ^ 32 }
+        requires behind { IsNext script.now self.old.steps next.old }
+        ensures means { (result, self.new) ≡ stepping rule_a script.now self.old }
+        ensures next { IsNext script.now self.new.steps next.new }
+        ensures counted { self.new.steps ≡ self.old.steps + 1 }
+        ensures ram { length self.new.world.ram ≡ length self.old.world.ram }
+    {
+        *next = receive(&mut self.bus, script, self.steps, *next);
+        self.steps += 1;
+        self.bus.tick();
+        let level = self.bus.level();
+        let end = step(&mut self.cpu, &mut self.bus, level);
+        self.state = self.state_after(end);
+        end
+    }
+
+    /// Takes one step, with what arrives at it by the script: the first step after a reset has number 1.
+    pub fn step(&mut self, script: &Script) -> StepEnd
+        requires room { self.old.steps + 1 < 2 ^ 32 }
+        requires takes_steps { takes_steps self.old.state ≡ true }
+        ensures means { (result, self.new) ≡ stepping rule_a script.now self.old }
+        ensures ram { length self.new.world.ram ≡ length self.old.world.ram }
+    {
+        let mut next = place_behind(script, self.steps);
+        self.step_on(script, &mut next)
+    }
+
+    /// Takes so many steps, or fewer where the machine halts or is switched off. It takes no memory.
+    pub fn run_bare(&mut self, script: &Script, steps: u32)
+        requires { self.old.steps + steps < 2 ^ 32 }
+        ensures means { self.new ≡ run_of rule_a script.now steps self.old }
+        ensures ram { length self.new.world.ram ≡ length self.old.world.ram }
+    {
+        let mut next = place_behind(script, self.steps);
+        for _ in 0..steps {
+            if !self.takes_steps() {
+                return;
+            }
+            self.step_on(script, &mut next);
+        }
     }
 
     /// What the board shows.
@@ -168,7 +193,11 @@ impl Board {
             ram: self.bus.ram(),
         }
     }
-}
 
-#[cfg(test)]
-mod tests;
+    /// The machine's devices.
+    pub fn devices(&self) -> &Devices
+        ensures { result.now ≡ self.now.world.devices }
+    {
+        self.bus.devices()
+    }
+}

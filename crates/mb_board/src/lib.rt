@@ -1,10 +1,21 @@
-//! The board: a machine that carries out its steps, so far without translation and exceptions.
+//! The board: a machine that carries out its steps.
 //!
-//! It is the definition of `mb_machine` in code: [`Board`] is seen as that machine, and its calls are
-//! that machine's start, steps and runs.
+//! It is the definition of `mb_machine` in code, by the board's own rule of keeping: [`Board`] is seen as that machine,
+//! and its calls are that machine's start, steps and runs. Its bus holds RAM, the registers of the memory management
+//! unit, the devices and the kept translations; one small function there is one stage of the definition of an access.
 #![tactic(auto)]
 
 mod board;
+mod board_port;
 mod bus;
+mod bus_port;
+mod lending;
+mod numbers;
+mod places;
+mod receiving;
+mod translating;
 
-pub use board::{Board, Unbuilt};
+pub use board::Board;
+
+#[cfg(test)]
+mod tests;

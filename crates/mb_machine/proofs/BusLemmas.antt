@@ -5,8 +5,9 @@ use Rattle.mb_port.specs.declared.types.Place.{Place}
 use Rattle.mb_devices.specs.declared.register.Register.{Register}
 use Rattle.mb_devices.specs.Devices.{DeviceState}
 use Rattle.mb_devices.specs.Registers.{register_at, read_register, read_of, write_register, write_of}
-use Rattle.mb_machine.specs.Memory.{number_at, with_number}
-use Rattle.mb_machine.specs.Bus.{World, in_ram, stand_of, among_registers, taken, taken_at, stored, stored_at, takes_writes, is_somewhere}
+use Rattle.mb_walk.specs.Memory.{number_at, with_number}
+use Rattle.mb_machine.specs.World.{World}
+use Rattle.mb_machine.specs.Places.{in_ram, stand_of, among_registers, taken, taken_at, stored, stored_at, takes_writes, is_somewhere}
 
 -- the world after its devices did something, with what they answered
 abbrev pub read_devices : World → Option ℕ × DeviceState → Option ℕ × World
@@ -17,7 +18,7 @@ wrote_devices w (Some done, devices) = Some (record w { devices = devices })
 wrote_devices w (None, devices) = None
 
 pub taken_memory : (w : World) (place : Place) → in_ram (length w.ram) place.at place.len ≡ true
-    → taken w place ≡ (Some (number_at w.ram place.at place.len), w)
+    → taken place w ≡ (Some (number_at w.ram place.at place.len), w)
 unfolding taken stand_of
 taken_memory w place h = rw h refl
 
@@ -26,12 +27,12 @@ among_read (Some r) w place = refl
 among_read None w place = refl
 
 pub taken_register : (w : World) (place : Place) → in_ram (length w.ram) place.at place.len ≡ false
-    → taken w place ≡ read_devices w (read_of place w.devices)
+    → taken place w ≡ read_devices w (read_of place w.devices)
 unfolding taken stand_of read_of
 taken_register w place h = rw h (among_read (register_at place) w place)
 
 pub stored_memory : (w : World) (place : Place) (value : ℕ) → in_ram (length w.ram) place.at place.len ≡ true
-    → stored w place value ≡ Some (record w { ram = with_number w.ram place.at place.len value })
+    → stored place value w ≡ Some (record w { ram = with_number w.ram place.at place.len value })
 unfolding stored stand_of
 stored_memory w place value h = rw h refl
 
@@ -41,7 +42,7 @@ among_wrote (Some r) w place value = refl
 among_wrote None w place value = refl
 
 pub stored_register : (w : World) (place : Place) (value : ℕ) → in_ram (length w.ram) place.at place.len ≡ false
-    → stored w place value ≡ wrote_devices w (write_of place value w.devices)
+    → stored place value w ≡ wrote_devices w (write_of place value w.devices)
 unfolding stored stand_of write_of
 stored_register w place value h = rw h (among_wrote (register_at place) w place value)
 

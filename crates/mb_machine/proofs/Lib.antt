@@ -1,3 +1,3 @@
-pub mod MemoryLemmas
-pub mod RunLemmas
 pub mod BusLemmas
+pub mod Bytes
+pub mod Refusals

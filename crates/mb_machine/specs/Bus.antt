@@ -1,144 +1,119 @@
--- The bus of a machine without translation: RAM from address 0 on, and the registers of the devices.
-use Rattle.std.specs.Prelude.{ℕ, ◌+◌, ◌<◌, ◌≤◌, ◌≡◌, ◌≢◌, Bool, true, false, List, [], ◌∷◌, length}
-use Rattle.std.specs.Prelude.{bit_and, nat_le, Option, Some, None, Result, Ok, Err, unwrap_or, if◌then◌else◌}
+-- The bus of a machine by a rule of keeping.
+use Rattle.std.specs.Prelude.{ℕ, Bool, true, false, bit_and, Option, Some, None, Result, Ok, Err}
+use Rattle.std.specs.Prelude.{unwrap_or}
 use Rattle.mb_port.specs.Routine.{Bus, Fetch, Read, Write, ReadLine, WriteLine, Probe, Get, Put, ReadMmu, SetMmu}
 use Rattle.mb_port.specs.Routine.{FlushKept, Test, ResetDevices}
 use Rattle.mb_port.specs.declared.types.Space.{Space}
-use Rattle.mb_port.specs.declared.types.Piece.{Piece}
 use Rattle.mb_port.specs.declared.types.Place.{Place}
 use Rattle.mb_port.specs.declared.types.Fault.{Fault}
-use Rattle.mb_port.specs.declared.types.Mmu.{Mmu}
 use Rattle.mb_port.specs.declared.types.MmuReg.{MmuReg}
-use Rattle.mb_port.specs.declared.types.MmuReg.TheVariants.{Tc, Itt0, Itt1, Dtt0, Dtt1, Mmusr, Urp, Srp}
 use Rattle.mb_port.specs.Registers.{with_mmu_register}
-use Rattle.mb_devices.specs.Devices.{DeviceState, reset_of}
-use Rattle.mb_devices.specs.declared.register.Register.{Register}
-use Rattle.mb_devices.specs.Registers.{row, register_at}
-use Rattle.mb_machine.specs.Memory.{number_at, with_number}
+use Rattle.mb_model.specs.declared.control.ControlRegister.TheVariants as control
+use Rattle.mb_model.specs.Control.{kept_bits}
+use Rattle.mb_model.specs.Keeping.{KeptLists, Rule, flushed, dropped, after_movec}
+use Rattle.mb_walk.specs.Search.{Searched, search_of, status_of}
+use Rattle.mb_devices.specs.Devices.{reset_of}
+use Rattle.mb_machine.specs.declared.reference.Reference.{Reference}
+use Rattle.mb_machine.specs.World.{World}
+use Rattle.mb_machine.specs.Places.{taken, stored, checked, taken_line, stored_line}
+use Rattle.mb_machine.specs.Access.{matched, page_of, root_of, translated}
 
--- what the bus reads and changes
-pub record World : Type 0 where
-  pub ram : List ℕ
-  pub mmu : Mmu
-  pub devices : DeviceState
+-- ---- references
 
--- so many bytes from a place on lie in RAM of this size
-abbrev pub in_ram : ℕ → ℕ → ℕ → Bool
-in_ram size at len = nat_le (at + len) size
+abbrev pub fetching : Space → ℕ → Reference
+fetching space at = record { code = true; space = space; at = at; write = false }
 
--- where a physical piece stands: RAM holds the whole of it, a register is of just its address and size, or nothing is
--- there
-pub data Stand : Type 0 where
-  memory : Stand
-  register : Register → Stand
-  nowhere : Stand
+abbrev pub reading : Space → ℕ → Reference
+reading space at = record { code = false; space = space; at = at; write = false }
 
-abbrev pub among_registers : Option Register → Stand
-among_registers (Some r) = register r
-among_registers None = nowhere
+abbrev pub writing : Space → ℕ → Reference
+writing space at = record { code = false; space = space; at = at; write = true }
 
-unfoldable pub stand_of : ℕ → Place → Stand
-stand_of size place = if in_ram size place.at place.len then memory else among_registers (register_at place)
+-- A reference to so many bytes is refused: by its translation, or, with ATC clear, since nothing stands at its place.
+abbrev pub fault_of : Reference → ℕ → Bool → Fault
+fault_of r len atc = record { at = r.at; len = len; space = r.space; code = r.code; write = r.write; atc = atc }
 
--- what reading there answers, with the world after it
-abbrev pub taken_at : Stand → Place → World → Option ℕ × World
-taken_at memory place w = (Some (number_at w.ram place.at place.len), w)
-taken_at (register r) place w = (Some ((row r).value w.devices), record w { devices = (row r).after_read w.devices })
-taken_at nowhere place w = (None, w)
+abbrev pub place_at : ℕ → ℕ → Place
+place_at at len = record { at = at; len = len }
 
--- the world after writing there
-abbrev pub stored_at : Stand → Place → ℕ → World → Option World
-stored_at memory place value w = Some (record w { ram = with_number w.ram place.at place.len value })
-stored_at (register r) place value w = Some (record w { devices = (row r).written value w.devices })
-stored_at nowhere place value w = None
-
--- a read and a write of a physical piece, wherever it stands
-unfoldable pub taken : World → Place → Option ℕ × World
-taken w place = taken_at (stand_of (length w.ram) place) place w
-
-unfoldable pub stored : World → Place → ℕ → Option World
-stored w place value = stored_at (stand_of (length w.ram) place) place value w
-
-abbrev pub is_somewhere : Stand → Bool
-is_somewhere memory = true
-is_somewhere (register r) = true
-is_somewhere nowhere = false
-
--- what takes a write
-abbrev pub takes_writes : ℕ → Place → Bool
-takes_writes size place = is_somewhere (stand_of size place)
-
--- the place of a piece that is not translated
-abbrev pub place_of : Piece → Place
-place_of p = record { at = p.at; len = p.len }
-
--- the bits that each register keeps
-abbrev pub kept_bits : MmuReg → ℕ
-kept_bits Tc = 0x8000
-kept_bits Itt0 = 0xFFFFE364
-kept_bits Itt1 = 0xFFFFE364
-kept_bits Dtt0 = 0xFFFFE364
-kept_bits Dtt1 = 0xFFFFE364
-kept_bits Mmusr = 0xFFFFFFF7
-kept_bits Urp = 0xFFFFFE00
-kept_bits Srp = 0xFFFFFE00
-
--- nothing answers there
-abbrev pub bus_error : ℕ → ℕ → Space → Bool → Bool → Fault
-bus_error at len space code write =
-    record { at = at; len = len; space = space; code = code; write = write; atc = false }
+-- ---- reads and writes behind their translation
 
 abbrev pub answered : {A : Type 0} → Option A → Fault → Result A Fault
 answered (Some a) fault = Ok a
 answered None fault = Err fault
 
--- the world after a write, or a fault that leaves it
+-- what a place answers, or the fault
+abbrev pub faulting : {A : Type 0} → Option A × World → Fault → Result A Fault × World
+faulting answer fault = (answered answer.0 fault, answer.1)
+
+-- what reads a place
+abbrev pub Take : Type 0 → Type 0
+Take A = Place → World → Option A × World
+
+-- what is read at the place, or the fault
+abbrev pub read_at : {A : Type 0} → Reference → ℕ → Take A → Option ℕ → World → Result A Fault × World
+read_at r len take (Some at) w = faulting (take (place_at at len) w) (fault_of r len false)
+read_at r len take None w = (Err (fault_of r len true), w)
+
+abbrev pub read_by : {A : Type 0} → Rule → Reference → ℕ → Take A → World → Result A Fault × World
+read_by rule r len take w = read_at r len take (translated rule r w).0 (translated rule r w).1
+
+-- the world after the write, or the fault
 abbrev pub wrote : World → Option World → Fault → Result (Unit {0}) Fault × World
 wrote w (Some after) fault = (Ok tt, after)
 wrote w None fault = (Err fault, w)
 
--- the four longs of a line
-abbrev pub line_at : List ℕ → ℕ → List ℕ
-line_at ram at =
-    number_at ram at 4 ∷ number_at ram (at + 4) 4 ∷ number_at ram (at + 8) 4 ∷ number_at ram (at + 12) 4 ∷ []
+-- what writes a place
+abbrev pub Store : Type 0
+Store = Place → World → Option World
 
--- memory with longs from a place on
-abbrev pub with_longs : List ℕ → ℕ → List ℕ → List ℕ
-with_longs ram at [] = ram
-with_longs ram at (value ∷ values) = with_longs (with_number ram at 4 value) (at + 4) values
+abbrev pub written_at : Reference → ℕ → Store → Option ℕ → World → Result (Unit {0}) Fault × World
+written_at r len store (Some at) w = wrote w (store (place_at at len) w) (fault_of r len false)
+written_at r len store None w = (Err (fault_of r len true), w)
 
--- the world after a read, with its answer or a fault
-abbrev pub read : Option ℕ × World → Fault → Result ℕ Fault × World
-read answer fault = (answered answer.0 fault, answer.1)
+abbrev pub written_by : Rule → Reference → ℕ → Store → World → Result (Unit {0}) Fault × World
+written_by rule r len store w = written_at r len store (translated rule r w).0 (translated rule r w).1
 
--- the place of an instruction word
-abbrev pub word_place : ℕ → Place
-word_place at = record { at = at; len = 2 }
+-- ---- registers and tests
 
--- Each call. A line stands in RAM alone. Nothing is kept, so a flush does nothing; no page is resident, so a test
--- answers 0.
-unfoldable pub plain_bus : Bus World
-plain_bus (Fetch space at) w = read (taken w (word_place at)) (bus_error at 2 space true false)
-plain_bus (Read space p) w = read (taken w (place_of p)) (bus_error p.at p.len space false false)
-plain_bus (Write space p value) w = wrote w (stored w (place_of p) value) (bus_error p.at p.len space false true)
-plain_bus (ReadLine space at) w =
-    ((if in_ram (length w.ram) at 16 then Ok (line_at w.ram at) else Err (bus_error at 16 space false false)), w)
-plain_bus (WriteLine space at line) w =
-    if in_ram (length w.ram) at 16 then (Ok tt, record w { ram = with_longs w.ram at line })
-    else (Err (bus_error at 16 space false true), w)
-plain_bus (Probe space p) w = (
-  (if takes_writes (length w.ram) (place_of p) then Ok (place_of p) else Err (bus_error p.at p.len space false true)),
-  w,
-)
-plain_bus (Get place) w = (unwrap_or (taken w place).0 0, (taken w place).1)
-plain_bus (Put place value) w = (tt, unwrap_or (stored w place value) w)
-plain_bus ReadMmu w = (w.mmu, w)
-plain_bus (SetMmu which value) w =
-    (tt, record w { mmu = with_mmu_register w.mmu which (bit_and value (kept_bits which)) })
-plain_bus (FlushKept what) w = (tt, w)
-plain_bus (Test space at write) w = (0, w)
-plain_bus ResetDevices w = (tt, record w { devices = reset_of w.devices })
+-- a register of the memory management unit is written: its bits are kept, and the rule says whether all is forgotten
+unfoldable pub with_register : Rule → MmuReg → ℕ → World → World
+with_register rule which value w = record w {
+  mmu = with_mmu_register w.mmu which (bit_and value (kept_bits (control.Mmu which)));
+  kept = after_movec rule which w.kept;
+}
 
--- 1, 2 or 4 bytes that take a write
-abbrev pub HasPlace : ℕ → Place → Type 0
-HasPlace size place = (0 < place.len) × (place.len ≤ 4) × (place.len ≢ 3) × (takes_writes size place ≡ true)
+-- R and T: a transparent register of the data side matches
+abbrev pub mmusr_matched : ℕ
+mmusr_matched = 3
+
+abbrev pub after_test : World → KeptLists → Searched → ℕ × World
+after_test w kept s = (status_of s.found, record w { ram = s.ram; kept = kept })
+
+abbrev pub tested_by : World → Space → ℕ → Bool → Option Bool → ℕ × World
+tested_by w space page write (Some protected) = (mmusr_matched, w)
+tested_by w space page write None =
+    after_test w (dropped space page w.kept) (search_of w.ram (root_of w.mmu space) space page write)
+
+-- PTEST: unless a transparent register matches, the kept entries of the page are dropped and the tables are searched,
+-- whether translation is on or not. Nothing is kept.
+unfoldable pub tested : Space → ℕ → Bool → World → ℕ × World
+tested space page write w = tested_by w space page write (matched false w.mmu space page)
+
+-- ---- the calls
+
+-- Each call. A line stands in RAM alone; `Get` and `Put` go to a place without translation.
+unfoldable pub bus_of : Rule → Bus World
+bus_of rule (Fetch space at) w = read_by rule (fetching space at) 2 taken w
+bus_of rule (Read space p) w = read_by rule (reading space p.at) p.len taken w
+bus_of rule (Write space p value) w = written_by rule (writing space p.at) p.len (λ place. stored place value) w
+bus_of rule (ReadLine space at) w = read_by rule (reading space at) 16 taken_line w
+bus_of rule (WriteLine space at line) w = written_by rule (writing space at) 16 (λ place. stored_line place line) w
+bus_of rule (Probe space p) w = read_by rule (writing space p.at) p.len checked w
+bus_of rule (Get place) w = (unwrap_or (taken place w).0 0, (taken place w).1)
+bus_of rule (Put place value) w = (tt, unwrap_or (stored place value w) w)
+bus_of rule ReadMmu w = (w.mmu, w)
+bus_of rule (SetMmu which value) w = (tt, with_register rule which value w)
+bus_of rule (FlushKept what) w = (tt, record w { kept = flushed what w.kept })
+bus_of rule (Test space at write) w = tested space (page_of at) write w
+bus_of rule ResetDevices w = (tt, record w { devices = reset_of w.devices })

@@ -1,3 +1,6 @@
-pub mod Memory
+pub mod World
+pub mod Places
+pub mod Access
 pub mod Bus
 pub mod Machine
+pub mod Laws

@@ -1,20 +1,21 @@
--- The machine, its start, its steps and its runs.
-use Rattle.std.specs.Prelude.{ℕ, zero, suc, ◌+◌, Bool, true, false, List, [], ◌∷◌, length, replicate, Option, Some, None}
-use Rattle.std.specs.Prelude.{option_and_then, nat_lt, ◌/◌, ◌%◌, ◌^◌, if◌then◌else◌}
+-- The machine, its start, its steps and its runs, by a rule of keeping.
+use Rattle.std.specs.Prelude.{ℕ, zero, suc, ◌+◌, ◌==◌, Bool, true, false, if◌then◌else◌, List, [], ◌∷◌, replicate}
 use Rattle.mb_port.specs.Routine.{run}
 use Rattle.mb_port.specs.declared.types.Mmu.{Mmu}
 use Rattle.mb_model.specs.declared.processor.Cpu.{Cpu}
 use Rattle.mb_model.specs.declared.outcome.RunState.{RunState}
 use Rattle.mb_model.specs.declared.outcome.RunState.TheVariants.{Running, Stopped, Halted, Off}
+use Rattle.mb_model.specs.Keeping.{Rule, nothing_kept}
 use Rattle.mb_model.specs.Reset.{at_reset}
 use Rattle.mb_model.specs.Seen.{Seen}
 use Rattle.mb_meaning.specs.declared.StepEnd.{StepEnd}
-use Rattle.mb_meaning.specs.declared.StepEnd.TheVariants.{Went, Unbuilt}
+use Rattle.mb_meaning.specs.declared.StepEnd.TheVariants as end
 use Rattle.mb_meaning.specs.Step.{step_of}
-use Rattle.mb_devices.specs.Devices.{DeviceState, idle, level_of, ticked}
+use Rattle.mb_devices.specs.Devices.{DeviceState, idle, level_of, received, ticked}
 use Rattle.mb_devices.specs.Registers.{bit, status_of}
-use Rattle.mb_machine.specs.Memory.{number_at, overwritten}
-use Rattle.mb_machine.specs.Bus.{World, plain_bus}
+use Rattle.mb_walk.specs.Memory.{number_at, overwritten}
+use Rattle.mb_machine.specs.World.{World}
+use Rattle.mb_machine.specs.Bus.{bus_of}
 
 pub record Machine : Type 0 where
   pub cpu : Cpu
@@ -22,6 +23,8 @@ pub record Machine : Type 0 where
   pub world : World
   pub steps : ℕ
   pub state : RunState
+
+-- ---- its start
 
 -- an image: addresses, each with the bytes that stand from there on
 abbrev pub Contents : Type 0
@@ -35,22 +38,22 @@ with_contents ram (chunk ∷ chunks) = with_contents (overwritten ram chunk.0 ch
 abbrev pub mmu_at_reset : Mmu
 mmu_at_reset = record { tc = 0; itt0 = 0; itt1 = 0; dtt0 = 0; dtt1 = 0; mmusr = 0; urp = 0; srp = 0 }
 
-abbrev pub world_at_reset : List ℕ → World
-world_at_reset ram = record { ram = ram; mmu = mmu_at_reset; devices = idle (length ram) }
+abbrev pub world_at_reset : Rule → (size : ℕ) → List ℕ → World
+world_at_reset rule size ram = record { ram = ram; mmu = mmu_at_reset; devices = idle size; kept = nothing_kept rule }
 
--- A machine with this memory after reset: ISP is the long at 0, PC the long at 4, the devices are
--- idle, and no step is taken.
-unfoldable pub reset_with : List ℕ → Machine
-reset_with ram = record {
+-- A machine of so many bytes with this memory after reset: ISP is the long at 0, PC the long at 4, the devices are
+-- idle, nothing is kept by the rule, and no step is taken.
+unfoldable pub reset_with : Rule → (size : ℕ) → List ℕ → Machine
+reset_with rule size ram = record {
   cpu = at_reset (number_at ram 0 4) (number_at ram 4 4);
-  world = world_at_reset ram;
+  world = world_at_reset rule size ram;
   steps = 0;
   state = Running;
 }
 
 -- the start of a machine with an image and so many bytes of RAM: 0 where the image gives nothing
-abbrev pub start : Contents → ℕ → Machine
-start contents size = reset_with (with_contents (replicate size 0) contents)
+abbrev pub start : Rule → Contents → (size : ℕ) → Machine
+start rule contents size = reset_with rule size (with_contents (replicate size 0) contents)
 
 -- a machine with other memory, or with other devices
 abbrev pub with_ram : Machine → List ℕ → Machine
@@ -59,45 +62,50 @@ with_ram m ram = record m { world = record m.world { ram = ram } }
 abbrev pub with_devices : Machine → DeviceState → Machine
 with_devices m devices = record m { world = record m.world { devices = devices } }
 
--- the state after a step: switched off, or as it was
-abbrev pub state_after : RunState → DeviceState → RunState
-state_after state d = if d.off then Off else state
+-- ---- a step
 
--- a machine with another processor and world, one step later
-abbrev pub next_with : Machine → Cpu → World → Machine
-next_with m cpu w = record {
-  cpu = cpu;
-  world = w;
-  steps = m.steps + 1;
-  state = state_after m.state w.devices;
-}
+-- the entries of a script: steps, each with a byte that arrives at it
+abbrev pub Entries : Type 0
+Entries = List (ℕ × ℕ)
 
-abbrev pub next_by : Machine → StepEnd → Cpu → World → Option Machine
-next_by m Went cpu w = Some (next_with m cpu w)
-next_by m Unbuilt cpu w = None
+-- the devices once they have received, in order, the bytes that arrive at a step
+abbrev pub arrived : ℕ → Entries → DeviceState → DeviceState
+arrived step [] d = d
+arrived step (entry ∷ script) d = arrived step script (if entry.0 == step then received entry.1 d else d)
 
-abbrev pub next_of : Machine → (StepEnd × Cpu) × World → Option Machine
-next_of m r = next_by m r.0.0 r.0.1 r.1
+-- a step begins: what is due at its number is received, and the timer ticks. The first step has number 1
+unfoldable pub begun : Entries → Machine → Machine
+begun script m = with_devices m (ticked (arrived (m.steps + 1) script m.world.devices))
 
--- the interrupt mask, bits 10 to 8 of SR
-abbrev pub interrupt_mask : Machine → ℕ
-interrupt_mask m = m.cpu.regs.sr / 2 ^ 8 % 2 ^ 3
+-- the processor's part of it, at the interrupt level that the devices ask for
+abbrev pub processed : Rule → Machine → (StepEnd × Cpu) × World
+processed rule m = run (bus_of rule) (step_of (level_of m.world.devices) m.cpu) m.world
 
--- an interrupt is asked for above the mask
-abbrev pub interrupted : Machine → Bool
-interrupted m = nat_lt (interrupt_mask m) (level_of m.world.devices)
+-- off, stopped or running
+abbrev pub going : Cpu → DeviceState → RunState
+going cpu d = if d.off then Off else if cpu.stopped then Stopped else Running
 
--- a step begins: the timer ticks
-abbrev pub begun : Machine → Machine
-begun m = with_devices m (ticked m.world.devices)
+-- the state after a step that ended so: a step that halts leaves it halted, also where it switches off
+unfoldable pub state_after : StepEnd → Cpu → DeviceState → RunState
+state_after end.Halted cpu d = Halted
+state_after end.Idle cpu d = going cpu d
+state_after end.Went cpu d = going cpu d
 
--- the rest of a step: the entry of an interrupt, which is not built, or an instruction
-abbrev pub continued : Machine → Option Machine
-continued m = if interrupted m then None else next_of m (run plain_bus (step_of m.cpu) m.world)
+-- the machine one step later, with the processor and the world that the step left
+abbrev pub one_later : Machine → StepEnd → Cpu → World → Machine
+one_later m ended cpu w =
+    record { cpu = cpu; world = w; steps = m.steps + 1; state = state_after ended cpu w.devices }
 
--- the machine after one step, where the step is built
-unfoldable pub stepped : Machine → Option Machine
-stepped m = continued (begun m)
+abbrev pub with_end : Machine → (StepEnd × Cpu) × World → StepEnd × Machine
+with_end m r = (r.0.0, one_later m r.0.0 r.0.1 r.1)
+
+-- one step: how it ended, and the machine after it
+unfoldable pub stepping : Rule → Entries → Machine → StepEnd × Machine
+stepping rule script m = with_end m (processed rule (begun script m))
+
+-- the machine after one step
+abbrev pub stepped : Rule → Entries → Machine → Machine
+stepped rule script m = (stepping rule script m).1
 
 -- halted and switched-off machines take no step
 abbrev pub takes_steps : RunState → Bool
@@ -106,13 +114,13 @@ takes_steps Stopped = true
 takes_steps Halted = false
 takes_steps Off = false
 
--- the machine after so many steps, or fewer where it takes no more; none where one of them is not
--- built
-unfoldable pub run_of : ℕ → Machine → Option Machine
-run_of zero m = Some m
-run_of (suc n) m = if takes_steps m.state then option_and_then (run_of n) (stepped m) else Some m
+-- the machine after so many steps, or fewer where it is halted or off
+unfoldable pub run_of : Rule → Entries → ℕ → Machine → Machine
+run_of rule script zero m = m
+run_of rule script (suc n) m = if takes_steps m.state then run_of rule script n (stepped rule script m) else m
 
--- what its outcome shows
+-- ---- what its outcome shows
+
 abbrev pub seen_machine : Machine → Seen
 seen_machine m = record {
   cpu = m.cpu;

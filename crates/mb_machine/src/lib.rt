@@ -1,4 +1,13 @@
-//! The machine: its state, its bus, its start from an image, its steps and its runs, as definitions.
+//! The machine: its state, its bus by a rule of keeping, its start from an image, its steps and its runs, in
+//! definitions.
 //!
-//! Whatever the program prints is said of [`specs/Machine`]; the board above carries it out.
+//! Whatever the program prints is said of [`specs/Machine`]; the board above carries it out. `specs/Access` has where
+//! a reference to memory leads, one stage a definition, and `specs/Bus` the calls of the bus. The code has the words
+//! for a reference, and the laws of the bus.
 #![tactic(auto)]
+
+mod laws;
+mod reference;
+
+pub use laws::{memory_stays_bytes, refused_accesses};
+pub use reference::{Reference, Settled};

@@ -1,27 +1,29 @@
-use Rattle.std.proofs.Common.{◌∙◌, ◌+◌, ◌-◌, sym, arith}
-use Rattle.mb_machine.proofs.RunLemmas.{run_of-step, run_of-unbuilt, run_of-still, run_of-zero}
+use Rattle.std.proofs.Common.{◌∙◌, ◌+◌, ◌-◌, sym, ap, arith}
+use Rattle.mb_model.specs.Keeping.{rule_a}
+use Rattle.mb_machine.specs.Machine.{Machine, run_of}
+use Rattle.mb_board.proofs.Runs.{run_of-step, run_of-still, run_of-zero, stepped-by}
 use Rattle.mb_board.proofs.board.Board.run_bare.Goals as goal
 
-pub returns-then-not-takes_steps-clause-runs : goal.returns-then-not-takes_steps-clause-runs
-returns-then-not-takes_steps-clause-runs c =
-    sym c.loop.invariant.run ∙ run_of-still _ c.loop.self (sym c.if-not-takes_steps.ensures)
-
-pub returns-in-Err-clause-runs : goal.returns-in-Err-clause-runs
-returns-in-Err-clause-runs c =
-    sym c.loop.invariant.run
-    ∙ run_of-unbuilt _ (c.args.steps - (c.loop.counter + 1)) c.loop.self (omega arith) (sym c.if-not-takes_steps.ensures) c.in-Err.ensures.means
+pub returns-then-not-takes_steps-clause-means : goal.returns-then-not-takes_steps-clause-means
+returns-then-not-takes_steps-clause-means c =
+    sym (run_of-still rule_a c.args.script.now (c.args.steps - c.loop.counter) c.loop.self (sym c.takes_steps.ensures ∙ c.if-not-takes_steps.true))
+    ∙ c.loop.invariant.run
 
 pub loop-preserved : goal.loop-preserved
 loop-preserved c =
-    let going = sym c.if-not-takes_steps.ensures in
+    let going = sym c.takes_steps.ensures ∙ c.if-not-takes_steps.false in
+    let after = stepped-by rule_a c.args.script.now c.loop.self c.step_on.result c.step_on.new.self c.step_on.ensures.means in
     let room = c.loop.invariant.room in
-    let counted = c.in_default.ensures.counted in
+    let counted = c.step_on.ensures.counted in
     record {
-      run = sym (run_of-step _ (c.args.steps - (c.loop.counter + 1)) c.loop.self c.step.new.self (omega arith) going c.in_default.ensures.means)
+      run = ap (λ (m : Machine). run_of rule_a c.args.script.now (c.args.steps - (c.loop.counter + 1)) m) after
+          ∙ sym (run_of-step rule_a c.args.script.now (c.args.steps - c.loop.counter) (c.args.steps - (c.loop.counter + 1)) c.loop.self (omega arith) going)
           ∙ c.loop.invariant.run;
       room = omega (arith, room, counted);
-      ram = c.step.ensures.ram ∙ c.loop.invariant.ram;
+      next = c.step_on.ensures.next;
+      ram = c.step_on.ensures.ram ∙ c.loop.invariant.ram;
     }
 
-pub returns-clause-runs : goal.returns-clause-runs
-returns-clause-runs c = sym c.loop.invariant.run ∙ run_of-zero _ c.loop.self (omega arith)
+pub returns-clause-means : goal.returns-clause-means
+returns-clause-means c =
+    sym (run_of-zero rule_a c.args.script.now (c.args.steps - c.loop.counter) c.loop.self (omega arith)) ∙ c.loop.invariant.run

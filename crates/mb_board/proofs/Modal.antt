@@ -1,0 +1,86 @@
+-- What is known of a reference, by how the memory management unit translates.
+use Rattle.std.proofs.Common.{◌≡◌, ℕ, Bool, true, false, refl, ap}
+use Rattle.std.specs.Prelude.{Option, Some, None, ◌||◌}
+use Rattle.mb_port.specs.declared.types.Mmu.{Mmu}
+use Rattle.mb_port.specs.declared.types.Space.{Space}
+use Rattle.mb_model.specs.Keeping.{Rule, KeptLists, entry_for}
+use Rattle.mb_walk.specs.Transparent.{transparent_of}
+use Rattle.mb_machine.specs.declared.reference.Reference.{Reference}
+use Rattle.mb_machine.specs.declared.reference.Settled.TheVariants.{To}
+use Rattle.mb_machine.specs.Access.{untranslated, settled, matched, page_of, or_off, by_match, by_entry, is_translating}
+use Rattle.mb_board.specs.declared.bus.Mode.TheVariants.{Direct, Tables}
+use Rattle.mb_board.specs.Modes.{is_enabled, has_transparent, mode_by, mode_of}
+
+-- ---- no transparent register is on
+
+record AllOff (a b c d : Bool) : Type 0 where
+  first : a ≡ false
+  second : b ≡ false
+  third : c ≡ false
+  fourth : d ≡ false
+
+all_off : (a b c d : Bool) → (a || b || c || d) ≡ false → AllOff a b c d
+all_off false false false false h = record { first = refl; second = refl; third = refl; fourth = refl }
+all_off true b c d h = absurd (cc)
+all_off false true c d h = absurd (cc)
+all_off false false true d h = absurd (cc)
+all_off false false false true h = absurd (cc)
+
+no_match : (tt0 tt1 : ℕ) (space : Space) (page : ℕ) → is_enabled tt0 ≡ false → is_enabled tt1 ≡ false → transparent_of tt0 tt1 space page ≡ None
+unfolding transparent_of
+no_match tt0 tt1 space page h g = rw (h, g) refl
+
+no_match_of : (mmu : Mmu) (code : Bool) (space : Space) (page : ℕ) → has_transparent mmu ≡ false → matched code mmu space page ≡ None
+no_match_of mmu true space page h =
+    let off = all_off (is_enabled mmu.itt0) (is_enabled mmu.itt1) (is_enabled mmu.dtt0) (is_enabled mmu.dtt1) h in
+    no_match mmu.itt0 mmu.itt1 space page off.first off.second
+no_match_of mmu false space page h =
+    let off = all_off (is_enabled mmu.itt0) (is_enabled mmu.itt1) (is_enabled mmu.dtt0) (is_enabled mmu.dtt1) h in
+    no_match mmu.dtt0 mmu.dtt1 space page off.third off.fourth
+
+-- ---- the modes
+
+record OfMode (transparent translating : Bool) (on : Bool) : Type 0 where
+  unmatched : transparent ≡ false
+  translates : translating ≡ on
+
+direct : (transparent translating : Bool) → mode_by transparent translating ≡ Direct → OfMode transparent translating false
+direct true translating h = absurd (cc)
+direct false true h = absurd (cc)
+direct false false h = record { unmatched = refl; translates = refl }
+
+tables : (transparent translating : Bool) → mode_by transparent translating ≡ Tables → OfMode transparent translating true
+tables true translating h = absurd (cc)
+tables false true h = record { unmatched = refl; translates = refl }
+tables false false h = absurd (cc)
+
+off : (mmu : Mmu) (o : Option Bool) → is_translating mmu ≡ false → o ≡ None → or_off mmu o ≡ Some false
+off mmu (Some protected) h e = absurd (cc)
+off mmu None h e = rw h refl
+
+on : (mmu : Mmu) (o : Option Bool) → is_translating mmu ≡ true → o ≡ None → or_off mmu o ≡ None
+on mmu (Some protected) h e = absurd (cc)
+on mmu None h e = rw h refl
+
+direct_untranslated : (mmu : Mmu) (r : Reference) → mode_of mmu ≡ Direct → untranslated mmu r ≡ Some false
+unfolding untranslated
+direct_untranslated mmu r h =
+    let is = direct (has_transparent mmu) (is_translating mmu) h in
+    off mmu (matched r.code mmu r.space (page_of r.at)) is.translates (no_match_of mmu r.code r.space (page_of r.at) is.unmatched)
+
+tables_translated : (mmu : Mmu) (r : Reference) → mode_of mmu ≡ Tables → untranslated mmu r ≡ None
+unfolding untranslated
+tables_translated mmu r h =
+    let is = tables (has_transparent mmu) (is_translating mmu) h in
+    on mmu (matched r.code mmu r.space (page_of r.at)) is.translates (no_match_of mmu r.code r.space (page_of r.at) is.unmatched)
+
+pub direct-settled : (rule : Rule) (mmu : Mmu) (kept : KeptLists) (r : Reference) → mode_of mmu ≡ Direct → settled rule mmu kept r ≡ To r.at
+unfolding settled
+direct-settled rule mmu kept r h = ap (λ (o : Option Bool). by_match rule kept r o) (direct_untranslated mmu r h)
+
+pub tables-settled : (rule : Rule) (mmu : Mmu) (kept : KeptLists) (r : Reference) → mode_of mmu ≡ Tables
+    → settled rule mmu kept r ≡ by_entry r (entry_for rule r.code r.space (page_of r.at) kept)
+unfolding settled
+tables-settled rule mmu kept r h = ap (λ (o : Option Bool). by_match rule kept r o) (tables_translated mmu r h)
+
+pub ruleset modes = (direct-settled, tables-settled)

@@ -1,0 +1,184 @@
+//! The calls of the bus.
+
+ghost use Rattle.std.specs.Prelude.{◌≡◌, ℕ, length};
+ghost use Rattle.mb_model.specs.Keeping.{rule_a};
+ghost use Rattle.mb_machine.specs.World.{World};
+ghost use Rattle.mb_machine.specs.Places.{HasPlace};
+ghost use Rattle.mb_machine.specs.Bus.{bus_of, fault_of, fetching as fetches, reading as reads, writing as writes};
+
+use crate::bus::{BoardBus, mode_of};
+use mb_machine::Reference;
+use mb_model::ControlRegister;
+use mb_port::{Fault, Flush, Mmu, MmuReg, Piece, Place, Port, Space};
+
+/// A reference that fetches.
+#[inline(always)]
+fn fetching(space: Space, at: u32) -> Reference
+    ensures { result ≡ fetches space at }
+{
+    Reference {
+        code: true,
+        space,
+        at,
+        write: false,
+    }
+}
+
+/// A reference that reads an operand.
+#[inline(always)]
+fn reading(space: Space, at: u32) -> Reference
+    ensures { result ≡ reads space at }
+{
+    Reference {
+        code: false,
+        space,
+        at,
+        write: false,
+    }
+}
+
+/// A reference that writes an operand, or checks it for writing.
+#[inline(always)]
+fn writing(space: Space, at: u32) -> Reference
+    ensures { result ≡ writes space at }
+{
+    Reference {
+        code: false,
+        space,
+        at,
+        write: true,
+    }
+}
+
+/// A reference to so many bytes is refused: by its translation, or since nothing stands at its place.
+fn refused(r: Reference, len: u8, atc: bool) -> Fault
+    ensures { result ≡ fault_of r len atc }
+{
+    Fault {
+        at: r.at,
+        len,
+        space: r.space,
+        code: r.code,
+        write: r.write,
+        atc,
+    }
+}
+
+#[tactic(auto, unfolding(mb_machine::specs::Bus::bus_of))]
+impl Port for BoardBus {
+    ghost World = { World };
+
+    ghost world = { λ w. w };
+
+    ghost Rest = { ℕ };
+
+    ghost rest = { λ w. length w.ram };
+
+    ghost bus = { bus_of rule_a };
+
+    ghost exists = { HasPlace };
+
+    #[inline(always)]
+    fn fetch(&mut self, space: Space, at: u32) -> Result<u16, Fault> {
+        let r = fetching(space, at);
+        let Some(at) = self.translated(r) else {
+            return Err(refused(r, 2, true));
+        };
+        match self.take(Place { at, len: 2 }) {
+            Some(word) => Ok(word as u16),
+            None => Err(refused(r, 2, false)),
+        }
+    }
+
+    #[inline(always)]
+    fn read(&mut self, space: Space, piece: Piece) -> Result<u32, Fault> {
+        let r = reading(space, piece.at);
+        let Some(at) = self.translated(r) else {
+            return Err(refused(r, piece.len, true));
+        };
+        match self.take(Place { at, len: piece.len }) {
+            Some(value) => Ok(value),
+            None => Err(refused(r, piece.len, false)),
+        }
+    }
+
+    #[inline(always)]
+    fn write(&mut self, space: Space, piece: Piece, value: u32) -> Result<(), Fault> {
+        let r = writing(space, piece.at);
+        let Some(at) = self.translated(r) else {
+            return Err(refused(r, piece.len, true));
+        };
+        match self.store(Place { at, len: piece.len }, value) {
+            Some(()) => Ok(()),
+            None => Err(refused(r, piece.len, false)),
+        }
+    }
+
+    fn read_line(&mut self, space: Space, at: u32) -> Result<[u32; 4], Fault> {
+        let r = reading(space, at);
+        let Some(at) = self.translated(r) else {
+            return Err(refused(r, 16, true));
+        };
+        match self.take_line(Place { at, len: 16 }) {
+            Some(line) => Ok(line),
+            None => Err(refused(r, 16, false)),
+        }
+    }
+
+    fn write_line(&mut self, space: Space, at: u32, value: [u32; 4]) -> Result<(), Fault> {
+        let r = writing(space, at);
+        let Some(at) = self.translated(r) else {
+            return Err(refused(r, 16, true));
+        };
+        match self.store_line(Place { at, len: 16 }, value) {
+            Some(()) => Ok(()),
+            None => Err(refused(r, 16, false)),
+        }
+    }
+
+    fn probe(&mut self, space: Space, piece: Piece) -> Result<Place, Fault> {
+        let r = writing(space, piece.at);
+        let Some(at) = self.translated(r) else {
+            return Err(refused(r, piece.len, true));
+        };
+        let place = Place { at, len: piece.len };
+        if !self.takes_writes(place) {
+            return Err(refused(r, piece.len, false));
+        }
+        Ok(place)
+    }
+
+    fn get(&mut self, place: Place) -> u32 {
+        match self.take(place) {
+            Some(value) => value,
+            None => 0,
+        }
+    }
+
+    fn put(&mut self, place: Place, value: u32) {
+        let _ = self.store(place, value);
+    }
+
+    fn mmu(&self) -> Mmu {
+        self.mmu
+    }
+
+    #[tactic(auto, unfolding(mb_machine::specs::Bus::bus_of, mb_machine::specs::Bus::with_register))]
+    fn set_mmu(&mut self, which: MmuReg, value: u32) {
+        self.mmu
+            .set(which, value & ControlRegister::Mmu(which).kept_bits());
+        self.mode = mode_of(&self.mmu);
+    }
+
+    fn flush(&mut self, what: Flush) {
+        self.kept.flush(what);
+    }
+
+    fn test(&mut self, space: Space, at: u32, write: bool) -> u32 {
+        self.tested(space, at, write)
+    }
+
+    fn reset_devices(&mut self) {
+        self.devices.reset();
+    }
+}

@@ -1,0 +1,140 @@
+//! Physical places: RAM, and the registers of the devices.
+
+ghost use Rattle.std.specs.Prelude.{◌≡◌, ℕ, ◌+◌, ◌%◌, ◌<◌, ◌≤◌, ◌≢◌, ◌^◌, List, length, IfSome};
+ghost use Rattle.mb_walk.specs.Memory.{number_at, with_number};
+ghost use Rattle.mb_machine.specs.World.{World};
+ghost use Rattle.mb_machine.specs.Places.{in_ram, stored, taken, takes_writes, stored_line, taken_line};
+ghost use Rattle.mb_board.specs.Stores.{Stores};
+ghost use Rattle.mb_board.specs.Beside.{without_ram};
+
+use crate::bus::BoardBus;
+use crate::numbers::{read_number, write_number};
+use mb_port::Place;
+use mb_walk::Ram;
+
+impl BoardBus {
+    #[inline(always)]
+    fn in_ram(&self, place: Place) -> bool
+        ensures { result ≡ in_ram (length self.now.ram) place.at place.len }
+    {
+        u64::from(place.at) + u64::from(place.len) <= self.ram.len() as u64
+    }
+
+    #[inline(always)]
+    fn number(&self, at: usize, len: u8) -> u32
+        requires size { (0 < len) × (len ≤ 4) × (len ≢ 3) }
+        requires inside { at + len ≤ length self.now.ram }
+        ensures value { result ≡ number_at self.now.ram at len }
+        ensures range { result < 256 ^ len }
+    {
+        read_number(&self.ram, at, len)
+    }
+
+    #[inline(always)]
+    #[tactic(auto, using(mb_walk::proofs::MemoryLemmas::lengths))]
+    fn set_number(&mut self, at: usize, len: u8, value: u32)
+        requires size { (0 < len) × (len ≤ 4) × (len ≢ 3) }
+        requires inside { at + len ≤ length self.old.ram }
+        ensures size { length self.new.ram ≡ length self.old.ram }
+        ensures after { self.new ≡ record self.old { ram = with_number self.old.ram at len value } }
+    {
+        write_number(&mut self.ram, at, len, value);
+    }
+
+    /// Reads RAM or a register. `None` where nothing answers the read, and nothing has changed.
+    #[inline(always)]
+    #[tactic(auto, using(mb_machine::proofs::BusLemmas::reads))]
+    pub fn take(&mut self, place: Place) -> Option<u32>
+        requires size { (0 < place.len) × (place.len ≤ 4) × (place.len ≢ 3) }
+        ensures taken { (result, self.new) ≡ taken place self.old }
+        ensures range { IfSome result (λ number. number < 256 ^ place.len) }
+        ensures size { length self.new.ram ≡ length self.old.ram }
+    {
+        if self.in_ram(place) {
+            Some(self.number(place.at as usize, place.len))
+        } else {
+            self.devices.read(place)
+        }
+    }
+
+    /// Writes RAM or a register. `None` where nothing takes the write, and nothing has changed.
+    #[inline(always)]
+    #[tactic(auto, using(mb_machine::proofs::BusLemmas::writes))]
+    pub fn store(&mut self, place: Place, value: u32) -> Option<()>
+        requires size { (0 < place.len) × (place.len ≤ 4) × (place.len ≢ 3) }
+        ensures stored { Stores (stored place value self.old) self.old self.new result }
+        ensures size { length self.new.ram ≡ length self.old.ram }
+    {
+        if self.in_ram(place) {
+            self.set_number(place.at as usize, place.len, value);
+            Some(())
+        } else {
+            self.devices.write(place, value)
+        }
+    }
+
+    /// Whether RAM or a register takes a write.
+    #[tactic(auto, using(mb_machine::proofs::BusLemmas::takes))]
+    pub fn takes_writes(&self, place: Place) -> bool
+        ensures { result ≡ takes_writes (length self.now.ram) place }
+    {
+        self.in_ram(place) || self.devices.has(place)
+    }
+
+    /// The four longs of a line. `None` where the line is not in RAM.
+    #[tactic(auto, unfolding(mb_machine::specs::Places::taken_line))]
+    pub fn take_line(&self, place: Place) -> Option<[u32; 4]>
+        requires { place.len ≡ 16 }
+        ensures { (result, self.now) ≡ taken_line place self.now }
+    {
+        if !self.in_ram(place) {
+            return None;
+        }
+        let at = place.at as usize;
+        Some([
+            self.number(at, 4),
+            self.number(at + 4, 4),
+            self.number(at + 8, 4),
+            self.number(at + 12, 4),
+        ])
+    }
+
+    /// Writes them. `None` where the line is not in RAM, and nothing has changed.
+    #[tactic(auto, unfolding(mb_machine::specs::Places::stored_line))]
+    pub fn store_line(&mut self, place: Place, line: [u32; 4]) -> Option<()>
+        requires { place.len ≡ 16 }
+        ensures stored { Stores (stored_line place line self.old) self.old self.new result }
+        ensures size { length self.new.ram ≡ length self.old.ram }
+    {
+        if !self.in_ram(place) {
+            return None;
+        }
+        let at = place.at as usize;
+        let [first, second, third, fourth] = line;
+        self.set_number(at, 4, first);
+        self.set_number(at + 4, 4, second);
+        self.set_number(at + 8, 4, third);
+        self.set_number(at + 12, 4, fourth);
+        Some(())
+    }
+}
+
+impl Ram for BoardBus {
+    ghost bytes = { λ w. w.ram };
+
+    ghost Rest = { World };
+
+    ghost rest = { without_ram };
+
+    fn size(&self) -> u32 {
+        self.ram.len() as u32
+    }
+
+    fn long(&self, at: u32) -> u32 {
+        self.number(at as usize, 4)
+    }
+
+    fn set_long(&mut self, at: u32, value: u32) {
+        self.set_number(at as usize, 4, value);
+    }
+}

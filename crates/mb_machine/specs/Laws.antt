@@ -1,0 +1,49 @@
+-- What holds of every call of the bus, by every rule: memory stays bytes, and what a refused access tells and leaves.
+use Rattle.std.specs.Prelude.{◌≡◌, ℕ, is_none}
+use Rattle.mb_port.specs.Routine.{Call, Fetch, Read, Write, ReadLine, WriteLine, Probe, Get, Put, ReadMmu, SetMmu}
+use Rattle.mb_port.specs.Routine.{FlushKept, Test, ResetDevices}
+use Rattle.mb_port.specs.declared.types.Fault.{Fault}
+use Rattle.mb_model.specs.Keeping.{Rule}
+use Rattle.mb_laws.specs.Refusal.{IsFault}
+use Rattle.mb_machine.specs.declared.reference.Reference.{Reference}
+use Rattle.mb_machine.specs.World.{World, HasBytes}
+use Rattle.mb_machine.specs.Access.{translated}
+use Rattle.mb_machine.specs.Bus.{fetching, reading, writing, fault_of, bus_of}
+
+abbrev pub BytesStay : Type 0
+BytesStay = (rule : Rule) (c : Call) (w : World) → HasBytes w → HasBytes (bus_of rule c w).1
+
+-- A reference to so many bytes was refused with this fault, and left this world: that which its translation left, so
+-- nothing was read or written at its place. ATC says whether the translation refused it.
+pub record WasRefused (rule : Rule) (r : Reference) (len : ℕ) (before : World) (fault : Fault) (after : World)
+    : Type 0 where
+  pub told : fault ≡ fault_of r len (is_none (translated rule r before).0)
+  pub left : after ≡ (translated rule r before).1
+
+-- the same of a call; calls without translation are never refused
+abbrev pub CallWasRefused : Rule → Call → World → Fault → World → Type 0
+CallWasRefused rule (Fetch space at) = WasRefused rule (fetching space at) 2
+CallWasRefused rule (Read space p) = WasRefused rule (reading space p.at) p.len
+CallWasRefused rule (Write space p value) = WasRefused rule (writing space p.at) p.len
+CallWasRefused rule (ReadLine space at) = WasRefused rule (reading space at) 16
+CallWasRefused rule (WriteLine space at line) = WasRefused rule (writing space at) 16
+CallWasRefused rule (Probe space p) = WasRefused rule (writing space p.at) p.len
+CallWasRefused rule (Get place) = λ before fault after. ⊥
+CallWasRefused rule (Put place value) = λ before fault after. ⊥
+CallWasRefused rule ReadMmu = λ before fault after. ⊥
+CallWasRefused rule (SetMmu which value) = λ before fault after. ⊥
+CallWasRefused rule (FlushKept what) = λ before fault after. ⊥
+CallWasRefused rule (Test space at write) = λ before fault after. ⊥
+CallWasRefused rule ResetDevices = λ before fault after. ⊥
+
+abbrev pub FaultsTell : Type 0
+FaultsTell = (rule : Rule) (c : Call) (w : World) (fault : Fault) → IsFault c (bus_of rule c w).0 fault
+    → CallWasRefused rule c w fault (bus_of rule c w).1
+
+-- A translation marks descriptors and keeps entries; registers and devices stay.
+pub record IsBeside (before after : World) : Type 0 where
+  pub mmu : after.mmu ≡ before.mmu
+  pub devices : after.devices ≡ before.devices
+
+abbrev pub TranslationsStayBeside : Type 0
+TranslationsStayBeside = (rule : Rule) (r : Reference) (w : World) → IsBeside w (translated rule r w).1

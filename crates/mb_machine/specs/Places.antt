@@ -1,0 +1,82 @@
+-- Physical places: RAM from address 0 on, and the registers of the devices.
+use Rattle.std.specs.Prelude.{ℕ, ◌+◌, ◌<◌, ◌≤◌, ◌≡◌, ◌≢◌, Bool, true, false, List, [], ◌∷◌, length, nat_le}
+use Rattle.std.specs.Prelude.{Option, Some, None, if◌then◌else◌}
+use Rattle.mb_port.specs.declared.types.Place.{Place}
+use Rattle.mb_devices.specs.declared.register.Register.{Register}
+use Rattle.mb_devices.specs.Registers.{row, register_at}
+use Rattle.mb_walk.specs.Memory.{number_at, with_number}
+use Rattle.mb_machine.specs.World.{World}
+
+-- so many bytes from a place on lie in RAM of this size
+abbrev pub in_ram : ℕ → ℕ → ℕ → Bool
+in_ram size at len = nat_le (at + len) size
+
+-- where a physical piece stands: RAM holds the whole of it, a register is of just its address and size, or nothing is
+-- there
+pub data Stand : Type 0 where
+  memory : Stand
+  register : Register → Stand
+  nowhere : Stand
+
+abbrev pub among_registers : Option Register → Stand
+among_registers (Some r) = register r
+among_registers None = nowhere
+
+unfoldable pub stand_of : ℕ → Place → Stand
+stand_of size place = if in_ram size place.at place.len then memory else among_registers (register_at place)
+
+-- what reading there answers, with the world after it
+abbrev pub taken_at : Stand → Place → World → Option ℕ × World
+taken_at memory place w = (Some (number_at w.ram place.at place.len), w)
+taken_at (register r) place w = (Some ((row r).value w.devices), record w { devices = (row r).after_read w.devices })
+taken_at nowhere place w = (None, w)
+
+-- the world after writing there
+abbrev pub stored_at : Stand → Place → ℕ → World → Option World
+stored_at memory place value w = Some (record w { ram = with_number w.ram place.at place.len value })
+stored_at (register r) place value w = Some (record w { devices = (row r).written value w.devices })
+stored_at nowhere place value w = None
+
+-- a read and a write of a physical piece, wherever it stands
+unfoldable pub taken : Place → World → Option ℕ × World
+taken place w = taken_at (stand_of (length w.ram) place) place w
+
+unfoldable pub stored : Place → ℕ → World → Option World
+stored place value w = stored_at (stand_of (length w.ram) place) place value w
+
+abbrev pub is_somewhere : Stand → Bool
+is_somewhere memory = true
+is_somewhere (register r) = true
+is_somewhere nowhere = false
+
+-- what takes a write
+abbrev pub takes_writes : ℕ → Place → Bool
+takes_writes size place = is_somewhere (stand_of size place)
+
+-- a piece that is checked for writing: its place, where something takes a write there
+abbrev pub checked : Place → World → Option Place × World
+checked place w = ((if takes_writes (length w.ram) place then Some place else None), w)
+
+-- ---- a line of 16 bytes: four longs, in RAM alone
+
+abbrev pub line_at : List ℕ → ℕ → List ℕ
+line_at ram at =
+    number_at ram at 4 ∷ number_at ram (at + 4) 4 ∷ number_at ram (at + 8) 4 ∷ number_at ram (at + 12) 4 ∷ []
+
+-- memory with longs from a place on
+abbrev pub with_longs : List ℕ → ℕ → List ℕ → List ℕ
+with_longs ram at [] = ram
+with_longs ram at (value ∷ values) = with_longs (with_number ram at 4 value) (at + 4) values
+
+unfoldable pub taken_line : Place → World → Option (List ℕ) × World
+taken_line place w = ((if in_ram (length w.ram) place.at place.len then Some (line_at w.ram place.at) else None), w)
+
+unfoldable pub stored_line : Place → List ℕ → World → Option World
+stored_line place line w =
+    if in_ram (length w.ram) place.at place.len then Some (record w { ram = with_longs w.ram place.at line }) else None
+
+-- ---- which places there are
+
+-- 1, 2 or 4 bytes that take a write
+abbrev pub HasPlace : ℕ → Place → Type 0
+HasPlace size place = (0 < place.len) × (place.len ≤ 4) × (place.len ≢ 3) × (takes_writes size place ≡ true)
