@@ -1,5 +1,6 @@
 -- The outcome text: lines of ASCII, each ended by LF.
-use Rattle.std.specs.Prelude.{ℕ, ◌+◌, ◌-◌, ◌*◌, ◌/◌, ◌++◌, ◌==◌, zero, suc, Bool, List, [], ◌∷◌, length, take, drop, slice_index, if◌then◌else◌, codes, decimal}
+use Rattle.std.specs.Prelude.{ℕ, ◌+◌, ◌-◌, ◌*◌, ◌/◌, ◌++◌, ◌==◌, zero, suc, Bool, List, [], ◌∷◌, length, take, drop}
+use Rattle.std.specs.Prelude.{slice_index, if◌then◌else◌, codes, decimal}
 use Rattle.std.specs.List.{list_all, flat_map}
 use Rattle.mb_report.specs.Digits.{digits, hex8}
 use Rattle.mb_model.specs.declared.outcome.RunState.{RunState}
@@ -30,67 +31,79 @@ state_word Stopped = codes "stopped"
 state_word Halted = codes "halted"
 state_word Off = codes "off"
 
--- which guest, its state and how many steps it took
-unfoldable pub head_text : ℕ → RunState → ℕ → List ℕ
-head_text guest state steps =
-    count_line (codes "guest") guest ++ word_line (codes "state") (state_word state) ++ count_line (codes "steps") steps
-
 -- a row of a dump: two digits a byte
 abbrev pub dump_line : ℕ → List ℕ → List ℕ
 dump_line at row = digits row ++ 10 ∷ []
 
 -- a name with how many bytes there are, and the bytes in rows of 32
-unfoldable pub bytes_text : List ℕ → List ℕ → List ℕ
+abbrev pub bytes_text : List ℕ → List ℕ → List ℕ
 bytes_text name bytes = count_line name (length bytes) ++ all_rows dump_line 32 bytes
 
--- what the text names with eight digits
-abbrev pub registers_of : Seen → List (List ℕ × ℕ)
-registers_of seen =
-    (codes "D0", slice_index seen.cpu.regs.d 0)
-    ∷ (codes "D1", slice_index seen.cpu.regs.d 1)
-    ∷ (codes "D2", slice_index seen.cpu.regs.d 2)
-    ∷ (codes "D3", slice_index seen.cpu.regs.d 3)
-    ∷ (codes "D4", slice_index seen.cpu.regs.d 4)
-    ∷ (codes "D5", slice_index seen.cpu.regs.d 5)
-    ∷ (codes "D6", slice_index seen.cpu.regs.d 6)
-    ∷ (codes "D7", slice_index seen.cpu.regs.d 7)
-    ∷ (codes "A0", slice_index seen.cpu.regs.a 0)
-    ∷ (codes "A1", slice_index seen.cpu.regs.a 1)
-    ∷ (codes "A2", slice_index seen.cpu.regs.a 2)
-    ∷ (codes "A3", slice_index seen.cpu.regs.a 3)
-    ∷ (codes "A4", slice_index seen.cpu.regs.a 4)
-    ∷ (codes "A5", slice_index seen.cpu.regs.a 5)
-    ∷ (codes "A6", slice_index seen.cpu.regs.a 6)
-    ∷ (codes "USP", seen.cpu.regs.usp)
-    ∷ (codes "ISP", seen.cpu.regs.isp)
-    ∷ (codes "MSP", seen.cpu.regs.msp)
-    ∷ (codes "PC", seen.cpu.regs.pc)
-    ∷ (codes "SR", seen.cpu.regs.sr)
-    ∷ (codes "VBR", seen.cpu.vbr)
-    ∷ (codes "SFC", seen.cpu.sfc)
-    ∷ (codes "DFC", seen.cpu.dfc)
-    ∷ (codes "CACR", seen.cpu.cacr)
-    ∷ (codes "TC", seen.mmu.tc)
-    ∷ (codes "ITT0", seen.mmu.itt0)
-    ∷ (codes "ITT1", seen.mmu.itt1)
-    ∷ (codes "DTT0", seen.mmu.dtt0)
-    ∷ (codes "DTT1", seen.mmu.dtt1)
-    ∷ (codes "MMUSR", seen.mmu.mmusr)
-    ∷ (codes "URP", seen.mmu.urp)
-    ∷ (codes "SRP", seen.mmu.srp)
-    ∷ (codes "CTRL", seen.ctrl)
-    ∷ (codes "STATUS", seen.status)
-    ∷ (codes "PERIOD", seen.period)
-    ∷ (codes "COUNT", seen.count)
-    ∷ (codes "PENDING", seen.pending)
+-- how a line of the text shows its value
+pub data Shown : Type 0 where
+  -- in decimal
+  number : ℕ → Shown
+  -- as a word
+  word : List ℕ → Shown
+  -- how many bytes there are, in decimal, and then the bytes
+  bytes : List ℕ → Shown
+  -- in eight digits
+  long : ℕ → Shown
+
+-- a name and a value
+unfoldable pub line_text : List ℕ × Shown → List ℕ
+line_text (name, number n) = count_line name n
+line_text (name, word w) = word_line name w
+line_text (name, bytes shown) = bytes_text name shown
+line_text (name, long value) = word_line name (hex8 value)
+
+-- the lines before those of memory, in their order: each one's name, and its value as it is shown
+unfoldable pub lines_of : ℕ → Seen → List (List ℕ × Shown)
+lines_of guest seen =
+    (codes "guest", number guest)
+    ∷ (codes "state", word (state_word seen.state))
+    ∷ (codes "steps", number seen.steps)
+    ∷ (codes "console", bytes seen.console)
+    ∷ (codes "lost", number seen.lost)
+    ∷ (codes "queue", bytes seen.queue)
+    ∷ (codes "D0", long (slice_index seen.cpu.regs.d 0))
+    ∷ (codes "D1", long (slice_index seen.cpu.regs.d 1))
+    ∷ (codes "D2", long (slice_index seen.cpu.regs.d 2))
+    ∷ (codes "D3", long (slice_index seen.cpu.regs.d 3))
+    ∷ (codes "D4", long (slice_index seen.cpu.regs.d 4))
+    ∷ (codes "D5", long (slice_index seen.cpu.regs.d 5))
+    ∷ (codes "D6", long (slice_index seen.cpu.regs.d 6))
+    ∷ (codes "D7", long (slice_index seen.cpu.regs.d 7))
+    ∷ (codes "A0", long (slice_index seen.cpu.regs.a 0))
+    ∷ (codes "A1", long (slice_index seen.cpu.regs.a 1))
+    ∷ (codes "A2", long (slice_index seen.cpu.regs.a 2))
+    ∷ (codes "A3", long (slice_index seen.cpu.regs.a 3))
+    ∷ (codes "A4", long (slice_index seen.cpu.regs.a 4))
+    ∷ (codes "A5", long (slice_index seen.cpu.regs.a 5))
+    ∷ (codes "A6", long (slice_index seen.cpu.regs.a 6))
+    ∷ (codes "USP", long seen.cpu.regs.usp)
+    ∷ (codes "ISP", long seen.cpu.regs.isp)
+    ∷ (codes "MSP", long seen.cpu.regs.msp)
+    ∷ (codes "PC", long seen.cpu.regs.pc)
+    ∷ (codes "SR", long seen.cpu.regs.sr)
+    ∷ (codes "VBR", long seen.cpu.vbr)
+    ∷ (codes "SFC", long seen.cpu.sfc)
+    ∷ (codes "DFC", long seen.cpu.dfc)
+    ∷ (codes "CACR", long seen.cpu.cacr)
+    ∷ (codes "TC", long seen.mmu.tc)
+    ∷ (codes "ITT0", long seen.mmu.itt0)
+    ∷ (codes "ITT1", long seen.mmu.itt1)
+    ∷ (codes "DTT0", long seen.mmu.dtt0)
+    ∷ (codes "DTT1", long seen.mmu.dtt1)
+    ∷ (codes "MMUSR", long seen.mmu.mmusr)
+    ∷ (codes "URP", long seen.mmu.urp)
+    ∷ (codes "SRP", long seen.mmu.srp)
+    ∷ (codes "CTRL", long seen.ctrl)
+    ∷ (codes "STATUS", long seen.status)
+    ∷ (codes "PERIOD", long seen.period)
+    ∷ (codes "COUNT", long seen.count)
+    ∷ (codes "PENDING", long seen.pending)
     ∷ []
-
--- a name and eight digits
-abbrev pub register_line : List ℕ × ℕ → List ℕ
-register_line (name, value) = word_line name (hex8 value)
-
-unfoldable pub registers_text : Seen → List ℕ
-registers_text seen = flat_map register_line (registers_of seen)
 
 abbrev pub is_zero : List ℕ → Bool
 is_zero row = list_all (λ byte. byte == 0) row
@@ -104,11 +117,4 @@ memory_text ram = all_rows memory_line 16 ram
 
 -- the whole text of a guest's outcome
 unfoldable pub outcome_text : ℕ → Seen → List ℕ
-outcome_text guest seen =
-    head_text guest seen.state seen.steps
-    ++ bytes_text (codes "console") seen.console
-    ++ count_line (codes "lost") seen.lost
-    ++ bytes_text (codes "queue") seen.queue
-    ++ registers_text seen
-    ++ memory_text seen.ram
-    ++ codes "end\n"
+outcome_text guest seen = flat_map line_text (lines_of guest seen) ++ memory_text seen.ram ++ codes "end\n"

@@ -63,7 +63,8 @@ pub(crate) fn write_dump<O: Sink>(
     so_far: Result<(), SinkFault>,
     bytes: &[u8],
 ) -> Result<(), SinkFault>
-    ensures { PrintsMore so_far (O.taken out.old) (O.taken out.new) (O.faults out.old) (O.faults out.new) (all_rows dump_line 32 bytes.now) result }
+    ensures { PrintsMore so_far (O.taken out.old) (O.taken out.new) (O.faults out.old) (O.faults out.new)
+        (all_rows dump_line 32 bytes.now) result }
 {
     let mut done = so_far;
     for row in 0..(bytes.len() + 31) / 32 {
@@ -86,7 +87,8 @@ fn write_memory_row<O: Sink>(
     row: &[u8],
 ) -> Result<(), SinkFault>
     requires { length row.now ≤ 16 }
-    ensures { PrintsMore so_far (O.taken out.old) (O.taken out.new) (O.faults out.old) (O.faults out.new) (memory_line address row.now) result }
+    ensures { PrintsMore so_far (O.taken out.old) (O.taken out.new) (O.faults out.old) (O.faults out.new)
+        (memory_line address row.now) result }
 {
     if is_zero(row) {
         return so_far;
@@ -102,7 +104,8 @@ pub(crate) fn write_memory<O: Sink>(
     ram: &[u8],
 ) -> Result<(), SinkFault>
     requires { length ram.now ≤ 2 ^ 32 }
-    ensures { PrintsMore so_far (O.taken out.old) (O.taken out.new) (O.faults out.old) (O.faults out.new) (memory_text ram.now) result }
+    ensures { PrintsMore so_far (O.taken out.old) (O.taken out.new) (O.faults out.old) (O.faults out.new)
+        (memory_text ram.now) result }
 {
     let mut done = so_far;
     for row in 0..(ram.len() + 15) / 16 {

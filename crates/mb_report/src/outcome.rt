@@ -3,8 +3,9 @@
 ghost use Rattle.std.specs.Prelude.{◌≡◌, ◌≤◌, ◌^◌, length, map};
 ghost use Rattle.mb_outside.specs.Prints.{Prints, PrintsMore};
 ghost use Rattle.mb_model.specs.Seen.{seen_of};
-ghost use Rattle.mb_report.specs.Text.{word_line, count_line, state_word, head_text, bytes_text, registers_of};
-ghost use Rattle.mb_report.specs.Text.{registers_text, register_line, outcome_text};
+ghost use Rattle.mb_report.specs.Text.{word_line, count_line, state_word, bytes_text};
+ghost use Rattle.mb_report.specs.Text.{lines_of, line_text, outcome_text};
+ghost use Rattle.mb_report.specs.Lines.{line_of};
 ghost use Rattle.std.specs.List.{flat_map};
 
 use crate::digits::hex8;
@@ -20,7 +21,8 @@ fn write_word<O: Sink>(
     name: &[u8],
     word: &[u8],
 ) -> Result<(), SinkFault>
-    ensures { PrintsMore so_far (O.taken out.old) (O.taken out.new) (O.faults out.old) (O.faults out.new) (word_line name.now word.now) result }
+    ensures { PrintsMore so_far (O.taken out.old) (O.taken out.new) (O.faults out.old) (O.faults out.new)
+        (word_line name.now word.now) result }
 {
     let named = put_more(out, so_far, name);
     let spaced = put_more(out, named, b" ");
@@ -35,7 +37,8 @@ fn write_count<O: Sink>(
     name: &[u8],
     n: u64,
 ) -> Result<(), SinkFault>
-    ensures { PrintsMore so_far (O.taken out.old) (O.taken out.new) (O.faults out.old) (O.faults out.new) (count_line name.now n) result }
+    ensures { PrintsMore so_far (O.taken out.old) (O.taken out.new) (O.faults out.old) (O.faults out.new)
+        (count_line name.now n) result }
 {
     let mut buffer = Buffer::new();
     let digits = buffer.format(n).as_bytes();
@@ -53,107 +56,125 @@ fn state_word(state: RunState) -> &'static [u8]
     }
 }
 
-/// Writes which guest it is, its state and how many steps it took.
-#[tactic(auto, unfolding(crate::specs::Text::head_text))]
-fn write_head<O: Sink>(
-    out: &mut O,
-    so_far: Result<(), SinkFault>,
-    guest: u8,
-    state: RunState,
-    steps: u32,
-) -> Result<(), SinkFault>
-    ensures { PrintsMore so_far (O.taken out.old) (O.taken out.new) (O.faults out.old) (O.faults out.new) (head_text guest state steps) result }
-{
-    let numbered = write_count(out, so_far, b"guest", u64::from(guest));
-    let told = write_word(out, numbered, b"state", state_word(state));
-    write_count(out, told, b"steps", u64::from(steps))
-}
-
 /// Writes a name with how many bytes there are, and the bytes.
-#[tactic(auto, unfolding(crate::specs::Text::bytes_text))]
 fn write_bytes<O: Sink>(
     out: &mut O,
     so_far: Result<(), SinkFault>,
     name: &[u8],
     bytes: &[u8],
 ) -> Result<(), SinkFault>
-    ensures { PrintsMore so_far (O.taken out.old) (O.taken out.new) (O.faults out.old) (O.faults out.new) (bytes_text name.now bytes.now) result }
+    ensures { PrintsMore so_far (O.taken out.old) (O.taken out.new) (O.faults out.old) (O.faults out.new)
+        (bytes_text name.now bytes.now) result }
 {
     let counted = write_count(out, so_far, name, bytes.len() as u64);
     write_dump(out, counted, bytes)
 }
 
-/// What the text names with eight digits, in its order.
-fn registers(o: &Outcome) -> [(&'static [u8], u32); 37]
-    ensures { map (λ register. (register.0.now, register.1)) result ≡ registers_of (seen_of o.now) }
+/// How a line of the text shows its value.
+#[derive(Clone, Copy)]
+enum Shown<'a> {
+    /// In decimal.
+    Number(u64),
+    Word(&'static [u8]),
+    /// How many bytes there are, in decimal, and then the bytes.
+    Bytes(&'a [u8]),
+    /// In eight digits.
+    Long(u32),
+}
+
+/// A line of the text.
+#[derive(Clone, Copy)]
+struct Line<'a> {
+    name: &'static [u8],
+    shown: Shown<'a>,
+}
+
+/// The lines before those of memory, in their order.
+#[rattlefmt::skip]
+#[tactic(auto, unfolding(crate::specs::Text::lines_of))]
+fn lines<'a>(guest: u8, o: &'a Outcome<'a>) -> [Line<'a>; 43]
+    ensures { map line_of result ≡ lines_of guest (seen_of o.now) }
 {
     let regs = &o.cpu.regs;
     [
-        (b"D0", regs.d[0]),
-        (b"D1", regs.d[1]),
-        (b"D2", regs.d[2]),
-        (b"D3", regs.d[3]),
-        (b"D4", regs.d[4]),
-        (b"D5", regs.d[5]),
-        (b"D6", regs.d[6]),
-        (b"D7", regs.d[7]),
-        (b"A0", regs.a[0]),
-        (b"A1", regs.a[1]),
-        (b"A2", regs.a[2]),
-        (b"A3", regs.a[3]),
-        (b"A4", regs.a[4]),
-        (b"A5", regs.a[5]),
-        (b"A6", regs.a[6]),
-        (b"USP", regs.usp),
-        (b"ISP", regs.isp),
-        (b"MSP", regs.msp),
-        (b"PC", regs.pc),
-        (b"SR", u32::from(regs.sr)),
-        (b"VBR", o.cpu.vbr),
-        (b"SFC", u32::from(o.cpu.sfc)),
-        (b"DFC", u32::from(o.cpu.dfc)),
-        (b"CACR", o.cpu.cacr),
-        (b"TC", o.mmu.tc),
-        (b"ITT0", o.mmu.itt0),
-        (b"ITT1", o.mmu.itt1),
-        (b"DTT0", o.mmu.dtt0),
-        (b"DTT1", o.mmu.dtt1),
-        (b"MMUSR", o.mmu.mmusr),
-        (b"URP", o.mmu.urp),
-        (b"SRP", o.mmu.srp),
-        (b"CTRL", o.ctrl),
-        (b"STATUS", o.status),
-        (b"PERIOD", o.period),
-        (b"COUNT", o.count),
-        (b"PENDING", o.pending),
+        Line { name: b"guest", shown: Shown::Number(u64::from(guest)) },
+        Line { name: b"state", shown: Shown::Word(state_word(o.state)) },
+        Line { name: b"steps", shown: Shown::Number(u64::from(o.steps)) },
+        Line { name: b"console", shown: Shown::Bytes(o.console) },
+        Line { name: b"lost", shown: Shown::Number(o.lost) },
+        Line { name: b"queue", shown: Shown::Bytes(o.queue.as_slice()) },
+        Line { name: b"D0", shown: Shown::Long(regs.d[0]) },
+        Line { name: b"D1", shown: Shown::Long(regs.d[1]) },
+        Line { name: b"D2", shown: Shown::Long(regs.d[2]) },
+        Line { name: b"D3", shown: Shown::Long(regs.d[3]) },
+        Line { name: b"D4", shown: Shown::Long(regs.d[4]) },
+        Line { name: b"D5", shown: Shown::Long(regs.d[5]) },
+        Line { name: b"D6", shown: Shown::Long(regs.d[6]) },
+        Line { name: b"D7", shown: Shown::Long(regs.d[7]) },
+        Line { name: b"A0", shown: Shown::Long(regs.a[0]) },
+        Line { name: b"A1", shown: Shown::Long(regs.a[1]) },
+        Line { name: b"A2", shown: Shown::Long(regs.a[2]) },
+        Line { name: b"A3", shown: Shown::Long(regs.a[3]) },
+        Line { name: b"A4", shown: Shown::Long(regs.a[4]) },
+        Line { name: b"A5", shown: Shown::Long(regs.a[5]) },
+        Line { name: b"A6", shown: Shown::Long(regs.a[6]) },
+        Line { name: b"USP", shown: Shown::Long(regs.usp) },
+        Line { name: b"ISP", shown: Shown::Long(regs.isp) },
+        Line { name: b"MSP", shown: Shown::Long(regs.msp) },
+        Line { name: b"PC", shown: Shown::Long(regs.pc) },
+        Line { name: b"SR", shown: Shown::Long(u32::from(regs.sr)) },
+        Line { name: b"VBR", shown: Shown::Long(o.cpu.vbr) },
+        Line { name: b"SFC", shown: Shown::Long(u32::from(o.cpu.sfc)) },
+        Line { name: b"DFC", shown: Shown::Long(u32::from(o.cpu.dfc)) },
+        Line { name: b"CACR", shown: Shown::Long(o.cpu.cacr) },
+        Line { name: b"TC", shown: Shown::Long(o.mmu.tc) },
+        Line { name: b"ITT0", shown: Shown::Long(o.mmu.itt0) },
+        Line { name: b"ITT1", shown: Shown::Long(o.mmu.itt1) },
+        Line { name: b"DTT0", shown: Shown::Long(o.mmu.dtt0) },
+        Line { name: b"DTT1", shown: Shown::Long(o.mmu.dtt1) },
+        Line { name: b"MMUSR", shown: Shown::Long(o.mmu.mmusr) },
+        Line { name: b"URP", shown: Shown::Long(o.mmu.urp) },
+        Line { name: b"SRP", shown: Shown::Long(o.mmu.srp) },
+        Line { name: b"CTRL", shown: Shown::Long(o.ctrl) },
+        Line { name: b"STATUS", shown: Shown::Long(o.status) },
+        Line { name: b"PERIOD", shown: Shown::Long(o.period) },
+        Line { name: b"COUNT", shown: Shown::Long(o.count) },
+        Line { name: b"PENDING", shown: Shown::Long(o.pending) },
     ]
 }
 
-/// Writes names with their values, eight digits each.
-fn write_table<O: Sink>(
+/// Writes a line, and the rows of bytes that belong to it.
+#[tactic(auto, unfolding(crate::specs::Text::line_text))]
+fn write_line<O: Sink>(
     out: &mut O,
     so_far: Result<(), SinkFault>,
-    rows: &[(&'static [u8], u32)],
+    line: &Line,
 ) -> Result<(), SinkFault>
-    ensures { PrintsMore so_far (O.taken out.old) (O.taken out.new) (O.faults out.old) (O.faults out.new) (flat_map (λ row. register_line (row.0.now, row.1)) rows.now) result }
+    ensures { PrintsMore so_far (O.taken out.old) (O.taken out.new) (O.faults out.old) (O.faults out.new)
+        (line_text (line_of line.now)) result }
 {
-    let mut done = so_far;
-    for (name, value) in rows {
-        done = write_word(out, done, name, &hex8(*value));
+    match line.shown {
+        Shown::Number(n) => write_count(out, so_far, line.name, n),
+        Shown::Word(word) => write_word(out, so_far, line.name, word),
+        Shown::Bytes(bytes) => write_bytes(out, so_far, line.name, bytes),
+        Shown::Long(value) => write_word(out, so_far, line.name, &hex8(value)),
     }
-    done
 }
 
-/// Writes the registers of the processor and of the devices.
-#[tactic(auto, unfolding(crate::specs::Text::registers_text))]
-fn write_registers<O: Sink>(
+/// Writes lines.
+fn write_lines<O: Sink>(
     out: &mut O,
     so_far: Result<(), SinkFault>,
-    o: &Outcome,
+    lines: &[Line],
 ) -> Result<(), SinkFault>
-    ensures { PrintsMore so_far (O.taken out.old) (O.taken out.new) (O.faults out.old) (O.faults out.new) (registers_text (seen_of o.now)) result }
+    ensures { PrintsMore so_far (O.taken out.old) (O.taken out.new) (O.faults out.old) (O.faults out.new)
+        (flat_map (λ line. line_text (line_of line)) lines.now) result }
 {
-    write_table(out, so_far, &registers(o))
+    let mut done = so_far;
+    for line in lines {
+        done = write_line(out, done, line);
+    }
+    done
 }
 
 /// Writes the outcome text of the guest of this number, from its first line to `end`.
@@ -162,13 +183,10 @@ fn write_registers<O: Sink>(
 #[tactic(auto, unfolding(crate::specs::Text::outcome_text))]
 pub fn write_outcome<O: Sink>(guest: u8, o: &Outcome, out: &mut O) -> Result<(), SinkFault>
     requires { length (seen_of o.now).ram ≤ 2 ^ 32 }
-    ensures { Prints (O.taken out.old) (O.taken out.new) (O.faults out.old) (O.faults out.new) (outcome_text guest (seen_of o.now)) result }
+    ensures { Prints (O.taken out.old) (O.taken out.new) (O.faults out.old) (O.faults out.new)
+        (outcome_text guest (seen_of o.now)) result }
 {
-    let head = write_head(out, Ok(()), guest, o.state, o.steps);
-    let console = write_bytes(out, head, b"console", o.console);
-    let lost = write_count(out, console, b"lost", o.lost);
-    let queue = write_bytes(out, lost, b"queue", o.queue.as_slice());
-    let registers = write_registers(out, queue, o);
-    let memory = write_memory(out, registers, o.ram);
+    let told = write_lines(out, Ok(()), &lines(guest, o));
+    let memory = write_memory(out, told, o.ram);
     put_more(out, memory, b"end\n")
 }
