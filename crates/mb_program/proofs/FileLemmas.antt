@@ -3,12 +3,12 @@ use Rattle.std.proofs.Common.{◌≡◌, ◌≤◌, inl, inr, Bool, true, false,
 use Rattle.std.specs.Prelude.{is_some, option_and_then, nat_lt, string_bytes}
 use Rattle.std.proofs.lemmas.Bool.{le-ltb}
 use Rattle.mb_words.specs.Words.{Text, Asked}
-use Rattle.mb_program.specs.Answers.{Answer, Told, File, Course, reads, ends, most_of, unless_long, answer_at, answer_of, course_of, Names}
+use Rattle.mb_program.specs.Answers.{Answer, Told, File, Course, reads, ends, most_of, unless_long, answer_at, course_of, Names}
 use Rattle.mb_program.specs.Ends.{Around, Ends}
 use Rattle.mb_program.specs.Causes.{IsAllTold}
 use Rattle.mb_program.specs.Lines.{status_of}
 use Rattle.mb_program.specs.declared.end.End.{End}
-use Rattle.mb_program.specs.declared.end.End.TheVariants.{Done, Words, Refused, Unread, Output, Memory, Unbuilt}
+use Rattle.mb_program.specs.declared.end.End.TheVariants.{Done, Words, Refused, Unread, Output, Memory}
 
 -- what goes on by a value that gives something had that value
 gave : {A B : Type 0} (o : Option A) (f : A → Option B) → is_some (option_and_then f o) ≡ true → (x : A) × (o ≡ Some x) × (is_some (f x) ≡ true)
@@ -42,7 +42,6 @@ named_is_told told (reads file next) name known (inr later) =
 
 -- a whole shelf that tells every file of a command is no cause of an unread one
 pub unread_never : (asked : Option Asked) (a : Around) (end : End) → Ends asked a end → IsAllTold asked a → status_of end ≡ 5 → ⊥
-unfolding answer_of
 unread_never None a end h all e = all.1
 unread_never (Some asked) a Done h all e = absurd cc
 unread_never (Some asked) a Words h all e = absurd h
@@ -50,4 +49,3 @@ unread_never (Some asked) a (Refused name why) h all e = absurd cc
 unread_never (Some asked) a (Unread name) h all e = h.1 all.0 (named_is_told a.shelf.told (course_of asked) (string_bytes name) all.1 h.0)
 unread_never (Some asked) a Output h all e = absurd cc
 unread_never (Some asked) a Memory h all e = absurd cc
-unread_never (Some asked) a Unbuilt h all e = absurd cc

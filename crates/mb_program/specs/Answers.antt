@@ -1,15 +1,18 @@
 -- What a command comes to, by the bytes that its files have.
-use Rattle.std.specs.Prelude.{◌≡◌, ◌⊎◌, ℕ, ◌*◌, ◌≤◌, nat_lt, [], length, if◌then◌else◌}
+use Rattle.std.specs.Prelude.{◌≡◌, ◌⊎◌, ℕ, ◌*◌, ◌≤◌, nat_lt, List, [], ◌∷◌, length, if◌then◌else◌}
 use Rattle.std.specs.Prelude.{Option, Some, None, IfSome, option_and_then, Result, Ok, Err}
+use Rattle.std.specs.Result.{result_map_both}
 use Rattle.mb_srec.specs.Records.{records_of}
-use Rattle.mb_srec.specs.Faults.{Fault}
-use Rattle.mb_srec.specs.Faults as fault
-use Rattle.mb_machine.specs.Machine.{Machine, Contents, start, run_of, seen_machine}
+use Rattle.mb_srec.specs.Faults as image_fault
+use Rattle.mb_script.specs.Scripts.{script_of}
+use Rattle.mb_script.specs.Faults as line_fault
+use Rattle.mb_model.specs.Keeping.{rule_a}
+use Rattle.mb_machine.specs.Machine.{Machine, Contents, Entries, start, run_of, seen_machine}
 use Rattle.mb_report.specs.Text.{outcome_text}
 use Rattle.mb_words.specs.Words.{Text, Run, Asked, bare}
 use Rattle.mb_program.specs.declared.end.FileWhy.{FileWhy}
 use Rattle.mb_program.specs.declared.end.FileWhy.TheVariants.{TooLong, Line, Outside, NoEnd}
-use Rattle.mb_program.specs.declared.end.Reason.TheVariants.{Record}
+use Rattle.mb_program.specs.declared.end.Reason.TheVariants.{Record, Words}
 
 -- ---- answers
 
@@ -19,15 +22,10 @@ pub record Shown : Type 0 where
   pub lines : Text
   pub status : ℕ
 
--- Why there is nothing to show, where it is no file's fault.
-pub data Cause : Type 0 where
-  unbuilt : Cause  -- a step is not built
-
--- A command shows something, refuses a file, with its name and why, or has a cause for nothing.
+-- A command shows something, or refuses a file, with its name and why.
 pub data Answer : Type 0 where
   shows : Shown → Answer
   refuses : Text → FileWhy → Answer
-  lacks : Cause → Answer
 
 -- a text, and nothing on diag
 abbrev pub plain : Text → Shown
@@ -35,13 +33,15 @@ plain text = record { text = text; lines = []; status = 0 }
 
 -- ---- the files of a command
 
--- What a file is read as.
+-- What a file is read as: an image for so many bytes of RAM, or a script.
 pub data Role : Type 0 where
-  image : Role
+  image : ℕ → Role
+  script : Role
 
 -- the most bytes of a file
 abbrev pub most_of : Role → ℕ
-most_of image = 67108864
+most_of (image size) = 67108864
+most_of script = 67108864
 
 -- A file by its name and its role.
 pub record File : Type 0 where
@@ -77,45 +77,79 @@ Names told (reads file next) name = (name ≡ file.name) ⊎ ((bytes : Text)
     × Names told (next bytes) name)
 Names told (ends answer) name = ⊥
 
--- ---- bare
+-- ---- what a file holds
 
--- why the first fault of a text refuses its file
-abbrev pub why_of : Fault → FileWhy
-why_of (fault.Line number why) = Line number (Record why)
-why_of (fault.Outside at) = Outside at
-why_of fault.NoEnd = NoEnd
+-- What a file holds: the contents of an image, or the entries of a script.
+pub data Held : Type 0 where
+  contents : Contents → Held
+  entries : Entries → Held
 
--- what running a file's bytes comes to
-pub data Ran : Type 0 where
-  no_image : FileWhy → Ran
-  unbuilt_step : Ran
-  ended : Machine → Ran
+-- why the first fault of an image refuses its file
+abbrev pub image_why : image_fault.Fault → FileWhy
+image_why (image_fault.Line number why) = Line number (Record why)
+image_why (image_fault.Outside at) = Outside at
+image_why image_fault.NoEnd = NoEnd
 
--- the machine after the run, if each step of it is built
-abbrev pub ran_by : Option Machine → Ran
-ran_by (Some m) = ended m
-ran_by None = unbuilt_step
+-- why the first fault of a script refuses its file
+abbrev pub line_why : line_fault.Fault → FileWhy
+line_why fault = Line fault.number (Words fault.why)
+
+-- what a file's bytes hold by its role, or why it is refused
+unfoldable pub held_in : Role → Text → Result Held FileWhy
+held_in (image size) bytes = result_map_both contents image_why (records_of bytes size)
+held_in script bytes = result_map_both entries line_why (script_of bytes)
+
+-- a file is refused for its reason, or the course goes on by what it holds
+abbrev pub unless_refused : File → Result Held FileWhy → (Held → Course) → Course
+unless_refused file (Ok held) next = next held
+unless_refused file (Err why) next = ends (refuses file.name why)
+
+abbrev pub reads_held : File → (Held → Course) → Course
+reads_held file next = reads file (λ bytes. unless_refused file (held_in file.role bytes) next)
+
+-- Files are read in their order, each added to what those before it hold, and the course goes on by all of them.
+abbrev pub reads_each : {A : Type 0} → (A → Held → A) → List File → A → (A → Course) → Course
+reads_each adds [] so_far next = next so_far
+reads_each adds (file ∷ files) so_far next =
+    reads_held file (λ held. reads_each adds files (adds so_far held) next)
+
+-- ---- machines
+
+-- What a machine is made of: its image's contents and its script's entries.
+pub record Parts : Type 0 where
+  pub image : Contents
+  pub script : Entries
+
+abbrev pub no_parts : Parts
+no_parts = record { image = []; script = [] }
+
+abbrev pub with_part : Parts → Held → Parts
+with_part parts (contents c) = record parts { image = c }
+with_part parts (entries e) = record parts { script = e }
 
 abbrev pub bytes_of_ram : Run → ℕ
 bytes_of_ram run = 1024 * run.ram
 
--- the run of an image, if there is one
-abbrev pub ran_image : Run → Result Contents Fault → Ran
-ran_image run (Ok contents) = ran_by (run_of run.steps (start contents (bytes_of_ram run)))
-ran_image run (Err first) = no_image (why_of first)
+abbrev pub script_files : Option Text → List File
+script_files None = []
+script_files (Some name) = record { name = name; role = script } ∷ []
 
-unfoldable pub ran_of : Run → Text → Ran
-ran_of run bytes = ran_image run (records_of bytes (bytes_of_ram run))
+-- the files of a machine: its image, and then its script, where it has one
+abbrev pub files_of : Run → List File
+files_of run = record { name = run.image; role = image (bytes_of_ram run) } ∷ script_files run.script
 
--- what a run is answered with, for guest 1
-abbrev pub run_answer : Run → Ran → Answer
-run_answer run (no_image why) = refuses run.image why
-run_answer run unbuilt_step = lacks unbuilt
-run_answer run (ended m) = shows (plain (outcome_text 1 (seen_machine m)))
+-- the machine after its steps, or fewer where it halts or is switched off
+unfoldable pub machine_after : Run → Parts → Machine
+machine_after run parts = run_of rule_a parts.script run.steps (start rule_a parts.image (bytes_of_ram run))
+
+-- ---- bare
+
+-- its outcome, as guest 1
+abbrev pub bare_answer : Run → Parts → Answer
+bare_answer run parts = shows (plain (outcome_text 1 (seen_machine (machine_after run parts))))
 
 abbrev pub bare_course : Run → Course
-bare_course run =
-    reads (record { name = run.image; role = image }) (λ bytes. ends (run_answer run (ran_of run bytes)))
+bare_course run = reads_each with_part (files_of run) no_parts (λ parts. ends (bare_answer run parts))
 
 -- ---- every command
 
@@ -123,5 +157,5 @@ unfoldable pub course_of : Asked → Course
 course_of (bare run) = bare_course run
 
 -- The answer to what is asked, where each file that it needs is told.
-unfoldable pub answer_of : Asked → Told → Option Answer
+abbrev pub answer_of : Asked → Told → Option Answer
 answer_of asked told = answer_at told (course_of asked)

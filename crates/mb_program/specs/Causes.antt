@@ -4,8 +4,8 @@ use Rattle.std.specs.Prelude.{Option, Some, None, IfSome, is_some, MatchBool}
 use Rattle.mb_outside.specs.Counts.{Rose}
 use Rattle.mb_outside.specs.Sink.{Grows}
 use Rattle.mb_words.specs.Words.{Text, Asked}
-use Rattle.mb_program.specs.Answers.{Shown, Answer, shows, refuses, lacks, answer_of}
-use Rattle.mb_program.specs.Ends.{Around, Said, IsSaid, IsShown, IsCut, IsRefused, IsUnbuilt, IsFileOf, AnswerIs}
+use Rattle.mb_program.specs.Answers.{Shown, Answer, shows, refuses, course_of, answer_of}
+use Rattle.mb_program.specs.Ends.{Around, Said, IsSaid, IsShown, IsCut, IsRefused, IsFileOn, AnswerIs}
 use Rattle.mb_program.specs.Lines.{named, why_text}
 use Rattle.mb_program.specs.declared.end.FileWhy.{FileWhy}
 
@@ -16,7 +16,7 @@ Asks (Some asked) P = P asked
 
 -- the words ask for a command, and where the answer is known, it is so
 abbrev pub AsksFor : Option Asked → Around → (Answer → Type 0) → Type 0
-AsksFor asked a P = Asks asked (λ command. AnswerIs command a P)
+AsksFor asked a P = Asks asked (λ command. AnswerIs (course_of command) a P)
 
 -- the words ask for a command whose answer is known, and it is so
 abbrev pub IsKnown : Option Asked → Around → (Answer → Type 0) → Type 0
@@ -47,13 +47,12 @@ IsWritten a status shown =
 abbrev pub LeadsTo : Around → ℕ → Answer → Type 0
 LeadsTo a status (shows shown) = IsWritten a status shown
 LeadsTo a status (refuses name why) = (status ≡ 3) ⊎ (status ≡ 7)
-LeadsTo a status (lacks cause) = (status ≡ 8) ⊎ (status ≡ 7)
 
 -- Words that ask for nothing are refused. Where they ask for something whose answer is known, and nothing
 -- fails, that answer is given. Either way memory may have run out.
 abbrev pub IsComplete : Option Asked → Around → ℕ → Type 0
 IsComplete None a status = (status ≡ 2) ⊎ (status ≡ 7)
-IsComplete (Some asked) a status = FailsNowhere a → AnswerIs asked a (LeadsTo a status)
+IsComplete (Some asked) a status = FailsNowhere a → AnswerIs (course_of asked) a (LeadsTo a status)
 
 -- the line of a status that names no file
 abbrev pub line_for : ℕ → Text
@@ -61,20 +60,19 @@ line_for status =
     if status == 2 then codes "mbx: words refused\n"
     else if status == 6 then codes "mbx: output failed\n"
     else if status == 7 then codes "mbx: no memory\n"
-    else if status == 8 then codes "mbx: not built\n"
     else []
 
 -- the line that refuses a file of the command, with the reason that the answer has, was put
 abbrev pub SaysRefused : Option Asked → Around → Said → Type 0
 SaysRefused asked a s = Asks asked (λ command. (name : Text) × (why : FileWhy)
-    × IsFileOf command a name
-    × AnswerIs command a (IsRefused name why)
+    × IsFileOn (course_of command) a name
+    × AnswerIs (course_of command) a (IsRefused name why)
     × IsSaid s (named name (why_text why)))
 
 -- the line that names a file of the command as one that cannot be read was put
 abbrev pub SaysUnread : Option Asked → Around → Said → Type 0
 SaysUnread asked a s = Asks asked (λ command. (name : Text)
-    × IsFileOf command a name
+    × IsFileOn (course_of command) a name
     × IsSaid s (named name (codes " cannot be read\n")))
 
 -- the line of the status was put, or a first part of it before diag failed, and nothing more
@@ -100,10 +98,6 @@ pub record Causes (asked : Option Asked) (a : Around) (said : Said) (status : �
   pub output_only : status ≡ 6 → Rose a.out.faults a.out_after.faults
   pub output_always : a.out.faults < a.out_after.faults → status ≡ 6
   pub output_part : status ≡ 6 → AsksFor asked a (IsCut a)
-  -- A step that is not built is the cause only where one of the steps asked for is so, and always, unless the shelf
-  -- fails or memory runs out.
-  pub unbuilt_only : status ≡ 8 → AsksFor asked a IsUnbuilt
-  pub unbuilt_always : IsKnown asked a IsUnbuilt → (status ≡ 8) ⊎ ((status ≡ 5) ⊎ (status ≡ 7))
   -- All was done only where out has gained exactly the text.
   pub done_only : status ≡ 0 → AsksFor asked a (IsShown a)
   -- Nothing goes to out, but at the end of a run or where out fails.
@@ -120,7 +114,6 @@ pub record Causes (asked : Option Asked) (a : Around) (said : Said) (status : �
 abbrev pub LeadsUnfailingTo : ℕ → Answer → Type 0
 LeadsUnfailingTo status (shows shown) = (status ≡ shown.status) ⊎ (status ≡ 7)
 LeadsUnfailingTo status (refuses name why) = (status ≡ 3) ⊎ (status ≡ 7)
-LeadsUnfailingTo status (lacks cause) = (status ≡ 8) ⊎ (status ≡ 7)
 
 -- the words are refused, or the answer to them is given; either way memory may have run out
 abbrev pub IsUnfailing : Option Asked → (Text → Option Text) → ℕ → Type 0

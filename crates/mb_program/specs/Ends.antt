@@ -1,13 +1,13 @@
 -- How a run may end, each end with its cause.
-use Rattle.std.specs.Prelude.{◌≡◌, ◌⊎◌, ⊤, ℕ, [], Bool, true, Option, Some, None, is_some, IfSome, string_bytes}
+use Rattle.std.specs.Prelude.{◌≡◌, ◌⊎◌, ℕ, [], Bool, true, Option, Some, None, is_some, IfSome, string_bytes}
 use Rattle.mb_outside.specs.Counts.{Rose}
 use Rattle.mb_outside.specs.Prints.{Printed, PrintedPart}
 use Rattle.mb_words.specs.Words.{Text, Asked}
-use Rattle.mb_program.specs.Answers.{Answer, shows, refuses, lacks, unbuilt, Told, Names, course_of, answer_of}
+use Rattle.mb_program.specs.Answers.{Answer, shows, refuses, Told, Course, Names, answer_at, course_of}
 use Rattle.mb_program.specs.Lines.{status_of, line_of}
 use Rattle.mb_program.specs.declared.end.FileWhy.{FileWhy}
 use Rattle.mb_program.specs.declared.end.End.{End}
-use Rattle.mb_program.specs.declared.end.End.TheVariants.{Done, Words, Refused, Unread, Output, Memory, Unbuilt}
+use Rattle.mb_program.specs.declared.end.End.TheVariants.{Done, Words, Refused, Unread, Output, Memory}
 
 -- ---- what stands around a run
 
@@ -71,39 +71,33 @@ abbrev pub IsRefused : Text → FileWhy → Answer → Type 0
 IsRefused name why (refuses n w) = (n ≡ name) × (w ≡ why)
 IsRefused name why _ = ⊥
 
--- that a step is not built
-abbrev pub IsUnbuilt : Answer → Type 0
-IsUnbuilt (lacks unbuilt) = ⊤
-IsUnbuilt _ = ⊥
-
 -- ---- ends
 
--- the file is one of those of the command
-abbrev pub IsFileOf : Asked → Around → Text → Type 0
-IsFileOf asked a name = Names a.shelf.told (course_of asked) name
+-- the file is one of those on the course
+abbrev pub IsFileOn : Course → Around → Text → Type 0
+IsFileOn course a name = Names a.shelf.told course name
 
--- where the answer is known, it is so
-abbrev pub AnswerIs : Asked → Around → (Answer → Type 0) → Type 0
-AnswerIs asked a P = IfSome (answer_of asked a.shelf.told) P
+-- where the answer at the end of the course is known, it is so
+abbrev pub AnswerIs : Course → Around → (Answer → Type 0) → Type 0
+AnswerIs course a P = IfSome (answer_at a.shelf.told course) P
 
 -- a whole shelf does not tell this file
-abbrev pub IsMissing : Around → Text → Type 0
-IsMissing a name = a.shelf.whole ≡ true → is_some (a.shelf.told name) ≡ true → ⊥
+abbrev pub IsMissing : ShelfSeen → Text → Type 0
+IsMissing shelf name = shelf.whole ≡ true → is_some (shelf.told name) ≡ true → ⊥
 
--- Each end of a command with its cause.
-abbrev pub CommandEnds : Asked → Around → End → Type 0
-CommandEnds asked a Done =
-    ReadsWell a × (a.out_after.faults ≡ a.out.faults) × AnswerIs asked a (IsShown a)
-CommandEnds asked a Words = ⊥
-CommandEnds asked a (Refused name why) =
-    IsFileOf asked a (string_bytes name) × ReadsWell a × PutsNothing a
-    × AnswerIs asked a (IsRefused (string_bytes name) why)
-CommandEnds asked a (Unread name) =
-    IsFileOf asked a (string_bytes name) × IsMissing a (string_bytes name) × ReadsBadly a × PutsNothing a
-CommandEnds asked a Output =
-    ReadsWell a × Rose a.out.faults a.out_after.faults × AnswerIs asked a (IsCut a)
-CommandEnds asked a Memory = ReadsWell a × PutsNothing a
-CommandEnds asked a Unbuilt = ReadsWell a × PutsNothing a × AnswerIs asked a IsUnbuilt
+-- Each end of a course with its cause.
+abbrev pub CourseEnds : Course → Around → End → Type 0
+CourseEnds course a Done =
+    ReadsWell a × (a.out_after.faults ≡ a.out.faults) × AnswerIs course a (IsShown a)
+CourseEnds course a Words = ⊥
+CourseEnds course a (Refused name why) =
+    IsFileOn course a (string_bytes name) × ReadsWell a × PutsNothing a
+    × AnswerIs course a (IsRefused (string_bytes name) why)
+CourseEnds course a (Unread name) =
+    IsFileOn course a (string_bytes name) × IsMissing a.shelf (string_bytes name) × ReadsBadly a × PutsNothing a
+CourseEnds course a Output =
+    ReadsWell a × Rose a.out.faults a.out_after.faults × AnswerIs course a (IsCut a)
+CourseEnds course a Memory = ReadsWell a × PutsNothing a
 
 -- where the words ask for nothing, they are refused, or memory ran out before that was known
 abbrev pub WordsEnd : Around → End → Type 0
@@ -113,7 +107,7 @@ WordsEnd a _ = ⊥
 
 abbrev pub Ends : Option Asked → Around → End → Type 0
 Ends None a end = WordsEnd a end
-Ends (Some asked) a end = CommandEnds asked a end
+Ends (Some asked) a end = CourseEnds (course_of asked) a end
 
 -- ---- diag
 

@@ -2,4 +2,4 @@ pub mod Answers
 pub mod Lines
 pub mod Ends
 pub mod Causes
-pub mod Runs
+pub mod Reads

@@ -11,7 +11,7 @@ use Rattle.mb_program.specs.declared.end.FileWhy.TheVariants.{TooLong, Line, Out
 use Rattle.mb_program.specs.declared.end.Reason.{Reason}
 use Rattle.mb_program.specs.declared.end.Reason.TheVariants as reason
 use Rattle.mb_program.specs.declared.end.End.{End}
-use Rattle.mb_program.specs.declared.end.End.TheVariants.{Done, Words, Refused, Unread, Output, Memory, Unbuilt}
+use Rattle.mb_program.specs.declared.end.End.TheVariants.{Done, Words, Refused, Unread, Output, Memory}
 
 -- the beginning of a line that names a file
 abbrev pub named_file : Text → Text
@@ -54,7 +54,6 @@ line_of (Refused name why) = named (string_bytes name) (why_text why)
 line_of (Unread name) = named (string_bytes name) (codes " cannot be read\n")
 line_of Output = codes "mbx: output failed\n"
 line_of Memory = codes "mbx: no memory\n"
-line_of Unbuilt = codes "mbx: not built\n"
 
 abbrev pub status_of : End → ℕ
 status_of Done = 0
@@ -63,4 +62,3 @@ status_of (Refused name why) = 3
 status_of (Unread name) = 5
 status_of Output = 6
 status_of Memory = 7
-status_of Unbuilt = 8

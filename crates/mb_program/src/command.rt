@@ -1,23 +1,25 @@
 //! The commands.
 
-ghost use Rattle.std.specs.Prelude.{◌≡◌, map, string_bytes};
-ghost use Rattle.mb_words.specs.Words.{asked_by, asked_of, bare, run_said};
-ghost use Rattle.mb_program.specs.Ends.{CommandEnds, Ends, KeepsShelf, shelf_seen, sink_seen};
+ghost use Rattle.std.specs.Prelude.{◌≡◌, ◌*◌, [], All, map, string_bytes};
+ghost use Rattle.mb_srec.specs.Image.{LiesBelow, contents_of};
+ghost use Rattle.mb_words.specs.Values.{file_said};
+ghost use Rattle.mb_words.specs.Words.{asked_by, bare, run_said};
+ghost use Rattle.mb_program.specs.Answers.{bare_answer, course_of, ends, reads_each, script_files, with_part};
+ghost use Rattle.mb_program.specs.Ends.{CourseEnds, Ends, shelf_seen, sink_seen};
 
-use crate::end::{End, FileWhy};
-use crate::running::{RunFault, run_bytes};
-use mb_outside::{LoadFault, Shelf, Sink, load};
-use mb_report::write_outcome;
+use crate::end::End;
+use crate::files::{image_file, script_file};
+use crate::machine::show_machine;
+use mb_outside::{Shelf, Sink};
+use mb_script::Script;
+use mb_srec::Image;
 use mb_words::{Bare, Command, WordsFault, read_words};
 use std::alloc::Global;
 
-/// The most bytes of a file.
-const MOST_BYTES: usize = 67_108_864;
-
-/// `bare`: loads the image, runs it and writes the outcome.
-#[tactic(auto, unfolding(crate::specs::Answers::answer_of, crate::specs::Answers::course_of))]
+/// `bare`: reads the image and then the script, runs the machine and writes its outcome.
+#[tactic(auto, unfolding(crate::specs::Answers::course_of))]
 fn run_bare<F: Shelf, O: Sink>(alloc: Global, run: &Bare, shelf: &mut F, out: &mut O) -> End
-    ensures ends { CommandEnds (bare (run_said run.now)) (record {
+    ensures ends { CourseEnds (course_of (bare (run_said run.now))) (record {
       shelf = shelf_seen F.told F.whole F.faults shelf.old;
       shelf_after = shelf_seen F.told F.whole F.faults shelf.new;
       out = sink_seen O.taken O.faults out.old;
@@ -26,24 +28,40 @@ fn run_bare<F: Shelf, O: Sink>(alloc: Global, run: &Bare, shelf: &mut F, out: &m
     ensures told { F.told shelf.new ≡ F.told shelf.old }
     ensures whole { F.whole shelf.new ≡ F.whole shelf.old }
 {
-    let Ok(name) = String::from_str(alloc, run.image) else {
-        return End::Memory;
-    };
-    let bytes = match load(alloc, shelf, run.image, MOST_BYTES) {
-        Ok(bytes) => bytes,
-        Err(LoadFault::Memory) => return End::Memory,
-        Err(LoadFault::Failed) => return End::Unread(name),
-        Err(LoadFault::TooLong) => return End::Refused(name, FileWhy::TooLong),
-    };
-    let board = match run_bytes(alloc, run, &bytes) {
-        Ok(board) => board,
-        Err(RunFault::Memory) => return End::Memory,
-        Err(RunFault::NoImage(why)) => return End::Refused(name, why),
-        Err(RunFault::Unbuilt) => return End::Unbuilt,
-    };
-    match write_outcome(1, &board.outcome(), out) {
-        Ok(()) => End::Done,
-        Err(_) => End::Output,
+    match image_file(alloc, shelf, run.image, 1024 * run.ram) {
+        Ok(image) => run_image(alloc, run, &image, shelf, out),
+        Err(end) => end,
+    }
+}
+
+/// The same behind the image.
+fn run_image<F: Shelf, O: Sink>(
+    alloc: Global,
+    run: &Bare,
+    image: &Image,
+    shelf: &mut F,
+    out: &mut O,
+) -> End
+    requires { All (LiesBelow (1024 * run.now.ram)) (contents_of image.now) }
+    ensures ends { CourseEnds
+        (reads_each with_part (script_files (file_said run.now.script))
+        (record { image = contents_of image.now; script = [] })
+        (λ parts. ends (bare_answer (run_said run.now) parts)))
+        (record {
+          shelf = shelf_seen F.told F.whole F.faults shelf.old;
+          shelf_after = shelf_seen F.told F.whole F.faults shelf.new;
+          out = sink_seen O.taken O.faults out.old;
+          out_after = sink_seen O.taken O.faults out.new;
+        }) result }
+    ensures told { F.told shelf.new ≡ F.told shelf.old }
+    ensures whole { F.whole shelf.new ≡ F.whole shelf.old }
+{
+    match run.script {
+        Some(name) => match script_file(alloc, shelf, name) {
+            Ok(script) => show_machine(alloc, run, image, &script, out),
+            Err(end) => end,
+        },
+        None => show_machine(alloc, run, image, &Script::new(Vec::new(alloc)), out),
     }
 }
 

@@ -2,7 +2,8 @@
 
 ghost use Rattle.std.specs.Prelude.{◌≡◌};
 ghost use Rattle.mb_outside.specs.Prints.{Prints, PrintsMore};
-ghost use Rattle.mb_program.specs.Lines.{line_of, line_reason, named, named_file, reason_of, record_reason, why_text, status_of};
+ghost use Rattle.mb_program.specs.Lines.{line_of, named, named_file, why_text, status_of};
+ghost use Rattle.mb_program.specs.Lines.{line_reason, reason_of, record_reason};
 
 use crate::end::{End, FileWhy, Reason};
 use itoa::Buffer;
@@ -132,7 +133,6 @@ pub fn tell<E: Sink>(diag: &mut E, end: &End) -> Result<(), SinkFault>
         End::Unread(name) => say(diag, name.as_str(), b" cannot be read\n"),
         End::Output => put_all(diag, b"mbx: output failed\n"),
         End::Memory => put_all(diag, b"mbx: no memory\n"),
-        End::Unbuilt => put_all(diag, b"mbx: not built\n"),
     }
 }
 
@@ -147,6 +147,5 @@ pub fn status(end: &End) -> u8
         End::Unread(_) => 5,
         End::Output => 6,
         End::Memory => 7,
-        End::Unbuilt => 8,
     }
 }

@@ -40,6 +40,4 @@ pub enum End {
     Output,
     /// Memory ran out before the text was begun.
     Memory,
-    /// A step needs what is not built yet.
-    Unbuilt,
 }

@@ -8,7 +8,8 @@
 mod command;
 mod diagnosis;
 mod end;
-mod running;
+mod files;
+mod machine;
 mod top;
 mod unfailing;
 

@@ -12,6 +12,8 @@ S9030000FC\n";
 
 const HELLO_WORDS: &str = "mbx bare hello.s19 --ram 64 --steps 10";
 
+const SCRIPT_WORDS: &str = "mbx bare hello.s19 --ram 64 --steps 10 --script typed.txt";
+
 const HELLO_TEXT: &[u8] = b"guest 1\nstate off\nsteps 3\nconsole 1\n41\nlost 0\nqueue 0\n\
 D0 00000041\nD1 00000000\nD2 00000000\nD3 00000000\nD4 00000000\nD5 00000000\nD6 00000000\nD7 00000000\n\
 A0 00000000\nA1 00000000\nA2 00000000\nA3 00000000\nA4 00000000\nA5 00000000\nA6 00000000\n\
@@ -55,18 +57,27 @@ fn split_words(alloc: Global, line: &str) -> Option<Vec<String>> {
     Some(words)
 }
 
-/// A shelf with the one file `hello.s19`.
-fn shelf(alloc: Global, bytes: Vec<u8>, fails: u64) -> Option<MemShelf> {
+fn file(alloc: Global, name: &str, bytes: Vec<u8>) -> Option<(String, Vec<u8>)> {
+    Some((String::from_str(alloc, name).ok()?, bytes))
+}
+
+/// A shelf with the files `hello.s19` and `typed.txt`.
+fn shelf(alloc: Global, image: Vec<u8>, script: Vec<u8>, fails: u64) -> Option<MemShelf> {
     let mut files = Vec::new(alloc);
-    files
-        .push((String::from_str(alloc, "hello.s19").ok()?, bytes))
-        .ok()?;
+    files.push(file(alloc, "hello.s19", image)?).ok()?;
+    files.push(file(alloc, "typed.txt", script)?).ok()?;
     Some(MemShelf::new(files, Vec::from_slice(alloc, &[fails]).ok()?))
 }
 
-fn run(alloc: Global, line: &str, bytes: Vec<u8>, failing: Failing) -> Option<Ran> {
+fn run(
+    alloc: Global,
+    line: &str,
+    image: Vec<u8>,
+    script: Vec<u8>,
+    failing: Failing,
+) -> Option<Ran> {
     let words = split_words(alloc, line)?;
-    let mut shelf = shelf(alloc, bytes, failing.shelf)?;
+    let mut shelf = shelf(alloc, image, script, failing.shelf)?;
     let fails = Vec::from_slice(alloc, &[failing.out]).ok()?;
     let mut out = MemSink::new(alloc, failing.room, fails).ok()?;
     let mut diag = MemSink::new(alloc, 200, Vec::new(alloc)).ok()?;
@@ -74,276 +85,238 @@ fn run(alloc: Global, line: &str, bytes: Vec<u8>, failing: Failing) -> Option<Ra
     Some(Ran { status, out, diag })
 }
 
-fn run_text(alloc: Global, line: &str, text: &[u8], failing: Failing) -> Option<Ran> {
-    run(alloc, line, Vec::from_slice(alloc, text).ok()?, failing)
+fn run_both(
+    alloc: Global,
+    line: &str,
+    image: &[u8],
+    script: &[u8],
+    failing: Failing,
+) -> Option<Ran> {
+    let image = Vec::from_slice(alloc, image).ok()?;
+    let script = Vec::from_slice(alloc, script).ok()?;
+    run(alloc, line, image, script, failing)
+}
+
+fn run_text(alloc: Global, line: &str, image: &[u8], failing: Failing) -> Option<Ran> {
+    run_both(alloc, line, image, b"", failing)
 }
 
 fn contains(text: &[u8], part: &[u8]) -> bool {
     text.windows(part.len().max(1)).any(|window| window == part)
 }
 
-/// A run of an image, and lines that its text has.
+/// A run of an image with a script, and lines that its text has.
 struct Row<'a> {
     what: &'a str,
     image: &'a [u8],
+    script: &'a [u8],
     steps: &'a str,
-    status: u8,
     lines: &'a [&'a [u8]],
 }
 
-const ROWS: [Row; 33] = [
+const ROWS: [Row; 20] = [
     Row {
         what: "no step is taken",
-        image: b"S10B00000001000000000400EF\nS1150400704113C0FFF0000023FC00000001FFF0002044\nS9030000FC\n",
+        image: HELLO,
+        script: b"",
         steps: "0",
-        status: 0,
         lines: &[
             b"state running\nsteps 0\nconsole 0\nlost 0\nqueue 0\nD0 00000000\n",
             b"PC 00000400\n",
+            b"00000000 00010000000004000000000000000000\n\
+00000400 704113C0FFF0000023FC00000001FFF0\n\
+00000410 00200000000000000000000000000000\nend\n",
         ],
+    },
+    Row {
+        what: "an image without data runs to the end of RAM, where no frame can be stacked",
+        image: b"S9030000FC\n",
+        script: b"",
+        steps: "20000",
+        lines: &[
+            b"state halted\nsteps 16385\n",
+            b"PC 00010000\nSR 00002704\n",
+            b"PENDING 00000000\nend\n",
+        ],
+    },
+    Row {
+        what: "a privileged instruction in user mode",
+        image: b"S10B00000001000000000400EF\nS107002000000420B4\nS10B040046FC000042C140C0AB\nS9030000FC\n",
+        script: b"",
+        steps: "3",
+        lines: &[
+            b"ISP 0000FFF8\n",
+            b"PC 00000420\nSR 00002000\n",
+            b"0000FFF0 00000000000000000000000004060020\n",
+        ],
+    },
+    Row {
+        what: "more bytes than the queue holds",
+        image: b"S10B00000001000000000400EF\nS10504004E7137\nS9030000FC\n",
+        script: b"at 1 hex 000102030405060708090A0B0C0D0E0F10\n",
+        steps: "1",
+        lines: &[
+            b"queue 16\n000102030405060708090A0B0C0D0E0F\n",
+            b"STATUS 00000007\n",
+        ],
+    },
+    Row {
+        what: "bytes before their step",
+        image: b"S10B00000001000000000400EF\nS1070400528060FCC6\nS9030000FC\n",
+        script: b"# typed late\nat 3 text hi\nat 4 line !\n",
+        steps: "2",
+        lines: &[b"queue 0\n", b"STATUS 00000002\n"],
+    },
+    Row {
+        what: "bytes at their step",
+        image: b"S10B00000001000000000400EF\nS1070400528060FCC6\nS9030000FC\n",
+        script: b"# typed late\nat 3 text hi\nat 4 line !\n",
+        steps: "3",
+        lines: &[b"queue 2\n6869\n", b"STATUS 00000003\n"],
+    },
+    Row {
+        what: "bytes of several steps",
+        image: b"S10B00000001000000000400EF\nS1070400528060FCC6\nS9030000FC\n",
+        script: b"# typed late\nat 3 text hi\nat 4 line !\n",
+        steps: "9",
+        lines: &[b"queue 4\n6869210A\n"],
+    },
+    Row {
+        what: "a byte is read in the step at which it arrives",
+        image: b"S10B00000001000000000400EF\nS10904001039FFF00000BA\nS9030000FC\n",
+        script: b"at 1 text A",
+        steps: "1",
+        lines: &[b"queue 0\nD0 00000041\n"],
+    },
+    Row {
+        what: "an empty script",
+        image: b"S10B00000001000000000400EF\nS1130400700951C8FFFE23FC00000001FFF000202A\nS9030000FC\n",
+        script: b"",
+        steps: "4294967295",
+        lines: &[
+            b"state off\nsteps 12\n",
+            b"D0 0000FFFF\n",
+            b"ISP 00010000\n",
+            b"PC 00000410\nSR 00002700\n",
+        ],
+    },
+    Row {
+        what: "a trace behind an instruction",
+        image: b"S10B00000001000000000400EF\nS107002400000500CF\nS109040046FCA7004E714A\nS9030000FC\n",
+        script: b"",
+        steps: "2",
+        lines: &[
+            b"PC 00000500\nSR 00002700\n",
+            b"0000FFF0 00000000A70000000406202400000404\n",
+        ],
+    },
+    Row {
+        what: "a trace behind a trap",
+        image: b"S10B00000001000000000400EF\nS107002400000500CF\nS10700800000060072\n\
+S109040046FCA7004E407B\nS9030000FC\n",
+        script: b"",
+        steps: "2",
+        lines: &[
+            b"PC 00000500\n",
+            b"0000FFE0 00000000000000000000000027000000\n\
+0000FFF0 0600202400000404A700000004060080\n",
+        ],
+    },
+    Row {
+        what: "an odd PC",
+        image: b"S10B00000001000000000401EE\nS107000C00000500E7\nS9030000FC\n",
+        script: b"",
+        steps: "1",
+        lines: &[
+            b"PC 00000500\nSR 00002700\n",
+            b"0000FFF0 00000000270000000401200C00000400\n",
+        ],
+    },
+    Row {
+        what: "an odd PC that no step needs",
+        image: b"S10B00000001000000000401EE\nS107000C00000500E7\nS9030000FC\n",
+        script: b"",
+        steps: "0",
+        lines: &[b"PC 00000401\n"],
+    },
+    Row {
+        what: "an access error within an exception",
+        image: b"S10B0000FFF0000800000400F9\nS10B040044FC000180FC000033\nS9030000FC\n",
+        script: b"",
+        steps: "5",
+        lines: &[
+            b"state halted\nsteps 2\n",
+            b"ISP FFF00008\n",
+            b"PC 00000404\nSR 00002701\n",
+        ],
+    },
+    Row {
+        what: "a translation that MOVEC does not forget",
+        image: b"S10B00000001000000000400EF\n\
+S107200000002202B4\nS107220000002402B0\n\
+S12324000000000100001001000020010000300100004001000050010000600100007001F0\n\
+S123242000008001000090010000A0010000B0010000C0010000D0010000E0010000F001D0\n\
+S10530001111A8\nS1054000222276\n\
+S123040041F820004E7B8807223C000080004E7B10033438300021FC00004001240C4E7B7A\n\
+S1090420880736383000A5\n\
+S9030000FC\n",
+        script: b"",
+        steps: "8",
+        lines: &[b"steps 8\n", b"D3 00001111\n"],
     },
     Row {
         what: "a loop of a million steps",
         image: b"S10B00000001000000000400EF\nS1070400528060FCC6\nS9030000FC\n",
+        script: b"",
         steps: "1000000",
-        status: 0,
         lines: &[b"steps 1000000\n", b"D0 0007A120\n", b"PC 00000400\n"],
-    },
-    Row {
-        what: "an odd PC from the start",
-        image: b"S10B00000001000000000401EE\nS10504004E7137\nS9030000FC\n",
-        steps: "1",
-        status: 8,
-        lines: &[],
-    },
-    Row {
-        what: "an odd PC that no step needs",
-        image: b"S10B00000001000000000401EE\nS10504004E7137\nS9030000FC\n",
-        steps: "0",
-        status: 0,
-        lines: &[b"PC 00000401\n"],
-    },
-    Row {
-        what: "a branch to an odd address",
-        image: b"S10B00000001000000000400EF\nS1050400600195\nS9030000FC\n",
-        steps: "1",
-        status: 0,
-        lines: &[b"PC 00000403\n"],
-    },
-    Row {
-        what: "a step at an odd address",
-        image: b"S10B00000001000000000400EF\nS1050400600195\nS9030000FC\n",
-        steps: "2",
-        status: 8,
-        lines: &[],
-    },
-    Row {
-        what: "PC behind RAM",
-        image: b"S10B00000001000000010000F2\nS10504004E7137\nS9030000FC\n",
-        steps: "1",
-        status: 8,
-        lines: &[],
-    },
-    Row {
-        what: "the last word of RAM",
-        image: b"S10B0000000100000000FFFEF6\nS105FFFE4E713E\nS9030000FC\n",
-        steps: "1",
-        status: 0,
-        lines: &[b"PC 00010000\n"],
-    },
-    Row {
-        what: "a step behind RAM",
-        image: b"S10B0000000100000000FFFEF6\nS105FFFE4E713E\nS9030000FC\n",
-        steps: "2",
-        status: 8,
-        lines: &[],
-    },
-    Row {
-        what: "an instruction cut off by the end of RAM",
-        image: b"S10B0000000100000000FFFEF6\nS105FFFE13C02A\nS9030000FC\n",
-        steps: "1",
-        status: 8,
-        lines: &[],
-    },
-    Row {
-        what: "an illegal word",
-        image: b"S10B00000001000000000400EF\nS10504004AFCB0\nS9030000FC\n",
-        steps: "1",
-        status: 8,
-        lines: &[],
-    },
-    Row {
-        what: "an illegal word behind the bound",
-        image: b"S10B00000001000000000400EF\nS10704004E714AFCEF\nS9030000FC\n",
-        steps: "1",
-        status: 0,
-        lines: &[b"PC 00000402\n"],
-    },
-    Row {
-        what: "an illegal word at the second step",
-        image: b"S10B00000001000000000400EF\nS10704004E714AFCEF\nS9030000FC\n",
-        steps: "2",
-        status: 8,
-        lines: &[],
-    },
-    Row {
-        what: "a line A word",
-        image: b"S10B00000001000000000400EF\nS1050400A00056\nS9030000FC\n",
-        steps: "1",
-        status: 8,
-        lines: &[],
-    },
-    Row {
-        what: "a branch with a word displacement",
-        image: b"S10B00000001000000000400EF\nS10704006000000490\nS9030000FC\n",
-        steps: "1",
-        status: 0,
-        lines: &[b"state running\nsteps 1\n", b"PC 00000406\n"],
-    },
-    Row {
-        what: "a branch back",
-        image: b"S10B00000001000000000400EF\nS10704004E7160FCD9\nS9030000FC\n",
-        steps: "2",
-        status: 0,
-        lines: &[b"PC 00000400\n"],
-    },
-    Row {
-        what: "a store to STATUS",
-        image: b"S10B00000001000000000400EF\nS109040013C0FFF000012F\nS9030000FC\n",
-        steps: "1",
-        status: 0,
-        lines: &[b"state running\nsteps 1\n"],
-    },
-    Row {
-        what: "a store to STATUS at the second step",
-        image: b"S10B00000001000000000400EF\nS10B04004E7113C0FFF000016E\nS9030000FC\n",
-        steps: "2",
-        status: 0,
-        lines: &[b"state running\nsteps 2\n"],
-    },
-    Row {
-        what: "a store to STATUS behind the bound",
-        image: b"S10B00000001000000000400EF\nS10B04004E7113C0FFF000016E\nS9030000FC\n",
-        steps: "1",
-        status: 0,
-        lines: &[b"PC 00000402\n"],
-    },
-    Row {
-        what: "a long store to DATA",
-        image: b"S10B00000001000000000400EF\nS10D040023FC00000041FFF000009F\nS9030000FC\n",
-        steps: "1",
-        status: 8,
-        lines: &[],
-    },
-    Row {
-        what: "a byte store to POWER",
-        image: b"S10B00000001000000000400EF\nS109040013C0FFF0002010\nS9030000FC\n",
-        steps: "1",
-        status: 8,
-        lines: &[],
-    },
-    Row {
-        what: "a long store at 2 modulo 4",
-        image: b"S10B00000001000000000400EF\nS10D040023FC0000000100000802C4\nS9030000FC\n",
-        steps: "1",
-        status: 0,
-        lines: &[b"00000800 00000000000100000000000000000000\n"],
-    },
-    Row {
-        what: "a long store at an odd address",
-        image: b"S10B00000001000000000400EF\nS10D040023FC0000000100000801C5\nS9030000FC\n",
-        steps: "1",
-        status: 0,
-        lines: &[b"00000800 00000000010000000000000000000000\n"],
-    },
-    Row {
-        what: "a byte store behind RAM",
-        image: b"S10B00000001000000000400EF\nS109040013C0000100001E\nS9030000FC\n",
-        steps: "1",
-        status: 8,
-        lines: &[],
-    },
-    Row {
-        what: "a byte store at the end of RAM",
-        image: b"S10B00000001000000000400EF\nS10B040070FF13C00000FFFFB0\nS9030000FC\n",
-        steps: "2",
-        status: 0,
-        lines: &[
-            b"0000FFF0 000000000000000000000000000000FF\n",
-            b"SR 00002708\n",
-        ],
-    },
-    Row {
-        what: "a long store at the end of RAM",
-        image: b"S10B00000001000000000400EF\nS10D040023FC123456780000FFFCC0\nS9030000FC\n",
-        steps: "1",
-        status: 0,
-        lines: &[b"0000FFF0 00000000000000000000000012345678\n"],
     },
     Row {
         what: "POWER ignores other values",
         image: b"S10B00000001000000000400EF\nS10F040023FC00000003FFF000204E71FC\nS9030000FC\n",
+        script: b"",
         steps: "2",
-        status: 0,
         lines: &[b"state running\nsteps 2\n"],
     },
     Row {
         what: "a machine that is off takes no step",
         image: b"S10B00000001000000000400EF\nS10F040023FC00000001FFF000204AFC77\nS9030000FC\n",
+        script: b"at 2 text x",
         steps: "9",
-        status: 0,
-        lines: &[b"state off\nsteps 1\n", b"PC 0000040A\n"],
+        lines: &[b"state off\nsteps 1\n", b"queue 0\n", b"PC 0000040A\n"],
     },
     Row {
-        what: "a carry out of a sum",
-        image: b"S10B00000001000000000400EF\nS107040070FF5280B3\nS9030000FC\n",
+        what: "a byte at the end of RAM",
+        image: b"S10B00000001000000000400EF\nS10B040070FF13C00000FFFFB0\nS9030000FC\n",
+        script: b"",
         steps: "2",
-        status: 0,
-        lines: &[b"D0 00000000\n", b"SR 00002715\n"],
-    },
-    Row {
-        what: "a sum of eight",
-        image: b"S10B00000001000000000400EF\nS1070400707850803C\nS9030000FC\n",
-        steps: "2",
-        status: 0,
-        lines: &[b"D0 00000080\n", b"SR 00002700\n"],
-    },
-    Row {
-        what: "a word with its sign, shifted",
-        image: b"S10B00000001000000000400EF\nS10B0400303C800048C0E2809A\nS9030000FC\n",
-        steps: "3",
-        status: 0,
-        lines: &[b"D0 FFFFC000\n", b"PC 00000408\n", b"SR 00002708\n"],
+        lines: &[
+            b"SR 00002708\n",
+            b"0000FFF0 000000000000000000000000000000FF\n",
+        ],
     },
     Row {
         what: "a quotient that does not fit",
         image: b"S10B00000001000000000400EF\nS10D0400203C0001000080FC000114\nS9030000FC\n",
+        script: b"",
         steps: "2",
-        status: 0,
-        lines: &[b"D0 00010000\n", b"PC 0000040A\n", b"SR 00002702\n"],
-    },
-    Row {
-        what: "a loop that counts down, and the switch",
-        image: b"S10B00000001000000000400EF\nS1130400700951C8FFFE23FC00000001FFF000202A\nS9030000FC\n",
-        steps: "12",
-        status: 0,
-        lines: &[b"state off\nsteps 12\n", b"D0 0000FFFF\n", b"PC 00000410\n"],
+        lines: &[b"D0 00010000\n", b"PC 0000040A\nSR 00002702\n"],
     },
 ];
 
 #[test]
 fn machines_run(rt: HostRuntime) -> Result<(), Fail> {
     for row in ROWS.iter() {
-        let words = format!(in rt.alloc(); "mbx bare hello.s19 --ram 64 --steps {}", row.steps)?;
-        let ran = run_text(rt.alloc(), &words, row.image, NOTHING).expect(&rt, "ample memory");
-        assert_eq!(rt; ran.status, row.status, "{}", row.what);
-        let silent: &[u8] = if row.status == 0 {
-            b""
-        } else {
-            b"mbx: not built\n"
-        };
-        assert_eq!(rt; ran.diag.bytes(), silent, "{}", row.what);
-        assert_eq!(rt; ran.out.bytes().is_empty(), row.status != 0, "{}", row.what);
+        let words = format!(in rt.alloc();
+            "mbx bare hello.s19 --ram 64 --steps {} --script typed.txt",
+            row.steps
+        )?;
+        let ran = run_both(rt.alloc(), &words, row.image, row.script, NOTHING).expect(
+            &rt,
+            "ample memory",
+        );
+        assert_eq!(rt; ran.status, 0, "{}", row.what);
+        assert!(rt; ran.diag.bytes().is_empty(), "{}", row.what);
         for line in row.lines {
             assert!(rt; contains(ran.out.bytes(), line), "{}", row.what);
         }
@@ -361,7 +334,7 @@ fn the_whole_text_is_written(rt: HostRuntime) {
 
 #[test]
 fn words_are_refused(rt: HostRuntime) {
-    let refused: [&str; 85] = [
+    let refused: [&str; 93] = [
         "mbx",
         "mbx bare",
         "mbx help",
@@ -420,8 +393,16 @@ fn words_are_refused(rt: HostRuntime) {
         "mbx bare --IMAGE=hello.s19 --ram 64 --steps 10",
         "mbx bare hello.s19 ---ram 64 --steps 10",
         "mbx bare hello.s19 --=64 --steps 10",
-        "mbx bare hello.s19 --ram 64 --steps 10 --script hello.s19",
-        "mbx bare hello.s19 --ram 64 --steps 10 --script=hello.s19",
+        "mbx bare hello.s19 --ram 64 --steps 10 --script",
+        "mbx bare hello.s19 --ram 64 --steps 10 --script=",
+        "mbx bare hello.s19 --ram 64 --steps 10 --script ",
+        "mbx bare hello.s19 --ram 64 --steps 10 --script -",
+        "mbx bare hello.s19 --ram 64 --steps 10 --script -- typed.txt",
+        "mbx bare hello.s19 --ram 64 --steps 10 --script typed.txt typed.txt",
+        "mbx bare hello.s19 --ram 64 --steps 10 --script typed.txt --script=typed.txt",
+        "mbx bare --ram 64 --steps 10 --script typed.txt",
+        "mbx bare hello.s19 --ram 64 --script typed.txt",
+        "mbx bare hello.s19 --ram 64 --steps 10 --scrip typed.txt",
         "mbx bare --ram 64 --steps 10 --",
         "mbx bare hello.s19 --ram 64 -- --steps 10",
         "mbx bare hello.s19 --ram 64 --steps 10 -- --",
@@ -462,7 +443,7 @@ fn words_are_refused(rt: HostRuntime) {
 
 #[test]
 fn words_are_taken_in_any_order(rt: HostRuntime) {
-    let taken: [&str; 17] = [
+    let taken: [&str; 20] = [
         "mbx bare hello.s19 --ram 64 --steps 10",
         "mbx bare hello.s19 --steps 10 --ram 64",
         "mbx bare --ram 64 --steps 10 hello.s19",
@@ -478,6 +459,9 @@ fn words_are_taken_in_any_order(rt: HostRuntime) {
         "-- bare hello.s19 --ram 64 --steps 10",
         "mbx bare hello.s19 --ram 0000000064 --steps 0000000010",
         "mbx bare hello.s19 --ram 064 --steps=010",
+        "mbx bare hello.s19 --ram 64 --steps 10 --script typed.txt",
+        "mbx bare --script=typed.txt --ram 64 hello.s19 --steps 10",
+        "mbx bare --ram 64 --script typed.txt --steps 10 -- hello.s19",
         "mbx bare hello.s19 --ram 64 --steps 3",
         "mbx bare hello.s19 --ram 64 --steps 4294967295",
     ];
@@ -550,9 +534,107 @@ fn files_are_refused(rt: HostRuntime) -> Result<(), Fail> {
 }
 
 #[test]
-fn a_file_has_a_greatest_length(rt: HostRuntime) -> Result<(), Fail> {
-    let bytes = vec![in rt.alloc(); b'\n'; 67_108_865]?;
-    let ran = run(rt.alloc(), HELLO_WORDS, bytes, NOTHING).expect(&rt, "ample memory");
+fn scripts_are_refused(rt: HostRuntime) -> Result<(), Fail> {
+    let malformed: [(&[u8], &str); 9] = [
+        (b"at 5 hex 4\n", "line 1: digits"),
+        (b"at 5 text \t\n", "line 1: digits"),
+        (b"\n# typed\r\nat 0 text a\n", "line 3: number"),
+        (b"at 4294967296 line \n", "line 1: number"),
+        (b"at 2 text a\nat 1 text b\n", "line 2: order"),
+        (b"at 5 text", "line 1: word"),
+        (b"at 5  text a\n", "line 1: word"),
+        (b"at 1 text a\nat 1 hex 4142\nAT 1 text b\n", "line 3: word"),
+        (HELLO, "line 1: word"),
+    ];
+    for (text, why) in malformed {
+        let ran = run_both(rt.alloc(), SCRIPT_WORDS, HELLO, text, NOTHING).expect(
+            &rt,
+            "ample memory",
+        );
+        let line = format!(in rt.alloc(); "mbx: typed.txt {why}\n")?;
+        assert_eq!(rt; ran.status, 3, "{why}");
+        assert_eq!(rt; ran.diag.bytes(), line.as_bytes());
+        assert!(rt; ran.out.bytes().is_empty(), "{why}");
+    }
+    Ok(())
+}
+
+/// A run that ends at one of its files.
+#[derive(Drop)]
+struct Ending<'a> {
+    words: &'a str,
+    image: &'a [u8],
+    script: &'a [u8],
+    status: u8,
+    line: &'a [u8],
+}
+
+#[test]
+fn the_first_file_ends_the_run(rt: HostRuntime) {
+    let endings: [Ending; 6] = [
+        Ending {
+            words: SCRIPT_WORDS,
+            image: b"",
+            script: b"at 5 hex 4\n",
+            status: 3,
+            line: b"mbx: hello.s19 no end\n",
+        },
+        Ending {
+            words: "mbx bare --script other.txt hello.s19 --ram 64 --steps 10",
+            image: b"",
+            script: b"",
+            status: 3,
+            line: b"mbx: hello.s19 no end\n",
+        },
+        Ending {
+            words: "mbx bare hello.s19 --ram 64 --steps 10 --script other.txt",
+            image: HELLO,
+            script: b"",
+            status: 5,
+            line: b"mbx: other.txt cannot be read\n",
+        },
+        Ending {
+            words: "mbx bare other.s19 --ram 64 --steps 10 --script typed.txt",
+            image: HELLO,
+            script: b"at 5 hex 4\n",
+            status: 5,
+            line: b"mbx: other.s19 cannot be read\n",
+        },
+        Ending {
+            words: "mbx bare other.s19 --ram 64 --steps 10 --script other.txt",
+            image: HELLO,
+            script: b"",
+            status: 5,
+            line: b"mbx: other.s19 cannot be read\n",
+        },
+        Ending {
+            words: "mbx bare hello.s19 --ram 63 --steps 10 --script typed.txt",
+            image: b"",
+            script: b"at 5 hex 4\n",
+            status: 2,
+            line: b"mbx: words refused\n",
+        },
+    ];
+    for ending in endings.iter() {
+        let ran = run_both(
+            rt.alloc(),
+            ending.words,
+            ending.image,
+            ending.script,
+            NOTHING,
+        )
+        .expect(&rt, "ample memory");
+        assert_eq!(rt; ran.status, ending.status, "{}", ending.words);
+        assert_eq!(rt; ran.diag.bytes(), ending.line, "{}", ending.words);
+        assert!(rt; ran.out.bytes().is_empty(), "{}", ending.words);
+    }
+}
+
+#[test]
+fn an_image_has_a_greatest_length(rt: HostRuntime) -> Result<(), Fail> {
+    let long = vec![in rt.alloc(); b'\n'; 67_108_865]?;
+    let none = Vec::new(rt.alloc());
+    let ran = run(rt.alloc(), HELLO_WORDS, long, none, NOTHING).expect(&rt, "ample memory");
     assert_eq!(rt; ran.status, 3);
     assert_eq!(rt; ran.diag.bytes(), b"mbx: hello.s19 too long\n".as_slice());
     assert!(rt; ran.out.bytes().is_empty());
@@ -560,29 +642,49 @@ fn a_file_has_a_greatest_length(rt: HostRuntime) -> Result<(), Fail> {
 }
 
 #[test]
+fn a_script_has_a_greatest_length(rt: HostRuntime) -> Result<(), Fail> {
+    let image = Vec::from_slice(rt.alloc(), HELLO)?;
+    let long = vec![in rt.alloc(); b'\n'; 67_108_865]?;
+    let ran = run(rt.alloc(), SCRIPT_WORDS, image, long, NOTHING).expect(&rt, "ample memory");
+    assert_eq!(rt; ran.status, 3);
+    assert_eq!(rt; ran.diag.bytes(), b"mbx: typed.txt too long\n".as_slice());
+    assert!(rt; ran.out.bytes().is_empty());
+    Ok(())
+}
+
+#[test]
 fn a_shelf_fails_at_each_call(rt: HostRuntime) {
-    for (fails, status) in [(1, 5), (2, 5), (3, 0)] {
+    let calls: [(u64, u8, &[u8]); 5] = [
+        (1, 5, b"mbx: hello.s19 cannot be read\n"),
+        (2, 5, b"mbx: hello.s19 cannot be read\n"),
+        (3, 5, b"mbx: typed.txt cannot be read\n"),
+        (4, 5, b"mbx: typed.txt cannot be read\n"),
+        (5, 0, b""),
+    ];
+    for (fails, status, line) in calls {
         let failing = Failing {
             shelf: fails,
             ..NOTHING
         };
-        let ran = run_text(rt.alloc(), HELLO_WORDS, HELLO, failing).expect(&rt, "ample memory");
+        let ran = run_both(rt.alloc(), SCRIPT_WORDS, HELLO, b"at 9 text A\n", failing).expect(
+            &rt,
+            "ample memory",
+        );
         assert_eq!(rt; ran.status, status, "{fails}");
+        assert_eq!(rt; ran.diag.bytes(), line, "{fails}");
         assert_eq!(rt; ran.out.bytes().is_empty(), status != 0, "{fails}");
     }
-    let missing = "mbx bare other.s19 --ram 64 --steps 10";
-    let ran = run_text(rt.alloc(), missing, HELLO, NOTHING).expect(&rt, "ample memory");
-    assert_eq!(rt; ran.status, 5);
-    assert_eq!(rt;
-        ran.diag.bytes(),
-        b"mbx: other.s19 cannot be read\n".as_slice()
-    );
 }
 
 #[test]
 fn nothing_outside_fails(rt: HostRuntime) {
-    let rows: [(&str, u8); 4] = [
+    let rows: [(&str, u8); 6] = [
         (HELLO_WORDS, 0),
+        (SCRIPT_WORDS, 0),
+        (
+            "mbx bare hello.s19 --ram 64 --steps 10 --script hello.s19",
+            3,
+        ),
         ("mbx bare other.s19 --ram 64 --steps 10", 3),
         ("mbx bare hello.s19 --ram 63 --steps 10", 2),
         ("mbx bare - --ram 64 --steps 10", 2),
@@ -623,8 +725,8 @@ fn out_fails_at_each_call(rt: HostRuntime) {
 }
 
 #[test]
-fn out_has_each_room(rt: HostRuntime) {
-    for room in 0..HELLO_TEXT.len() {
+fn out_has_a_room(rt: HostRuntime) {
+    for room in [0, 1, 100, HELLO_TEXT.len() - 1] {
         let failing = Failing { room, ..NOTHING };
         let ran = run_text(rt.alloc(), HELLO_WORDS, HELLO, failing).expect(&rt, "ample memory");
         assert_eq!(rt; ran.status, 6, "{room}");

@@ -15,11 +15,11 @@ use std::alloc::Global;
 ///
 /// - 0: the outcome text was written to out.
 /// - 2: the words ask for nothing.
-/// - 3: the file has more than 67,108,864 bytes, or is no image for this RAM; the line on diag says why.
+/// - 3: a file has more than 67,108,864 bytes, or is no image for this RAM or no script; the line on diag says
+///   which, and why.
 /// - 5: the shelf failed.
 /// - 6: out failed, and has a first part of the text.
 /// - 7: memory ran out.
-/// - 8: a step needs what is not built yet.
 pub fn run_program<F: Shelf, O: Sink, E: Sink>(
     alloc: Global,
     words: &[String],

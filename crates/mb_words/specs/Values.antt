@@ -1,7 +1,10 @@
 -- What a value of the command line says by itself.
-use Rattle.std.specs.Prelude.{◌≡◌, ◌≤◌, ◌+◌, ◌-◌, ◌*◌, ◌%◌, ◌==◌, ◌&&◌, ◌||◌, not, ℕ, nat_lt, nat_le, Bool, if◌then◌else◌}
-use Rattle.std.specs.Prelude.{List, [], ◌∷◌, length, Option, Some, None, option_and_then}
+use Rattle.std.specs.Prelude.{◌≡◌, ◌≤◌, ◌+◌, ◌-◌, ◌*◌, ◌%◌, ◌==◌, ◌&&◌, ◌||◌, not, ℕ, nat_lt, nat_le, Bool}
+use Rattle.std.specs.Prelude.{if◌then◌else◌}
+use Rattle.std.specs.Prelude.{List, [], ◌∷◌, length, Option, Some, None, option_and_then, option_map}
+use denote.Ref.{Bor}
 use Rattle.mb_forms.specs.Forms.{Text, Use, value_in}
+use Rattle.mb_forms.specs.Said.{text_said}
 
 -- a value that passes a test
 abbrev pub tested : {A : Type 0} → (A → Bool) → A → Option A
@@ -10,6 +13,15 @@ tested test value = if test value then Some value else None
 -- a file's name, which is not empty
 abbrev pub name_of : Text → Option Text
 name_of text = tested (λ name. not (length name == 0)) text
+
+-- what the code's name of a file says, where there is one
+abbrev pub file_said : Option (Bor Text) → Option Text
+file_said name = option_map text_said name
+
+-- what a text says, where there is one
+abbrev pub if_given : {A : Type 0} → (Text → Option A) → Option Text → Option (Option A)
+if_given says None = Some None
+if_given says (Some text) = option_map Some (says text)
 
 abbrev pub is_digit : ℕ → Bool
 is_digit byte = nat_le 48 byte && nat_le byte 57
@@ -37,3 +49,7 @@ IsRam kib = (64 ≤ kib) × (kib ≤ 16384) × (kib % 64 ≡ 0)
 -- what the value of a name says, where it has one
 abbrev pub said_by : {A : Type 0} → (Text → Option A) → Text → List Use → Option A
 said_by says name uses = option_and_then says (value_in name uses)
+
+-- the same for a name that may have none
+abbrev pub said_if_given : {A : Type 0} → (Text → Option A) → Text → List Use → Option (Option A)
+said_if_given says name uses = if_given says (value_in name uses)

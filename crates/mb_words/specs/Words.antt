@@ -1,31 +1,33 @@
 -- The words of the command line, and what they ask for.
-use Rattle.std.specs.Prelude.{ℕ, true, if◌then◌else◌}
+use Rattle.std.specs.Prelude.{ℕ, true, false, if◌then◌else◌}
 use Rattle.std.specs.Prelude.{List, [], ◌∷◌, codes, Option, Some, None, option_map, option_and_then}
 use Rattle.std.specs.Str.{bytes_eq}
 pub use Rattle.mb_forms.specs.Forms.{Text}
 use Rattle.mb_forms.specs.Forms.{Form, Use, read}
-use Rattle.mb_words.specs.Values.{said_by, name_of, ram_of, ranged}
+use Rattle.mb_words.specs.Values.{file_said, said_by, said_if_given, name_of, ram_of, ranged}
 use Rattle.mb_words.specs.declared.bare.Bare.{Bare}
 use Rattle.mb_words.specs.declared.command.Command.{Command}
 use Rattle.mb_words.specs.declared.command.Command.TheVariants as command
 
--- a run of a machine: the name of its image's file, its RAM in KiB and its steps
+-- a run of a machine: the name of its image's file, its RAM in KiB, its steps, and the name of its script's
+-- file, where it has one
 pub record Run : Type 0 where
   pub image : Text
   pub ram : ℕ
   pub steps : ℕ
+  pub script : Option Text
 
 -- what words can ask for: a command with its values
 pub data Asked : Type 0 where
   bare : Run → Asked
 
 abbrev pub run_said : Bare → Run
-run_said b = record { image = b.image.now; ram = b.ram; steps = b.steps }
+run_said b = record { image = b.image.now; ram = b.ram; steps = b.steps; script = file_said b.script }
 
 abbrev pub asked_of : Command → Asked
 asked_of (command.Bare b) = bare (run_said b)
 
--- `bare IMAGE --ram KIB --steps N`
+-- `bare IMAGE --ram KIB --steps N [--script FILE]`
 abbrev pub bare_form : Form
 bare_form = record {
   name = codes "bare";
@@ -33,13 +35,15 @@ bare_form = record {
   options =
       record { name = codes "ram"; required = true }
       ∷ record { name = codes "steps"; required = true }
+      ∷ record { name = codes "script"; required = false }
       ∷ [];
 }
 
 -- a run, where each of its values says something
-abbrev pub run_with : Option Text → Option ℕ → Option ℕ → Option Run
-run_with (Some image) (Some ram) (Some steps) = Some (record { image = image; ram = ram; steps = steps })
-run_with _ _ _ = None
+abbrev pub run_with : Option Text → Option ℕ → Option ℕ → Option (Option Text) → Option Run
+run_with (Some image) (Some ram) (Some steps) (Some script) =
+    Some (record { image = image; ram = ram; steps = steps; script = script })
+run_with _ _ _ _ = None
 
 -- the run that the values of `bare` ask for
 abbrev pub bare_run : List Use → Option Run
@@ -47,6 +51,7 @@ bare_run uses = run_with
     (said_by name_of (codes "IMAGE") uses)
     (said_by ram_of (codes "ram") uses)
     (said_by (ranged 0 4294967295) (codes "steps") uses)
+    (said_if_given name_of (codes "script") uses)
 
 -- What the words ask for: `PROGRAM COMMAND`, and then the command's own words in its form. Other words ask
 -- for nothing.

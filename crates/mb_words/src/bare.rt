@@ -2,7 +2,7 @@
 
 ghost use Rattle.std.specs.Prelude.{◌≡◌, ◌≤◌, ◌%◌};
 
-/// `bare`: a machine by its image, its RAM and its steps.
+/// `bare`: a machine by its image, its RAM, its steps and its terminal's input.
 #[derive(Clone, Copy, Debug, Drop)]
 pub struct Bare<'a> {
     /// The name of the image's file. It is not empty.
@@ -10,5 +10,7 @@ pub struct Bare<'a> {
     /// In KiB: 64 to 16,384, a multiple of 64.
     pub ram: u32,
     pub steps: u32,
+    /// The name of the script's file, where there is one. It is not empty.
+    pub script: Option<&'a str>,
     pub ghost in_range: { (64 ≤ ram) × (ram ≤ 16384) × (ram % 64 ≡ 0) },
 }

@@ -6,11 +6,11 @@ ghost use Rattle.mb_forms.specs.Said.{ReadsAs};
 ghost use Rattle.mb_words.specs.Words.{bare_form, bare_run, run_said};
 
 use crate::bare::Bare;
-use crate::values::{name, ram, ranged};
+use crate::values::{name, name_if_given, ram, ranged};
 use mb_forms::{Form, FormOption, Uses, WordsFault, parse};
 use std::alloc::Global;
 
-/// `bare IMAGE --ram KIB --steps N`.
+/// `bare IMAGE --ram KIB --steps N [--script FILE]`.
 const FORM: Form = Form {
     name: "bare",
     positionals: &["IMAGE"],
@@ -23,6 +23,10 @@ const FORM: Form = Form {
             name: "steps",
             required: true,
         },
+        FormOption {
+            name: "script",
+            required: false,
+        },
     ],
 };
 
@@ -33,7 +37,13 @@ fn run_of<'a>(uses: &Uses<'a>) -> Option<Bare<'a>>
     let image = name(uses.get("IMAGE")?)?;
     let ram = ram(uses.get("ram")?)?;
     let steps = ranged(0, 4_294_967_295, uses.get("steps")?)?;
-    Some(Bare { image, ram, steps })
+    let script = name_if_given(uses.get("script"))?;
+    Some(Bare {
+        image,
+        ram,
+        steps,
+        script,
+    })
 }
 
 /// Reads the words behind `bare`.

@@ -2,7 +2,7 @@
 
 ghost use Rattle.std.specs.Prelude.{◌≡◌, ◌*◌, ◌^◌, ◌<◌, ◌≤◌, IfSome, option_map};
 ghost use Rattle.mb_forms.specs.Said.{text_said};
-ghost use Rattle.mb_words.specs.Values.{IsRam, name_of, number_of, ram_of, ranged};
+ghost use Rattle.mb_words.specs.Values.{IsRam, file_said, if_given, name_of, number_of, ram_of, ranged};
 
 /// A file's name, which is not empty.
 pub(crate) fn name(text: &str) -> Option<&str>
@@ -12,6 +12,16 @@ pub(crate) fn name(text: &str) -> Option<&str>
         return None;
     }
     Some(text)
+}
+
+/// The name of a file that may be left out: none where it is, and nothing where the name is empty.
+pub(crate) fn name_if_given(text: Option<&str>) -> Option<Option<&str>>
+    ensures { option_map file_said result ≡ if_given name_of (file_said text.entry) }
+{
+    match text {
+        None => Some(None),
+        Some(text) => Some(Some(name(text)?)),
+    }
 }
 
 /// One to ten decimal digits.

@@ -8,6 +8,3 @@ returns-in-Output g c = rw c.in-Output.is c.put_all-in-Output.ensures
 
 pub returns-in-Memory : goal.returns-in-Memory
 returns-in-Memory g c = rw c.in-Memory.is c.put_all-in-Memory.ensures
-
-pub returns-in-Unbuilt : goal.returns-in-Unbuilt
-returns-in-Unbuilt g c = rw c.in-Unbuilt.is c.put_all-in-Unbuilt.ensures

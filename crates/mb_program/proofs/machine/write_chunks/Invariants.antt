@@ -1,7 +1,7 @@
 use Rattle.std.proofs.Common.{◌≡◌, drop, length}
 use Rattle.mb_srec.specs.Image.{all_contents}
 use Rattle.mb_machine.specs.Machine.{with_contents, with_ram}
-use Rattle.mb_program.proofs.running.write_chunks.Given as goal
+use Rattle.mb_program.proofs.machine.write_chunks.Given as goal
 
 abbrev pub invariant-loop-chunk : goal.invariant-loop-chunk
 invariant-loop-chunk l = record {

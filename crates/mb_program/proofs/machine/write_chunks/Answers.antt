@@ -1,6 +1,6 @@
 use Rattle.std.proofs.Common.{length}
 use Rattle.mb_program.proofs.ChunkLemmas.{chunk_lies}
-use Rattle.mb_program.proofs.running.write_chunks.Goals as goal
+use Rattle.mb_program.proofs.machine.write_chunks.Goals as goal
 
 pub write_chunk-requires : goal.write_chunk-requires
 write_chunk-requires c = record {

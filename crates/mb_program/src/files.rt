@@ -1,0 +1,130 @@
+//! The files of a command, read whole and by what they are.
+
+ghost use Rattle.std.specs.Prelude.{◌≡◌, ◌≤◌, ◌*◌, All, IfOk, string_bytes};
+ghost use Rattle.mb_outside.specs.Counts.{Rose};
+ghost use Rattle.mb_srec.specs.Image.{LiesBelow, contents_of};
+ghost use Rattle.mb_program.specs.Answers.{entries, image, script};
+ghost use Rattle.mb_program.specs.Ends.{shelf_seen};
+ghost use Rattle.mb_program.specs.Reads.{Loads, Reads, image_held, ends_by, unheld_image, unheld_script};
+
+use crate::end::{End, FileWhy, Reason};
+use mb_outside::{LoadFault, Shelf, load};
+use mb_script::{LineFault, Script, read_script};
+use mb_srec::{Image, ImageFault, read_image};
+use std::alloc::Global;
+
+/// The most bytes of a file.
+const MOST_BYTES: usize = 67_108_864;
+
+/// A file that was read whole.
+#[derive(Drop)]
+struct Loaded {
+    name: String,
+    bytes: Vec<u8>,
+}
+
+/// Why bytes are not what the file is read as.
+#[derive(Clone, Copy)]
+enum Unheld {
+    /// Memory ran out.
+    Memory,
+    Why(FileWhy),
+}
+
+impl From<ImageFault> for Unheld {
+    ghost from_gives = { λ given fault. fault ≡ unheld_image given };
+
+    fn from(fault: ImageFault) -> Unheld {
+        match fault {
+            ImageFault::Memory => Unheld::Memory,
+            ImageFault::Line { number, why } => Unheld::Why(FileWhy::Line {
+                number,
+                why: Reason::Record(why),
+            }),
+            ImageFault::Outside { at } => Unheld::Why(FileWhy::Outside { at }),
+            ImageFault::NoEnd => Unheld::Why(FileWhy::NoEnd),
+        }
+    }
+}
+
+impl From<LineFault> for Unheld {
+    ghost from_gives = { λ given fault. fault ≡ unheld_script given };
+
+    fn from(fault: LineFault) -> Unheld {
+        match fault {
+            LineFault::Memory => Unheld::Memory,
+            LineFault::Line { number, why } => Unheld::Why(FileWhy::Line {
+                number,
+                why: Reason::Words(why),
+            }),
+        }
+    }
+}
+
+impl Loaded {
+    /// How the run ends where the file is not what it is read as.
+    fn end(self, why: Unheld) -> End
+        ensures { result ≡ ends_by self.name why }
+    {
+        match why {
+            Unheld::Memory => End::Memory,
+            Unheld::Why(why) => End::Refused(self.name, why),
+        }
+    }
+}
+
+/// Reads a file whole.
+fn load_file<F: Shelf>(alloc: Global, shelf: &mut F, name: &str) -> Result<Loaded, End>
+    ensures loads { Loads (shelf_seen F.told F.whole F.faults shelf.old) (shelf_seen F.told F.whole F.faults shelf.new)
+        name.now 67108864 result }
+    ensures told { F.told shelf.new ≡ F.told shelf.old }
+    ensures whole { F.whole shelf.new ≡ F.whole shelf.old }
+{
+    let Ok(owned) = String::from_str(alloc, name) else {
+        return Err(End::Memory);
+    };
+    match load(alloc, shelf, name, MOST_BYTES) {
+        Ok(bytes) => Ok(Loaded { name: owned, bytes }),
+        Err(LoadFault::Memory) => Err(End::Memory),
+        Err(LoadFault::Failed) => Err(End::Unread(owned)),
+        Err(LoadFault::TooLong) => Err(End::Refused(owned, FileWhy::TooLong)),
+    }
+}
+
+/// Reads the image of a file, for so many bytes of RAM.
+#[tactic(auto, unfolding(crate::specs::Answers::held_in))]
+pub(crate) fn image_file<F: Shelf>(
+    alloc: Global,
+    shelf: &mut F,
+    name: &str,
+    size: u32,
+) -> Result<Image, End>
+    ensures reads { Reads image_held
+        (shelf_seen F.told F.whole F.faults shelf.old) (shelf_seen F.told F.whole F.faults shelf.new)
+        (record { name = name.now; role = image size }) result }
+    ensures in_ram { IfOk result (λ image. All (LiesBelow size) (contents_of image)) }
+    ensures told { F.told shelf.new ≡ F.told shelf.old }
+    ensures whole { F.whole shelf.new ≡ F.whole shelf.old }
+{
+    let file = load_file(alloc, shelf, name)?;
+    match read_image(alloc, &file.bytes, size) {
+        Ok(image) => Ok(image),
+        Err(fault) => Err(file.end(Unheld::from(fault))),
+    }
+}
+
+/// Reads the script of a file.
+#[tactic(auto, unfolding(crate::specs::Answers::held_in))]
+pub(crate) fn script_file<F: Shelf>(alloc: Global, shelf: &mut F, name: &str) -> Result<Script, End>
+    ensures reads { Reads (λ read. entries read)
+        (shelf_seen F.told F.whole F.faults shelf.old) (shelf_seen F.told F.whole F.faults shelf.new)
+        (record { name = name.now; role = script }) result }
+    ensures told { F.told shelf.new ≡ F.told shelf.old }
+    ensures whole { F.whole shelf.new ≡ F.whole shelf.old }
+{
+    let file = load_file(alloc, shelf, name)?;
+    match read_script(alloc, &file.bytes) {
+        Ok(script) => Ok(script),
+        Err(fault) => Err(file.end(Unheld::from(fault))),
+    }
+}

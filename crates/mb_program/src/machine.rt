@@ -1,0 +1,100 @@
+//! A machine from its start to its outcome.
+
+ghost use Rattle.std.specs.Prelude.{◌≡◌, ◌<◌, ◌≤◌, ◌*◌, ◌%◌, length, IfOk, All};
+ghost use Rattle.mb_srec.specs.Image.{content_of, all_contents, contents_of, LiesBelow};
+ghost use Rattle.mb_walk.specs.Memory.{overwritten};
+ghost use Rattle.mb_model.specs.Keeping.{rule_a};
+ghost use Rattle.mb_machine.specs.Machine.{start, with_contents, with_ram};
+ghost use Rattle.mb_words.specs.Words.{run_said};
+ghost use Rattle.mb_program.specs.Answers.{bare_answer, ends, machine_after};
+ghost use Rattle.mb_program.specs.Ends.{CourseEnds, ShelfSeen, sink_seen};
+ghost use Rattle.mb_program.specs.Reads.{Stayed};
+
+use crate::end::End;
+use mb_board::Board;
+use mb_outside::{Memory, Sink};
+use mb_report::write_outcome;
+use mb_script::Script;
+use mb_srec::{Chunk, Image};
+use mb_words::Bare;
+use std::alloc::Global;
+
+/// Writes a chunk that lies in RAM.
+#[tactic(auto, using(mb_walk::proofs::MemoryLemmas::writes))]
+fn write_chunk(board: &mut Board, chunk: &Chunk)
+    requires lies { LiesBelow (length board.old.world.ram) (content_of chunk.now) }
+    ensures after { board.new
+        ≡ with_ram board.old (overwritten board.old.world.ram (content_of chunk.now).0 (content_of chunk.now).1) }
+    ensures size { length board.new.world.ram ≡ length board.old.world.ram }
+{
+    if !chunk.bytes().is_empty() {
+        board.write_phys(chunk.at(), chunk.bytes());
+    }
+}
+
+/// Writes chunks that lie in RAM, later ones over earlier ones.
+fn write_chunks(board: &mut Board, chunks: &[Chunk])
+    requires lie { All (LiesBelow (length board.old.world.ram)) (all_contents chunks.now) }
+    ensures size { length board.new.world.ram ≡ length board.old.world.ram }
+    ensures after { board.new
+        ≡ with_ram board.old (with_contents board.old.world.ram (all_contents chunks.now)) }
+{
+    for chunk in chunks {
+        write_chunk(board, chunk);
+    }
+}
+
+/// A board with an image in its RAM, after reset.
+#[tactic(auto, unfolding(mb_machine::specs::Machine::reset_with, mb_devices::specs::Devices::idle))]
+fn start_board(alloc: Global, image: &Image, size: u32) -> Result<Board, Memory>
+    requires size { (8 ≤ size) × (size ≤ 67108864) }
+    requires in_ram { All (LiesBelow size) (contents_of image.now) }
+    ensures start { IfOk result (λ board. board ≡ start rule_a (contents_of image.now) size) }
+    ensures ram { IfOk result (λ board. length board.world.ram ≡ size) }
+    ensures unrun { IfOk result (λ board. board.steps ≡ 0) }
+{
+    let mut board = Board::new(alloc, size)?;
+    write_chunks(&mut board, image.chunks());
+    board.reset();
+    Ok(board)
+}
+
+/// A board after the steps of a run, with an image and a script.
+#[tactic(auto, unfolding(crate::specs::Answers::machine_after))]
+fn run_board(alloc: Global, run: &Bare, image: &Image, script: &Script) -> Result<Board, Memory>
+    requires { All (LiesBelow (1024 * run.now.ram)) (contents_of image.now) }
+    ensures after { IfOk result (λ board. board
+        ≡ machine_after (run_said run.now) (record { image = contents_of image.now; script = script.now })) }
+    ensures ram { IfOk result (λ board. length board.world.ram ≤ 67108864) }
+{
+    let mut board = start_board(alloc, image, 1024 * run.ram)?;
+    board.run_bare(script, run.steps);
+    Ok(board)
+}
+
+/// Runs a machine, and writes its outcome.
+pub(crate) fn show_machine<O: Sink>(
+    alloc: Global,
+    run: &Bare,
+    image: &Image,
+    script: &Script,
+    out: &mut O,
+) -> End
+    requires { All (LiesBelow (1024 * run.now.ram)) (contents_of image.now) }
+    ensures { (shelf shelf_after : ShelfSeen) → Stayed shelf shelf_after → CourseEnds
+        (ends (bare_answer (run_said run.now) (record { image = contents_of image.now; script = script.now })))
+        (record {
+          shelf = shelf;
+          shelf_after = shelf_after;
+          out = sink_seen O.taken O.faults out.old;
+          out_after = sink_seen O.taken O.faults out.new;
+        }) result }
+{
+    let Ok(board) = run_board(alloc, run, image, script) else {
+        return End::Memory;
+    };
+    match write_outcome(1, &board.outcome(), out) {
+        Ok(()) => End::Done,
+        Err(_) => End::Output,
+    }
+}
