@@ -7,8 +7,8 @@ ghost use Rattle.mb_machine.specs.Places.{HasPlace};
 ghost use Rattle.mb_machine.specs.Bus.{bus_of, fault_of, fetching as fetches, reading as reads, writing as writes};
 
 use crate::bus::{BoardBus, mode_of};
+use mb_instr::ControlRegister;
 use mb_machine::Reference;
-use mb_model::ControlRegister;
 use mb_port::{Fault, Flush, Mmu, MmuReg, Piece, Place, Port, Space};
 
 /// A reference that fetches.

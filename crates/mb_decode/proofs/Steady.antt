@@ -18,6 +18,7 @@ use Rattle.mb_instr.specs.declared.rule.WordRule.TheVariants as rule
 use Rattle.mb_instr.specs.declared.opcode.Opcode.{Opcode}
 use Rattle.mb_instr.specs.Sizes.{size_of}
 use Rattle.mb_instr.specs.Rules.{holds}
+use Rattle.mb_instr.specs.Control.{is_control_code}
 use Rattle.mb_instr.specs.Operands.{is_full, allows}
 use Rattle.mb_decode.specs.Reading.{by_size, long_at, wide_at, full_at, ext_at, immediate_at, operand_at, ruled_at, ea_at, sized_at, branch_at, trap_operand_at}
 use Rattle.mb_decode.proofs.ReadBack.{next}
@@ -258,6 +259,7 @@ rule_word rule.Check = 2048
 rule_word _ = 0
 
 rule_word_is : (r : WordRule) → (holds r (rule_word r) ≡ true) × (rule_word r < 2 ^ 16)
+unfolding is_control_code
 rule_word_is rule.Any = (refl, omega arith)
 rule_word_is rule.Bounds = (refl, omega arith)
 rule_word_is rule.Compare = (refl, omega arith)

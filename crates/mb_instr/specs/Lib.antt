@@ -1,5 +1,6 @@
 pub mod Sizes
 pub mod Kinds
+pub mod Control
 pub mod Rules
 pub mod Opcodes
 pub mod Operands

@@ -4,6 +4,7 @@
 //! itself is `specs/Rows`: one line for each row of the manual's encodings.
 #![tactic(auto)]
 
+mod control;
 mod instruction;
 mod kinds;
 mod opcode;
@@ -12,6 +13,7 @@ mod registers;
 mod rule;
 mod size;
 
+pub use control::ControlRegister;
 pub use instruction::{Arith, Family, Flow, Instr, Move, System, family_of, is_privileged};
 pub use kinds::{
     BitKind, Branch, CacheScope, Caches, Condition, Exchange, FieldKind, FlushKind, LineMove,

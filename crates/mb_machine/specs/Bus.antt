@@ -8,8 +8,8 @@ use Rattle.mb_port.specs.declared.types.Place.{Place}
 use Rattle.mb_port.specs.declared.types.Fault.{Fault}
 use Rattle.mb_port.specs.declared.types.MmuReg.{MmuReg}
 use Rattle.mb_port.specs.Registers.{with_mmu_register}
-use Rattle.mb_model.specs.declared.control.ControlRegister.TheVariants as control
-use Rattle.mb_model.specs.Control.{kept_bits}
+use Rattle.mb_instr.specs.declared.control.ControlRegister.TheVariants as control
+use Rattle.mb_instr.specs.Control.{kept_bits}
 use Rattle.mb_model.specs.Keeping.{KeptLists, Rule, flushed, dropped, after_movec}
 use Rattle.mb_walk.specs.Search.{Searched, search_of, status_of}
 use Rattle.mb_devices.specs.Devices.{reset_of}

@@ -4,9 +4,9 @@ use Rattle.mb_port.specs.Routine.{Routine, Return, Then, choose, mmu, set_mmu}
 use Rattle.mb_port.specs.Registers.{mmu_register}
 use Rattle.mb_instr.specs.Registers.{plain_of, register_of, with_register}
 use Rattle.mb_model.specs.declared.processor.Cpu.{Cpu}
-use Rattle.mb_model.specs.declared.control.ControlRegister.{ControlRegister}
-use Rattle.mb_model.specs.declared.control.ControlRegister.TheVariants as control
-use Rattle.mb_model.specs.Control.{control_of, kept_bits}
+use Rattle.mb_instr.specs.declared.control.ControlRegister.{ControlRegister}
+use Rattle.mb_instr.specs.declared.control.ControlRegister.TheVariants as control
+use Rattle.mb_instr.specs.Control.{control_of, kept_bits}
 use Rattle.mb_meaning.specs.Operands.{named_register}
 use Rattle.mb_meaning.specs.SystemEnds.{with_registers}
 

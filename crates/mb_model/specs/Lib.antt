@@ -1,4 +1,3 @@
-pub mod Control
 pub mod Keeping
 pub mod Reset
 pub mod Seen

@@ -3,14 +3,12 @@
 //! A term crate: the definition of the machine, the board and the texts stand on it.
 #![tactic(auto)]
 
-mod control;
 mod keeping;
 mod kept;
 mod outcome;
 mod processor;
 mod status;
 
-pub use control::ControlRegister;
 pub use keeping::{entry_in, place_in};
 pub use kept::Kept;
 pub use outcome::{Outcome, RunState};

@@ -2,11 +2,12 @@
 
 ghost use Rattle.std.specs.Prelude.{◌≡◌, ◌<◌, bit_and};
 ghost use Rattle.mb_port.specs.Routine.{run};
-ghost use Rattle.mb_model.specs.Control.{kept_bits};
+ghost use Rattle.mb_instr.specs.Control.{kept_bits};
 ghost use Rattle.mb_meaning.specs.Control.{named_control};
 ghost use Rattle.mb_meaning.specs.Control.{control_value, setting_control, to_control_of, from_control_of, movec_of};
 
-use mb_model::{ControlRegister, Cpu};
+use mb_instr::ControlRegister;
+use mb_model::Cpu;
 use mb_operands::named_register;
 use mb_port::Port;
 

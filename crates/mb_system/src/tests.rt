@@ -2,8 +2,8 @@
 
 use crate::perform_system;
 use mb_decode::{Decoded, decode};
-use mb_instr::{Instr, Regs};
-use mb_model::{ControlRegister, Cpu};
+use mb_instr::{ControlRegister, Instr, Regs};
+use mb_model::Cpu;
 use mb_port::{Mmu, Piece, Port, Space};
 use mb_vector::VectorPort;
 use mb_writes::Ended;

@@ -1,8 +1,8 @@
 -- The table of control registers: code, register, and the bits that it keeps.
-use Rattle.std.specs.Prelude.{ℕ, ◌==◌, if◌then◌else◌}
+use Rattle.std.specs.Prelude.{ℕ, Bool, ◌==◌, if◌then◌else◌}
 use Rattle.mb_port.specs.declared.types.MmuReg.TheVariants.{Tc, Itt0, Itt1, Dtt0, Dtt1, Mmusr, Urp, Srp}
-use Rattle.mb_model.specs.declared.control.ControlRegister.{ControlRegister}
-use Rattle.mb_model.specs.declared.control.ControlRegister.TheVariants.{Sfc, Dfc, Cacr, Usp, Vbr, Msp, Isp, Mmu}
+use Rattle.mb_instr.specs.declared.control.ControlRegister.{ControlRegister}
+use Rattle.mb_instr.specs.declared.control.ControlRegister.TheVariants.{Sfc, Dfc, Cacr, Usp, Vbr, Msp, Isp, Mmu}
 
 -- the code of each in the word behind MOVEC
 abbrev pub code_of : ControlRegister → ℕ
@@ -22,7 +22,7 @@ code_of (Mmu Mmusr) = 0x805
 code_of (Mmu Urp) = 0x806
 code_of (Mmu Srp) = 0x807
 
--- the register with a code
+-- the register with a code; SRP where no register has it
 abbrev pub control_of : ℕ → ControlRegister
 control_of code =
     if code == 0x000 then Sfc else if code == 0x001 then Dfc else
@@ -33,6 +33,10 @@ control_of code =
     if code == 0x803 then Msp else if code == 0x804 then Isp else
     if code == 0x805 then Mmu Mmusr else if code == 0x806 then Mmu Urp else
     Mmu Srp
+
+-- whether a register has the code
+unfoldable pub is_control_code : ℕ → Bool
+is_control_code code = code_of (control_of code) == code
 
 -- the bits that each keeps of what is written to it
 abbrev pub kept_bits : ControlRegister → ℕ

@@ -1,8 +1,7 @@
 //! The control registers.
 
-ghost use Rattle.std.specs.Prelude.{◌≡◌, ◌<◌, ◌^◌, true};
-ghost use Rattle.mb_instr.specs.Rules.{is_control};
-ghost use Rattle.mb_model.specs.Control.{code_of, control_of, kept_bits};
+ghost use Rattle.std.specs.Prelude.{◌≡◌, true};
+ghost use Rattle.mb_instr.specs.Control.{code_of, control_of, is_control_code, kept_bits};
 
 use mb_port::MmuReg;
 
@@ -23,9 +22,10 @@ pub enum ControlRegister {
 impl ControlRegister {
     /// Its code in the word behind MOVEC.
     #[inline(always)]
+    #[tactic(auto, unfolding(crate::specs::Control::is_control_code))]
     pub fn code(self) -> u16
         ensures value { result ≡ code_of self }
-        ensures decoded { is_control result ≡ true }
+        ensures decoded { is_control_code result ≡ true }
         ensures named { control_of result ≡ self }
     {
         match self {
@@ -47,11 +47,12 @@ impl ControlRegister {
         }
     }
 
-    /// The register with a code, which is one of those that the decoder lets pass.
+    /// The register with a code, which is one of the table.
     #[inline(always)]
+    #[tactic(auto, unfolding(crate::specs::Control::is_control_code))]
     pub fn of(code: u16) -> ControlRegister
         ensures value { result ≡ control_of code }
-        ensures coded { code < 2 ^ 12 → is_control code ≡ true → code_of result ≡ code }
+        ensures coded { is_control_code code ≡ true → code_of result ≡ code }
     {
         match code {
             0x000 => ControlRegister::Sfc,
@@ -70,6 +71,14 @@ impl ControlRegister {
             0x806 => ControlRegister::Mmu(MmuReg::Urp),
             _ => ControlRegister::Mmu(MmuReg::Srp),
         }
+    }
+
+    /// Whether a register has the code.
+    #[tactic(auto, unfolding(crate::specs::Control::is_control_code))]
+    pub fn has_code(code: u16) -> bool
+        ensures { result ≡ is_control_code code }
+    {
+        ControlRegister::of(code).code() == code
     }
 
     /// The bits that it keeps of what is written to it.
