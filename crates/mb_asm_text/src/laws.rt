@@ -6,10 +6,11 @@ ghost use Rattle.mb_asm_text.specs.declared.token.Token.{Token};
 ghost use Rattle.mb_asm_text.specs.declared.token.TokenKind.{TokenKind};
 ghost use Rattle.mb_asm_text.specs.Kinds.{Where, is_token};
 ghost use Rattle.mb_asm_text.specs.Cut.{IsCut, IsLongest, text_of};
+ghost use Rattle.mb_asm_text.specs.Cutting.{cut_of};
 
 /// A line has a cut, and no other.
 pub fn one_cut()
-    ensures some { (line : List ℕ) → (cut : Result (List Token) ℕ) × IsCut line cut }
+    ensures some { (line : List ℕ) → IsCut line (cut_of line) }
     ensures one { (line : List ℕ) (cut other : Result (List Token) ℕ)
         → IsCut line cut → IsCut line other → cut ≡ other }
     // The same bytes at the same place are a token of one kind only.

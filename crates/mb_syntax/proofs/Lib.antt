@@ -1,0 +1,5 @@
+pub mod Sums
+pub mod Numbers
+pub mod Spans
+pub mod Lists
+pub mod Powers

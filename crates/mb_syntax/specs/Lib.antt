@@ -1,0 +1,11 @@
+pub mod Options
+pub mod Tables
+pub mod Spans
+pub mod Names
+pub mod Words
+pub mod Sums
+pub mod Modes
+pub mod Operands
+pub mod Statements
+pub mod Answers
+pub mod Lines
