@@ -1,0 +1,10 @@
+pub mod Value
+pub mod Families
+pub mod SameForm
+pub mod Shape
+pub mod Names
+pub mod Even
+pub mod ModeWords
+pub mod Steps
+pub mod RowWords
+pub mod Length

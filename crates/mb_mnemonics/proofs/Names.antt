@@ -1,0 +1,53 @@
+-- Which statements have no line's name.
+use Rattle.std.proofs.Common.{◌≡◌, ℕ, Bool, true, false, List, [], ◌∷◌, Option, Some, None, Ok, Err, refl}
+use Rattle.std.specs.Prelude.{ℤ, ◌||◌, if◌then◌else◌, is_some, ok_or}
+use Rattle.mb_instr.specs.declared.instruction.Instr.{Instr}
+use Rattle.mb_syntax.specs.declared.operand.Operand.{Operand}
+use Rattle.mb_syntax.specs.declared.statement.SizeLetter.{SizeLetter}
+use Rattle.mb_mnemonics.specs.declared.fault.MeansFault.TheVariants as fault
+use Rattle.mb_mnemonics.specs.Lines.{Entry, condition_by}
+use Rattle.mb_mnemonics.specs.Table.{lines}
+use Rattle.mb_mnemonics.specs.Means.{Form, form_by, form_among, form_of, is_named, said, told, is_instr, meaning_by, meaning}
+
+neither : (a b : Bool) → (a || b) ≡ false → (a ≡ false) × (b ≡ false)
+neither true b e = absurd cc
+neither false b e = (refl, e)
+
+is_none : {A : Type 0} (o : Option A) → is_some o ≡ false → o ≡ None
+is_none None e = refl
+is_none (Some x) e = absurd cc
+
+not_by : (l : Entry) (name : List ℕ) (letter : Option SizeLetter) (os : List (Operand ℤ))
+    → condition_by l name ≡ None → form_by l name letter os ≡ None
+unfolding form_by
+not_by l name letter os e = rw e refl
+
+not_among : (ls : List Entry) (name : List ℕ) (letter : Option SizeLetter) (os : List (Operand ℤ))
+    → is_named ls name ≡ false → form_among ls name letter os ≡ None
+not_among [] name letter os e = refl
+not_among (l ∷ ls) name letter os e =
+    let n = neither (is_some (condition_by l name)) (is_named ls name) e in
+    rw (not_by l name letter os (is_none (condition_by l name) n.0)) (not_among ls name letter os n.1)
+
+pub unnamed : (name : List ℕ) (letter : Option SizeLetter) (os : List (Operand ℤ)) (at : ℕ)
+    → is_named lines name ≡ false → meaning name letter os at ≡ Err fault.Name
+unfolding meaning form_of
+unnamed name letter os at e = rw (not_among lines name letter os e, e) refl
+
+told_no_name : (o : Option Instr) → told o ≡ Err fault.Name → ⊥
+told_no_name None e = cc
+told_no_name (Some i) e = elim (is_instr i) as (λ b. (if b then Ok i else Err fault.Operand) ≡ Err fault.Name → ⊥) [
+  | true ↦ λ h. cc
+  | false ↦ λ h. cc
+] e
+
+by_name : (o : Option Form) (b : Bool) (os : List (Operand ℤ)) (at : ℕ)
+    → meaning_by (ok_or o (if b then fault.Operand else fault.Name)) os at ≡ Err fault.Name → b ≡ false
+by_name (Some f) b os at e = absurd (told_no_name (said f os at) e)
+by_name None true os at e = absurd cc
+by_name None false os at e = refl
+
+pub named_else : (name : List ℕ) (letter : Option SizeLetter) (os : List (Operand ℤ)) (at : ℕ)
+    → meaning name letter os at ≡ Err fault.Name → is_named lines name ≡ false
+unfolding meaning form_of
+named_else name letter os at e = by_name (form_among lines name letter os) (is_named lines name) os at e

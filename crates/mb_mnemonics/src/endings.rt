@@ -1,0 +1,88 @@
+//! What stands behind the stem of a name, and the condition that it says.
+
+ghost use Rattle.std.specs.Prelude.{◌≡◌, map};
+ghost use Rattle.mb_mnemonics.specs.Lines.{name_of, condition_by, condition_in, same_letters, endings, entry_of};
+
+use crate::line::{Ending, Line};
+use mb_instr::Condition;
+
+/// A condition's name, in capital letters.
+#[derive(Clone, Copy, Debug)]
+struct NameOf {
+    name: &'static [u8],
+    condition: Condition,
+}
+
+macro_rules! names {
+    ($($name:literal $condition:ident),*) => {
+        [$(NameOf { name: $name, condition: Condition::$condition }),*]
+    };
+}
+
+static PLAIN: [NameOf; 1] = names![b"" True];
+
+#[rattlefmt::skip]
+static CONDITIONS: [NameOf; 16] = names![
+    b"T" True, b"F" False, b"HI" High, b"LS" LowOrSame, b"CC" CarryClear, b"CS" CarrySet, b"NE" NotEqual, b"EQ" Equal,
+    b"VC" OverflowClear, b"VS" OverflowSet, b"PL" Plus, b"MI" Minus, b"GE" GreaterOrEqual, b"LT" LessThan,
+    b"GT" GreaterThan, b"LE" LessOrEqual
+];
+
+#[rattlefmt::skip]
+static BRANCHES: [NameOf; 16] = names![
+    b"RA" True, b"SR" False, b"HI" High, b"LS" LowOrSame, b"CC" CarryClear, b"CS" CarrySet, b"NE" NotEqual, b"EQ" Equal,
+    b"VC" OverflowClear, b"VS" OverflowSet, b"PL" Plus, b"MI" Minus, b"GE" GreaterOrEqual, b"LT" LessThan,
+    b"GT" GreaterThan, b"LE" LessOrEqual
+];
+
+/// The endings of a line's name, each with the condition that it says.
+#[tactic(auto, unfolding(crate::specs::Lines::endings))]
+fn endings(ending: Ending) -> &'static [NameOf]
+    ensures { map name_of result.now ≡ endings ending }
+{
+    match ending {
+        Ending::Plain => &PLAIN,
+        Ending::Condition => &CONDITIONS,
+        Ending::Branch => &BRANCHES,
+    }
+}
+
+/// Whether two texts are the same but for the case of their letters.
+#[tactic(auto, unfolding(crate::specs::Lines::same_letters))]
+fn same_letters(text: &[u8], other: &[u8]) -> bool
+    ensures { result ≡ same_letters text.now other.now }
+{
+    text.eq_ignore_ascii_case(other)
+}
+
+/// The condition that a name's end says, in either case.
+fn condition_in(names: &[NameOf], text: &[u8]) -> Option<Condition>
+    ensures { result ≡ condition_in (map name_of names.now) text.now }
+{
+    match names {
+        [] => None,
+        [name, names @ ..] => if same_letters(name.name, text) {
+            Some(name.condition)
+        } else {
+            condition_in(names, text)
+        },
+    }
+}
+
+/// The condition that a name says by a line, where it is the line's: its stem and one of its endings, in either case.
+/// A name without a condition says T.
+#[tactic(auto, unfolding(crate::specs::Lines::condition_by))]
+pub(crate) fn condition_by(line: &Line, name: &[u8]) -> Option<Condition>
+    ensures { result ≡ condition_by (entry_of line.now) name.now }
+{
+    let stem = line.stem.as_bytes();
+    if name.len() < stem.len() {
+        return None;
+    }
+    let (front, back) = name.split_at(stem.len());
+    if same_letters(stem, front) {
+        condition_in(endings(line.ending), back)
+    } else {
+        None
+    }
+}
