@@ -1,0 +1,130 @@
+-- What a statement writes, or the first fault that it has.
+use Rattle.std.specs.Prelude.{ℕ, ◌+◌, ◌%◌, ◌==◌, nat_lt, Bool, true, false, not, ◌&&◌, ◌||◌, if◌then◌else◌, List, []}
+use Rattle.std.specs.Prelude.{◌∷◌, length, Option, Some, None, Result, Ok, Err}
+use Rattle.std.specs.Option.{is_some}
+use Rattle.mb_syntax.specs.declared.word.Name.{Name}
+use Rattle.mb_syntax.specs.Statements.{Operation, Statement}
+use Rattle.mb_syntax.specs.Spans.{bytes_at}
+use Rattle.mb_mnemonics.specs.declared.fault.MeansFault.TheVariants as means
+use Rattle.mb_asm.specs.declared.fault.AsmKind.{AsmKind}
+use Rattle.mb_asm.specs.declared.fault.AsmKind.TheVariants as kind
+use Rattle.mb_asm.specs.declared.value.Flaw.TheVariants as flaw
+use Rattle.mb_asm.specs.declared.directive.Directive.{Directive}
+use Rattle.mb_asm.specs.declared.directive.Directive.TheVariants as directive
+use Rattle.mb_asm.specs.Results.{◌>>=◌, refuse}
+use Rattle.mb_asm.specs.Symbols.{Symbol, value_in}
+use Rattle.mb_asm.specs.Values.{Scope, have_flaw}
+use Rattle.mb_asm.specs.Extents.{behind, directive_in, equ_value}
+use Rattle.mb_asm.specs.Bytes.{bytes}
+use Rattle.mb_asm.specs.Layouts.{Layout, earlier}
+
+-- What a statement writes, and the address behind it.
+pub record Laid : Type 0 where
+  pub bytes : List ℕ
+  pub next : ℕ
+
+-- ORG, EQU and DS read symbols of earlier lines only.
+abbrev pub reads_earlier : Option Directive → Bool
+reads_earlier (Some directive.Org) = true
+reads_earlier (Some directive.Equ) = true
+reads_earlier (Some directive.Ds) = true
+reads_earlier _ = false
+
+-- what an operation reads its symbols in
+abbrev pub scope_of : List Symbol → Layout → List ℕ → Option Directive → Scope
+scope_of symbols layout line found =
+    if reads_earlier found then earlier layout line else record { symbols = symbols; line = line; at = layout.at }
+
+-- no operation has the name
+abbrev pub has_no_name : Result ℕ AsmKind → Bool
+has_no_name (Err kind.Name) = true
+has_no_name _ = false
+
+-- Syntax: an EQU without a label.
+abbrev pub wants_label : Option Name → Option Directive → Bool
+wants_label None (Some directive.Equ) = true
+wants_label _ _ = false
+
+-- Twice: an earlier line has the label.
+abbrev pub is_again : Layout → List ℕ → Option Name → Bool
+is_again layout line (Some name) = is_some (value_in layout.symbols (bytes_at line name))
+is_again layout line None = false
+
+-- Place: a word or long at an odd address by an instruction, or an address past the last.
+abbrev pub is_odd : ℕ → Option Directive → Bool
+is_odd at None = at % 2 == 1
+is_odd at (Some _) = false
+
+-- the label of an EQU is no address
+abbrev pub is_address : Option Name → Option Directive → Bool
+is_address None _ = false
+is_address (Some name) (Some directive.Equ) = false
+is_address (Some name) _ = true
+
+abbrev pub is_past : ℕ → Bool
+is_past at = nat_lt 4294967295 at
+
+-- 2 ^ 32 is the end of the last byte; ORG goes to a byte
+abbrev pub ends_past : Option Directive → ℕ → Bool
+ends_past (Some directive.Org) next = is_past next
+ends_past _ next = nat_lt 4294967296 next
+
+-- a byte at an address past the last
+abbrev pub reaches_past : ℕ → List ℕ → Bool
+reaches_past at written = nat_lt 4294967296 (at + length written)
+
+abbrev pub is_misplaced : ℕ → Option Name → Option Directive → ℕ → Bool
+is_misplaced at label found next = is_odd at found || (is_address label found && is_past at || ends_past found next)
+
+-- an EQU has a value
+abbrev pub equ_checked : Scope → Operation → Option Directive → Result (Unit {0}) AsmKind
+equ_checked scope operation (Some directive.Equ) = equ_value scope operation >>= λ value. Ok tt
+equ_checked scope operation _ = Ok tt
+
+-- what is looked for before the operands
+unfoldable pub admitted : Layout → List ℕ → Option Name → Option Directive → Bool → Result (Unit {0}) AsmKind
+admitted layout line label found unknown = do
+  labelled ← refuse (wants_label label found) kind.Syntax
+  named ← refuse unknown kind.Name
+  refuse (is_again layout line label) kind.Twice
+
+-- what is written by an operation that ends at the address
+unfoldable pub laid_to : ℕ → Scope → Option Name → Option Directive → Operation → Result Laid AsmKind
+laid_to end scope label found operation = do
+  value ← equ_checked scope operation found
+  written ← bytes scope operation
+  placed ← refuse (is_misplaced scope.at label found end || reaches_past scope.at written) kind.Place
+  Ok (record { bytes = written; next = end })
+
+-- an operation that is a directive or none, by what it reads its symbols in and the address behind it
+unfoldable pub judged_by : Layout → List ℕ → Option Name → Operation → Option Directive → Scope → Result ℕ AsmKind
+    → Result Laid AsmKind
+judged_by layout line label operation found scope next = do
+  first ← admitted layout line label found (has_no_name next || have_flaw flaw.Unknown scope operation.operands)
+  end ← next
+  laid_to end scope label found operation
+
+-- an operation in the line, with the symbols of all lines
+unfoldable pub judged_operation : List Symbol → Layout → List ℕ → Option Name → Operation → Result Laid AsmKind
+judged_operation symbols layout line label operation =
+    let found = directive_in line operation in
+    judged_by layout line label operation found (scope_of symbols layout line found)
+    (behind (earlier layout line) operation)
+
+-- a label alone
+unfoldable pub judged_label : Layout → List ℕ → Option Name → Result Laid AsmKind
+judged_label layout line label = do
+  first ← refuse (is_again layout line label) kind.Twice
+  placed ← refuse (is_address label None && is_past layout.at) kind.Place
+  Ok (record { bytes = []; next = layout.at })
+
+abbrev pub judged_statement : List Symbol → Layout → List ℕ → Statement → Result Laid AsmKind
+judged_statement symbols layout line statement = elim statement.operation [
+  | Some operation ↦ judged_operation symbols layout line statement.label operation
+  | None ↦ judged_label layout line statement.label
+]
+
+-- The statement of a line, which may be none.
+abbrev pub judged : List Symbol → Layout → List ℕ → Option Statement → Result Laid AsmKind
+judged symbols layout line (Some statement) = judged_statement symbols layout line statement
+judged symbols layout line None = Err kind.Syntax

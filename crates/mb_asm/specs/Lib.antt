@@ -1,0 +1,17 @@
+pub mod Results
+pub mod Kinds
+pub mod Symbols
+pub mod Said
+pub mod Values
+pub mod Scopes
+pub mod Sums
+pub mod Directives
+pub mod Extents
+pub mod Bytes
+pub mod Layouts
+pub mod Laying
+pub mod Judged
+pub mod Laids
+pub mod Texts
+pub mod Gathered
+pub mod Answers

@@ -1,0 +1,107 @@
+-- The values of expressions.
+use Rattle.std.specs.Prelude.{ℕ, ◌^◌, ℤ, pos, ◌+ℤ◌, neg_ℤ, Bool, true, false, not, ◌||◌, nat_lt, if◌then◌else◌, List}
+use Rattle.std.specs.Prelude.{[], ◌∷◌, length, map, Option, Some, None}
+use Rattle.std.specs.Option.{is_some, unwrap_or}
+use Rattle.std.specs.List.{list_any}
+use Rattle.mb_syntax.specs.declared.expression.Term.{Term}
+use Rattle.mb_syntax.specs.declared.expression.Term.TheVariants as term
+use Rattle.mb_syntax.specs.declared.expression.SignedTerm.{SignedTerm}
+use Rattle.mb_syntax.specs.declared.mode.Displacement.{Displacement}
+use Rattle.mb_syntax.specs.declared.mode.FullForm.{FullForm}
+use Rattle.mb_syntax.specs.declared.mode.Mode.{Mode}
+use Rattle.mb_syntax.specs.declared.mode.Mode.TheVariants as mode
+use Rattle.mb_syntax.specs.declared.operand.Operand.{Operand}
+use Rattle.mb_syntax.specs.declared.operand.Operand.TheVariants as operand
+use Rattle.mb_syntax.specs.declared.operand.BitField.{BitField}
+use Rattle.mb_syntax.specs.declared.operand.FieldNumber.{FieldNumber}
+use Rattle.mb_syntax.specs.declared.operand.FieldNumber.TheVariants as number
+use Rattle.mb_syntax.specs.Spans.{bytes_at}
+use Rattle.mb_syntax.specs.Modes.{Sum}
+use Rattle.mb_mnemonics.specs.Values.{valued}
+use Rattle.mb_asm.specs.declared.value.Flaw.{Flaw}
+use Rattle.mb_asm.specs.declared.value.Flaw.TheVariants as flaw
+use Rattle.mb_asm.specs.Symbols.{Symbol, value_in}
+
+-- What an expression is read with: symbols, the line that it stands in, and the address of its statement.
+pub record Scope : Type 0 where
+  pub symbols : List Symbol
+  pub line : List ℕ
+  pub at : ℕ
+
+-- Values are exact. A symbol that is not known and a number wider than 32 bits count as 0 here.
+abbrev pub term_value : Scope → Term → ℤ
+term_value scope (term.Number n) = pos n
+term_value scope term.WideNumber = pos 0
+term_value scope (term.Symbol name) = unwrap_or (value_in scope.symbols (bytes_at scope.line name)) (pos 0)
+term_value scope term.Here = pos scope.at
+
+abbrev pub signed_value : Scope → SignedTerm → ℤ
+signed_value scope signed = if signed.is_negative then neg_ℤ (term_value scope signed.term) else term_value scope
+    signed.term
+
+-- from the left, behind a sum so far
+abbrev pub sum_behind : Scope → ℤ → Sum → ℤ
+sum_behind scope sum [] = sum
+sum_behind scope sum (signed ∷ terms) = sum_behind scope (sum +ℤ signed_value scope signed) terms
+
+-- no line has so many terms
+abbrev pub is_long : Sum → Bool
+is_long terms = nat_lt 536870912 (length terms)
+
+abbrev pub value_of : Scope → Sum → ℤ
+value_of scope terms = if is_long terms then pos 0 else sum_behind scope (pos 0) terms
+
+abbrev pub values_of : Scope → List (Operand Sum) → List (Operand ℤ)
+values_of scope operands = map (valued (value_of scope)) operands
+
+-- Flaws of expressions.
+
+abbrev pub is_unknown : Scope → SignedTerm → Bool
+is_unknown scope signed = elim signed.term [
+  | term.Symbol name ↦ not (is_some (value_in scope.symbols (bytes_at scope.line name)))
+  | _ ↦ false
+]
+
+abbrev pub is_wide : SignedTerm → Bool
+is_wide signed = elim signed.term [ term.WideNumber ↦ true | _ ↦ false ]
+
+-- A symbol is not known, or a number is wider than 32 bits. A sum of more than 2 ^ 29 terms, which no line has, counts
+-- as wide.
+abbrev pub has_flaw : Flaw → Scope → Sum → Bool
+has_flaw flaw.Unknown scope terms = list_any (is_unknown scope) terms
+has_flaw flaw.Wide scope terms = is_long terms || list_any is_wide terms
+
+-- Whether one of the expressions passes a test.
+
+abbrev pub in_option : {A : Type 0} → (A → Bool) → Option A → Bool
+in_option test (Some x) = test x
+in_option test None = false
+
+abbrev pub in_displacement : (Sum → Bool) → Displacement Sum → Bool
+in_displacement test displacement = test displacement.value
+
+abbrev pub in_form : (Sum → Bool) → FullForm Sum → Bool
+in_form test form = in_option (in_displacement test) form.displacement || in_option (in_displacement test) form.outer
+
+abbrev pub in_mode : (Sum → Bool) → Mode Sum → Bool
+in_mode test (mode.Displaced _ e) = test e
+in_mode test (mode.Indexed _ e _) = test e
+in_mode test (mode.Absolute e _) = test e
+in_mode test (mode.PcDisplaced e) = test e
+in_mode test (mode.PcIndexed e _) = test e
+in_mode test (mode.Full form) = in_form test form
+in_mode test (mode.Immediate e) = test e
+in_mode test _ = false
+
+abbrev pub in_number : (Sum → Bool) → FieldNumber Sum → Bool
+in_number test (number.Number e) = test e
+in_number test (number.Data _) = false
+
+abbrev pub in_operand : (Sum → Bool) → Operand Sum → Bool
+in_operand test (operand.Mode m) = in_mode test m
+in_operand test (operand.Field m field) = in_mode test m || (in_number test field.offset || in_number test field.width)
+in_operand test _ = false
+
+-- whether an operand has the flaw
+abbrev pub have_flaw : Flaw → Scope → List (Operand Sum) → Bool
+have_flaw kind scope operands = list_any (in_operand (has_flaw kind scope)) operands

@@ -1,0 +1,261 @@
+//! Where the bytes of an operation end.
+
+ghost use Rattle.std.specs.Prelude.{◌≡◌, ◌+◌, ◌-◌, ◌*◌, ◌≤◌, ◌≤ℤ◌, IfOk, IfSome, IsTrue, negsuc, option_map, pos};
+ghost use Rattle.mb_mnemonics.specs.declared.range.Range.TheVariants as range;
+ghost use Rattle.mb_asm.specs.Scopes.{scope_said};
+ghost use Rattle.mb_syntax.specs.Answers.{operation_said};
+ghost use Rattle.mb_asm.specs.Answers.{GivesAlone};
+ghost use Rattle.mb_asm.specs.Extents.{address_of, behind, behind_dc, behind_directive, behind_ds, behind_even};
+ghost use Rattle.mb_asm.specs.Extents.{behind_instruction, behind_items, behind_org, count_of, equ_value, is_in};
+ghost use Rattle.mb_asm.specs.Extents.{item_len, narrow_value, no_size, only_value, onward, past, text_len};
+
+use crate::directive::{Directive, directive_of, only_of, plain_of, unit_of};
+use crate::evaluation::{has_flaw, value_of, values_of};
+use crate::fault::AsmKind;
+use crate::refusal::Refusal;
+use crate::value::{Flaw, Scope};
+use mb_mnemonics::{Range, length_of, number};
+use mb_syntax::{Expression, Name, Operand, Operation, SizeLetter};
+use std::alloc::{AllocError, Global};
+
+/// Stands for all addresses past 2^32, which is the end of the last byte.
+const PAST: u64 = 0x1_0000_0001;
+
+/// The address so many bytes on.
+pub(crate) fn onward(at: u64, len: u64) -> u64
+    ensures value { result ≡ onward at len }
+    ensures most { result ≤ 4294967297 }
+{
+    at.saturating_add(len).min(PAST)
+}
+
+/// What has no size.
+fn no_size(size: Option<SizeLetter>) -> Result<(), AsmKind>
+    ensures { result ≡ no_size size }
+{
+    if size.is_some() {
+        return Err(AsmKind::Operand);
+    }
+    Ok(())
+}
+
+/// The value of an expression.
+#[tactic(auto, unfolding(crate::specs::Extents::narrow_value))]
+pub(crate) fn narrow_value(scope: &Scope, expression: &Expression) -> Result<i64, AsmKind>
+    ensures { result ≡ narrow_value (scope_said scope.now) expression.now }
+{
+    if has_flaw(Flaw::Wide, scope, expression) {
+        return Err(AsmKind::Range);
+    }
+    Ok(value_of(scope, expression))
+}
+
+/// The value of the one operand of ORG, EQU or DS.
+#[tactic(auto, unfolding(crate::specs::Extents::only_value))]
+fn only_value(scope: &Scope, operands: &[Operand<Expression>]) -> Result<i64, AsmKind>
+    ensures { result ≡ only_value (scope_said scope.now) operands.now }
+{
+    let Some(expression) = only_of(operands) else {
+        return Err(AsmKind::Operand);
+    };
+    narrow_value(scope, expression)
+}
+
+fn address_of(value: i64) -> Option<u64>
+    ensures value { result ≡ address_of value }
+    ensures most { IfSome result (λ at. at ≤ 4294967297) }
+{
+    if value < 0 {
+        return None;
+    }
+    Some((value as u64).min(PAST))
+}
+
+#[tactic(auto, unfolding(crate::specs::Extents::behind_org))]
+fn behind_org(scope: &Scope, operation: &Operation) -> Result<u64, AsmKind>
+    ensures value { result ≡ behind_org (scope_said scope.now) (operation_said operation.now) }
+    ensures most { IfOk result (λ at. at ≤ 4294967297) }
+{
+    no_size(operation.size)?;
+    let value = only_value(scope, &operation.operands)?;
+    match address_of(value) {
+        Some(at) => Ok(at),
+        None => Err(AsmKind::Range),
+    }
+}
+
+/// A value of 32 bits, with or without a sign.
+#[tactic(auto, unfolding(crate::specs::Extents::equ_value))]
+pub(crate) fn equ_value(scope: &Scope, operation: &Operation) -> Result<i64, AsmKind>
+    ensures value { result ≡ equ_value (scope_said scope.now) (operation_said operation.now) }
+    ensures least { IfOk result (λ value. negsuc 2147483647 ≤ℤ value) }
+    ensures greatest { IfOk result (λ value. value ≤ℤ pos 4294967295) }
+{
+    no_size(operation.size)?;
+    let value = only_value(scope, &operation.operands)?;
+    if !is_long(value) {
+        return Err(AsmKind::Range);
+    }
+    Ok(value)
+}
+
+fn is_long(value: i64) -> bool
+    ensures value { result ≡ is_in range.Long value }
+    ensures least { IsTrue result → negsuc 2147483647 ≤ℤ value }
+    ensures greatest { IsTrue result → value ≤ℤ pos 4294967295 }
+{
+    -0x8000_0000 <= value && value <= 0xffff_ffff
+}
+
+fn count_of(value: i64) -> Option<u32>
+    ensures { result ≡ count_of value }
+{
+    if value < 0 {
+        return None;
+    }
+    number(Range::Long, value)
+}
+
+#[tactic(auto, unfolding(crate::specs::Extents::behind_ds))]
+fn behind_ds(scope: &Scope, operation: &Operation) -> Result<u64, AsmKind>
+    ensures value { result ≡ behind_ds (scope_said scope.now) (operation_said operation.now) }
+    ensures most { IfOk result (λ at. at ≤ 4294967297) }
+{
+    let Some(unit) = unit_of(operation.size) else {
+        return Err(AsmKind::Operand);
+    };
+    let value = only_value(scope, &operation.operands)?;
+    let Some(count) = count_of(value) else {
+        return Err(AsmKind::Range);
+    };
+    Ok(onward(scope.at, u64::from(unit) * u64::from(count)))
+}
+
+/// What a text has between its quotation marks.
+fn text_len(text: Name) -> u64
+    ensures { result ≡ text_len text }
+{
+    u64::from(text.end.saturating_sub(text.start).saturating_sub(2))
+}
+
+fn item_len(unit: u8, item: &Operand<Expression>) -> Option<u64>
+    ensures { result ≡ item_len unit item.now }
+{
+    match item {
+        Operand::Text(text) => {
+            if unit == 1 {
+                Some(text_len(*text))
+            } else {
+                None
+            }
+        }
+        _ => {
+            plain_of(item)?;
+            Some(u64::from(unit))
+        }
+    }
+}
+
+fn behind_items(unit: u8, at: u64, items: &[Operand<Expression>]) -> Result<u64, AsmKind>
+    requires { at ≤ 4294967297 }
+    ensures value { result ≡ behind_items unit at items.now }
+    ensures most { IfOk result (λ at. at ≤ 4294967297) }
+{
+    let mut next = at;
+    for item in items {
+        match item_len(unit, item) {
+            Some(len) => next = onward(next, len),
+            None => return Err(AsmKind::Operand),
+        }
+    }
+    Ok(next)
+}
+
+#[tactic(auto, unfolding(crate::specs::Extents::behind_dc))]
+fn behind_dc(at: u64, operation: &Operation) -> Result<u64, AsmKind>
+    requires { at ≤ 4294967297 }
+    ensures value { result ≡ behind_dc at (operation_said operation.now) }
+    ensures most { IfOk result (λ at. at ≤ 4294967297) }
+{
+    let Some(unit) = unit_of(operation.size) else {
+        return Err(AsmKind::Operand);
+    };
+    if operation.operands.is_empty() {
+        return Err(AsmKind::Operand);
+    }
+    behind_items(unit, at, &operation.operands)
+}
+
+#[tactic(auto, unfolding(crate::specs::Extents::behind_even))]
+fn behind_even(at: u64, operation: &Operation) -> Result<u64, AsmKind>
+    ensures value { result ≡ behind_even at (operation_said operation.now) }
+    ensures most { IfOk result (λ at. at ≤ 4294967297) }
+{
+    no_size(operation.size)?;
+    if !operation.operands.is_empty() {
+        return Err(AsmKind::Operand);
+    }
+    Ok(onward(at, at % 2))
+}
+
+#[tactic(auto, unfolding(crate::specs::Extents::behind_instruction))]
+fn behind_instruction(alloc: Global, scope: &Scope, operation: &Operation) -> Result<u64, Refusal>
+    ensures value { GivesAlone (λ at. at) result
+        (behind_instruction (scope_said scope.now) (operation_said operation.now)) }
+    ensures most { IfOk result (λ at. at ≤ 4294967297) }
+{
+    let values = values_of(alloc, scope, &operation.operands)?;
+    match length_of(operation.name.bytes(scope.line), operation.size, &values) {
+        Ok(len) => Ok(onward(scope.at, u64::from(len))),
+        Err(fault) => Err(Refusal::Kind(AsmKind::from(fault))),
+    }
+}
+
+/// The same in directives.
+fn behind_directive(
+    scope: &Scope,
+    operation: &Operation,
+    directive: Directive,
+) -> Result<u64, AsmKind>
+    ensures value { result ≡ behind_directive (scope_said scope.now) (operation_said operation.now) directive }
+    ensures most { IfOk result (λ at. at ≤ 4294967297) }
+{
+    match directive {
+        Directive::Org => behind_org(scope, operation),
+        Directive::Equ => Ok(scope.at),
+        Directive::Dc => behind_dc(scope.at, operation),
+        Directive::Ds => behind_ds(scope, operation),
+        Directive::Even => behind_even(scope.at, operation),
+    }
+}
+
+/// The address behind an operation, with the symbols of earlier lines.
+#[tactic(auto, unfolding(crate::specs::Extents::behind))]
+fn behind(alloc: Global, scope: &Scope, operation: &Operation) -> Result<u64, Refusal>
+    ensures value { GivesAlone (λ at. at) result (behind (scope_said scope.now) (operation_said operation.now)) }
+    ensures most { IfOk result (λ at. at ≤ 4294967297) }
+{
+    match directive_of(operation.name.bytes(scope.line)) {
+        Some(directive) => match behind_directive(scope, operation, directive) {
+            Ok(at) => Ok(at),
+            Err(kind) => Err(Refusal::Kind(kind)),
+        },
+        None => behind_instruction(alloc, scope, operation),
+    }
+}
+
+/// The same, apart from want of memory.
+pub(crate) fn reached(
+    alloc: Global,
+    scope: &Scope,
+    operation: &Operation,
+) -> Result<Result<u64, AsmKind>, AllocError>
+    ensures value { IfOk result (λ reached. reached ≡ behind (scope_said scope.now) (operation_said operation.now)) }
+    ensures most { IfOk result (λ reached. IfOk reached (λ at. at ≤ 4294967297)) }
+{
+    match behind(alloc, scope, operation) {
+        Ok(at) => Ok(Ok(at)),
+        Err(Refusal::Kind(kind)) => Ok(Err(kind)),
+        Err(Refusal::Memory) => Err(AllocError),
+    }
+}

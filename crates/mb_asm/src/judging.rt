@@ -1,0 +1,309 @@
+//! Judges the statement of a line.
+
+ghost use Rattle.std.specs.Prelude.{◌≡◌, ◌+◌, ◌≤◌, ◌||◌, [], IfOk, Ok, Some, length, option_map};
+ghost use Rattle.mb_syntax.specs.Answers.{operation_said, statement_said};
+ghost use Rattle.mb_asm.specs.Answers.{GivesAlone};
+ghost use Rattle.mb_asm.specs.Said.{symbols_said};
+ghost use Rattle.mb_asm.specs.Scopes.{scope_said};
+ghost use Rattle.mb_asm.specs.Laying.{layout_said};
+ghost use Rattle.mb_asm.specs.Layouts.{after_statement, next_at};
+ghost use Rattle.mb_asm.specs.Laids.{laid_said};
+ghost use Rattle.mb_asm.specs.Results.{refuse};
+ghost use Rattle.mb_asm.specs.Judged.{ends_past, equ_checked, has_no_name, is_address, is_again, is_misplaced};
+ghost use Rattle.mb_asm.specs.Judged.{is_odd, judged, judged_by, judged_label, judged_operation, reaches_past};
+ghost use Rattle.mb_asm.specs.Judged.{reads_earlier, scope_of, wants_label, admitted, laid_to};
+ghost use Rattle.mb_asm.specs.declared.value.Flaw.TheVariants as flaw;
+ghost use Rattle.mb_asm.specs.Values.{have_flaw};
+
+use crate::directive::{Directive, directive_of};
+use crate::evaluation::have_flaw;
+use crate::extent::{equ_value, reached};
+use crate::fault::AsmKind;
+use crate::laid::Laid;
+use crate::laying::earlier;
+use crate::layout::Layout;
+use crate::lookup::value_in;
+use crate::refusal::Refusal;
+use crate::symbol::Symbol;
+use crate::value::{Flaw, Scope};
+use crate::writing::bytes;
+use mb_syntax::{Name, Operation, Statement};
+use std::alloc::Global;
+
+/// The end of the last byte.
+const END: u64 = 0x1_0000_0000;
+
+/// A fault where a test holds.
+fn refuse(test: bool, kind: AsmKind) -> Result<(), Refusal>
+    ensures { GivesAlone (λ none. none) result (refuse test kind) }
+{
+    if test {
+        Err(Refusal::Kind(kind))
+    } else {
+        Ok(())
+    }
+}
+
+/// ORG, EQU and DS read symbols of earlier lines only.
+fn reads_earlier(directive: Option<Directive>) -> bool
+    ensures { result ≡ reads_earlier directive }
+{
+    matches!(
+        directive,
+        Some(Directive::Org | Directive::Equ | Directive::Ds)
+    )
+}
+
+/// What an operation reads its symbols in.
+fn scope_of<'s>(
+    symbols: &'s [Symbol<'_>],
+    layout: &'s Layout<'_>,
+    line: &'s [u8],
+    directive: Option<Directive>,
+) -> Scope<'s>
+    ensures given { scope_said result ≡ scope_of (symbols_said symbols.entry.now) (layout_said layout.entry.now)
+        line.entry.now directive }
+    ensures at { result.at ≡ layout.entry.now.at }
+{
+    if reads_earlier(directive) {
+        earlier(layout, line)
+    } else {
+        Scope {
+            symbols,
+            line,
+            at: layout.at,
+        }
+    }
+}
+
+/// Whether no operation has the name.
+fn has_no_name(next: Result<u64, AsmKind>) -> bool
+    ensures { result ≡ has_no_name next }
+{
+    matches!(next, Err(AsmKind::Name))
+}
+
+/// An EQU without a label.
+fn wants_label(label: Option<Name>, directive: Option<Directive>) -> bool
+    ensures { result ≡ wants_label label directive }
+{
+    matches!((label, directive), (None, Some(Directive::Equ)))
+}
+
+/// Whether an earlier line has the label.
+fn is_again(layout: &Layout, line: &[u8], label: Option<Name>) -> bool
+    ensures { result ≡ is_again (layout_said layout.now) line.now label }
+{
+    match label {
+        Some(name) => value_in(&layout.symbols, name.bytes(line)).is_some(),
+        None => false,
+    }
+}
+
+/// Whether a label is an address.
+fn is_address(label: Option<Name>, directive: Option<Directive>) -> bool
+    ensures { result ≡ is_address label directive }
+{
+    label.is_some() && !matches!(directive, Some(Directive::Equ))
+}
+
+/// Whether an operation ends past the last byte; ORG goes to a byte.
+fn ends_past(directive: Option<Directive>, next: u64) -> bool
+    ensures { result ≡ ends_past directive next }
+{
+    match directive {
+        Some(Directive::Org) => next >= END,
+        _ => next > END,
+    }
+}
+
+/// An instruction at an odd address, or an address past the last.
+fn is_misplaced(at: u64, label: Option<Name>, directive: Option<Directive>, next: u64) -> bool
+    ensures { result ≡ is_misplaced at label directive next }
+{
+    directive.is_none() && at % 2 == 1
+        || is_address(label, directive) && at >= END
+        || ends_past(directive, next)
+}
+
+/// An EQU has a value.
+fn equ_checked(
+    scope: &Scope,
+    operation: &Operation,
+    directive: Option<Directive>,
+) -> Result<(), Refusal>
+    ensures { GivesAlone (λ none. none) result (equ_checked (scope_said scope.now) (operation_said operation.now)
+        directive) }
+{
+    if let Some(Directive::Equ) = directive {
+        equ_value(scope, operation)?;
+    }
+    Ok(())
+}
+
+/// What is looked for before the operands.
+#[tactic(auto, unfolding(crate::specs::Judged::admitted))]
+fn admitted(
+    layout: &Layout,
+    line: &[u8],
+    label: Option<Name>,
+    directive: Option<Directive>,
+    is_unknown: bool,
+) -> Result<(), Refusal>
+    ensures { GivesAlone (λ none. none) result (admitted (layout_said layout.now) line.now label directive is_unknown) }
+{
+    refuse(wants_label(label, directive), AsmKind::Syntax)?;
+    refuse(is_unknown, AsmKind::Name)?;
+    refuse(is_again(layout, line, label), AsmKind::Twice)
+}
+
+/// What is written by an operation that ends at the address.
+#[tactic(auto, unfolding(crate::specs::Judged::laid_to))]
+fn laid_to(
+    alloc: Global,
+    end: u64,
+    scope: &Scope,
+    label: Option<Name>,
+    directive: Option<Directive>,
+    operation: &Operation,
+) -> Result<Laid, Refusal>
+    requires { end ≤ 4294967297 }
+    ensures given { GivesAlone laid_said result
+        (laid_to end (scope_said scope.now) label directive (operation_said operation.now)) }
+    ensures inside { IfOk result (λ laid. scope.now.at + length laid.bytes.items ≤ 4294967296) }
+    ensures last { IfOk result (λ laid. laid.next ≤ 4294967296) }
+    ensures reached { IfOk result (λ laid. laid.next ≡ end) }
+{
+    equ_checked(scope, operation, directive)?;
+    let bytes = bytes(alloc, scope, operation)?;
+    let is_misplaced = is_misplaced(scope.at, label, directive, end)
+        || reaches_past(scope.at, &bytes);
+    refuse(is_misplaced, AsmKind::Place)?;
+    Ok(Laid { bytes, next: end })
+}
+
+/// A byte at an address past the last.
+fn reaches_past(at: u64, bytes: &[u8]) -> bool
+    requires { at ≤ 4294967297 }
+    ensures { result ≡ reaches_past at bytes.now }
+{
+    at + bytes.len() as u64 > END
+}
+
+/// An operation in the line, with the symbols of all lines.
+#[tactic(auto, unfolding(crate::specs::Judged::judged_operation, crate::specs::Layouts::next_at))]
+fn judged_operation(
+    alloc: Global,
+    symbols: &[Symbol],
+    layout: &Layout,
+    line: &[u8],
+    label: Option<Name>,
+    operation: &Operation,
+) -> Result<Laid, Refusal>
+    ensures given { GivesAlone laid_said result
+        (judged_operation (symbols_said symbols.now) (layout_said layout.now) line.now label
+        (operation_said operation.now)) }
+    ensures inside { IfOk result (λ laid. layout.now.at + length laid.bytes.items ≤ 4294967296) }
+    ensures last { IfOk result (λ laid. laid.next ≤ 4294967296) }
+    ensures reached { IfOk result
+        (λ laid. laid.next ≡ next_at (layout_said layout.now) line.now (Some (operation_said operation.now))) }
+{
+    let directive = directive_of(operation.name.bytes(line));
+    let scope = scope_of(symbols, layout, line, directive);
+    let next = reached(alloc, &earlier(layout, line), operation)?;
+    judged_by(
+        alloc, layout, line, label, operation, directive, &scope, next,
+    )
+}
+
+/// An operation that is a directive or none, by what it reads its symbols in and the address behind it.
+#[tactic(auto, unfolding(crate::specs::Judged::judged_by))]
+fn judged_by(
+    alloc: Global,
+    layout: &Layout,
+    line: &[u8],
+    label: Option<Name>,
+    operation: &Operation,
+    directive: Option<Directive>,
+    scope: &Scope,
+    next: Result<u64, AsmKind>,
+) -> Result<Laid, Refusal>
+    requires { IfOk next (λ end. end ≤ 4294967297) }
+    ensures given { GivesAlone laid_said result
+        (judged_by (layout_said layout.now) line.now label (operation_said operation.now) directive
+        (scope_said scope.now) next) }
+    ensures inside { IfOk result (λ laid. scope.now.at + length laid.bytes.items ≤ 4294967296) }
+    ensures last { IfOk result (λ laid. laid.next ≤ 4294967296) }
+    ensures reached { IfOk result (λ laid. next ≡ Ok laid.next) }
+{
+    let is_unknown = is_unknown(next, scope, operation);
+    match admitted(layout, line, label, directive, is_unknown) {
+        Ok(()) => match next {
+            Ok(end) => laid_to(alloc, end, scope, label, directive, operation),
+            Err(kind) => Err(Refusal::Kind(kind)),
+        },
+        Err(refusal) => Err(refusal),
+    }
+}
+
+/// Whether an operation has no name that is known, or a symbol that is not known.
+fn is_unknown(next: Result<u64, AsmKind>, scope: &Scope, operation: &Operation) -> bool
+    ensures { result
+        ≡ (has_no_name next || have_flaw flaw.Unknown (scope_said scope.now) (operation_said operation.now).operands) }
+{
+    has_no_name(next) || have_flaw(Flaw::Unknown, scope, &operation.operands)
+}
+
+/// A label alone.
+#[tactic(auto, unfolding(crate::specs::Judged::judged_label))]
+fn judged_label(
+    alloc: Global,
+    layout: &Layout,
+    line: &[u8],
+    label: Option<Name>,
+) -> Result<Laid, Refusal>
+    ensures given { GivesAlone laid_said result (judged_label (layout_said layout.now) line.now label) }
+    ensures written { IfOk result (λ laid. laid.bytes.items ≡ []) }
+    ensures next { IfOk result (λ laid. laid.next ≡ layout.now.at) }
+{
+    refuse(is_again(layout, line, label), AsmKind::Twice)?;
+    refuse(label.is_some() && layout.at >= END, AsmKind::Place)?;
+    Ok(Laid {
+        bytes: Vec::new(alloc),
+        next: layout.at,
+    })
+}
+
+/// What the statement of a line writes, or the first fault that the line has.
+#[tactic(auto, unfolding(crate::specs::Layouts::next_at))]
+pub(crate) fn judged(
+    alloc: Global,
+    symbols: &[Symbol],
+    layout: &Layout,
+    line: &[u8],
+    statement: &Option<Statement>,
+) -> Result<Laid, Refusal>
+    requires { layout.now.at ≤ 4294967296 }
+    ensures given { GivesAlone laid_said result (judged (symbols_said symbols.now) (layout_said layout.now) line.now
+        (option_map statement_said statement.now)) }
+    ensures inside { IfOk result (λ laid. layout.now.at + length laid.bytes.items ≤ 4294967296) }
+    ensures next { IfOk result (λ laid. laid.next ≤ 4294967296) }
+    ensures reached { IfOk result
+        (λ laid. laid.next
+        ≡ (after_statement (layout_said layout.now) line.now (option_map statement_said statement.now)).at) }
+{
+    let Some(statement) = statement else {
+        return Err(Refusal::Kind(AsmKind::Syntax));
+    };
+    match &statement.operation {
+        Some(operation) => judged_operation(
+            alloc,
+            symbols,
+            layout,
+            line,
+            statement.label,
+            operation,
+        ),
+        None => judged_label(alloc, layout, line, statement.label),
+    }
+}

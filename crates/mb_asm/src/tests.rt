@@ -1,0 +1,88 @@
+use crate::{AsmFault, AsmKind, assemble};
+use mb_srec::write_records;
+use std::process::Abort;
+use std::test::Fail;
+
+#[test]
+fn a_small_source(rt: HostRuntime) -> Result<(), Fail> {
+    let text =
+        b" ORG 0\n DC.L $10000,start\n ORG $400\nstart MOVEQ #'A',D0\n MOVE.B D0,$FFF00000\n MOVE.L #1,$FFF00020\n";
+    let image = assemble(rt.alloc(), text)?;
+    let records = write_records(rt.alloc(), &image)?;
+    let expected = b"S0030000FC\nS30D000000000001000000000400ED\n\
+S31500000400704113C0FFF0000023FC00000001FFF064\nS307000004100020C4\nS70500000000FA\n";
+    assert!(rt; records.as_slice() == expected.as_slice());
+    Ok(())
+}
+
+/// The first faulty line of a text and its kind; none where there is an image.
+fn fault_of(rt: &impl Abort, alloc: std::alloc::Global, text: &[u8]) -> Option<(u32, AsmKind)> {
+    assert!(rt; text.len() < 1 << 31);
+    match assemble(alloc, text) {
+        Ok(_) => None,
+        Err(AsmFault::Line { number, kind }) => Some((number, kind)),
+        Err(AsmFault::Memory) => None,
+    }
+}
+
+#[rattlefmt::skip]
+#[test]
+fn faulty_lines(rt: HostRuntime) -> Result<(), Fail> {
+    let cases: [(&[u8], Option<(u32, AsmKind)>); 30] = [
+        (b"", None),
+        (b"; nothing\n* nothing\n\n   \n", None),
+        (b" NOP\n", None),
+        (b" DC.B @\n", Some((1, AsmKind::Syntax))),
+        (b"a EQU 1\n EQU 2\n", Some((2, AsmKind::Syntax))),
+        (b"\n ADD.Q D0,D1\n", Some((2, AsmKind::Syntax))),
+        (b"label:NOP\n", Some((1, AsmKind::Syntax))),
+        (b" MOVE D0, D1 ; blanks around commas\n", None),
+        (b" MOVEX D0,D1\n", Some((1, AsmKind::Name))),
+        (b" BRA there\n", Some((1, AsmKind::Name))),
+        (b" BRA there\n NOP\nthere: NOP\n", None),
+        (b" ORG later\nlater EQU 2\n", Some((1, AsmKind::Name))),
+        (b"a DS.B a\n", Some((1, AsmKind::Name))),
+        (b"a EQU 1\na EQU 2\n", Some((2, AsmKind::Twice))),
+        (b"a NOP\nA NOP\n", None),
+        (b" MOVEA.B D0,A0\n", Some((1, AsmKind::Operand))),
+        (b" EVEN 2\n", Some((1, AsmKind::Operand))),
+        (b" DC.W\n", Some((1, AsmKind::Operand))),
+        (b" DC.W \"ab\"\n", Some((1, AsmKind::Operand))),
+        (b" MOVEQ #256,D0\n", Some((1, AsmKind::Range))),
+        (b" DC.B 256\n", Some((1, AsmKind::Range))),
+        (b" DC.B -128,255\n", None),
+        (b" MOVE.L #$100000000,D0\n", Some((1, AsmKind::Range))),
+        (b" MOVEA.B #$100000000,A0\n", Some((1, AsmKind::Operand))),
+        (b" ORG -1\n", Some((1, AsmKind::Range))),
+        (b" ORG $FFFFFFFF+1\n", Some((1, AsmKind::Place))),
+        (b" ORG $FFFFFFFF\n DC.B 1\n", None),
+        (b" ORG $FFFFFFFF\n DC.B 1,2\n", Some((2, AsmKind::Place))),
+        (b" DC.B 1\n NOP\n", Some((2, AsmKind::Place))),
+        (b" DC.B 1\n DC.W 2\n", None),
+    ];
+    for (text, fault) in cases {
+        assert_eq!(rt; fault_of(&rt, rt.alloc(), text), fault);
+    }
+    Ok(())
+}
+
+#[rattlefmt::skip]
+#[test]
+fn a_program(rt: HostRuntime) -> Result<(), Fail> {
+    let text = b"stack   EQU $10000\n        ORG 0\n        DC.L stack, start\n        ORG $400\n\
+start:  LEA (text,PC),A0\nloop    MOVE.B (A0)+,D0\n        BEQ.S done\n\
+\x20       MOVE.B D0,out\n        BRA loop\ndone    STOP #$2700\nout     EQU $FFF00000\n\
+text    DC.B \"Hi\",10,0\n        EVEN\n        DS.W 2\nend     DC.W end-start, *\n";
+    let image = assemble(rt.alloc(), text)?;
+    let chunks: [(u32, &[u8]); 3] = [
+        (0, b"\x00\x01\x00\x00\x00\x00\x04\x00"),
+        (0x400, b"\x41\xFA\x00\x14\x10\x18\x67\x0A\x13\xC0\xFF\xF0\x00\x00\x60\x00\xFF\xF4\x4E\x72\x27\x00Hi\n\x00"),
+        (0x41E, b"\x00\x1E\x04\x1E"),
+    ];
+    assert_eq!(rt; image.chunks().len(), chunks.len());
+    for (chunk, (at, bytes)) in image.chunks().iter().zip(chunks) {
+        assert_eq!(rt; chunk.at(), at);
+        assert!(rt; chunk.bytes() == bytes);
+    }
+    Ok(())
+}
