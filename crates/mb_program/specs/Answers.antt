@@ -3,16 +3,19 @@ use Rattle.std.specs.Prelude.{◌≡◌, ◌⊎◌, ℕ, ◌*◌, ◌≤◌, nat
 use Rattle.std.specs.Prelude.{Option, Some, None, IfSome, option_and_then, Result, Ok, Err}
 use Rattle.std.specs.Result.{result_map_both}
 use Rattle.mb_srec.specs.Records.{records_of}
+use Rattle.mb_srec.specs.Written.{text_of}
 use Rattle.mb_srec.specs.Faults as image_fault
 use Rattle.mb_script.specs.Scripts.{script_of}
 use Rattle.mb_script.specs.Faults as line_fault
+use Rattle.mb_asm.specs.Texts as source_fault
+use Rattle.mb_asm.specs.Texts.{assembled}
 use Rattle.mb_model.specs.Keeping.{rule_a}
 use Rattle.mb_machine.specs.Machine.{Machine, Contents, Entries, start, run_of, seen_machine}
 use Rattle.mb_report.specs.Text.{outcome_text}
-use Rattle.mb_words.specs.Words.{Text, Run, Asked, bare}
+use Rattle.mb_words.specs.Words.{Text, Run, Asked, bare, assembly}
 use Rattle.mb_program.specs.declared.end.FileWhy.{FileWhy}
 use Rattle.mb_program.specs.declared.end.FileWhy.TheVariants.{TooLong, Line, Outside, NoEnd}
-use Rattle.mb_program.specs.declared.end.Reason.TheVariants.{Record, Words}
+use Rattle.mb_program.specs.declared.end.Reason.TheVariants.{Record, Words, Source}
 
 -- ---- answers
 
@@ -33,15 +36,17 @@ plain text = record { text = text; lines = []; status = 0 }
 
 -- ---- the files of a command
 
--- What a file is read as: an image for so many bytes of RAM, or a script.
+-- What a file is read as: an image for so many bytes of RAM, a script, or the source of an image.
 pub data Role : Type 0 where
   image : ℕ → Role
   script : Role
+  source : Role
 
 -- the most bytes of a file
 abbrev pub most_of : Role → ℕ
 most_of (image size) = 67108864
 most_of script = 67108864
+most_of source = 67108864
 
 -- A file by its name and its role.
 pub record File : Type 0 where
@@ -79,7 +84,7 @@ Names told (ends answer) name = ⊥
 
 -- ---- what a file holds
 
--- What a file holds: the contents of an image, or the entries of a script.
+-- What a file holds: the contents of an image, which a source has too, or the entries of a script.
 pub data Held : Type 0 where
   contents : Contents → Held
   entries : Entries → Held
@@ -94,10 +99,15 @@ image_why image_fault.NoEnd = NoEnd
 abbrev pub line_why : line_fault.Fault → FileWhy
 line_why fault = Line fault.number (Words fault.why)
 
+-- why the first faulty line of a source refuses its file
+abbrev pub source_why : source_fault.Fault → FileWhy
+source_why fault = Line fault.number (Source fault.kind)
+
 -- what a file's bytes hold by its role, or why it is refused
 unfoldable pub held_in : Role → Text → Result Held FileWhy
 held_in (image size) bytes = result_map_both contents image_why (records_of bytes size)
 held_in script bytes = result_map_both entries line_why (script_of bytes)
+held_in source bytes = result_map_both contents source_why (assembled bytes)
 
 -- a file is refused for its reason, or the course goes on by what it holds
 abbrev pub unless_refused : File → Result Held FileWhy → (Held → Course) → Course
@@ -113,9 +123,9 @@ reads_each adds [] so_far next = next so_far
 reads_each adds (file ∷ files) so_far next =
     reads_held file (λ held. reads_each adds files (adds so_far held) next)
 
--- ---- machines
+-- ---- what was read
 
--- What a machine is made of: its image's contents and its script's entries.
+-- What was read for a command: an image's contents and a script's entries.
 pub record Parts : Type 0 where
   pub image : Contents
   pub script : Entries
@@ -126,6 +136,8 @@ no_parts = record { image = []; script = [] }
 abbrev pub with_part : Parts → Held → Parts
 with_part parts (contents c) = record parts { image = c }
 with_part parts (entries e) = record parts { script = e }
+
+-- ---- machines
 
 abbrev pub bytes_of_ram : Run → ℕ
 bytes_of_ram run = 1024 * run.ram
@@ -151,10 +163,21 @@ bare_answer run parts = shows (plain (outcome_text 1 (seen_machine (machine_afte
 abbrev pub bare_course : Run → Course
 bare_course run = reads_each with_part (files_of run) no_parts (λ parts. ends (bare_answer run parts))
 
+-- ---- asm
+
+-- the image of a source as S-records
+abbrev pub asm_answer : Parts → Answer
+asm_answer parts = shows (plain (text_of parts.image))
+
+abbrev pub asm_course : Text → Course
+asm_course name =
+    reads_each with_part (record { name = name; role = source } ∷ []) no_parts (λ parts. ends (asm_answer parts))
+
 -- ---- every command
 
 unfoldable pub course_of : Asked → Course
 course_of (bare run) = bare_course run
+course_of (assembly name) = asm_course name
 
 -- The answer to what is asked, where each file that it needs is told.
 abbrev pub answer_of : Asked → Told → Option Answer

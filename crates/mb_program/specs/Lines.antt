@@ -4,6 +4,8 @@ use Rattle.mb_srec.specs.declared.fault.RecordWhy.{RecordWhy}
 use Rattle.mb_srec.specs.declared.fault.RecordWhy.TheVariants as why
 use Rattle.mb_script.specs.declared.fault.LineWhy.{LineWhy}
 use Rattle.mb_script.specs.declared.fault.LineWhy.TheVariants as line_why
+use Rattle.mb_asm.specs.declared.fault.AsmKind.{AsmKind}
+use Rattle.mb_asm.specs.declared.fault.AsmKind.TheVariants as kind
 use Rattle.mb_report.specs.Digits.{hex8}
 use Rattle.mb_words.specs.Words.{Text}
 use Rattle.mb_program.specs.declared.end.FileWhy.{FileWhy}
@@ -36,9 +38,18 @@ line_reason line_why.Digits = codes "digits"
 line_reason line_why.Order = codes "order"
 line_reason line_why.Many = codes "many"
 
+abbrev pub source_reason : AsmKind → Text
+source_reason kind.Syntax = codes "syntax"
+source_reason kind.Name = codes "name"
+source_reason kind.Twice = codes "twice"
+source_reason kind.Operand = codes "operand"
+source_reason kind.Range = codes "range"
+source_reason kind.Place = codes "place"
+
 abbrev pub reason_of : Reason → Text
 reason_of (reason.Record why) = record_reason why
 reason_of (reason.Words why) = line_reason why
+reason_of (reason.Source kind) = source_reason kind
 
 -- why a file is refused, behind its name
 abbrev pub why_text : FileWhy → Text

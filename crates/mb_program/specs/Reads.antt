@@ -8,12 +8,14 @@ use Rattle.mb_srec.specs.declared.fault.ImageFault.{ImageFault}
 use Rattle.mb_srec.specs.declared.fault.ImageFault.TheVariants as image_fault
 use Rattle.mb_script.specs.declared.fault.LineFault.{LineFault}
 use Rattle.mb_script.specs.declared.fault.LineFault.TheVariants as line_fault
+use Rattle.mb_asm.specs.declared.fault.AsmFault.{AsmFault}
+use Rattle.mb_asm.specs.declared.fault.AsmFault.TheVariants as asm_fault
 use Rattle.mb_words.specs.Words.{Text}
 use Rattle.mb_program.specs.Answers.{Told, File, Held, contents, most_of, held_in}
 use Rattle.mb_program.specs.Ends.{ShelfSeen, IsMissing}
 use Rattle.mb_program.specs.declared.end.FileWhy.{FileWhy}
 use Rattle.mb_program.specs.declared.end.FileWhy.TheVariants.{TooLong, Line, Outside, NoEnd}
-use Rattle.mb_program.specs.declared.end.Reason.TheVariants.{Record, Words}
+use Rattle.mb_program.specs.declared.end.Reason.TheVariants.{Record, Words, Source}
 use Rattle.mb_program.specs.declared.end.End.{End}
 use Rattle.mb_program.specs.declared.end.End.TheVariants.{Refused, Unread, Memory}
 use Rattle.mb_program.specs.declared.files.Loaded.{Loaded}
@@ -83,6 +85,11 @@ unheld_image image_fault.NoEnd = unheld.Why NoEnd
 abbrev pub unheld_script : LineFault → Unheld
 unheld_script line_fault.Memory = unheld.Memory
 unheld_script (line_fault.Line number why) = unheld.Why (Line number (Words why))
+
+-- what a fault of assembling a source is
+abbrev pub unheld_source : AsmFault → Unheld
+unheld_source asm_fault.Memory = unheld.Memory
+unheld_source (asm_fault.Line number kind) = unheld.Why (Line number (Source kind))
 
 -- how the run of a file of this name ends
 abbrev pub ends_by : String Global → Unheld → End

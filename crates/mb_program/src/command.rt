@@ -3,17 +3,18 @@
 ghost use Rattle.std.specs.Prelude.{◌≡◌, ◌*◌, [], All, map, string_bytes};
 ghost use Rattle.mb_srec.specs.Image.{LiesBelow, contents_of};
 ghost use Rattle.mb_words.specs.Values.{file_said};
-ghost use Rattle.mb_words.specs.Words.{asked_by, bare, run_said};
+ghost use Rattle.mb_words.specs.Words.{asked_by, assembly, bare, run_said, source_said};
 ghost use Rattle.mb_program.specs.Answers.{bare_answer, course_of, ends, reads_each, script_files, with_part};
 ghost use Rattle.mb_program.specs.Ends.{CourseEnds, Ends, shelf_seen, sink_seen};
 
 use crate::end::End;
-use crate::files::{image_file, script_file};
+use crate::files::{image_file, script_file, source_file};
 use crate::machine::show_machine;
+use crate::records::show_records;
 use mb_outside::{Shelf, Sink};
 use mb_script::Script;
 use mb_srec::Image;
-use mb_words::{Bare, Command, WordsFault, read_words};
+use mb_words::{Asm, Bare, Command, WordsFault, read_words};
 use std::alloc::Global;
 
 /// `bare`: reads the image and then the script, runs the machine and writes its outcome.
@@ -65,6 +66,24 @@ fn run_image<F: Shelf, O: Sink>(
     }
 }
 
+/// `asm`: reads the source, assembles it and writes the image as S-records.
+#[tactic(auto, unfolding(crate::specs::Answers::course_of))]
+fn run_asm<F: Shelf, O: Sink>(alloc: Global, asm: &Asm, shelf: &mut F, out: &mut O) -> End
+    ensures ends { CourseEnds (course_of (assembly (source_said asm.now))) (record {
+      shelf = shelf_seen F.told F.whole F.faults shelf.old;
+      shelf_after = shelf_seen F.told F.whole F.faults shelf.new;
+      out = sink_seen O.taken O.faults out.old;
+      out_after = sink_seen O.taken O.faults out.new;
+    }) result }
+    ensures told { F.told shelf.new ≡ F.told shelf.old }
+    ensures whole { F.whole shelf.new ≡ F.whole shelf.old }
+{
+    match source_file(alloc, shelf, asm.source) {
+        Ok(image) => show_records(alloc, &image, out),
+        Err(end) => end,
+    }
+}
+
 /// Reads the words, and runs their command.
 pub fn run_words<F: Shelf, O: Sink>(
     alloc: Global,
@@ -83,6 +102,7 @@ pub fn run_words<F: Shelf, O: Sink>(
 {
     match read_words(alloc, words) {
         Ok(Command::Bare(run)) => run_bare(alloc, &run, shelf, out),
+        Ok(Command::Asm(asm)) => run_asm(alloc, &asm, shelf, out),
         Err(WordsFault::Refused) => End::Words,
         Err(WordsFault::Memory) => End::Memory,
     }

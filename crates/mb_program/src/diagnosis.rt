@@ -3,10 +3,11 @@
 ghost use Rattle.std.specs.Prelude.{◌≡◌};
 ghost use Rattle.mb_outside.specs.Prints.{Prints, PrintsMore};
 ghost use Rattle.mb_program.specs.Lines.{line_of, named, named_file, why_text, status_of};
-ghost use Rattle.mb_program.specs.Lines.{line_reason, reason_of, record_reason};
+ghost use Rattle.mb_program.specs.Lines.{line_reason, reason_of, record_reason, source_reason};
 
 use crate::end::{End, FileWhy, Reason};
 use itoa::Buffer;
+use mb_asm::AsmKind;
 use mb_outside::{Sink, SinkFault, put_all, put_more};
 use mb_report::hex8;
 use mb_script::LineWhy;
@@ -28,6 +29,7 @@ fn reason(why: Reason) -> &'static [u8]
     match why {
         Reason::Record(why) => record_reason(why),
         Reason::Words(why) => line_reason(why),
+        Reason::Source(kind) => source_reason(kind),
     }
 }
 
@@ -40,6 +42,19 @@ fn line_reason(why: LineWhy) -> &'static [u8]
         LineWhy::Digits => b"digits",
         LineWhy::Order => b"order",
         LineWhy::Many => b"many",
+    }
+}
+
+fn source_reason(kind: AsmKind) -> &'static [u8]
+    ensures { result.now ≡ source_reason kind }
+{
+    match kind {
+        AsmKind::Syntax => b"syntax",
+        AsmKind::Name => b"name",
+        AsmKind::Twice => b"twice",
+        AsmKind::Operand => b"operand",
+        AsmKind::Range => b"range",
+        AsmKind::Place => b"place",
     }
 }
 

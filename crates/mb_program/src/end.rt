@@ -1,5 +1,6 @@
 //! How a run ends.
 
+use mb_asm::AsmKind;
 use mb_script::LineWhy;
 use mb_srec::RecordWhy;
 
@@ -10,6 +11,8 @@ pub enum Reason {
     Record(RecordWhy),
     /// It is no line of a script or of a session file.
     Words(LineWhy),
+    /// It is no line of a source, or what it says cannot be assembled.
+    Source(AsmKind),
 }
 
 /// Why a file is refused, whatever it is read as.

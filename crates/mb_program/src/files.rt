@@ -2,12 +2,14 @@
 
 ghost use Rattle.std.specs.Prelude.{◌≡◌, ◌≤◌, ◌*◌, All, IfOk, string_bytes};
 ghost use Rattle.mb_outside.specs.Counts.{Rose};
-ghost use Rattle.mb_srec.specs.Image.{LiesBelow, contents_of};
-ghost use Rattle.mb_program.specs.Answers.{entries, image, script};
+ghost use Rattle.mb_srec.specs.Image.{IsAddressed, LiesBelow, contents_of};
+ghost use Rattle.mb_program.specs.Answers.{entries, image, script, source};
 ghost use Rattle.mb_program.specs.Ends.{shelf_seen};
-ghost use Rattle.mb_program.specs.Reads.{Loads, Reads, image_held, ends_by, unheld_image, unheld_script};
+ghost use Rattle.mb_program.specs.Reads.{Loads, Reads, image_held, ends_by};
+ghost use Rattle.mb_program.specs.Reads.{unheld_image, unheld_script, unheld_source};
 
 use crate::end::{End, FileWhy, Reason};
+use mb_asm::{AsmFault, assemble};
 use mb_outside::{LoadFault, Shelf, load};
 use mb_script::{LineFault, Script, read_script};
 use mb_srec::{Image, ImageFault, read_image};
@@ -56,6 +58,20 @@ impl From<LineFault> for Unheld {
             LineFault::Line { number, why } => Unheld::Why(FileWhy::Line {
                 number,
                 why: Reason::Words(why),
+            }),
+        }
+    }
+}
+
+impl From<AsmFault> for Unheld {
+    ghost from_gives = { λ given fault. fault ≡ unheld_source given };
+
+    fn from(fault: AsmFault) -> Unheld {
+        match fault {
+            AsmFault::Memory => Unheld::Memory,
+            AsmFault::Line { number, kind } => Unheld::Why(FileWhy::Line {
+                number,
+                why: Reason::Source(kind),
             }),
         }
     }
@@ -125,6 +141,23 @@ pub(crate) fn script_file<F: Shelf>(alloc: Global, shelf: &mut F, name: &str) ->
     let file = load_file(alloc, shelf, name)?;
     match read_script(alloc, &file.bytes) {
         Ok(script) => Ok(script),
+        Err(fault) => Err(file.end(Unheld::from(fault))),
+    }
+}
+
+/// Assembles the source of a file.
+#[tactic(auto, unfolding(crate::specs::Answers::held_in))]
+pub(crate) fn source_file<F: Shelf>(alloc: Global, shelf: &mut F, name: &str) -> Result<Image, End>
+    ensures reads { Reads image_held
+        (shelf_seen F.told F.whole F.faults shelf.old) (shelf_seen F.told F.whole F.faults shelf.new)
+        (record { name = name.now; role = source }) result }
+    ensures addressed { IfOk result (λ image. All IsAddressed (contents_of image)) }
+    ensures told { F.told shelf.new ≡ F.told shelf.old }
+    ensures whole { F.whole shelf.new ≡ F.whole shelf.old }
+{
+    let file = load_file(alloc, shelf, name)?;
+    match assemble(alloc, &file.bytes) {
+        Ok(image) => Ok(image),
         Err(fault) => Err(file.end(Unheld::from(fault))),
     }
 }

@@ -10,6 +10,7 @@ mod diagnosis;
 mod end;
 mod files;
 mod machine;
+mod records;
 mod top;
 mod unfailing;
 

@@ -1,5 +1,7 @@
 //! Whole runs in memory: what no clause says, and each answer once with ample memory.
 
+mod sources;
+
 use crate::{run_program, run_unfailing};
 use mb_outside::{MemShelf, MemSink};
 use std::alloc::Global;
@@ -334,7 +336,7 @@ fn the_whole_text_is_written(rt: HostRuntime) {
 
 #[test]
 fn words_are_refused(rt: HostRuntime) {
-    let refused: [&str; 93] = [
+    let refused: [&str; 99] = [
         "mbx",
         "mbx bare",
         "mbx help",
@@ -346,6 +348,12 @@ fn words_are_refused(rt: HostRuntime) {
         "mbx -V",
         "mbx help bare",
         "mbx bare help",
+        "mbx asm",
+        "mbx asm ",
+        "mbx asm a.s b.s",
+        "mbx asm a.s --ram 64",
+        "mbx asm --help",
+        "mbx asm -",
         "mbx Bare hello.s19 --ram 64 --steps 10",
         "mbx bar hello.s19 --ram 64 --steps 10",
         "mbx host hello.s19 --ram 64 --steps 10",
@@ -678,7 +686,7 @@ fn a_shelf_fails_at_each_call(rt: HostRuntime) {
 
 #[test]
 fn nothing_outside_fails(rt: HostRuntime) {
-    let rows: [(&str, u8); 6] = [
+    let rows: [(&str, u8); 9] = [
         (HELLO_WORDS, 0),
         (SCRIPT_WORDS, 0),
         (
@@ -688,6 +696,9 @@ fn nothing_outside_fails(rt: HostRuntime) {
         ("mbx bare other.s19 --ram 64 --steps 10", 3),
         ("mbx bare hello.s19 --ram 63 --steps 10", 2),
         ("mbx bare - --ram 64 --steps 10", 2),
+        ("mbx asm other.s", 0),
+        ("mbx asm hello.s19", 0),
+        ("mbx asm hello.s19 --ram 64", 2),
     ];
     for (line, status) in rows {
         let words = split_words(rt.alloc(), line).expect(&rt, "ample memory");

@@ -13,10 +13,10 @@ use std::alloc::Global;
 /// Reads the words, of which the first is the program's name, runs their command, and says on diag how
 /// it ended. The answer is the exit status:
 ///
-/// - 0: the outcome text was written to out.
+/// - 0: the text of the command was written to out: the outcome of a run, or the records of an image.
 /// - 2: the words ask for nothing.
-/// - 3: a file has more than 67,108,864 bytes, or is no image for this RAM or no script; the line on diag says
-///   which, and why.
+/// - 3: a file has more than 67,108,864 bytes, or is no image for this RAM, no script or no source; the line on diag
+///   says which, and why.
 /// - 5: the shelf failed.
 /// - 6: out failed, and has a first part of the text.
 /// - 7: memory ran out.

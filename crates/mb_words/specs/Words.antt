@@ -5,6 +5,7 @@ use Rattle.std.specs.Str.{bytes_eq}
 pub use Rattle.mb_forms.specs.Forms.{Text}
 use Rattle.mb_forms.specs.Forms.{Form, Use, read}
 use Rattle.mb_words.specs.Values.{file_said, said_by, said_if_given, name_of, ram_of, ranged}
+use Rattle.mb_words.specs.declared.asm.Asm.{Asm}
 use Rattle.mb_words.specs.declared.bare.Bare.{Bare}
 use Rattle.mb_words.specs.declared.command.Command.{Command}
 use Rattle.mb_words.specs.declared.command.Command.TheVariants as command
@@ -17,15 +18,20 @@ pub record Run : Type 0 where
   pub steps : ℕ
   pub script : Option Text
 
--- what words can ask for: a command with its values
+-- what words can ask for: a run, or the assembly of a source, by the name of its file
 pub data Asked : Type 0 where
   bare : Run → Asked
+  assembly : Text → Asked
 
 abbrev pub run_said : Bare → Run
 run_said b = record { image = b.image.now; ram = b.ram; steps = b.steps; script = file_said b.script }
 
+abbrev pub source_said : Asm → Text
+source_said a = a.source.now
+
 abbrev pub asked_of : Command → Asked
 asked_of (command.Bare b) = bare (run_said b)
+asked_of (command.Asm a) = assembly (source_said a)
 
 -- `bare IMAGE --ram KIB --steps N [--script FILE]`
 abbrev pub bare_form : Form
@@ -53,10 +59,19 @@ bare_run uses = run_with
     (said_by (ranged 0 4294967295) (codes "steps") uses)
     (said_if_given name_of (codes "script") uses)
 
+-- `asm SOURCE`
+abbrev pub asm_form : Form
+asm_form = record { name = codes "asm"; positionals = codes "SOURCE" ∷ []; options = [] }
+
+-- the source that the values of `asm` name
+abbrev pub asm_source : List Use → Option Text
+asm_source uses = said_by name_of (codes "SOURCE") uses
+
 -- What the words ask for: `PROGRAM COMMAND`, and then the command's own words in its form. Other words ask
 -- for nothing.
 unfoldable pub asked_by : List Text → Option Asked
 asked_by (program ∷ name ∷ words) =
     if bytes_eq name (codes "bare") then option_map bare (option_and_then bare_run (read bare_form words))
+    else if bytes_eq name (codes "asm") then option_map assembly (option_and_then asm_source (read asm_form words))
     else None
 asked_by _ = None

@@ -1,9 +1,11 @@
 //! The commands.
 
+use crate::asm::Asm;
 use crate::bare::Bare;
 
 /// A command with its values.
 #[derive(Clone, Copy, Debug, Drop)]
 pub enum Command<'a> {
     Bare(Bare<'a>),
+    Asm(Asm<'a>),
 }

@@ -5,12 +5,15 @@
 //! `specs/Words`.
 #![tactic(auto)]
 
+mod asm;
+mod asm_words;
 mod bare;
 mod bare_words;
 mod command;
 mod reading;
 mod values;
 
+pub use asm::Asm;
 pub use bare::Bare;
 pub use command::Command;
 pub use mb_forms::WordsFault;

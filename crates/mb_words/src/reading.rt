@@ -4,6 +4,7 @@ ghost use Rattle.std.specs.Prelude.{map, string_bytes};
 ghost use Rattle.mb_forms.specs.Said.{ReadsAs};
 ghost use Rattle.mb_words.specs.Words.{asked_of, asked_by};
 
+use crate::asm_words::read_asm;
 use crate::bare_words::read_bare;
 use crate::command::Command;
 use mb_forms::WordsFault;
@@ -20,6 +21,7 @@ pub fn read_words<'a>(alloc: Global, words: &'a [String]) -> Result<Command<'a>,
     };
     match name.as_str() {
         "bare" => Ok(Command::Bare(read_bare(alloc, rest)?)),
+        "asm" => Ok(Command::Asm(read_asm(alloc, rest)?)),
         _ => Err(WordsFault::Refused),
     }
 }
