@@ -6,6 +6,7 @@ ghost use Rattle.mb_model.specs.Seen.{seen_of};
 ghost use Rattle.mb_walk.specs.Memory.{overwritten};
 ghost use Rattle.mb_machine.specs.Machine.{Machine, reset_with, run_of, seen_machine, stepping, with_ram};
 ghost use Rattle.mb_machine.specs.Machine.{state_after, takes_steps};
+ghost use Rattle.vm_meaning.specs.Free.{IsFreeRun};
 ghost use Rattle.mb_board.specs.Arrivals.{IsNext};
 
 use crate::bus::BoardBus;
@@ -157,10 +158,12 @@ impl Board {
         self.step_on(script, &mut next)
     }
 
-    /// Takes so many steps, or fewer where the machine halts or is switched off. It takes no memory.
+    /// Takes so many steps, or fewer where the machine halts or is switched off. It takes no memory. A board whose
+    /// caches may hold stale translations, until a flush that covers them, may do the same.
     pub fn run_bare(&mut self, script: &Script, steps: u32)
         requires { self.old.steps + steps < 2 ^ 32 }
         ensures means { self.new ≡ run_of rule_a script.now steps self.old }
+        ensures free { IsFreeRun script.now steps self.old self.new }
         ensures ram { length self.new.world.ram ≡ length self.old.world.ram }
     {
         let mut next = place_behind(script, self.steps);

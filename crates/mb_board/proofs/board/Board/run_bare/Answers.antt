@@ -1,6 +1,7 @@
 use Rattle.std.proofs.Common.{◌∙◌, ◌+◌, ◌-◌, sym, ap, arith}
 use Rattle.mb_model.specs.Keeping.{rule_a}
 use Rattle.mb_machine.specs.Machine.{Machine, run_of}
+use Rattle.vm_meaning.proofs.Runs.{ended-is_free}
 use Rattle.mb_board.proofs.Runs.{run_of-step, run_of-still, run_of-zero, stepped-by}
 use Rattle.mb_board.proofs.board.Board.run_bare.Goals as goal
 
@@ -8,6 +9,9 @@ pub returns-then-not-takes_steps-clause-means : goal.returns-then-not-takes_step
 returns-then-not-takes_steps-clause-means c =
     sym (run_of-still rule_a c.args.script.now (c.args.steps - c.loop.counter) c.loop.self (sym c.takes_steps.ensures ∙ c.if-not-takes_steps.true))
     ∙ c.loop.invariant.run
+
+pub returns-then-not-takes_steps-clause-free : goal.returns-then-not-takes_steps-clause-free
+returns-then-not-takes_steps-clause-free c = ended-is_free rule_a _ _ _ _ (returns-then-not-takes_steps-clause-means c)
 
 pub loop-preserved : goal.loop-preserved
 loop-preserved c =
@@ -27,3 +31,6 @@ loop-preserved c =
 pub returns-clause-means : goal.returns-clause-means
 returns-clause-means c =
     sym (run_of-zero rule_a c.args.script.now (c.args.steps - c.loop.counter) c.loop.self (omega arith)) ∙ c.loop.invariant.run
+
+pub returns-clause-free : goal.returns-clause-free
+returns-clause-free c = ended-is_free rule_a _ _ _ _ (returns-clause-means c)

@@ -1,0 +1,9 @@
+use Rattle.vm_meaning.proofs.Accesses.{accesses-use_or_search}
+use Rattle.vm_meaning.proofs.Upkeep.{free-boards_keep}
+use Rattle.vm_meaning.proofs.free_boards_keep.Goals as goal
+
+pub returns-clause-access : goal.returns-clause-access
+returns-clause-access c = accesses-use_or_search
+
+pub returns-clause-kept : goal.returns-clause-kept
+returns-clause-kept c = free-boards_keep

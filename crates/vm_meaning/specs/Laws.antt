@@ -1,0 +1,81 @@
+-- Every run is a free run, and what a free board does at a call.
+use Rattle.std.specs.Prelude.{◌≡◌, ◌⊎◌, ℕ, Bool, true, false, ◌&&◌, List, Option, Some, None, IsSomeAnd, is_none}
+use Rattle.mb_port.specs.Routine.{Call, Answer, Fetch, Read, Write, ReadLine, WriteLine, Probe, FlushKept, Test}
+use Rattle.mb_model.specs.declared.kept.Kept.{Kept}
+use Rattle.mb_model.specs.Keeping.{Rule, covers, is_of}
+use Rattle.mb_walk.specs.declared.found.Found.TheVariants.{Entry}
+use Rattle.mb_walk.specs.Search.{search_of}
+use Rattle.mb_laws.specs.Relations.{MayFollow}
+use Rattle.mb_laws.specs.Refusal.{any_call}
+use Rattle.mb_machine.specs.declared.reference.Reference.{Reference}
+use Rattle.mb_machine.specs.World.{World}
+use Rattle.mb_machine.specs.Access.{matched, marks, page_of, root_of, searched, through, translated, untranslated}
+use Rattle.mb_machine.specs.Bus.{bus_of, fetching, reading, writing}
+use Rattle.mb_machine.specs.Machine.{Entries, Machine, reset_with, run_of}
+use Rattle.vm_meaning.specs.Free.{IsKept, rule_free, holding, FreeCall, FreeRun, WorldWithin, Within, IsFreeRun}
+
+-- ---- every run is free
+
+-- Whatever the bus by a rule does at a call, the free bus may do too.
+abbrev pub CallsAreFree : Type 0
+CallsAreFree = (rule : Rule) → MayFollow WorldWithin any_call (bus_of rule) FreeCall
+
+-- A run by a rule is a free run.
+abbrev pub RunsAreFree : Type 0
+RunsAreFree = (rule : Rule) (script : Entries) (n : ℕ) (m : Machine) → IsFreeRun script n m (run_of rule script n m)
+
+-- So the machine after a run from reset is, but for what is kept, that of a free run from reset with the same memory,
+-- script and steps, and each of its kept entries stands in that run's.
+abbrev pub RunsFromResetAreFree : Type 0
+RunsFromResetAreFree = (rule : Rule) (script : Entries) (n size : ℕ) (ram : List ℕ)
+    → (end : Machine) × FreeRun script n (reset_with rule_free size ram) end
+    × Within (run_of rule script n (reset_with rule size ram)) end
+
+-- ---- an access
+
+-- Where an access through the tables leads, with the entry that is taken into the class. One of its page and space is
+-- used, but for a write that marks the page; else the tables are searched.
+pub record UsesOrSearches (r : Reference) (w : World) : Type 0 where
+  pub uses : (k : Kept) → is_of r.space (page_of r.at) k ≡ true → marks k r ≡ false
+      → translated rule_free r (holding (Some k) w) ≡ (through k r, holding (Some k) w)
+  pub marked : (k : Kept) → is_of r.space (page_of r.at) k ≡ true → marks k r ≡ true
+      → translated rule_free r (holding (Some k) w) ≡ searched rule_free (holding (Some k) w) r
+  pub other : (k : Kept) → is_of r.space (page_of r.at) k ≡ false
+      → translated rule_free r (holding (Some k) w) ≡ searched rule_free (holding (Some k) w) r
+  pub none : translated rule_free r (holding None w) ≡ searched rule_free (holding None w) r
+
+abbrev pub AccessesUseOrSearch : Type 0
+AccessesUseOrSearch = (r : Reference) (w : World) → untranslated w.mmu r ≡ None → UsesOrSearches r w
+
+-- ---- what is kept
+
+-- the reference that a call translates
+abbrev pub reference_of : Call → Option Reference
+reference_of (Fetch space at) = Some (fetching space at)
+reference_of (Read space p) = Some (reading space p.at)
+reference_of (Write space p value) = Some (writing space p.at)
+reference_of (ReadLine space at) = Some (reading space at)
+reference_of (WriteLine space at line) = Some (writing space at)
+reference_of (Probe space p) = Some (writing space p.at)
+reference_of other = None
+
+-- does a call drop an entry: a flush that covers it, or a PTEST of its page where no transparent register matches
+abbrev pub drops : Call → World → Kept → Bool
+drops (FlushKept what) w k = covers what k
+drops (Test space at write) w k = is_none (matched false w.mmu space (page_of at)) && is_of space (page_of at) k
+drops other w k = false
+
+-- A search for the reference finds the entry.
+abbrev pub IsFound : World → Kept → Reference → Type 0
+IsFound w k r =
+    (status : ℕ) × ((search_of w.ram (root_of w.mmu r.space) r.space (page_of r.at) r.write).found ≡ Entry k status)
+
+-- An entry that was kept stays, where the call does not drop it. Only such entries are kept then, and one that the call
+-- searched out.
+pub record KeepsFound (c : Call) (w after : World) (k : Kept) : Type 0 where
+  pub stays : IsKept k w.kept → drops c w k ≡ false → IsKept k after.kept
+  pub only : IsKept k after.kept → (IsKept k w.kept × (drops c w k ≡ false)) ⊎ IsSomeAnd (reference_of c) (IsFound w k)
+
+abbrev pub FreeBoardsKeep : Type 0
+FreeBoardsKeep = (c : Call) (w after : World) (answer : Answer c) → FreeCall c w answer after → (k : Kept)
+    → KeepsFound c w after k
