@@ -17,6 +17,7 @@ use mb_model::{Cpu, Outcome, RunState};
 use mb_outside::Memory;
 use mb_script::Script;
 use mb_step::step;
+use mb_table::FirstWords;
 use mb_walk::Ram;
 use std::alloc::Global;
 use std::marker::Model;
@@ -26,6 +27,7 @@ use std::marker::Model;
 pub struct Board {
     pub(crate) cpu: Cpu,
     pub(crate) bus: BoardBus,
+    pub(crate) table: FirstWords,
     pub(crate) steps: u32,
     pub(crate) state: RunState,
 }
@@ -53,9 +55,13 @@ impl Board {
         ensures ram { IfOk result (λ board. length board.world.ram ≡ size) }
     {
         let bus = BoardBus::new(alloc, size)?;
+        let Ok(table) = FirstWords::new(alloc) else {
+            return Err(Memory);
+        };
         let mut board = Board {
             cpu: Cpu::at_reset(0, 0),
             bus,
+            table,
             steps: 0,
             state: RunState::Running,
         };
@@ -142,7 +148,7 @@ impl Board {
         self.steps += 1;
         self.bus.tick();
         let level = self.bus.level();
-        let end = step(&mut self.cpu, &mut self.bus, level);
+        let end = step(&self.table, &mut self.cpu, &mut self.bus, level);
         self.state = self.state_after(end);
         end
     }

@@ -1,8 +1,8 @@
 -- One step of the processor: the entry of an interrupt, an idle tick, or an instruction with the exceptions that it
 -- causes.
-use Rattle.std.specs.Prelude.{ℕ, ◌+◌, ◌*◌, ◌/◌, ◌%◌, ◌^◌, ◌||◌, ◌&&◌, not, nat_lt, Bool, true, false, List, [], ◌∷◌}
+use Rattle.std.specs.Prelude.{◌≡◌, ℕ, ◌+◌, ◌*◌, ◌/◌, ◌%◌, ◌^◌, ◌||◌, ◌&&◌, not, nat_lt, Bool, true, false, List, [], ◌∷◌}
 use Rattle.std.specs.Prelude.{if◌then◌else◌}
-use Rattle.mb_port.specs.Routine.{Routine, Return, Then, caught, choose}
+use Rattle.mb_port.specs.Routine.{Bus, Routine, Return, Then, caught, choose, run}
 use Rattle.mb_instr.specs.declared.instruction.Instr.{Instr}
 use Rattle.mb_instr.specs.declared.instruction.Instr.TheVariants as instr
 use Rattle.mb_instr.specs.declared.instruction.System.{System}
@@ -177,3 +177,7 @@ unfoldable pub step_of : ℕ → Cpu → Routine Stepped
 step_of level cpu =
     choose (nat_lt (interrupt_mask cpu) level) (interrupt_of level cpu)
     (choose cpu.stopped (Return (step.Idle, cpu)) (instruction_of cpu))
+
+-- The processor halts at the step: the frame of an access error has no place, or a vector can't be read.
+abbrev pub Halts : {S : Type 0} → Bus S → ℕ → Cpu → S → Type 0
+Halts bus level cpu s = (run bus (step_of level cpu) s).0.0 ≡ step.Halted

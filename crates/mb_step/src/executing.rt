@@ -69,29 +69,32 @@ fn finish_undone<P: Port>(
     finish(instruction, ended, &before, cpu, port)
 }
 
-/// Finishes an instruction that left these registers.
+/// Finishes an instruction that left these registers. An end that is not done is put into memory only where it is one:
+/// at every step its bytes would be stored, and waited for.
 #[inline(always)]
 #[tactic(auto, unfolding(mb_meaning::specs::Step::finish_of))]
 fn finish_plain<P: Port>(
     instruction: &Instr,
-    ended: &Ended,
+    ended: Ended,
     plain: &Plain,
     cpu: &mut Cpu,
     port: &mut P,
 ) -> StepEnd
     requires { IsInstr instruction.now }
-    ensures means { run P.bus (finish_of instruction.now ended.now cpu.old (with_registers plain.now cpu.old))
+    ensures means { run P.bus (finish_of instruction.now ended cpu.old (with_registers plain.now cpu.old))
         (P.world port.old) ≡ ((result, cpu.new), P.world port.new) }
     ensures busy { result ≢ StepEnd.Idle }
     ensures rest { P.rest port.new ≡ P.rest port.old }
 {
-    if let Ended::Done { flow } = ended {
-        let due = is_due(cpu.regs.sr, *flow);
-        let at = cpu.regs.pc;
-        cpu.regs.set_plain(plain);
-        return trace_if(due, at, cpu, port);
+    match ended {
+        Ended::Done { flow } => {
+            let due = is_due(cpu.regs.sr, flow);
+            let at = cpu.regs.pc;
+            cpu.regs.set_plain(plain);
+            trace_if(due, at, cpu, port)
+        }
+        undone => finish_undone(instruction, &undone, plain, cpu, port),
     }
-    finish_undone(instruction, ended, plain, cpu, port)
 }
 
 /// Carries out an instruction of so many words that is not privileged.
@@ -113,10 +116,13 @@ fn execute_unprivileged<P: Port>(
     let at = plain.pc;
     plain.pc = at.wrapping_add(2 * u32::from(length));
     let ended = perform(instruction, at, cpu.space(), &mut plain, port);
-    finish_plain(instruction, &ended, &plain, cpu, port)
+    finish_plain(instruction, ended, &plain, cpu, port)
 }
 
 /// Carries out an instruction of so many words that stands at PC. A privileged one needs supervisor mode.
+///
+/// All families are inlined here, once: instructions of one word and longer ones share it.
+#[inline(never)]
 #[tactic(auto, unfolding(mb_meaning::specs::Step::executed_of))]
 pub(crate) fn execute<P: Port>(
     instruction: &Instr,

@@ -12,12 +12,13 @@ use crate::executing::execute;
 use crate::finishing::finish_unread;
 use crate::raising::refuse;
 use arrayvec::ArrayVec;
-use mb_decode::{Decoding, decode_into};
+use mb_decode::{Decoded, Decoding, decode_into};
 use mb_ea::ReadFault;
 use mb_instr::{Flow, Instr};
 use mb_meaning::StepEnd;
 use mb_model::Cpu;
 use mb_port::{Fault, Port};
+use mb_table::FirstWords;
 
 /// How many words an instruction can have behind its first.
 const MOST_BEHIND: usize = 10;
@@ -47,6 +48,7 @@ fn finish_unfetched<P: Port>(fault: Fault, at: u32, cpu: &mut Cpu, port: &mut P)
 
 /// Goes on with an instruction that has more words than its first: they are fetched one at a time, until they are an
 /// instruction or can no longer become one.
+#[inline(never)]
 fn execute_longer<P: Port>(first: u16, cpu: &mut Cpu, port: &mut P) -> StepEnd
     requires { cpu.old.regs.pc % 2 ≡ 0 }
     ensures means { run P.bus (found_executed cpu.old (found_of (most_words - 1) (space_of cpu.old)
@@ -78,7 +80,7 @@ fn execute_longer<P: Port>(first: u16, cpu: &mut Cpu, port: &mut P) -> StepEnd
 /// needs, and none at an odd PC.
 #[inline(always)]
 #[tactic(auto, unfolding(mb_meaning::specs::Step::instruction_of))]
-pub(crate) fn execute_next<P: Port>(cpu: &mut Cpu, port: &mut P) -> StepEnd
+pub(crate) fn execute_next<P: Port>(table: &FirstWords, cpu: &mut Cpu, port: &mut P) -> StepEnd
     ensures means { run P.bus (instruction_of cpu.old) (P.world port.old) ≡ ((result, cpu.new), P.world port.new) }
     ensures busy { result ≢ StepEnd.Idle }
     ensures rest { P.rest port.new ≡ P.rest port.old }
@@ -91,12 +93,11 @@ pub(crate) fn execute_next<P: Port>(cpu: &mut Cpu, port: &mut P) -> StepEnd
         Ok(word) => word,
         Err(fault) => return finish_unfetched(fault, at, cpu, port),
     };
-    let mut instruction = NOTHING;
-    match decode_into(first, &[], &mut instruction) {
-        Decoding::Whole(length) => execute(&instruction, length, cpu, port),
-        Decoding::More => execute_longer(first, cpu, port),
-        Decoding::Illegal => refuse(ILLEGAL, cpu, port),
-        Decoding::LineA => refuse(LINE_A, cpu, port),
-        Decoding::LineF => refuse(LINE_F, cpu, port),
+    match table.of(first) {
+        Decoded::Whole(instruction, length) => execute(instruction, *length, cpu, port),
+        Decoded::More => execute_longer(first, cpu, port),
+        Decoded::Illegal => refuse(ILLEGAL, cpu, port),
+        Decoded::LineA => refuse(LINE_A, cpu, port),
+        Decoded::LineF => refuse(LINE_F, cpu, port),
     }
 }

@@ -2,13 +2,14 @@
 
 ghost use Rattle.std.specs.Prelude.{◌≡◌, ◌↔◌, ◌<◌, ◌≤◌, true};
 ghost use Rattle.mb_port.specs.Routine.{run};
-ghost use Rattle.mb_meaning.specs.Step.{interrupt_mask, step_of};
+ghost use Rattle.mb_meaning.specs.Step.{Halts, interrupt_mask, step_of};
 
 use crate::fetching::execute_next;
 use crate::raising::interrupt;
 use mb_meaning::StepEnd;
 use mb_model::Cpu;
 use mb_port::Port;
+use mb_table::FirstWords;
 
 /// The interrupt mask, bits 10 to 8 of the status register.
 #[inline(always)]
@@ -21,13 +22,15 @@ fn interrupt_mask(cpu: &Cpu) -> u8
 /// One step of the processor, with an interrupt of `level` asked for, or of level 0 for none.
 ///
 /// An interrupt above the mask is entered, and the step has nothing else. A processor that STOP holds idles. Else the
-/// instruction at PC is carried out, with the exceptions that it causes.
+/// instruction at PC is carried out, with the exceptions that it causes. The table says what its first word begins
+/// with; any table of first words says the same.
 #[inline(always)]
 #[tactic(auto, unfolding(mb_meaning::specs::Step::step_of))]
-pub fn step<P: Port>(cpu: &mut Cpu, port: &mut P, level: u8) -> StepEnd
+pub fn step<P: Port>(table: &FirstWords, cpu: &mut Cpu, port: &mut P, level: u8) -> StepEnd
     requires { level < 8 }
     ensures means { run P.bus (step_of level cpu.old) (P.world port.old) ≡ ((result, cpu.new), P.world port.new) }
     ensures idle { result ≡ StepEnd.Idle ↔ (level ≤ interrupt_mask cpu.old) × (cpu.old.stopped ≡ true) }
+    ensures halted { result ≡ StepEnd.Halted ↔ Halts P.bus level cpu.old (P.world port.old) }
     ensures rest { P.rest port.new ≡ P.rest port.old }
 {
     if level > interrupt_mask(cpu) {
@@ -36,5 +39,5 @@ pub fn step<P: Port>(cpu: &mut Cpu, port: &mut P, level: u8) -> StepEnd
     if cpu.stopped {
         return StepEnd::Idle;
     }
-    execute_next(cpu, port)
+    execute_next(table, cpu, port)
 }

@@ -10,6 +10,7 @@ use crate::{StepEnd, step};
 use mb_instr::Regs;
 use mb_model::Cpu;
 use mb_port::{Piece, Port, Space};
+use mb_table::FirstWords;
 use mb_vector::VectorPort;
 use std::alloc::{AllocError, Global};
 
@@ -101,11 +102,11 @@ fn stands(port: &VectorPort, at: u32, longs: &[u32]) -> bool {
 }
 
 /// How so many steps end, each of which but the last goes on.
-fn steps(count: u32, cpu: &mut Cpu, port: &mut VectorPort) -> StepEnd {
+fn steps(table: &FirstWords, count: u32, cpu: &mut Cpu, port: &mut VectorPort) -> StepEnd {
     for _ in 1..count {
-        if step(cpu, port, 0) != StepEnd::Went {
+        if step(table, cpu, port, 0) != StepEnd::Went {
             return StepEnd::Halted;
         }
     }
-    step(cpu, port, 0)
+    step(table, cpu, port, 0)
 }

@@ -2,6 +2,7 @@
 
 use super::{NO_HOLE, RTE, memory, processor, put, stands, steps};
 use crate::StepEnd;
+use mb_table::FirstWords;
 use std::alloc::AllocError;
 
 /// CT of a frame's SSW, in its long.
@@ -10,6 +11,7 @@ const CT: u32 = 0x2000_0000;
 #[test]
 #[rattlefmt::skip]
 fn traces_after_rte(rt: HostRuntime) -> Result<(), AllocError> {
+    let table = FirstWords::new(rt.alloc())?;
     // SR before, the frame's SR, PC and format word, its SSW, and the address that the trace has; 0 without one.
     let rows = [
         (0x2700, 0x2000, 0x600, 0x0020, 0, 0),
@@ -28,7 +30,7 @@ fn traces_after_rte(rt: HostRuntime) -> Result<(), AllocError> {
         put(&mut port, 0x800C, 4, ssw);
         let mut cpu = processor(sr);
         let top = if format == 0x7008 { 0x803C } else { 0x8008 };
-        assert_eq!(rt; steps(1, &mut cpu, &mut port), StepEnd::Went);
+        assert_eq!(rt; steps(&table, 1, &mut cpu, &mut port), StepEnd::Went);
         if address == 0 {
             assert_eq!(rt; (cpu.regs.pc, cpu.regs.isp), (pc, top));
         } else {
@@ -41,11 +43,12 @@ fn traces_after_rte(rt: HostRuntime) -> Result<(), AllocError> {
 
 #[test]
 fn format_error(rt: HostRuntime) -> Result<(), AllocError> {
+    let table = FirstWords::new(rt.alloc())?;
     let mut port = memory(rt.alloc(), NO_HOLE, &[RTE])?;
     put(&mut port, 0x8006, 2, 0x3000);
     put(&mut port, 0x38, 4, 0x660);
     let mut cpu = processor(0xA700);
-    assert_eq!(rt; steps(1, &mut cpu, &mut port), StepEnd::Went);
+    assert_eq!(rt; steps(&table, 1, &mut cpu, &mut port), StepEnd::Went);
     assert_eq!(rt;
         (cpu.regs.sr, cpu.regs.pc, cpu.regs.isp),
         (0x2700, 0x660, 0x7FF8)
@@ -56,14 +59,15 @@ fn format_error(rt: HostRuntime) -> Result<(), AllocError> {
 
 #[test]
 fn continued_movem(rt: HostRuntime) -> Result<(), AllocError> {
+    let table = FirstWords::new(rt.alloc())?;
     // MOVEM.L D0-D3,(A0) with T1, refused at its third transfer; the handler at $500 returns.
     let mut port = memory(rt.alloc(), 0x1008, &[0x48D0, 0x000F])?;
     put(&mut port, 0x500, 2, u32::from(RTE));
     let mut cpu = processor(0xA700);
-    assert_eq!(rt; steps(1, &mut cpu, &mut port), StepEnd::Went);
+    assert_eq!(rt; steps(&table, 1, &mut cpu, &mut port), StepEnd::Went);
     assert_eq!(rt; cpu.regs.pc, 0x500);
     // Refused again: the frame is the same.
-    assert_eq!(rt; steps(1, &mut cpu, &mut port), StepEnd::Went);
+    assert_eq!(rt; steps(&table, 1, &mut cpu, &mut port), StepEnd::Went);
     assert_eq!(rt;
         (cpu.regs.sr, cpu.regs.pc, cpu.regs.isp),
         (0x2700, 0x500, 0x7FC4)
@@ -78,7 +82,7 @@ fn continued_movem(rt: HostRuntime) -> Result<(), AllocError> {
     assert!(rt; stands(&port, 0x7FF4, &[0x0404, 0x48D0_000F, 2]));
     // Done: the trace has the frame's PC.
     port.hole = NO_HOLE;
-    assert_eq!(rt; steps(1, &mut cpu, &mut port), StepEnd::Went);
+    assert_eq!(rt; steps(&table, 1, &mut cpu, &mut port), StepEnd::Went);
     assert_eq!(rt;
         (cpu.regs.sr, cpu.regs.pc, cpu.regs.isp),
         (0x2700, 0x500, 0x7FF4)

@@ -2,6 +2,7 @@
 
 use super::{NO_HOLE, memory, processor, stands, steps};
 use crate::{StepEnd, step};
+use mb_table::FirstWords;
 use std::alloc::AllocError;
 
 /// STOP #$2500.
@@ -9,26 +10,28 @@ const STOP: [u16; 2] = [0x4E72, 0x2500];
 
 #[test]
 fn interrupt_with_a_master_stack(rt: HostRuntime) -> Result<(), AllocError> {
+    let table = FirstWords::new(rt.alloc())?;
     let mut port = memory(rt.alloc(), NO_HOLE, &[0x4E71])?;
     let before = processor(0x3000);
     let mut cpu = before;
-    assert_eq!(rt; step(&mut cpu, &mut port, 6), StepEnd::Went);
+    assert_eq!(rt; step(&table, &mut cpu, &mut port, 6), StepEnd::Went);
     assert_eq!(rt; (cpu.regs.sr, cpu.regs.pc), (0x2600, 0x700));
     assert_eq!(rt; (cpu.regs.msp, cpu.regs.isp), (0x8FF8, 0x7FF8));
     assert!(rt; stands(&port, 0x8FF8, &[0x3000_0000, 0x0400_0078]));
     assert!(rt; stands(&port, 0x7FF8, &[0x3000_0000, 0x0400_1078]));
     // An equal mask holds it, and the handler returns.
-    assert_eq!(rt; step(&mut cpu, &mut port, 6), StepEnd::Went);
+    assert_eq!(rt; step(&table, &mut cpu, &mut port, 6), StepEnd::Went);
     assert_eq!(rt; cpu, before);
     Ok(())
 }
 
 #[test]
 fn interrupt_without_an_interrupt_stack(rt: HostRuntime) -> Result<(), AllocError> {
+    let table = FirstWords::new(rt.alloc())?;
     let mut port = memory(rt.alloc(), 0x7FFC, &[0x4E71])?;
     let mut cpu = processor(0x3000);
     cpu.stopped = true;
-    assert_eq!(rt; step(&mut cpu, &mut port, 6), StepEnd::Went);
+    assert_eq!(rt; step(&table, &mut cpu, &mut port, 6), StepEnd::Went);
     assert_eq!(rt;
         (cpu.regs.sr, cpu.regs.pc, cpu.stopped),
         (0x3000, 0x500, false)
@@ -56,17 +59,18 @@ fn interrupt_without_an_interrupt_stack(rt: HostRuntime) -> Result<(), AllocErro
 
 #[test]
 fn stopping(rt: HostRuntime) -> Result<(), AllocError> {
+    let table = FirstWords::new(rt.alloc())?;
     let mut port = memory(rt.alloc(), NO_HOLE, &STOP)?;
     let mut cpu = processor(0x2700);
-    assert_eq!(rt; steps(1, &mut cpu, &mut port), StepEnd::Went);
+    assert_eq!(rt; steps(&table, 1, &mut cpu, &mut port), StepEnd::Went);
     let stopped = cpu;
     assert_eq!(rt;
         (cpu.regs.sr, cpu.regs.pc, cpu.stopped),
         (0x2500, 0x404, true)
     );
-    assert_eq!(rt; step(&mut cpu, &mut port, 5), StepEnd::Idle);
+    assert_eq!(rt; step(&table, &mut cpu, &mut port, 5), StepEnd::Idle);
     assert_eq!(rt; cpu, stopped);
-    assert_eq!(rt; step(&mut cpu, &mut port, 6), StepEnd::Went);
+    assert_eq!(rt; step(&table, &mut cpu, &mut port, 6), StepEnd::Went);
     assert_eq!(rt;
         (cpu.regs.sr, cpu.regs.pc, cpu.stopped),
         (0x2600, 0x700, false)
@@ -76,7 +80,7 @@ fn stopping(rt: HostRuntime) -> Result<(), AllocError> {
     for sr in [0xA700, 0x6700] {
         let mut port = memory(rt.alloc(), NO_HOLE, &STOP)?;
         let mut cpu = processor(sr);
-        assert_eq!(rt; steps(1, &mut cpu, &mut port), StepEnd::Went);
+        assert_eq!(rt; steps(&table, 1, &mut cpu, &mut port), StepEnd::Went);
         assert_eq!(rt;
             (cpu.regs.sr, cpu.regs.pc, cpu.stopped),
             (0x2500, 0x500, false)

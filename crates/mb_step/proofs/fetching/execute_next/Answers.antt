@@ -1,6 +1,5 @@
-use Rattle.std.proofs.Common.{◌∙◌, ◌-◌, [], ◌∷◌, ap, sym, refl}
+use Rattle.std.proofs.Common.{◌∙◌, ◌-◌, [], ◌∷◌, sym, refl}
 use Rattle.mb_model.specs.Status.{space_of}
-use Rattle.mb_decode.specs.Decodes.{told}
 use Rattle.mb_meaning.specs.Attempt.{most_words}
 use Rattle.mb_step.proofs.Fetches.{instruction_from, instruction_at_odd, trying_on, trying_without, trying_whole, trying_none}
 use Rattle.mb_step.proofs.fetching.execute_next.Goals as goal
@@ -22,9 +21,8 @@ returns-in-Whole-clause-means g c =
     instruction_from g.P.Port.bus c.args.cpu.now _ c.if-at-eq1.false
     ∙ trying_on g.P.Port.bus _ most_words (most_words - 1) (space_of c.args.cpu.now) _ [] c.in-Ok.word _ _ (c.in-Ok.word ∷ []) _ refl
     (rw (sym c.space.ensures) c.in-Ok.ensures.means) refl
-    c.decode_into.ensures.means
-    ∙ trying_whole g.P.Port.bus _ _ _ _ _ c.decode_into.new.instruction c.in-Whole.length
-    (ap (λ answer. told answer c.decode_into.new.instruction) c.in-Whole.is) refl
+    c.of.ensures.means
+    ∙ trying_whole g.P.Port.bus _ _ _ _ _ _ _ c.in-Whole.is refl
     ∙ c.execute.ensures.means
 
 pub returns-in-More-clause-means : goal.returns-in-More-clause-means
@@ -32,7 +30,7 @@ returns-in-More-clause-means g c =
     instruction_from g.P.Port.bus c.args.cpu.now _ c.if-at-eq1.false
     ∙ trying_on g.P.Port.bus _ most_words (most_words - 1) (space_of c.args.cpu.now) _ [] c.in-Ok.word _ _ (c.in-Ok.word ∷ []) _ refl
     (rw (sym c.space.ensures) c.in-Ok.ensures.means) refl
-    (ap (λ answer. told answer c.decode_into.new.instruction) (sym c.in-More.is) ∙ c.decode_into.ensures.means)
+    (sym c.in-More.is ∙ c.of.ensures.means)
     ∙ c.execute_longer.ensures.means
 
 pub returns-in-Illegal-clause-means : goal.returns-in-Illegal-clause-means
@@ -40,7 +38,7 @@ returns-in-Illegal-clause-means g c =
     instruction_from g.P.Port.bus c.args.cpu.now _ c.if-at-eq1.false
     ∙ trying_on g.P.Port.bus _ most_words (most_words - 1) (space_of c.args.cpu.now) _ [] c.in-Ok.word _ _ (c.in-Ok.word ∷ []) _ refl
     (rw (sym c.space.ensures) c.in-Ok.ensures.means) refl
-    (ap (λ answer. told answer c.decode_into.new.instruction) (sym c.in-Illegal.is) ∙ c.decode_into.ensures.means)
+    (sym c.in-Illegal.is ∙ c.of.ensures.means)
     ∙ trying_none g.P.Port.bus _ _ 4 _ refl
     ∙ c.refuse-in-Illegal.ensures.means
 
@@ -49,7 +47,7 @@ returns-in-LineA-clause-means g c =
     instruction_from g.P.Port.bus c.args.cpu.now _ c.if-at-eq1.false
     ∙ trying_on g.P.Port.bus _ most_words (most_words - 1) (space_of c.args.cpu.now) _ [] c.in-Ok.word _ _ (c.in-Ok.word ∷ []) _ refl
     (rw (sym c.space.ensures) c.in-Ok.ensures.means) refl
-    (ap (λ answer. told answer c.decode_into.new.instruction) (sym c.in-LineA.is) ∙ c.decode_into.ensures.means)
+    (sym c.in-LineA.is ∙ c.of.ensures.means)
     ∙ trying_none g.P.Port.bus _ _ 10 _ refl
     ∙ c.refuse-in-LineA.ensures.means
 
@@ -58,6 +56,6 @@ returns-in-LineF-clause-means g c =
     instruction_from g.P.Port.bus c.args.cpu.now _ c.if-at-eq1.false
     ∙ trying_on g.P.Port.bus _ most_words (most_words - 1) (space_of c.args.cpu.now) _ [] c.in-Ok.word _ _ (c.in-Ok.word ∷ []) _ refl
     (rw (sym c.space.ensures) c.in-Ok.ensures.means) refl
-    (ap (λ answer. told answer c.decode_into.new.instruction) (sym c.in-LineF.is) ∙ c.decode_into.ensures.means)
+    (sym c.in-LineF.is ∙ c.of.ensures.means)
     ∙ trying_none g.P.Port.bus _ _ 11 _ refl
     ∙ c.refuse-in-LineF.ensures.means
