@@ -1,0 +1,74 @@
+-- The tables are of the area's bytes alone.
+use Rattle.std.proofs.Common.{◌≡◌, ◌∙◌, ℕ, ◌+◌, ◌*◌, ◌/◌, ◌%◌, ◌^◌, ◌≤◌, ◌<◌, List, length, take, drop, get_or, refl, ap, sym, subst, arith, inl, inr}
+use Rattle.std.proofs.lemmas.Bool.{cases_lt}
+use Rattle.std.proofs.lemmas.List.{get_or-take, get_or-drop}
+use Rattle.mb_port.specs.declared.types.Space.{Space}
+use Rattle.mb_walk.proofs.LongLemmas.{same_from}
+use Rattle.vm_shadow.specs.declared.table.Table.{Table}
+use Rattle.vm_shadow.specs.declared.table.Table.TheVariants.{Pointers, Pages}
+use Rattle.vm_shadow.specs.Slots.{slot_of, pages_of}
+use Rattle.vm_shadow.specs.Shadows.{Entries}
+use Rattle.vm_shadow.specs.Area.{longs, in_root, in_slot, entry_of, IsPageLong, Has, AreTables, Maps}
+use Rattle.vm_shadow.specs.Laws.{TablesAreOfTheArea, TablesStand}
+use Rattle.vm_shadow.proofs.Changes.{root_low, held, held_yes, held_no}
+use Rattle.vm_shadow.proofs.Walks.{both_stand}
+use Rattle.vm_shadow.proofs.Held.{entries_stay}
+
+byte_in : (ram : List ℕ) (area size k : ℕ) → k < size → get_or (take size (drop area ram)) k 0 ≡ get_or ram (area + k) 0
+byte_in ram area size k h = get_or-take size (drop area ram) k 0 h ∙ get_or-drop area ram k 0
+
+long_in : (ram after : List ℕ) (area index : ℕ) → take 65536 (drop area after) ≡ take 65536 (drop area ram) → index < 16384
+    → longs after area index ≡ longs ram area index
+long_in ram after area index e h = same_from after ram (area + 4 * index) 0 4 (λ j l.
+    let at : area + 4 * index + j ≡ area + (4 * index + j) = omega arith in
+    ap (λ (n : ℕ). get_or after n 0) at
+    ∙ sym (byte_in after area 65536 (4 * index + j) (omega arith))
+    ∙ ap (λ (bytes : List ℕ). get_or bytes (4 * index + j) 0) e
+    ∙ byte_in ram area 65536 (4 * index + j) (omega arith)
+    ∙ ap (λ (n : ℕ). get_or ram n 0) (sym at))
+
+module _ (area : ℕ) (tables : List Table) (t u : ℕ → ℕ) (w : AreTables area tables t) (same : (at : ℕ) → at < 16384 → u at ≡ t at) where
+  in_slots : (slot index : ℕ) → slot < 126 → index < 128 → u (in_slot slot index) ≡ t (in_slot slot index)
+  in_slots slot index h k = same (in_slot slot index) (omega arith)
+
+  few : (a : Table) → Has tables a → slot_of a tables < 126
+  few a h = let l : length tables ≤ 126 = w.few in omega arith
+
+  pub tables_stay : AreTables area tables u
+  tables_stay = record {
+    few = w.few;
+    roots = λ space index h. let low = root_low space index h in same (in_root space index) (omega arith) ∙ w.roots space index h;
+    pointers = λ space index h has.
+        in_slots (slot_of (Pointers space (index / 128)) tables) (index % 128) (few (Pointers space (index / 128)) has) (omega arith)
+        ∙ w.pointers space index h has;
+    pages = λ space index at h k has. subst (λ (n : ℕ). IsPageLong n)
+        (sym (in_slots (slot_of (Pages space index) tables) at (few (Pages space index) has) (omega arith))) (w.pages space index at h k has);
+    reached = w.reached;
+    free = λ slot index h k l. in_slots slot index k l ∙ w.free slot index h k l;
+  }
+
+  pub held_stays : (space : Space) (page : ℕ) → held tables u space page ≡ held tables t space page
+  held_stays space page = elim (cases_lt (slot_of (pages_of space page) tables) (length tables)) [
+    | inl has ↦
+        held_yes tables u space page has
+        ∙ ap entry_of (in_slots (slot_of (pages_of space page) tables) (page % 2 ^ 6) (few (pages_of space page) has) (omega arith))
+        ∙ sym (held_yes tables t space page has)
+    | inr k ↦ held_no tables u space page k ∙ sym (held_no tables t space page k)
+  ]
+
+pub tables_are_of_the_area : TablesAreOfTheArea
+tables_are_of_the_area s ram after m room e =
+    let same = λ (at : ℕ) (h : at < 16384). long_in ram after s.area at e h in
+    let maps : Maps s after = record {
+      aligned = m.aligned;
+      inside = room;
+      tables = tables_stay s.area s.tables (longs ram s.area) (longs after s.area) m.tables same;
+    } in (
+      maps,
+      ap (λ (f : Entries). record { entries = f; tables = s.tables }) (
+          entries_stay s s ram after m maps refl (held_stays s.area s.tables (longs ram s.area) (longs after s.area) m.tables same)
+          ),
+    )
+
+pub tables_stand : TablesStand
+tables_stand s ram m = both_stand s ram m

@@ -1,0 +1,11 @@
+pub mod PageLongs
+pub mod Positions
+pub mod Longs
+pub mod Changes
+pub mod Walks
+pub mod Held
+pub mod Maps
+pub mod Finds
+pub mod Searches
+pub mod Alone
+pub mod Lists

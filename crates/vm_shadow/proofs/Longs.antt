@@ -1,0 +1,48 @@
+-- A long of an area that is written, and what it leaves.
+use Rattle.std.proofs.Common.{◌≡◌, ◌≢◌, ◌∙◌, ℕ, ◌+◌, ◌*◌, ◌%◌, ◌^◌, ◌≤◌, ◌<◌, ◌==◌, Bool, true, false, cond, List, ◌++◌, length, take, drop}
+use Rattle.std.proofs.Common.{ap, sym, arith, inl, inr, length-append, length-take}
+use Rattle.std.proofs.Math.Path.{fun_ext}
+use Rattle.std.proofs.lemmas.List.{take-append-le, take-take}
+use Rattle.std.proofs.lemmas.Slice.{drop-append-drop}
+use Rattle.std.proofs.lemmas.Bool.{cases_eq}
+use Rattle.std.proofs.lemmas.Bool.Decides.{nat_tests}
+use Rattle.byteorder.specs.Endian.{big_bytes}
+use Rattle.byteorder.specs.Numbers.{length-bytes_high_first}
+use Rattle.mb_walk.specs.Memory.{with_number}
+use Rattle.mb_walk.proofs.LongLemmas.{long_same, long_other}
+use Rattle.vm_shadow.specs.Area.{longs, updated}
+
+pub updated_same : (t : ℕ → ℕ) (index long : ℕ) → updated t index long index ≡ long
+updated_same t index long = let b : (index == index) ≡ true = grind (arith, nat_tests) in ap (λ (b : Bool). cond b long (t index)) b
+
+pub updated_other : (t : ℕ → ℕ) (index long at : ℕ) → at ≢ index → updated t index long at ≡ t at
+updated_other t index long at n = let b : (at == index) ≡ false = grind (arith, nat_tests) in ap (λ (b : Bool). cond b long (t at)) b
+
+pub longs_written : (ram : List ℕ) (area index long : ℕ) → area % 4 ≡ 0 → area + 4 * index + 4 ≤ length ram → long < 2 ^ 32
+    → longs (with_number ram (area + 4 * index) 4 long) area ≡ updated (longs ram area) index long
+longs_written ram area index long a h small = fun_ext (λ at. elim (cases_eq at index) [
+  | inl e ↦
+      ap (λ (n : ℕ). longs (with_number ram (area + 4 * index) 4 long) area n) e
+      ∙ long_same ram (area + 4 * index) long h small
+      ∙ sym (updated_same (longs ram area) index long)
+      ∙ ap (updated (longs ram area) index long) (sym e)
+  | inr n ↦
+      long_other ram (area + 4 * index) long (area + 4 * at) h (omega arith) (omega arith) (omega arith)
+      ∙ sym (updated_other (longs ram area) index long at n)
+])
+
+pub take_written : (ram : List ℕ) (n at long : ℕ) → at + 4 ≤ length ram → n ≤ at → take n (with_number ram at 4 long) ≡ take n ram
+take_written ram n at long h k =
+    let front : length (take at ram) ≡ at = length-take at ram ∙ omega arith in
+    let both = length-append (take at ram) (big_bytes 4 long) in
+    take-append-le n (take at ram ++ big_bytes 4 long) (drop (at + length (big_bytes 4 long)) ram) (omega arith)
+    ∙ take-append-le n (take at ram) (big_bytes 4 long) (omega arith) ∙ take-take n at ram k
+
+pub drop_written : (ram : List ℕ) (n at long : ℕ) → at + 4 ≤ length ram → at + 4 ≤ n → drop n (with_number ram at 4 long) ≡ drop n ram
+drop_written ram n at long h k =
+    let front : length (take at ram) ≡ at = length-take at ram ∙ omega arith in
+    let count : length (big_bytes 4 long) ≡ 4 = length-bytes_high_first 4 long in
+    let both = length-append (take at ram) (big_bytes 4 long) in
+    drop-append-drop (at + length (big_bytes 4 long)) ram (take at ram ++ big_bytes 4 long) n (omega arith) (omega arith)
+
+pub ruleset frames = (longs_written, take_written, drop_written)

@@ -1,0 +1,19 @@
+use Rattle.std.proofs.Common.{arith, ap, ◌∙◌, ℕ, inl, inr}
+use Rattle.std.proofs.lemmas.Bool.{cases_eq}
+use Rattle.vm_shadow.specs.Area.{longs, updated}
+use Rattle.vm_shadow.proofs.Longs.{updated_same, updated_other}
+use Rattle.vm_shadow.proofs.area.wipe.Goals as goal
+
+pub loop-index-preserved : goal.loop-index-preserved
+loop-index-preserved g c =
+    let t = longs (g.R.Ram.bytes c.loop-index.ram) c.args.area in
+    record {
+      longs = λ at h. ap (λ (f : ℕ → ℕ). f at) c.set_in.ensures.longs ∙ elim (cases_eq at c.loop-index.index) [
+        | inl e ↦ ap (updated t c.loop-index.index 0) e ∙ updated_same t c.loop-index.index 0
+        | inr n ↦ updated_other t c.loop-index.index 0 at n ∙ c.loop-index.invariant.longs at (omega arith)
+      ];
+      size = c.set_in.ensures.size ∙ c.loop-index.invariant.size;
+      below = c.set_in.ensures.below ∙ c.loop-index.invariant.below;
+      above = c.set_in.ensures.above ∙ c.loop-index.invariant.above;
+      rest = c.set_in.ensures.rest ∙ c.loop-index.invariant.rest;
+    }

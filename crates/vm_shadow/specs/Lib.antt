@@ -1,0 +1,6 @@
+pub mod Slots
+pub mod Shadows
+pub mod Mapped
+pub mod Area
+pub mod Laws
+pub mod Listed

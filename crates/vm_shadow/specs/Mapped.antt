@@ -1,0 +1,77 @@
+-- What tables in memory map a page to, and that they stand in an area.
+use Rattle.std.specs.Prelude.{◌≡◌, ℕ, ◌+◌, ◌/◌, ◌%◌, ◌^◌, ◌<◌, ◌||◌, Bool, true, false, not, nat_lt, if◌then◌else◌}
+use Rattle.std.specs.Prelude.{List, Option, Some, None}
+use Rattle.mb_port.specs.declared.types.Space.{Space}
+use Rattle.mb_port.specs.declared.types.Space.TheVariants.{User, Super}
+use Rattle.mb_walk.specs.Memory.{number_at}
+use Rattle.mb_walk.specs.Descriptors.{table_descriptor, page_descriptor, entry_at, table_bytes, page_table_bytes}
+use Rattle.mb_walk.specs.Descriptors.{root_index, pointer_index, page_index}
+use Rattle.vm_shadow.specs.Slots.{Slots}
+use Rattle.vm_shadow.specs.Shadows.{Entries, Shadowed}
+
+-- the descriptors that a search for a page meets below a root: of its pointer table, of its page table, its own
+abbrev pub first : List ℕ → ℕ → ℕ → ℕ
+first ram root page = number_at ram (entry_at root table_bytes (root_index page)) 4
+
+abbrev pub second : List ℕ → ℕ → ℕ → ℕ
+second ram root page = number_at ram (entry_at (first ram root page) table_bytes (pointer_index page)) 4
+
+abbrev pub third : List ℕ → ℕ → ℕ → ℕ
+third ram root page = number_at ram (entry_at (second ram root page) page_table_bytes (page_index page)) 4
+
+abbrev pub is_protected : List ℕ → ℕ → ℕ → Bool
+is_protected ram root page =
+    ((table_descriptor (first ram root page)).protected || (table_descriptor (second ram root page)).protected)
+    || (page_descriptor (third ram root page)).protected
+
+-- The frame that tables without indirect descriptors map a page to, and whether it takes writes.
+unfoldable pub mapped : List ℕ → ℕ → ℕ → Option (ℕ × Bool)
+mapped ram root page =
+    if (table_descriptor (first ram root page)).resident
+    then (if (table_descriptor (second ram root page)).resident
+    then (if (page_descriptor (third ram root page)).resident
+    then Some ((page_descriptor (third ram root page)).frame, not (is_protected ram root page))
+    else None) else None) else None
+
+-- the bytes of an area
+abbrev pub area_bytes : ℕ
+area_bytes = 65536
+
+-- the root table of a space in the area at an address
+abbrev pub root_of : ℕ → Space → ℕ
+root_of area User = area
+root_of area Super = area + table_bytes
+
+-- what the tables in an area map, for pages of 20 bits
+abbrev pub entries_in : List ℕ → ℕ → Entries
+entries_in ram area space page = if nat_lt page (2 ^ 20) then mapped ram (root_of area space) page else None
+
+-- what a shadow holds, as its tables in memory have it
+abbrev pub shadowed : Slots → List ℕ → Shadowed
+shadowed s ram = record { entries = entries_in ram s.area; tables = s.tables }
+
+-- a search for a page goes on to its pointer table, and from there to its page table
+abbrev pub GoesOn : List ℕ → ℕ → ℕ → Type 0
+GoesOn ram root page = (table_descriptor (first ram root page)).resident ≡ true
+
+abbrev pub GoesFurther : List ℕ → ℕ → ℕ → Type 0
+GoesFurther ram root page = (table_descriptor (second ram root page)).resident ≡ true
+
+-- What a search for a page meets lies in the area. Its descriptor is not indirect, and its frame is for both spaces.
+pub record Path (ram : List ℕ) (area root page : ℕ) : Type 0 where
+  pub pointers : GoesOn ram root page → first ram root page / area_bytes ≡ area / area_bytes
+  pub pages : GoesOn ram root page → GoesFurther ram root page → second ram root page / area_bytes ≡ area / area_bytes
+  pub direct : GoesOn ram root page → GoesFurther ram root page
+      → (page_descriptor (third ram root page)).indirect ≡ false
+  pub for_both : GoesOn ram root page → GoesFurther ram root page
+      → (page_descriptor (third ram root page)).supervisor ≡ false
+
+-- A root and every table that it reaches lie in an area.
+pub record Stands (ram : List ℕ) (area root : ℕ) : Type 0 where
+  pub here : root / area_bytes ≡ area / area_bytes
+  pub whole : root % table_bytes ≡ 0
+  pub path : (page : ℕ) → page < 2 ^ 20 → Path ram area root page
+
+-- both roots
+abbrev pub BothStand : List ℕ → ℕ → Type 0
+BothStand ram area = (space : Space) → Stands ram area (root_of area space)

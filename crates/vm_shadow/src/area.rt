@@ -1,0 +1,81 @@
+//! The longs of an area.
+
+ghost use Rattle.std.specs.Prelude.{◌≡◌, ℕ, ◌+◌, ◌*◌, ◌%◌, ◌^◌, ◌≤◌, ◌<◌, length, take, drop};
+ghost use Rattle.vm_shadow.specs.Area.{longs, updated, in_root as root_place, in_slot as slot_place};
+ghost use Rattle.vm_shadow.specs.Area.{link as link_of, page_long as long_of, IsPageLong};
+
+use mb_port::Space;
+use mb_walk::Ram;
+
+/// The bytes of an area.
+pub const AREA_BYTES: u32 = 0x1_0000;
+
+/// The number of a root's entry among the longs of an area.
+pub fn in_root(space: Space, index: u32) -> u32
+    requires { index < 128 }
+    ensures number { result ≡ root_place space index }
+    ensures low { result < 256 }
+{
+    match space {
+        Space::User => index,
+        Space::Super => 128 + index,
+    }
+}
+
+/// The number of an entry of a slot.
+pub fn in_slot(slot: u32, index: u32) -> u32
+    requires slot { slot < 126 }
+    requires index { index < 128 }
+    ensures number { result ≡ slot_place slot index }
+    ensures inside { result < 16384 }
+{
+    256 + 128 * slot + index
+}
+
+/// The descriptor of the table in a slot.
+pub fn link(area: u32, slot: u32) -> u32
+    requires aligned { area % 65536 ≡ 0 }
+    requires slot { slot < 126 }
+    ensures { result ≡ link_of area slot }
+{
+    area + 1024 + 512 * slot + 10
+}
+
+/// The descriptor of a page.
+pub fn page_long(frame: u32, writable: bool) -> u32
+    requires { frame < 2 ^ 20 }
+    ensures long { result ≡ long_of frame writable }
+    ensures lawful { IsPageLong result }
+{
+    4096 * frame + if writable { 25 } else { 29 }
+}
+
+/// Sets a long of an area.
+#[tactic(auto, using(mb_walk::proofs::MemoryLemmas::lengths))]
+pub fn set_in<R: Ram>(ram: &mut R, area: u32, index: u32, long: u32)
+    requires aligned { area % 65536 ≡ 0 }
+    requires inside { area + 65536 ≤ length (R.bytes ram.old) }
+    requires index { index < 16384 }
+    ensures longs { longs (R.bytes ram.new) area ≡ updated (longs (R.bytes ram.old) area) index long }
+    ensures size { length (R.bytes ram.new) ≡ length (R.bytes ram.old) }
+    ensures below { take area (R.bytes ram.new) ≡ take area (R.bytes ram.old) }
+    ensures above { drop (area + 65536) (R.bytes ram.new) ≡ drop (area + 65536) (R.bytes ram.old) }
+    ensures rest { R.rest ram.new ≡ R.rest ram.old }
+{
+    ram.set_long(area + 4 * index, long);
+}
+
+/// Sets all longs of an area to 0.
+pub fn wipe<R: Ram>(ram: &mut R, area: u32)
+    requires aligned { area % 65536 ≡ 0 }
+    requires inside { area + 65536 ≤ length (R.bytes ram.old) }
+    ensures longs { (at : ℕ) → at < 16384 → longs (R.bytes ram.new) area at ≡ 0 }
+    ensures size { length (R.bytes ram.new) ≡ length (R.bytes ram.old) }
+    ensures below { take area (R.bytes ram.new) ≡ take area (R.bytes ram.old) }
+    ensures above { drop (area + 65536) (R.bytes ram.new) ≡ drop (area + 65536) (R.bytes ram.old) }
+    ensures rest { R.rest ram.new ≡ R.rest ram.old }
+{
+    for index in 0..AREA_BYTES / 4 {
+        set_in(ram, area, index, 0);
+    }
+}

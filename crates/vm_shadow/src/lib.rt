@@ -1,0 +1,16 @@
+//! A guest's shadow: translation tables in the board's memory, which map what the guest may use there by itself.
+//!
+//! A guest's bus stands on it.
+#![tactic(auto)]
+
+mod area;
+mod laws;
+mod shadow;
+mod table;
+
+pub use laws::{entries_are_listed, searches_find_entries, tables_are_of_the_area};
+pub use shadow::Shadow;
+pub use table::Table;
+
+#[cfg(test)]
+mod tests;

@@ -1,0 +1,187 @@
+//! Fills by hand.
+
+ghost use Rattle.std.specs.Prelude.{◌≡◌, ◌+◌, ◌≤◌, ◌<◌, ◌^◌, length};
+ghost use Rattle.vm_shadow.specs.Area.{Maps};
+
+use crate::Shadow;
+use Space::{Super, User};
+use mb_model::Kept;
+use mb_port::Space;
+use mb_walk::{Found, Ram, long_at, search, set_long_at};
+use std::alloc::Global;
+
+const SIZE: u32 = 0x2_0000;
+
+/// The area is the second half.
+const AREA: u32 = 0x1_0000;
+
+/// Plain memory.
+#[derive(Drop)]
+struct Bytes {
+    memory: Vec<u8>,
+    ghost size: { length memory.items ≡ 0x20000 },
+}
+
+impl Ram for Bytes {
+    ghost bytes = { λ b. b.memory.items };
+
+    ghost Rest = { Unit {0} };
+
+    ghost rest = { λ b. tt };
+
+    fn size(&self) -> u32 {
+        SIZE
+    }
+
+    fn long(&self, at: u32) -> u32 {
+        long_at(&self.memory, at as usize)
+    }
+
+    #[tactic(auto, using(mb_walk::proofs::MemoryLemmas::lengths))]
+    fn set_long(&mut self, at: u32, value: u32) {
+        set_long_at(&mut self.memory, at as usize, value);
+    }
+}
+
+/// Memory with a shadow in it.
+#[derive(Drop)]
+struct Guest {
+    ram: Bytes,
+    shadow: Shadow,
+    ghost tables: { Maps shadow ram.memory.items },
+}
+
+impl Guest {
+    /// An empty shadow in memory of other bytes.
+    fn new(alloc: Global) -> Option<Guest> {
+        let memory = vec![in alloc; 7u8; SIZE as usize].ok()?;
+        let mut ram = Bytes { memory };
+        let mut shadow = Shadow::new(alloc, AREA).ok()?;
+        shadow.clear(&mut ram);
+        Some(Guest { ram, shadow })
+    }
+
+    fn fill(&mut self, space: Space, page: u32, frame: u32, writable: bool) -> bool
+        requires page { page < 2 ^ 20 }
+        requires frame { frame < 2 ^ 20 }
+    {
+        self.shadow
+            .fill(&mut self.ram, space, page, frame, writable)
+    }
+
+    fn is_full_for(&self, space: Space, page: u32) -> bool
+        requires { page < 2 ^ 20 }
+    {
+        self.shadow.is_full_for(&self.ram, space, page)
+    }
+
+    fn drop_page(&mut self, space: Space, page: u32)
+        requires { page < 2 ^ 20 }
+    {
+        self.shadow.drop_page(&mut self.ram, space, page);
+    }
+
+    fn find(&self, space: Space, page: u32) -> Option<(u32, bool)>
+        requires { page < 2 ^ 20 }
+    {
+        self.shadow.find(&self.ram, space, page)
+    }
+}
+
+#[test]
+fn a_full_area_is_cleared_whole(rt: HostRuntime) {
+    for space in [User, Super] {
+        let mut guest = Guest::new(rt.alloc()).expect(&rt, "memory");
+        for k in 0..125u32 {
+            assert!(rt; !guest.fill(space, 64 * k, k, true));
+        }
+        assert_eq!(rt; guest.find(space, 64 * 124), Some((124, true)));
+        assert!(rt; !guest.is_full_for(space, 64 * 124 + 63));
+        assert!(rt; guest.is_full_for(space, 64 * 125));
+        assert!(rt; guest.fill(space, 64 * 125, 0xF_FFFF, false));
+        assert_eq!(rt; guest.find(space, 64 * 125), Some((0xF_FFFF, false)));
+        for k in 0..125u32 {
+            assert_eq!(rt; guest.find(space, 64 * k), None);
+        }
+        // nothing below the area
+        assert_eq!(rt; guest.ram.long(AREA - 4), 0x0707_0707);
+    }
+}
+
+#[test]
+fn an_empty_table_stays(rt: HostRuntime) {
+    for space in [User, Super] {
+        let mut guest = Guest::new(rt.alloc()).expect(&rt, "memory");
+        for k in 0..125u32 {
+            assert!(rt; !guest.fill(space, 64 * k, k, true));
+        }
+        guest.drop_page(space, 192);
+        assert_eq!(rt;
+            (guest.find(space, 192), guest.find(space, 128)),
+            (None, Some((2, true)))
+        );
+        assert!(rt; guest.fill(space, 8000, 1, true));
+        assert_eq!(rt;
+            (guest.find(space, 8000), guest.find(space, 128)),
+            (Some((1, true)), None)
+        );
+    }
+}
+
+#[test]
+fn a_search_finds_the_entries(rt: HostRuntime) {
+    let mut guest = Guest::new(rt.alloc()).expect(&rt, "memory");
+    assert_eq!(rt;
+        (guest.shadow.root(User), guest.shadow.root(Super)),
+        (AREA, AREA + 512)
+    );
+    // The space, the page, the frame, and whether it takes writes.
+    let entries = [
+        (User, 0, 0x123, true),
+        (Super, 0, 0x124, false),
+        (Super, 0xF_FFFF, 0xF_FFFF, true),
+        (User, 0x2043, 0, false),
+    ];
+    assert!(rt; !guest.fill(User, 0, 9, false));
+    for (space, page, frame, writable) in entries {
+        assert!(rt; page < 0x10_0000 && frame < 0x10_0000);
+        assert!(rt; !guest.fill(space, page, frame, writable));
+        assert_eq!(rt; guest.find(space, page), Some((frame, writable)));
+    }
+    let Guest { mut ram, shadow } = guest;
+    // The root's entries and those of the tables below, in the order in which they came to stand: each is resident and
+    // used, a page's is modified, and it is write-protected where the page takes no writes.
+    let longs = [
+        (AREA, 0x0001_040A),
+        (AREA + 0x400, 0x0001_060A),
+        (AREA + 0x600, 0x0012_3019),
+        (AREA + 0x200, 0x0001_080A),
+        (AREA + 0x800, 0x0001_0A0A),
+        (AREA + 0xA00, 0x0012_401D),
+    ];
+    for (at, long) in longs {
+        assert!(rt; at % 4 == 0 && at <= SIZE - 4);
+        assert_eq!(rt; ram.long(at), long);
+    }
+    for (space, page, frame, writable) in entries {
+        assert!(rt; page < 0x10_0000);
+        let kept = match search(&mut ram, shadow.root(space), User, 4096 * page, true) {
+            Found::Entry(kept, _) => Some(kept),
+            _ => None,
+        };
+        let wanted = Kept {
+            space: User,
+            page,
+            frame,
+            w: !writable,
+            s: false,
+            g: false,
+            m: true,
+        };
+        assert_eq!(rt; kept, Some(wanted));
+    }
+    assert_eq!(rt;
+        search(&mut ram, shadow.root(Super), Super, 0x204_3000, false),
+        Found::Invalid
+    );
+}
