@@ -1,7 +1,7 @@
 -- The fetch of an instruction, with one more word.
 use Rattle.std.proofs.lemmas.Bool.Decides.{nat_tests}
-use Rattle.std.proofs.Common.{◌≡◌, ◌≢◌, Bool, arith, ap, ℕ, suc, ◌+◌, ◌%◌, ◌^◌, ◌==◌, true, false, List, [], ◌∷◌, ◌++◌, Result, Ok, Err, refl}
-use Rattle.mb_port.specs.Routine.{Bus, Routine, Return, run, Fetch}
+use Rattle.std.proofs.Common.{◌≡◌, ◌≢◌, Bool, arith, ap, ℕ, suc, ◌+◌, ◌-◌, ◌%◌, ◌^◌, ◌==◌, true, false, List, [], ◌∷◌, ◌++◌, Result, Ok, Err, refl, sym, ◌∙◌}
+use Rattle.mb_port.specs.Routine.{Bus, Routine, Return, caught, run, Fetch}
 use Rattle.mb_port.specs.declared.types.Space.{Space}
 use Rattle.mb_port.specs.declared.types.Fault.{Fault}
 use Rattle.mb_instr.specs.declared.instruction.Instr.{Instr}
@@ -15,7 +15,8 @@ use Rattle.mb_writes.specs.declared.ends.Ended.TheVariants as ended
 use Rattle.mb_meaning.specs.Attempt.{Found, illegal, found_of, fetched_of, judged, most_words}
 use Rattle.mb_meaning.specs.Raise.{Stepped, refused_of}
 use Rattle.mb_meaning.specs.Step.{unread_of, unfound_of, executed_of, instruction_of}
-use Rattle.mb_step.specs.Fetching.{found_executed}
+use Rattle.mb_meaning.specs.declared.StepEnd.{StepEnd}
+use Rattle.mb_step.specs.Fetching.{Sought, sought_of}
 
 abbrev Answered : {S : Type 0} → Bus S → Space → ℕ → S → Result ℕ Fault → S → Type 0
 Answered bus space at s answer t = bus (Fetch space at) s ≡ (answer, t)
@@ -40,45 +41,94 @@ exhausted : {S : Type 0} (bus : Bus S) (m : ℕ) (space : Space) (at : ℕ) (wor
 unfolding found_of
 exhausted bus m space at words s e = rw (e, found_of) refl
 
--- ---- the same of an instruction, which is carried out once it is found
+-- ---- the rest of the words, which are sought: where they are none the step ends
 
 -- an instruction whose words so far are these
-abbrev pub trying : {S : Type 0} → Bus S → Cpu → Space → ℕ → ℕ → List ℕ → S → Stepped × S
-trying bus cpu space m at words s = run bus (found_executed cpu (found_of m space at words)) s
+abbrev pub seeking : {S : Type 0} → Bus S → Cpu → Space → ℕ → ℕ → List ℕ → S → Sought × S
+seeking bus cpu space m at words s = run bus (sought_of cpu (found_of m space at words)) s
+
+-- what is answered by an answer of the fetch
+abbrev pub seek : {S : Type 0} → Bus S → Cpu → Found × S → Sought × S
+seek bus cpu found = run bus (sought_of cpu (Return found.0)) found.1
+
+-- the answer where the step has ended
+abbrev pub ending : {S : Type 0} → Stepped × S → Sought × S
+ending stepped = ((Err stepped.0.0, stepped.0.1), stepped.1)
+
+pub seeking_on : {S : Type 0} (bus : Bus S) (cpu : Cpu) (m n : ℕ) (space : Space) (at : ℕ) (words : List ℕ) (word : ℕ) (s t : S) (now : List ℕ) (d : Decoded)
+    → m ≡ suc n → Answered bus space at s (Ok word) t → now ≡ words ++ word ∷ [] → d ≡ decode_of now
+    → seeking bus cpu space m at words s
+    ≡ run bus (sought_of cpu (judged d (found_of n space ((at + 2) % 2 ^ 32) now))) t
+seeking_on bus cpu m n space at words word s t now d e h w k = ap (seek bus cpu) (fetched bus m n space at words word s t now d e h w k)
+
+-- `q` is the same processor, as the code has it then
+pub seeking_without : {S : Type 0} (bus : Bus S) (cpu q : Cpu) (m n : ℕ) (space : Space) (at : ℕ) (words : List ℕ) (fault : Fault) (s t : S)
+    (stepped : Stepped × S) → m ≡ suc n → Answered bus space at s (Err fault) t → q ≡ cpu → run bus (unread_of (refused_in at fault) q) t ≡ stepped
+    → seeking bus cpu space m at words s ≡ ending stepped
+unfolding unfound_of
+seeking_without bus cpu q m n space at words fault s t stepped e h k r =
+    ap (seek bus cpu) (unfetched bus m n space at words fault s t e h) ∙ ap ending (rw (sym k) r)
+
+pub seeking_no_more : {S : Type 0} (bus : Bus S) (cpu q : Cpu) (m : ℕ) (space : Space) (at : ℕ) (words : List ℕ) (s : S) (stepped : Stepped × S)
+    → m ≡ 0 → q ≡ cpu → run bus (refused_of 4 q) s ≡ stepped → seeking bus cpu space m at words s ≡ ending stepped
+unfolding unfound_of
+seeking_no_more bus cpu q m space at words s stepped e k r =
+    ap (seek bus cpu) (exhausted bus m space at words s e) ∙ ap ending (rw (sym k) r)
+
+-- no instruction begins so
+pub seeking_none : {S : Type 0} (bus : Bus S) (cpu q : Cpu) (vector : ℕ) (t : S) (stepped : Stepped × S)
+    → q ≡ cpu → run bus (refused_of vector q) t ≡ stepped
+    → run bus (sought_of cpu (Return (Err (ended.Refused vector)))) t ≡ ending stepped
+unfolding unfound_of
+seeking_none bus cpu q vector t stepped k r = ap ending (rw (sym k) r)
+
+-- an instruction was found
+pub seeking_whole : {S : Type 0} (bus : Bus S) (cpu q : Cpu) (more : Routine Found) (t : S) (d : Decoded) (i : Instr) (n : ℕ)
+    → d ≡ Whole i n → q ≡ cpu
+    → run bus (sought_of cpu (judged d more)) t ≡ ((Ok (i, n), q), t)
+seeking_whole bus cpu q more t d i n h k = rw (h, k) refl
+
+-- ---- all words, which are carried out once they are an instruction
+
+-- it is carried out once it is found
+abbrev pub found_executed : Cpu → Routine Found → Routine Stepped
+found_executed cpu found = caught found (λ end. unfound_of end cpu) (λ found. executed_of found.0 found.1 cpu)
 
 -- what is done with an answer of the fetch
 abbrev pub doing : {S : Type 0} → Bus S → Cpu → Found × S → Stepped × S
 doing bus cpu found = run bus (found_executed cpu (Return found.0)) found.1
 
-pub trying_on : {S : Type 0} (bus : Bus S) (cpu : Cpu) (m n : ℕ) (space : Space) (at : ℕ) (words : List ℕ) (word : ℕ) (s t : S) (now : List ℕ) (d : Decoded)
-    → m ≡ suc n → Answered bus space at s (Ok word) t → now ≡ words ++ word ∷ [] → d ≡ decode_of now
-    → trying bus cpu space m at words s
-    ≡ run bus (found_executed cpu (judged d (found_of n space ((at + 2) % 2 ^ 32) now))) t
-trying_on bus cpu m n space at words word s t now d e h w k = ap (doing bus cpu) (fetched bus m n space at words word s t now d e h w k)
+-- the words behind the first
+abbrev pub behind : Cpu → ℕ → Routine Found
+behind cpu word = found_of (most_words - 1) (space_of cpu) ((cpu.regs.pc + 2) % 2 ^ 32) (word ∷ [])
 
--- `q` is the same processor, as the code has it then
-pub trying_without : {S : Type 0} (bus : Bus S) (cpu q : Cpu) (m n : ℕ) (space : Space) (at : ℕ) (words : List ℕ) (fault : Fault) (s t : S)
-    → m ≡ suc n → Answered bus space at s (Err fault) t → q ≡ cpu
-    → trying bus cpu space m at words s ≡ run bus (unread_of (refused_in at fault) q) t
+-- it begins no instruction
+pub begins_none : {S : Type 0} (bus : Bus S) (cpu : Cpu) (vector : ℕ) (t : S)
+    → run bus (found_executed cpu (Return (Err (ended.Refused vector)))) t ≡ run bus (refused_of vector cpu) t
 unfolding unfound_of
-trying_without bus cpu q m n space at words fault s t e h k = rw (k) (ap (doing bus cpu) (unfetched bus m n space at words fault s t e h))
+begins_none bus cpu vector t = refl
 
-pub trying_no_more : {S : Type 0} (bus : Bus S) (cpu q : Cpu) (m : ℕ) (space : Space) (at : ℕ) (words : List ℕ) (s : S)
-    → m ≡ 0 → q ≡ cpu → trying bus cpu space m at words s ≡ run bus (refused_of 4 q) s
-unfolding unfound_of
-trying_no_more bus cpu q m space at words s e k = rw (k) (ap (doing bus cpu) (exhausted bus m space at words s e))
+-- it is an instruction
+pub is_whole : {S : Type 0} (bus : Bus S) (cpu : Cpu) (more : Routine Found) (t : S) (d : Decoded) (i : Instr) (n : ℕ) → d ≡ Whole i n
+    → run bus (found_executed cpu (judged d more)) t ≡ run bus (executed_of i n cpu) t
+is_whole bus cpu more t d i n h = rw (h) refl
 
--- no instruction begins so
-pub trying_none : {S : Type 0} (bus : Bus S) (cpu q : Cpu) (vector : ℕ) (t : S) → q ≡ cpu
-    → run bus (found_executed cpu (Return (Err (ended.Refused vector)))) t ≡ run bus (refused_of vector q) t
-unfolding unfound_of
-trying_none bus cpu q vector t k = rw (k) refl
+-- what follows an answer: the instruction is carried out, or the step has ended
+abbrev pub carried : {S : Type 0} → Bus S → Result (Instr × ℕ) StepEnd → Cpu → S → Stepped × S
+carried bus (Ok found) cpu s = run bus (executed_of found.0 found.1 cpu) s
+carried bus (Err end) cpu s = ((end, cpu), s)
 
--- an instruction was found, and is carried out
-pub trying_whole : {S : Type 0} (bus : Bus S) (cpu q : Cpu) (more : Routine Found) (t : S) (d : Decoded) (i : Instr) (n : ℕ)
-    → d ≡ Whole i n → q ≡ cpu
-    → run bus (found_executed cpu (judged d more)) t ≡ run bus (executed_of i n q) t
-trying_whole bus cpu q more t d i n h k = rw (h, k) refl
+carried_on : {S : Type 0} (bus : Bus S) (cpu : Cpu) (answer : Found) (s : S)
+    → doing bus cpu (answer, s) ≡ carried bus (seek bus cpu (answer, s)).0.0 (seek bus cpu (answer, s)).0.1 (seek bus cpu (answer, s)).1
+carried_on bus cpu (Ok found) s = refl
+carried_on bus cpu (Err end) s = refl
+
+-- it has more words, and these were sought, with this answer
+pub has_more : {S : Type 0} (bus : Bus S) (cpu q : Cpu) (word : ℕ) (s t : S) (answer : Result (Instr × ℕ) StepEnd)
+    → run bus (sought_of cpu (behind cpu word)) s ≡ ((answer, q), t) → run bus (found_executed cpu (behind cpu word)) s ≡ carried bus answer q t
+has_more bus cpu q word s t answer h =
+    carried_on bus cpu (run bus (behind cpu word) s).0 (run bus (behind cpu word) s).1
+    ∙ ap (λ (sought : Sought × _). carried bus sought.0.0 sought.0.1 sought.1) h
 
 -- at an odd PC nothing is fetched
 at_odd : {S : Type 0} (bus : Bus S) (cpu : Cpu) (s : S) (odd : Bool) → (cpu.regs.pc % 2 == 1) ≡ odd → odd ≡ true
@@ -95,13 +145,27 @@ instruction_at_odd bus cpu s h = at_odd bus cpu s _ refl (equal (cpu.regs.pc % 2
 
 -- at an even PC it begins without a word
 begun : {S : Type 0} (bus : Bus S) (cpu : Cpu) (s : S) (odd : Bool) → (cpu.regs.pc % 2 == 1) ≡ odd → odd ≡ false
-    → run bus (instruction_of cpu) s ≡ trying bus cpu (space_of cpu) most_words cpu.regs.pc [] s
+    → run bus (instruction_of cpu) s ≡ run bus (found_executed cpu (found_of most_words (space_of cpu) cpu.regs.pc [])) s
 unfolding instruction_of fetched_of
 begun bus cpu s odd e h = rw (e, h) refl
 
 unequal : (a b : ℕ) → a ≢ b → (a == b) ≡ false
 unequal a b h = grind (arith, nat_tests)
 
-pub instruction_from : {S : Type 0} (bus : Bus S) (cpu : Cpu) (s : S) → cpu.regs.pc % 2 ≢ 1
-    → run bus (instruction_of cpu) s ≡ trying bus cpu (space_of cpu) most_words cpu.regs.pc [] s
-instruction_from bus cpu s h = begun bus cpu s _ refl (unequal (cpu.regs.pc % 2) 1 h)
+-- the first word came, and what follows goes by what it is alone
+pub first_word : {S : Type 0} (bus : Bus S) (cpu : Cpu) (space : Space) (word : ℕ) (s t : S) (d : Decoded)
+    → cpu.regs.pc % 2 ≢ 1 → space ≡ space_of cpu → Answered bus space cpu.regs.pc s (Ok word) t → d ≡ decode_of (word ∷ [])
+    → run bus (instruction_of cpu) s
+    ≡ run bus (found_executed cpu (judged d (behind cpu word))) t
+first_word bus cpu space word s t d even k h e =
+    begun bus cpu s _ refl (unequal (cpu.regs.pc % 2) 1 even)
+    ∙ ap (doing bus cpu) (fetched bus most_words (most_words - 1) (space_of cpu) cpu.regs.pc [] word s t (word ∷ []) d refl (rw (sym k) h) refl e)
+
+-- the first word did not come
+pub no_first_word : {S : Type 0} (bus : Bus S) (cpu : Cpu) (space : Space) (fault : Fault) (s t : S)
+    → cpu.regs.pc % 2 ≢ 1 → space ≡ space_of cpu → Answered bus space cpu.regs.pc s (Err fault) t
+    → run bus (instruction_of cpu) s ≡ run bus (unread_of (refused_in cpu.regs.pc fault) cpu) t
+unfolding unfound_of
+no_first_word bus cpu space fault s t even k h =
+    begun bus cpu s _ refl (unequal (cpu.regs.pc % 2) 1 even)
+    ∙ ap (doing bus cpu) (unfetched bus most_words (most_words - 1) (space_of cpu) cpu.regs.pc [] fault s t refl (rw (sym k) h))

@@ -1,11 +1,23 @@
--- What is done with an instruction that is being fetched.
-use Rattle.mb_port.specs.Routine.{Routine, caught}
+-- An instruction's words behind its first, and what follows where they are none.
+use Rattle.std.specs.Prelude.{ℕ, Result, Ok, Err}
+use Rattle.mb_port.specs.Routine.{Routine, Return, Then, caught}
+use Rattle.mb_instr.specs.declared.instruction.Instr.{Instr}
 use Rattle.mb_model.specs.declared.processor.Cpu.{Cpu}
+use Rattle.mb_meaning.specs.declared.StepEnd.{StepEnd}
 use Rattle.mb_meaning.specs.Attempt.{Found}
-use Rattle.mb_meaning.specs.Raise.{Stepped}
-use Rattle.mb_meaning.specs.Step.{unfound_of, executed_of}
+use Rattle.mb_meaning.specs.Step.{unfound_of}
 
--- it is carried out once it is found
-abbrev pub found_executed : Cpu → Routine Found → Routine Stepped
-found_executed cpu found =
-    caught found (λ end. unfound_of end cpu) (λ found. executed_of found.0 found.1 cpu)
+-- an instruction and how many words it has, or how the step ended without one; and the processor then
+abbrev pub Sought : Type 0
+Sought = Result (Instr × ℕ) StepEnd × Cpu
+
+-- where none is found, the step ends
+abbrev pub sought_of : Cpu → Routine Found → Routine Sought
+sought_of cpu found = caught found
+    (λ end. Then (unfound_of end cpu) (λ stepped. Return (Err stepped.0, stepped.1)))
+    (λ found. Return (Ok found, cpu))
+
+-- an answer, with the instruction in its place
+abbrev pub sought_by : Result ℕ StepEnd → Instr → Result (Instr × ℕ) StepEnd
+sought_by (Ok n) i = Ok (i, n)
+sought_by (Err end) i = Err end

@@ -121,8 +121,8 @@ fn execute_unprivileged<P: Port>(
 
 /// Carries out an instruction of so many words that stands at PC. A privileged one needs supervisor mode.
 ///
-/// All families are inlined here, once: instructions of one word and longer ones share it.
-#[inline(never)]
+/// All families are inlined here, and it has one caller, so a step has them once.
+#[inline(always)]
 #[tactic(auto, unfolding(mb_meaning::specs::Step::executed_of))]
 pub(crate) fn execute<P: Port>(
     instruction: &Instr,

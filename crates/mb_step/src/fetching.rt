@@ -1,12 +1,13 @@
 //! The instruction that stands at PC is fetched and decoded.
 
-ghost use Rattle.std.specs.Prelude.{◌≡◌, ◌≢◌, ◌-◌, ◌+◌, ◌%◌, ◌^◌, [], ◌∷◌};
+ghost use Rattle.std.specs.Prelude.{◌≡◌, ◌≢◌, ◌-◌, ◌+◌, ◌%◌, ◌^◌, [], ◌∷◌, IfOk, IfErr};
 ghost use Rattle.mb_port.specs.Routine.{run};
+ghost use Rattle.mb_instr.specs.Codes.{IsInstr};
 ghost use Rattle.mb_model.specs.Status.{space_of};
 ghost use Rattle.mb_ea.specs.Reading.{refused_in};
 ghost use Rattle.mb_meaning.specs.Attempt.{found_of, most_words};
 ghost use Rattle.mb_meaning.specs.Step.{unread_of, instruction_of};
-ghost use Rattle.mb_step.specs.Fetching.{found_executed};
+ghost use Rattle.mb_step.specs.Fetching.{sought_of, sought_by};
 
 use crate::executing::execute;
 use crate::finishing::finish_unread;
@@ -46,38 +47,47 @@ fn finish_unfetched<P: Port>(fault: Fault, at: u32, cpu: &mut Cpu, port: &mut P)
     finish_unread(&ReadFault { fault, first: at }, cpu, port)
 }
 
-/// Goes on with an instruction that has more words than its first: they are fetched one at a time, until they are an
-/// instruction or can no longer become one.
+/// Fetches the words behind a first one, one at a time, until they are an instruction or can no longer become one. The
+/// instruction is put into its place, and how many words it has is answered; or how the step ended without one.
 #[inline(never)]
-fn execute_longer<P: Port>(first: u16, cpu: &mut Cpu, port: &mut P) -> StepEnd
+fn fetch_longer<P: Port>(
+    first: u16,
+    instruction: &mut Instr,
+    cpu: &mut Cpu,
+    port: &mut P,
+) -> Result<u8, StepEnd>
     requires { cpu.old.regs.pc % 2 ≡ 0 }
-    ensures means { run P.bus (found_executed cpu.old (found_of (most_words - 1) (space_of cpu.old)
-        ((cpu.old.regs.pc + 2) % 2 ^ 32) (first ∷ []))) (P.world port.old) ≡ ((result, cpu.new), P.world port.new) }
-    ensures busy { result ≢ StepEnd.Idle }
+    ensures means { run P.bus (sought_of cpu.old (found_of (most_words - 1) (space_of cpu.old)
+        ((cpu.old.regs.pc + 2) % 2 ^ 32) (first ∷ []))) (P.world port.old)
+        ≡ ((sought_by result instruction.new, cpu.new), P.world port.new) }
+    ensures valid { IfOk result (λ n. IsInstr instruction.new) }
+    ensures busy { IfErr result (λ end. end ≢ StepEnd.Idle) }
     ensures rest { P.rest port.new ≡ P.rest port.old }
 {
     let mut behind = ArrayVec::<u16, MOST_BEHIND>::new();
-    let mut instruction = NOTHING;
     let space = cpu.space();
     let mut at = cpu.regs.pc.wrapping_add(2);
     for _ in 0..MOST_BEHIND {
         match port.fetch(space, at) {
             Ok(word) => behind.push(word),
-            Err(fault) => return finish_unfetched(fault, at, cpu, port),
+            Err(fault) => return Err(finish_unfetched(fault, at, cpu, port)),
         }
-        match decode_into(first, behind.as_slice(), &mut instruction) {
-            Decoding::Whole(length) => return execute(&instruction, length, cpu, port),
+        match decode_into(first, behind.as_slice(), instruction) {
+            Decoding::Whole(length) => return Ok(length),
             Decoding::More => at = at.wrapping_add(2),
-            Decoding::Illegal => return refuse(ILLEGAL, cpu, port),
-            Decoding::LineA => return refuse(LINE_A, cpu, port),
-            Decoding::LineF => return refuse(LINE_F, cpu, port),
+            Decoding::Illegal => return Err(refuse(ILLEGAL, cpu, port)),
+            Decoding::LineA => return Err(refuse(LINE_A, cpu, port)),
+            Decoding::LineF => return Err(refuse(LINE_F, cpu, port)),
         }
     }
-    refuse(ILLEGAL, cpu, port)
+    Err(refuse(ILLEGAL, cpu, port))
 }
 
 /// Fetches the instruction that stands at PC and carries it out. No word is fetched behind those that the instruction
 /// needs, and none at an odd PC.
+///
+/// An instruction of one word stays in the table, and a longer one where it was decoded: neither is copied, and both
+/// are carried out by one call.
 #[inline(always)]
 #[tactic(auto, unfolding(mb_meaning::specs::Step::instruction_of))]
 pub(crate) fn execute_next<P: Port>(table: &FirstWords, cpu: &mut Cpu, port: &mut P) -> StepEnd
@@ -93,11 +103,16 @@ pub(crate) fn execute_next<P: Port>(table: &FirstWords, cpu: &mut Cpu, port: &mu
         Ok(word) => word,
         Err(fault) => return finish_unfetched(fault, at, cpu, port),
     };
-    match table.of(first) {
-        Decoded::Whole(instruction, length) => execute(instruction, *length, cpu, port),
-        Decoded::More => execute_longer(first, cpu, port),
-        Decoded::Illegal => refuse(ILLEGAL, cpu, port),
-        Decoded::LineA => refuse(LINE_A, cpu, port),
-        Decoded::LineF => refuse(LINE_F, cpu, port),
-    }
+    let mut longer = NOTHING;
+    let (instruction, length) = match table.of(first) {
+        Decoded::Whole(instruction, length) => (instruction, *length),
+        Decoded::More => match fetch_longer(first, &mut longer, cpu, port) {
+            Ok(length) => (&longer, length),
+            Err(end) => return end,
+        },
+        Decoded::Illegal => return refuse(ILLEGAL, cpu, port),
+        Decoded::LineA => return refuse(LINE_A, cpu, port),
+        Decoded::LineF => return refuse(LINE_F, cpu, port),
+    };
+    execute(instruction, length, cpu, port)
 }

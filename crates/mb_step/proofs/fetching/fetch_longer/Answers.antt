@@ -1,65 +1,61 @@
 use Rattle.std.proofs.Common.{◌∙◌, ◌-◌, ◌+◌, ℕ, ◌∷◌, ap, sym, arith}
 use Rattle.mb_decode.specs.Decodes.{decode_of, told}
 use Rattle.mb_meaning.specs.Attempt.{most_words}
-use Rattle.mb_step.proofs.Fetches.{trying_on, trying_without, trying_no_more, trying_whole, trying_none}
-use Rattle.mb_step.proofs.fetching.execute_longer.Goals as goal
+use Rattle.mb_step.proofs.Fetches.{seeking_on, seeking_without, seeking_no_more, seeking_whole, seeking_none}
+use Rattle.mb_step.proofs.fetching.fetch_longer.Goals as goal
 
 pub returns-in-Err-clause-means : goal.returns-in-Err-clause-means
 returns-in-Err-clause-means g c =
     sym c.loop.invariant.means
-    ∙ trying_without g.P.Port.bus _ c.loop.cpu _ (most_words - (c.loop.counter + 2)) _ c.loop.at (c.args.first ∷ c.loop.behind.items) _ _ _
+    ∙ seeking_without g.P.Port.bus _ c.loop.cpu _ (most_words - (c.loop.counter + 2)) _ c.loop.at (c.args.first ∷ c.loop.behind.items) _ _ _ _
     (omega arith) c.in-Err.ensures.means c.loop.invariant.cpu
-    ∙ c.finish_unfetched.ensures.means
+    c.finish_unfetched.ensures.means
 
 pub returns-in-Whole-clause-means : goal.returns-in-Whole-clause-means
 returns-in-Whole-clause-means g c =
     sym c.loop.invariant.means
-    ∙ trying_on g.P.Port.bus _ _ (most_words - (c.loop.counter + 2)) _ c.loop.at (c.args.first ∷ c.loop.behind.items) c.in-Ok.word _ _
+    ∙ seeking_on g.P.Port.bus _ _ (most_words - (c.loop.counter + 2)) _ c.loop.at (c.args.first ∷ c.loop.behind.items) c.in-Ok.word _ _
     (c.args.first ∷ c.push.new.self.items) _ (omega arith) c.in-Ok.ensures.means
     (ap (λ words. c.args.first ∷ words) c.push.ensures.items)
     (c.decode_into.ensures.means ∙ ap (λ words. decode_of (c.args.first ∷ words)) c.as_slice.ensures.value)
-    ∙ trying_whole g.P.Port.bus _ c.loop.cpu _ _ _ c.decode_into.new.instruction c.in-Whole.length
+    ∙ seeking_whole g.P.Port.bus _ c.loop.cpu _ _ _ c.decode_into.new.instruction c.in-Whole.length
     (ap (λ answer. told answer c.decode_into.new.instruction) c.in-Whole.is) c.loop.invariant.cpu
-    ∙ c.execute.ensures.means
 
 pub returns-in-Illegal-clause-means : goal.returns-in-Illegal-clause-means
 returns-in-Illegal-clause-means g c =
     sym c.loop.invariant.means
-    ∙ trying_on g.P.Port.bus _ _ (most_words - (c.loop.counter + 2)) _ c.loop.at (c.args.first ∷ c.loop.behind.items) c.in-Ok.word _ _
+    ∙ seeking_on g.P.Port.bus _ _ (most_words - (c.loop.counter + 2)) _ c.loop.at (c.args.first ∷ c.loop.behind.items) c.in-Ok.word _ _
     (c.args.first ∷ c.push.new.self.items) _ (omega arith) c.in-Ok.ensures.means
     (ap (λ words. c.args.first ∷ words) c.push.ensures.items)
     (ap (λ answer. told answer c.decode_into.new.instruction) (sym c.in-Illegal.is) ∙ c.decode_into.ensures.means
     ∙ ap (λ words. decode_of (c.args.first ∷ words)) c.as_slice.ensures.value)
-    ∙ trying_none g.P.Port.bus _ c.loop.cpu 4 _ c.loop.invariant.cpu
-    ∙ c.refuse.ensures.means
+    ∙ seeking_none g.P.Port.bus _ c.loop.cpu 4 _ _ c.loop.invariant.cpu c.refuse.ensures.means
 
 pub returns-in-LineA-clause-means : goal.returns-in-LineA-clause-means
 returns-in-LineA-clause-means g c =
     sym c.loop.invariant.means
-    ∙ trying_on g.P.Port.bus _ _ (most_words - (c.loop.counter + 2)) _ c.loop.at (c.args.first ∷ c.loop.behind.items) c.in-Ok.word _ _
+    ∙ seeking_on g.P.Port.bus _ _ (most_words - (c.loop.counter + 2)) _ c.loop.at (c.args.first ∷ c.loop.behind.items) c.in-Ok.word _ _
     (c.args.first ∷ c.push.new.self.items) _ (omega arith) c.in-Ok.ensures.means
     (ap (λ words. c.args.first ∷ words) c.push.ensures.items)
     (ap (λ answer. told answer c.decode_into.new.instruction) (sym c.in-LineA.is) ∙ c.decode_into.ensures.means
     ∙ ap (λ words. decode_of (c.args.first ∷ words)) c.as_slice.ensures.value)
-    ∙ trying_none g.P.Port.bus _ c.loop.cpu 10 _ c.loop.invariant.cpu
-    ∙ c.refuse-in-LineA.ensures.means
+    ∙ seeking_none g.P.Port.bus _ c.loop.cpu 10 _ _ c.loop.invariant.cpu c.refuse-in-LineA.ensures.means
 
 pub returns-in-LineF-clause-means : goal.returns-in-LineF-clause-means
 returns-in-LineF-clause-means g c =
     sym c.loop.invariant.means
-    ∙ trying_on g.P.Port.bus _ _ (most_words - (c.loop.counter + 2)) _ c.loop.at (c.args.first ∷ c.loop.behind.items) c.in-Ok.word _ _
+    ∙ seeking_on g.P.Port.bus _ _ (most_words - (c.loop.counter + 2)) _ c.loop.at (c.args.first ∷ c.loop.behind.items) c.in-Ok.word _ _
     (c.args.first ∷ c.push.new.self.items) _ (omega arith) c.in-Ok.ensures.means
     (ap (λ words. c.args.first ∷ words) c.push.ensures.items)
     (ap (λ answer. told answer c.decode_into.new.instruction) (sym c.in-LineF.is) ∙ c.decode_into.ensures.means
     ∙ ap (λ words. decode_of (c.args.first ∷ words)) c.as_slice.ensures.value)
-    ∙ trying_none g.P.Port.bus _ c.loop.cpu 11 _ c.loop.invariant.cpu
-    ∙ c.refuse-in-LineF.ensures.means
+    ∙ seeking_none g.P.Port.bus _ c.loop.cpu 11 _ _ c.loop.invariant.cpu c.refuse-in-LineF.ensures.means
 
 pub loop-preserved : goal.loop-preserved
 loop-preserved g c =
     let even = c.loop.invariant.even in
     let count = c.loop.invariant.count in record {
-      means = sym (trying_on g.P.Port.bus _ _ (most_words - (c.loop.counter + 1 + 1)) _ c.loop.at (c.args.first ∷ c.loop.behind.items) c.in-Ok.word _ _
+      means = sym (seeking_on g.P.Port.bus _ _ (most_words - (c.loop.counter + 1 + 1)) _ c.loop.at (c.args.first ∷ c.loop.behind.items) c.in-Ok.word _ _
           (c.args.first ∷ c.push.new.self.items) _ (omega arith) c.in-Ok.ensures.means
           (ap (λ words. c.args.first ∷ words) c.push.ensures.items)
           (ap (λ answer. told answer c.decode_into.new.instruction) (sym c.in-More.is) ∙ c.decode_into.ensures.means
@@ -74,5 +70,5 @@ loop-preserved g c =
 pub returns-clause-means : goal.returns-clause-means
 returns-clause-means g c =
     sym c.loop.invariant.means
-    ∙ trying_no_more g.P.Port.bus _ c.loop.cpu _ _ c.loop.at (c.args.first ∷ c.loop.behind.items) _ (omega arith) c.loop.invariant.cpu
-    ∙ c.refuse-2.ensures.means
+    ∙ seeking_no_more g.P.Port.bus _ c.loop.cpu _ _ c.loop.at (c.args.first ∷ c.loop.behind.items) _ _ (omega arith) c.loop.invariant.cpu
+    c.refuse-2.ensures.means
