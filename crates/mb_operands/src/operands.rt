@@ -9,7 +9,9 @@ ghost use Rattle.mb_meaning.specs.Operands.{behind, named_register, with_low, lo
 ghost use Rattle.mb_meaning.specs.Operands.{place_of, storing, pushing};
 ghost use Rattle.mb_meaning.specs.Ends.{carried_by};
 ghost use Rattle.mb_operands.specs.Fetched.{fetched, pushed, IsOperand};
+ghost use Rattle.mb_operands.specs.Endings.{with_end};
 
+use crate::endings::{Undone, unwritten};
 use mb_ea::{ReadFault, Target, read_value, resolve};
 use mb_instr::{Ea, Plain, Size};
 use mb_port::{Port, Space};
@@ -162,15 +164,16 @@ pub fn finish_with<P: Port>(
     space: Space,
     plain: &mut Plain,
     port: &mut P,
-) -> Result<(), Ended>
+    ended: &mut Ended,
+) -> Result<(), Undone>
     requires { IsTarget size target }
     ensures means { run P.bus (storing target size value space plain.old) (P.world port.old)
-        ≡ (carried_by result plain.new, P.world port.new) }
+        ≡ (carried_by (with_end result ended.new) plain.new, P.world port.new) }
     ensures rest { P.rest port.new ≡ P.rest port.old }
 {
     match store(target, size, value, space, plain, port) {
         Ok(()) => Ok(()),
-        Err(refused) => Err(Ended::WriteFault(refused)),
+        Err(refused) => Err(unwritten(refused, ended)),
     }
 }
 
@@ -183,13 +186,14 @@ pub fn push<P: Port>(
     space: Space,
     plain: &Plain,
     port: &mut P,
-) -> Result<(), Ended>
+    ended: &mut Ended,
+) -> Result<(), Undone>
     ensures means { run P.bus (pushing value top space plain.now) (P.world port.old)
-        ≡ (pushed result plain.now, P.world port.new) }
+        ≡ (pushed (with_end result ended.new) plain.now, P.world port.new) }
     ensures rest { P.rest port.new ≡ P.rest port.old }
 {
     match put_value(space, top, Size::Long, value, port) {
         Ok(()) => Ok(()),
-        Err(refused) => Err(Ended::WriteFault(refused)),
+        Err(refused) => Err(unwritten(refused, ended)),
     }
 }

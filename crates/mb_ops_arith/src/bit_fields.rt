@@ -8,12 +8,13 @@ ghost use Rattle.mb_meaning.specs.BitFields.{named_by, offset_of, width_bits, wi
 ghost use Rattle.mb_meaning.specs.BitFields.{field_flags, field_seen, field_signed, with_result, field_done};
 ghost use Rattle.mb_meaning.specs.BitFields.{field_in_register, field_in_memory, bytes_before, bytes_held};
 ghost use Rattle.mb_meaning.specs.BitFields.{field_row_of};
+ghost use Rattle.mb_operands.specs.Endings.{with_end};
 
 use mb_alu::{LogicKind, logic};
 use mb_ea::read_operand;
 use mb_fields::{field_first, field_get, field_put};
 use mb_instr::{Ea, FieldKind, Plain, Size};
-use mb_operands::find_address;
+use mb_operands::{Undone, find_address, unread, unwritten};
 use mb_port::{Port, Space};
 use mb_writes::{Ended, put_pieces};
 
@@ -255,9 +256,10 @@ fn field_in_memory<P: Port>(
     space: Space,
     plain: &mut Plain,
     port: &mut P,
-) -> Result<(), Ended>
+    ended: &mut Ended,
+) -> Result<(), Undone>
     ensures means { run P.bus (field_in_memory kind word address space plain.old) (P.world port.old)
-        ≡ (carried_by result plain.new, P.world port.new) }
+        ≡ (carried_by (with_end result ended.new) plain.new, P.world port.new) }
     ensures rest { P.rest port.new ≡ P.rest port.old }
 {
     let (offset, width) = (offset(word, plain), width(word, plain));
@@ -265,7 +267,7 @@ fn field_in_memory<P: Port>(
     let held = bytes_held(offset, width);
     let bytes = match read_operand(space, first, held, port) {
         Ok(bytes) => bytes,
-        Err(refused) => return Err(Ended::ReadFault(refused)),
+        Err(refused) => return Err(unread(&refused, ended)),
     };
     let bit = (offset % 8) as u8;
     let old = field_get(bytes, 8 * held, bit, width);
@@ -275,7 +277,7 @@ fn field_in_memory<P: Port>(
         let changed = field_put(bytes, 8 * held, bit, width, new);
         match put_pieces(space, first, held, changed, port) {
             Ok(()) => Ok(()),
-            Err(refused) => Err(Ended::WriteFault(refused)),
+            Err(refused) => Err(unwritten(refused, ended)),
         }
     } else {
         Ok(())
@@ -293,10 +295,11 @@ pub(crate) fn bit_field<P: Port>(
     space: Space,
     plain: &mut Plain,
     port: &mut P,
-) -> Result<(), Ended>
+    ended: &mut Ended,
+) -> Result<(), Undone>
     requires { IsEa Size.Long ea.now }
     ensures means { run P.bus (field_row_of kind ea.now word at space plain.old) (P.world port.old)
-        ≡ (carried_by result plain.new, P.world port.new) }
+        ≡ (carried_by (with_end result ended.new) plain.new, P.world port.new) }
     ensures rest { P.rest port.new ≡ P.rest port.old }
 {
     if let Ea::Dn(n) = *ea {
@@ -305,7 +308,7 @@ pub(crate) fn bit_field<P: Port>(
     }
     let word_at = at.wrapping_add(2).wrapping_add(2);
     match find_address(Size::Long, ea, word_at, space, plain, port) {
-        Ok(address) => field_in_memory(kind, word, address, space, plain, port),
-        Err(refused) => Err(Ended::ReadFault(refused)),
+        Ok(address) => field_in_memory(kind, word, address, space, plain, port, ended),
+        Err(refused) => Err(unread(&refused, ended)),
     }
 }

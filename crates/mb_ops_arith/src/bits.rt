@@ -5,12 +5,13 @@ ghost use Rattle.mb_port.specs.Routine.{run};
 ghost use Rattle.mb_instr.specs.Operands.{IsEa};
 ghost use Rattle.mb_meaning.specs.Ends.{carried_by};
 ghost use Rattle.mb_meaning.specs.Bits.{bit_size, bit_after, bit_changed, bit_row_of};
+ghost use Rattle.mb_operands.specs.Endings.{with_end};
 
 use crate::modifying::modify;
 use crate::operations::Change;
 use mb_alu::{Conditions, Flagged};
 use mb_instr::{BitKind, Ea, Plain, Size};
-use mb_operands::fetch_operand;
+use mb_operands::{Undone, fetch_operand, unread};
 use mb_port::{Port, Space};
 use mb_writes::Ended;
 
@@ -89,10 +90,11 @@ fn test_bit<P: Port>(
     space: Space,
     plain: &mut Plain,
     port: &mut P,
-) -> Result<(), Ended>
+    ended: &mut Ended,
+) -> Result<(), Undone>
     requires { IsEa Size.Byte ea.now }
     ensures means { run P.bus (bit_row_of BitKind.Test number ea.now word_at space plain.old) (P.world port.old)
-        ≡ (carried_by result plain.new, P.world port.new) }
+        ≡ (carried_by (with_end result ended.new) plain.new, P.world port.new) }
     ensures rest { P.rest port.new ≡ P.rest port.old }
 {
     let mut next = *plain;
@@ -103,7 +105,7 @@ fn test_bit<P: Port>(
             *plain = next;
             Ok(())
         }
-        Err(refused) => Err(Ended::ReadFault(refused)),
+        Err(refused) => Err(unread(&refused, ended)),
     }
 }
 
@@ -118,14 +120,15 @@ pub(crate) fn bit_row<P: Port>(
     space: Space,
     plain: &mut Plain,
     port: &mut P,
-) -> Result<(), Ended>
+    ended: &mut Ended,
+) -> Result<(), Undone>
     requires { IsEa Size.Byte ea.now }
     ensures means { run P.bus (bit_row_of kind number ea.now word_at space plain.old) (P.world port.old)
-        ≡ (carried_by result plain.new, P.world port.new) }
+        ≡ (carried_by (with_end result ended.new) plain.new, P.world port.new) }
     ensures rest { P.rest port.new ≡ P.rest port.old }
 {
     match kind {
-        BitKind::Test => test_bit(number, ea, word_at, space, plain, port),
+        BitKind::Test => test_bit(number, ea, word_at, space, plain, port, ended),
         BitKind::Change | BitKind::Clear | BitKind::Set => {
             modify(
                 Change::Bit(kind, number),
@@ -135,6 +138,7 @@ pub(crate) fn bit_row<P: Port>(
                 space,
                 plain,
                 port,
+                ended,
             )
         }
     }

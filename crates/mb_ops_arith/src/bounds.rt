@@ -5,9 +5,10 @@ ghost use Rattle.mb_port.specs.Routine.{run};
 ghost use Rattle.mb_instr.specs.Operands.{IsEa};
 ghost use Rattle.mb_meaning.specs.Ends.{carried_by};
 ghost use Rattle.mb_meaning.specs.Bounds.{cmp2_of};
+ghost use Rattle.mb_operands.specs.Endings.{with_end};
 
 use mb_instr::{Ea, Plain, Size};
-use mb_operands::compare_bounds;
+use mb_operands::{Undone, compare_bounds, unread};
 use mb_port::{Port, Space};
 use mb_writes::Ended;
 
@@ -22,10 +23,11 @@ pub fn compare_with_bounds<P: Port>(
     space: Space,
     plain: &mut Plain,
     port: &mut P,
-) -> Result<(), Ended>
+    ended: &mut Ended,
+) -> Result<(), Undone>
     requires { IsEa size ea.now }
     ensures means { run P.bus (cmp2_of size ea.now word at space plain.old) (P.world port.old)
-        ≡ (carried_by result plain.new, P.world port.new) }
+        ≡ (carried_by (with_end result ended.new) plain.new, P.world port.new) }
     ensures rest { P.rest port.new ≡ P.rest port.old }
 {
     match compare_bounds(size, ea, word, at, space, plain, port) {
@@ -33,6 +35,6 @@ pub fn compare_with_bounds<P: Port>(
             plain.ccr = ccr;
             Ok(())
         }
-        Err(refused) => Err(Ended::ReadFault(refused)),
+        Err(refused) => Err(unread(&refused, ended)),
     }
 }

@@ -7,11 +7,12 @@ ghost use Rattle.mb_instr.specs.Sizes.{values_of};
 ghost use Rattle.mb_meaning.specs.Ends.{carried_by};
 ghost use Rattle.mb_meaning.specs.Decimals.{negated_decimal, paired, decimal_of, digits_of};
 ghost use Rattle.mb_ops_arith.specs.Decimals.{decimal_operation, packing_operation, packed_from, packed_to};
+ghost use Rattle.mb_operands.specs.Endings.{with_end};
 
 use mb_ea::resolve;
 use mb_fields::{abcd, nbcd, pack, sbcd, unpk};
 use mb_instr::{Ea, Plain, Size};
-use mb_operands::{fetch_operand, finish_with};
+use mb_operands::{Undone, fetch_operand, finish_with, unread};
 use mb_port::{Port, Space};
 use mb_writes::Ended;
 
@@ -114,11 +115,12 @@ pub(crate) fn decimal<P: Port>(
     space: Space,
     plain: &mut Plain,
     port: &mut P,
-) -> Result<(), Ended>
+    ended: &mut Ended,
+) -> Result<(), Undone>
     requires destination { x < 8 }
     requires source { y < 8 }
     ensures means { run P.bus (decimal_of (decimal_operation operation) x in_memory y at space plain.old)
-        (P.world port.old) ≡ (carried_by result plain.new, P.world port.new) }
+        (P.world port.old) ≡ (carried_by (with_end result ended.new) plain.new, P.world port.new) }
     ensures rest { P.rest port.new ≡ P.rest port.old }
 {
     let mut next = *plain;
@@ -126,12 +128,12 @@ pub(crate) fn decimal<P: Port>(
     let from = paired(in_memory, y, Size::Byte);
     let source = match fetch_operand(Size::Byte, &from, word_at, space, &mut next, port) {
         Ok(source) => source,
-        Err(refused) => return Err(Ended::ReadFault(refused)),
+        Err(refused) => return Err(unread(&refused, ended)),
     };
     let to = paired(in_memory, x, Size::Byte);
     let destination = match fetch_operand(Size::Byte, &to, word_at, space, &mut next, port) {
         Ok(destination) => destination,
-        Err(refused) => return Err(Ended::ReadFault(refused)),
+        Err(refused) => return Err(unread(&refused, ended)),
     };
     let result = operation.of(source.value as u8, destination.value as u8, next.ccr);
     next.ccr = result.ccr;
@@ -143,6 +145,7 @@ pub(crate) fn decimal<P: Port>(
         space,
         plain,
         port,
+        ended,
     )
 }
 
@@ -159,11 +162,13 @@ pub(crate) fn repack<P: Port>(
     space: Space,
     plain: &mut Plain,
     port: &mut P,
-) -> Result<(), Ended>
+    ended: &mut Ended,
+) -> Result<(), Undone>
     requires destination { x < 8 }
     requires source { y < 8 }
     ensures means { run P.bus (digits_of (packing_operation operation) (packed_from operation) (packed_to operation)
-        x in_memory y adjust at space plain.old) (P.world port.old) ≡ (carried_by result plain.new, P.world port.new) }
+        x in_memory y adjust at space plain.old) (P.world port.old)
+        ≡ (carried_by (with_end result ended.new) plain.new, P.world port.new) }
     ensures rest { P.rest port.new ≡ P.rest port.old }
 {
     let mut next = *plain;
@@ -172,14 +177,14 @@ pub(crate) fn repack<P: Port>(
     let from = paired(in_memory, y, from_size);
     let source = match fetch_operand(from_size, &from, word_at, space, &mut next, port) {
         Ok(source) => source,
-        Err(refused) => return Err(Ended::ReadFault(refused)),
+        Err(refused) => return Err(unread(&refused, ended)),
     };
     let to = paired(in_memory, x, to_size);
     let target = match resolve(&to, to_size, &mut next, word_at, space, port) {
         Ok(target) => target,
-        Err(refused) => return Err(Ended::ReadFault(refused)),
+        Err(refused) => return Err(unread(&refused, ended)),
     };
     let digits = operation.of(source.value, adjust);
     *plain = next;
-    finish_with(target, to_size, digits, space, plain, port)
+    finish_with(target, to_size, digits, space, plain, port, ended)
 }

@@ -9,6 +9,7 @@ ghost use Rattle.mb_meaning.specs.Operands.{place_of};
 ghost use Rattle.mb_meaning.specs.Locked.{test_and_set, tas_in_memory, tas_of, compared_by, update_by, pointer_by};
 ghost use Rattle.mb_meaning.specs.Locked.{cas_codes, cas_loaded, cas_equal, cas_at, cas_of};
 ghost use Rattle.mb_meaning.specs.Locked.{cas2_codes, cas2_equal, cas2_of};
+ghost use Rattle.mb_operands.specs.Endings.{with_end};
 
 use crate::locking::{get_operand, probe_operand, put_operand};
 use crate::modifying::modify;
@@ -16,7 +17,7 @@ use crate::operations::Change;
 use mb_alu::{Flagged, LogicKind, compare, logic};
 use mb_ea::resolve;
 use mb_instr::{Ea, Plain, Size};
-use mb_operands::{place, with_low};
+use mb_operands::{Undone, place, unread, with_low};
 use mb_port::{Port, Space};
 use mb_writes::Ended;
 
@@ -40,14 +41,15 @@ fn tas_in_memory<P: Port>(
     space: Space,
     plain: &mut Plain,
     port: &mut P,
-) -> Result<(), Ended>
+    ended: &mut Ended,
+) -> Result<(), Undone>
     ensures means { run P.bus (tas_in_memory address space plain.old next.now) (P.world port.old)
-        ≡ (carried_by result plain.new, P.world port.new) }
+        ≡ (carried_by (with_end result ended.new) plain.new, P.world port.new) }
     ensures rest { P.rest port.new ≡ P.rest port.old }
 {
     let places = match probe_operand(space, address, Size::Byte, port) {
         Ok(places) => places,
-        Err(refused) => return Err(Ended::ReadFault(refused)),
+        Err(refused) => return Err(unread(&refused, ended)),
     };
     let value = get_operand(&places, Size::Byte, port);
     let set = test_and_set(value, next.ccr);
@@ -66,10 +68,11 @@ pub(crate) fn tas<P: Port>(
     space: Space,
     plain: &mut Plain,
     port: &mut P,
-) -> Result<(), Ended>
+    ended: &mut Ended,
+) -> Result<(), Undone>
     requires { IsEa Size.Byte ea.now }
     ensures means { run P.bus (tas_of ea.now at space plain.old) (P.world port.old)
-        ≡ (carried_by result plain.new, P.world port.new) }
+        ≡ (carried_by (with_end result ended.new) plain.new, P.world port.new) }
     ensures rest { P.rest port.new ≡ P.rest port.old }
 {
     let word_at = at.wrapping_add(2);
@@ -82,12 +85,13 @@ pub(crate) fn tas<P: Port>(
             space,
             plain,
             port,
+            ended,
         );
     }
     let mut next = *plain;
     match resolve(ea, Size::Byte, &mut next, word_at, space, port) {
-        Ok(target) => tas_in_memory(place(target), &next, space, plain, port),
-        Err(refused) => Err(Ended::ReadFault(refused)),
+        Ok(target) => tas_in_memory(place(target), &next, space, plain, port, ended),
+        Err(refused) => Err(unread(&refused, ended)),
     }
 }
 
@@ -154,14 +158,15 @@ fn cas_at<P: Port>(
     space: Space,
     plain: &mut Plain,
     port: &mut P,
-) -> Result<(), Ended>
+    ended: &mut Ended,
+) -> Result<(), Undone>
     ensures means { run P.bus (cas_at size word address space plain.old next.now) (P.world port.old)
-        ≡ (carried_by result plain.new, P.world port.new) }
+        ≡ (carried_by (with_end result ended.new) plain.new, P.world port.new) }
     ensures rest { P.rest port.new ≡ P.rest port.old }
 {
     let places = match probe_operand(space, address, size, port) {
         Ok(places) => places,
-        Err(refused) => return Err(Ended::ReadFault(refused)),
+        Err(refused) => return Err(unread(&refused, ended)),
     };
     let value = get_operand(&places, size, port);
     *plain = *next;
@@ -185,17 +190,18 @@ pub(crate) fn cas<P: Port>(
     space: Space,
     plain: &mut Plain,
     port: &mut P,
-) -> Result<(), Ended>
+    ended: &mut Ended,
+) -> Result<(), Undone>
     requires { IsEa size ea.now }
     ensures means { run P.bus (cas_of size ea.now word at space plain.old) (P.world port.old)
-        ≡ (carried_by result plain.new, P.world port.new) }
+        ≡ (carried_by (with_end result ended.new) plain.new, P.world port.new) }
     ensures rest { P.rest port.new ≡ P.rest port.old }
 {
     let mut next = *plain;
     let word_at = at.wrapping_add(2).wrapping_add(2);
     match resolve(ea, size, &mut next, word_at, space, port) {
-        Ok(target) => cas_at(size, word, place(target), &next, space, plain, port),
-        Err(refused) => Err(Ended::ReadFault(refused)),
+        Ok(target) => cas_at(size, word, place(target), &next, space, plain, port, ended),
+        Err(refused) => Err(unread(&refused, ended)),
     }
 }
 
@@ -221,18 +227,19 @@ pub(crate) fn cas2<P: Port>(
     space: Space,
     plain: &mut Plain,
     port: &mut P,
-) -> Result<(), Ended>
+    ended: &mut Ended,
+) -> Result<(), Undone>
     ensures means { run P.bus (cas2_of size first second space plain.old) (P.world port.old)
-        ≡ (carried_by result plain.new, P.world port.new) }
+        ≡ (carried_by (with_end result ended.new) plain.new, P.world port.new) }
     ensures rest { P.rest port.new ≡ P.rest port.old }
 {
     let places = match probe_operand(space, plain.register(pointer(first)), size, port) {
         Ok(places) => places,
-        Err(refused) => return Err(Ended::ReadFault(refused)),
+        Err(refused) => return Err(unread(&refused, ended)),
     };
     let others = match probe_operand(space, plain.register(pointer(second)), size, port) {
         Ok(others) => others,
-        Err(refused) => return Err(Ended::ReadFault(refused)),
+        Err(refused) => return Err(unread(&refused, ended)),
     };
     let one = get_operand(&places, size, port);
     let two = get_operand(&others, size, port);

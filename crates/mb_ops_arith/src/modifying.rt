@@ -6,10 +6,11 @@ ghost use Rattle.mb_instr.specs.Operands.{IsEa};
 ghost use Rattle.mb_meaning.specs.Ends.{carried_by};
 ghost use Rattle.mb_meaning.specs.Modifying.{modifying};
 ghost use Rattle.mb_ops_arith.specs.Changes.{change_of};
+ghost use Rattle.mb_operands.specs.Endings.{with_end};
 
 use crate::operations::Change;
 use mb_instr::{Ea, Plain, Size};
-use mb_operands::{fetch_operand, finish_with};
+use mb_operands::{Undone, fetch_operand, finish_with, unread};
 use mb_port::{Port, Space};
 use mb_writes::Ended;
 
@@ -24,19 +25,28 @@ pub(crate) fn modify<P: Port>(
     space: Space,
     plain: &mut Plain,
     port: &mut P,
-) -> Result<(), Ended>
+    ended: &mut Ended,
+) -> Result<(), Undone>
     requires { IsEa size ea.now }
     ensures means { run P.bus (modifying (change_of change size) size ea.now word_at space plain.old) (P.world port.old)
-        ≡ (carried_by result plain.new, P.world port.new) }
+        ≡ (carried_by (with_end result ended.new) plain.new, P.world port.new) }
     ensures rest { P.rest port.new ≡ P.rest port.old }
 {
     let mut next = *plain;
     let operand = match fetch_operand(size, ea, word_at, space, &mut next, port) {
         Ok(operand) => operand,
-        Err(refused) => return Err(Ended::ReadFault(refused)),
+        Err(refused) => return Err(unread(&refused, ended)),
     };
     let changed = change.apply(size, operand.value, next.ccr);
     next.ccr = changed.ccr;
     *plain = next;
-    finish_with(operand.target, size, changed.value, space, plain, port)
+    finish_with(
+        operand.target,
+        size,
+        changed.value,
+        space,
+        plain,
+        port,
+        ended,
+    )
 }

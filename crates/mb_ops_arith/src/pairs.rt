@@ -9,12 +9,13 @@ ghost use Rattle.mb_meaning.specs.Ends.{carried_by};
 ghost use Rattle.mb_meaning.specs.Arithmetic.{pair_of, combining, comparing, either_way, chaining};
 ghost use Rattle.mb_ops_arith.specs.Changes.{operation_of};
 ghost use Rattle.mb_ops_arith.specs.Pairs.{paired};
+ghost use Rattle.mb_operands.specs.Endings.{with_end};
 
 use crate::operations::Operation;
 use mb_alu::compare;
 use mb_ea::ReadFault;
 use mb_instr::{Ea, Plain, Size};
-use mb_operands::{Operand, behind, fetch_operand, finish_with};
+use mb_operands::{Operand, Undone, behind, fetch_operand, finish_with, unread};
 use mb_port::{Port, Space};
 use mb_writes::Ended;
 
@@ -66,25 +67,26 @@ pub(crate) fn combine<P: Port>(
     space: Space,
     plain: &mut Plain,
     port: &mut P,
-) -> Result<(), Ended>
+    ended: &mut Ended,
+) -> Result<(), Undone>
     requires source { IsEa size source.now }
     requires destination { IsEa size destination.now }
     ensures means { run P.bus
         (combining (operation_of operation size) size source.now destination.now at space plain.old)
-        (P.world port.old) ≡ (carried_by result plain.new, P.world port.new) }
+        (P.world port.old) ≡ (carried_by (with_end result ended.new) plain.new, P.world port.new) }
     ensures rest { P.rest port.new ≡ P.rest port.old }
 {
     let mut next = *plain;
     let word_at = at.wrapping_add(2);
     let pair = match fetch_pair(size, source, destination, word_at, space, &mut next, port) {
         Ok(pair) => pair,
-        Err(refused) => return Err(Ended::ReadFault(refused)),
+        Err(refused) => return Err(unread(&refused, ended)),
     };
     let to = pair.destination;
     let result = operation.apply(size, pair.source, to.value, next.ccr);
     next.ccr = result.ccr;
     *plain = next;
-    finish_with(to.target, size, result.value, space, plain, port)
+    finish_with(to.target, size, result.value, space, plain, port, ended)
 }
 
 /// Compares a source with a destination. Only the condition codes change.
@@ -98,18 +100,19 @@ pub(crate) fn compare_pair<P: Port>(
     space: Space,
     plain: &mut Plain,
     port: &mut P,
-) -> Result<(), Ended>
+    ended: &mut Ended,
+) -> Result<(), Undone>
     requires source { IsEa size source.now }
     requires destination { IsEa size destination.now }
     ensures means { run P.bus (comparing size source.now destination.now at space plain.old) (P.world port.old)
-        ≡ (carried_by result plain.new, P.world port.new) }
+        ≡ (carried_by (with_end result ended.new) plain.new, P.world port.new) }
     ensures rest { P.rest port.new ≡ P.rest port.old }
 {
     let mut next = *plain;
     let word_at = at.wrapping_add(2);
     let pair = match fetch_pair(size, source, destination, word_at, space, &mut next, port) {
         Ok(pair) => pair,
-        Err(refused) => return Err(Ended::ReadFault(refused)),
+        Err(refused) => return Err(unread(&refused, ended)),
     };
     next.ccr = compare(size, pair.source, pair.destination.value, next.ccr);
     *plain = next;
@@ -128,19 +131,24 @@ pub(crate) fn combine_either_way<P: Port>(
     space: Space,
     plain: &mut Plain,
     port: &mut P,
-) -> Result<(), Ended>
+    ended: &mut Ended,
+) -> Result<(), Undone>
     requires operand { IsEa size ea.now }
     requires register { register < 8 }
     ensures means { run P.bus
         (either_way (operation_of operation size) register to_memory size ea.now at space plain.old)
-        (P.world port.old) ≡ (carried_by result plain.new, P.world port.new) }
+        (P.world port.old) ≡ (carried_by (with_end result ended.new) plain.new, P.world port.new) }
     ensures rest { P.rest port.new ≡ P.rest port.old }
 {
     let register = Ea::Dn(register);
     if to_memory {
-        combine(operation, size, &register, ea, at, space, plain, port)
+        combine(
+            operation, size, &register, ea, at, space, plain, port, ended,
+        )
     } else {
-        combine(operation, size, ea, &register, at, space, plain, port)
+        combine(
+            operation, size, ea, &register, at, space, plain, port, ended,
+        )
     }
 }
 
@@ -156,12 +164,13 @@ pub(crate) fn chain<P: Port>(
     space: Space,
     plain: &mut Plain,
     port: &mut P,
-) -> Result<(), Ended>
+    ended: &mut Ended,
+) -> Result<(), Undone>
     requires source { source < 8 }
     requires destination { destination < 8 }
     ensures means { run P.bus
         (chaining (operation_of operation size) size in_memory source destination at space plain.old)
-        (P.world port.old) ≡ (carried_by result plain.new, P.world port.new) }
+        (P.world port.old) ≡ (carried_by (with_end result ended.new) plain.new, P.world port.new) }
     ensures rest { P.rest port.new ≡ P.rest port.old }
 {
     if in_memory {
@@ -174,6 +183,7 @@ pub(crate) fn chain<P: Port>(
             space,
             plain,
             port,
+            ended,
         )
     } else {
         combine(
@@ -185,6 +195,7 @@ pub(crate) fn chain<P: Port>(
             space,
             plain,
             port,
+            ended,
         )
     }
 }
@@ -199,11 +210,12 @@ pub(crate) fn combine_immediate<P: Port>(
     space: Space,
     plain: &mut Plain,
     port: &mut P,
-) -> Result<(), Ended>
+    ended: &mut Ended,
+) -> Result<(), Undone>
     requires immediate { IsImmediate size immediate }
     requires operand { IsEa size ea.now }
     ensures means { run P.bus (combining (operation_of operation size) size (Imm immediate) ea.now at space plain.old)
-        (P.world port.old) ≡ (carried_by result plain.new, P.world port.new) }
+        (P.world port.old) ≡ (carried_by (with_end result ended.new) plain.new, P.world port.new) }
     ensures rest { P.rest port.new ≡ P.rest port.old }
 {
     combine(
@@ -215,5 +227,6 @@ pub(crate) fn combine_immediate<P: Port>(
         space,
         plain,
         port,
+        ended,
     )
 }

@@ -4,8 +4,9 @@ ghost use Rattle.std.specs.Prelude.{◌≡◌};
 ghost use Rattle.mb_port.specs.Routine.{run};
 ghost use Rattle.mb_instr.specs.Codes.{IsInstr};
 ghost use Rattle.mb_instr.specs.declared.instruction.Instr.TheVariants as instr;
-ghost use Rattle.mb_meaning.specs.Ends.{closing, carried_by};
+ghost use Rattle.mb_meaning.specs.Ends.{carried_by, performed_by};
 ghost use Rattle.mb_meaning.specs.Rows.{perform_arith_of};
+ghost use Rattle.mb_operands.specs.Endings.{with_end};
 
 use crate::bit_fields::bit_field;
 use crate::bits::bit_row;
@@ -21,6 +22,7 @@ use crate::taking::{Effect, take};
 use crate::unary::{clear, combine_with_ccr, extend_register};
 use mb_alu::LogicKind;
 use mb_instr::{Arith, Ea, Plain, Size};
+use mb_operands::Undone;
 use mb_port::{Port, Space};
 use mb_writes::Ended;
 
@@ -48,49 +50,58 @@ fn carry_out<P: Port>(
     space: Space,
     plain: &mut Plain,
     port: &mut P,
-) -> Result<(), Ended>
+    ended: &mut Ended,
+) -> Result<(), Undone>
     requires { IsInstr (instr.Arith instruction.now) }
     ensures means { run P.bus (perform_arith_of instruction.now at space plain.old) (P.world port.old)
-        ≡ (carried_by result plain.new, P.world port.new) }
+        ≡ (carried_by (with_end result ended.new) plain.new, P.world port.new) }
     ensures rest { P.rest port.new ≡ P.rest port.old }
 {
     let first_word = at.wrapping_add(2);
     let second_word = first_word.wrapping_add(2);
     match *instruction {
         Arith::Add { register, to_memory, size, ref ea } =>
-            combine_either_way(ADD, register, to_memory, size, ea, at, space, plain, port),
+            combine_either_way(ADD, register, to_memory, size, ea, at, space, plain, port, ended),
         Arith::Sub { register, to_memory, size, ref ea } =>
-            combine_either_way(SUB, register, to_memory, size, ea, at, space, plain, port),
+            combine_either_way(SUB, register, to_memory, size, ea, at, space, plain, port, ended),
         Arith::And { register, to_memory, size, ref ea } =>
-            combine_either_way(AND, register, to_memory, size, ea, at, space, plain, port),
+            combine_either_way(AND, register, to_memory, size, ea, at, space, plain, port, ended),
         Arith::Or { register, to_memory, size, ref ea } =>
-            combine_either_way(OR, register, to_memory, size, ea, at, space, plain, port),
+            combine_either_way(OR, register, to_memory, size, ea, at, space, plain, port, ended),
         Arith::Eor { register, size, ref ea } =>
-            combine_either_way(EOR, register, true, size, ea, at, space, plain, port),
-        Arith::Addi { size, ref ea, immediate } => combine_immediate(ADD, immediate, size, ea, at, space, plain, port),
-        Arith::Subi { size, ref ea, immediate } => combine_immediate(SUB, immediate, size, ea, at, space, plain, port),
-        Arith::Andi { size, ref ea, immediate } => combine_immediate(AND, immediate, size, ea, at, space, plain, port),
-        Arith::Ori { size, ref ea, immediate } => combine_immediate(OR, immediate, size, ea, at, space, plain, port),
-        Arith::Eori { size, ref ea, immediate } => combine_immediate(EOR, immediate, size, ea, at, space, plain, port),
-        Arith::Addq { quick, size, ref ea } => combine_quick(Sum::Add, quick, size, ea, at, space, plain, port),
-        Arith::Subq { quick, size, ref ea } => combine_quick(Sum::Subtract, quick, size, ea, at, space, plain, port),
-        Arith::Addx { x, size, in_memory, y } => chain(ADDX, size, in_memory, y, x, at, space, plain, port),
-        Arith::Subx { x, size, in_memory, y } => chain(SUBX, size, in_memory, y, x, at, space, plain, port),
-        Arith::Cmp { register, size, ref ea } => compare_pair(size, ea, &Ea::Dn(register), at, space, plain, port),
-        Arith::Cmpi { size, ref ea, immediate } => compare_pair(size, &Ea::Imm(immediate), ea, at, space, plain, port),
-        Arith::Cmpm { x, size, y } => compare_pair(size, &Ea::Post(y), &Ea::Post(x), at, space, plain, port),
-        Arith::Cmp2 { size, ref ea, word } => compare_with_bounds(size, ea, word, at, space, plain, port),
+            combine_either_way(EOR, register, true, size, ea, at, space, plain, port, ended),
+        Arith::Addi { size, ref ea, immediate } =>
+            combine_immediate(ADD, immediate, size, ea, at, space, plain, port, ended),
+        Arith::Subi { size, ref ea, immediate } =>
+            combine_immediate(SUB, immediate, size, ea, at, space, plain, port, ended),
+        Arith::Andi { size, ref ea, immediate } =>
+            combine_immediate(AND, immediate, size, ea, at, space, plain, port, ended),
+        Arith::Ori { size, ref ea, immediate } =>
+            combine_immediate(OR, immediate, size, ea, at, space, plain, port, ended),
+        Arith::Eori { size, ref ea, immediate } =>
+            combine_immediate(EOR, immediate, size, ea, at, space, plain, port, ended),
+        Arith::Addq { quick, size, ref ea } => combine_quick(Sum::Add, quick, size, ea, at, space, plain, port, ended),
+        Arith::Subq { quick, size, ref ea } =>
+            combine_quick(Sum::Subtract, quick, size, ea, at, space, plain, port, ended),
+        Arith::Addx { x, size, in_memory, y } => chain(ADDX, size, in_memory, y, x, at, space, plain, port, ended),
+        Arith::Subx { x, size, in_memory, y } => chain(SUBX, size, in_memory, y, x, at, space, plain, port, ended),
+        Arith::Cmp { register, size, ref ea } =>
+            compare_pair(size, ea, &Ea::Dn(register), at, space, plain, port, ended),
+        Arith::Cmpi { size, ref ea, immediate } =>
+            compare_pair(size, &Ea::Imm(immediate), ea, at, space, plain, port, ended),
+        Arith::Cmpm { x, size, y } => compare_pair(size, &Ea::Post(y), &Ea::Post(x), at, space, plain, port, ended),
+        Arith::Cmp2 { size, ref ea, word } => compare_with_bounds(size, ea, word, at, space, plain, port, ended),
         Arith::Adda { register, size, ref ea } =>
-            take(Effect::MoveAddress(Sum::Add, register), size, ea, first_word, space, plain, port),
+            take(Effect::MoveAddress(Sum::Add, register), size, ea, first_word, space, plain, port, ended),
         Arith::Suba { register, size, ref ea } =>
-            take(Effect::MoveAddress(Sum::Subtract, register), size, ea, first_word, space, plain, port),
+            take(Effect::MoveAddress(Sum::Subtract, register), size, ea, first_word, space, plain, port, ended),
         Arith::Cmpa { register, size, ref ea } =>
-            take(Effect::CompareAddress(register), size, ea, first_word, space, plain, port),
-        Arith::Neg { size, ref ea } => modify(Change::Negate, size, ea, first_word, space, plain, port),
-        Arith::Negx { size, ref ea } => modify(Change::NegateExtended, size, ea, first_word, space, plain, port),
-        Arith::Not { size, ref ea } => modify(Change::Complement, size, ea, first_word, space, plain, port),
-        Arith::Clr { size, ref ea } => clear(size, ea, at, space, plain, port),
-        Arith::Tst { size, ref ea } => take(Effect::Test, size, ea, first_word, space, plain, port),
+            take(Effect::CompareAddress(register), size, ea, first_word, space, plain, port, ended),
+        Arith::Neg { size, ref ea } => modify(Change::Negate, size, ea, first_word, space, plain, port, ended),
+        Arith::Negx { size, ref ea } => modify(Change::NegateExtended, size, ea, first_word, space, plain, port, ended),
+        Arith::Not { size, ref ea } => modify(Change::Complement, size, ea, first_word, space, plain, port, ended),
+        Arith::Clr { size, ref ea } => clear(size, ea, at, space, plain, port, ended),
+        Arith::Tst { size, ref ea } => take(Effect::Test, size, ea, first_word, space, plain, port, ended),
         Arith::ExtW { register } => {
             extend_register(Size::Byte, Size::Word, register, plain);
             Ok(())
@@ -120,28 +131,31 @@ fn carry_out<P: Port>(
             Ok(())
         }
         Arith::ShiftMem { kind, is_left, ref ea } =>
-            modify(Change::ShiftWord { kind, is_left }, Size::Word, ea, first_word, space, plain, port),
+            modify(Change::ShiftWord { kind, is_left }, Size::Word, ea, first_word, space, plain, port, ended),
         Arith::MulW { register, is_signed, ref ea } =>
-            take(Effect::MultiplyWord { is_signed, register }, Size::Word, ea, first_word, space, plain, port),
+            take(Effect::MultiplyWord { is_signed, register }, Size::Word, ea, first_word, space, plain, port, ended),
         Arith::MulL { ref ea, word } =>
-            take(Effect::MultiplyLong(word), Size::Long, ea, second_word, space, plain, port),
+            take(Effect::MultiplyLong(word), Size::Long, ea, second_word, space, plain, port, ended),
         Arith::DivW { register, is_signed, ref ea } =>
-            take(Effect::DivideWord { is_signed, register }, Size::Word, ea, first_word, space, plain, port),
-        Arith::DivL { ref ea, word } => take(Effect::DivideLong(word), Size::Long, ea, second_word, space, plain, port),
+            take(Effect::DivideWord { is_signed, register }, Size::Word, ea, first_word, space, plain, port, ended),
+        Arith::DivL { ref ea, word } =>
+            take(Effect::DivideLong(word), Size::Long, ea, second_word, space, plain, port, ended),
         Arith::BitReg { register, kind, ref ea } =>
-            bit_row(kind, plain.d[register as usize], ea, first_word, space, plain, port),
-        Arith::BitImm { kind, ref ea, word } => bit_row(kind, u32::from(word), ea, second_word, space, plain, port),
-        Arith::Field { kind, ref ea, word } => bit_field(kind, ea, word, at, space, plain, port),
-        Arith::Nbcd { ref ea } => modify(Change::NegateDecimal, Size::Byte, ea, first_word, space, plain, port),
-        Arith::Abcd { x, in_memory, y } => decimal(DecimalKind::Add, x, in_memory, y, at, space, plain, port),
-        Arith::Sbcd { x, in_memory, y } => decimal(DecimalKind::Subtract, x, in_memory, y, at, space, plain, port),
+            bit_row(kind, plain.d[register as usize], ea, first_word, space, plain, port, ended),
+        Arith::BitImm { kind, ref ea, word } =>
+            bit_row(kind, u32::from(word), ea, second_word, space, plain, port, ended),
+        Arith::Field { kind, ref ea, word } => bit_field(kind, ea, word, at, space, plain, port, ended),
+        Arith::Nbcd { ref ea } => modify(Change::NegateDecimal, Size::Byte, ea, first_word, space, plain, port, ended),
+        Arith::Abcd { x, in_memory, y } => decimal(DecimalKind::Add, x, in_memory, y, at, space, plain, port, ended),
+        Arith::Sbcd { x, in_memory, y } =>
+            decimal(DecimalKind::Subtract, x, in_memory, y, at, space, plain, port, ended),
         Arith::Pack { x, in_memory, y, word } =>
-            repack(PackingKind::Pack, x, in_memory, y, word, at, space, plain, port),
+            repack(PackingKind::Pack, x, in_memory, y, word, at, space, plain, port, ended),
         Arith::Unpk { x, in_memory, y, word } =>
-            repack(PackingKind::Unpack, x, in_memory, y, word, at, space, plain, port),
-        Arith::Tas { ref ea } => tas(ea, at, space, plain, port),
-        Arith::Cas { size, ref ea, word } => cas(size, ea, word, at, space, plain, port),
-        Arith::Cas2 { size, first, second } => cas2(size, first, second, space, plain, port),
+            repack(PackingKind::Unpack, x, in_memory, y, word, at, space, plain, port, ended),
+        Arith::Tas { ref ea } => tas(ea, at, space, plain, port, ended),
+        Arith::Cas { size, ref ea, word } => cas(size, ea, word, at, space, plain, port, ended),
+        Arith::Cas2 { size, first, second } => cas2(size, first, second, space, plain, port, ended),
     }
 }
 
@@ -154,14 +168,15 @@ pub fn perform_arith<P: Port>(
     space: Space,
     plain: &mut Plain,
     port: &mut P,
-) -> Ended
+    ended: &mut Ended,
+) -> Result<bool, Undone>
     requires { IsInstr (instr.Arith instruction.now) }
-    ensures means { run P.bus (closing (perform_arith_of instruction.now at space plain.old)) (P.world port.old)
-        ≡ ((result, plain.new), P.world port.new) }
+    ensures means { run P.bus (perform_arith_of instruction.now at space plain.old) (P.world port.old)
+        ≡ (performed_by (with_end result ended.new) plain.new, P.world port.new) }
     ensures rest { P.rest port.new ≡ P.rest port.old }
 {
-    match carry_out(instruction, at, space, plain, port) {
-        Ok(()) => Ended::Done { flow: false },
-        Err(ended) => ended,
+    match carry_out(instruction, at, space, plain, port, ended) {
+        Ok(()) => Ok(false),
+        Err(undone) => Err(undone),
     }
 }

@@ -8,9 +8,11 @@ ghost use Rattle.mb_meaning.specs.Products.{multiplied_by_word, divided_by_word,
 ghost use Rattle.mb_meaning.specs.Products.{low_register, high_register, is_signed, is_wide};
 ghost use Rattle.mb_meaning.specs.Products.{multiplied_long, multiplied_wide, multiplied_by_long};
 ghost use Rattle.mb_meaning.specs.Products.{dividend_of, width_of, divided_by_long, long_divided};
+ghost use Rattle.mb_operands.specs.Endings.{with_end};
 
 use mb_alu::{Divided, Width, div, mul};
 use mb_instr::Plain;
+use mb_operands::{Undone, trapped};
 use mb_writes::Ended;
 
 /// The vector of a division by zero.
@@ -30,10 +32,15 @@ pub(crate) fn multiply_word(signed: bool, register: u8, value: u32, plain: &mut 
 
 /// What a division by a word leaves: the quotient in the low word of the register, the remainder in the high one.
 #[inline(always)]
-fn leave_words(register: u8, divided: Divided, plain: &mut Plain) -> Result<(), Ended>
+fn leave_words(
+    register: u8,
+    divided: Divided,
+    plain: &mut Plain,
+    ended: &mut Ended,
+) -> Result<(), Undone>
     requires register { register < 8 }
     requires divided { IsBounded width.Word divided }
-    ensures { carried_by result plain.new ≡ divided_by_word register divided plain.old }
+    ensures { carried_by (with_end result ended.new) plain.new ≡ divided_by_word register divided plain.old }
 {
     match divided {
         Divided::Done {
@@ -51,7 +58,7 @@ fn leave_words(register: u8, divided: Divided, plain: &mut Plain) -> Result<(), 
         }
         Divided::ZeroDivide(ccr) => {
             plain.ccr = ccr;
-            Err(Ended::Trap(ZERO_DIVIDE))
+            Err(trapped(ZERO_DIVIDE, ended))
         }
     }
 }
@@ -63,13 +70,14 @@ pub(crate) fn divide_word(
     register: u8,
     value: u32,
     plain: &mut Plain,
-) -> Result<(), Ended>
+    ended: &mut Ended,
+) -> Result<(), Undone>
     requires { register < 8 }
-    ensures { carried_by result plain.new ≡ word_divided signed register value plain.old }
+    ensures { carried_by (with_end result ended.new) plain.new ≡ word_divided signed register value plain.old }
 {
     let dividend = u64::from(plain.d[register as usize]);
     let divided = div(signed, Width::Word, value, dividend, plain.ccr);
-    leave_words(register, divided, plain)
+    leave_words(register, divided, plain, ended)
 }
 
 /// The register of the low long, or of the quotient.
@@ -168,8 +176,13 @@ fn width(word: u16) -> Width
 
 /// What a division by a long leaves. The register of the remainder is written first.
 #[inline(always)]
-fn leave_longs(word: u16, divided: Divided, plain: &mut Plain) -> Result<(), Ended>
-    ensures { carried_by result plain.new ≡ divided_by_long word divided plain.old }
+fn leave_longs(
+    word: u16,
+    divided: Divided,
+    plain: &mut Plain,
+    ended: &mut Ended,
+) -> Result<(), Undone>
+    ensures { carried_by (with_end result ended.new) plain.new ≡ divided_by_long word divided plain.old }
 {
     match divided {
         Divided::Done {
@@ -188,17 +201,22 @@ fn leave_longs(word: u16, divided: Divided, plain: &mut Plain) -> Result<(), End
         }
         Divided::ZeroDivide(ccr) => {
             plain.ccr = ccr;
-            Err(Ended::Trap(ZERO_DIVIDE))
+            Err(trapped(ZERO_DIVIDE, ended))
         }
     }
 }
 
 /// DIVUL.L, DIVSL.L, DIVU.L and DIVS.L.
 #[inline(always)]
-pub(crate) fn divide_long(word: u16, value: u32, plain: &mut Plain) -> Result<(), Ended>
-    ensures { carried_by result plain.new ≡ long_divided word value plain.old }
+pub(crate) fn divide_long(
+    word: u16,
+    value: u32,
+    plain: &mut Plain,
+    ended: &mut Ended,
+) -> Result<(), Undone>
+    ensures { carried_by (with_end result ended.new) plain.new ≡ long_divided word value plain.old }
 {
     let dividend = dividend(word, plain);
     let divided = div(is_signed(word), width(word), value, dividend, plain.ccr);
-    leave_longs(word, divided, plain)
+    leave_longs(word, divided, plain, ended)
 }

@@ -6,10 +6,12 @@ ghost use Rattle.mb_instr.specs.Operands.{IsEa};
 ghost use Rattle.mb_meaning.specs.Ends.{carried_by};
 ghost use Rattle.mb_meaning.specs.Arithmetic.{quick_of};
 ghost use Rattle.mb_ops_arith.specs.Changes.{moved_of, sum_of};
+ghost use Rattle.mb_operands.specs.Endings.{with_end};
 
 use crate::modifying::modify;
 use crate::operations::{Change, Operation, Sum};
 use mb_instr::{Ea, Plain, Size};
+use mb_operands::Undone;
 use mb_port::{Port, Space};
 use mb_writes::Ended;
 
@@ -24,11 +26,12 @@ pub(crate) fn combine_quick<P: Port>(
     space: Space,
     plain: &mut Plain,
     port: &mut P,
-) -> Result<(), Ended>
+    ended: &mut Ended,
+) -> Result<(), Undone>
     requires { IsEa size ea.now }
     ensures means { run P.bus
         (quick_of (sum_of sum size quick) (λ address. moved_of sum address quick) size ea.now at space plain.old)
-        (P.world port.old) ≡ (carried_by result plain.new, P.world port.new) }
+        (P.world port.old) ≡ (carried_by (with_end result ended.new) plain.new, P.world port.new) }
     ensures rest { P.rest port.new ≡ P.rest port.old }
 {
     let quick = u32::from(quick);
@@ -40,7 +43,16 @@ pub(crate) fn combine_quick<P: Port>(
         }
         None => {
             let change = Change::By(Operation::Sum(sum), quick);
-            modify(change, size, ea, at.wrapping_add(2), space, plain, port)
+            modify(
+                change,
+                size,
+                ea,
+                at.wrapping_add(2),
+                space,
+                plain,
+                port,
+                ended,
+            )
         }
     }
 }

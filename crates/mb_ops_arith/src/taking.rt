@@ -6,12 +6,13 @@ ghost use Rattle.mb_instr.specs.Operands.{IsEa};
 ghost use Rattle.mb_meaning.specs.Ends.{carried_by};
 ghost use Rattle.mb_meaning.specs.Arithmetic.{taking};
 ghost use Rattle.mb_ops_arith.specs.Effects.{effect_of, IsEffect};
+ghost use Rattle.mb_operands.specs.Endings.{with_end};
 
 use crate::operations::Sum;
 use crate::products::{divide_long, divide_word, multiply_long, multiply_word};
 use mb_alu::{LogicKind, compare, logic};
 use mb_instr::{Ea, Plain, Size};
-use mb_operands::fetch_operand;
+use mb_operands::{Undone, fetch_operand, unread};
 use mb_port::{Port, Space};
 use mb_writes::Ended;
 
@@ -35,9 +36,15 @@ pub(crate) enum Effect {
 impl Effect {
     /// Does what it says by the operand's value.
     #[inline(always)]
-    fn apply(self, size: Size, value: u32, plain: &mut Plain) -> Result<(), Ended>
+    fn apply(
+        self,
+        size: Size,
+        value: u32,
+        plain: &mut Plain,
+        ended: &mut Ended,
+    ) -> Result<(), Undone>
         requires { IsEffect self }
-        ensures { carried_by result plain.new ≡ effect_of self size value plain.old }
+        ensures { carried_by (with_end result ended.new) plain.new ≡ effect_of self size value plain.old }
     {
         match self {
             Effect::Test => plain.ccr = logic(LogicKind::Pass, size, value, 0, plain.ccr).ccr,
@@ -57,8 +64,8 @@ impl Effect {
             Effect::DivideWord {
                 is_signed,
                 register,
-            } => return divide_word(is_signed, register, value, plain),
-            Effect::DivideLong(word) => return divide_long(word, value, plain),
+            } => return divide_word(is_signed, register, value, plain, ended),
+            Effect::DivideLong(word) => return divide_long(word, value, plain, ended),
         }
         Ok(())
     }
@@ -74,18 +81,19 @@ pub(crate) fn take<P: Port>(
     space: Space,
     plain: &mut Plain,
     port: &mut P,
-) -> Result<(), Ended>
+    ended: &mut Ended,
+) -> Result<(), Undone>
     requires operand { IsEa size ea.now }
     requires effect { IsEffect effect }
     ensures means { run P.bus (taking (effect_of effect size) size ea.now word_at space plain.old) (P.world port.old)
-        ≡ (carried_by result plain.new, P.world port.new) }
+        ≡ (carried_by (with_end result ended.new) plain.new, P.world port.new) }
     ensures rest { P.rest port.new ≡ P.rest port.old }
 {
     let mut next = *plain;
     let operand = match fetch_operand(size, ea, word_at, space, &mut next, port) {
         Ok(operand) => operand,
-        Err(refused) => return Err(Ended::ReadFault(refused)),
+        Err(refused) => return Err(unread(&refused, ended)),
     };
     *plain = next;
-    effect.apply(size, operand.value, plain)
+    effect.apply(size, operand.value, plain, ended)
 }

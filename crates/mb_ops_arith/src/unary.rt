@@ -5,11 +5,12 @@ ghost use Rattle.mb_port.specs.Routine.{run};
 ghost use Rattle.mb_instr.specs.Operands.{IsEa};
 ghost use Rattle.mb_meaning.specs.Ends.{carried_by};
 ghost use Rattle.mb_meaning.specs.Unary.{clr_of, in_register, ext_of, ccr_by};
+ghost use Rattle.mb_operands.specs.Endings.{with_end};
 
 use mb_alu::{Flagged, LogicKind, extend, logic};
 use mb_ea::resolve;
 use mb_instr::{Ea, Plain, Size};
-use mb_operands::{finish_with, with_low};
+use mb_operands::{Undone, finish_with, unread, with_low};
 use mb_port::{Port, Space};
 use mb_writes::Ended;
 
@@ -25,20 +26,21 @@ pub(crate) fn clear<P: Port>(
     space: Space,
     plain: &mut Plain,
     port: &mut P,
-) -> Result<(), Ended>
+    ended: &mut Ended,
+) -> Result<(), Undone>
     requires { IsEa size ea.now }
     ensures means { run P.bus (clr_of size ea.now at space plain.old) (P.world port.old)
-        ≡ (carried_by result plain.new, P.world port.new) }
+        ≡ (carried_by (with_end result ended.new) plain.new, P.world port.new) }
     ensures rest { P.rest port.new ≡ P.rest port.old }
 {
     let mut next = *plain;
     let target = match resolve(ea, size, &mut next, at.wrapping_add(2), space, port) {
         Ok(target) => target,
-        Err(refused) => return Err(Ended::ReadFault(refused)),
+        Err(refused) => return Err(unread(&refused, ended)),
     };
     next.ccr = logic(LogicKind::Pass, size, 0, 0, next.ccr).ccr;
     *plain = next;
-    finish_with(target, size, 0, space, plain, port)
+    finish_with(target, size, 0, space, plain, port, ended)
 }
 
 /// Makes these the low bytes of a data register, and the condition codes.

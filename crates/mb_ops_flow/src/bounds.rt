@@ -6,10 +6,11 @@ ghost use Rattle.mb_instr.specs.Operands.{IsEa};
 ghost use Rattle.mb_alu.specs.Signs.{signed_of};
 ghost use Rattle.mb_meaning.specs.Ends.{performed_by};
 ghost use Rattle.mb_meaning.specs.Bounds.{checked, chk_of, checked_carry, chk2_of};
+ghost use Rattle.mb_operands.specs.Endings.{with_end};
 
 use mb_alu::Conditions;
 use mb_instr::{Ea, Plain, Size};
-use mb_operands::{compare_bounds, fetch_operand};
+use mb_operands::{Undone, compare_bounds, fetch_operand, trapped, unread};
 use mb_port::{Port, Space};
 use mb_writes::Ended;
 
@@ -33,8 +34,14 @@ fn signed(size: Size, value: u32) -> i64
 /// A value below 0 or above the bound traps; then N says whether it is below 0, and the other condition codes stay.
 #[inline(always)]
 #[tactic(auto, unfolding(mb_meaning::specs::Bounds::checked))]
-fn check_bound(size: Size, bound: u32, value: u32, plain: &mut Plain) -> Result<bool, Ended>
-    ensures { performed_by result plain.new ≡ checked size bound value plain.old }
+fn check_bound(
+    size: Size,
+    bound: u32,
+    value: u32,
+    plain: &mut Plain,
+    ended: &mut Ended,
+) -> Result<bool, Undone>
+    ensures { performed_by (with_end result ended.new) plain.new ≡ checked size bound value plain.old }
 {
     let bound = signed(size, bound);
     let value = signed(size, value);
@@ -44,7 +51,7 @@ fn check_bound(size: Size, bound: u32, value: u32, plain: &mut Plain) -> Result<
             ..Conditions::of(plain.ccr)
         };
         plain.ccr = codes.ccr();
-        Err(Ended::Trap(OUT_OF_BOUNDS))
+        Err(trapped(OUT_OF_BOUNDS, ended))
     } else {
         Ok(false)
     }
@@ -61,31 +68,32 @@ pub fn check<P: Port>(
     space: Space,
     plain: &mut Plain,
     port: &mut P,
-) -> Result<bool, Ended>
+    ended: &mut Ended,
+) -> Result<bool, Undone>
     requires register { register < 8 }
     requires operand { IsEa size ea.now }
     ensures means { run P.bus (chk_of register size ea.now at space plain.old) (P.world port.old)
-        ≡ (performed_by result plain.new, P.world port.new) }
+        ≡ (performed_by (with_end result ended.new) plain.new, P.world port.new) }
     ensures rest { P.rest port.new ≡ P.rest port.old }
 {
     let mut next = *plain;
     match fetch_operand(size, ea, at.wrapping_add(2), space, &mut next, port) {
         Ok(bound) => {
             *plain = next;
-            check_bound(size, bound.value, plain.d[register as usize], plain)
+            check_bound(size, bound.value, plain.d[register as usize], plain, ended)
         }
-        Err(refused) => Err(Ended::ReadFault(refused)),
+        Err(refused) => Err(unread(&refused, ended)),
     }
 }
 
 /// A value out of bounds, which C says, traps.
 #[inline(always)]
 #[tactic(auto, unfolding(mb_meaning::specs::Bounds::checked_carry))]
-fn check_carry(plain: &Plain) -> Result<bool, Ended>
-    ensures { performed_by result plain.now ≡ checked_carry plain.now }
+fn check_carry(plain: &Plain, ended: &mut Ended) -> Result<bool, Undone>
+    ensures { performed_by (with_end result ended.new) plain.now ≡ checked_carry plain.now }
 {
     if Conditions::of(plain.ccr).c {
-        Err(Ended::Trap(OUT_OF_BOUNDS))
+        Err(trapped(OUT_OF_BOUNDS, ended))
     } else {
         Ok(false)
     }
@@ -102,17 +110,18 @@ pub fn check_bounds<P: Port>(
     space: Space,
     plain: &mut Plain,
     port: &mut P,
-) -> Result<bool, Ended>
+    ended: &mut Ended,
+) -> Result<bool, Undone>
     requires { IsEa size ea.now }
     ensures means { run P.bus (chk2_of size ea.now word at space plain.old) (P.world port.old)
-        ≡ (performed_by result plain.new, P.world port.new) }
+        ≡ (performed_by (with_end result ended.new) plain.new, P.world port.new) }
     ensures rest { P.rest port.new ≡ P.rest port.old }
 {
     match compare_bounds(size, ea, word, at, space, plain, port) {
         Ok(ccr) => {
             plain.ccr = ccr;
-            check_carry(plain)
+            check_carry(plain, ended)
         }
-        Err(refused) => Err(Ended::ReadFault(refused)),
+        Err(refused) => Err(unread(&refused, ended)),
     }
 }

@@ -4,9 +4,10 @@ ghost use Rattle.std.specs.Prelude.{◌≡◌, ◌<◌, ◌^◌};
 ghost use Rattle.mb_port.specs.Routine.{run};
 ghost use Rattle.mb_meaning.specs.Ends.{performed_by};
 ghost use Rattle.mb_meaning.specs.Flow.{displacement_of, target_of, is_call, call_of, branched, branch_of};
+ghost use Rattle.mb_operands.specs.Endings.{with_end};
 
 use mb_instr::{Branch, Condition, Plain, Size};
-use mb_operands::{is_met, push};
+use mb_operands::{Undone, is_met, push};
 use mb_port::{Port, Space};
 use mb_writes::Ended;
 
@@ -63,15 +64,16 @@ pub(crate) fn call<P: Port>(
     space: Space,
     plain: &mut Plain,
     port: &mut P,
-) -> Result<bool, Ended>
+    ended: &mut Ended,
+) -> Result<bool, Undone>
     ensures means { run P.bus (call_of target space plain.old) (P.world port.old)
-        ≡ (performed_by result plain.new, P.world port.new) }
+        ≡ (performed_by (with_end result ended.new) plain.new, P.world port.new) }
     ensures rest { P.rest port.new ≡ P.rest port.old }
 {
     let next = plain.pc;
     plain.a[7] = plain.a[7].wrapping_sub(4);
     plain.pc = target;
-    push(next, plain.a[7], space, plain, port)?;
+    push(next, plain.a[7], space, plain, port, ended)?;
     Ok(true)
 }
 
@@ -98,14 +100,15 @@ pub fn branch<P: Port>(
     space: Space,
     plain: &mut Plain,
     port: &mut P,
-) -> Result<bool, Ended>
+    ended: &mut Ended,
+) -> Result<bool, Undone>
     ensures means { run P.bus (branch_of condition branch at space plain.old) (P.world port.old)
-        ≡ (performed_by result plain.new, P.world port.new) }
+        ≡ (performed_by (with_end result ended.new) plain.new, P.world port.new) }
     ensures rest { P.rest port.new ≡ P.rest port.old }
 {
     let target = target(at, branch);
     if is_call(condition) {
-        call(target, space, plain, port)
+        call(target, space, plain, port, ended)
     } else {
         Ok(go_if_met(condition, target, plain))
     }

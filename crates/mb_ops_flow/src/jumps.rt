@@ -5,10 +5,11 @@ ghost use Rattle.mb_port.specs.Routine.{run};
 ghost use Rattle.mb_instr.specs.Operands.{IsEa};
 ghost use Rattle.mb_meaning.specs.Ends.{performed_by};
 ghost use Rattle.mb_meaning.specs.Flow.{jmp_of, jsr_of};
+ghost use Rattle.mb_operands.specs.Endings.{with_end};
 
 use crate::branches::call;
 use mb_instr::{Ea, Plain, Size};
-use mb_operands::find_address;
+use mb_operands::{Undone, find_address, unread};
 use mb_port::{Port, Space};
 use mb_writes::Ended;
 
@@ -21,10 +22,11 @@ pub fn jump<P: Port>(
     space: Space,
     plain: &mut Plain,
     port: &mut P,
-) -> Result<bool, Ended>
+    ended: &mut Ended,
+) -> Result<bool, Undone>
     requires { IsEa Size.Long ea.now }
     ensures means { run P.bus (jmp_of ea.now at space plain.old) (P.world port.old)
-        ≡ (performed_by result plain.new, P.world port.new) }
+        ≡ (performed_by (with_end result ended.new) plain.new, P.world port.new) }
     ensures rest { P.rest port.new ≡ P.rest port.old }
 {
     match find_address(Size::Long, ea, at.wrapping_add(2), space, plain, port) {
@@ -32,7 +34,7 @@ pub fn jump<P: Port>(
             plain.pc = target;
             Ok(true)
         }
-        Err(refused) => Err(Ended::ReadFault(refused)),
+        Err(refused) => Err(unread(&refused, ended)),
     }
 }
 
@@ -45,14 +47,15 @@ pub fn jump_to_subroutine<P: Port>(
     space: Space,
     plain: &mut Plain,
     port: &mut P,
-) -> Result<bool, Ended>
+    ended: &mut Ended,
+) -> Result<bool, Undone>
     requires { IsEa Size.Long ea.now }
     ensures means { run P.bus (jsr_of ea.now at space plain.old) (P.world port.old)
-        ≡ (performed_by result plain.new, P.world port.new) }
+        ≡ (performed_by (with_end result ended.new) plain.new, P.world port.new) }
     ensures rest { P.rest port.new ≡ P.rest port.old }
 {
     match find_address(Size::Long, ea, at.wrapping_add(2), space, plain, port) {
-        Ok(target) => call(target, space, plain, port),
-        Err(refused) => Err(Ended::ReadFault(refused)),
+        Ok(target) => call(target, space, plain, port, ended),
+        Err(refused) => Err(unread(&refused, ended)),
     }
 }

@@ -4,8 +4,9 @@ ghost use Rattle.std.specs.Prelude.{◌≡◌};
 ghost use Rattle.mb_port.specs.Routine.{run};
 ghost use Rattle.mb_instr.specs.Codes.{IsInstr};
 ghost use Rattle.mb_instr.specs.declared.instruction.Instr.TheVariants as instr;
-ghost use Rattle.mb_meaning.specs.Ends.{closing, performed_by};
+ghost use Rattle.mb_meaning.specs.Ends.{performed_by};
 ghost use Rattle.mb_meaning.specs.Rows.{perform_flow_of};
+ghost use Rattle.mb_operands.specs.Endings.{with_end};
 
 use crate::bounds::{check, check_bounds};
 use crate::branches::branch;
@@ -14,6 +15,7 @@ use crate::loops::loop_unless;
 use crate::returns::{return_and_deallocate, return_and_restore, return_from_subroutine};
 use crate::traps::{trap, trap_if, trap_on_overflow};
 use mb_instr::{Flow, Plain};
+use mb_operands::Undone;
 use mb_port::{Port, Space};
 use mb_writes::Ended;
 
@@ -27,10 +29,11 @@ fn carry_out<P: Port>(
     space: Space,
     plain: &mut Plain,
     port: &mut P,
-) -> Result<bool, Ended>
+    ended: &mut Ended,
+) -> Result<bool, Undone>
     requires { IsInstr (instr.Flow instruction.now) }
     ensures means { run P.bus (perform_flow_of instruction.now at space plain.old) (P.world port.old)
-        ≡ (performed_by result plain.new, P.world port.new) }
+        ≡ (performed_by (with_end result ended.new) plain.new, P.world port.new) }
     ensures rest { P.rest port.new ≡ P.rest port.old }
 {
     match instruction {
@@ -38,22 +41,32 @@ fn carry_out<P: Port>(
         Flow::Bcc {
             condition,
             displacement,
-        } => branch(*condition, *displacement, at, space, plain, port),
-        Flow::Chk { register, size, ea } => check(*register, *size, ea, at, space, plain, port),
-        Flow::Chk2 { size, ea, word } => check_bounds(*size, ea, *word, at, space, plain, port),
+        } => branch(*condition, *displacement, at, space, plain, port, ended),
+        Flow::Chk { register, size, ea } => check(
+            *register, *size, ea, at, space, plain, port, ended,
+        ),
+        Flow::Chk2 { size, ea, word } => check_bounds(
+            *size, ea, *word, at, space, plain, port, ended,
+        ),
         Flow::Dbcc {
             condition,
             register,
             displacement,
         } => Ok(loop_unless(*condition, *register, *displacement, at, plain)),
-        Flow::Jmp { ea } => jump(ea, at, space, plain, port),
-        Flow::Jsr { ea } => jump_to_subroutine(ea, at, space, plain, port),
-        Flow::Rtd { displacement } => return_and_deallocate(*displacement, space, plain, port),
-        Flow::Rtr => return_and_restore(space, plain, port),
-        Flow::Rts => return_from_subroutine(space, plain, port),
-        Flow::Trap { number } => trap(*number, plain),
-        Flow::Trapcc { condition, .. } => trap_if(*condition, plain),
-        Flow::Trapv => trap_on_overflow(plain),
+        Flow::Jmp { ea } => jump(ea, at, space, plain, port, ended),
+        Flow::Jsr { ea } => jump_to_subroutine(ea, at, space, plain, port, ended),
+        Flow::Rtd { displacement } => return_and_deallocate(
+            *displacement,
+            space,
+            plain,
+            port,
+            ended,
+        ),
+        Flow::Rtr => return_and_restore(space, plain, port, ended),
+        Flow::Rts => return_from_subroutine(space, plain, port, ended),
+        Flow::Trap { number } => trap(*number, plain, ended),
+        Flow::Trapcc { condition, .. } => trap_if(*condition, plain, ended),
+        Flow::Trapv => trap_on_overflow(plain, ended),
     }
 }
 
@@ -66,14 +79,12 @@ pub fn perform_flow<P: Port>(
     space: Space,
     plain: &mut Plain,
     port: &mut P,
-) -> Ended
+    ended: &mut Ended,
+) -> Result<bool, Undone>
     requires { IsInstr (instr.Flow instruction.now) }
-    ensures means { run P.bus (closing (perform_flow_of instruction.now at space plain.old)) (P.world port.old)
-        ≡ ((result, plain.new), P.world port.new) }
+    ensures means { run P.bus (perform_flow_of instruction.now at space plain.old) (P.world port.old)
+        ≡ (performed_by (with_end result ended.new) plain.new, P.world port.new) }
     ensures rest { P.rest port.new ≡ P.rest port.old }
 {
-    match carry_out(instruction, at, space, plain, port) {
-        Ok(flow) => Ended::Done { flow },
-        Err(ended) => ended,
-    }
+    carry_out(instruction, at, space, plain, port, ended)
 }

@@ -4,9 +4,11 @@ ghost use Rattle.std.specs.Prelude.{◌≡◌};
 ghost use Rattle.mb_port.specs.Routine.{run};
 ghost use Rattle.mb_meaning.specs.Ends.{performed_by};
 ghost use Rattle.mb_meaning.specs.Returns.{rts_of, rtd_of, rtr_of};
+ghost use Rattle.mb_operands.specs.Endings.{with_end};
 
 use mb_ea::read_value;
 use mb_instr::{Plain, Size};
+use mb_operands::{Undone, unread};
 use mb_port::{Port, Space};
 use mb_writes::Ended;
 
@@ -17,9 +19,10 @@ pub fn return_from_subroutine<P: Port>(
     space: Space,
     plain: &mut Plain,
     port: &mut P,
-) -> Result<bool, Ended>
+    ended: &mut Ended,
+) -> Result<bool, Undone>
     ensures means { run P.bus (rts_of space plain.old) (P.world port.old)
-        ≡ (performed_by result plain.new, P.world port.new) }
+        ≡ (performed_by (with_end result ended.new) plain.new, P.world port.new) }
     ensures rest { P.rest port.new ≡ P.rest port.old }
 {
     match read_value(space, plain.a[7], Size::Long, port) {
@@ -28,7 +31,7 @@ pub fn return_from_subroutine<P: Port>(
             plain.pc = target;
             Ok(true)
         }
-        Err(refused) => Err(Ended::ReadFault(refused)),
+        Err(refused) => Err(unread(&refused, ended)),
     }
 }
 
@@ -40,9 +43,10 @@ pub fn return_and_deallocate<P: Port>(
     space: Space,
     plain: &mut Plain,
     port: &mut P,
-) -> Result<bool, Ended>
+    ended: &mut Ended,
+) -> Result<bool, Undone>
     ensures means { run P.bus (rtd_of displacement space plain.old) (P.world port.old)
-        ≡ (performed_by result plain.new, P.world port.new) }
+        ≡ (performed_by (with_end result ended.new) plain.new, P.world port.new) }
     ensures rest { P.rest port.new ≡ P.rest port.old }
 {
     let offset = Size::Word.sign_extend(u32::from(displacement));
@@ -52,7 +56,7 @@ pub fn return_and_deallocate<P: Port>(
             plain.pc = target;
             Ok(true)
         }
-        Err(refused) => Err(Ended::ReadFault(refused)),
+        Err(refused) => Err(unread(&refused, ended)),
     }
 }
 
@@ -63,19 +67,20 @@ pub fn return_and_restore<P: Port>(
     space: Space,
     plain: &mut Plain,
     port: &mut P,
-) -> Result<bool, Ended>
+    ended: &mut Ended,
+) -> Result<bool, Undone>
     ensures means { run P.bus (rtr_of space plain.old) (P.world port.old)
-        ≡ (performed_by result plain.new, P.world port.new) }
+        ≡ (performed_by (with_end result ended.new) plain.new, P.world port.new) }
     ensures rest { P.rest port.new ≡ P.rest port.old }
 {
     let codes = match read_value(space, plain.a[7], Size::Word, port) {
         Ok(codes) => codes,
-        Err(refused) => return Err(Ended::ReadFault(refused)),
+        Err(refused) => return Err(unread(&refused, ended)),
     };
     let behind = plain.a[7].wrapping_add(2);
     let target = match read_value(space, behind, Size::Long, port) {
         Ok(target) => target,
-        Err(refused) => return Err(Ended::ReadFault(refused)),
+        Err(refused) => return Err(unread(&refused, ended)),
     };
     plain.a[7] = behind.wrapping_add(4);
     plain.pc = target;

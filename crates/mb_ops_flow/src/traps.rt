@@ -3,9 +3,10 @@
 ghost use Rattle.std.specs.Prelude.{◌≡◌, ◌<◌};
 ghost use Rattle.mb_meaning.specs.Ends.{performed_by};
 ghost use Rattle.mb_meaning.specs.Traps.{trap_of, trapcc_of, trapv_of};
+ghost use Rattle.mb_operands.specs.Endings.{with_end};
 
 use mb_instr::{Condition, Plain};
-use mb_operands::is_met;
+use mb_operands::{Undone, is_met, trapped};
 use mb_writes::Ended;
 
 /// The vector of TRAPcc and TRAPV.
@@ -17,21 +18,21 @@ const FIRST_TRAP: u8 = 32;
 /// TRAP.
 #[inline(always)]
 #[tactic(auto, unfolding(mb_meaning::specs::Traps::trap_of))]
-pub fn trap(number: u8, plain: &Plain) -> Result<bool, Ended>
+pub fn trap(number: u8, plain: &Plain, ended: &mut Ended) -> Result<bool, Undone>
     requires { number < 16 }
-    ensures { performed_by result plain.now ≡ trap_of number plain.now }
+    ensures { performed_by (with_end result ended.new) plain.now ≡ trap_of number plain.now }
 {
-    Err(Ended::Trap(FIRST_TRAP + number))
+    Err(trapped(FIRST_TRAP + number, ended))
 }
 
 /// TRAPcc, whose operand is passed over: a trap where the condition is met.
 #[inline(always)]
 #[tactic(auto, unfolding(mb_meaning::specs::Traps::trapcc_of))]
-pub fn trap_if(condition: Condition, plain: &Plain) -> Result<bool, Ended>
-    ensures { performed_by result plain.now ≡ trapcc_of condition plain.now }
+pub fn trap_if(condition: Condition, plain: &Plain, ended: &mut Ended) -> Result<bool, Undone>
+    ensures { performed_by (with_end result ended.new) plain.now ≡ trapcc_of condition plain.now }
 {
     if is_met(condition, plain.ccr) {
-        Err(Ended::Trap(CONDITION_MET))
+        Err(trapped(CONDITION_MET, ended))
     } else {
         Ok(false)
     }
@@ -40,8 +41,8 @@ pub fn trap_if(condition: Condition, plain: &Plain) -> Result<bool, Ended>
 /// TRAPV: a trap on overflow.
 #[inline(always)]
 #[tactic(auto, unfolding(mb_meaning::specs::Traps::trapv_of))]
-pub fn trap_on_overflow(plain: &Plain) -> Result<bool, Ended>
-    ensures { performed_by result plain.now ≡ trapv_of plain.now }
+pub fn trap_on_overflow(plain: &Plain, ended: &mut Ended) -> Result<bool, Undone>
+    ensures { performed_by (with_end result ended.new) plain.now ≡ trapv_of plain.now }
 {
-    trap_if(Condition::OverflowSet, plain)
+    trap_if(Condition::OverflowSet, plain, ended)
 }

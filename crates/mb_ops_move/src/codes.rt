@@ -5,10 +5,11 @@ ghost use Rattle.mb_port.specs.Routine.{run};
 ghost use Rattle.mb_instr.specs.Operands.{IsEa};
 ghost use Rattle.mb_meaning.specs.Moves.{to_ccr_of, from_ccr_of, byte_of, scc_of};
 ghost use Rattle.mb_meaning.specs.Ends.{carried_by};
+ghost use Rattle.mb_operands.specs.Endings.{with_end};
 
 use mb_ea::resolve;
 use mb_instr::{Condition, Ea, Plain, Size};
-use mb_operands::{fetch_operand, finish_with, is_met};
+use mb_operands::{Undone, fetch_operand, finish_with, is_met, unread};
 use mb_port::{Port, Space};
 use mb_writes::Ended;
 
@@ -21,10 +22,11 @@ pub fn move_to_ccr<P: Port>(
     space: Space,
     plain: &mut Plain,
     port: &mut P,
-) -> Result<(), Ended>
+    ended: &mut Ended,
+) -> Result<(), Undone>
     requires { IsEa Size.Word ea.now }
     ensures means { run P.bus (to_ccr_of ea.now at space plain.old) (P.world port.old)
-        ≡ (carried_by result plain.new, P.world port.new) }
+        ≡ (carried_by (with_end result ended.new) plain.new, P.world port.new) }
     ensures rest { P.rest port.new ≡ P.rest port.old }
 {
     let mut next = *plain;
@@ -34,7 +36,7 @@ pub fn move_to_ccr<P: Port>(
             *plain = next;
             Ok(())
         }
-        Err(refused) => Err(Ended::ReadFault(refused)),
+        Err(refused) => Err(unread(&refused, ended)),
     }
 }
 
@@ -47,20 +49,21 @@ pub fn move_from_ccr<P: Port>(
     space: Space,
     plain: &mut Plain,
     port: &mut P,
-) -> Result<(), Ended>
+    ended: &mut Ended,
+) -> Result<(), Undone>
     requires { IsEa Size.Word ea.now }
     ensures means { run P.bus (from_ccr_of ea.now at space plain.old) (P.world port.old)
-        ≡ (carried_by result plain.new, P.world port.new) }
+        ≡ (carried_by (with_end result ended.new) plain.new, P.world port.new) }
     ensures rest { P.rest port.new ≡ P.rest port.old }
 {
     let mut next = *plain;
     let target = match resolve(ea, Size::Word, &mut next, at.wrapping_add(2), space, port) {
         Ok(target) => target,
-        Err(refused) => return Err(Ended::ReadFault(refused)),
+        Err(refused) => return Err(unread(&refused, ended)),
     };
     let codes = u32::from(plain.ccr % 32);
     *plain = next;
-    finish_with(target, Size::Word, codes, space, plain, port)
+    finish_with(target, Size::Word, codes, space, plain, port, ended)
 }
 
 /// A byte of ones, or of zeros.
@@ -81,18 +84,19 @@ pub fn set_by_condition<P: Port>(
     space: Space,
     plain: &mut Plain,
     port: &mut P,
-) -> Result<(), Ended>
+    ended: &mut Ended,
+) -> Result<(), Undone>
     requires { IsEa Size.Byte ea.now }
     ensures means { run P.bus (scc_of condition ea.now at space plain.old) (P.world port.old)
-        ≡ (carried_by result plain.new, P.world port.new) }
+        ≡ (carried_by (with_end result ended.new) plain.new, P.world port.new) }
     ensures rest { P.rest port.new ≡ P.rest port.old }
 {
     let mut next = *plain;
     let target = match resolve(ea, Size::Byte, &mut next, at.wrapping_add(2), space, port) {
         Ok(target) => target,
-        Err(refused) => return Err(Ended::ReadFault(refused)),
+        Err(refused) => return Err(unread(&refused, ended)),
     };
     let byte = byte_of(is_met(condition, plain.ccr));
     *plain = next;
-    finish_with(target, Size::Byte, byte, space, plain, port)
+    finish_with(target, Size::Byte, byte, space, plain, port, ended)
 }

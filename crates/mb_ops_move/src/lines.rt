@@ -5,9 +5,11 @@ ghost use Rattle.mb_port.specs.Routine.{run};
 ghost use Rattle.mb_meaning.specs.Ends.{carried_by};
 ghost use Rattle.mb_meaning.specs.Lines.{line_at, line_moved, past_line, past_lines, destination_in};
 ghost use Rattle.mb_meaning.specs.Lines.{move16_absolute_of, move16_of};
+ghost use Rattle.mb_operands.specs.Endings.{with_end};
 
 use mb_ea::ReadFault;
 use mb_instr::{LineMove, Plain};
+use mb_operands::{Undone, left_undone};
 use mb_port::{Port, Space};
 use mb_writes::Ended;
 
@@ -33,20 +35,21 @@ fn move_line<P: Port>(
     space: Space,
     plain: &mut Plain,
     port: &mut P,
-) -> Result<(), Ended>
+    ended: &mut Ended,
+) -> Result<(), Undone>
     ensures means { run P.bus (line_moved from to after.now space plain.old) (P.world port.old)
-        ≡ (carried_by result plain.new, P.world port.new) }
+        ≡ (carried_by (with_end result ended.new) plain.new, P.world port.new) }
     ensures rest { P.rest port.new ≡ P.rest port.old }
 {
     let first = line_at(from);
     let line = match port.read_line(space, first) {
         Ok(line) => line,
-        Err(fault) => return Err(Ended::ReadFault(ReadFault { fault, first })),
+        Err(fault) => return Err(left_undone(Ended::ReadFault(ReadFault { fault, first }), ended)),
     };
     *plain = *after;
     match port.write_line(space, line_at(to), line) {
         Ok(()) => Ok(()),
-        Err(fault) => Err(Ended::LineFault { fault, line }),
+        Err(fault) => Err(left_undone(Ended::LineFault { fault, line }, ended)),
     }
 }
 
@@ -69,10 +72,11 @@ pub fn move_line_absolute<P: Port>(
     space: Space,
     plain: &mut Plain,
     port: &mut P,
-) -> Result<(), Ended>
+    ended: &mut Ended,
+) -> Result<(), Undone>
     requires { register < 8 }
     ensures means { run P.bus (move16_absolute_of kind register place space plain.old) (P.world port.old)
-        ≡ (carried_by result plain.new, P.world port.new) }
+        ≡ (carried_by (with_end result ended.new) plain.new, P.world port.new) }
     ensures rest { P.rest port.new ≡ P.rest port.old }
 {
     let address = plain.a[register as usize];
@@ -80,14 +84,18 @@ pub fn move_line_absolute<P: Port>(
     match kind {
         LineMove::PostToAbsolute => {
             step_past_line(register, &mut after);
-            move_line(address, place, &after, space, plain, port)
+            move_line(address, place, &after, space, plain, port, ended)
         }
         LineMove::AbsoluteToPost => {
             step_past_line(register, &mut after);
-            move_line(place, address, &after, space, plain, port)
+            move_line(place, address, &after, space, plain, port, ended)
         }
-        LineMove::IndirectToAbsolute => move_line(address, place, &after, space, plain, port),
-        LineMove::AbsoluteToIndirect => move_line(place, address, &after, space, plain, port),
+        LineMove::IndirectToAbsolute => move_line(
+            address, place, &after, space, plain, port, ended,
+        ),
+        LineMove::AbsoluteToIndirect => move_line(
+            place, address, &after, space, plain, port, ended,
+        ),
     }
 }
 
@@ -120,10 +128,11 @@ pub fn move_line_post<P: Port>(
     space: Space,
     plain: &mut Plain,
     port: &mut P,
-) -> Result<(), Ended>
+    ended: &mut Ended,
+) -> Result<(), Undone>
     requires { x < 8 }
     ensures means { run P.bus (move16_of x word space plain.old) (P.world port.old)
-        ≡ (carried_by result plain.new, P.world port.new) }
+        ≡ (carried_by (with_end result ended.new) plain.new, P.world port.new) }
     ensures rest { P.rest port.new ≡ P.rest port.old }
 {
     let y = destination(word);
@@ -131,5 +140,5 @@ pub fn move_line_post<P: Port>(
     let to = plain.a[y as usize];
     let mut after = *plain;
     step_past_lines(x, y, &mut after);
-    move_line(from, to, &after, space, plain, port)
+    move_line(from, to, &after, space, plain, port, ended)
 }

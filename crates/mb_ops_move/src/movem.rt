@@ -6,9 +6,10 @@ ghost use Rattle.mb_instr.specs.Operands.{IsEa};
 ghost use Rattle.mb_writes.specs.Transfers.{IsMode};
 ghost use Rattle.mb_meaning.specs.Ends.{carried_by};
 ghost use Rattle.mb_meaning.specs.Moves.{movem_mode, movem_of};
+ghost use Rattle.mb_operands.specs.Endings.{with_end};
 
 use mb_instr::{Ea, Plain, Size};
-use mb_operands::find_address;
+use mb_operands::{Undone, find_address, left_undone, unread};
 use mb_port::{Port, Space};
 use mb_writes::{Ended, Movem, MovemMode, transfer};
 
@@ -45,16 +46,17 @@ pub fn movem<P: Port>(
     space: Space,
     plain: &mut Plain,
     port: &mut P,
-) -> Result<(), Ended>
+    ended: &mut Ended,
+) -> Result<(), Undone>
     requires { IsEa size ea.now }
     ensures means { run P.bus (movem_of is_load size ea.now mask at space plain.old) (P.world port.old)
-        ≡ (carried_by result plain.new, P.world port.new) }
+        ≡ (carried_by (with_end result ended.new) plain.new, P.world port.new) }
     ensures rest { P.rest port.new ≡ P.rest port.old }
 {
     let word_at = at.wrapping_add(2).wrapping_add(2);
     let place = match find_address(size, ea, word_at, space, plain, port) {
         Ok(place) => place,
-        Err(refused) => return Err(Ended::ReadFault(refused)),
+        Err(refused) => return Err(unread(&refused, ended)),
     };
     let movem = Movem {
         is_load,
@@ -64,6 +66,6 @@ pub fn movem<P: Port>(
     };
     match transfer(&movem, place, 0, plain, space, port) {
         Ok(()) => Ok(()),
-        Err(refused) => Err(Ended::Movem(refused)),
+        Err(refused) => Err(left_undone(Ended::Movem(refused), ended)),
     }
 }

@@ -5,11 +5,12 @@ ghost use Rattle.mb_port.specs.Routine.{run};
 ghost use Rattle.mb_instr.specs.Operands.{IsEa};
 ghost use Rattle.mb_meaning.specs.Moves.{moveq_of, move_of, movea_of, lea_of};
 ghost use Rattle.mb_meaning.specs.Ends.{carried_by};
+ghost use Rattle.mb_operands.specs.Endings.{with_end};
 
 use mb_alu::{LogicKind, extend, logic};
 use mb_ea::resolve;
 use mb_instr::{Ea, Plain, Size};
-use mb_operands::{behind, fetch_operand, find_address, finish_with};
+use mb_operands::{Undone, behind, fetch_operand, find_address, finish_with, unread};
 use mb_port::{Port, Space};
 use mb_writes::Ended;
 
@@ -36,27 +37,28 @@ pub fn move_operand<P: Port>(
     space: Space,
     plain: &mut Plain,
     port: &mut P,
-) -> Result<(), Ended>
+    ended: &mut Ended,
+) -> Result<(), Undone>
     requires destination { IsEa size destination.now }
     requires source { IsEa size from.now }
     ensures means { run P.bus (move_of size destination.now from.now at space plain.old) (P.world port.old)
-        ≡ (carried_by result plain.new, P.world port.new) }
+        ≡ (carried_by (with_end result ended.new) plain.new, P.world port.new) }
     ensures rest { P.rest port.new ≡ P.rest port.old }
 {
     let mut next = *plain;
     let word_at = at.wrapping_add(2);
     let source = match fetch_operand(size, from, word_at, space, &mut next, port) {
         Ok(source) => source,
-        Err(refused) => return Err(Ended::ReadFault(refused)),
+        Err(refused) => return Err(unread(&refused, ended)),
     };
     let target_word_at = behind(size, from, word_at);
     let target = match resolve(destination, size, &mut next, target_word_at, space, port) {
         Ok(target) => target,
-        Err(refused) => return Err(Ended::ReadFault(refused)),
+        Err(refused) => return Err(unread(&refused, ended)),
     };
     *plain = next;
     plain.ccr = logic(LogicKind::Pass, size, source.value, 0, plain.ccr).ccr;
-    finish_with(target, size, source.value, space, plain, port)
+    finish_with(target, size, source.value, space, plain, port, ended)
 }
 
 /// MOVEA: the source, read at its size, goes to the whole register with its sign.
@@ -70,11 +72,12 @@ pub fn move_address<P: Port>(
     space: Space,
     plain: &mut Plain,
     port: &mut P,
-) -> Result<(), Ended>
+    ended: &mut Ended,
+) -> Result<(), Undone>
     requires source { IsEa size from.now }
     requires register { register < 8 }
     ensures means { run P.bus (movea_of size register from.now at space plain.old) (P.world port.old)
-        ≡ (carried_by result plain.new, P.world port.new) }
+        ≡ (carried_by (with_end result ended.new) plain.new, P.world port.new) }
     ensures rest { P.rest port.new ≡ P.rest port.old }
 {
     let mut next = *plain;
@@ -84,7 +87,7 @@ pub fn move_address<P: Port>(
             *plain = next;
             Ok(())
         }
-        Err(refused) => Err(Ended::ReadFault(refused)),
+        Err(refused) => Err(unread(&refused, ended)),
     }
 }
 
@@ -98,11 +101,12 @@ pub fn load_address<P: Port>(
     space: Space,
     plain: &mut Plain,
     port: &mut P,
-) -> Result<(), Ended>
+    ended: &mut Ended,
+) -> Result<(), Undone>
     requires operand { IsEa Size.Long ea.now }
     requires register { register < 8 }
     ensures means { run P.bus (lea_of register ea.now at space plain.old) (P.world port.old)
-        ≡ (carried_by result plain.new, P.world port.new) }
+        ≡ (carried_by (with_end result ended.new) plain.new, P.world port.new) }
     ensures rest { P.rest port.new ≡ P.rest port.old }
 {
     match find_address(Size::Long, ea, at.wrapping_add(2), space, plain, port) {
@@ -110,6 +114,6 @@ pub fn load_address<P: Port>(
             plain.a[register as usize] = place;
             Ok(())
         }
-        Err(refused) => Err(Ended::ReadFault(refused)),
+        Err(refused) => Err(unread(&refused, ended)),
     }
 }

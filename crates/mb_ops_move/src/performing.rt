@@ -4,8 +4,9 @@ ghost use Rattle.std.specs.Prelude.{◌≡◌};
 ghost use Rattle.mb_port.specs.Routine.{run};
 ghost use Rattle.mb_instr.specs.Codes.{IsInstr};
 ghost use Rattle.mb_instr.specs.declared.instruction.Instr.TheVariants as instr;
-ghost use Rattle.mb_meaning.specs.Ends.{closing, carried_by};
+ghost use Rattle.mb_meaning.specs.Ends.{carried_by, performed_by};
 ghost use Rattle.mb_meaning.specs.Rows.{perform_move_of};
+ghost use Rattle.mb_operands.specs.Endings.{with_end};
 
 use crate::codes::{move_from_ccr, move_to_ccr, set_by_condition};
 use crate::lines::{move_line_absolute, move_line_post};
@@ -15,6 +16,7 @@ use crate::peripheral::move_peripheral;
 use crate::registers::{exchange, swap};
 use crate::stack::{link, push_address, unlink};
 use mb_instr::{Move, Plain, Size};
+use mb_operands::Undone;
 use mb_port::{Port, Space};
 use mb_writes::Ended;
 
@@ -27,10 +29,11 @@ fn carry_out<P: Port>(
     space: Space,
     plain: &mut Plain,
     port: &mut P,
-) -> Result<(), Ended>
+    ended: &mut Ended,
+) -> Result<(), Undone>
     requires { IsInstr (instr.Move instruction.now) }
     ensures means { run P.bus (perform_move_of instruction.now at space plain.old) (P.world port.old)
-        ≡ (carried_by result plain.new, P.world port.new) }
+        ≡ (carried_by (with_end result ended.new) plain.new, P.world port.new) }
     ensures rest { P.rest port.new ≡ P.rest port.old }
 {
     match instruction {
@@ -38,7 +41,7 @@ fn carry_out<P: Port>(
             size,
             destination,
             source,
-        } => move_operand(*size, destination, source, at, space, plain, port),
+        } => move_operand(*size, destination, source, at, space, plain, port, ended),
         Move::Moveq {
             register,
             immediate,
@@ -46,16 +49,18 @@ fn carry_out<P: Port>(
             moveq(*register, *immediate, plain);
             Ok(())
         }
-        Move::MovemLoad { size, ea, mask } => movem(true, *size, ea, *mask, at, space, plain, port),
+        Move::MovemLoad { size, ea, mask } => movem(
+            true, *size, ea, *mask, at, space, plain, port, ended,
+        ),
         Move::MovemStore { size, ea, mask } => {
-            movem(false, *size, ea, *mask, at, space, plain, port)
+            movem(false, *size, ea, *mask, at, space, plain, port, ended)
         }
         Move::Movea {
             size,
             register,
             source,
-        } => move_address(*size, *register, source, at, space, plain, port),
-        Move::Lea { register, ea } => load_address(*register, ea, at, space, plain, port),
+        } => move_address(*size, *register, source, at, space, plain, port, ended),
+        Move::Lea { register, ea } => load_address(*register, ea, at, space, plain, port, ended),
         Move::Exg { x, kind, y } => {
             exchange(*x, *kind, *y, plain);
             Ok(())
@@ -64,22 +69,24 @@ fn carry_out<P: Port>(
             swap(*register, plain);
             Ok(())
         }
-        Move::ToCcr { ea } => move_to_ccr(ea, at, space, plain, port),
-        Move::FromCcr { ea } => move_from_ccr(ea, at, space, plain, port),
-        Move::Scc { condition, ea } => set_by_condition(*condition, ea, at, space, plain, port),
-        Move::Pea { ea } => push_address(ea, at, space, plain, port),
+        Move::ToCcr { ea } => move_to_ccr(ea, at, space, plain, port, ended),
+        Move::FromCcr { ea } => move_from_ccr(ea, at, space, plain, port, ended),
+        Move::Scc { condition, ea } => set_by_condition(
+            *condition, ea, at, space, plain, port, ended,
+        ),
+        Move::Pea { ea } => push_address(ea, at, space, plain, port, ended),
         Move::LinkW {
             register,
             displacement,
         } => {
             let displacement = Size::Word.sign_extend(u32::from(*displacement));
-            link(*register, displacement, space, plain, port)
+            link(*register, displacement, space, plain, port, ended)
         }
         Move::LinkL {
             register,
             displacement,
-        } => link(*register, *displacement, space, plain, port),
-        Move::Unlk { register } => unlink(*register, space, plain, port),
+        } => link(*register, *displacement, space, plain, port, ended),
+        Move::Unlk { register } => unlink(*register, space, plain, port, ended),
         Move::Movep {
             register,
             is_store,
@@ -95,13 +102,14 @@ fn carry_out<P: Port>(
             space,
             plain,
             port,
+            ended,
         ),
         Move::Move16Abs {
             kind,
             register,
             address,
-        } => move_line_absolute(*kind, *register, *address, space, plain, port),
-        Move::Move16Post { x, word } => move_line_post(*x, *word, space, plain, port),
+        } => move_line_absolute(*kind, *register, *address, space, plain, port, ended),
+        Move::Move16Post { x, word } => move_line_post(*x, *word, space, plain, port, ended),
     }
 }
 
@@ -114,14 +122,15 @@ pub fn perform_move<P: Port>(
     space: Space,
     plain: &mut Plain,
     port: &mut P,
-) -> Ended
+    ended: &mut Ended,
+) -> Result<bool, Undone>
     requires { IsInstr (instr.Move instruction.now) }
-    ensures means { run P.bus (closing (perform_move_of instruction.now at space plain.old)) (P.world port.old)
-        ≡ ((result, plain.new), P.world port.new) }
+    ensures means { run P.bus (perform_move_of instruction.now at space plain.old) (P.world port.old)
+        ≡ (performed_by (with_end result ended.new) plain.new, P.world port.new) }
     ensures rest { P.rest port.new ≡ P.rest port.old }
 {
-    match carry_out(instruction, at, space, plain, port) {
-        Ok(()) => Ended::Done { flow: false },
-        Err(ended) => ended,
+    match carry_out(instruction, at, space, plain, port, ended) {
+        Ok(()) => Ok(false),
+        Err(undone) => Err(undone),
     }
 }

@@ -7,10 +7,11 @@ ghost use Rattle.mb_ea.specs.Reading.{read_pieces};
 ghost use Rattle.mb_writes.specs.Writing.{apart};
 ghost use Rattle.mb_meaning.specs.Ends.{carried_by};
 ghost use Rattle.mb_meaning.specs.Peripheral.{read_apart_of, from_peripheral, to_peripheral, movep_of};
+ghost use Rattle.mb_operands.specs.Endings.{with_end};
 
 use mb_ea::{ReadFault, Target};
 use mb_instr::{Plain, Size};
-use mb_operands::finish_with;
+use mb_operands::{Undone, finish_with, unread, unwritten};
 use mb_port::{Fault, Piece, Port, Space};
 use mb_writes::{Ended, put_apart};
 
@@ -90,15 +91,24 @@ fn load<P: Port>(
     space: Space,
     plain: &mut Plain,
     port: &mut P,
-) -> Result<(), Ended>
+    ended: &mut Ended,
+) -> Result<(), Undone>
     requires { register < 8 }
     ensures means { run P.bus (from_peripheral register size place space plain.old) (P.world port.old)
-        ≡ (carried_by result plain.new, P.world port.new) }
+        ≡ (carried_by (with_end result ended.new) plain.new, P.world port.new) }
     ensures rest { P.rest port.new ≡ P.rest port.old }
 {
     match read_apart(space, place, size, port) {
-        Ok(value) => finish_with(Target::Reg(register), size, value, space, plain, port),
-        Err(refused) => Err(Ended::ReadFault(refused)),
+        Ok(value) => finish_with(
+            Target::Reg(register),
+            size,
+            value,
+            space,
+            plain,
+            port,
+            ended,
+        ),
+        Err(refused) => Err(unread(&refused, ended)),
     }
 }
 
@@ -111,15 +121,16 @@ fn store<P: Port>(
     space: Space,
     plain: &Plain,
     port: &mut P,
-) -> Result<(), Ended>
+    ended: &mut Ended,
+) -> Result<(), Undone>
     requires { register < 8 }
     ensures means { run P.bus (to_peripheral register size place space plain.now) (P.world port.old)
-        ≡ (carried_by result plain.now, P.world port.new) }
+        ≡ (carried_by (with_end result ended.new) plain.now, P.world port.new) }
     ensures rest { P.rest port.new ≡ P.rest port.old }
 {
     match put_apart(space, place, size, plain.d[register as usize], port) {
         Ok(()) => Ok(()),
-        Err(refused) => Err(Ended::WriteFault(refused)),
+        Err(refused) => Err(unwritten(refused, ended)),
     }
 }
 
@@ -134,17 +145,18 @@ pub fn move_peripheral<P: Port>(
     space: Space,
     plain: &mut Plain,
     port: &mut P,
-) -> Result<(), Ended>
+    ended: &mut Ended,
+) -> Result<(), Undone>
     requires { (register < 8) × (address < 8) }
     ensures means { run P.bus (movep_of register is_store size address displacement space plain.old) (P.world port.old)
-        ≡ (carried_by result plain.new, P.world port.new) }
+        ≡ (carried_by (with_end result ended.new) plain.new, P.world port.new) }
     ensures rest { P.rest port.new ≡ P.rest port.old }
 {
     let displacement = Size::Word.sign_extend(u32::from(displacement));
     let place = plain.a[address as usize].wrapping_add(displacement);
     if is_store {
-        store(register, size, place, space, plain, port)
+        store(register, size, place, space, plain, port, ended)
     } else {
-        load(register, size, place, space, plain, port)
+        load(register, size, place, space, plain, port, ended)
     }
 }

@@ -5,10 +5,11 @@ ghost use Rattle.mb_port.specs.Routine.{run};
 ghost use Rattle.mb_instr.specs.Operands.{IsEa};
 ghost use Rattle.mb_meaning.specs.Ends.{carried_by};
 ghost use Rattle.mb_meaning.specs.Stack.{pea_of, link_of, unlk_of};
+ghost use Rattle.mb_operands.specs.Endings.{with_end};
 
 use mb_ea::read_value;
 use mb_instr::{Ea, Plain, Size};
-use mb_operands::{find_address, push};
+use mb_operands::{Undone, find_address, push, unread};
 use mb_port::{Port, Space};
 use mb_writes::Ended;
 
@@ -21,18 +22,19 @@ pub fn push_address<P: Port>(
     space: Space,
     plain: &mut Plain,
     port: &mut P,
-) -> Result<(), Ended>
+    ended: &mut Ended,
+) -> Result<(), Undone>
     requires { IsEa Size.Long ea.now }
     ensures means { run P.bus (pea_of ea.now at space plain.old) (P.world port.old)
-        ≡ (carried_by result plain.new, P.world port.new) }
+        ≡ (carried_by (with_end result ended.new) plain.new, P.world port.new) }
     ensures rest { P.rest port.new ≡ P.rest port.old }
 {
     let place = match find_address(Size::Long, ea, at.wrapping_add(2), space, plain, port) {
         Ok(place) => place,
-        Err(refused) => return Err(Ended::ReadFault(refused)),
+        Err(refused) => return Err(unread(&refused, ended)),
     };
     plain.a[7] = plain.a[7].wrapping_sub(4);
-    push(place, plain.a[7], space, plain, port)
+    push(place, plain.a[7], space, plain, port, ended)
 }
 
 /// LINK: the register is pushed, A7 itself with its new value, and becomes A7, which then moves by the displacement.
@@ -44,10 +46,11 @@ pub fn link<P: Port>(
     space: Space,
     plain: &mut Plain,
     port: &mut P,
-) -> Result<(), Ended>
+    ended: &mut Ended,
+) -> Result<(), Undone>
     requires { register < 8 }
     ensures means { run P.bus (link_of register displacement space plain.old) (P.world port.old)
-        ≡ (carried_by result plain.new, P.world port.new) }
+        ≡ (carried_by (with_end result ended.new) plain.new, P.world port.new) }
     ensures rest { P.rest port.new ≡ P.rest port.old }
 {
     let register = register as usize;
@@ -56,7 +59,7 @@ pub fn link<P: Port>(
     let pushed = plain.a[register];
     plain.a[register] = frame;
     plain.a[7] = frame.wrapping_add(displacement);
-    push(pushed, frame, space, plain, port)
+    push(pushed, frame, space, plain, port, ended)
 }
 
 /// UNLK: A7 becomes the register, which gets the long there, and rises. A7 itself becomes the long.
@@ -67,10 +70,11 @@ pub fn unlink<P: Port>(
     space: Space,
     plain: &mut Plain,
     port: &mut P,
-) -> Result<(), Ended>
+    ended: &mut Ended,
+) -> Result<(), Undone>
     requires { register < 8 }
     ensures means { run P.bus (unlk_of register space plain.old) (P.world port.old)
-        ≡ (carried_by result plain.new, P.world port.new) }
+        ≡ (carried_by (with_end result ended.new) plain.new, P.world port.new) }
     ensures rest { P.rest port.new ≡ P.rest port.old }
 {
     let register = register as usize;
@@ -81,6 +85,6 @@ pub fn unlink<P: Port>(
             plain.a[register] = value;
             Ok(())
         }
-        Err(refused) => Err(Ended::ReadFault(refused)),
+        Err(refused) => Err(unread(&refused, ended)),
     }
 }

@@ -6,6 +6,7 @@ ghost use Rattle.mb_instr.specs.Codes.{IsInstr};
 ghost use Rattle.mb_instr.specs.declared.instruction.Instr.TheVariants as instr;
 ghost use Rattle.mb_meaning.specs.Raise.{refused_of};
 ghost use Rattle.mb_meaning.specs.SystemEnds.{with_registers};
+ghost use Rattle.mb_operands.specs.Endings.{end_of, with_end};
 ghost use Rattle.mb_meaning.specs.Step.{finish_of, supervised_of, unprivileged_of, executed_of};
 
 use crate::finishing::finish;
@@ -15,6 +16,7 @@ use crate::returning::return_from_exception;
 use mb_instr::{Instr, Plain, System};
 use mb_meaning::StepEnd;
 use mb_model::Cpu;
+use mb_operands::Undone;
 use mb_port::Port;
 use mb_system::perform_system;
 use mb_writes::Ended;
@@ -69,31 +71,31 @@ fn finish_undone<P: Port>(
     finish(instruction, ended, &before, cpu, port)
 }
 
-/// Finishes an instruction that left these registers. An end that is not done is put into memory only where it is one:
-/// at every step its bytes would be stored, and waited for.
+/// Finishes an instruction that left these registers. Where it was not done, how it ended stands beside.
 #[inline(always)]
 #[tactic(auto, unfolding(mb_meaning::specs::Step::finish_of))]
 fn finish_plain<P: Port>(
     instruction: &Instr,
-    ended: Ended,
+    done: Result<bool, Undone>,
+    ended: &Ended,
     plain: &Plain,
     cpu: &mut Cpu,
     port: &mut P,
 ) -> StepEnd
     requires { IsInstr instruction.now }
-    ensures means { run P.bus (finish_of instruction.now ended cpu.old (with_registers plain.now cpu.old))
-        (P.world port.old) ≡ ((result, cpu.new), P.world port.new) }
+    ensures means { run P.bus (finish_of instruction.now (end_of (with_end done ended.now)) cpu.old
+        (with_registers plain.now cpu.old)) (P.world port.old) ≡ ((result, cpu.new), P.world port.new) }
     ensures busy { result ≢ StepEnd.Idle }
     ensures rest { P.rest port.new ≡ P.rest port.old }
 {
-    match ended {
-        Ended::Done { flow } => {
+    match done {
+        Ok(flow) => {
             let due = is_due(cpu.regs.sr, flow);
             let at = cpu.regs.pc;
             cpu.regs.set_plain(plain);
             trace_if(due, at, cpu, port)
         }
-        undone => finish_undone(instruction, &undone, plain, cpu, port),
+        Err(_) => finish_undone(instruction, ended, plain, cpu, port),
     }
 }
 
@@ -115,8 +117,9 @@ fn execute_unprivileged<P: Port>(
     let mut plain = cpu.regs.plain();
     let at = plain.pc;
     plain.pc = at.wrapping_add(2 * u32::from(length));
-    let ended = perform(instruction, at, cpu.space(), &mut plain, port);
-    finish_plain(instruction, ended, &plain, cpu, port)
+    let mut ended = Ended::Done { flow: false };
+    let done = perform(instruction, at, cpu.space(), &mut plain, port, &mut ended);
+    finish_plain(instruction, done, &ended, &plain, cpu, port)
 }
 
 /// Carries out an instruction of so many words that stands at PC. A privileged one needs supervisor mode.

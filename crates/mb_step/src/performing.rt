@@ -3,10 +3,12 @@
 ghost use Rattle.std.specs.Prelude.{◌≡◌};
 ghost use Rattle.mb_port.specs.Routine.{run};
 ghost use Rattle.mb_instr.specs.Codes.{IsInstr};
-ghost use Rattle.mb_meaning.specs.Ends.{closing};
+ghost use Rattle.mb_meaning.specs.Ends.{performed_by};
 ghost use Rattle.mb_meaning.specs.Rows.{perform_of};
+ghost use Rattle.mb_operands.specs.Endings.{with_end};
 
 use mb_instr::{Instr, Plain};
+use mb_operands::{Undone, left_undone};
 use mb_ops_arith::perform_arith;
 use mb_ops_flow::perform_flow;
 use mb_ops_move::perform_move;
@@ -26,16 +28,17 @@ pub fn perform<P: Port>(
     space: Space,
     plain: &mut Plain,
     port: &mut P,
-) -> Ended
+    ended: &mut Ended,
+) -> Result<bool, Undone>
     requires { IsInstr instruction.now }
-    ensures means { run P.bus (closing (perform_of instruction.now at space plain.old)) (P.world port.old)
-        ≡ ((result, plain.new), P.world port.new) }
+    ensures means { run P.bus (perform_of instruction.now at space plain.old) (P.world port.old)
+        ≡ (performed_by (with_end result ended.new) plain.new, P.world port.new) }
     ensures rest { P.rest port.new ≡ P.rest port.old }
 {
     match instruction {
-        Instr::Move(instruction) => perform_move(instruction, at, space, plain, port),
-        Instr::Arith(instruction) => perform_arith(instruction, at, space, plain, port),
-        Instr::Flow(instruction) => perform_flow(instruction, at, space, plain, port),
-        Instr::System(_) => Ended::Refused(PRIVILEGED),
+        Instr::Move(instruction) => perform_move(instruction, at, space, plain, port, ended),
+        Instr::Arith(instruction) => perform_arith(instruction, at, space, plain, port, ended),
+        Instr::Flow(instruction) => perform_flow(instruction, at, space, plain, port, ended),
+        Instr::System(_) => Err(left_undone(Ended::Refused(PRIVILEGED), ended)),
     }
 }

@@ -62,7 +62,19 @@ fn move_out<P: Port>(
     ensures rest { P.rest port.new ≡ P.rest port.old }
 {
     let value = plain.register(register);
-    let done = finish_with(target, size, value, function_space(cpu.dfc), plain, port);
+    let mut ended = Ended::Done { flow: false };
+    let done = match finish_with(
+        target,
+        size,
+        value,
+        function_space(cpu.dfc),
+        plain,
+        port,
+        &mut ended,
+    ) {
+        Ok(()) => Ok(()),
+        Err(_) => Err(ended),
+    };
     cpu.regs.set_plain(plain);
     done
 }

@@ -83,7 +83,19 @@ pub(crate) fn move_from_status<P: Port>(
         Err(refused) => return Err(Ended::ReadFault(refused)),
     };
     let status = u32::from(cpu.regs.sr);
-    let done = finish_with(target, Size::Word, status, Space::Super, &mut plain, port);
+    let mut ended = Ended::Done { flow: false };
+    let done = match finish_with(
+        target,
+        Size::Word,
+        status,
+        Space::Super,
+        &mut plain,
+        port,
+        &mut ended,
+    ) {
+        Ok(()) => Ok(()),
+        Err(_) => Err(ended),
+    };
     cpu.regs.set_plain(&plain);
     done
 }
