@@ -101,11 +101,20 @@ impl BoardBus {
         by_entry(r, self.kept.find(r.code, r.space, r.at / 4096))
     }
 
-    /// What is known of a reference where a transparent register may match it.
+    /// What is known of a reference where a transparent register may match it. It is given by its fields, so that it
+    /// need not stand in memory where none may.
+    #[inline(never)]
     #[tactic(auto, unfolding(mb_machine::specs::Access::settled))]
-    fn by_registers(&self, r: Reference) -> Settled
-        ensures { result ≡ settled rule_a self.now.mmu self.now.kept r }
+    fn by_registers(&self, code: bool, space: Space, at: u32, write: bool) -> Settled
+        ensures { result ≡ settled rule_a self.now.mmu self.now.kept
+            (record { code = code; space = space; at = at; write = write }) }
     {
+        let r = Reference {
+            code,
+            space,
+            at,
+            write,
+        };
         match untranslated(&self.mmu, r) {
             Some(protected) if protected && r.write => Settled::Refused,
             Some(_) => Settled::To(r.at),
@@ -122,16 +131,24 @@ impl BoardBus {
         match self.mode {
             Mode::Direct => Settled::To(r.at),
             Mode::Tables => self.by_kept(r),
-            Mode::Registers => self.by_registers(r),
+            Mode::Registers => self.by_registers(r.code, r.space, r.at, r.write),
         }
     }
 
-    /// Points 4 and 5: the tables are searched, and what is found is kept.
+    /// Points 4 and 5: the tables are searched, and what is found is kept. The reference is given by its fields.
+    #[inline(never)]
     #[tactic(auto, unfolding(mb_machine::specs::Access::searched))]
-    fn searched(&mut self, r: Reference) -> Option<u32>
-        ensures means { (result, self.new) ≡ searched rule_a self.old r }
+    fn searched(&mut self, code: bool, space: Space, at: u32, write: bool) -> Option<u32>
+        ensures means { (result, self.new) ≡ searched rule_a self.old
+            (record { code = code; space = space; at = at; write = write }) }
         ensures size { length self.new.ram ≡ length self.old.ram }
     {
+        let r = Reference {
+            code,
+            space,
+            at,
+            write,
+        };
         let root = root(&self.mmu, r.space);
         match search(self, root, r.space, r.at, r.write) {
             Found::Entry(k, _) => {
@@ -152,7 +169,7 @@ impl BoardBus {
         match self.settled(r) {
             Settled::To(at) => Some(at),
             Settled::Refused => None,
-            Settled::Unsettled => self.searched(r),
+            Settled::Unsettled => self.searched(r.code, r.space, r.at, r.write),
         }
     }
 
