@@ -1,0 +1,6 @@
+pub mod Numbers
+pub mod Modes
+pub mod Names
+pub mod Statements
+pub mod Texts
+pub mod Answers
