@@ -1,0 +1,9 @@
+pub mod Lines
+pub mod CutSteps
+pub mod Digits
+pub mod LineCuts
+pub mod NumberWords
+pub mod Sources
+pub mod Placed
+pub mod DataLines
+pub mod Gives

@@ -1,0 +1,91 @@
+-- The listing: the lines of a memory from an address on.
+use Rattle.std.specs.Prelude.{ℕ, zero, suc, ◌+◌, ◌*◌, ◌/◌, ◌%◌, ◌==◌, ◌&&◌, ◌++◌, Bool, false, if◌then◌else◌}
+use Rattle.std.specs.Prelude.{List, [], ◌∷◌, length, take, drop, slice_index, Result, Ok, Err, codes}
+use Rattle.std.specs.List.{flat_map}
+use Rattle.std.specs.Str.{bytes_eq}
+use Rattle.mb_decode.specs.declared.front.Decoded.{Decoded}
+use Rattle.mb_decode.specs.declared.front.Decoded.TheVariants.{Whole}
+use Rattle.mb_decode.specs.Decodes.{decode_of}
+use Rattle.mb_asm.specs.Texts.{Fault, assembled}
+use Rattle.mb_report.specs.Digits.{digits, hex8}
+use Rattle.mb_statement.specs.Numbers.{number}
+use Rattle.mb_statement.specs.Statements.{statement_of}
+use Rattle.mb_statement.specs.Texts.{statement_text}
+
+-- ---- whether a text gives the words
+
+-- the bytes of words, the high one first
+abbrev pub bytes_of : List ℕ → List ℕ
+bytes_of words = flat_map (λ word. word / 256 ∷ word % 256 ∷ []) words
+
+-- the source of a text at an address: ` ORG $` and the address, and on the next line a blank and the text
+unfoldable pub source_at : ℕ → List ℕ → List ℕ
+source_at at text = codes " ORG $" ++ hex8 at ++ 10 ∷ 32 ∷ text ++ 10 ∷ []
+
+-- one chunk, at the address, of just these bytes
+abbrev pub is_one_chunk : ℕ → List ℕ → List (ℕ × List ℕ) → Bool
+is_one_chunk at bytes ((start, content) ∷ []) = (start == at) && bytes_eq content bytes
+is_one_chunk at bytes _ = false
+
+abbrev pub is_image_of : ℕ → List ℕ → Result (List (ℕ × List ℕ)) Fault → Bool
+is_image_of at bytes (Ok contents) = is_one_chunk at bytes contents
+is_image_of at bytes (Err fault) = false
+
+-- Assembled at the address, the text gives just these words.
+unfoldable pub gives : ℕ → List ℕ → List ℕ → Bool
+gives at words text = is_image_of at (bytes_of words) (assembled (source_at at text))
+
+-- ---- lines
+
+-- an address, words that stand there, and their text
+pub record Line : Type 0 where
+  pub at : ℕ
+  pub words : List ℕ
+  pub text : List ℕ
+
+-- one word, as a number
+abbrev pub data_line : ℕ → ℕ → Line
+data_line at word = record { at = at; words = word ∷ []; text = codes "DC.W " ++ number word }
+
+-- The text of the words' statement, where it gives just these words; else the first word alone.
+unfoldable pub line_by : ℕ → ℕ → List ℕ → List ℕ → Line
+line_by at first words text =
+    if gives at words text then record { at = at; words = words; text = text } else data_line at first
+
+abbrev pub line_read : ℕ → ℕ → List ℕ → Decoded → Line
+line_read at first words (Whole i n) = line_by at first (take n words) (statement_text (statement_of at i))
+line_read at first words _ = data_line at first
+
+-- The line at an address by the words that begin there, as far as memory has them; there is one at least.
+unfoldable pub line_at : ℕ → List ℕ → Line
+line_at at words = line_read at (slice_index words 0) words (decode_of words)
+
+-- the address, the words in digits, and the text
+unfoldable pub line_text : Line → List ℕ
+line_text line = hex8 line.at ++ 32 ∷ digits (bytes_of line.words) ++ 32 ∷ line.text ++ 10 ∷ []
+
+-- ---- the listing
+
+-- at most so many words, as far as there are bytes for them
+unfoldable pub words_in : ℕ → List ℕ → List ℕ
+words_in (suc most) (high ∷ low ∷ bytes) = (high * 256 + low) ∷ words_in most bytes
+words_in _ _ = []
+
+-- no instruction has more than eleven words
+abbrev pub words_at : List ℕ → ℕ → List ℕ
+words_at ram at = words_in 11 (drop at ram)
+
+-- A line, and the lines behind it. A first word outside memory ends the listing.
+abbrev pub lines_from : (ℕ → List Line) → ℕ → List ℕ → List Line
+lines_from rest at [] = []
+lines_from rest at (first ∷ others) =
+    let line = line_at at (first ∷ others) in line ∷ rest (at + 2 * length line.words)
+
+-- so many lines of a memory, from an address on
+unfoldable pub lines_of : List ℕ → ℕ → ℕ → List Line
+lines_of ram at zero = []
+lines_of ram at (suc count) = lines_from (λ next. lines_of ram next count) at (words_at ram at)
+
+-- their texts
+abbrev pub listing : List ℕ → ℕ → ℕ → List ℕ
+listing ram at count = flat_map line_text (lines_of ram at count)
