@@ -12,7 +12,8 @@ use Rattle.mb_asm.specs.Texts.{assembled}
 use Rattle.mb_model.specs.Keeping.{rule_a}
 use Rattle.mb_machine.specs.Machine.{Machine, Contents, Entries, start, run_of, seen_machine}
 use Rattle.mb_report.specs.Text.{outcome_text}
-use Rattle.mb_words.specs.Words.{Text, Run, Asked, bare, assembly}
+use Rattle.mb_listing.specs.Listing.{listing}
+use Rattle.mb_words.specs.Words.{Text, Run, Excerpt, Asked, bare, assembly, disassembly}
 use Rattle.mb_program.specs.declared.end.FileWhy.{FileWhy}
 use Rattle.mb_program.specs.declared.end.FileWhy.TheVariants.{TooLong, Line, Outside, NoEnd}
 use Rattle.mb_program.specs.declared.end.Reason.TheVariants.{Record, Words, Source}
@@ -173,11 +174,26 @@ abbrev pub asm_course : Text → Course
 asm_course name =
     reads_each with_part (record { name = name; role = source } ∷ []) no_parts (λ parts. ends (asm_answer parts))
 
+-- ---- dis
+
+-- RAM as the image leaves it, before any step
+abbrev pub opening_ram : Excerpt → Parts → List ℕ
+opening_ram excerpt parts = (start rule_a parts.image (1024 * excerpt.ram)).world.ram
+
+-- its lines from the address on
+abbrev pub dis_answer : Excerpt → Parts → Answer
+dis_answer excerpt parts = shows (plain (listing (opening_ram excerpt parts) excerpt.at excerpt.count))
+
+abbrev pub dis_course : Excerpt → Course
+dis_course excerpt = reads_each with_part (record { name = excerpt.image; role = image (1024 * excerpt.ram) } ∷ [])
+    no_parts (λ parts. ends (dis_answer excerpt parts))
+
 -- ---- every command
 
 unfoldable pub course_of : Asked → Course
 course_of (bare run) = bare_course run
 course_of (assembly name) = asm_course name
+course_of (disassembly excerpt) = dis_course excerpt
 
 -- The answer to what is asked, where each file that it needs is told.
 abbrev pub answer_of : Asked → Told → Option Answer

@@ -3,18 +3,19 @@
 ghost use Rattle.std.specs.Prelude.{◌≡◌, ◌*◌, [], All, map, string_bytes};
 ghost use Rattle.mb_srec.specs.Image.{LiesBelow, contents_of};
 ghost use Rattle.mb_words.specs.Values.{file_said};
-ghost use Rattle.mb_words.specs.Words.{asked_by, assembly, bare, run_said, source_said};
+ghost use Rattle.mb_words.specs.Words.{asked_by, assembly, bare, disassembly, excerpt_said, run_said, source_said};
 ghost use Rattle.mb_program.specs.Answers.{bare_answer, course_of, ends, reads_each, script_files, with_part};
 ghost use Rattle.mb_program.specs.Ends.{CourseEnds, Ends, shelf_seen, sink_seen};
 
 use crate::end::End;
+use crate::excerpt::show_excerpt;
 use crate::files::{image_file, script_file, source_file};
 use crate::machine::show_machine;
 use crate::records::show_records;
 use mb_outside::{Shelf, Sink};
 use mb_script::Script;
 use mb_srec::Image;
-use mb_words::{Asm, Bare, Command, WordsFault, read_words};
+use mb_words::{Asm, Bare, Command, Dis, WordsFault, read_words};
 use std::alloc::Global;
 
 /// `bare`: reads the image and then the script, runs the machine and writes its outcome.
@@ -84,6 +85,24 @@ fn run_asm<F: Shelf, O: Sink>(alloc: Global, asm: &Asm, shelf: &mut F, out: &mut
     }
 }
 
+/// `dis`: reads the image and writes the listing of an excerpt of the memory that it opens with.
+#[tactic(auto, unfolding(crate::specs::Answers::course_of))]
+fn run_dis<F: Shelf, O: Sink>(alloc: Global, dis: &Dis, shelf: &mut F, out: &mut O) -> End
+    ensures ends { CourseEnds (course_of (disassembly (excerpt_said dis.now))) (record {
+      shelf = shelf_seen F.told F.whole F.faults shelf.old;
+      shelf_after = shelf_seen F.told F.whole F.faults shelf.new;
+      out = sink_seen O.taken O.faults out.old;
+      out_after = sink_seen O.taken O.faults out.new;
+    }) result }
+    ensures told { F.told shelf.new ≡ F.told shelf.old }
+    ensures whole { F.whole shelf.new ≡ F.whole shelf.old }
+{
+    match image_file(alloc, shelf, dis.image, 1024 * dis.ram) {
+        Ok(image) => show_excerpt(alloc, dis, &image, out),
+        Err(end) => end,
+    }
+}
+
 /// Reads the words, and runs their command.
 pub fn run_words<F: Shelf, O: Sink>(
     alloc: Global,
@@ -103,6 +122,7 @@ pub fn run_words<F: Shelf, O: Sink>(
     match read_words(alloc, words) {
         Ok(Command::Bare(run)) => run_bare(alloc, &run, shelf, out),
         Ok(Command::Asm(asm)) => run_asm(alloc, &asm, shelf, out),
+        Ok(Command::Dis(dis)) => run_dis(alloc, &dis, shelf, out),
         Err(WordsFault::Refused) => End::Words,
         Err(WordsFault::Memory) => End::Memory,
     }

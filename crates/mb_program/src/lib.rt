@@ -8,6 +8,7 @@
 mod command;
 mod diagnosis;
 mod end;
+mod excerpt;
 mod files;
 mod machine;
 mod records;

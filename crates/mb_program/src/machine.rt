@@ -46,7 +46,7 @@ fn write_chunks(board: &mut Board, chunks: &[Chunk])
 
 /// A board with an image in its RAM, after reset.
 #[tactic(auto, unfolding(mb_machine::specs::Machine::reset_with, mb_devices::specs::Devices::idle))]
-fn start_board(alloc: Global, image: &Image, size: u32) -> Result<Board, Memory>
+pub(crate) fn start_board(alloc: Global, image: &Image, size: u32) -> Result<Board, Memory>
     requires size { (8 ≤ size) × (size ≤ 67108864) }
     requires in_ram { All (LiesBelow size) (contents_of image.now) }
     ensures start { IfOk result (λ board. board ≡ start rule_a (contents_of image.now) size) }

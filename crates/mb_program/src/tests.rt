@@ -1,5 +1,6 @@
 //! Whole runs in memory: what no clause says, and each answer once with ample memory.
 
+mod excerpts;
 mod sources;
 
 use crate::{run_program, run_unfailing};
@@ -686,7 +687,7 @@ fn a_shelf_fails_at_each_call(rt: HostRuntime) {
 
 #[test]
 fn nothing_outside_fails(rt: HostRuntime) {
-    let rows: [(&str, u8); 9] = [
+    let rows: [(&str, u8); 11] = [
         (HELLO_WORDS, 0),
         (SCRIPT_WORDS, 0),
         (
@@ -699,6 +700,8 @@ fn nothing_outside_fails(rt: HostRuntime) {
         ("mbx asm other.s", 0),
         ("mbx asm hello.s19", 0),
         ("mbx asm hello.s19 --ram 64", 2),
+        ("mbx dis hello.s19 --ram 64 --at 400 --count 3", 0),
+        ("mbx dis hello.s19 --ram 64 --at 3ff --count 3", 2),
     ];
     for (line, status) in rows {
         let words = split_words(rt.alloc(), line).expect(&rt, "ample memory");

@@ -13,7 +13,7 @@ use std::alloc::Global;
 /// Reads the words, of which the first is the program's name, runs their command, and says on diag how
 /// it ended. The answer is the exit status:
 ///
-/// - 0: the text of the command was written to out: the outcome of a run, or the records of an image.
+/// - 0: the text of the command was written to out: the outcome of a run, the records of an image, or a listing.
 /// - 2: the words ask for nothing.
 /// - 3: a file has more than 67,108,864 bytes, or is no image for this RAM, no script or no source; the line on diag
 ///   says which, and why.

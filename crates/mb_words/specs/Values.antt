@@ -39,6 +39,27 @@ number_of text = if (length text == 0) || nat_lt 10 (length text) then None else
 abbrev pub ranged : ℕ → ℕ → Text → Option ℕ
 ranged least most text = option_and_then (tested (λ n. nat_le least n && nat_le n most)) (number_of text)
 
+-- the value of a hexadecimal digit, of either case
+abbrev pub digit_of : ℕ → Option ℕ
+digit_of byte =
+    if nat_le 48 byte && nat_le byte 57 then Some (byte - 48)
+    else if nat_le 65 byte && nat_le byte 70 then Some (byte - 55)
+    else if nat_le 97 byte && nat_le byte 102 then Some (byte - 87)
+    else None
+
+-- the number that hexadecimal digits spell after those that spell n
+abbrev pub hex_after : ℕ → Text → Option ℕ
+hex_after n [] = Some n
+hex_after n (digit ∷ digits) = option_and_then (λ value. hex_after (16 * n + value) digits) (digit_of digit)
+
+-- one to eight hexadecimal digits
+abbrev pub hex_of : Text → Option ℕ
+hex_of text = if (length text == 0) || nat_lt 8 (length text) then None else hex_after 0 text
+
+-- the address of a word: an even one
+abbrev pub word_address_of : Text → Option ℕ
+word_address_of text = option_and_then (tested (λ at. at % 2 == 0)) (hex_of text)
+
 -- the RAM of a machine in KiB: 64 to 16,384, a multiple of 64
 abbrev pub ram_of : Text → Option ℕ
 ram_of text = option_and_then (tested (λ kib. kib % 64 == 0)) (ranged 64 16384 text)

@@ -4,9 +4,10 @@ use Rattle.std.specs.Prelude.{List, [], ◌∷◌, codes, Option, Some, None, op
 use Rattle.std.specs.Str.{bytes_eq}
 pub use Rattle.mb_forms.specs.Forms.{Text}
 use Rattle.mb_forms.specs.Forms.{Form, Use, read}
-use Rattle.mb_words.specs.Values.{file_said, said_by, said_if_given, name_of, ram_of, ranged}
+use Rattle.mb_words.specs.Values.{file_said, said_by, said_if_given, name_of, ram_of, ranged, word_address_of}
 use Rattle.mb_words.specs.declared.asm.Asm.{Asm}
 use Rattle.mb_words.specs.declared.bare.Bare.{Bare}
+use Rattle.mb_words.specs.declared.dis.Dis.{Dis}
 use Rattle.mb_words.specs.declared.command.Command.{Command}
 use Rattle.mb_words.specs.declared.command.Command.TheVariants as command
 
@@ -18,10 +19,19 @@ pub record Run : Type 0 where
   pub steps : ℕ
   pub script : Option Text
 
--- what words can ask for: a run, or the assembly of a source, by the name of its file
+-- an excerpt of a machine's opening memory: the name of its image's file, its RAM in KiB, the address of the first
+-- line, and how many lines
+pub record Excerpt : Type 0 where
+  pub image : Text
+  pub ram : ℕ
+  pub at : ℕ
+  pub count : ℕ
+
+-- what words can ask for: a run, the assembly of a source, by the name of its file, or the listing of an excerpt
 pub data Asked : Type 0 where
   bare : Run → Asked
   assembly : Text → Asked
+  disassembly : Excerpt → Asked
 
 abbrev pub run_said : Bare → Run
 run_said b = record { image = b.image.now; ram = b.ram; steps = b.steps; script = file_said b.script }
@@ -29,9 +39,13 @@ run_said b = record { image = b.image.now; ram = b.ram; steps = b.steps; script 
 abbrev pub source_said : Asm → Text
 source_said a = a.source.now
 
+abbrev pub excerpt_said : Dis → Excerpt
+excerpt_said d = record { image = d.image.now; ram = d.ram; at = d.at; count = d.count }
+
 abbrev pub asked_of : Command → Asked
 asked_of (command.Bare b) = bare (run_said b)
 asked_of (command.Asm a) = assembly (source_said a)
+asked_of (command.Dis d) = disassembly (excerpt_said d)
 
 -- `bare IMAGE --ram KIB --steps N [--script FILE]`
 abbrev pub bare_form : Form
@@ -67,11 +81,38 @@ asm_form = record { name = codes "asm"; positionals = codes "SOURCE" ∷ []; opt
 abbrev pub asm_source : List Use → Option Text
 asm_source uses = said_by name_of (codes "SOURCE") uses
 
+-- `dis IMAGE --ram KIB --at HEX --count N`
+abbrev pub dis_form : Form
+dis_form = record {
+  name = codes "dis";
+  positionals = codes "IMAGE" ∷ [];
+  options =
+      record { name = codes "ram"; required = true }
+      ∷ record { name = codes "at"; required = true }
+      ∷ record { name = codes "count"; required = true }
+      ∷ [];
+}
+
+-- an excerpt, where each of its values says something
+abbrev pub excerpt_with : Option Text → Option ℕ → Option ℕ → Option ℕ → Option Excerpt
+excerpt_with (Some image) (Some ram) (Some at) (Some count) =
+    Some (record { image = image; ram = ram; at = at; count = count })
+excerpt_with _ _ _ _ = None
+
+-- the excerpt that the values of `dis` ask for
+abbrev pub dis_excerpt : List Use → Option Excerpt
+dis_excerpt uses = excerpt_with
+    (said_by name_of (codes "IMAGE") uses)
+    (said_by ram_of (codes "ram") uses)
+    (said_by word_address_of (codes "at") uses)
+    (said_by (ranged 1 1000000) (codes "count") uses)
+
 -- What the words ask for: `PROGRAM COMMAND`, and then the command's own words in its form. Other words ask
 -- for nothing.
 unfoldable pub asked_by : List Text → Option Asked
 asked_by (program ∷ name ∷ words) =
     if bytes_eq name (codes "bare") then option_map bare (option_and_then bare_run (read bare_form words))
     else if bytes_eq name (codes "asm") then option_map assembly (option_and_then asm_source (read asm_form words))
+    else if bytes_eq name (codes "dis") then option_map disassembly (option_and_then dis_excerpt (read dis_form words))
     else None
 asked_by _ = None

@@ -10,11 +10,14 @@ mod asm_words;
 mod bare;
 mod bare_words;
 mod command;
+mod dis;
+mod dis_words;
 mod reading;
 mod values;
 
 pub use asm::Asm;
 pub use bare::Bare;
 pub use command::Command;
+pub use dis::Dis;
 pub use mb_forms::WordsFault;
 pub use reading::read_words;

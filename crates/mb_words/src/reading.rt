@@ -7,6 +7,7 @@ ghost use Rattle.mb_words.specs.Words.{asked_of, asked_by};
 use crate::asm_words::read_asm;
 use crate::bare_words::read_bare;
 use crate::command::Command;
+use crate::dis_words::read_dis;
 use mb_forms::WordsFault;
 use std::alloc::Global;
 
@@ -22,6 +23,7 @@ pub fn read_words<'a>(alloc: Global, words: &'a [String]) -> Result<Command<'a>,
     match name.as_str() {
         "bare" => Ok(Command::Bare(read_bare(alloc, rest)?)),
         "asm" => Ok(Command::Asm(read_asm(alloc, rest)?)),
+        "dis" => Ok(Command::Dis(read_dis(alloc, rest)?)),
         _ => Err(WordsFault::Refused),
     }
 }

@@ -1,8 +1,9 @@
 //! What a value of the command line says by itself.
 
-ghost use Rattle.std.specs.Prelude.{◌≡◌, ◌*◌, ◌^◌, ◌<◌, ◌≤◌, IfSome, option_map};
+ghost use Rattle.std.specs.Prelude.{◌≡◌, ◌*◌, ◌%◌, ◌^◌, ◌<◌, ◌≤◌, IfSome, option_map};
 ghost use Rattle.mb_forms.specs.Said.{text_said};
-ghost use Rattle.mb_words.specs.Values.{IsRam, file_said, if_given, name_of, number_of, ram_of, ranged};
+ghost use Rattle.mb_words.specs.Values.{IsRam, digit_of, file_said, hex_of, if_given, name_of, number_of, ram_of, ranged};
+ghost use Rattle.mb_words.specs.Values.{word_address_of};
 
 /// A file's name, which is not empty.
 pub(crate) fn name(text: &str) -> Option<&str>
@@ -51,6 +52,46 @@ pub(crate) fn ranged(least: u32, most: u32, text: &str) -> Option<u32>
         return None;
     }
     Some(value as u32)
+}
+
+/// The value of a hexadecimal digit, of either case.
+fn digit(byte: u8) -> Option<u8>
+    ensures given { result ≡ digit_of byte }
+    ensures small { IfSome result (λ value. value < 16) }
+{
+    match byte {
+        b'0'..=b'9' => Some(byte - b'0'),
+        b'A'..=b'F' => Some(byte - b'A' + 10),
+        b'a'..=b'f' => Some(byte - b'a' + 10),
+        _ => None,
+    }
+}
+
+/// One to eight hexadecimal digits.
+fn hex(text: &str) -> Option<u32>
+    ensures { result ≡ hex_of text.now }
+{
+    let digits = text.as_bytes();
+    if digits.is_empty() || digits.len() > 8 {
+        return None;
+    }
+    let mut value = 0u64;
+    for byte in digits {
+        value = 16 * value + u64::from(digit(*byte)?);
+    }
+    Some(value as u32)
+}
+
+/// The address of a word: one to eight hexadecimal digits, of an even number.
+pub(crate) fn word_address(text: &str) -> Option<u32>
+    ensures given { result ≡ word_address_of text.now }
+    ensures even { IfSome result (λ at. at % 2 ≡ 0) }
+{
+    let at = hex(text)?;
+    if at % 2 != 0 {
+        return None;
+    }
+    Some(at)
 }
 
 /// The RAM of a machine in KiB: 64 to 16,384, a multiple of 64.
