@@ -80,6 +80,12 @@ resolve_of (PcDisp d) size word_at space p = found (Memory (sum word_at (sign_ex
 resolve_of (PcIndex e) size word_at space p = in_memory p (indexed_of word_at e space p)
 resolve_of (Imm v) size word_at space p = found (Value (low_of size v)) p
 
+-- the registers once the operand's target was found: that of (An)+ has gone up, and that of -(An) down
+abbrev pub stepped : Ea → Size → Plain → Plain
+stepped (Post n) size p = with_address_register p n (sum (address_register p n) (step_of size n))
+stepped (Pre n) size p = with_address_register p n (difference (address_register p n) (step_of size n))
+stepped ea size p = p
+
 -- what a call answered, with the registers after it
 abbrev pub resolved : Result Target ReadFault → Plain → Result Resolved ReadFault
 resolved (Ok target) p = Ok (record { target = target; plain = p })

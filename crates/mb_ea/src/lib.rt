@@ -10,7 +10,7 @@ mod resolving;
 
 pub use addresses::Target;
 pub use reading::{ReadFault, join, read_operand, read_value};
-pub use resolving::resolve;
+pub use resolving::{find_target, resolve};
 
 #[cfg(test)]
 mod tests;

@@ -4,7 +4,7 @@ ghost use Rattle.std.specs.Prelude.{◌≡◌, ◌<◌, OnErr, IfOk};
 ghost use Rattle.mb_port.specs.Routine.{run};
 ghost use Rattle.mb_instr.specs.Operands.{IsExt, IsEa};
 ghost use Rattle.mb_ea.specs.Addresses.{IsTarget};
-ghost use Rattle.mb_ea.specs.Resolve.{parts_of, indirect_of, full_of, indexed_of, resolve_of, resolved};
+ghost use Rattle.mb_ea.specs.Resolve.{parts_of, indirect_of, full_of, indexed_of, stepped, resolve_of, resolved};
 
 use crate::addresses::{Target, displacement, index, step};
 use crate::reading::{ReadFault, read_value};
@@ -82,11 +82,51 @@ fn indexed<P: Port>(
     }
 }
 
-/// Finds where an operand stands, and steps the register of `(An)+` and `-(An)`.
+/// Finds where an operand stands, and leaves the registers as they are: `-(An)` counts as stepped.
 ///
 /// `word_at` is the address of the operand's first extension word, the base of the modes relative to
 /// the PC. A memory indirection reads its long in `space`, as an operand; its fault is the answer. This
 /// is the manual's chapter on addressing capabilities.
+#[inline(always)]
+#[tactic(auto, unfolding(crate::specs::Resolve::resolve_of))]
+pub fn find_target<P: Port>(
+    ea: &Ea,
+    size: Size,
+    plain: &Plain,
+    word_at: u32,
+    space: Space,
+    port: &mut P,
+) -> Result<Target, ReadFault>
+    requires { IsEa size ea.now }
+    ensures means { run P.bus (resolve_of ea.now size word_at space plain.now) (P.world port.old)
+        ≡ (resolved result (stepped ea.now size plain.now), P.world port.new) }
+    ensures target { IfOk result (IsTarget size) }
+    ensures rest { P.rest port.new ≡ P.rest port.old }
+{
+    match *ea {
+        Ea::Dn(n) => Ok(Target::Reg(n)),
+        Ea::An(n) => Ok(Target::Reg(8 + n)),
+        Ea::Ind(n) | Ea::Post(n) => Ok(Target::Memory(plain.a[n as usize])),
+        Ea::Pre(n) => Ok(Target::Memory(plain.a[n as usize].wrapping_sub(step(size, n)))),
+        Ea::Disp(n, d) => {
+            let displacement = Size::Word.sign_extend(u32::from(d));
+            Ok(Target::Memory(plain.a[n as usize].wrapping_add(displacement)))
+        }
+        Ea::Index(n, ext) => {
+            Ok(Target::Memory(indexed(plain.a[n as usize], &ext, space, plain, port)?))
+        }
+        Ea::AbsW(a) => Ok(Target::Memory(Size::Word.sign_extend(u32::from(a)))),
+        Ea::AbsL(a) => Ok(Target::Memory(a)),
+        Ea::PcDisp(d) => {
+            let displacement = Size::Word.sign_extend(u32::from(d));
+            Ok(Target::Memory(word_at.wrapping_add(displacement)))
+        }
+        Ea::PcIndex(ext) => Ok(Target::Memory(indexed(word_at, &ext, space, plain, port)?)),
+        Ea::Imm(v) => Ok(Target::Value(size.low(v))),
+    }
+}
+
+/// Finds where an operand stands, as `find_target`, and steps the register of `(An)+` and `-(An)`.
 #[inline(always)]
 #[tactic(auto, unfolding(crate::specs::Resolve::resolve_of))]
 pub fn resolve<P: Port>(
@@ -105,9 +145,6 @@ pub fn resolve<P: Port>(
     ensures rest { P.rest port.new ≡ P.rest port.old }
 {
     match *ea {
-        Ea::Dn(n) => Ok(Target::Reg(n)),
-        Ea::An(n) => Ok(Target::Reg(8 + n)),
-        Ea::Ind(n) => Ok(Target::Memory(plain.a[n as usize])),
         Ea::Post(n) => {
             let at = plain.a[n as usize];
             plain.a[n as usize] = at.wrapping_add(step(size, n));
@@ -118,20 +155,6 @@ pub fn resolve<P: Port>(
             plain.a[n as usize] = at;
             Ok(Target::Memory(at))
         }
-        Ea::Disp(n, d) => {
-            let displacement = Size::Word.sign_extend(u32::from(d));
-            Ok(Target::Memory(plain.a[n as usize].wrapping_add(displacement)))
-        }
-        Ea::Index(n, ext) => {
-            Ok(Target::Memory(indexed(plain.a[n as usize], &ext, space, plain, port)?))
-        }
-        Ea::AbsW(a) => Ok(Target::Memory(Size::Word.sign_extend(u32::from(a)))),
-        Ea::AbsL(a) => Ok(Target::Memory(a)),
-        Ea::PcDisp(d) => {
-            let displacement = Size::Word.sign_extend(u32::from(d));
-            Ok(Target::Memory(word_at.wrapping_add(displacement)))
-        }
-        Ea::PcIndex(ext) => Ok(Target::Memory(indexed(word_at, &ext, space, plain, port)?)),
-        Ea::Imm(v) => Ok(Target::Value(size.low(v))),
+        _ => find_target(ea, size, plain, word_at, space, port),
     }
 }

@@ -3,7 +3,7 @@
 ghost use Rattle.std.specs.Prelude.{IsTrue};
 ghost use Rattle.mb_instr.specs.Operands.{IsEa};
 
-use crate::{ReadFault, Target, read_operand, read_value, resolve};
+use crate::{ReadFault, Target, find_target, read_operand, read_value, resolve};
 use mb_instr::{Ea, Ext, Plain, Size};
 use mb_port::{Piece, Port, Space};
 use mb_vector::VectorPort;
@@ -295,6 +295,8 @@ fn registers_that_step(rt: HostRuntime) -> Result<(), AllocError> {
             ccr: 0,
         };
         assert!(rt; is_operand(ea));
+        let found = find_target(&ea, size, &plain, 0, Space::User, &mut port);
+        assert_eq!(rt; found, Ok(target), "{ea:?}");
         let found = resolve(&ea, size, &mut plain, 0, Space::User, &mut port);
         assert_eq!(rt; found, Ok(target), "{ea:?}");
         let register = match ea {
