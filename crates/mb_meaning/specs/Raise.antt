@@ -59,11 +59,6 @@ access_error_of pc access cpu =
 abbrev pub Raised : Type 0
 Raised = Result Cpu Stepped
 
--- what a function answered, beside the processor that it left
-abbrev pub raised_by : Result (Unit {0}) StepEnd → Cpu → Raised
-raised_by (Ok done) cpu = Ok cpu
-raised_by (Err end) cpu = Err (end, cpu)
-
 -- A check of a frame was refused: an access error is entered from the processor as it is kept for that, with its PC.
 -- CT is set where it was a trace's frame.
 unfoldable pub unchecked_of : Bool → Fault → Cpu → Routine Stepped

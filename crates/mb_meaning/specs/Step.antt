@@ -114,7 +114,7 @@ untransferred_again_of due refused held cpu =
     access_error_of held.pc (with_ct (due || has_ct old) fields) cpu
 
 -- The finish of RTE. A trace has the address of RTE where the bits before it asked for it, and else the frame's PC.
-unfoldable pub finish_return_of : Ended → Held → Cpu → Cpu → Routine Stepped
+abbrev pub finish_return_of : Ended → Held → Cpu → Cpu → Routine Stepped
 finish_return_of (ended.Done flow) held before cpu =
     let asked = is_due before.regs.sr flow in
     tracing_of (asked || is_due_by held cpu) (if asked then before.regs.pc else held.pc) cpu

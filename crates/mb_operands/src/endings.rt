@@ -40,6 +40,15 @@ pub fn trapped(vector: u8, ended: &mut Ended) -> Undone
     Undone
 }
 
+/// It is not carried out, and an exception of this vector follows.
+#[inline(never)]
+pub fn refused(vector: u8, ended: &mut Ended) -> Undone
+    ensures { ended.new ≡ ends.Refused vector }
+{
+    *ended = Ended::Refused(vector);
+    Undone
+}
+
 /// It ended so.
 #[inline(never)]
 pub fn left_undone(how: Ended, ended: &mut Ended) -> Undone

@@ -1,6 +1,6 @@
 //! Operands: what stands there, and what is put there.
 
-ghost use Rattle.std.specs.Prelude.{◌≡◌, ◌<◌, OnErr, IfOk};
+ghost use Rattle.std.specs.Prelude.{◌≡◌, ◌<◌, ◌≤◌, false, length, OnErr, IfOk, IfErr};
 ghost use Rattle.mb_port.specs.Routine.{run};
 ghost use Rattle.mb_instr.specs.Sizes.{values_of};
 ghost use Rattle.mb_instr.specs.Operands.{IsEa};
@@ -9,10 +9,10 @@ ghost use Rattle.mb_meaning.specs.Operands.{behind, named_register, with_low, lo
 ghost use Rattle.mb_meaning.specs.Operands.{place_of, storing, pushing};
 ghost use Rattle.mb_meaning.specs.Ends.{carried_by};
 ghost use Rattle.mb_operands.specs.Fetched.{fetched, pushed, IsOperand};
-ghost use Rattle.mb_operands.specs.Endings.{with_end};
+ghost use Rattle.mb_operands.specs.Endings.{with_end, is_unread, IsUnfinished};
 
 use crate::endings::{Undone, unwritten};
-use mb_ea::{ReadFault, Target, read_value, resolve};
+use mb_ea::{ReadFault, Target, find_target, read_value, resolve};
 use mb_instr::{Ea, Plain, Size};
 use mb_port::{Port, Space};
 use mb_writes::{Ended, WriteFault, put_value};
@@ -88,6 +88,7 @@ fn store<P: Port>(
     ensures means { run P.bus (store_of target size value space plain.old) (P.world port.old)
         ≡ (stored result plain.new, P.world port.new) }
     ensures unchanged { OnErr result (plain.new ≡ plain.old) }
+    ensures left { IfErr result (λ refused. 1 ≤ length refused.rest.items) }
     ensures rest { P.rest port.new ≡ P.rest port.old }
 {
     match target {
@@ -149,8 +150,7 @@ pub fn find_address<P: Port>(
         ≡ (result, P.world port.new) }
     ensures rest { P.rest port.new ≡ P.rest port.old }
 {
-    let mut stepped = *plain;
-    let target = resolve(ea, size, &mut stepped, word_at, space, port)?;
+    let target = find_target(ea, size, plain, word_at, space, port)?;
     Ok(place(target))
 }
 
@@ -169,6 +169,8 @@ pub fn finish_with<P: Port>(
     requires { IsTarget size target }
     ensures means { run P.bus (storing target size value space plain.old) (P.world port.old)
         ≡ (carried_by (with_end result ended.new) plain.new, P.world port.new) }
+    ensures read { OnErr result (is_unread ended.new ≡ false) }
+    ensures left { OnErr result (IsUnfinished ended.new) }
     ensures rest { P.rest port.new ≡ P.rest port.old }
 {
     match store(target, size, value, space, plain, port) {
@@ -190,6 +192,7 @@ pub fn push<P: Port>(
 ) -> Result<(), Undone>
     ensures means { run P.bus (pushing value top space plain.now) (P.world port.old)
         ≡ (pushed (with_end result ended.new) plain.now, P.world port.new) }
+    ensures read { OnErr result (is_unread ended.new ≡ false) }
     ensures rest { P.rest port.new ≡ P.rest port.old }
 {
     match put_value(space, top, Size::Long, value, port) {

@@ -3,12 +3,11 @@
 ghost use Rattle.std.specs.Prelude.{◌≡◌, ◌<◌, ◌≤◌, ◌+◌, ◌-◌, ◌*◌, ◌%◌, ◌^◌};
 ghost use Rattle.mb_port.specs.Routine.{run};
 ghost use Rattle.mb_instr.specs.Operands.{IsEa};
-ghost use Rattle.mb_meaning.specs.Ends.{carried_by};
 ghost use Rattle.mb_meaning.specs.BitFields.{named_by, offset_of, width_bits, width_of, is_change, field_after};
 ghost use Rattle.mb_meaning.specs.BitFields.{field_flags, field_seen, field_signed, with_result, field_done};
 ghost use Rattle.mb_meaning.specs.BitFields.{field_in_register, field_in_memory, bytes_before, bytes_held};
 ghost use Rattle.mb_meaning.specs.BitFields.{field_row_of};
-ghost use Rattle.mb_operands.specs.Endings.{with_end};
+ghost use Rattle.mb_operands.specs.Endings.{carried_in_place};
 
 use mb_alu::{LogicKind, logic};
 use mb_ea::read_operand;
@@ -259,7 +258,7 @@ fn field_in_memory<P: Port>(
     ended: &mut Ended,
 ) -> Result<(), Undone>
     ensures means { run P.bus (field_in_memory kind word address space plain.old) (P.world port.old)
-        ≡ (carried_by (with_end result ended.new) plain.new, P.world port.new) }
+        ≡ (carried_in_place result ended.new plain.old plain.new, P.world port.new) }
     ensures rest { P.rest port.new ≡ P.rest port.old }
 {
     let (offset, width) = (offset(word, plain), width(word, plain));
@@ -299,7 +298,7 @@ pub(crate) fn bit_field<P: Port>(
 ) -> Result<(), Undone>
     requires { IsEa Size.Long ea.now }
     ensures means { run P.bus (field_row_of kind ea.now word at space plain.old) (P.world port.old)
-        ≡ (carried_by (with_end result ended.new) plain.new, P.world port.new) }
+        ≡ (carried_in_place result ended.new plain.old plain.new, P.world port.new) }
     ensures rest { P.rest port.new ≡ P.rest port.old }
 {
     if let Ea::Dn(n) = *ea {

@@ -3,9 +3,8 @@
 ghost use Rattle.std.specs.Prelude.{◌≡◌, ◌<◌, ◌^◌};
 ghost use Rattle.mb_port.specs.Routine.{run};
 ghost use Rattle.mb_instr.specs.Operands.{IsEa};
-ghost use Rattle.mb_meaning.specs.Ends.{carried_by};
 ghost use Rattle.mb_meaning.specs.Bits.{bit_size, bit_after, bit_changed, bit_row_of};
-ghost use Rattle.mb_operands.specs.Endings.{with_end};
+ghost use Rattle.mb_operands.specs.Endings.{carried_in_place};
 
 use crate::modifying::modify;
 use crate::operations::Change;
@@ -94,15 +93,13 @@ fn test_bit<P: Port>(
 ) -> Result<(), Undone>
     requires { IsEa Size.Byte ea.now }
     ensures means { run P.bus (bit_row_of BitKind.Test number ea.now word_at space plain.old) (P.world port.old)
-        ≡ (carried_by (with_end result ended.new) plain.new, P.world port.new) }
+        ≡ (carried_in_place result ended.new plain.old plain.new, P.world port.new) }
     ensures rest { P.rest port.new ≡ P.rest port.old }
 {
-    let mut next = *plain;
     let size = bit_size(ea);
-    match fetch_operand(size, ea, word_at, space, &mut next, port) {
+    match fetch_operand(size, ea, word_at, space, plain, port) {
         Ok(operand) => {
-            next.ccr = change_bit(BitKind::Test, number, size, operand.value, next.ccr).ccr;
-            *plain = next;
+            plain.ccr = change_bit(BitKind::Test, number, size, operand.value, plain.ccr).ccr;
             Ok(())
         }
         Err(refused) => Err(unread(&refused, ended)),
@@ -124,7 +121,7 @@ pub(crate) fn bit_row<P: Port>(
 ) -> Result<(), Undone>
     requires { IsEa Size.Byte ea.now }
     ensures means { run P.bus (bit_row_of kind number ea.now word_at space plain.old) (P.world port.old)
-        ≡ (carried_by (with_end result ended.new) plain.new, P.world port.new) }
+        ≡ (carried_in_place result ended.new plain.old plain.new, P.world port.new) }
     ensures rest { P.rest port.new ≡ P.rest port.old }
 {
     match kind {

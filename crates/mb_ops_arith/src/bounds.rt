@@ -3,9 +3,8 @@
 ghost use Rattle.std.specs.Prelude.{◌≡◌};
 ghost use Rattle.mb_port.specs.Routine.{run};
 ghost use Rattle.mb_instr.specs.Operands.{IsEa};
-ghost use Rattle.mb_meaning.specs.Ends.{carried_by};
 ghost use Rattle.mb_meaning.specs.Bounds.{cmp2_of};
-ghost use Rattle.mb_operands.specs.Endings.{with_end};
+ghost use Rattle.mb_operands.specs.Endings.{carried_in_place};
 
 use mb_instr::{Ea, Plain, Size};
 use mb_operands::{Undone, compare_bounds, unread};
@@ -27,7 +26,7 @@ pub fn compare_with_bounds<P: Port>(
 ) -> Result<(), Undone>
     requires { IsEa size ea.now }
     ensures means { run P.bus (cmp2_of size ea.now word at space plain.old) (P.world port.old)
-        ≡ (carried_by (with_end result ended.new) plain.new, P.world port.new) }
+        ≡ (carried_in_place result ended.new plain.old plain.new, P.world port.new) }
     ensures rest { P.rest port.new ≡ P.rest port.old }
 {
     match compare_bounds(size, ea, word, at, space, plain, port) {

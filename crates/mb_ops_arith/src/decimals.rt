@@ -4,10 +4,9 @@ ghost use Rattle.std.specs.Prelude.{◌≡◌, ◌<◌};
 ghost use Rattle.mb_port.specs.Routine.{run};
 ghost use Rattle.mb_instr.specs.Operands.{IsEa};
 ghost use Rattle.mb_instr.specs.Sizes.{values_of};
-ghost use Rattle.mb_meaning.specs.Ends.{carried_by};
 ghost use Rattle.mb_meaning.specs.Decimals.{negated_decimal, paired, decimal_of, digits_of};
 ghost use Rattle.mb_ops_arith.specs.Decimals.{decimal_operation, packing_operation, packed_from, packed_to};
-ghost use Rattle.mb_operands.specs.Endings.{with_end};
+ghost use Rattle.mb_operands.specs.Endings.{carried_in_place};
 
 use mb_ea::resolve;
 use mb_fields::{abcd, nbcd, pack, sbcd, unpk};
@@ -120,24 +119,22 @@ pub(crate) fn decimal<P: Port>(
     requires destination { x < 8 }
     requires source { y < 8 }
     ensures means { run P.bus (decimal_of (decimal_operation operation) x in_memory y at space plain.old)
-        (P.world port.old) ≡ (carried_by (with_end result ended.new) plain.new, P.world port.new) }
+        (P.world port.old) ≡ (carried_in_place result ended.new plain.old plain.new, P.world port.new) }
     ensures rest { P.rest port.new ≡ P.rest port.old }
 {
-    let mut next = *plain;
     let word_at = at.wrapping_add(2);
     let from = paired(in_memory, y, Size::Byte);
-    let source = match fetch_operand(Size::Byte, &from, word_at, space, &mut next, port) {
+    let source = match fetch_operand(Size::Byte, &from, word_at, space, plain, port) {
         Ok(source) => source,
         Err(refused) => return Err(unread(&refused, ended)),
     };
     let to = paired(in_memory, x, Size::Byte);
-    let destination = match fetch_operand(Size::Byte, &to, word_at, space, &mut next, port) {
+    let destination = match fetch_operand(Size::Byte, &to, word_at, space, plain, port) {
         Ok(destination) => destination,
         Err(refused) => return Err(unread(&refused, ended)),
     };
-    let result = operation.of(source.value as u8, destination.value as u8, next.ccr);
-    next.ccr = result.ccr;
-    *plain = next;
+    let result = operation.of(source.value as u8, destination.value as u8, plain.ccr);
+    plain.ccr = result.ccr;
     finish_with(
         destination.target,
         Size::Byte,
@@ -168,23 +165,21 @@ pub(crate) fn repack<P: Port>(
     requires source { y < 8 }
     ensures means { run P.bus (digits_of (packing_operation operation) (packed_from operation) (packed_to operation)
         x in_memory y adjust at space plain.old) (P.world port.old)
-        ≡ (carried_by (with_end result ended.new) plain.new, P.world port.new) }
+        ≡ (carried_in_place result ended.new plain.old plain.new, P.world port.new) }
     ensures rest { P.rest port.new ≡ P.rest port.old }
 {
-    let mut next = *plain;
     let word_at = at.wrapping_add(2);
     let (from_size, to_size) = (operation.from_size(), operation.to_size());
     let from = paired(in_memory, y, from_size);
-    let source = match fetch_operand(from_size, &from, word_at, space, &mut next, port) {
+    let source = match fetch_operand(from_size, &from, word_at, space, plain, port) {
         Ok(source) => source,
         Err(refused) => return Err(unread(&refused, ended)),
     };
     let to = paired(in_memory, x, to_size);
-    let target = match resolve(&to, to_size, &mut next, word_at, space, port) {
+    let target = match resolve(&to, to_size, plain, word_at, space, port) {
         Ok(target) => target,
         Err(refused) => return Err(unread(&refused, ended)),
     };
     let digits = operation.of(source.value, adjust);
-    *plain = next;
     finish_with(target, to_size, digits, space, plain, port, ended)
 }

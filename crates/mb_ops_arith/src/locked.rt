@@ -4,12 +4,11 @@ ghost use Rattle.std.specs.Prelude.{◌≡◌, ◌<◌};
 ghost use Rattle.mb_port.specs.Routine.{run};
 ghost use Rattle.mb_instr.specs.Operands.{IsEa};
 ghost use Rattle.mb_instr.specs.Sizes.{values_of};
-ghost use Rattle.mb_meaning.specs.Ends.{carried_by};
 ghost use Rattle.mb_meaning.specs.Operands.{place_of};
-ghost use Rattle.mb_meaning.specs.Locked.{test_and_set, tas_in_memory, tas_of, compared_by, update_by, pointer_by};
-ghost use Rattle.mb_meaning.specs.Locked.{cas_codes, cas_loaded, cas_equal, cas_at, cas_of};
+ghost use Rattle.mb_meaning.specs.Locked.{test_and_set, tas_of, compared_by, update_by, pointer_by};
+ghost use Rattle.mb_meaning.specs.Locked.{cas_codes, cas_loaded, cas_equal, cas_of};
 ghost use Rattle.mb_meaning.specs.Locked.{cas2_codes, cas2_equal, cas2_of};
-ghost use Rattle.mb_operands.specs.Endings.{with_end};
+ghost use Rattle.mb_operands.specs.Endings.{carried_in_place};
 
 use crate::locking::{get_operand, probe_operand, put_operand};
 use crate::modifying::modify;
@@ -32,36 +31,9 @@ pub(crate) fn test_and_set(value: u32, ccr: u8) -> Flagged
     }
 }
 
-/// TAS in memory, where the registers are `next` after the operand's address was formed. The byte is always written.
+/// TAS. The byte is always written.
 #[inline(always)]
-#[tactic(auto, unfolding(mb_meaning::specs::Locked::tas_in_memory))]
-fn tas_in_memory<P: Port>(
-    address: u32,
-    next: &Plain,
-    space: Space,
-    plain: &mut Plain,
-    port: &mut P,
-    ended: &mut Ended,
-) -> Result<(), Undone>
-    ensures means { run P.bus (tas_in_memory address space plain.old next.now) (P.world port.old)
-        ≡ (carried_by (with_end result ended.new) plain.new, P.world port.new) }
-    ensures rest { P.rest port.new ≡ P.rest port.old }
-{
-    let places = match probe_operand(space, address, Size::Byte, port) {
-        Ok(places) => places,
-        Err(refused) => return Err(unread(&refused, ended)),
-    };
-    let value = get_operand(&places, Size::Byte, port);
-    let set = test_and_set(value, next.ccr);
-    put_operand(&places, Size::Byte, set.value, port);
-    *plain = *next;
-    plain.ccr = set.ccr;
-    Ok(())
-}
-
-/// TAS.
-#[inline(always)]
-#[tactic(auto, unfolding(mb_meaning::specs::Locked::tas_of))]
+#[tactic(auto, unfolding(mb_meaning::specs::Locked::tas_of, mb_meaning::specs::Locked::tas_in_memory))]
 pub(crate) fn tas<P: Port>(
     ea: &Ea,
     at: u32,
@@ -72,7 +44,7 @@ pub(crate) fn tas<P: Port>(
 ) -> Result<(), Undone>
     requires { IsEa Size.Byte ea.now }
     ensures means { run P.bus (tas_of ea.now at space plain.old) (P.world port.old)
-        ≡ (carried_by (with_end result ended.new) plain.new, P.world port.new) }
+        ≡ (carried_in_place result ended.new plain.old plain.new, P.world port.new) }
     ensures rest { P.rest port.new ≡ P.rest port.old }
 {
     let word_at = at.wrapping_add(2);
@@ -88,11 +60,19 @@ pub(crate) fn tas<P: Port>(
             ended,
         );
     }
-    let mut next = *plain;
-    match resolve(ea, Size::Byte, &mut next, word_at, space, port) {
-        Ok(target) => tas_in_memory(place(target), &next, space, plain, port, ended),
-        Err(refused) => Err(unread(&refused, ended)),
-    }
+    let target = match resolve(ea, Size::Byte, plain, word_at, space, port) {
+        Ok(target) => target,
+        Err(refused) => return Err(unread(&refused, ended)),
+    };
+    let places = match probe_operand(space, place(target), Size::Byte, port) {
+        Ok(places) => places,
+        Err(refused) => return Err(unread(&refused, ended)),
+    };
+    let value = get_operand(&places, Size::Byte, port);
+    let set = test_and_set(value, plain.ccr);
+    put_operand(&places, Size::Byte, set.value, port);
+    plain.ccr = set.ccr;
+    Ok(())
 }
 
 /// The number of the data register Dc.
@@ -147,41 +127,9 @@ fn load_compared(size: Size, word: u16, value: u32, plain: &mut Plain)
     plain.d[n] = with_low(size, plain.d[n], value);
 }
 
-/// CAS at an address, where the registers are `next` after it was formed.
-#[inline(always)]
-#[tactic(auto, unfolding(mb_meaning::specs::Locked::cas_at))]
-fn cas_at<P: Port>(
-    size: Size,
-    word: u16,
-    address: u32,
-    next: &Plain,
-    space: Space,
-    plain: &mut Plain,
-    port: &mut P,
-    ended: &mut Ended,
-) -> Result<(), Undone>
-    ensures means { run P.bus (cas_at size word address space plain.old next.now) (P.world port.old)
-        ≡ (carried_by (with_end result ended.new) plain.new, P.world port.new) }
-    ensures rest { P.rest port.new ≡ P.rest port.old }
-{
-    let places = match probe_operand(space, address, size, port) {
-        Ok(places) => places,
-        Err(refused) => return Err(unread(&refused, ended)),
-    };
-    let value = get_operand(&places, size, port);
-    *plain = *next;
-    plain.ccr = codes(size, word, value, next);
-    if is_equal(size, word, value, next) {
-        put_operand(&places, size, next.d[update(word)], port);
-    } else {
-        load_compared(size, word, value, plain);
-    }
-    Ok(())
-}
-
 /// CAS.
 #[inline(always)]
-#[tactic(auto, unfolding(mb_meaning::specs::Locked::cas_of))]
+#[tactic(auto, unfolding(mb_meaning::specs::Locked::cas_of, mb_meaning::specs::Locked::cas_at))]
 pub(crate) fn cas<P: Port>(
     size: Size,
     ea: &Ea,
@@ -194,15 +142,27 @@ pub(crate) fn cas<P: Port>(
 ) -> Result<(), Undone>
     requires { IsEa size ea.now }
     ensures means { run P.bus (cas_of size ea.now word at space plain.old) (P.world port.old)
-        ≡ (carried_by (with_end result ended.new) plain.new, P.world port.new) }
+        ≡ (carried_in_place result ended.new plain.old plain.new, P.world port.new) }
     ensures rest { P.rest port.new ≡ P.rest port.old }
 {
-    let mut next = *plain;
     let word_at = at.wrapping_add(2).wrapping_add(2);
-    match resolve(ea, size, &mut next, word_at, space, port) {
-        Ok(target) => cas_at(size, word, place(target), &next, space, plain, port, ended),
-        Err(refused) => Err(unread(&refused, ended)),
+    let target = match resolve(ea, size, plain, word_at, space, port) {
+        Ok(target) => target,
+        Err(refused) => return Err(unread(&refused, ended)),
+    };
+    let places = match probe_operand(space, place(target), size, port) {
+        Ok(places) => places,
+        Err(refused) => return Err(unread(&refused, ended)),
+    };
+    let value = get_operand(&places, size, port);
+    let codes = codes(size, word, value, plain);
+    if is_equal(size, word, value, plain) {
+        put_operand(&places, size, plain.d[update(word)], port);
+    } else {
+        load_compared(size, word, value, plain);
     }
+    plain.ccr = codes;
+    Ok(())
 }
 
 /// The condition codes of CAS2: of the first operand that is not the same as its Dc, else of operand 2.
@@ -230,7 +190,7 @@ pub(crate) fn cas2<P: Port>(
     ended: &mut Ended,
 ) -> Result<(), Undone>
     ensures means { run P.bus (cas2_of size first second space plain.old) (P.world port.old)
-        ≡ (carried_by (with_end result ended.new) plain.new, P.world port.new) }
+        ≡ (carried_in_place result ended.new plain.old plain.new, P.world port.new) }
     ensures rest { P.rest port.new ≡ P.rest port.old }
 {
     let places = match probe_operand(space, plain.register(pointer(first)), size, port) {

@@ -3,10 +3,9 @@
 ghost use Rattle.std.specs.Prelude.{◌≡◌};
 ghost use Rattle.mb_port.specs.Routine.{run};
 ghost use Rattle.mb_instr.specs.Operands.{IsEa};
-ghost use Rattle.mb_meaning.specs.Ends.{carried_by};
 ghost use Rattle.mb_meaning.specs.Modifying.{modifying};
 ghost use Rattle.mb_ops_arith.specs.Changes.{change_of};
-ghost use Rattle.mb_operands.specs.Endings.{with_end};
+ghost use Rattle.mb_operands.specs.Endings.{carried_in_place};
 
 use crate::operations::Change;
 use mb_instr::{Ea, Plain, Size};
@@ -29,17 +28,15 @@ pub(crate) fn modify<P: Port>(
 ) -> Result<(), Undone>
     requires { IsEa size ea.now }
     ensures means { run P.bus (modifying (change_of change size) size ea.now word_at space plain.old) (P.world port.old)
-        ≡ (carried_by (with_end result ended.new) plain.new, P.world port.new) }
+        ≡ (carried_in_place result ended.new plain.old plain.new, P.world port.new) }
     ensures rest { P.rest port.new ≡ P.rest port.old }
 {
-    let mut next = *plain;
-    let operand = match fetch_operand(size, ea, word_at, space, &mut next, port) {
+    let operand = match fetch_operand(size, ea, word_at, space, plain, port) {
         Ok(operand) => operand,
         Err(refused) => return Err(unread(&refused, ended)),
     };
-    let changed = change.apply(size, operand.value, next.ccr);
-    next.ccr = changed.ccr;
-    *plain = next;
+    let changed = change.apply(size, operand.value, plain.ccr);
+    plain.ccr = changed.ccr;
     finish_with(
         operand.target,
         size,

@@ -5,11 +5,10 @@ ghost use Rattle.mb_port.specs.Routine.{run};
 ghost use Rattle.mb_instr.specs.Operands.{IsEa, IsImmediate};
 ghost use Rattle.mb_instr.specs.declared.operand.Ea.TheVariants.{Imm};
 ghost use Rattle.mb_operands.specs.Fetched.{IsOperand};
-ghost use Rattle.mb_meaning.specs.Ends.{carried_by};
 ghost use Rattle.mb_meaning.specs.Arithmetic.{pair_of, combining, comparing, either_way, chaining};
 ghost use Rattle.mb_ops_arith.specs.Changes.{operation_of};
 ghost use Rattle.mb_ops_arith.specs.Pairs.{paired};
-ghost use Rattle.mb_operands.specs.Endings.{with_end};
+ghost use Rattle.mb_operands.specs.Endings.{carried_in_place};
 
 use crate::operations::Operation;
 use mb_alu::compare;
@@ -73,19 +72,17 @@ pub(crate) fn combine<P: Port>(
     requires destination { IsEa size destination.now }
     ensures means { run P.bus
         (combining (operation_of operation size) size source.now destination.now at space plain.old)
-        (P.world port.old) ≡ (carried_by (with_end result ended.new) plain.new, P.world port.new) }
+        (P.world port.old) ≡ (carried_in_place result ended.new plain.old plain.new, P.world port.new) }
     ensures rest { P.rest port.new ≡ P.rest port.old }
 {
-    let mut next = *plain;
     let word_at = at.wrapping_add(2);
-    let pair = match fetch_pair(size, source, destination, word_at, space, &mut next, port) {
+    let pair = match fetch_pair(size, source, destination, word_at, space, plain, port) {
         Ok(pair) => pair,
         Err(refused) => return Err(unread(&refused, ended)),
     };
     let to = pair.destination;
-    let result = operation.apply(size, pair.source, to.value, next.ccr);
-    next.ccr = result.ccr;
-    *plain = next;
+    let result = operation.apply(size, pair.source, to.value, plain.ccr);
+    plain.ccr = result.ccr;
     finish_with(to.target, size, result.value, space, plain, port, ended)
 }
 
@@ -105,17 +102,15 @@ pub(crate) fn compare_pair<P: Port>(
     requires source { IsEa size source.now }
     requires destination { IsEa size destination.now }
     ensures means { run P.bus (comparing size source.now destination.now at space plain.old) (P.world port.old)
-        ≡ (carried_by (with_end result ended.new) plain.new, P.world port.new) }
+        ≡ (carried_in_place result ended.new plain.old plain.new, P.world port.new) }
     ensures rest { P.rest port.new ≡ P.rest port.old }
 {
-    let mut next = *plain;
     let word_at = at.wrapping_add(2);
-    let pair = match fetch_pair(size, source, destination, word_at, space, &mut next, port) {
+    let pair = match fetch_pair(size, source, destination, word_at, space, plain, port) {
         Ok(pair) => pair,
         Err(refused) => return Err(unread(&refused, ended)),
     };
-    next.ccr = compare(size, pair.source, pair.destination.value, next.ccr);
-    *plain = next;
+    plain.ccr = compare(size, pair.source, pair.destination.value, plain.ccr);
     Ok(())
 }
 
@@ -137,7 +132,7 @@ pub(crate) fn combine_either_way<P: Port>(
     requires register { register < 8 }
     ensures means { run P.bus
         (either_way (operation_of operation size) register to_memory size ea.now at space plain.old)
-        (P.world port.old) ≡ (carried_by (with_end result ended.new) plain.new, P.world port.new) }
+        (P.world port.old) ≡ (carried_in_place result ended.new plain.old plain.new, P.world port.new) }
     ensures rest { P.rest port.new ≡ P.rest port.old }
 {
     let register = Ea::Dn(register);
@@ -170,7 +165,7 @@ pub(crate) fn chain<P: Port>(
     requires destination { destination < 8 }
     ensures means { run P.bus
         (chaining (operation_of operation size) size in_memory source destination at space plain.old)
-        (P.world port.old) ≡ (carried_by (with_end result ended.new) plain.new, P.world port.new) }
+        (P.world port.old) ≡ (carried_in_place result ended.new plain.old plain.new, P.world port.new) }
     ensures rest { P.rest port.new ≡ P.rest port.old }
 {
     if in_memory {
@@ -215,7 +210,7 @@ pub(crate) fn combine_immediate<P: Port>(
     requires immediate { IsImmediate size immediate }
     requires operand { IsEa size ea.now }
     ensures means { run P.bus (combining (operation_of operation size) size (Imm immediate) ea.now at space plain.old)
-        (P.world port.old) ≡ (carried_by (with_end result ended.new) plain.new, P.world port.new) }
+        (P.world port.old) ≡ (carried_in_place result ended.new plain.old plain.new, P.world port.new) }
     ensures rest { P.rest port.new ≡ P.rest port.old }
 {
     combine(

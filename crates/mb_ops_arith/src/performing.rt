@@ -4,9 +4,8 @@ ghost use Rattle.std.specs.Prelude.{◌≡◌};
 ghost use Rattle.mb_port.specs.Routine.{run};
 ghost use Rattle.mb_instr.specs.Codes.{IsInstr};
 ghost use Rattle.mb_instr.specs.declared.instruction.Instr.TheVariants as instr;
-ghost use Rattle.mb_meaning.specs.Ends.{carried_by, performed_by};
 ghost use Rattle.mb_meaning.specs.Rows.{perform_arith_of};
-ghost use Rattle.mb_operands.specs.Endings.{with_end};
+ghost use Rattle.mb_operands.specs.Endings.{carried_in_place, performed_in_place};
 
 use crate::bit_fields::bit_field;
 use crate::bits::bit_row;
@@ -54,7 +53,7 @@ fn carry_out<P: Port>(
 ) -> Result<(), Undone>
     requires { IsInstr (instr.Arith instruction.now) }
     ensures means { run P.bus (perform_arith_of instruction.now at space plain.old) (P.world port.old)
-        ≡ (carried_by (with_end result ended.new) plain.new, P.world port.new) }
+        ≡ (carried_in_place result ended.new plain.old plain.new, P.world port.new) }
     ensures rest { P.rest port.new ≡ P.rest port.old }
 {
     let first_word = at.wrapping_add(2);
@@ -159,8 +158,9 @@ fn carry_out<P: Port>(
     }
 }
 
-/// Carries out an instruction that computes, which stands at `at`. PC is past its words already. All
-/// accesses are made in `space`.
+/// Carries out an instruction that computes, which stands at `at`, on the registers in place. PC is past its words
+/// already. All accesses are made in `space`. Where it is not done, how it ended goes to `ended`; after a refused
+/// read the registers before the instruction count, and `plain` may have some that were stepped.
 #[inline(always)]
 pub fn perform_arith<P: Port>(
     instruction: &Arith,
@@ -172,7 +172,7 @@ pub fn perform_arith<P: Port>(
 ) -> Result<bool, Undone>
     requires { IsInstr (instr.Arith instruction.now) }
     ensures means { run P.bus (perform_arith_of instruction.now at space plain.old) (P.world port.old)
-        ≡ (performed_by (with_end result ended.new) plain.new, P.world port.new) }
+        ≡ (performed_in_place result ended.new plain.old plain.new, P.world port.new) }
     ensures rest { P.rest port.new ≡ P.rest port.old }
 {
     match carry_out(instruction, at, space, plain, port, ended) {

@@ -1,6 +1,6 @@
 //! Multiplication and division.
 
-ghost use Rattle.std.specs.Prelude.{◌≡◌, ◌<◌, ◌^◌};
+ghost use Rattle.std.specs.Prelude.{◌≡◌, ◌<◌, ◌^◌, false, OnErr};
 ghost use Rattle.mb_alu.specs.Products.{IsBounded};
 ghost use Rattle.mb_alu.specs.declared.width.Width.TheVariants as width;
 ghost use Rattle.mb_meaning.specs.Ends.{carried, carried_by};
@@ -8,7 +8,7 @@ ghost use Rattle.mb_meaning.specs.Products.{multiplied_by_word, divided_by_word,
 ghost use Rattle.mb_meaning.specs.Products.{low_register, high_register, is_signed, is_wide};
 ghost use Rattle.mb_meaning.specs.Products.{multiplied_long, multiplied_wide, multiplied_by_long};
 ghost use Rattle.mb_meaning.specs.Products.{dividend_of, width_of, divided_by_long, long_divided};
-ghost use Rattle.mb_operands.specs.Endings.{with_end};
+ghost use Rattle.mb_operands.specs.Endings.{with_end, is_unread};
 
 use mb_alu::{Divided, Width, div, mul};
 use mb_instr::Plain;
@@ -40,7 +40,8 @@ fn leave_words(
 ) -> Result<(), Undone>
     requires register { register < 8 }
     requires divided { IsBounded width.Word divided }
-    ensures { carried_by (with_end result ended.new) plain.new ≡ divided_by_word register divided plain.old }
+    ensures means { carried_by (with_end result ended.new) plain.new ≡ divided_by_word register divided plain.old }
+    ensures read { OnErr result (is_unread ended.new ≡ false) }
 {
     match divided {
         Divided::Done {
@@ -73,7 +74,8 @@ pub(crate) fn divide_word(
     ended: &mut Ended,
 ) -> Result<(), Undone>
     requires { register < 8 }
-    ensures { carried_by (with_end result ended.new) plain.new ≡ word_divided signed register value plain.old }
+    ensures means { carried_by (with_end result ended.new) plain.new ≡ word_divided signed register value plain.old }
+    ensures read { OnErr result (is_unread ended.new ≡ false) }
 {
     let dividend = u64::from(plain.d[register as usize]);
     let divided = div(signed, Width::Word, value, dividend, plain.ccr);
@@ -182,7 +184,8 @@ fn leave_longs(
     plain: &mut Plain,
     ended: &mut Ended,
 ) -> Result<(), Undone>
-    ensures { carried_by (with_end result ended.new) plain.new ≡ divided_by_long word divided plain.old }
+    ensures means { carried_by (with_end result ended.new) plain.new ≡ divided_by_long word divided plain.old }
+    ensures read { OnErr result (is_unread ended.new ≡ false) }
 {
     match divided {
         Divided::Done {
@@ -214,7 +217,8 @@ pub(crate) fn divide_long(
     plain: &mut Plain,
     ended: &mut Ended,
 ) -> Result<(), Undone>
-    ensures { carried_by (with_end result ended.new) plain.new ≡ long_divided word value plain.old }
+    ensures means { carried_by (with_end result ended.new) plain.new ≡ long_divided word value plain.old }
+    ensures read { OnErr result (is_unread ended.new ≡ false) }
 {
     let dividend = dividend(word, plain);
     let divided = div(is_signed(word), width(word), value, dividend, plain.ccr);

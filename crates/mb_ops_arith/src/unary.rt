@@ -3,9 +3,8 @@
 ghost use Rattle.std.specs.Prelude.{◌≡◌, ◌<◌};
 ghost use Rattle.mb_port.specs.Routine.{run};
 ghost use Rattle.mb_instr.specs.Operands.{IsEa};
-ghost use Rattle.mb_meaning.specs.Ends.{carried_by};
 ghost use Rattle.mb_meaning.specs.Unary.{clr_of, in_register, ext_of, ccr_by};
-ghost use Rattle.mb_operands.specs.Endings.{with_end};
+ghost use Rattle.mb_operands.specs.Endings.{carried_in_place};
 
 use mb_alu::{Flagged, LogicKind, extend, logic};
 use mb_ea::resolve;
@@ -30,16 +29,14 @@ pub(crate) fn clear<P: Port>(
 ) -> Result<(), Undone>
     requires { IsEa size ea.now }
     ensures means { run P.bus (clr_of size ea.now at space plain.old) (P.world port.old)
-        ≡ (carried_by (with_end result ended.new) plain.new, P.world port.new) }
+        ≡ (carried_in_place result ended.new plain.old plain.new, P.world port.new) }
     ensures rest { P.rest port.new ≡ P.rest port.old }
 {
-    let mut next = *plain;
-    let target = match resolve(ea, size, &mut next, at.wrapping_add(2), space, port) {
+    let target = match resolve(ea, size, plain, at.wrapping_add(2), space, port) {
         Ok(target) => target,
         Err(refused) => return Err(unread(&refused, ended)),
     };
-    next.ccr = logic(LogicKind::Pass, size, 0, 0, next.ccr).ccr;
-    *plain = next;
+    plain.ccr = logic(LogicKind::Pass, size, 0, 0, plain.ccr).ccr;
     finish_with(target, size, 0, space, plain, port, ended)
 }
 

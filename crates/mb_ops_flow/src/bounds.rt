@@ -1,12 +1,12 @@
 //! CHK and CHK2.
 
-ghost use Rattle.std.specs.Prelude.{◌≡◌, ◌<◌};
+ghost use Rattle.std.specs.Prelude.{◌≡◌, ◌<◌, false, OnErr};
 ghost use Rattle.mb_port.specs.Routine.{run};
 ghost use Rattle.mb_instr.specs.Operands.{IsEa};
 ghost use Rattle.mb_alu.specs.Signs.{signed_of};
 ghost use Rattle.mb_meaning.specs.Ends.{performed_by};
 ghost use Rattle.mb_meaning.specs.Bounds.{checked, chk_of, checked_carry, chk2_of};
-ghost use Rattle.mb_operands.specs.Endings.{with_end};
+ghost use Rattle.mb_operands.specs.Endings.{with_end, is_unread, performed_in_place};
 
 use mb_alu::Conditions;
 use mb_instr::{Ea, Plain, Size};
@@ -41,7 +41,8 @@ fn check_bound(
     plain: &mut Plain,
     ended: &mut Ended,
 ) -> Result<bool, Undone>
-    ensures { performed_by (with_end result ended.new) plain.new ≡ checked size bound value plain.old }
+    ensures means { performed_by (with_end result ended.new) plain.new ≡ checked size bound value plain.old }
+    ensures read { OnErr result (is_unread ended.new ≡ false) }
 {
     let bound = signed(size, bound);
     let value = signed(size, value);
@@ -73,15 +74,11 @@ pub fn check<P: Port>(
     requires register { register < 8 }
     requires operand { IsEa size ea.now }
     ensures means { run P.bus (chk_of register size ea.now at space plain.old) (P.world port.old)
-        ≡ (performed_by (with_end result ended.new) plain.new, P.world port.new) }
+        ≡ (performed_in_place result ended.new plain.old plain.new, P.world port.new) }
     ensures rest { P.rest port.new ≡ P.rest port.old }
 {
-    let mut next = *plain;
-    match fetch_operand(size, ea, at.wrapping_add(2), space, &mut next, port) {
-        Ok(bound) => {
-            *plain = next;
-            check_bound(size, bound.value, plain.d[register as usize], plain, ended)
-        }
+    match fetch_operand(size, ea, at.wrapping_add(2), space, plain, port) {
+        Ok(bound) => check_bound(size, bound.value, plain.d[register as usize], plain, ended),
         Err(refused) => Err(unread(&refused, ended)),
     }
 }
@@ -90,7 +87,8 @@ pub fn check<P: Port>(
 #[inline(always)]
 #[tactic(auto, unfolding(mb_meaning::specs::Bounds::checked_carry))]
 fn check_carry(plain: &Plain, ended: &mut Ended) -> Result<bool, Undone>
-    ensures { performed_by (with_end result ended.new) plain.now ≡ checked_carry plain.now }
+    ensures means { performed_by (with_end result ended.new) plain.now ≡ checked_carry plain.now }
+    ensures read { OnErr result (is_unread ended.new ≡ false) }
 {
     if Conditions::of(plain.ccr).c {
         Err(trapped(OUT_OF_BOUNDS, ended))
@@ -114,7 +112,7 @@ pub fn check_bounds<P: Port>(
 ) -> Result<bool, Undone>
     requires { IsEa size ea.now }
     ensures means { run P.bus (chk2_of size ea.now word at space plain.old) (P.world port.old)
-        ≡ (performed_by (with_end result ended.new) plain.new, P.world port.new) }
+        ≡ (performed_in_place result ended.new plain.old plain.new, P.world port.new) }
     ensures rest { P.rest port.new ≡ P.rest port.old }
 {
     match compare_bounds(size, ea, word, at, space, plain, port) {

@@ -4,7 +4,7 @@ ghost use Rattle.std.specs.Prelude.{◌≡◌, ◌<◌, ◌^◌};
 ghost use Rattle.mb_port.specs.Routine.{run};
 ghost use Rattle.mb_meaning.specs.Ends.{performed_by};
 ghost use Rattle.mb_meaning.specs.Flow.{displacement_of, target_of, is_call, call_of, branched, branch_of};
-ghost use Rattle.mb_operands.specs.Endings.{with_end};
+ghost use Rattle.mb_operands.specs.Endings.{performed_in_place};
 
 use mb_instr::{Branch, Condition, Plain, Size};
 use mb_operands::{Undone, is_met, push};
@@ -67,7 +67,7 @@ pub(crate) fn call<P: Port>(
     ended: &mut Ended,
 ) -> Result<bool, Undone>
     ensures means { run P.bus (call_of target space plain.old) (P.world port.old)
-        ≡ (performed_by (with_end result ended.new) plain.new, P.world port.new) }
+        ≡ (performed_in_place result ended.new plain.old plain.new, P.world port.new) }
     ensures rest { P.rest port.new ≡ P.rest port.old }
 {
     let next = plain.pc;
@@ -103,7 +103,7 @@ pub fn branch<P: Port>(
     ended: &mut Ended,
 ) -> Result<bool, Undone>
     ensures means { run P.bus (branch_of condition branch at space plain.old) (P.world port.old)
-        ≡ (performed_by (with_end result ended.new) plain.new, P.world port.new) }
+        ≡ (performed_in_place result ended.new plain.old plain.new, P.world port.new) }
     ensures rest { P.rest port.new ≡ P.rest port.old }
 {
     let target = target(at, branch);

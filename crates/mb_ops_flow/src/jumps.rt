@@ -3,9 +3,8 @@
 ghost use Rattle.std.specs.Prelude.{◌≡◌};
 ghost use Rattle.mb_port.specs.Routine.{run};
 ghost use Rattle.mb_instr.specs.Operands.{IsEa};
-ghost use Rattle.mb_meaning.specs.Ends.{performed_by};
 ghost use Rattle.mb_meaning.specs.Flow.{jmp_of, jsr_of};
-ghost use Rattle.mb_operands.specs.Endings.{with_end};
+ghost use Rattle.mb_operands.specs.Endings.{performed_in_place};
 
 use crate::branches::call;
 use mb_instr::{Ea, Plain, Size};
@@ -26,7 +25,7 @@ pub fn jump<P: Port>(
 ) -> Result<bool, Undone>
     requires { IsEa Size.Long ea.now }
     ensures means { run P.bus (jmp_of ea.now at space plain.old) (P.world port.old)
-        ≡ (performed_by (with_end result ended.new) plain.new, P.world port.new) }
+        ≡ (performed_in_place result ended.new plain.old plain.new, P.world port.new) }
     ensures rest { P.rest port.new ≡ P.rest port.old }
 {
     match find_address(Size::Long, ea, at.wrapping_add(2), space, plain, port) {
@@ -51,7 +50,7 @@ pub fn jump_to_subroutine<P: Port>(
 ) -> Result<bool, Undone>
     requires { IsEa Size.Long ea.now }
     ensures means { run P.bus (jsr_of ea.now at space plain.old) (P.world port.old)
-        ≡ (performed_by (with_end result ended.new) plain.new, P.world port.new) }
+        ≡ (performed_in_place result ended.new plain.old plain.new, P.world port.new) }
     ensures rest { P.rest port.new ≡ P.rest port.old }
 {
     match find_address(Size::Long, ea, at.wrapping_add(2), space, plain, port) {

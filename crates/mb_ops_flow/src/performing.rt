@@ -4,9 +4,8 @@ ghost use Rattle.std.specs.Prelude.{◌≡◌};
 ghost use Rattle.mb_port.specs.Routine.{run};
 ghost use Rattle.mb_instr.specs.Codes.{IsInstr};
 ghost use Rattle.mb_instr.specs.declared.instruction.Instr.TheVariants as instr;
-ghost use Rattle.mb_meaning.specs.Ends.{performed_by};
 ghost use Rattle.mb_meaning.specs.Rows.{perform_flow_of};
-ghost use Rattle.mb_operands.specs.Endings.{with_end};
+ghost use Rattle.mb_operands.specs.Endings.{performed_in_place};
 
 use crate::bounds::{check, check_bounds};
 use crate::branches::branch;
@@ -33,7 +32,7 @@ fn carry_out<P: Port>(
 ) -> Result<bool, Undone>
     requires { IsInstr (instr.Flow instruction.now) }
     ensures means { run P.bus (perform_flow_of instruction.now at space plain.old) (P.world port.old)
-        ≡ (performed_by (with_end result ended.new) plain.new, P.world port.new) }
+        ≡ (performed_in_place result ended.new plain.old plain.new, P.world port.new) }
     ensures rest { P.rest port.new ≡ P.rest port.old }
 {
     match instruction {
@@ -70,8 +69,9 @@ fn carry_out<P: Port>(
     }
 }
 
-/// Carries out an instruction that goes elsewhere, which stands at `at`. PC is past its words already. All
-/// accesses are made in `space`.
+/// Carries out an instruction that goes elsewhere, which stands at `at`, on the registers in place. PC is past its
+/// words already. All accesses are made in `space`. Where it is not done, how it ended goes to `ended`; after a
+/// refused read the registers before the instruction count, and `plain` may have some that were stepped.
 #[inline(always)]
 pub fn perform_flow<P: Port>(
     instruction: &Flow,
@@ -83,7 +83,7 @@ pub fn perform_flow<P: Port>(
 ) -> Result<bool, Undone>
     requires { IsInstr (instr.Flow instruction.now) }
     ensures means { run P.bus (perform_flow_of instruction.now at space plain.old) (P.world port.old)
-        ≡ (performed_by (with_end result ended.new) plain.new, P.world port.new) }
+        ≡ (performed_in_place result ended.new plain.old plain.new, P.world port.new) }
     ensures rest { P.rest port.new ≡ P.rest port.old }
 {
     carry_out(instruction, at, space, plain, port, ended)

@@ -4,8 +4,7 @@ ghost use Rattle.std.specs.Prelude.{◌≡◌, ◌<◌, ◌^◌};
 ghost use Rattle.mb_port.specs.Routine.{run};
 ghost use Rattle.mb_instr.specs.Operands.{IsEa};
 ghost use Rattle.mb_meaning.specs.Moves.{to_ccr_of, from_ccr_of, byte_of, scc_of};
-ghost use Rattle.mb_meaning.specs.Ends.{carried_by};
-ghost use Rattle.mb_operands.specs.Endings.{with_end};
+ghost use Rattle.mb_operands.specs.Endings.{carried_in_place};
 
 use mb_ea::resolve;
 use mb_instr::{Condition, Ea, Plain, Size};
@@ -26,14 +25,12 @@ pub fn move_to_ccr<P: Port>(
 ) -> Result<(), Undone>
     requires { IsEa Size.Word ea.now }
     ensures means { run P.bus (to_ccr_of ea.now at space plain.old) (P.world port.old)
-        ≡ (carried_by (with_end result ended.new) plain.new, P.world port.new) }
+        ≡ (carried_in_place result ended.new plain.old plain.new, P.world port.new) }
     ensures rest { P.rest port.new ≡ P.rest port.old }
 {
-    let mut next = *plain;
-    match fetch_operand(Size::Word, ea, at.wrapping_add(2), space, &mut next, port) {
+    match fetch_operand(Size::Word, ea, at.wrapping_add(2), space, plain, port) {
         Ok(operand) => {
-            next.ccr = (operand.value % 32) as u8;
-            *plain = next;
+            plain.ccr = (operand.value % 32) as u8;
             Ok(())
         }
         Err(refused) => Err(unread(&refused, ended)),
@@ -53,16 +50,14 @@ pub fn move_from_ccr<P: Port>(
 ) -> Result<(), Undone>
     requires { IsEa Size.Word ea.now }
     ensures means { run P.bus (from_ccr_of ea.now at space plain.old) (P.world port.old)
-        ≡ (carried_by (with_end result ended.new) plain.new, P.world port.new) }
+        ≡ (carried_in_place result ended.new plain.old plain.new, P.world port.new) }
     ensures rest { P.rest port.new ≡ P.rest port.old }
 {
-    let mut next = *plain;
-    let target = match resolve(ea, Size::Word, &mut next, at.wrapping_add(2), space, port) {
+    let codes = u32::from(plain.ccr % 32);
+    let target = match resolve(ea, Size::Word, plain, at.wrapping_add(2), space, port) {
         Ok(target) => target,
         Err(refused) => return Err(unread(&refused, ended)),
     };
-    let codes = u32::from(plain.ccr % 32);
-    *plain = next;
     finish_with(target, Size::Word, codes, space, plain, port, ended)
 }
 
@@ -88,15 +83,13 @@ pub fn set_by_condition<P: Port>(
 ) -> Result<(), Undone>
     requires { IsEa Size.Byte ea.now }
     ensures means { run P.bus (scc_of condition ea.now at space plain.old) (P.world port.old)
-        ≡ (carried_by (with_end result ended.new) plain.new, P.world port.new) }
+        ≡ (carried_in_place result ended.new plain.old plain.new, P.world port.new) }
     ensures rest { P.rest port.new ≡ P.rest port.old }
 {
-    let mut next = *plain;
-    let target = match resolve(ea, Size::Byte, &mut next, at.wrapping_add(2), space, port) {
+    let byte = byte_of(is_met(condition, plain.ccr));
+    let target = match resolve(ea, Size::Byte, plain, at.wrapping_add(2), space, port) {
         Ok(target) => target,
         Err(refused) => return Err(unread(&refused, ended)),
     };
-    let byte = byte_of(is_met(condition, plain.ccr));
-    *plain = next;
     finish_with(target, Size::Byte, byte, space, plain, port, ended)
 }

@@ -2,14 +2,13 @@
 
 ghost use Rattle.std.specs.Prelude.{◌≡◌, ◌<◌, ◌%◌};
 ghost use Rattle.mb_port.specs.Routine.{run};
-ghost use Rattle.mb_meaning.specs.Ends.{carried_by};
 ghost use Rattle.mb_meaning.specs.Lines.{line_at, line_moved, past_line, past_lines, destination_in};
 ghost use Rattle.mb_meaning.specs.Lines.{move16_absolute_of, move16_of};
-ghost use Rattle.mb_operands.specs.Endings.{with_end};
+ghost use Rattle.mb_operands.specs.Endings.{carried_in_place};
 
 use mb_ea::ReadFault;
 use mb_instr::{LineMove, Plain};
-use mb_operands::{Undone, left_undone};
+use mb_operands::{Undone, left_undone, unread};
 use mb_port::{Port, Space};
 use mb_writes::Ended;
 
@@ -25,28 +24,25 @@ fn line_at(address: u32) -> u32
     address / LINE * LINE
 }
 
-/// Reads a line, and then writes it. The registers after the instruction are `after`.
+/// Reads a line, and then writes it, whatever the registers before the instruction and after it.
 #[inline(always)]
 #[tactic(auto, unfolding(mb_meaning::specs::Lines::line_moved))]
 fn move_line<P: Port>(
     from: u32,
     to: u32,
-    after: &Plain,
     space: Space,
-    plain: &mut Plain,
     port: &mut P,
     ended: &mut Ended,
 ) -> Result<(), Undone>
-    ensures means { run P.bus (line_moved from to after.now space plain.old) (P.world port.old)
-        ≡ (carried_by (with_end result ended.new) plain.new, P.world port.new) }
+    ensures means { (before after : Plain) → run P.bus (line_moved from to after space before) (P.world port.old)
+        ≡ (carried_in_place result ended.new before after, P.world port.new) }
     ensures rest { P.rest port.new ≡ P.rest port.old }
 {
     let first = line_at(from);
     let line = match port.read_line(space, first) {
         Ok(line) => line,
-        Err(fault) => return Err(left_undone(Ended::ReadFault(ReadFault { fault, first }), ended)),
+        Err(fault) => return Err(unread(&ReadFault { fault, first }, ended)),
     };
-    *plain = *after;
     match port.write_line(space, line_at(to), line) {
         Ok(()) => Ok(()),
         Err(fault) => Err(left_undone(Ended::LineFault { fault, line }, ended)),
@@ -76,26 +72,21 @@ pub fn move_line_absolute<P: Port>(
 ) -> Result<(), Undone>
     requires { register < 8 }
     ensures means { run P.bus (move16_absolute_of kind register place space plain.old) (P.world port.old)
-        ≡ (carried_by (with_end result ended.new) plain.new, P.world port.new) }
+        ≡ (carried_in_place result ended.new plain.old plain.new, P.world port.new) }
     ensures rest { P.rest port.new ≡ P.rest port.old }
 {
     let address = plain.a[register as usize];
-    let mut after = *plain;
     match kind {
         LineMove::PostToAbsolute => {
-            step_past_line(register, &mut after);
-            move_line(address, place, &after, space, plain, port, ended)
+            step_past_line(register, plain);
+            move_line(address, place, space, port, ended)
         }
         LineMove::AbsoluteToPost => {
-            step_past_line(register, &mut after);
-            move_line(place, address, &after, space, plain, port, ended)
+            step_past_line(register, plain);
+            move_line(place, address, space, port, ended)
         }
-        LineMove::IndirectToAbsolute => move_line(
-            address, place, &after, space, plain, port, ended,
-        ),
-        LineMove::AbsoluteToIndirect => move_line(
-            place, address, &after, space, plain, port, ended,
-        ),
+        LineMove::IndirectToAbsolute => move_line(address, place, space, port, ended),
+        LineMove::AbsoluteToIndirect => move_line(place, address, space, port, ended),
     }
 }
 
@@ -132,13 +123,12 @@ pub fn move_line_post<P: Port>(
 ) -> Result<(), Undone>
     requires { x < 8 }
     ensures means { run P.bus (move16_of x word space plain.old) (P.world port.old)
-        ≡ (carried_by (with_end result ended.new) plain.new, P.world port.new) }
+        ≡ (carried_in_place result ended.new plain.old plain.new, P.world port.new) }
     ensures rest { P.rest port.new ≡ P.rest port.old }
 {
     let y = destination(word);
     let from = plain.a[x as usize];
     let to = plain.a[y as usize];
-    let mut after = *plain;
-    step_past_lines(x, y, &mut after);
-    move_line(from, to, &after, space, plain, port, ended)
+    step_past_lines(x, y, plain);
+    move_line(from, to, space, port, ended)
 }

@@ -4,9 +4,8 @@ ghost use Rattle.std.specs.Prelude.{◌≡◌, ◌<◌, ◌^◌};
 ghost use Rattle.mb_port.specs.Routine.{run};
 ghost use Rattle.mb_instr.specs.Operands.{IsEa};
 ghost use Rattle.mb_writes.specs.Transfers.{IsMode};
-ghost use Rattle.mb_meaning.specs.Ends.{carried_by};
 ghost use Rattle.mb_meaning.specs.Moves.{movem_mode, movem_of};
-ghost use Rattle.mb_operands.specs.Endings.{with_end};
+ghost use Rattle.mb_operands.specs.Endings.{carried_in_place};
 
 use mb_instr::{Ea, Plain, Size};
 use mb_operands::{Undone, find_address, left_undone, unread};
@@ -50,7 +49,7 @@ pub fn movem<P: Port>(
 ) -> Result<(), Undone>
     requires { IsEa size ea.now }
     ensures means { run P.bus (movem_of is_load size ea.now mask at space plain.old) (P.world port.old)
-        ≡ (carried_by (with_end result ended.new) plain.new, P.world port.new) }
+        ≡ (carried_in_place result ended.new plain.old plain.new, P.world port.new) }
     ensures rest { P.rest port.new ≡ P.rest port.old }
 {
     let word_at = at.wrapping_add(2).wrapping_add(2);

@@ -4,8 +4,7 @@ ghost use Rattle.std.specs.Prelude.{◌≡◌, ◌<◌};
 ghost use Rattle.mb_port.specs.Routine.{run};
 ghost use Rattle.mb_instr.specs.Operands.{IsEa};
 ghost use Rattle.mb_meaning.specs.Moves.{moveq_of, move_of, movea_of, lea_of};
-ghost use Rattle.mb_meaning.specs.Ends.{carried_by};
-ghost use Rattle.mb_operands.specs.Endings.{with_end};
+ghost use Rattle.mb_operands.specs.Endings.{carried_in_place};
 
 use mb_alu::{LogicKind, extend, logic};
 use mb_ea::resolve;
@@ -42,21 +41,19 @@ pub fn move_operand<P: Port>(
     requires destination { IsEa size destination.now }
     requires source { IsEa size from.now }
     ensures means { run P.bus (move_of size destination.now from.now at space plain.old) (P.world port.old)
-        ≡ (carried_by (with_end result ended.new) plain.new, P.world port.new) }
+        ≡ (carried_in_place result ended.new plain.old plain.new, P.world port.new) }
     ensures rest { P.rest port.new ≡ P.rest port.old }
 {
-    let mut next = *plain;
     let word_at = at.wrapping_add(2);
-    let source = match fetch_operand(size, from, word_at, space, &mut next, port) {
+    let source = match fetch_operand(size, from, word_at, space, plain, port) {
         Ok(source) => source,
         Err(refused) => return Err(unread(&refused, ended)),
     };
     let target_word_at = behind(size, from, word_at);
-    let target = match resolve(destination, size, &mut next, target_word_at, space, port) {
+    let target = match resolve(destination, size, plain, target_word_at, space, port) {
         Ok(target) => target,
         Err(refused) => return Err(unread(&refused, ended)),
     };
-    *plain = next;
     plain.ccr = logic(LogicKind::Pass, size, source.value, 0, plain.ccr).ccr;
     finish_with(target, size, source.value, space, plain, port, ended)
 }
@@ -77,14 +74,12 @@ pub fn move_address<P: Port>(
     requires source { IsEa size from.now }
     requires register { register < 8 }
     ensures means { run P.bus (movea_of size register from.now at space plain.old) (P.world port.old)
-        ≡ (carried_by (with_end result ended.new) plain.new, P.world port.new) }
+        ≡ (carried_in_place result ended.new plain.old plain.new, P.world port.new) }
     ensures rest { P.rest port.new ≡ P.rest port.old }
 {
-    let mut next = *plain;
-    match fetch_operand(size, from, at.wrapping_add(2), space, &mut next, port) {
+    match fetch_operand(size, from, at.wrapping_add(2), space, plain, port) {
         Ok(source) => {
-            next.a[register as usize] = size.sign_extend(source.value);
-            *plain = next;
+            plain.a[register as usize] = size.sign_extend(source.value);
             Ok(())
         }
         Err(refused) => Err(unread(&refused, ended)),
@@ -106,7 +101,7 @@ pub fn load_address<P: Port>(
     requires operand { IsEa Size.Long ea.now }
     requires register { register < 8 }
     ensures means { run P.bus (lea_of register ea.now at space plain.old) (P.world port.old)
-        ≡ (carried_by (with_end result ended.new) plain.new, P.world port.new) }
+        ≡ (carried_in_place result ended.new plain.old plain.new, P.world port.new) }
     ensures rest { P.rest port.new ≡ P.rest port.old }
 {
     match find_address(Size::Long, ea, at.wrapping_add(2), space, plain, port) {

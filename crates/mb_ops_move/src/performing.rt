@@ -4,9 +4,8 @@ ghost use Rattle.std.specs.Prelude.{◌≡◌};
 ghost use Rattle.mb_port.specs.Routine.{run};
 ghost use Rattle.mb_instr.specs.Codes.{IsInstr};
 ghost use Rattle.mb_instr.specs.declared.instruction.Instr.TheVariants as instr;
-ghost use Rattle.mb_meaning.specs.Ends.{carried_by, performed_by};
 ghost use Rattle.mb_meaning.specs.Rows.{perform_move_of};
-ghost use Rattle.mb_operands.specs.Endings.{with_end};
+ghost use Rattle.mb_operands.specs.Endings.{carried_in_place, performed_in_place};
 
 use crate::codes::{move_from_ccr, move_to_ccr, set_by_condition};
 use crate::lines::{move_line_absolute, move_line_post};
@@ -33,7 +32,7 @@ fn carry_out<P: Port>(
 ) -> Result<(), Undone>
     requires { IsInstr (instr.Move instruction.now) }
     ensures means { run P.bus (perform_move_of instruction.now at space plain.old) (P.world port.old)
-        ≡ (carried_by (with_end result ended.new) plain.new, P.world port.new) }
+        ≡ (carried_in_place result ended.new plain.old plain.new, P.world port.new) }
     ensures rest { P.rest port.new ≡ P.rest port.old }
 {
     match instruction {
@@ -113,8 +112,9 @@ fn carry_out<P: Port>(
     }
 }
 
-/// Carries out an instruction that moves, which stands at `at`. PC is past its words already. All
-/// accesses are made in `space`.
+/// Carries out an instruction that moves, which stands at `at`, on the registers in place. PC is past its words
+/// already. All accesses are made in `space`. Where it is not done, how it ended goes to `ended`; after a refused
+/// read the registers before the instruction count, and `plain` may have some that were stepped.
 #[inline(always)]
 pub fn perform_move<P: Port>(
     instruction: &Move,
@@ -126,7 +126,7 @@ pub fn perform_move<P: Port>(
 ) -> Result<bool, Undone>
     requires { IsInstr (instr.Move instruction.now) }
     ensures means { run P.bus (perform_move_of instruction.now at space plain.old) (P.world port.old)
-        ≡ (performed_by (with_end result ended.new) plain.new, P.world port.new) }
+        ≡ (performed_in_place result ended.new plain.old plain.new, P.world port.new) }
     ensures rest { P.rest port.new ≡ P.rest port.old }
 {
     match carry_out(instruction, at, space, plain, port, ended) {

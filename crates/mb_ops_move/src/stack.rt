@@ -3,9 +3,8 @@
 ghost use Rattle.std.specs.Prelude.{◌≡◌, ◌<◌};
 ghost use Rattle.mb_port.specs.Routine.{run};
 ghost use Rattle.mb_instr.specs.Operands.{IsEa};
-ghost use Rattle.mb_meaning.specs.Ends.{carried_by};
 ghost use Rattle.mb_meaning.specs.Stack.{pea_of, link_of, unlk_of};
-ghost use Rattle.mb_operands.specs.Endings.{with_end};
+ghost use Rattle.mb_operands.specs.Endings.{carried_in_place};
 
 use mb_ea::read_value;
 use mb_instr::{Ea, Plain, Size};
@@ -26,7 +25,7 @@ pub fn push_address<P: Port>(
 ) -> Result<(), Undone>
     requires { IsEa Size.Long ea.now }
     ensures means { run P.bus (pea_of ea.now at space plain.old) (P.world port.old)
-        ≡ (carried_by (with_end result ended.new) plain.new, P.world port.new) }
+        ≡ (carried_in_place result ended.new plain.old plain.new, P.world port.new) }
     ensures rest { P.rest port.new ≡ P.rest port.old }
 {
     let place = match find_address(Size::Long, ea, at.wrapping_add(2), space, plain, port) {
@@ -50,7 +49,7 @@ pub fn link<P: Port>(
 ) -> Result<(), Undone>
     requires { register < 8 }
     ensures means { run P.bus (link_of register displacement space plain.old) (P.world port.old)
-        ≡ (carried_by (with_end result ended.new) plain.new, P.world port.new) }
+        ≡ (carried_in_place result ended.new plain.old plain.new, P.world port.new) }
     ensures rest { P.rest port.new ≡ P.rest port.old }
 {
     let register = register as usize;
@@ -74,7 +73,7 @@ pub fn unlink<P: Port>(
 ) -> Result<(), Undone>
     requires { register < 8 }
     ensures means { run P.bus (unlk_of register space plain.old) (P.world port.old)
-        ≡ (carried_by (with_end result ended.new) plain.new, P.world port.new) }
+        ≡ (carried_in_place result ended.new plain.old plain.new, P.world port.new) }
     ensures rest { P.rest port.new ≡ P.rest port.old }
 {
     let register = register as usize;

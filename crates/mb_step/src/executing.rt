@@ -9,7 +9,7 @@ ghost use Rattle.mb_meaning.specs.SystemEnds.{with_registers};
 ghost use Rattle.mb_operands.specs.Endings.{end_of, with_end};
 ghost use Rattle.mb_meaning.specs.Step.{finish_of, supervised_of, unprivileged_of, executed_of};
 
-use crate::finishing::finish;
+use crate::finishing::{finish, finish_unfinished, finish_unread};
 use crate::performing::perform;
 use crate::raising::{is_due, refuse, trace_if};
 use crate::returning::return_from_exception;
@@ -26,16 +26,9 @@ const PRIVILEGED: u8 = 8;
 
 /// Carries out a privileged instruction of so many words in supervisor mode.
 #[inline(never)]
-#[tactic(auto, unfolding(mb_meaning::specs::Step::supervised_of))]
-fn execute_supervised<P: Port>(
-    instruction: &Instr,
-    system: &System,
-    length: u8,
-    cpu: &mut Cpu,
-    port: &mut P,
-) -> StepEnd
-    requires row { IsInstr instruction.now }
-    requires system { instruction.now ≡ instr.System system.now }
+#[tactic(auto, unfolding(mb_meaning::specs::Step::supervised_of, mb_meaning::specs::Step::finish_of))]
+fn execute_supervised<P: Port>(system: &System, length: u8, cpu: &mut Cpu, port: &mut P) -> StepEnd
+    requires { IsInstr (instr.System system.now) }
     ensures means { run P.bus (supervised_of system.now length cpu.old) (P.world port.old)
         ≡ ((result, cpu.new), P.world port.new) }
     ensures busy { result ≢ StepEnd.Idle }
@@ -44,31 +37,21 @@ fn execute_supervised<P: Port>(
     if let System::Rte = system {
         return return_from_exception(cpu, port);
     }
-    let before = *cpu;
-    let at = cpu.regs.pc;
+    let (at, sr) = (cpu.regs.pc, cpu.regs.sr);
     cpu.regs.pc = at.wrapping_add(2 * u32::from(length));
-    let ended = perform_system(system, at, cpu, port);
-    finish(instruction, &ended, &before, cpu, port)
-}
-
-/// Finishes an instruction that was not done, or that traps.
-#[inline(never)]
-fn finish_undone<P: Port>(
-    instruction: &Instr,
-    ended: &Ended,
-    plain: &Plain,
-    cpu: &mut Cpu,
-    port: &mut P,
-) -> StepEnd
-    requires { IsInstr instruction.now }
-    ensures means { run P.bus (finish_of instruction.now ended.now cpu.old (with_registers plain.now cpu.old))
-        (P.world port.old) ≡ ((result, cpu.new), P.world port.new) }
-    ensures busy { result ≢ StepEnd.Idle }
-    ensures rest { P.rest port.new ≡ P.rest port.old }
-{
-    let before = *cpu;
-    cpu.regs.set_plain(plain);
-    finish(instruction, ended, &before, cpu, port)
+    match perform_system(system, at, cpu, port) {
+        Ended::Done { flow } => trace_if(is_due(sr, flow), at, cpu, port),
+        Ended::Refused(vector) => {
+            cpu.regs.pc = at;
+            refuse(vector, cpu, port)
+        }
+        Ended::ReadFault(refused) => {
+            cpu.regs.pc = at;
+            finish_unread(&refused, cpu, port)
+        }
+        Ended::WriteFault(refused) => finish_unfinished(is_due(sr, false), &refused, cpu, port),
+        Ended::Trap(_) | Ended::LineFault { .. } | Ended::Movem(_) => unreachable!(),
+    }
 }
 
 /// Finishes an instruction that left these registers. Where it was not done, how it ended stands beside.
@@ -78,13 +61,13 @@ fn finish_plain<P: Port>(
     instruction: &Instr,
     done: Result<bool, Undone>,
     ended: &Ended,
-    plain: &Plain,
+    plain: &mut Plain,
     cpu: &mut Cpu,
     port: &mut P,
 ) -> StepEnd
     requires { IsInstr instruction.now }
     ensures means { run P.bus (finish_of instruction.now (end_of (with_end done ended.now)) cpu.old
-        (with_registers plain.now cpu.old)) (P.world port.old) ≡ ((result, cpu.new), P.world port.new) }
+        (with_registers plain.old cpu.old)) (P.world port.old) ≡ ((result, cpu.new), P.world port.new) }
     ensures busy { result ≢ StepEnd.Idle }
     ensures rest { P.rest port.new ≡ P.rest port.old }
 {
@@ -95,13 +78,13 @@ fn finish_plain<P: Port>(
             cpu.regs.set_plain(plain);
             trace_if(due, at, cpu, port)
         }
-        Err(_) => finish_undone(instruction, ended, plain, cpu, port),
+        Err(_) => finish(instruction, ended, plain, cpu, port),
     }
 }
 
 /// Carries out an instruction of so many words that is not privileged.
 #[inline(always)]
-#[tactic(auto, unfolding(mb_meaning::specs::Step::unprivileged_of))]
+#[tactic(auto, unfolding(mb_meaning::specs::Step::unprivileged_of), using(crate::proofs::Finishes::finish_left))]
 fn execute_unprivileged<P: Port>(
     instruction: &Instr,
     length: u8,
@@ -119,7 +102,7 @@ fn execute_unprivileged<P: Port>(
     plain.pc = at.wrapping_add(2 * u32::from(length));
     let mut ended = Ended::Done { flow: false };
     let done = perform(instruction, at, cpu.space(), &mut plain, port, &mut ended);
-    finish_plain(instruction, done, &ended, &plain, cpu, port)
+    finish_plain(instruction, done, &ended, &mut plain, cpu, port)
 }
 
 /// Carries out an instruction of so many words that stands at PC. A privileged one needs supervisor mode.
@@ -142,7 +125,7 @@ pub(crate) fn execute<P: Port>(
     match instruction {
         Instr::System(system) => {
             if cpu.regs.is_supervisor() {
-                execute_supervised(instruction, system, length, cpu, port)
+                execute_supervised(system, length, cpu, port)
             } else {
                 refuse(PRIVILEGED, cpu, port)
             }

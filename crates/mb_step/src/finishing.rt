@@ -4,14 +4,15 @@ ghost use Rattle.std.specs.Prelude.{◌≡◌, ◌≢◌};
 ghost use Rattle.mb_port.specs.Routine.{run};
 ghost use Rattle.mb_instr.specs.Codes.{IsInstr};
 ghost use Rattle.mb_frames.specs.AccessFields.{is_load};
-ghost use Rattle.mb_meaning.specs.Step.{unread_of, unwritten_of, line_unwritten_of, movem_words, untransferred_of};
-ghost use Rattle.mb_meaning.specs.Step.{is_flow, finish_of};
+ghost use Rattle.mb_meaning.specs.SystemEnds.{with_registers};
+ghost use Rattle.mb_meaning.specs.Step.{unread_of, unfinished_of, unwritten_of, line_unwritten_of, movem_words};
+ghost use Rattle.mb_meaning.specs.Step.{untransferred_of, is_flow, finish_of};
 
 use crate::raising::{access_error, is_due, refuse, trace_if, traces_all, trap, with_ct};
 use mb_ea::ReadFault;
 use mb_encode::encode;
 use mb_entry::{line_fields, movem_fields, read_fields, write_fields};
-use mb_instr::Instr;
+use mb_instr::{Instr, Plain};
 use mb_meaning::StepEnd;
 use mb_model::Cpu;
 use mb_port::{Fault, Port};
@@ -33,27 +34,44 @@ pub(crate) fn finish_unread<P: Port>(refused: &ReadFault, cpu: &mut Cpu, port: &
     access_error(cpu.regs.pc, fields, cpu, port)
 }
 
-/// After a refused write. Where pieces are left the instruction is otherwise complete; else it was not begun.
+/// After a refused write of which something is left. The instruction is otherwise complete.
 #[inline(never)]
-#[tactic(auto, unfolding(mb_meaning::specs::Step::unfinished_of, mb_meaning::specs::Step::unbegun_of))]
-fn finish_unwritten<P: Port>(
+#[tactic(auto, unfolding(mb_meaning::specs::Step::unfinished_of))]
+pub(crate) fn finish_unfinished<P: Port>(
     due: bool,
     refused: &WriteFault,
-    before: &Cpu,
     cpu: &mut Cpu,
     port: &mut P,
 ) -> StepEnd
-    ensures means { run P.bus (unwritten_of due refused.now refused.now.rest.items before.now cpu.old)
-        (P.world port.old) ≡ ((result, cpu.new), P.world port.new) }
+    ensures means { run P.bus (unfinished_of due refused.now cpu.old) (P.world port.old)
+        ≡ ((result, cpu.new), P.world port.new) }
     ensures busy { result ≢ StepEnd.Idle }
     ensures rest { P.rest port.new ≡ P.rest port.old }
 {
-    let fields = write_fields(refused, PAGE_SIZE);
+    let fields = with_ct(due, write_fields(refused, PAGE_SIZE));
+    access_error(cpu.regs.pc, fields, cpu, port)
+}
+
+/// After a refused write. Where nothing is left the instruction was not begun.
+#[inline(never)]
+#[tactic(auto, unfolding(mb_meaning::specs::Step::unbegun_of))]
+fn finish_unwritten<P: Port>(
+    due: bool,
+    refused: &WriteFault,
+    plain: &Plain,
+    cpu: &mut Cpu,
+    port: &mut P,
+) -> StepEnd
+    ensures means { run P.bus (unwritten_of due refused.now refused.now.rest.items cpu.old
+        (with_registers plain.now cpu.old)) (P.world port.old) ≡ ((result, cpu.new), P.world port.new) }
+    ensures busy { result ≢ StepEnd.Idle }
+    ensures rest { P.rest port.new ≡ P.rest port.old }
+{
     if refused.rest.is_empty() {
-        *cpu = *before;
-        access_error(cpu.regs.pc, fields, cpu, port)
+        access_error(cpu.regs.pc, write_fields(refused, PAGE_SIZE), cpu, port)
     } else {
-        access_error(cpu.regs.pc, with_ct(due, fields), cpu, port)
+        cpu.regs.set_plain(plain);
+        finish_unfinished(due, refused, cpu, port)
     }
 }
 
@@ -64,16 +82,18 @@ fn finish_line<P: Port>(
     due: bool,
     fault: &Fault,
     line: [u32; 4],
+    plain: &Plain,
     cpu: &mut Cpu,
     port: &mut P,
 ) -> StepEnd
-    ensures means { run P.bus (line_unwritten_of due fault.now line cpu.old) (P.world port.old)
-        ≡ ((result, cpu.new), P.world port.new) }
+    ensures means { run P.bus (line_unwritten_of due fault.now line (with_registers plain.now cpu.old))
+        (P.world port.old) ≡ ((result, cpu.new), P.world port.new) }
     ensures busy { result ≢ StepEnd.Idle }
     ensures rest { P.rest port.new ≡ P.rest port.old }
 {
-    let fields = line_fields(fault, line, PAGE_SIZE);
-    access_error(cpu.regs.pc, with_ct(due, fields), cpu, port)
+    cpu.regs.set_plain(plain);
+    let fields = with_ct(due, line_fields(fault, line, PAGE_SIZE));
+    access_error(cpu.regs.pc, fields, cpu, port)
 }
 
 /// The operation and mask words of a MOVEM.
@@ -104,18 +124,19 @@ fn finish_movem<P: Port>(
     due: bool,
     refused: &MovemFault,
     words: u32,
-    before: &Cpu,
+    plain: &Plain,
     cpu: &mut Cpu,
     port: &mut P,
 ) -> StepEnd
-    ensures means { run P.bus (untransferred_of due refused.now words before.now cpu.old) (P.world port.old)
-        ≡ ((result, cpu.new), P.world port.new) }
+    ensures means { run P.bus (untransferred_of due refused.now words cpu.old (with_registers plain.now cpu.old))
+        (P.world port.old) ≡ ((result, cpu.new), P.world port.new) }
     ensures busy { result ≢ StepEnd.Idle }
     ensures rest { P.rest port.new ≡ P.rest port.old }
 {
+    let at = cpu.regs.pc;
+    cpu.regs.set_plain(plain);
     let fields = movem_fields(refused, words, cpu.regs.pc, PAGE_SIZE);
-    let fields = with_ct(due && !is_load(words), fields);
-    access_error(before.regs.pc, fields, cpu, port)
+    access_error(at, with_ct(due && !is_load(words), fields), cpu, port)
 }
 
 /// Whether T0 asks for a trace after an instruction that writes.
@@ -125,47 +146,40 @@ fn is_flow(instruction: &Instr) -> bool
     matches!(instruction, Instr::Flow(_))
 }
 
-/// Finishes an instruction that ended so, by the processor before it and as it left it.
+/// Finishes an instruction that is not privileged, ended so and left these registers. The processor is as before it.
 #[inline(never)]
 #[tactic(auto, unfolding(mb_meaning::specs::Step::finish_of))]
 pub(crate) fn finish<P: Port>(
     instruction: &Instr,
     ended: &Ended,
-    before: &Cpu,
+    plain: &mut Plain,
     cpu: &mut Cpu,
     port: &mut P,
 ) -> StepEnd
     requires { IsInstr instruction.now }
-    ensures means { run P.bus (finish_of instruction.now ended.now before.now cpu.old) (P.world port.old)
-        ≡ ((result, cpu.new), P.world port.new) }
+    ensures means { run P.bus (finish_of instruction.now ended.now cpu.old (with_registers plain.old cpu.old))
+        (P.world port.old) ≡ ((result, cpu.new), P.world port.new) }
     ensures busy { result ≢ StepEnd.Idle }
     ensures rest { P.rest port.new ≡ P.rest port.old }
 {
-    let sr = before.regs.sr;
+    let (at, sr) = (cpu.regs.pc, cpu.regs.sr);
     match ended {
-        Ended::Done { flow } => trace_if(is_due(sr, *flow), before.regs.pc, cpu, port),
-        Ended::Trap(vector) => trap(*vector, before, cpu, port),
-        Ended::Refused(vector) => {
-            *cpu = *before;
-            refuse(*vector, cpu, port)
+        Ended::Done { flow } => {
+            cpu.regs.set_plain(plain);
+            trace_if(is_due(sr, *flow), at, cpu, port)
         }
-        Ended::ReadFault(refused) => {
-            *cpu = *before;
-            finish_unread(refused, cpu, port)
-        }
+        Ended::Trap(vector) => trap(*vector, plain, cpu, port),
+        Ended::Refused(vector) => refuse(*vector, cpu, port),
+        Ended::ReadFault(refused) => finish_unread(refused, cpu, port),
         Ended::WriteFault(refused) => {
-            finish_unwritten(is_due(sr, is_flow(instruction)), refused, before, cpu, port)
+            finish_unwritten(is_due(sr, is_flow(instruction)), refused, plain, cpu, port)
         }
-        Ended::LineFault { fault, line } => finish_line(traces_all(sr), fault, *line, cpu, port),
+        Ended::LineFault { fault, line } => {
+            finish_line(traces_all(sr), fault, *line, plain, cpu, port)
+        }
         Ended::Movem(refused) => {
-            finish_movem(
-                traces_all(sr),
-                refused,
-                movem_words(instruction),
-                before,
-                cpu,
-                port,
-            )
+            let words = movem_words(instruction);
+            finish_movem(traces_all(sr), refused, words, plain, cpu, port)
         }
     }
 }

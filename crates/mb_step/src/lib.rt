@@ -2,8 +2,8 @@
 //! exceptions that it causes.
 //!
 //! Each function here does what its routine of `mb_meaning` does, whatever the bus. An instruction is carried out where
-//! it was decoded, on a copy of the registers; only where it ends otherwise than done is the processor as it was before
-//! kept beside it.
+//! it was decoded, on a copy of the registers, the only one that a step makes: it becomes the processor's registers
+//! where the instruction is done, and until then those before it are the processor's own.
 #![tactic(auto)]
 
 mod executing;

@@ -1,13 +1,16 @@
 //! Exceptions in a step: how each is entered, and what follows where its frame has no place.
 
-ghost use Rattle.std.specs.Prelude.{◌≡◌, ◌≢◌, ◌<◌, IfErr};
+ghost use Rattle.std.specs.Prelude.{◌≡◌, ◌≢◌, ◌<◌, length};
 ghost use Rattle.mb_port.specs.Routine.{run};
-ghost use Rattle.mb_meaning.specs.Raise.{traces_all, traces_flow, is_due, has_ct, with_ct, cause_at, raised_by};
+ghost use Rattle.mb_instr.specs.Registers.{with_plain};
+ghost use Rattle.mb_meaning.specs.SystemEnds.{with_registers};
+ghost use Rattle.mb_meaning.specs.Raise.{traces_all, traces_flow, is_due, has_ct, with_ct, cause_at};
 ghost use Rattle.mb_meaning.specs.Raise.{access_error_of, unchecked_of, raise_of, last, interrupt_of, trace_of};
 ghost use Rattle.mb_meaning.specs.Raise.{tracing_of, trap_of, refused_of};
 
 use mb_entry::{Cause, Entered, check_fields, enter};
 use mb_frames::Access;
+use mb_instr::{Plain, Regs};
 use mb_meaning::StepEnd;
 use mb_model::Cpu;
 use mb_port::{Fault, Port};
@@ -114,35 +117,9 @@ fn unchecked<P: Port>(is_trace: bool, fault: &Fault, cpu: &mut Cpu, port: &mut P
     access_error(cpu.regs.pc, fields, cpu, port)
 }
 
-/// Enters an exception that is no access error. Where its frame has no place the processor becomes `kept`, and an
-/// access error is entered in its place. The error is how the step ended, where the exception was not entered.
-#[inline(never)]
-#[tactic(auto, unfolding(mb_meaning::specs::Raise::raise_of))]
-fn raise<P: Port>(
-    is_trace: bool,
-    cause: &Cause,
-    kept: &Cpu,
-    cpu: &mut Cpu,
-    port: &mut P,
-) -> Result<(), StepEnd>
-    requires { cause.now.level < 8 }
-    ensures means { run P.bus (raise_of is_trace cause.now kept.now cpu.old) (P.world port.old)
-        ≡ (raised_by result cpu.new, P.world port.new) }
-    ensures busy { IfErr result (λ end. end ≢ StepEnd.Idle) }
-    ensures rest { P.rest port.new ≡ P.rest port.old }
-{
-    match enter(cpu, port, cause) {
-        Entered::Done => Ok(()),
-        Entered::Faulted(fault) => {
-            *cpu = *kept;
-            Err(unchecked(is_trace, &fault, cpu, port))
-        }
-        Entered::DoubleFault => Err(StepEnd::Halted),
-    }
-}
-
 /// Enters an exception that is the last of its step, from the processor as it stands.
 #[inline(never)]
+#[tactic(auto, unfolding(mb_meaning::specs::Raise::raise_of), using(crate::proofs::Entries::unchecked_awake))]
 fn raise_last<P: Port>(is_trace: bool, cause: &Cause, cpu: &mut Cpu, port: &mut P) -> StepEnd
     requires { cause.now.level < 8 }
     ensures means { run P.bus (last (raise_of is_trace cause.now cpu.old cpu.old)) (P.world port.old)
@@ -150,10 +127,10 @@ fn raise_last<P: Port>(is_trace: bool, cause: &Cause, cpu: &mut Cpu, port: &mut 
     ensures busy { result ≢ StepEnd.Idle }
     ensures rest { P.rest port.new ≡ P.rest port.old }
 {
-    let kept = *cpu;
-    match raise(is_trace, cause, &kept, cpu, port) {
-        Ok(()) => StepEnd::Went,
-        Err(end) => end,
+    match enter(cpu, port, cause) {
+        Entered::Done => StepEnd::Went,
+        Entered::Faulted(fault) => unchecked(is_trace, &fault, cpu, port),
+        Entered::DoubleFault => StepEnd::Halted,
     }
 }
 
@@ -204,20 +181,43 @@ pub(crate) fn trace_if<P: Port>(due: bool, address: u32, cpu: &mut Cpu, port: &m
     }
 }
 
-/// Enters the exception of an instruction that traps, and behind it a trace, where T1 asks for one.
+/// A0 to A6 are seven: the proof of what calls it asks for that, and it does nothing.
+#[inline(always)]
+fn are_seven(addresses: &[u32; 7])
+    ensures { length addresses.now ≡ 7 }
+{}
+
+/// Exchanges the registers that user mode sees with these. Put back, they give the registers before.
+#[tactic(auto, using(crate::proofs::Registers::put_back))]
+fn exchange(plain: &mut Plain, regs: &mut Regs)
+    ensures now { regs.new ≡ with_plain regs.old plain.old }
+    ensures before { with_plain regs.new plain.new ≡ regs.old }
+{
+    are_seven(&regs.a);
+    let before = regs.plain();
+    regs.set_plain(plain);
+    *plain = before;
+}
+
+/// Enters the exception of an instruction that traps and left these registers, and behind it a trace, where T1 asks for
+/// one. Where the frame has no place, the registers before the instruction come back.
 #[inline(never)]
-#[tactic(auto, unfolding(mb_meaning::specs::Raise::trap_of))]
-pub(crate) fn trap<P: Port>(vector: u8, before: &Cpu, cpu: &mut Cpu, port: &mut P) -> StepEnd
-    ensures means { run P.bus (trap_of vector before.now cpu.old) (P.world port.old)
+#[tactic(auto, unfolding(mb_meaning::specs::Raise::trap_of, mb_meaning::specs::Raise::raise_of))]
+pub(crate) fn trap<P: Port>(vector: u8, plain: &mut Plain, cpu: &mut Cpu, port: &mut P) -> StepEnd
+    ensures means { run P.bus (trap_of vector cpu.old (with_registers plain.old cpu.old)) (P.world port.old)
         ≡ ((result, cpu.new), P.world port.new) }
     ensures busy { result ≢ StepEnd.Idle }
     ensures rest { P.rest port.new ≡ P.rest port.old }
 {
-    let at = before.regs.pc;
-    let cause = cause_at(vector, cpu.regs.pc, at);
-    match raise(false, &cause, before, cpu, port) {
-        Ok(()) => trace_if(traces_all(before.regs.sr), at, cpu, port),
-        Err(end) => end,
+    let (at, traced) = (cpu.regs.pc, traces_all(cpu.regs.sr));
+    exchange(plain, &mut cpu.regs);
+    match enter(cpu, port, &cause_at(vector, cpu.regs.pc, at)) {
+        Entered::Done => trace_if(traced, at, cpu, port),
+        Entered::Faulted(fault) => {
+            cpu.regs.set_plain(plain);
+            unchecked(false, &fault, cpu, port)
+        }
+        Entered::DoubleFault => StepEnd::Halted,
     }
 }
 

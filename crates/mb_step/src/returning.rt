@@ -2,17 +2,13 @@
 
 ghost use Rattle.std.specs.Prelude.{◌≡◌, ◌≢◌};
 ghost use Rattle.mb_port.specs.Routine.{run};
-ghost use Rattle.mb_instr.specs.Codes.{IsInstr};
-ghost use Rattle.mb_instr.specs.declared.instruction.Instr.TheVariants as instr;
-ghost use Rattle.mb_instr.specs.declared.instruction.System.TheVariants as system;
 ghost use Rattle.mb_meaning.specs.Return.{continues};
-ghost use Rattle.mb_meaning.specs.Step.{is_due_by, untransferred_again_of, finish_return_of, rte_of};
+ghost use Rattle.mb_meaning.specs.Step.{is_due_by, untransferred_again_of, rte_of};
 
-use crate::finishing::{PAGE_SIZE, finish};
-use crate::raising::{access_error, has_ct, is_due, trace_if, traces_all, with_ct};
+use crate::finishing::{PAGE_SIZE, finish_unread};
+use crate::raising::{access_error, has_ct, is_due, refuse, trace_if, traces_all, with_ct};
 use mb_entry::{movem_fields, return_held};
 use mb_frames::Access;
-use mb_instr::{Instr, System};
 use mb_meaning::StepEnd;
 use mb_model::Cpu;
 use mb_port::Port;
@@ -60,50 +56,28 @@ fn finish_movem_again<P: Port>(
     access_error(held.pc, with_ct(due || has_ct(old), fields), cpu, port)
 }
 
-/// Finishes RTE.
+/// RTE, in supervisor mode. Where it took no frame the processor is as it was.
 #[inline(never)]
-#[tactic(auto, unfolding(mb_meaning::specs::Step::finish_return_of))]
-fn finish_return<P: Port>(
-    ended: &Ended,
-    held: &Held,
-    before: &Cpu,
-    cpu: &mut Cpu,
-    port: &mut P,
-) -> StepEnd
-    ensures means { run P.bus (finish_return_of ended.now (record { access = held.now.access; pc = held.now.pc })
-        before.now cpu.old) (P.world port.old) ≡ ((result, cpu.new), P.world port.new) }
-    ensures busy { result ≢ StepEnd.Idle }
-    ensures rest { P.rest port.new ≡ P.rest port.old }
-{
-    let sr = before.regs.sr;
-    match ended {
-        Ended::Done { flow } => {
-            let asked = is_due(sr, *flow);
-            let address = if asked { before.regs.pc } else { held.pc };
-            trace_if(asked || is_due_by(held, cpu), address, cpu, port)
-        }
-        Ended::Movem(refused) => finish_movem_again(is_due(sr, true), refused, held, cpu, port),
-        Ended::Trap(_)
-        | Ended::Refused(_)
-        | Ended::ReadFault(_)
-        | Ended::WriteFault(_)
-        | Ended::LineFault { .. } => {
-            finish(&Instr::System(System::Rte), ended, before, cpu, port)
-        }
-    }
-}
-
-/// RTE, in supervisor mode.
-#[inline(never)]
-#[tactic(auto, unfolding(mb_meaning::specs::Step::rte_of))]
+#[tactic(auto, unfolding(mb_meaning::specs::Step::rte_of, mb_meaning::specs::Step::finish_of))]
 pub(crate) fn return_from_exception<P: Port>(cpu: &mut Cpu, port: &mut P) -> StepEnd
     ensures means { run P.bus (rte_of cpu.old) (P.world port.old) ≡ ((result, cpu.new), P.world port.new) }
     ensures busy { result ≢ StepEnd.Idle }
     ensures rest { P.rest port.new ≡ P.rest port.old }
 {
-    let before = *cpu;
+    let (at, sr) = (cpu.regs.pc, cpu.regs.sr);
     let mut access = Access::default();
     let mut pc = 0;
     let ended = return_held(cpu, port, &mut access, &mut pc);
-    finish_return(&ended, &Held { access, pc }, &before, cpu, port)
+    let held = Held { access, pc };
+    match ended {
+        Ended::Done { flow } => {
+            let asked = is_due(sr, flow);
+            let address = if asked { at } else { held.pc };
+            trace_if(asked || is_due_by(&held, cpu), address, cpu, port)
+        }
+        Ended::Movem(refused) => finish_movem_again(is_due(sr, true), &refused, &held, cpu, port),
+        Ended::Refused(vector) => refuse(vector, cpu, port),
+        Ended::ReadFault(refused) => finish_unread(&refused, cpu, port),
+        Ended::Trap(_) | Ended::WriteFault(_) | Ended::LineFault { .. } => unreachable!(),
+    }
 }

@@ -1,11 +1,12 @@
 //! Privileged instructions, each by its row.
 
-ghost use Rattle.std.specs.Prelude.{◌≡◌};
+ghost use Rattle.std.specs.Prelude.{◌≡◌, IfErr};
 ghost use Rattle.mb_port.specs.Routine.{run};
 ghost use Rattle.mb_instr.specs.Codes.{IsInstr};
 ghost use Rattle.mb_instr.specs.declared.instruction.Instr.TheVariants as instr;
 ghost use Rattle.mb_meaning.specs.SystemEnds.{system_closing, system_performed_by};
 ghost use Rattle.mb_meaning.specs.System.{perform_system_of};
+ghost use Rattle.mb_system.specs.Ends.{SystemEnds};
 
 use crate::control::move_control;
 use crate::spaces::{flush, move_by_function_code, test};
@@ -32,6 +33,7 @@ fn carry_out<P: Port>(
     requires { IsInstr (instr.System instruction.now) }
     ensures means { run P.bus (perform_system_of instruction.now at cpu.old) (P.world port.old)
         ≡ (system_performed_by result cpu.new, P.world port.new) }
+    ensures ends { IfErr result (λ end. SystemEnds end cpu.old cpu.new) }
     ensures rest { P.rest port.new ≡ P.rest port.old }
 {
     match instruction {
@@ -74,6 +76,7 @@ pub fn perform_system<P: Port>(instruction: &System, at: u32, cpu: &mut Cpu, por
     requires { IsInstr (instr.System instruction.now) }
     ensures means { run P.bus (system_closing (perform_system_of instruction.now at cpu.old)) (P.world port.old)
         ≡ ((result, cpu.new), P.world port.new) }
+    ensures ends { SystemEnds result cpu.old cpu.new }
     ensures rest { P.rest port.new ≡ P.rest port.old }
 {
     match carry_out(instruction, at, cpu, port) {

@@ -1,12 +1,13 @@
 //! What goes by the function codes SFC and DFC: MOVES, PFLUSH and PTEST.
 
-ghost use Rattle.std.specs.Prelude.{◌≡◌, ◌<◌, ◌^◌};
+ghost use Rattle.std.specs.Prelude.{◌≡◌, ◌<◌, ◌^◌, IfErr};
 ghost use Rattle.mb_port.specs.Routine.{run};
 ghost use Rattle.mb_port.specs.Flushes.{NamesPage};
 ghost use Rattle.mb_instr.specs.Sizes.{values_of};
 ghost use Rattle.mb_instr.specs.Operands.{IsEa};
 ghost use Rattle.mb_ea.specs.Addresses.{IsTarget};
 ghost use Rattle.mb_meaning.specs.SystemEnds.{system_carried_by};
+ghost use Rattle.mb_system.specs.Ends.{SystemEnds};
 ghost use Rattle.mb_meaning.specs.Spaces.{function_space, taken, out_of_register, into_register, is_store, moves_of};
 ghost use Rattle.mb_meaning.specs.Spaces.{page_of, flushed_by, pflush_of, ptest_of};
 
@@ -46,7 +47,7 @@ fn take(size: Size, register: u8, value: u32, plain: &mut Plain)
 
 /// MOVES to memory, in DFC's space. The registers are those after the address was formed.
 #[inline(always)]
-#[tactic(auto, unfolding(mb_meaning::specs::Spaces::out_of_register))]
+#[tactic(auto, unfolding(mb_meaning::specs::Spaces::out_of_register), using(crate::proofs::Ends::unfinished))]
 fn move_out<P: Port>(
     size: Size,
     target: Target,
@@ -59,6 +60,7 @@ fn move_out<P: Port>(
     requires register { register < 16 }
     ensures means { run P.bus (out_of_register size target register plain.old cpu.old) (P.world port.old)
         ≡ (system_carried_by result cpu.new, P.world port.new) }
+    ensures ends { IfErr result (λ end. SystemEnds end cpu.old cpu.new) }
     ensures rest { P.rest port.new ≡ P.rest port.old }
 {
     let value = plain.register(register);
@@ -93,6 +95,7 @@ fn move_in<P: Port>(
     requires { register < 16 }
     ensures means { run P.bus (into_register size target register plain.old cpu.old) (P.world port.old)
         ≡ (system_carried_by result cpu.new, P.world port.new) }
+    ensures ends { IfErr result (λ end. SystemEnds end cpu.old cpu.new) }
     ensures rest { P.rest port.new ≡ P.rest port.old }
 {
     match read_value(function_space(cpu.sfc), place(target), size, port) {
@@ -127,6 +130,7 @@ pub(crate) fn move_by_function_code<P: Port>(
     requires { IsEa size ea.now }
     ensures means { run P.bus (moves_of size ea.now word at cpu.old) (P.world port.old)
         ≡ (system_carried_by result cpu.new, P.world port.new) }
+    ensures ends { IfErr result (λ end. SystemEnds end cpu.old cpu.new) }
     ensures rest { P.rest port.new ≡ P.rest port.old }
 {
     let mut plain = cpu.regs.plain();

@@ -1,9 +1,10 @@
 //! Rows on SR, and MOVE USP.
 
-ghost use Rattle.std.specs.Prelude.{◌≡◌, ◌<◌};
+ghost use Rattle.std.specs.Prelude.{◌≡◌, ◌<◌, IfErr};
 ghost use Rattle.mb_port.specs.Routine.{run};
 ghost use Rattle.mb_instr.specs.Operands.{IsEa};
 ghost use Rattle.mb_meaning.specs.SystemEnds.{system_performed_by, system_carried_by, with_registers};
+ghost use Rattle.mb_system.specs.Ends.{SystemEnds};
 ghost use Rattle.mb_meaning.specs.Status.{with_status, status_by, to_status_of, from_status_of, stop_of};
 ghost use Rattle.mb_meaning.specs.Status.{to_usp_of, from_usp_of, move_usp_of};
 
@@ -48,6 +49,7 @@ pub(crate) fn move_to_status<P: Port>(
     requires { IsEa Size.Word ea.now }
     ensures means { run P.bus (to_status_of ea.now at cpu.old) (P.world port.old)
         ≡ (system_performed_by result cpu.new, P.world port.new) }
+    ensures ends { IfErr result (λ end. SystemEnds end cpu.old cpu.new) }
     ensures rest { P.rest port.new ≡ P.rest port.old }
 {
     let mut plain = cpu.regs.plain();
@@ -64,7 +66,7 @@ pub(crate) fn move_to_status<P: Port>(
 
 /// MOVE from SR. The destination is not read.
 #[inline(always)]
-#[tactic(auto, unfolding(mb_meaning::specs::Status::from_status_of))]
+#[tactic(auto, unfolding(mb_meaning::specs::Status::from_status_of), using(crate::proofs::Ends::unfinished))]
 pub(crate) fn move_from_status<P: Port>(
     ea: &Ea,
     at: u32,
@@ -74,6 +76,7 @@ pub(crate) fn move_from_status<P: Port>(
     requires { IsEa Size.Word ea.now }
     ensures means { run P.bus (from_status_of ea.now at cpu.old) (P.world port.old)
         ≡ (system_carried_by result cpu.new, P.world port.new) }
+    ensures ends { IfErr result (λ end. SystemEnds end cpu.old cpu.new) }
     ensures rest { P.rest port.new ≡ P.rest port.old }
 {
     let mut plain = cpu.regs.plain();
