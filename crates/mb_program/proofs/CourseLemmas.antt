@@ -92,10 +92,3 @@ pub with_script : (file : Option Text) (name : Text) (image : Contents) (read : 
 with_script file name image read next a end some holds e =
     rw some (goes_on a (record { name = name; role = script }) (entries read)
     (λ held. next (with_part (record { image = image; script = [] }) held)) end holds e)
-
--- or ends at it
-pub at_script : (file : Option Text) (name : Text) (image : Contents) (next : Parts → Course) (a : Around) (end : End)
-    → file ≡ Some name → FileEnds a.shelf a.shelf_after name (IsRefusedFor (record { name = name; role = script })) end → PutsNothing a
-    → CourseEnds (reads_each with_part (script_files file) (record { image = image; script = [] }) next) a end
-at_script file name image next a end some e nothing =
-    rw some (ends_at a (record { name = name; role = script }) (λ held. next (with_part (record { image = image; script = [] }) held)) end e nothing)

@@ -35,10 +35,6 @@ pub record Around : Type 0 where
   pub out : SinkSeen
   pub out_after : SinkSeen
 
--- the shelf tells what it told, and is whole where it was
-abbrev pub KeepsShelf : Around → Type 0
-KeepsShelf a = (a.shelf_after.told ≡ a.shelf.told) × (a.shelf_after.whole ≡ a.shelf.whole)
-
 -- the shelf has not failed
 abbrev pub ReadsWell : Around → Type 0
 ReadsWell a = a.shelf_after.faults ≡ a.shelf.faults
