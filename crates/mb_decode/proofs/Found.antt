@@ -77,10 +77,6 @@ long_cases ws h =
 pub long_found : (ws : List ℕ) (v : ℕ) (rest : List ℕ) → AreWords ws → long_at ws ≡ Ok (v, rest) → Takes ws (long v) rest
 long_found ws v rest h e = subst (FoundLong ws) e (long_cases ws h)
 
-abbrev FoundWide : ℕ → List ℕ → Result (ℕ × List ℕ) Stop → Type 0
-FoundWide width ws (Ok x) = (fits width x.0 ≡ true) × Takes ws (wide width x.0) x.1
-FoundWide width ws (Err e) = Unit {0}
-
 wide_of : (two three : Bool) (ws : List ℕ) (v : ℕ) (rest : List ℕ) → AreWords ws → cond two word_at (cond three long_at (give 0)) ws ≡ Ok (v, rest) →
     (cond two (nat_lt v 65536) (cond three true (v == 0)) ≡ true) × Takes ws (cond two (v ∷ []) (cond three (long v) [])) rest
 wide_of true three ws v rest h e = let a = word_found ws v rest h e in let l = a.0 in (grind (arith, nat_tests), a.1)

@@ -16,11 +16,10 @@ use Rattle.mb_instr.specs.declared.operand.OperandClass.{OperandClass}
 use Rattle.mb_instr.specs.declared.rule.WordRule.{WordRule}
 use Rattle.mb_instr.specs.declared.rule.WordRule.TheVariants as rule
 use Rattle.mb_instr.specs.declared.opcode.Opcode.{Opcode}
-use Rattle.mb_instr.specs.Sizes.{size_of}
 use Rattle.mb_instr.specs.Rules.{holds}
 use Rattle.mb_instr.specs.Control.{is_control_code}
 use Rattle.mb_instr.specs.Operands.{is_full, allows}
-use Rattle.mb_decode.specs.Reading.{by_size, long_at, wide_at, full_at, ext_at, immediate_at, operand_at, ruled_at, ea_at, sized_at, branch_at, trap_operand_at}
+use Rattle.mb_decode.specs.Reading.{long_at, wide_at, full_at, ext_at, immediate_at, operand_at, ruled_at, branch_at, trap_operand_at}
 use Rattle.mb_decode.proofs.ReadBack.{next}
 
 -- words that a reader reads to their end
@@ -290,17 +289,6 @@ ruled_readable r = let w = rule_word_is r in word_then_readable _ (rule_word r) 
 by_size_cases : {A : Type 0} (o : Option Size) (f : Size → Reader A) → ((s : Size) → Steady (f s)) → Steady {A = A} (elim o [ Some s ↦ f s | None ↦ illegal ])
 by_size_cases (Some s) f g = g s
 by_size_cases None f g = illegal_steady
-
-pub by_size_steady : {A : Type 0} (n : ℕ) (f : Size → Reader A) → ((s : Size) → Steady (f s)) → Steady (by_size n f)
-by_size_steady n f g = by_size_cases (size_of n) f g
-
-pub ea_steady : (class : OperandClass) (s : Size) (p : Opcode) → Steady (ea_at class s p)
-unfolding ea_at
-ea_steady class s p = cond_steady _ _ _ (operand_steady s p.mode p.lower) illegal_steady
-
-pub sized_steady : (class : OperandClass) (p : Opcode) → Steady (sized_at class p)
-unfolding sized_at
-sized_steady class p = by_size_steady p.size _ (λ s. made_steady _ _ (ea_steady class s p))
 
 pub word_ea_then_steady : (r : WordRule) (class : OperandClass) (s : Size) (p : Opcode) →
     Steady {A = ℕ × Ea}

@@ -52,10 +52,6 @@ all_built : (test : Rule → Bool) → ((id : Text) (l : Option Text) (i : Optio
 all_built test holds i [] os = all_built_options test holds os
 all_built test holds i (p ∷ ps) os = let h = holds p None (Some i) true in rw h (all_built test holds (suc i) ps os)
 
-and_none : (a b : Bool) → (a && (false && b)) ≡ false
-and_none true b = refl
-and_none false b = refl
-
 none_early : (n : ℕ) (i : ℕ) (ps : List Text) (os : List Opt) → list_any (is_early_multiple n) (positional_rules i ps ++ map option_rule os) ≡ false
 none_early n i [] [] = refl
 none_early n i [] (o ∷ os) = none_early n i [] os

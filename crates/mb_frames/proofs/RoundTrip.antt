@@ -1,14 +1,14 @@
 -- Reading a frame and its bytes undo one another.
-use Rattle.std.proofs.Common.{◌/◌, ◌%◌, ◌≡◌, ℕ, ◌+◌, ◌*◌, ◌<◌, ◌≤◌, List, [], ◌++◌, length, drop, slice_index, Some, None, true, false, nat_le, refl, sym, ap, ◌∙◌, arith, subst, if◌then◌else◌, append-nil, length-append, inl, inr}
+use Rattle.std.proofs.Common.{◌/◌, ◌%◌, ◌≡◌, ℕ, ◌+◌, ◌*◌, ◌<◌, ◌≤◌, List, [], ◌++◌, length, drop, slice_index, Some, None, true, nat_le, refl, sym, ap, ◌∙◌, arith, subst, if◌then◌else◌, append-nil, length-append, inl, inr}
 use Rattle.std.proofs.lemmas.Bool.{le-leb}
 use Rattle.std.specs.List.{AllByRecursion}
-use Rattle.std.specs.Prelude.{All, IfSome, IsNone, ◌↔◌, ◌⊎◌}
+use Rattle.std.specs.Prelude.{All, IfSome}
 use Rattle.std.proofs.lemmas.Bool.Decides.{nat_tests, eqb_tells, leb_tells}
 use Rattle.std.proofs.lemmas.List.Elements.{recursion_from_All, All-from_recursion}
 use Rattle.mb_frames.specs.declared.frame.Access.{Access}
 use Rattle.mb_frames.specs.declared.frame.Frame.{Frame}
 use Rattle.mb_frames.specs.declared.frame.Frame.TheVariants as frame
-use Rattle.mb_frames.specs.Layout.{BeginsWith, Fits, IsFormat, IsFrame, StandsIn, bytes_of_fields, fields_of, fields_of_access, format_of, frame_bytes, frame_length, long, offset_of, word}
+use Rattle.mb_frames.specs.Layout.{BeginsWith, Fits, IsFrame, StandsIn, bytes_of_fields, fields_of, fields_of_access, format_of, frame_bytes, frame_length, long, offset_of, word}
 use Rattle.mb_frames.specs.Reading.{access_in, format_in, frame_in, frame_of_format, long_at, offset_in, word_at}
 use Rattle.mb_frames.proofs.Fields.{AreAdjacent, ReadsAs, fields_read, fields_stand, fields_written, length-bytes_of_fields, size_of}
 
@@ -167,36 +167,6 @@ frame_bytes-frame_in b bytes =
     elim (leb_tells (frame_length (format_in b)) (length b)) [
       | inl room ↦ rw (room.0) (frame_of_format-written b (format_in b) refl (room.1) bytes)
       | inr short ↦ rw (short.0) tt
-    ]
-
--- a format that is none of the four has no frame
-frame_of_format-none : (b : List ℕ) (format : ℕ) → IsNone (frame_of_format format b) ↔ ¬ IsFormat format
-frame_of_format-none b format =
-    elim (eqb_tells format 0) [
-      | inl short ↦ rw (short.1) ((λ none other. absurd (let e : true ≡ false = none in cc)), (λ other. absurd (other (inl refl))))
-      | inr not_short ↦ rw (not_short.0) (elim (eqb_tells format 1) [
-        | inl throwaway ↦ rw (throwaway.1) ((λ none other. absurd (let e : true ≡ false = none in cc)), (λ other. absurd (other (inr (inl refl)))))
-        | inr not_throwaway ↦ rw (not_throwaway.0) (elim (eqb_tells format 2) [
-          | inl address ↦ rw (address.1) ((λ none other. absurd (let e : true ≡ false = none in cc)), (λ other. absurd (other (inr (inr (inl refl))))))
-          | inr not_address ↦ rw (not_address.0) (elim (eqb_tells format 7) [
-            | inl access ↦ rw (access.1) ((λ none other. absurd (let e : true ≡ false = none in cc)), (λ other. absurd (other (inr (inr (inr refl))))))
-            | inr not_access ↦ rw (not_access.0)
-                ((λ none known. grind arith), (λ other. refl))
-          ])
-        ])
-      ])
-    ]
-
--- where nothing is read the bytes are shorter than their frame, or the format is another
-pub frame_in-none : (b : List ℕ)
-    → IsNone (frame_in b) ↔ ((length b < frame_length (format_in b)) ⊎ ¬ IsFormat (format_in b))
-unfolding frame_in
-frame_in-none b =
-    let known = frame_of_format-none b (format_in b) in
-    elim (leb_tells (frame_length (format_in b)) (length b)) [
-      | inl room ↦ rw (room.0)
-          ((λ none. inr (known.0 none)), (λ cause. elim cause [ inl short ↦ absurd (omega arith) | inr other ↦ known.1 other ]))
-      | inr short ↦ rw (short.0) ((λ none. inl (short.1)), (λ cause. refl))
     ]
 
 -- the same for a list that is known to be a frame's bytes

@@ -1,5 +1,5 @@
 -- What has a spelling is in range.
-use Rattle.std.proofs.Common.{◌≡◌, ℕ, ◌<◌, ◌≤◌, ◌/◌, ◌%◌, ◌^◌, Bool, true, false, cond, [], ◌∷◌, refl, arith}
+use Rattle.std.proofs.Common.{◌≡◌, ℕ, ◌<◌, ◌/◌, ◌%◌, ◌^◌, Bool, true, false, cond, [], ◌∷◌, refl, arith}
 use Rattle.std.specs.Prelude.{◌&&◌, ◌==◌, not, nat_lt}
 use Rattle.std.proofs.lemmas.Bool.Decides.{nat_tests}
 use Rattle.mb_instr.specs.declared.size.Size.{Size}
@@ -11,16 +11,12 @@ use Rattle.mb_instr.specs.declared.operand.OperandClass.TheVariants.{All, DataAl
 use Rattle.mb_instr.specs.declared.operand.Ext.{Ext}
 use Rattle.mb_instr.specs.declared.operand.Ext.TheVariants.{Brief, Full}
 use Rattle.mb_instr.specs.declared.rule.WordRule.{WordRule}
-use Rattle.mb_instr.specs.declared.kinds.Branch.{Branch}
-use Rattle.mb_instr.specs.declared.kinds.Branch.TheVariants as branch
-use Rattle.mb_instr.specs.declared.kinds.Condition.{Condition}
 use Rattle.mb_instr.specs.declared.instruction.Move.TheVariants as move
-use Rattle.mb_instr.specs.declared.instruction.Flow.TheVariants as flow
 use Rattle.mb_instr.specs.declared.instruction.Instr.TheVariants as instr
 use Rattle.mb_instr.specs.Operands.{allows, mode, lower, more, long, wide, fits, is_full, is_ext, ext, immediate, is_immediate}
 use Rattle.mb_instr.specs.Operands.{is_spelled, takes, IsExt, IsImmediate, IsEa}
 use Rattle.mb_instr.specs.Rules.{holds}
-use Rattle.mb_instr.specs.Shapes.{Row, at_ea, word_ea, immediate_ea, when, branch_byte, branch_words, is_branch, IsBranch, is_quick}
+use Rattle.mb_instr.specs.Shapes.{Row, at_ea, word_ea, immediate_ea, when}
 use Rattle.mb_instr.specs.Codes.{Has, IsInstr, AreWords}
 use Rattle.mb_instr.proofs.Words.{AreWords-head, AreWords-tail, AreWords-left, AreWords-right}
 
@@ -108,15 +104,3 @@ move_range s d e h =
       takes_range DataAlterable s d both.1 fields.upper (AreWords-right (more s e) (more s d) h.are_words),
       takes_range All s e both.0 fields.lower (AreWords-left (more s e) (more s d) h.are_words),
     )
-
-branch_parts : (d : Branch) → is_branch d ≡ true → branch_byte d / 64 < 4 → AreWords (branch_words d) → IsBranch d
-branch_parts (branch.Byte b) h byte w = (grind (arith, nat_tests), grind (arith, nat_tests))
-branch_parts (branch.Word d) h byte w = AreWords-head d [] w
-branch_parts (branch.Long d) h byte w = long_range d w
-
-pub branch_range : (c : Condition) (d : Branch) → IsInstr (instr.Flow (flow.Bcc c d)) → IsBranch d
-branch_range c d h = let fields = h.fields in branch_parts d h.legal fields.size h.are_words
-
--- 1 to 8
-pub quick_range : (q : ℕ) → is_quick q ≡ true → (1 ≤ q) × (q ≤ 8)
-quick_range q h = (grind (arith, nat_tests), grind (arith, nat_tests))

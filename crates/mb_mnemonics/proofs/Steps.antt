@@ -79,12 +79,6 @@ same_size_is size.Word size.Long h = absurd cc
 same_size_is size.Long size.Byte h = absurd cc
 same_size_is size.Long size.Word h = absurd cc
 
-ea_set : (q : Parts) (a : Ea) → Parts
-ea_set q a = record q { ea = a }
-
-source_set : (q : Parts) (a : Ea) → Parts
-source_set q a = record q { source = a }
-
 -- an addressing mode, of the size or without extension words
 ea_step : (t s : Size) (pat : Pattern) (here : ℕ) (o : Operand ℤ) (m : Mode ℤ) (q p : Parts) → is_ea pat ≡ true → is_source pat ≡ false
     → own s pat ≡ 0 → ((a : Ea) → ea_of s here m ≡ Some a → length (more t a) ≡ operand_words pat s o)

@@ -1,17 +1,9 @@
 -- Printing one text after another.
 use Rattle.std.proofs.lemmas.List.{take-append-drop}
-use Rattle.std.proofs.Common.{◌≡◌, ◌∙◌, ℕ, ◌++◌, List, [], ◌∷◌, ap, sym, refl, append_assoc, take, drop}
+use Rattle.std.proofs.Common.{◌≡◌, ◌∙◌, ℕ, ◌++◌, List, ap, sym, refl, append_assoc, take, drop}
 use Rattle.std.specs.Prelude.{Option, Some, None, option_map, Result, Ok, Err, IsErr}
 use Rattle.mb_outside.specs.Sink.{Grows}
 use Rattle.mb_outside.specs.Prints.{Printed, PrintedPart, Prints, PrintsMore}
-
-append_nil : (xs : List ℕ) → xs ++ [] ≡ xs
-append_nil [] = refl
-append_nil (x ∷ xs) = ap (λ (ys : List ℕ). x ∷ ys) (append_nil xs)
-
-pub grows_nothing : (a : Option (List ℕ)) → Grows a a []
-grows_nothing None = refl
-grows_nothing (Some xs) = ap (λ (ys : List ℕ). Some ys) (sym (append_nil xs))
 
 mapped_twice : (a : Option (List ℕ)) (x y : List ℕ)
     → option_map (λ bs. bs ++ y) (option_map (λ bs. bs ++ x) a) ≡ option_map (λ bs. bs ++ (x ++ y)) a
@@ -20,9 +12,6 @@ mapped_twice (Some bs) x y = ap (λ (ys : List ℕ). Some ys) (append_assoc bs x
 
 pub grows_then : (a b c : Option (List ℕ)) (x y : List ℕ) → Grows a b x → Grows b c y → Grows a c (x ++ y)
 grows_then a b c x y p q = q ∙ ap (option_map (λ bs. bs ++ y)) p ∙ mapped_twice a x y
-
-pub printed_nothing : {a : Option (List ℕ)} {f : ℕ} → Printed a a f f []
-printed_nothing {a} {f} = record { same = refl; grows = grows_nothing a }
 
 pub printed_then : {a b c : Option (List ℕ)} {f g h : ℕ} {x y : List ℕ}
     → Printed a b f g x → Printed b c g h y → Printed a c f h (x ++ y)
@@ -78,7 +67,3 @@ pub more_more : {T E U F V G : Type 0} (d : Result T E) (r : Result U F) (s : Re
 more_more (Ok t) r s a b c f g h x y p q = prints_more r s a b c f g h x y p q
 more_more (Err e) (Ok u) s a b c f g h x y p q = absurd (cc (p.2))
 more_more (Err e) (Err u) s a b c f g h x y p q = (q.0 ∙ p.0, q.1 ∙ p.1, q.2)
-
-pub more_nothing : {T E : Type 0} (d : Result T E) (a : Option (List ℕ)) (f : ℕ) → PrintsMore d a a f f [] d
-more_nothing (Ok t) a f = printed_nothing
-more_nothing (Err e) a f = (refl, refl, refl)

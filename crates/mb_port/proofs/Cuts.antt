@@ -105,12 +105,6 @@ none_left at left h =
     let two = second (after at left) (left_after at left) one.0 one.1 in
     third (after (after at left) (left_after at left)) (left_after (after at left) (left_after at left)) two.0 two.1
 
--- what holds of any cut that leaves nothing
-rest_none : (n at : ℕ) → rest_of n at 0 ≡ 0
-unfolding rest_of left_after
-rest_none zero at = refl
-rest_none (suc n) at = let e : 0 - piece_len at 0 ≡ 0 = omega arith in ap (rest_of n (after at 0)) e ∙ rest_none n (after at 0)
-
 pub cut_greedy : (n at left : ℕ) → rest_of n at left ≡ 0 → IsGreedy at left (cut n at left)
 unfolding rest_of left_after after IsGreedy
 cut_greedy zero at left h = h

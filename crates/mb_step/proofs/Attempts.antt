@@ -10,7 +10,7 @@ use Rattle.mb_model.specs.declared.processor.Cpu.{Cpu}
 use Rattle.mb_model.specs.Status.{space_of}
 use Rattle.mb_meaning.specs.Ends.{End, closing}
 use Rattle.mb_meaning.specs.Rows.{perform_of}
-use Rattle.mb_meaning.specs.Attempt.{Found, fetched_of, attempted, attempt_of}
+use Rattle.mb_meaning.specs.Attempt.{Found, attempted, attempt_of}
 use Rattle.mb_meaning.specs.Raise.{refused_of}
 use Rattle.mb_meaning.specs.Step.{finish_of, supervised_of, unprivileged_of, executed_of, instruction_of}
 use Rattle.mb_step.specs.Attempts.{is_attempted, finished, AttemptThenFinish}

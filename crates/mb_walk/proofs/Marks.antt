@@ -46,9 +46,6 @@ modified_marks d u = elim (cases_eq (d / 2 ^ 4 % 2) 1) [
 pub bit_0 : (d m : ℕ) → unmarked m ≡ unmarked d → (m % 2 == 1) ≡ (d % 2 == 1)
 bit_0 d m e = ap (λ (n : ℕ). n == 1) (omega arith)
 
-pub bits_1_0 : (d m : ℕ) → unmarked m ≡ unmarked d → (m % 4 == 2) ≡ (d % 4 == 2)
-bits_1_0 d m e = ap (λ (n : ℕ). n == 2) (omega arith)
-
 pub bit_1 : (d m : ℕ) → unmarked m ≡ unmarked d → (m / 2 ^ 1 % 2 == 1) ≡ (d / 2 ^ 1 % 2 == 1)
 bit_1 d m e = ap (λ (n : ℕ). n == 1) (omega arith)
 

@@ -5,7 +5,6 @@ use Rattle.mb_instr.specs.declared.size.Size.{Size}
 use Rattle.mb_instr.specs.declared.size.Size.TheVariants.{Byte, Word, Long}
 use Rattle.mb_instr.specs.Sizes.{bytes_of, low_of}
 use Rattle.mb_ea.proofs.Single.{one_piece}
-use Rattle.mb_frames.specs.declared.pend.Pend.{Pend}
 use Rattle.mb_writes.specs.Writing.{part_of, parts_of, pending_of}
 
 -- the part of a number that is as long as the operand

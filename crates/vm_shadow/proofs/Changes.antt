@@ -44,9 +44,6 @@ crossed s r i j = λ e. cc
 pub crossed_back : (s r : Space) (i j : ℕ) → Pages s i ≢ Pointers r j
 crossed_back s r i j = λ e. cc
 
-index_same : (s r : Space) (i j : ℕ) → Pages s i ≡ Pages r j → i ≡ j
-index_same s r i j e = cc
-
 pointers_same : (s r : Space) (i j : ℕ) → Pointers s i ≡ Pointers r j → (s ≡ r) × (i ≡ j)
 pointers_same s r i j e = (cc, cc)
 

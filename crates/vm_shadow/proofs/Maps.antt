@@ -28,12 +28,6 @@ with_has a xs = elim (cases_lt (slot_of a xs) (length xs)) [
   | inr h ↦ subst (λ ys. Has ys a) (sym (with_new a xs h)) (has_new a xs h)
 ]
 
-pub with_length : (a : Table) (xs : List Table) → (length xs ≤ length (with_table a xs)) × (length (with_table a xs) ≤ length xs + 1)
-with_length a xs = elim (cases_lt (slot_of a xs) (length xs)) [
-  | inl h ↦ let e = ap length (with_old a xs h) in (omega arith, omega arith)
-  | inr h ↦ let e = ap length (with_new a xs h) in let l = pushed_length xs a in (omega arith, omega arith)
-]
-
 pub room_new : (a : Table) (xs : List Table) → length xs ≤ slot_of a xs → length (with_table a xs) ≤ 126 → length xs < 126
 room_new a xs h room = let e = ap length (with_new a xs h) in let l = pushed_length xs a in omega arith
 

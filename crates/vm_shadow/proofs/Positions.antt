@@ -1,8 +1,7 @@
 -- The slots of tables, and of those that come to stand.
-use Rattle.std.proofs.Common.{◌≡◌, ◌≢◌, ◌∙◌, ℕ, ◌+◌, ◌≤◌, ◌<◌, ◌==◌, nat_lt, Bool, true, false, cond, List, [], ◌∷◌, ◌++◌, length, get_or}
-use Rattle.std.proofs.Common.{refl, ap, sym, subst, arith, inl, inr, length-append}
+use Rattle.std.proofs.Common.{◌≡◌, ◌≢◌, ◌∙◌, ℕ, ◌+◌, ◌≤◌, ◌==◌, nat_lt, Bool, true, false, cond, List, [], ◌∷◌, ◌++◌, length, get_or}
+use Rattle.std.proofs.Common.{ap, sym, arith, inl, inr, length-append}
 use Rattle.std.specs.Prelude.{◌⊎◌, MatchOption, Option, Some, None}
-use Rattle.std.specs.List.{position}
 use Rattle.std.specs.Option.{is_some}
 use Rattle.std.proofs.lemmas.List.Sums.{passes_at_first}
 use Rattle.std.proofs.lemmas.List.Folds.{position_or_len_push}
@@ -115,17 +114,6 @@ link_other area a y xs n = elim (cases_lt (slot_of a xs) (length xs)) [
       let l = pushed_length xs y in
       link_no area a (xs ++ y ∷ []) (omega arith) ∙ sym (link_no area a xs h)
 ]
-
--- what a search through the slots says
-pub position_cases : (a : Table) (xs : List Table)
-    → MatchOption (position (same_table a) xs) (length xs ≤ slot_of a xs) (λ slot. (slot ≡ slot_of a xs) × (slot < length xs))
-position_cases a xs =
-    let P : Bool → Type 0 = λ b.
-    MatchOption (cond b (Some (slot_of a xs)) None) (length xs ≤ slot_of a xs) (λ slot. (slot ≡ slot_of a xs) × (slot < length xs)) in
-    elim (cases_lt (slot_of a xs) (length xs)) [
-      | inl h ↦ let b : nat_lt (slot_of a xs) (length xs) ≡ true = grind (arith, nat_tests) in subst P (sym b) (refl, h)
-      | inr h ↦ let b : nat_lt (slot_of a xs) (length xs) ≡ false = grind (arith, nat_tests) in subst P (sym b) h
-    ]
 
 -- no slot was found
 pub not_found : (P : Type 0) (Q : ℕ → Type 0) (r : Option ℕ) → MatchOption r P Q → false ≡ is_some r → P

@@ -1,4 +1,4 @@
-use Rattle.std.proofs.Common.{◌*◌, ◌+◌, ◌<◌, ◌≤◌, arith, length}
+use Rattle.std.proofs.Common.{arith}
 use Rattle.mb_words.proofs.WordLemmas.{is_long, is_short}
 use Rattle.mb_words.proofs.values.hex.Goals as goal
 
