@@ -8,15 +8,15 @@ use Rattle.mb_writes.specs.declared.ends.Ended.TheVariants as ended
 use Rattle.mb_meaning.specs.declared.entering.Cause.{Cause}
 use Rattle.mb_meaning.specs.declared.entering.Entered.{Entered}
 use Rattle.mb_meaning.specs.declared.entering.Entered.TheVariants as entered
-use Rattle.mb_meaning.specs.Entry.{stacking_of}
+use Rattle.mb_meaning.specs.Entry.{frames_of, settled}
 
 -- Where an entry was carried out, SR and the stacks are as its frames leave them, and PC alone is the handler's. Where
 -- a check was refused no register changed. Where the processor halts its registers are as the frames leave them, or
 -- where those of an access error have no place, as they were with the PC that was to be stacked.
 abbrev pub RegsAfter : Entered → Cause → Regs → Regs → Type 0
-RegsAfter entered.Done c old new = new ≡ record (stacking_of c old).regs { pc = new.pc }
+RegsAfter entered.Done c old new = new ≡ record (settled c (frames_of c old) old) { pc = new.pc }
 RegsAfter (entered.Faulted fault) c old new = new ≡ old
-RegsAfter entered.DoubleFault c old new = (new ≡ (stacking_of c old).regs) ⊎ (new ≡ record old { pc = c.pc })
+RegsAfter entered.DoubleFault c old new = (new ≡ settled c (frames_of c old) old) ⊎ (new ≡ record old { pc = c.pc })
 
 -- Where the vector was read PC alone is another, else nothing is.
 abbrev pub GoesOn : Entered → Cpu → Cpu → Type 0

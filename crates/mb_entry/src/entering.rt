@@ -2,11 +2,11 @@
 
 ghost use Rattle.std.specs.Prelude.{◌≡◌, ◌<◌, false};
 ghost use Rattle.mb_port.specs.Routine.{run};
-ghost use Rattle.mb_meaning.specs.Entry.{stacking_of, check_frames, vectored, unstacked, enter_of};
+ghost use Rattle.mb_meaning.specs.Entry.{frames_of, check_frames, vectored, unstacked, enter_of};
 ghost use Rattle.mb_entry.specs.Clauses.{RegsAfter, GoesOn, IfFaulted};
 
 use crate::places::{check_frames, put_frames};
-use crate::stacking::{offset, stacking_for};
+use crate::stacking::{frames_for, offset, settle};
 use mb_ea::read_value;
 use mb_instr::Size;
 use mb_meaning::{Cause, Entered};
@@ -45,6 +45,9 @@ fn go_to_handler<P: Port>(cause: &Cause, cpu: &mut Cpu, port: &mut P) -> Entered
 }
 
 /// Enters an exception: every piece of every frame is checked before any is written, and the vector is read last.
+///
+/// The registers are changed in place, once the frames are written, so where a check is refused they need not be put
+/// back.
 #[tactic(auto, unfolding(mb_meaning::specs::Entry::enter_of))]
 pub fn enter<P: Port>(cpu: &mut Cpu, port: &mut P, cause: &Cause) -> Entered
     requires { cause.now.level < 8 }
@@ -55,16 +58,16 @@ pub fn enter<P: Port>(cpu: &mut Cpu, port: &mut P, cause: &Cause) -> Entered
 
     // Where a check was refused nothing was written: the checks alone were made.
     ensures unwritten { IfFaulted result (λ fault.
-        run P.bus (check_frames (stacking_of cause.now cpu.old.regs)) (P.world port.old)
+        run P.bus (check_frames (frames_of cause.now cpu.old.regs)) (P.world port.old)
         ≡ (Err fault, P.world port.new)) }
     ensures rest { P.rest port.new ≡ P.rest port.old }
 {
-    let stacking = stacking_for(cause, &cpu.regs);
+    let frames = frames_for(cause, &cpu.regs);
     cpu.stopped = false;
-    match check_frames(&stacking, port) {
+    match check_frames(&frames, port) {
         Ok(places) => {
-            put_frames(&stacking, &places, port);
-            cpu.regs = stacking.regs;
+            put_frames(&frames, &places, port);
+            settle(cause, &frames, &mut cpu.regs);
             go_to_handler(cause, cpu, port)
         }
         Err(fault) => unstacked(fault, cause, cpu),

@@ -218,8 +218,8 @@ pub fn line_fields(fault: &Fault, line: [u32; 4], page: u32) -> Access
     access
 }
 
-/// Whether a MOVEM of these words loads.
-fn is_load(words: u32) -> bool
+/// Whether a MOVEM of these operation and mask words loads.
+pub fn is_load(words: u32) -> bool
     ensures { result ≡ is_load words }
 {
     words >> 26 & 1 == 1

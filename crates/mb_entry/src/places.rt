@@ -5,12 +5,12 @@ ghost use Rattle.mb_port.specs.Routine.{run};
 ghost use Rattle.mb_port.specs.Pieces.{cut};
 ghost use Rattle.mb_meaning.specs.Locked.{probe_pieces};
 ghost use Rattle.mb_meaning.specs.Entry.{probe_frame, probe_second, put_bytes, put_second, check_frames, put_frames};
-ghost use Rattle.mb_entry.specs.Stacks.{seen, seen_second, stacking_seen};
+ghost use Rattle.mb_entry.specs.Stacks.{seen, seen_second, frames_seen};
 ghost use Rattle.byteorder.specs.Endian.{big_number};
 ghost use Rattle.mb_entry.specs.Places.{bytes_at, probed, located, places_seen, placed};
 ghost use Rattle.mb_entry.specs.Places.{IsLength, IsOpen, AreOpen, Covers};
 
-use crate::stacking::{Stacked, Stacking};
+use crate::stacking::{Frames, Stacked};
 use arrayvec::ArrayVec;
 use byteorder::{BigEndian, ByteOrder};
 use mb_port::{Fault, Place, Port, Space, first_piece};
@@ -87,17 +87,17 @@ fn probe_second<P: Port>(
 
 /// Checks every piece of every frame for writing.
 #[tactic(auto, unfolding(mb_meaning::specs::Entry::check_frames))]
-pub(crate) fn check_frames<P: Port>(stacking: &Stacking, port: &mut P) -> Result<Places, Fault>
-    ensures means { run P.bus (check_frames (stacking_seen stacking.now)) (P.world port.old)
+pub(crate) fn check_frames<P: Port>(frames: &Frames, port: &mut P) -> Result<Places, Fault>
+    ensures means { run P.bus (check_frames (frames_seen frames.now)) (P.world port.old)
         ≡ (placed result, P.world port.new) }
     ensures first { IfOk result (λ places.
-        AreOpen (P.exists (P.rest port.new)) stacking.now.first.bytes.items places.first.items) }
+        AreOpen (P.exists (P.rest port.new)) frames.now.first.bytes.items places.first.items) }
     ensures second { IfOk result (λ places.
-        Covers (P.exists (P.rest port.new)) stacking.now.second places.second.items) }
+        Covers (P.exists (P.rest port.new)) frames.now.second places.second.items) }
     ensures rest { P.rest port.new ≡ P.rest port.old }
 {
-    let first = probe_frame(&stacking.first, port)?;
-    let second = probe_second(&stacking.second, port)?;
+    let first = probe_frame(&frames.first, port)?;
+    let second = probe_second(&frames.second, port)?;
     Ok(Places { first, second })
 }
 
@@ -141,17 +141,13 @@ fn put_second<P: Port>(second: &Option<Stacked>, places: &[Place], port: &mut P)
 
 /// Writes the frames at their places.
 #[tactic(auto, unfolding(mb_meaning::specs::Entry::put_frames))]
-pub(crate) fn put_frames<P: Port>(stacking: &Stacking, places: &Places, port: &mut P)
-    requires first { AreOpen (P.exists (P.rest port.old)) stacking.now.first.bytes.items places.now.first.items }
-    requires second { Covers (P.exists (P.rest port.old)) stacking.now.second places.now.second.items }
-    ensures means { run P.bus (put_frames (stacking_seen stacking.now) (places_seen places.now)) (P.world port.old)
+pub(crate) fn put_frames<P: Port>(frames: &Frames, places: &Places, port: &mut P)
+    requires first { AreOpen (P.exists (P.rest port.old)) frames.now.first.bytes.items places.now.first.items }
+    requires second { Covers (P.exists (P.rest port.old)) frames.now.second places.now.second.items }
+    ensures means { run P.bus (put_frames (frames_seen frames.now) (places_seen places.now)) (P.world port.old)
         ≡ (result, P.world port.new) }
     ensures rest { P.rest port.new ≡ P.rest port.old }
 {
-    put_bytes(
-        places.first.as_slice(),
-        stacking.first.bytes.as_slice(),
-        port,
-    );
-    put_second(&stacking.second, places.second.as_slice(), port);
+    put_bytes(places.first.as_slice(), frames.first.bytes.as_slice(), port);
+    put_second(&frames.second, places.second.as_slice(), port);
 }

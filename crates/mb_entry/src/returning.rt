@@ -46,12 +46,11 @@ pub fn return_held<P: Port>(cpu: &mut Cpu, port: &mut P, held: &mut Access, at: 
     ensures ends { ReturnEnds result cpu.old cpu.new }
     ensures rest { P.rest port.new ≡ P.rest port.old }
 {
-    let taken = match take(&cpu.regs, port) {
+    let taken = match take(&mut cpu.regs, port) {
         Ok(taken) => taken,
         Err(ended) => return ended,
     };
-    cpu.regs = taken.regs;
-    let Some(access) = taken.access else {
+    let Some(access) = taken else {
         return Ended::Done { flow: true };
     };
     *held = access;

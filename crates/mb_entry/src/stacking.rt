@@ -1,9 +1,10 @@
-//! What is stacked for a cause, and where.
+//! What is stacked for a cause, and where; and the registers once it is written.
 
 ghost use Rattle.std.specs.Prelude.{◌≡◌, ◌*◌, ◌<◌};
 ghost use Rattle.mb_frames.specs.Layout.{offset_of};
-ghost use Rattle.mb_meaning.specs.Entry.{frame_of, throwaway_of, stacked, stacking_one, stacking_two, stacking_of};
-ghost use Rattle.mb_entry.specs.Stacks.{seen, stacking_seen};
+ghost use Rattle.mb_meaning.specs.Entry.{frame_of, throwaway_of, stacked, handler_stack, with_handler_stack};
+ghost use Rattle.mb_meaning.specs.Entry.{frames_of, settled};
+ghost use Rattle.mb_entry.specs.Stacks.{seen, frames_seen};
 
 use crate::status::{handler_status, thrown_status, without_master};
 use arrayvec::ArrayVec;
@@ -29,16 +30,14 @@ pub(crate) struct Stacked {
     pub(crate) bytes: ArrayVec<u8, 60>,
 }
 
-/// The frames of an exception, and the registers once they are written. An interrupt can have a second one.
+/// The frames of an exception. An interrupt can have a second one.
 #[derive(Drop)]
-pub(crate) struct Stacking {
+pub(crate) struct Frames {
     pub(crate) first: Stacked,
     pub(crate) second: Option<Stacked>,
-    pub(crate) regs: Regs,
 }
 
 /// The offset of a vector in the table.
-#[inline(always)]
 pub(crate) fn offset(vector: u8) -> u16
     ensures value { result ≡ 4 * vector }
     ensures range { result < 0x1000 }
@@ -82,64 +81,62 @@ fn throwaway(sr: u16, cause: &Cause) -> Frame
     }
 }
 
-/// A frame below the active stack's top.
+/// A frame below the top of a stack.
 #[tactic(auto, unfolding(mb_meaning::specs::Entry::stacked))]
-fn stack(frame: &Frame, regs: &Regs) -> Stacked
+fn stack(frame: &Frame, top: u32) -> Stacked
     requires { offset_of frame.now < 0x1000 }
-    ensures { seen result ≡ stacked frame.now regs.now }
+    ensures { seen result ≡ stacked frame.now top }
 {
     let bytes = to_bytes(frame);
     Stacked {
-        at: regs.active_stack().wrapping_sub(bytes.len() as u32),
+        at: top.wrapping_sub(bytes.len() as u32),
         bytes,
     }
 }
 
-/// One frame on the active stack. The registers are the handler's already.
-#[tactic(auto, unfolding(mb_meaning::specs::Entry::stacking_one))]
-fn stacking_one(sr: u16, cause: &Cause, handler: &Regs) -> Stacking
-    ensures { stacking_seen result ≡ stacking_one sr cause.now handler.now }
+/// The stack of a handler.
+fn handler_stack(regs: &Regs) -> u32
+    ensures { result ≡ handler_stack regs.now }
 {
-    let first = stack(&frame(sr, cause), handler);
-    let mut regs = *handler;
-    regs.set_active_stack(first.at);
-    Stacking {
-        first,
-        second: None,
-        regs,
-    }
+    if regs.is_master() { regs.msp } else { regs.isp }
 }
 
-/// An interrupt's frame on the master stack, and a throwaway frame on the interrupt stack.
-#[tactic(auto, unfolding(mb_meaning::specs::Entry::stacking_two))]
-fn stacking_two(sr: u16, cause: &Cause, handler: &Regs) -> Stacking
-    ensures { stacking_seen result ≡ stacking_two sr cause.now handler.now }
+/// Makes this the stack of a handler.
+fn set_handler_stack(regs: &mut Regs, top: u32)
+    ensures { regs.new ≡ with_handler_stack regs.old top }
 {
-    let first = stack(&frame(sr, cause), handler);
-    let mut regs = *handler;
-    regs.set_active_stack(first.at);
-    regs.sr = without_master(regs.sr);
-    let second = stack(&throwaway(sr, cause), &regs);
-    regs.set_active_stack(second.at);
-    Stacking {
-        first,
-        second: Some(second),
-        regs,
-    }
-}
-
-/// What is stacked for a cause. PC is the one that is stacked.
-#[tactic(auto, unfolding(mb_meaning::specs::Entry::stacking_of))]
-pub(crate) fn stacking_for(cause: &Cause, regs: &Regs) -> Stacking
-    requires { cause.now.level < 8 }
-    ensures { stacking_seen result ≡ stacking_of cause.now regs.now }
-{
-    let mut handler = *regs;
-    handler.sr = handler_status(cause, regs.sr);
-    handler.pc = cause.pc;
-    if cause.level > 0 && regs.is_master() {
-        stacking_two(regs.sr, cause, &handler)
+    if regs.is_master() {
+        regs.msp = top;
     } else {
-        stacking_one(regs.sr, cause, &handler)
+        regs.isp = top;
+    }
+}
+
+/// The frames of a cause. PC is the one that is stacked.
+#[tactic(auto, unfolding(mb_meaning::specs::Entry::frames_of))]
+pub(crate) fn frames_for(cause: &Cause, regs: &Regs) -> Frames
+    ensures { frames_seen result ≡ frames_of cause.now regs.now }
+{
+    let first = stack(&frame(regs.sr, cause), handler_stack(regs));
+    let second = if cause.level > 0 && regs.is_master() {
+        Some(stack(&throwaway(regs.sr, cause), regs.isp))
+    } else {
+        None
+    };
+    Frames { first, second }
+}
+
+/// Makes the registers those of the handler, once the frames are written. PC is still the one that was stacked.
+#[tactic(auto, unfolding(mb_meaning::specs::Entry::settled))]
+pub(crate) fn settle(cause: &Cause, frames: &Frames, regs: &mut Regs)
+    requires { cause.now.level < 8 }
+    ensures { regs.new ≡ settled cause.now (frames_seen frames.now) regs.old }
+{
+    set_handler_stack(regs, frames.first.at);
+    regs.sr = handler_status(cause, regs.sr);
+    regs.pc = cause.pc;
+    if let Some(second) = &frames.second {
+        regs.sr = without_master(regs.sr);
+        regs.isp = second.at;
     }
 }

@@ -12,7 +12,6 @@ const SUPERVISOR: u16 = 1 << 13;
 const MASTER: u16 = 1 << 12;
 
 /// With S set, T1 and T0 cleared.
-#[inline(always)]
 fn supervised(sr: u16) -> u16
     ensures { result ≡ supervised sr }
 {
@@ -20,7 +19,6 @@ fn supervised(sr: u16) -> u16
 }
 
 /// With M cleared.
-#[inline(always)]
 pub(crate) fn without_master(sr: u16) -> u16
     ensures { result ≡ without_master sr }
 {
@@ -28,7 +26,6 @@ pub(crate) fn without_master(sr: u16) -> u16
 }
 
 /// With the level as the interrupt mask.
-#[inline(always)]
 fn with_mask(level: u8, sr: u16) -> u16
     requires { level < 8 }
     ensures { result ≡ with_mask level sr }
@@ -37,7 +34,6 @@ fn with_mask(level: u8, sr: u16) -> u16
 }
 
 /// What the handler begins with, but for M.
-#[inline(always)]
 pub(crate) fn handler_status(cause: &Cause, sr: u16) -> u16
     requires { cause.now.level < 8 }
     ensures { result ≡ handler_sr cause.now sr }
@@ -50,7 +46,6 @@ pub(crate) fn handler_status(cause: &Cause, sr: u16) -> u16
 }
 
 /// The saved status register in a throwaway frame.
-#[inline(always)]
 pub(crate) fn thrown_status(sr: u16) -> u16
     ensures { result ≡ thrown_sr sr }
 {

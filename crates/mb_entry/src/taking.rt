@@ -1,10 +1,10 @@
-//! The frames that a return takes from the stacks.
+//! The frames that a return takes from the stacks. The registers are changed in place.
 
 ghost use Rattle.std.specs.Prelude.{◌≡◌, [], length, IfOk, IfErr};
 ghost use Rattle.mb_port.specs.Routine.{run};
 ghost use Rattle.mb_meaning.specs.Return.{head_of, longs_of, access_of_longs, continues, is_movem_word, can_continue};
 ghost use Rattle.mb_meaning.specs.Return.{high, low, dropped, restored, access_taken, frame_taken};
-ghost use Rattle.mb_meaning.specs.Return.{throwaway_taken, taken_of};
+ghost use Rattle.mb_meaning.specs.Return.{second_taken, throwaway_taken, taken_of};
 ghost use Rattle.mb_entry.specs.Takes.{head_seen, headed, longs_read, took, CanGoOn};
 ghost use Rattle.mb_entry.specs.Clauses.{NotTaken};
 
@@ -37,13 +37,6 @@ struct Head {
     sr: u16,
     pc: u32,
     format: u8,
-}
-
-/// What was taken from the stacks: the registers then, and the fields of an access error.
-#[derive(Clone, Copy)]
-pub(crate) struct Taken {
-    pub(crate) regs: Regs,
-    pub(crate) access: Option<Access>,
 }
 
 /// Reads what a frame begins with.
@@ -81,7 +74,6 @@ fn read_longs<P: Port>(at: u32, port: &mut P) -> Result<ArrayVec<u32, LONGS>, Re
 }
 
 /// The upper half of a long.
-#[inline(always)]
 fn high(long: u32) -> u16
     ensures { result ≡ high long }
 {
@@ -89,7 +81,6 @@ fn high(long: u32) -> u16
 }
 
 /// The lower half of a long.
-#[inline(always)]
 fn low(long: u32) -> u16
     ensures { result ≡ low long }
 {
@@ -121,9 +112,9 @@ fn access_from(longs: &[u32]) -> Access
     }
 }
 
-/// Whether the access error came from a transfer of a MOVEM.
-#[inline(always)]
-pub(crate) fn continues(access: &Access) -> bool
+/// CM, bit 12 of the special status word: whether the access error came from a transfer of a MOVEM, with which RTE
+/// goes on.
+pub fn continues(access: &Access) -> bool
     ensures { result ≡ continues access.now }
 {
     access.ssw >> 12 & 1 == 1
@@ -150,31 +141,29 @@ fn can_continue(access: &Access) -> bool
 }
 
 /// Drops bytes from the active stack.
-#[inline(always)]
 fn drop_bytes(regs: &mut Regs, bytes: u32)
     ensures { regs.new ≡ dropped bytes regs.old }
 {
     regs.set_active_stack(regs.active_stack().wrapping_add(bytes));
 }
 
-/// The registers after a frame of so many bytes.
-fn restored(bytes: u32, head: &Head, regs: &Regs) -> Regs
-    ensures { result ≡ restored bytes (head_seen head.now) regs.now }
+/// Takes a frame of so many bytes from the active stack, with its SR and PC.
+fn restore(bytes: u32, head: &Head, regs: &mut Regs)
+    ensures { regs.new ≡ restored bytes (head_seen head.now) regs.old }
 {
-    let mut regs = *regs;
-    drop_bytes(&mut regs, bytes);
+    drop_bytes(regs, bytes);
     regs.sr = head.sr;
     regs.pc = head.pc;
-    regs
 }
 
 /// Takes the frame of an access error, all of which is read before it is judged.
 #[tactic(auto, unfolding(mb_meaning::specs::Return::access_taken))]
-fn take_access<P: Port>(head: &Head, regs: &Regs, port: &mut P) -> Result<Taken, Ended>
-    ensures means { run P.bus (access_taken (head_seen head.now) regs.now) (P.world port.old)
-        ≡ (took result, P.world port.new) }
+fn take_access<P: Port>(head: &Head, regs: &mut Regs, port: &mut P) -> Result<Option<Access>, Ended>
+    ensures means { run P.bus (access_taken (head_seen head.now) regs.old) (P.world port.old)
+        ≡ (took result regs.new, P.world port.new) }
     ensures lawful { IfOk result CanGoOn }
     ensures refused { IfErr result NotTaken }
+    ensures kept { IfErr result (λ ended. regs.new ≡ regs.old) }
     ensures rest { P.rest port.new ≡ P.rest port.old }
 {
     let behind = regs.active_stack().wrapping_add(8);
@@ -186,62 +175,88 @@ fn take_access<P: Port>(head: &Head, regs: &Regs, port: &mut P) -> Result<Taken,
     if continues(&access) && !can_continue(&access) {
         return Err(Ended::Refused(FORMAT_ERROR));
     }
-    Ok(Taken {
-        regs: restored(60, head, regs),
-        access: Some(access),
-    })
+    restore(60, head, regs);
+    Ok(Some(access))
 }
 
-/// Takes the frame that is returned by.
+/// Takes the frame that is returned by. The fields are those of an access error, where it is one's.
 #[tactic(auto, unfolding(mb_meaning::specs::Return::frame_taken))]
-fn take_frame<P: Port>(head: &Head, regs: &Regs, port: &mut P) -> Result<Taken, Ended>
-    ensures means { run P.bus (frame_taken (head_seen head.now) regs.now) (P.world port.old)
-        ≡ (took result, P.world port.new) }
+fn take_frame<P: Port>(head: &Head, regs: &mut Regs, port: &mut P) -> Result<Option<Access>, Ended>
+    ensures means { run P.bus (frame_taken (head_seen head.now) regs.old) (P.world port.old)
+        ≡ (took result regs.new, P.world port.new) }
     ensures lawful { IfOk result CanGoOn }
     ensures refused { IfErr result NotTaken }
+    ensures kept { IfErr result (λ ended. regs.new ≡ regs.old) }
     ensures rest { P.rest port.new ≡ P.rest port.old }
 {
     match head.format {
-        SHORT => Ok(Taken {
-            regs: restored(8, head, regs),
-            access: None,
-        }),
-        ADDRESS => Ok(Taken {
-            regs: restored(12, head, regs),
-            access: None,
-        }),
+        SHORT => {
+            restore(8, head, regs);
+            Ok(None)
+        }
+        ADDRESS => {
+            restore(12, head, regs);
+            Ok(None)
+        }
         ACCESS => take_access(head, regs, port),
         _ => Err(Ended::Refused(FORMAT_ERROR)),
     }
 }
 
-/// Takes a throwaway frame, and the one on the stack that it leads to.
-#[tactic(auto, unfolding(mb_meaning::specs::Return::throwaway_taken))]
-fn take_throwaway<P: Port>(head: &Head, regs: &Regs, port: &mut P) -> Result<Taken, Ended>
-    ensures means { run P.bus (throwaway_taken (head_seen head.now) regs.now) (P.world port.old)
-        ≡ (took result, P.world port.new) }
+/// Takes the frame on the active stack, below a throwaway frame.
+#[tactic(auto, unfolding(mb_meaning::specs::Return::second_taken))]
+fn take_second<P: Port>(regs: &mut Regs, port: &mut P) -> Result<Option<Access>, Ended>
+    ensures means { run P.bus (second_taken regs.old) (P.world port.old)
+        ≡ (took result regs.new, P.world port.new) }
     ensures lawful { IfOk result CanGoOn }
     ensures refused { IfErr result NotTaken }
+    ensures kept { IfErr result (λ ended. regs.new ≡ regs.old) }
     ensures rest { P.rest port.new ≡ P.rest port.old }
 {
-    let mut below = *regs;
-    drop_bytes(&mut below, 8);
-    below.sr = head.sr;
-    if !below.is_supervisor() {
-        return Err(Ended::Refused(FORMAT_ERROR));
-    }
-    match read_head(below.active_stack(), port) {
-        Ok(second) => take_frame(&second, &below, port),
+    match read_head(regs.active_stack(), port) {
+        Ok(head) => take_frame(&head, regs, port),
         Err(refused) => Err(Ended::ReadFault(refused)),
     }
 }
 
-/// Takes the frame on the active stack, and below a throwaway frame another one.
-#[tactic(auto, unfolding(mb_meaning::specs::Return::taken_of))]
-pub(crate) fn take<P: Port>(regs: &Regs, port: &mut P) -> Result<Taken, Ended>
-    ensures means { run P.bus (taken_of regs.now) (P.world port.old) ≡ (took result, P.world port.new) }
+/// Takes a throwaway frame, and the one on the stack that it leads to. Where that is not taken, the throwaway frame and
+/// SR come back.
+#[tactic(auto, unfolding(mb_meaning::specs::Return::throwaway_taken))]
+fn take_throwaway<P: Port>(
+    head: &Head,
+    regs: &mut Regs,
+    port: &mut P,
+) -> Result<Option<Access>, Ended>
+    ensures means { run P.bus (throwaway_taken (head_seen head.now) regs.old) (P.world port.old)
+        ≡ (took result regs.new, P.world port.new) }
     ensures lawful { IfOk result CanGoOn }
     ensures refused { IfErr result NotTaken }
+    ensures kept { IfErr result (λ ended. regs.new ≡ regs.old) }
+    ensures rest { P.rest port.new ≡ P.rest port.old }
+{
+    let (top, sr) = (regs.active_stack(), regs.sr);
+    drop_bytes(regs, 8);
+    regs.sr = head.sr;
+    let taken = if regs.is_supervisor() {
+        take_second(regs, port)
+    } else {
+        Err(Ended::Refused(FORMAT_ERROR))
+    };
+    if taken.is_err() {
+        regs.sr = sr;
+        regs.set_active_stack(top);
+    }
+    taken
+}
+
+/// Takes the frame on the active stack, and below a throwaway frame another one. The registers are then as they were
+/// saved; where no frame is taken, as before. The fields are those of an access error, where the frame is one's.
+#[tactic(auto, unfolding(mb_meaning::specs::Return::taken_of))]
+pub(crate) fn take<P: Port>(regs: &mut Regs, port: &mut P) -> Result<Option<Access>, Ended>
+    ensures means { run P.bus (taken_of regs.old) (P.world port.old) ≡ (took result regs.new, P.world port.new) }
+    ensures lawful { IfOk result CanGoOn }
+    ensures refused { IfErr result NotTaken }
+    ensures kept { IfErr result (λ ended. regs.new ≡ regs.old) }
     ensures rest { P.rest port.new ≡ P.rest port.old }
 {
     let head = match read_head(regs.active_stack(), port) {

@@ -1,7 +1,7 @@
 -- The entry of an exception.
-use Rattle.std.specs.Prelude.{ℕ, ◌+◌, ◌*◌, ◌/◌, ◌%◌, ◌^◌, ◌≡◌, ◌↔◌, ◌==◌, ◌||◌, ◌&&◌, nat_lt, bit_or}
-use Rattle.std.specs.Prelude.{Bool, false, if◌then◌else◌, List, [], ◌∷◌, length, drop, Option, Some, None, IsSome}
-use Rattle.std.specs.Prelude.{IsTrue, Result, Ok}
+use Rattle.std.specs.Prelude.{ℕ, ◌+◌, ◌*◌, ◌/◌, ◌%◌, ◌^◌, ◌==◌, ◌||◌, ◌&&◌, nat_lt, bit_or}
+use Rattle.std.specs.Prelude.{Bool, false, if◌then◌else◌, List, [], ◌∷◌, length, drop, Option, Some, None}
+use Rattle.std.specs.Prelude.{Result, Ok}
 use Rattle.byteorder.specs.Endian.{big_number}
 use Rattle.mb_port.specs.Routine.{Routine, Return, Then, ◌>>=◌, caught, put}
 use Rattle.mb_port.specs.Pieces.{cut}
@@ -9,7 +9,7 @@ use Rattle.mb_port.specs.declared.types.Space.TheVariants.{Super}
 use Rattle.mb_port.specs.declared.types.Place.{Place}
 use Rattle.mb_port.specs.declared.types.Fault.{Fault}
 use Rattle.mb_instr.specs.declared.registers.Regs.{Regs}
-use Rattle.mb_instr.specs.Registers.{is_master, active_stack, with_stack}
+use Rattle.mb_instr.specs.Registers.{is_master}
 use Rattle.mb_frames.specs.declared.frame.Access.{Access}
 use Rattle.mb_frames.specs.declared.frame.Frame.{Frame}
 use Rattle.mb_frames.specs.declared.frame.Frame.TheVariants as frame
@@ -75,36 +75,39 @@ pub record Stacked : Type 0 where
   pub at : ℕ
   pub bytes : List ℕ
 
--- a frame below the active stack's top
-unfoldable pub stacked : Frame → Regs → Stacked
-stacked f r = record { at = difference (active_stack r) (length (frame_bytes f)); bytes = frame_bytes f }
+-- a frame below the top of a stack
+unfoldable pub stacked : Frame → ℕ → Stacked
+stacked f top = record { at = difference top (length (frame_bytes f)); bytes = frame_bytes f }
 
--- The frames of an exception, and the registers once they are written. An interrupt can have a second one.
-pub record Stacking : Type 0 where
+-- the stack of a handler, which has S set: MSP where M is set, else ISP
+abbrev pub handler_stack : Regs → ℕ
+handler_stack r = if is_master r.sr then r.msp else r.isp
+
+abbrev pub with_handler_stack : Regs → ℕ → Regs
+with_handler_stack r top = if is_master r.sr then record r { msp = top } else record r { isp = top }
+
+-- the frames of an exception; an interrupt can have a second one
+pub record Frames : Type 0 where
   pub first : Stacked
   pub second : Option Stacked
-  pub regs : Regs
 
--- One frame on the active stack. The registers are the handler's already.
-unfoldable pub stacking_one : ℕ → Cause → Regs → Stacking
-stacking_one sr c r =
-    let first = stacked (frame_of sr c) r in
-    record { first = first; second = None; regs = with_stack r first.at }
+-- The frame of a cause is on the handler's stack. An interrupt with M set has a throwaway frame on the interrupt stack
+-- too.
+unfoldable pub frames_of : Cause → Regs → Frames
+frames_of c r = record {
+  first = stacked (frame_of r.sr c) (handler_stack r);
+  second = if is_interrupt c && is_master r.sr then Some (stacked (throwaway_of r.sr c) r.isp) else None;
+}
 
--- An interrupt with M set: a frame on the master stack, then M is cleared, and a throwaway frame goes to the interrupt
--- stack.
-unfoldable pub stacking_two : ℕ → Cause → Regs → Stacking
-stacking_two sr c r =
-    let first = stacked (frame_of sr c) r in
-    let cleared = record (with_stack r first.at) { sr = without_master r.sr } in
-    let second = stacked (throwaway_of sr c) cleared in
-    record { first = first; second = Some second; regs = with_stack cleared second.at }
+-- where there is a second frame, M is cleared, and the interrupt stack has it
+abbrev pub with_second : Option Stacked → Regs → Regs
+with_second None r = r
+with_second (Some s) r = record r { sr = without_master r.sr; isp = s.at }
 
--- what is stacked for a cause; PC is the one that is stacked until the vector is read
-unfoldable pub stacking_of : Cause → Regs → Stacking
-stacking_of c r =
-    let handler = record r { sr = handler_sr c r.sr; pc = c.pc } in
-    if is_interrupt c && is_master r.sr then stacking_two r.sr c handler else stacking_one r.sr c handler
+-- The registers once the frames are written: SR is the handler's, each stack that took a frame is lowered, and PC is
+-- the one that was stacked until the vector is read.
+unfoldable pub settled : Cause → Frames → Regs → Regs
+settled c f r = with_second f.second (record (with_handler_stack r f.first.at) { sr = handler_sr c r.sr; pc = c.pc })
 
 -- ---- checking and writing
 
@@ -132,15 +135,15 @@ pub record Places : Type 0 where
   pub second : List Place
 
 -- every piece of every frame is checked before any is written
-unfoldable pub check_frames : Stacking → Routine (Result Places Fault)
-check_frames s = do
-  first ← probe_frame s.first
-  second ← probe_second s.second
+unfoldable pub check_frames : Frames → Routine (Result Places Fault)
+check_frames f = do
+  first ← probe_frame f.first
+  second ← probe_second f.second
   Return (Ok (record { first = first; second = second }))
 
 -- the frames go to the checked places
-unfoldable pub put_frames : Stacking → Places → Routine (Unit {0})
-put_frames s places = Then (put_bytes places.first s.first.bytes) (λ done. put_second s.second places.second)
+unfoldable pub put_frames : Frames → Places → Routine (Unit {0})
+put_frames f places = Then (put_bytes places.first f.first.bytes) (λ done. put_second f.second places.second)
 
 -- ---- the entry
 
@@ -168,8 +171,8 @@ awake cpu = record cpu { stopped = false }
 -- The entry of an exception: SR is saved, the frames are checked, then written, and then the vector is read.
 unfoldable pub enter_of : Cause → Cpu → Routine Entrance
 enter_of c cpu =
-    let stacking = stacking_of c cpu.regs in
-    caught (check_frames stacking)
+    let frames = frames_of c cpu.regs in
+    caught (check_frames frames)
     (λ fault. Return (unstacked c.access fault c (awake cpu)))
-    (λ places. Then (put_frames stacking places)
-    (λ done. vectored c (record (awake cpu) { regs = stacking.regs })))
+    (λ places. Then (put_frames frames places)
+    (λ done. vectored c (record (awake cpu) { regs = settled c frames cpu.regs })))

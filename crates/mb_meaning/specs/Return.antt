@@ -129,12 +129,17 @@ frame_taken head r =
     (Return (if head.format == 0 then plainly (restored 8 head r) else
     if head.format == 2 then plainly (restored 12 head r) else Err format_error))
 
+-- the frame on the active stack below a throwaway frame
+unfoldable pub second_taken : Regs → Routine (Result Taken Ended)
+second_taken r = do
+  head ← read_or_end (head_of (active_stack r))
+  frame_taken head r
+
 -- $1: its SR, in which S has to be set, says which stack the frame is on that is returned by
 unfoldable pub throwaway_taken : Head → Regs → Routine (Result Taken Ended)
 throwaway_taken head r =
-    let below = record (dropped 8 r) { sr = head.sr } in
     choose (is_supervisor head.sr)
-    (read_or_end (head_of (active_stack below)) >>= λ second. frame_taken second below)
+    (second_taken (record (dropped 8 r) { sr = head.sr }))
     (Return (Err format_error))
 
 -- the frame on the active stack, and below a throwaway frame another one

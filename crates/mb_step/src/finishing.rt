@@ -3,7 +3,6 @@
 ghost use Rattle.std.specs.Prelude.{◌≡◌, ◌≢◌};
 ghost use Rattle.mb_port.specs.Routine.{run};
 ghost use Rattle.mb_instr.specs.Codes.{IsInstr};
-ghost use Rattle.mb_frames.specs.AccessFields.{is_load};
 ghost use Rattle.mb_meaning.specs.SystemEnds.{with_registers};
 ghost use Rattle.mb_meaning.specs.Step.{unread_of, unfinished_of, unwritten_of, line_unwritten_of, movem_words};
 ghost use Rattle.mb_meaning.specs.Step.{untransferred_of, is_flow, finish_of};
@@ -11,7 +10,7 @@ ghost use Rattle.mb_meaning.specs.Step.{untransferred_of, is_flow, finish_of};
 use crate::raising::{access_error, is_due, refuse, trace_if, traces_all, trap, with_ct};
 use mb_ea::ReadFault;
 use mb_encode::encode;
-use mb_entry::{line_fields, movem_fields, read_fields, write_fields};
+use mb_entry::{is_load, line_fields, movem_fields, read_fields, write_fields};
 use mb_instr::{Instr, Plain};
 use mb_meaning::StepEnd;
 use mb_model::Cpu;
@@ -108,13 +107,6 @@ fn movem_words(instruction: &Instr) -> u32
         },
         Err(_) => 0,
     }
-}
-
-/// Whether a MOVEM of these words loads.
-fn is_load(words: u32) -> bool
-    ensures { result ≡ is_load words }
-{
-    words >> 26 & 1 == 1
 }
 
 /// After a refused transfer of a MOVEM. What was loaded stays.

@@ -3,7 +3,8 @@
 //!
 //! Each function here does what its routine of `mb_meaning` does, whatever the bus. An instruction is carried out where
 //! it was decoded, on a copy of the registers, the only one that a step makes: it becomes the processor's registers
-//! where the instruction is done, and until then those before it are the processor's own.
+//! where the instruction is done, and until then those before it are the processor's own. Exceptions are entered, and
+//! returned from, in the processor's own registers.
 #![tactic(auto)]
 
 mod executing;

@@ -1,6 +1,6 @@
 //! Exceptions in a step: how each is entered, and what follows where its frame has no place.
 
-ghost use Rattle.std.specs.Prelude.{◌≡◌, ◌≢◌, ◌<◌, length};
+ghost use Rattle.std.specs.Prelude.{◌≡◌, ◌≢◌, ◌<◌};
 ghost use Rattle.mb_port.specs.Routine.{run};
 ghost use Rattle.mb_instr.specs.Registers.{with_plain};
 ghost use Rattle.mb_meaning.specs.SystemEnds.{with_registers};
@@ -14,6 +14,7 @@ use mb_instr::{Plain, Regs};
 use mb_meaning::StepEnd;
 use mb_model::Cpu;
 use mb_port::{Fault, Port};
+use std::mem::{replace, swap};
 
 /// The vector of an access error.
 const ACCESS_ERROR: u8 = 2;
@@ -181,22 +182,22 @@ pub(crate) fn trace_if<P: Port>(due: bool, address: u32, cpu: &mut Cpu, port: &m
     }
 }
 
-/// A0 to A6 are seven: the proof of what calls it asks for that, and it does nothing.
-#[inline(always)]
-fn are_seven(addresses: &[u32; 7])
-    ensures { length addresses.now ≡ 7 }
-{}
-
-/// Exchanges the registers that user mode sees with these. Put back, they give the registers before.
-#[tactic(auto, using(crate::proofs::Registers::put_back))]
+/// Exchanges the registers that user mode sees with these, in place. Put back, they give the registers before.
+#[tactic(auto, unfolding(mb_instr::specs::Registers::with_plain), using(mb_instr::proofs::Arrays::seven_of_eight))]
 fn exchange(plain: &mut Plain, regs: &mut Regs)
     ensures now { regs.new ≡ with_plain regs.old plain.old }
     ensures before { with_plain regs.new plain.new ≡ regs.old }
 {
-    are_seven(&regs.a);
-    let before = regs.plain();
-    regs.set_plain(plain);
-    *plain = before;
+    let top = regs.active_stack();
+    let [a0, a1, a2, a3, a4, a5, a6, a7] = plain.a;
+    regs.set_active_stack(a7);
+    let [b0, b1, b2, b3, b4, b5, b6] = replace(&mut regs.a, [a0, a1, a2, a3, a4, a5, a6]);
+    plain.a = [b0, b1, b2, b3, b4, b5, b6, top];
+    swap(&mut regs.d, &mut plain.d);
+    swap(&mut regs.pc, &mut plain.pc);
+    let ccr = (regs.sr % 32) as u8;
+    regs.sr = regs.sr - regs.sr % 32 + u16::from(plain.ccr % 32);
+    plain.ccr = ccr;
 }
 
 /// Enters the exception of an instruction that traps and left these registers, and behind it a trace, where T1 asks for

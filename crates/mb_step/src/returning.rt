@@ -2,12 +2,11 @@
 
 ghost use Rattle.std.specs.Prelude.{◌≡◌, ◌≢◌};
 ghost use Rattle.mb_port.specs.Routine.{run};
-ghost use Rattle.mb_meaning.specs.Return.{continues};
 ghost use Rattle.mb_meaning.specs.Step.{is_due_by, untransferred_again_of, rte_of};
 
 use crate::finishing::{PAGE_SIZE, finish_unread};
 use crate::raising::{access_error, has_ct, is_due, refuse, trace_if, traces_all, with_ct};
-use mb_entry::{movem_fields, return_held};
+use mb_entry::{continues, movem_fields, return_held};
 use mb_frames::Access;
 use mb_meaning::StepEnd;
 use mb_model::Cpu;
@@ -19,13 +18,6 @@ use mb_writes::{Ended, MovemFault};
 struct Held {
     access: Access,
     pc: u32,
-}
-
-/// Whether a MOVEM went on by the fields.
-fn continues(access: &Access) -> bool
-    ensures { result ≡ continues access.now }
-{
-    access.ssw >> 12 & 1 == 1
 }
 
 /// Whether the frame asks for a trace.
