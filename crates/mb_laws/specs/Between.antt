@@ -1,5 +1,5 @@
 -- The same calls in two spaces, with places further up by a base.
-use Rattle.std.specs.Prelude.{◌≡◌, ℕ, ◌+◌}
+use Rattle.std.specs.Prelude.{◌≡◌, ℕ, ◌+◌, Bool, true}
 use Rattle.mb_port.specs.Routine.{Call, Answer, Fetch, Read, Write, ReadLine, WriteLine, Probe, Get, Put, ReadMmu}
 use Rattle.mb_port.specs.Routine.{SetMmu, FlushKept, Test, ResetDevices}
 use Rattle.mb_port.specs.declared.types.Space.{Space}
@@ -7,11 +7,14 @@ use Rattle.mb_port.specs.declared.types.Place.{Place}
 use Rattle.mb_port.specs.declared.types.Fault.{Fault}
 use Rattle.mb_laws.specs.Twin.{Kin, Results}
 
--- the space of the first routine's calls, that of the second's, and how much further up the first's places are
+-- the space of the first routine's calls, that of the second's, how much further up the first's places are, and whether
+-- calls may be refused, and instructions
 pub record Setting : Type 0 where
   pub here : Space
   pub there : Space
   pub base : ℕ
+  pub faults : Bool
+  pub refuses : Bool
 
 abbrev pub raised : ℕ → Place → Place
 raised base place = record place { at = base + place.at }
@@ -51,9 +54,9 @@ IsThere x ResetDevices = ⊥
 abbrev pub Equal : {A : Type 0} → A → A → Type 0
 Equal a b = a ≡ b
 
--- the same fault, in the second's space
+-- the same fault, in the second's space, where there are any
 abbrev pub SameFault : Setting → Fault → Fault → Type 0
-SameFault x f g = g ≡ record f { space = x.there }
+SameFault x f g = (x.faults ≡ true) × (g ≡ record f { space = x.there })
 
 -- a place of the second, further up
 abbrev pub IsRaised : Setting → Place → Place → Type 0

@@ -1,6 +1,7 @@
 -- The pieces of an operand are apart from each other.
 use Rattle.std.specs.Prelude.{◌≡◌, ℕ, zero, suc, ◌+◌, ◌-◌, ◌*◌, ◌%◌, ◌^◌, ◌<◌, ◌≤◌, ◌⊎◌, List, [], ◌∷◌}
-use Rattle.std.proofs.Common.{arith, subst}
+use Rattle.std.proofs.Common.{arith, subst, inl, inr}
+use Rattle.std.proofs.lemmas.Bool.{cases_lt}
 use Rattle.mb_port.specs.declared.types.Piece.{Piece}
 use Rattle.mb_port.specs.Pieces.{piece_len, cut, split_of, ArePieces}
 use Rattle.mb_port.proofs.Cuts.{cut_are}
@@ -24,10 +25,10 @@ unfolding piece_len
 short at left = grind arith
 
 -- so many bytes behind the first byte of a piece of at most so many, and before that byte comes again
-behind : (at len d more : ℕ) → len ≤ d → d + more ≤ 2 ^ 32 → (at + len ≤ (at + d) % 2 ^ 32) ⊎ ((at + d) % 2 ^ 32 + more ≤ at)
-behind at len d more fits round = grind arith
+behind : (at len d more : ℕ) → len ≤ d → d + more ≤ 4096 → (at % 4096 + len ≤ (at + d) % 2 ^ 32 % 4096) ⊎ ((at + d) % 2 ^ 32 % 4096 + more ≤ at % 4096)
+behind at len d more fits round = elim (cases_lt (at % 4096 + d) 4096) [ inl low ↦ inl (omega arith) | inr high ↦ inr (omega arith) ]
 
-parts_apart : (n at len d left before_end value : ℕ) → len ≤ d → d + 4 * n ≤ 2 ^ 32
+parts_apart : (n at len d left before_end value : ℕ) → len ≤ d → d + 4 * n ≤ 4096
     → ApartFrom (record { at = at; len = len }) (parts_of (cut n ((at + d) % 2 ^ 32) left) before_end value)
 parts_apart zero at len d left before_end value fits round = tt
 parts_apart (suc n) at len d zero before_end value fits round = tt
@@ -40,7 +41,7 @@ parts_apart (suc n) at len d (suc left) before_end value fits round =
           (parts_apart n at len (d + k) (suc left - k) (before_end - k) value (omega arith) (omega arith)),
     )
 
-parts_spread : (n at left before_end value : ℕ) → 4 + 4 * n ≤ 2 ^ 32 → Spread (parts_of (cut n at left) before_end value)
+parts_spread : (n at left before_end value : ℕ) → 4 + 4 * n ≤ 4096 → Spread (parts_of (cut n at left) before_end value)
 parts_spread zero at left before_end value few = tt
 parts_spread (suc n) at zero before_end value few = tt
 parts_spread (suc n) at (suc left) before_end value few =

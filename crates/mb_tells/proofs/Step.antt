@@ -66,7 +66,7 @@ use Rattle.mb_fields.specs.Packing.{pack_of, unpk_of}
 use Rattle.mb_meaning.specs.Decimals.{negated_decimal}
 
 -- an end of a part that fetches, at a refused call
-FoundLeft : {S A : Type 0} → Guarded S → Fact S A Ended
+unfoldable pub FoundLeft : {S A : Type 0} → Guarded S → Fact S A Ended
 FoundLeft x rest t (ended.ReadFault refused) = Answered x rest t refused.fault × x.unwritten t
 FoundLeft x rest t _ = ⊥
 
@@ -221,7 +221,7 @@ module _ {S : Type 0} (x : Guarded S) (space : Space) (g : Guards x space) where
   perform_tells (instr.Flow i) at p is longs = perform_flow_tells i at p is longs.1
   perform_tells (instr.System i) at p is longs = tells_err _
 
-  Founds : Routine Found → Type 0
+  unfoldable pub Founds : Routine Found → Type 0
   Founds m = Telling x (quiet x) m (FoundLeft x) (λ found s. quiet x s × IsInstr found.0)
 
   judged_tells : (d : Decoded) (m : Routine Found) → IfWhole d (λ i n. IsInstr i) → Founds m → Founds (judged d m)
@@ -258,7 +258,7 @@ module _ {S : Type 0} (x : Guarded S) (space : Space) (g : Guards x space) where
   is_even : (n : ℕ) → (n % 2 == 1) ≡ false → n % 2 ≡ 0
   is_even n h = grind (arith, nat_tests)
 
-  fetched_tells : (pc : ℕ) → pc < 2 ^ 32 → Founds (fetched_of space pc)
+  pub fetched_tells : (pc : ℕ) → pc < 2 ^ 32 → Founds (fetched_of space pc)
   unfolding fetched_of Founds
   fetched_tells pc lt =
       tells_choose (pc % 2 == 1) _ _ (λ odd. tells_err _) (λ even. found_tells most_words pc [] AreWords-nil (is_even pc even) lt)

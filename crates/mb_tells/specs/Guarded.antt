@@ -42,9 +42,9 @@ IsReading (FlushKept what) = ⊥
 IsReading (Test space at write) = ⊥
 IsReading ResetDevices = ⊥
 
--- no byte of one is a byte of the other
+-- no byte of one has the offset in its page of a byte of the other: they are apart wherever their pages lead
 abbrev pub Apart : Piece → Piece → Type 0
-Apart p q = (p.at + p.len ≤ q.at) ⊎ (q.at + q.len ≤ p.at)
+Apart p q = (p.at % 4096 + p.len ≤ q.at % 4096) ⊎ (q.at % 4096 + q.len ≤ p.at % 4096)
 
 -- The call is lawful in a state that serves, and is not refused.
 abbrev pub Goes : {S : Type 0} → Guarded S → Call → S → Type 0

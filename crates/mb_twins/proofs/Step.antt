@@ -1,5 +1,5 @@
 -- Each row, the fetch of an instruction, and the attempt.
-use Rattle.std.specs.Prelude.{refl, true, false, ℕ, zero, suc, ◌+◌, ◌%◌, ◌^◌, ◌==◌, List, [], ◌∷◌, ◌++◌}
+use Rattle.std.specs.Prelude.{◌≡◌, refl, true, false, ℕ, zero, suc, ◌+◌, ◌%◌, ◌^◌, ◌==◌, List, [], ◌∷◌, ◌++◌}
 use Rattle.mb_port.specs.Routine.{Routine}
 use Rattle.mb_laws.specs.Twin.{returned}
 use Rattle.mb_laws.specs.Between.{Setting, SameFault, between}
@@ -17,7 +17,7 @@ use Rattle.mb_instr.specs.declared.instruction.Flow.TheVariants as flow
 use Rattle.mb_instr.specs.declared.registers.Plain.{Plain}
 use Rattle.mb_instr.specs.Sizes.{sign_extended}
 use Rattle.mb_decode.specs.declared.front.Decoded.{Decoded}
-use Rattle.mb_decode.specs.declared.front.Decoded.TheVariants.{More}
+use Rattle.mb_decode.specs.declared.front.Decoded.TheVariants.{More, Whole}
 use Rattle.mb_decode.specs.Decodes.{decode_of}
 use Rattle.mb_instr.specs.declared.operand.Ea.TheVariants.{Dn, Post, Imm}
 use Rattle.mb_alu.specs.declared.bitwise.LogicKind.TheVariants as logic
@@ -34,7 +34,7 @@ use Rattle.mb_fields.specs.Packing.{pack_of, unpk_of}
 use Rattle.mb_meaning.specs.Decimals.{negated_decimal}
 use Rattle.mb_meaning.specs.Rows.{perform_move_of, perform_arith_of, perform_flow_of, perform_of}
 use Rattle.mb_meaning.specs.Attempt.{Found, judged, found_of, fetched_of, past, most_words, attempt_of}
-use Rattle.mb_twins.specs.Twins.{SameEnd, SamePerformed}
+use Rattle.mb_twins.specs.Twins.{SameEnd, SamePerformed, MayRefuse}
 use Rattle.mb_twins.proofs.Parts.{Rows, TwinParts, then_twins, failing_twins}
 use Rattle.mb_twins.proofs.Moves.{move_twins, movea_twins, lea_twins, to_ccr_twins, from_ccr_twins, scc_twins}
 use Rattle.mb_twins.proofs.Stack.{pea_twins, link_twins, unlk_twins}
@@ -144,35 +144,43 @@ perform_flow_twins x flow.Trapv at p = returned (trapv_same x p)
 perform_flow_twins x (flow.Chk register size ea) at p = chk_twins x register size ea at p
 perform_flow_twins x (flow.Chk2 size ea word) at p = chk2_twins x size ea word at p
 
-pub perform_twins : (x : Setting) (i : Instr) (at : ℕ) (p : Plain) → Rows x (perform_of i at x.here p) (perform_of i at x.there p)
+pub perform_twins : (x : Setting) (i : Instr) (at : ℕ) (p : Plain) → MayRefuse x i → Rows x (perform_of i at x.here p) (perform_of i at x.there p)
 unfolding perform_of
-perform_twins x (instr.Move i) at p = perform_move_twins x i at p
-perform_twins x (instr.Arith i) at p = perform_arith_twins x i at p
-perform_twins x (instr.Flow i) at p = perform_flow_twins x i at p
-perform_twins x (instr.System i) at p = returned (refl, refl)
+perform_twins x (instr.Move i) at p may = perform_move_twins x i at p
+perform_twins x (instr.Arith i) at p may = perform_arith_twins x i at p
+perform_twins x (instr.Flow i) at p may = perform_flow_twins x i at p
+perform_twins x (instr.System i) at p may = returned ((may, refl), refl)
 
-abbrev Founds : Setting → Routine Found → Routine Found → Type 1
+-- any instruction, where instructions may be refused
+pub may_refuse : (x : Setting) (i : Instr) → x.refuses ≡ true → MayRefuse x i
+may_refuse x (instr.Move i) h = tt
+may_refuse x (instr.Arith i) h = tt
+may_refuse x (instr.Flow i) h = tt
+may_refuse x (instr.System i) h = h
+
+abbrev pub Founds : Setting → Routine Found → Routine Found → Type 1
 Founds x m n = TwinParts x (SameEnd x) m n
 
-judged_twins : (x : Setting) (d : Decoded) (m n : Routine Found) → Founds x m n → Founds x (judged d m) (judged d n)
-judged_twins x More m n w = w
-judged_twins x _ m n w = returned refl
+judged_twins : (x : Setting) (d : Decoded) (m n : Routine Found) → x.refuses ≡ true → Founds x m n → Founds x (judged d m) (judged d n)
+judged_twins x More m n h w = w
+judged_twins x (Whole i k) m n h w = returned refl
+judged_twins x _ m n h w = returned (h, refl)
 
-pub found_twins : (x : Setting) (n at : ℕ) (words : List ℕ) → Founds x (found_of n x.here at words) (found_of n x.there at words)
+pub found_twins : (x : Setting) (n at : ℕ) (words : List ℕ) → x.refuses ≡ true → Founds x (found_of n x.here at words) (found_of n x.there at words)
 unfolding found_of
-found_twins x zero at words = returned refl
-found_twins x (suc n) at words =
+found_twins x zero at words h = returned (h, refl)
+found_twins x (suc n) at words h =
     then_twins x (SameEnd x)
     (failing_twins x (SameFault x) (SameEnd x) (λ e f h. record { fault = h; first = refl }) (twin_fetch x at))
-    (λ word. judged_twins x (decode_of (words ++ word ∷ [])) _ _ (found_twins x n ((at + 2) % 2 ^ 32) (words ++ word ∷ [])))
+    (λ word. judged_twins x (decode_of (words ++ word ∷ [])) _ _ h (found_twins x n ((at + 2) % 2 ^ 32) (words ++ word ∷ []) h))
 
-fetched_twins : (x : Setting) (pc : ℕ) → Founds x (fetched_of x.here pc) (fetched_of x.there pc)
+pub fetched_twins : (x : Setting) (pc : ℕ) → x.refuses ≡ true → Founds x (fetched_of x.here pc) (fetched_of x.there pc)
 unfolding fetched_of
-fetched_twins x pc = twins_choose (between x) _ (pc % 2 == 1) _ _ _ _ (returned refl) (found_twins x most_words pc [])
+fetched_twins x pc h = twins_choose (between x) _ (pc % 2 == 1) _ _ _ _ (returned (h, refl)) (found_twins x most_words pc [] h)
 
-pub attempt_twins : (x : Setting) (p : Plain) → Rows x (attempt_of x.here p) (attempt_of x.there p)
+pub attempt_twins : (x : Setting) (p : Plain) → x.refuses ≡ true → Rows x (attempt_of x.here p) (attempt_of x.there p)
 unfolding attempt_of
-attempt_twins x p =
-    twins_caught_same (between x) (SameEnd x) (SamePerformed x) _ _ _ _ _ _ (fetched_twins x p.pc)
+attempt_twins x p h =
+    twins_caught_same (between x) (SameEnd x) (SamePerformed x) _ _ _ _ _ _ (fetched_twins x p.pc h)
     (λ e f h. returned (h, refl))
-    (λ found. perform_twins x found.0 p.pc (past found.1 p))
+    (λ found. perform_twins x found.0 p.pc (past found.1 p) (may_refuse x found.0 h))

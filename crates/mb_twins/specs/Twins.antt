@@ -1,9 +1,10 @@
 -- Instructions in two spaces.
-use Rattle.std.specs.Prelude.{◌≡◌, ℕ}
+use Rattle.std.specs.Prelude.{◌≡◌, ℕ, true}
 use Rattle.mb_laws.specs.Tree.{tree_of}
 use Rattle.mb_laws.specs.Twin.{TwinTrees, Results}
 use Rattle.mb_laws.specs.Between.{Setting, Equal, SameFault, between}
 use Rattle.mb_instr.specs.declared.instruction.Instr.{Instr}
+use Rattle.mb_instr.specs.declared.instruction.Instr.TheVariants as instr
 use Rattle.mb_instr.specs.declared.registers.Plain.{Plain}
 use Rattle.mb_ea.specs.declared.reading.ReadFault.{ReadFault}
 use Rattle.mb_writes.specs.declared.ends.WriteFault.{WriteFault}
@@ -35,7 +36,7 @@ pub record SameTransfer (x : Setting) (f g : MovemFault) : Type 0 where
 abbrev pub SameEnd : Setting → Ended → Ended → Type 0
 SameEnd x (ended.Done flow) (ended.Done other) = flow ≡ other
 SameEnd x (ended.Trap vector) (ended.Trap other) = vector ≡ other
-SameEnd x (ended.Refused vector) (ended.Refused other) = vector ≡ other
+SameEnd x (ended.Refused vector) (ended.Refused other) = (x.refuses ≡ true) × (vector ≡ other)
 SameEnd x (ended.ReadFault f) (ended.ReadFault g) = SameRead x f g
 SameEnd x (ended.WriteFault f) (ended.WriteFault g) = SameWrite x f g
 SameEnd x (ended.LineFault f line) (ended.LineFault g other) = SameFault x f g × (line ≡ other)
@@ -50,12 +51,17 @@ SameStop x a b = SameEnd x a.ended b.ended × (a.plain ≡ b.plain)
 abbrev pub SamePerformed : Setting → Performed → Performed → Type 0
 SamePerformed x = Results Equal (SameStop x)
 
+-- A privileged instruction is refused, and no other.
+abbrev pub MayRefuse : Setting → Instr → Type 0
+MayRefuse x (instr.System i) = x.refuses ≡ true
+MayRefuse x _ = Unit {0}
+
 -- each instruction
 abbrev pub RowsAreTwins : Type 0
-RowsAreTwins = (x : Setting) (i : Instr) (at : ℕ) (p : Plain)
+RowsAreTwins = (x : Setting) (i : Instr) (at : ℕ) (p : Plain) → MayRefuse x i
     → TwinTrees (between x) (SamePerformed x) (tree_of (perform_of i at x.here p)) (tree_of (perform_of i at x.there p))
 
 -- a whole attempt, with the fetching of its words
 abbrev pub AttemptsAreTwins : Type 0
-AttemptsAreTwins = (x : Setting) (p : Plain)
+AttemptsAreTwins = (x : Setting) (p : Plain) → x.refuses ≡ true
     → TwinTrees (between x) (SamePerformed x) (tree_of (attempt_of x.here p)) (tree_of (attempt_of x.there p))

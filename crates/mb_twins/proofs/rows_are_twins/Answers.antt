@@ -8,9 +8,9 @@ use Rattle.mb_twins.proofs.Step.{perform_twins, attempt_twins}
 use Rattle.mb_twins.proofs.rows_are_twins.Goals as goal
 
 pub returns-clause-rows : goal.returns-clause-rows
-returns-clause-rows c = λ x i at p.
-    tree_twins (between x) Performed Performed (SamePerformed x) (perform_of i at x.here p) (perform_of i at x.there p) (perform_twins x i at p)
+returns-clause-rows c = λ x i at p may.
+    tree_twins (between x) Performed Performed (SamePerformed x) (perform_of i at x.here p) (perform_of i at x.there p) (perform_twins x i at p may)
 
 pub returns-clause-attempts : goal.returns-clause-attempts
-returns-clause-attempts c = λ x p.
-    tree_twins (between x) Performed Performed (SamePerformed x) (attempt_of x.here p) (attempt_of x.there p) (attempt_twins x p)
+returns-clause-attempts c = λ x p h.
+    tree_twins (between x) Performed Performed (SamePerformed x) (attempt_of x.here p) (attempt_of x.there p) (attempt_twins x p h)
