@@ -2,7 +2,15 @@
 use Rattle.std.proofs.Common.{ℕ, ◌≡◌, ◌+◌, ◌-◌, ◌*◌, ◌/◌, ◌%◌, ◌<◌, arith, refl, ℤ, Bool, true, false, pos, negsuc, ◌+ℤ◌, ◌-ℤ◌, nat_lt, int_lt, if◌then◌else◌}
 use Rattle.std.proofs.lemmas.Int.{ints}
 use Rattle.std.proofs.lemmas.Bool.Decides.{nat_tests}
-use Rattle.mb_fields.specs.Decimals.{bit, decimal_flagged, modulo_256, extend_bit, decimal_difference, borrows}
+use Rattle.mb_alu.specs.Conditions.{bit, conditions_of}
+use Rattle.mb_fields.specs.Decimals.{decimal_flagged, modulo_256, extend_bit, decimal_difference, borrows}
+
+bit_low : (b : Bool) → bit b < 2
+bit_low true = omega arith
+bit_low false = omega arith
+
+pub extend_low : (ccr : ℕ) → extend_bit ccr < 2
+extend_low ccr = bit_low (conditions_of ccr).x
 
 modulo_256-up : (z : ℤ) (n : ℕ) → z +ℤ pos 512 ≡ pos n → modulo_256 z ≡ n % 256
 modulo_256-up (pos k) n e = omega (arith, ints)
@@ -32,7 +40,7 @@ pub difference_is : (x y ccr : ℕ) → x < 256 → y < 256 →
 difference_is x y ccr p q =
     rw (below_zero (y % 16) (x % 16) (extend_bit ccr), below_zero y x (extend_bit ccr))
     (modulo_256-up _ _
-    (raised x y (extend_bit ccr) (nat_lt (y % 16) (x % 16 + extend_bit ccr)) (nat_lt y (x + extend_bit ccr)) p q (omega arith)))
+    (raised x y (extend_bit ccr) (nat_lt (y % 16) (x % 16 + extend_bit ccr)) (nat_lt y (x + extend_bit ccr)) p q (extend_low ccr)))
 
 pub flagged_same : (v w : ℕ) (a b : Bool) (ccr : ℕ) → v ≡ w → a ≡ b → decimal_flagged v a ccr ≡ decimal_flagged w b ccr
 flagged_same v w a b ccr p q = rw (p, q) refl

@@ -1,10 +1,10 @@
 -- Decimal arithmetic on bytes of two digits. The formulas say what comes of digits above 9 too.
-use Rattle.std.specs.Prelude.{ℕ, ◌+◌, ◌*◌, ◌/◌, ◌%◌, ◌^◌, ◌==◌, ◌≡◌, ◌≤◌, ℤ, pos, negsuc, ◌-◌, ◌+ℤ◌, ◌-ℤ◌, int_lt, nat_lt, Bool, true, false, if◌then◌else◌}
-use Rattle.mb_fields.specs.declared.decimals.Flagged.{Flagged}
-
-abbrev pub bit : Bool → ℕ
-bit false = 0
-bit true = 1
+use Rattle.std.specs.Prelude.{ℕ, ◌+◌, ◌-◌, ◌*◌, ◌/◌, ◌%◌, ◌≡◌, ◌≤◌, nat_lt, ℤ, pos, negsuc, ◌+ℤ◌, ◌-ℤ◌, int_lt}
+use Rattle.std.specs.Prelude.{Bool, false, ◌&&◌, if◌then◌else◌}
+use Rattle.mb_instr.specs.declared.size.Size.TheVariants.{Byte}
+use Rattle.mb_alu.specs.declared.conditions.Flagged.{Flagged}
+use Rattle.mb_alu.specs.Conditions.{bit, conditions_of, ccr_of}
+use Rattle.mb_alu.specs.Signs.{is_negative, is_zero}
 
 -- the units, and the tens as the byte holds them, 16 times their digit
 abbrev pub units_of : ℕ → ℕ
@@ -13,19 +13,22 @@ units_of x = x % 16
 abbrev pub tens_of : ℕ → ℕ
 tens_of x = x / 16 * 16
 
--- X is bit 4 of the condition codes
+-- X, as it counts in a sum
 abbrev pub extend_bit : ℕ → ℕ
-extend_bit ccr = ccr / 2 ^ 4 % 2
+extend_bit ccr = bit (conditions_of ccr).x
 
--- Z, bit 2: cleared by a result that is not 0, and else as it was
-abbrev pub zero_after : ℕ → ℕ → ℕ
-zero_after value ccr = if value == 0 then ccr / 2 ^ 2 % 2 else 0
-
--- X and C take the carry or borrow, N is the highest bit of the result, V is cleared
+-- X and C take the carry or borrow, N is the highest bit of the result, V is cleared; a result that is 0 leaves Z as it
+-- was
 abbrev pub decimal_flagged : ℕ → Bool → ℕ → Flagged
 decimal_flagged value carry ccr = record {
   value = value;
-  ccr = bit carry * 16 + value / 2 ^ 7 * 8 + zero_after value ccr * 4 + bit carry;
+  ccr = ccr_of (record {
+    x = carry;
+    n = is_negative Byte value;
+    z = is_zero Byte value && (conditions_of ccr).z;
+    v = false;
+    c = carry;
+  });
 }
 
 -- the units with X, and the sum of all, with 6 more where the units are above 9
@@ -78,9 +81,9 @@ pub record IsDecimal (x : ℕ) : Type 0 where
 abbrev pub decimal_value : ℕ → ℕ
 decimal_value x = x / 16 * 10 + x % 16
 
--- C is bit 0 of the condition codes
+-- C, as it counts in a number
 abbrev pub carry_bit : ℕ → ℕ
-carry_bit ccr = ccr % 2
+carry_bit ccr = bit (conditions_of ccr).c
 
 -- the decimal sum, with a hundred for the carry
 pub record IsDecimalSum (x y ccr : ℕ) (sum : Flagged) : Type 0 where

@@ -10,6 +10,6 @@ mod packing;
 #[cfg(test)]
 mod tests;
 
-pub use decimals::{Flagged, abcd, nbcd, sbcd};
+pub use decimals::{abcd, nbcd, sbcd};
 pub use fields::{field_first, field_get, field_put};
 pub use packing::{pack, unpk};

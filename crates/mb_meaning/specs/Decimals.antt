@@ -8,18 +8,15 @@ use Rattle.mb_instr.specs.declared.operand.Ea.{Ea}
 use Rattle.mb_instr.specs.declared.operand.Ea.TheVariants.{Dn, Pre}
 use Rattle.mb_instr.specs.declared.registers.Plain.{Plain}
 use Rattle.mb_instr.specs.Sizes.{low_of}
-use Rattle.mb_alu.specs.declared.conditions.Flagged as alu
-use Rattle.mb_fields.specs.declared.decimals.Flagged.{Flagged}
+use Rattle.mb_alu.specs.declared.conditions.Flagged.{Flagged}
 use Rattle.mb_fields.specs.Decimals.{nbcd_of}
 use Rattle.mb_ea.specs.Resolve.{resolve_of}
 use Rattle.mb_meaning.specs.Ends.{Performed, reading}
 use Rattle.mb_meaning.specs.Operands.{first_word, operand_of, storing}
 
 -- NBCD: 0 less the digits of the byte and X
-abbrev pub negated_decimal : ℕ → ℕ → alu.Flagged
-negated_decimal value ccr =
-    let result = nbcd_of (low_of Byte value) ccr in
-    record { value = result.value; ccr = result.ccr }
+abbrev pub negated_decimal : ℕ → ℕ → Flagged
+negated_decimal value ccr = nbcd_of (low_of Byte value) ccr
 
 -- an operand of a row that has two forms: Dy,Dx and -(Ay),-(Ax)
 abbrev pub paired : Bool → ℕ → Ea

@@ -2,7 +2,7 @@
 use Rattle.std.specs.Prelude.{ℕ}
 use Rattle.mb_instr.specs.declared.size.Size.{Size}
 use Rattle.mb_instr.specs.declared.size.Size.TheVariants.{Byte, Word}
-use Rattle.mb_fields.specs.declared.decimals.Flagged.{Flagged}
+use Rattle.mb_alu.specs.declared.conditions.Flagged.{Flagged}
 use Rattle.mb_fields.specs.Decimals.{abcd_of, sbcd_of}
 use Rattle.mb_fields.specs.Packing.{pack_of, unpk_of}
 use Rattle.mb_ops_arith.specs.declared.decimals.DecimalKind.{DecimalKind}

@@ -8,6 +8,7 @@ ghost use Rattle.mb_meaning.specs.Decimals.{negated_decimal, paired, decimal_of,
 ghost use Rattle.mb_ops_arith.specs.Decimals.{decimal_operation, packing_operation, packed_from, packed_to};
 ghost use Rattle.mb_operands.specs.Endings.{carried_in_place};
 
+use mb_alu::Flagged;
 use mb_ea::resolve;
 use mb_fields::{abcd, nbcd, pack, sbcd, unpk};
 use mb_instr::{Ea, Plain, Size};
@@ -24,7 +25,7 @@ pub(crate) enum DecimalKind {
 
 impl DecimalKind {
     #[inline(always)]
-    fn of(self, x: u8, y: u8, ccr: u8) -> mb_fields::Flagged
+    fn of(self, x: u8, y: u8, ccr: u8) -> Flagged
         ensures { result ≡ decimal_operation self x y ccr }
     {
         match self {
@@ -78,14 +79,10 @@ impl PackingKind {
 
 /// 0 less the digits of the byte and X.
 #[inline(always)]
-pub(crate) fn negate_decimal(value: u32, ccr: u8) -> mb_alu::Flagged
+pub(crate) fn negate_decimal(value: u32, ccr: u8) -> Flagged
     ensures { result ≡ negated_decimal value ccr }
 {
-    let negated = nbcd((value & 0xff) as u8, ccr);
-    mb_alu::Flagged {
-        value: negated.value,
-        ccr: negated.ccr,
-    }
+    nbcd((value & 0xff) as u8, ccr)
 }
 
 /// An operand of a row that has two forms: `Dy,Dx` and `-(Ay),-(Ax)`.

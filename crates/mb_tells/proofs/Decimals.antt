@@ -8,7 +8,7 @@ use Rattle.mb_tells.specs.Left.{Row}
 use Rattle.mb_tells.specs.Laws.{AreLongs}
 use Rattle.mb_instr.specs.declared.size.Size.{Size}
 use Rattle.mb_instr.specs.declared.size.Size.TheVariants.{Byte}
-use Rattle.mb_fields.specs.declared.decimals.Flagged.{Flagged}
+use Rattle.mb_alu.specs.declared.conditions.Flagged.{Flagged}
 use Rattle.mb_meaning.specs.Operands.{first_word}
 use Rattle.mb_meaning.specs.Decimals.{paired, decimal_of, digits_of}
 use Rattle.mb_tells.proofs.Ranges.{IsFormed}

@@ -4,7 +4,7 @@ use Rattle.mb_laws.specs.Between.{Setting}
 use Rattle.mb_instr.specs.declared.size.Size.{Size}
 use Rattle.mb_instr.specs.declared.size.Size.TheVariants.{Byte}
 use Rattle.mb_instr.specs.declared.registers.Plain.{Plain}
-use Rattle.mb_fields.specs.declared.decimals.Flagged.{Flagged}
+use Rattle.mb_alu.specs.declared.conditions.Flagged.{Flagged}
 use Rattle.mb_meaning.specs.Operands.{first_word}
 use Rattle.mb_meaning.specs.Decimals.{paired, decimal_of, digits_of}
 use Rattle.mb_twins.specs.Twins.{SameStop}
