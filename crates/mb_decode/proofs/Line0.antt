@@ -66,15 +66,15 @@ bit_imm_read k ea w rest h =
     rw e (next _ _ _ _ _ (word_ea_read rule.Any (bit_class_immediate k) size.Byte 0 4 0 (bit_bits k) w ea rest h))
 
 -- CMP2 and CHK2: bit 11 of the word tells which
-bounds_again : (s : Size) (ea : Ea) (w : ℕ) (rest : List ℕ) → (holds rule.Bounds w && takes Control s ea) ≡ true →
+bounds_again : (s : Size) (ea : Ea) (w : ℕ) (rest : List ℕ) → (holds rule.RegisterAndBit w && takes Control s ea) ≡ true →
     line_0 (op 0 (size_bits s) 0 3 (mode ea) (lower ea)) (w ∷ more s ea ++ rest) ≡ Ok (bounds_of s w ea, rest)
 unfolding line_0 even_0 bounds_0
-bounds_again size.Byte ea w rest h = next _ _ _ _ _ (word_ea_read rule.Bounds Control size.Byte 0 0 0 3 w ea rest h)
-bounds_again size.Word ea w rest h = next _ _ _ _ _ (word_ea_read rule.Bounds Control size.Word 0 1 0 3 w ea rest h)
-bounds_again size.Long ea w rest h = next _ _ _ _ _ (word_ea_read rule.Bounds Control size.Long 0 2 0 3 w ea rest h)
+bounds_again size.Byte ea w rest h = next _ _ _ _ _ (word_ea_read rule.RegisterAndBit Control size.Byte 0 0 0 3 w ea rest h)
+bounds_again size.Word ea w rest h = next _ _ _ _ _ (word_ea_read rule.RegisterAndBit Control size.Word 0 1 0 3 w ea rest h)
+bounds_again size.Long ea w rest h = next _ _ _ _ _ (word_ea_read rule.RegisterAndBit Control size.Long 0 2 0 3 w ea rest h)
 
 compare_bounds : (s : Size) (ea : Ea) (w : ℕ) → (holds rule.Compare w && takes Control s ea) ≡ true →
-    ((holds rule.Bounds w && takes Control s ea) ≡ true) × ((w / 2 ^ 11 % 2 == 0) ≡ true)
+    ((holds rule.RegisterAndBit w && takes Control s ea) ≡ true) × ((w / 2 ^ 11 % 2 == 0) ≡ true)
 compare_bounds s ea w h =
     let p = and_is (holds rule.Compare w) (takes Control s ea) h in
     let zero = eq_true (w % 2 ^ 12) 0 p.0 in
@@ -90,7 +90,7 @@ cmp2_read s ea w rest h =
     bounds_again s ea w rest b.0 ∙ rw bit refl
 
 check_bounds : (s : Size) (ea : Ea) (w : ℕ) → (holds rule.Check w && takes Control s ea) ≡ true →
-    ((holds rule.Bounds w && takes Control s ea) ≡ true) × ((w / 2 ^ 11 % 2 == 0) ≡ false)
+    ((holds rule.RegisterAndBit w && takes Control s ea) ≡ true) × ((w / 2 ^ 11 % 2 == 0) ≡ false)
 check_bounds s ea w h =
     let p = and_is (holds rule.Check w) (takes Control s ea) h in
     let set = eq_true (w % 2 ^ 12) 2048 p.0 in
@@ -156,12 +156,12 @@ pub cmpi_read : (s : Size) (ea : Ea) (v : ℕ) (rest : List ℕ) → (is_immedia
 unfolding line_0 even_0 cmpi_0
 cmpi_read s ea v rest h = unmet _ _ _ _ (not_three s) ∙ next _ _ _ _ _ (immediate_ea_read DataAlterableOrPc 0 6 0 s v ea rest h)
 
-pub moves_read : (s : Size) (ea : Ea) (w : ℕ) (rest : List ℕ) → (holds rule.Bounds w && takes MemoryAlterable s ea) ≡ true →
+pub moves_read : (s : Size) (ea : Ea) (w : ℕ) (rest : List ℕ) → (holds rule.RegisterAndBit w && takes MemoryAlterable s ea) ≡ true →
     line_0 (op 0 7 0 (size_bits s) (mode ea) (lower ea)) (w ∷ more s ea ++ rest) ≡ Ok (System (system.Moves s ea w), rest)
 unfolding line_0 even_0 moves_0
 moves_read s ea w rest h =
     let size = not_three s in
-    rw size (by_size_read s _ _ ∙ next _ _ _ _ _ (word_ea_read rule.Bounds MemoryAlterable s 0 7 0 (size_bits s) w ea rest h))
+    rw size (by_size_read s _ _ ∙ next _ _ _ _ _ (word_ea_read rule.RegisterAndBit MemoryAlterable s 0 7 0 (size_bits s) w ea rest h))
 
 -- ---- what is read
 
@@ -188,16 +188,17 @@ cas_field n h = under_8 (λ n. 5 ≤ n → n ≡ 5 + size_bits (cas_size n))
     (λ z. absurd (omega arith)) (λ z. absurd (omega arith)) (λ z. absurd (omega arith)) (λ z. absurd (omega arith)) (λ z. absurd (omega arith)) (λ z. refl)
     (λ z. refl) (λ z. refl) n h
 
-bounds_cases : (s : Size) (w : ℕ) (ea : Ea) (b : Bool) → (w / 2 ^ 11 % 2 == 0) ≡ b → (word_ea rule.Bounds Control s 0 (size_bits s) 0 3 w ea).legal ≡ true →
-    Same (row (cond b (Arith (arith_of.Cmp2 s ea w)) (Flow (flow.Chk2 s ea w)))) (word_ea rule.Bounds Control s 0 (size_bits s) 0 3 w ea)
+bounds_cases : (s : Size) (w : ℕ) (ea : Ea) (b : Bool) → (w / 2 ^ 11 % 2 == 0) ≡ b →
+    (word_ea rule.RegisterAndBit Control s 0 (size_bits s) 0 3 w ea).legal ≡ true →
+    Same (row (cond b (Arith (arith_of.Cmp2 s ea w)) (Flow (flow.Chk2 s ea w)))) (word_ea rule.RegisterAndBit Control s 0 (size_bits s) 0 3 w ea)
 bounds_cases s w ea true e h =
-    let p = and_is (holds rule.Bounds w) (takes Control s ea) h in
+    let p = and_is (holds rule.RegisterAndBit w) (takes Control s ea) h in
     let low = eq_true (w % 2 ^ 11) 0 p.0 in
     let bit = eq_true (w / 2 ^ 11 % 2) 0 e in
     let all : w % 2 ^ 12 ≡ 0 = omega arith in
     record { legal = both (rw all refl) p.1; opcode = refl; further = refl }
 bounds_cases s w ea false e h =
-    let p = and_is (holds rule.Bounds w) (takes Control s ea) h in
+    let p = and_is (holds rule.RegisterAndBit w) (takes Control s ea) h in
     let low = eq_true (w % 2 ^ 11) 0 p.0 in
     let bit = eq_false (w / 2 ^ 11 % 2) 0 e in
     let all : w % 2 ^ 12 ≡ 2048 = omega arith in
@@ -206,8 +207,8 @@ bounds_cases s w ea false e h =
 bounds_0_shape : (p : Opcode) → IsOpcode p → p.line ≡ 0 → p.bit ≡ 0 → p.size ≡ 3 → Shape row p (bounds_0 p)
 unfolding bounds_0
 bounds_0_shape p is line bit size = by_size_shape row p p.upper _ (λ s e.
-    made_row_if (word_ea_row rule.Bounds Control s 0 (size_bits s) 0 3) p _ _
-    (word_ea_shape p rule.Bounds Control s 0 (size_bits s) 0 3 is line (sym e) bit size)
+    made_row_if (word_ea_row rule.RegisterAndBit Control s 0 (size_bits s) 0 3) p _ _
+    (word_ea_shape p rule.RegisterAndBit Control s 0 (size_bits s) 0 3 is line (sym e) bit size)
     (λ x legal. bounds_cases s x.0 x.1 (x.0 / 2 ^ 11 % 2 == 0) refl legal))
 
 cas2_0_shape : (p : Opcode) (s : Size) → op 0 (5 + size_bits s) 0 3 7 4 ≡ p → Shape row p (cas2_0 s)
@@ -275,7 +276,7 @@ cmpi_0_shape p is line upper bit = made_row _ p _ _ (immediate_ea_shape p DataAl
 moves_0_shape : (p : Opcode) → IsOpcode p → p.line ≡ 0 → p.upper ≡ 7 → p.bit ≡ 0 → Shape row p (moves_0 p)
 unfolding moves_0
 moves_0_shape p is line upper bit = by_size_shape row p p.size _ (λ s e.
-    made_row _ p _ _ (word_ea_shape p rule.Bounds MemoryAlterable s 0 7 0 (size_bits s) is line upper bit (sym e)) (λ x. refl))
+    made_row _ p _ _ (word_ea_shape p rule.RegisterAndBit MemoryAlterable s 0 7 0 (size_bits s) is line upper bit (sym e)) (λ x. refl))
 
 bit_0_shape : (p : Opcode) → IsOpcode p → p.line ≡ 0 → p.upper ≡ 4 → p.bit ≡ 0 → Shape row p (bit_0 p)
 unfolding bit_0

@@ -260,7 +260,7 @@ rule_word _ = 0
 rule_word_is : (r : WordRule) → (holds r (rule_word r) ≡ true) × (rule_word r < 2 ^ 16)
 unfolding is_control_code
 rule_word_is rule.Any = (refl, omega arith)
-rule_word_is rule.Bounds = (refl, omega arith)
+rule_word_is rule.RegisterAndBit = (refl, omega arith)
 rule_word_is rule.Compare = (refl, omega arith)
 rule_word_is rule.Check = (refl, omega arith)
 rule_word_is rule.Swap = (refl, omega arith)

@@ -59,7 +59,7 @@ bounds_of s w ea = if w / 2 ^ 11 % 2 == 0 then Arith (arith.Cmp2 s ea w) else Fl
 
 -- size 3: CMP2 and CHK2 have their size in bits 10 and 9, CAS and CAS2 too
 unfoldable pub bounds_0 : Opcode → Reader Instr
-bounds_0 p = by_size p.upper (λ s. made (word_ea_at rule.Bounds Control s p) (λ x. bounds_of s x.0 x.1))
+bounds_0 p = by_size p.upper (λ s. made (word_ea_at rule.RegisterAndBit Control s p) (λ x. bounds_of s x.0 x.1))
 
 -- the size that CAS has in bits 10 and 9
 abbrev pub cas_size : ℕ → Size
@@ -111,7 +111,8 @@ cmpi_0 p = made (immediate_ea_at DataAlterableOrPc p) (λ x. Arith (arith.Cmpi x
 
 unfoldable pub moves_0 : Opcode → Reader Instr
 moves_0 p =
-    by_size p.size (λ s. made (word_ea_at rule.Bounds MemoryAlterable s p) (λ x. System (system.Moves s x.1 x.0)))
+    by_size p.size
+    (λ s. made (word_ea_at rule.RegisterAndBit MemoryAlterable s p) (λ x. System (system.Moves s x.1 x.0)))
 
 unfoldable pub bit_0 : Opcode → Reader Instr
 bit_0 p =

@@ -61,7 +61,13 @@ fn bounds(op: Opcode, words: &[u16]) -> Reading<'_, Instr>
     let Some(size) = Size::of(op.upper) else {
         return Err(Stop::Illegal);
     };
-    let ((word, ea), rest) = word_ea(WordRule::Bounds, OperandClass::Control, size, op, words)?;
+    let ((word, ea), rest) = word_ea(
+        WordRule::RegisterAndBit,
+        OperandClass::Control,
+        size,
+        op,
+        words,
+    )?;
     Ok((bounds_of(size, word, ea), rest))
 }
 
@@ -229,7 +235,7 @@ fn moves(op: Opcode, words: &[u16]) -> Reading<'_, Instr>
         return Err(Stop::Illegal);
     };
     let class = OperandClass::MemoryAlterable;
-    let ((word, ea), rest) = word_ea(WordRule::Bounds, class, size, op, words)?;
+    let ((word, ea), rest) = word_ea(WordRule::RegisterAndBit, class, size, op, words)?;
     Ok((Instr::System(System::Moves { size, ea, word }), rest))
 }
 

@@ -62,7 +62,7 @@ in_memory p address = do
   found (Memory at) p
 
 -- The target of an operand. `word_at` is the address of its first extension word, which is the base of the
--- modes relative to the PC. A memory indirection reads its long in data space.
+-- modes relative to the PC. A memory indirection reads its long as an operand, in the space that is given.
 unfoldable pub resolve_of : Ea → Size → ℕ → Space → Plain → Routine (Result Resolved ReadFault)
 resolve_of (Dn n) size word_at space p = found (Reg n) p
 resolve_of (An n) size word_at space p = found (Reg (8 + n)) p

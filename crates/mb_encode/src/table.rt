@@ -339,7 +339,7 @@ pub fn system_row(i: &System) -> Spelling
         System::Movec { to_control, word } =>
             with_ruled(WordRule::Control, op(4, 7, 0, 1, 7, 2 + flag(to_control)), word),
         System::Moves { size, ea, word } =>
-            word_ea(WordRule::Bounds, MemoryAlterable, size, head(0, 7, 0, size.bits()), word, ea),
+            word_ea(WordRule::RegisterAndBit, MemoryAlterable, size, head(0, 7, 0, size.bits()), word, ea),
         System::OriSr { word } => with_word(op(0, 0, 0, 1, 7, 4), word),
         System::Pflush { kind, register } => bare(op(15, 2, 1, 0, kind.bits(), register)),
         System::Ptest { is_read, register } => bare(op(15, 2, 1, 1, flag(is_read) * 4 + 1, register)),

@@ -1,5 +1,5 @@
 -- The table of control registers: code, register, and the bits that it keeps.
-use Rattle.std.specs.Prelude.{ℕ, Bool, ◌==◌, if◌then◌else◌}
+use Rattle.std.specs.Prelude.{ℕ, Bool, ◌==◌, if◌then◌else◌, Option, Some, None, is_some}
 use Rattle.mb_port.specs.declared.types.MmuReg.TheVariants.{Tc, Itt0, Itt1, Dtt0, Dtt1, Mmusr, Urp, Srp}
 use Rattle.mb_instr.specs.declared.control.ControlRegister.{ControlRegister}
 use Rattle.mb_instr.specs.declared.control.ControlRegister.TheVariants.{Sfc, Dfc, Cacr, Usp, Vbr, Msp, Isp, Mmu}
@@ -22,21 +22,21 @@ code_of (Mmu Mmusr) = 0x805
 code_of (Mmu Urp) = 0x806
 code_of (Mmu Srp) = 0x807
 
--- the register with a code; SRP where no register has it
-abbrev pub control_of : ℕ → ControlRegister
+-- the register with a code
+abbrev pub control_of : ℕ → Option ControlRegister
 control_of code =
-    if code == 0x000 then Sfc else if code == 0x001 then Dfc else
-    if code == 0x002 then Cacr else if code == 0x003 then Mmu Tc else
-    if code == 0x004 then Mmu Itt0 else if code == 0x005 then Mmu Itt1 else
-    if code == 0x006 then Mmu Dtt0 else if code == 0x007 then Mmu Dtt1 else
-    if code == 0x800 then Usp else if code == 0x801 then Vbr else
-    if code == 0x803 then Msp else if code == 0x804 then Isp else
-    if code == 0x805 then Mmu Mmusr else if code == 0x806 then Mmu Urp else
-    Mmu Srp
+    if code == 0x000 then Some Sfc else if code == 0x001 then Some Dfc else
+    if code == 0x002 then Some Cacr else if code == 0x003 then Some (Mmu Tc) else
+    if code == 0x004 then Some (Mmu Itt0) else if code == 0x005 then Some (Mmu Itt1) else
+    if code == 0x006 then Some (Mmu Dtt0) else if code == 0x007 then Some (Mmu Dtt1) else
+    if code == 0x800 then Some Usp else if code == 0x801 then Some Vbr else
+    if code == 0x803 then Some Msp else if code == 0x804 then Some Isp else
+    if code == 0x805 then Some (Mmu Mmusr) else if code == 0x806 then Some (Mmu Urp) else
+    if code == 0x807 then Some (Mmu Srp) else None
 
 -- whether a register has the code
 unfoldable pub is_control_code : ℕ → Bool
-is_control_code code = code_of (control_of code) == code
+is_control_code code = is_some (control_of code)
 
 -- the bits that each keeps of what is written to it
 abbrev pub kept_bits : ControlRegister → ℕ

@@ -2,7 +2,7 @@
 use Rattle.std.specs.Prelude.{ℕ, ◌/◌, ◌%◌, ◌^◌, Bool, true, ◌&&◌, ◌||◌, ◌==◌}
 use Rattle.mb_instr.specs.Control.{is_control_code}
 use Rattle.mb_instr.specs.declared.rule.WordRule.{WordRule}
-use Rattle.mb_instr.specs.declared.rule.WordRule.TheVariants.{Any, Bounds, Compare, Check, Swap, SwapPair, LongPair}
+use Rattle.mb_instr.specs.declared.rule.WordRule.TheVariants.{Any, RegisterAndBit, Compare, Check, Swap, SwapPair, LongPair}
 use Rattle.mb_instr.specs.declared.rule.WordRule.TheVariants.{Control, Field, FieldAlone, Line}
 
 -- an offset in a register has bits 10 and 9 clear, a width in a register bits 4 and 3
@@ -12,7 +12,7 @@ is_field w = ((w / 2 ^ 11 % 2 == 0) || (w / 2 ^ 9 % 4 == 0)) && ((w / 2 ^ 5 % 2 
 -- the bits that each row fixes
 abbrev pub holds : WordRule → ℕ → Bool
 holds Any w = true
-holds Bounds w = w % 2 ^ 11 == 0
+holds RegisterAndBit w = w % 2 ^ 11 == 0
 holds Compare w = w % 2 ^ 12 == 0
 holds Check w = w % 2 ^ 12 == 2048
 holds Swap w = (w / 2 ^ 9 == 0) && (w / 2 ^ 3 % 8 == 0)

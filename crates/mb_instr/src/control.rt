@@ -1,6 +1,6 @@
 //! The control registers.
 
-ghost use Rattle.std.specs.Prelude.{◌≡◌, true};
+ghost use Rattle.std.specs.Prelude.{◌≡◌, true, Some, IfSome};
 ghost use Rattle.mb_instr.specs.Control.{code_of, control_of, is_control_code, kept_bits};
 
 use mb_port::MmuReg;
@@ -26,7 +26,7 @@ impl ControlRegister {
     pub fn code(self) -> u16
         ensures value { result ≡ code_of self }
         ensures decoded { is_control_code result ≡ true }
-        ensures named { control_of result ≡ self }
+        ensures named { control_of result ≡ Some self }
     {
         match self {
             ControlRegister::Sfc => 0x000,
@@ -47,14 +47,14 @@ impl ControlRegister {
         }
     }
 
-    /// The register with a code, which is one of the table.
+    /// The register with a code, if one has it.
     #[inline(always)]
     #[tactic(auto, unfolding(crate::specs::Control::is_control_code))]
-    pub fn of(code: u16) -> ControlRegister
+    pub fn of(code: u16) -> Option<ControlRegister>
         ensures value { result ≡ control_of code }
-        ensures coded { is_control_code code ≡ true → code_of result ≡ code }
+        ensures coded { IfSome result (λ register. code_of register ≡ code) }
     {
-        match code {
+        let register = match code {
             0x000 => ControlRegister::Sfc,
             0x001 => ControlRegister::Dfc,
             0x002 => ControlRegister::Cacr,
@@ -69,8 +69,10 @@ impl ControlRegister {
             0x804 => ControlRegister::Isp,
             0x805 => ControlRegister::Mmu(MmuReg::Mmusr),
             0x806 => ControlRegister::Mmu(MmuReg::Urp),
-            _ => ControlRegister::Mmu(MmuReg::Srp),
-        }
+            0x807 => ControlRegister::Mmu(MmuReg::Srp),
+            _ => return None,
+        };
+        Some(register)
     }
 
     /// Whether a register has the code.
@@ -78,7 +80,7 @@ impl ControlRegister {
     pub fn has_code(code: u16) -> bool
         ensures { result ≡ is_control_code code }
     {
-        ControlRegister::of(code).code() == code
+        ControlRegister::of(code).is_some()
     }
 
     /// The bits that it keeps of what is written to it.

@@ -265,7 +265,7 @@ pub enum Arith {
     ExtbL {
         register: u8,
     },
-    /// The instructions on bit fields; the word is `0nnn Ooooo oWww www`.
+    /// The instructions on bit fields; the word is `0nnn Oooo ooWw wwww`.
     Field {
         kind: FieldKind,
         ea: Ea,

@@ -1,5 +1,5 @@
 -- MOVEC.
-use Rattle.std.specs.Prelude.{ℕ, ◌%◌, ◌^◌, bit_and, Bool}
+use Rattle.std.specs.Prelude.{ℕ, ◌%◌, ◌^◌, bit_and, Bool, Option, Some, None}
 use Rattle.mb_port.specs.Routine.{Routine, Return, Then, choose, mmu, set_mmu}
 use Rattle.mb_port.specs.Registers.{mmu_register}
 use Rattle.mb_instr.specs.Registers.{plain_of, register_of, with_register}
@@ -8,10 +8,11 @@ use Rattle.mb_instr.specs.declared.control.ControlRegister.{ControlRegister}
 use Rattle.mb_instr.specs.declared.control.ControlRegister.TheVariants as control
 use Rattle.mb_instr.specs.Control.{control_of, kept_bits}
 use Rattle.mb_meaning.specs.Operands.{named_register}
-use Rattle.mb_meaning.specs.SystemEnds.{with_registers}
+use Rattle.mb_meaning.specs.SystemEnds.{SystemPerformed, with_registers, completing, ended_by}
+use Rattle.mb_meaning.specs.Attempt.{illegal}
 
 -- the control register that a word names in its other bits
-abbrev pub named_control : ℕ → ControlRegister
+abbrev pub named_control : ℕ → Option ControlRegister
 named_control word = control_of (word % 2 ^ 12)
 
 -- what a control register holds; those of the memory management unit stand at the bus
@@ -36,18 +37,23 @@ setting_control control.Msp value cpu = Return (record cpu { regs = record cpu.r
 setting_control control.Isp value cpu = Return (record cpu { regs = record cpu.regs { isp = value } })
 setting_control (control.Mmu which) value cpu = Then (set_mmu which value) (λ done. Return cpu)
 
--- MOVEC to a control register: it keeps those bits of the other register that it has
-unfoldable pub to_control_of : ℕ → Cpu → Routine Cpu
-to_control_of word cpu =
-    let register = named_control word in
-    setting_control register (bit_and (register_of (plain_of cpu.regs) (named_register word)) (kept_bits register)) cpu
+-- MOVEC to a control register: it keeps those bits of register n of all sixteen that it has
+unfoldable pub to_control_of : ControlRegister → ℕ → Cpu → Routine Cpu
+to_control_of register n cpu =
+    setting_control register (bit_and (register_of (plain_of cpu.regs) n) (kept_bits register)) cpu
 
--- MOVEC from a control register: to all of the other one
-unfoldable pub from_control_of : ℕ → Cpu → Routine Cpu
-from_control_of word cpu =
-    Then (control_value (named_control word) cpu)
-    (λ value. Return (with_registers (with_register (plain_of cpu.regs) (named_register word) value) cpu))
+-- MOVEC from a control register: to all of register n
+unfoldable pub from_control_of : ControlRegister → ℕ → Cpu → Routine Cpu
+from_control_of register n cpu =
+    Then (control_value register cpu)
+    (λ value. Return (with_registers (with_register (plain_of cpu.regs) n value) cpu))
+
+-- A code that no control register has makes no instruction.
+abbrev pub moving_control : Option ControlRegister → Bool → ℕ → Cpu → Routine SystemPerformed
+moving_control (Some register) to_control n cpu =
+    completing (choose to_control (to_control_of register n cpu) (from_control_of register n cpu))
+moving_control None to_control n cpu = Return (ended_by illegal cpu)
 
 -- MOVEC
-abbrev pub movec_of : Bool → ℕ → Cpu → Routine Cpu
-movec_of to_control word cpu = choose to_control (to_control_of word cpu) (from_control_of word cpu)
+unfoldable pub movec_of : Bool → ℕ → Cpu → Routine SystemPerformed
+movec_of to_control word cpu = moving_control (named_control word) to_control (named_register word) cpu

@@ -48,8 +48,8 @@ into_register size target n p cpu = do
 abbrev pub is_store : ℕ → Bool
 is_store word = word / 2 ^ 11 % 2 == 1
 
--- MOVES: the operand's words are behind the word that names the register. A memory indirection of its address is read
--- in supervisor space; only the operand itself goes by SFC or DFC.
+-- MOVES: the operand's words are behind the word that names the register. A memory indirection of its address reads in
+-- supervisor space, whatever the function codes say. Only the operand itself goes by SFC or DFC.
 unfoldable pub moves_of : Size → Ea → ℕ → ℕ → Cpu → Routine SystemPerformed
 moves_of size ea word at cpu = do
   to ← reading_for cpu (resolve_of ea size (sum (first_word at) 2) Super (plain_of cpu.regs))

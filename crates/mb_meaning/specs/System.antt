@@ -1,22 +1,33 @@
 -- What only a supervisor does.
-use Rattle.std.specs.Prelude.{ℕ}
+use Rattle.std.specs.Prelude.{ℕ, Ok}
 use Rattle.mb_port.specs.Routine.{Routine, Return, Then, reset_devices}
 use Rattle.mb_instr.specs.declared.instruction.System.{System}
 use Rattle.mb_instr.specs.declared.instruction.System.TheVariants as system
 use Rattle.mb_alu.specs.declared.bitwise.LogicKind.TheVariants as logic
+use Rattle.mb_writes.specs.declared.ends.Ended.{Ended}
 use Rattle.mb_writes.specs.declared.ends.Ended.TheVariants as ended
 use Rattle.mb_model.specs.declared.processor.Cpu.{Cpu}
 use Rattle.mb_meaning.specs.SystemEnds.{SystemPerformed, completed, redirected, ended_by, completing}
 use Rattle.mb_meaning.specs.Status.{status_by, to_status_of, from_status_of, stop_of, move_usp_of}
 use Rattle.mb_meaning.specs.Control.{movec_of}
 use Rattle.mb_meaning.specs.Spaces.{moves_of, pflush_of, ptest_of}
+use Rattle.mb_meaning.specs.Return.{Returned, return_of}
 
 -- RESET: the devices are reset, and the processor goes on
 abbrev pub reset_of : Cpu → Routine Cpu
 reset_of cpu = Then reset_devices (λ done. Return cpu)
 
+-- how RTE ended, as a row's routine answers it
+abbrev pub gone_by : Ended → Cpu → SystemPerformed
+gone_by (ended.Done flow) cpu = Ok (record { flow = flow; cpu = cpu })
+gone_by end cpu = ended_by end cpu
+
+-- RTE. What it tells of the frame that it took is for its finish.
+abbrev pub gone_back : Routine Returned → Routine SystemPerformed
+gone_back m = Then m (λ returned. Return (gone_by returned.ended returned.cpu))
+
 -- What a privileged instruction does in supervisor mode. `at` is its address; PC is past it. CINV and CPUSH do nothing
--- more. RTE goes back from an exception, and is not carried out here.
+-- more.
 unfoldable pub perform_system_of : System → ℕ → Cpu → Routine SystemPerformed
 perform_system_of (system.AndiSr word) at cpu = Return (redirected (status_by logic.And word cpu))
 perform_system_of (system.OriSr word) at cpu = Return (redirected (status_by logic.Or word cpu))
@@ -25,11 +36,11 @@ perform_system_of (system.ToSr ea) at cpu = to_status_of ea at cpu
 perform_system_of (system.FromSr ea) at cpu = from_status_of ea at cpu
 perform_system_of (system.Stop word) at cpu = Return (redirected (stop_of word cpu))
 perform_system_of (system.MoveUsp from_usp register) at cpu = Return (completed (move_usp_of from_usp register cpu))
-perform_system_of (system.Movec to_control word) at cpu = completing (movec_of to_control word cpu)
+perform_system_of (system.Movec to_control word) at cpu = movec_of to_control word cpu
 perform_system_of (system.Moves size ea word) at cpu = moves_of size ea word at cpu
 perform_system_of system.Reset at cpu = completing (reset_of cpu)
 perform_system_of (system.Cinv caches scope register) at cpu = Return (completed cpu)
 perform_system_of (system.Cpush caches scope register) at cpu = Return (completed cpu)
 perform_system_of (system.Pflush kind register) at cpu = completing (pflush_of kind register cpu)
 perform_system_of (system.Ptest is_read register) at cpu = completing (ptest_of is_read register cpu)
-perform_system_of system.Rte at cpu = Return (ended_by (ended.Refused 8) cpu)
+perform_system_of system.Rte at cpu = gone_back (return_of cpu)

@@ -190,7 +190,7 @@ abbrev pub field_part : Range → FieldNumber ℤ → Option ℕ
 field_part r (field_number.Data n) = Some (2 ^ 5 + n % 8)
 field_part r (field_number.Number e) = number r e
 
--- `0000 Ooooo oWww www`
+-- `0000 Oooo ooWw wwww`
 unfoldable pub field_bits : BitField ℤ → Option ℕ
 field_bits f = option_and_then
     (λ o. option_map (λ w. o * 2 ^ 6 + w) (field_part range.Width f.width)) (field_part range.Offset f.offset)

@@ -26,7 +26,7 @@ long_pair s w n = n.upper % 8 * 2 ^ 12 + flag s * 2 ^ 11 + flag w * 2 ^ 10 + n.l
 unfoldable pub control : Named → ℕ → ℕ
 control n code = n.upper % 16 * 2 ^ 12 + code % 2 ^ 12
 
--- `0nnn Ooooo oWww www`
+-- `0nnn Oooo ooWw wwww`
 unfoldable pub field_word : Named → ℕ → ℕ
 field_word n bits = n.upper % 8 * 2 ^ 12 + bits % 2 ^ 12
 

@@ -52,7 +52,7 @@ fn control(names: &Named, code: u16) -> u16
     u16::from(names.upper % 16) * 0x1000 + code % 0x1000
 }
 
-/// `0nnn Ooooo oWww www`.
+/// `0nnn Oooo ooWw wwww`.
 #[tactic(auto, unfolding(crate::specs::Words::field_word))]
 fn field_word(names: &Named, bits: u16) -> u16
     ensures { result ≡ field_word names.now bits }

@@ -226,7 +226,7 @@ fn field_part(range: Range, field: &FieldNumber<i64>) -> Option<u32>
     }
 }
 
-/// `0000 Ooooo oWww www`.
+/// `0000 Oooo ooWw wwww`.
 #[tactic(auto, unfolding(crate::specs::Operands::field_bits))]
 fn field_bits(field: &BitField<i64>) -> Option<u16>
     ensures { result ≡ field_bits field.now }

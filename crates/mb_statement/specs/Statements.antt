@@ -34,6 +34,7 @@ use Rattle.mb_instr.specs.declared.instruction.Instr.TheVariants as instr
 use Rattle.mb_syntax.specs.declared.statement.SizeLetter.{SizeLetter}
 use Rattle.mb_syntax.specs.declared.statement.SizeLetter.TheVariants as letter
 use Rattle.mb_instr.specs.declared.operand.Ea.TheVariants.{Pre}
+use Rattle.mb_instr.specs.declared.control.ControlRegister.{ControlRegister}
 use Rattle.mb_instr.specs.declared.control.ControlRegister.TheVariants as control
 use Rattle.mb_instr.specs.Control.{control_of}
 use Rattle.mb_syntax.specs.declared.mode.Width.TheVariants as width
@@ -147,7 +148,7 @@ list mask = one_among mask 16
 abbrev pub field_number : Bool → ℕ → ℕ → FieldNumber ℤ
 field_number is_register n e = if is_register then field_part.Data n else field_part.Number (pos e)
 
--- `0nnn Ooooo oWww www`; a width of 32 is spelled 0
+-- `0nnn Oooo ooWw wwww`; a width of 32 is spelled 0
 unfoldable pub field_of : ℕ → BitField ℤ
 field_of w = record {
   offset = field_number (w / 2 ^ 11 % 2 == 1) (w / 2 ^ 6 % 8) (w / 2 ^ 6 % 32);
@@ -158,9 +159,13 @@ field_of w = record {
 abbrev pub field : ℕ → Ea → ℕ → Operand ℤ
 field at ea w = operand.Field (mode_of (behind at 2) ea) (field_of w)
 
--- the control register with a code of the table
+-- the control register with a code; a code that no register has stands as a number
+abbrev pub control_operand : Option ControlRegister → ℕ → Operand ℤ
+control_operand (Some register) code = operand.Control register
+control_operand None code = count code
+
 abbrev pub control_register : ℕ → Operand ℤ
-control_register code = operand.Control (control_of code)
+control_register code = control_operand (control_of code) code
 
 -- the mask of MOVEM in the order of its list: before -(An) it is spelled in the other order
 abbrev pub mask_for : Ea → ℕ → ℕ

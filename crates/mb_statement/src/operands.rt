@@ -177,7 +177,7 @@ fn field_number(is_register: bool, n: u8, value: u8) -> FieldNumber<i64>
     }
 }
 
-/// `0nnn Ooooo oWww www`; a width of 32 is spelled 0.
+/// `0nnn Oooo ooWw wwww`; a width of 32 is spelled 0.
 #[tactic(auto, unfolding(crate::specs::Statements::field_of))]
 fn field_of(word: u16) -> BitField<i64>
     ensures { result ≡ statements.field_of word }
@@ -204,9 +204,12 @@ pub(crate) fn field(at: u32, ea: &Ea, word: u16) -> Operand<i64>
     }
 }
 
-/// The control register with a code of the table.
+/// The control register with a code. A code that no register has stands as a number.
 pub(crate) fn control_register(code: u16) -> Operand<i64>
     ensures { result ≡ statements.control_register code }
 {
-    Operand::Control(ControlRegister::of(code))
+    match ControlRegister::of(code) {
+        Some(register) => Operand::Control(register),
+        None => count(u32::from(code)),
+    }
 }

@@ -1,19 +1,25 @@
 //! MOVEC.
 
-ghost use Rattle.std.specs.Prelude.{◌≡◌, ◌<◌, bit_and};
+ghost use Rattle.std.specs.Prelude.{◌≡◌, ◌<◌, bit_and, IfErr};
 ghost use Rattle.mb_port.specs.Routine.{run};
 ghost use Rattle.mb_instr.specs.Control.{kept_bits};
+ghost use Rattle.mb_meaning.specs.SystemEnds.{system_carried_by};
 ghost use Rattle.mb_meaning.specs.Control.{named_control};
 ghost use Rattle.mb_meaning.specs.Control.{control_value, setting_control, to_control_of, from_control_of, movec_of};
+ghost use Rattle.mb_system.specs.Ends.{SystemEnds};
 
 use mb_instr::ControlRegister;
 use mb_model::Cpu;
 use mb_operands::named_register;
 use mb_port::Port;
+use mb_writes::Ended;
+
+/// The vector of an illegal instruction.
+const ILLEGAL: u8 = 4;
 
 /// The control register that a word names in its other bits.
 #[inline(always)]
-fn named_control(word: u16) -> ControlRegister
+fn named_control(word: u16) -> Option<ControlRegister>
     ensures { result ≡ named_control word }
 {
     ControlRegister::of(word & 0xfff)
@@ -22,7 +28,7 @@ fn named_control(word: u16) -> ControlRegister
 /// What a control register holds; those of the memory management unit stand at the bus.
 #[inline(always)]
 #[tactic(auto, unfolding(mb_meaning::specs::Control::control_value))]
-fn control<P: Port>(register: ControlRegister, cpu: &Cpu, port: &P) -> u32
+fn control_value<P: Port>(register: ControlRegister, cpu: &Cpu, port: &P) -> u32
     ensures { run P.bus (control_value register cpu.now) (P.world port.now) ≡ (result, P.world port.now) }
 {
     match register {
@@ -61,35 +67,51 @@ fn set_control<P: Port>(register: ControlRegister, value: u32, cpu: &mut Cpu, po
 /// MOVEC to a control register.
 #[inline(always)]
 #[tactic(auto, unfolding(mb_meaning::specs::Control::to_control_of))]
-fn move_to_control<P: Port>(word: u16, cpu: &mut Cpu, port: &mut P)
-    ensures means { run P.bus (to_control_of word cpu.old) (P.world port.old) ≡ (cpu.new, P.world port.new) }
+fn move_to_control<P: Port>(control: ControlRegister, register: u8, cpu: &mut Cpu, port: &mut P)
+    requires { register < 16 }
+    ensures means { run P.bus (to_control_of control register cpu.old) (P.world port.old)
+        ≡ (cpu.new, P.world port.new) }
     ensures rest { P.rest port.new ≡ P.rest port.old }
 {
-    let value = cpu.regs.plain().register(named_register(word));
-    set_control(named_control(word), value, cpu, port);
+    let value = cpu.regs.plain().register(register);
+    set_control(control, value, cpu, port);
 }
 
 /// MOVEC from a control register: to all of the other one.
 #[inline(always)]
 #[tactic(auto, unfolding(mb_meaning::specs::Control::from_control_of))]
-fn move_from_control<P: Port>(word: u16, cpu: &mut Cpu, port: &P)
-    ensures { run P.bus (from_control_of word cpu.old) (P.world port.now) ≡ (cpu.new, P.world port.now) }
+fn move_from_control<P: Port>(control: ControlRegister, register: u8, cpu: &mut Cpu, port: &P)
+    requires { register < 16 }
+    ensures { run P.bus (from_control_of control register cpu.old) (P.world port.now) ≡ (cpu.new, P.world port.now) }
 {
-    let value = control(named_control(word), cpu, port);
+    let value = control_value(control, cpu, port);
     let mut plain = cpu.regs.plain();
-    plain.set_register(named_register(word), value);
+    plain.set_register(register, value);
     cpu.regs.set_plain(&plain);
 }
 
-/// MOVEC.
+/// MOVEC. A code that no control register has makes no instruction.
 #[inline(always)]
-pub(crate) fn move_control<P: Port>(to_control: bool, word: u16, cpu: &mut Cpu, port: &mut P)
-    ensures means { run P.bus (movec_of to_control word cpu.old) (P.world port.old) ≡ (cpu.new, P.world port.new) }
+#[tactic(auto, unfolding(mb_meaning::specs::Control::movec_of))]
+pub(crate) fn move_control<P: Port>(
+    to_control: bool,
+    word: u16,
+    cpu: &mut Cpu,
+    port: &mut P,
+) -> Result<(), Ended>
+    ensures means { run P.bus (movec_of to_control word cpu.old) (P.world port.old)
+        ≡ (system_carried_by result cpu.new, P.world port.new) }
+    ensures ends { IfErr result (λ end. SystemEnds end cpu.old cpu.new) }
     ensures rest { P.rest port.new ≡ P.rest port.old }
 {
+    let Some(control) = named_control(word) else {
+        return Err(Ended::Refused(ILLEGAL));
+    };
+    let register = named_register(word);
     if to_control {
-        move_to_control(word, cpu, port);
+        move_to_control(control, register, cpu, port);
     } else {
-        move_from_control(word, cpu, port);
+        move_from_control(control, register, cpu, port);
     }
+    Ok(())
 }

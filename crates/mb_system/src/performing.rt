@@ -1,6 +1,6 @@
 //! Privileged instructions, each by its row.
 
-ghost use Rattle.std.specs.Prelude.{◌≡◌, IfErr};
+ghost use Rattle.std.specs.Prelude.{◌≡◌, ◌≢◌, IfErr};
 ghost use Rattle.mb_port.specs.Routine.{run};
 ghost use Rattle.mb_instr.specs.Codes.{IsInstr};
 ghost use Rattle.mb_instr.specs.declared.instruction.Instr.TheVariants as instr;
@@ -17,9 +17,6 @@ use mb_model::Cpu;
 use mb_port::Port;
 use mb_writes::Ended;
 
-/// The vector of a privilege violation.
-const PRIVILEGED: u8 = 8;
-
 /// Carries out the instruction by its row. The answer is whether T0 asks for a trace after it, or how it ended
 /// otherwise.
 #[inline(always)]
@@ -30,7 +27,8 @@ fn carry_out<P: Port>(
     cpu: &mut Cpu,
     port: &mut P,
 ) -> Result<bool, Ended>
-    requires { IsInstr (instr.System instruction.now) }
+    requires row { IsInstr (instr.System instruction.now) }
+    requires stays { instruction.now ≢ System.Rte }
     ensures means { run P.bus (perform_system_of instruction.now at cpu.old) (P.world port.old)
         ≡ (system_performed_by result cpu.new, P.world port.new) }
     ensures ends { IfErr result (λ end. SystemEnds end cpu.old cpu.new) }
@@ -56,7 +54,7 @@ fn carry_out<P: Port>(
             return Ok(true);
         }
         System::MoveUsp { from_usp, register } => move_usp(*from_usp, *register, cpu),
-        System::Movec { to_control, word } => move_control(*to_control, *word, cpu, port),
+        System::Movec { to_control, word } => move_control(*to_control, *word, cpu, port)?,
         System::Moves { size, ea, word } => {
             move_by_function_code(*size, ea, *word, at, cpu, port)?;
         }
@@ -64,16 +62,16 @@ fn carry_out<P: Port>(
         System::Cinv { .. } | System::Cpush { .. } => {}
         System::Pflush { kind, register } => flush(*kind, *register, cpu, port),
         System::Ptest { is_read, register } => test(*is_read, *register, cpu, port),
-        System::Rte => return Err(Ended::Refused(PRIVILEGED)),
+        System::Rte => unreachable!(),
     }
     Ok(false)
 }
 
-/// Carries out a privileged instruction in supervisor mode, which stands at `at`. PC is past its words already. RTE,
-/// which goes back from an exception, is not carried out here.
+/// Carries out a privileged instruction but RTE in supervisor mode, which stands at `at`. PC is past its words already.
 #[inline(always)]
 pub fn perform_system<P: Port>(instruction: &System, at: u32, cpu: &mut Cpu, port: &mut P) -> Ended
-    requires { IsInstr (instr.System instruction.now) }
+    requires row { IsInstr (instr.System instruction.now) }
+    requires stays { instruction.now ≢ System.Rte }
     ensures means { run P.bus (system_closing (perform_system_of instruction.now at cpu.old)) (P.world port.old)
         ≡ ((result, cpu.new), P.world port.new) }
     ensures ends { SystemEnds result cpu.old cpu.new }
