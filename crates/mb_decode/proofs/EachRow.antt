@@ -18,6 +18,7 @@ use Rattle.mb_instr.specs.declared.instruction.Move as the_move
 use Rattle.mb_instr.specs.declared.instruction.Arith as the_arith
 use Rattle.mb_instr.specs.declared.instruction.Flow as the_flow
 use Rattle.mb_instr.specs.declared.instruction.System as the_system
+use Rattle.mb_instr.specs.Shapes.{further}
 use Rattle.mb_decode.specs.RowReading.{row_at, low_line, high_line}
 use Rattle.mb_decode.proofs.Found.{eq_true}
 use Rattle.mb_decode.proofs.Fields.{test_holds}
@@ -38,7 +39,7 @@ use Rattle.mb_decode.proofs.Line15.{cinv_read, cpush_read, pflush_read, ptest_re
 
 -- a row is read from its spelling, whatever follows
 abbrev IsRead : Instr → Type 0
-IsRead i = (rest : List ℕ) → (row i).legal ≡ true → row_at (row i).opcode ((row i).further ++ rest) ≡ Ok (i, rest)
+IsRead i = (rest : List ℕ) → (row i).legal ≡ true → row_at (row i).opcode (further (row i) ++ rest) ≡ Ok (i, rest)
 
 movep_legal : (s : Size) → (not_byte s && true) ≡ true → not_byte s ≡ true
 movep_legal s h = test_holds (not_byte s) h

@@ -196,13 +196,13 @@ bounds_cases s w ea true e h =
     let low = eq_true (w % 2 ^ 11) 0 p.0 in
     let bit = eq_true (w / 2 ^ 11 % 2) 0 e in
     let all : w % 2 ^ 12 ≡ 0 = omega arith in
-    record { legal = both (rw all refl) p.1; opcode = refl; further = refl }
+    record { legal = both (rw all refl) p.1; opcode = refl; words = refl }
 bounds_cases s w ea false e h =
     let p = and_is (holds rule.RegisterAndBit w) (takes Control s ea) h in
     let low = eq_true (w % 2 ^ 11) 0 p.0 in
     let bit = eq_false (w / 2 ^ 11 % 2) 0 e in
     let all : w % 2 ^ 12 ≡ 2048 = omega arith in
-    record { legal = both (rw all refl) p.1; opcode = refl; further = refl }
+    record { legal = both (rw all refl) p.1; opcode = refl; words = refl }
 
 bounds_0_shape : (p : Opcode) → IsOpcode p → p.line ≡ 0 → p.bit ≡ 0 → p.size ≡ 3 → Shape row p (bounds_0 p)
 unfolding bounds_0

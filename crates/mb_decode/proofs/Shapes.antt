@@ -15,7 +15,7 @@ use Rattle.mb_instr.specs.Sizes.{size_bits, size_of}
 use Rattle.mb_instr.specs.Rules.{holds}
 use Rattle.mb_instr.specs.Opcodes.{IsOpcode}
 use Rattle.mb_instr.specs.Operands.{allows, takes}
-use Rattle.mb_instr.specs.Shapes.{Row, op, bare, with_word, with_long, with_ruled, at_ea, sized, word_ea, immediate_ea, when, branch_byte, branch_words}
+use Rattle.mb_instr.specs.Shapes.{Row, further, op, bare, with_word, with_long, with_ruled, at_ea, sized, word_ea, immediate_ea, when, branch_byte, branch_words}
 use Rattle.mb_instr.specs.Shapes.{is_branch}
 use Rattle.mb_instr.specs.Rows.{row, trap_lower, trap_words}
 use Rattle.mb_instr.specs.Codes.{AreWords}
@@ -32,7 +32,7 @@ use Rattle.mb_decode.proofs.Steady.{word_steady, long_steady, ruled_steady}
 pub record Fits (r : Row) (p : Opcode) (ws rest : List ℕ) : Type 0 where
   pub legal : r.legal ≡ true
   pub opcode : r.opcode ≡ p
-  pub taken : Takes ws r.further rest
+  pub taken : Takes ws (further r) rest
 
 abbrev pub Found : {X : Type 0} → (X → Row) → Opcode → List ℕ → Result (X × List ℕ) Stop → Type 0
 Found spell p ws (Ok x) = Fits (spell x.0) p ws x.1
@@ -136,7 +136,7 @@ made_row spell p r make sh same = record {
 pub record Same (r q : Row) : Type 0 where
   pub legal : r.legal ≡ true
   pub opcode : r.opcode ≡ q.opcode
-  pub further : r.further ≡ q.further
+  pub words : further r ≡ further q
 
 -- the same, where what is made is the row only of legal parts
 pub made_row_if : {X : Type 0} (spell : X → Row) (p : Opcode) (r : Reader X) (make : X → Instr) → Shape spell p r →
@@ -145,7 +145,7 @@ made_row_if spell p r make sh same = record {
   found = λ ws h. after r (λ x. give (make x)) ws (Found row p ws) (λ e. tt) (λ x rest e.
       let f = subst (Found spell p ws) e (sh.found ws h) in
       let s = same x f.legal in
-      record { legal = s.legal; opcode = s.opcode ∙ f.opcode; taken = subst (λ (t : List ℕ). Takes ws t rest) (sym s.further) f.taken });
+      record { legal = s.legal; opcode = s.opcode ∙ f.opcode; taken = subst (λ (t : List ℕ). Takes ws t rest) (sym s.words) f.taken });
   steady = made_steady r make sh.steady;
 }
 

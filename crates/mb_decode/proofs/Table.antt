@@ -13,6 +13,7 @@ use Rattle.mb_instr.specs.Rows.{row}
 use Rattle.mb_instr.specs.Codes.{IsInstr, Codes, AreWords}
 use Rattle.mb_instr.proofs.Opcodes.{word_again, opcode_again, IsOpcode-of}
 use Rattle.mb_instr.proofs.Words.{IsWord, AreWords-nil, AreWords-head, AreWords-tail, AreWords-left, AreWords-append, Codes-length}
+use Rattle.mb_instr.specs.Shapes.{further}
 use Rattle.mb_decode.specs.declared.reading.Stop.{Stop}
 use Rattle.mb_decode.specs.declared.reading.Stop.TheVariants as stop
 use Rattle.mb_decode.specs.declared.front.Decoded.{Decoded}
@@ -36,14 +37,14 @@ spells_at : (first : ℕ) (ws : List ℕ) (i : Instr) (rest : List ℕ) → firs
 spells_at first ws i rest lt h e = subst (Found row (opcode_of first) ws) e ((row_shape (opcode_of first) (IsOpcode-of first lt)).found ws h)
 
 codes_at : (first : ℕ) (ws : List ℕ) (i : Instr) (rest : List ℕ) → first < 2 ^ 16 → AreWords ws → Fits (row i) (opcode_of first) ws rest →
-    Codes i (first ∷ (row i).further)
+    Codes i (first ∷ further (row i))
 codes_at first ws i rest lt h s = record {
   has = record {
     legal = s.legal;
     fields = rw s.opcode (IsOpcode-of first lt);
-    are_words = AreWords-left (row i).further rest (subst AreWords s.taken.parts h);
+    are_words = AreWords-left (further (row i)) rest (subst AreWords s.taken.parts h);
   };
-  words = ap (λ (w : ℕ). w ∷ (row i).further) (sym (ap word_of s.opcode ∙ word_again first));
+  words = ap (λ (w : ℕ). w ∷ further (row i)) (sym (ap word_of s.opcode ∙ word_again first));
 }
 
 whole : (first : ℕ) (ws : List ℕ) (i : Instr) (rest : List ℕ) → first < 2 ^ 16 → AreWords ws → row_at (opcode_of first) ws ≡ read i rest →
@@ -53,14 +54,14 @@ whole first ws i rest lt h e =
     let parts = s.taken.parts in
     let text = codes_at first ws i rest lt h s in
     let split = ap (λ (t : List ℕ). first ∷ t) parts in
-    (first ∷ (row i).further, rest, text, split, omega (arith, ap length parts, length-append (row i).further rest))
+    (first ∷ further (row i), rest, text, split, omega (arith, ap length parts, length-append (further (row i)) rest))
 
 unfinished : (first : ℕ) (ws : List ℕ) → first < 2 ^ 16 → AreWords ws → row_at (opcode_of first) ws ≡ Err stop.More → IsUnfinished (first ∷ ws)
 unfinished first ws lt h e =
     let c = (row_shape (opcode_of first) (IsOpcode-of first lt)).steady.completes ws e in
     let all = AreWords-append ws (c.word ∷ c.others) h c.are_words in
     let s = spells_at first (ws ++ c.word ∷ c.others) c.value [] lt all c.reads in
-    let parts = ap (λ (t : List ℕ). first ∷ t) (sym (s.taken.parts ∙ append-nil (row c.value).further)) in
+    let parts = ap (λ (t : List ℕ). first ∷ t) (sym (s.taken.parts ∙ append-nil (further (row c.value)))) in
     (c.value, c.word, c.others, subst (Codes c.value) parts (codes_at first _ c.value [] lt all s))
 
 -- no words: an instruction of one word is still to come
@@ -85,7 +86,7 @@ heads a b x y e = (cc, cc)
 -- a spelling at the front is read
 spelled_read : (first : ℕ) (ws : List ℕ) (i : Instr) (w rest : List ℕ) → Codes i w → first ∷ ws ≡ w ++ rest → row_at (opcode_of first) ws ≡ read i rest
 spelled_read first ws i w rest c e =
-    let h = heads first (word_of (row i).opcode) ws ((row i).further ++ rest) (e ∙ ap (λ (t : List ℕ). t ++ rest) c.words) in
+    let h = heads first (word_of (row i).opcode) ws (further (row i) ++ rest) (e ∙ ap (λ (t : List ℕ). t ++ rest) c.words) in
     rw (h.0, h.1, opcode_again (row i).opcode c.has.fields) (row_read i rest c.has.legal)
 
 not_both : (x : Instr × List ℕ) → read x.0 x.1 ≡ Err stop.Illegal → ⊥
@@ -159,7 +160,7 @@ pub after_shorter : (first : ℕ) (ws : List ℕ) (i : Instr) (rest : List ℕ) 
     length rest ≤ length ws
 after_shorter first ws i rest lt h e =
     let parts = (spells_at first ws i rest lt h e).taken.parts in
-    omega (arith, ap length parts, length-append (row i).further rest)
+    omega (arith, ap length parts, length-append (further (row i)) rest)
 
 pub taken_length : (first : ℕ) (ws : List ℕ) (i : Instr) (rest : List ℕ) → first < 2 ^ 16 → AreWords ws → row_at (opcode_of first) ws ≡ read i rest →
     1 + (length ws - length rest) ≤ 11
@@ -176,15 +177,15 @@ from_read : (first : ℕ) (ws : List ℕ) (i : Instr) (rest : List ℕ) → row_
 unfolding decode_from
 from_read first ws i rest e = ap (λ (r : Result (Instr × List ℕ) Stop). elim r [ Ok x ↦ Whole x.0 (1 + (length ws - length x.1)) | Err d ↦ stopped first d ]) e
 
-again : (i : Instr) (first : ℕ) (further rest : List ℕ) → Codes i (first ∷ further) → decode_of (first ∷ further ++ rest) ≡ Whole i (length (first ∷ further))
+again : (i : Instr) (first : ℕ) (others rest : List ℕ) → Codes i (first ∷ others) → decode_of (first ∷ others ++ rest) ≡ Whole i (length (first ∷ others))
 unfolding decode_of
-again i first further rest c =
-    let n-is : 1 + (length (further ++ rest) - length rest) ≡ length (first ∷ further) = omega (arith, length-append further rest) in
-    from_read first (further ++ rest) i rest (spelled_read first (further ++ rest) i (first ∷ further) rest c refl) ∙ ap (λ (n : ℕ). Whole i n) n-is
+again i first others rest c =
+    let n-is : 1 + (length (others ++ rest) - length rest) ≡ length (first ∷ others) = omega (arith, length-append others rest) in
+    from_read first (others ++ rest) i rest (spelled_read first (others ++ rest) i (first ∷ others) rest c refl) ∙ ap (λ (n : ℕ). Whole i n) n-is
 
 pub read_again : ReadAgain
 read_again i [] rest c = absurd (omega (arith, (Codes-length i [] c).0))
-read_again i (first ∷ further) rest c = again i first further rest c
+read_again i (first ∷ others) rest c = again i first others rest c
 
 -- an instruction's words alone are read as it
 pub read_back : (i : Instr) (w : List ℕ) → Codes i w → decode_of w ≡ Whole i (length w)
@@ -196,11 +197,11 @@ one_spelling i w v c d = c.words ∙ sym d.words
 pub none_begins : NoneBegins
 none_begins i j w v a b c d e =
     let first = word_of (row i).opcode in
-    let ws = (row i).further ++ a in
+    let ws = further (row i) ++ a in
     let at_i = spelled_read first ws i w a c (ap (λ (t : List ℕ). t ++ a) (sym c.words)) in
     let at_j = spelled_read first ws j v b d (ap (λ (t : List ℕ). t ++ a) (sym c.words) ∙ e) in
     let same : i ≡ j = ap (λ r. elim r [ Ok x ↦ x.0 | Err d ↦ i ]) (sym at_i ∙ at_j) in
-    (same, c.words ∙ sym (subst (λ (k : Instr). v ≡ word_of (row k).opcode ∷ (row k).further) (sym same) d.words))
+    (same, c.words ∙ sym (subst (λ (k : Instr). v ≡ word_of (row k).opcode ∷ further (row k)) (sym same) d.words))
 
 one_whole : (ws : List ℕ) (i j : Instr) (n m : ℕ) → BeginsWith ws i n → BeginsWith ws j m → Whole i n ≡ Whole j m
 one_whole ws i j n m x y =

@@ -5,7 +5,7 @@ use Rattle.std.proofs.lemmas.Bool.Decides.{nat_tests}
 use Rattle.std.proofs.lemmas.List.Elements.{All-from_get_or}
 use Rattle.mb_instr.specs.declared.opcode.Opcode.{Opcode}
 use Rattle.mb_instr.specs.Opcodes.{word_of, is_opcode, IsOpcode}
-use Rattle.mb_instr.specs.Shapes.{Row}
+use Rattle.mb_instr.specs.Shapes.{Row, further}
 use Rattle.mb_instr.specs.Codes.{Has, words_of, Spells, AreWords}
 use Rattle.mb_instr.proofs.Words.{IsWord, AreWords-tail}
 use Rattle.mb_encode.specs.Encodes.{written}
@@ -60,7 +60,7 @@ spelled r w e fit =
     let c = chosen (r.legal && is_opcode r.opcode) (words_of r) w e in
     let p = and_is r.legal (is_opcode r.opcode) c.0 in
     record {
-      has = record { legal = p.0; fields = opcode_is r.opcode p.1; are_words = AreWords-tail (word_of r.opcode) r.further (subst AreWords (sym c.1) fit) };
+      has = record { legal = p.0; fields = opcode_is r.opcode p.1; are_words = AreWords-tail (word_of r.opcode) (further r) (subst AreWords (sym c.1) fit) };
       words = sym c.1;
     }
 

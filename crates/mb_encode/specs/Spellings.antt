@@ -21,23 +21,33 @@ has_words (further.ImmediateOperand v s ea) = is_immediate s v && is_spelled s e
 has_words (further.Operands s first second) = is_spelled s first && is_spelled s second
 has_words _ = true
 
+-- the words before those of the operands
+abbrev pub before_words : Further → List ℕ
+before_words (further.WordOperand w s ea) = w ∷ []
+before_words _ = []
+
+-- the operands' words
+abbrev pub operand_words : Further → List ℕ
+operand_words further.Nothing = []
+operand_words (further.Word w) = w ∷ []
+operand_words (further.Words w v) = w ∷ v ∷ []
+operand_words (further.Long v) = long v
+operand_words (further.Operand s ea) = more s ea
+operand_words (further.WordOperand w s ea) = more s ea
+operand_words (further.ImmediateOperand v s ea) = immediate s v ++ more s ea
+operand_words (further.Operands s first second) = more s first ++ more s second
+
 -- the words behind the first
 abbrev pub further_words : Further → List ℕ
-further_words further.Nothing = []
-further_words (further.Word w) = w ∷ []
-further_words (further.Words w v) = w ∷ v ∷ []
-further_words (further.Long v) = long v
-further_words (further.Operand s ea) = more s ea
-further_words (further.WordOperand w s ea) = w ∷ more s ea
-further_words (further.ImmediateOperand v s ea) = immediate s v ++ more s ea
-further_words (further.Operands s first second) = more s first ++ more s second
+further_words f = before_words f ++ operand_words f
 
 -- the line of the table
 unfoldable pub row_of : Spelling → Row
 row_of x = record {
   legal = x.is_legal && has_words x.further;
   opcode = x.opcode;
-  further = further_words x.further;
+  before = before_words x.further;
+  operands = operand_words x.further;
 }
 
 -- whether an operand stands in the low six bits

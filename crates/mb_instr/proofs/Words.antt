@@ -22,7 +22,7 @@ use Rattle.mb_instr.specs.declared.instruction.System.TheVariants as system
 use Rattle.mb_instr.specs.declared.instruction.Instr.{Instr}
 use Rattle.mb_instr.specs.declared.instruction.Instr.TheVariants as instr
 use Rattle.mb_instr.specs.Operands.{more, long, wide, ext, immediate}
-use Rattle.mb_instr.specs.Shapes.{branch_words}
+use Rattle.mb_instr.specs.Shapes.{further, branch_words}
 use Rattle.mb_instr.specs.Rows.{row, move_row, arith_row, flow_row, system_row, trap_words}
 use Rattle.mb_instr.specs.Codes.{Codes, AreWords}
 
@@ -125,7 +125,7 @@ two w v = omega arith
 long_length : (v : ℕ) → IsShort (long v)
 long_length v = omega arith
 
-move_length : (i : Move) → IsShort (move_row i).further
+move_length : (i : Move) → IsShort (further (move_row i))
 move_length (move.Exg x k y) = none
 move_length (move.FromCcr ea) = one_ea size.Word ea
 move_length (move.Lea a ea) = one_ea size.Long ea
@@ -145,7 +145,7 @@ move_length (move.Swap d) = none
 move_length (move.ToCcr ea) = one_ea size.Word ea
 move_length (move.Unlk a) = none
 
-arith_length : (i : Arith) → IsShort (arith_row i).further
+arith_length : (i : Arith) → IsShort (further (arith_row i))
 arith_length (arith_of.Abcd x m y) = none
 arith_length (arith_of.Add d k s ea) = one_ea s ea
 arith_length (arith_of.Adda a s ea) = one_ea s ea
@@ -196,7 +196,7 @@ arith_length (arith_of.Tas ea) = one_ea size.Byte ea
 arith_length (arith_of.Tst s ea) = one_ea s ea
 arith_length (arith_of.Unpk x m y w) = one w
 
-flow_length : (i : Flow) → IsShort (flow_row i).further
+flow_length : (i : Flow) → IsShort (further (flow_row i))
 flow_length (flow.Bcc c d) = branch_length d
 flow_length (flow.Chk d s ea) = one_ea s ea
 flow_length (flow.Chk2 s ea w) = word_and_ea w s ea
@@ -211,7 +211,7 @@ flow_length (flow.Trap n) = none
 flow_length (flow.Trapcc c o) = trap_length o
 flow_length flow.Trapv = none
 
-system_length : (i : System) → IsShort (system_row i).further
+system_length : (i : System) → IsShort (further (system_row i))
 system_length (system.AndiSr w) = one w
 system_length (system.Cinv c s a) = none
 system_length (system.Cpush c s a) = none
@@ -229,7 +229,7 @@ system_length (system.Stop w) = one w
 system_length (system.ToSr ea) = one_ea size.Word ea
 
 -- a row has at most ten words behind the first
-pub further_length : (i : Instr) → length (row i).further ≤ 10
+pub further_length : (i : Instr) → length (further (row i)) ≤ 10
 further_length (instr.Move i) = move_length i
 further_length (instr.Arith i) = arith_length i
 further_length (instr.Flow i) = flow_length i

@@ -9,3 +9,4 @@ pub mod Rows
 pub mod Codes
 pub mod Families
 pub mod Registers
+pub mod Laws

@@ -65,7 +65,8 @@ move_row (move.LinkW a d) = with_word (op 4 7 0 1 2 a) d
 move_row (move.Move s d e) = record {
   legal = takes All s e && takes DataAlterable s d;
   opcode = op (move_bits s) (lower d) (mode d / 4) (mode d % 4) (mode e) (lower e);
-  further = more s e ++ more s d;
+  before = [];
+  operands = more s e ++ more s d;
 }
 move_row (move.Move16Abs k a l) = with_long (op 15 3 0 0 (line_bits k) a) l
 move_row (move.Move16Post x w) = with_ruled rule.Line (op 15 3 0 0 4 x) w
@@ -96,7 +97,8 @@ arith_row (arith.Cas s ea w) = word_ea rule.Swap MemoryAlterable s 0 (5 + size_b
 arith_row (arith.Cas2 s w v) = record {
   legal = not_byte s && holds rule.SwapPair w && holds rule.SwapPair v;
   opcode = op 0 (5 + size_bits s) 0 3 7 4;
-  further = w ∷ v ∷ [];
+  before = [];
+  operands = w ∷ v ∷ [];
 }
 arith_row (arith.Clr s ea) = sized DataAlterable 4 1 0 s ea
 arith_row (arith.Cmp d s ea) = sized All 11 d 0 s ea
@@ -141,7 +143,8 @@ abbrev pub flow_row : Flow → Row
 flow_row (flow.Bcc c d) = record {
   legal = is_branch d;
   opcode = on_condition 6 c (branch_byte d / 64) (branch_byte d / 8 % 8) (branch_byte d % 8);
-  further = branch_words d;
+  before = [];
+  operands = branch_words d;
 }
 flow_row (flow.Chk d s ea) = when (not_byte s) (at_ea Data s 4 d 1 (chk_bits s) ea)
 flow_row (flow.Chk2 s ea w) = word_ea rule.Check Control s 0 (size_bits s) 0 3 w ea
@@ -156,7 +159,8 @@ flow_row (flow.Trap n) = when (nat_lt n 16) (bare (op 4 7 0 1 (n / 8) (n % 8)))
 flow_row (flow.Trapcc c o) = record {
   legal = true;
   opcode = on_condition 5 c 3 7 (trap_lower o);
-  further = trap_words o;
+  before = [];
+  operands = trap_words o;
 }
 flow_row flow.Trapv = bare (op 4 7 0 1 6 6)
 

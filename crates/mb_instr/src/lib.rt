@@ -7,6 +7,7 @@
 mod control;
 mod instruction;
 mod kinds;
+mod laws;
 mod opcode;
 mod operand;
 mod registers;
@@ -19,6 +20,7 @@ pub use kinds::{
     BitKind, Branch, CacheScope, Caches, Condition, Exchange, FieldKind, FlushKind, LineMove,
     ShiftKind, TrapOperand,
 };
+pub use laws::operands_stand;
 pub use opcode::Opcode;
 pub use operand::{Ea, Ext, OperandClass};
 pub use registers::{Plain, Regs};

@@ -14,7 +14,7 @@ use Rattle.mb_alu.specs.declared.conditions.Flagged.{Flagged}
 use Rattle.mb_alu.specs.Sums.{add_of, sub_of, compare_of}
 use Rattle.mb_ea.specs.declared.reading.ReadFault.{ReadFault}
 use Rattle.mb_meaning.specs.Ends.{Performed, carried, reading}
-use Rattle.mb_meaning.specs.Operands.{Fetched, first_word, behind, operand_of, storing}
+use Rattle.mb_meaning.specs.Operands.{Fetched, behind, operand_of, storing}
 use Rattle.mb_meaning.specs.Modifying.{modifying}
 
 -- ---- operations, of a source, a destination and the condition codes
@@ -48,42 +48,42 @@ pair_of size source destination word_at space p = do
 
 -- What an operation makes of a source and a destination goes to the destination. An immediate is a source.
 unfoldable pub combining : (ℕ → ℕ → ℕ → Flagged) → Size → Ea → Ea → ℕ → Space → Plain → Routine Performed
-combining operation size source destination at space p = do
-  pair ← reading p (pair_of size source destination (first_word at) space p)
+combining operation size source destination word_at space p = do
+  pair ← reading p (pair_of size source destination word_at space p)
   let to = pair.destination
   let result = operation pair.source to.value to.plain.ccr
   storing to.target size result.value space (record to.plain { ccr = result.ccr })
 
 -- A source is compared with a destination, and only the condition codes change.
 unfoldable pub comparing : Size → Ea → Ea → ℕ → Space → Plain → Routine Performed
-comparing size source destination at space p = do
-  pair ← reading p (pair_of size source destination (first_word at) space p)
+comparing size source destination word_at space p = do
+  pair ← reading p (pair_of size source destination word_at space p)
   let to = pair.destination
   Return (carried (record to.plain { ccr = compare_of size pair.source to.value to.plain.ccr }))
 
 -- ADD, SUB, AND and OR: from a data register to an operand, or from the operand to the register
 unfoldable pub either_way : (ℕ → ℕ → ℕ → Flagged) → ℕ → Bool → Size → Ea → ℕ → Space → Plain → Routine Performed
-either_way operation register to_memory size ea at space p =
-    choose to_memory (combining operation size (Dn register) ea at space p)
-    (combining operation size ea (Dn register) at space p)
+either_way operation register to_memory size ea word_at space p =
+    choose to_memory (combining operation size (Dn register) ea word_at space p)
+    (combining operation size ea (Dn register) word_at space p)
 
 -- ADDX and SUBX: two data registers, or memory below two address registers
 unfoldable pub chaining : (ℕ → ℕ → ℕ → Flagged) → Size → Bool → ℕ → ℕ → ℕ → Space → Plain → Routine Performed
-chaining operation size in_memory source destination at space p =
-    choose in_memory (combining operation size (Pre source) (Pre destination) at space p)
-    (combining operation size (Dn source) (Dn destination) at space p)
+chaining operation size in_memory source destination word_at space p =
+    choose in_memory (combining operation size (Pre source) (Pre destination) word_at space p)
+    (combining operation size (Dn source) (Dn destination) word_at space p)
 
 -- ---- quick values
 
 -- ADDQ and SUBQ: of an address register all of it counts, whatever the size, and no condition code changes
 abbrev pub quick_to : Option ℕ → (ℕ → ℕ → Flagged) → (ℕ → ℕ) → Size → Ea → ℕ → Space → Plain → Routine Performed
-quick_to (Some n) change moved size ea at space p =
+quick_to (Some n) change moved size ea word_at space p =
     Return (carried (with_address_register p n (moved (address_register p n))))
-quick_to None change moved size ea at space p = modifying change size ea (first_word at) space p
+quick_to None change moved size ea word_at space p = modifying change size ea word_at space p
 
 -- by the number of the address register, where the operand is one: how an operand changes, and how an address moves
 unfoldable pub quick_of : (ℕ → ℕ → Flagged) → (ℕ → ℕ) → Size → Ea → ℕ → Space → Plain → Routine Performed
-quick_of change moved size ea at space p = quick_to (address_number ea) change moved size ea at space p
+quick_of change moved size ea word_at space p = quick_to (address_number ea) change moved size ea word_at space p
 
 -- ---- operands that are only read
 

@@ -17,7 +17,7 @@ use Rattle.mb_ea.specs.Addresses.{sum}
 use Rattle.mb_ea.specs.Reading.{read_of}
 use Rattle.mb_writes.specs.Writing.{put_of}
 use Rattle.mb_meaning.specs.Ends.{Performed, carried, reading, writing}
-use Rattle.mb_meaning.specs.Operands.{first_word, address_of}
+use Rattle.mb_meaning.specs.Operands.{address_of}
 
 -- the data register in bits 14 to 12
 abbrev pub named_by : ℕ → ℕ
@@ -120,9 +120,9 @@ field_in_memory kind word address space p =
           (writing done (put_of space first held changed) >> Return (carried done))
           (Return (carried done))
 
--- BFTST, BFEXTU, BFCHG, BFEXTS, BFCLR, BFFFO, BFSET and BFINS: behind the word, the operand's own words
+-- BFTST, BFEXTU, BFCHG, BFEXTS, BFCLR, BFFFO, BFSET and BFINS
 unfoldable pub field_row_of : FieldKind → Ea → ℕ → ℕ → Space → Plain → Routine Performed
-field_row_of kind (Dn n) word at space p = Return (carried (field_in_register kind word n p))
-field_row_of kind ea word at space p = do
-  address ← reading p (address_of Long ea (sum (first_word at) 2) space p)
+field_row_of kind (Dn n) word word_at space p = Return (carried (field_in_register kind word n p))
+field_row_of kind ea word word_at space p = do
+  address ← reading p (address_of Long ea word_at space p)
   field_in_memory kind word address space p

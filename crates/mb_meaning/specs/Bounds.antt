@@ -15,7 +15,7 @@ use Rattle.mb_ea.specs.declared.reading.ReadFault.{ReadFault}
 use Rattle.mb_ea.specs.Addresses.{sum, difference}
 use Rattle.mb_ea.specs.Reading.{read_of}
 use Rattle.mb_meaning.specs.Ends.{Performed, carried, stopped, reading}
-use Rattle.mb_meaning.specs.Operands.{first_word, operand_of, address_of, named_register}
+use Rattle.mb_meaning.specs.Operands.{operand_of, address_of, named_register}
 use Rattle.mb_meaning.specs.Traps.{out_of_bounds}
 
 -- ---- one bound
@@ -37,8 +37,8 @@ checked size bound value p =
 
 -- CHK: the value is a data register's, and the operand is the bound
 unfoldable pub chk_of : ℕ → Size → Ea → ℕ → Space → Plain → Routine Performed
-chk_of n size ea at space p = do
-  bound ← reading p (operand_of size ea (first_word at) space p)
+chk_of n size ea word_at space p = do
+  bound ← reading p (operand_of size ea word_at space p)
   Return (checked size bound.value (data_register bound.plain n) bound.plain)
 
 -- ---- two bounds
@@ -69,19 +69,18 @@ compared size lower upper n p =
     ccr_of (bounds_codes (compared_size size n) (sign_extended size lower) (sign_extended size upper) (register_of p n)
     (conditions_of p.ccr))
 
--- The condition codes of CHK2 and CMP2. The bounds are two operands, the lower one first; the words of their address
--- are behind the word that names the register.
+-- The condition codes of CHK2 and CMP2. The bounds are two operands, the lower one first.
 unfoldable pub bounds_of : Size → Ea → ℕ → ℕ → Space → Plain → Routine (Result ℕ ReadFault)
-bounds_of size ea w at space p = do
-  place ← address_of size ea (sum (first_word at) 2) space p
+bounds_of size ea w word_at space p = do
+  place ← address_of size ea word_at space p
   lower ← read_of space place (bytes_of size)
   upper ← read_of space (sum place (bytes_of size)) (bytes_of size)
   Return (Ok (compared size lower upper (named_register w) p))
 
 -- CMP2
 unfoldable pub cmp2_of : Size → Ea → ℕ → ℕ → Space → Plain → Routine Performed
-cmp2_of size ea w at space p = do
-  ccr ← reading p (bounds_of size ea w at space p)
+cmp2_of size ea w word_at space p = do
+  ccr ← reading p (bounds_of size ea w word_at space p)
   Return (carried (record p { ccr = ccr }))
 
 -- a value out of bounds, which C says, traps
@@ -90,6 +89,6 @@ checked_carry p = if (conditions_of p.ccr).c then stopped out_of_bounds p else c
 
 -- CHK2
 unfoldable pub chk2_of : Size → Ea → ℕ → ℕ → Space → Plain → Routine Performed
-chk2_of size ea w at space p = do
-  ccr ← reading p (bounds_of size ea w at space p)
+chk2_of size ea w word_at space p = do
+  ccr ← reading p (bounds_of size ea w word_at space p)
   Return (checked_carry (record p { ccr = ccr }))

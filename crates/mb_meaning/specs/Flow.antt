@@ -13,7 +13,7 @@ use Rattle.mb_instr.specs.Sizes.{low_of, sign_extended}
 use Rattle.mb_instr.specs.Registers.{data_register, with_data_register, address_register}
 use Rattle.mb_ea.specs.Addresses.{sum, difference}
 use Rattle.mb_meaning.specs.Ends.{Performed, carried, jumped, reading}
-use Rattle.mb_meaning.specs.Operands.{first_word, with_low, address_of, lowered, pushing}
+use Rattle.mb_meaning.specs.Operands.{with_low, address_of, lowered, pushing}
 use Rattle.mb_meaning.specs.Conditions.{is_met}
 
 -- a displacement as a signed long
@@ -22,9 +22,9 @@ displacement_of (displacement.Byte b) = sign_extended Byte b
 displacement_of (displacement.Word w) = sign_extended Word w
 displacement_of (displacement.Long l) = l
 
--- the address of the instruction's word, plus 2, plus the displacement
+-- the displacement counts from the word behind the instruction's first
 abbrev pub target_of : ℕ → Branch → ℕ
-target_of at d = sum (first_word at) (displacement_of d)
+target_of word_at d = sum word_at (displacement_of d)
 
 -- the condition F, which BSR has in a branch
 abbrev pub is_call : Condition → Bool
@@ -57,8 +57,8 @@ branched c target p = if is_met c p.ccr then jumped (record p { pc = target }) e
 
 -- Bcc, with BRA for the condition T and BSR for F
 unfoldable pub branch_of : Condition → Branch → ℕ → Space → Plain → Routine Performed
-branch_of c d at space p =
-    choose (is_call c) (call_of (target_of at d) space p) (Return (branched c (target_of at d) p))
+branch_of c d word_at space p =
+    choose (is_call c) (call_of (target_of word_at d) space p) (Return (branched c (target_of word_at d) p))
 
 -- a data register whose low word, which counts, is less by one
 abbrev pub counted_down : ℕ → Plain → Plain
@@ -74,16 +74,16 @@ looped n target p =
 
 -- DBcc: to the next instruction where the condition is met, else one more turn where the count allows it
 unfoldable pub dbcc_of : Condition → ℕ → ℕ → ℕ → Plain → Performed
-dbcc_of c n d at p = if is_met c p.ccr then carried p else looped n (target_of at (displacement.Word d)) p
+dbcc_of c n d word_at p = if is_met c p.ccr then carried p else looped n (target_of word_at (displacement.Word d)) p
 
 -- JMP: to the address of the operand
 unfoldable pub jmp_of : Ea → ℕ → Space → Plain → Routine Performed
-jmp_of ea at space p = do
-  target ← reading p (address_of Long ea (first_word at) space p)
+jmp_of ea word_at space p = do
+  target ← reading p (address_of Long ea word_at space p)
   Return (jumped (record p { pc = target }))
 
 -- JSR: the address is formed, then the next instruction's is pushed
 unfoldable pub jsr_of : Ea → ℕ → Space → Plain → Routine Performed
-jsr_of ea at space p = do
-  target ← reading p (address_of Long ea (first_word at) space p)
+jsr_of ea word_at space p = do
+  target ← reading p (address_of Long ea word_at space p)
   call_of target space p

@@ -19,12 +19,11 @@ use Rattle.mb_alu.specs.declared.bitwise.LogicKind.TheVariants.{Pass}
 use Rattle.mb_alu.specs.Logic.{logic_of}
 use Rattle.mb_alu.specs.Sums.{compare_of}
 use Rattle.mb_ea.specs.declared.reading.ReadFault.{ReadFault}
-use Rattle.mb_ea.specs.Addresses.{sum}
 use Rattle.mb_ea.specs.Reading.{refused_in}
 use Rattle.mb_ea.specs.Resolve.{resolve_of}
 use Rattle.mb_writes.specs.Writing.{part_of}
 use Rattle.mb_meaning.specs.Ends.{Performed, carried, reading}
-use Rattle.mb_meaning.specs.Operands.{first_word, with_low, place_of}
+use Rattle.mb_meaning.specs.Operands.{with_low, place_of}
 use Rattle.mb_meaning.specs.Modifying.{modifying}
 
 -- ---- locked operands
@@ -76,9 +75,9 @@ tas_in_memory address space before p = do
 
 -- TAS: a data register is no memory
 unfoldable pub tas_of : Ea → ℕ → Space → Plain → Routine Performed
-tas_of (Dn n) at space p = modifying test_and_set Byte (Dn n) (first_word at) space p
-tas_of ea at space p = do
-  to ← reading p (resolve_of ea Byte (first_word at) space p)
+tas_of (Dn n) word_at space p = modifying test_and_set Byte (Dn n) word_at space p
+tas_of ea word_at space p = do
+  to ← reading p (resolve_of ea Byte word_at space p)
   tas_in_memory (place_of to.target) space p to.plain
 
 -- ---- CAS and CAS2
@@ -118,10 +117,10 @@ cas_at size word address space before p = do
       (sure (put_at places (bytes_of size) (data_register p (update_by word))) >> Return (carried after))
       (Return (carried (cas_loaded size word value after)))
 
--- CAS: behind the word, the operand's own words
+-- CAS
 unfoldable pub cas_of : Size → Ea → ℕ → ℕ → Space → Plain → Routine Performed
-cas_of size ea word at space p = do
-  to ← reading p (resolve_of ea size (sum (first_word at) 2) space p)
+cas_of size ea word word_at space p = do
+  to ← reading p (resolve_of ea size word_at space p)
   cas_at size word (place_of to.target) space p to.plain
 
 -- both are the same as theirs; the codes are of the first that is not, else of operand 2

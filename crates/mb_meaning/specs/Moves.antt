@@ -16,7 +16,6 @@ use Rattle.mb_instr.specs.Registers.{with_address_register}
 use Rattle.mb_alu.specs.declared.bitwise.LogicKind.TheVariants.{Pass}
 use Rattle.mb_alu.specs.Extend.{extend_of}
 use Rattle.mb_alu.specs.Logic.{logic_of}
-use Rattle.mb_ea.specs.Addresses.{sum}
 use Rattle.mb_ea.specs.Resolve.{resolve_of}
 use Rattle.mb_writes.specs.declared.transfers.Movem.{Movem}
 use Rattle.mb_writes.specs.declared.transfers.MovemMode.{MovemMode}
@@ -25,7 +24,7 @@ use Rattle.mb_writes.specs.declared.ends.Ended.TheVariants as ended
 use Rattle.mb_writes.specs.Moving.{Halfway, transfer_of}
 use Rattle.mb_meaning.specs.Conditions.{is_met}
 use Rattle.mb_meaning.specs.Ends.{Performed, Stopped, carried, reading}
-use Rattle.mb_meaning.specs.Operands.{first_word, behind, operand_of, address_of, storing}
+use Rattle.mb_meaning.specs.Operands.{behind, operand_of, address_of, storing}
 
 -- MOVEQ: the byte, sign-extended; N and Z by it, V and C are cleared, X stays
 unfoldable pub moveq_of : ℕ → ℕ → Plain → Plain
@@ -39,21 +38,21 @@ move_flags size value p = record p { ccr = (logic_of Pass size value 0 p.ccr).cc
 
 -- MOVE: the source is read before the destination's address is formed, and the pieces are written last
 unfoldable pub move_of : Size → Ea → Ea → ℕ → Space → Plain → Routine Performed
-move_of size destination source at space p = do
-  from ← reading p (operand_of size source (first_word at) space p)
-  to ← reading p (resolve_of destination size (behind size source (first_word at)) space from.plain)
+move_of size destination source word_at space p = do
+  from ← reading p (operand_of size source word_at space p)
+  to ← reading p (resolve_of destination size (behind size source word_at) space from.plain)
   storing to.target size from.value space (move_flags size from.value to.plain)
 
 -- MOVEA: the source, read at its size, goes to the whole register with its sign; no condition code changes
 unfoldable pub movea_of : Size → ℕ → Ea → ℕ → Space → Plain → Routine Performed
-movea_of size n source at space p = do
-  from ← reading p (operand_of size source (first_word at) space p)
+movea_of size n source word_at space p = do
+  from ← reading p (operand_of size source word_at space p)
   Return (carried (with_address_register from.plain n (sign_extended size from.value)))
 
 -- LEA: the address of an operand, which is not read
 unfoldable pub lea_of : ℕ → Ea → ℕ → Space → Plain → Routine Performed
-lea_of n ea at space p = do
-  place ← reading p (address_of Long ea (first_word at) space p)
+lea_of n ea word_at space p = do
+  place ← reading p (address_of Long ea word_at space p)
   Return (carried (with_address_register p n place))
 
 -- two of all sixteen registers with each other's values
@@ -74,14 +73,14 @@ swap_of n p =
 
 -- MOVE to CCR: a word is read, and its low five bits are the condition codes
 unfoldable pub to_ccr_of : Ea → ℕ → Space → Plain → Routine Performed
-to_ccr_of ea at space p = do
-  operand ← reading p (operand_of Word ea (first_word at) space p)
+to_ccr_of ea word_at space p = do
+  operand ← reading p (operand_of Word ea word_at space p)
   Return (carried (record operand.plain { ccr = operand.value % 2 ^ 5 }))
 
 -- MOVE from CCR: a word with X, N, Z, V and C in bits 4 to 0; the destination is not read
 unfoldable pub from_ccr_of : Ea → ℕ → Space → Plain → Routine Performed
-from_ccr_of ea at space p = do
-  to ← reading p (resolve_of ea Word (first_word at) space p)
+from_ccr_of ea word_at space p = do
+  to ← reading p (resolve_of ea Word word_at space p)
   storing to.target Word (p.ccr % 2 ^ 5) space to.plain
 
 -- a byte of ones, or of zeros
@@ -90,8 +89,8 @@ byte_of met = if met then 2 ^ 8 - 1 else 0
 
 -- Scc: ones where the condition is met, else zeros; the destination is not read
 unfoldable pub scc_of : Condition → Ea → ℕ → Space → Plain → Routine Performed
-scc_of c ea at space p = do
-  to ← reading p (resolve_of ea Byte (first_word at) space p)
+scc_of c ea word_at space p = do
+  to ← reading p (resolve_of ea Byte word_at space p)
   storing to.target Byte (byte_of (is_met c p.ccr)) space to.plain
 
 -- what becomes of the address register of a MOVEM's operand
@@ -108,9 +107,9 @@ movem_by is_load size ea mask = record { is_load = is_load; size = size; mode = 
 abbrev pub transferring : Routine (Result Plain Halfway) → Routine (Result Plain Stopped)
 transferring m = failing (λ halfway. record { ended = ended.Movem halfway.fault; plain = halfway.plain }) m
 
--- MOVEM: behind the mask, the operand's own words
+-- MOVEM
 unfoldable pub movem_of : Bool → Size → Ea → ℕ → ℕ → Space → Plain → Routine Performed
-movem_of is_load size ea mask at space p = do
-  place ← reading p (address_of size ea (sum (first_word at) 2) space p)
+movem_of is_load size ea mask word_at space p = do
+  place ← reading p (address_of size ea word_at space p)
   moved ← transferring (transfer_of (movem_by is_load size ea mask) place 0 space p)
   Return (carried moved)

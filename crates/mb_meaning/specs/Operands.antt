@@ -18,10 +18,6 @@ use Rattle.mb_writes.specs.declared.ends.WriteFault.{WriteFault}
 use Rattle.mb_writes.specs.Writing.{put_of}
 use Rattle.mb_meaning.specs.Ends.{Performed, Stopped, carried, writing}
 
--- the address of the first extension word of an instruction of one word
-abbrev pub first_word : ℕ → ℕ
-first_word at = sum at 2
-
 -- the register of all sixteen that an instruction's second word names: bit 15 says an address register, bits 14 to 12
 -- are its number
 abbrev pub named_register : ℕ → ℕ

@@ -15,11 +15,10 @@ use Rattle.mb_instr.specs.Sizes.{bytes_of, sign_extended}
 use Rattle.mb_instr.specs.Registers.{plain_of, register_of, data_register, with_data_register, address_register}
 use Rattle.mb_instr.specs.Registers.{with_address_register}
 use Rattle.mb_ea.specs.declared.addresses.Target.{Target}
-use Rattle.mb_ea.specs.Addresses.{sum}
 use Rattle.mb_ea.specs.Reading.{read_of}
 use Rattle.mb_ea.specs.Resolve.{resolve_of}
 use Rattle.mb_model.specs.declared.processor.Cpu.{Cpu}
-use Rattle.mb_meaning.specs.Operands.{first_word, named_register, with_low, place_of, storing}
+use Rattle.mb_meaning.specs.Operands.{named_register, with_low, place_of, storing}
 use Rattle.mb_meaning.specs.SystemEnds.{SystemPerformed, completed, reading_for, with_registers, finishing}
 
 -- the space of a function code, by its bit 2
@@ -48,11 +47,11 @@ into_register size target n p cpu = do
 abbrev pub is_store : ℕ → Bool
 is_store word = word / 2 ^ 11 % 2 == 1
 
--- MOVES: the operand's words are behind the word that names the register. A memory indirection of its address reads in
--- supervisor space, whatever the function codes say. Only the operand itself goes by SFC or DFC.
+-- MOVES: a memory indirection of its address reads in supervisor space, whatever the function codes say. Only the
+-- operand itself goes by SFC or DFC.
 unfoldable pub moves_of : Size → Ea → ℕ → ℕ → Cpu → Routine SystemPerformed
-moves_of size ea word at cpu = do
-  to ← reading_for cpu (resolve_of ea size (sum (first_word at) 2) Super (plain_of cpu.regs))
+moves_of size ea word word_at cpu = do
+  to ← reading_for cpu (resolve_of ea size word_at Super (plain_of cpu.regs))
   choose (is_store word) (out_of_register size to.target (named_register word) to.plain cpu)
       (into_register size to.target (named_register word) to.plain cpu)
 

@@ -9,12 +9,12 @@ use Rattle.mb_instr.specs.Registers.{address_register, with_address_register}
 use Rattle.mb_ea.specs.Addresses.{sum}
 use Rattle.mb_ea.specs.Reading.{read_of}
 use Rattle.mb_meaning.specs.Ends.{Performed, carried, reading}
-use Rattle.mb_meaning.specs.Operands.{first_word, address_of, lowered, pushing}
+use Rattle.mb_meaning.specs.Operands.{address_of, lowered, pushing}
 
 -- PEA: the address is formed, and then A7 falls and the address is stored there
 unfoldable pub pea_of : Ea → ℕ → Space → Plain → Routine Performed
-pea_of ea at space p = do
-  place ← reading p (address_of Long ea (first_word at) space p)
+pea_of ea word_at space p = do
+  place ← reading p (address_of Long ea word_at space p)
   let after = lowered p
   pushing place (address_register after 7) space after
   Return (carried after)

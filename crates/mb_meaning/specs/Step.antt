@@ -8,7 +8,8 @@ use Rattle.mb_instr.specs.declared.instruction.Instr.TheVariants as instr
 use Rattle.mb_instr.specs.declared.instruction.System.{System}
 use Rattle.mb_instr.specs.declared.instruction.System.TheVariants as system
 use Rattle.mb_instr.specs.Codes.{words_of}
-use Rattle.mb_instr.specs.Rows.{row}
+use Rattle.mb_instr.specs.Shapes.{operands_at}
+use Rattle.mb_instr.specs.Rows.{row, system_row}
 use Rattle.mb_instr.specs.Registers.{is_supervisor, plain_of}
 use Rattle.mb_frames.specs.declared.pend.Pend.{Pend}
 use Rattle.mb_port.specs.declared.types.Fault.{Fault}
@@ -136,7 +137,7 @@ beyond n cpu = record cpu { regs = record cpu.regs { pc = (cpu.regs.pc + 2 * n) 
 unfoldable pub supervised_of : System → ℕ → Cpu → Routine Stepped
 supervised_of system.Rte n cpu = rte_of cpu
 supervised_of i n cpu =
-    Then (system_closing (perform_system_of i cpu.regs.pc (beyond n cpu)))
+    Then (system_closing (perform_system_of i (operands_at (system_row i) cpu.regs.pc) (beyond n cpu)))
     (λ end. finish_of (instr.System i) end.0 cpu end.1)
 
 -- an instruction of so many words that is not privileged: it knows the space of its accesses alone

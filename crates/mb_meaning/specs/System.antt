@@ -26,21 +26,22 @@ gone_by end cpu = ended_by end cpu
 abbrev pub gone_back : Routine Returned → Routine SystemPerformed
 gone_back m = Then m (λ returned. Return (gone_by returned.ended returned.cpu))
 
--- What a privileged instruction does in supervisor mode. `at` is its address; PC is past it. CINV and CPUSH do nothing
--- more.
+-- What a privileged instruction does in supervisor mode. The words of its operand begin at `word_at`; PC is past it.
+-- CINV and CPUSH do nothing more.
 unfoldable pub perform_system_of : System → ℕ → Cpu → Routine SystemPerformed
-perform_system_of (system.AndiSr word) at cpu = Return (redirected (status_by logic.And word cpu))
-perform_system_of (system.OriSr word) at cpu = Return (redirected (status_by logic.Or word cpu))
-perform_system_of (system.EoriSr word) at cpu = Return (redirected (status_by logic.Eor word cpu))
-perform_system_of (system.ToSr ea) at cpu = to_status_of ea at cpu
-perform_system_of (system.FromSr ea) at cpu = from_status_of ea at cpu
-perform_system_of (system.Stop word) at cpu = Return (redirected (stop_of word cpu))
-perform_system_of (system.MoveUsp from_usp register) at cpu = Return (completed (move_usp_of from_usp register cpu))
-perform_system_of (system.Movec to_control word) at cpu = movec_of to_control word cpu
-perform_system_of (system.Moves size ea word) at cpu = moves_of size ea word at cpu
-perform_system_of system.Reset at cpu = completing (reset_of cpu)
-perform_system_of (system.Cinv caches scope register) at cpu = Return (completed cpu)
-perform_system_of (system.Cpush caches scope register) at cpu = Return (completed cpu)
-perform_system_of (system.Pflush kind register) at cpu = completing (pflush_of kind register cpu)
-perform_system_of (system.Ptest is_read register) at cpu = completing (ptest_of is_read register cpu)
-perform_system_of system.Rte at cpu = gone_back (return_of cpu)
+perform_system_of (system.AndiSr word) word_at cpu = Return (redirected (status_by logic.And word cpu))
+perform_system_of (system.OriSr word) word_at cpu = Return (redirected (status_by logic.Or word cpu))
+perform_system_of (system.EoriSr word) word_at cpu = Return (redirected (status_by logic.Eor word cpu))
+perform_system_of (system.ToSr ea) word_at cpu = to_status_of ea word_at cpu
+perform_system_of (system.FromSr ea) word_at cpu = from_status_of ea word_at cpu
+perform_system_of (system.Stop word) word_at cpu = Return (redirected (stop_of word cpu))
+perform_system_of (system.MoveUsp from_usp register) word_at cpu =
+    Return (completed (move_usp_of from_usp register cpu))
+perform_system_of (system.Movec to_control word) word_at cpu = movec_of to_control word cpu
+perform_system_of (system.Moves size ea word) word_at cpu = moves_of size ea word word_at cpu
+perform_system_of system.Reset word_at cpu = completing (reset_of cpu)
+perform_system_of (system.Cinv caches scope register) word_at cpu = Return (completed cpu)
+perform_system_of (system.Cpush caches scope register) word_at cpu = Return (completed cpu)
+perform_system_of (system.Pflush kind register) word_at cpu = completing (pflush_of kind register cpu)
+perform_system_of (system.Ptest is_read register) word_at cpu = completing (ptest_of is_read register cpu)
+perform_system_of system.Rte word_at cpu = gone_back (return_of cpu)

@@ -15,7 +15,7 @@ use Rattle.mb_alu.specs.Logic.{logic_of}
 use Rattle.mb_alu.specs.Sums.{sub_of}
 use Rattle.mb_ea.specs.Resolve.{resolve_of}
 use Rattle.mb_meaning.specs.Ends.{Performed, carried, reading}
-use Rattle.mb_meaning.specs.Operands.{first_word, with_low, storing}
+use Rattle.mb_meaning.specs.Operands.{with_low, storing}
 use Rattle.mb_meaning.specs.Moves.{move_flags}
 
 -- NEG: 0 less the operand
@@ -32,8 +32,8 @@ complemented size value ccr = logic_of Not size value 0 ccr
 
 -- CLR: 0 is moved to the operand, which is not read
 unfoldable pub clr_of : Size → Ea → ℕ → Space → Plain → Routine Performed
-clr_of size ea at space p = do
-  to ← reading p (resolve_of ea size (first_word at) space p)
+clr_of size ea word_at space p = do
+  to ← reading p (resolve_of ea size word_at space p)
   storing to.target size 0 space (move_flags size 0 to.plain)
 
 -- TST

@@ -10,6 +10,7 @@ use Rattle.mb_instr.specs.declared.instruction.Instr.{Instr}
 use Rattle.mb_instr.specs.Operands.{more}
 use Rattle.mb_instr.specs.Rows.{row}
 use Rattle.mb_instr.specs.Codes.{words_of}
+use Rattle.mb_instr.specs.Shapes.{further}
 use Rattle.mb_syntax.specs.declared.operand.Operand.{Operand}
 use Rattle.mb_syntax.specs.declared.statement.SizeLetter.{SizeLetter}
 use Rattle.mb_mnemonics.specs.declared.fault.MeansFault.{MeansFault}
@@ -224,10 +225,10 @@ even_is l s e =
 
 -- ---- statements
 
-sized_words : (r : Row) (p : Parts) (s : Size) → p.size ≡ s → length (row (meant r p)).further
+sized_words : (r : Row) (p : Parts) (s : Size) → p.size ≡ s → length (further (row (meant r p)))
     ≡ fixed r + cond (reads_ea r) (length (more (row_size r s) p.ea)) 0
     + cond (reads_source r) (length (more (row_size r s) p.source)) 0 + tail r s
-sized_words r p s h = subst (λ y. length (row (meant r p)).further
+sized_words r p s h = subst (λ y. length (further (row (meant r p)))
     ≡ fixed r + cond (reads_ea r) (length (more (row_size r y) p.ea)) 0
     + cond (reads_source r) (length (more (row_size r y) p.source)) 0 + tail r y) h (row_words r p)
 
@@ -246,8 +247,8 @@ form_words f os at i h e =
     + cond (reads_source f.entry.row) (length (more (row_size f.entry.row f.size) (p.0).source)) 0 + tail f.entry.row f.size =
     rw (← v.ea, ← v.source, ← v.own) a.words in
     let w = v.words in
-    let g : form_length f os ≡ 2 * (1 + length (row (meant f.entry.row p.0)).further) = omega arith in
-    let k : 2 * (1 + length (row (meant f.entry.row p.0)).further) ≡ 2 * length (words_of (row (meant f.entry.row p.0))) = omega arith in
+    let g : form_length f os ≡ 2 * (1 + length (further (row (meant f.entry.row p.0)))) = omega arith in
+    let k : 2 * (1 + length (further (row (meant f.entry.row p.0)))) ≡ 2 * length (words_of (row (meant f.entry.row p.0))) = omega arith in
     subst (λ y. form_length f os ≡ 2 * length (words_of (row y))) p.1.1 (g ∙ k)
 
 told_is : (o : Option Instr) (i : Instr) → told o ≡ Ok i → o ≡ Some i

@@ -4,6 +4,7 @@ use Rattle.mb_instr.specs.declared.size.Size.{Size}
 use Rattle.mb_instr.specs.declared.size.Size.TheVariants as size
 use Rattle.mb_instr.specs.Operands.{more, immediate}
 use Rattle.mb_instr.specs.Rows.{row}
+use Rattle.mb_instr.specs.Shapes.{further}
 use Rattle.mb_mnemonics.specs.declared.parts.Parts.{Parts}
 use Rattle.mb_mnemonics.specs.declared.row.Row.{Row}
 use Rattle.mb_mnemonics.specs.declared.row.Row.TheVariants as of_row
@@ -13,7 +14,7 @@ use Rattle.mb_mnemonics.proofs.Shape.{row_size, reads_ea, reads_source, fixed, t
 
 -- the words of a row behind the first
 abbrev pub has_words : Row → Parts → Type 0
-has_words r p = length (row (meant r p)).further
+has_words r p = length (further (row (meant r p)))
     ≡ fixed r + cond (reads_ea r) (length (more (row_size r p.size) p.ea)) 0
     + cond (reads_source r) (length (more (row_size r p.size) p.source)) 0 + tail r p.size
 

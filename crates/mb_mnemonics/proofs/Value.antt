@@ -5,7 +5,7 @@ use Rattle.std.proofs.lemmas.Bool.Decides.{nat_tests}
 use Rattle.mb_instr.specs.declared.opcode.Opcode.{Opcode}
 use Rattle.mb_instr.specs.declared.instruction.Instr.{Instr}
 use Rattle.mb_instr.specs.Opcodes.{is_opcode, IsOpcode}
-use Rattle.mb_instr.specs.Shapes.{Row}
+use Rattle.mb_instr.specs.Shapes.{Row, further}
 use Rattle.mb_instr.specs.Rows.{row}
 use Rattle.mb_instr.specs.Codes.{Has, AreWords, IsInstr}
 use Rattle.mb_instr.proofs.Words.{AreWords-nil, AreWords-cons, AreWords-head, AreWords-tail}
@@ -52,7 +52,7 @@ are_words_of [] h = refl
 are_words_of (w ∷ ws) h = both (is_lt w (2 ^ 16) (AreWords-head w ws h)) (are_words_of ws (AreWords-tail w ws h))
 
 value_of : (r : Row) → Has r → is_value r ≡ true
-value_of r h = both (both h.legal (is_opcode_of r.opcode h.fields)) (are_words_of r.further h.are_words)
+value_of r h = both (both h.legal (is_opcode_of r.opcode h.fields)) (are_words_of (further r) h.are_words)
 
 words_are : (ws : List ℕ) → are_words ws ≡ true → AreWords ws
 words_are [] h = AreWords-nil
@@ -62,9 +62,9 @@ words_are (w ∷ ws) h =
 
 has_of : (r : Row) → is_value r ≡ true → Has r
 has_of r e =
-    let a = and_is (r.legal && is_opcode r.opcode) (are_words r.further) e in
+    let a = and_is (r.legal && is_opcode r.opcode) (are_words (further r)) e in
     let b = and_is r.legal (is_opcode r.opcode) a.0 in
-    record { legal = b.0; fields = opcode_is r.opcode b.1; are_words = words_are r.further a.1 }
+    record { legal = b.0; fields = opcode_is r.opcode b.1; are_words = words_are (further r) a.1 }
 
 pub instr_is : (i : Instr) → IsInstr i → is_instr i ≡ true
 unfolding is_instr

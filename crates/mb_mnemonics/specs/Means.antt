@@ -9,7 +9,7 @@ use Rattle.mb_instr.specs.declared.kinds.Condition.{Condition}
 use Rattle.mb_instr.specs.declared.instruction.Instr.{Instr}
 use Rattle.mb_instr.specs.Opcodes.{is_opcode}
 use Rattle.mb_instr.specs.Rows.{row}
-use Rattle.mb_instr.specs.Shapes.{Row}
+use Rattle.mb_instr.specs.Shapes.{Row, further}
 use Rattle.mb_syntax.specs.declared.statement.SizeLetter.{SizeLetter}
 use Rattle.mb_syntax.specs.declared.operand.Operand.{Operand}
 use Rattle.mb_mnemonics.specs.declared.fault.MeansFault.{MeansFault}
@@ -71,7 +71,7 @@ are_words [] = true
 are_words (w ∷ ws) = nat_lt w (2 ^ 16) && are_words ws
 
 abbrev pub is_value : Row → Bool
-is_value r = r.legal && is_opcode r.opcode && are_words r.further
+is_value r = r.legal && is_opcode r.opcode && are_words (further r)
 
 unfoldable pub is_instr : Instr → Bool
 is_instr i = is_value (row i)

@@ -65,17 +65,16 @@ pub fn compare_bounds<P: Port>(
     size: Size,
     ea: &Ea,
     word: u16,
-    at: u32,
+    word_at: u32,
     space: Space,
     plain: &Plain,
     port: &mut P,
 ) -> Result<u8, ReadFault>
     requires { IsEa size ea.now }
-    ensures means { run P.bus (bounds_of size ea.now word at space plain.now) (P.world port.old)
+    ensures means { run P.bus (bounds_of size ea.now word word_at space plain.now) (P.world port.old)
         ≡ (result, P.world port.new) }
     ensures rest { P.rest port.new ≡ P.rest port.old }
 {
-    let word_at = at.wrapping_add(2).wrapping_add(2);
     let place = find_address(size, ea, word_at, space, plain, port)?;
     let lower = read_value(space, place, size, port)?;
     let behind = place.wrapping_add(u32::from(size.bytes()));

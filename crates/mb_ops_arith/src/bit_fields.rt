@@ -290,14 +290,14 @@ pub(crate) fn bit_field<P: Port>(
     kind: FieldKind,
     ea: &Ea,
     word: u16,
-    at: u32,
+    word_at: u32,
     space: Space,
     plain: &mut Plain,
     port: &mut P,
     ended: &mut Ended,
 ) -> Result<(), Undone>
     requires { IsEa Size.Long ea.now }
-    ensures means { run P.bus (field_row_of kind ea.now word at space plain.old) (P.world port.old)
+    ensures means { run P.bus (field_row_of kind ea.now word word_at space plain.old) (P.world port.old)
         ≡ (carried_in_place result ended.new plain.old plain.new, P.world port.new) }
     ensures rest { P.rest port.new ≡ P.rest port.old }
 {
@@ -305,7 +305,6 @@ pub(crate) fn bit_field<P: Port>(
         field_in_register(kind, word, n, plain);
         return Ok(());
     }
-    let word_at = at.wrapping_add(2).wrapping_add(2);
     match find_address(Size::Long, ea, word_at, space, plain, port) {
         Ok(address) => field_in_memory(kind, word, address, space, plain, port, ended),
         Err(refused) => Err(unread(&refused, ended)),

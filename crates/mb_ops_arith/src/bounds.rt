@@ -18,18 +18,18 @@ pub fn compare_with_bounds<P: Port>(
     size: Size,
     ea: &Ea,
     word: u16,
-    at: u32,
+    word_at: u32,
     space: Space,
     plain: &mut Plain,
     port: &mut P,
     ended: &mut Ended,
 ) -> Result<(), Undone>
     requires { IsEa size ea.now }
-    ensures means { run P.bus (cmp2_of size ea.now word at space plain.old) (P.world port.old)
+    ensures means { run P.bus (cmp2_of size ea.now word word_at space plain.old) (P.world port.old)
         ≡ (carried_in_place result ended.new plain.old plain.new, P.world port.new) }
     ensures rest { P.rest port.new ≡ P.rest port.old }
 {
-    match compare_bounds(size, ea, word, at, space, plain, port) {
+    match compare_bounds(size, ea, word, word_at, space, plain, port) {
         Ok(ccr) => {
             plain.ccr = ccr;
             Ok(())

@@ -107,7 +107,7 @@ pub(crate) fn decimal<P: Port>(
     x: u8,
     in_memory: bool,
     y: u8,
-    at: u32,
+    word_at: u32,
     space: Space,
     plain: &mut Plain,
     port: &mut P,
@@ -115,11 +115,10 @@ pub(crate) fn decimal<P: Port>(
 ) -> Result<(), Undone>
     requires destination { x < 8 }
     requires source { y < 8 }
-    ensures means { run P.bus (decimal_of (decimal_operation operation) x in_memory y at space plain.old)
+    ensures means { run P.bus (decimal_of (decimal_operation operation) x in_memory y word_at space plain.old)
         (P.world port.old) ≡ (carried_in_place result ended.new plain.old plain.new, P.world port.new) }
     ensures rest { P.rest port.new ≡ P.rest port.old }
 {
-    let word_at = at.wrapping_add(2);
     let from = paired(in_memory, y, Size::Byte);
     let source = match fetch_operand(Size::Byte, &from, word_at, space, plain, port) {
         Ok(source) => source,
@@ -152,7 +151,7 @@ pub(crate) fn repack<P: Port>(
     in_memory: bool,
     y: u8,
     adjust: u16,
-    at: u32,
+    word_at: u32,
     space: Space,
     plain: &mut Plain,
     port: &mut P,
@@ -161,11 +160,10 @@ pub(crate) fn repack<P: Port>(
     requires destination { x < 8 }
     requires source { y < 8 }
     ensures means { run P.bus (digits_of (packing_operation operation) (packed_from operation) (packed_to operation)
-        x in_memory y adjust at space plain.old) (P.world port.old)
+        x in_memory y adjust word_at space plain.old) (P.world port.old)
         ≡ (carried_in_place result ended.new plain.old plain.new, P.world port.new) }
     ensures rest { P.rest port.new ≡ P.rest port.old }
 {
-    let word_at = at.wrapping_add(2);
     let (from_size, to_size) = (operation.from_size(), operation.to_size());
     let from = paired(in_memory, y, from_size);
     let source = match fetch_operand(from_size, &from, word_at, space, plain, port) {

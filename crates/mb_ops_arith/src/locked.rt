@@ -36,18 +36,17 @@ pub(crate) fn test_and_set(value: u32, ccr: u8) -> Flagged
 #[tactic(auto, unfolding(mb_meaning::specs::Locked::tas_of, mb_meaning::specs::Locked::tas_in_memory))]
 pub(crate) fn tas<P: Port>(
     ea: &Ea,
-    at: u32,
+    word_at: u32,
     space: Space,
     plain: &mut Plain,
     port: &mut P,
     ended: &mut Ended,
 ) -> Result<(), Undone>
     requires { IsEa Size.Byte ea.now }
-    ensures means { run P.bus (tas_of ea.now at space plain.old) (P.world port.old)
+    ensures means { run P.bus (tas_of ea.now word_at space plain.old) (P.world port.old)
         ≡ (carried_in_place result ended.new plain.old plain.new, P.world port.new) }
     ensures rest { P.rest port.new ≡ P.rest port.old }
 {
-    let word_at = at.wrapping_add(2);
     if let Ea::Dn(_) = *ea {
         return modify(
             Change::TestAndSet,
@@ -134,18 +133,17 @@ pub(crate) fn cas<P: Port>(
     size: Size,
     ea: &Ea,
     word: u16,
-    at: u32,
+    word_at: u32,
     space: Space,
     plain: &mut Plain,
     port: &mut P,
     ended: &mut Ended,
 ) -> Result<(), Undone>
     requires { IsEa size ea.now }
-    ensures means { run P.bus (cas_of size ea.now word at space plain.old) (P.world port.old)
+    ensures means { run P.bus (cas_of size ea.now word word_at space plain.old) (P.world port.old)
         ≡ (carried_in_place result ended.new plain.old plain.new, P.world port.new) }
     ensures rest { P.rest port.new ≡ P.rest port.old }
 {
-    let word_at = at.wrapping_add(2).wrapping_add(2);
     let target = match resolve(ea, size, plain, word_at, space, port) {
         Ok(target) => target,
         Err(refused) => return Err(unread(&refused, ended)),

@@ -62,7 +62,7 @@ pub(crate) fn combine<P: Port>(
     size: Size,
     source: &Ea,
     destination: &Ea,
-    at: u32,
+    word_at: u32,
     space: Space,
     plain: &mut Plain,
     port: &mut P,
@@ -71,11 +71,10 @@ pub(crate) fn combine<P: Port>(
     requires source { IsEa size source.now }
     requires destination { IsEa size destination.now }
     ensures means { run P.bus
-        (combining (operation_of operation size) size source.now destination.now at space plain.old)
+        (combining (operation_of operation size) size source.now destination.now word_at space plain.old)
         (P.world port.old) ≡ (carried_in_place result ended.new plain.old plain.new, P.world port.new) }
     ensures rest { P.rest port.new ≡ P.rest port.old }
 {
-    let word_at = at.wrapping_add(2);
     let pair = match fetch_pair(size, source, destination, word_at, space, plain, port) {
         Ok(pair) => pair,
         Err(refused) => return Err(unread(&refused, ended)),
@@ -93,7 +92,7 @@ pub(crate) fn compare_pair<P: Port>(
     size: Size,
     source: &Ea,
     destination: &Ea,
-    at: u32,
+    word_at: u32,
     space: Space,
     plain: &mut Plain,
     port: &mut P,
@@ -101,11 +100,10 @@ pub(crate) fn compare_pair<P: Port>(
 ) -> Result<(), Undone>
     requires source { IsEa size source.now }
     requires destination { IsEa size destination.now }
-    ensures means { run P.bus (comparing size source.now destination.now at space plain.old) (P.world port.old)
+    ensures means { run P.bus (comparing size source.now destination.now word_at space plain.old) (P.world port.old)
         ≡ (carried_in_place result ended.new plain.old plain.new, P.world port.new) }
     ensures rest { P.rest port.new ≡ P.rest port.old }
 {
-    let word_at = at.wrapping_add(2);
     let pair = match fetch_pair(size, source, destination, word_at, space, plain, port) {
         Ok(pair) => pair,
         Err(refused) => return Err(unread(&refused, ended)),
@@ -122,7 +120,7 @@ pub(crate) fn combine_either_way<P: Port>(
     to_memory: bool,
     size: Size,
     ea: &Ea,
-    at: u32,
+    word_at: u32,
     space: Space,
     plain: &mut Plain,
     port: &mut P,
@@ -131,18 +129,18 @@ pub(crate) fn combine_either_way<P: Port>(
     requires operand { IsEa size ea.now }
     requires register { register < 8 }
     ensures means { run P.bus
-        (either_way (operation_of operation size) register to_memory size ea.now at space plain.old)
+        (either_way (operation_of operation size) register to_memory size ea.now word_at space plain.old)
         (P.world port.old) ≡ (carried_in_place result ended.new plain.old plain.new, P.world port.new) }
     ensures rest { P.rest port.new ≡ P.rest port.old }
 {
     let register = Ea::Dn(register);
     if to_memory {
         combine(
-            operation, size, &register, ea, at, space, plain, port, ended,
+            operation, size, &register, ea, word_at, space, plain, port, ended,
         )
     } else {
         combine(
-            operation, size, ea, &register, at, space, plain, port, ended,
+            operation, size, ea, &register, word_at, space, plain, port, ended,
         )
     }
 }
@@ -155,7 +153,7 @@ pub(crate) fn chain<P: Port>(
     in_memory: bool,
     source: u8,
     destination: u8,
-    at: u32,
+    word_at: u32,
     space: Space,
     plain: &mut Plain,
     port: &mut P,
@@ -164,7 +162,7 @@ pub(crate) fn chain<P: Port>(
     requires source { source < 8 }
     requires destination { destination < 8 }
     ensures means { run P.bus
-        (chaining (operation_of operation size) size in_memory source destination at space plain.old)
+        (chaining (operation_of operation size) size in_memory source destination word_at space plain.old)
         (P.world port.old) ≡ (carried_in_place result ended.new plain.old plain.new, P.world port.new) }
     ensures rest { P.rest port.new ≡ P.rest port.old }
 {
@@ -174,7 +172,7 @@ pub(crate) fn chain<P: Port>(
             size,
             &Ea::Pre(source),
             &Ea::Pre(destination),
-            at,
+            word_at,
             space,
             plain,
             port,
@@ -186,7 +184,7 @@ pub(crate) fn chain<P: Port>(
             size,
             &Ea::Dn(source),
             &Ea::Dn(destination),
-            at,
+            word_at,
             space,
             plain,
             port,
@@ -201,7 +199,7 @@ pub(crate) fn combine_immediate<P: Port>(
     immediate: u32,
     size: Size,
     ea: &Ea,
-    at: u32,
+    word_at: u32,
     space: Space,
     plain: &mut Plain,
     port: &mut P,
@@ -209,7 +207,8 @@ pub(crate) fn combine_immediate<P: Port>(
 ) -> Result<(), Undone>
     requires immediate { IsImmediate size immediate }
     requires operand { IsEa size ea.now }
-    ensures means { run P.bus (combining (operation_of operation size) size (Imm immediate) ea.now at space plain.old)
+    ensures means { run P.bus
+        (combining (operation_of operation size) size (Imm immediate) ea.now word_at space plain.old)
         (P.world port.old) ≡ (carried_in_place result ended.new plain.old plain.new, P.world port.new) }
     ensures rest { P.rest port.new ≡ P.rest port.old }
 {
@@ -218,7 +217,7 @@ pub(crate) fn combine_immediate<P: Port>(
         size,
         &Ea::Imm(immediate),
         ea,
-        at,
+        word_at,
         space,
         plain,
         port,

@@ -3,6 +3,8 @@
 ghost use Rattle.std.specs.Prelude.{◌≡◌};
 ghost use Rattle.mb_port.specs.Routine.{run};
 ghost use Rattle.mb_instr.specs.Codes.{IsInstr};
+ghost use Rattle.mb_instr.specs.Shapes.{operands_at};
+ghost use Rattle.mb_instr.specs.Rows.{arith_row};
 ghost use Rattle.mb_instr.specs.declared.instruction.Instr.TheVariants as instr;
 ghost use Rattle.mb_meaning.specs.Rows.{perform_arith_of};
 ghost use Rattle.mb_operands.specs.Endings.{carried_in_place, performed_in_place};
@@ -52,44 +54,50 @@ fn carry_out<P: Port>(
     ended: &mut Ended,
 ) -> Result<(), Undone>
     requires { IsInstr (instr.Arith instruction.now) }
-    ensures means { run P.bus (perform_arith_of instruction.now at space plain.old) (P.world port.old)
-        ≡ (carried_in_place result ended.new plain.old plain.new, P.world port.new) }
+    ensures means { run P.bus
+        (perform_arith_of instruction.now (operands_at (arith_row instruction.now) at) space plain.old)
+        (P.world port.old) ≡ (carried_in_place result ended.new plain.old plain.new, P.world port.new) }
     ensures rest { P.rest port.new ≡ P.rest port.old }
 {
     let first_word = at.wrapping_add(2);
-    let second_word = first_word.wrapping_add(2);
+    let second_word = at.wrapping_add(4);
     match *instruction {
         Arith::Add { register, to_memory, size, ref ea } =>
-            combine_either_way(ADD, register, to_memory, size, ea, at, space, plain, port, ended),
+            combine_either_way(ADD, register, to_memory, size, ea, first_word, space, plain, port, ended),
         Arith::Sub { register, to_memory, size, ref ea } =>
-            combine_either_way(SUB, register, to_memory, size, ea, at, space, plain, port, ended),
+            combine_either_way(SUB, register, to_memory, size, ea, first_word, space, plain, port, ended),
         Arith::And { register, to_memory, size, ref ea } =>
-            combine_either_way(AND, register, to_memory, size, ea, at, space, plain, port, ended),
+            combine_either_way(AND, register, to_memory, size, ea, first_word, space, plain, port, ended),
         Arith::Or { register, to_memory, size, ref ea } =>
-            combine_either_way(OR, register, to_memory, size, ea, at, space, plain, port, ended),
+            combine_either_way(OR, register, to_memory, size, ea, first_word, space, plain, port, ended),
         Arith::Eor { register, size, ref ea } =>
-            combine_either_way(EOR, register, true, size, ea, at, space, plain, port, ended),
+            combine_either_way(EOR, register, true, size, ea, first_word, space, plain, port, ended),
         Arith::Addi { size, ref ea, immediate } =>
-            combine_immediate(ADD, immediate, size, ea, at, space, plain, port, ended),
+            combine_immediate(ADD, immediate, size, ea, first_word, space, plain, port, ended),
         Arith::Subi { size, ref ea, immediate } =>
-            combine_immediate(SUB, immediate, size, ea, at, space, plain, port, ended),
+            combine_immediate(SUB, immediate, size, ea, first_word, space, plain, port, ended),
         Arith::Andi { size, ref ea, immediate } =>
-            combine_immediate(AND, immediate, size, ea, at, space, plain, port, ended),
+            combine_immediate(AND, immediate, size, ea, first_word, space, plain, port, ended),
         Arith::Ori { size, ref ea, immediate } =>
-            combine_immediate(OR, immediate, size, ea, at, space, plain, port, ended),
+            combine_immediate(OR, immediate, size, ea, first_word, space, plain, port, ended),
         Arith::Eori { size, ref ea, immediate } =>
-            combine_immediate(EOR, immediate, size, ea, at, space, plain, port, ended),
-        Arith::Addq { quick, size, ref ea } => combine_quick(Sum::Add, quick, size, ea, at, space, plain, port, ended),
+            combine_immediate(EOR, immediate, size, ea, first_word, space, plain, port, ended),
+        Arith::Addq { quick, size, ref ea } =>
+            combine_quick(Sum::Add, quick, size, ea, first_word, space, plain, port, ended),
         Arith::Subq { quick, size, ref ea } =>
-            combine_quick(Sum::Subtract, quick, size, ea, at, space, plain, port, ended),
-        Arith::Addx { x, size, in_memory, y } => chain(ADDX, size, in_memory, y, x, at, space, plain, port, ended),
-        Arith::Subx { x, size, in_memory, y } => chain(SUBX, size, in_memory, y, x, at, space, plain, port, ended),
+            combine_quick(Sum::Subtract, quick, size, ea, first_word, space, plain, port, ended),
+        Arith::Addx { x, size, in_memory, y } =>
+            chain(ADDX, size, in_memory, y, x, first_word, space, plain, port, ended),
+        Arith::Subx { x, size, in_memory, y } =>
+            chain(SUBX, size, in_memory, y, x, first_word, space, plain, port, ended),
         Arith::Cmp { register, size, ref ea } =>
-            compare_pair(size, ea, &Ea::Dn(register), at, space, plain, port, ended),
+            compare_pair(size, ea, &Ea::Dn(register), first_word, space, plain, port, ended),
         Arith::Cmpi { size, ref ea, immediate } =>
-            compare_pair(size, &Ea::Imm(immediate), ea, at, space, plain, port, ended),
-        Arith::Cmpm { x, size, y } => compare_pair(size, &Ea::Post(y), &Ea::Post(x), at, space, plain, port, ended),
-        Arith::Cmp2 { size, ref ea, word } => compare_with_bounds(size, ea, word, at, space, plain, port, ended),
+            compare_pair(size, &Ea::Imm(immediate), ea, first_word, space, plain, port, ended),
+        Arith::Cmpm { x, size, y } =>
+            compare_pair(size, &Ea::Post(y), &Ea::Post(x), first_word, space, plain, port, ended),
+        Arith::Cmp2 { size, ref ea, word } =>
+            compare_with_bounds(size, ea, word, second_word, space, plain, port, ended),
         Arith::Adda { register, size, ref ea } =>
             take(Effect::MoveAddress(Sum::Add, register), size, ea, first_word, space, plain, port, ended),
         Arith::Suba { register, size, ref ea } =>
@@ -99,7 +107,7 @@ fn carry_out<P: Port>(
         Arith::Neg { size, ref ea } => modify(Change::Negate, size, ea, first_word, space, plain, port, ended),
         Arith::Negx { size, ref ea } => modify(Change::NegateExtended, size, ea, first_word, space, plain, port, ended),
         Arith::Not { size, ref ea } => modify(Change::Complement, size, ea, first_word, space, plain, port, ended),
-        Arith::Clr { size, ref ea } => clear(size, ea, at, space, plain, port, ended),
+        Arith::Clr { size, ref ea } => clear(size, ea, first_word, space, plain, port, ended),
         Arith::Tst { size, ref ea } => take(Effect::Test, size, ea, first_word, space, plain, port, ended),
         Arith::ExtW { register } => {
             extend_register(Size::Byte, Size::Word, register, plain);
@@ -143,17 +151,18 @@ fn carry_out<P: Port>(
             bit_row(kind, plain.d[register as usize], ea, first_word, space, plain, port, ended),
         Arith::BitImm { kind, ref ea, word } =>
             bit_row(kind, u32::from(word), ea, second_word, space, plain, port, ended),
-        Arith::Field { kind, ref ea, word } => bit_field(kind, ea, word, at, space, plain, port, ended),
+        Arith::Field { kind, ref ea, word } => bit_field(kind, ea, word, second_word, space, plain, port, ended),
         Arith::Nbcd { ref ea } => modify(Change::NegateDecimal, Size::Byte, ea, first_word, space, plain, port, ended),
-        Arith::Abcd { x, in_memory, y } => decimal(DecimalKind::Add, x, in_memory, y, at, space, plain, port, ended),
+        Arith::Abcd { x, in_memory, y } =>
+            decimal(DecimalKind::Add, x, in_memory, y, first_word, space, plain, port, ended),
         Arith::Sbcd { x, in_memory, y } =>
-            decimal(DecimalKind::Subtract, x, in_memory, y, at, space, plain, port, ended),
+            decimal(DecimalKind::Subtract, x, in_memory, y, first_word, space, plain, port, ended),
         Arith::Pack { x, in_memory, y, word } =>
-            repack(PackingKind::Pack, x, in_memory, y, word, at, space, plain, port, ended),
+            repack(PackingKind::Pack, x, in_memory, y, word, first_word, space, plain, port, ended),
         Arith::Unpk { x, in_memory, y, word } =>
-            repack(PackingKind::Unpack, x, in_memory, y, word, at, space, plain, port, ended),
-        Arith::Tas { ref ea } => tas(ea, at, space, plain, port, ended),
-        Arith::Cas { size, ref ea, word } => cas(size, ea, word, at, space, plain, port, ended),
+            repack(PackingKind::Unpack, x, in_memory, y, word, first_word, space, plain, port, ended),
+        Arith::Tas { ref ea } => tas(ea, first_word, space, plain, port, ended),
+        Arith::Cas { size, ref ea, word } => cas(size, ea, word, second_word, space, plain, port, ended),
         Arith::Cas2 { size, first, second } => cas2(size, first, second, space, plain, port, ended),
     }
 }
@@ -171,8 +180,9 @@ pub fn perform_arith<P: Port>(
     ended: &mut Ended,
 ) -> Result<bool, Undone>
     requires { IsInstr (instr.Arith instruction.now) }
-    ensures means { run P.bus (perform_arith_of instruction.now at space plain.old) (P.world port.old)
-        ≡ (performed_in_place result ended.new plain.old plain.new, P.world port.new) }
+    ensures means { run P.bus
+        (perform_arith_of instruction.now (operands_at (arith_row instruction.now) at) space plain.old)
+        (P.world port.old) ≡ (performed_in_place result ended.new plain.old plain.new, P.world port.new) }
     ensures rest { P.rest port.new ≡ P.rest port.old }
 {
     match carry_out(instruction, at, space, plain, port, ended) {

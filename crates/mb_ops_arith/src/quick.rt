@@ -21,7 +21,7 @@ pub(crate) fn combine_quick<P: Port>(
     quick: u8,
     size: Size,
     ea: &Ea,
-    at: u32,
+    word_at: u32,
     space: Space,
     plain: &mut Plain,
     port: &mut P,
@@ -29,7 +29,7 @@ pub(crate) fn combine_quick<P: Port>(
 ) -> Result<(), Undone>
     requires { IsEa size ea.now }
     ensures means { run P.bus
-        (quick_of (sum_of sum size quick) (λ address. moved_of sum address quick) size ea.now at space plain.old)
+        (quick_of (sum_of sum size quick) (λ address. moved_of sum address quick) size ea.now word_at space plain.old)
         (P.world port.old) ≡ (carried_in_place result ended.new plain.old plain.new, P.world port.new) }
     ensures rest { P.rest port.new ≡ P.rest port.old }
 {
@@ -46,7 +46,7 @@ pub(crate) fn combine_quick<P: Port>(
                 change,
                 size,
                 ea,
-                at.wrapping_add(2),
+                word_at,
                 space,
                 plain,
                 port,

@@ -21,18 +21,18 @@ const CODES: u32 = 0x1F;
 pub(crate) fn clear<P: Port>(
     size: Size,
     ea: &Ea,
-    at: u32,
+    word_at: u32,
     space: Space,
     plain: &mut Plain,
     port: &mut P,
     ended: &mut Ended,
 ) -> Result<(), Undone>
     requires { IsEa size ea.now }
-    ensures means { run P.bus (clr_of size ea.now at space plain.old) (P.world port.old)
+    ensures means { run P.bus (clr_of size ea.now word_at space plain.old) (P.world port.old)
         ≡ (carried_in_place result ended.new plain.old plain.new, P.world port.new) }
     ensures rest { P.rest port.new ≡ P.rest port.old }
 {
-    let target = match resolve(ea, size, plain, at.wrapping_add(2), space, port) {
+    let target = match resolve(ea, size, plain, word_at, space, port) {
         Ok(target) => target,
         Err(refused) => return Err(unread(&refused, ended)),
     };

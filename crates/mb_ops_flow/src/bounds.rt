@@ -65,7 +65,7 @@ pub fn check<P: Port>(
     register: u8,
     size: Size,
     ea: &Ea,
-    at: u32,
+    word_at: u32,
     space: Space,
     plain: &mut Plain,
     port: &mut P,
@@ -73,11 +73,11 @@ pub fn check<P: Port>(
 ) -> Result<bool, Undone>
     requires register { register < 8 }
     requires operand { IsEa size ea.now }
-    ensures means { run P.bus (chk_of register size ea.now at space plain.old) (P.world port.old)
+    ensures means { run P.bus (chk_of register size ea.now word_at space plain.old) (P.world port.old)
         ≡ (performed_in_place result ended.new plain.old plain.new, P.world port.new) }
     ensures rest { P.rest port.new ≡ P.rest port.old }
 {
-    match fetch_operand(size, ea, at.wrapping_add(2), space, plain, port) {
+    match fetch_operand(size, ea, word_at, space, plain, port) {
         Ok(bound) => check_bound(size, bound.value, plain.d[register as usize], plain, ended),
         Err(refused) => Err(unread(&refused, ended)),
     }
@@ -104,18 +104,18 @@ pub fn check_bounds<P: Port>(
     size: Size,
     ea: &Ea,
     word: u16,
-    at: u32,
+    word_at: u32,
     space: Space,
     plain: &mut Plain,
     port: &mut P,
     ended: &mut Ended,
 ) -> Result<bool, Undone>
     requires { IsEa size ea.now }
-    ensures means { run P.bus (chk2_of size ea.now word at space plain.old) (P.world port.old)
+    ensures means { run P.bus (chk2_of size ea.now word word_at space plain.old) (P.world port.old)
         ≡ (performed_in_place result ended.new plain.old plain.new, P.world port.new) }
     ensures rest { P.rest port.new ≡ P.rest port.old }
 {
-    match compare_bounds(size, ea, word, at, space, plain, port) {
+    match compare_bounds(size, ea, word, word_at, space, plain, port) {
         Ok(ccr) => {
             plain.ccr = ccr;
             check_carry(plain, ended)

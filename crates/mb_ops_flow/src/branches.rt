@@ -25,10 +25,10 @@ fn displacement(branch: Branch) -> u32
 
 /// Where a branch at `at` goes.
 #[inline(always)]
-pub(crate) fn target(at: u32, branch: Branch) -> u32
-    ensures { result ≡ target_of at branch }
+pub(crate) fn target(word_at: u32, branch: Branch) -> u32
+    ensures { result ≡ target_of word_at branch }
 {
-    at.wrapping_add(2).wrapping_add(displacement(branch))
+    word_at.wrapping_add(displacement(branch))
 }
 
 /// Whether it is the condition F, which BSR has in a branch.
@@ -96,17 +96,17 @@ fn go_if_met(condition: Condition, target: u32, plain: &mut Plain) -> bool
 pub fn branch<P: Port>(
     condition: Condition,
     branch: Branch,
-    at: u32,
+    word_at: u32,
     space: Space,
     plain: &mut Plain,
     port: &mut P,
     ended: &mut Ended,
 ) -> Result<bool, Undone>
-    ensures means { run P.bus (branch_of condition branch at space plain.old) (P.world port.old)
+    ensures means { run P.bus (branch_of condition branch word_at space plain.old) (P.world port.old)
         ≡ (performed_in_place result ended.new plain.old plain.new, P.world port.new) }
     ensures rest { P.rest port.new ≡ P.rest port.old }
 {
-    let target = target(at, branch);
+    let target = target(word_at, branch);
     if is_call(condition) {
         call(target, space, plain, port, ended)
     } else {

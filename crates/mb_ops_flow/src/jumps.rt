@@ -17,18 +17,18 @@ use mb_writes::Ended;
 #[tactic(auto, unfolding(mb_meaning::specs::Flow::jmp_of))]
 pub fn jump<P: Port>(
     ea: &Ea,
-    at: u32,
+    word_at: u32,
     space: Space,
     plain: &mut Plain,
     port: &mut P,
     ended: &mut Ended,
 ) -> Result<bool, Undone>
     requires { IsEa Size.Long ea.now }
-    ensures means { run P.bus (jmp_of ea.now at space plain.old) (P.world port.old)
+    ensures means { run P.bus (jmp_of ea.now word_at space plain.old) (P.world port.old)
         ≡ (performed_in_place result ended.new plain.old plain.new, P.world port.new) }
     ensures rest { P.rest port.new ≡ P.rest port.old }
 {
-    match find_address(Size::Long, ea, at.wrapping_add(2), space, plain, port) {
+    match find_address(Size::Long, ea, word_at, space, plain, port) {
         Ok(target) => {
             plain.pc = target;
             Ok(true)
@@ -42,18 +42,18 @@ pub fn jump<P: Port>(
 #[tactic(auto, unfolding(mb_meaning::specs::Flow::jsr_of))]
 pub fn jump_to_subroutine<P: Port>(
     ea: &Ea,
-    at: u32,
+    word_at: u32,
     space: Space,
     plain: &mut Plain,
     port: &mut P,
     ended: &mut Ended,
 ) -> Result<bool, Undone>
     requires { IsEa Size.Long ea.now }
-    ensures means { run P.bus (jsr_of ea.now at space plain.old) (P.world port.old)
+    ensures means { run P.bus (jsr_of ea.now word_at space plain.old) (P.world port.old)
         ≡ (performed_in_place result ended.new plain.old plain.new, P.world port.new) }
     ensures rest { P.rest port.new ≡ P.rest port.old }
 {
-    match find_address(Size::Long, ea, at.wrapping_add(2), space, plain, port) {
+    match find_address(Size::Long, ea, word_at, space, plain, port) {
         Ok(target) => call(target, space, plain, port, ended),
         Err(refused) => Err(unread(&refused, ended)),
     }

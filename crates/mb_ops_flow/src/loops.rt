@@ -45,15 +45,15 @@ pub fn loop_unless(
     condition: Condition,
     register: u8,
     displacement: u16,
-    at: u32,
+    word_at: u32,
     plain: &mut Plain,
 ) -> bool
     requires { register < 8 }
-    ensures { performed_by (Ok result) plain.new ≡ dbcc_of condition register displacement at plain.old }
+    ensures { performed_by (Ok result) plain.new ≡ dbcc_of condition register displacement word_at plain.old }
 {
     if is_met(condition, plain.ccr) {
         false
     } else {
-        go_if_counted(register, target(at, Branch::Word(displacement)), plain)
+        go_if_counted(register, target(word_at, Branch::Word(displacement)), plain)
     }
 }

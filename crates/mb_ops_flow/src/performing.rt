@@ -3,6 +3,8 @@
 ghost use Rattle.std.specs.Prelude.{◌≡◌};
 ghost use Rattle.mb_port.specs.Routine.{run};
 ghost use Rattle.mb_instr.specs.Codes.{IsInstr};
+ghost use Rattle.mb_instr.specs.Shapes.{operands_at};
+ghost use Rattle.mb_instr.specs.Rows.{flow_row};
 ghost use Rattle.mb_instr.specs.declared.instruction.Instr.TheVariants as instr;
 ghost use Rattle.mb_meaning.specs.Rows.{perform_flow_of};
 ghost use Rattle.mb_operands.specs.Endings.{performed_in_place};
@@ -20,6 +22,7 @@ use mb_writes::Ended;
 
 /// Carries out the instruction by its row. The answer is whether it changed the flow of control, or how it ended
 /// otherwise.
+#[rattlefmt::skip]
 #[inline(always)]
 #[tactic(auto, unfolding(mb_meaning::specs::Rows::perform_flow_of))]
 fn carry_out<P: Port>(
@@ -31,40 +34,28 @@ fn carry_out<P: Port>(
     ended: &mut Ended,
 ) -> Result<bool, Undone>
     requires { IsInstr (instr.Flow instruction.now) }
-    ensures means { run P.bus (perform_flow_of instruction.now at space plain.old) (P.world port.old)
+    ensures means { run P.bus
+        (perform_flow_of instruction.now (operands_at (flow_row instruction.now) at) space plain.old) (P.world port.old)
         ≡ (performed_in_place result ended.new plain.old plain.new, P.world port.new) }
     ensures rest { P.rest port.new ≡ P.rest port.old }
 {
-    match instruction {
+    let first_word = at.wrapping_add(2);
+    let second_word = at.wrapping_add(4);
+    match *instruction {
         Flow::Nop => Ok(false),
-        Flow::Bcc {
-            condition,
-            displacement,
-        } => branch(*condition, *displacement, at, space, plain, port, ended),
-        Flow::Chk { register, size, ea } => check(
-            *register, *size, ea, at, space, plain, port, ended,
-        ),
-        Flow::Chk2 { size, ea, word } => check_bounds(
-            *size, ea, *word, at, space, plain, port, ended,
-        ),
-        Flow::Dbcc {
-            condition,
-            register,
-            displacement,
-        } => Ok(loop_unless(*condition, *register, *displacement, at, plain)),
-        Flow::Jmp { ea } => jump(ea, at, space, plain, port, ended),
-        Flow::Jsr { ea } => jump_to_subroutine(ea, at, space, plain, port, ended),
-        Flow::Rtd { displacement } => return_and_deallocate(
-            *displacement,
-            space,
-            plain,
-            port,
-            ended,
-        ),
+        Flow::Bcc { condition, displacement } =>
+            branch(condition, displacement, first_word, space, plain, port, ended),
+        Flow::Chk { register, size, ref ea } => check(register, size, ea, first_word, space, plain, port, ended),
+        Flow::Chk2 { size, ref ea, word } => check_bounds(size, ea, word, second_word, space, plain, port, ended),
+        Flow::Dbcc { condition, register, displacement } =>
+            Ok(loop_unless(condition, register, displacement, first_word, plain)),
+        Flow::Jmp { ref ea } => jump(ea, first_word, space, plain, port, ended),
+        Flow::Jsr { ref ea } => jump_to_subroutine(ea, first_word, space, plain, port, ended),
+        Flow::Rtd { displacement } => return_and_deallocate(displacement, space, plain, port, ended),
         Flow::Rtr => return_and_restore(space, plain, port, ended),
         Flow::Rts => return_from_subroutine(space, plain, port, ended),
-        Flow::Trap { number } => trap(*number, plain, ended),
-        Flow::Trapcc { condition, .. } => trap_if(*condition, plain, ended),
+        Flow::Trap { number } => trap(number, plain, ended),
+        Flow::Trapcc { condition, .. } => trap_if(condition, plain, ended),
         Flow::Trapv => trap_on_overflow(plain, ended),
     }
 }
@@ -82,7 +73,8 @@ pub fn perform_flow<P: Port>(
     ended: &mut Ended,
 ) -> Result<bool, Undone>
     requires { IsInstr (instr.Flow instruction.now) }
-    ensures means { run P.bus (perform_flow_of instruction.now at space plain.old) (P.world port.old)
+    ensures means { run P.bus
+        (perform_flow_of instruction.now (operands_at (flow_row instruction.now) at) space plain.old) (P.world port.old)
         ≡ (performed_in_place result ended.new plain.old plain.new, P.world port.new) }
     ensures rest { P.rest port.new ≡ P.rest port.old }
 {

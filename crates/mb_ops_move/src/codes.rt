@@ -17,18 +17,18 @@ use mb_writes::Ended;
 #[tactic(auto, unfolding(mb_meaning::specs::Moves::to_ccr_of))]
 pub fn move_to_ccr<P: Port>(
     ea: &Ea,
-    at: u32,
+    word_at: u32,
     space: Space,
     plain: &mut Plain,
     port: &mut P,
     ended: &mut Ended,
 ) -> Result<(), Undone>
     requires { IsEa Size.Word ea.now }
-    ensures means { run P.bus (to_ccr_of ea.now at space plain.old) (P.world port.old)
+    ensures means { run P.bus (to_ccr_of ea.now word_at space plain.old) (P.world port.old)
         ≡ (carried_in_place result ended.new plain.old plain.new, P.world port.new) }
     ensures rest { P.rest port.new ≡ P.rest port.old }
 {
-    match fetch_operand(Size::Word, ea, at.wrapping_add(2), space, plain, port) {
+    match fetch_operand(Size::Word, ea, word_at, space, plain, port) {
         Ok(operand) => {
             plain.ccr = (operand.value % 32) as u8;
             Ok(())
@@ -42,19 +42,19 @@ pub fn move_to_ccr<P: Port>(
 #[tactic(auto, unfolding(mb_meaning::specs::Moves::from_ccr_of))]
 pub fn move_from_ccr<P: Port>(
     ea: &Ea,
-    at: u32,
+    word_at: u32,
     space: Space,
     plain: &mut Plain,
     port: &mut P,
     ended: &mut Ended,
 ) -> Result<(), Undone>
     requires { IsEa Size.Word ea.now }
-    ensures means { run P.bus (from_ccr_of ea.now at space plain.old) (P.world port.old)
+    ensures means { run P.bus (from_ccr_of ea.now word_at space plain.old) (P.world port.old)
         ≡ (carried_in_place result ended.new plain.old plain.new, P.world port.new) }
     ensures rest { P.rest port.new ≡ P.rest port.old }
 {
     let codes = u32::from(plain.ccr % 32);
-    let target = match resolve(ea, Size::Word, plain, at.wrapping_add(2), space, port) {
+    let target = match resolve(ea, Size::Word, plain, word_at, space, port) {
         Ok(target) => target,
         Err(refused) => return Err(unread(&refused, ended)),
     };
@@ -75,19 +75,19 @@ fn byte_of(met: bool) -> u32
 pub fn set_by_condition<P: Port>(
     condition: Condition,
     ea: &Ea,
-    at: u32,
+    word_at: u32,
     space: Space,
     plain: &mut Plain,
     port: &mut P,
     ended: &mut Ended,
 ) -> Result<(), Undone>
     requires { IsEa Size.Byte ea.now }
-    ensures means { run P.bus (scc_of condition ea.now at space plain.old) (P.world port.old)
+    ensures means { run P.bus (scc_of condition ea.now word_at space plain.old) (P.world port.old)
         ≡ (carried_in_place result ended.new plain.old plain.new, P.world port.new) }
     ensures rest { P.rest port.new ≡ P.rest port.old }
 {
     let byte = byte_of(is_met(condition, plain.ccr));
-    let target = match resolve(ea, Size::Byte, plain, at.wrapping_add(2), space, port) {
+    let target = match resolve(ea, Size::Byte, plain, word_at, space, port) {
         Ok(target) => target,
         Err(refused) => return Err(unread(&refused, ended)),
     };

@@ -34,25 +34,24 @@ fn mode(size: Size, ea: &Ea) -> MovemMode
     }
 }
 
-/// MOVEM: the transfers begin where the operand stands; its words are behind the mask.
+/// MOVEM: the transfers begin where the operand stands.
 #[tactic(auto, unfolding(mb_meaning::specs::Moves::movem_of))]
 pub fn movem<P: Port>(
     is_load: bool,
     size: Size,
     ea: &Ea,
     mask: u16,
-    at: u32,
+    word_at: u32,
     space: Space,
     plain: &mut Plain,
     port: &mut P,
     ended: &mut Ended,
 ) -> Result<(), Undone>
     requires { IsEa size ea.now }
-    ensures means { run P.bus (movem_of is_load size ea.now mask at space plain.old) (P.world port.old)
+    ensures means { run P.bus (movem_of is_load size ea.now mask word_at space plain.old) (P.world port.old)
         ≡ (carried_in_place result ended.new plain.old plain.new, P.world port.new) }
     ensures rest { P.rest port.new ≡ P.rest port.old }
 {
-    let word_at = at.wrapping_add(2).wrapping_add(2);
     let place = match find_address(size, ea, word_at, space, plain, port) {
         Ok(place) => place,
         Err(refused) => return Err(unread(&refused, ended)),

@@ -32,7 +32,7 @@ pub fn move_operand<P: Port>(
     size: Size,
     destination: &Ea,
     from: &Ea,
-    at: u32,
+    word_at: u32,
     space: Space,
     plain: &mut Plain,
     port: &mut P,
@@ -40,11 +40,10 @@ pub fn move_operand<P: Port>(
 ) -> Result<(), Undone>
     requires destination { IsEa size destination.now }
     requires source { IsEa size from.now }
-    ensures means { run P.bus (move_of size destination.now from.now at space plain.old) (P.world port.old)
+    ensures means { run P.bus (move_of size destination.now from.now word_at space plain.old) (P.world port.old)
         ≡ (carried_in_place result ended.new plain.old plain.new, P.world port.new) }
     ensures rest { P.rest port.new ≡ P.rest port.old }
 {
-    let word_at = at.wrapping_add(2);
     let source = match fetch_operand(size, from, word_at, space, plain, port) {
         Ok(source) => source,
         Err(refused) => return Err(unread(&refused, ended)),
@@ -65,7 +64,7 @@ pub fn move_address<P: Port>(
     size: Size,
     register: u8,
     from: &Ea,
-    at: u32,
+    word_at: u32,
     space: Space,
     plain: &mut Plain,
     port: &mut P,
@@ -73,11 +72,11 @@ pub fn move_address<P: Port>(
 ) -> Result<(), Undone>
     requires source { IsEa size from.now }
     requires register { register < 8 }
-    ensures means { run P.bus (movea_of size register from.now at space plain.old) (P.world port.old)
+    ensures means { run P.bus (movea_of size register from.now word_at space plain.old) (P.world port.old)
         ≡ (carried_in_place result ended.new plain.old plain.new, P.world port.new) }
     ensures rest { P.rest port.new ≡ P.rest port.old }
 {
-    match fetch_operand(size, from, at.wrapping_add(2), space, plain, port) {
+    match fetch_operand(size, from, word_at, space, plain, port) {
         Ok(source) => {
             plain.a[register as usize] = size.sign_extend(source.value);
             Ok(())
@@ -92,7 +91,7 @@ pub fn move_address<P: Port>(
 pub fn load_address<P: Port>(
     register: u8,
     ea: &Ea,
-    at: u32,
+    word_at: u32,
     space: Space,
     plain: &mut Plain,
     port: &mut P,
@@ -100,11 +99,11 @@ pub fn load_address<P: Port>(
 ) -> Result<(), Undone>
     requires operand { IsEa Size.Long ea.now }
     requires register { register < 8 }
-    ensures means { run P.bus (lea_of register ea.now at space plain.old) (P.world port.old)
+    ensures means { run P.bus (lea_of register ea.now word_at space plain.old) (P.world port.old)
         ≡ (carried_in_place result ended.new plain.old plain.new, P.world port.new) }
     ensures rest { P.rest port.new ≡ P.rest port.old }
 {
-    match find_address(Size::Long, ea, at.wrapping_add(2), space, plain, port) {
+    match find_address(Size::Long, ea, word_at, space, plain, port) {
         Ok(place) => {
             plain.a[register as usize] = place;
             Ok(())

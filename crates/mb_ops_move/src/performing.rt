@@ -3,6 +3,8 @@
 ghost use Rattle.std.specs.Prelude.{◌≡◌};
 ghost use Rattle.mb_port.specs.Routine.{run};
 ghost use Rattle.mb_instr.specs.Codes.{IsInstr};
+ghost use Rattle.mb_instr.specs.Shapes.{operands_at};
+ghost use Rattle.mb_instr.specs.Rows.{move_row};
 ghost use Rattle.mb_instr.specs.declared.instruction.Instr.TheVariants as instr;
 ghost use Rattle.mb_meaning.specs.Rows.{perform_move_of};
 ghost use Rattle.mb_operands.specs.Endings.{carried_in_place, performed_in_place};
@@ -20,6 +22,7 @@ use mb_port::{Port, Space};
 use mb_writes::Ended;
 
 /// Carries out the instruction by its row. None changes the flow of control.
+#[rattlefmt::skip]
 #[inline(always)]
 #[tactic(auto, unfolding(mb_meaning::specs::Rows::perform_move_of))]
 fn carry_out<P: Port>(
@@ -31,84 +34,46 @@ fn carry_out<P: Port>(
     ended: &mut Ended,
 ) -> Result<(), Undone>
     requires { IsInstr (instr.Move instruction.now) }
-    ensures means { run P.bus (perform_move_of instruction.now at space plain.old) (P.world port.old)
+    ensures means { run P.bus
+        (perform_move_of instruction.now (operands_at (move_row instruction.now) at) space plain.old) (P.world port.old)
         ≡ (carried_in_place result ended.new plain.old plain.new, P.world port.new) }
     ensures rest { P.rest port.new ≡ P.rest port.old }
 {
-    match instruction {
-        Move::Move {
-            size,
-            destination,
-            source,
-        } => move_operand(*size, destination, source, at, space, plain, port, ended),
-        Move::Moveq {
-            register,
-            immediate,
-        } => {
-            moveq(*register, *immediate, plain);
+    let first_word = at.wrapping_add(2);
+    let second_word = at.wrapping_add(4);
+    match *instruction {
+        Move::Move { size, ref destination, ref source } =>
+            move_operand(size, destination, source, first_word, space, plain, port, ended),
+        Move::Moveq { register, immediate } => {
+            moveq(register, immediate, plain);
             Ok(())
         }
-        Move::MovemLoad { size, ea, mask } => movem(
-            true, *size, ea, *mask, at, space, plain, port, ended,
-        ),
-        Move::MovemStore { size, ea, mask } => {
-            movem(false, *size, ea, *mask, at, space, plain, port, ended)
-        }
-        Move::Movea {
-            size,
-            register,
-            source,
-        } => move_address(*size, *register, source, at, space, plain, port, ended),
-        Move::Lea { register, ea } => load_address(*register, ea, at, space, plain, port, ended),
+        Move::MovemLoad { size, ref ea, mask } => movem(true, size, ea, mask, second_word, space, plain, port, ended),
+        Move::MovemStore { size, ref ea, mask } => movem(false, size, ea, mask, second_word, space, plain, port, ended),
+        Move::Movea { size, register, ref source } =>
+            move_address(size, register, source, first_word, space, plain, port, ended),
+        Move::Lea { register, ref ea } => load_address(register, ea, first_word, space, plain, port, ended),
         Move::Exg { x, kind, y } => {
-            exchange(*x, *kind, *y, plain);
+            exchange(x, kind, y, plain);
             Ok(())
         }
         Move::Swap { register } => {
-            swap(*register, plain);
+            swap(register, plain);
             Ok(())
         }
-        Move::ToCcr { ea } => move_to_ccr(ea, at, space, plain, port, ended),
-        Move::FromCcr { ea } => move_from_ccr(ea, at, space, plain, port, ended),
-        Move::Scc { condition, ea } => set_by_condition(
-            *condition, ea, at, space, plain, port, ended,
-        ),
-        Move::Pea { ea } => push_address(ea, at, space, plain, port, ended),
-        Move::LinkW {
-            register,
-            displacement,
-        } => {
-            let displacement = Size::Word.sign_extend(u32::from(*displacement));
-            link(*register, displacement, space, plain, port, ended)
-        }
-        Move::LinkL {
-            register,
-            displacement,
-        } => link(*register, *displacement, space, plain, port, ended),
-        Move::Unlk { register } => unlink(*register, space, plain, port, ended),
-        Move::Movep {
-            register,
-            is_store,
-            size,
-            address,
-            displacement,
-        } => move_peripheral(
-            *register,
-            *is_store,
-            *size,
-            *address,
-            *displacement,
-            space,
-            plain,
-            port,
-            ended,
-        ),
-        Move::Move16Abs {
-            kind,
-            register,
-            address,
-        } => move_line_absolute(*kind, *register, *address, space, plain, port, ended),
-        Move::Move16Post { x, word } => move_line_post(*x, *word, space, plain, port, ended),
+        Move::ToCcr { ref ea } => move_to_ccr(ea, first_word, space, plain, port, ended),
+        Move::FromCcr { ref ea } => move_from_ccr(ea, first_word, space, plain, port, ended),
+        Move::Scc { condition, ref ea } => set_by_condition(condition, ea, first_word, space, plain, port, ended),
+        Move::Pea { ref ea } => push_address(ea, first_word, space, plain, port, ended),
+        Move::LinkW { register, displacement } =>
+            link(register, Size::Word.sign_extend(u32::from(displacement)), space, plain, port, ended),
+        Move::LinkL { register, displacement } => link(register, displacement, space, plain, port, ended),
+        Move::Unlk { register } => unlink(register, space, plain, port, ended),
+        Move::Movep { register, is_store, size, address, displacement } =>
+            move_peripheral(register, is_store, size, address, displacement, space, plain, port, ended),
+        Move::Move16Abs { kind, register, address } =>
+            move_line_absolute(kind, register, address, space, plain, port, ended),
+        Move::Move16Post { x, word } => move_line_post(x, word, space, plain, port, ended),
     }
 }
 
@@ -125,7 +90,8 @@ pub fn perform_move<P: Port>(
     ended: &mut Ended,
 ) -> Result<bool, Undone>
     requires { IsInstr (instr.Move instruction.now) }
-    ensures means { run P.bus (perform_move_of instruction.now at space plain.old) (P.world port.old)
+    ensures means { run P.bus
+        (perform_move_of instruction.now (operands_at (move_row instruction.now) at) space plain.old) (P.world port.old)
         ≡ (performed_in_place result ended.new plain.old plain.new, P.world port.new) }
     ensures rest { P.rest port.new ≡ P.rest port.old }
 {

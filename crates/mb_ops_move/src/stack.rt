@@ -17,18 +17,18 @@ use mb_writes::Ended;
 #[tactic(auto, unfolding(mb_meaning::specs::Stack::pea_of))]
 pub fn push_address<P: Port>(
     ea: &Ea,
-    at: u32,
+    word_at: u32,
     space: Space,
     plain: &mut Plain,
     port: &mut P,
     ended: &mut Ended,
 ) -> Result<(), Undone>
     requires { IsEa Size.Long ea.now }
-    ensures means { run P.bus (pea_of ea.now at space plain.old) (P.world port.old)
+    ensures means { run P.bus (pea_of ea.now word_at space plain.old) (P.world port.old)
         ≡ (carried_in_place result ended.new plain.old plain.new, P.world port.new) }
     ensures rest { P.rest port.new ≡ P.rest port.old }
 {
-    let place = match find_address(Size::Long, ea, at.wrapping_add(2), space, plain, port) {
+    let place = match find_address(Size::Long, ea, word_at, space, plain, port) {
         Ok(place) => place,
         Err(refused) => return Err(unread(&refused, ended)),
     };

@@ -3,6 +3,8 @@
 ghost use Rattle.std.specs.Prelude.{◌≡◌, ◌≢◌, IfErr};
 ghost use Rattle.mb_port.specs.Routine.{run};
 ghost use Rattle.mb_instr.specs.Codes.{IsInstr};
+ghost use Rattle.mb_instr.specs.Shapes.{operands_at};
+ghost use Rattle.mb_instr.specs.Rows.{system_row};
 ghost use Rattle.mb_instr.specs.declared.instruction.Instr.TheVariants as instr;
 ghost use Rattle.mb_meaning.specs.SystemEnds.{system_closing, system_performed_by};
 ghost use Rattle.mb_meaning.specs.System.{perform_system_of};
@@ -29,11 +31,12 @@ fn carry_out<P: Port>(
 ) -> Result<bool, Ended>
     requires row { IsInstr (instr.System instruction.now) }
     requires stays { instruction.now ≢ System.Rte }
-    ensures means { run P.bus (perform_system_of instruction.now at cpu.old) (P.world port.old)
-        ≡ (system_performed_by result cpu.new, P.world port.new) }
+    ensures means { run P.bus (perform_system_of instruction.now (operands_at (system_row instruction.now) at) cpu.old)
+        (P.world port.old) ≡ (system_performed_by result cpu.new, P.world port.new) }
     ensures ends { IfErr result (λ end. SystemEnds end cpu.old cpu.new) }
     ensures rest { P.rest port.new ≡ P.rest port.old }
 {
+    let first_word = at.wrapping_add(2);
     match instruction {
         System::AndiSr { word } => {
             change_status(LogicKind::And, *word, cpu);
@@ -47,8 +50,8 @@ fn carry_out<P: Port>(
             change_status(LogicKind::Eor, *word, cpu);
             return Ok(true);
         }
-        System::ToSr { ea } => return move_to_status(ea, at, cpu, port),
-        System::FromSr { ea } => move_from_status(ea, at, cpu, port)?,
+        System::ToSr { ea } => return move_to_status(ea, first_word, cpu, port),
+        System::FromSr { ea } => move_from_status(ea, first_word, cpu, port)?,
         System::Stop { word } => {
             stop(*word, cpu);
             return Ok(true);
@@ -56,7 +59,7 @@ fn carry_out<P: Port>(
         System::MoveUsp { from_usp, register } => move_usp(*from_usp, *register, cpu),
         System::Movec { to_control, word } => move_control(*to_control, *word, cpu, port)?,
         System::Moves { size, ea, word } => {
-            move_by_function_code(*size, ea, *word, at, cpu, port)?;
+            move_by_function_code(*size, ea, *word, at.wrapping_add(4), cpu, port)?;
         }
         System::Reset => port.reset_devices(),
         System::Cinv { .. } | System::Cpush { .. } => {}
@@ -72,8 +75,9 @@ fn carry_out<P: Port>(
 pub fn perform_system<P: Port>(instruction: &System, at: u32, cpu: &mut Cpu, port: &mut P) -> Ended
     requires row { IsInstr (instr.System instruction.now) }
     requires stays { instruction.now ≢ System.Rte }
-    ensures means { run P.bus (system_closing (perform_system_of instruction.now at cpu.old)) (P.world port.old)
-        ≡ ((result, cpu.new), P.world port.new) }
+    ensures means { run P.bus
+        (system_closing (perform_system_of instruction.now (operands_at (system_row instruction.now) at) cpu.old))
+        (P.world port.old) ≡ ((result, cpu.new), P.world port.new) }
     ensures ends { SystemEnds result cpu.old cpu.new }
     ensures rest { P.rest port.new ≡ P.rest port.old }
 {

@@ -123,18 +123,17 @@ pub(crate) fn move_by_function_code<P: Port>(
     size: Size,
     ea: &Ea,
     word: u16,
-    at: u32,
+    word_at: u32,
     cpu: &mut Cpu,
     port: &mut P,
 ) -> Result<(), Ended>
     requires { IsEa size ea.now }
-    ensures means { run P.bus (moves_of size ea.now word at cpu.old) (P.world port.old)
+    ensures means { run P.bus (moves_of size ea.now word word_at cpu.old) (P.world port.old)
         ≡ (system_carried_by result cpu.new, P.world port.new) }
     ensures ends { IfErr result (λ end. SystemEnds end cpu.old cpu.new) }
     ensures rest { P.rest port.new ≡ P.rest port.old }
 {
     let mut plain = cpu.regs.plain();
-    let word_at = at.wrapping_add(2).wrapping_add(2);
     let target = match resolve(ea, size, &mut plain, word_at, Space::Super, port) {
         Ok(target) => target,
         Err(refused) => return Err(Ended::ReadFault(refused)),

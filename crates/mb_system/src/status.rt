@@ -42,18 +42,17 @@ pub(crate) fn change_status(kind: LogicKind, word: u16, cpu: &mut Cpu)
 #[tactic(auto, unfolding(mb_meaning::specs::Status::to_status_of))]
 pub(crate) fn move_to_status<P: Port>(
     ea: &Ea,
-    at: u32,
+    word_at: u32,
     cpu: &mut Cpu,
     port: &mut P,
 ) -> Result<bool, Ended>
     requires { IsEa Size.Word ea.now }
-    ensures means { run P.bus (to_status_of ea.now at cpu.old) (P.world port.old)
+    ensures means { run P.bus (to_status_of ea.now word_at cpu.old) (P.world port.old)
         ≡ (system_performed_by result cpu.new, P.world port.new) }
     ensures ends { IfErr result (λ end. SystemEnds end cpu.old cpu.new) }
     ensures rest { P.rest port.new ≡ P.rest port.old }
 {
     let mut plain = cpu.regs.plain();
-    let word_at = at.wrapping_add(2);
     match fetch_operand(Size::Word, ea, word_at, Space::Super, &mut plain, port) {
         Ok(operand) => {
             cpu.regs.set_plain(&plain);
@@ -69,18 +68,17 @@ pub(crate) fn move_to_status<P: Port>(
 #[tactic(auto, unfolding(mb_meaning::specs::Status::from_status_of), using(crate::proofs::Ends::unfinished))]
 pub(crate) fn move_from_status<P: Port>(
     ea: &Ea,
-    at: u32,
+    word_at: u32,
     cpu: &mut Cpu,
     port: &mut P,
 ) -> Result<(), Ended>
     requires { IsEa Size.Word ea.now }
-    ensures means { run P.bus (from_status_of ea.now at cpu.old) (P.world port.old)
+    ensures means { run P.bus (from_status_of ea.now word_at cpu.old) (P.world port.old)
         ≡ (system_carried_by result cpu.new, P.world port.new) }
     ensures ends { IfErr result (λ end. SystemEnds end cpu.old cpu.new) }
     ensures rest { P.rest port.new ≡ P.rest port.old }
 {
     let mut plain = cpu.regs.plain();
-    let word_at = at.wrapping_add(2);
     let target = match resolve(ea, Size::Word, &mut plain, word_at, Space::Super, port) {
         Ok(target) => target,
         Err(refused) => return Err(Ended::ReadFault(refused)),

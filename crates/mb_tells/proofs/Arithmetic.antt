@@ -10,7 +10,7 @@ use Rattle.mb_instr.specs.Operands.{address_number}
 use Rattle.mb_alu.specs.declared.conditions.Flagged.{Flagged}
 use Rattle.mb_writes.specs.declared.transfers.Movem.{Movem}
 use Rattle.mb_meaning.specs.Ends.{Performed}
-use Rattle.mb_meaning.specs.Operands.{first_word, behind}
+use Rattle.mb_meaning.specs.Operands.{behind}
 use Rattle.mb_meaning.specs.Moves.{move_flags}
 use Rattle.mb_meaning.specs.Arithmetic.{Pair, pair_of, combining, comparing, either_way, chaining, quick_to, quick_of, taking}
 use Rattle.mb_meaning.specs.Unary.{clr_of}
@@ -34,46 +34,46 @@ module _ {S : Type 0} (x : Guarded S) (space : Space) (g : Guards x space) where
       reads_none x space _ found))
 
 module _ {S : Type 0} (x : Guarded S) (space : Space) (g : Guards x space) {moves : Movem → Type 0} where
-  pub combining_tells : (operation : ℕ → ℕ → ℕ → Flagged) (size : Size) (source destination : Ea) (at : ℕ) (p : Plain)
-      → IsFormed source → IsFormed destination → AreLongs p.a → Row x space p moves (combining operation size source destination at space p)
+  pub combining_tells : (operation : ℕ → ℕ → ℕ → Flagged) (size : Size) (source destination : Ea) (word_at : ℕ) (p : Plain)
+      → IsFormed source → IsFormed destination → AreLongs p.a → Row x space p moves (combining operation size source destination word_at space p)
   unfolding combining
-  combining_tells operation size source destination at p comes goes longs =
-      row_reading x space (pair_tells x space g size source destination (first_word at) p comes goes longs) (λ pair found.
+  combining_tells operation size source destination word_at p comes goes longs =
+      row_reading x space (pair_tells x space g size source destination word_at p comes goes longs) (λ pair found.
       let to = pair.destination in
       let result = operation pair.source to.value to.plain.ccr in
       storing_tells x space g to.target size result.value (record to.plain { ccr = result.ccr }) found.0)
 
-  pub comparing_tells : (size : Size) (source destination : Ea) (at : ℕ) (p : Plain) → IsFormed source → IsFormed destination → AreLongs p.a
-      → Row x space p moves (comparing size source destination at space p)
+  pub comparing_tells : (size : Size) (source destination : Ea) (word_at : ℕ) (p : Plain) → IsFormed source → IsFormed destination → AreLongs p.a
+      → Row x space p moves (comparing size source destination word_at space p)
   unfolding comparing
-  comparing_tells size source destination at p comes goes longs =
-      row_reading x space (pair_tells x space g size source destination (first_word at) p comes goes longs) (λ pair found. row_done x space _)
+  comparing_tells size source destination word_at p comes goes longs =
+      row_reading x space (pair_tells x space g size source destination word_at p comes goes longs) (λ pair found. row_done x space _)
 
-  pub either_way_tells : (operation : ℕ → ℕ → ℕ → Flagged) (register : ℕ) (to_memory : Bool) (size : Size) (ea : Ea) (at : ℕ) (p : Plain)
-      → IsFormed ea → AreLongs p.a → Row x space p moves (either_way operation register to_memory size ea at space p)
+  pub either_way_tells : (operation : ℕ → ℕ → ℕ → Flagged) (register : ℕ) (to_memory : Bool) (size : Size) (ea : Ea) (word_at : ℕ) (p : Plain)
+      → IsFormed ea → AreLongs p.a → Row x space p moves (either_way operation register to_memory size ea word_at space p)
   unfolding either_way
-  either_way_tells operation register to_memory size ea at p is longs =
-      tells_choose to_memory _ _ (λ e. combining_tells operation size (Dn register) ea at p tt is longs)
-      (λ e. combining_tells operation size ea (Dn register) at p is tt longs)
+  either_way_tells operation register to_memory size ea word_at p is longs =
+      tells_choose to_memory _ _ (λ e. combining_tells operation size (Dn register) ea word_at p tt is longs)
+      (λ e. combining_tells operation size ea (Dn register) word_at p is tt longs)
 
-  pub chaining_tells : (operation : ℕ → ℕ → ℕ → Flagged) (size : Size) (in_memory : Bool) (source destination at : ℕ) (p : Plain)
-      → AreLongs p.a → Row x space p moves (chaining operation size in_memory source destination at space p)
+  pub chaining_tells : (operation : ℕ → ℕ → ℕ → Flagged) (size : Size) (in_memory : Bool) (source destination word_at : ℕ) (p : Plain)
+      → AreLongs p.a → Row x space p moves (chaining operation size in_memory source destination word_at space p)
   unfolding chaining
-  chaining_tells operation size in_memory source destination at p longs =
-      tells_choose in_memory _ _ (λ e. combining_tells operation size (Pre source) (Pre destination) at p tt tt longs)
-      (λ e. combining_tells operation size (Dn source) (Dn destination) at p tt tt longs)
+  chaining_tells operation size in_memory source destination word_at p longs =
+      tells_choose in_memory _ _ (λ e. combining_tells operation size (Pre source) (Pre destination) word_at p tt tt longs)
+      (λ e. combining_tells operation size (Dn source) (Dn destination) word_at p tt tt longs)
 
   -- ---- quick values
 
-  quick_to_tells : (o : Option ℕ) (change : ℕ → ℕ → Flagged) (moved : ℕ → ℕ) (size : Size) (ea : Ea) (at : ℕ) (p : Plain)
-      → IsFormed ea → AreLongs p.a → Row x space p moves (quick_to o change moved size ea at space p)
-  quick_to_tells (Some n) change moved size ea at p is longs = row_done x space _
-  quick_to_tells None change moved size ea at p is longs = modifying_tells x space g change size ea (first_word at) p is longs
+  quick_to_tells : (o : Option ℕ) (change : ℕ → ℕ → Flagged) (moved : ℕ → ℕ) (size : Size) (ea : Ea) (word_at : ℕ) (p : Plain)
+      → IsFormed ea → AreLongs p.a → Row x space p moves (quick_to o change moved size ea word_at space p)
+  quick_to_tells (Some n) change moved size ea word_at p is longs = row_done x space _
+  quick_to_tells None change moved size ea word_at p is longs = modifying_tells x space g change size ea word_at p is longs
 
-  pub quick_tells : (change : ℕ → ℕ → Flagged) (moved : ℕ → ℕ) (size : Size) (ea : Ea) (at : ℕ) (p : Plain)
-      → IsFormed ea → AreLongs p.a → Row x space p moves (quick_of change moved size ea at space p)
+  pub quick_tells : (change : ℕ → ℕ → Flagged) (moved : ℕ → ℕ) (size : Size) (ea : Ea) (word_at : ℕ) (p : Plain)
+      → IsFormed ea → AreLongs p.a → Row x space p moves (quick_of change moved size ea word_at space p)
   unfolding quick_of
-  quick_tells change moved size ea at p is longs = quick_to_tells (address_number ea) change moved size ea at p is longs
+  quick_tells change moved size ea word_at p is longs = quick_to_tells (address_number ea) change moved size ea word_at p is longs
 
   -- ---- operands that are only read, or only written
 
@@ -83,8 +83,8 @@ module _ {S : Type 0} (x : Guarded S) (space : Space) (g : Guards x space) {move
   taking_tells effect size ea word_at p is longs =
       row_reading x space (fetched_tells x space g size ea word_at p is longs) (λ operand read. row_ends x space (effect operand.value operand.plain))
 
-  pub clr_tells : (size : Size) (ea : Ea) (at : ℕ) (p : Plain) → IsFormed ea → AreLongs p.a → Row x space p moves (clr_of size ea at space p)
+  pub clr_tells : (size : Size) (ea : Ea) (word_at : ℕ) (p : Plain) → IsFormed ea → AreLongs p.a → Row x space p moves (clr_of size ea word_at space p)
   unfolding clr_of
-  clr_tells size ea at p is longs =
-      row_reading x space (resolve_tells x space g ea size (first_word at) p is longs) (λ to found.
+  clr_tells size ea word_at p is longs =
+      row_reading x space (resolve_tells x space g ea size word_at p is longs) (λ to found.
       storing_tells x space g to.target size 0 (move_flags size 0 to.plain) found.0)

@@ -15,7 +15,6 @@ use Rattle.mb_instr.specs.Registers.{data_register}
 use Rattle.mb_fields.specs.Fields.{field_of, with_field}
 use Rattle.mb_ea.specs.Addresses.{sum}
 use Rattle.mb_meaning.specs.Ends.{Carried}
-use Rattle.mb_meaning.specs.Operands.{first_word}
 use Rattle.mb_meaning.specs.BitFields.{named_by, offset_of, width_of, is_change, field_after, field_done}
 use Rattle.mb_meaning.specs.BitFields.{bytes_before, bytes_held, field_in_memory, field_row_of}
 use Rattle.mb_tells.proofs.Longs.{sum_long}
@@ -40,9 +39,9 @@ module _ {S : Type 0} (x : Guarded S) (space : Space) (g : Guards x space) {move
       (λ e. row_writing x space tt (λ written. done) (writing_tells x space g first held (with_field bytes (8 * held) (offset % 8) width new) lt))
       (λ e. row_done x space done))
 
-  pub field_row_tells : (kind : FieldKind) (ea : Ea) (word at : ℕ) (p : Plain) → IsFormed ea → AreLongs p.a
-      → Row x space p moves (field_row_of kind ea word at space p)
+  pub field_row_tells : (kind : FieldKind) (ea : Ea) (word word_at : ℕ) (p : Plain) → IsFormed ea → AreLongs p.a
+      → Row x space p moves (field_row_of kind ea word word_at space p)
   unfolding field_row_of
-  field_row_tells kind (Dn n) word at p is longs = row_done x space _
-  field_row_tells kind ea word at p is longs =
-      row_reading x space (address_tells x space g Long ea (sum (first_word at) 2) p is longs) (λ address found. in_memory_tells kind word address p)
+  field_row_tells kind (Dn n) word word_at p is longs = row_done x space _
+  field_row_tells kind ea word word_at p is longs =
+      row_reading x space (address_tells x space g Long ea word_at p is longs) (λ address found. in_memory_tells kind word address p)

@@ -10,7 +10,6 @@ use Rattle.mb_instr.specs.declared.size.Size.{Size}
 use Rattle.mb_instr.specs.declared.operand.Ea.{Ea}
 use Rattle.mb_instr.specs.Sizes.{bytes_of}
 use Rattle.mb_ea.specs.Addresses.{sum}
-use Rattle.mb_meaning.specs.Operands.{first_word}
 use Rattle.mb_meaning.specs.Bounds.{chk_of, bounds_of, cmp2_of, chk2_of}
 use Rattle.mb_tells.proofs.Longs.{sum_long}
 use Rattle.mb_tells.proofs.Ranges.{IsFormed}
@@ -18,25 +17,26 @@ use Rattle.mb_tells.proofs.Parts.{Reads, reads_then, reads_none, row_reading, ro
 use Rattle.mb_tells.proofs.Operands.{reading_tells, fetched_tells, address_tells}
 
 module _ {S : Type 0} (x : Guarded S) (space : Space) (g : Guards x space) where
-  bounds_tells : (size : Size) (ea : Ea) (w at : ℕ) (p : Plain) → IsFormed ea → AreLongs p.a
-      → Reads x (λ ccr. Unit {0}) (bounds_of size ea w at space p)
+  bounds_tells : (size : Size) (ea : Ea) (w word_at : ℕ) (p : Plain) → IsFormed ea → AreLongs p.a
+      → Reads x (λ ccr. Unit {0}) (bounds_of size ea w word_at space p)
   unfolding bounds_of
-  bounds_tells size ea w at p is longs =
-      reads_then x space (address_tells x space g size ea (sum (first_word at) 2) p is longs) (λ place found.
+  bounds_tells size ea w word_at p is longs =
+      reads_then x space (address_tells x space g size ea word_at p is longs) (λ place found.
       reads_then x space (reading_tells x space g place (bytes_of size) found) (λ lower read.
       reads_then x space (reading_tells x space g (sum place (bytes_of size)) (bytes_of size) (sum_long place (bytes_of size))) (λ upper also.
       reads_none x space _ tt)))
 
 module _ {S : Type 0} (x : Guarded S) (space : Space) (g : Guards x space) {moves : Movem → Type 0} where
-  pub chk_tells : (n : ℕ) (size : Size) (ea : Ea) (at : ℕ) (p : Plain) → IsFormed ea → AreLongs p.a → Row x space p moves (chk_of n size ea at space p)
+  pub chk_tells : (n : ℕ) (size : Size) (ea : Ea) (word_at : ℕ) (p : Plain) → IsFormed ea → AreLongs p.a
+      → Row x space p moves (chk_of n size ea word_at space p)
   unfolding chk_of
-  chk_tells n size ea at p is longs =
-      row_reading x space (fetched_tells x space g size ea (first_word at) p is longs) (λ bound read. row_ends x space _)
+  chk_tells n size ea word_at p is longs =
+      row_reading x space (fetched_tells x space g size ea word_at p is longs) (λ bound read. row_ends x space _)
 
-  pub cmp2_tells : (size : Size) (ea : Ea) (w at : ℕ) (p : Plain) → IsFormed ea → AreLongs p.a → Row x space p moves (cmp2_of size ea w at space p)
+  pub cmp2_tells : (size : Size) (ea : Ea) (w word_at : ℕ) (p : Plain) → IsFormed ea → AreLongs p.a → Row x space p moves (cmp2_of size ea w word_at space p)
   unfolding cmp2_of
-  cmp2_tells size ea w at p is longs = row_reading x space (bounds_tells x space g size ea w at p is longs) (λ ccr read. row_done x space _)
+  cmp2_tells size ea w word_at p is longs = row_reading x space (bounds_tells x space g size ea w word_at p is longs) (λ ccr read. row_done x space _)
 
-  pub chk2_tells : (size : Size) (ea : Ea) (w at : ℕ) (p : Plain) → IsFormed ea → AreLongs p.a → Row x space p moves (chk2_of size ea w at space p)
+  pub chk2_tells : (size : Size) (ea : Ea) (w word_at : ℕ) (p : Plain) → IsFormed ea → AreLongs p.a → Row x space p moves (chk2_of size ea w word_at space p)
   unfolding chk2_of
-  chk2_tells size ea w at p is longs = row_reading x space (bounds_tells x space g size ea w at p is longs) (λ ccr read. row_ends x space _)
+  chk2_tells size ea w word_at p is longs = row_reading x space (bounds_tells x space g size ea w word_at p is longs) (λ ccr read. row_ends x space _)

@@ -9,7 +9,6 @@ use Rattle.mb_tells.specs.Laws.{AreLongs}
 use Rattle.mb_instr.specs.declared.size.Size.{Size}
 use Rattle.mb_instr.specs.declared.size.Size.TheVariants.{Byte}
 use Rattle.mb_alu.specs.declared.conditions.Flagged.{Flagged}
-use Rattle.mb_meaning.specs.Operands.{first_word}
 use Rattle.mb_meaning.specs.Decimals.{paired, decimal_of, digits_of}
 use Rattle.mb_tells.proofs.Ranges.{IsFormed}
 use Rattle.mb_tells.proofs.Parts.{row_reading}
@@ -20,21 +19,21 @@ paired_formed true n = tt
 paired_formed false n = tt
 
 module _ {S : Type 0} (x : Guarded S) (space : Space) (g : Guards x space) {moves : Movem → Type 0} where
-  pub decimal_tells : (operation : ℕ → ℕ → ℕ → Flagged) (to : ℕ) (in_memory : Bool) (from at : ℕ) (p : Plain) → AreLongs p.a
-      → Row x space p moves (decimal_of operation to in_memory from at space p)
+  pub decimal_tells : (operation : ℕ → ℕ → ℕ → Flagged) (to : ℕ) (in_memory : Bool) (from word_at : ℕ) (p : Plain) → AreLongs p.a
+      → Row x space p moves (decimal_of operation to in_memory from word_at space p)
   unfolding decimal_of
-  decimal_tells operation to in_memory from at p longs =
-      row_reading x space (fetched_tells x space g Byte (paired in_memory from) (first_word at) p (paired_formed in_memory from) longs) (λ source read.
-      row_reading x space (fetched_tells x space g Byte (paired in_memory to) (first_word at) source.plain (paired_formed in_memory to) read.1)
+  decimal_tells operation to in_memory from word_at p longs =
+      row_reading x space (fetched_tells x space g Byte (paired in_memory from) word_at p (paired_formed in_memory from) longs) (λ source read.
+      row_reading x space (fetched_tells x space g Byte (paired in_memory to) word_at source.plain (paired_formed in_memory to) read.1)
       (λ destination found.
       let result = operation source.value destination.value destination.plain.ccr in
       storing_tells x space g destination.target Byte result.value (record destination.plain { ccr = result.ccr }) found.0))
 
-  pub digits_tells : (operation : ℕ → ℕ → ℕ) (read written : Size) (to : ℕ) (in_memory : Bool) (from adjust at : ℕ) (p : Plain) → AreLongs p.a
-      → Row x space p moves (digits_of operation read written to in_memory from adjust at space p)
+  pub digits_tells : (operation : ℕ → ℕ → ℕ) (read written : Size) (to : ℕ) (in_memory : Bool) (from adjust word_at : ℕ) (p : Plain) → AreLongs p.a
+      → Row x space p moves (digits_of operation read written to in_memory from adjust word_at space p)
   unfolding digits_of
-  digits_tells operation read written to in_memory from adjust at p longs =
-      row_reading x space (fetched_tells x space g read (paired in_memory from) (first_word at) p (paired_formed in_memory from) longs) (λ source comes.
-      row_reading x space (resolve_tells x space g (paired in_memory to) written (first_word at) source.plain (paired_formed in_memory to) comes.1)
+  digits_tells operation read written to in_memory from adjust word_at p longs =
+      row_reading x space (fetched_tells x space g read (paired in_memory from) word_at p (paired_formed in_memory from) longs) (λ source comes.
+      row_reading x space (resolve_tells x space g (paired in_memory to) written word_at source.plain (paired_formed in_memory to) comes.1)
       (λ destination found.
       storing_tells x space g destination.target written (operation source.value adjust) destination.plain found.0))

@@ -12,7 +12,7 @@ use Rattle.mb_instr.specs.declared.operand.Ea.{Ea}
 use Rattle.mb_instr.specs.declared.kinds.Branch.{Branch}
 use Rattle.mb_instr.specs.declared.kinds.Condition.{Condition}
 use Rattle.mb_instr.specs.Registers.{address_register}
-use Rattle.mb_meaning.specs.Operands.{first_word, lowered}
+use Rattle.mb_meaning.specs.Operands.{lowered}
 use Rattle.mb_meaning.specs.Flow.{target_of, is_call, call_of, branched, branch_of, jmp_of, jsr_of}
 use Rattle.mb_tells.proofs.Longs.{lowered_long}
 use Rattle.mb_tells.proofs.Ranges.{IsFormed}
@@ -26,16 +26,16 @@ module _ {S : Type 0} (x : Guarded S) (space : Space) (g : Guards x space) {move
       let after = record (lowered p) { pc = target } in
       pushing_tells x space g p.pc (address_register after 7) (record { flow = true; plain = after }) (lowered_long p longs)
 
-  pub branch_tells : (c : Condition) (d : Branch) (at : ℕ) (p : Plain) → AreLongs p.a → Row x space p moves (branch_of c d at space p)
+  pub branch_tells : (c : Condition) (d : Branch) (word_at : ℕ) (p : Plain) → AreLongs p.a → Row x space p moves (branch_of c d word_at space p)
   unfolding branch_of
-  branch_tells c d at p longs =
-      tells_choose (is_call c) _ _ (λ e. call_tells (target_of at d) p longs) (λ e. row_ends x space (branched c (target_of at d) p))
+  branch_tells c d word_at p longs =
+      tells_choose (is_call c) _ _ (λ e. call_tells (target_of word_at d) p longs) (λ e. row_ends x space (branched c (target_of word_at d) p))
 
-  pub jmp_tells : (ea : Ea) (at : ℕ) (p : Plain) → IsFormed ea → AreLongs p.a → Row x space p moves (jmp_of ea at space p)
+  pub jmp_tells : (ea : Ea) (word_at : ℕ) (p : Plain) → IsFormed ea → AreLongs p.a → Row x space p moves (jmp_of ea word_at space p)
   unfolding jmp_of
-  jmp_tells ea at p is longs = row_reading x space (address_tells x space g Long ea (first_word at) p is longs) (λ target found. row_done x space _)
+  jmp_tells ea word_at p is longs = row_reading x space (address_tells x space g Long ea word_at p is longs) (λ target found. row_done x space _)
 
-  pub jsr_tells : (ea : Ea) (at : ℕ) (p : Plain) → IsFormed ea → AreLongs p.a → Row x space p moves (jsr_of ea at space p)
+  pub jsr_tells : (ea : Ea) (word_at : ℕ) (p : Plain) → IsFormed ea → AreLongs p.a → Row x space p moves (jsr_of ea word_at space p)
   unfolding jsr_of
-  jsr_tells ea at p is longs =
-      row_reading x space (address_tells x space g Long ea (first_word at) p is longs) (λ target found. call_tells target p longs)
+  jsr_tells ea word_at p is longs =
+      row_reading x space (address_tells x space g Long ea word_at p is longs) (λ target found. call_tells target p longs)

@@ -21,10 +21,9 @@ use Rattle.mb_instr.specs.declared.operand.Ea.{Ea}
 use Rattle.mb_instr.specs.declared.operand.Ea.TheVariants.{Dn}
 use Rattle.mb_instr.specs.Sizes.{bytes_of}
 use Rattle.mb_instr.specs.Registers.{register_of, data_register}
-use Rattle.mb_ea.specs.Addresses.{sum}
 use Rattle.mb_ea.specs.Reading.{refused_in}
 use Rattle.mb_writes.specs.Writing.{part_of}
-use Rattle.mb_meaning.specs.Operands.{first_word, place_of}
+use Rattle.mb_meaning.specs.Operands.{place_of}
 use Rattle.mb_meaning.specs.Locked.{probe_pieces, probe_of, get_places, get_of, put_places, put_at, test_and_set, tas_in_memory, tas_of}
 use Rattle.mb_meaning.specs.Locked.{update_by, pointer_by, cas_equal, cas_at, cas_of, cas2_equal, cas2_of}
 use Rattle.mb_tells.specs.Guarded.{Goes, quiet}
@@ -105,11 +104,11 @@ module _ {S : Type 0} (x : Guarded S) (space : Space) (g : Guards x space) {move
       tail_then x space (get_calm x space g places may) (λ value.
       tail_then x space (put_calm x space g places 1 (test_and_set value p.ccr).value may) (λ done. tail_done x space _))))
 
-  pub tas_tells : (ea : Ea) (at : ℕ) (p : Plain) → IsFormed ea → AreLongs p.a → Row x space p moves (tas_of ea at space p)
+  pub tas_tells : (ea : Ea) (word_at : ℕ) (p : Plain) → IsFormed ea → AreLongs p.a → Row x space p moves (tas_of ea word_at space p)
   unfolding tas_of
-  tas_tells (Dn n) at p is longs = modifying_tells x space g test_and_set Byte (Dn n) (first_word at) p tt longs
-  tas_tells ea at p is longs =
-      row_reading x space (resolve_tells x space g ea Byte (first_word at) p is longs)
+  tas_tells (Dn n) word_at p is longs = modifying_tells x space g test_and_set Byte (Dn n) word_at p tt longs
+  tas_tells ea word_at p is longs =
+      row_reading x space (resolve_tells x space g ea Byte word_at p is longs)
       (λ to found. tas_in_memory_tells (place_of to.target) p to.plain (place_long to.target found.0))
 
   cas_at_tells : (size : Size) (word address : ℕ) (before p : Plain) → address < 2 ^ 32
@@ -122,10 +121,11 @@ module _ {S : Type 0} (x : Guarded S) (space : Space) (g : Guards x space) {move
       (λ e. tail_then x space (put_calm x space g places (bytes_of size) (data_register p (update_by word)) may) (λ done. tail_done x space _))
       (λ e. tail_done x space _))))
 
-  pub cas_tells : (size : Size) (ea : Ea) (word at : ℕ) (p : Plain) → IsFormed ea → AreLongs p.a → Row x space p moves (cas_of size ea word at space p)
+  pub cas_tells : (size : Size) (ea : Ea) (word word_at : ℕ) (p : Plain) → IsFormed ea → AreLongs p.a
+      → Row x space p moves (cas_of size ea word word_at space p)
   unfolding cas_of
-  cas_tells size ea word at p is longs =
-      row_reading x space (resolve_tells x space g ea size (sum (first_word at) 2) p is longs)
+  cas_tells size ea word word_at p is longs =
+      row_reading x space (resolve_tells x space g ea size word_at p is longs)
       (λ to found. cas_at_tells size word (place_of to.target) p to.plain (place_long to.target found.0))
 
   pub cas2_tells : (size : Size) (first second : ℕ) (p : Plain) → AreLongs p.d → AreLongs p.a → Row x space p moves (cas2_of size first second space p)

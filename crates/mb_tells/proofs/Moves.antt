@@ -7,7 +7,7 @@ use Rattle.mb_instr.specs.declared.kinds.Condition.{Condition}
 use Rattle.mb_instr.specs.declared.operand.Ea.{Ea}
 use Rattle.mb_instr.specs.declared.registers.Plain.{Plain}
 use Rattle.mb_writes.specs.declared.transfers.Movem.{Movem}
-use Rattle.mb_meaning.specs.Operands.{first_word, behind}
+use Rattle.mb_meaning.specs.Operands.{behind}
 use Rattle.mb_meaning.specs.Moves.{move_flags, move_of, movea_of, lea_of, to_ccr_of, from_ccr_of, byte_of, scc_of}
 use Rattle.mb_meaning.specs.Conditions.{is_met}
 use Rattle.mb_tells.specs.Guarded.{Guarded, Guards}
@@ -18,36 +18,36 @@ use Rattle.mb_tells.proofs.Parts.{row_reading, row_done}
 use Rattle.mb_tells.proofs.Operands.{resolve_tells, fetched_tells, address_tells, storing_tells}
 
 module _ {S : Type 0} (x : Guarded S) (space : Space) (g : Guards x space) {moves : Movem → Type 0} where
-  pub move_tells : (size : Size) (destination source : Ea) (at : ℕ) (p : Plain) → IsFormed destination → IsFormed source → AreLongs p.a
-      → Row x space p moves (move_of size destination source at space p)
+  pub move_tells : (size : Size) (destination source : Ea) (word_at : ℕ) (p : Plain) → IsFormed destination → IsFormed source → AreLongs p.a
+      → Row x space p moves (move_of size destination source word_at space p)
   unfolding move_of
-  move_tells size destination source at p goes comes longs =
-      row_reading x space (fetched_tells x space g size source (first_word at) p comes longs) (λ from read.
-      row_reading x space (resolve_tells x space g destination size (behind size source (first_word at)) from.plain goes read.1) (λ to found.
+  move_tells size destination source word_at p goes comes longs =
+      row_reading x space (fetched_tells x space g size source word_at p comes longs) (λ from read.
+      row_reading x space (resolve_tells x space g destination size (behind size source word_at) from.plain goes read.1) (λ to found.
       storing_tells x space g to.target size from.value (move_flags size from.value to.plain) found.0))
 
-  pub to_ccr_tells : (ea : Ea) (at : ℕ) (p : Plain) → IsFormed ea → AreLongs p.a → Row x space p moves (to_ccr_of ea at space p)
+  pub to_ccr_tells : (ea : Ea) (word_at : ℕ) (p : Plain) → IsFormed ea → AreLongs p.a → Row x space p moves (to_ccr_of ea word_at space p)
   unfolding to_ccr_of
-  to_ccr_tells ea at p is longs = row_reading x space (fetched_tells x space g Word ea (first_word at) p is longs) (λ operand read. row_done x space _)
+  to_ccr_tells ea word_at p is longs = row_reading x space (fetched_tells x space g Word ea word_at p is longs) (λ operand read. row_done x space _)
 
-  pub movea_tells : (size : Size) (n : ℕ) (source : Ea) (at : ℕ) (p : Plain) → IsFormed source → AreLongs p.a
-      → Row x space p moves (movea_of size n source at space p)
+  pub movea_tells : (size : Size) (n : ℕ) (source : Ea) (word_at : ℕ) (p : Plain) → IsFormed source → AreLongs p.a
+      → Row x space p moves (movea_of size n source word_at space p)
   unfolding movea_of
-  movea_tells size n source at p is longs =
-      row_reading x space (fetched_tells x space g size source (first_word at) p is longs) (λ from read. row_done x space _)
+  movea_tells size n source word_at p is longs =
+      row_reading x space (fetched_tells x space g size source word_at p is longs) (λ from read. row_done x space _)
 
-  pub lea_tells : (n : ℕ) (ea : Ea) (at : ℕ) (p : Plain) → IsFormed ea → AreLongs p.a → Row x space p moves (lea_of n ea at space p)
+  pub lea_tells : (n : ℕ) (ea : Ea) (word_at : ℕ) (p : Plain) → IsFormed ea → AreLongs p.a → Row x space p moves (lea_of n ea word_at space p)
   unfolding lea_of
-  lea_tells n ea at p is longs = row_reading x space (address_tells x space g Long ea (first_word at) p is longs) (λ place found. row_done x space _)
+  lea_tells n ea word_at p is longs = row_reading x space (address_tells x space g Long ea word_at p is longs) (λ place found. row_done x space _)
 
-  pub from_ccr_tells : (ea : Ea) (at : ℕ) (p : Plain) → IsFormed ea → AreLongs p.a → Row x space p moves (from_ccr_of ea at space p)
+  pub from_ccr_tells : (ea : Ea) (word_at : ℕ) (p : Plain) → IsFormed ea → AreLongs p.a → Row x space p moves (from_ccr_of ea word_at space p)
   unfolding from_ccr_of
-  from_ccr_tells ea at p is longs =
-      row_reading x space (resolve_tells x space g ea Word (first_word at) p is longs) (λ to found.
+  from_ccr_tells ea word_at p is longs =
+      row_reading x space (resolve_tells x space g ea Word word_at p is longs) (λ to found.
       storing_tells x space g to.target Word (p.ccr % 2 ^ 5) to.plain found.0)
 
-  pub scc_tells : (c : Condition) (ea : Ea) (at : ℕ) (p : Plain) → IsFormed ea → AreLongs p.a → Row x space p moves (scc_of c ea at space p)
+  pub scc_tells : (c : Condition) (ea : Ea) (word_at : ℕ) (p : Plain) → IsFormed ea → AreLongs p.a → Row x space p moves (scc_of c ea word_at space p)
   unfolding scc_of
-  scc_tells c ea at p is longs =
-      row_reading x space (resolve_tells x space g ea Byte (first_word at) p is longs) (λ to found.
+  scc_tells c ea word_at p is longs =
+      row_reading x space (resolve_tells x space g ea Byte word_at p is longs) (λ to found.
       storing_tells x space g to.target Byte (byte_of (is_met c p.ccr)) to.plain found.0)

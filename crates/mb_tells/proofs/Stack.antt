@@ -6,7 +6,7 @@ use Rattle.mb_instr.specs.declared.operand.Ea.{Ea}
 use Rattle.mb_instr.specs.declared.registers.Plain.{Plain}
 use Rattle.mb_instr.specs.Registers.{address_register}
 use Rattle.mb_writes.specs.declared.transfers.Movem.{Movem}
-use Rattle.mb_meaning.specs.Operands.{first_word, lowered}
+use Rattle.mb_meaning.specs.Operands.{lowered}
 use Rattle.mb_meaning.specs.Stack.{pea_of, linked, link_of, unlk_of}
 use Rattle.mb_tells.specs.Guarded.{Guarded, Guards}
 use Rattle.mb_tells.specs.Left.{Row}
@@ -17,11 +17,11 @@ use Rattle.mb_tells.proofs.Parts.{row_reading, row_done}
 use Rattle.mb_tells.proofs.Operands.{address_tells, reading_tells, pushing_tells}
 
 module _ {S : Type 0} (x : Guarded S) (space : Space) (g : Guards x space) {moves : Movem → Type 0} where
-  pub pea_tells : (ea : Ea) (at : ℕ) (p : Plain) → IsFormed ea → AreLongs p.a → Row x space p moves (pea_of ea at space p)
+  pub pea_tells : (ea : Ea) (word_at : ℕ) (p : Plain) → IsFormed ea → AreLongs p.a → Row x space p moves (pea_of ea word_at space p)
   unfolding pea_of
-  pea_tells ea at p is longs =
+  pea_tells ea word_at p is longs =
       let after = lowered p in
-      row_reading x space (address_tells x space g Long ea (first_word at) p is longs) (λ place found.
+      row_reading x space (address_tells x space g Long ea word_at p is longs) (λ place found.
       pushing_tells x space g place (address_register after 7) (record { flow = false; plain = after }) (lowered_long p longs))
 
   pub link_tells : (n displacement : ℕ) (p : Plain) → AreLongs p.a → Row x space p moves (link_of n displacement space p)

@@ -29,7 +29,8 @@ use Rattle.mb_instr.specs.declared.operand.Ea.TheVariants.{Dn, Post, Imm}
 use Rattle.mb_alu.specs.declared.bitwise.LogicKind.TheVariants as logic
 use Rattle.mb_alu.specs.Logic.{logic_of}
 use Rattle.mb_ea.specs.Addresses.{sum, difference}
-use Rattle.mb_meaning.specs.Operands.{first_word}
+use Rattle.mb_instr.specs.Shapes.{operands_at}
+use Rattle.mb_instr.specs.Rows.{move_row, arith_row, flow_row}
 use Rattle.mb_meaning.specs.Arithmetic.{added, subtracted, added_extended, subtracted_extended, address_moved, address_compared}
 use Rattle.mb_meaning.specs.Unary.{negated, negated_extended, complemented, tested}
 use Rattle.mb_meaning.specs.Shifts.{shifted_by_one}
@@ -79,146 +80,147 @@ looser x space before these others rest t _ after any told = told
 
 module _ {S : Type 0} (x : Guarded S) (space : Space) (g : Guards x space) where
   -- a line a row
-  perform_move_tells : (i : Move) (at : ℕ) (p : Plain) → IsInstr (instr.Move i) → AreLongs p.a → Row x space p (is_movem i) (perform_move_of i at space p)
+  perform_move_tells : (i : Move) (word_at : ℕ) (p : Plain) → IsInstr (instr.Move i) → AreLongs p.a
+      → Row x space p (is_movem i) (perform_move_of i word_at space p)
   unfolding perform_move_of
-  perform_move_tells (move.Move size destination source) at p is longs =
-      move_tells x space g size destination source at p (formed size destination (AreWords-right (more size source) (more size destination) is.are_words))
+  perform_move_tells (move.Move size destination source) word_at p is longs =
+      move_tells x space g size destination source word_at p (formed size destination (AreWords-right (more size source) (more size destination) is.are_words))
       (formed size source (AreWords-left (more size source) (more size destination) is.are_words)) longs
-  perform_move_tells (move.Moveq register immediate) at p is longs = row_done x space _
-  perform_move_tells (move.MovemLoad size ea mask) at p is longs =
-      movem_tells x space g true size ea mask at p refl (formed_behind_word size ea mask is.are_words) longs
-  perform_move_tells (move.MovemStore size ea mask) at p is longs =
-      movem_tells x space g false size ea mask at p refl (formed_behind_word size ea mask is.are_words) longs
-  perform_move_tells (move.Movea size register source) at p is longs =
-      movea_tells x space g size register source at p (formed size source is.are_words) longs
-  perform_move_tells (move.Lea register ea) at p is longs = lea_tells x space g register ea at p (formed Long ea is.are_words) longs
-  perform_move_tells (move.Exg m kind n) at p is longs = row_done x space _
-  perform_move_tells (move.Swap register) at p is longs = row_done x space _
-  perform_move_tells (move.ToCcr ea) at p is longs = to_ccr_tells x space g ea at p (formed Word ea is.are_words) longs
-  perform_move_tells (move.FromCcr ea) at p is longs = from_ccr_tells x space g ea at p (formed Word ea is.are_words) longs
-  perform_move_tells (move.Scc condition ea) at p is longs = scc_tells x space g condition ea at p (formed Byte ea is.are_words) longs
-  perform_move_tells (move.Pea ea) at p is longs = pea_tells x space g ea at p (formed Long ea is.are_words) longs
-  perform_move_tells (move.LinkW register displacement) at p is longs = link_tells x space g register (sign_extended Word displacement) p longs
-  perform_move_tells (move.LinkL register displacement) at p is longs = link_tells x space g register displacement p longs
-  perform_move_tells (move.Unlk register) at p is longs = unlk_tells x space g register p longs
-  perform_move_tells (move.Movep register is_store size address displacement) at p is longs =
+  perform_move_tells (move.Moveq register immediate) word_at p is longs = row_done x space _
+  perform_move_tells (move.MovemLoad size ea mask) word_at p is longs =
+      movem_tells x space g true size ea mask word_at p refl (formed_behind_word size ea mask is.are_words) longs
+  perform_move_tells (move.MovemStore size ea mask) word_at p is longs =
+      movem_tells x space g false size ea mask word_at p refl (formed_behind_word size ea mask is.are_words) longs
+  perform_move_tells (move.Movea size register source) word_at p is longs =
+      movea_tells x space g size register source word_at p (formed size source is.are_words) longs
+  perform_move_tells (move.Lea register ea) word_at p is longs = lea_tells x space g register ea word_at p (formed Long ea is.are_words) longs
+  perform_move_tells (move.Exg m kind n) word_at p is longs = row_done x space _
+  perform_move_tells (move.Swap register) word_at p is longs = row_done x space _
+  perform_move_tells (move.ToCcr ea) word_at p is longs = to_ccr_tells x space g ea word_at p (formed Word ea is.are_words) longs
+  perform_move_tells (move.FromCcr ea) word_at p is longs = from_ccr_tells x space g ea word_at p (formed Word ea is.are_words) longs
+  perform_move_tells (move.Scc condition ea) word_at p is longs = scc_tells x space g condition ea word_at p (formed Byte ea is.are_words) longs
+  perform_move_tells (move.Pea ea) word_at p is longs = pea_tells x space g ea word_at p (formed Long ea is.are_words) longs
+  perform_move_tells (move.LinkW register displacement) word_at p is longs = link_tells x space g register (sign_extended Word displacement) p longs
+  perform_move_tells (move.LinkL register displacement) word_at p is longs = link_tells x space g register displacement p longs
+  perform_move_tells (move.Unlk register) word_at p is longs = unlk_tells x space g register p longs
+  perform_move_tells (move.Movep register is_store size address displacement) word_at p is longs =
       movep_tells x space g register is_store size address displacement p
-  perform_move_tells (move.Move16Abs kind register address) at p is longs =
+  perform_move_tells (move.Move16Abs kind register address) word_at p is longs =
       move16_absolute_tells x space g kind register address p (long_range address is.are_words) longs
-  perform_move_tells (move.Move16Post m word) at p is longs = move16_tells x space g m word p longs
+  perform_move_tells (move.Move16Post m word) word_at p is longs = move16_tells x space g m word p longs
 
-  perform_arith_tells : (i : Arith) (at : ℕ) (p : Plain) → IsInstr (instr.Arith i) → AreLongs p.d → AreLongs p.a
-      → Row x space p (λ m. ⊥) (perform_arith_of i at space p)
+  perform_arith_tells : (i : Arith) (word_at : ℕ) (p : Plain) → IsInstr (instr.Arith i) → AreLongs p.d → AreLongs p.a
+      → Row x space p (λ m. ⊥) (perform_arith_of i word_at space p)
   unfolding perform_arith_of
-  perform_arith_tells (arithmetic.Add register to_memory size ea) at p is words longs =
-      either_way_tells x space g (added size) register to_memory size ea at p (formed size ea is.are_words) longs
-  perform_arith_tells (arithmetic.Sub register to_memory size ea) at p is words longs =
-      either_way_tells x space g (subtracted size) register to_memory size ea at p (formed size ea is.are_words) longs
-  perform_arith_tells (arithmetic.And register to_memory size ea) at p is words longs =
-      either_way_tells x space g (logic_of logic.And size) register to_memory size ea at p (formed size ea is.are_words) longs
-  perform_arith_tells (arithmetic.Or register to_memory size ea) at p is words longs =
-      either_way_tells x space g (logic_of logic.Or size) register to_memory size ea at p (formed size ea is.are_words) longs
-  perform_arith_tells (arithmetic.Eor register size ea) at p is words longs =
-      either_way_tells x space g (logic_of logic.Eor size) register true size ea at p (formed size ea is.are_words) longs
-  perform_arith_tells (arithmetic.Addi size ea immediate) at p is words longs =
-      combining_tells x space g (added size) size (Imm immediate) ea at p tt (formed_behind_immediate size ea immediate is.are_words) longs
-  perform_arith_tells (arithmetic.Subi size ea immediate) at p is words longs =
-      combining_tells x space g (subtracted size) size (Imm immediate) ea at p tt (formed_behind_immediate size ea immediate is.are_words) longs
-  perform_arith_tells (arithmetic.Andi size ea immediate) at p is words longs =
-      combining_tells x space g (logic_of logic.And size) size (Imm immediate) ea at p tt (formed_behind_immediate size ea immediate is.are_words) longs
-  perform_arith_tells (arithmetic.Ori size ea immediate) at p is words longs =
-      combining_tells x space g (logic_of logic.Or size) size (Imm immediate) ea at p tt (formed_behind_immediate size ea immediate is.are_words) longs
-  perform_arith_tells (arithmetic.Eori size ea immediate) at p is words longs =
-      combining_tells x space g (logic_of logic.Eor size) size (Imm immediate) ea at p tt (formed_behind_immediate size ea immediate is.are_words) longs
-  perform_arith_tells (arithmetic.Addx destination size in_memory source) at p is words longs =
-      chaining_tells x space g (added_extended size) size in_memory source destination at p longs
-  perform_arith_tells (arithmetic.Subx destination size in_memory source) at p is words longs =
-      chaining_tells x space g (subtracted_extended size) size in_memory source destination at p longs
-  perform_arith_tells (arithmetic.Cmp register size ea) at p is words longs =
-      comparing_tells x space g size ea (Dn register) at p (formed size ea is.are_words) tt longs
-  perform_arith_tells (arithmetic.Cmpi size ea immediate) at p is words longs =
-      comparing_tells x space g size (Imm immediate) ea at p tt (formed_behind_immediate size ea immediate is.are_words) longs
-  perform_arith_tells (arithmetic.Cmpm destination size source) at p is words longs =
-      comparing_tells x space g size (Post source) (Post destination) at p tt tt longs
-  perform_arith_tells (arithmetic.Addq quick size ea) at p is words longs =
-      quick_tells x space g (added size quick) (λ address. sum address quick) size ea at p (formed size ea is.are_words) longs
-  perform_arith_tells (arithmetic.Subq quick size ea) at p is words longs =
-      quick_tells x space g (subtracted size quick) (λ address. difference address quick) size ea at p (formed size ea is.are_words) longs
-  perform_arith_tells (arithmetic.Adda register size ea) at p is words longs =
-      taking_tells x space g (address_moved sum register size) size ea (first_word at) p (formed size ea is.are_words) longs
-  perform_arith_tells (arithmetic.Suba register size ea) at p is words longs =
-      taking_tells x space g (address_moved difference register size) size ea (first_word at) p (formed size ea is.are_words) longs
-  perform_arith_tells (arithmetic.Cmpa register size ea) at p is words longs =
-      taking_tells x space g (address_compared register size) size ea (first_word at) p (formed size ea is.are_words) longs
-  perform_arith_tells (arithmetic.Neg size ea) at p is words longs =
-      modifying_tells x space g (negated size) size ea (first_word at) p (formed size ea is.are_words) longs
-  perform_arith_tells (arithmetic.Negx size ea) at p is words longs =
-      modifying_tells x space g (negated_extended size) size ea (first_word at) p (formed size ea is.are_words) longs
-  perform_arith_tells (arithmetic.Not size ea) at p is words longs =
-      modifying_tells x space g (complemented size) size ea (first_word at) p (formed size ea is.are_words) longs
-  perform_arith_tells (arithmetic.Clr size ea) at p is words longs = clr_tells x space g size ea at p (formed size ea is.are_words) longs
-  perform_arith_tells (arithmetic.Tst size ea) at p is words longs =
-      taking_tells x space g (tested size) size ea (first_word at) p (formed size ea is.are_words) longs
-  perform_arith_tells (arithmetic.ExtW register) at p is words longs = row_done x space _
-  perform_arith_tells (arithmetic.ExtL register) at p is words longs = row_done x space _
-  perform_arith_tells (arithmetic.ExtbL register) at p is words longs = row_done x space _
-  perform_arith_tells (arithmetic.OriCcr word) at p is words longs = row_done x space _
-  perform_arith_tells (arithmetic.AndiCcr word) at p is words longs = row_done x space _
-  perform_arith_tells (arithmetic.EoriCcr word) at p is words longs = row_done x space _
-  perform_arith_tells (arithmetic.ShiftReg count is_left size by_register kind register) at p is words longs = row_done x space _
-  perform_arith_tells (arithmetic.ShiftMem kind is_left ea) at p is words longs =
-      modifying_tells x space g (shifted_by_one kind is_left) Word ea (first_word at) p (formed Word ea is.are_words) longs
-  perform_arith_tells (arithmetic.MulW register signed ea) at p is words longs =
-      taking_tells x space g (multiplied_by_word signed register) Word ea (first_word at) p (formed Word ea is.are_words) longs
-  perform_arith_tells (arithmetic.MulL ea word) at p is words longs =
-      taking_tells x space g (multiplied_by_long word) Long ea (sum (first_word at) 2) p (formed_behind_word Long ea word is.are_words) longs
-  perform_arith_tells (arithmetic.DivW register signed ea) at p is words longs =
-      taking_tells x space g (word_divided signed register) Word ea (first_word at) p (formed Word ea is.are_words) longs
-  perform_arith_tells (arithmetic.DivL ea word) at p is words longs =
-      taking_tells x space g (long_divided word) Long ea (sum (first_word at) 2) p (formed_behind_word Long ea word is.are_words) longs
-  perform_arith_tells (arithmetic.BitReg register kind ea) at p is words longs =
-      bit_row_tells x space g kind (data_register p register) ea (first_word at) p (formed Byte ea is.are_words) longs
-  perform_arith_tells (arithmetic.BitImm kind ea word) at p is words longs =
-      bit_row_tells x space g kind word ea (sum (first_word at) 2) p (formed_behind_word Byte ea word is.are_words) longs
-  perform_arith_tells (arithmetic.Nbcd ea) at p is words longs =
-      modifying_tells x space g negated_decimal Byte ea (first_word at) p (formed Byte ea is.are_words) longs
-  perform_arith_tells (arithmetic.Abcd to in_memory from) at p is words longs = decimal_tells x space g abcd_of to in_memory from at p longs
-  perform_arith_tells (arithmetic.Sbcd to in_memory from) at p is words longs = decimal_tells x space g sbcd_of to in_memory from at p longs
-  perform_arith_tells (arithmetic.Pack to in_memory from word) at p is words longs =
-      digits_tells x space g pack_of Word Byte to in_memory from word at p longs
-  perform_arith_tells (arithmetic.Unpk to in_memory from word) at p is words longs =
-      digits_tells x space g unpk_of Byte Word to in_memory from word at p longs
-  perform_arith_tells (arithmetic.Field kind ea word) at p is words longs =
-      field_row_tells x space g kind ea word at p (formed_behind_word Long ea word is.are_words) longs
-  perform_arith_tells (arithmetic.Tas ea) at p is words longs = tas_tells x space g ea at p (formed Byte ea is.are_words) longs
-  perform_arith_tells (arithmetic.Cas size ea word) at p is words longs =
-      cas_tells x space g size ea word at p (formed_behind_word size ea word is.are_words) longs
-  perform_arith_tells (arithmetic.Cas2 size first second) at p is words longs = cas2_tells x space g size first second p words longs
-  perform_arith_tells (arithmetic.Cmp2 size ea word) at p is words longs =
-      cmp2_tells x space g size ea word at p (formed_behind_word size ea word is.are_words) longs
+  perform_arith_tells (arithmetic.Add register to_memory size ea) word_at p is words longs =
+      either_way_tells x space g (added size) register to_memory size ea word_at p (formed size ea is.are_words) longs
+  perform_arith_tells (arithmetic.Sub register to_memory size ea) word_at p is words longs =
+      either_way_tells x space g (subtracted size) register to_memory size ea word_at p (formed size ea is.are_words) longs
+  perform_arith_tells (arithmetic.And register to_memory size ea) word_at p is words longs =
+      either_way_tells x space g (logic_of logic.And size) register to_memory size ea word_at p (formed size ea is.are_words) longs
+  perform_arith_tells (arithmetic.Or register to_memory size ea) word_at p is words longs =
+      either_way_tells x space g (logic_of logic.Or size) register to_memory size ea word_at p (formed size ea is.are_words) longs
+  perform_arith_tells (arithmetic.Eor register size ea) word_at p is words longs =
+      either_way_tells x space g (logic_of logic.Eor size) register true size ea word_at p (formed size ea is.are_words) longs
+  perform_arith_tells (arithmetic.Addi size ea immediate) word_at p is words longs =
+      combining_tells x space g (added size) size (Imm immediate) ea word_at p tt (formed_behind_immediate size ea immediate is.are_words) longs
+  perform_arith_tells (arithmetic.Subi size ea immediate) word_at p is words longs =
+      combining_tells x space g (subtracted size) size (Imm immediate) ea word_at p tt (formed_behind_immediate size ea immediate is.are_words) longs
+  perform_arith_tells (arithmetic.Andi size ea immediate) word_at p is words longs =
+      combining_tells x space g (logic_of logic.And size) size (Imm immediate) ea word_at p tt (formed_behind_immediate size ea immediate is.are_words) longs
+  perform_arith_tells (arithmetic.Ori size ea immediate) word_at p is words longs =
+      combining_tells x space g (logic_of logic.Or size) size (Imm immediate) ea word_at p tt (formed_behind_immediate size ea immediate is.are_words) longs
+  perform_arith_tells (arithmetic.Eori size ea immediate) word_at p is words longs =
+      combining_tells x space g (logic_of logic.Eor size) size (Imm immediate) ea word_at p tt (formed_behind_immediate size ea immediate is.are_words) longs
+  perform_arith_tells (arithmetic.Addx destination size in_memory source) word_at p is words longs =
+      chaining_tells x space g (added_extended size) size in_memory source destination word_at p longs
+  perform_arith_tells (arithmetic.Subx destination size in_memory source) word_at p is words longs =
+      chaining_tells x space g (subtracted_extended size) size in_memory source destination word_at p longs
+  perform_arith_tells (arithmetic.Cmp register size ea) word_at p is words longs =
+      comparing_tells x space g size ea (Dn register) word_at p (formed size ea is.are_words) tt longs
+  perform_arith_tells (arithmetic.Cmpi size ea immediate) word_at p is words longs =
+      comparing_tells x space g size (Imm immediate) ea word_at p tt (formed_behind_immediate size ea immediate is.are_words) longs
+  perform_arith_tells (arithmetic.Cmpm destination size source) word_at p is words longs =
+      comparing_tells x space g size (Post source) (Post destination) word_at p tt tt longs
+  perform_arith_tells (arithmetic.Addq quick size ea) word_at p is words longs =
+      quick_tells x space g (added size quick) (λ address. sum address quick) size ea word_at p (formed size ea is.are_words) longs
+  perform_arith_tells (arithmetic.Subq quick size ea) word_at p is words longs =
+      quick_tells x space g (subtracted size quick) (λ address. difference address quick) size ea word_at p (formed size ea is.are_words) longs
+  perform_arith_tells (arithmetic.Adda register size ea) word_at p is words longs =
+      taking_tells x space g (address_moved sum register size) size ea word_at p (formed size ea is.are_words) longs
+  perform_arith_tells (arithmetic.Suba register size ea) word_at p is words longs =
+      taking_tells x space g (address_moved difference register size) size ea word_at p (formed size ea is.are_words) longs
+  perform_arith_tells (arithmetic.Cmpa register size ea) word_at p is words longs =
+      taking_tells x space g (address_compared register size) size ea word_at p (formed size ea is.are_words) longs
+  perform_arith_tells (arithmetic.Neg size ea) word_at p is words longs =
+      modifying_tells x space g (negated size) size ea word_at p (formed size ea is.are_words) longs
+  perform_arith_tells (arithmetic.Negx size ea) word_at p is words longs =
+      modifying_tells x space g (negated_extended size) size ea word_at p (formed size ea is.are_words) longs
+  perform_arith_tells (arithmetic.Not size ea) word_at p is words longs =
+      modifying_tells x space g (complemented size) size ea word_at p (formed size ea is.are_words) longs
+  perform_arith_tells (arithmetic.Clr size ea) word_at p is words longs = clr_tells x space g size ea word_at p (formed size ea is.are_words) longs
+  perform_arith_tells (arithmetic.Tst size ea) word_at p is words longs =
+      taking_tells x space g (tested size) size ea word_at p (formed size ea is.are_words) longs
+  perform_arith_tells (arithmetic.ExtW register) word_at p is words longs = row_done x space _
+  perform_arith_tells (arithmetic.ExtL register) word_at p is words longs = row_done x space _
+  perform_arith_tells (arithmetic.ExtbL register) word_at p is words longs = row_done x space _
+  perform_arith_tells (arithmetic.OriCcr word) word_at p is words longs = row_done x space _
+  perform_arith_tells (arithmetic.AndiCcr word) word_at p is words longs = row_done x space _
+  perform_arith_tells (arithmetic.EoriCcr word) word_at p is words longs = row_done x space _
+  perform_arith_tells (arithmetic.ShiftReg count is_left size by_register kind register) word_at p is words longs = row_done x space _
+  perform_arith_tells (arithmetic.ShiftMem kind is_left ea) word_at p is words longs =
+      modifying_tells x space g (shifted_by_one kind is_left) Word ea word_at p (formed Word ea is.are_words) longs
+  perform_arith_tells (arithmetic.MulW register signed ea) word_at p is words longs =
+      taking_tells x space g (multiplied_by_word signed register) Word ea word_at p (formed Word ea is.are_words) longs
+  perform_arith_tells (arithmetic.MulL ea word) word_at p is words longs =
+      taking_tells x space g (multiplied_by_long word) Long ea word_at p (formed_behind_word Long ea word is.are_words) longs
+  perform_arith_tells (arithmetic.DivW register signed ea) word_at p is words longs =
+      taking_tells x space g (word_divided signed register) Word ea word_at p (formed Word ea is.are_words) longs
+  perform_arith_tells (arithmetic.DivL ea word) word_at p is words longs =
+      taking_tells x space g (long_divided word) Long ea word_at p (formed_behind_word Long ea word is.are_words) longs
+  perform_arith_tells (arithmetic.BitReg register kind ea) word_at p is words longs =
+      bit_row_tells x space g kind (data_register p register) ea word_at p (formed Byte ea is.are_words) longs
+  perform_arith_tells (arithmetic.BitImm kind ea word) word_at p is words longs =
+      bit_row_tells x space g kind word ea word_at p (formed_behind_word Byte ea word is.are_words) longs
+  perform_arith_tells (arithmetic.Nbcd ea) word_at p is words longs =
+      modifying_tells x space g negated_decimal Byte ea word_at p (formed Byte ea is.are_words) longs
+  perform_arith_tells (arithmetic.Abcd to in_memory from) word_at p is words longs = decimal_tells x space g abcd_of to in_memory from word_at p longs
+  perform_arith_tells (arithmetic.Sbcd to in_memory from) word_at p is words longs = decimal_tells x space g sbcd_of to in_memory from word_at p longs
+  perform_arith_tells (arithmetic.Pack to in_memory from word) word_at p is words longs =
+      digits_tells x space g pack_of Word Byte to in_memory from word word_at p longs
+  perform_arith_tells (arithmetic.Unpk to in_memory from word) word_at p is words longs =
+      digits_tells x space g unpk_of Byte Word to in_memory from word word_at p longs
+  perform_arith_tells (arithmetic.Field kind ea word) word_at p is words longs =
+      field_row_tells x space g kind ea word word_at p (formed_behind_word Long ea word is.are_words) longs
+  perform_arith_tells (arithmetic.Tas ea) word_at p is words longs = tas_tells x space g ea word_at p (formed Byte ea is.are_words) longs
+  perform_arith_tells (arithmetic.Cas size ea word) word_at p is words longs =
+      cas_tells x space g size ea word word_at p (formed_behind_word size ea word is.are_words) longs
+  perform_arith_tells (arithmetic.Cas2 size first second) word_at p is words longs = cas2_tells x space g size first second p words longs
+  perform_arith_tells (arithmetic.Cmp2 size ea word) word_at p is words longs =
+      cmp2_tells x space g size ea word word_at p (formed_behind_word size ea word is.are_words) longs
 
-  perform_flow_tells : (i : Flow) (at : ℕ) (p : Plain) → IsInstr (instr.Flow i) → AreLongs p.a → Row x space p (λ m. ⊥) (perform_flow_of i at space p)
+  perform_flow_tells : (i : Flow) (word_at : ℕ) (p : Plain) → IsInstr (instr.Flow i) → AreLongs p.a → Row x space p (λ m. ⊥) (perform_flow_of i word_at space p)
   unfolding perform_flow_of
-  perform_flow_tells flow.Nop at p is longs = row_done x space _
-  perform_flow_tells (flow.Bcc condition displacement) at p is longs = branch_tells x space g condition displacement at p longs
-  perform_flow_tells (flow.Dbcc condition register displacement) at p is longs = row_ends x space _
-  perform_flow_tells (flow.Jmp ea) at p is longs = jmp_tells x space g ea at p (formed Long ea is.are_words) longs
-  perform_flow_tells (flow.Jsr ea) at p is longs = jsr_tells x space g ea at p (formed Long ea is.are_words) longs
-  perform_flow_tells flow.Rts at p is longs = rts_tells x space g p longs
-  perform_flow_tells (flow.Rtd displacement) at p is longs = rtd_tells x space g displacement p longs
-  perform_flow_tells flow.Rtr at p is longs = rtr_tells x space g p longs
-  perform_flow_tells (flow.Trap number) at p is longs = row_ends x space _
-  perform_flow_tells (flow.Trapcc condition operand) at p is longs = row_ends x space _
-  perform_flow_tells flow.Trapv at p is longs = row_ends x space _
-  perform_flow_tells (flow.Chk register size ea) at p is longs = chk_tells x space g register size ea at p (formed size ea is.are_words) longs
-  perform_flow_tells (flow.Chk2 size ea word) at p is longs =
-      chk2_tells x space g size ea word at p (formed_behind_word size ea word is.are_words) longs
+  perform_flow_tells flow.Nop word_at p is longs = row_done x space _
+  perform_flow_tells (flow.Bcc condition displacement) word_at p is longs = branch_tells x space g condition displacement word_at p longs
+  perform_flow_tells (flow.Dbcc condition register displacement) word_at p is longs = row_ends x space _
+  perform_flow_tells (flow.Jmp ea) word_at p is longs = jmp_tells x space g ea word_at p (formed Long ea is.are_words) longs
+  perform_flow_tells (flow.Jsr ea) word_at p is longs = jsr_tells x space g ea word_at p (formed Long ea is.are_words) longs
+  perform_flow_tells flow.Rts word_at p is longs = rts_tells x space g p longs
+  perform_flow_tells (flow.Rtd displacement) word_at p is longs = rtd_tells x space g displacement p longs
+  perform_flow_tells flow.Rtr word_at p is longs = rtr_tells x space g p longs
+  perform_flow_tells (flow.Trap number) word_at p is longs = row_ends x space _
+  perform_flow_tells (flow.Trapcc condition operand) word_at p is longs = row_ends x space _
+  perform_flow_tells flow.Trapv word_at p is longs = row_ends x space _
+  perform_flow_tells (flow.Chk register size ea) word_at p is longs = chk_tells x space g register size ea word_at p (formed size ea is.are_words) longs
+  perform_flow_tells (flow.Chk2 size ea word) word_at p is longs =
+      chk2_tells x space g size ea word word_at p (formed_behind_word size ea word is.are_words) longs
 
   pub perform_tells : (i : Instr) (at : ℕ) (p : Plain) → IsInstr i → HasLongs p → Row x space p (moves i) (perform_of i at space p)
   unfolding perform_of
-  perform_tells (instr.Move i) at p is longs = perform_move_tells i at p is longs.1
-  perform_tells (instr.Arith i) at p is longs = perform_arith_tells i at p is longs.0 longs.1
-  perform_tells (instr.Flow i) at p is longs = perform_flow_tells i at p is longs.1
+  perform_tells (instr.Move i) at p is longs = perform_move_tells i (operands_at (move_row i) at) p is longs.1
+  perform_tells (instr.Arith i) at p is longs = perform_arith_tells i (operands_at (arith_row i) at) p is longs.0 longs.1
+  perform_tells (instr.Flow i) at p is longs = perform_flow_tells i (operands_at (flow_row i) at) p is longs.1
   perform_tells (instr.System i) at p is longs = tells_err _
 
   unfoldable pub Founds : Routine Found → Type 0

@@ -11,7 +11,6 @@ use Rattle.mb_instr.specs.declared.size.Size.{Size}
 use Rattle.mb_instr.specs.declared.operand.Ea.{Ea}
 use Rattle.mb_instr.specs.declared.registers.Plain.{Plain}
 use Rattle.mb_instr.specs.Sizes.{bytes_of}
-use Rattle.mb_ea.specs.Addresses.{sum}
 use Rattle.mb_ea.specs.Reading.{read_of}
 use Rattle.mb_writes.specs.declared.ends.MovemFault.{MovemFault}
 use Rattle.mb_writes.specs.declared.ends.Ended.TheVariants as ended
@@ -21,7 +20,6 @@ use Rattle.mb_writes.specs.Transfers.{transfers_of}
 use Rattle.mb_writes.specs.Writing.{put_of}
 use Rattle.mb_writes.specs.Moving.{Halfway, refused_at, stored_of, store_all, loaded_of, load_all, stepped_of, transfer_of}
 use Rattle.mb_meaning.specs.Ends.{carried}
-use Rattle.mb_meaning.specs.Operands.{first_word}
 use Rattle.mb_meaning.specs.Moves.{movem_by, transferring, movem_of}
 use Rattle.mb_tells.specs.Guarded.{Guarded, Guards, quiet}
 use Rattle.mb_tells.specs.Left.{Answered, Resumes, Telling, Row}
@@ -134,11 +132,11 @@ module _ {S : Type 0} (x : Guarded S) (space : Space) (g : Guards x space) where
   transfer_tells true size ea mask place done p h = load_tells size ea mask place done p h
   transfer_tells false size ea mask place done p h = store_tells size ea mask place done p h
 
-  pub movem_tells : {moves : Movem → Type 0} (is_load : Bool) (size : Size) (ea : Ea) (mask at : ℕ) (p : Plain)
-      → moves (movem_by is_load size ea mask) → IsFormed ea → AreLongs p.a → Row x space p moves (movem_of is_load size ea mask at space p)
+  pub movem_tells : {moves : Movem → Type 0} (is_load : Bool) (size : Size) (ea : Ea) (mask word_at : ℕ) (p : Plain)
+      → moves (movem_by is_load size ea mask) → IsFormed ea → AreLongs p.a → Row x space p moves (movem_of is_load size ea mask word_at space p)
   unfolding movem_of TransferLeft
-  movem_tells is_load size ea mask at p is in_range longs =
-      row_reading x space (address_tells x space g size ea (sum (first_word at) 2) p in_range longs) (λ place found.
+  movem_tells is_load size ea mask word_at p is in_range longs =
+      row_reading x space (address_tells x space g size ea word_at p in_range longs) (λ place found.
       let m = movem_by is_load size ea mask in
       tells_bind (transferring (transfer_of m place 0 space p)) (λ moved. Return (carried moved))
       (tells_failing (λ halfway. record { ended = ended.Movem halfway.fault; plain = halfway.plain }) (transfer_of m place 0 space p)

@@ -10,7 +10,7 @@ use Rattle.mb_instr.specs.declared.registers.Plain.{Plain}
 use Rattle.mb_instr.specs.Operands.{address_number}
 use Rattle.mb_alu.specs.declared.conditions.Flagged.{Flagged}
 use Rattle.mb_meaning.specs.Ends.{Performed}
-use Rattle.mb_meaning.specs.Operands.{first_word, behind}
+use Rattle.mb_meaning.specs.Operands.{behind}
 use Rattle.mb_meaning.specs.Moves.{move_flags}
 use Rattle.mb_meaning.specs.Arithmetic.{pair_of, combining, comparing, either_way, chaining, quick_to, quick_of, taking}
 use Rattle.mb_meaning.specs.Unary.{clr_of}
@@ -28,46 +28,46 @@ pair_twins x size source destination word_at p =
     then_twins x (SameRead x) (operand_twins x size source word_at p) (λ from.
     then_twins x (SameRead x) (operand_twins x size destination (behind size source word_at) from.plain) (λ to. returned refl))
 
-pub combining_twins : (x : Setting) (operation : ℕ → ℕ → ℕ → Flagged) (size : Size) (source destination : Ea) (at : ℕ) (p : Plain)
-    → Rows x (combining operation size source destination at x.here p) (combining operation size source destination at x.there p)
+pub combining_twins : (x : Setting) (operation : ℕ → ℕ → ℕ → Flagged) (size : Size) (source destination : Ea) (word_at : ℕ) (p : Plain)
+    → Rows x (combining operation size source destination word_at x.here p) (combining operation size source destination word_at x.there p)
 unfolding combining
-combining_twins x operation size source destination at p =
-    then_twins x (SameStop x) (reading_twins x p (pair_twins x size source destination (first_word at) p)) (λ pair.
+combining_twins x operation size source destination word_at p =
+    then_twins x (SameStop x) (reading_twins x p (pair_twins x size source destination word_at p)) (λ pair.
     let to = pair.destination in
     let result = operation pair.source to.value to.plain.ccr in
     storing_twins x to.target size result.value (record to.plain { ccr = result.ccr }))
 
-pub comparing_twins : (x : Setting) (size : Size) (source destination : Ea) (at : ℕ) (p : Plain)
-    → Rows x (comparing size source destination at x.here p) (comparing size source destination at x.there p)
+pub comparing_twins : (x : Setting) (size : Size) (source destination : Ea) (word_at : ℕ) (p : Plain)
+    → Rows x (comparing size source destination word_at x.here p) (comparing size source destination word_at x.there p)
 unfolding comparing
-comparing_twins x size source destination at p =
-    then_twins x (SameStop x) (reading_twins x p (pair_twins x size source destination (first_word at) p)) (λ pair. returned refl)
+comparing_twins x size source destination word_at p =
+    then_twins x (SameStop x) (reading_twins x p (pair_twins x size source destination word_at p)) (λ pair. returned refl)
 
-pub either_way_twins : (x : Setting) (operation : ℕ → ℕ → ℕ → Flagged) (register : ℕ) (to_memory : Bool) (size : Size) (ea : Ea) (at : ℕ) (p : Plain)
-    → Rows x (either_way operation register to_memory size ea at x.here p) (either_way operation register to_memory size ea at x.there p)
+pub either_way_twins : (x : Setting) (operation : ℕ → ℕ → ℕ → Flagged) (register : ℕ) (to_memory : Bool) (size : Size) (ea : Ea) (word_at : ℕ) (p : Plain)
+    → Rows x (either_way operation register to_memory size ea word_at x.here p) (either_way operation register to_memory size ea word_at x.there p)
 unfolding either_way
-either_way_twins x operation register to_memory size ea at p =
+either_way_twins x operation register to_memory size ea word_at p =
     twins_choose (between x) (SamePerformed x) to_memory _ _ _ _
-    (combining_twins x operation size (Dn register) ea at p) (combining_twins x operation size ea (Dn register) at p)
+    (combining_twins x operation size (Dn register) ea word_at p) (combining_twins x operation size ea (Dn register) word_at p)
 
-pub chaining_twins : (x : Setting) (operation : ℕ → ℕ → ℕ → Flagged) (size : Size) (in_memory : Bool) (source destination at : ℕ) (p : Plain)
-    → Rows x (chaining operation size in_memory source destination at x.here p) (chaining operation size in_memory source destination at x.there p)
+pub chaining_twins : (x : Setting) (operation : ℕ → ℕ → ℕ → Flagged) (size : Size) (in_memory : Bool) (source destination word_at : ℕ) (p : Plain)
+    → Rows x (chaining operation size in_memory source destination word_at x.here p) (chaining operation size in_memory source destination word_at x.there p)
 unfolding chaining
-chaining_twins x operation size in_memory source destination at p =
+chaining_twins x operation size in_memory source destination word_at p =
     twins_choose (between x) (SamePerformed x) in_memory _ _ _ _
-    (combining_twins x operation size (Pre source) (Pre destination) at p) (combining_twins x operation size (Dn source) (Dn destination) at p)
+    (combining_twins x operation size (Pre source) (Pre destination) word_at p) (combining_twins x operation size (Dn source) (Dn destination) word_at p)
 
 -- ---- quick values
 
-quick_to_twins : (x : Setting) (o : Option ℕ) (change : ℕ → ℕ → Flagged) (moved : ℕ → ℕ) (size : Size) (ea : Ea) (at : ℕ) (p : Plain)
-    → Rows x (quick_to o change moved size ea at x.here p) (quick_to o change moved size ea at x.there p)
-quick_to_twins x (Some n) change moved size ea at p = returned refl
-quick_to_twins x None change moved size ea at p = modifying_twins x change size ea (first_word at) p
+quick_to_twins : (x : Setting) (o : Option ℕ) (change : ℕ → ℕ → Flagged) (moved : ℕ → ℕ) (size : Size) (ea : Ea) (word_at : ℕ) (p : Plain)
+    → Rows x (quick_to o change moved size ea word_at x.here p) (quick_to o change moved size ea word_at x.there p)
+quick_to_twins x (Some n) change moved size ea word_at p = returned refl
+quick_to_twins x None change moved size ea word_at p = modifying_twins x change size ea word_at p
 
-pub quick_twins : (x : Setting) (change : ℕ → ℕ → Flagged) (moved : ℕ → ℕ) (size : Size) (ea : Ea) (at : ℕ) (p : Plain)
-    → Rows x (quick_of change moved size ea at x.here p) (quick_of change moved size ea at x.there p)
+pub quick_twins : (x : Setting) (change : ℕ → ℕ → Flagged) (moved : ℕ → ℕ) (size : Size) (ea : Ea) (word_at : ℕ) (p : Plain)
+    → Rows x (quick_of change moved size ea word_at x.here p) (quick_of change moved size ea word_at x.there p)
 unfolding quick_of
-quick_twins x change moved size ea at p = quick_to_twins x (address_number ea) change moved size ea at p
+quick_twins x change moved size ea word_at p = quick_to_twins x (address_number ea) change moved size ea word_at p
 
 -- ---- operands that are only read, or only written
 
@@ -80,8 +80,8 @@ taking_twins x effect size ea word_at p same =
     then_twins x (SameStop x) (reading_twins x p (operand_twins x size ea word_at p)) (λ operand.
     returned (same operand.value operand.plain))
 
-pub clr_twins : (x : Setting) (size : Size) (ea : Ea) (at : ℕ) (p : Plain) → Rows x (clr_of size ea at x.here p) (clr_of size ea at x.there p)
+pub clr_twins : (x : Setting) (size : Size) (ea : Ea) (word_at : ℕ) (p : Plain) → Rows x (clr_of size ea word_at x.here p) (clr_of size ea word_at x.there p)
 unfolding clr_of
-clr_twins x size ea at p =
-    then_twins x (SameStop x) (reading_twins x p (resolve_twins x ea size (first_word at) p)) (λ to.
+clr_twins x size ea word_at p =
+    then_twins x (SameStop x) (reading_twins x p (resolve_twins x ea size word_at p)) (λ to.
     storing_twins x to.target size 0 (move_flags size 0 to.plain))

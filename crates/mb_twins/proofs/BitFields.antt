@@ -11,7 +11,6 @@ use Rattle.mb_instr.specs.declared.registers.Plain.{Plain}
 use Rattle.mb_instr.specs.Registers.{data_register}
 use Rattle.mb_fields.specs.Fields.{field_of, with_field}
 use Rattle.mb_ea.specs.Addresses.{sum}
-use Rattle.mb_meaning.specs.Operands.{first_word}
 use Rattle.mb_meaning.specs.BitFields.{named_by, offset_of, width_of, is_change, field_after, field_done, bytes_before, bytes_held, field_in_memory, field_row_of}
 use Rattle.mb_twins.specs.Twins.{SameStop, SamePerformed}
 use Rattle.mb_twins.proofs.Parts.{Rows, then_twins, reading_twins, writing_twins}
@@ -34,9 +33,9 @@ in_memory_twins x kind word address p =
     (λ done. returned refl))
     (returned refl))
 
-pub field_row_twins : (x : Setting) (kind : FieldKind) (ea : Ea) (word at : ℕ) (p : Plain)
-    → Rows x (field_row_of kind ea word at x.here p) (field_row_of kind ea word at x.there p)
+pub field_row_twins : (x : Setting) (kind : FieldKind) (ea : Ea) (word word_at : ℕ) (p : Plain)
+    → Rows x (field_row_of kind ea word word_at x.here p) (field_row_of kind ea word word_at x.there p)
 unfolding field_row_of
-field_row_twins x kind (Dn n) word at p = returned refl
-field_row_twins x kind ea word at p =
-    then_twins x (SameStop x) (reading_twins x p (address_twins x Long ea (sum (first_word at) 2) p)) (λ address. in_memory_twins x kind word address p)
+field_row_twins x kind (Dn n) word word_at p = returned refl
+field_row_twins x kind ea word word_at p =
+    then_twins x (SameStop x) (reading_twins x p (address_twins x Long ea word_at p)) (λ address. in_memory_twins x kind word address p)

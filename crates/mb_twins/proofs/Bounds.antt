@@ -10,7 +10,6 @@ use Rattle.mb_instr.specs.Registers.{data_register}
 use Rattle.mb_alu.specs.Conditions.{conditions_of}
 use Rattle.mb_ea.specs.Addresses.{sum}
 use Rattle.mb_meaning.specs.Ends.{carried, stopped}
-use Rattle.mb_meaning.specs.Operands.{first_word}
 use Rattle.mb_meaning.specs.Traps.{out_of_bounds}
 use Rattle.mb_meaning.specs.Bounds.{is_below, is_above, checked, chk_of, bounds_of, cmp2_of, checked_carry, chk2_of}
 use Rattle.mb_twins.specs.Twins.{SameRead, SameStop, SamePerformed}
@@ -23,32 +22,32 @@ unfolding checked
 checked_same x size bound value p =
     either_same x (is_below size value || is_above size bound value) (stopped out_of_bounds _) (carried p) (refl, refl) refl
 
-pub chk_twins : (x : Setting) (n : ℕ) (size : Size) (ea : Ea) (at : ℕ) (p : Plain)
-    → Rows x (chk_of n size ea at x.here p) (chk_of n size ea at x.there p)
+pub chk_twins : (x : Setting) (n : ℕ) (size : Size) (ea : Ea) (word_at : ℕ) (p : Plain)
+    → Rows x (chk_of n size ea word_at x.here p) (chk_of n size ea word_at x.there p)
 unfolding chk_of
-chk_twins x n size ea at p =
-    then_twins x (SameStop x) (reading_twins x p (operand_twins x size ea (first_word at) p)) (λ bound.
+chk_twins x n size ea word_at p =
+    then_twins x (SameStop x) (reading_twins x p (operand_twins x size ea word_at p)) (λ bound.
     returned (checked_same x size bound.value (data_register bound.plain n) bound.plain))
 
-bounds_twins : (x : Setting) (size : Size) (ea : Ea) (w at : ℕ) (p : Plain)
-    → Reads x (bounds_of size ea w at x.here p) (bounds_of size ea w at x.there p)
+bounds_twins : (x : Setting) (size : Size) (ea : Ea) (w word_at : ℕ) (p : Plain)
+    → Reads x (bounds_of size ea w word_at x.here p) (bounds_of size ea w word_at x.there p)
 unfolding bounds_of
-bounds_twins x size ea w at p =
-    then_twins x (SameRead x) (address_twins x size ea (sum (first_word at) 2) p) (λ place.
+bounds_twins x size ea w word_at p =
+    then_twins x (SameRead x) (address_twins x size ea word_at p) (λ place.
     then_twins x (SameRead x) (read_twins x place (bytes_of size)) (λ lower.
     then_twins x (SameRead x) (read_twins x (sum place (bytes_of size)) (bytes_of size)) (λ upper. returned refl)))
 
-pub cmp2_twins : (x : Setting) (size : Size) (ea : Ea) (w at : ℕ) (p : Plain)
-    → Rows x (cmp2_of size ea w at x.here p) (cmp2_of size ea w at x.there p)
+pub cmp2_twins : (x : Setting) (size : Size) (ea : Ea) (w word_at : ℕ) (p : Plain)
+    → Rows x (cmp2_of size ea w word_at x.here p) (cmp2_of size ea w word_at x.there p)
 unfolding cmp2_of
-cmp2_twins x size ea w at p = then_twins x (SameStop x) (reading_twins x p (bounds_twins x size ea w at p)) (λ ccr. returned refl)
+cmp2_twins x size ea w word_at p = then_twins x (SameStop x) (reading_twins x p (bounds_twins x size ea w word_at p)) (λ ccr. returned refl)
 
 checked_carry_same : (x : Setting) (p : Plain) → SamePerformed x (checked_carry p) (checked_carry p)
 unfolding checked_carry
 checked_carry_same x p = either_same x (conditions_of p.ccr).c (stopped out_of_bounds p) (carried p) (refl, refl) refl
 
-pub chk2_twins : (x : Setting) (size : Size) (ea : Ea) (w at : ℕ) (p : Plain)
-    → Rows x (chk2_of size ea w at x.here p) (chk2_of size ea w at x.there p)
+pub chk2_twins : (x : Setting) (size : Size) (ea : Ea) (w word_at : ℕ) (p : Plain)
+    → Rows x (chk2_of size ea w word_at x.here p) (chk2_of size ea w word_at x.there p)
 unfolding chk2_of
-chk2_twins x size ea w at p =
-    then_twins x (SameStop x) (reading_twins x p (bounds_twins x size ea w at p)) (λ ccr. returned (checked_carry_same x (record p { ccr = ccr })))
+chk2_twins x size ea w word_at p =
+    then_twins x (SameStop x) (reading_twins x p (bounds_twins x size ea w word_at p)) (λ ccr. returned (checked_carry_same x (record p { ccr = ccr })))

@@ -13,7 +13,7 @@ use Rattle.mb_instr.specs.Sizes.{low_of}
 use Rattle.mb_instr.specs.Registers.{data_register, address_register}
 use Rattle.mb_meaning.specs.Ends.{Performed, carried, jumped}
 use Rattle.mb_meaning.specs.Conditions.{is_met}
-use Rattle.mb_meaning.specs.Operands.{first_word, lowered}
+use Rattle.mb_meaning.specs.Operands.{lowered}
 use Rattle.mb_meaning.specs.Flow.{target_of, is_call, call_of, branched, branch_of, counted_down, looped, dbcc_of, jmp_of, jsr_of}
 use Rattle.mb_twins.specs.Twins.{SameStop, SamePerformed}
 use Rattle.mb_twins.proofs.Parts.{Rows, then_twins, reading_twins}
@@ -35,10 +35,11 @@ branched_same : (x : Setting) (c : Condition) (target : ℕ) (p : Plain) → Sam
 unfolding branched
 branched_same x c target p = either_same x (is_met c p.ccr) (jumped (record p { pc = target })) (carried p) refl refl
 
-pub branch_twins : (x : Setting) (c : Condition) (d : Branch) (at : ℕ) (p : Plain) → Rows x (branch_of c d at x.here p) (branch_of c d at x.there p)
+pub branch_twins : (x : Setting) (c : Condition) (d : Branch) (word_at : ℕ) (p : Plain)
+    → Rows x (branch_of c d word_at x.here p) (branch_of c d word_at x.there p)
 unfolding branch_of
-branch_twins x c d at p =
-    twins_choose (between x) (SamePerformed x) (is_call c) _ _ _ _ (call_twins x (target_of at d) p) (returned (branched_same x c (target_of at d) p))
+branch_twins x c d word_at p =
+    twins_choose (between x) (SamePerformed x) (is_call c) _ _ _ _ (call_twins x (target_of word_at d) p) (returned (branched_same x c (target_of word_at d) p))
 
 looped_same : (x : Setting) (n target : ℕ) (p : Plain) → SamePerformed x (looped n target p) (looped n target p)
 unfolding looped
@@ -46,18 +47,18 @@ looped_same x n target p =
     let after = counted_down n p in
     either_same x (low_of Word (data_register after n) == 2 ^ 16 - 1) (carried after) (jumped (record after { pc = target })) refl refl
 
-pub dbcc_same : (x : Setting) (c : Condition) (n d at : ℕ) (p : Plain) → SamePerformed x (dbcc_of c n d at p) (dbcc_of c n d at p)
+pub dbcc_same : (x : Setting) (c : Condition) (n d word_at : ℕ) (p : Plain) → SamePerformed x (dbcc_of c n d word_at p) (dbcc_of c n d word_at p)
 unfolding dbcc_of
-dbcc_same x c n d at p =
-    let target = target_of at (displacement.Word d) in
+dbcc_same x c n d word_at p =
+    let target = target_of word_at (displacement.Word d) in
     either_same x (is_met c p.ccr) (carried p) (looped n target p) refl (looped_same x n target p)
 
-pub jmp_twins : (x : Setting) (ea : Ea) (at : ℕ) (p : Plain) → Rows x (jmp_of ea at x.here p) (jmp_of ea at x.there p)
+pub jmp_twins : (x : Setting) (ea : Ea) (word_at : ℕ) (p : Plain) → Rows x (jmp_of ea word_at x.here p) (jmp_of ea word_at x.there p)
 unfolding jmp_of
-jmp_twins x ea at p =
-    then_twins x (SameStop x) (reading_twins x p (address_twins x Long ea (first_word at) p)) (λ target. returned refl)
+jmp_twins x ea word_at p =
+    then_twins x (SameStop x) (reading_twins x p (address_twins x Long ea word_at p)) (λ target. returned refl)
 
-pub jsr_twins : (x : Setting) (ea : Ea) (at : ℕ) (p : Plain) → Rows x (jsr_of ea at x.here p) (jsr_of ea at x.there p)
+pub jsr_twins : (x : Setting) (ea : Ea) (word_at : ℕ) (p : Plain) → Rows x (jsr_of ea word_at x.here p) (jsr_of ea word_at x.there p)
 unfolding jsr_of
-jsr_twins x ea at p =
-    then_twins x (SameStop x) (reading_twins x p (address_twins x Long ea (first_word at) p)) (λ target. call_twins x target p)
+jsr_twins x ea word_at p =
+    then_twins x (SameStop x) (reading_twins x p (address_twins x Long ea word_at p)) (λ target. call_twins x target p)

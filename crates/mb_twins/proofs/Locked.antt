@@ -18,10 +18,9 @@ use Rattle.mb_instr.specs.declared.operand.Ea.TheVariants.{Dn}
 use Rattle.mb_instr.specs.declared.registers.Plain.{Plain}
 use Rattle.mb_instr.specs.Sizes.{bytes_of}
 use Rattle.mb_instr.specs.Registers.{register_of, data_register}
-use Rattle.mb_ea.specs.Addresses.{sum}
 use Rattle.mb_writes.specs.Writing.{part_of}
 use Rattle.mb_meaning.specs.Ends.{Performed, Stopped, reading}
-use Rattle.mb_meaning.specs.Operands.{first_word, place_of}
+use Rattle.mb_meaning.specs.Operands.{place_of}
 use Rattle.mb_meaning.specs.Locked.{probe_pieces, probe_of, get_places, get_of, put_places, put_at, test_and_set, tas_in_memory, tas_of}
 use Rattle.mb_meaning.specs.Locked.{update_by, pointer_by, cas_equal, cas_at, cas_of, cas2_equal, cas2_of}
 use Rattle.mb_twins.specs.Twins.{SameRead, SameStop, SamePerformed}
@@ -97,11 +96,11 @@ tas_in_memory_twins x address before p = locked_twins x before address 1 (λ ps 
     then_twins x (SameStop x) (get_twins x ps qs e) (λ value.
     then_twins x (SameStop x) (put_twins x ps qs 1 (test_and_set value p.ccr).value e) (λ done. returned refl)))
 
-pub tas_twins : (x : Setting) (ea : Ea) (at : ℕ) (p : Plain) → Rows x (tas_of ea at x.here p) (tas_of ea at x.there p)
+pub tas_twins : (x : Setting) (ea : Ea) (word_at : ℕ) (p : Plain) → Rows x (tas_of ea word_at x.here p) (tas_of ea word_at x.there p)
 unfolding tas_of
-tas_twins x (Dn n) at p = modifying_twins x test_and_set Byte (Dn n) (first_word at) p
-tas_twins x ea at p =
-    then_twins x (SameStop x) (reading_twins x p (resolve_twins x ea Byte (first_word at) p))
+tas_twins x (Dn n) word_at p = modifying_twins x test_and_set Byte (Dn n) word_at p
+tas_twins x ea word_at p =
+    then_twins x (SameStop x) (reading_twins x p (resolve_twins x ea Byte word_at p))
     (λ to. tas_in_memory_twins x (place_of to.target) p to.plain)
 
 cas_at_twins : (x : Setting) (size : Size) (word address : ℕ) (before p : Plain)
@@ -113,10 +112,11 @@ cas_at_twins x size word address before p = locked_twins x before address (bytes
     (then_twins x (SameStop x) (put_twins x ps qs (bytes_of size) (data_register p (update_by word)) e) (λ done. returned refl))
     (returned refl)))
 
-pub cas_twins : (x : Setting) (size : Size) (ea : Ea) (word at : ℕ) (p : Plain) → Rows x (cas_of size ea word at x.here p) (cas_of size ea word at x.there p)
+pub cas_twins : (x : Setting) (size : Size) (ea : Ea) (word word_at : ℕ) (p : Plain)
+    → Rows x (cas_of size ea word word_at x.here p) (cas_of size ea word word_at x.there p)
 unfolding cas_of
-cas_twins x size ea word at p =
-    then_twins x (SameStop x) (reading_twins x p (resolve_twins x ea size (sum (first_word at) 2) p))
+cas_twins x size ea word word_at p =
+    then_twins x (SameStop x) (reading_twins x p (resolve_twins x ea size word_at p))
     (λ to. cas_at_twins x size word (place_of to.target) p to.plain)
 
 pub cas2_twins : (x : Setting) (size : Size) (first second : ℕ) (p : Plain) → Rows x (cas2_of size first second x.here p) (cas2_of size first second x.there p)

@@ -6,17 +6,17 @@ use Rattle.mb_instr.specs.declared.size.Size.TheVariants.{Long}
 use Rattle.mb_instr.specs.declared.operand.Ea.{Ea}
 use Rattle.mb_instr.specs.declared.registers.Plain.{Plain}
 use Rattle.mb_instr.specs.Registers.{address_register}
-use Rattle.mb_meaning.specs.Operands.{first_word, lowered}
+use Rattle.mb_meaning.specs.Operands.{lowered}
 use Rattle.mb_meaning.specs.Stack.{pea_of, linked, link_of, unlk_of}
 use Rattle.mb_twins.specs.Twins.{SameStop}
 use Rattle.mb_twins.proofs.Parts.{Rows, then_twins, reading_twins}
 use Rattle.mb_twins.proofs.Operands.{read_twins, address_twins, pushing_twins}
 
-pub pea_twins : (x : Setting) (ea : Ea) (at : ℕ) (p : Plain) → Rows x (pea_of ea at x.here p) (pea_of ea at x.there p)
+pub pea_twins : (x : Setting) (ea : Ea) (word_at : ℕ) (p : Plain) → Rows x (pea_of ea word_at x.here p) (pea_of ea word_at x.there p)
 unfolding pea_of
-pea_twins x ea at p =
+pea_twins x ea word_at p =
     let after = lowered p in
-    then_twins x (SameStop x) (reading_twins x p (address_twins x Long ea (first_word at) p)) (λ place.
+    then_twins x (SameStop x) (reading_twins x p (address_twins x Long ea word_at p)) (λ place.
     then_twins x (SameStop x) (pushing_twins x place (address_register after 7) after) (λ done. returned refl))
 
 pub link_twins : (x : Setting) (n displacement : ℕ) (p : Plain) → Rows x (link_of n displacement x.here p) (link_of n displacement x.there p)

@@ -23,7 +23,8 @@ use Rattle.mb_instr.specs.declared.operand.Ea.TheVariants.{Dn, Post, Imm}
 use Rattle.mb_alu.specs.declared.bitwise.LogicKind.TheVariants as logic
 use Rattle.mb_alu.specs.Logic.{logic_of}
 use Rattle.mb_ea.specs.Addresses.{sum, difference}
-use Rattle.mb_meaning.specs.Operands.{first_word}
+use Rattle.mb_instr.specs.Shapes.{operands_at}
+use Rattle.mb_instr.specs.Rows.{move_row, arith_row, flow_row}
 use Rattle.mb_meaning.specs.Arithmetic.{added, subtracted, added_extended, subtracted_extended, address_moved, address_compared}
 use Rattle.mb_meaning.specs.Unary.{negated, negated_extended, complemented, tested}
 use Rattle.mb_meaning.specs.Shifts.{shifted_by_one}
@@ -54,101 +55,103 @@ use Rattle.mb_twins.proofs.Traps.{trap_same, trapcc_same, trapv_same}
 use Rattle.mb_twins.proofs.Bounds.{chk_twins, cmp2_twins, chk2_twins}
 
 -- a line a row
-perform_move_twins : (x : Setting) (i : Move) (at : ℕ) (p : Plain) → Rows x (perform_move_of i at x.here p) (perform_move_of i at x.there p)
+perform_move_twins : (x : Setting) (i : Move) (word_at : ℕ) (p : Plain) → Rows x (perform_move_of i word_at x.here p) (perform_move_of i word_at x.there p)
 unfolding perform_move_of
-perform_move_twins x (move.Move size destination source) at p = move_twins x size destination source at p
-perform_move_twins x (move.Moveq register immediate) at p = returned refl
-perform_move_twins x (move.MovemLoad size ea mask) at p = movem_twins x true size ea mask at p
-perform_move_twins x (move.MovemStore size ea mask) at p = movem_twins x false size ea mask at p
-perform_move_twins x (move.Movea size register source) at p = movea_twins x size register source at p
-perform_move_twins x (move.Lea register ea) at p = lea_twins x register ea at p
-perform_move_twins x (move.Exg m kind n) at p = returned refl
-perform_move_twins x (move.Swap register) at p = returned refl
-perform_move_twins x (move.ToCcr ea) at p = to_ccr_twins x ea at p
-perform_move_twins x (move.FromCcr ea) at p = from_ccr_twins x ea at p
-perform_move_twins x (move.Scc condition ea) at p = scc_twins x condition ea at p
-perform_move_twins x (move.Pea ea) at p = pea_twins x ea at p
-perform_move_twins x (move.LinkW register displacement) at p = link_twins x register (sign_extended Word displacement) p
-perform_move_twins x (move.LinkL register displacement) at p = link_twins x register displacement p
-perform_move_twins x (move.Unlk register) at p = unlk_twins x register p
-perform_move_twins x (move.Movep register is_store size address displacement) at p = movep_twins x register is_store size address displacement p
-perform_move_twins x (move.Move16Abs kind register address) at p = move16_absolute_twins x kind register address p
-perform_move_twins x (move.Move16Post m word) at p = move16_twins x m word p
+perform_move_twins x (move.Move size destination source) word_at p = move_twins x size destination source word_at p
+perform_move_twins x (move.Moveq register immediate) word_at p = returned refl
+perform_move_twins x (move.MovemLoad size ea mask) word_at p = movem_twins x true size ea mask word_at p
+perform_move_twins x (move.MovemStore size ea mask) word_at p = movem_twins x false size ea mask word_at p
+perform_move_twins x (move.Movea size register source) word_at p = movea_twins x size register source word_at p
+perform_move_twins x (move.Lea register ea) word_at p = lea_twins x register ea word_at p
+perform_move_twins x (move.Exg m kind n) word_at p = returned refl
+perform_move_twins x (move.Swap register) word_at p = returned refl
+perform_move_twins x (move.ToCcr ea) word_at p = to_ccr_twins x ea word_at p
+perform_move_twins x (move.FromCcr ea) word_at p = from_ccr_twins x ea word_at p
+perform_move_twins x (move.Scc condition ea) word_at p = scc_twins x condition ea word_at p
+perform_move_twins x (move.Pea ea) word_at p = pea_twins x ea word_at p
+perform_move_twins x (move.LinkW register displacement) word_at p = link_twins x register (sign_extended Word displacement) p
+perform_move_twins x (move.LinkL register displacement) word_at p = link_twins x register displacement p
+perform_move_twins x (move.Unlk register) word_at p = unlk_twins x register p
+perform_move_twins x (move.Movep register is_store size address displacement) word_at p = movep_twins x register is_store size address displacement p
+perform_move_twins x (move.Move16Abs kind register address) word_at p = move16_absolute_twins x kind register address p
+perform_move_twins x (move.Move16Post m word) word_at p = move16_twins x m word p
 
-perform_arith_twins : (x : Setting) (i : Arith) (at : ℕ) (p : Plain) → Rows x (perform_arith_of i at x.here p) (perform_arith_of i at x.there p)
+perform_arith_twins : (x : Setting) (i : Arith) (word_at : ℕ) (p : Plain) → Rows x (perform_arith_of i word_at x.here p) (perform_arith_of i word_at x.there p)
 unfolding perform_arith_of
-perform_arith_twins x (arith.Add register to_memory size ea) at p = either_way_twins x (added size) register to_memory size ea at p
-perform_arith_twins x (arith.Sub register to_memory size ea) at p = either_way_twins x (subtracted size) register to_memory size ea at p
-perform_arith_twins x (arith.And register to_memory size ea) at p = either_way_twins x (logic_of logic.And size) register to_memory size ea at p
-perform_arith_twins x (arith.Or register to_memory size ea) at p = either_way_twins x (logic_of logic.Or size) register to_memory size ea at p
-perform_arith_twins x (arith.Eor register size ea) at p = either_way_twins x (logic_of logic.Eor size) register true size ea at p
-perform_arith_twins x (arith.Addi size ea immediate) at p = combining_twins x (added size) size (Imm immediate) ea at p
-perform_arith_twins x (arith.Subi size ea immediate) at p = combining_twins x (subtracted size) size (Imm immediate) ea at p
-perform_arith_twins x (arith.Andi size ea immediate) at p = combining_twins x (logic_of logic.And size) size (Imm immediate) ea at p
-perform_arith_twins x (arith.Ori size ea immediate) at p = combining_twins x (logic_of logic.Or size) size (Imm immediate) ea at p
-perform_arith_twins x (arith.Eori size ea immediate) at p = combining_twins x (logic_of logic.Eor size) size (Imm immediate) ea at p
-perform_arith_twins x (arith.Addx destination size in_memory source) at p = chaining_twins x (added_extended size) size in_memory source destination at p
-perform_arith_twins x (arith.Subx destination size in_memory source) at p = chaining_twins x (subtracted_extended size) size in_memory source destination at p
-perform_arith_twins x (arith.Cmp register size ea) at p = comparing_twins x size ea (Dn register) at p
-perform_arith_twins x (arith.Cmpi size ea immediate) at p = comparing_twins x size (Imm immediate) ea at p
-perform_arith_twins x (arith.Cmpm destination size source) at p = comparing_twins x size (Post source) (Post destination) at p
-perform_arith_twins x (arith.Addq quick size ea) at p = quick_twins x (added size quick) (λ address. sum address quick) size ea at p
-perform_arith_twins x (arith.Subq quick size ea) at p = quick_twins x (subtracted size quick) (λ address. difference address quick) size ea at p
-perform_arith_twins x (arith.Adda register size ea) at p = taking_twins x (address_moved sum register size) size ea (first_word at) p (λ value q. refl)
-perform_arith_twins x (arith.Suba register size ea) at p = taking_twins x (address_moved difference register size) size ea (first_word at) p (λ value q. refl)
-perform_arith_twins x (arith.Cmpa register size ea) at p = taking_twins x (address_compared register size) size ea (first_word at) p (λ value q. refl)
-perform_arith_twins x (arith.Neg size ea) at p = modifying_twins x (negated size) size ea (first_word at) p
-perform_arith_twins x (arith.Negx size ea) at p = modifying_twins x (negated_extended size) size ea (first_word at) p
-perform_arith_twins x (arith.Not size ea) at p = modifying_twins x (complemented size) size ea (first_word at) p
-perform_arith_twins x (arith.Clr size ea) at p = clr_twins x size ea at p
-perform_arith_twins x (arith.Tst size ea) at p = taking_twins x (tested size) size ea (first_word at) p (λ value q. refl)
-perform_arith_twins x (arith.ExtW register) at p = returned refl
-perform_arith_twins x (arith.ExtL register) at p = returned refl
-perform_arith_twins x (arith.ExtbL register) at p = returned refl
-perform_arith_twins x (arith.OriCcr word) at p = returned refl
-perform_arith_twins x (arith.AndiCcr word) at p = returned refl
-perform_arith_twins x (arith.EoriCcr word) at p = returned refl
-perform_arith_twins x (arith.ShiftReg count is_left size by_register kind register) at p = returned refl
-perform_arith_twins x (arith.ShiftMem kind is_left ea) at p = modifying_twins x (shifted_by_one kind is_left) Word ea (first_word at) p
-perform_arith_twins x (arith.MulW register signed ea) at p = taking_twins x (multiplied_by_word signed register) Word ea (first_word at) p (λ value q. refl)
-perform_arith_twins x (arith.MulL ea word) at p = taking_twins x (multiplied_by_long word) Long ea (sum (first_word at) 2) p (λ value q. refl)
-perform_arith_twins x (arith.DivW register signed ea) at p =
-    taking_twins x (word_divided signed register) Word ea (first_word at) p (word_divided_same x signed register)
-perform_arith_twins x (arith.DivL ea word) at p = taking_twins x (long_divided word) Long ea (sum (first_word at) 2) p (long_divided_same x word)
-perform_arith_twins x (arith.BitReg register kind ea) at p = bit_row_twins x kind (data_register p register) ea (first_word at) p
-perform_arith_twins x (arith.BitImm kind ea word) at p = bit_row_twins x kind word ea (sum (first_word at) 2) p
-perform_arith_twins x (arith.Nbcd ea) at p = modifying_twins x negated_decimal Byte ea (first_word at) p
-perform_arith_twins x (arith.Abcd to in_memory from) at p = decimal_twins x abcd_of to in_memory from at p
-perform_arith_twins x (arith.Sbcd to in_memory from) at p = decimal_twins x sbcd_of to in_memory from at p
-perform_arith_twins x (arith.Pack to in_memory from word) at p = digits_twins x pack_of Word Byte to in_memory from word at p
-perform_arith_twins x (arith.Unpk to in_memory from word) at p = digits_twins x unpk_of Byte Word to in_memory from word at p
-perform_arith_twins x (arith.Field kind ea word) at p = field_row_twins x kind ea word at p
-perform_arith_twins x (arith.Tas ea) at p = tas_twins x ea at p
-perform_arith_twins x (arith.Cas size ea word) at p = cas_twins x size ea word at p
-perform_arith_twins x (arith.Cas2 size first second) at p = cas2_twins x size first second p
-perform_arith_twins x (arith.Cmp2 size ea word) at p = cmp2_twins x size ea word at p
+perform_arith_twins x (arith.Add register to_memory size ea) word_at p = either_way_twins x (added size) register to_memory size ea word_at p
+perform_arith_twins x (arith.Sub register to_memory size ea) word_at p = either_way_twins x (subtracted size) register to_memory size ea word_at p
+perform_arith_twins x (arith.And register to_memory size ea) word_at p = either_way_twins x (logic_of logic.And size) register to_memory size ea word_at p
+perform_arith_twins x (arith.Or register to_memory size ea) word_at p = either_way_twins x (logic_of logic.Or size) register to_memory size ea word_at p
+perform_arith_twins x (arith.Eor register size ea) word_at p = either_way_twins x (logic_of logic.Eor size) register true size ea word_at p
+perform_arith_twins x (arith.Addi size ea immediate) word_at p = combining_twins x (added size) size (Imm immediate) ea word_at p
+perform_arith_twins x (arith.Subi size ea immediate) word_at p = combining_twins x (subtracted size) size (Imm immediate) ea word_at p
+perform_arith_twins x (arith.Andi size ea immediate) word_at p = combining_twins x (logic_of logic.And size) size (Imm immediate) ea word_at p
+perform_arith_twins x (arith.Ori size ea immediate) word_at p = combining_twins x (logic_of logic.Or size) size (Imm immediate) ea word_at p
+perform_arith_twins x (arith.Eori size ea immediate) word_at p = combining_twins x (logic_of logic.Eor size) size (Imm immediate) ea word_at p
+perform_arith_twins x (arith.Addx destination size in_memory source) word_at p =
+    chaining_twins x (added_extended size) size in_memory source destination word_at p
+perform_arith_twins x (arith.Subx destination size in_memory source) word_at p =
+    chaining_twins x (subtracted_extended size) size in_memory source destination word_at p
+perform_arith_twins x (arith.Cmp register size ea) word_at p = comparing_twins x size ea (Dn register) word_at p
+perform_arith_twins x (arith.Cmpi size ea immediate) word_at p = comparing_twins x size (Imm immediate) ea word_at p
+perform_arith_twins x (arith.Cmpm destination size source) word_at p = comparing_twins x size (Post source) (Post destination) word_at p
+perform_arith_twins x (arith.Addq quick size ea) word_at p = quick_twins x (added size quick) (λ address. sum address quick) size ea word_at p
+perform_arith_twins x (arith.Subq quick size ea) word_at p = quick_twins x (subtracted size quick) (λ address. difference address quick) size ea word_at p
+perform_arith_twins x (arith.Adda register size ea) word_at p = taking_twins x (address_moved sum register size) size ea word_at p (λ value q. refl)
+perform_arith_twins x (arith.Suba register size ea) word_at p = taking_twins x (address_moved difference register size) size ea word_at p (λ value q. refl)
+perform_arith_twins x (arith.Cmpa register size ea) word_at p = taking_twins x (address_compared register size) size ea word_at p (λ value q. refl)
+perform_arith_twins x (arith.Neg size ea) word_at p = modifying_twins x (negated size) size ea word_at p
+perform_arith_twins x (arith.Negx size ea) word_at p = modifying_twins x (negated_extended size) size ea word_at p
+perform_arith_twins x (arith.Not size ea) word_at p = modifying_twins x (complemented size) size ea word_at p
+perform_arith_twins x (arith.Clr size ea) word_at p = clr_twins x size ea word_at p
+perform_arith_twins x (arith.Tst size ea) word_at p = taking_twins x (tested size) size ea word_at p (λ value q. refl)
+perform_arith_twins x (arith.ExtW register) word_at p = returned refl
+perform_arith_twins x (arith.ExtL register) word_at p = returned refl
+perform_arith_twins x (arith.ExtbL register) word_at p = returned refl
+perform_arith_twins x (arith.OriCcr word) word_at p = returned refl
+perform_arith_twins x (arith.AndiCcr word) word_at p = returned refl
+perform_arith_twins x (arith.EoriCcr word) word_at p = returned refl
+perform_arith_twins x (arith.ShiftReg count is_left size by_register kind register) word_at p = returned refl
+perform_arith_twins x (arith.ShiftMem kind is_left ea) word_at p = modifying_twins x (shifted_by_one kind is_left) Word ea word_at p
+perform_arith_twins x (arith.MulW register signed ea) word_at p = taking_twins x (multiplied_by_word signed register) Word ea word_at p (λ value q. refl)
+perform_arith_twins x (arith.MulL ea word) word_at p = taking_twins x (multiplied_by_long word) Long ea word_at p (λ value q. refl)
+perform_arith_twins x (arith.DivW register signed ea) word_at p =
+    taking_twins x (word_divided signed register) Word ea word_at p (word_divided_same x signed register)
+perform_arith_twins x (arith.DivL ea word) word_at p = taking_twins x (long_divided word) Long ea word_at p (long_divided_same x word)
+perform_arith_twins x (arith.BitReg register kind ea) word_at p = bit_row_twins x kind (data_register p register) ea word_at p
+perform_arith_twins x (arith.BitImm kind ea word) word_at p = bit_row_twins x kind word ea word_at p
+perform_arith_twins x (arith.Nbcd ea) word_at p = modifying_twins x negated_decimal Byte ea word_at p
+perform_arith_twins x (arith.Abcd to in_memory from) word_at p = decimal_twins x abcd_of to in_memory from word_at p
+perform_arith_twins x (arith.Sbcd to in_memory from) word_at p = decimal_twins x sbcd_of to in_memory from word_at p
+perform_arith_twins x (arith.Pack to in_memory from word) word_at p = digits_twins x pack_of Word Byte to in_memory from word word_at p
+perform_arith_twins x (arith.Unpk to in_memory from word) word_at p = digits_twins x unpk_of Byte Word to in_memory from word word_at p
+perform_arith_twins x (arith.Field kind ea word) word_at p = field_row_twins x kind ea word word_at p
+perform_arith_twins x (arith.Tas ea) word_at p = tas_twins x ea word_at p
+perform_arith_twins x (arith.Cas size ea word) word_at p = cas_twins x size ea word word_at p
+perform_arith_twins x (arith.Cas2 size first second) word_at p = cas2_twins x size first second p
+perform_arith_twins x (arith.Cmp2 size ea word) word_at p = cmp2_twins x size ea word word_at p
 
-perform_flow_twins : (x : Setting) (i : Flow) (at : ℕ) (p : Plain) → Rows x (perform_flow_of i at x.here p) (perform_flow_of i at x.there p)
+perform_flow_twins : (x : Setting) (i : Flow) (word_at : ℕ) (p : Plain) → Rows x (perform_flow_of i word_at x.here p) (perform_flow_of i word_at x.there p)
 unfolding perform_flow_of
-perform_flow_twins x flow.Nop at p = returned refl
-perform_flow_twins x (flow.Bcc condition displacement) at p = branch_twins x condition displacement at p
-perform_flow_twins x (flow.Dbcc condition register displacement) at p = returned (dbcc_same x condition register displacement at p)
-perform_flow_twins x (flow.Jmp ea) at p = jmp_twins x ea at p
-perform_flow_twins x (flow.Jsr ea) at p = jsr_twins x ea at p
-perform_flow_twins x flow.Rts at p = rts_twins x p
-perform_flow_twins x (flow.Rtd displacement) at p = rtd_twins x displacement p
-perform_flow_twins x flow.Rtr at p = rtr_twins x p
-perform_flow_twins x (flow.Trap number) at p = returned (trap_same x number p)
-perform_flow_twins x (flow.Trapcc condition operand) at p = returned (trapcc_same x condition p)
-perform_flow_twins x flow.Trapv at p = returned (trapv_same x p)
-perform_flow_twins x (flow.Chk register size ea) at p = chk_twins x register size ea at p
-perform_flow_twins x (flow.Chk2 size ea word) at p = chk2_twins x size ea word at p
+perform_flow_twins x flow.Nop word_at p = returned refl
+perform_flow_twins x (flow.Bcc condition displacement) word_at p = branch_twins x condition displacement word_at p
+perform_flow_twins x (flow.Dbcc condition register displacement) word_at p = returned (dbcc_same x condition register displacement word_at p)
+perform_flow_twins x (flow.Jmp ea) word_at p = jmp_twins x ea word_at p
+perform_flow_twins x (flow.Jsr ea) word_at p = jsr_twins x ea word_at p
+perform_flow_twins x flow.Rts word_at p = rts_twins x p
+perform_flow_twins x (flow.Rtd displacement) word_at p = rtd_twins x displacement p
+perform_flow_twins x flow.Rtr word_at p = rtr_twins x p
+perform_flow_twins x (flow.Trap number) word_at p = returned (trap_same x number p)
+perform_flow_twins x (flow.Trapcc condition operand) word_at p = returned (trapcc_same x condition p)
+perform_flow_twins x flow.Trapv word_at p = returned (trapv_same x p)
+perform_flow_twins x (flow.Chk register size ea) word_at p = chk_twins x register size ea word_at p
+perform_flow_twins x (flow.Chk2 size ea word) word_at p = chk2_twins x size ea word word_at p
 
 pub perform_twins : (x : Setting) (i : Instr) (at : ℕ) (p : Plain) → MayRefuse x i → Rows x (perform_of i at x.here p) (perform_of i at x.there p)
 unfolding perform_of
-perform_twins x (instr.Move i) at p may = perform_move_twins x i at p
-perform_twins x (instr.Arith i) at p may = perform_arith_twins x i at p
-perform_twins x (instr.Flow i) at p may = perform_flow_twins x i at p
+perform_twins x (instr.Move i) at p may = perform_move_twins x i (operands_at (move_row i) at) p
+perform_twins x (instr.Arith i) at p may = perform_arith_twins x i (operands_at (arith_row i) at) p
+perform_twins x (instr.Flow i) at p may = perform_flow_twins x i (operands_at (flow_row i) at) p
 perform_twins x (instr.System i) at p may = returned ((may, refl), refl)
 
 -- any instruction, where instructions may be refused

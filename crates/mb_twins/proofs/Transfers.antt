@@ -7,12 +7,10 @@ use Rattle.mb_instr.specs.declared.size.Size.{Size}
 use Rattle.mb_instr.specs.declared.operand.Ea.{Ea}
 use Rattle.mb_instr.specs.declared.registers.Plain.{Plain}
 use Rattle.mb_instr.specs.Sizes.{bytes_of}
-use Rattle.mb_ea.specs.Addresses.{sum}
 use Rattle.mb_writes.specs.declared.transfers.Movem.{Movem}
 use Rattle.mb_writes.specs.declared.transfers.Transfer.{Transfer}
 use Rattle.mb_writes.specs.Transfers.{transfers_of}
 use Rattle.mb_writes.specs.Moving.{Halfway, stored_of, store_all, loaded_of, load_all, storing, transfer_of}
-use Rattle.mb_meaning.specs.Operands.{first_word}
 use Rattle.mb_meaning.specs.Moves.{movem_by, movem_of}
 use Rattle.mb_twins.specs.Twins.{SameRead, SameWrite, SameTransfer, SameStop}
 use Rattle.mb_twins.proofs.Parts.{Rows, TwinParts, then_twins, failing_twins, reading_twins}
@@ -55,11 +53,11 @@ transfer_twins x m ea done p =
     (load_all_twins x m ea done (drop done (transfers_of m ea)) p) (stores_twins x m ea done p))
     (λ moved. returned refl)
 
-pub movem_twins : (x : Setting) (is_load : Bool) (size : Size) (ea : Ea) (mask at : ℕ) (p : Plain)
-    → Rows x (movem_of is_load size ea mask at x.here p) (movem_of is_load size ea mask at x.there p)
+pub movem_twins : (x : Setting) (is_load : Bool) (size : Size) (ea : Ea) (mask word_at : ℕ) (p : Plain)
+    → Rows x (movem_of is_load size ea mask word_at x.here p) (movem_of is_load size ea mask word_at x.there p)
 unfolding movem_of
-movem_twins x is_load size ea mask at p =
-    then_twins x (SameStop x) (reading_twins x p (address_twins x size ea (sum (first_word at) 2) p)) (λ place.
+movem_twins x is_load size ea mask word_at p =
+    then_twins x (SameStop x) (reading_twins x p (address_twins x size ea word_at p)) (λ place.
     then_twins x (SameStop x)
     (failing_twins x (SameHalfway x) (SameStop x) (λ e f h. h) (transfer_twins x (movem_by is_load size ea mask) place 0 p))
     (λ moved. returned refl))
