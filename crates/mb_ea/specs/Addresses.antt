@@ -1,5 +1,5 @@
 -- Addresses: steps, displacements and indices.
-use Rattle.std.specs.Prelude.{ℕ, ◌+◌, ◌-◌, ◌*◌, ◌/◌, ◌%◌, ◌^◌, ◌<◌, ◌&&◌, ◌==◌, if◌then◌else◌}
+use Rattle.std.specs.Prelude.{ℕ, ⊤, ◌+◌, ◌-◌, ◌*◌, ◌/◌, ◌%◌, ◌^◌, ◌<◌, ◌&&◌, ◌==◌, if◌then◌else◌}
 use Rattle.mb_instr.specs.declared.size.Size.{Size}
 use Rattle.mb_instr.specs.declared.size.Size.TheVariants.{Word}
 use Rattle.mb_instr.specs.declared.registers.Plain.{Plain}
@@ -42,3 +42,13 @@ abbrev pub IsTarget : Size → Target → Type 0
 IsTarget size (Reg n) = n < 16
 IsTarget size (Memory at) = Unit {0}
 IsTarget size (Value v) = v < values_of size
+
+-- a target that a value can go to
+abbrev pub IsPlace : Target → Type 0
+IsPlace (Value v) = ⊥
+IsPlace _ = ⊤
+
+-- a target in memory
+abbrev pub IsMemory : Target → Type 0
+IsMemory (Memory at) = ⊤
+IsMemory _ = ⊥

@@ -2,8 +2,8 @@
 
 ghost use Rattle.std.specs.Prelude.{◌≡◌, ◌<◌, OnErr, IfOk};
 ghost use Rattle.mb_port.specs.Routine.{run};
-ghost use Rattle.mb_instr.specs.Operands.{IsExt, IsEa};
-ghost use Rattle.mb_ea.specs.Addresses.{IsTarget};
+ghost use Rattle.mb_instr.specs.Operands.{IsExt, IsEa, IsInMemory, IsDestination};
+ghost use Rattle.mb_ea.specs.Addresses.{IsTarget, IsMemory, IsPlace};
 ghost use Rattle.mb_ea.specs.Resolve.{parts_of, indirect_of, full_of, indexed_of, stepped, resolve_of, resolved};
 
 use crate::addresses::{Target, displacement, index, step};
@@ -101,6 +101,8 @@ pub fn find_target<P: Port>(
     ensures means { run P.bus (resolve_of ea.now size word_at space plain.now) (P.world port.old)
         ≡ (resolved result (stepped ea.now size plain.now), P.world port.new) }
     ensures target { IfOk result (IsTarget size) }
+    ensures place { IsDestination ea.now → IfOk result IsPlace }
+    ensures memory { IsInMemory ea.now → IfOk result IsMemory }
     ensures rest { P.rest port.new ≡ P.rest port.old }
 {
     match *ea {
@@ -141,6 +143,8 @@ pub fn resolve<P: Port>(
     ensures means { run P.bus (resolve_of ea.now size word_at space plain.old) (P.world port.old)
         ≡ (resolved result plain.new, P.world port.new) }
     ensures target { IfOk result (IsTarget size) }
+    ensures place { IsDestination ea.now → IfOk result IsPlace }
+    ensures memory { IsInMemory ea.now → IfOk result IsMemory }
     ensures unchanged { OnErr result (plain.new ≡ plain.old) }
     ensures rest { P.rest port.new ≡ P.rest port.old }
 {

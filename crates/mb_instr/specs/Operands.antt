@@ -1,5 +1,5 @@
 -- Which operands a row takes, and how an operand is spelled.
-use Rattle.std.specs.Prelude.{ℕ, ◌/◌, ◌%◌, ◌^◌, ◌<◌, Bool, true, false, ◌&&◌, ◌||◌, ◌==◌, not, nat_lt}
+use Rattle.std.specs.Prelude.{ℕ, ⊤, ◌/◌, ◌%◌, ◌^◌, ◌<◌, Bool, true, false, ◌&&◌, ◌||◌, ◌==◌, not, nat_lt}
 use Rattle.std.specs.Prelude.{List, [], ◌∷◌, ◌++◌, Option, Some, None, if◌then◌else◌}
 use Rattle.mb_instr.specs.declared.size.Size.{Size}
 use Rattle.mb_instr.specs.declared.size.Size.TheVariants as size
@@ -131,6 +131,24 @@ takes class size ea = allows class size (mode ea) (lower ea) && is_spelled size 
 abbrev pub address_number : Ea → Option ℕ
 address_number (An n) = Some n
 address_number _ = None
+
+-- an operand that a value can go to
+abbrev pub IsDestination : Ea → Type 0
+IsDestination (Imm v) = ⊥
+IsDestination _ = ⊤
+
+-- an operand that stands in memory
+abbrev pub IsInMemory : Ea → Type 0
+IsInMemory (Dn n) = ⊥
+IsInMemory (An n) = ⊥
+IsInMemory (Imm v) = ⊥
+IsInMemory _ = ⊤
+
+-- one that stands in a data register or in memory
+abbrev pub IsData : Ea → Type 0
+IsData (An n) = ⊥
+IsData (Imm v) = ⊥
+IsData _ = ⊤
 
 -- ---- the ranges of an operand's parts
 

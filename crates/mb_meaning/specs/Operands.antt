@@ -37,11 +37,15 @@ load_of (Value v) size space p = Return (Ok v)
 abbrev pub with_low : Size → ℕ → ℕ → ℕ
 with_low size old value = old - low_of size old + low_of size value
 
--- Puts a value there: in the low bytes of a register, the others staying, or in memory.
+-- what comes of a store where no instruction of the table comes
+abbrev pub unreached_store : Plain → Routine (Result Plain WriteFault)
+unreached_store p = Return (Ok p)
+
+-- Puts a value there: in the low bytes of a register, the others staying, or in memory. No row stores to a value.
 unfoldable pub store_of : Target → Size → ℕ → Space → Plain → Routine (Result Plain WriteFault)
 store_of (Reg n) size value space p = Return (Ok (with_register p n (with_low size (register_of p n) value)))
 store_of (Memory at) size value space p = put_of space at (bytes_of size) value >> Return (Ok p)
-store_of (Value v) size value space p = Return (Ok p)
+store_of (Value v) size value space p = unreached_store p
 
 -- An operand that was read: where it stands, its value, and the registers then.
 pub record Fetched : Type 0 where
@@ -56,13 +60,16 @@ operand_of size ea word_at space p = do
   value ← load_of resolved.target size space resolved.plain
   Return (Ok (record { target = resolved.target; value = value; plain = resolved.plain }))
 
--- where an operand of one address stands
+-- what stands for a number where no instruction of the table comes
+abbrev pub unreached : ℕ
+unreached = 0
+
+-- Where an operand in memory stands. No row asks it of a register or of a value.
 abbrev pub place_of : Target → ℕ
 place_of (Memory at) = at
-place_of (Reg n) = 0
-place_of (Value v) = 0
+place_of _ = unreached
 
--- The address of an operand, which is not read. `(An)+` and `-(An)` do not step here.
+-- The address of an operand in memory, which is not read. `(An)+` and `-(An)` do not step here.
 unfoldable pub address_of : Size → Ea → ℕ → Space → Plain → Routine (Result ℕ ReadFault)
 address_of size ea word_at space p = do
   resolved ← resolve_of ea size word_at space p

@@ -2,7 +2,7 @@
 
 ghost use Rattle.std.specs.Prelude.{◌≡◌, ◌<◌};
 ghost use Rattle.mb_port.specs.Routine.{run};
-ghost use Rattle.mb_instr.specs.Operands.{IsEa};
+ghost use Rattle.mb_instr.specs.Operands.{IsEa, IsInMemory};
 ghost use Rattle.mb_meaning.specs.Bounds.{compared_size, above};
 ghost use Rattle.mb_meaning.specs.Bounds.{bounds_codes, compared, bounds_of};
 
@@ -70,7 +70,8 @@ pub fn compare_bounds<P: Port>(
     plain: &Plain,
     port: &mut P,
 ) -> Result<u8, ReadFault>
-    requires { IsEa size ea.now }
+    requires operand { IsEa size ea.now }
+    requires place { IsInMemory ea.now }
     ensures means { run P.bus (bounds_of size ea.now word word_at space plain.now) (P.world port.old)
         ≡ (result, P.world port.new) }
     ensures rest { P.rest port.new ≡ P.rest port.old }

@@ -3,8 +3,8 @@
 ghost use Rattle.std.specs.Prelude.{◌≡◌, ◌<◌, ◌≤◌, false, length, OnErr, IfOk, IfErr};
 ghost use Rattle.mb_port.specs.Routine.{run};
 ghost use Rattle.mb_instr.specs.Sizes.{values_of};
-ghost use Rattle.mb_instr.specs.Operands.{IsEa};
-ghost use Rattle.mb_ea.specs.Addresses.{IsTarget};
+ghost use Rattle.mb_instr.specs.Operands.{IsEa, IsInMemory, IsDestination};
+ghost use Rattle.mb_ea.specs.Addresses.{IsTarget, IsMemory, IsPlace};
 ghost use Rattle.mb_meaning.specs.Operands.{behind, named_register, with_low, load_of, store_of, operand_of, stored, address_of};
 ghost use Rattle.mb_meaning.specs.Operands.{place_of, storing, pushing};
 ghost use Rattle.mb_meaning.specs.Ends.{carried_by};
@@ -84,7 +84,8 @@ fn store<P: Port>(
     plain: &mut Plain,
     port: &mut P,
 ) -> Result<(), WriteFault>
-    requires { IsTarget size target }
+    requires target { IsTarget size target }
+    requires place { IsPlace target }
     ensures means { run P.bus (store_of target size value space plain.old) (P.world port.old)
         ≡ (stored result plain.new, P.world port.new) }
     ensures unchanged { OnErr result (plain.new ≡ plain.old) }
@@ -97,7 +98,7 @@ fn store<P: Port>(
             Ok(())
         }
         Target::Memory(at) => put_value(space, at, size, value, port),
-        Target::Value(_) => Ok(()),
+        Target::Value(_) => unreachable!(),
     }
 }
 
@@ -116,6 +117,7 @@ pub fn fetch_operand<P: Port>(
     ensures means { run P.bus (operand_of size ea.now word_at space plain.old) (P.world port.old)
         ≡ (fetched result plain.new, P.world port.new) }
     ensures operand { IfOk result (IsOperand size) }
+    ensures place { IsDestination ea.now → IfOk result (λ operand. IsPlace operand.target) }
     ensures rest { P.rest port.new ≡ P.rest port.old }
 {
     let target = resolve(ea, size, plain, word_at, space, port)?;
@@ -123,18 +125,19 @@ pub fn fetch_operand<P: Port>(
     Ok(Operand { target, value })
 }
 
-/// Where an operand of one address stands.
+/// Where an operand in memory stands.
 #[inline(always)]
 pub fn place(target: Target) -> u32
+    requires { IsMemory target }
     ensures { result ≡ place_of target }
 {
     match target {
         Target::Memory(at) => at,
-        Target::Reg(_) | Target::Value(_) => 0,
+        Target::Reg(_) | Target::Value(_) => unreachable!(),
     }
 }
 
-/// The address of an operand, which is not read. `(An)+` and `-(An)` do not step here.
+/// The address of an operand in memory, which is not read. `(An)+` and `-(An)` do not step here.
 #[inline(always)]
 #[tactic(auto, unfolding(mb_meaning::specs::Operands::address_of))]
 pub fn find_address<P: Port>(
@@ -145,7 +148,8 @@ pub fn find_address<P: Port>(
     plain: &Plain,
     port: &mut P,
 ) -> Result<u32, ReadFault>
-    requires { IsEa size ea.now }
+    requires operand { IsEa size ea.now }
+    requires place { IsInMemory ea.now }
     ensures means { run P.bus (address_of size ea.now word_at space plain.now) (P.world port.old)
         ≡ (result, P.world port.new) }
     ensures rest { P.rest port.new ≡ P.rest port.old }
@@ -166,7 +170,8 @@ pub fn finish_with<P: Port>(
     port: &mut P,
     ended: &mut Ended,
 ) -> Result<(), Undone>
-    requires { IsTarget size target }
+    requires target { IsTarget size target }
+    requires place { IsPlace target }
     ensures means { run P.bus (storing target size value space plain.old) (P.world port.old)
         ≡ (carried_by (with_end result ended.new) plain.new, P.world port.new) }
     ensures read { OnErr result (is_unread ended.new ≡ false) }

@@ -2,7 +2,7 @@
 
 ghost use Rattle.std.specs.Prelude.{◌≡◌, ◌<◌, ◌≤◌, ◌+◌, ◌-◌, ◌*◌, ◌%◌, ◌^◌};
 ghost use Rattle.mb_port.specs.Routine.{run};
-ghost use Rattle.mb_instr.specs.Operands.{IsEa};
+ghost use Rattle.mb_instr.specs.Operands.{IsEa, IsData};
 ghost use Rattle.mb_meaning.specs.BitFields.{named_by, offset_of, width_bits, width_of, is_change, field_after};
 ghost use Rattle.mb_meaning.specs.BitFields.{field_flags, field_seen, field_signed, with_result, field_done};
 ghost use Rattle.mb_meaning.specs.BitFields.{field_in_register, field_in_memory, bytes_before, bytes_held};
@@ -296,7 +296,8 @@ pub(crate) fn bit_field<P: Port>(
     port: &mut P,
     ended: &mut Ended,
 ) -> Result<(), Undone>
-    requires { IsEa Size.Long ea.now }
+    requires operand { IsEa Size.Long ea.now }
+    requires place { IsData ea.now }
     ensures means { run P.bus (field_row_of kind ea.now word word_at space plain.old) (P.world port.old)
         ≡ (carried_in_place result ended.new plain.old plain.new, P.world port.new) }
     ensures rest { P.rest port.new ≡ P.rest port.old }

@@ -1,8 +1,8 @@
 //! BTST, BCHG, BCLR and BSET.
 
-ghost use Rattle.std.specs.Prelude.{◌≡◌, ◌<◌, ◌^◌};
+ghost use Rattle.std.specs.Prelude.{◌≡◌, ◌<◌, ◌^◌, ◌≢◌};
 ghost use Rattle.mb_port.specs.Routine.{run};
-ghost use Rattle.mb_instr.specs.Operands.{IsEa};
+ghost use Rattle.mb_instr.specs.Operands.{IsEa, IsDestination};
 ghost use Rattle.mb_meaning.specs.Bits.{bit_size, bit_after, bit_changed, bit_row_of};
 ghost use Rattle.mb_operands.specs.Endings.{carried_in_place};
 
@@ -119,7 +119,8 @@ pub(crate) fn bit_row<P: Port>(
     port: &mut P,
     ended: &mut Ended,
 ) -> Result<(), Undone>
-    requires { IsEa Size.Byte ea.now }
+    requires operand { IsEa Size.Byte ea.now }
+    requires destination { kind ≢ BitKind.Test → IsDestination ea.now }
     ensures means { run P.bus (bit_row_of kind number ea.now word_at space plain.old) (P.world port.old)
         ≡ (carried_in_place result ended.new plain.old plain.new, P.world port.new) }
     ensures rest { P.rest port.new ≡ P.rest port.old }

@@ -2,7 +2,7 @@
 
 ghost use Rattle.std.specs.Prelude.{◌≡◌, ◌<◌};
 ghost use Rattle.mb_port.specs.Routine.{run};
-ghost use Rattle.mb_instr.specs.Operands.{IsEa};
+ghost use Rattle.mb_instr.specs.Operands.{IsEa, IsDestination};
 ghost use Rattle.mb_instr.specs.Sizes.{values_of};
 ghost use Rattle.mb_meaning.specs.Decimals.{negated_decimal, paired, decimal_of, digits_of};
 ghost use Rattle.mb_ops_arith.specs.Decimals.{decimal_operation, packing_operation, packed_from, packed_to};
@@ -91,6 +91,7 @@ fn paired(in_memory: bool, register: u8, size: Size) -> Ea
     requires { register < 8 }
     ensures value { result ≡ paired in_memory register }
     ensures range { IsEa size result }
+    ensures destination { IsDestination result }
 {
     if in_memory {
         Ea::Pre(register)

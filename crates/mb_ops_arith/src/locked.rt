@@ -2,7 +2,7 @@
 
 ghost use Rattle.std.specs.Prelude.{◌≡◌, ◌<◌};
 ghost use Rattle.mb_port.specs.Routine.{run};
-ghost use Rattle.mb_instr.specs.Operands.{IsEa};
+ghost use Rattle.mb_instr.specs.Operands.{IsEa, IsInMemory, IsData};
 ghost use Rattle.mb_instr.specs.Sizes.{values_of};
 ghost use Rattle.mb_meaning.specs.Operands.{place_of};
 ghost use Rattle.mb_meaning.specs.Locked.{test_and_set, tas_of, compared_by, update_by, pointer_by};
@@ -42,7 +42,8 @@ pub(crate) fn tas<P: Port>(
     port: &mut P,
     ended: &mut Ended,
 ) -> Result<(), Undone>
-    requires { IsEa Size.Byte ea.now }
+    requires operand { IsEa Size.Byte ea.now }
+    requires place { IsData ea.now }
     ensures means { run P.bus (tas_of ea.now word_at space plain.old) (P.world port.old)
         ≡ (carried_in_place result ended.new plain.old plain.new, P.world port.new) }
     ensures rest { P.rest port.new ≡ P.rest port.old }
@@ -139,7 +140,8 @@ pub(crate) fn cas<P: Port>(
     port: &mut P,
     ended: &mut Ended,
 ) -> Result<(), Undone>
-    requires { IsEa size ea.now }
+    requires operand { IsEa size ea.now }
+    requires place { IsInMemory ea.now }
     ensures means { run P.bus (cas_of size ea.now word word_at space plain.old) (P.world port.old)
         ≡ (carried_in_place result ended.new plain.old plain.new, P.world port.new) }
     ensures rest { P.rest port.new ≡ P.rest port.old }

@@ -2,7 +2,7 @@
 
 ghost use Rattle.std.specs.Prelude.{◌≡◌};
 ghost use Rattle.mb_port.specs.Routine.{run};
-ghost use Rattle.mb_instr.specs.Operands.{IsEa};
+ghost use Rattle.mb_instr.specs.Operands.{IsEa, IsDestination};
 ghost use Rattle.mb_meaning.specs.Modifying.{modifying};
 ghost use Rattle.mb_ops_arith.specs.Changes.{change_of};
 ghost use Rattle.mb_operands.specs.Endings.{carried_in_place};
@@ -26,7 +26,8 @@ pub(crate) fn modify<P: Port>(
     port: &mut P,
     ended: &mut Ended,
 ) -> Result<(), Undone>
-    requires { IsEa size ea.now }
+    requires operand { IsEa size ea.now }
+    requires destination { IsDestination ea.now }
     ensures means { run P.bus (modifying (change_of change size) size ea.now word_at space plain.old) (P.world port.old)
         ≡ (carried_in_place result ended.new plain.old plain.new, P.world port.new) }
     ensures rest { P.rest port.new ≡ P.rest port.old }

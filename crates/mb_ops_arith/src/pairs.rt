@@ -1,14 +1,15 @@
 //! Rows of a source and a destination.
 
-ghost use Rattle.std.specs.Prelude.{◌≡◌, ◌<◌, IfOk};
+ghost use Rattle.std.specs.Prelude.{◌≡◌, ◌<◌, IfOk, true};
 ghost use Rattle.mb_port.specs.Routine.{run};
-ghost use Rattle.mb_instr.specs.Operands.{IsEa, IsImmediate};
+ghost use Rattle.mb_instr.specs.Operands.{IsEa, IsImmediate, IsDestination};
 ghost use Rattle.mb_instr.specs.declared.operand.Ea.TheVariants.{Imm};
 ghost use Rattle.mb_operands.specs.Fetched.{IsOperand};
 ghost use Rattle.mb_meaning.specs.Arithmetic.{pair_of, combining, comparing, either_way, chaining};
 ghost use Rattle.mb_ops_arith.specs.Changes.{operation_of};
 ghost use Rattle.mb_ops_arith.specs.Pairs.{paired};
 ghost use Rattle.mb_operands.specs.Endings.{carried_in_place};
+ghost use Rattle.mb_ea.specs.Addresses.{IsPlace};
 
 use crate::operations::Operation;
 use mb_alu::compare;
@@ -43,6 +44,7 @@ pub(crate) fn fetch_pair<P: Port>(
     ensures means { run P.bus (pair_of size source.now destination.now word_at space plain.old) (P.world port.old)
         ≡ (paired result plain.new, P.world port.new) }
     ensures operand { IfOk result (λ pair. IsOperand size pair.destination) }
+    ensures place { IsDestination destination.now → IfOk result (λ pair. IsPlace pair.destination.target) }
     ensures rest { P.rest port.new ≡ P.rest port.old }
 {
     let from = fetch_operand(size, source, word_at, space, plain, port)?;
@@ -70,6 +72,7 @@ pub(crate) fn combine<P: Port>(
 ) -> Result<(), Undone>
     requires source { IsEa size source.now }
     requires destination { IsEa size destination.now }
+    requires place { IsDestination destination.now }
     ensures means { run P.bus
         (combining (operation_of operation size) size source.now destination.now word_at space plain.old)
         (P.world port.old) ≡ (carried_in_place result ended.new plain.old plain.new, P.world port.new) }
@@ -127,6 +130,7 @@ pub(crate) fn combine_either_way<P: Port>(
     ended: &mut Ended,
 ) -> Result<(), Undone>
     requires operand { IsEa size ea.now }
+    requires destination { to_memory ≡ true → IsDestination ea.now }
     requires register { register < 8 }
     ensures means { run P.bus
         (either_way (operation_of operation size) register to_memory size ea.now word_at space plain.old)
@@ -207,6 +211,7 @@ pub(crate) fn combine_immediate<P: Port>(
 ) -> Result<(), Undone>
     requires immediate { IsImmediate size immediate }
     requires operand { IsEa size ea.now }
+    requires destination { IsDestination ea.now }
     ensures means { run P.bus
         (combining (operation_of operation size) size (Imm immediate) ea.now word_at space plain.old)
         (P.world port.old) ≡ (carried_in_place result ended.new plain.old plain.new, P.world port.new) }

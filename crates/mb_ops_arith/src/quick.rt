@@ -2,7 +2,7 @@
 
 ghost use Rattle.std.specs.Prelude.{◌≡◌, ◌<◌};
 ghost use Rattle.mb_port.specs.Routine.{run};
-ghost use Rattle.mb_instr.specs.Operands.{IsEa};
+ghost use Rattle.mb_instr.specs.Operands.{IsEa, IsDestination};
 ghost use Rattle.mb_meaning.specs.Arithmetic.{quick_of};
 ghost use Rattle.mb_ops_arith.specs.Changes.{moved_of, sum_of};
 ghost use Rattle.mb_operands.specs.Endings.{carried_in_place};
@@ -27,7 +27,8 @@ pub(crate) fn combine_quick<P: Port>(
     port: &mut P,
     ended: &mut Ended,
 ) -> Result<(), Undone>
-    requires { IsEa size ea.now }
+    requires operand { IsEa size ea.now }
+    requires destination { IsDestination ea.now }
     ensures means { run P.bus
         (quick_of (sum_of sum size quick) (λ address. moved_of sum address quick) size ea.now word_at space plain.old)
         (P.world port.old) ≡ (carried_in_place result ended.new plain.old plain.new, P.world port.new) }
@@ -42,16 +43,7 @@ pub(crate) fn combine_quick<P: Port>(
         }
         None => {
             let change = Change::By(Operation::Sum(sum), quick);
-            modify(
-                change,
-                size,
-                ea,
-                word_at,
-                space,
-                plain,
-                port,
-                ended,
-            )
+            modify(change, size, ea, word_at, space, plain, port, ended)
         }
     }
 }

@@ -2,7 +2,7 @@
 
 ghost use Rattle.std.specs.Prelude.{◌≡◌, ◌<◌, false, OnErr};
 ghost use Rattle.mb_port.specs.Routine.{run};
-ghost use Rattle.mb_instr.specs.Operands.{IsEa};
+ghost use Rattle.mb_instr.specs.Operands.{IsEa, IsInMemory};
 ghost use Rattle.mb_alu.specs.Signs.{signed_of};
 ghost use Rattle.mb_meaning.specs.Ends.{performed_by};
 ghost use Rattle.mb_meaning.specs.Bounds.{checked, chk_of, checked_carry, chk2_of};
@@ -110,7 +110,8 @@ pub fn check_bounds<P: Port>(
     port: &mut P,
     ended: &mut Ended,
 ) -> Result<bool, Undone>
-    requires { IsEa size ea.now }
+    requires operand { IsEa size ea.now }
+    requires place { IsInMemory ea.now }
     ensures means { run P.bus (chk2_of size ea.now word word_at space plain.old) (P.world port.old)
         ≡ (performed_in_place result ended.new plain.old plain.new, P.world port.new) }
     ensures rest { P.rest port.new ≡ P.rest port.old }

@@ -2,7 +2,7 @@
 
 ghost use Rattle.std.specs.Prelude.{◌≡◌};
 ghost use Rattle.mb_port.specs.Routine.{run};
-ghost use Rattle.mb_instr.specs.Operands.{IsEa};
+ghost use Rattle.mb_instr.specs.Operands.{IsEa, IsInMemory};
 ghost use Rattle.mb_meaning.specs.Flow.{jmp_of, jsr_of};
 ghost use Rattle.mb_operands.specs.Endings.{performed_in_place};
 
@@ -23,7 +23,8 @@ pub fn jump<P: Port>(
     port: &mut P,
     ended: &mut Ended,
 ) -> Result<bool, Undone>
-    requires { IsEa Size.Long ea.now }
+    requires operand { IsEa Size.Long ea.now }
+    requires place { IsInMemory ea.now }
     ensures means { run P.bus (jmp_of ea.now word_at space plain.old) (P.world port.old)
         ≡ (performed_in_place result ended.new plain.old plain.new, P.world port.new) }
     ensures rest { P.rest port.new ≡ P.rest port.old }
@@ -48,7 +49,8 @@ pub fn jump_to_subroutine<P: Port>(
     port: &mut P,
     ended: &mut Ended,
 ) -> Result<bool, Undone>
-    requires { IsEa Size.Long ea.now }
+    requires operand { IsEa Size.Long ea.now }
+    requires place { IsInMemory ea.now }
     ensures means { run P.bus (jsr_of ea.now word_at space plain.old) (P.world port.old)
         ≡ (performed_in_place result ended.new plain.old plain.new, P.world port.new) }
     ensures rest { P.rest port.new ≡ P.rest port.old }

@@ -2,7 +2,7 @@
 
 ghost use Rattle.std.specs.Prelude.{◌≡◌, ◌<◌, ◌^◌};
 ghost use Rattle.mb_port.specs.Routine.{run};
-ghost use Rattle.mb_instr.specs.Operands.{IsEa};
+ghost use Rattle.mb_instr.specs.Operands.{IsEa, IsDestination};
 ghost use Rattle.mb_meaning.specs.Moves.{to_ccr_of, from_ccr_of, byte_of, scc_of};
 ghost use Rattle.mb_operands.specs.Endings.{carried_in_place};
 
@@ -48,7 +48,8 @@ pub fn move_from_ccr<P: Port>(
     port: &mut P,
     ended: &mut Ended,
 ) -> Result<(), Undone>
-    requires { IsEa Size.Word ea.now }
+    requires operand { IsEa Size.Word ea.now }
+    requires destination { IsDestination ea.now }
     ensures means { run P.bus (from_ccr_of ea.now word_at space plain.old) (P.world port.old)
         ≡ (carried_in_place result ended.new plain.old plain.new, P.world port.new) }
     ensures rest { P.rest port.new ≡ P.rest port.old }
@@ -81,7 +82,8 @@ pub fn set_by_condition<P: Port>(
     port: &mut P,
     ended: &mut Ended,
 ) -> Result<(), Undone>
-    requires { IsEa Size.Byte ea.now }
+    requires operand { IsEa Size.Byte ea.now }
+    requires destination { IsDestination ea.now }
     ensures means { run P.bus (scc_of condition ea.now word_at space plain.old) (P.world port.old)
         ≡ (carried_in_place result ended.new plain.old plain.new, P.world port.new) }
     ensures rest { P.rest port.new ≡ P.rest port.old }

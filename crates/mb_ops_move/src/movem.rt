@@ -2,7 +2,7 @@
 
 ghost use Rattle.std.specs.Prelude.{◌≡◌, ◌<◌, ◌^◌};
 ghost use Rattle.mb_port.specs.Routine.{run};
-ghost use Rattle.mb_instr.specs.Operands.{IsEa};
+ghost use Rattle.mb_instr.specs.Operands.{IsEa, IsInMemory};
 ghost use Rattle.mb_writes.specs.Transfers.{IsMode};
 ghost use Rattle.mb_meaning.specs.Moves.{movem_mode, movem_of};
 ghost use Rattle.mb_operands.specs.Endings.{carried_in_place};
@@ -47,7 +47,8 @@ pub fn movem<P: Port>(
     port: &mut P,
     ended: &mut Ended,
 ) -> Result<(), Undone>
-    requires { IsEa size ea.now }
+    requires operand { IsEa size ea.now }
+    requires place { IsInMemory ea.now }
     ensures means { run P.bus (movem_of is_load size ea.now mask word_at space plain.old) (P.world port.old)
         ≡ (carried_in_place result ended.new plain.old plain.new, P.world port.new) }
     ensures rest { P.rest port.new ≡ P.rest port.old }

@@ -2,7 +2,7 @@
 
 ghost use Rattle.std.specs.Prelude.{◌≡◌, ◌<◌};
 ghost use Rattle.mb_port.specs.Routine.{run};
-ghost use Rattle.mb_instr.specs.Operands.{IsEa};
+ghost use Rattle.mb_instr.specs.Operands.{IsEa, IsInMemory, IsDestination};
 ghost use Rattle.mb_meaning.specs.Moves.{moveq_of, move_of, movea_of, lea_of};
 ghost use Rattle.mb_operands.specs.Endings.{carried_in_place};
 
@@ -38,7 +38,8 @@ pub fn move_operand<P: Port>(
     port: &mut P,
     ended: &mut Ended,
 ) -> Result<(), Undone>
-    requires destination { IsEa size destination.now }
+    requires target { IsEa size destination.now }
+    requires destination { IsDestination destination.now }
     requires source { IsEa size from.now }
     ensures means { run P.bus (move_of size destination.now from.now word_at space plain.old) (P.world port.old)
         ≡ (carried_in_place result ended.new plain.old plain.new, P.world port.new) }
@@ -98,6 +99,7 @@ pub fn load_address<P: Port>(
     ended: &mut Ended,
 ) -> Result<(), Undone>
     requires operand { IsEa Size.Long ea.now }
+    requires place { IsInMemory ea.now }
     requires register { register < 8 }
     ensures means { run P.bus (lea_of register ea.now word_at space plain.old) (P.world port.old)
         ≡ (carried_in_place result ended.new plain.old plain.new, P.world port.new) }

@@ -2,7 +2,7 @@
 
 ghost use Rattle.std.specs.Prelude.{◌≡◌, ◌<◌};
 ghost use Rattle.mb_port.specs.Routine.{run};
-ghost use Rattle.mb_instr.specs.Operands.{IsEa};
+ghost use Rattle.mb_instr.specs.Operands.{IsEa, IsInMemory};
 ghost use Rattle.mb_meaning.specs.Stack.{pea_of, link_of, unlk_of};
 ghost use Rattle.mb_operands.specs.Endings.{carried_in_place};
 
@@ -23,7 +23,8 @@ pub fn push_address<P: Port>(
     port: &mut P,
     ended: &mut Ended,
 ) -> Result<(), Undone>
-    requires { IsEa Size.Long ea.now }
+    requires operand { IsEa Size.Long ea.now }
+    requires place { IsInMemory ea.now }
     ensures means { run P.bus (pea_of ea.now word_at space plain.old) (P.world port.old)
         ≡ (carried_in_place result ended.new plain.old plain.new, P.world port.new) }
     ensures rest { P.rest port.new ≡ P.rest port.old }

@@ -4,8 +4,8 @@ ghost use Rattle.std.specs.Prelude.{◌≡◌, ◌<◌, ◌^◌, IfErr};
 ghost use Rattle.mb_port.specs.Routine.{run};
 ghost use Rattle.mb_port.specs.Flushes.{NamesPage};
 ghost use Rattle.mb_instr.specs.Sizes.{values_of};
-ghost use Rattle.mb_instr.specs.Operands.{IsEa};
-ghost use Rattle.mb_ea.specs.Addresses.{IsTarget};
+ghost use Rattle.mb_instr.specs.Operands.{IsEa, IsInMemory, IsDestination};
+ghost use Rattle.mb_ea.specs.Addresses.{IsTarget, IsMemory, IsPlace};
 ghost use Rattle.mb_meaning.specs.SystemEnds.{system_carried_by};
 ghost use Rattle.mb_system.specs.Ends.{SystemEnds};
 ghost use Rattle.mb_meaning.specs.Spaces.{function_space, taken, out_of_register, into_register, is_store, moves_of};
@@ -57,6 +57,7 @@ fn move_out<P: Port>(
     port: &mut P,
 ) -> Result<(), Ended>
     requires target { IsTarget size target }
+    requires place { IsPlace target }
     requires register { register < 16 }
     ensures means { run P.bus (out_of_register size target register plain.old cpu.old) (P.world port.old)
         ≡ (system_carried_by result cpu.new, P.world port.new) }
@@ -92,7 +93,8 @@ fn move_in<P: Port>(
     cpu: &mut Cpu,
     port: &mut P,
 ) -> Result<(), Ended>
-    requires { register < 16 }
+    requires target { IsMemory target }
+    requires register { register < 16 }
     ensures means { run P.bus (into_register size target register plain.old cpu.old) (P.world port.old)
         ≡ (system_carried_by result cpu.new, P.world port.new) }
     ensures ends { IfErr result (λ end. SystemEnds end cpu.old cpu.new) }
@@ -127,7 +129,9 @@ pub(crate) fn move_by_function_code<P: Port>(
     cpu: &mut Cpu,
     port: &mut P,
 ) -> Result<(), Ended>
-    requires { IsEa size ea.now }
+    requires operand { IsEa size ea.now }
+    requires place { IsInMemory ea.now }
+    requires destination { IsDestination ea.now }
     ensures means { run P.bus (moves_of size ea.now word word_at cpu.old) (P.world port.old)
         ≡ (system_carried_by result cpu.new, P.world port.new) }
     ensures ends { IfErr result (λ end. SystemEnds end cpu.old cpu.new) }

@@ -2,7 +2,7 @@
 
 ghost use Rattle.std.specs.Prelude.{◌≡◌, ◌<◌, IfErr};
 ghost use Rattle.mb_port.specs.Routine.{run};
-ghost use Rattle.mb_instr.specs.Operands.{IsEa};
+ghost use Rattle.mb_instr.specs.Operands.{IsEa, IsDestination};
 ghost use Rattle.mb_meaning.specs.SystemEnds.{system_performed_by, system_carried_by, with_registers};
 ghost use Rattle.mb_system.specs.Ends.{SystemEnds};
 ghost use Rattle.mb_meaning.specs.Status.{with_status, status_by, to_status_of, from_status_of, stop_of};
@@ -72,7 +72,8 @@ pub(crate) fn move_from_status<P: Port>(
     cpu: &mut Cpu,
     port: &mut P,
 ) -> Result<(), Ended>
-    requires { IsEa Size.Word ea.now }
+    requires operand { IsEa Size.Word ea.now }
+    requires destination { IsDestination ea.now }
     ensures means { run P.bus (from_status_of ea.now word_at cpu.old) (P.world port.old)
         ≡ (system_carried_by result cpu.new, P.world port.new) }
     ensures ends { IfErr result (λ end. SystemEnds end cpu.old cpu.new) }

@@ -2,7 +2,7 @@
 
 use crate::perform_system;
 use mb_decode::{Decoded, decode};
-use mb_instr::{ControlRegister, Instr, Regs};
+use mb_instr::{ControlRegister, Instr, Regs, System};
 use mb_model::Cpu;
 use mb_port::{Mmu, Piece, Port, Space};
 use mb_vector::VectorPort;
@@ -61,10 +61,13 @@ fn memory(alloc: Global) -> Result<VectorPort, AllocError> {
     Ok(port)
 }
 
-/// Carries out the privileged instruction that the words are; `None` where they are none.
+/// Carries out the privileged instruction that the words are; `None` where they are none, and for RTE.
 fn performed(words: &[u16], cpu: &mut Cpu, port: &mut VectorPort) -> Option<Ended> {
     match &decode(words) {
         Decoded::Whole(Instr::System(instruction), length) => {
+            if let System::Rte = instruction {
+                return None;
+            }
             cpu.regs.pc = AT.wrapping_add(2 * u32::from(*length));
             Some(perform_system(instruction, AT, cpu, port))
         }
@@ -213,7 +216,10 @@ fn control_registers_by_hand(rt: HostRuntime) -> Result<(), AllocError> {
     for (code, kept) in CONTROL {
         let mut port = memory(rt.alloc())?;
         let mut cpu = supervisor();
-        let named = ControlRegister::of(code).map(|register| (register.code(), register.kept_bits()));
+        let named = ControlRegister::of(code).map(|register| (
+            register.code(),
+            register.kept_bits(),
+        ));
         assert_eq!(rt; named, Some((code, kept)));
         let old = held(code, &cpu, &port);
         // From the control register to D1, and then to it from D2, which is all ones, and from D1 again.
