@@ -1,7 +1,7 @@
 -- A run by its first step.
 use Rattle.std.proofs.Common.{◌≡◌, ℕ, zero, suc, true, false, refl, ap}
 use Rattle.mb_model.specs.Keeping.{Rule}
-use Rattle.mb_meaning.specs.declared.StepEnd.{StepEnd}
+use Rattle.mb_meaning.specs.declared.Finish.{Finish}
 use Rattle.mb_machine.specs.Machine.{Entries, Machine, stepping, stepped, takes_steps, run_of}
 
 -- a step is taken, and the rest of the run follows
@@ -21,6 +21,6 @@ unfolding run_of
 run_of-zero rule script m s e = rw (e, run_of) refl
 
 -- what a step leaves is the machine after it
-pub stepped-by : (rule : Rule) (script : Entries) (s : Machine) (ended : StepEnd) (t : Machine) → (ended, t) ≡ stepping rule script s
+pub stepped-by : (rule : Rule) (script : Entries) (s : Machine) (finish : Finish) (t : Machine) → (finish, t) ≡ stepping rule script s
     → t ≡ stepped rule script s
-stepped-by rule script s ended t h = ap (λ (r : StepEnd × Machine). r.1) h
+stepped-by rule script s finish t h = ap (λ (r : Finish × Machine). r.1) h

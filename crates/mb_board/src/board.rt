@@ -4,7 +4,8 @@ ghost use Rattle.std.specs.Prelude.{◌≡◌, ℕ, ◌+◌, ◌^◌, ◌<◌, �
 ghost use Rattle.mb_model.specs.Keeping.{rule_a};
 ghost use Rattle.mb_model.specs.Seen.{seen_of};
 ghost use Rattle.mb_walk.specs.Memory.{overwritten};
-ghost use Rattle.mb_machine.specs.Machine.{Machine, reset_with, run_of, seen_machine, stepping, with_ram};
+ghost use Rattle.mb_meaning.specs.Raise.{step_end};
+ghost use Rattle.mb_machine.specs.Machine.{Machine, reset_with, run_of, seen_machine, stepped, stepping, with_ram};
 ghost use Rattle.mb_machine.specs.Machine.{state_after, takes_steps};
 ghost use Rattle.vm_meaning.specs.Free.{IsFreeRun};
 ghost use Rattle.mb_board.specs.Arrivals.{IsNext};
@@ -12,11 +13,11 @@ ghost use Rattle.mb_board.specs.Arrivals.{IsNext};
 use crate::bus::BoardBus;
 use crate::receiving::{place_behind, receive};
 use mb_devices::Devices;
-use mb_meaning::StepEnd;
+use mb_meaning::{Finish, StepEnd};
 use mb_model::{Cpu, Outcome, RunState};
 use mb_outside::Memory;
 use mb_script::Script;
-use mb_step::step;
+use mb_step::step_to_finish;
 use mb_table::FirstWords;
 use mb_walk::Ram;
 use std::alloc::Global;
@@ -115,12 +116,12 @@ impl Board {
     /// The state after a step that ended so.
     #[inline(always)]
     #[tactic(auto, unfolding(mb_machine::specs::Machine::state_after))]
-    fn state_after(&self, end: StepEnd) -> RunState
-        ensures { result ≡ state_after end self.now.cpu self.now.world.devices }
+    fn state_after(&self, finish: Finish) -> RunState
+        ensures { result ≡ state_after finish self.now.cpu self.now.world.devices }
     {
-        match end {
-            StepEnd::Halted => RunState::Halted,
-            StepEnd::Went | StepEnd::Idle => {
+        match finish {
+            Finish::Halted => RunState::Halted,
+            Finish::Went | Finish::Entered(_) | Finish::Idle => {
                 if self.bus.is_off() {
                     RunState::Off
                 } else if self.cpu.stopped {
@@ -136,7 +137,7 @@ impl Board {
     /// this one.
     #[inline(always)]
     #[tactic(auto, unfolding(mb_machine::specs::Machine::stepping, mb_machine::specs::Machine::begun))]
-    fn step_on(&mut self, script: &Script, next: &mut u32) -> StepEnd
+    fn step_on(&mut self, script: &Script, next: &mut u32) -> Finish
         requires room { self.old.steps + 1 < 2 ^ 32 }
         requires behind { IsNext script.now self.old.steps next.old }
         ensures means { (result, self.new) ≡ stepping rule_a script.now self.old }
@@ -148,20 +149,21 @@ impl Board {
         self.steps += 1;
         self.bus.tick();
         let level = self.bus.level();
-        let end = step(&self.table, &mut self.cpu, &mut self.bus, level);
-        self.state = self.state_after(end);
-        end
+        let finish = step_to_finish(&self.table, &mut self.cpu, &mut self.bus, level);
+        self.state = self.state_after(finish);
+        finish
     }
 
     /// Takes one step, with what arrives at it by the script: the first step after a reset has number 1.
     pub fn step(&mut self, script: &Script) -> StepEnd
         requires room { self.old.steps + 1 < 2 ^ 32 }
         requires takes_steps { takes_steps self.old.state ≡ true }
-        ensures means { (result, self.new) ≡ stepping rule_a script.now self.old }
+        ensures ended { result ≡ step_end (stepping rule_a script.now self.old).0 }
+        ensures after { self.new ≡ stepped rule_a script.now self.old }
         ensures ram { length self.new.world.ram ≡ length self.old.world.ram }
     {
         let mut next = place_behind(script, self.steps);
-        self.step_on(script, &mut next)
+        self.step_on(script, &mut next).step_end()
     }
 
     /// Takes so many steps, or fewer where the machine halts or is switched off. It takes no memory. A board whose

@@ -8,8 +8,9 @@ use Rattle.mb_model.specs.declared.outcome.RunState.TheVariants.{Running, Stoppe
 use Rattle.mb_model.specs.Keeping.{Rule, nothing_kept}
 use Rattle.mb_model.specs.Reset.{at_reset}
 use Rattle.mb_model.specs.Seen.{Seen}
-use Rattle.mb_meaning.specs.declared.StepEnd.{StepEnd}
-use Rattle.mb_meaning.specs.declared.StepEnd.TheVariants as end
+use Rattle.mb_meaning.specs.declared.Finish.{Finish}
+use Rattle.mb_meaning.specs.declared.Finish.TheVariants as finish
+use Rattle.mb_meaning.specs.Raise.{Stepped}
 use Rattle.mb_meaning.specs.Step.{step_of}
 use Rattle.mb_devices.specs.Devices.{DeviceState, idle, level_of, received, ticked}
 use Rattle.mb_devices.specs.Registers.{bit, status_of}
@@ -78,7 +79,7 @@ unfoldable pub begun : Entries → Machine → Machine
 begun script m = with_devices m (ticked (arrived (m.steps + 1) script m.world.devices))
 
 -- the processor's part of it, at the interrupt level that the devices ask for
-abbrev pub processed : Rule → Machine → (StepEnd × Cpu) × World
+abbrev pub processed : Rule → Machine → Stepped × World
 processed rule m = run (bus_of rule) (step_of (level_of m.world.devices) m.cpu) m.world
 
 -- off, stopped or running
@@ -86,22 +87,21 @@ abbrev pub going : Cpu → DeviceState → RunState
 going cpu d = if d.off then Off else if cpu.stopped then Stopped else Running
 
 -- the state after a step that ended so: a step that halts leaves it halted, also where it switches off
-unfoldable pub state_after : StepEnd → Cpu → DeviceState → RunState
-state_after end.Halted cpu d = Halted
-state_after end.Idle cpu d = going cpu d
-state_after end.Went cpu d = going cpu d
+unfoldable pub state_after : Finish → Cpu → DeviceState → RunState
+state_after finish.Halted cpu d = Halted
+state_after _ cpu d = going cpu d
 
 -- the machine one step later, with the processor and the world that the step left
-abbrev pub one_later : Machine → StepEnd → Cpu → World → Machine
+abbrev pub one_later : Machine → Finish → Cpu → World → Machine
 one_later m ended cpu w =
     record { cpu = cpu; world = w; steps = m.steps + 1; state = state_after ended cpu w.devices }
 
-abbrev pub with_end : Machine → (StepEnd × Cpu) × World → StepEnd × Machine
-with_end m r = (r.0.0, one_later m r.0.0 r.0.1 r.1)
+abbrev pub with_finish : Machine → Stepped × World → Finish × Machine
+with_finish m r = (r.0.0, one_later m r.0.0 r.0.1 r.1)
 
 -- one step: how it ended, and the machine after it
-unfoldable pub stepping : Rule → Entries → Machine → StepEnd × Machine
-stepping rule script m = with_end m (processed rule (begun script m))
+unfoldable pub stepping : Rule → Entries → Machine → Finish × Machine
+stepping rule script m = with_finish m (processed rule (begun script m))
 
 -- the machine after one step
 abbrev pub stepped : Rule → Entries → Machine → Machine

@@ -8,27 +8,38 @@ use Rattle.mb_decode.specs.declared.front.Decoded.{Decoded}
 use Rattle.mb_decode.specs.declared.front.Decoded.TheVariants.{Whole, More, Illegal, LineA, LineF}
 use Rattle.mb_decode.specs.Decodes.{decode_of}
 use Rattle.mb_ea.specs.Reading.{refused_in}
+use Rattle.mb_ea.specs.declared.reading.ReadFault.{ReadFault}
 use Rattle.mb_writes.specs.declared.ends.Ended.{Ended}
 use Rattle.mb_writes.specs.declared.ends.Ended.TheVariants as ended
 use Rattle.mb_meaning.specs.Ends.{Performed, stopped}
 use Rattle.mb_meaning.specs.Rows.{perform_of}
 
+-- why no instruction was found: none stands there, which has this vector, or the fetch of a word was refused
+pub data Unfound : Type 0 where
+  NoInstruction : ℕ → Unfound
+  Unfetched : ReadFault → Unfound
+
 -- the vectors of what is no instruction
-abbrev pub odd_counter : Ended
-odd_counter = ended.Refused 3
+abbrev pub odd_counter : Unfound
+odd_counter = NoInstruction 3
 
-abbrev pub illegal : Ended
-illegal = ended.Refused 4
+abbrev pub illegal : Unfound
+illegal = NoInstruction 4
 
-abbrev pub line_a : Ended
-line_a = ended.Refused 10
+abbrev pub line_a : Unfound
+line_a = NoInstruction 10
 
-abbrev pub line_f : Ended
-line_f = ended.Refused 11
+abbrev pub line_f : Unfound
+line_f = NoInstruction 11
 
--- an instruction and how many words it has, or how the attempt ends without one
+-- how an attempt ends without one
+abbrev pub end_without : Unfound → Ended
+end_without (NoInstruction vector) = ended.Refused vector
+end_without (Unfetched refused) = ended.ReadFault refused
+
+-- an instruction and how many words it has, or why there is none
 abbrev pub Found : Type 0
-Found = Result (Instr × ℕ) Ended
+Found = Result (Instr × ℕ) Unfound
 
 -- by what the words are so far: the instruction, what follows with more words, or why there is none
 abbrev pub judged : Decoded → Routine Found → Routine Found
@@ -43,7 +54,7 @@ judged LineF more = Return (Err line_f)
 unfoldable pub found_of : ℕ → Space → ℕ → List ℕ → Routine Found
 found_of zero space at words = Return (Err illegal)
 found_of (suc n) space at words = do
-  word ← failing (λ fault. ended.ReadFault (refused_in at fault)) (fetch space at)
+  word ← failing (λ fault. Unfetched (refused_in at fault)) (fetch space at)
   judged (decode_of (words ++ word ∷ [])) (found_of n space ((at + 2) % 2 ^ 32) (words ++ word ∷ []))
 
 -- no instruction has more words
@@ -61,7 +72,8 @@ past n p = record p { pc = (p.pc + 2 * n) % 2 ^ 32 }
 -- what of a fetched instruction is done, as an instruction's own routine answers it
 abbrev pub attempted : Space → Plain → Routine Found → Routine Performed
 attempted space p found =
-    caught found (λ end. Return (stopped end p)) (λ found. perform_of found.0 p.pc space (past found.1 p))
+    caught found (λ unfound. Return (stopped (end_without unfound) p))
+    (λ found. perform_of found.0 p.pc space (past found.1 p))
 
 -- The attempt: an instruction is fetched at PC, decoded and carried out, all accesses in this space. A privileged one
 -- is not carried out.

@@ -11,11 +11,23 @@ use Rattle.mb_meaning.specs.declared.entering.Entered.{Entered}
 use Rattle.mb_meaning.specs.declared.entering.Entered.TheVariants as entered
 use Rattle.mb_meaning.specs.declared.StepEnd.{StepEnd}
 use Rattle.mb_meaning.specs.declared.StepEnd.TheVariants as step
+use Rattle.mb_meaning.specs.declared.Finish.{Finish}
+use Rattle.mb_meaning.specs.declared.Finish.TheVariants as finish
 use Rattle.mb_meaning.specs.Entry.{enter_of}
 
 -- how a step ended, and the processor then
 abbrev pub Stepped : Type 0
-Stepped = StepEnd × Cpu
+Stepped = Finish × Cpu
+
+-- the same without a word of exceptions
+abbrev pub step_end : Finish → StepEnd
+step_end finish.Went = step.Went
+step_end (finish.Entered vector) = step.Went
+step_end finish.Idle = step.Idle
+step_end finish.Halted = step.Halted
+
+abbrev pub by_its_end : {S : Type 0} → Stepped × S → (StepEnd × Cpu) × S
+by_its_end stepped = ((step_end stepped.0.0, stepped.0.1), stepped.1)
 
 -- ---- trace bits
 
@@ -43,10 +55,10 @@ with_ct due access = if due then record access { ssw = bit_or access.ssw (2 ^ 13
 abbrev pub access_cause : ℕ → Access → Cause
 access_cause pc access = record { vector = 2; pc = pc; address = 0; access = Some access; level = 0 }
 
--- an entry that ends the step
-abbrev pub ends_step : Entered → StepEnd
-ends_step entered.Done = step.Went
-ends_step _ = step.Halted
+-- the entry of an access error, which ends the step
+abbrev pub ends_step : Entered → Finish
+ends_step entered.Done = finish.Entered 2
+ends_step _ = finish.Halted
 
 -- An access error is entered with this PC and these fields. Where its own frame has no place the processor halts.
 unfoldable pub access_error_of : ℕ → Access → Cpu → Routine Stepped
@@ -69,16 +81,16 @@ abbrev pub raised : Bool → Cpu → Entered → Cpu → Routine Raised
 raised is_trace kept entered.Done cpu = Return (Ok cpu)
 raised is_trace kept (entered.Faulted fault) cpu =
     Then (unchecked_of is_trace fault kept) (λ stepped. Return (Err stepped))
-raised is_trace kept entered.DoubleFault cpu = Return (Err (step.Halted, cpu))
+raised is_trace kept entered.DoubleFault cpu = Return (Err (finish.Halted, cpu))
 
 -- An exception is entered: a trace, or any other one but an access error. `kept` is the processor as an access error
 -- in its place finds it.
 unfoldable pub raise_of : Bool → Cause → Cpu → Cpu → Routine Raised
 raise_of is_trace c kept cpu = Then (enter_of c cpu) (λ entrance. raised is_trace kept entrance.0 entrance.1)
 
--- an exception that ends the step
-abbrev pub last : Routine Raised → Routine Stepped
-last m = caught m (λ stepped. Return stepped) (λ cpu. Return (step.Went, cpu))
+-- the exception of this vector, which ends the step
+abbrev pub last : ℕ → Routine Raised → Routine Stepped
+last vector m = caught m (λ stepped. Return stepped) (λ cpu. Return (finish.Entered vector, cpu))
 
 -- ---- interrupts
 
@@ -87,7 +99,7 @@ interrupt_cause level pc = record { vector = 24 + level; pc = pc; address = 0; a
 
 -- The entry of an interrupt. Where its frames have no place no register has changed.
 unfoldable pub interrupt_of : ℕ → Cpu → Routine Stepped
-interrupt_of level cpu = last (raise_of false (interrupt_cause level cpu.regs.pc) cpu cpu)
+interrupt_of level cpu = last (24 + level) (raise_of false (interrupt_cause level cpu.regs.pc) cpu cpu)
 
 -- ---- exceptions of instructions
 
@@ -96,11 +108,11 @@ cause_at vector pc address = record { vector = vector; pc = pc; address = addres
 
 -- Trace: the frame has the PC now, and the address of the instruction. It is the last exception of a step.
 unfoldable pub trace_of : ℕ → Cpu → Routine Stepped
-trace_of address cpu = last (raise_of true (cause_at 9 cpu.regs.pc address) cpu cpu)
+trace_of address cpu = last 9 (raise_of true (cause_at 9 cpu.regs.pc address) cpu cpu)
 
--- a trace of the instruction at an address, where it is due
-abbrev pub tracing_of : Bool → ℕ → Cpu → Routine Stepped
-tracing_of due address cpu = choose due (trace_of address cpu) (Return (step.Went, cpu))
+-- a trace of the instruction at an address, where it is due; else the step ends so
+abbrev pub tracing_of : Finish → Bool → ℕ → Cpu → Routine Stepped
+tracing_of so_far due address cpu = choose due (trace_of address cpu) (Return (so_far, cpu))
 
 -- An instruction traps: the frame has the next PC, and the address of the instruction. T1 asks for a trace behind it,
 -- with the handler's PC. Where the frame has no place all registers are as before the instruction.
@@ -109,11 +121,11 @@ trap_of vector before cpu =
     let at = before.regs.pc in
     caught (raise_of false (cause_at vector cpu.regs.pc at) before cpu)
     (λ stepped. Return stepped)
-    (λ handler. tracing_of (traces_all before.regs.sr) at handler)
+    (λ handler. tracing_of (finish.Entered vector) (traces_all before.regs.sr) at handler)
 
 -- An instruction is not carried out: the frame has its own PC, and for an odd PC the even address below. All registers
 -- are as before, and no trace is due.
 unfoldable pub refused_of : ℕ → Cpu → Routine Stepped
 refused_of vector before =
     let at = before.regs.pc in
-    last (raise_of false (cause_at vector at (at - at % 2)) before before)
+    last vector (raise_of false (cause_at vector at (at - at % 2)) before before)

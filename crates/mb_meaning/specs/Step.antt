@@ -21,13 +21,13 @@ use Rattle.mb_writes.specs.declared.ends.WriteFault.{WriteFault}
 use Rattle.mb_writes.specs.declared.ends.MovemFault.{MovemFault}
 use Rattle.mb_writes.specs.declared.ends.Ended.{Ended}
 use Rattle.mb_writes.specs.declared.ends.Ended.TheVariants as ended
-use Rattle.mb_meaning.specs.declared.StepEnd.TheVariants as step
+use Rattle.mb_meaning.specs.declared.Finish.TheVariants as finish
 use Rattle.mb_meaning.specs.Ends.{closing}
 use Rattle.mb_meaning.specs.SystemEnds.{with_registers, system_closing}
 use Rattle.mb_meaning.specs.System.{perform_system_of}
 use Rattle.mb_meaning.specs.Return.{Held, continues, return_of, holding}
 use Rattle.mb_meaning.specs.Rows.{perform_of}
-use Rattle.mb_meaning.specs.Attempt.{past, fetched_of}
+use Rattle.mb_meaning.specs.Attempt.{Unfound, NoInstruction, Unfetched, past, fetched_of}
 use Rattle.mb_meaning.specs.Raise.{Stepped, traces_all, is_due, has_ct, with_ct, access_error_of, interrupt_of}
 use Rattle.mb_meaning.specs.Raise.{tracing_of, trap_of, refused_of}
 
@@ -87,7 +87,7 @@ is_flow _ = false
 -- The finish of an instruction that ended so, by the processor before it and after it. Whether a trace is due is said
 -- by the bits before it.
 unfoldable pub finish_of : Instr → Ended → Cpu → Cpu → Routine Stepped
-finish_of i (ended.Done flow) before cpu = tracing_of (is_due before.regs.sr flow) before.regs.pc cpu
+finish_of i (ended.Done flow) before cpu = tracing_of finish.Went (is_due before.regs.sr flow) before.regs.pc cpu
 finish_of i (ended.Trap vector) before cpu = trap_of vector before cpu
 finish_of i (ended.Refused vector) before cpu = refused_of vector before
 finish_of i (ended.ReadFault refused) before cpu = unread_of refused before
@@ -118,7 +118,7 @@ untransferred_again_of due refused held cpu =
 abbrev pub finish_return_of : Ended → Held → Cpu → Cpu → Routine Stepped
 finish_return_of (ended.Done flow) held before cpu =
     let asked = is_due before.regs.sr flow in
-    tracing_of (asked || is_due_by held cpu) (if asked then before.regs.pc else held.pc) cpu
+    tracing_of finish.Went (asked || is_due_by held cpu) (if asked then before.regs.pc else held.pc) cpu
 finish_return_of (ended.Movem refused) held before cpu =
     untransferred_again_of (is_due before.regs.sr true) refused held cpu
 finish_return_of end held before cpu = finish_of (instr.System system.Rte) end before cpu
@@ -153,17 +153,16 @@ executed_of (instr.System i) n cpu =
     choose (is_supervisor cpu.regs.sr) (supervised_of i n cpu) (refused_of 8 cpu)
 executed_of i n cpu = unprivileged_of i n cpu
 
--- No instruction was found, or the fetch of a word was refused. Nothing else ends a fetch.
-unfoldable pub unfound_of : Ended → Cpu → Routine Stepped
-unfound_of (ended.Refused vector) cpu = refused_of vector cpu
-unfound_of (ended.ReadFault refused) cpu = unread_of refused cpu
-unfound_of _ cpu = Return (step.Went, cpu)
+-- no instruction was found
+unfoldable pub unfound_of : Unfound → Cpu → Routine Stepped
+unfound_of (NoInstruction vector) cpu = refused_of vector cpu
+unfound_of (Unfetched refused) cpu = unread_of refused cpu
 
 -- An instruction is fetched at PC, one word at a time, and carried out.
 unfoldable pub instruction_of : Cpu → Routine Stepped
 instruction_of cpu =
     caught (fetched_of (space_of cpu) cpu.regs.pc)
-    (λ end. unfound_of end cpu)
+    (λ unfound. unfound_of unfound cpu)
     (λ found. executed_of found.0 found.1 cpu)
 
 -- ---- a step
@@ -177,8 +176,8 @@ interrupt_mask cpu = cpu.regs.sr / 2 ^ 8 % 2 ^ 3
 unfoldable pub step_of : ℕ → Cpu → Routine Stepped
 step_of level cpu =
     choose (nat_lt (interrupt_mask cpu) level) (interrupt_of level cpu)
-    (choose cpu.stopped (Return (step.Idle, cpu)) (instruction_of cpu))
+    (choose cpu.stopped (Return (finish.Idle, cpu)) (instruction_of cpu))
 
 -- The processor halts at the step: the frame of an access error has no place, or a vector can't be read.
 abbrev pub Halts : {S : Type 0} → Bus S → ℕ → Cpu → S → Type 0
-Halts bus level cpu s = (run bus (step_of level cpu) s).0.0 ≡ step.Halted
+Halts bus level cpu s = (run bus (step_of level cpu) s).0.0 ≡ finish.Halted

@@ -6,6 +6,7 @@ use Rattle.mb_instr.specs.declared.registers.Plain.{Plain}
 use Rattle.mb_instr.specs.declared.registers.Regs.{Regs}
 use Rattle.mb_instr.specs.Registers.{with_plain}
 use Rattle.mb_model.specs.declared.processor.Cpu.{Cpu}
+use Rattle.mb_meaning.specs.declared.Finish.TheVariants as finish
 use Rattle.mb_meaning.specs.declared.entering.Cause.{Cause}
 use Rattle.mb_meaning.specs.declared.entering.Entered.TheVariants as entered
 use Rattle.mb_meaning.specs.Entry.{Entrance, awake, enter_of}
@@ -30,10 +31,10 @@ before_again cpu left exchanged back q again o r k =
     ap (holding back) o ∙ ap (λ (r : Regs). record cpu { regs = r; stopped = false }) (k ∙ ap (λ (r : Regs). with_plain r q) r ∙ again)
 
 -- what follows the entry of an instruction that traps
-abbrev entered_trap : {S : Type 0} → Bus S → Cpu → Entrance × S → Stepped × S
-entered_trap bus before entrance = run bus
+abbrev entered_trap : {S : Type 0} → Bus S → ℕ → Cpu → Entrance × S → Stepped × S
+entered_trap bus vector before entrance = run bus
     (caught (raised false before entrance.0.0 entrance.0.1) (λ stepped. Return stepped)
-    (λ handler. tracing_of (traces_all before.regs.sr) before.regs.pc handler)) entrance.1
+    (λ handler. tracing_of (finish.Entered vector) (traces_all before.regs.sr) before.regs.pc handler)) entrance.1
 
 -- An instruction traps, and its frame has no place. `exchanged` are the registers after the instruction, `left` is the
 -- processor as the entry left it, and `back` are the registers that were put back.
@@ -46,7 +47,7 @@ pub trap_unchecked : {S : Type 0} (bus : Bus S) (vector : ℕ) (before left : Cp
     → run bus (trap_of vector before (with_registers p before)) s ≡ stepped
 unfolding trap_of raise_of
 trap_unchecked bus vector before left exchanged back p q c fault s t stepped e again is h o r k u =
-    ap (entered_trap bus before)
+    ap (entered_trap bus vector before)
     (ap (λ (x : Regs). run bus (enter_of (cause_at vector x.pc before.regs.pc) (holding x before)) s) (sym e)
     ∙ ap (λ (x : Cause). run bus (enter_of x (holding exchanged before)) s) (sym is) ∙ h)
     ∙ sym (unchecked_awake bus false fault before t)

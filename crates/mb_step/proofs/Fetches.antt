@@ -11,11 +11,10 @@ use Rattle.mb_decode.specs.declared.front.Decoded.{Decoded}
 use Rattle.mb_decode.specs.declared.front.Decoded.TheVariants.{Whole}
 use Rattle.mb_decode.specs.Decodes.{decode_of}
 use Rattle.mb_ea.specs.Reading.{refused_in}
-use Rattle.mb_writes.specs.declared.ends.Ended.TheVariants as ended
-use Rattle.mb_meaning.specs.Attempt.{Found, illegal, found_of, fetched_of, judged, most_words}
+use Rattle.mb_meaning.specs.Attempt.{NoInstruction, Unfetched, Found, illegal, found_of, fetched_of, judged, most_words}
 use Rattle.mb_meaning.specs.Raise.{Stepped, refused_of}
 use Rattle.mb_meaning.specs.Step.{unread_of, unfound_of, executed_of, instruction_of}
-use Rattle.mb_meaning.specs.declared.StepEnd.{StepEnd}
+use Rattle.mb_meaning.specs.declared.Finish.{Finish}
 use Rattle.mb_step.specs.Fetching.{Sought, sought_of}
 
 abbrev Answered : {S : Type 0} → Bus S → Space → ℕ → S → Result ℕ Fault → S → Type 0
@@ -31,7 +30,7 @@ fetched bus m n space at words word s t now d e h w k = rw (e, found_of, h, k, w
 -- no word came
 unfetched : {S : Type 0} (bus : Bus S) (m n : ℕ) (space : Space) (at : ℕ) (words : List ℕ) (fault : Fault) (s t : S) → m ≡ suc n
     → Answered bus space at s (Err fault) t
-    → run bus (found_of m space at words) s ≡ (Err (ended.ReadFault (refused_in at fault)), t)
+    → run bus (found_of m space at words) s ≡ (Err (Unfetched (refused_in at fault)), t)
 unfolding found_of
 unfetched bus m n space at words fault s t e h = rw (e, found_of, h) refl
 
@@ -78,7 +77,7 @@ seeking_no_more bus cpu q m space at words s stepped e k r =
 -- no instruction begins so
 pub seeking_none : {S : Type 0} (bus : Bus S) (cpu q : Cpu) (vector : ℕ) (t : S) (stepped : Stepped × S)
     → q ≡ cpu → run bus (refused_of vector q) t ≡ stepped
-    → run bus (sought_of cpu (Return (Err (ended.Refused vector)))) t ≡ ending stepped
+    → run bus (sought_of cpu (Return (Err (NoInstruction vector)))) t ≡ ending stepped
 unfolding unfound_of
 seeking_none bus cpu q vector t stepped k r = ap ending (rw (sym k) r)
 
@@ -92,7 +91,7 @@ seeking_whole bus cpu q more t d i n h k = rw (h, k) refl
 
 -- it is carried out once it is found
 abbrev pub found_executed : Cpu → Routine Found → Routine Stepped
-found_executed cpu found = caught found (λ end. unfound_of end cpu) (λ found. executed_of found.0 found.1 cpu)
+found_executed cpu found = caught found (λ unfound. unfound_of unfound cpu) (λ found. executed_of found.0 found.1 cpu)
 
 -- what is done with an answer of the fetch
 abbrev pub doing : {S : Type 0} → Bus S → Cpu → Found × S → Stepped × S
@@ -104,7 +103,7 @@ behind cpu word = found_of (most_words - 1) (space_of cpu) ((cpu.regs.pc + 2) % 
 
 -- it begins no instruction
 pub begins_none : {S : Type 0} (bus : Bus S) (cpu : Cpu) (vector : ℕ) (t : S)
-    → run bus (found_executed cpu (Return (Err (ended.Refused vector)))) t ≡ run bus (refused_of vector cpu) t
+    → run bus (found_executed cpu (Return (Err (NoInstruction vector)))) t ≡ run bus (refused_of vector cpu) t
 unfolding unfound_of
 begins_none bus cpu vector t = refl
 
@@ -114,7 +113,7 @@ pub is_whole : {S : Type 0} (bus : Bus S) (cpu : Cpu) (more : Routine Found) (t 
 is_whole bus cpu more t d i n h = rw (h) refl
 
 -- what follows an answer: the instruction is carried out, or the step has ended
-abbrev pub carried : {S : Type 0} → Bus S → Result (Instr × ℕ) StepEnd → Cpu → S → Stepped × S
+abbrev pub carried : {S : Type 0} → Bus S → Result (Instr × ℕ) Finish → Cpu → S → Stepped × S
 carried bus (Ok found) cpu s = run bus (executed_of found.0 found.1 cpu) s
 carried bus (Err end) cpu s = ((end, cpu), s)
 
@@ -124,7 +123,7 @@ carried_on bus cpu (Ok found) s = refl
 carried_on bus cpu (Err end) s = refl
 
 -- it has more words, and these were sought, with this answer
-pub has_more : {S : Type 0} (bus : Bus S) (cpu q : Cpu) (word : ℕ) (s t : S) (answer : Result (Instr × ℕ) StepEnd)
+pub has_more : {S : Type 0} (bus : Bus S) (cpu q : Cpu) (word : ℕ) (s t : S) (answer : Result (Instr × ℕ) Finish)
     → run bus (sought_of cpu (behind cpu word)) s ≡ ((answer, q), t) → run bus (found_executed cpu (behind cpu word)) s ≡ carried bus answer q t
 has_more bus cpu q word s t answer h =
     carried_on bus cpu (run bus (behind cpu word) s).0 (run bus (behind cpu word) s).1

@@ -1,4 +1,3 @@
 pub mod Fetches
-pub mod Attempts
 pub mod Entries
 pub mod Finishes

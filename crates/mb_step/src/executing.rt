@@ -9,12 +9,12 @@ ghost use Rattle.mb_meaning.specs.SystemEnds.{with_registers};
 ghost use Rattle.mb_operands.specs.Endings.{end_of, with_end};
 ghost use Rattle.mb_meaning.specs.Step.{finish_of, supervised_of, unprivileged_of, executed_of};
 
-use crate::finishing::{finish, finish_unfinished, finish_unread};
+use crate::finishing::{finish_instruction, finish_unfinished, finish_unread};
 use crate::performing::perform;
 use crate::raising::{is_due, refuse, trace_if};
 use crate::returning::return_from_exception;
 use mb_instr::{Instr, Plain, System};
-use mb_meaning::StepEnd;
+use mb_meaning::Finish;
 use mb_model::Cpu;
 use mb_operands::Undone;
 use mb_port::Port;
@@ -27,11 +27,11 @@ const PRIVILEGED: u8 = 8;
 /// Carries out a privileged instruction of so many words in supervisor mode.
 #[inline(never)]
 #[tactic(auto, unfolding(mb_meaning::specs::Step::supervised_of, mb_meaning::specs::Step::finish_of))]
-fn execute_supervised<P: Port>(system: &System, length: u8, cpu: &mut Cpu, port: &mut P) -> StepEnd
+fn execute_supervised<P: Port>(system: &System, length: u8, cpu: &mut Cpu, port: &mut P) -> Finish
     requires { IsInstr (instr.System system.now) }
     ensures means { run P.bus (supervised_of system.now length cpu.old) (P.world port.old)
         ≡ ((result, cpu.new), P.world port.new) }
-    ensures busy { result ≢ StepEnd.Idle }
+    ensures busy { result ≢ Finish.Idle }
     ensures rest { P.rest port.new ≡ P.rest port.old }
 {
     if let System::Rte = system {
@@ -40,7 +40,7 @@ fn execute_supervised<P: Port>(system: &System, length: u8, cpu: &mut Cpu, port:
     let (at, sr) = (cpu.regs.pc, cpu.regs.sr);
     cpu.regs.pc = at.wrapping_add(2 * u32::from(length));
     match perform_system(system, at, cpu, port) {
-        Ended::Done { flow } => trace_if(is_due(sr, flow), at, cpu, port),
+        Ended::Done { flow } => trace_if(Finish::Went, is_due(sr, flow), at, cpu, port),
         Ended::Refused(vector) => {
             cpu.regs.pc = at;
             refuse(vector, cpu, port)
@@ -64,11 +64,11 @@ fn finish_plain<P: Port>(
     plain: &mut Plain,
     cpu: &mut Cpu,
     port: &mut P,
-) -> StepEnd
+) -> Finish
     requires { IsInstr instruction.now }
     ensures means { run P.bus (finish_of instruction.now (end_of (with_end done ended.now)) cpu.old
         (with_registers plain.old cpu.old)) (P.world port.old) ≡ ((result, cpu.new), P.world port.new) }
-    ensures busy { result ≢ StepEnd.Idle }
+    ensures busy { result ≢ Finish.Idle }
     ensures rest { P.rest port.new ≡ P.rest port.old }
 {
     match done {
@@ -76,9 +76,9 @@ fn finish_plain<P: Port>(
             let due = is_due(cpu.regs.sr, flow);
             let at = cpu.regs.pc;
             cpu.regs.set_plain(plain);
-            trace_if(due, at, cpu, port)
+            trace_if(Finish::Went, due, at, cpu, port)
         }
-        Err(_) => finish(instruction, ended, plain, cpu, port),
+        Err(_) => finish_instruction(instruction, ended, plain, cpu, port),
     }
 }
 
@@ -90,11 +90,11 @@ fn execute_unprivileged<P: Port>(
     length: u8,
     cpu: &mut Cpu,
     port: &mut P,
-) -> StepEnd
+) -> Finish
     requires { IsInstr instruction.now }
     ensures means { run P.bus (unprivileged_of instruction.now length cpu.old) (P.world port.old)
         ≡ ((result, cpu.new), P.world port.new) }
-    ensures busy { result ≢ StepEnd.Idle }
+    ensures busy { result ≢ Finish.Idle }
     ensures rest { P.rest port.new ≡ P.rest port.old }
 {
     let mut plain = cpu.regs.plain();
@@ -115,11 +115,11 @@ pub(crate) fn execute<P: Port>(
     length: u8,
     cpu: &mut Cpu,
     port: &mut P,
-) -> StepEnd
+) -> Finish
     requires { IsInstr instruction.now }
     ensures means { run P.bus (executed_of instruction.now length cpu.old) (P.world port.old)
         ≡ ((result, cpu.new), P.world port.new) }
-    ensures busy { result ≢ StepEnd.Idle }
+    ensures busy { result ≢ Finish.Idle }
     ensures rest { P.rest port.new ≡ P.rest port.old }
 {
     match instruction {

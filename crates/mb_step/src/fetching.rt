@@ -16,7 +16,7 @@ use arrayvec::ArrayVec;
 use mb_decode::{Decoded, Decoding, decode_into};
 use mb_ea::ReadFault;
 use mb_instr::{Flow, Instr};
-use mb_meaning::StepEnd;
+use mb_meaning::Finish;
 use mb_model::Cpu;
 use mb_port::{Fault, Port};
 use mb_table::FirstWords;
@@ -38,10 +38,10 @@ const LINE_F: u8 = 11;
 
 /// After a refused fetch: that of a read whose operand is the word itself.
 #[inline(never)]
-fn finish_unfetched<P: Port>(fault: Fault, at: u32, cpu: &mut Cpu, port: &mut P) -> StepEnd
+fn finish_unfetched<P: Port>(fault: Fault, at: u32, cpu: &mut Cpu, port: &mut P) -> Finish
     ensures means { run P.bus (unread_of (refused_in at fault) cpu.old) (P.world port.old)
         ≡ ((result, cpu.new), P.world port.new) }
-    ensures busy { result ≢ StepEnd.Idle }
+    ensures busy { result ≢ Finish.Idle }
     ensures rest { P.rest port.new ≡ P.rest port.old }
 {
     finish_unread(&ReadFault { fault, first: at }, cpu, port)
@@ -55,13 +55,13 @@ fn fetch_longer<P: Port>(
     instruction: &mut Instr,
     cpu: &mut Cpu,
     port: &mut P,
-) -> Result<u8, StepEnd>
+) -> Result<u8, Finish>
     requires { cpu.old.regs.pc % 2 ≡ 0 }
     ensures means { run P.bus (sought_of cpu.old (found_of (most_words - 1) (space_of cpu.old)
         ((cpu.old.regs.pc + 2) % 2 ^ 32) (first ∷ []))) (P.world port.old)
         ≡ ((sought_by result instruction.new, cpu.new), P.world port.new) }
     ensures valid { IfOk result (λ n. IsInstr instruction.new) }
-    ensures busy { IfErr result (λ end. end ≢ StepEnd.Idle) }
+    ensures busy { IfErr result (λ end. end ≢ Finish.Idle) }
     ensures rest { P.rest port.new ≡ P.rest port.old }
 {
     let mut behind = ArrayVec::<u16, MOST_BEHIND>::new();
@@ -90,9 +90,9 @@ fn fetch_longer<P: Port>(
 /// are carried out by one call.
 #[inline(always)]
 #[tactic(auto, unfolding(mb_meaning::specs::Step::instruction_of))]
-pub(crate) fn execute_next<P: Port>(table: &FirstWords, cpu: &mut Cpu, port: &mut P) -> StepEnd
+pub(crate) fn execute_next<P: Port>(table: &FirstWords, cpu: &mut Cpu, port: &mut P) -> Finish
     ensures means { run P.bus (instruction_of cpu.old) (P.world port.old) ≡ ((result, cpu.new), P.world port.new) }
-    ensures busy { result ≢ StepEnd.Idle }
+    ensures busy { result ≢ Finish.Idle }
     ensures rest { P.rest port.new ≡ P.rest port.old }
 {
     let at = cpu.regs.pc;

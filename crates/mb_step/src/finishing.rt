@@ -12,7 +12,7 @@ use mb_ea::ReadFault;
 use mb_encode::encode;
 use mb_entry::{is_load, line_fields, movem_fields, read_fields, write_fields};
 use mb_instr::{Instr, Plain};
-use mb_meaning::StepEnd;
+use mb_meaning::Finish;
 use mb_model::Cpu;
 use mb_port::{Fault, Port};
 use mb_writes::{Ended, MovemFault, WriteFault};
@@ -23,10 +23,10 @@ pub(crate) const PAGE_SIZE: u32 = 4096;
 /// After a refused fetch, read or locked check. The processor is as before the instruction.
 #[inline(never)]
 #[tactic(auto, unfolding(mb_meaning::specs::Step::unread_of))]
-pub(crate) fn finish_unread<P: Port>(refused: &ReadFault, cpu: &mut Cpu, port: &mut P) -> StepEnd
+pub(crate) fn finish_unread<P: Port>(refused: &ReadFault, cpu: &mut Cpu, port: &mut P) -> Finish
     ensures means { run P.bus (unread_of refused.now cpu.old) (P.world port.old)
         ≡ ((result, cpu.new), P.world port.new) }
-    ensures busy { result ≢ StepEnd.Idle }
+    ensures busy { result ≢ Finish.Idle }
     ensures rest { P.rest port.new ≡ P.rest port.old }
 {
     let fields = read_fields(&refused.fault, refused.first, PAGE_SIZE);
@@ -41,10 +41,10 @@ pub(crate) fn finish_unfinished<P: Port>(
     refused: &WriteFault,
     cpu: &mut Cpu,
     port: &mut P,
-) -> StepEnd
+) -> Finish
     ensures means { run P.bus (unfinished_of due refused.now cpu.old) (P.world port.old)
         ≡ ((result, cpu.new), P.world port.new) }
-    ensures busy { result ≢ StepEnd.Idle }
+    ensures busy { result ≢ Finish.Idle }
     ensures rest { P.rest port.new ≡ P.rest port.old }
 {
     let fields = with_ct(due, write_fields(refused, PAGE_SIZE));
@@ -60,10 +60,10 @@ fn finish_unwritten<P: Port>(
     plain: &Plain,
     cpu: &mut Cpu,
     port: &mut P,
-) -> StepEnd
+) -> Finish
     ensures means { run P.bus (unwritten_of due refused.now refused.now.rest.items cpu.old
         (with_registers plain.now cpu.old)) (P.world port.old) ≡ ((result, cpu.new), P.world port.new) }
-    ensures busy { result ≢ StepEnd.Idle }
+    ensures busy { result ≢ Finish.Idle }
     ensures rest { P.rest port.new ≡ P.rest port.old }
 {
     if refused.rest.is_empty() {
@@ -84,10 +84,10 @@ fn finish_line<P: Port>(
     plain: &Plain,
     cpu: &mut Cpu,
     port: &mut P,
-) -> StepEnd
+) -> Finish
     ensures means { run P.bus (line_unwritten_of due fault.now line (with_registers plain.now cpu.old))
         (P.world port.old) ≡ ((result, cpu.new), P.world port.new) }
-    ensures busy { result ≢ StepEnd.Idle }
+    ensures busy { result ≢ Finish.Idle }
     ensures rest { P.rest port.new ≡ P.rest port.old }
 {
     cpu.regs.set_plain(plain);
@@ -119,10 +119,10 @@ fn finish_movem<P: Port>(
     plain: &Plain,
     cpu: &mut Cpu,
     port: &mut P,
-) -> StepEnd
+) -> Finish
     ensures means { run P.bus (untransferred_of due refused.now words cpu.old (with_registers plain.now cpu.old))
         (P.world port.old) ≡ ((result, cpu.new), P.world port.new) }
-    ensures busy { result ≢ StepEnd.Idle }
+    ensures busy { result ≢ Finish.Idle }
     ensures rest { P.rest port.new ≡ P.rest port.old }
 {
     let at = cpu.regs.pc;
@@ -141,24 +141,24 @@ fn is_flow(instruction: &Instr) -> bool
 /// Finishes an instruction that is not privileged, ended so and left these registers. The processor is as before it.
 #[inline(never)]
 #[tactic(auto, unfolding(mb_meaning::specs::Step::finish_of))]
-pub(crate) fn finish<P: Port>(
+pub(crate) fn finish_instruction<P: Port>(
     instruction: &Instr,
     ended: &Ended,
     plain: &mut Plain,
     cpu: &mut Cpu,
     port: &mut P,
-) -> StepEnd
+) -> Finish
     requires { IsInstr instruction.now }
     ensures means { run P.bus (finish_of instruction.now ended.now cpu.old (with_registers plain.old cpu.old))
         (P.world port.old) ≡ ((result, cpu.new), P.world port.new) }
-    ensures busy { result ≢ StepEnd.Idle }
+    ensures busy { result ≢ Finish.Idle }
     ensures rest { P.rest port.new ≡ P.rest port.old }
 {
     let (at, sr) = (cpu.regs.pc, cpu.regs.sr);
     match ended {
         Ended::Done { flow } => {
             cpu.regs.set_plain(plain);
-            trace_if(is_due(sr, *flow), at, cpu, port)
+            trace_if(Finish::Went, is_due(sr, *flow), at, cpu, port)
         }
         Ended::Trap(vector) => trap(*vector, plain, cpu, port),
         Ended::Refused(vector) => refuse(*vector, cpu, port),

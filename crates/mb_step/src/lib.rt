@@ -10,16 +10,15 @@
 mod executing;
 mod fetching;
 mod finishing;
-mod laws;
 mod performing;
 mod raising;
 mod returning;
 mod stepping;
 
-pub use laws::attempt_then_finish;
-pub use mb_meaning::StepEnd;
+pub use mb_meaning::{Finish, StepEnd};
 pub use performing::perform;
-pub use stepping::step;
+pub use raising::{access_error, unchecked};
+pub use stepping::{step, step_to_finish};
 
 #[cfg(test)]
 mod tests;

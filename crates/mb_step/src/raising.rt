@@ -11,7 +11,7 @@ ghost use Rattle.mb_meaning.specs.Raise.{tracing_of, trap_of, refused_of};
 use mb_entry::{Cause, Entered, check_fields, enter};
 use mb_frames::Access;
 use mb_instr::{Plain, Regs};
-use mb_meaning::StepEnd;
+use mb_meaning::Finish;
 use mb_model::Cpu;
 use mb_port::{Fault, Port};
 use std::mem::{replace, swap};
@@ -83,13 +83,14 @@ fn cause_at(vector: u8, pc: u32, address: u32) -> Cause
     }
 }
 
-/// Enters an access error, with this PC and these fields. Where its own frame has no place the processor halts.
+/// Enters an access error, vector 2: its frame of format $7 has this PC and these fields. Where the frame has no place,
+/// or the vector cannot be read, the processor halts.
 #[inline(never)]
 #[tactic(auto, unfolding(mb_meaning::specs::Raise::access_error_of))]
-pub(crate) fn access_error<P: Port>(pc: u32, access: Access, cpu: &mut Cpu, port: &mut P) -> StepEnd
+pub fn access_error<P: Port>(pc: u32, access: Access, cpu: &mut Cpu, port: &mut P) -> Finish
     ensures means { run P.bus (access_error_of pc access cpu.old) (P.world port.old)
         ≡ ((result, cpu.new), P.world port.new) }
-    ensures busy { result ≢ StepEnd.Idle }
+    ensures busy { result ≢ Finish.Idle }
     ensures rest { P.rest port.new ≡ P.rest port.old }
 {
     let cause = Cause {
@@ -100,18 +101,19 @@ pub(crate) fn access_error<P: Port>(pc: u32, access: Access, cpu: &mut Cpu, port
         level: 0,
     };
     match enter(cpu, port, &cause) {
-        Entered::Done => StepEnd::Went,
-        Entered::Faulted(_) | Entered::DoubleFault => StepEnd::Halted,
+        Entered::Done => Finish::Entered(ACCESS_ERROR),
+        Entered::Faulted(_) | Entered::DoubleFault => Finish::Halted,
     }
 }
 
-/// Enters the access error of a frame that has no place. CT is set where it was a trace's.
+/// Enters the access error of a frame that has no place: `fault` is the one that its check was refused with. CT is set
+/// where it was a trace's. The processor is as an access error in its place finds it.
 #[inline(never)]
 #[tactic(auto, unfolding(mb_meaning::specs::Raise::unchecked_of))]
-fn unchecked<P: Port>(is_trace: bool, fault: &Fault, cpu: &mut Cpu, port: &mut P) -> StepEnd
+pub fn unchecked<P: Port>(is_trace: bool, fault: &Fault, cpu: &mut Cpu, port: &mut P) -> Finish
     ensures means { run P.bus (unchecked_of is_trace fault.now cpu.old) (P.world port.old)
         ≡ ((result, cpu.new), P.world port.new) }
-    ensures busy { result ≢ StepEnd.Idle }
+    ensures busy { result ≢ Finish.Idle }
     ensures rest { P.rest port.new ≡ P.rest port.old }
 {
     let fields = with_ct(is_trace, check_fields(fault));
@@ -121,28 +123,28 @@ fn unchecked<P: Port>(is_trace: bool, fault: &Fault, cpu: &mut Cpu, port: &mut P
 /// Enters an exception that is the last of its step, from the processor as it stands.
 #[inline(never)]
 #[tactic(auto, unfolding(mb_meaning::specs::Raise::raise_of), using(crate::proofs::Entries::unchecked_awake))]
-fn raise_last<P: Port>(is_trace: bool, cause: &Cause, cpu: &mut Cpu, port: &mut P) -> StepEnd
+fn raise_last<P: Port>(is_trace: bool, cause: &Cause, cpu: &mut Cpu, port: &mut P) -> Finish
     requires { cause.now.level < 8 }
-    ensures means { run P.bus (last (raise_of is_trace cause.now cpu.old cpu.old)) (P.world port.old)
+    ensures means { run P.bus (last cause.now.vector (raise_of is_trace cause.now cpu.old cpu.old)) (P.world port.old)
         ≡ ((result, cpu.new), P.world port.new) }
-    ensures busy { result ≢ StepEnd.Idle }
+    ensures busy { result ≢ Finish.Idle }
     ensures rest { P.rest port.new ≡ P.rest port.old }
 {
     match enter(cpu, port, cause) {
-        Entered::Done => StepEnd::Went,
+        Entered::Done => Finish::Entered(cause.vector),
         Entered::Faulted(fault) => unchecked(is_trace, &fault, cpu, port),
-        Entered::DoubleFault => StepEnd::Halted,
+        Entered::DoubleFault => Finish::Halted,
     }
 }
 
 /// Enters an interrupt.
 #[inline(never)]
 #[tactic(auto, unfolding(mb_meaning::specs::Raise::interrupt_of))]
-pub(crate) fn interrupt<P: Port>(level: u8, cpu: &mut Cpu, port: &mut P) -> StepEnd
+pub(crate) fn interrupt<P: Port>(level: u8, cpu: &mut Cpu, port: &mut P) -> Finish
     requires { level < 8 }
     ensures means { run P.bus (interrupt_of level cpu.old) (P.world port.old)
         ≡ ((result, cpu.new), P.world port.new) }
-    ensures busy { result ≢ StepEnd.Idle }
+    ensures busy { result ≢ Finish.Idle }
     ensures rest { P.rest port.new ≡ P.rest port.old }
 {
     let cause = Cause {
@@ -158,27 +160,34 @@ pub(crate) fn interrupt<P: Port>(level: u8, cpu: &mut Cpu, port: &mut P) -> Step
 /// Enters the trace of the instruction at `address`.
 #[inline(never)]
 #[tactic(auto, unfolding(mb_meaning::specs::Raise::trace_of))]
-pub(crate) fn trace<P: Port>(address: u32, cpu: &mut Cpu, port: &mut P) -> StepEnd
+pub(crate) fn trace<P: Port>(address: u32, cpu: &mut Cpu, port: &mut P) -> Finish
     ensures means { run P.bus (trace_of address cpu.old) (P.world port.old)
         ≡ ((result, cpu.new), P.world port.new) }
-    ensures busy { result ≢ StepEnd.Idle }
+    ensures busy { result ≢ Finish.Idle }
     ensures rest { P.rest port.new ≡ P.rest port.old }
 {
     raise_last(true, &cause_at(TRACE, cpu.regs.pc, address), cpu, port)
 }
 
-/// Enters the trace of the instruction at `address`, where it is due.
+/// Enters the trace of the instruction at `address`, where it is due; else the step ends as it has come so far.
 #[inline(always)]
-pub(crate) fn trace_if<P: Port>(due: bool, address: u32, cpu: &mut Cpu, port: &mut P) -> StepEnd
-    ensures means { run P.bus (tracing_of due address cpu.old) (P.world port.old)
+pub(crate) fn trace_if<P: Port>(
+    so_far: Finish,
+    due: bool,
+    address: u32,
+    cpu: &mut Cpu,
+    port: &mut P,
+) -> Finish
+    requires { so_far ≢ Finish.Idle }
+    ensures means { run P.bus (tracing_of so_far due address cpu.old) (P.world port.old)
         ≡ ((result, cpu.new), P.world port.new) }
-    ensures busy { result ≢ StepEnd.Idle }
+    ensures busy { result ≢ Finish.Idle }
     ensures rest { P.rest port.new ≡ P.rest port.old }
 {
     if due {
         trace(address, cpu, port)
     } else {
-        StepEnd::Went
+        so_far
     }
 }
 
@@ -204,31 +213,31 @@ fn exchange(plain: &mut Plain, regs: &mut Regs)
 /// one. Where the frame has no place, the registers before the instruction come back.
 #[inline(never)]
 #[tactic(auto, unfolding(mb_meaning::specs::Raise::trap_of, mb_meaning::specs::Raise::raise_of))]
-pub(crate) fn trap<P: Port>(vector: u8, plain: &mut Plain, cpu: &mut Cpu, port: &mut P) -> StepEnd
+pub(crate) fn trap<P: Port>(vector: u8, plain: &mut Plain, cpu: &mut Cpu, port: &mut P) -> Finish
     ensures means { run P.bus (trap_of vector cpu.old (with_registers plain.old cpu.old)) (P.world port.old)
         ≡ ((result, cpu.new), P.world port.new) }
-    ensures busy { result ≢ StepEnd.Idle }
+    ensures busy { result ≢ Finish.Idle }
     ensures rest { P.rest port.new ≡ P.rest port.old }
 {
     let (at, traced) = (cpu.regs.pc, traces_all(cpu.regs.sr));
     exchange(plain, &mut cpu.regs);
     match enter(cpu, port, &cause_at(vector, cpu.regs.pc, at)) {
-        Entered::Done => trace_if(traced, at, cpu, port),
+        Entered::Done => trace_if(Finish::Entered(vector), traced, at, cpu, port),
         Entered::Faulted(fault) => {
             cpu.regs.set_plain(plain);
             unchecked(false, &fault, cpu, port)
         }
-        Entered::DoubleFault => StepEnd::Halted,
+        Entered::DoubleFault => Finish::Halted,
     }
 }
 
 /// Enters the exception of an instruction at PC that is not carried out.
 #[inline(never)]
 #[tactic(auto, unfolding(mb_meaning::specs::Raise::refused_of))]
-pub(crate) fn refuse<P: Port>(vector: u8, cpu: &mut Cpu, port: &mut P) -> StepEnd
+pub(crate) fn refuse<P: Port>(vector: u8, cpu: &mut Cpu, port: &mut P) -> Finish
     ensures means { run P.bus (refused_of vector cpu.old) (P.world port.old)
         ≡ ((result, cpu.new), P.world port.new) }
-    ensures busy { result ≢ StepEnd.Idle }
+    ensures busy { result ≢ Finish.Idle }
     ensures rest { P.rest port.new ≡ P.rest port.old }
 {
     let at = cpu.regs.pc;

@@ -8,7 +8,7 @@ use crate::finishing::{PAGE_SIZE, finish_unread};
 use crate::raising::{access_error, has_ct, is_due, refuse, trace_if, traces_all, with_ct};
 use mb_entry::{continues, movem_fields, return_held};
 use mb_frames::Access;
-use mb_meaning::StepEnd;
+use mb_meaning::Finish;
 use mb_model::Cpu;
 use mb_port::Port;
 use mb_writes::{Ended, MovemFault};
@@ -36,11 +36,11 @@ fn finish_movem_again<P: Port>(
     held: &Held,
     cpu: &mut Cpu,
     port: &mut P,
-) -> StepEnd
+) -> Finish
     ensures means { run P.bus (untransferred_again_of due refused.now
         (record { access = held.now.access; pc = held.now.pc }) cpu.old) (P.world port.old)
         ≡ ((result, cpu.new), P.world port.new) }
-    ensures busy { result ≢ StepEnd.Idle }
+    ensures busy { result ≢ Finish.Idle }
     ensures rest { P.rest port.new ≡ P.rest port.old }
 {
     let old = &held.access;
@@ -51,9 +51,9 @@ fn finish_movem_again<P: Port>(
 /// RTE, in supervisor mode. Where it took no frame the processor is as it was.
 #[inline(never)]
 #[tactic(auto, unfolding(mb_meaning::specs::Step::rte_of, mb_meaning::specs::Step::finish_of))]
-pub(crate) fn return_from_exception<P: Port>(cpu: &mut Cpu, port: &mut P) -> StepEnd
+pub(crate) fn return_from_exception<P: Port>(cpu: &mut Cpu, port: &mut P) -> Finish
     ensures means { run P.bus (rte_of cpu.old) (P.world port.old) ≡ ((result, cpu.new), P.world port.new) }
-    ensures busy { result ≢ StepEnd.Idle }
+    ensures busy { result ≢ Finish.Idle }
     ensures rest { P.rest port.new ≡ P.rest port.old }
 {
     let (at, sr) = (cpu.regs.pc, cpu.regs.sr);
@@ -65,7 +65,13 @@ pub(crate) fn return_from_exception<P: Port>(cpu: &mut Cpu, port: &mut P) -> Ste
         Ended::Done { flow } => {
             let asked = is_due(sr, flow);
             let address = if asked { at } else { held.pc };
-            trace_if(asked || is_due_by(&held, cpu), address, cpu, port)
+            trace_if(
+                Finish::Went,
+                asked || is_due_by(&held, cpu),
+                address,
+                cpu,
+                port,
+            )
         }
         Ended::Movem(refused) => finish_movem_again(is_due(sr, true), &refused, &held, cpu, port),
         Ended::Refused(vector) => refuse(vector, cpu, port),

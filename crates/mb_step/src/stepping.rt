@@ -2,11 +2,12 @@
 
 ghost use Rattle.std.specs.Prelude.{◌≡◌, ◌↔◌, ◌<◌, ◌≤◌, true};
 ghost use Rattle.mb_port.specs.Routine.{run};
+ghost use Rattle.mb_meaning.specs.Raise.{by_its_end};
 ghost use Rattle.mb_meaning.specs.Step.{Halts, interrupt_mask, step_of};
 
 use crate::fetching::execute_next;
 use crate::raising::interrupt;
-use mb_meaning::StepEnd;
+use mb_meaning::{Finish, StepEnd};
 use mb_model::Cpu;
 use mb_port::Port;
 use mb_table::FirstWords;
@@ -23,21 +24,34 @@ fn interrupt_mask(cpu: &Cpu) -> u8
 ///
 /// An interrupt above the mask is entered, and the step has nothing else. A processor that STOP holds idles. Else the
 /// instruction at PC is carried out, with the exceptions that it causes. The table says what its first word begins
-/// with; any table of first words says the same.
+/// with; any table of first words says the same. The answer names the last exception that was entered.
 #[inline(always)]
 #[tactic(auto, unfolding(mb_meaning::specs::Step::step_of))]
-pub fn step<P: Port>(table: &FirstWords, cpu: &mut Cpu, port: &mut P, level: u8) -> StepEnd
+pub fn step_to_finish<P: Port>(table: &FirstWords, cpu: &mut Cpu, port: &mut P, level: u8) -> Finish
     requires { level < 8 }
     ensures means { run P.bus (step_of level cpu.old) (P.world port.old) ≡ ((result, cpu.new), P.world port.new) }
-    ensures idle { result ≡ StepEnd.Idle ↔ (level ≤ interrupt_mask cpu.old) × (cpu.old.stopped ≡ true) }
-    ensures halted { result ≡ StepEnd.Halted ↔ Halts P.bus level cpu.old (P.world port.old) }
+    ensures idle { result ≡ Finish.Idle ↔ (level ≤ interrupt_mask cpu.old) × (cpu.old.stopped ≡ true) }
+    ensures halted { result ≡ Finish.Halted ↔ Halts P.bus level cpu.old (P.world port.old) }
     ensures rest { P.rest port.new ≡ P.rest port.old }
 {
     if level > interrupt_mask(cpu) {
         return interrupt(level, cpu, port);
     }
     if cpu.stopped {
-        return StepEnd::Idle;
+        return Finish::Idle;
     }
     execute_next(table, cpu, port)
+}
+
+/// One step as `step_to_finish` takes it, without a word of the exceptions that it entered.
+#[inline(always)]
+pub fn step<P: Port>(table: &FirstWords, cpu: &mut Cpu, port: &mut P, level: u8) -> StepEnd
+    requires { level < 8 }
+    ensures means { by_its_end (run P.bus (step_of level cpu.old) (P.world port.old))
+        ≡ ((result, cpu.new), P.world port.new) }
+    ensures idle { result ≡ StepEnd.Idle ↔ (level ≤ interrupt_mask cpu.old) × (cpu.old.stopped ≡ true) }
+    ensures halted { result ≡ StepEnd.Halted ↔ Halts P.bus level cpu.old (P.world port.old) }
+    ensures rest { P.rest port.new ≡ P.rest port.old }
+{
+    step_to_finish(table, cpu, port, level).step_end()
 }

@@ -60,8 +60,10 @@ fn left(fault: Fault, first: u32, rest: &[Pend]) -> WriteFault
     }
 }
 
-/// Writes pieces in their order.
-fn write_pieces<P: Port>(
+/// Writes pieces in their order, at most three, of an operand whose first byte is at `first`.
+///
+/// A refused one is left, with those after it, and that address goes with them.
+pub fn write_pieces<P: Port>(
     pending: &[Pend],
     first: u32,
     space: Space,

@@ -5,7 +5,7 @@ use Rattle.mb_port.specs.Routine.{run}
 use Rattle.mb_model.specs.declared.processor.Cpu.{Cpu}
 use Rattle.mb_model.specs.Keeping.{Rule, KeptLists}
 use Rattle.mb_devices.specs.Devices.{level_of}
-use Rattle.mb_meaning.specs.declared.StepEnd.{StepEnd}
+use Rattle.mb_meaning.specs.declared.Finish.{Finish}
 use Rattle.mb_meaning.specs.Step.{step_of}
 use Rattle.mb_laws.proofs.Related.{runs_may_follow, along}
 use Rattle.mb_machine.specs.World.{World}
@@ -17,10 +17,10 @@ use Rattle.vm_meaning.proofs.KeptLemmas.{none-kept}
 
 -- ---- a step
 
-later_within : (b : Machine) (held : KeptLists) (ended : StepEnd) (cpu : Cpu) (w u : World) → WorldWithin w u
-    → Within (one_later b ended cpu w) (one_later (record b { world = record b.world { kept = held } }) ended cpu u)
-later_within b held ended cpu w u h =
-    subst (λ (v : World). Within (one_later b ended cpu w) (one_later (record b { world = record b.world { kept = held } }) ended cpu v))
+later_within : (b : Machine) (held : KeptLists) (finish : Finish) (cpu : Cpu) (w u : World) → WorldWithin w u
+    → Within (one_later b finish cpu w) (one_later (record b { world = record b.world { kept = held } }) finish cpu u)
+later_within b held finish cpu w u h =
+    subst (λ (v : World). Within (one_later b finish cpu w) (one_later (record b { world = record b.world { kept = held } }) finish cpu v))
     (sym h.same) (record { same = refl; kept = h.kept })
 
 step_from : (rule : Rule) (script : Entries) (m : Machine) (held : KeptLists) → StandIn m.world.kept held

@@ -1,12 +1,11 @@
 -- Free runs: those of a board whose caches may hold any translation that was searched out since the last flush that
 -- covers it.
 use Rattle.std.specs.Prelude.{◌≡◌, ◌⊎◌, ℕ, zero, suc, true, false, ◌∷◌, Contains, Option, IfSome, option_to_list}
-use Rattle.mb_model.specs.declared.processor.Cpu.{Cpu}
 use Rattle.mb_model.specs.declared.kept.Kept.{Kept}
 use Rattle.mb_model.specs.Keeping.{KeptLists, Rule, list_of, rule_k}
 use Rattle.mb_laws.specs.Relations.{Steps, Runs}
 use Rattle.mb_devices.specs.Devices.{level_of}
-use Rattle.mb_meaning.specs.declared.StepEnd.{StepEnd}
+use Rattle.mb_meaning.specs.Raise.{Stepped}
 use Rattle.mb_meaning.specs.Step.{step_of}
 use Rattle.mb_machine.specs.World.{World}
 use Rattle.mb_machine.specs.Bus.{bus_of}
@@ -46,7 +45,7 @@ FreeCall c w answer after =
 abbrev pub FreeStep : Entries → Machine → Machine → Type 0
 FreeStep script m after =
     let b = begun script m in
-    (r : StepEnd × Cpu) × (w : World) × Runs FreeCall (step_of (level_of b.world.devices) b.cpu) b.world r w
+    (r : Stepped) × (w : World) × Runs FreeCall (step_of (level_of b.world.devices) b.cpu) b.world r w
     × (after ≡ one_later b r.0 r.1 w)
 
 -- so many steps, or fewer where the machine is halted or off
