@@ -1,19 +1,19 @@
 -- Calls in two spaces are twins, and what is put together of twins whose answers are equal.
 use Rattle.std.specs.Prelude.{refl, ℕ, List, Result, Ok, Err}
 use Rattle.std.proofs.Common.{sym, subst}
-use Rattle.mb_port.specs.Routine.{Routine, Fetch, Read, Write, ReadLine, WriteLine, Probe, Get, Put, Then, tried, ◌>>=◌, either, caught}
+use Rattle.mb_port.specs.Routine.{Routine, Fetch, Read, Write, ReadLine, WriteLine, Probe, Get, Put, Then, tried, ◌>>=◌}
 use Rattle.mb_port.specs.Routine.{fetch, read, write, read_line, write_line, probe, get, put}
 use Rattle.mb_port.specs.declared.types.Piece.{Piece}
 use Rattle.mb_port.specs.declared.types.Place.{Place}
 use Rattle.mb_port.specs.declared.types.Fault.{Fault}
 use Rattle.mb_laws.specs.Twin.{Kin, Twin, returned, asked, followed, Results}
-use Rattle.mb_laws.specs.Between.{Setting, raised, Equal, SameFault, IsRaised, between}
+use Rattle.mb_laws.specs.Between.{Setting, raised, Equal, SameWord, SameFault, IsRaised, between}
 
 -- an access in two spaces
 abbrev pub Accesses : (x : Setting) → {A B : Type 0} → (A → B → Type 0) → Routine (Result A Fault) → Routine (Result B Fault) → Type 1
 Accesses x {A} {B} Well m n = Twin (between x) (Result A Fault) (Result B Fault) (Results Well (SameFault x)) m n
 
-pub twin_fetch : (x : Setting) (at : ℕ) → Accesses x Equal (fetch x.here at) (fetch x.there at)
+pub twin_fetch : (x : Setting) (at : ℕ) → Accesses x SameWord (fetch x.here at) (fetch x.there at)
 twin_fetch x at = asked (Fetch x.there at) refl
 
 pub twin_read : (x : Setting) (piece : Piece) → Accesses x Equal (read x.here piece) (read x.there piece)
@@ -58,20 +58,3 @@ pub twins_bind_same : {A C D E F : Type 0} (k : Kin) (Ill : E → F → Type 0) 
     → ((a : A) → Twin k (Result C E) (Result D F) (Results Next Ill) (f a) (g a))
     → Twin k (Result C E) (Result D F) (Results Next Ill) (m >>= f) (n >>= g)
 twins_bind_same k Ill Next m n f g w more = followed w (λ r q e. tried_same k Ill Next r q f g e more)
-
-either_same : {A C D E F : Type 0} (k : Kin) (Ill : E → F → Type 0) (Next : C → D → Type 0) (r : Result A E) (q : Result A F)
-    (ill : E → Routine C) (bad : F → Routine D) (f : A → Routine C) (g : A → Routine D) → Results Equal Ill r q
-    → ((e : E) (h : F) → Ill e h → Twin k C D Next (ill e) (bad h)) → ((a : A) → Twin k C D Next (f a) (g a))
-    → Twin k C D Next (either r ill f) (either q bad g)
-either_same {C = C} {D = D} k Ill Next (Ok a) (Ok b) ill bad f g e worse more = subst (λ v. Twin k C D Next (f v) (g b)) (sym e) (more b)
-either_same k Ill Next (Ok a) (Err y) ill bad f g e worse more = absurd e
-either_same k Ill Next (Err x) (Ok b) ill bad f g e worse more = absurd e
-either_same k Ill Next (Err x) (Err y) ill bad f g e worse more = worse x y e
-
--- both go on in either case
-pub twins_caught_same : {A C D E F : Type 0} (k : Kin) (Ill : E → F → Type 0) (Next : C → D → Type 0)
-    (m : Routine (Result A E)) (n : Routine (Result A F)) (ill : E → Routine C) (bad : F → Routine D) (f : A → Routine C) (g : A → Routine D)
-    → Twin k (Result A E) (Result A F) (Results Equal Ill) m n
-    → ((e : E) (h : F) → Ill e h → Twin k C D Next (ill e) (bad h)) → ((a : A) → Twin k C D Next (f a) (g a))
-    → Twin k C D Next (caught m ill f) (caught n bad g)
-twins_caught_same k Ill Next m n ill bad f g w worse more = followed w (λ r q e. either_same k Ill Next r q ill bad f g e worse more)

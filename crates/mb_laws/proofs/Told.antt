@@ -64,6 +64,14 @@ told_weaker Same bus fact other after later (Ended (Ok a) t) d f g = g a t d
 told_weaker Same bus fact other after later (Ended (Err e) t) d f g = tt
 told_weaker Same bus fact other after later (Stopped rest t) (e, u, p, q, k) f g = (e, u, f rest t e p, q, k)
 
+-- an answer is the one that the run from its first state has
+told_from : {S A E : Type 0} (Same : S → S → Type 0) (bus : Bus S) (fact : Fact S A E) (after : A → S → Type 0) (m : Routine (Result A E)) (s : S)
+    (u : Until S (Result A E)) → (finish bus u).0 ≡ (run bus m s).0 → Told Same bus fact after u
+    → Told Same bus fact (λ a t. after a t × ((run bus m s).0 ≡ Ok a)) u
+told_from Same bus fact after m s (Ended (Ok a) t) e d = (d, sym e)
+told_from Same bus fact after m s (Ended (Err f) t) e d = tt
+told_from Same bus fact after m s (Stopped rest t) e d = d
+
 -- what goes on after a part that is never refused
 sure_then : {S A B : Type 0} (allowed : Call → S → Bool) (bus : Bus S) (mid : A → S → Type 0) (after : B → S → Type 0) (f : A → Routine B) (u : Until S A)
     → Sure mid u
@@ -254,6 +262,17 @@ module _ {S : Type 0} {Same : S → S → Type 0} {lawful : Call → S → Type 
       → Tells Same lawful allowed bus earlier m other later
   tells_weaker {fact = fact} {other = other} {after = after} {later = later} m h b f a = record
       { told = λ s p. told_weaker Same bus fact other after later (run_until allowed bus m s) (h.told s (b s p)) f a; lawfully = λ s p. h.lawfully s (b s p) }
+
+  -- begun in one state, it tells of its answer that it is the one from that state on
+  pub tells_from : {A E : Type 0} {before : S → Type 0} {fact : Fact S A E} {after : A → S → Type 0} (m : Routine (Result A E)) (s : S)
+      → Tells Same lawful allowed bus before m fact after
+      → Tells Same lawful allowed bus (λ t. before t × (t ≡ s)) m fact (λ a t. after a t × ((run bus m s).0 ≡ Ok a))
+  tells_from {A = A} {E = E} {fact = fact} {after = after} m s h = record {
+    told = λ t q.
+        told_from Same bus fact after m s (run_until allowed bus m t)
+        (ap (λ (r : Result A E × S). r.0) (finish_until allowed bus m t) ∙ ap (λ (u : S). (run bus m u).0) q.1) (h.told t q.0);
+    lawfully = λ t q. h.lawfully t q.0;
+  }
 
   -- what is never refused, and then a routine that tells
   pub tells_after : {A B E : Type 0} {before : S → Type 0} {mid : A → S → Type 0} {fact : Fact S B E} {after : B → S → Type 0} (m : Routine A)

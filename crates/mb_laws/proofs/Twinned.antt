@@ -1,7 +1,7 @@
 -- Twins over buses that are alike come equally far.
 use Rattle.std.specs.Prelude.{◌≡◌, refl, Bool, true, false, Result, Ok, Err}
 use Rattle.std.proofs.Common.{◌∙◌, sym, subst}
-use Rattle.mb_port.specs.Routine.{Call, Routine, Ask, Bus, run, tried, ◌>>=◌, failing, other_fault, choose}
+use Rattle.mb_port.specs.Routine.{Call, Routine, Ask, Bus, run, tried, ◌>>=◌, either, caught, failing, other_fault, choose}
 use Rattle.mb_laws.specs.Until.{Until, then_until, ask_until, run_until, GoesOn, AlongUntil, finish, AtRefused}
 use Rattle.mb_laws.specs.Refusal.{Fact, Told, Tells}
 use Rattle.mb_laws.specs.Twin.{Kin, Twin, returned, asked, followed, AlikeOn, MetOn, ended_on, stopped_on, FollowsOn, together_on, refused_on, Results}
@@ -74,6 +74,23 @@ pub twins_bind : {A B C D E F : Type 0} (k : Kin) (Well : A → B → Type 0) (I
     → Twin k (Result A E) (Result B F) (Results Well Ill) m n → ((a : A) (b : B) → Well a b → Twin k (Result C E) (Result D F) (Results Next Ill) (f a) (g b))
     → Twin k (Result C E) (Result D F) (Results Next Ill) (m >>= f) (n >>= g)
 twins_bind k Well Ill Next m n f g w more = followed w (λ r q e. tried_twins k Well Ill Next r q f g e more)
+
+either_twins : {A B C D E F : Type 0} (k : Kin) (Well : A → B → Type 0) (Ill : E → F → Type 0) (Next : C → D → Type 0) (r : Result A E) (q : Result B F)
+    (ill : E → Routine C) (bad : F → Routine D) (f : A → Routine C) (g : B → Routine D) → Results Well Ill r q
+    → ((e : E) (h : F) → Ill e h → Twin k C D Next (ill e) (bad h)) → ((a : A) (b : B) → Well a b → Twin k C D Next (f a) (g b))
+    → Twin k C D Next (either r ill f) (either q bad g)
+either_twins k Well Ill Next (Ok a) (Ok b) ill bad f g e worse more = more a b e
+either_twins k Well Ill Next (Ok a) (Err y) ill bad f g e worse more = absurd e
+either_twins k Well Ill Next (Err x) (Ok b) ill bad f g e worse more = absurd e
+either_twins k Well Ill Next (Err x) (Err y) ill bad f g e worse more = worse x y e
+
+-- both go on in either case
+pub twins_caught : {A B C D E F : Type 0} (k : Kin) (Well : A → B → Type 0) (Ill : E → F → Type 0) (Next : C → D → Type 0) (m : Routine (Result A E))
+    (n : Routine (Result B F)) (ill : E → Routine C) (bad : F → Routine D) (f : A → Routine C) (g : B → Routine D)
+    → Twin k (Result A E) (Result B F) (Results Well Ill) m n
+    → ((e : E) (h : F) → Ill e h → Twin k C D Next (ill e) (bad h)) → ((a : A) (b : B) → Well a b → Twin k C D Next (f a) (g b))
+    → Twin k C D Next (caught m ill f) (caught n bad g)
+twins_caught k Well Ill Next m n ill bad f g w worse more = followed w (λ r q e. either_twins k Well Ill Next r q ill bad f g e worse more)
 
 other_twins : {A B E F X Y : Type 0} (Well : A → B → Type 0) (Ill : E → F → Type 0) (Worse : X → Y → Type 0) (value : E → X) (other : F → Y)
     → ((e : E) (f : F) → Ill e f → Worse (value e) (other f))

@@ -1,5 +1,5 @@
 -- The same calls in two spaces, with places further up by a base.
-use Rattle.std.specs.Prelude.{◌≡◌, ℕ, ◌+◌, Bool, true}
+use Rattle.std.specs.Prelude.{◌≡◌, ℕ, ◌+◌, ◌^◌, ◌<◌, Bool, true}
 use Rattle.mb_port.specs.Routine.{Call, Answer, Fetch, Read, Write, ReadLine, WriteLine, Probe, Get, Put, ReadMmu}
 use Rattle.mb_port.specs.Routine.{SetMmu, FlushKept, Test, ResetDevices}
 use Rattle.mb_port.specs.declared.types.Space.{Space}
@@ -54,6 +54,10 @@ IsThere x ResetDevices = ⊥
 abbrev pub Equal : {A : Type 0} → A → A → Type 0
 Equal a b = a ≡ b
 
+-- the same word
+abbrev pub SameWord : ℕ → ℕ → Type 0
+SameWord a b = (a ≡ b) × (b < 2 ^ 16)
+
 -- the same fault, in the second's space, where there are any
 abbrev pub SameFault : Setting → Fault → Fault → Type 0
 SameFault x f g = (x.faults ≡ true) × (g ≡ record f { space = x.there })
@@ -64,7 +68,7 @@ IsRaised x p q = p ≡ raised x.base q
 
 -- the same answer, with the fault in the second's space, and with places further up
 abbrev pub like : (x : Setting) → (d : Call) → Answer (call_here x d) → Answer d → Type 0
-like x (Fetch space at) a b = Results Equal (SameFault x) a b
+like x (Fetch space at) a b = Results SameWord (SameFault x) a b
 like x (Read space piece) a b = Results Equal (SameFault x) a b
 like x (Write space piece value) a b = Results Equal (SameFault x) a b
 like x (ReadLine space at) a b = Results Equal (SameFault x) a b

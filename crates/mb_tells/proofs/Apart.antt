@@ -1,14 +1,17 @@
 -- The pieces of an operand are apart from each other.
-use Rattle.std.specs.Prelude.{◌≡◌, ℕ, zero, suc, ◌+◌, ◌-◌, ◌*◌, ◌%◌, ◌^◌, ◌<◌, ◌≤◌, ◌⊎◌, List, [], ◌∷◌}
-use Rattle.std.proofs.Common.{arith, subst, inl, inr}
+use Rattle.std.specs.Prelude.{◌≡◌, ℕ, zero, suc, ◌+◌, ◌-◌, ◌*◌, ◌/◌, ◌%◌, ◌^◌, ◌<◌, ◌≤◌, ◌⊎◌, List, [], ◌∷◌, length}
+use Rattle.std.proofs.Common.{arith, refl, ap, sym, subst, inl, inr}
+use Rattle.std.proofs.Math.Nat.{mod-lt}
+use Rattle.std.proofs.lemmas.Nat.{pow_pos}
 use Rattle.std.proofs.lemmas.Bool.{cases_lt}
 use Rattle.mb_port.specs.declared.types.Piece.{Piece}
 use Rattle.mb_port.specs.Pieces.{piece_len, cut, split_of, ArePieces}
 use Rattle.mb_port.proofs.Cuts.{cut_are}
 use Rattle.mb_frames.specs.declared.pend.Pend.{Pend}
 use Rattle.mb_frames.specs.AccessFields.{piece_of}
-use Rattle.mb_writes.specs.Writing.{parts_of, pending_of}
+use Rattle.mb_writes.specs.Writing.{part_of, parts_of, pending_of}
 use Rattle.mb_tells.specs.Guarded.{Apart, IsPlaced}
+use Rattle.mb_tells.specs.Left.{AreOwn}
 
 -- a piece is apart from each of these
 abbrev pub ApartFrom : Piece → List Pend → Type 0
@@ -57,11 +60,6 @@ abbrev pub ArePlaced : List Piece → Type 0
 ArePlaced [] = Unit {0}
 ArePlaced (p ∷ ps) = IsPlaced p × ArePlaced ps
 
--- each can be written
-abbrev pub CanBeWritten : List Pend → Type 0
-CanBeWritten [] = Unit {0}
-CanBeWritten (p ∷ ps) = IsPlaced (piece_of p) × CanBeWritten ps
-
 cut_placed : (n at left : ℕ) → at < 2 ^ 32 → ArePieces (cut n at left) → ArePlaced (cut n at left)
 cut_placed zero at left h are = tt
 cut_placed (suc n) at zero h are = tt
@@ -72,13 +70,34 @@ pub split_placed : (at len : ℕ) → at < 2 ^ 32 → ArePlaced (split_of at len
 unfolding split_of
 split_placed at len h = cut_placed 3 at len h (cut_are 3 at len)
 
-pub parts_placed : (pieces : List Piece) (before_end value : ℕ) → ArePlaced pieces → CanBeWritten (parts_of pieces before_end value)
-parts_placed [] before_end value h = tt
-parts_placed (p ∷ ps) before_end value h = (h.0, parts_placed ps (before_end - p.len) value h.1)
+part_within : (value before_end len : ℕ) → part_of value before_end len < 2 ^ (8 * len)
+unfolding part_of
+part_within value before_end len = mod-lt (value / 2 ^ (8 * (before_end - len))) (pow_pos (8 * len))
 
-pub pending_placed : (at len value : ℕ) → at < 2 ^ 32 → CanBeWritten (pending_of at len value)
+-- a number's parts are the pieces' own
+pub parts_own : (pieces : List Piece) (before_end value : ℕ) → ArePlaced pieces → AreOwn (parts_of pieces before_end value)
+parts_own [] before_end value h = tt
+parts_own (p ∷ ps) before_end value h =
+    (record { placed = h.0; value = part_within value before_end p.len }, parts_own ps (before_end - p.len) value h.1)
+
+pub pending_own : (at len value : ℕ) → at < 2 ^ 32 → AreOwn (pending_of at len value)
 unfolding pending_of
-pending_placed at len value h = parts_placed (split_of at len) len value (split_placed at len h)
+pending_own at len value h = parts_own (split_of at len) len value (split_placed at len h)
+
+pub parts_as_many : (pieces : List Piece) (before_end value : ℕ) → length (parts_of pieces before_end value) ≡ length pieces
+parts_as_many [] before_end value = refl
+parts_as_many (p ∷ ps) before_end value = ap (λ (n : ℕ). suc n) (parts_as_many ps (before_end - p.len) value)
+
+cut_few : (n at left : ℕ) → length (cut n at left) ≤ n
+cut_few zero at left = omega arith
+cut_few (suc n) at zero = omega arith
+cut_few (suc n) at (suc left) =
+    let more = cut_few n ((at + piece_len at (suc left)) % 2 ^ 32) (suc left - piece_len at (suc left)) in omega arith
+
+pub pending_few : (at len value : ℕ) → length (pending_of at len value) ≤ 3
+unfolding pending_of split_of
+pending_few at len value =
+    subst (λ (n : ℕ). n ≤ 3) (sym (parts_as_many (cut 3 at len) len value)) (cut_few 3 at len)
 
 pub pending_spread : (at len value : ℕ) → Spread (pending_of at len value)
 unfolding pending_of split_of

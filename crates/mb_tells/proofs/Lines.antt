@@ -1,6 +1,6 @@
 -- Lines of memory.
 use Rattle.std.specs.Prelude.{◌≡◌, refl, false, ℕ, ◌^◌, ◌<◌, Ok, List, length}
-use Rattle.std.proofs.Common.{ap, arith}
+use Rattle.std.proofs.Common.{ap, arith, sym}
 use Rattle.mb_port.specs.Routine.{ReadLine, WriteLine, Return, ◌>>◌, failing, read_line, write_line}
 use Rattle.mb_port.specs.declared.types.Space.{Space}
 use Rattle.mb_laws.proofs.Told.{tells_ok, tells_bind, tells_failing, tells_read_line, tells_write_line}
@@ -10,7 +10,8 @@ use Rattle.mb_writes.specs.declared.ends.Ended.TheVariants as ended
 use Rattle.mb_writes.specs.declared.transfers.Movem.{Movem}
 use Rattle.mb_meaning.specs.Ends.{Carried, ending}
 use Rattle.mb_tells.specs.Guarded.{Guarded, Guards, Goes, IsLine}
-use Rattle.mb_tells.specs.Left.{Row}
+use Rattle.mb_laws.specs.Tree.{tree_of}
+use Rattle.mb_tells.specs.Left.{line_completing, Row}
 use Rattle.mb_instr.specs.declared.kinds.LineMove.{LineMove}
 use Rattle.mb_instr.specs.declared.kinds.LineMove.TheVariants as line_move
 use Rattle.mb_instr.specs.Registers.{address_register}
@@ -43,7 +44,11 @@ module _ {S : Type 0} (x : Guarded S) (space : Space) (g : Guards x space) where
       (tells_write_line g.refuses space at line (record {
         lawfully = λ s q. g.writes_lines at line s q.0 is four;
         well = λ s written q yes e. g.opens.call (WriteLine space at line) s q.0 (g.writes_lines at line s q.0 is four);
-        refused = λ s u fault q no e same. ((WriteLine space at line, refl, ap (λ r. r.0) e), (at, done, refl, refl));
+        refused = λ s u fault q no e same.
+            let here = g.line_faults at line s fault (q.0, g.writes_lines at line s q.0 is four, no) (ap (λ r. r.0) e) in (
+              (WriteLine space at line, refl, ap (λ r. r.0) e),
+              (four, done, refl, ap (λ (a : ℕ). tree_of (line_completing space a line done)) (sym here)),
+            );
       })))
       (λ written. tells_ok done (λ s q. q))
 

@@ -1,5 +1,5 @@
 -- Operands: what stands there, and what is put there.
-use Rattle.std.specs.Prelude.{refl, false, ℕ, ◌%◌, ◌^◌, ◌<◌, ◌==◌, nat_lt, Result, Ok, List, [], ◌∷◌}
+use Rattle.std.specs.Prelude.{refl, false, ℕ, ◌%◌, ◌^◌, ◌<◌, ◌≤◌, ◌==◌, nat_lt, Result, Ok, List, [], ◌∷◌, length}
 use Rattle.std.proofs.Common.{ap, ◌∙◌, arith}
 use Rattle.mb_port.specs.Routine.{Write, Return, ◌>>◌, failing, tried, write}
 use Rattle.mb_port.specs.declared.types.Space.{Space}
@@ -23,11 +23,10 @@ use Rattle.mb_writes.specs.declared.transfers.Movem.{Movem}
 use Rattle.mb_writes.specs.Writing.{left_by, write_all, put_of}
 use Rattle.mb_frames.specs.declared.pend.Pend.{Pend}
 use Rattle.mb_frames.specs.AccessFields.{piece_of}
-use Rattle.mb_tells.proofs.Apart.{CanBeWritten}
 use Rattle.mb_meaning.specs.Ends.{Carried}
 use Rattle.mb_meaning.specs.Operands.{load_of, store_of, Fetched, operand_of, place_of, address_of, storing, pushing}
 use Rattle.mb_tells.specs.Guarded.{Guarded, Guards}
-use Rattle.mb_tells.specs.Left.{Row}
+use Rattle.mb_tells.specs.Left.{AreOwn, Row}
 use Rattle.mb_tells.specs.Laws.{AreLongs}
 use Rattle.mb_tells.proofs.Ranges.{IsFormed}
 use Rattle.mb_tells.proofs.Longs.{IsReached, sum_long, difference_long, extended_long, address_long, with_long}
@@ -126,7 +125,7 @@ module _ {S : Type 0} (x : Guarded S) (space : Space) (g : Guards x space) where
 
   pub writing_tells : (at len value : ℕ) → at < 2 ^ 32 → Writes x space tt (put_of space at len value)
   writing_tells at len value h = tells_weaker (put_of space at len value) (put_tells x space g at len value h) (λ s q. q)
-      (λ rest t e told. (told.0, told.2 ∙ then_nothing (tree_of (write_all space e.first e.rest.items)))) (λ a t q. q)
+      (λ rest t e told. (told.0, told.2 ∙ then_nothing (tree_of (write_all space e.first e.rest.items)), told.4)) (λ a t q. q)
 
   pub store_tells : (target : Target) (size : Size) (value : ℕ) (p : Plain) → IsReached target → Writes x space p (store_of target size value space p)
   unfolding store_of
@@ -134,7 +133,8 @@ module _ {S : Type 0} (x : Guarded S) (space : Space) (g : Guards x space) where
   store_tells (Memory at) size value p h =
       tells_bind (put_of space at (bytes_of size) value) (λ done. Return (Ok p))
       (tells_weaker (put_of space at (bytes_of size) value) (put_tells x space g at (bytes_of size) value h) (λ s q. q)
-      (λ rest t e told. (told.0, ap (λ u. graft u (λ (r : Result (Unit {0}) WriteFault). tree_of (tried r (λ done. Return (Ok p))))) told.2)) (λ a t q. q))
+      (λ rest t e told.
+      (told.0, ap (λ u. graft u (λ (r : Result (Unit {0}) WriteFault). tree_of (tried r (λ done. Return (Ok p))))) told.2, told.4)) (λ a t q. q))
       (λ done. tells_ok p (λ s q. q))
   store_tells (Value v) size value p h = tells_ok _ (λ s q. q)
 
@@ -155,15 +155,18 @@ module _ {S : Type 0} (x : Guarded S) (space : Space) (g : Guards x space) where
   -- ---- pieces that are no operand's
 
   -- a list of pieces
-  pub list_tells : (first : ℕ) (ps : List Pend) → CanBeWritten ps → Writes x space tt (write_all space first ps)
-  list_tells first [] can = tells_ok tt (λ s q. q)
-  list_tells first (p ∷ ps) can =
+  pub list_tells : (first : ℕ) (ps : List Pend) → AreOwn ps → length ps ≤ 3 → Writes x space tt (write_all space first ps)
+  list_tells first [] own few = tells_ok tt (λ s q. q)
+  list_tells first (p ∷ ps) own few =
       tells_bind (failing (left_by first (p ∷ ps)) (write space (piece_of p) p.value)) (λ done. write_all space first ps)
       (tells_failing (left_by first (p ∷ ps)) (write space (piece_of p) p.value)
       (tells_write g.refuses space (piece_of p) p.value (record {
-        lawfully = λ s q. g.writes (piece_of p) p.value s q can.0;
-        well = λ s done q yes e. g.opens.call (Write space (piece_of p) p.value) s q (g.writes (piece_of p) p.value s q can.0);
-        refused = λ s u fault q no e same.
-            ((Write space (piece_of p) p.value, refl, ap (λ r. r.0) e), then_nothing (tree_of (write_all space first (p ∷ ps))));
+        lawfully = λ s q. g.writes (piece_of p) p.value s q own.0.placed;
+        well = λ s done q yes e. g.opens.call (Write space (piece_of p) p.value) s q (g.writes (piece_of p) p.value s q own.0.placed);
+        refused = λ s u fault q no e same. (
+          (Write space (piece_of p) p.value, refl, ap (λ r. r.0) e),
+          then_nothing (tree_of (write_all space first (p ∷ ps))),
+          record { some = omega arith; few = few; own = own },
+        );
       })))
-      (λ done. list_tells first ps can.1)
+      (λ done. list_tells first ps own.1 (omega arith))

@@ -14,7 +14,7 @@ use Rattle.mb_writes.specs.declared.transfers.Movem.{Movem}
 use Rattle.mb_writes.specs.Writing.{write_all}
 use Rattle.mb_meaning.specs.Ends.{Carried, Stopped, Performed, reading, writing}
 use Rattle.mb_tells.specs.Guarded.{Guarded, quiet}
-use Rattle.mb_tells.specs.Left.{Left, Answered, SameCalls, Telling, Row}
+use Rattle.mb_tells.specs.Left.{Left, Answered, IsRest, SameCalls, Telling, Row}
 use Rattle.mb_tells.proofs.Resumed.{goes_to_end}
 
 -- a part that reads: where it is refused, nothing was written
@@ -29,6 +29,7 @@ Reads x P m = Telling x (quiet x) m (ReadLeft x) (λ a s. quiet x s × P a)
 abbrev pub StoreLeft : {S A : Type 0} → Guarded S → Space → A → Fact S A WriteFault
 StoreLeft x space a rest t refused =
     Answered x rest t refused.fault × SameCalls rest (write_all space refused.first refused.rest.items >> Return (Ok a))
+    × IsRest refused.rest.items
 
 abbrev pub Writes : {S A : Type 0} → Guarded S → Space → A → Routine (Result A WriteFault) → Type 0
 Writes x space a m = Telling x x.serving m (StoreLeft x space a) (λ b s. x.serving s)
@@ -89,6 +90,7 @@ module _ {S : Type 0} (x : Guarded S) (space : Space) where
       (λ rest t e told. (
         told.0,
         inr (
+          told.2,
           done a,
           refl,
           goes_to_end _ a done (tree_of (write_all space e.first e.rest.items)) (tree_of rest) told.1,

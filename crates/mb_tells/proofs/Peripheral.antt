@@ -1,6 +1,6 @@
 -- MOVEP.
-use Rattle.std.specs.Prelude.{◌≡◌, refl, false, ℕ, zero, suc, ◌+◌, ◌%◌, ◌^◌, ◌<◌, ◌⊎◌, Bool, Result, Ok, []}
-use Rattle.std.proofs.Common.{ap, arith, inl, inr}
+use Rattle.std.specs.Prelude.{◌≡◌, refl, false, ℕ, zero, suc, ◌+◌, ◌%◌, ◌^◌, ◌<◌, ◌≤◌, ◌⊎◌, Bool, Result, Ok, [], length}
+use Rattle.std.proofs.Common.{ap, arith, inl, inr, subst, sym, ◌∙◌}
 use Rattle.mb_port.specs.Routine.{Write, Routine, Return, ◌>>=◌, ◌>>◌, failing, write}
 use Rattle.mb_port.specs.declared.types.Space.{Space}
 use Rattle.mb_port.specs.declared.types.Piece.{Piece}
@@ -22,9 +22,9 @@ use Rattle.mb_writes.specs.Writing.{part_of, parts_of, left_by, write_all, apart
 use Rattle.mb_meaning.specs.Ends.{Carried, carried, writing}
 use Rattle.mb_meaning.specs.Peripheral.{read_apart_of, from_peripheral, to_peripheral, movep_of}
 use Rattle.mb_tells.specs.Guarded.{Guarded, Guards, IsPlaced, quiet}
-use Rattle.mb_tells.specs.Left.{Answered, SameCalls, WriteLeft, Telling, Row}
+use Rattle.mb_tells.specs.Left.{Answered, IsRest, SameCalls, WriteLeft, Telling, Row}
 use Rattle.mb_tells.proofs.Resumed.{goes_to_end}
-use Rattle.mb_tells.proofs.Apart.{ArePlaced, parts_placed}
+use Rattle.mb_tells.proofs.Apart.{ArePlaced, parts_own, parts_as_many}
 use Rattle.mb_tells.proofs.Longs.{sum_long}
 use Rattle.mb_tells.proofs.Parts.{Reads, row_reading}
 use Rattle.mb_tells.proofs.Pieces.{pieces_tell}
@@ -37,10 +37,15 @@ apart_placed : (at n : ℕ) → at < 2 ^ 32 → ArePlaced (apart at n)
 apart_placed at zero h = tt
 apart_placed at (suc n) h = (byte_placed at h, apart_placed ((at + 2) % 2 ^ 32) n (omega arith))
 
+apart_as_many : (at n : ℕ) → length (apart at n) ≡ n
+apart_as_many at zero = refl
+apart_as_many at (suc n) = ap (λ (k : ℕ). suc k) (apart_as_many ((at + 2) % 2 ^ 32) n)
+
 -- Where bytes are refused: either it is the first one of a long, or the rest is to write those that are left.
 BytesLeft : {S : Type 0} → Guarded S → Space → Fact S (Unit {0}) WriteFault
 BytesLeft x space rest t e = Answered x rest t e.fault
-    × ((x.unwritten t × (e.rest.items ≡ [])) ⊎ SameCalls rest (write_all space e.first e.rest.items >> Return (Ok tt)))
+    × ((x.unwritten t × (e.rest.items ≡ []))
+    ⊎ (IsRest e.rest.items × SameCalls rest (write_all space e.first e.rest.items >> Return (Ok tt))))
 
 module _ {S : Type 0} (x : Guarded S) (space : Space) (g : Guards x space) where
   read_apart_tells : (at : ℕ) (size : Size) → at < 2 ^ 32 → Reads x (λ v. Unit {0}) (read_apart_of space at size)
@@ -50,18 +55,19 @@ module _ {S : Type 0} (x : Guarded S) (space : Space) (g : Guards x space) where
       (tells_weaker _ (pieces_tell x space g (apart at (bytes_of size)) 0 (apart_placed at (bytes_of size) h)) (λ s q. q)
       (λ rest t e told. (told.0, told.1)) (λ a t q. (q, tt)))
 
-  bytes_tell : (at n value first : ℕ) → at < 2 ^ 32
+  bytes_tell : (at n value first : ℕ) → at < 2 ^ 32 → n ≤ 3
       → let m = write_all space first (parts_of (apart at n) n value) in Telling x x.serving m (BytesLeft x space) (λ done s. x.serving s)
   unfolding BytesLeft
-  bytes_tell at n value first h =
-      tells_weaker _ (list_tells x space g first (parts_of (apart at n) n value) (parts_placed (apart at n) n value (apart_placed at n h))) (λ s q. q)
-      (λ rest t e told. (told.0, inr told.1)) (λ a t q. q)
+  bytes_tell at n value first h few =
+      tells_weaker _ (list_tells x space g first (parts_of (apart at n) n value) (parts_own (apart at n) n value (apart_placed at n h))
+      (subst (λ (k : ℕ). k ≤ 3) (sym (parts_as_many (apart at n) n value ∙ apart_as_many at n)) few)) (λ s q. q)
+      (λ rest t e told. (told.0, inr (told.2, told.1))) (λ a t q. q)
 
   put_apart_tells : (at : ℕ) (size : Size) (value : ℕ) → at < 2 ^ 32
       → Telling x (quiet x) (put_apart_of space at size value) (BytesLeft x space) (λ done s. x.serving s)
   unfolding put_apart_of BytesLeft
-  put_apart_tells at Byte value h = tells_weaker _ (bytes_tell at 1 value at h) (λ s q. q.0) (λ rest t e told. told) (λ a t q. q)
-  put_apart_tells at Word value h = tells_weaker _ (bytes_tell at 2 value at h) (λ s q. q.0) (λ rest t e told. told) (λ a t q. q)
+  put_apart_tells at Byte value h = tells_weaker _ (bytes_tell at 1 value at h (omega arith)) (λ s q. q.0) (λ rest t e told. told) (λ a t q. q)
+  put_apart_tells at Word value h = tells_weaker _ (bytes_tell at 2 value at h (omega arith)) (λ s q. q.0) (λ rest t e told. told) (λ a t q. q)
   put_apart_tells at Long value h =
       let byte : Piece = record { at = at; len = 1 } in
       let next : (at + 2) % 2 ^ 32 < 2 ^ 32 = omega arith in
@@ -74,18 +80,20 @@ module _ {S : Type 0} (x : Guarded S) (space : Space) (g : Guards x space) where
             g.opens.call (Write space byte (part_of value 4 1)) s q.0 (g.writes byte (part_of value 4 1) s q.0 (byte_placed at h));
         refused = λ s u fault q no e same. ((Write space byte (part_of value 4 1), refl, ap (λ r. r.0) e), inl (q.1, refl));
       })))
-      (λ done. bytes_tell ((at + 2) % 2 ^ 32) 3 value at next)
+      (λ done. bytes_tell ((at + 2) % 2 ^ 32) 3 value at next (omega arith))
 
   -- nothing was written, or the rest is written: the registers are the same
   either_left : (p : Plain) (rest : Routine (Result (Unit {0}) WriteFault)) (t : S) (e : WriteFault)
-      → (x.unwritten t × (e.rest.items ≡ [])) ⊎ SameCalls rest (write_all space e.first e.rest.items >> Return (Ok tt))
+      → (x.unwritten t × (e.rest.items ≡ []))
+      ⊎ (IsRest e.rest.items × SameCalls rest (write_all space e.first e.rest.items >> Return (Ok tt)))
       → WriteLeft x space p (writing p rest >>= λ done. Return (carried p)) t e p
   either_left p rest t e (inl a) = inl ((a.0, refl), a.1)
   either_left p rest t e (inr s) = inr (
+    s.0,
     record { flow = false; plain = p },
     refl,
     goes_to_end _ tt (λ (done : Unit {0}). let end : Carried = record { flow = false; plain = p } in end) (tree_of (write_all space e.first e.rest.items))
-        (tree_of rest) s,
+        (tree_of rest) s.1,
   )
 
 module _ {S : Type 0} (x : Guarded S) (space : Space) (g : Guards x space) {moves : Movem → Type 0} where

@@ -1,6 +1,6 @@
 -- Pieces that are read or written one after the other.
-use Rattle.std.specs.Prelude.{◌≡◌, refl, ℕ, ◌+◌, ◌*◌, ◌^◌, ◌<◌, Result, Ok, List, [], ◌∷◌}
-use Rattle.std.proofs.Common.{ap}
+use Rattle.std.specs.Prelude.{◌≡◌, refl, ℕ, ◌+◌, ◌*◌, ◌^◌, ◌<◌, ◌≤◌, Result, Ok, List, [], ◌∷◌, length}
+use Rattle.std.proofs.Common.{ap, arith}
 use Rattle.mb_port.specs.Routine.{Call, Read, Write, Routine, failing, read, write}
 use Rattle.mb_port.specs.Pieces.{split_of}
 use Rattle.mb_port.specs.declared.types.Space.{Space}
@@ -15,9 +15,9 @@ use Rattle.mb_frames.specs.AccessFields.{piece_of}
 use Rattle.mb_writes.specs.declared.ends.WriteFault.{WriteFault}
 use Rattle.mb_writes.specs.Writing.{pending_of, left_by, write_all, put_of}
 use Rattle.mb_tells.specs.Guarded.{Guarded, Guards, Goes, IsReading, quiet}
-use Rattle.mb_tells.specs.Left.{Answered, SameCalls, Resumes, here, later, Telling}
+use Rattle.mb_tells.specs.Left.{Answered, AreOwn, IsRest, SameCalls, Resumes, here, later, Telling}
 use Rattle.mb_tells.proofs.Resumed.{resumes_then}
-use Rattle.mb_tells.proofs.Apart.{ApartFrom, Spread, ArePlaced, CanBeWritten, split_placed, pending_placed, pending_spread}
+use Rattle.mb_tells.proofs.Apart.{ApartFrom, Spread, ArePlaced, split_placed, pending_own, pending_few, pending_spread}
 
 -- ---- reading
 
@@ -39,6 +39,7 @@ noting_guards x space g K keep = record {
   probes = g.probes;
   words = g.words;
   lines = g.lines;
+  line_faults = g.line_faults;
   still = λ c s r go u. (g.still c s r go u.0, keep c s r go u.1);
   reads_keep = g.reads_keep;
   writes_keep = g.writes_keep;
@@ -109,32 +110,32 @@ kept_apart x space g K p value (q ∷ qs) keep apart = (
 abbrev pub PutLeft : {S : Type 0} → Guarded S → Space → ℕ → Routine (Result (Unit {0}) WriteFault) → Fact S (Unit {0}) WriteFault
 PutLeft x space first whole rest t refused = Answered x rest t refused.fault
     × (refused.first ≡ first) × SameCalls rest (write_all space refused.first refused.rest.items)
-    × Resumes (λ c answer. x.stands c answer t) (tree_of whole) (tree_of rest)
+    × Resumes (λ c answer. x.stands c answer t) (tree_of whole) (tree_of rest) × IsRest refused.rest.items
 
 all_tell : {S : Type 0} (x : Guarded S) (space : Space) (g : Guards x space) (K : S → Type 0) (first : ℕ) (ps : List Pend)
-    → CanBeWritten ps → Spread ps → KeptBy x space K ps
+    → AreOwn ps → length ps ≤ 3 → Spread ps → KeptBy x space K ps
     → let m = write_all space first ps in
     Telling x (λ s. x.serving s × K s) m (λ rest t e. PutLeft x space first m rest t e × K t) (λ done s. x.serving s × K s)
 unfolding KeptBy
-all_tell x space g K first [] are spread keep = tells_ok tt (λ s q. q)
-all_tell {S} x space g K first (p ∷ ps) are spread keep =
+all_tell x space g K first [] are few spread keep = tells_ok tt (λ s q. q)
+all_tell {S} x space g K first (p ∷ ps) are few spread keep =
     tells_bind {mid = λ done s. x.serving s × K s × x.stands (Write space (piece_of p) p.value) (Ok tt) s}
     (failing (left_by first (p ∷ ps)) (write space (piece_of p) p.value)) (λ done. write_all space first ps)
     (tells_failing (left_by first (p ∷ ps)) (write space (piece_of p) p.value)
     (tells_write g.refuses space (piece_of p) p.value (record {
-      lawfully = λ s q. g.writes (piece_of p) p.value s q.0 are.0;
+      lawfully = λ s q. g.writes (piece_of p) p.value s q.0 are.0.placed;
       well = λ s done q yes e.
-          let go : Goes x (Write space (piece_of p) p.value) s = (q.0, g.writes (piece_of p) p.value s q.0 are.0, yes) in
+          let go : Goes x (Write space (piece_of p) p.value) s = (q.0, g.writes (piece_of p) p.value s q.0 are.0.placed, yes) in
           (g.opens.call (Write space (piece_of p) p.value) s q.0 go.1, keep.0 s go q.1, g.written_again (piece_of p) p.value s go e);
       refused = λ s u fault q no e same.
-          (((Write space (piece_of p) p.value, refl, ap (λ r. r.0) e), refl, refl, here), q.1);
+          (((Write space (piece_of p) p.value, refl, ap (λ r. r.0) e), refl, refl, here, record { some = omega arith; few = few; own = are }), q.1);
     })))
     (λ done.
     tells_weaker (write_all space first ps)
-    (all_tell x space g (λ s. K s × x.stands (Write space (piece_of p) p.value) (Ok tt) s) first ps are.1 spread.1
+    (all_tell x space g (λ s. K s × x.stands (Write space (piece_of p) p.value) (Ok tt) s) first ps are.1 (omega arith) spread.1
     (kept_apart x space g K (piece_of p) p.value ps keep.1 spread.0))
     (λ s q. (q.0, (q.1, q.2)))
-    (λ rest t e told. ((told.0.0, told.0.1, told.0.2, later (Write space (piece_of p) p.value) (Ok tt) told.1.1 told.0.3), told.1.0))
+    (λ rest t e told. ((told.0.0, told.0.1, told.0.2, later (Write space (piece_of p) p.value) (Ok tt) told.1.1 told.0.3, told.0.4), told.1.0))
     (λ a t q. (q.0, q.1.0)))
 
 -- nothing is to be kept
@@ -144,10 +145,10 @@ kept_none x space [] = tt
 kept_none x space (p ∷ ps) = (λ s go k. tt, kept_none x space ps)
 
 -- pieces that are written
-pub pending_tell : {S : Type 0} (x : Guarded S) (space : Space) (g : Guards x space) (first : ℕ) (ps : List Pend) → CanBeWritten ps → Spread ps
+pub pending_tell : {S : Type 0} (x : Guarded S) (space : Space) (g : Guards x space) (first : ℕ) (ps : List Pend) → AreOwn ps → length ps ≤ 3 → Spread ps
     → let m = write_all space first ps in Telling x x.serving m (PutLeft x space first m) (λ done s. x.serving s)
-pending_tell x space g first ps are spread =
-    tells_weaker (write_all space first ps) (all_tell x space g (λ s. Unit {0}) first ps are spread (kept_none x space ps))
+pending_tell x space g first ps are few spread =
+    tells_weaker (write_all space first ps) (all_tell x space g (λ s. Unit {0}) first ps are few spread (kept_none x space ps))
     (λ s q. (q, tt)) (λ rest t e told. told.0) (λ a t q. q.0)
 
 -- an operand that is written
@@ -155,4 +156,4 @@ pub put_tells : {S : Type 0} (x : Guarded S) (space : Space) (g : Guards x space
     → let m = put_of space at len value in Telling x x.serving m (PutLeft x space at m) (λ done s. x.serving s)
 unfolding put_of
 put_tells x space g at len value h =
-    pending_tell x space g at (pending_of at len value) (pending_placed at len value h) (pending_spread at len value)
+    pending_tell x space g at (pending_of at len value) (pending_own at len value h) (pending_few at len value) (pending_spread at len value)

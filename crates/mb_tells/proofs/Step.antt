@@ -1,11 +1,11 @@
 -- Each row, the fetch of an instruction, and the attempt.
-use Rattle.std.specs.Prelude.{◌≡◌, refl, true, false, ℕ, zero, suc, ◌+◌, ◌%◌, ◌^◌, ◌<◌, ◌==◌, List, [], ◌∷◌, ◌++◌}
+use Rattle.std.specs.Prelude.{◌≡◌, refl, true, false, ℕ, zero, suc, ◌+◌, ◌%◌, ◌^◌, ◌<◌, ◌==◌, Ok, List, [], ◌∷◌, ◌++◌}
 use Rattle.std.proofs.Common.{ap, arith}
 use Rattle.std.proofs.lemmas.Bool.Decides.{nat_tests}
-use Rattle.mb_port.specs.Routine.{Routine, Fetch, fetch, failing, either, Then}
+use Rattle.mb_port.specs.Routine.{Routine, Fetch, fetch, failing, either, run, Then}
 use Rattle.mb_port.specs.declared.types.Space.{Space}
 use Rattle.mb_laws.specs.Refusal.{Fact}
-use Rattle.mb_laws.proofs.Told.{tells_ok, tells_err, tells_bind, tells_failing, tells_caught, tells_choose, tells_weaker, tells_fetch}
+use Rattle.mb_laws.proofs.Told.{tells_ok, tells_err, tells_bind, tells_failing, tells_caught, tells_choose, tells_weaker, tells_from, tells_fetch}
 use Rattle.mb_instr.specs.declared.instruction.Instr.{Instr}
 use Rattle.mb_instr.specs.declared.instruction.Instr.TheVariants as instr
 use Rattle.mb_instr.specs.declared.instruction.Move.{Move}
@@ -41,10 +41,10 @@ use Rattle.mb_writes.specs.declared.ends.Ended.TheVariants as ended
 use Rattle.mb_writes.specs.declared.transfers.Movem.{Movem}
 use Rattle.mb_meaning.specs.Ends.{Performed}
 use Rattle.mb_meaning.specs.Rows.{perform_move_of, perform_arith_of, perform_flow_of, perform_of}
-use Rattle.mb_meaning.specs.Attempt.{Found, judged, found_of, fetched_of, past, most_words, attempt_of}
+use Rattle.mb_meaning.specs.Attempt.{Unfound, NoInstruction, Unfetched, end_without, Found, judged, found_of, fetched_of, past, most_words, attempt_of}
 use Rattle.mb_tells.specs.Guarded.{Guarded, Guards, Goes, quiet}
 use Rattle.mb_tells.specs.Left.{Answered, LeftBy, Telling, Row, Attempt}
-use Rattle.mb_tells.specs.Laws.{AreLongs, HasLongs, is_movem, moves, moves_any}
+use Rattle.mb_tells.specs.Laws.{AreLongs, HasLongs, is_movem, moves, moves_fetched}
 use Rattle.mb_tells.proofs.Ranges.{formed, formed_behind_word, formed_behind_immediate}
 use Rattle.mb_tells.proofs.Parts.{knowing, row_done, row_ends}
 use Rattle.mb_tells.proofs.Moves.{move_tells, movea_tells, lea_tells, to_ccr_tells, from_ccr_tells, scc_tells}
@@ -67,9 +67,9 @@ use Rattle.mb_fields.specs.Packing.{pack_of, unpk_of}
 use Rattle.mb_meaning.specs.Decimals.{negated_decimal}
 
 -- an end of a part that fetches, at a refused call
-unfoldable pub FoundLeft : {S A : Type 0} → Guarded S → Fact S A Ended
-FoundLeft x rest t (ended.ReadFault refused) = Answered x rest t refused.fault × x.unwritten t
-FoundLeft x rest t _ = ⊥
+unfoldable pub FoundLeft : {S A : Type 0} → Guarded S → Fact S A Unfound
+FoundLeft x rest t (Unfetched refused) = Answered x rest t refused.fault × x.unwritten t
+FoundLeft x rest t (NoInstruction vector) = ⊥
 
 -- what is said of one MOVEM, is said of any
 looser : {S : Type 0} (x : Guarded S) (space : Space) (before : Plain) (these others : Movem → Type 0) (rest : Routine Performed) (t : S) (e : Ended)
@@ -236,9 +236,9 @@ module _ {S : Type 0} (x : Guarded S) (space : Space) (g : Guards x space) where
   unfolding found_of Founds FoundLeft
   found_tells zero at words are even lt = tells_err _
   found_tells (suc n) at words are even lt =
-      tells_bind {mid = λ word s. quiet x s × (word < 2 ^ 16)} (failing (λ fault. ended.ReadFault (refused_in at fault)) (fetch space at))
+      tells_bind {mid = λ word s. quiet x s × (word < 2 ^ 16)} (failing (λ fault. Unfetched (refused_in at fault)) (fetch space at))
       (λ word. judged (decode_of (words ++ word ∷ [])) (found_of n space ((at + 2) % 2 ^ 32) (words ++ word ∷ [])))
-      (tells_failing (λ fault. ended.ReadFault (refused_in at fault)) (fetch space at) (tells_fetch g.refuses space at (record {
+      (tells_failing (λ fault. Unfetched (refused_in at fault)) (fetch space at) (tells_fetch g.refuses space at (record {
         lawfully = λ s q. g.fetches at s q.0 even lt;
         well = λ s word q yes e.
             let go : Goes x (Fetch space at) s = (q.0, g.fetches at s q.0 even lt, yes) in
@@ -251,11 +251,11 @@ module _ {S : Type 0} (x : Guarded S) (space : Space) (g : Guards x space) where
       (found_tells n ((at + 2) % 2 ^ 32) (words ++ word ∷ []) more (omega arith) (omega arith))))
 
   -- no instruction was found, and none of the registers changed
-  none_found : (p : Plain) (n : Movem → Type 0) (rest : Routine Found) (f : Instr × ℕ → Routine Performed) (g : Ended → Routine Performed) (t : S) (e : Ended)
-      → FoundLeft x rest t e → LeftBy x space p n (Then rest (λ r. either r g f)) t e p
+  none_found : (p : Plain) (n : Movem → Type 0) (rest : Routine Found) (f : Instr × ℕ → Routine Performed) (g : Unfound → Routine Performed)
+      (t : S) (e : Unfound) → FoundLeft x rest t e → LeftBy x space p n (Then rest (λ r. either r g f)) t (end_without e) p
   unfolding FoundLeft
-  none_found p n rest f g t (ended.ReadFault refused) told = (told.0, (told.1, refl))
-  none_found p n rest f g t _ told = absurd told
+  none_found p n rest f g t (Unfetched refused) told = (told.0, (told.1, refl))
+  none_found p n rest f g t (NoInstruction vector) told = absurd told
 
   is_even : (n : ℕ) → (n % 2 == 1) ≡ false → n % 2 ≡ 0
   is_even n h = grind (arith, nat_tests)
@@ -265,18 +265,20 @@ module _ {S : Type 0} (x : Guarded S) (space : Space) (g : Guards x space) where
   fetched_tells pc lt =
       tells_choose (pc % 2 == 1) _ _ (λ odd. tells_err _) (λ even. found_tells most_words pc [] AreWords-nil (is_even pc even) lt)
 
-  pub attempt_tells : (p : Plain) → HasLongs p → p.pc < 2 ^ 32 → Attempt x space p moves_any (attempt_of space p)
+  pub attempt_tells : (p : Plain) (s : S) → HasLongs p → p.pc < 2 ^ 32
+      → Attempt x space p s (moves_fetched x.bus space p.pc s) (attempt_of space p)
   unfolding attempt_of Founds
-  attempt_tells p longs lt =
-      tells_caught (fetched_of space p.pc) (λ end. record { ended = end; plain = p })
+  attempt_tells p s longs lt =
+      let these : Movem → Type 0 = moves_fetched x.bus space p.pc s in
+      tells_caught (fetched_of space p.pc) (λ unfound. record { ended = end_without unfound; plain = p })
       (λ found. perform_of found.0 p.pc space (past found.1 p))
-      (tells_weaker (fetched_of space p.pc) (fetched_tells p.pc lt) (λ s q. q)
-      (λ rest t e told. (p, refl, none_found p moves_any rest _ _ t e told)) (λ a t q. q))
-      (λ found. knowing x (quiet x) (IsInstr found.0) _ _ _ (λ is.
-      tells_weaker _ (perform_tells found.0 p.pc (past found.1 p) is longs) (λ s q. q)
+      (tells_weaker (fetched_of space p.pc) (tells_from (fetched_of space p.pc) s (fetched_tells p.pc lt)) (λ t q. q)
+      (λ rest t e told. (p, refl, none_found p these rest _ _ t e told)) (λ found t q. (q.0.0, (q.0.1, q.1))))
+      (λ found. knowing x (quiet x) (IsInstr found.0 × ((run x.bus (fetched_of space p.pc) s).0 ≡ Ok found)) _ _ _ (λ is.
+      tells_weaker _ (perform_tells found.0 p.pc (past found.1 p) is.0 longs) (λ t q. q)
       (λ rest t e told. (
         past found.1 p,
         refl,
-        looser x space (past found.1 p) (moves found.0) moves_any rest t e.ended e.plain (λ m is. (found.0, is)) told,
+        looser x space (past found.1 p) (moves found.0) these rest t e.ended e.plain (λ m this. (found.0, found.1, is.1, this)) told,
       ))
       (λ a t q. q)))

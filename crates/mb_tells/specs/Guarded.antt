@@ -1,10 +1,11 @@
 -- A bus that refuses some calls, as instructions in one space meet it.
-use Rattle.std.specs.Prelude.{◌≡◌, ◌⊎◌, ℕ, ◌+◌, ◌%◌, ◌^◌, ◌<◌, ◌≤◌, Bool, true, Ok, List, length}
+use Rattle.std.specs.Prelude.{◌≡◌, ◌⊎◌, ℕ, ◌+◌, ◌%◌, ◌^◌, ◌<◌, ◌≤◌, Bool, true, false, Ok, Err, List, length}
 use Rattle.mb_port.specs.Routine.{Call, Answer, Fetch, Read, Write, ReadLine, WriteLine, Probe, Get, Put, ReadMmu}
 use Rattle.mb_port.specs.Routine.{SetMmu, FlushKept, Test, ResetDevices, Bus}
 use Rattle.mb_port.specs.Pieces.{IsPiece}
 use Rattle.mb_port.specs.declared.types.Space.{Space}
 use Rattle.mb_port.specs.declared.types.Piece.{Piece}
+use Rattle.mb_port.specs.declared.types.Fault.{Fault}
 use Rattle.mb_laws.specs.Refusal.{Refuses}
 use Rattle.mb_laws.specs.Probing.{OpensProbed}
 
@@ -50,6 +51,10 @@ Apart p q = (p.at % 4096 + p.len ≤ q.at % 4096) ⊎ (q.at % 4096 + q.len ≤ p
 abbrev pub Goes : {S : Type 0} → Guarded S → Call → S → Type 0
 Goes x c s = x.serving s × x.lawful c s × (x.allowed c s ≡ true)
 
+-- The call is lawful in a state that serves, and is refused.
+abbrev pub IsRefused : {S : Type 0} → Guarded S → Call → S → Type 0
+IsRefused x c s = x.serving s × x.lawful c s × (x.allowed c s ≡ false)
+
 -- a piece of an operand in memory
 abbrev pub IsPlaced : Piece → Type 0
 IsPlaced piece = IsPiece piece × (piece.at < 2 ^ 32)
@@ -77,6 +82,9 @@ pub record Guards {S : Type 0} (x : Guarded S) (space : Space) : Type 0 where
       → word < 2 ^ 16
   pub lines : (at : ℕ) (line : List ℕ) (s : S) → Goes x (ReadLine space at) s
       → (x.bus (ReadLine space at) s).0 ≡ Ok line → length line ≡ 4
+  -- the fault of a refused line is at its address
+  pub line_faults : (at : ℕ) (line : List ℕ) (s : S) (fault : Fault) → IsRefused x (WriteLine space at line) s
+      → (x.bus (WriteLine space at line) s).0 ≡ Err fault → fault.at ≡ at
   -- what only reads keeps that nothing was written, and what stands
   pub still : (c : Call) (s : S) → IsReading c → Goes x c s → x.unwritten s → x.unwritten ((x.bus c s).1)
   pub reads_keep : (c : Call) (s : S) (d : Call) (answer : Answer d) → IsReading c → Goes x c s → x.stands d answer s

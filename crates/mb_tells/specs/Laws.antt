@@ -1,5 +1,5 @@
 -- What a refused call tells of each instruction, as clauses say it: with tests for facts of states.
-use Rattle.std.specs.Prelude.{◌≡◌, ℕ, ◌<◌, ◌^◌, Bool, true, false, IsTrue, List, All}
+use Rattle.std.specs.Prelude.{◌≡◌, ℕ, ◌<◌, ◌^◌, Bool, true, false, IsTrue, Ok, List, All}
 use Rattle.mb_port.specs.Routine.{Call, Answer, Bus, run}
 use Rattle.mb_port.specs.declared.types.Space.{Space}
 use Rattle.mb_laws.specs.Tree.{Tree, routine_of}
@@ -12,7 +12,7 @@ use Rattle.mb_instr.specs.Codes.{IsInstr}
 use Rattle.mb_writes.specs.declared.transfers.Movem.{Movem}
 use Rattle.mb_meaning.specs.Moves.{movem_by}
 use Rattle.mb_meaning.specs.Rows.{perform_of}
-use Rattle.mb_meaning.specs.Attempt.{attempt_of}
+use Rattle.mb_meaning.specs.Attempt.{fetched_of, attempt_of}
 use Rattle.mb_tells.specs.Guarded.{Guarded, Guards}
 use Rattle.mb_tells.specs.Left.{Resumes, Row, Attempt}
 
@@ -27,9 +27,10 @@ abbrev pub moves : Instr → Movem → Type 0
 moves (instr.Move i) m = is_movem i m
 moves _ m = ⊥
 
--- some instruction's
-abbrev pub moves_any : Movem → Type 0
-moves_any m = (i : Instr) × moves i m
+-- which MOVEM the instruction is that is fetched at PC from this state on
+abbrev pub moves_fetched : {S : Type 0} → Bus S → Space → ℕ → S → Movem → Type 0
+moves_fetched bus space pc s m =
+    (i : Instr) × (n : ℕ) × ((run bus (fetched_of space pc) s).0 ≡ Ok (i, n)) × moves i m
 
 -- a bus that refuses calls, with what is said of its states by tests
 pub record Tested (S : Type 0) : Type 0 where
@@ -69,7 +70,8 @@ RowsTell S = (x : Tested S) (space : Space) → Guards (guarded_of x) space
 -- a whole attempt, with the fetching of its words
 abbrev pub AttemptsTell : Type 0 → Type 0
 AttemptsTell S = (x : Tested S) (space : Space) → Guards (guarded_of x) space
-    → (p : Plain) → HasLongs p → p.pc < 2 ^ 32 → Attempt (guarded_of x) space p moves_any (attempt_of space p)
+    → (p : Plain) (s : S) → HasLongs p → p.pc < 2 ^ 32
+    → Attempt (guarded_of x) space p s (moves_fetched x.bus space p.pc s) (attempt_of space p)
 
 -- What resumes the whole, where the calls before it stand, does what the whole does, over every bus: so a MOVEM goes on
 -- from its refused transfer.

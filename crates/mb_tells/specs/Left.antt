@@ -1,6 +1,7 @@
 -- What the end of an instruction says of what was left to do, where one of its calls was refused.
-use Rattle.std.specs.Prelude.{◌≡◌, ◌⊎◌, ℕ, Some, Result, Ok, List, []}
+use Rattle.std.specs.Prelude.{◌≡◌, ◌⊎◌, ℕ, ◌<◌, ◌≤◌, Some, Result, Ok, List, [], ◌∷◌, length}
 use Rattle.mb_port.specs.Routine.{Call, Answer, Routine, Return, ◌>>=◌, ◌>>◌, write_line}
+use Rattle.mb_port.specs.Pieces.{span_of}
 use Rattle.mb_port.specs.declared.types.Space.{Space}
 use Rattle.mb_port.specs.declared.types.Fault.{Fault}
 use Rattle.mb_laws.specs.Until.{first_call}
@@ -8,6 +9,7 @@ use Rattle.mb_laws.specs.Refusal.{IsFault, Fact, Tells}
 use Rattle.mb_laws.specs.Tree.{Tree, Do, tree_of}
 use Rattle.mb_instr.specs.declared.registers.Plain.{Plain}
 use Rattle.mb_frames.specs.declared.pend.Pend.{Pend}
+use Rattle.mb_frames.specs.AccessFields.{piece_of}
 use Rattle.mb_writes.specs.declared.transfers.Movem.{Movem}
 use Rattle.mb_writes.specs.declared.ends.Ended.{Ended}
 use Rattle.mb_writes.specs.declared.ends.Ended.TheVariants as ended
@@ -17,7 +19,7 @@ use Rattle.mb_writes.specs.Writing.{write_all}
 use Rattle.mb_writes.specs.Moving.{transfer_of}
 use Rattle.mb_meaning.specs.Ends.{Carried, Stopped, Performed, carried, writing, ending}
 use Rattle.mb_meaning.specs.Moves.{transferring}
-use Rattle.mb_tells.specs.Guarded.{Guarded, quiet}
+use Rattle.mb_tells.specs.Guarded.{Guarded, IsPlaced, quiet}
 
 -- The routines make the same calls, whatever is answered, and end alike: they do the same over every bus.
 abbrev pub SameCalls : {A : Type 0} → Routine A → Routine A → Type 0
@@ -50,9 +52,24 @@ moving m first done space p = transferring (transfer_of m first done space p) >>
 abbrev pub Again : {S : Type 0} → Guarded S → Plain → S → Plain → Type 0
 Again x before t after = x.unwritten t × (after ≡ before)
 
+-- a piece of memory to be written, with a value that has no byte above it
+pub record IsOwn (p : Pend) : Type 0 where
+  pub placed : IsPlaced (piece_of p)
+  pub value : p.value < span_of (piece_of p)
+
+abbrev pub AreOwn : List Pend → Type 0
+AreOwn [] = Unit {0}
+AreOwn (p ∷ ps) = IsOwn p × AreOwn ps
+
+-- one to three such pieces
+pub record IsRest (pieces : List Pend) : Type 0 where
+  pub some : 1 ≤ length pieces
+  pub few : length pieces ≤ 3
+  pub own : AreOwn pieces
+
 -- The rest is to write the pieces that the fault names, and no more.
 abbrev pub Completes : Space → Routine Performed → WriteFault → Plain → Type 0
-Completes space rest refused after = (done : Carried) × (done.plain ≡ after)
+Completes space rest refused after = IsRest refused.rest.items × (done : Carried) × (done.plain ≡ after)
     × SameCalls rest (completing space refused.first refused.rest.items done)
 
 -- A refused write that names no piece wrote none, and the instruction begins again.
@@ -61,10 +78,10 @@ abbrev pub WriteLeft : {S : Type 0} → Guarded S → Space → Plain → Routin
 WriteLeft x space before rest t refused after =
     (Again x before t after × (refused.rest.items ≡ [])) ⊎ Completes space rest refused after
 
--- The rest is to write the line that the fault names, and no more.
-abbrev pub CompletesLine : Space → Routine Performed → List ℕ → Plain → Type 0
-CompletesLine space rest line after = (at : ℕ) × (done : Carried) × (done.plain ≡ after)
-    × SameCalls rest (line_completing space at line done)
+-- The rest is to write the line of four longs, at the fault's address, and no more.
+abbrev pub CompletesLine : Space → Routine Performed → Fault → List ℕ → Plain → Type 0
+CompletesLine space rest fault line after = (length line ≡ 4) × (done : Carried) × (done.plain ≡ after)
+    × SameCalls rest (line_completing space fault.at line done)
 
 -- The rest is the MOVEM from the refused transfer on, with the registers that it has now. It begins at the refused
 -- piece of that transfer: the pieces before it stand, so that the transfer can be done again from its first byte.
@@ -86,7 +103,7 @@ LeftBy x space before moves rest t (ended.ReadFault refused) after =
 LeftBy x space before moves rest t (ended.WriteFault refused) after = Answered x rest t refused.fault
     × WriteLeft x space before rest t refused after
 LeftBy x space before moves rest t (ended.LineFault fault line) after = Answered x rest t fault
-    × CompletesLine space rest line after
+    × CompletesLine space rest fault line after
 LeftBy x space before moves rest t (ended.Movem refused) after = Answered x rest t refused.fault
     × Continues x space moves rest t refused after
 
@@ -102,9 +119,9 @@ Telling x before m fact after = Tells x.same x.lawful x.allowed x.bus before m f
 abbrev pub Row : {S : Type 0} → Guarded S → Space → Plain → (Movem → Type 0) → Routine Performed → Type 0
 Row x space before moves m = Telling x (quiet x) m (Left x space before moves) (λ done s. x.serving s)
 
--- The same of a whole attempt: the registers before it are these but for PC, which is past the words of the instruction
--- where they are fetched.
-abbrev pub Attempt : {S : Type 0} → Guarded S → Space → Plain → (Movem → Type 0) → Routine Performed → Type 0
-Attempt x space p moves m = Telling x (quiet x) m
+-- The same of a whole attempt that begins in this state: the registers before it are these but for PC, which is past
+-- the words of the instruction where they are fetched.
+abbrev pub Attempt : {S : Type 0} → Guarded S → Space → Plain → S → (Movem → Type 0) → Routine Performed → Type 0
+Attempt x space p s moves m = Telling x (λ t. quiet x t × (t ≡ s)) m
     (λ rest t stop. (before : Plain) × (record before { pc = p.pc } ≡ p) × Left x space before moves rest t stop)
-    (λ done s. x.serving s)
+    (λ done t. x.serving t)

@@ -1,5 +1,6 @@
 -- What compares with bounds.
 use Rattle.std.specs.Prelude.{refl, ℕ, ◌||◌}
+use Rattle.std.proofs.Common.{inl, inr}
 use Rattle.mb_laws.specs.Twin.{returned}
 use Rattle.mb_laws.specs.Between.{Setting}
 use Rattle.mb_instr.specs.declared.size.Size.{Size}
@@ -20,7 +21,7 @@ use Rattle.mb_twins.proofs.Flow.{either_same}
 checked_same : (x : Setting) (size : Size) (bound value : ℕ) (p : Plain) → SamePerformed x (checked size bound value p) (checked size bound value p)
 unfolding checked
 checked_same x size bound value p =
-    either_same x (is_below size value || is_above size bound value) (stopped out_of_bounds _) (carried p) (refl, refl) refl
+    either_same x (is_below size value || is_above size bound value) (stopped out_of_bounds _) (carried p) ((refl, inr (inl refl)), refl) refl
 
 pub chk_twins : (x : Setting) (n : ℕ) (size : Size) (ea : Ea) (word_at : ℕ) (p : Plain)
     → Rows x (chk_of n size ea word_at x.here p) (chk_of n size ea word_at x.there p)
@@ -44,7 +45,7 @@ cmp2_twins x size ea w word_at p = then_twins x (SameStop x) (reading_twins x p 
 
 checked_carry_same : (x : Setting) (p : Plain) → SamePerformed x (checked_carry p) (checked_carry p)
 unfolding checked_carry
-checked_carry_same x p = either_same x (conditions_of p.ccr).c (stopped out_of_bounds p) (carried p) (refl, refl) refl
+checked_carry_same x p = either_same x (conditions_of p.ccr).c (stopped out_of_bounds p) (carried p) ((refl, inr (inl refl)), refl) refl
 
 pub chk2_twins : (x : Setting) (size : Size) (ea : Ea) (w word_at : ℕ) (p : Plain)
     → Rows x (chk2_of size ea w word_at x.here p) (chk2_of size ea w word_at x.there p)

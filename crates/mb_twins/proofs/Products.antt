@@ -1,5 +1,6 @@
 -- Division, which can end by a trap.
 use Rattle.std.specs.Prelude.{refl, ℕ, Bool}
+use Rattle.std.proofs.Common.{inl}
 use Rattle.mb_laws.specs.Between.{Setting}
 use Rattle.mb_instr.specs.Registers.{data_register}
 use Rattle.mb_instr.specs.declared.registers.Plain.{Plain}
@@ -13,7 +14,7 @@ use Rattle.mb_twins.specs.Twins.{SamePerformed}
 by_word_same : (x : Setting) (n : ℕ) (d : Divided) (p : Plain) → SamePerformed x (divided_by_word n d p) (divided_by_word n d p)
 by_word_same x n (Done quotient remainder ccr) p = refl
 by_word_same x n (Overflow ccr) p = refl
-by_word_same x n (ZeroDivide ccr) p = (refl, refl)
+by_word_same x n (ZeroDivide ccr) p = ((refl, inl refl), refl)
 
 pub word_divided_same : (x : Setting) (signed : Bool) (n value : ℕ) (p : Plain)
     → SamePerformed x (word_divided signed n value p) (word_divided signed n value p)
@@ -22,7 +23,7 @@ word_divided_same x signed n value p = by_word_same x n (div_of signed Word valu
 by_long_same : (x : Setting) (word : ℕ) (d : Divided) (p : Plain) → SamePerformed x (divided_by_long word d p) (divided_by_long word d p)
 by_long_same x word (Done quotient remainder ccr) p = refl
 by_long_same x word (Overflow ccr) p = refl
-by_long_same x word (ZeroDivide ccr) p = (refl, refl)
+by_long_same x word (ZeroDivide ccr) p = ((refl, inl refl), refl)
 
 pub long_divided_same : (x : Setting) (word value : ℕ) (p : Plain) → SamePerformed x (long_divided word value p) (long_divided word value p)
 long_divided_same x word value p =

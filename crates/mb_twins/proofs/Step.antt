@@ -1,10 +1,13 @@
 -- Each row, the fetch of an instruction, and the attempt.
-use Rattle.std.specs.Prelude.{◌≡◌, refl, true, false, ℕ, zero, suc, ◌+◌, ◌%◌, ◌^◌, ◌==◌, List, [], ◌∷◌, ◌++◌}
+use Rattle.std.specs.Prelude.{◌≡◌, refl, true, false, ℕ, zero, suc, ◌+◌, ◌%◌, ◌^◌, ◌<◌, ◌==◌, List, [], ◌∷◌, ◌++◌}
+use Rattle.std.proofs.Common.{arith, sym, subst, inl, inr}
+use Rattle.std.proofs.lemmas.Bool.Decides.{nat_tests}
 use Rattle.mb_port.specs.Routine.{Routine}
-use Rattle.mb_laws.specs.Twin.{returned}
-use Rattle.mb_laws.specs.Between.{Setting, SameFault, between}
-use Rattle.mb_laws.proofs.Twinned.{twins_choose}
-use Rattle.mb_laws.proofs.Between.{twin_fetch, twins_caught_same}
+use Rattle.mb_port.specs.declared.types.Space.{Space}
+use Rattle.mb_laws.specs.Twin.{Twin, returned, Results}
+use Rattle.mb_laws.specs.Between.{Setting, SameWord, SameFault, between}
+use Rattle.mb_laws.proofs.Twinned.{twins_bind, twins_caught, twins_failing, twins_choose}
+use Rattle.mb_laws.proofs.Between.{twin_fetch}
 use Rattle.mb_instr.specs.declared.size.Size.TheVariants.{Byte, Word, Long}
 use Rattle.mb_instr.specs.declared.instruction.Instr.{Instr}
 use Rattle.mb_instr.specs.declared.instruction.Instr.TheVariants as instr
@@ -17,8 +20,12 @@ use Rattle.mb_instr.specs.declared.instruction.Flow.TheVariants as flow
 use Rattle.mb_instr.specs.declared.registers.Plain.{Plain}
 use Rattle.mb_instr.specs.Sizes.{sign_extended}
 use Rattle.mb_decode.specs.declared.front.Decoded.{Decoded}
-use Rattle.mb_decode.specs.declared.front.Decoded.TheVariants.{More, Whole}
-use Rattle.mb_decode.specs.Decodes.{decode_of}
+use Rattle.mb_decode.specs.declared.front.Decoded.TheVariants.{Whole, More, Illegal, LineA, LineF}
+use Rattle.mb_decode.specs.Decodes.{decode_of, IfWhole}
+use Rattle.mb_decode.proofs.Table as table
+use Rattle.mb_instr.specs.Rows.{row}
+use Rattle.mb_instr.specs.Codes.{IsInstr, AreWords}
+use Rattle.mb_instr.proofs.Words.{AreWords-nil, AreWords-cons, AreWords-append}
 use Rattle.mb_instr.specs.declared.operand.Ea.TheVariants.{Dn, Post, Imm}
 use Rattle.mb_alu.specs.declared.bitwise.LogicKind.TheVariants as logic
 use Rattle.mb_alu.specs.Logic.{logic_of}
@@ -34,9 +41,10 @@ use Rattle.mb_fields.specs.Decimals.{abcd_of, sbcd_of}
 use Rattle.mb_fields.specs.Packing.{pack_of, unpk_of}
 use Rattle.mb_meaning.specs.Decimals.{negated_decimal}
 use Rattle.mb_meaning.specs.Rows.{perform_move_of, perform_arith_of, perform_flow_of, perform_of}
-use Rattle.mb_meaning.specs.Attempt.{Found, judged, found_of, fetched_of, past, most_words, attempt_of}
+use Rattle.mb_meaning.specs.Ends.{Performed}
+use Rattle.mb_meaning.specs.Attempt.{Unfound, end_without, Found, judged, found_of, fetched_of, past, most_words, attempt_of}
 use Rattle.mb_twins.specs.Twins.{SameEnd, SamePerformed, MayRefuse}
-use Rattle.mb_twins.proofs.Parts.{Rows, TwinParts, then_twins, failing_twins}
+use Rattle.mb_twins.proofs.Parts.{Rows}
 use Rattle.mb_twins.proofs.Moves.{move_twins, movea_twins, lea_twins, to_ccr_twins, from_ccr_twins, scc_twins}
 use Rattle.mb_twins.proofs.Stack.{pea_twins, link_twins, unlk_twins}
 use Rattle.mb_twins.proofs.Peripheral.{movep_twins}
@@ -131,28 +139,34 @@ perform_arith_twins x (arith.Cas size ea word) word_at p = cas_twins x size ea w
 perform_arith_twins x (arith.Cas2 size first second) word_at p = cas2_twins x size first second p
 perform_arith_twins x (arith.Cmp2 size ea word) word_at p = cmp2_twins x size ea word word_at p
 
-perform_flow_twins : (x : Setting) (i : Flow) (word_at : ℕ) (p : Plain) → Rows x (perform_flow_of i word_at x.here p) (perform_flow_of i word_at x.there p)
-unfolding perform_flow_of
-perform_flow_twins x flow.Nop word_at p = returned refl
-perform_flow_twins x (flow.Bcc condition displacement) word_at p = branch_twins x condition displacement word_at p
-perform_flow_twins x (flow.Dbcc condition register displacement) word_at p = returned (dbcc_same x condition register displacement word_at p)
-perform_flow_twins x (flow.Jmp ea) word_at p = jmp_twins x ea word_at p
-perform_flow_twins x (flow.Jsr ea) word_at p = jsr_twins x ea word_at p
-perform_flow_twins x flow.Rts word_at p = rts_twins x p
-perform_flow_twins x (flow.Rtd displacement) word_at p = rtd_twins x displacement p
-perform_flow_twins x flow.Rtr word_at p = rtr_twins x p
-perform_flow_twins x (flow.Trap number) word_at p = returned (trap_same x number p)
-perform_flow_twins x (flow.Trapcc condition operand) word_at p = returned (trapcc_same x condition p)
-perform_flow_twins x flow.Trapv word_at p = returned (trapv_same x p)
-perform_flow_twins x (flow.Chk register size ea) word_at p = chk_twins x register size ea word_at p
-perform_flow_twins x (flow.Chk2 size ea word) word_at p = chk2_twins x size ea word word_at p
+-- the number of a TRAP of the table
+trap_number : (number : ℕ) → (row (instr.Flow (flow.Trap number))).legal ≡ true → number < 16
+trap_number number legal = grind (arith, nat_tests)
 
-pub perform_twins : (x : Setting) (i : Instr) (at : ℕ) (p : Plain) → MayRefuse x i → Rows x (perform_of i at x.here p) (perform_of i at x.there p)
+perform_flow_twins : (x : Setting) (i : Flow) (word_at : ℕ) (p : Plain) → IsInstr (instr.Flow i)
+    → Rows x (perform_flow_of i word_at x.here p) (perform_flow_of i word_at x.there p)
+unfolding perform_flow_of
+perform_flow_twins x flow.Nop word_at p is = returned refl
+perform_flow_twins x (flow.Bcc condition displacement) word_at p is = branch_twins x condition displacement word_at p
+perform_flow_twins x (flow.Dbcc condition register displacement) word_at p is = returned (dbcc_same x condition register displacement word_at p)
+perform_flow_twins x (flow.Jmp ea) word_at p is = jmp_twins x ea word_at p
+perform_flow_twins x (flow.Jsr ea) word_at p is = jsr_twins x ea word_at p
+perform_flow_twins x flow.Rts word_at p is = rts_twins x p
+perform_flow_twins x (flow.Rtd displacement) word_at p is = rtd_twins x displacement p
+perform_flow_twins x flow.Rtr word_at p is = rtr_twins x p
+perform_flow_twins x (flow.Trap number) word_at p is = returned (trap_same x number p (trap_number number is.legal))
+perform_flow_twins x (flow.Trapcc condition operand) word_at p is = returned (trapcc_same x condition p)
+perform_flow_twins x flow.Trapv word_at p is = returned (trapv_same x p)
+perform_flow_twins x (flow.Chk register size ea) word_at p is = chk_twins x register size ea word_at p
+perform_flow_twins x (flow.Chk2 size ea word) word_at p is = chk2_twins x size ea word word_at p
+
+pub perform_twins : (x : Setting) (i : Instr) (at : ℕ) (p : Plain) → IsInstr i → MayRefuse x i
+    → Rows x (perform_of i at x.here p) (perform_of i at x.there p)
 unfolding perform_of
-perform_twins x (instr.Move i) at p may = perform_move_twins x i (operands_at (move_row i) at) p
-perform_twins x (instr.Arith i) at p may = perform_arith_twins x i (operands_at (arith_row i) at) p
-perform_twins x (instr.Flow i) at p may = perform_flow_twins x i (operands_at (flow_row i) at) p
-perform_twins x (instr.System i) at p may = returned ((may, refl), refl)
+perform_twins x (instr.Move i) at p is may = perform_move_twins x i (operands_at (move_row i) at) p
+perform_twins x (instr.Arith i) at p is may = perform_arith_twins x i (operands_at (arith_row i) at) p
+perform_twins x (instr.Flow i) at p is may = perform_flow_twins x i (operands_at (flow_row i) at) p is
+perform_twins x (instr.System i) at p is may = returned ((may, refl, inr (inr (inl refl))), refl)
 
 -- any instruction, where instructions may be refused
 pub may_refuse : (x : Setting) (i : Instr) → x.refuses ≡ true → MayRefuse x i
@@ -161,29 +175,51 @@ may_refuse x (instr.Arith i) h = tt
 may_refuse x (instr.Flow i) h = tt
 may_refuse x (instr.System i) h = h
 
+-- ends without an instruction that say the same
+abbrev pub SameUnfound : Setting → Unfound → Unfound → Type 0
+SameUnfound x e f = SameEnd x (end_without e) (end_without f)
+
+-- the same instruction, and the table has it
+abbrev pub SameFound : Instr × ℕ → Instr × ℕ → Type 0
+SameFound found other = (found ≡ other) × IsInstr other.0
+
 abbrev pub Founds : Setting → Routine Found → Routine Found → Type 1
-Founds x m n = TwinParts x (SameEnd x) m n
+Founds x m n = Twin (between x) Found Found (Results SameFound (SameUnfound x)) m n
 
-judged_twins : (x : Setting) (d : Decoded) (m n : Routine Found) → x.refuses ≡ true → Founds x m n → Founds x (judged d m) (judged d n)
-judged_twins x More m n h w = w
-judged_twins x (Whole i k) m n h w = returned refl
-judged_twins x _ m n h w = returned (h, refl)
+judged_twins : (x : Setting) (d : Decoded) (m n : Routine Found) → x.refuses ≡ true → IfWhole d (λ i k. IsInstr i) → Founds x m n
+    → Founds x (judged d m) (judged d n)
+judged_twins x More m n h is w = w
+judged_twins x (Whole i k) m n h is w = returned (refl, is)
+judged_twins x Illegal m n h is w = returned (h, refl, inr (inl refl))
+judged_twins x LineA m n h is w = returned (h, refl, inr (inr (inr (inl refl))))
+judged_twins x LineF m n h is w = returned (h, refl, inr (inr (inr (inr refl))))
 
-pub found_twins : (x : Setting) (n at : ℕ) (words : List ℕ) → x.refuses ≡ true → Founds x (found_of n x.here at words) (found_of n x.there at words)
+pub found_twins : (x : Setting) (n at : ℕ) (words : List ℕ) → x.refuses ≡ true → AreWords words
+    → Founds x (found_of n x.here at words) (found_of n x.there at words)
 unfolding found_of
-found_twins x zero at words h = returned (h, refl)
-found_twins x (suc n) at words h =
-    then_twins x (SameEnd x)
-    (failing_twins x (SameFault x) (SameEnd x) (λ e f h. record { fault = h; first = refl }) (twin_fetch x at))
-    (λ word. judged_twins x (decode_of (words ++ word ∷ [])) _ _ h (found_twins x n ((at + 2) % 2 ^ 32) (words ++ word ∷ []) h))
+found_twins x zero at words h are = returned (h, refl, inr (inl refl))
+found_twins x (suc n) at words h are =
+    let next : ℕ = (at + 2) % 2 ^ 32 in
+    let behind : Space → ℕ → Routine Found =
+    λ space word. judged (decode_of (words ++ word ∷ [])) (found_of n space next (words ++ word ∷ [])) in
+    twins_bind (between x) SameWord (SameUnfound x) SameFound _ _ (behind x.here) (behind x.there)
+    (twins_failing (between x) SameWord (SameFault x) (SameUnfound x) _ _ _ _ (λ e f same. record { fault = same; first = refl }) (twin_fetch x at))
+    (λ word other same.
+    let more = AreWords-append words (other ∷ []) are (AreWords-cons other [] same.1 AreWords-nil) in
+    subst (λ (w : ℕ). Founds x (behind x.here w) (behind x.there other)) (sym same.0)
+    (judged_twins x (decode_of (words ++ other ∷ [])) _ _ h (table.valid_of _ _ (table.decoded (words ++ other ∷ []) _ refl more))
+    (found_twins x n next (words ++ other ∷ []) h more)))
 
 pub fetched_twins : (x : Setting) (pc : ℕ) → x.refuses ≡ true → Founds x (fetched_of x.here pc) (fetched_of x.there pc)
 unfolding fetched_of
-fetched_twins x pc h = twins_choose (between x) _ (pc % 2 == 1) _ _ _ _ (returned (h, refl)) (found_twins x most_words pc [] h)
+fetched_twins x pc h = twins_choose (between x) _ (pc % 2 == 1) _ _ _ _ (returned (h, refl, inl refl)) (found_twins x most_words pc [] h AreWords-nil)
 
 pub attempt_twins : (x : Setting) (p : Plain) → x.refuses ≡ true → Rows x (attempt_of x.here p) (attempt_of x.there p)
 unfolding attempt_of
 attempt_twins x p h =
-    twins_caught_same (between x) (SameEnd x) (SamePerformed x) _ _ _ _ _ _ (fetched_twins x p.pc h)
-    (λ e f h. returned (h, refl))
-    (λ found. perform_twins x found.0 p.pc (past found.1 p) (may_refuse x found.0 h))
+    let carry : Space → Instr × ℕ → Routine Performed = λ space found. perform_of found.0 p.pc space (past found.1 p) in
+    twins_caught (between x) SameFound (SameUnfound x) (SamePerformed x) _ _ _ _ (carry x.here) (carry x.there) (fetched_twins x p.pc h)
+    (λ e f same. returned (same, refl))
+    (λ found other same.
+    subst (λ (i : Instr × ℕ). Rows x (carry x.here i) (carry x.there other)) (sym same.0)
+    (perform_twins x other.0 p.pc (past other.1 p) same.1 (may_refuse x other.0 h)))

@@ -1,5 +1,6 @@
 -- What traps.
-use Rattle.std.specs.Prelude.{refl, ℕ}
+use Rattle.std.specs.Prelude.{refl, ℕ, ◌<◌}
+use Rattle.std.proofs.Common.{arith, inl, inr}
 use Rattle.mb_laws.specs.Between.{Setting}
 use Rattle.mb_instr.specs.declared.kinds.Condition.{Condition}
 use Rattle.mb_instr.specs.declared.kinds.Condition.TheVariants.{OverflowSet}
@@ -10,13 +11,13 @@ use Rattle.mb_meaning.specs.Traps.{conditional_trap, trap_of, trapcc_of, trapv_o
 use Rattle.mb_twins.specs.Twins.{SamePerformed}
 use Rattle.mb_twins.proofs.Flow.{either_same}
 
-pub trap_same : (x : Setting) (number : ℕ) (p : Plain) → SamePerformed x (trap_of number p) (trap_of number p)
+pub trap_same : (x : Setting) (number : ℕ) (p : Plain) → number < 16 → SamePerformed x (trap_of number p) (trap_of number p)
 unfolding trap_of
-trap_same x number p = (refl, refl)
+trap_same x number p lt = ((refl, inr (inr (inr (omega arith, omega arith)))), refl)
 
 pub trapcc_same : (x : Setting) (c : Condition) (p : Plain) → SamePerformed x (trapcc_of c p) (trapcc_of c p)
 unfolding trapcc_of
-trapcc_same x c p = either_same x (is_met c p.ccr) (stopped conditional_trap p) (carried p) (refl, refl) refl
+trapcc_same x c p = either_same x (is_met c p.ccr) (stopped conditional_trap p) (carried p) ((refl, inr (inr (inl refl))), refl) refl
 
 pub trapv_same : (x : Setting) (p : Plain) → SamePerformed x (trapv_of p) (trapv_of p)
 unfolding trapv_of

@@ -1,11 +1,12 @@
 -- Instructions in two spaces.
-use Rattle.std.specs.Prelude.{◌≡◌, ℕ, true}
+use Rattle.std.specs.Prelude.{◌≡◌, ◌⊎◌, ℕ, ◌<◌, ◌≤◌, true}
 use Rattle.mb_laws.specs.Tree.{tree_of}
 use Rattle.mb_laws.specs.Twin.{TwinTrees, Results}
 use Rattle.mb_laws.specs.Between.{Setting, Equal, SameFault, between}
 use Rattle.mb_instr.specs.declared.instruction.Instr.{Instr}
 use Rattle.mb_instr.specs.declared.instruction.Instr.TheVariants as instr
 use Rattle.mb_instr.specs.declared.registers.Plain.{Plain}
+use Rattle.mb_instr.specs.Codes.{IsInstr}
 use Rattle.mb_ea.specs.declared.reading.ReadFault.{ReadFault}
 use Rattle.mb_writes.specs.declared.ends.WriteFault.{WriteFault}
 use Rattle.mb_writes.specs.declared.ends.MovemFault.{MovemFault}
@@ -32,11 +33,20 @@ pub record SameTransfer (x : Setting) (f g : MovemFault) : Type 0 where
   pub first : f.first ≡ g.first
   pub done : f.done ≡ g.done
 
--- ends that say the same; a fault in one would be the same fault in the other's space
+-- the vectors of traps: a division by 0, a value out of bounds, a condition that is met, and the sixteen of TRAP
+abbrev pub IsTrap : ℕ → Type 0
+IsTrap vector = (vector ≡ 5) ⊎ (vector ≡ 6) ⊎ (vector ≡ 7) ⊎ ((32 ≤ vector) × (vector < 48))
+
+-- the vectors of what is not carried out: at an odd PC, no instruction, a privileged one, and words of lines A and F
+abbrev pub IsRefusal : ℕ → Type 0
+IsRefusal vector = (vector ≡ 3) ⊎ (vector ≡ 4) ⊎ (vector ≡ 8) ⊎ (vector ≡ 10) ⊎ (vector ≡ 11)
+
+-- Ends that say the same: a fault in one would be the same fault in the other's space. A trap has the vector of one,
+-- and so has what is not carried out.
 abbrev pub SameEnd : Setting → Ended → Ended → Type 0
 SameEnd x (ended.Done flow) (ended.Done other) = flow ≡ other
-SameEnd x (ended.Trap vector) (ended.Trap other) = vector ≡ other
-SameEnd x (ended.Refused vector) (ended.Refused other) = (x.refuses ≡ true) × (vector ≡ other)
+SameEnd x (ended.Trap vector) (ended.Trap other) = (vector ≡ other) × IsTrap vector
+SameEnd x (ended.Refused vector) (ended.Refused other) = (x.refuses ≡ true) × (vector ≡ other) × IsRefusal vector
 SameEnd x (ended.ReadFault f) (ended.ReadFault g) = SameRead x f g
 SameEnd x (ended.WriteFault f) (ended.WriteFault g) = SameWrite x f g
 SameEnd x (ended.LineFault f line) (ended.LineFault g other) = SameFault x f g × (line ≡ other)
@@ -56,9 +66,9 @@ abbrev pub MayRefuse : Setting → Instr → Type 0
 MayRefuse x (instr.System i) = x.refuses ≡ true
 MayRefuse x _ = Unit {0}
 
--- each instruction
+-- each instruction that the table has
 abbrev pub RowsAreTwins : Type 0
-RowsAreTwins = (x : Setting) (i : Instr) (at : ℕ) (p : Plain) → MayRefuse x i
+RowsAreTwins = (x : Setting) (i : Instr) (at : ℕ) (p : Plain) → IsInstr i → MayRefuse x i
     → TwinTrees (between x) (SamePerformed x) (tree_of (perform_of i at x.here p)) (tree_of (perform_of i at x.there p))
 
 -- a whole attempt, with the fetching of its words

@@ -8,8 +8,8 @@ use Rattle.mb_twins.proofs.Step.{perform_twins, attempt_twins}
 use Rattle.mb_twins.proofs.rows_are_twins.Goals as goal
 
 pub returns-clause-rows : goal.returns-clause-rows
-returns-clause-rows c = λ x i at p may.
-    tree_twins (between x) Performed Performed (SamePerformed x) (perform_of i at x.here p) (perform_of i at x.there p) (perform_twins x i at p may)
+returns-clause-rows c = λ x i at p is may.
+    tree_twins (between x) Performed Performed (SamePerformed x) (perform_of i at x.here p) (perform_of i at x.there p) (perform_twins x i at p is may)
 
 pub returns-clause-attempts : goal.returns-clause-attempts
 returns-clause-attempts c = λ x p h.
