@@ -13,8 +13,6 @@ mod products;
 mod quotients;
 mod shifts;
 mod sums;
-#[cfg(test)]
-mod tests;
 mod whole;
 mod width;
 

@@ -24,6 +24,3 @@ mod writing;
 
 pub use assembling::assemble;
 pub use fault::{AsmFault, AsmKind};
-
-#[cfg(test)]
-mod tests;

@@ -16,6 +16,3 @@ pub use fault::LexFault;
 pub use laws::{one_cut, tokens_of_a_line};
 pub use lexing::lex;
 pub use token::{Token, TokenKind, Tokens};
-
-#[cfg(test)]
-mod tests;

@@ -16,6 +16,3 @@ mod rows;
 mod shifts;
 
 pub use front::{Decoded, Decoding, decode, decode_into, spellings};
-
-#[cfg(test)]
-mod tests;

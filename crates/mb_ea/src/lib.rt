@@ -11,6 +11,3 @@ mod resolving;
 pub use addresses::Target;
 pub use reading::{ReadFault, join, read_operand, read_value};
 pub use resolving::{find_target, resolve};
-
-#[cfg(test)]
-mod tests;

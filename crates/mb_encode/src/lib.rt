@@ -12,6 +12,3 @@ mod writing;
 
 pub use front::encode;
 pub use writing::{Unencodable, Words};
-
-#[cfg(test)]
-mod tests;

@@ -7,8 +7,6 @@
 mod decimals;
 mod fields;
 mod packing;
-#[cfg(test)]
-mod tests;
 
 pub use decimals::{abcd, nbcd, sbcd};
 pub use fields::{field_first, field_get, field_put};

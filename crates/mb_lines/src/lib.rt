@@ -6,8 +6,6 @@
 
 mod line;
 mod lines;
-#[cfg(test)]
-mod tests;
 
 pub use line::Line;
 pub use lines::Lines;

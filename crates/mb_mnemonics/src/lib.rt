@@ -29,6 +29,3 @@ pub use range::{Range, number};
 pub use row::Row;
 pub use sizes::Sizes;
 pub use table::lines;
-
-#[cfg(test)]
-mod tests;

@@ -23,6 +23,3 @@ pub use quiet::{NoFailShelf, NoFailSink};
 pub use shelf::{Shelf, ShelfFault};
 pub use sink::{Failed, Sink};
 pub use streams::StdSink;
-
-#[cfg(test)]
-mod tests;

@@ -12,6 +12,3 @@ pub use bus::Port;
 pub use longs::{lay, unlay};
 pub use pieces::{first_piece, split};
 pub use types::{Fault, Flush, Mmu, MmuReg, Piece, Place, Space};
-
-#[cfg(test)]
-mod tests;

@@ -12,6 +12,3 @@ mod outcome;
 pub use comparison::same;
 pub use digits::{hex2, hex8};
 pub use outcome::write_outcome;
-
-#[cfg(test)]
-mod tests;

@@ -20,6 +20,3 @@ pub fn read_back(i: &Instr) -> Result<Decoded, Unencodable>
         Err(none) => Err(none),
     }
 }
-
-#[cfg(test)]
-mod tests;

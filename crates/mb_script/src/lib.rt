@@ -22,6 +22,3 @@ pub use plan::{GuestPlan, SessionPlan};
 pub use script::Script;
 pub use script_reading::read_script;
 pub use session_reading::read_session;
-
-#[cfg(test)]
-mod tests;

@@ -17,6 +17,3 @@ pub use fault::{ImageFault, RecordWhy};
 pub use image::{Chunk, Image};
 pub use reading::read_image;
 pub use writing::{write_records, written_reads_back};
-
-#[cfg(test)]
-mod tests;

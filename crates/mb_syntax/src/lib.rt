@@ -28,6 +28,3 @@ pub use statement::{Operation, SizeLetter, Statement};
 pub use statement_reading::parse;
 pub use table::found_in;
 pub use word::{Name, Word};
-
-#[cfg(test)]
-mod tests;

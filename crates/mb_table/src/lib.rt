@@ -8,6 +8,3 @@
 mod first_words;
 
 pub use first_words::FirstWords;
-
-#[cfg(test)]
-mod tests;

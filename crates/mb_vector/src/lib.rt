@@ -7,6 +7,3 @@
 mod port;
 
 pub use port::VectorPort;
-
-#[cfg(test)]
-mod tests;

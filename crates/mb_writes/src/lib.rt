@@ -15,6 +15,3 @@ pub use laws::writes_complete;
 pub use movem::{continue_movem, transfer};
 pub use transfers::{Movem, MovemMode, Transfer, count};
 pub use writing::{complete, part, put_apart, put_pieces, put_value, write_pieces};
-
-#[cfg(test)]
-mod tests;

@@ -1,4 +1,6 @@
-use crate::front::{Decoded, decode, spellings};
+//! Words, and what they decode to.
+
+use mb_decode::{Decoded, decode, spellings};
 use std::test::Fail;
 
 /// Words of the manual's encodings, assembled by hand, each row at least once, and others; and how

@@ -3,11 +3,11 @@
 ghost use Rattle.std.specs.Prelude.{◌≡◌, []};
 ghost use Rattle.mb_model.specs.Seen.{seen_of};
 
-use crate::{same, write_outcome};
 use arrayvec::ArrayVec;
 use mb_model::{Cpu, Outcome, RunState};
 use mb_outside::{MemSink, SinkFault};
 use mb_port::Mmu;
+use mb_report::{same, write_outcome};
 use std::alloc::Global;
 
 /// The registers of translation after reset.

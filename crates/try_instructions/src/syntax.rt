@@ -1,4 +1,6 @@
-use crate::{Mode, Operand, Operation, SizeLetter, Statement, SyntaxFault, Width, parse};
+//! Lines, and the statements that they are.
+
+use mb_syntax::{Mode, Operand, Operation, SizeLetter, Statement, SyntaxFault, Width, parse};
 use std::test::Fail;
 
 #[rattlefmt::skip]

@@ -1,6 +1,8 @@
+//! The lines of a text, with and without characters.
+
 ghost use Rattle.std.specs.Prelude.{◌<◌, ◌^◌, length};
 
-use super::*;
+use mb_lines::Lines;
 
 type Numbered<'a> = (u32, &'a [u8]);
 

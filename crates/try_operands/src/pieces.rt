@@ -1,6 +1,6 @@
 //! Cuts and longs worked by hand.
 
-use crate::{Piece, first_piece, lay, split, unlay};
+use mb_port::{Piece, first_piece, lay, split, unlay};
 
 #[test]
 fn first_pieces_by_hand(rt: HostRuntime) {

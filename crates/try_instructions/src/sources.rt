@@ -1,4 +1,6 @@
-use crate::{AsmFault, AsmKind, assemble};
+//! Sources, and their images or first faults.
+
+use mb_asm::{AsmFault, AsmKind, assemble};
 use mb_srec::write_records;
 use std::process::Abort;
 use std::test::Fail;

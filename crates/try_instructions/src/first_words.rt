@@ -1,6 +1,8 @@
-use crate::FirstWords;
+//! First words in their table.
+
 use mb_decode::Decoded;
 use mb_instr::{Flow, Instr};
+use mb_table::FirstWords;
 use std::alloc::AllocError;
 
 /// First words of each answer.

@@ -1,10 +1,7 @@
 //! Worked values, and the extremes of each size.
 
-mod products;
-mod shifts;
-
-use crate::LogicKind::{self, And, Eor, Not, Or, Pass};
-use crate::{Flagged, add, compare, extend, logic, sub};
+use mb_alu::LogicKind::{self, And, Eor, Not, Or, Pass};
+use mb_alu::{Flagged, add, compare, extend, logic, sub};
 use mb_instr::Size::{self, Byte, Long, Word};
 
 fn flagged(value: u32, ccr: u8) -> Flagged {

@@ -2,8 +2,8 @@
 
 ghost use Rattle.std.specs.Prelude.{◌<◌};
 
-use crate::{abcd, field_first, field_get, field_put, nbcd, pack, sbcd, unpk};
 use mb_alu::Flagged;
+use mb_fields::{abcd, field_first, field_get, field_put, nbcd, pack, sbcd, unpk};
 
 /// A number below 100 in two digits.
 fn digits(number: u8) -> u8

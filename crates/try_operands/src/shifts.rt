@@ -1,6 +1,6 @@
 //! Shifts and rotates, counts past the size among them.
 
-use crate::{Flagged, ShiftKind, shift};
+use mb_alu::{Flagged, ShiftKind, shift};
 use mb_instr::Size::{self, Byte, Long, Word};
 
 #[test]

@@ -1,4 +1,6 @@
-use super::*;
+//! Scripts and session files, and what is wrong with others.
+
+use mb_script::{LineFault, LineWhy, Script, SessionPlan, read_script, read_session};
 use std::alloc::{AllocError, Global};
 use std::test::Fail;
 
@@ -217,7 +219,8 @@ fn reads_sessions(rt: HostRuntime) -> Result<(), Fail> {
             &[(64, 0, "a", Some("b"))],
         ),
         (
-            b"# first\n\n \tsession\t 1 \n\r\nboard\t65536\t\n#\nslice  4294967295\n\t guest 16384 \t 4294967295  a.s19 \t- \n# last",
+            b"# first\n\n \tsession\t 1 \n\r\nboard\t65536\t\n#\nslice  4294967295\n\
+\t guest 16384 \t 4294967295  a.s19 \t- \n# last",
             65_536,
             4_294_967_295,
             &[(16_384, 4_294_967_295, "a.s19", None)],

@@ -1,6 +1,6 @@
 //! Calls with ample memory, and what no clause says: the real files and streams.
 
-use crate::{
+use mb_outside::{
     Failed, FileShelf, LoadFault, MemShelf, MemSink, NoFailShelf, NoFailSink, Shelf, ShelfFault,
     Sink, SinkFault, StdSink, load, put_all, put_more,
 };

@@ -1,8 +1,8 @@
 //! Products and quotients.
 
-use crate::Divided::{self, Done, Overflow, ZeroDivide};
-use crate::Width::{self, Long, Wide, Word};
-use crate::{Product, div, mul};
+use mb_alu::Divided::{self, Done, Overflow, ZeroDivide};
+use mb_alu::Width::{self, Long, Wide, Word};
+use mb_alu::{Product, div, mul};
 
 #[test]
 fn unsigned_products(rt: HostRuntime) {

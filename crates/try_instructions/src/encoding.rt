@@ -1,4 +1,6 @@
-use crate::{Unencodable, encode};
+//! Instructions, and their words.
+
+use mb_encode::{Unencodable, encode};
 use mb_instr::{
     Arith, Branch, Condition, Ea, Exchange, Ext, FieldKind, Flow, Instr, Move, Size, System,
 };
@@ -17,7 +19,7 @@ efd0 2003 \n\
 f568 \n";
 
 /// Each shape of a row, with words that the manual's encodings and a disassembler of GNU say. All rows
-/// are in the tests of `mb_round`.
+/// are in `round`.
 #[test]
 #[rattlefmt::skip]
 fn rows(rt: HostRuntime) -> Result<(), Fail> {

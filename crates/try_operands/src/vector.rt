@@ -1,7 +1,7 @@
 //! The calls of the port, by hand.
 
-use crate::VectorPort;
 use mb_port::{Fault, Mmu, MmuReg, Piece, Port, Space};
+use mb_vector::VectorPort;
 use std::alloc::{AllocError, Global};
 
 /// Four longs, with a hole in the last.

@@ -1,7 +1,9 @@
-use crate::read_back;
+//! Words that are decoded and encoded again.
+
 use mb_decode::{Decoded, decode};
 use mb_encode::encode;
 use mb_instr::{Instr, Move};
+use mb_round::read_back;
 use std::test::Fail;
 
 /// Words of the manual's encodings, each row at least once, as a disassembler of GNU reads them too.

@@ -1,4 +1,6 @@
-use super::*;
+//! S-records that are read and written, and what is wrong with others.
+
+use mb_srec::{Chunk, Image, ImageFault, RecordWhy, read_image, write_records, written_reads_back};
 use std::test::Fail;
 
 /// A program of three instructions behind its two vectors.

@@ -1,0 +1,14 @@
+//! Tests of what reads and writes files: shelves and sinks, the lines of a text, S-records, scripts and session files,
+//! and the text of an outcome.
+#![tactic(auto)]
+
+#[cfg(test)]
+mod lines;
+#[cfg(test)]
+mod outcomes;
+#[cfg(test)]
+mod records;
+#[cfg(test)]
+mod scripts;
+#[cfg(test)]
+mod shelves;

@@ -1,0 +1,19 @@
+//! Tests of words and texts as instructions: the decoder and its table, the encoder, and the assembler.
+#![tactic(auto)]
+
+#[cfg(test)]
+mod decoding;
+#[cfg(test)]
+mod encoding;
+#[cfg(test)]
+mod first_words;
+#[cfg(test)]
+mod mnemonics;
+#[cfg(test)]
+mod round;
+#[cfg(test)]
+mod sources;
+#[cfg(test)]
+mod syntax;
+#[cfg(test)]
+mod tokens;
