@@ -16,6 +16,3 @@ pub use fields::{check_fields, is_load, line_fields, movem_fields, read_fields, 
 pub use mb_meaning::{Cause, Entered};
 pub use returning::{return_from, return_held};
 pub use taking::continues;
-
-#[cfg(test)]
-mod tests;

@@ -13,6 +13,3 @@ pub use bytes::{from_bytes, to_bytes};
 pub use frame::{Access, Frame};
 pub use laws::{no_trace_bit, worked_frames};
 pub use pend::Pend;
-
-#[cfg(test)]
-mod tests;

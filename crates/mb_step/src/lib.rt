@@ -19,6 +19,3 @@ pub use mb_meaning::{Finish, StepEnd};
 pub use performing::perform;
 pub use raising::{access_error, unchecked};
 pub use stepping::{step, step_to_finish};
-
-#[cfg(test)]
-mod tests;

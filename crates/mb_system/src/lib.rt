@@ -9,6 +9,3 @@ mod spaces;
 mod status;
 
 pub use performing::perform_system;
-
-#[cfg(test)]
-mod tests;

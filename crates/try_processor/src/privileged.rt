@@ -1,10 +1,10 @@
 //! Rows by hand, over a vector of longs.
 
-use crate::perform_system;
 use mb_decode::{Decoded, decode};
 use mb_instr::{ControlRegister, Instr, Regs, System};
 use mb_model::Cpu;
 use mb_port::{Mmu, Piece, Port, Space};
+use mb_system::perform_system;
 use mb_vector::VectorPort;
 use mb_writes::Ended;
 use std::alloc::{AllocError, Global};

@@ -3,7 +3,7 @@
 ghost use Rattle.std.specs.Prelude.{◌<◌};
 ghost use Rattle.mb_frames.specs.Layout.{offset_of};
 
-use crate::{Access, Frame, from_bytes, to_bytes};
+use mb_frames::{Access, Frame, from_bytes, to_bytes};
 use std::process::Abort;
 
 fn stands_as(rt: &impl Abort, frame: &Frame, bytes: &[u8])

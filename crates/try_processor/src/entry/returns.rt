@@ -5,7 +5,7 @@ ghost use Rattle.std.specs.Prelude.{◌<◌};
 use super::{
     NO_HOLE, access_error, cause, fields, interrupt, long, memory, processor, set_long, set_longs,
 };
-use crate::{Cause, Entered, enter, return_from, return_held};
+use mb_entry::{Cause, Entered, enter, return_from, return_held};
 use mb_frames::Access;
 use mb_vector::VectorPort;
 use mb_writes::Ended;

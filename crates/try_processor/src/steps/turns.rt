@@ -1,7 +1,7 @@
 //! Interrupts, and the stopped state.
 
 use super::{NO_HOLE, memory, processor, stands, steps};
-use crate::{StepEnd, step};
+use mb_step::{StepEnd, step};
 use mb_table::FirstWords;
 use std::alloc::AllocError;
 

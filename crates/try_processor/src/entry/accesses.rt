@@ -1,7 +1,7 @@
 //! The fields of access errors: frames that were worked out by hand.
 
-use crate::{check_fields, line_fields, movem_fields, read_fields, write_fields};
 use arrayvec::ArrayVec;
+use mb_entry::{check_fields, line_fields, movem_fields, read_fields, write_fields};
 use mb_frames::{Access, Pend};
 use mb_port::{Fault, Space};
 use mb_writes::{MovemFault, WriteFault};

@@ -1,7 +1,7 @@
 //! Exceptions of instructions.
 
 use super::{NO_HOLE, memory, processor, stands, steps};
-use crate::StepEnd;
+use mb_step::StepEnd;
 use mb_table::FirstWords;
 use std::alloc::AllocError;
 

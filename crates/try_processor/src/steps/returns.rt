@@ -1,7 +1,7 @@
 //! RTE, with its traces and the continuation of a MOVEM.
 
 use super::{NO_HOLE, RTE, memory, processor, put, stands, steps};
-use crate::StepEnd;
+use mb_step::StepEnd;
 use mb_table::FirstWords;
 use std::alloc::AllocError;
 

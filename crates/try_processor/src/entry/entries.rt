@@ -1,7 +1,7 @@
 //! Entries.
 
 use super::{access_error, cause, interrupt, long, memory, processor, set_long};
-use crate::{Entered, enter};
+use mb_entry::{Entered, enter};
 use mb_port::{Fault, Space};
 use std::alloc::AllocError;
 

@@ -6,10 +6,10 @@ mod turns;
 
 ghost use Rattle.std.specs.Prelude.{◌<◌};
 
-use crate::{StepEnd, step};
 use mb_instr::Regs;
 use mb_model::Cpu;
 use mb_port::{Piece, Port, Space};
+use mb_step::{StepEnd, step};
 use mb_table::FirstWords;
 use mb_vector::VectorPort;
 use std::alloc::{AllocError, Global};

@@ -1,0 +1,11 @@
+//! Tests of the processor over a memory of longs: frames, exceptions, what only a supervisor does, and whole steps.
+#![tactic(auto)]
+
+#[cfg(test)]
+mod entry;
+#[cfg(test)]
+mod frames;
+#[cfg(test)]
+mod privileged;
+#[cfg(test)]
+mod steps;
