@@ -6,6 +6,3 @@
 mod atc;
 
 pub use atc::Atc;
-
-#[cfg(test)]
-mod tests;

@@ -16,6 +16,3 @@ mod receiving;
 mod translating;
 
 pub use board::Board;
-
-#[cfg(test)]
-mod tests;

@@ -11,6 +11,3 @@ mod register;
 
 pub use devices::Devices;
 pub use register::Register;
-
-#[cfg(test)]
-mod tests;

@@ -6,6 +6,3 @@ mod listing;
 
 pub use fault::ListFault;
 pub use listing::list_image;
-
-#[cfg(test)]
-mod tests;

@@ -18,6 +18,3 @@ mod unfailing;
 pub use end::{End, FileWhy, Reason};
 pub use top::run_program;
 pub use unfailing::run_unfailing;
-
-#[cfg(test)]
-mod tests;

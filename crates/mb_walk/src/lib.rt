@@ -18,6 +18,3 @@ pub use longs::{long_at, set_long_at};
 pub use ram::Ram;
 pub use searching::search;
 pub use transparency::transparent;
-
-#[cfg(test)]
-mod tests;

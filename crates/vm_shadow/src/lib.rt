@@ -11,6 +11,3 @@ mod table;
 pub use laws::{entries_are_listed, searches_find_entries, tables_are_of_the_area};
 pub use shadow::Shadow;
 pub use table::Table;
-
-#[cfg(test)]
-mod tests;

@@ -1,6 +1,6 @@
 //! What each operation leaves, and each limit once.
 
-use super::Devices;
+use mb_devices::Devices;
 use mb_port::Place;
 
 const BASE: u32 = 0xfff0_0000;

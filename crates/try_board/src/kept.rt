@@ -2,9 +2,9 @@
 
 ghost use Rattle.std.specs.Prelude.{◌≡◌, false};
 
-use crate::Atc;
 use Act::{Fill, FillGlobal, Find};
 use Space::{Super, User};
+use mb_atc::Atc;
 use mb_model::Kept;
 use mb_port::{Flush, Space};
 

@@ -1,9 +1,9 @@
 //! Listed lines: their text, and the words that it gives again. Mnemonics and operands were compared with those of
 //! another disassembler.
 
-use crate::{ListFault, list_image};
 use mb_asm::assemble;
 use mb_board::Board;
+use mb_dis::{ListFault, list_image};
 use mb_outside::MemSink;
 use mb_walk::Ram;
 use std::alloc::Global;

@@ -3,12 +3,12 @@
 ghost use Rattle.std.specs.Prelude.{◌≡◌, ◌+◌, ◌≤◌, ◌<◌, ◌^◌, length};
 ghost use Rattle.vm_shadow.specs.Area.{Maps};
 
-use crate::Shadow;
 use Space::{Super, User};
 use mb_model::Kept;
 use mb_port::Space;
 use mb_walk::{Found, Ram, long_at, search, set_long_at};
 use std::alloc::Global;
+use vm_shadow::Shadow;
 
 const SIZE: u32 = 0x2_0000;
 

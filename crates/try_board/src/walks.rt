@@ -3,12 +3,12 @@
 ghost use Rattle.std.specs.Prelude.{◌≡◌, ◌+◌, ◌≤◌, ◌<◌, ◌^◌, length};
 ghost use Rattle.mb_walk.specs.Memory.{number_at, with_number};
 
-use crate::{
-    Found, PageDescriptor, Ram, TableDescriptor, long_at, search, set_long_at, transparent,
-};
 use Space::{Super, User};
 use mb_model::Kept;
 use mb_port::Space;
+use mb_walk::{
+    Found, PageDescriptor, Ram, TableDescriptor, long_at, search, set_long_at, transparent,
+};
 use std::alloc::Global;
 
 const SIZE: u32 = 0x9000;
@@ -35,7 +35,7 @@ impl Ram for Bytes {
         long_at(&self.memory, at as usize)
     }
 
-    #[tactic(auto, using(crate::proofs::MemoryLemmas::lengths))]
+    #[tactic(auto, using(mb_walk::proofs::MemoryLemmas::lengths))]
     fn set_long(&mut self, at: u32, value: u32) {
         set_long_at(&mut self.memory, at as usize, value);
     }

@@ -3,10 +3,10 @@
 
 ghost use Rattle.std.specs.Prelude.{◌≡◌, ◌<◌, ◌≤◌, ◌^◌, length, IfOk};
 
-use crate::board::Board;
+use mb_board::Board;
 use mb_model::RunState;
 use mb_outside::Memory;
-use mb_port::{Flush, MmuReg, Place, Port};
+use mb_port::{Flush, MmuReg, Piece, Port, Space};
 use mb_script::{Script, read_script};
 use std::alloc::Global;
 
@@ -26,8 +26,7 @@ const RESET: (u32, &[u8]) = (0, &[0, 0, 0x80, 0, 0, 0, 4, 0]);
 /// Writes bytes where they lie in RAM.
 fn write(board: &mut Board, at: u32, bytes: &[u8])
     requires { length board.old.world.ram ≡ SIZE }
-    ensures ram { length board.new.world.ram ≡ SIZE }
-    ensures steps { board.new.steps ≡ board.old.steps }
+    ensures { length board.new.world.ram ≡ SIZE }
 {
     if u64::from(at) + bytes.len() as u64 <= u64::from(SIZE) {
         board.write_phys(at, bytes);
@@ -36,7 +35,7 @@ fn write(board: &mut Board, at: u32, bytes: &[u8])
 
 /// A board with these bytes in its RAM, after reset.
 fn board_with(alloc: Global, chunks: &[(u32, &[u8])]) -> Result<Board, Memory>
-    ensures { IfOk result (λ board. (length board.world.ram ≡ SIZE) × (board.steps ≡ 0)) }
+    ensures { IfOk result (λ board. length board.world.ram ≡ SIZE) }
 {
     let mut board = Board::new(alloc, SIZE)?;
     for (at, bytes) in chunks {
@@ -50,8 +49,7 @@ fn board_with(alloc: Global, chunks: &[(u32, &[u8])]) -> Result<Board, Memory>
 fn write_pages(board: &mut Board, table: u32)
     requires ram { length board.old.world.ram ≡ SIZE }
     requires table { table < SIZE }
-    ensures ram { length board.new.world.ram ≡ SIZE }
-    ensures steps { board.new.steps ≡ board.old.steps }
+    ensures { length board.new.world.ram ≡ SIZE }
 {
     for page in 0..16u32 {
         write(board, table + 4 * page, &(page * 0x1000 + 1).to_be_bytes());
@@ -63,8 +61,7 @@ fn translate(board: &mut Board, table: u32, page: u32, descriptor: u32)
     requires ram { length board.old.world.ram ≡ SIZE }
     requires table { table < SIZE }
     requires page { page < 16 }
-    ensures ram { length board.new.world.ram ≡ SIZE }
-    ensures steps { board.new.steps ≡ board.old.steps }
+    ensures { length board.new.world.ram ≡ SIZE }
 {
     write(board, ROOT, &(POINTERS + 2).to_be_bytes());
     write(board, POINTERS, &(table + 2).to_be_bytes());
@@ -75,29 +72,33 @@ fn translate(board: &mut Board, table: u32, page: u32, descriptor: u32)
     board.set_mmu(MmuReg::Tc, 0x8000);
 }
 
-/// Loads D0 to D7, A0 and A1.
-fn load(board: &mut Board, data: [u32; 8], first: u32, second: u32)
-    ensures ram { length board.new.world.ram ≡ length board.old.world.ram }
-    ensures steps { board.new.steps ≡ board.old.steps }
+/// Where the longs stand that a start loads.
+const LOADED: u32 = 0x300;
+
+/// Starts again with $D0 to $D3 in D0 to D3, 0 in D4 to D7, and these in A0 and A1: a MOVEM before the code loads them.
+fn load(board: &mut Board, alloc: Global, first: u32, second: u32)
+    requires { length board.old.world.ram ≡ SIZE }
+    ensures { length board.new.world.ram ≡ SIZE }
 {
-    let registers = &mut board.cpu.regs;
-    let d = &mut registers.d;
-    *d = data;
-    registers.a[0] = first;
-    registers.a[1] = second;
+    let mut at = LOADED;
+    for long in [0xD0u32, 0xD1, 0xD2, 0xD3, 0, 0, 0, 0, first, second] {
+        write(board, at, &long.to_be_bytes());
+        at = at.wrapping_add(4);
+    }
+    let start = board.outcome().cpu.regs.pc.wrapping_sub(6);
+    write(board, start, &[0x4C, 0xF8, 3, 0xFF, 3, 0]);
+    write(board, 4, &start.to_be_bytes());
+    board.reset();
+    run(board, alloc, 1);
 }
 
-/// What the tests of transfers have in D0 to D7.
-const DATA: [u32; 8] = [0xD0, 0xD1, 0xD2, 0xD3, 0, 0, 0, 0];
-
-/// Takes so many steps with nothing on the terminal.
+/// Takes so many steps with nothing on the terminal, while there are fewer than a hundred.
 fn run(board: &mut Board, alloc: Global, steps: u32)
-    requires ram { length board.old.world.ram ≡ SIZE }
-    requires room { board.old.steps ≤ 100 }
-    ensures ram { length board.new.world.ram ≡ SIZE }
+    requires { length board.old.world.ram ≡ SIZE }
+    ensures { length board.new.world.ram ≡ SIZE }
 {
     let script = Script::new(Vec::new(alloc));
-    if steps < 100 {
+    if steps < 100 && board.outcome().steps < 100 {
         board.run_bare(&script, steps);
     }
 }
@@ -172,8 +173,8 @@ fn a_transfer_goes_on_after_its_access_error(rt: HostRuntime) {
         ],
     )
     .expect(&rt, "ample memory");
+    load(&mut board, rt.alloc(), 0x1FF8, 0);
     translate(&mut board, PAGES, 2, 0);
-    load(&mut board, DATA, 0x1FF8, 0);
     run(&mut board, rt.alloc(), 1);
     let longs = [0, 0, 0, 0, 0, 0, 0x404, 0x48D0_000F, 2];
     assert!(rt;
@@ -186,9 +187,7 @@ fn a_transfer_goes_on_after_its_access_error(rt: HostRuntime) {
     assert!(rt; holds(&board, 0x1FF8, &[0, 0, 0, 0xD0, 0, 0, 0, 0xD1, 0, 0, 0, 0]));
     write(&mut board, PAGES + 8, &0x2001u32.to_be_bytes());
     board.flush(Flush::All);
-    if board.steps < 100 {
-        run(&mut board, rt.alloc(), 1);
-    }
+    run(&mut board, rt.alloc(), 1);
     assert!(rt; holds(&board, 0x2000, &[0, 0, 0, 0xD2, 0, 0, 0, 0xD3, 0, 0, 0, 0]));
     assert_eq!(rt; board.outcome().cpu.regs.pc, 0x404);
     assert_eq!(rt; board.outcome().cpu.regs.isp, 0x8000);
@@ -203,8 +202,8 @@ fn a_transfer_reaches_its_own_words_and_devices(rt: HostRuntime) {
         &[(0, &[0, 0, 0x80, 0, 0, 0, 0x1F, 0xF8]), (0x1FF8, &movem)],
     )
     .expect(&rt, "ample memory");
+    load(&mut board, rt.alloc(), 0x1FF8, 0);
     translate(&mut board, PAGES, 2, 0x2001);
-    load(&mut board, DATA, 0x1FF8, 0);
     run(&mut board, rt.alloc(), 1);
     assert!(rt;
         holds(
@@ -218,8 +217,8 @@ fn a_transfer_reaches_its_own_words_and_devices(rt: HostRuntime) {
         &rt,
         "ample memory",
     );
+    load(&mut board, rt.alloc(), 0x5FF8, 0);
     translate(&mut board, PAGES, 6, 0xFFF0_0001);
-    load(&mut board, DATA, 0x5FF8, 0);
     run(&mut board, rt.alloc(), 1);
     let longs = [0, 0, 0, 0, 0, 0, 0x404, 0x48D0_000F, 2];
     assert!(rt;
@@ -245,8 +244,8 @@ fn a_refused_line_stands_in_its_frame(rt: HostRuntime) {
         &[RESET, (8, &[0, 0, 5, 0]), (0x400, &code), (0x1000, &line)],
     )
     .expect(&rt, "ample memory");
+    load(&mut board, rt.alloc(), 0x1000, 0x2000);
     translate(&mut board, PAGES, 2, 0);
-    load(&mut board, DATA, 0x1000, 0x2000);
     run(&mut board, rt.alloc(), 1);
     let longs = [
         0,
@@ -304,8 +303,8 @@ fn kept_entries_serve_until_a_flush(rt: HostRuntime) {
         &[RESET, (0x400, &code), (0x4000, &[0, 0, 0x40, 1])],
     )
     .expect(&rt, "ample memory");
+    load(&mut board, rt.alloc(), 0x7010, 0x4000);
     translate(&mut board, 0x7000, 4, 0x4001);
-    load(&mut board, DATA, 0x7010, 0x4000);
     run(&mut board, rt.alloc(), 2);
     assert_eq!(rt; board.outcome().cpu.regs.sr, 0x2704);
     assert!(rt; holds(&board, 0x7010, &[0, 0, 0x40, 9]));
@@ -345,24 +344,26 @@ fn a_written_root_forgets_nothing(rt: HostRuntime) {
 fn an_interrupt_of_the_master_stack_has_two_frames(rt: HostRuntime) {
     let mut board = board_with(
         rt.alloc(),
-        &[RESET, (0x78, &[0, 0, 5, 0]), (0x500, &[0x4E, 0x73])],
+        &[
+            (0, &[0, 0, 0x80, 0, 0, 0, 3, 0xF6]),
+            (0x78, &[0, 0, 5, 0]),
+            (0x3F6, &[0x46, 0xFC, 0x30, 0, 0x2E, 0x7C, 0, 0, 0x90, 0]), // MOVE #$3000,SR; MOVEA.L #$9000,SP
+            (0x500, &[0x4E, 0x73]),
+        ],
     )
     .expect(&rt, "ample memory");
-    board.cpu.regs.sr = 0x3000;
-    board.cpu.regs.msp = 0x9000;
-    let period = Place {
+    run(&mut board, rt.alloc(), 2);
+    let period = Piece {
         at: 0xFFF0_0010,
         len: 4,
     };
-    let _ = board.bus.store(period, 1);
+    assert_eq!(rt; board.write(Space::Super, period, 1), Ok(()));
     run(&mut board, rt.alloc(), 1);
     assert!(rt; holds(&board, 0x8FF8, &[0x30, 0, 0, 0, 4, 0, 0, 0x78]));
     assert!(rt; holds(&board, 0x7FF8, &[0x30, 0, 0, 0, 4, 0, 0x10, 0x78]));
     assert_eq!(rt; board.outcome().cpu.regs.sr, 0x2600);
     assert_eq!(rt; board.outcome().cpu.regs.pc, 0x500);
-    if board.steps < 100 {
-        run(&mut board, rt.alloc(), 1);
-    }
+    run(&mut board, rt.alloc(), 1);
     let outcome = board.outcome();
     assert_eq!(rt; outcome.cpu.regs.sr, 0x3000);
     assert_eq!(rt; outcome.cpu.regs.pc, 0x400);
@@ -459,7 +460,8 @@ fn a_double_fault_halts(rt: HostRuntime) {
 fn step_on(board: &mut Board, script: &Script)
     ensures { length board.new.world.ram ≡ length board.old.world.ram }
 {
-    if board.steps < 100 && matches!(board.state, RunState::Running) {
+    let outcome = board.outcome();
+    if outcome.steps < 100 && matches!(outcome.state, RunState::Running) {
         board.step(script);
     }
 }

@@ -3,8 +3,8 @@
 mod excerpts;
 mod sources;
 
-use crate::{run_program, run_unfailing};
 use mb_outside::{MemShelf, MemSink};
+use mb_program::{run_program, run_unfailing};
 use std::alloc::Global;
 use std::test::Fail;
 

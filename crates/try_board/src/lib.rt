@@ -1,0 +1,15 @@
+//! Tests of machines and their parts: searches through tables, kept translations, shadow tables, devices and boards.
+#![tactic(auto)]
+
+#[cfg(test)]
+mod devices;
+#[cfg(test)]
+mod guest_kept;
+#[cfg(test)]
+mod kept;
+#[cfg(test)]
+mod machines;
+#[cfg(test)]
+mod shadow;
+#[cfg(test)]
+mod walks;
