@@ -1,0 +1,10 @@
+pub mod Changes
+pub mod Counts
+pub mod Fills
+pub mod Finding
+pub mod Flushes
+pub mod Moves
+pub mod NodeReads
+pub mod Paths
+pub mod Starts
+pub mod Walks

@@ -3,6 +3,7 @@
 //! A guest's bus stands on it.
 #![tactic(auto)]
 
+mod nodes;
 mod tlb;
 
 pub use tlb::Tlb;

@@ -1,0 +1,54 @@
+-- Nodes that are linked by number: live ones, which have an entry, and free ones. A link is a function of numbers. 0 to
+-- 255 are the nodes; 256 is the root of the ring of all live nodes, and the end of a chain; 256 to 319 are the roots of
+-- the chains, and 320 is that of the free nodes.
+use Rattle.std.specs.Prelude.{◌≡◌, ℕ, zero, suc, ◌+◌, ◌<◌, ◌==◌, Bool, nat_lt, if◌then◌else◌}
+use Rattle.std.specs.Prelude.{List, [], ◌∷◌, ◌++◌, length}
+
+-- a function with another value at a number
+abbrev pub updated : {T : Type 0} → (ℕ → T) → ℕ → T → ℕ → T
+updated f at to n = if n == at then to else f n
+
+-- a link leads from a place through these nodes, in order, and then to the end
+abbrev pub IsPath : (ℕ → ℕ) → ℕ → List ℕ → ℕ → Type 0
+IsPath f from [] to = f from ≡ to
+IsPath f from (x ∷ xs) to = (f from ≡ x) × IsPath f x xs to
+
+-- the nodes that a link leads through, from a node on, at most so many
+unfoldable pub walk : (ℕ → ℕ) → ℕ → ℕ → List ℕ
+walk f zero at = []
+walk f (suc n) at = if nat_lt at 256 then at ∷ walk f n (f at) else []
+
+-- how often a number is in a list
+abbrev pub times : ℕ → List ℕ → ℕ
+times n [] = 0
+times n (x ∷ xs) = (if x == n then 1 else 0) + times n xs
+
+-- the nodes of a chain among some nodes, the last one first
+abbrev pub chain : (ℕ → ℕ) → ℕ → List ℕ → List ℕ
+chain of number [] = []
+chain of number (x ∷ xs) = chain of number xs ++ (if of x == number then x ∷ [] else [])
+
+-- the first node that passes, or 256
+abbrev pub first_of : (ℕ → Bool) → List ℕ → ℕ
+first_of p [] = 256
+first_of p (x ∷ xs) = if p x then x else first_of p xs
+
+-- what comes before a node in a list that begins with a root
+abbrev pub before : ℕ → ℕ → List ℕ → ℕ
+before at from [] = from
+before at from (x ∷ xs) = if x == at then from else before at x xs
+
+-- The links are those of live nodes, the oldest first, each in the chain of its number, and of free nodes.
+pub record Linked (newer older next of : ℕ → ℕ) (live free : List ℕ) : Type 0 where
+  -- "newer" leads from the oldest through each live node
+  pub ring : IsPath newer 256 live 256
+  -- "older" undoes "newer"
+  pub back : (at : ℕ) → 0 < times at (256 ∷ live) → older (newer at) ≡ at
+  -- a chain has the live nodes of its number alone
+  pub chains : (number : ℕ) → number < 64 → IsPath next (256 + number) (chain of number live) 256
+  -- the free nodes are one more chain
+  pub rest : IsPath next 320 free 256
+  -- each node is live or free, and once
+  pub each : (at : ℕ) → times at live + times at free ≡ (if nat_lt at 256 then 1 else 0)
+  -- and together they are all
+  pub all : length live + length free ≡ 256
