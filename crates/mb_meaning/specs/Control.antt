@@ -3,13 +3,14 @@ use Rattle.std.specs.Prelude.{ℕ, ◌%◌, ◌^◌, bit_and, Bool, Option, Some
 use Rattle.mb_port.specs.Routine.{Routine, Return, Then, choose, mmu, set_mmu}
 use Rattle.mb_port.specs.Registers.{mmu_register}
 use Rattle.mb_instr.specs.Registers.{plain_of, register_of, with_register}
+use Rattle.mb_writes.specs.declared.ends.Ended.{Ended}
+use Rattle.mb_writes.specs.declared.ends.Ended.TheVariants as ended
 use Rattle.mb_model.specs.declared.processor.Cpu.{Cpu}
 use Rattle.mb_instr.specs.declared.control.ControlRegister.{ControlRegister}
 use Rattle.mb_instr.specs.declared.control.ControlRegister.TheVariants as control
 use Rattle.mb_instr.specs.Control.{control_of, kept_bits}
 use Rattle.mb_meaning.specs.Operands.{named_register}
 use Rattle.mb_meaning.specs.SystemEnds.{SystemPerformed, with_registers, completing, ended_by}
-use Rattle.mb_meaning.specs.Attempt.{illegal}
 
 -- the control register that a word names in its other bits
 abbrev pub named_control : ℕ → Option ControlRegister
@@ -48,11 +49,15 @@ from_control_of register n cpu =
     Then (control_value register cpu)
     (λ value. Return (with_registers (with_register (plain_of cpu.regs) n value) cpu))
 
+-- what is no instruction has the vector of an illegal one
+abbrev pub not_carried_out : Ended
+not_carried_out = ended.Refused 4
+
 -- A code that no control register has makes no instruction.
 abbrev pub moving_control : Option ControlRegister → Bool → ℕ → Cpu → Routine SystemPerformed
 moving_control (Some register) to_control n cpu =
     completing (choose to_control (to_control_of register n cpu) (from_control_of register n cpu))
-moving_control None to_control n cpu = Return (ended_by illegal cpu)
+moving_control None to_control n cpu = Return (ended_by not_carried_out cpu)
 
 -- MOVEC
 unfoldable pub movec_of : Bool → ℕ → Cpu → Routine SystemPerformed

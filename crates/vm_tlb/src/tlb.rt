@@ -66,6 +66,8 @@ impl Tlb {
     pub fn entry(&self, place: u32) -> Option<Kept>
         ensures entry { result ≡ slice_get self.now place }
         ensures names { IfSome result NamesPages }
+        ensures few { length self.now ≤ rule_k.capacity }
+        ensures apart { Apart self.now }
     {
         self.nodes.entry(place)
     }
