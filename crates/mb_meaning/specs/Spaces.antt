@@ -18,6 +18,7 @@ use Rattle.mb_ea.specs.declared.addresses.Target.{Target}
 use Rattle.mb_ea.specs.Reading.{read_of}
 use Rattle.mb_ea.specs.Resolve.{resolve_of}
 use Rattle.mb_model.specs.declared.processor.Cpu.{Cpu}
+use Rattle.mb_model.specs.Pages.{page_of}
 use Rattle.mb_meaning.specs.Operands.{named_register, with_low, place_of, storing}
 use Rattle.mb_meaning.specs.SystemEnds.{SystemPerformed, completed, reading_for, with_registers, finishing}
 
@@ -56,10 +57,6 @@ moves_of size ea word word_at cpu = do
       (into_register size to.target (named_register word) to.plain cpu)
 
 -- ---- pages
-
--- the page of 4 KiB that has an address
-abbrev pub page_of : ℕ → ℕ
-page_of address = address / 2 ^ 12
 
 -- what PFLUSH drops: of a page in DFC's space, or of all; with the global translations or without them
 abbrev pub flushed_by : FlushKind → ℕ → Cpu → Flush

@@ -16,6 +16,7 @@ use Rattle.mb_port.specs.declared.types.Fault.{Fault}
 use Rattle.mb_frames.specs.AccessFields.{no_fields, read_fields, write_fields, line_fields, movem_fields, is_load}
 use Rattle.mb_model.specs.declared.processor.Cpu.{Cpu}
 use Rattle.mb_model.specs.Status.{space_of}
+use Rattle.mb_model.specs.Pages.{page_size}
 use Rattle.mb_ea.specs.declared.reading.ReadFault.{ReadFault}
 use Rattle.mb_writes.specs.declared.ends.WriteFault.{WriteFault}
 use Rattle.mb_writes.specs.declared.ends.MovemFault.{MovemFault}
@@ -30,10 +31,6 @@ use Rattle.mb_meaning.specs.Rows.{perform_of}
 use Rattle.mb_meaning.specs.Attempt.{Unfound, NoInstruction, Unfetched, past, fetched_of}
 use Rattle.mb_meaning.specs.Raise.{Stepped, traces_all, is_due, has_ct, with_ct, access_error_of, interrupt_of}
 use Rattle.mb_meaning.specs.Raise.{tracing_of, trap_of, refused_of}
-
--- the bytes of a page
-abbrev pub page_size : ℕ
-page_size = 4096
 
 -- ---- the finish of an instruction
 

@@ -27,24 +27,24 @@ same_page-sym a b = elim (cases_Bool (a == b)) [
 pub is_of-sym : (a b : Kept) → is_of a.space a.page b ≡ is_of b.space b.page a
 is_of-sym a b = rw (same_space-sym b.space a.space, same_page-sym b.page a.page) refl
 
-same_space-is : (a b : Space) → same_space a b ≡ true → a ≡ b
+pub same_space-is : (a b : Space) → same_space a b ≡ true → a ≡ b
 same_space-is User User h = refl
 same_space-is User Super h = absurd (false≢true h)
 same_space-is Super User h = absurd (false≢true h)
 same_space-is Super Super h = refl
 
-both : (a b : Bool) → (a && b) ≡ true → (a ≡ true) × (b ≡ true)
+pub both : (a b : Bool) → (a && b) ≡ true → (a ≡ true) × (b ≡ true)
 both true true h = (refl, refl)
 both true false h = absurd (false≢true h)
 both false b h = absurd (false≢true h)
 
-is_of-same : (space : Space) (page : ℕ) (k : Kept) → is_of space page k ≡ true → (k.space ≡ space) × (k.page ≡ page)
+pub is_of-same : (space : Space) (page : ℕ) (k : Kept) → is_of space page k ≡ true → (k.space ≡ space) × (k.page ≡ page)
 is_of-same space page k h =
     let parts = both (same_space k.space space) (k.page == page) h in
     (same_space-is k.space space parts.0, let e = parts.1 in grind (arith, nat_tests))
 
 -- where no entry passes, none is found
-none_found : (p : Kept → Bool) (kept : List Kept) → list_any p kept ≡ false → find p kept ≡ None
+pub none_found : (p : Kept → Bool) (kept : List Kept) → list_any p kept ≡ false → find p kept ≡ None
 none_found p [] h = refl
 none_found p (k ∷ kept) h = elim (cases_Bool (p k)) [
   | inl t ↦ absurd (true≢false (sym (rw t refl) ∙ h))
@@ -52,14 +52,14 @@ none_found p (k ∷ kept) h = elim (cases_Bool (p k)) [
 ]
 
 -- the first entry of the list is not of a page that the list has no entry of, and the others are neither
-head_differs : (p : Kept → Bool) (k : Kept) (kept : List Kept) → find p (k ∷ kept) ≡ None → (p k ≡ false) × (find p kept ≡ None)
+pub head_differs : (p : Kept → Bool) (k : Kept) (kept : List Kept) → find p (k ∷ kept) ≡ None → (p k ≡ false) × (find p kept ≡ None)
 head_differs p k kept h = elim (cases_Bool (p k)) [
   | inl t ↦ absurd (none-some k (sym h ∙ rw t refl))
   | inr f ↦ (f, sym (rw f refl) ∙ h)
 ]
 
 -- and the other way round
-none_more : (p : Kept → Bool) (k : Kept) (kept : List Kept) → p k ≡ false → find p kept ≡ None → find p (k ∷ kept) ≡ None
+pub none_more : (p : Kept → Bool) (k : Kept) (kept : List Kept) → p k ≡ false → find p kept ≡ None → find p (k ∷ kept) ≡ None
 none_more p k kept f h = rw f h
 
 without-none : (p q : Kept → Bool) (kept : List Kept) → find q kept ≡ None → find q (without p kept) ≡ None
@@ -102,7 +102,7 @@ room-apart capacity k kept a = elim (cases_Bool (list_any (is_of k.space k.page)
   | inr h ↦ rw h (elim (cases_Bool (nat_le capacity (length kept))) [ inl l ↦ rw l (drop-apart kept a) | inr l ↦ rw l a ])
 ]
 
-room-none : (capacity : ℕ) (k : Kept) (kept : List Kept) → Apart kept → entry_in k.space k.page (room_for capacity k kept) ≡ None
+pub room-none : (capacity : ℕ) (k : Kept) (kept : List Kept) → Apart kept → entry_in k.space k.page (room_for capacity k kept) ≡ None
 room-none capacity k kept a = elim (cases_Bool (list_any (is_of k.space k.page) kept)) [
   | inl h ↦ rw h (gone k.space k.page kept a)
   | inr h ↦
@@ -126,7 +126,7 @@ pub filled_in-apart : (capacity : ℕ) (k : Kept) (kept : List Kept) → Apart k
 unfolding filled_in
 filled_in-apart capacity k kept a = append-apart (room_for capacity k kept) k (room-apart capacity k kept a) (room-none capacity k kept a)
 
-filter-none : (p q : Kept → Bool) (kept : List Kept) → find q kept ≡ None → find q (filter p kept) ≡ None
+pub filter-none : (p q : Kept → Bool) (kept : List Kept) → find q kept ≡ None → find q (filter p kept) ≡ None
 filter-none p q [] h = refl
 filter-none p q (k ∷ kept) h =
     let parts = head_differs q k kept h in

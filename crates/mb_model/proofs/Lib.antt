@@ -1,3 +1,4 @@
 pub mod KeepingLemmas
 pub mod NamesLemmas
 pub mod ApartLemmas
+pub mod Found

@@ -5,12 +5,16 @@
 
 mod keeping;
 mod kept;
+mod laws;
 mod outcome;
+mod pages;
 mod processor;
 mod status;
 
 pub use keeping::{entry_in, place_in};
 pub use kept::Kept;
+pub use laws::{found_after_a_fill, found_after_a_flush};
 pub use outcome::{Outcome, RunState};
+pub use pages::{PAGE_SIZE, page_of};
 pub use processor::Cpu;
 pub use status::kept_status;

@@ -9,7 +9,8 @@ ghost use Rattle.mb_ea.specs.Addresses.{IsTarget, IsMemory, IsPlace};
 ghost use Rattle.mb_meaning.specs.SystemEnds.{system_carried_by};
 ghost use Rattle.mb_system.specs.Ends.{SystemEnds};
 ghost use Rattle.mb_meaning.specs.Spaces.{function_space, taken, out_of_register, into_register, is_store, moves_of};
-ghost use Rattle.mb_meaning.specs.Spaces.{page_of, flushed_by, pflush_of, ptest_of};
+ghost use Rattle.mb_model.specs.Pages.{page_of};
+ghost use Rattle.mb_meaning.specs.Spaces.{flushed_by, pflush_of, ptest_of};
 
 use mb_ea::{Target, read_value, resolve};
 use mb_instr::{Ea, FlushKind, Plain, Size};
