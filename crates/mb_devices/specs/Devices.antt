@@ -1,5 +1,5 @@
 -- The devices of the board and what happens to them: the serial line with its console, the timer, the power switch.
-use Rattle.std.specs.Prelude.{ℕ, ◌+◌, ◌-◌, ◌^◌, ◌==◌, ◌&&◌, Bool, true, false, not, List, [], ◌∷◌, ◌++◌, length, drop, min, nat_lt, slice_get, unwrap_or, if◌then◌else◌}
+use Rattle.std.specs.Prelude.{◌≡◌, ◌⊎◌, ℕ, zero, suc, ◌<◌, ◌+◌, ◌-◌, ◌^◌, ◌==◌, ◌&&◌, Bool, true, false, not, List, [], ◌∷◌, ◌++◌, length, drop, min, nat_lt, slice_get, unwrap_or, if◌then◌else◌}
 
 pub record DeviceState : Type 0 where
   -- the bytes of RAM
@@ -82,6 +82,19 @@ counted d =
 -- one step of the machine: a timer of period 0 stands still
 unfoldable pub ticked : DeviceState → DeviceState
 ticked d = if d.period == 0 then d else counted d
+
+-- so many ticks
+abbrev pub ticks : ℕ → DeviceState → DeviceState
+ticks zero d = d
+ticks (suc n) d = ticks n (ticked d)
+
+-- the timer does not come to 0 in so many
+abbrev pub IsNotDue : ℕ → DeviceState → Type 0
+IsNotDue n d = (d.period ≡ 0) ⊎ (n < d.count)
+
+-- so many ticks at once, none of which is due
+unfoldable pub passed : ℕ → DeviceState → DeviceState
+passed n d = if d.period == 0 then d else record d { count = d.count - n }
 
 -- ---- interrupts, RESET
 

@@ -1,3 +1,4 @@
 pub mod Devices
 pub mod Registers
 pub mod Inside
+pub mod Laws

@@ -1,6 +1,7 @@
 //! The devices.
 
 ghost use Rattle.std.specs.Prelude.{◌≡◌, ◌<◌, ◌≤◌, ◌^◌, ◌↔◌, length, is_some, IfOk, IfSome, IsNone, None};
+ghost use Rattle.mb_devices.specs.Devices.{passed, IsNotDue};
 ghost use Rattle.mb_devices.specs.Devices.{counted, has_received, idle, level_of, oldest, received, reset_of, sent, started, ticked, without_oldest};
 ghost use Rattle.mb_devices.specs.Registers.{bit, powered, read_of, register_at, status_of, write_of};
 
@@ -179,6 +180,17 @@ impl Devices {
         if self.count == 0 {
             self.pending = true;
             self.count = self.period;
+        }
+    }
+
+    /// So many steps of the machine pass at once: the timer counts them, and does not come to 0.
+    #[tactic(auto, unfolding(crate::specs::Devices::passed))]
+    pub fn pass(&mut self, n: u32)
+        requires { IsNotDue n self.old }
+        ensures { self.new ≡ passed n self.old }
+    {
+        if self.period != 0 {
+            self.count -= n;
         }
     }
 

@@ -7,7 +7,9 @@
 #![tactic(auto)]
 
 mod devices;
+mod laws;
 mod register;
 
 pub use devices::Devices;
+pub use laws::ticks_pass;
 pub use register::Register;
