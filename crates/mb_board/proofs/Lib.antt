@@ -1,4 +1,3 @@
-pub mod Spelling
 pub mod Modal
 pub mod Due
 pub mod Runs

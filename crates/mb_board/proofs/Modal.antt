@@ -7,7 +7,8 @@ use Rattle.mb_model.specs.Keeping.{Rule, KeptLists, entry_for}
 use Rattle.mb_walk.specs.Transparent.{transparent_of}
 use Rattle.mb_machine.specs.declared.reference.Reference.{Reference}
 use Rattle.mb_machine.specs.declared.reference.Settled.TheVariants.{To}
-use Rattle.mb_machine.specs.Access.{untranslated, settled, matched, page_of, or_off, by_match, by_entry, is_translating}
+use Rattle.mb_model.specs.Pages.{page_of}
+use Rattle.mb_machine.specs.Access.{untranslated, settled, matched, or_off, by_match, by_entry, is_translating}
 use Rattle.mb_board.specs.declared.bus.Mode.TheVariants.{Direct, Tables}
 use Rattle.mb_board.specs.Modes.{is_enabled, has_transparent, mode_by, mode_of}
 

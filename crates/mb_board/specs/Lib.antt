@@ -1,4 +1,4 @@
-pub mod Stores
+pub mod State
 pub mod Modes
 pub mod Arrivals
 pub mod Beside

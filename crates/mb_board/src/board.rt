@@ -5,14 +5,16 @@ ghost use Rattle.mb_model.specs.Keeping.{rule_a};
 ghost use Rattle.mb_model.specs.Seen.{seen_of};
 ghost use Rattle.mb_walk.specs.Memory.{overwritten};
 ghost use Rattle.mb_meaning.specs.Raise.{step_end};
-ghost use Rattle.mb_machine.specs.Machine.{Machine, reset_with, run_of, seen_machine, stepped, stepping, with_ram};
+ghost use Rattle.mb_machine.specs.Machine.{reset_with, run_of, seen_machine, stepped, stepping, with_cpu, with_ram};
 ghost use Rattle.mb_machine.specs.Machine.{state_after, takes_steps};
 ghost use Rattle.vm_meaning.specs.Free.{IsFreeRun};
 ghost use Rattle.mb_board.specs.Arrivals.{IsNext};
+ghost use Rattle.mb_board.specs.State.{board_at_reset, machine_in, with_machine};
 
 use crate::bus::BoardBus;
 use crate::receiving::{place_behind, receive};
 use mb_devices::Devices;
+use mb_instr::Plain;
 use mb_meaning::{Finish, StepEnd};
 use mb_model::{Cpu, Outcome, RunState};
 use mb_outside::Memory;
@@ -22,81 +24,68 @@ use mb_table::FirstWords;
 use mb_walk::Ram;
 use std::alloc::Global;
 use std::marker::Model;
+use std::rc::Rc;
+
+/// The registers where none are remembered.
+const NO_REGISTERS: Plain = Plain {
+    d: [0; 8],
+    a: [0; 8],
+    pc: 0,
+    ccr: 0,
+};
 
 /// A machine: its processor beside the bus of its memory and devices.
 #[derive(Drop)]
-pub struct Board {
+pub(crate) struct Core {
     pub(crate) cpu: Cpu,
     pub(crate) bus: BoardBus,
-    pub(crate) table: FirstWords,
     pub(crate) steps: u32,
     pub(crate) state: RunState,
 }
 
-impl Model for Board {
+impl Model for Core {
     ghost use Rattle.mb_machine.specs.Machine.{Machine};
 
     ghost Value = { Machine };
 
-    ghost view = { λ b. record {
-      cpu = b.cpu;
-      world = b.bus;
-      steps = b.steps;
-      state = b.state;
+    ghost view = { λ c. record {
+      cpu = c.cpu;
+      world = c.bus;
+      steps = c.steps;
+      state = c.state;
     } };
 }
 
-impl Board {
-    /// A board with so many bytes of RAM, all 0, as it is after reset. It takes all the memory that
-    /// it will need.
-    #[tactic(auto, unfolding(mb_machine::specs::Machine::reset_with), using(mb_devices::proofs::Sizes::sizes))]
-    pub fn new(alloc: Global, size: u32) -> Result<Board, Memory>
-        requires { (8 ≤ size) × (size ≤ 67108864) }
-        ensures made { IfOk result (λ board. board ≡ reset_with rule_a size (replicate size 0)) }
-        ensures ram { IfOk result (λ board. length board.world.ram ≡ size) }
-    {
-        let bus = BoardBus::new(alloc, size)?;
-        let Ok(table) = FirstWords::new(alloc) else {
-            return Err(Memory);
-        };
-        let mut board = Board {
-            cpu: Cpu::at_reset(0, 0),
-            bus,
-            table,
-            steps: 0,
-            state: RunState::Running,
-        };
-        board.reset();
-        Ok(board)
-    }
+/// A machine that carries out its steps.
+#[derive(Drop)]
+pub struct Board {
+    pub(crate) core: Core,
+    /// Shared, so that a guest's step can use it while the board's memory is borrowed.
+    pub(crate) table: Rc<FirstWords>,
+    /// The registers at the beginning of the last step in user mode for a monitor.
+    pub(crate) before: Plain,
+}
 
-    /// Writes RAM from a physical address on.
-    #[tactic(auto, using(mb_walk::proofs::MemoryLemmas::lengths))]
-    pub fn write_phys(&mut self, at: u32, bytes: &[u8])
-        requires { at + length bytes.now ≤ length self.old.world.ram }
-        ensures after { self.new ≡ with_ram self.old (overwritten self.old.world.ram at bytes.now) }
-        ensures ram { length self.new.world.ram ≡ length self.old.world.ram }
-    {
-        self.bus.overwrite(at, bytes);
-    }
+impl Model for Board {
+    ghost use Rattle.mb_board.specs.State.{BoardState};
 
-    /// So many bytes of RAM from a physical address on.
-    pub fn memory(&self, at: u32, len: u32) -> &[u8]
-        requires { at + len ≤ length self.now.world.ram }
-        ensures { result.now ≡ slice_range self.now.world.ram at (at + len) }
-    {
-        let at = at as usize;
-        &self.bus.ram()[at..at + len as usize]
-    }
+    ghost Value = { BoardState };
 
-    /// Resets all but RAM: the stack pointer and the program counter come from the longs at 0 and 4, the devices are
-    /// idle with an empty console, nothing is kept, and no step is taken.
+    ghost view = { λ b. record {
+      cpu = b.core.cpu;
+      world = b.core.world;
+      steps = b.core.steps;
+      state = b.core.state;
+      before = b.before;
+    } };
+}
+
+impl Core {
+    /// Resets all but RAM.
     #[tactic(auto, unfolding(mb_machine::specs::Machine::reset_with))]
-    pub fn reset(&mut self)
+    fn reset(&mut self)
         requires { 8 ≤ length self.old.world.ram }
-        ensures after { self.new ≡ reset_with rule_a self.old.world.devices.ram self.old.world.ram }
-        ensures ram { self.new.world.ram ≡ self.old.world.ram }
-        ensures unrun { self.new.steps ≡ 0 }
+        ensures { self.new ≡ reset_with rule_a self.old.world.devices.ram self.old.world.ram }
     {
         self.bus.reset();
         self.cpu = Cpu::at_reset(self.bus.long(0), self.bus.long(4));
@@ -137,7 +126,7 @@ impl Board {
     /// this one.
     #[inline(always)]
     #[tactic(auto, unfolding(mb_machine::specs::Machine::stepping, mb_machine::specs::Machine::begun))]
-    fn step_on(&mut self, script: &Script, next: &mut u32) -> Finish
+    fn step_on(&mut self, table: &FirstWords, script: &Script, next: &mut u32) -> Finish
         requires room { self.old.steps + 1 < 2 ^ 32 }
         requires behind { IsNext script.now self.old.steps next.old }
         ensures means { (result, self.new) ≡ stepping rule_a script.now self.old }
@@ -149,26 +138,13 @@ impl Board {
         self.steps += 1;
         self.bus.tick();
         let level = self.bus.level();
-        let finish = step_to_finish(&self.table, &mut self.cpu, &mut self.bus, level);
+        let finish = step_to_finish(table, &mut self.cpu, &mut self.bus, level);
         self.state = self.state_after(finish);
         finish
     }
 
-    /// Takes one step, with what arrives at it by the script: the first step after a reset has number 1.
-    pub fn step(&mut self, script: &Script) -> StepEnd
-        requires room { self.old.steps + 1 < 2 ^ 32 }
-        requires takes_steps { takes_steps self.old.state ≡ true }
-        ensures ended { result ≡ step_end (stepping rule_a script.now self.old).0 }
-        ensures after { self.new ≡ stepped rule_a script.now self.old }
-        ensures ram { length self.new.world.ram ≡ length self.old.world.ram }
-    {
-        let mut next = place_behind(script, self.steps);
-        self.step_on(script, &mut next).step_end()
-    }
-
-    /// Takes so many steps, or fewer where the machine halts or is switched off. It takes no memory. A board whose
-    /// caches may hold stale translations, until a flush that covers them, may do the same.
-    pub fn run_bare(&mut self, script: &Script, steps: u32)
+    /// Takes so many steps, or fewer where the machine halts or is switched off.
+    fn run_bare(&mut self, table: &FirstWords, script: &Script, steps: u32)
         requires { self.old.steps + steps < 2 ^ 32 }
         ensures means { self.new ≡ run_of rule_a script.now steps self.old }
         ensures free { IsFreeRun script.now steps self.old self.new }
@@ -179,18 +155,153 @@ impl Board {
             if !self.takes_steps() {
                 return;
             }
-            self.step_on(script, &mut next);
+            self.step_on(table, script, &mut next);
+        }
+    }
+
+    /// The processor becomes another.
+    fn set_cpu(&mut self, cpu: &Cpu)
+        ensures { self.new ≡ with_cpu self.old cpu.now }
+    {
+        self.cpu = *cpu;
+        if self.takes_steps() {
+            self.state = if cpu.stopped {
+                RunState::Stopped
+            } else {
+                RunState::Running
+            };
+        }
+    }
+}
+
+impl Board {
+    /// A board with so many bytes of RAM, all 0, as it is after reset. It takes all the memory that
+    /// it will need.
+    #[tactic(auto, unfolding(mb_machine::specs::Machine::reset_with), using(mb_devices::proofs::Sizes::sizes))]
+    pub fn new(alloc: Global, size: u32) -> Result<Board, Memory>
+        requires { (8 ≤ size) × (size ≤ 67108864) }
+        ensures made { IfOk result (λ board. board ≡ board_at_reset (reset_with rule_a size (replicate size 0))) }
+        ensures ram { IfOk result (λ board. length board.world.ram ≡ size) }
+    {
+        let bus = BoardBus::new(alloc, size)?;
+        let Ok(table) = FirstWords::new(alloc) else {
+            return Err(Memory);
+        };
+        let Ok(table) = Rc::new(alloc, table) else {
+            return Err(Memory);
+        };
+        let mut board = Board {
+            core: Core {
+                cpu: Cpu::at_reset(0, 0),
+                bus,
+                steps: 0,
+                state: RunState::Running,
+            },
+            table,
+            before: NO_REGISTERS,
+        };
+        board.reset();
+        Ok(board)
+    }
+
+    /// Writes RAM from a physical address on.
+    #[tactic(auto, using(mb_walk::proofs::MemoryLemmas::lengths))]
+    pub fn write_phys(&mut self, at: u32, bytes: &[u8])
+        requires { at + length bytes.now ≤ length self.old.world.ram }
+        ensures after { self.new ≡ with_machine self.old
+            (with_ram (machine_in self.old) (overwritten self.old.world.ram at bytes.now)) }
+        ensures ram { length self.new.world.ram ≡ length self.old.world.ram }
+    {
+        self.core.bus.overwrite(at, bytes);
+    }
+
+    /// So many bytes of RAM from a physical address on.
+    pub fn memory(&self, at: u32, len: u32) -> &[u8]
+        requires { at + len ≤ length self.now.world.ram }
+        ensures { result.now ≡ slice_range self.now.world.ram at (at + len) }
+    {
+        let at = at as usize;
+        &self.core.bus.ram()[at..at + len as usize]
+    }
+
+    /// Resets all but RAM: the stack pointer and the program counter come from the longs at 0 and 4, the devices are
+    /// idle with an empty console, nothing is kept, and no step is taken.
+    #[tactic(auto, unfolding(mb_machine::specs::Machine::reset_with))]
+    pub fn reset(&mut self)
+        requires { 8 ≤ length self.old.world.ram }
+        ensures after { self.new ≡ board_at_reset
+            (reset_with rule_a self.old.world.devices.ram self.old.world.ram) }
+        ensures ram { self.new.world.ram ≡ self.old.world.ram }
+        ensures unrun { self.new.steps ≡ 0 }
+    {
+        self.core.reset();
+        self.before = NO_REGISTERS;
+    }
+
+    /// Takes one step, with what arrives at it by the script: the first step after a reset has number 1.
+    pub fn step(&mut self, script: &Script) -> StepEnd
+        requires room { self.old.steps + 1 < 2 ^ 32 }
+        requires takes_steps { takes_steps self.old.state ≡ true }
+        ensures ended { result ≡ step_end (stepping rule_a script.now (machine_in self.old)).0 }
+        ensures after { machine_in self.new ≡ stepped rule_a script.now (machine_in self.old) }
+        ensures before { self.new.before ≡ self.old.before }
+        ensures ram { length self.new.world.ram ≡ length self.old.world.ram }
+    {
+        let mut next = place_behind(script, self.core.steps);
+        self.core.step_on(self.table.as_ref(), script, &mut next).step_end()
+    }
+
+    /// Takes so many steps, or fewer where the machine halts or is switched off. It takes no memory. A board whose
+    /// caches may hold stale translations, until a flush that covers them, may do the same.
+    pub fn run_bare(&mut self, script: &Script, steps: u32)
+        requires { self.old.steps + steps < 2 ^ 32 }
+        ensures means { machine_in self.new ≡ run_of rule_a script.now steps (machine_in self.old) }
+        ensures before { self.new.before ≡ self.old.before }
+        ensures free { IsFreeRun script.now steps (machine_in self.old) (machine_in self.new) }
+        ensures ram { length self.new.world.ram ≡ length self.old.world.ram }
+    {
+        self.core.run_bare(self.table.as_ref(), script, steps);
+    }
+
+    /// The processor.
+    pub fn cpu(&self) -> &Cpu
+        ensures { result.now ≡ self.now.cpu }
+    {
+        &self.core.cpu
+    }
+
+    /// The processor becomes another. A machine that takes steps is stopped then exactly where STOP holds that one;
+    /// one that is halted or switched off stays so.
+    pub fn set_cpu(&mut self, cpu: &Cpu)
+        ensures { self.new ≡ with_machine self.old (with_cpu (machine_in self.old) cpu.now) }
+    {
+        self.core.set_cpu(cpu);
+    }
+
+    /// The registers at the beginning of the last step in user mode that was taken for a monitor since the last reset,
+    /// or all 0 where none was.
+    pub fn before(&self) -> &Plain
+        ensures { result.now ≡ self.now.before }
+    {
+        &self.before
+    }
+
+    /// The table of first words, which is shared. The board can be lent while it is held.
+    pub fn table(&self) -> Result<Rc<FirstWords>, Memory> {
+        match self.table.clone() {
+            Ok(table) => Ok(table),
+            Err(_) => Err(Memory),
         }
     }
 
     /// What the board shows.
     pub fn outcome(&self) -> Outcome<'_>
-        ensures { seen_of result ≡ seen_machine self.now }
+        ensures { seen_of result ≡ seen_machine (machine_in self.now) }
     {
-        let devices = self.bus.devices();
+        let devices = self.core.bus.devices();
         Outcome {
-            cpu: &self.cpu,
-            mmu: self.bus.mmu(),
+            cpu: &self.core.cpu,
+            mmu: self.core.bus.mmu(),
             console: devices.console(),
             lost: devices.lost(),
             queue: devices.queue(),
@@ -199,9 +310,9 @@ impl Board {
             period: devices.period(),
             count: devices.count(),
             pending: devices.pending(),
-            steps: self.steps,
-            state: self.state,
-            ram: self.bus.ram(),
+            steps: self.core.steps,
+            state: self.core.state,
+            ram: self.core.bus.ram(),
         }
     }
 
@@ -209,6 +320,6 @@ impl Board {
     pub fn devices(&self) -> &Devices
         ensures { result.now ≡ self.now.world.devices }
     {
-        self.bus.devices()
+        self.core.bus.devices()
     }
 }

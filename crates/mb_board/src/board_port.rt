@@ -4,9 +4,9 @@ ghost use Rattle.std.specs.Prelude.{◌≡◌};
 ghost use Rattle.mb_port.specs.declared.types.Place.{Place};
 ghost use Rattle.mb_model.specs.Keeping.{rule_a};
 ghost use Rattle.mb_machine.specs.World.{World};
-ghost use Rattle.mb_machine.specs.Machine.{Machine};
 ghost use Rattle.mb_machine.specs.Places.{HasPlace};
 ghost use Rattle.mb_machine.specs.Bus.{bus_of};
+ghost use Rattle.mb_board.specs.State.{BoardState};
 ghost use Rattle.mb_board.specs.Beside.{Beside, beside, but_ram};
 
 use crate::board::Board;
@@ -27,74 +27,74 @@ impl Port for Board {
     ghost exists = { λ rest place. HasPlace rest.size place };
 
     fn fetch(&mut self, space: Space, at: u32) -> Result<u16, Fault> {
-        self.bus.fetch(space, at)
+        self.core.bus.fetch(space, at)
     }
 
     fn read(&mut self, space: Space, piece: Piece) -> Result<u32, Fault> {
-        self.bus.read(space, piece)
+        self.core.bus.read(space, piece)
     }
 
     fn write(&mut self, space: Space, piece: Piece, value: u32) -> Result<(), Fault> {
-        self.bus.write(space, piece, value)
+        self.core.bus.write(space, piece, value)
     }
 
     fn read_line(&mut self, space: Space, at: u32) -> Result<[u32; 4], Fault> {
-        self.bus.read_line(space, at)
+        self.core.bus.read_line(space, at)
     }
 
     fn write_line(&mut self, space: Space, at: u32, value: [u32; 4]) -> Result<(), Fault> {
-        self.bus.write_line(space, at, value)
+        self.core.bus.write_line(space, at, value)
     }
 
     fn probe(&mut self, space: Space, piece: Piece) -> Result<Place, Fault> {
-        self.bus.probe(space, piece)
+        self.core.bus.probe(space, piece)
     }
 
     fn get(&mut self, place: Place) -> u32 {
-        self.bus.get(place)
+        self.core.bus.get(place)
     }
 
     fn put(&mut self, place: Place, value: u32) {
-        self.bus.put(place, value);
+        self.core.bus.put(place, value);
     }
 
     fn mmu(&self) -> Mmu {
-        Port::mmu(&self.bus)
+        Port::mmu(&self.core.bus)
     }
 
     fn set_mmu(&mut self, which: MmuReg, value: u32) {
-        self.bus.set_mmu(which, value);
+        self.core.bus.set_mmu(which, value);
     }
 
     fn flush(&mut self, what: Flush) {
-        self.bus.flush(what);
+        self.core.bus.flush(what);
     }
 
     fn test(&mut self, space: Space, at: u32, write: bool) -> u32 {
-        self.bus.test(space, at, write)
+        self.core.bus.test(space, at, write)
     }
 
     fn reset_devices(&mut self) {
-        self.bus.reset_devices();
+        self.core.bus.reset_devices();
     }
 }
 
 impl Ram for Board {
     ghost bytes = { λ m. m.world.ram };
 
-    ghost Rest = { Machine };
+    ghost Rest = { BoardState };
 
     ghost rest = { but_ram };
 
     fn size(&self) -> u32 {
-        self.bus.size()
+        self.core.bus.size()
     }
 
     fn long(&self, at: u32) -> u32 {
-        self.bus.long(at)
+        self.core.bus.long(at)
     }
 
     fn set_long(&mut self, at: u32, value: u32) {
-        self.bus.set_long(at, value);
+        self.core.bus.set_long(at, value);
     }
 }

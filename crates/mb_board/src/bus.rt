@@ -7,11 +7,11 @@ ghost use Rattle.mb_devices.specs.Devices.{level_of, received, ticked};
 ghost use Rattle.mb_machine.specs.Machine.{mmu_at_reset, world_at_reset};
 ghost use Rattle.mb_board.specs.Modes.{has_transparent, is_enabled as has_enabled, mode_of as translates};
 
-use crate::numbers::write_bytes;
 use mb_atc::Atc;
 use mb_devices::Devices;
 use mb_outside::Memory;
 use mb_port::Mmu;
+use mb_walk::overwrite;
 use std::alloc::Global;
 use std::marker::Model;
 
@@ -171,6 +171,6 @@ impl BoardBus {
         requires { at + length bytes.now ≤ length self.old.ram }
         ensures { self.new ≡ record self.old { ram = overwritten self.old.ram at bytes.now } }
     {
-        write_bytes(&mut self.ram, at as usize, bytes);
+        overwrite(&mut self.ram, at as usize, bytes);
     }
 }

@@ -4,65 +4,12 @@ ghost use Rattle.std.specs.Prelude.{◌≡◌, ℕ, length};
 ghost use Rattle.mb_model.specs.Keeping.{rule_a};
 ghost use Rattle.mb_machine.specs.World.{World};
 ghost use Rattle.mb_machine.specs.Places.{HasPlace};
-ghost use Rattle.mb_machine.specs.Bus.{bus_of, fault_of, fetching as fetches, reading as reads, writing as writes};
+ghost use Rattle.mb_machine.specs.Bus.{bus_of};
 
 use crate::bus::{BoardBus, mode_of};
 use mb_instr::ControlRegister;
 use mb_machine::Reference;
 use mb_port::{Fault, Flush, Mmu, MmuReg, Piece, Place, Port, Space};
-
-/// A reference that fetches.
-#[inline(always)]
-fn fetching(space: Space, at: u32) -> Reference
-    ensures { result ≡ fetches space at }
-{
-    Reference {
-        code: true,
-        space,
-        at,
-        write: false,
-    }
-}
-
-/// A reference that reads an operand.
-#[inline(always)]
-fn reading(space: Space, at: u32) -> Reference
-    ensures { result ≡ reads space at }
-{
-    Reference {
-        code: false,
-        space,
-        at,
-        write: false,
-    }
-}
-
-/// A reference that writes an operand, or checks it for writing.
-#[inline(always)]
-fn writing(space: Space, at: u32) -> Reference
-    ensures { result ≡ writes space at }
-{
-    Reference {
-        code: false,
-        space,
-        at,
-        write: true,
-    }
-}
-
-/// A reference to so many bytes is refused: by its translation, or since nothing stands at its place.
-fn refused(r: Reference, len: u8, atc: bool) -> Fault
-    ensures { result ≡ fault_of r len atc }
-{
-    Fault {
-        at: r.at,
-        len,
-        space: r.space,
-        code: r.code,
-        write: r.write,
-        atc,
-    }
-}
 
 #[tactic(auto, unfolding(mb_machine::specs::Bus::bus_of))]
 impl Port for BoardBus {
@@ -80,70 +27,70 @@ impl Port for BoardBus {
 
     #[inline(always)]
     fn fetch(&mut self, space: Space, at: u32) -> Result<u16, Fault> {
-        let r = fetching(space, at);
+        let r = Reference::fetching(space, at);
         let Some(at) = self.translated(r) else {
-            return Err(refused(r, 2, true));
+            return Err(r.refused(2, true));
         };
         match self.take(Place { at, len: 2 }) {
             Some(word) => Ok(word as u16),
-            None => Err(refused(r, 2, false)),
+            None => Err(r.refused(2, false)),
         }
     }
 
     #[inline(always)]
     fn read(&mut self, space: Space, piece: Piece) -> Result<u32, Fault> {
-        let r = reading(space, piece.at);
+        let r = Reference::reading(space, piece.at);
         let Some(at) = self.translated(r) else {
-            return Err(refused(r, piece.len, true));
+            return Err(r.refused(piece.len, true));
         };
         match self.take(Place { at, len: piece.len }) {
             Some(value) => Ok(value),
-            None => Err(refused(r, piece.len, false)),
+            None => Err(r.refused(piece.len, false)),
         }
     }
 
     #[inline(always)]
     fn write(&mut self, space: Space, piece: Piece, value: u32) -> Result<(), Fault> {
-        let r = writing(space, piece.at);
+        let r = Reference::writing(space, piece.at);
         let Some(at) = self.translated(r) else {
-            return Err(refused(r, piece.len, true));
+            return Err(r.refused(piece.len, true));
         };
         match self.store(Place { at, len: piece.len }, value) {
             Some(()) => Ok(()),
-            None => Err(refused(r, piece.len, false)),
+            None => Err(r.refused(piece.len, false)),
         }
     }
 
     fn read_line(&mut self, space: Space, at: u32) -> Result<[u32; 4], Fault> {
-        let r = reading(space, at);
+        let r = Reference::reading(space, at);
         let Some(at) = self.translated(r) else {
-            return Err(refused(r, 16, true));
+            return Err(r.refused(16, true));
         };
         match self.take_line(Place { at, len: 16 }) {
             Some(line) => Ok(line),
-            None => Err(refused(r, 16, false)),
+            None => Err(r.refused(16, false)),
         }
     }
 
     fn write_line(&mut self, space: Space, at: u32, value: [u32; 4]) -> Result<(), Fault> {
-        let r = writing(space, at);
+        let r = Reference::writing(space, at);
         let Some(at) = self.translated(r) else {
-            return Err(refused(r, 16, true));
+            return Err(r.refused(16, true));
         };
         match self.store_line(Place { at, len: 16 }, value) {
             Some(()) => Ok(()),
-            None => Err(refused(r, 16, false)),
+            None => Err(r.refused(16, false)),
         }
     }
 
     fn probe(&mut self, space: Space, piece: Piece) -> Result<Place, Fault> {
-        let r = writing(space, piece.at);
+        let r = Reference::writing(space, piece.at);
         let Some(at) = self.translated(r) else {
-            return Err(refused(r, piece.len, true));
+            return Err(r.refused(piece.len, true));
         };
         let place = Place { at, len: piece.len };
         if !self.takes_writes(place) {
-            return Err(refused(r, piece.len, false));
+            return Err(r.refused(piece.len, false));
         }
         Ok(place)
     }

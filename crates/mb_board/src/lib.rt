@@ -10,7 +10,6 @@ mod board_port;
 mod bus;
 mod bus_port;
 mod lending;
-mod numbers;
 mod places;
 mod receiving;
 mod translating;

@@ -1,16 +1,14 @@
 //! Physical places: RAM, and the registers of the devices.
 
 ghost use Rattle.std.specs.Prelude.{◌≡◌, ℕ, ◌+◌, ◌%◌, ◌<◌, ◌≤◌, ◌≢◌, ◌^◌, List, length, IfSome};
-ghost use Rattle.mb_walk.specs.Memory.{number_at, with_number};
+ghost use Rattle.mb_walk.specs.Memory.{number_at as number_of, with_number};
 ghost use Rattle.mb_machine.specs.World.{World};
-ghost use Rattle.mb_machine.specs.Places.{in_ram, stored, taken, takes_writes, stored_line, taken_line};
-ghost use Rattle.mb_board.specs.Stores.{Stores};
+ghost use Rattle.mb_machine.specs.Places.{in_ram, stored, taken, takes_writes, stored_line, taken_line, Stores};
 ghost use Rattle.mb_board.specs.Beside.{without_ram};
 
 use crate::bus::BoardBus;
-use crate::numbers::{read_number, write_number};
 use mb_port::Place;
-use mb_walk::Ram;
+use mb_walk::{Ram, number_at, set_number_at, size_of};
 
 impl BoardBus {
     #[inline(always)]
@@ -24,10 +22,10 @@ impl BoardBus {
     fn number(&self, at: usize, len: u8) -> u32
         requires size { (0 < len) × (len ≤ 4) × (len ≢ 3) }
         requires inside { at + len ≤ length self.now.ram }
-        ensures value { result ≡ number_at self.now.ram at len }
+        ensures value { result ≡ number_of self.now.ram at len }
         ensures range { result < 256 ^ len }
     {
-        read_number(&self.ram, at, len)
+        number_at(&self.ram, at, len)
     }
 
     #[inline(always)]
@@ -38,7 +36,7 @@ impl BoardBus {
         ensures size { length self.new.ram ≡ length self.old.ram }
         ensures after { self.new ≡ record self.old { ram = with_number self.old.ram at len value } }
     {
-        write_number(&mut self.ram, at, len, value);
+        set_number_at(&mut self.ram, at, len, value);
     }
 
     /// Reads RAM or a register. `None` where nothing answers the read, and nothing has changed.
@@ -127,7 +125,7 @@ impl Ram for BoardBus {
     ghost rest = { without_ram };
 
     fn size(&self) -> u32 {
-        self.ram.len() as u32
+        size_of(&self.ram)
     }
 
     fn long(&self, at: u32) -> u32 {

@@ -1,104 +1,27 @@
 //! Where a reference to memory leads: the stages of an access by the board's rule, and PTEST.
 
-ghost use Rattle.std.specs.Prelude.{◌≡◌, ◌/◌, length, IfSome};
-ghost use Rattle.mb_model.specs.Keeping.{NamesPages, entry_for, rule_a};
-ghost use Rattle.mb_machine.specs.Access.{untranslated, admits, by_entry, marks, page_of, root_of, searched, settled};
-ghost use Rattle.mb_machine.specs.Access.{through, translated};
+ghost use Rattle.std.specs.Prelude.{◌≡◌, length};
+ghost use Rattle.mb_model.specs.Keeping.{entry_for, rule_a};
+ghost use Rattle.mb_model.specs.Pages.{page_of as page_number};
+ghost use Rattle.mb_machine.specs.Access.{by_entry as by_kept_entry, searched, settled, translated};
 ghost use Rattle.mb_machine.specs.Bus.{tested};
 
 use crate::bus::{BoardBus, Mode};
-use mb_machine::{Reference, Settled};
-use mb_model::Kept;
-use mb_port::{Flush, Mmu, Space};
+use mb_machine::{Reference, Settled, by_entry, root, through, untranslated};
+use mb_model::page_of;
+use mb_port::{Flush, Space};
 use mb_walk::{Found, search, transparent};
 
 /// MMUSR of a page that a transparent register of the data side matches: R and T.
 const MATCHED: u32 = 3;
 
-/// Points 1 and 2: whether writes are refused where the physical address is the logical one. `None` where it is not.
-#[inline(always)]
-#[tactic(auto, unfolding(mb_machine::specs::Access::untranslated))]
-fn untranslated(mmu: &Mmu, r: Reference) -> Option<bool>
-    ensures { result ≡ untranslated mmu.now r }
-{
-    let matched = if r.code {
-        transparent(mmu.itt0, mmu.itt1, r.space, r.at)
-    } else {
-        transparent(mmu.dtt0, mmu.dtt1, r.space, r.at)
-    };
-    if matched.is_none() && mmu.tc >> 15 & 1 == 0 {
-        Some(false)
-    } else {
-        matched
-    }
-}
-
-/// Whether an entry admits a reference.
-#[inline(always)]
-fn admits(k: &Kept, r: Reference) -> bool
-    ensures { result ≡ admits k.now r }
-{
-    !(k.w && r.write) && !(k.s && matches!(r.space, Space::User))
-}
-
-/// Whether a reference is a write that marks the page of its entry first.
-#[inline(always)]
-fn marks(k: &Kept, r: Reference) -> bool
-    ensures { result ≡ marks k.now r }
-{
-    r.write && admits(k, r) && !k.m
-}
-
-/// The physical address through an entry. `None` where it refuses.
-#[inline(always)]
-#[tactic(auto, unfolding(mb_machine::specs::Access::through))]
-fn through(k: &Kept, r: Reference) -> Option<u32>
-    requires { NamesPages k.now }
-    ensures { result ≡ through k.now r }
-{
-    if admits(k, r) {
-        Some(k.frame * 4096 + r.at % 4096)
-    } else {
-        None
-    }
-}
-
-/// Point 3, and 5 of an entry that is kept.
-#[inline(always)]
-#[tactic(auto, unfolding(mb_machine::specs::Access::by_entry))]
-fn by_entry(r: Reference, kept: Option<Kept>) -> Settled
-    requires { IfSome kept NamesPages }
-    ensures { result ≡ by_entry r kept }
-{
-    let Some(k) = kept else {
-        return Settled::Unsettled;
-    };
-    if marks(&k, r) {
-        return Settled::Unsettled;
-    }
-    match through(&k, r) {
-        Some(at) => Settled::To(at),
-        None => Settled::Refused,
-    }
-}
-
-/// The root of the tables of a space.
-fn root(mmu: &Mmu, space: Space) -> u32
-    ensures { result ≡ root_of mmu.now space }
-{
-    match space {
-        Space::User => mmu.urp,
-        Space::Super => mmu.srp,
-    }
-}
-
 impl BoardBus {
     /// Point 3: what the kept entry of its page says.
     #[inline(always)]
     fn by_kept(&self, r: Reference) -> Settled
-        ensures { result ≡ by_entry r (entry_for rule_a r.code r.space (page_of r.at) self.now.kept) }
+        ensures { result ≡ by_kept_entry r (entry_for rule_a r.code r.space (page_number r.at) self.now.kept) }
     {
-        by_entry(r, self.kept.find(r.code, r.space, r.at / 4096))
+        by_entry(r, self.kept.find(r.code, r.space, page_of(r.at)))
     }
 
     /// What is known of a reference where a transparent register may match it. It is given by its fields, so that it
@@ -176,13 +99,13 @@ impl BoardBus {
     /// PTEST of the page of an address: MMUSR then.
     #[tactic(auto, unfolding(mb_machine::specs::Bus::tested))]
     pub fn tested(&mut self, space: Space, at: u32, write: bool) -> u32
-        ensures means { (result, self.new) ≡ tested space (at / 4096) write self.old }
+        ensures means { (result, self.new) ≡ tested space (page_number at) write self.old }
         ensures size { length self.new.ram ≡ length self.old.ram }
     {
         if transparent(self.mmu.dtt0, self.mmu.dtt1, space, at).is_some() {
             return MATCHED;
         }
-        self.kept.flush(Flush::Page(space, at / 4096));
+        self.kept.flush(Flush::Page(space, page_of(at)));
         let root = root(&self.mmu, space);
         search(self, root, space, at, write).status()
     }

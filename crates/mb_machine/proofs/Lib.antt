@@ -1,3 +1,6 @@
 pub mod BusLemmas
 pub mod Bytes
 pub mod Refusals
+pub mod Beneath
+pub mod Pieces
+pub mod Enters

@@ -14,7 +14,8 @@ use Rattle.mb_machine.specs.declared.reference.Settled.{Settled}
 use Rattle.mb_machine.specs.declared.reference.Settled.TheVariants.{To, Refused, Unsettled}
 use Rattle.mb_machine.specs.World.{World}
 use Rattle.mb_machine.specs.Places.{Stand, memory, register, nowhere, taken, taken_at, stored, stored_line, checked, taken_line}
-use Rattle.mb_machine.specs.Access.{page_of, root_of, searched, translated, by_settled, by_found}
+use Rattle.mb_model.specs.Pages.{page_of}
+use Rattle.mb_machine.specs.Access.{root_of, searched, translated, by_settled, by_found}
 use Rattle.mb_machine.specs.Bus.{bus_of, answered, read_at, written_at, wrote, fault_of}
 use Rattle.mb_machine.specs.Laws.{WasRefused, CallWasRefused, IsBeside}
 

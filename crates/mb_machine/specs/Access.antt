@@ -5,6 +5,7 @@ use Rattle.mb_port.specs.declared.types.Space.{Space}
 use Rattle.mb_port.specs.declared.types.Space.TheVariants.{User, Super}
 use Rattle.mb_port.specs.declared.types.Mmu.{Mmu}
 use Rattle.mb_model.specs.declared.kept.Kept.{Kept}
+use Rattle.mb_model.specs.Pages.{page_size, page_of, offset_of}
 use Rattle.mb_model.specs.Keeping.{KeptLists, Rule, entry_for, filled}
 use Rattle.mb_walk.specs.Transparent.{transparent_of}
 use Rattle.mb_walk.specs.declared.found.Found.{Found}
@@ -15,10 +16,6 @@ use Rattle.mb_machine.specs.declared.reference.Reference.{Reference}
 use Rattle.mb_machine.specs.declared.reference.Settled.{Settled}
 use Rattle.mb_machine.specs.declared.reference.Settled.TheVariants.{To, Refused, Unsettled}
 use Rattle.mb_machine.specs.World.{World}
-
--- the number of the page of 4 KiB that an address lies in
-abbrev pub page_of : ℕ → ℕ
-page_of at = at / 4096
 
 -- ---- no table
 
@@ -52,13 +49,19 @@ marks k r = r.write && admits k r && not k.m
 
 -- the same byte in the frame
 abbrev pub in_frame : Kept → ℕ → ℕ
-in_frame k at = 4096 * k.frame + at % 4096
+in_frame k at = page_size * k.frame + offset_of at
 
 -- the physical address through an entry; none where it refuses
 unfoldable pub through : Kept → Reference → Option ℕ
 through k r = if admits k r then Some (in_frame k r.at) else None
 
 -- ---- what is known without a search
+
+-- P holds of the place to which a reference is known to lead
+abbrev pub LeadsTo : Settled → (ℕ → Type 0) → Type 0
+LeadsTo (To at) P = P at
+LeadsTo Refused P = Unit {0}
+LeadsTo Unsettled P = Unit {0}
 
 abbrev pub known : Option ℕ → Settled
 known (Some at) = To at

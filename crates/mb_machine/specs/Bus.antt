@@ -1,7 +1,7 @@
 -- The bus of a machine by a rule of keeping.
 use Rattle.std.specs.Prelude.{ℕ, Bool, true, false, bit_and, Option, Some, None, Result, Ok, Err}
 use Rattle.std.specs.Prelude.{unwrap_or}
-use Rattle.mb_port.specs.Routine.{Bus, Fetch, Read, Write, ReadLine, WriteLine, Probe, Get, Put, ReadMmu, SetMmu}
+use Rattle.mb_port.specs.Routine.{Bus, Call, Fetch, Read, Write, ReadLine, WriteLine, Probe, Get, Put, ReadMmu, SetMmu}
 use Rattle.mb_port.specs.Routine.{FlushKept, Test, ResetDevices}
 use Rattle.mb_port.specs.declared.types.Space.{Space}
 use Rattle.mb_port.specs.declared.types.Place.{Place}
@@ -16,7 +16,8 @@ use Rattle.mb_devices.specs.Devices.{reset_of}
 use Rattle.mb_machine.specs.declared.reference.Reference.{Reference}
 use Rattle.mb_machine.specs.World.{World}
 use Rattle.mb_machine.specs.Places.{taken, stored, checked, taken_line, stored_line}
-use Rattle.mb_machine.specs.Access.{matched, page_of, root_of, translated}
+use Rattle.mb_model.specs.Pages.{page_of}
+use Rattle.mb_machine.specs.Access.{matched, root_of, translated}
 
 -- ---- references
 
@@ -28,6 +29,16 @@ reading space at = record { code = false; space = space; at = at; write = false 
 
 abbrev pub writing : Space → ℕ → Reference
 writing space at = record { code = false; space = space; at = at; write = true }
+
+-- the reference that a call translates
+abbrev pub reference_of : Call → Option Reference
+reference_of (Fetch space at) = Some (fetching space at)
+reference_of (Read space p) = Some (reading space p.at)
+reference_of (Write space p value) = Some (writing space p.at)
+reference_of (ReadLine space at) = Some (reading space at)
+reference_of (WriteLine space at line) = Some (writing space at)
+reference_of (Probe space p) = Some (writing space p.at)
+reference_of other = None
 
 -- A reference to so many bytes is refused: by its translation, or, with ATC clear, since nothing stands at its place.
 abbrev pub fault_of : Reference → ℕ → Bool → Fault

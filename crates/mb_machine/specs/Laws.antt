@@ -1,14 +1,16 @@
--- What holds of every call of the bus, by every rule: memory stays bytes, and what a refused access tells and leaves.
-use Rattle.std.specs.Prelude.{◌≡◌, ℕ, is_none}
+-- What holds of every call of the bus, by every rule: memory stays bytes, of the same size, what a refused access tells
+-- and leaves, and what an access keeps.
+use Rattle.std.specs.Prelude.{◌≡◌, ℕ, is_none, length, IfSome}
 use Rattle.mb_port.specs.Routine.{Call, Fetch, Read, Write, ReadLine, WriteLine, Probe, Get, Put, ReadMmu, SetMmu}
 use Rattle.mb_port.specs.Routine.{FlushKept, Test, ResetDevices}
 use Rattle.mb_port.specs.declared.types.Fault.{Fault}
+use Rattle.mb_port.specs.declared.types.Place.{Place}
 use Rattle.mb_model.specs.Keeping.{Rule}
 use Rattle.mb_laws.specs.Refusal.{IsFault}
 use Rattle.mb_machine.specs.declared.reference.Reference.{Reference}
 use Rattle.mb_machine.specs.World.{World, HasBytes}
 use Rattle.mb_machine.specs.Access.{translated}
-use Rattle.mb_machine.specs.Bus.{fetching, reading, writing, fault_of, bus_of}
+use Rattle.mb_machine.specs.Bus.{fetching, reading, writing, reference_of, fault_of, bus_of}
 
 abbrev pub BytesStay : Type 0
 BytesStay = (rule : Rule) (c : Call) (w : World) → HasBytes w → HasBytes (bus_of rule c w).1
@@ -47,3 +49,28 @@ pub record IsBeside (before after : World) : Type 0 where
 
 abbrev pub TranslationsStayBeside : Type 0
 TranslationsStayBeside = (rule : Rule) (r : Reference) (w : World) → IsBeside w (translated rule r w).1
+
+-- Memory and devices may have changed; the registers of translation, and what is kept, have not.
+pub record IsBeneath (before after : World) : Type 0 where
+  pub mmu : after.mmu ≡ before.mmu
+  pub kept : after.kept ≡ before.kept
+
+-- What a call reads or writes behind its translation keeps both as the translation left them,
+abbrev pub CallsStandBeneath : Type 0
+CallsStandBeneath = (rule : Rule) (c : Call) (w : World)
+    → IfSome (reference_of c) (λ r. IsBeneath (translated rule r w).1 (bus_of rule c w).1)
+
+-- and so does a call that goes to a place without translation.
+abbrev pub PlacesStandBeneath : Type 0
+PlacesStandBeneath = (rule : Rule) (place : Place) (value : ℕ) (w : World)
+    → IsBeneath w (bus_of rule (Get place) w).1 × IsBeneath w (bus_of rule (Put place value) w).1
+
+-- a line is four longs
+abbrev pub IsWhole : Call → Type 0
+IsWhole (WriteLine space at line) = length line ≡ 4
+IsWhole other = Unit {0}
+
+-- No call changes the size of RAM.
+abbrev pub SizesStay : Type 0
+SizesStay = (rule : Rule) (c : Call) (w : World) → HasBytes w → IsWhole c
+    → length (bus_of rule c w).1.ram ≡ length w.ram

@@ -4,3 +4,4 @@ pub mod Access
 pub mod Bus
 pub mod Machine
 pub mod Laws
+pub mod Enters

@@ -114,6 +114,13 @@ takes_steps Stopped = true
 takes_steps Halted = false
 takes_steps Off = false
 
+-- a machine with another processor: one that takes steps is stopped exactly where STOP holds that
+abbrev pub state_with : Cpu → RunState → RunState
+state_with cpu state = if takes_steps state then (if cpu.stopped then Stopped else Running) else state
+
+abbrev pub with_cpu : Machine → Cpu → Machine
+with_cpu m cpu = record m { cpu = cpu; state = state_with cpu m.state }
+
 -- the machine after so many steps, or fewer where it is halted or off
 unfoldable pub run_of : Rule → Entries → ℕ → Machine → Machine
 run_of rule script zero m = m

@@ -44,6 +44,11 @@ taken place w = taken_at (stand_of (length w.ram) place) place w
 unfoldable pub stored : Place → ℕ → World → Option World
 stored place value w = stored_at (stand_of (length w.ram) place) place value w
 
+-- The world is what the write makes of it, or nothing took the write and it is as before.
+abbrev pub Stores : Option World → World → World → Option (Unit {0}) → Type 0
+Stores after old new (Some done) = after ≡ Some new
+Stores after old new None = (after ≡ None) × (new ≡ old)
+
 abbrev pub is_somewhere : Stand → Bool
 is_somewhere memory = true
 is_somewhere (register r) = true

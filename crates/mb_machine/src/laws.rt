@@ -1,10 +1,23 @@
 //! Laws of the bus.
 
-ghost use Rattle.mb_machine.specs.Laws.{BytesStay, FaultsTell, TranslationsStayBeside};
+ghost use Rattle.mb_machine.specs.Laws.{BytesStay, SizesStay, FaultsTell, TranslationsStayBeside};
+ghost use Rattle.mb_machine.specs.Enters.{EntersStacked};
+ghost use Rattle.mb_machine.specs.Laws.{CallsStandBeneath, PlacesStandBeneath};
 
 /// Whatever is called, a memory of bytes stays one, by every rule of keeping.
 pub fn memory_stays_bytes()
     ensures { BytesStay }
+{}
+
+/// Whatever is called, memory keeps its size.
+pub fn memory_keeps_its_size()
+    ensures { SizesStay }
+{}
+
+/// What is read or written leaves the registers of translation, and what is kept.
+pub fn accesses_stand_beneath()
+    ensures calls { CallsStandBeneath }
+    ensures places { PlacesStandBeneath }
 {}
 
 /// What a refused access tells, and what stands after it: bits of tables that were set, entries that were kept, and
@@ -12,4 +25,10 @@ pub fn memory_stays_bytes()
 pub fn refused_accesses()
     ensures tell { FaultsTell }
     ensures beside { TranslationsStayBeside }
+{}
+
+/// Where supervisor operands are not translated, the entry of an exception with one frame in RAM writes that frame, and
+/// goes on at the long that its vector names.
+pub fn entries_are_stacked()
+    ensures { EntersStacked }
 {}

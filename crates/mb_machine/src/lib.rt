@@ -8,6 +8,11 @@
 
 mod laws;
 mod reference;
+mod settling;
 
-pub use laws::{memory_stays_bytes, refused_accesses};
+pub use laws::{
+    accesses_stand_beneath, entries_are_stacked, memory_keeps_its_size, memory_stays_bytes,
+    refused_accesses,
+};
 pub use reference::{Reference, Settled};
+pub use settling::{admits, by_entry, marks, root, through, untranslated};

@@ -1,6 +1,9 @@
 //! References to memory, and what is known of where they lead.
 
-use mb_port::Space;
+ghost use Rattle.std.specs.Prelude.{◌≡◌};
+ghost use Rattle.mb_machine.specs.Bus.{fault_of, fetching as fetches, reading as reads, writing as writes};
+
+use mb_port::{Fault, Space};
 
 /// A reference to memory: what an access is to its translation.
 #[derive(Clone, Copy, Debug, PartialEq, Eq)]
@@ -23,4 +26,59 @@ pub enum Settled {
     Refused,
     /// Only a search can tell.
     Unsettled,
+}
+
+impl Reference {
+    /// A reference that fetches.
+    #[inline(always)]
+    pub fn fetching(space: Space, at: u32) -> Reference
+        ensures { result ≡ fetches space at }
+    {
+        Reference {
+            code: true,
+            space,
+            at,
+            write: false,
+        }
+    }
+
+    /// A reference that reads an operand.
+    #[inline(always)]
+    pub fn reading(space: Space, at: u32) -> Reference
+        ensures { result ≡ reads space at }
+    {
+        Reference {
+            code: false,
+            space,
+            at,
+            write: false,
+        }
+    }
+
+    /// A reference that writes an operand, or checks it for writing.
+    #[inline(always)]
+    pub fn writing(space: Space, at: u32) -> Reference
+        ensures { result ≡ writes space at }
+    {
+        Reference {
+            code: false,
+            space,
+            at,
+            write: true,
+        }
+    }
+
+    /// The fault where it, to so many bytes, is refused: by its translation, or, with ATC clear, since nothing stands at its place.
+    pub fn refused(self, len: u8, atc: bool) -> Fault
+        ensures { result ≡ fault_of self len atc }
+    {
+        Fault {
+            at: self.at,
+            len,
+            space: self.space,
+            code: self.code,
+            write: self.write,
+            atc,
+        }
+    }
 }

@@ -4,6 +4,7 @@ ghost use Rattle.std.specs.Prelude.{◌≡◌, ◌<◌, ◌≤◌, ◌*◌, ◌%
 ghost use Rattle.mb_srec.specs.Image.{content_of, all_contents, contents_of, LiesBelow};
 ghost use Rattle.mb_walk.specs.Memory.{overwritten};
 ghost use Rattle.mb_model.specs.Keeping.{rule_a};
+ghost use Rattle.mb_board.specs.State.{machine_in, with_machine};
 ghost use Rattle.mb_machine.specs.Machine.{start, with_contents, with_ram};
 ghost use Rattle.mb_words.specs.Words.{run_said};
 ghost use Rattle.mb_program.specs.Answers.{bare_answer, ends, machine_after};
@@ -23,8 +24,8 @@ use std::alloc::Global;
 #[tactic(auto, using(mb_walk::proofs::MemoryLemmas::writes))]
 fn write_chunk(board: &mut Board, chunk: &Chunk)
     requires lies { LiesBelow (length board.old.world.ram) (content_of chunk.now) }
-    ensures after { board.new
-        ≡ with_ram board.old (overwritten board.old.world.ram (content_of chunk.now).0 (content_of chunk.now).1) }
+    ensures after { board.new ≡ with_machine board.old (with_ram (machine_in board.old)
+        (overwritten board.old.world.ram (content_of chunk.now).0 (content_of chunk.now).1)) }
     ensures size { length board.new.world.ram ≡ length board.old.world.ram }
 {
     if !chunk.bytes().is_empty() {
@@ -36,8 +37,8 @@ fn write_chunk(board: &mut Board, chunk: &Chunk)
 fn write_chunks(board: &mut Board, chunks: &[Chunk])
     requires lie { All (LiesBelow (length board.old.world.ram)) (all_contents chunks.now) }
     ensures size { length board.new.world.ram ≡ length board.old.world.ram }
-    ensures after { board.new
-        ≡ with_ram board.old (with_contents board.old.world.ram (all_contents chunks.now)) }
+    ensures after { board.new ≡ with_machine board.old
+        (with_ram (machine_in board.old) (with_contents board.old.world.ram (all_contents chunks.now))) }
 {
     for chunk in chunks {
         write_chunk(board, chunk);
@@ -49,7 +50,7 @@ fn write_chunks(board: &mut Board, chunks: &[Chunk])
 pub(crate) fn start_board(alloc: Global, image: &Image, size: u32) -> Result<Board, Memory>
     requires size { (8 ≤ size) × (size ≤ 67108864) }
     requires in_ram { All (LiesBelow size) (contents_of image.now) }
-    ensures start { IfOk result (λ board. board ≡ start rule_a (contents_of image.now) size) }
+    ensures start { IfOk result (λ board. machine_in board ≡ start rule_a (contents_of image.now) size) }
     ensures ram { IfOk result (λ board. length board.world.ram ≡ size) }
     ensures unrun { IfOk result (λ board. board.steps ≡ 0) }
 {
@@ -63,7 +64,7 @@ pub(crate) fn start_board(alloc: Global, image: &Image, size: u32) -> Result<Boa
 #[tactic(auto, unfolding(crate::specs::Answers::machine_after))]
 fn run_board(alloc: Global, run: &Bare, image: &Image, script: &Script) -> Result<Board, Memory>
     requires { All (LiesBelow (1024 * run.now.ram)) (contents_of image.now) }
-    ensures after { IfOk result (λ board. board
+    ensures after { IfOk result (λ board. machine_in board
         ≡ machine_after (run_said run.now) (record { image = contents_of image.now; script = script.now })) }
     ensures ram { IfOk result (λ board. length board.world.ram ≤ 67108864) }
 {

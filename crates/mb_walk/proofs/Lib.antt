@@ -1,7 +1,12 @@
+pub mod Written
 pub mod MemoryLemmas
+pub mod Spelling
 pub mod Bits
 pub mod LongLemmas
+pub mod Parts
+pub mod InLongs
 pub mod Marks
 pub mod Again
 pub mod Inside
 pub mod MetPlaces
+pub mod Named

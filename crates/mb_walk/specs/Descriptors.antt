@@ -4,6 +4,7 @@ use Rattle.std.specs.Prelude.{bit_and}
 use Rattle.mb_port.specs.declared.types.Space.{Space}
 use Rattle.mb_port.specs.declared.types.Space.TheVariants.{User, Super}
 use Rattle.mb_model.specs.declared.kept.Kept.{Kept}
+use Rattle.mb_model.specs.Pages.{page_of}
 use Rattle.mb_walk.specs.declared.descriptors.TableDescriptor.{TableDescriptor}
 use Rattle.mb_walk.specs.declared.descriptors.PageDescriptor.{PageDescriptor}
 
@@ -29,7 +30,7 @@ page_descriptor long = record {
   modified = long / 2 ^ 4 % 2 == 1;
   supervisor = long / 2 ^ 7 % 2 == 1;
   global = long / 2 ^ 10 % 2 == 1;
-  frame = long / 2 ^ 12;
+  frame = page_of long;
 }
 
 -- a descriptor marked as used, and as modified

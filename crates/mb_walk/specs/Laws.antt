@@ -8,7 +8,7 @@ use Rattle.mb_walk.specs.declared.found.Found.TheVariants.{BusError}
 use Rattle.mb_walk.specs.Memory.{number_at, AreBytes}
 use Rattle.mb_walk.specs.Descriptors.{page_descriptor, indirection, entry_at, table_bytes, page_table_bytes}
 use Rattle.mb_walk.specs.Descriptors.{root_index, pointer_index, page_index}
-use Rattle.mb_walk.specs.Search.{Searched, Level, descended, search_of}
+use Rattle.mb_walk.specs.Search.{Searched, Level, descended, search_of, OnEntry}
 
 -- a descriptor without U and M, its bits 3 and 4
 abbrev pub unmarked : ℕ → ℕ
@@ -31,6 +31,11 @@ abbrev pub SearchesRepeat : Type 0
 SearchesRepeat = (ram : List ℕ) (root : ℕ) (space : Space) (page : ℕ) (write again : Bool) → AreBytes ram
     → (again ≡ false) ⊎ (again ≡ write)
     → search_of (search_of ram root space page write).ram root space page again ≡ search_of ram root space page write
+
+-- What a search finds is of the space and the page that it was for.
+abbrev pub SearchesNameTheirPage : Type 0
+SearchesNameTheirPage = (ram : List ℕ) (root : ℕ) (space : Space) (page : ℕ) (write : Bool)
+    → OnEntry (search_of ram root space page write).found (λ k. (k.space ≡ space) × (k.page ≡ page))
 
 -- the end of a search in a memory that goes on with more bytes
 abbrev pub followed_by : List ℕ → Searched → Searched

@@ -3,3 +3,4 @@ pub mod Descriptors
 pub mod Transparent
 pub mod Search
 pub mod Laws
+pub mod Parts

@@ -3,6 +3,8 @@
 ghost use Rattle.std.specs.Prelude.{◌≡◌, ◌<◌, ◌*◌, ◌/◌, ◌%◌, ◌^◌};
 ghost use Rattle.mb_walk.specs.Descriptors.{table_descriptor, page_descriptor, with_bit as bit_set};
 
+use mb_model::page_of;
+
 /// An entry of a root or pointer table.
 #[derive(Clone, Copy, Debug, PartialEq, Eq)]
 pub struct TableDescriptor {
@@ -63,7 +65,7 @@ impl PageDescriptor {
             modified: long >> 4 & 1 == 1,
             supervisor: long >> 7 & 1 == 1,
             global: long >> 10 & 1 == 1,
-            frame: long >> 12,
+            frame: page_of(long),
         }
     }
 }

@@ -1,6 +1,9 @@
-//! What a search leaves, and what one after it finds.
+//! What a search leaves, and what one after it finds; and what a write of memory leaves.
 
 ghost use Rattle.mb_walk.specs.Laws.{SearchesMark, SearchesRepeat, SearchesStayInside, SearchesChangeWhatTheyMeet};
+ghost use Rattle.mb_walk.specs.Laws.{SearchesNameTheirPage};
+ghost use Rattle.mb_walk.specs.Parts.{PartsHaveNumbers, PartsTakeBytes, WritesLeaveBelow, WritesLeaveAbove};
+ghost use Rattle.mb_walk.specs.Parts.{WritesRepeat, WritesStand, WritesSplit, NumbersHaveTheirBytes};
 
 /// A search changes used and modified bits alone. The same one again, or one for no write, changes nothing and finds
 /// the same.
@@ -14,4 +17,25 @@ pub fn searches_repeat()
 pub fn searches_stay_inside()
     ensures met { SearchesChangeWhatTheyMeet }
     ensures inside { SearchesStayInside }
+{}
+
+/// What a search finds is of the space and the page that it was for.
+pub fn searches_name_their_page()
+    ensures { SearchesNameTheirPage }
+{}
+
+/// Numbers of a part of memory, and bytes that are written within it.
+pub fn parts_of_memory()
+    ensures numbers { PartsHaveNumbers }
+    ensures bytes { PartsTakeBytes }
+{}
+
+/// What a write of bytes leaves, when it makes no difference, and that a number has the bytes that it was read from.
+pub fn writes_of_memory()
+    ensures below { WritesLeaveBelow }
+    ensures above { WritesLeaveAbove }
+    ensures again { WritesRepeat }
+    ensures beside { WritesStand }
+    ensures split { WritesSplit }
+    ensures back { NumbersHaveTheirBytes }
 {}

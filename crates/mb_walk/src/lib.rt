@@ -7,14 +7,19 @@ mod descriptors;
 mod found;
 mod laws;
 mod longs;
+mod numbers;
 mod ram;
 mod searching;
 mod transparency;
 
 pub use descriptors::{PageDescriptor, TableDescriptor};
 pub use found::Found;
-pub use laws::{searches_repeat, searches_stay_inside};
-pub use longs::{long_at, set_long_at};
+pub use laws::{
+    parts_of_memory, searches_name_their_page, searches_repeat, searches_stay_inside,
+    writes_of_memory,
+};
+pub use longs::{long_at, set_long_at, size_of};
+pub use numbers::{number_at, number_in, overwrite, set_number_at, set_number_in};
 pub use ram::Ram;
 pub use searching::search;
 pub use transparency::transparent;

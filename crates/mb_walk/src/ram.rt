@@ -1,7 +1,7 @@
 //! Memory that is read and written by aligned longs.
 
 ghost use Rattle.std.specs.Prelude.{◌≡◌, ℕ, ◌+◌, ◌%◌, ◌≤◌, List, length};
-ghost use Rattle.mb_walk.specs.Memory.{number_at, with_number};
+ghost use Rattle.mb_walk.specs.Memory.{number_at, with_number, AreBytes};
 
 /// Memory that is read and written by aligned longs, with whatever else the value holds.
 pub trait Ram {
@@ -15,7 +15,8 @@ pub trait Ram {
 
     /// How many bytes there are.
     fn size(&self) -> u32
-        ensures { result ≡ length (bytes self.now) };
+        ensures size { result ≡ length (bytes self.now) }
+        ensures bytes { AreBytes (bytes self.now) };
 
     /// The big-endian long at an address, which is a multiple of 4.
     fn long(&self, at: u32) -> u32

@@ -4,13 +4,14 @@ ghost use Rattle.std.specs.Prelude.{◌≡◌, ℕ, ◌+◌, ◌*◌, ◌/◌, �
 ghost use Rattle.mb_walk.specs.Memory.{number_at, with_number};
 ghost use Rattle.mb_walk.specs.Descriptors.{entry_at, marked, resident_status, with_used as used, is_user};
 ghost use Rattle.mb_model.specs.Keeping.{NamesPages};
+ghost use Rattle.mb_model.specs.Pages.{page_of as page_number};
 ghost use Rattle.mb_walk.specs.Search.{OnEntry};
 ghost use Rattle.mb_walk.specs.Search.{descended, paged, pointed, ended, search_of, is_inside as stands_inside};
 
 use crate::descriptors::{PageDescriptor, TableDescriptor, with_bit};
 use crate::found::Found;
 use crate::ram::Ram;
-use mb_model::Kept;
+use mb_model::{Kept, page_of};
 use mb_port::Space;
 
 /// The bytes of a root or pointer table.
@@ -23,7 +24,7 @@ const PAGE_TABLE_BYTES: u32 = 256;
 #[derive(Clone, Copy)]
 struct Sought {
     space: Space,
-    /// The number of the page of 4 KiB.
+    /// The number of the page.
     page: u32,
     write: bool,
 }
@@ -176,15 +177,15 @@ fn end<R: Ram>(ram: &mut R, place: u32, sought: Sought, protected: bool) -> Foun
 /// The root's bits 8 to 0 are ignored.
 #[tactic(auto, unfolding(crate::specs::Search::search_of))]
 pub fn search<R: Ram>(ram: &mut R, root: u32, space: Space, at: u32, write: bool) -> Found
-    ensures means { search_of (R.bytes ram.old) root space (at / 4096) write
+    ensures means { search_of (R.bytes ram.old) root space (page_number at) write
         ≡ record { ram = R.bytes ram.new; found = result } }
-    ensures entry { OnEntry result (λ k. (k.space ≡ space) × (k.page ≡ at / 4096) × NamesPages k) }
+    ensures entry { OnEntry result (λ k. (k.space ≡ space) × (k.page ≡ page_number at) × NamesPages k) }
     ensures size { length (R.bytes ram.new) ≡ length (R.bytes ram.old) }
     ensures rest { R.rest ram.new ≡ R.rest ram.old }
 {
     let sought = Sought {
         space,
-        page: at / 4096,
+        page: page_of(at),
         write,
     };
     let pointer = match descend(ram, entry_place(root, TABLE_BYTES, at >> 25)) {
@@ -198,7 +199,7 @@ pub fn search<R: Ram>(ram: &mut R, root: u32, space: Space, at: u32, write: bool
     let protected = TableDescriptor::of(pointer).protected || TableDescriptor::of(leaf).protected;
     end(
         ram,
-        entry_place(leaf, PAGE_TABLE_BYTES, at >> 12 & 0x3F),
+        entry_place(leaf, PAGE_TABLE_BYTES, page_of(at) & 0x3F),
         sought,
         protected,
     )

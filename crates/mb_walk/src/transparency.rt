@@ -1,6 +1,7 @@
 //! The transparent translation registers.
 
 ghost use Rattle.std.specs.Prelude.{◌≡◌, ◌/◌};
+ghost use Rattle.mb_model.specs.Pages.{page_of};
 ghost use Rattle.mb_walk.specs.Transparent.{transparent_register, transparent_of, matches as does_match};
 
 use mb_port::Space;
@@ -38,7 +39,7 @@ impl TransparentRegister {
     /// Whether it matches an address of a space.
     #[inline(always)]
     fn matches(self, space: Space, at: u32) -> bool
-        ensures { result ≡ does_match self space (at / 4096) }
+        ensures { result ≡ does_match self space (page_of at) }
     {
         let admitted = match space {
             Space::User => self.spaces != 1,
@@ -53,7 +54,7 @@ impl TransparentRegister {
 #[inline(always)]
 #[tactic(auto, unfolding(crate::specs::Transparent::transparent_of))]
 pub fn transparent(tt0: u32, tt1: u32, space: Space, at: u32) -> Option<bool>
-    ensures { result ≡ transparent_of tt0 tt1 space (at / 4096) }
+    ensures { result ≡ transparent_of tt0 tt1 space (page_of at) }
 {
     let first = TransparentRegister::of(tt0);
     let second = TransparentRegister::of(tt1);

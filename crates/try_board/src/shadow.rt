@@ -6,7 +6,7 @@ ghost use Rattle.vm_shadow.specs.Area.{Maps};
 use Space::{Super, User};
 use mb_model::Kept;
 use mb_port::Space;
-use mb_walk::{Found, Ram, long_at, search, set_long_at};
+use mb_walk::{Found, Ram, long_at, search, set_long_at, size_of};
 use std::alloc::Global;
 use vm_shadow::Shadow;
 
@@ -30,7 +30,7 @@ impl Ram for Bytes {
     ghost rest = { λ b. tt };
 
     fn size(&self) -> u32 {
-        SIZE
+        size_of(&self.memory)
     }
 
     fn long(&self, at: u32) -> u32 {

@@ -7,7 +7,7 @@ use Space::{Super, User};
 use mb_model::Kept;
 use mb_port::Space;
 use mb_walk::{
-    Found, PageDescriptor, Ram, TableDescriptor, long_at, search, set_long_at, transparent,
+    Found, PageDescriptor, Ram, TableDescriptor, long_at, search, set_long_at, size_of, transparent,
 };
 use std::alloc::Global;
 
@@ -28,7 +28,7 @@ impl Ram for Bytes {
     ghost rest = { λ b. tt };
 
     fn size(&self) -> u32 {
-        SIZE
+        size_of(&self.memory)
     }
 
     fn long(&self, at: u32) -> u32 {

@@ -7,7 +7,8 @@ use Rattle.mb_machine.specs.declared.reference.Reference.{Reference}
 use Rattle.mb_machine.specs.declared.reference.Settled.{Settled}
 use Rattle.mb_machine.specs.declared.reference.Settled.TheVariants.{Unsettled}
 use Rattle.mb_machine.specs.World.{World}
-use Rattle.mb_machine.specs.Access.{page_of, settled, by_match, by_entry, by_settled, known, marks, through, translated, untranslated}
+use Rattle.mb_model.specs.Pages.{page_of}
+use Rattle.mb_machine.specs.Access.{settled, by_match, by_entry, by_settled, known, marks, through, translated, untranslated}
 use Rattle.vm_meaning.specs.Free.{rule_free, holding}
 use Rattle.vm_meaning.specs.Laws.{AccessesUseOrSearch}
 

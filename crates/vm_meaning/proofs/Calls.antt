@@ -19,7 +19,8 @@ use Rattle.mb_machine.specs.declared.reference.Settled.{Settled}
 use Rattle.mb_machine.specs.declared.reference.Settled.TheVariants.{To, Refused, Unsettled}
 use Rattle.mb_machine.specs.World.{World}
 use Rattle.mb_machine.specs.Places.{taken, stored, checked, taken_line, stored_line}
-use Rattle.mb_machine.specs.Access.{matched, page_of, root_of, settled, by_match, by_entry, untranslated, searched, translated, by_settled, by_found}
+use Rattle.mb_model.specs.Pages.{page_of}
+use Rattle.mb_machine.specs.Access.{matched, root_of, settled, by_match, by_entry, untranslated, searched, translated, by_settled, by_found}
 use Rattle.mb_machine.specs.Bus.{bus_of, reading, writing, fetching, read_at, read_by, written_at, written_by, tested, tested_by, with_register}
 use Rattle.vm_meaning.specs.Free.{IsKept, StandIn, rule_free, holding, FreeCall, WorldWithin}
 use Rattle.vm_meaning.proofs.Blind.{IsBlind, IsBlindStore, taken-blind, taken_line-blind, checked-blind, stored-blind, stored_line-blind}

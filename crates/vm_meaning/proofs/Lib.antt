@@ -4,3 +4,4 @@ pub mod Calls
 pub mod Runs
 pub mod Accesses
 pub mod Upkeep
+pub mod Fills

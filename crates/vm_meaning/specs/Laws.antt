@@ -1,6 +1,6 @@
 -- Every run is a free run, and what a free board does at a call.
-use Rattle.std.specs.Prelude.{◌≡◌, ◌⊎◌, ℕ, Bool, true, false, ◌&&◌, List, Option, Some, None, IsSomeAnd, is_none}
-use Rattle.mb_port.specs.Routine.{Call, Answer, Fetch, Read, Write, ReadLine, WriteLine, Probe, FlushKept, Test}
+use Rattle.std.specs.Prelude.{◌≡◌, ◌⊎◌, ℕ, Bool, true, false, ◌&&◌, List, Option, Some, None, IfSome, IsSomeAnd, is_none}
+use Rattle.mb_port.specs.Routine.{Call, Answer, FlushKept, Test}
 use Rattle.mb_model.specs.declared.kept.Kept.{Kept}
 use Rattle.mb_model.specs.Keeping.{Rule, covers, is_of}
 use Rattle.mb_walk.specs.declared.found.Found.TheVariants.{Entry}
@@ -8,9 +8,11 @@ use Rattle.mb_walk.specs.Search.{search_of}
 use Rattle.mb_laws.specs.Relations.{MayFollow}
 use Rattle.mb_laws.specs.Refusal.{any_call}
 use Rattle.mb_machine.specs.declared.reference.Reference.{Reference}
+use Rattle.mb_machine.specs.declared.reference.Settled.TheVariants.{Unsettled}
 use Rattle.mb_machine.specs.World.{World}
-use Rattle.mb_machine.specs.Access.{matched, marks, page_of, root_of, searched, through, translated, untranslated}
-use Rattle.mb_machine.specs.Bus.{bus_of, fetching, reading, writing}
+use Rattle.mb_model.specs.Pages.{page_of}
+use Rattle.mb_machine.specs.Access.{matched, marks, root_of, searched, settled, through, translated, untranslated}
+use Rattle.mb_machine.specs.Bus.{bus_of, reference_of}
 use Rattle.mb_machine.specs.Machine.{Entries, Machine, reset_with, run_of}
 use Rattle.vm_meaning.specs.Free.{IsKept, rule_free, holding, FreeCall, FreeRun, WorldWithin, Within, IsFreeRun}
 
@@ -49,16 +51,6 @@ AccessesUseOrSearch = (r : Reference) (w : World) → untranslated w.mmu r ≡ N
 
 -- ---- what is kept
 
--- the reference that a call translates
-abbrev pub reference_of : Call → Option Reference
-reference_of (Fetch space at) = Some (fetching space at)
-reference_of (Read space p) = Some (reading space p.at)
-reference_of (Write space p value) = Some (writing space p.at)
-reference_of (ReadLine space at) = Some (reading space at)
-reference_of (WriteLine space at line) = Some (writing space at)
-reference_of (Probe space p) = Some (writing space p.at)
-reference_of other = None
-
 -- does a call drop an entry: a flush that covers it, or a PTEST of its page where no transparent register matches
 abbrev pub drops : Call → World → Kept → Bool
 drops (FlushKept what) w k = covers what k
@@ -79,3 +71,13 @@ pub record KeepsFound (c : Call) (w after : World) (k : Kept) : Type 0 where
 abbrev pub FreeBoardsKeep : Type 0
 FreeBoardsKeep = (c : Call) (w after : World) (answer : Answer c) → FreeCall c w answer after → (k : Kept)
     → KeepsFound c w after k
+
+-- The reference is searched for, with this entry taken into the class: nothing that is known settles where it leads.
+abbrev pub Searches : Option Kept → World → Reference → Type 0
+Searches entry w r = settled rule_free w.mmu (holding entry w).kept r ≡ Unsettled
+
+-- What a call searched out is kept after it.
+abbrev pub FreeBoardsFill : Type 0
+FreeBoardsFill = (c : Call) (w : World) (entry : Option Kept) (k : Kept)
+    → IfSome (reference_of c) (λ r. Searches entry w r → IsFound w k r
+    → IsKept k (bus_of rule_free c (holding entry w)).1.kept)

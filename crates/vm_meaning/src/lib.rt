@@ -6,7 +6,7 @@
 #![tactic(auto)]
 
 ghost use Rattle.vm_meaning.specs.Laws.{CallsAreFree, RunsAreFree, RunsFromResetAreFree};
-ghost use Rattle.vm_meaning.specs.Laws.{AccessesUseOrSearch, FreeBoardsKeep};
+ghost use Rattle.vm_meaning.specs.Laws.{AccessesUseOrSearch, FreeBoardsKeep, FreeBoardsFill};
 
 /// Whatever a machine does by a rule of keeping, a free one may do too, and keeps all that the first keeps.
 pub fn runs_are_free()
@@ -20,4 +20,5 @@ pub fn runs_are_free()
 pub fn free_boards_keep()
     ensures access { AccessesUseOrSearch }
     ensures kept { FreeBoardsKeep }
+    ensures found { FreeBoardsFill }
 {}

@@ -1,5 +1,6 @@
 use Rattle.vm_meaning.proofs.Accesses.{accesses-use_or_search}
 use Rattle.vm_meaning.proofs.Upkeep.{free-boards_keep}
+use Rattle.vm_meaning.proofs.Fills.{free-boards_fill}
 use Rattle.vm_meaning.proofs.free_boards_keep.Goals as goal
 
 pub returns-clause-access : goal.returns-clause-access
@@ -7,3 +8,6 @@ returns-clause-access c = accesses-use_or_search
 
 pub returns-clause-kept : goal.returns-clause-kept
 returns-clause-kept c = free-boards_keep
+
+pub returns-clause-found : goal.returns-clause-found
+returns-clause-found c = free-boards_fill

@@ -1,4 +1,4 @@
-use Rattle.mb_board.proofs.Spelling.{some_range}
+use Rattle.mb_walk.proofs.Spelling.{some_range}
 use Rattle.mb_board.proofs.bus_port.BoardBusPort.get.Goals as goal
 
 pub returns-in-None-clause-range : goal.returns-in-None-clause-range

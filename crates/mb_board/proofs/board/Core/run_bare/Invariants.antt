@@ -2,7 +2,7 @@ use Rattle.std.proofs.Common.{◌≡◌, ◌+◌, ◌-◌, ◌<◌, ◌^◌, len
 use Rattle.mb_model.specs.Keeping.{rule_a}
 use Rattle.mb_machine.specs.Machine.{run_of}
 use Rattle.mb_board.specs.Arrivals.{IsNext}
-use Rattle.mb_board.proofs.board.Board.run_bare.Given as goal
+use Rattle.mb_board.proofs.board.Core.run_bare.Given as goal
 
 abbrev pub invariant-loop : goal.invariant-loop
 invariant-loop l = record {

@@ -3,7 +3,7 @@ use Rattle.mb_model.specs.Keeping.{rule_a}
 use Rattle.mb_machine.specs.Machine.{Machine, run_of}
 use Rattle.vm_meaning.proofs.Runs.{ended-is_free}
 use Rattle.mb_board.proofs.Runs.{run_of-step, run_of-still, run_of-zero, stepped-by}
-use Rattle.mb_board.proofs.board.Board.run_bare.Goals as goal
+use Rattle.mb_board.proofs.board.Core.run_bare.Goals as goal
 
 pub returns-then-not-takes_steps-clause-means : goal.returns-then-not-takes_steps-clause-means
 returns-then-not-takes_steps-clause-means c =

@@ -1,0 +1,31 @@
+-- A board, as its contracts see it.
+use Rattle.std.specs.Prelude.{ℕ, replicate}
+use Rattle.mb_instr.specs.declared.registers.Plain.{Plain}
+use Rattle.mb_model.specs.declared.processor.Cpu.{Cpu}
+use Rattle.mb_model.specs.declared.outcome.RunState.{RunState}
+use Rattle.mb_machine.specs.World.{World}
+use Rattle.mb_machine.specs.Machine.{Machine}
+
+-- Its machine, and the registers at the beginning of the last step that it took in user mode for a monitor.
+pub record BoardState : Type 0 where
+  pub cpu : Cpu
+  pub world : World
+  pub steps : ℕ
+  pub state : RunState
+  pub before : Plain
+
+abbrev pub machine_in : BoardState → Machine
+machine_in b = record { cpu = b.cpu; world = b.world; steps = b.steps; state = b.state }
+
+-- a board with another machine
+abbrev pub with_machine : BoardState → Machine → BoardState
+with_machine b m = record { cpu = m.cpu; world = m.world; steps = m.steps; state = m.state; before = b.before }
+
+-- the registers where no such step was taken since reset
+abbrev pub no_registers : Plain
+no_registers = record { d = replicate 8 0; a = replicate 8 0; pc = 0; ccr = 0 }
+
+-- the board that a machine is after reset
+abbrev pub board_at_reset : Machine → BoardState
+board_at_reset m =
+    record { cpu = m.cpu; world = m.world; steps = m.steps; state = m.state; before = no_registers }
