@@ -1,11 +1,11 @@
 -- What the readings of frames answer.
-use Rattle.std.specs.Prelude.{ℕ, ◌≡◌, ◌≤◌, ◌%◌, ◌^◌, true, List, Option, Some, None, Result, Ok, Err}
+use Rattle.std.specs.Prelude.{ℕ, ◌≡◌, ◌≤◌, true, List, Option, Some, None, Result, Ok, Err}
 use Rattle.arrayvec.specs.ArrayVec.{ArrayVec}
 use Rattle.mb_ea.specs.declared.reading.ReadFault.{ReadFault}
 use Rattle.mb_writes.specs.declared.ends.Ended.{Ended}
 use Rattle.mb_instr.specs.declared.registers.Regs.{Regs}
 use Rattle.mb_frames.specs.declared.frame.Access.{Access}
-use Rattle.mb_writes.specs.Transfers.{count_of}
+use Rattle.mb_writes.specs.Transfers.{count_of, mask_in}
 use Rattle.mb_meaning.specs.Return as return
 use Rattle.mb_meaning.specs.Return.{continues}
 use Rattle.mb_entry.specs.declared.taking.Head.{Head}
@@ -30,4 +30,4 @@ longs_read (Err refused) = Err refused
 -- of a MOVEM that goes on no more transfers are done than its mask has
 abbrev pub CanGoOn : Option Access → Type 0
 CanGoOn None = Unit {0}
-CanGoOn (Some a) = continues a ≡ true → a.pd3 ≤ count_of (a.pd2 % 2 ^ 16)
+CanGoOn (Some a) = continues a ≡ true → a.pd3 ≤ count_of (mask_in a.pd2)

@@ -5,11 +5,12 @@ ghost use Rattle.std.specs.Prelude.{◌≡◌, ◌<◌, ◌≤◌, ◌-◌, ◌%
 ghost use Rattle.mb_frames.specs.AccessFields.{size_code, transfer_type, transfer_modifier, access_bits, bit_if};
 ghost use Rattle.mb_frames.specs.AccessFields.{status, writeback_status, memory_aligned, register_aligned};
 ghost use Rattle.mb_frames.specs.AccessFields.{with_writeback_1, with_writeback_2, with_writeback_3};
-ghost use Rattle.mb_frames.specs.AccessFields.{is_load, transfer_at, AccessCase, access_fields};
+ghost use Rattle.mb_frames.specs.AccessFields.{AccessCase, access_fields};
+ghost use Rattle.mb_writes.specs.Transfers.{refused_transfer};
 
 use mb_frames::{Access, Pend};
 use mb_port::{Fault, Space};
-use mb_writes::{MovemFault, WriteFault};
+use mb_writes::{Movem, MovemFault, WriteFault};
 
 /// A transfer of a MOVEM was refused.
 const CM: u16 = 1 << 12;
@@ -218,39 +219,18 @@ pub fn line_fields(fault: &Fault, line: [u32; 4], page: u32) -> Access
     access
 }
 
-/// Whether a MOVEM of these operation and mask words loads.
-pub fn is_load(words: u32) -> bool
-    ensures { result ≡ is_load words }
-{
-    words >> 26 & 1 == 1
-}
-
-/// The first byte of the transfer that follows `done` whole ones.
-fn transfer_at(words: u32, first: u32, done: u8) -> u32
-    ensures { result ≡ transfer_at words first done }
-{
-    let operation = words >> 16;
-    let bytes = if operation >> 6 & 1 == 1 { 4 } else { 2 };
-    let passed = bytes * u32::from(done);
-    if operation >> 3 & 7 == 4 {
-        first.wrapping_sub(passed)
-    } else {
-        first.wrapping_add(passed)
-    }
-}
-
 /// The fields where a transfer of a MOVEM was refused. `words` are its operation and mask words, `next` is the address
 /// of the next instruction.
 #[tactic(auto, unfolding(mb_frames::specs::AccessFields::movem_fields))]
 pub fn movem_fields(refused: &MovemFault, words: u32, next: u32, page: u32) -> Access
     requires { 0 < page }
-    ensures { result ≡
-        access_fields (AccessCase.Movem refused.now.fault refused.now.first refused.now.done words next) page }
+    ensures { result ≡ access_fields (refused_transfer refused.now words next) page }
 {
-    let start = transfer_at(words, refused.first, refused.done);
+    let movem = Movem::of(words);
+    let start = movem.transfer_at(refused.first, refused.done);
     let mut access = Access::default();
     access.ea = refused.first;
-    access.ssw = status(&refused.fault, start, page) + CM + bit_if(is_load(words), RW);
+    access.ssw = status(&refused.fault, start, page) + CM + bit_if(movem.is_load, RW);
     access.fa = refused.fault.at;
     access.pd1 = next;
     access.pd2 = words;

@@ -12,7 +12,7 @@ mod status;
 mod taking;
 
 pub use entering::enter;
-pub use fields::{check_fields, is_load, line_fields, movem_fields, read_fields, write_fields};
+pub use fields::{check_fields, line_fields, movem_fields, read_fields, write_fields};
 pub use mb_meaning::{Cause, Entered};
 pub use returning::{return_from, return_held};
 pub use taking::continues;

@@ -1,8 +1,8 @@
 //! The return from an exception.
 
-ghost use Rattle.std.specs.Prelude.{◌≡◌, ◌≤◌, ◌%◌, ◌^◌};
+ghost use Rattle.std.specs.Prelude.{◌≡◌, ◌≤◌};
 ghost use Rattle.mb_port.specs.Routine.{run};
-ghost use Rattle.mb_writes.specs.Transfers.{count_of};
+ghost use Rattle.mb_writes.specs.Transfers.{count_of, mask_in};
 ghost use Rattle.mb_meaning.specs.Return.{continued_of, return_of, returning, holding};
 ghost use Rattle.mb_entry.specs.Clauses.{ReturnEnds, WentOn};
 
@@ -15,7 +15,7 @@ use mb_writes::{Ended, continue_movem};
 /// Goes on with a MOVEM by the fields of its access error, without a fetch.
 #[tactic(auto, unfolding(mb_meaning::specs::Return::continued_of), using(crate::proofs::Counts::count_few))]
 fn go_on<P: Port>(access: &Access, cpu: &mut Cpu, port: &mut P) -> Ended
-    requires { access.now.pd3 ≤ count_of (access.now.pd2 % 2 ^ 16) }
+    requires { access.now.pd3 ≤ count_of (mask_in access.now.pd2) }
     ensures means { run P.bus (continued_of access.now cpu.old) (P.world port.old)
         ≡ ((result, cpu.new), P.world port.new) }
     ensures ends { WentOn result }

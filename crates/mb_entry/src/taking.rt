@@ -2,22 +2,33 @@
 
 ghost use Rattle.std.specs.Prelude.{◌≡◌, [], length, IfOk, IfErr};
 ghost use Rattle.mb_port.specs.Routine.{run};
-ghost use Rattle.mb_meaning.specs.Return.{head_of, longs_of, access_of_longs, continues, is_movem_word, can_continue};
-ghost use Rattle.mb_meaning.specs.Return.{high, low, dropped, restored, access_taken, frame_taken};
+ghost use Rattle.mb_frames.specs.Layout.{frame_length};
+ghost use Rattle.mb_meaning.specs.Return.{head_of, longs_of, access_longs, access_of_longs, continues, is_movem};
+ghost use Rattle.mb_meaning.specs.Return.{are_movem_words, can_continue, high, low, dropped, restored, access_taken, frame_taken};
 ghost use Rattle.mb_meaning.specs.Return.{second_taken, throwaway_taken, taken_of};
 ghost use Rattle.mb_entry.specs.Takes.{head_seen, headed, longs_read, took, CanGoOn};
 ghost use Rattle.mb_entry.specs.Clauses.{NotTaken};
 
 use arrayvec::ArrayVec;
+use mb_decode::{Decoded, decode};
 use mb_ea::{ReadFault, read_value};
 use mb_frames::Access;
-use mb_instr::{OperandClass, Regs, Size};
+use mb_instr::{Instr, Move, Regs, Size};
 use mb_model::kept_status;
 use mb_port::{Port, Space};
 use mb_writes::{Ended, count};
 
 /// The vector of a format error.
 pub(crate) const FORMAT_ERROR: u8 = 14;
+
+/// Where the parts of every frame stand, and behind them the fields of its format.
+const SR_PLACE: u32 = 0x00;
+
+const PC_PLACE: u32 = 0x02;
+
+const FORMAT_PLACE: u32 = 0x06;
+
+const FIELDS_PLACE: u32 = 0x08;
 
 /// The formats of frames.
 const SHORT: u8 = 0;
@@ -45,9 +56,14 @@ fn read_head<P: Port>(at: u32, port: &mut P) -> Result<Head, ReadFault>
     ensures means { run P.bus (head_of at) (P.world port.old) ≡ (headed result, P.world port.new) }
     ensures rest { P.rest port.new ≡ P.rest port.old }
 {
-    let sr = read_value(Space::Super, at, Size::Word, port)?;
-    let pc = read_value(Space::Super, at.wrapping_add(2), Size::Long, port)?;
-    let word = read_value(Space::Super, at.wrapping_add(6), Size::Word, port)?;
+    let sr = read_value(Space::Super, at.wrapping_add(SR_PLACE), Size::Word, port)?;
+    let pc = read_value(Space::Super, at.wrapping_add(PC_PLACE), Size::Long, port)?;
+    let word = read_value(
+        Space::Super,
+        at.wrapping_add(FORMAT_PLACE),
+        Size::Word,
+        port,
+    )?;
     Ok(Head {
         sr: kept_status(sr),
         pc,
@@ -57,7 +73,7 @@ fn read_head<P: Port>(at: u32, port: &mut P) -> Result<Head, ReadFault>
 
 /// Reads the longs of an access error's fields.
 fn read_longs<P: Port>(at: u32, port: &mut P) -> Result<ArrayVec<u32, LONGS>, ReadFault>
-    ensures means { run P.bus (longs_of 13 at []) (P.world port.old) ≡ (longs_read result, P.world port.new) }
+    ensures means { run P.bus (longs_of access_longs at []) (P.world port.old) ≡ (longs_read result, P.world port.new) }
     ensures all { IfOk result (λ longs. length longs.items ≡ 13) }
     ensures rest { P.rest port.new ≡ P.rest port.old }
 {
@@ -120,15 +136,22 @@ pub fn continues(access: &Access) -> bool
     access.ssw >> 12 & 1 == 1
 }
 
-/// Whether the word is the operation word of a MOVEM.
-fn is_movem_word(word: u16) -> bool
-    ensures { result ≡ is_movem_word word }
+/// Whether the instruction is a MOVEM.
+fn is_movem(instruction: &Move) -> bool
+    ensures { result ≡ is_movem instruction.now }
 {
-    let mode = (word >> 3 & 7) as u8;
-    let lower = (word & 7) as u8;
-    match word >> 7 {
-        0x91 => OperandClass::StoreList.allows(Size::Long, mode, lower),
-        0x99 => OperandClass::LoadList.allows(Size::Long, mode, lower),
+    matches!(
+        instruction,
+        Move::MovemLoad { .. } | Move::MovemStore { .. }
+    )
+}
+
+/// Whether the operation and mask words are those of a MOVEM: with zeros behind them they are a whole one.
+fn are_movem_words(words: u32) -> bool
+    ensures { result ≡ are_movem_words words }
+{
+    match decode(&[high(words), low(words), 0, 0]) {
+        Decoded::Whole(Instr::Move(instruction), _) => is_movem(&instruction),
         _ => false,
     }
 }
@@ -137,7 +160,7 @@ fn is_movem_word(word: u16) -> bool
 fn can_continue(access: &Access) -> bool
     ensures { result ≡ can_continue access.now }
 {
-    is_movem_word(high(access.pd2)) && access.pd3 <= u32::from(count(low(access.pd2)))
+    are_movem_words(access.pd2) && access.pd3 <= u32::from(count(low(access.pd2)))
 }
 
 /// Drops bytes from the active stack.
@@ -147,11 +170,22 @@ fn drop_bytes(regs: &mut Regs, bytes: u32)
     regs.set_active_stack(regs.active_stack().wrapping_add(bytes));
 }
 
-/// Takes a frame of so many bytes from the active stack, with its SR and PC.
-fn restore(bytes: u32, head: &Head, regs: &mut Regs)
-    ensures { regs.new ≡ restored bytes (head_seen head.now) regs.old }
+/// How many bytes a frame of a format has.
+fn frame_length(format: u8) -> u32
+    ensures { result ≡ frame_length format }
 {
-    drop_bytes(regs, bytes);
+    match format {
+        ACCESS => 60,
+        ADDRESS => 12,
+        _ => 8,
+    }
+}
+
+/// Takes a frame of a format from the active stack, with its SR and PC.
+fn restore(format: u8, head: &Head, regs: &mut Regs)
+    ensures { regs.new ≡ restored format (head_seen head.now) regs.old }
+{
+    drop_bytes(regs, frame_length(format));
     regs.sr = head.sr;
     regs.pc = head.pc;
 }
@@ -166,7 +200,7 @@ fn take_access<P: Port>(head: &Head, regs: &mut Regs, port: &mut P) -> Result<Op
     ensures kept { IfErr result (λ ended. regs.new ≡ regs.old) }
     ensures rest { P.rest port.new ≡ P.rest port.old }
 {
-    let behind = regs.active_stack().wrapping_add(8);
+    let behind = regs.active_stack().wrapping_add(FIELDS_PLACE);
     let longs = match read_longs(behind, port) {
         Ok(longs) => longs,
         Err(refused) => return Err(Ended::ReadFault(refused)),
@@ -175,7 +209,7 @@ fn take_access<P: Port>(head: &Head, regs: &mut Regs, port: &mut P) -> Result<Op
     if continues(&access) && !can_continue(&access) {
         return Err(Ended::Refused(FORMAT_ERROR));
     }
-    restore(60, head, regs);
+    restore(ACCESS, head, regs);
     Ok(Some(access))
 }
 
@@ -191,11 +225,11 @@ fn take_frame<P: Port>(head: &Head, regs: &mut Regs, port: &mut P) -> Result<Opt
 {
     match head.format {
         SHORT => {
-            restore(8, head, regs);
+            restore(SHORT, head, regs);
             Ok(None)
         }
         ADDRESS => {
-            restore(12, head, regs);
+            restore(ADDRESS, head, regs);
             Ok(None)
         }
         ACCESS => take_access(head, regs, port),
@@ -235,7 +269,7 @@ fn take_throwaway<P: Port>(
     ensures rest { P.rest port.new ≡ P.rest port.old }
 {
     let (top, sr) = (regs.active_stack(), regs.sr);
-    drop_bytes(regs, 8);
+    drop_bytes(regs, frame_length(THROWAWAY));
     regs.sr = head.sr;
     let taken = if regs.is_supervisor() {
         take_second(regs, port)

@@ -31,7 +31,7 @@ frame_in-format b format e long_enough =
     let test : nat_le (frame_length format) (length b) ≡ true = le-leb (frame_length format) (length b) long_enough in
     rw (e, test) refl
 
-access-read : (b : List ℕ) (a : Access) → AllByRecursion (ReadsAs b) (fields_of_access a) → access_in b ≡ a
+pub access-read : (b : List ℕ) (a : Access) → AllByRecursion (ReadsAs b) (fields_of_access a) → access_in b ≡ a
 access-read b a (ea, (ssw, (wb3s, (wb2s, (wb1s, (fa, (wb3a, (wb3d, (wb2a, (wb2d, (wb1a, (wb1d, (pd1, (pd2, (pd3, end))))))))))))))) =
     rw (
       long-read b 0x08 _ ea,

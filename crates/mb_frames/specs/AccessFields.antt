@@ -1,6 +1,6 @@
 -- What the frame of an access error holds, in each of its five cases. The places of the fields and of
 -- their bits are the processor's; what stands in them in which case is this board's own choice.
-use Rattle.std.specs.Prelude.{ℕ, ◌+◌, ◌-◌, ◌*◌, ◌/◌, ◌%◌, ◌^◌, ◌==◌, ◌&&◌, Bool, true, false, not, if◌then◌else◌, Option, Some, None, List, slice_get, slice_index}
+use Rattle.std.specs.Prelude.{ℕ, ◌+◌, ◌*◌, ◌/◌, ◌%◌, ◌^◌, ◌==◌, ◌&&◌, Bool, true, false, not, if◌then◌else◌, Option, Some, None, List, slice_get, slice_index}
 use Rattle.mb_port.specs.declared.types.Space.{Space}
 use Rattle.mb_port.specs.declared.types.Space.TheVariants.{User, Super}
 use Rattle.mb_port.specs.declared.types.Fault.{Fault}
@@ -145,29 +145,13 @@ line_fields fault line page =
       pd3 = slice_index line 3;
     }
 
--- of the operation word of a MOVEM, the high half of `words`: whether it loads (bit 10), the bytes of a
--- transfer (bit 6), and whether it goes down, by -(An), whose mode in bits 5-3 is 4
-abbrev pub is_load : ℕ → Bool
-is_load words = words / 2 ^ 16 / 2 ^ 10 % 2 == 1
-
-abbrev pub transfer_length : ℕ → ℕ
-transfer_length words = if words / 2 ^ 16 / 2 ^ 6 % 2 == 1 then 4 else 2
-
-abbrev pub goes_down : ℕ → Bool
-goes_down words = words / 2 ^ 16 / 2 ^ 3 % 8 == 4
-
--- the first byte of the transfer that follows `done` whole ones, the first of which is at `first`
-abbrev pub transfer_at : (words first done : ℕ) → ℕ
-transfer_at words first done =
-    let passed = transfer_length words * done in
-    if goes_down words then (first + 2 ^ 32 - passed) % 2 ^ 32 else (first + passed) % 2 ^ 32
-
--- A transfer of a MOVEM was refused after `done` whole ones. `words` are the operation and mask words.
-unfoldable pub movem_fields : Fault → (first done words next page : ℕ) → Access
-movem_fields fault first done words next page =
+-- A transfer of a MOVEM was refused, after `done` whole ones: the first of all is at `first`, this one at `start`.
+-- `words` are the operation and mask words, `next` is the address of the next instruction.
+unfoldable pub movem_fields : Fault → (first start done words next : ℕ) → (is_load : Bool) → (page : ℕ) → Access
+movem_fields fault first start done words next is_load page =
     record no_fields {
       ea = first;
-      ssw = status fault (transfer_at words first done) page + cm_bit + bit_if (is_load words) rw_bit;
+      ssw = status fault start page + cm_bit + bit_if is_load rw_bit;
       fa = fault.at;
       pd1 = next;
       pd2 = words;
@@ -188,7 +172,7 @@ pub data AccessCase : Type 0 where
   Read : (fault : Fault) (first : ℕ) → AccessCase
   Write : (fault : Fault) (first : ℕ) (rest : List Pend) → AccessCase
   Line : (fault : Fault) (line : List ℕ) → AccessCase
-  Movem : (fault : Fault) (first done words next : ℕ) → AccessCase
+  Movem : (fault : Fault) (first start done words next : ℕ) (is_load : Bool) → AccessCase
   Check : (fault : Fault) → AccessCase
 
 -- the fields in a case, with pages of so many bytes
@@ -196,5 +180,6 @@ abbrev pub access_fields : AccessCase → (page : ℕ) → Access
 access_fields (Read fault first) page = read_fields fault first page
 access_fields (Write fault first rest) page = write_fields fault first rest page
 access_fields (Line fault line) page = line_fields fault line page
-access_fields (Movem fault first done words next) page = movem_fields fault first done words next page
+access_fields (Movem fault first start done words next is_load) page =
+    movem_fields fault first start done words next is_load page
 access_fields (Check fault) page = check_fields fault

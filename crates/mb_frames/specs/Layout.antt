@@ -17,9 +17,23 @@ word offset value = record { offset = offset; size = 2; value = value }
 abbrev pub long : ℕ → ℕ → Field
 long offset value = record { offset = offset; size = 4; value = value }
 
+-- where SR, PC and the format word stand in every frame, and behind them what its format has besides
+abbrev pub sr_place : ℕ
+sr_place = 0x00
+
+abbrev pub pc_place : ℕ
+pc_place = 0x02
+
+abbrev pub format_place : ℕ
+format_place = 0x06
+
+abbrev pub fields_place : ℕ
+fields_place = 0x08
+
 -- what every frame begins with: SR, PC, and the format above the vector offset
 abbrev pub head : (sr pc format offset : ℕ) → List Field
-head sr pc format offset = word 0x00 sr ∷ long 0x02 pc ∷ word 0x06 (format * 0x1000 + offset) ∷ []
+head sr pc format offset =
+    word sr_place sr ∷ long pc_place pc ∷ word format_place (format * 0x1000 + offset) ∷ []
 
 -- what the frame of an access error has besides
 abbrev pub fields_of_access : Access → List Field

@@ -4,7 +4,7 @@ use Rattle.byteorder.specs.Endian.{big_number}
 use Rattle.mb_frames.specs.declared.frame.Access.{Access}
 use Rattle.mb_frames.specs.declared.frame.Frame.{Frame}
 use Rattle.mb_frames.specs.declared.frame.Frame.TheVariants as frame
-use Rattle.mb_frames.specs.Layout.{frame_length}
+use Rattle.mb_frames.specs.Layout.{sr_place, pc_place, format_place, fields_place, frame_length}
 
 -- the word, and the long, at a place
 unfoldable pub word_at : List ℕ → ℕ → ℕ
@@ -13,41 +13,55 @@ word_at b place = big_number 2 (drop place b)
 unfoldable pub long_at : List ℕ → ℕ → ℕ
 long_at b place = big_number 4 (drop place b)
 
--- the high four bits of the format word
+-- the high four bits of a format word
+abbrev pub format_of_word : ℕ → ℕ
+format_of_word word = word / 0x1000
+
 abbrev pub format_in : List ℕ → ℕ
-format_in b = word_at b 0x06 / 0x1000
+format_in b = format_of_word (word_at b format_place)
 
 -- its other bits
 abbrev pub offset_in : List ℕ → ℕ
-offset_in b = word_at b 0x06 % 0x1000
+offset_in b = word_at b format_place % 0x1000
 
--- the fields of an access error
-abbrev pub access_in : List ℕ → Access
-access_in b = record {
-  ea = long_at b 0x08;
-  ssw = word_at b 0x0C;
-  wb3s = word_at b 0x0E;
-  wb2s = word_at b 0x10;
-  wb1s = word_at b 0x12;
-  fa = long_at b 0x14;
-  wb3a = long_at b 0x18;
-  wb3d = long_at b 0x1C;
-  wb2a = long_at b 0x20;
-  wb2d = long_at b 0x24;
-  wb1a = long_at b 0x28;
-  wb1d = long_at b 0x2C;
-  pd1 = long_at b 0x30;
-  pd2 = long_at b 0x34;
-  pd3 = long_at b 0x38;
+-- The fields of an access error, by what the word and the long at each place of its frame are. Whoever reads them
+-- reads them by this.
+abbrev pub access_by : (word long : ℕ → ℕ) → Access
+access_by word long = record {
+  ea = long 0x08;
+  ssw = word 0x0C;
+  wb3s = word 0x0E;
+  wb2s = word 0x10;
+  wb1s = word 0x12;
+  fa = long 0x14;
+  wb3a = long 0x18;
+  wb3d = long 0x1C;
+  wb2a = long 0x20;
+  wb2d = long 0x24;
+  wb1a = long 0x28;
+  wb1d = long 0x2C;
+  pd1 = long 0x30;
+  pd2 = long 0x34;
+  pd3 = long 0x38;
 }
+
+-- those that bytes hold
+abbrev pub access_in : List ℕ → Access
+access_in b = access_by (word_at b) (long_at b)
+
+abbrev pub sr_in : List ℕ → ℕ
+sr_in b = word_at b sr_place
+
+abbrev pub pc_in : List ℕ → ℕ
+pc_in b = long_at b pc_place
 
 -- the frame of a format that the bytes hold
 abbrev pub frame_of_format : ℕ → List ℕ → Option Frame
 frame_of_format format b =
-    if format == 0 then Some (frame.Short (word_at b 0) (long_at b 2) (offset_in b))
-    else if format == 1 then Some (frame.Throwaway (word_at b 0) (long_at b 2) (offset_in b))
-    else if format == 2 then Some (frame.Address (word_at b 0) (long_at b 2) (offset_in b) (long_at b 8))
-    else if format == 7 then Some (frame.Access (word_at b 0) (long_at b 2) (offset_in b) (access_in b))
+    if format == 0 then Some (frame.Short (sr_in b) (pc_in b) (offset_in b))
+    else if format == 1 then Some (frame.Throwaway (sr_in b) (pc_in b) (offset_in b))
+    else if format == 2 then Some (frame.Address (sr_in b) (pc_in b) (offset_in b) (long_at b fields_place))
+    else if format == 7 then Some (frame.Access (sr_in b) (pc_in b) (offset_in b) (access_in b))
     else None
 
 -- the frame that the bytes begin with, if they are long enough for it

@@ -106,7 +106,7 @@ WriteOfNothing =
 -- MOVEM.L D0-D3,(A0) with A0 $1FF8, where the page at $2000 is invalid: the third transfer is refused
 abbrev pub MovemIntoInvalidPage : Type 0
 MovemIntoInvalidPage =
-    access_fields (Movem (refused Super 0x2000 4 true true) 0x1FF8 2 0x48D0000F 0x404) 4096
+    access_fields (Movem (refused Super 0x2000 4 true true) 0x1FF8 0x2000 2 0x48D0000F 0x404 false) 4096
     ≡ record no_fields {
       ea = 0x1FF8;
       ssw = 0x1405;
@@ -119,7 +119,7 @@ MovemIntoInvalidPage =
 -- the same with A0 $5FF8, where the page at $6000 leads to a device that has no long there
 abbrev pub MovemIntoDevice : Type 0
 MovemIntoDevice =
-    access_fields (Movem (refused Super 0x6000 4 true false) 0x5FF8 2 0x48D0000F 0x404) 4096
+    access_fields (Movem (refused Super 0x6000 4 true false) 0x5FF8 0x6000 2 0x48D0000F 0x404 false) 4096
     ≡ record no_fields {
       ea = 0x5FF8;
       ssw = 0x1005;
@@ -198,7 +198,7 @@ ReadIntoInvalidPage =
 -- MOVEM.L D0-D3,-(A0) with A0 $2008, where the page at $1000 is invalid: the third transfer is refused, at $1FFC
 abbrev pub MovemDownIntoInvalidPage : Type 0
 MovemDownIntoInvalidPage =
-    access_fields (Movem (refused Super 0x1FFC 4 true true) 0x2004 2 0x48E0F000 0x404) 4096
+    access_fields (Movem (refused Super 0x1FFC 4 true true) 0x2004 0x1FFC 2 0x48E0F000 0x404 false) 4096
     ≡ record no_fields {
       ea = 0x2004;
       ssw = 0x1405;
@@ -212,7 +212,7 @@ MovemDownIntoInvalidPage =
 -- second byte
 abbrev pub MovemFromInvalidPage : Type 0
 MovemFromInvalidPage =
-    access_fields (Movem (refused Super 0x2000 1 false true) 0x1FFD 1 0x4C98000F 0x404) 4096
+    access_fields (Movem (refused Super 0x2000 1 false true) 0x1FFD 0x1FFF 1 0x4C98000F 0x404 true) 4096
     ≡ record no_fields {
       ea = 0x1FFD;
       ssw = 0x1D25;

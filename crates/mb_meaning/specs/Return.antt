@@ -1,26 +1,32 @@
 -- RTE: the return from an exception.
-use Rattle.std.specs.Prelude.{ℕ, zero, suc, ◌/◌, ◌%◌, ◌^◌, ◌==◌, ◌&&◌, ◌||◌, not, nat_le}
-use Rattle.std.specs.Prelude.{Bool, true, if◌then◌else◌, List, [], ◌∷◌, ◌++◌, slice_index, Option, Some, None}
+use Rattle.std.specs.Prelude.{ℕ, zero, suc, ◌-◌, ◌/◌, ◌%◌, ◌^◌, ◌==◌, ◌&&◌, ◌||◌, not, nat_le}
+use Rattle.std.specs.Prelude.{Bool, true, false, if◌then◌else◌, List, [], ◌∷◌, ◌++◌, slice_index, Option, Some, None}
 use Rattle.std.specs.Prelude.{Result, Ok, Err}
 use Rattle.mb_port.specs.Routine.{Routine, Return, Then, ◌>>=◌, caught, choose, failing}
 use Rattle.mb_port.specs.declared.types.Space.TheVariants.{Super}
 use Rattle.mb_instr.specs.declared.size.Size.TheVariants.{Word, Long}
-use Rattle.mb_instr.specs.declared.operand.OperandClass.TheVariants.{StoreList, LoadList}
+use Rattle.mb_instr.specs.declared.instruction.Move.{Move}
+use Rattle.mb_instr.specs.declared.instruction.Move.TheVariants as move
+use Rattle.mb_instr.specs.declared.instruction.Instr.TheVariants as instr
 use Rattle.mb_instr.specs.declared.registers.Plain.{Plain}
 use Rattle.mb_instr.specs.declared.registers.Regs.{Regs}
-use Rattle.mb_instr.specs.Operands.{allows}
 use Rattle.mb_instr.specs.Sizes.{bytes_of}
 use Rattle.mb_instr.specs.Registers.{is_supervisor, active_stack, with_stack, plain_of, with_plain}
 use Rattle.mb_frames.specs.declared.frame.Access.{Access}
+use Rattle.mb_frames.specs.Layout.{sr_place, pc_place, format_place, fields_place, frame_length}
+use Rattle.mb_frames.specs.Reading.{access_by, format_of_word}
 use Rattle.mb_model.specs.declared.processor.Cpu.{Cpu}
 use Rattle.mb_model.specs.Status.{space_of, kept_status}
+use Rattle.mb_decode.specs.declared.front.Decoded.{Decoded}
+use Rattle.mb_decode.specs.declared.front.Decoded.TheVariants.{Whole}
+use Rattle.mb_decode.specs.Decodes.{decode_of}
 use Rattle.mb_ea.specs.declared.reading.ReadFault.{ReadFault}
 use Rattle.mb_ea.specs.Addresses.{sum}
 use Rattle.mb_ea.specs.Reading.{read_of}
 use Rattle.mb_writes.specs.declared.ends.Ended.{Ended}
 use Rattle.mb_writes.specs.declared.ends.Ended.TheVariants as ended
 use Rattle.mb_writes.specs.Moving.{Halfway, transfer_of}
-use Rattle.mb_writes.specs.Transfers.{count_of, movem_in}
+use Rattle.mb_writes.specs.Transfers.{count_of, operation_in, mask_in, movem_in}
 
 -- ---- frames, as they are read
 
@@ -33,10 +39,10 @@ pub record Head : Type 0 where
 -- at an address: SR, PC and the format word, each an operand of its own; the low bits of the last do not count
 unfoldable pub head_of : ℕ → Routine (Result Head ReadFault)
 head_of at = do
-  sr ← read_of Super at (bytes_of Word)
-  pc ← read_of Super (sum at 2) (bytes_of Long)
-  word ← read_of Super (sum at 6) (bytes_of Word)
-  Return (Ok (record { sr = kept_status sr; pc = pc; format = word / 2 ^ 12 }))
+  sr ← read_of Super (sum at sr_place) (bytes_of Word)
+  pc ← read_of Super (sum at pc_place) (bytes_of Long)
+  word ← read_of Super (sum at format_place) (bytes_of Word)
+  Return (Ok (record { sr = kept_status sr; pc = pc; format = format_of_word word }))
 
 -- so many longs from an address on, behind those so far
 unfoldable pub longs_of : ℕ → ℕ → List ℕ → Routine (Result (List ℕ) ReadFault)
@@ -51,25 +57,21 @@ high long = long / 2 ^ 16
 abbrev pub low : ℕ → ℕ
 low long = long % 2 ^ 16
 
--- the fields of an access error, in the thirteen longs behind the format word
+-- of the longs behind the format word, the one that has a place of the frame, and the half of it that is the word there
+abbrev pub long_among : List ℕ → ℕ → ℕ
+long_among longs place = slice_index longs ((place - fields_place) / 4)
+
+abbrev pub word_among : List ℕ → ℕ → ℕ
+word_among longs place =
+    if place % 4 == 0 then high (long_among longs place) else low (long_among longs place)
+
+-- the fields of an access error in these longs, each where the frame has it
 unfoldable pub access_of_longs : List ℕ → Access
-access_of_longs longs = record {
-  ea = slice_index longs 0;
-  ssw = high (slice_index longs 1);
-  wb3s = low (slice_index longs 1);
-  wb2s = high (slice_index longs 2);
-  wb1s = low (slice_index longs 2);
-  fa = slice_index longs 3;
-  wb3a = slice_index longs 4;
-  wb3d = slice_index longs 5;
-  wb2a = slice_index longs 6;
-  wb2d = slice_index longs 7;
-  wb1a = slice_index longs 8;
-  wb1d = slice_index longs 9;
-  pd1 = slice_index longs 10;
-  pd2 = slice_index longs 11;
-  pd3 = slice_index longs 12;
-}
+access_of_longs longs = access_by (word_among longs) (long_among longs)
+
+-- how many there are
+abbrev pub access_longs : ℕ
+access_longs = (frame_length 7 - fields_place) / 4
 
 -- ---- the continuation of a MOVEM
 
@@ -77,15 +79,25 @@ access_of_longs longs = record {
 abbrev pub continues : Access → Bool
 continues a = a.ssw / 2 ^ 12 % 2 == 1
 
--- the operation word of a MOVEM, to memory or to registers, with an operand that it takes
-abbrev pub is_movem_word : ℕ → Bool
-is_movem_word word =
-    ((word / 2 ^ 7 == 0x4880 / 2 ^ 7) && allows StoreList Long (word / 2 ^ 3 % 8) (word % 8)) ||
-    ((word / 2 ^ 7 == 0x4C80 / 2 ^ 7) && allows LoadList Long (word / 2 ^ 3 % 8) (word % 8))
+-- MOVEM, to registers or to memory
+abbrev pub is_movem : Move → Bool
+is_movem (move.MovemLoad size ea mask) = true
+is_movem (move.MovemStore size ea mask) = true
+is_movem _ = false
+
+-- words begin with a whole MOVEM of the table
+abbrev pub begins_movem : Decoded → Bool
+begins_movem (Whole (instr.Move i) n) = is_movem i
+begins_movem _ = false
+
+-- The operation and mask words are those of a MOVEM: with zeros behind them, as many as an operand then has words, they
+-- are a whole one.
+abbrev pub are_movem_words : ℕ → Bool
+are_movem_words words = begins_movem (decode_of (operation_in words ∷ mask_in words ∷ 0 ∷ 0 ∷ []))
 
 -- the words are those of a MOVEM, which has at least the transfers that are done
 abbrev pub can_continue : Access → Bool
-can_continue a = is_movem_word (high a.pd2) && nat_le a.pd3 (count_of (low a.pd2))
+can_continue a = are_movem_words a.pd2 && nat_le a.pd3 (count_of (mask_in a.pd2))
 
 -- ---- the return
 
@@ -96,9 +108,9 @@ format_error = ended.Refused 14
 abbrev pub dropped : ℕ → Regs → Regs
 dropped bytes r = with_stack r (sum (active_stack r) bytes)
 
--- the registers after a frame of so many bytes, with its SR and PC
-abbrev pub restored : ℕ → Head → Regs → Regs
-restored bytes head r = record (dropped bytes r) { sr = head.sr; pc = head.pc }
+-- the registers after a frame of a format, with its SR and PC
+abbrev pub restored : (format : ℕ) → Head → Regs → Regs
+restored format head r = record (dropped (frame_length format) r) { sr = head.sr; pc = head.pc }
 
 -- what was taken from the stacks: the registers then, and the fields of an access error
 pub record Taken : Type 0 where
@@ -115,8 +127,8 @@ judged a r = if continues a && not (can_continue a) then Err format_error else O
 -- $7: thirteen longs are behind the format word
 unfoldable pub access_taken : Head → Regs → Routine (Result Taken Ended)
 access_taken head r = do
-  longs ← read_or_end (longs_of 13 (sum (active_stack r) 8) [])
-  Return (judged (access_of_longs longs) (restored 60 head r))
+  longs ← read_or_end (longs_of access_longs (sum (active_stack r) fields_place) [])
+  Return (judged (access_of_longs longs) (restored 7 head r))
 
 -- a frame without an access error's fields
 abbrev pub plainly : Regs → Result Taken Ended
@@ -126,8 +138,8 @@ plainly r = Ok (record { regs = r; access = None })
 unfoldable pub frame_taken : Head → Regs → Routine (Result Taken Ended)
 frame_taken head r =
     choose (head.format == 7) (access_taken head r)
-    (Return (if head.format == 0 then plainly (restored 8 head r) else
-    if head.format == 2 then plainly (restored 12 head r) else Err format_error))
+    (Return (if head.format == 0 then plainly (restored 0 head r) else
+    if head.format == 2 then plainly (restored 2 head r) else Err format_error))
 
 -- the frame on the active stack below a throwaway frame
 unfoldable pub second_taken : Regs → Routine (Result Taken Ended)
@@ -139,7 +151,7 @@ second_taken r = do
 unfoldable pub throwaway_taken : Head → Regs → Routine (Result Taken Ended)
 throwaway_taken head r =
     choose (is_supervisor head.sr)
-    (second_taken (record (dropped 8 r) { sr = head.sr }))
+    (second_taken (record (dropped (frame_length 1) r) { sr = head.sr }))
     (Return (Err format_error))
 
 -- the frame on the active stack, and below a throwaway frame another one

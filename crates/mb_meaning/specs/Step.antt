@@ -13,7 +13,7 @@ use Rattle.mb_instr.specs.Rows.{row, system_row}
 use Rattle.mb_instr.specs.Registers.{is_supervisor, plain_of}
 use Rattle.mb_frames.specs.declared.pend.Pend.{Pend}
 use Rattle.mb_port.specs.declared.types.Fault.{Fault}
-use Rattle.mb_frames.specs.AccessFields.{no_fields, read_fields, write_fields, line_fields, movem_fields, is_load}
+use Rattle.mb_frames.specs.AccessFields.{no_fields, read_fields, write_fields, line_fields, access_fields}
 use Rattle.mb_model.specs.declared.processor.Cpu.{Cpu}
 use Rattle.mb_model.specs.Status.{space_of}
 use Rattle.mb_model.specs.Pages.{page_size}
@@ -22,6 +22,7 @@ use Rattle.mb_writes.specs.declared.ends.WriteFault.{WriteFault}
 use Rattle.mb_writes.specs.declared.ends.MovemFault.{MovemFault}
 use Rattle.mb_writes.specs.declared.ends.Ended.{Ended}
 use Rattle.mb_writes.specs.declared.ends.Ended.TheVariants as ended
+use Rattle.mb_writes.specs.Transfers.{movem_in, refused_transfer}
 use Rattle.mb_meaning.specs.declared.Finish.TheVariants as finish
 use Rattle.mb_meaning.specs.Ends.{closing}
 use Rattle.mb_meaning.specs.SystemEnds.{with_registers, system_closing}
@@ -73,8 +74,8 @@ movem_words i = long_of (words_of (row i))
 -- one. CT says that a trace is due, of a MOVEM that stores alone.
 unfoldable pub untransferred_of : Bool → MovemFault → ℕ → Cpu → Cpu → Routine Stepped
 untransferred_of due refused words before cpu =
-    let fields = movem_fields refused.fault refused.first refused.done words cpu.regs.pc page_size in
-    access_error_of before.regs.pc (with_ct (due && not (is_load words)) fields) cpu
+    let fields = access_fields (refused_transfer refused words cpu.regs.pc) page_size in
+    access_error_of before.regs.pc (with_ct (due && not (movem_in words).is_load) fields) cpu
 
 -- BSR and JSR change the flow, and are the only ones of their family that write.
 abbrev pub is_flow : Instr → Bool
@@ -108,7 +109,7 @@ is_due_by held cpu = has_ct held.access || (continues held.access && traces_all 
 unfoldable pub untransferred_again_of : Bool → MovemFault → Held → Cpu → Routine Stepped
 untransferred_again_of due refused held cpu =
     let old = held.access in
-    let fields = movem_fields refused.fault refused.first refused.done old.pd2 old.pd1 page_size in
+    let fields = access_fields (refused_transfer refused old.pd2 old.pd1) page_size in
     access_error_of held.pc (with_ct (due || has_ct old) fields) cpu
 
 -- The finish of RTE. A trace has the address of RTE where the bits before it asked for it, and else the frame's PC.

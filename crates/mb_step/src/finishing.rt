@@ -10,12 +10,12 @@ ghost use Rattle.mb_meaning.specs.Step.{untransferred_of, is_flow, finish_of};
 use crate::raising::{access_error, is_due, refuse, trace_if, traces_all, trap, with_ct};
 use mb_ea::ReadFault;
 use mb_encode::encode;
-use mb_entry::{is_load, line_fields, movem_fields, read_fields, write_fields};
+use mb_entry::{line_fields, movem_fields, read_fields, write_fields};
 use mb_instr::{Instr, Plain};
 use mb_meaning::Finish;
 use mb_model::Cpu;
 use mb_port::{Fault, Port};
-use mb_writes::{Ended, MovemFault, WriteFault};
+use mb_writes::{Ended, Movem, MovemFault, WriteFault};
 
 /// The bytes of a page.
 pub(crate) const PAGE_SIZE: u32 = 4096;
@@ -128,7 +128,8 @@ fn finish_movem<P: Port>(
     let at = cpu.regs.pc;
     cpu.regs.set_plain(plain);
     let fields = movem_fields(refused, words, cpu.regs.pc, PAGE_SIZE);
-    access_error(at, with_ct(due && !is_load(words), fields), cpu, port)
+    let is_load = Movem::of(words).is_load;
+    access_error(at, with_ct(due && !is_load, fields), cpu, port)
 }
 
 /// Whether T0 asks for a trace after an instruction that writes.

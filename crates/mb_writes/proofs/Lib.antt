@@ -2,3 +2,4 @@ pub mod Pending
 pub mod Bits
 pub mod Completed
 pub mod Single
+pub mod Behind

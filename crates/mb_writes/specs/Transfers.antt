@@ -1,8 +1,11 @@
 -- What a MOVEM moves, and where.
-use Rattle.std.specs.Prelude.{ℕ, zero, suc, ◌+◌, ◌-◌, ◌/◌, ◌%◌, ◌^◌, ◌<◌, ◌==◌, Bool, if◌then◌else◌}
-use Rattle.std.specs.Prelude.{List, [], ◌∷◌, ◌++◌, length, map}
+use Rattle.std.specs.Prelude.{◌≡◌, ℕ, zero, suc, ◌+◌, ◌-◌, ◌*◌, ◌/◌, ◌%◌, ◌^◌, ◌<◌, ◌==◌, Bool, if◌then◌else◌}
+use Rattle.std.specs.Prelude.{List, [], ◌∷◌, ◌++◌, length, map, slice_get, Some}
 use Rattle.mb_instr.specs.declared.size.Size.TheVariants.{Word, Long}
 use Rattle.mb_instr.specs.Sizes.{bytes_of}
+use Rattle.mb_frames.specs.AccessFields.{AccessCase}
+use Rattle.mb_frames.specs.AccessFields as access
+use Rattle.mb_writes.specs.declared.ends.MovemFault.{MovemFault}
 use Rattle.mb_writes.specs.declared.transfers.Movem.{Movem}
 use Rattle.mb_writes.specs.declared.transfers.MovemMode.{MovemMode}
 use Rattle.mb_writes.specs.declared.transfers.MovemMode.TheVariants.{Control, Post, Pre}
@@ -14,13 +17,20 @@ mode_of operation =
     if operation / 2 ^ 3 % 8 == 3 then Post (operation % 8) else
     if operation / 2 ^ 3 % 8 == 4 then Pre (operation % 8) else Control
 
--- the operation word in the high half: bit 10 says to registers, bit 6 longs; the mask in the low half
+-- the words of a MOVEM in a long: the operation word in the high half, the mask in the low half
+abbrev pub operation_in : ℕ → ℕ
+operation_in words = words / 2 ^ 16
+
+abbrev pub mask_in : ℕ → ℕ
+mask_in words = words % 2 ^ 16
+
+-- what they say: of the operation word bit 10 says to registers, bit 6 longs
 abbrev pub movem_in : ℕ → Movem
 movem_in words = record {
-  is_load = words / 2 ^ 16 / 2 ^ 10 % 2 == 1;
-  size = if words / 2 ^ 16 / 2 ^ 6 % 2 == 1 then Long else Word;
-  mode = mode_of (words / 2 ^ 16);
-  mask = words % 2 ^ 16;
+  is_load = operation_in words / 2 ^ 10 % 2 == 1;
+  size = if operation_in words / 2 ^ 6 % 2 == 1 then Long else Word;
+  mode = mode_of (operation_in words);
+  mask = mask_in words;
 }
 
 -- an address register is 0 to 7
@@ -66,6 +76,21 @@ placed step at (r ∷ rs) = record { register = r; at = at } ∷ placed step ((a
 -- the transfers of a MOVEM in the manual's order, the first at `ea`
 unfoldable pub transfers_of : Movem → ℕ → List Transfer
 transfers_of m ea = placed (step_of m.mode (bytes_of m.size)) ea (registers_of m)
+
+-- the address of the one behind the first `done` of them
+abbrev pub transfer_at : Movem → (ea done : ℕ) → ℕ
+transfer_at m ea done = (ea + done * step_of m.mode (bytes_of m.size)) % 2 ^ 32
+
+-- a transfer with so many before it is there
+abbrev pub StandsBehind : Movem → (ea done at : ℕ) → Type 0
+StandsBehind m ea done at = (t : Transfer) → slice_get (transfers_of m ea) done ≡ Some t → t.at ≡ at
+
+-- what the frame of a refused transfer holds, by the words of its MOVEM and the address of the next instruction
+abbrev pub refused_transfer : MovemFault → (words next : ℕ) → AccessCase
+refused_transfer refused words next =
+    let m = movem_in words in
+    let start = transfer_at m refused.first refused.done in
+    access.Movem refused.fault refused.first start refused.done words next m.is_load
 
 -- their registers are 0 to 15
 abbrev pub AreTransfers : List Transfer → Type 0

@@ -2,7 +2,7 @@
 
 ghost use Rattle.std.specs.Prelude.{◌≡◌, ◌+◌, ◌<◌, ◌≤◌, ◌/◌, ◌%◌, ◌^◌, drop, length};
 ghost use Rattle.mb_port.specs.Routine.{run};
-ghost use Rattle.mb_writes.specs.Transfers.{movem_in, transfers_of, count_of, IsMode, AreTransfers};
+ghost use Rattle.mb_writes.specs.Transfers.{movem_in, mask_in, transfers_of, count_of, IsMode, AreTransfers};
 ghost use Rattle.mb_writes.specs.Moving.{stored_of, store_all, loaded_of, load_all, stepped_of, transfer_of, halfway};
 
 use crate::ends::MovemFault;
@@ -175,7 +175,7 @@ pub fn continue_movem<P: Port>(
     space: Space,
     port: &mut P,
 ) -> Result<(), MovemFault>
-    requires { done ≤ count_of (words % 2 ^ 16) }
+    requires { done ≤ count_of (mask_in words) }
     ensures means { run P.bus (transfer_of (movem_in words) ea done space plain.old) (P.world port.old)
         ≡ (halfway result plain.new, P.world port.new) }
     ensures rest { P.rest port.new ≡ P.rest port.old }

@@ -3,6 +3,7 @@
 ghost use Rattle.std.specs.Prelude.{◌≡◌, ◌<◌, ◌≤◌, length};
 ghost use Rattle.mb_instr.specs.Sizes.{bytes_of};
 ghost use Rattle.mb_writes.specs.Transfers.{movem_in, transfers_of, step_of, number_of, count_of, IsMode, AreTransfers};
+ghost use Rattle.mb_writes.specs.Transfers.{transfer_at, StandsBehind};
 
 use arrayvec::ArrayVec;
 use mb_instr::Size;
@@ -74,6 +75,14 @@ impl Movem {
             MovemMode::Pre(_) => 0u32.wrapping_sub(bytes),
             MovemMode::Control | MovemMode::Post(_) => bytes,
         }
+    }
+
+    /// The address of the transfer behind the first `done`, where the first of all is at `ea`.
+    pub fn transfer_at(&self, ea: u32, done: u8) -> u32
+        ensures value { result ≡ transfer_at self.now ea done }
+        ensures stands { StandsBehind self.now ea done result }
+    {
+        ea.wrapping_add(u32::from(done).wrapping_mul(self.step()))
     }
 
     /// The register that a bit of the mask names.

@@ -1,0 +1,12 @@
+pub mod Numbers
+pub mod Readings
+pub mod Longs
+pub mod Bytes
+pub mod Heads
+pub mod Status
+pub mod Taken
+pub mod Puts
+pub mod Entries
+pub mod Returned
+pub mod Movems
+pub mod Plain

@@ -1,0 +1,4 @@
+pub mod Keeping
+pub mod Returns
+pub mod Movems
+pub mod Plain
