@@ -1,22 +1,57 @@
 -- What the ends of entries and returns tell.
-use Rattle.std.specs.Prelude.{◌≡◌, ◌⊎◌, true}
+use Rattle.std.specs.Prelude.{◌≡◌, ◌⊎◌, ⊤, ℕ, ◌*◌, true, IsSome, Ok, Err}
+use Rattle.mb_port.specs.Routine.{Bus, run}
+use Rattle.mb_port.specs.declared.types.Space.TheVariants.{Super}
 use Rattle.mb_port.specs.declared.types.Fault.{Fault}
 use Rattle.mb_instr.specs.declared.registers.Regs.{Regs}
 use Rattle.mb_model.specs.declared.processor.Cpu.{Cpu}
+use Rattle.mb_ea.specs.declared.reading.ReadFault.{ReadFault}
+use Rattle.mb_ea.specs.Addresses.{sum}
+use Rattle.mb_ea.specs.Reading.{read_of}
 use Rattle.mb_writes.specs.declared.ends.Ended.{Ended}
 use Rattle.mb_writes.specs.declared.ends.Ended.TheVariants as ended
 use Rattle.mb_meaning.specs.declared.entering.Cause.{Cause}
 use Rattle.mb_meaning.specs.declared.entering.Entered.{Entered}
 use Rattle.mb_meaning.specs.declared.entering.Entered.TheVariants as entered
-use Rattle.mb_meaning.specs.Entry.{frames_of, settled}
+use Rattle.mb_meaning.specs.Entry.{Places, frames_of, settled, check_frames, put_frames}
 
 -- Where an entry was carried out, SR and the stacks are as its frames leave them, and PC alone is the handler's. Where
--- a check was refused no register changed. Where the processor halts its registers are as the frames leave them, or
--- where those of an access error have no place, as they were with the PC that was to be stacked.
+-- a check was refused no register changed.
 abbrev pub RegsAfter : Entered → Cause → Regs → Regs → Type 0
 RegsAfter entered.Done c old new = new ≡ record (settled c (frames_of c old) old) { pc = new.pc }
 RegsAfter (entered.Faulted fault) c old new = new ≡ old
-RegsAfter entered.DoubleFault c old new = (new ≡ settled c (frames_of c old) old) ⊎ (new ≡ record old { pc = c.pc })
+RegsAfter entered.DoubleFault c old new = ⊤
+
+-- the fact, where the processor halts
+abbrev pub IfHalted : Entered → Type 0 → Type 0
+IfHalted entered.Done P = ⊤
+IfHalted (entered.Faulted fault) P = ⊤
+IfHalted entered.DoubleFault P = P
+
+-- The frame of an access error has no place: a check was refused, and nothing was written. The registers are as they
+-- were, with the PC that was to be stacked.
+pub record IsUnplaced {S : Type 0} (bus : Bus S) (c : Cause) (old : Regs) (new : Regs) (s t : S) : Type 0 where
+  pub access : IsSome c.access
+  pub fault : Fault
+  pub refused : run bus (check_frames (frames_of c old)) s ≡ (Err fault, t)
+  pub regs : new ≡ record old { pc = c.pc }
+
+-- the long in the table of vectors can't be read
+pub record IsUnread {S : Type 0} (bus : Bus S) (vector : ℕ) (vbr : ℕ) (s t : S) : Type 0 where
+  pub fault : ReadFault
+  pub refused : run bus (read_of Super (sum vbr (4 * vector)) 4) s ≡ (Err fault, t)
+
+-- The frames are checked and written, but the vector can't be read. The registers are as the frames leave them.
+pub record HasNoHandler {S : Type 0} (bus : Bus S) (c : Cause) (old : Cpu) (new : Regs) (s t : S) : Type 0 where
+  pub places : Places
+  pub between : S
+  pub checked : run bus (check_frames (frames_of c old.regs)) s ≡ (Ok places, between)
+  pub unread : IsUnread bus c.vector old.vbr (run bus (put_frames (frames_of c old.regs) places) between).1 t
+  pub regs : new ≡ settled c (frames_of c old.regs) old.regs
+
+-- a double fault, by its cause
+abbrev pub IsDoubleFault : {S : Type 0} → Bus S → Cause → Cpu → Regs → S → S → Type 0
+IsDoubleFault bus c old new s t = IsUnplaced bus c old.regs new s t ⊎ HasNoHandler bus c old new s t
 
 -- Where the vector was read PC alone is another, else nothing is.
 abbrev pub GoesOn : Entered → Cpu → Cpu → Type 0
@@ -26,9 +61,9 @@ GoesOn entered.DoubleFault old new = new ≡ old
 
 -- the fact, where a check was refused
 abbrev pub IfFaulted : Entered → (Fault → Type 0) → Type 0
-IfFaulted entered.Done P = Unit {0}
+IfFaulted entered.Done P = ⊤
 IfFaulted (entered.Faulted fault) P = P fault
-IfFaulted entered.DoubleFault P = Unit {0}
+IfFaulted entered.DoubleFault P = ⊤
 
 -- how a return ends that takes no frame: a format error, or a refused read
 abbrev pub NotTaken : Ended → Type 0

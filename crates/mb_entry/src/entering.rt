@@ -1,9 +1,9 @@
 //! The entry of an exception.
 
-ghost use Rattle.std.specs.Prelude.{◌≡◌, ◌<◌, false};
+ghost use Rattle.std.specs.Prelude.{◌≡◌, ◌<◌, false, IsSome};
 ghost use Rattle.mb_port.specs.Routine.{run};
 ghost use Rattle.mb_meaning.specs.Entry.{frames_of, check_frames, vectored, unstacked, enter_of};
-ghost use Rattle.mb_entry.specs.Clauses.{RegsAfter, GoesOn, IfFaulted};
+ghost use Rattle.mb_entry.specs.Clauses.{RegsAfter, GoesOn, IfFaulted, IfHalted, IsUnread, IsDoubleFault};
 
 use crate::places::{check_frames, put_frames};
 use crate::stacking::{frames_for, offset, settle};
@@ -17,6 +17,8 @@ use mb_port::{Fault, Port, Space};
 fn unstacked(fault: Fault, cause: &Cause, cpu: &mut Cpu) -> Entered
     ensures means { (result, cpu.new) ≡ unstacked cause.now.access fault cause.now cpu.old }
     ensures told { IfFaulted result (λ other. other ≡ fault) }
+    ensures access { IfHalted result (IsSome cause.now.access) }
+    ensures regs { IfHalted result (cpu.new.regs ≡ record cpu.old.regs { pc = cause.now.pc }) }
 {
     if cause.access.is_some() {
         cpu.regs.pc = cause.pc;
@@ -32,6 +34,8 @@ fn go_to_handler<P: Port>(cause: &Cause, cpu: &mut Cpu, port: &mut P) -> Entered
     ensures means { run P.bus (vectored cause.now cpu.old) (P.world port.old)
         ≡ ((result, cpu.new), P.world port.new) }
     ensures went { GoesOn result cpu.old cpu.new }
+    ensures unread { IfHalted result
+        (IsUnread P.bus cause.now.vector cpu.old.vbr (P.world port.old) (P.world port.new)) }
     ensures rest { P.rest port.new ≡ P.rest port.old }
 {
     let entry = cpu.vbr.wrapping_add(u32::from(offset(cause.vector)));
@@ -60,6 +64,10 @@ pub fn enter<P: Port>(cpu: &mut Cpu, port: &mut P, cause: &Cause) -> Entered
     ensures unwritten { IfFaulted result (λ fault.
         run P.bus (check_frames (frames_of cause.now cpu.old.regs)) (P.world port.old)
         ≡ (Err fault, P.world port.new)) }
+
+    // The processor halts where a check was refused of an access error's frame, or where the vector can't be read.
+    ensures halts { IfHalted result
+        (IsDoubleFault P.bus cause.now cpu.old cpu.new.regs (P.world port.old) (P.world port.new)) }
     ensures rest { P.rest port.new ≡ P.rest port.old }
 {
     let frames = frames_for(cause, &cpu.regs);

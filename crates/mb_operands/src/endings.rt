@@ -3,10 +3,13 @@
 //! Such an end is large, and nearly every instruction is done: an answer that holds it would be filled, copied and
 //! waited for at each step.
 
-ghost use Rattle.std.specs.Prelude.{◌≡◌};
+ghost use Rattle.std.specs.Prelude.{◌≡◌, true};
 ghost use Rattle.mb_writes.specs.declared.ends.Ended.TheVariants as ends;
+ghost use Rattle.mb_meaning.specs.Ends.{closed};
+ghost use Rattle.mb_operands.specs.Endings.{is_unread, performed_in_place};
 
 use mb_ea::ReadFault;
+use mb_instr::Plain;
 use mb_writes::{Ended, WriteFault};
 
 /// Not done, or with an exception: how it ended stands beside.
@@ -56,4 +59,25 @@ pub fn left_undone(how: Ended, ended: &mut Ended) -> Undone
 {
     *ended = how;
     Undone
+}
+
+/// How an instruction ended that worked on the registers in place. After a refused read those before it come back.
+pub fn put_back(
+    done: Result<bool, Undone>,
+    ended: Ended,
+    before: &Plain,
+    plain: &mut Plain,
+) -> Ended
+    ensures means { closed (performed_in_place done ended before.now plain.old) ≡ (result, plain.new) }
+    ensures unread { is_unread result ≡ true → plain.new ≡ before.now }
+{
+    match done {
+        Ok(flow) => Ended::Done { flow },
+        Err(_) => {
+            if let Ended::ReadFault(_) = &ended {
+                *plain = *before;
+            }
+            ended
+        }
+    }
 }

@@ -11,7 +11,7 @@ mod operands;
 
 pub use bounds::compare_bounds;
 pub use conditions::is_met;
-pub use endings::{Undone, left_undone, refused, trapped, unread, unwritten};
+pub use endings::{Undone, left_undone, put_back, refused, trapped, unread, unwritten};
 pub use operands::{
     Operand, behind, fetch_operand, find_address, finish_with, named_register, place, push,
     with_low,

@@ -19,4 +19,4 @@ mod shifts;
 mod taking;
 mod unary;
 
-pub use performing::perform_arith;
+pub use performing::{perform_arith, perform_arith_in_place};

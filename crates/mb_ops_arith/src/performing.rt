@@ -1,13 +1,14 @@
 //! Instructions that compute, each by its row.
 
-ghost use Rattle.std.specs.Prelude.{◌≡◌};
+ghost use Rattle.std.specs.Prelude.{◌≡◌, true};
 ghost use Rattle.mb_port.specs.Routine.{run};
 ghost use Rattle.mb_instr.specs.Codes.{IsInstr};
 ghost use Rattle.mb_instr.specs.Shapes.{operands_at};
 ghost use Rattle.mb_instr.specs.Rows.{arith_row};
 ghost use Rattle.mb_instr.specs.declared.instruction.Instr.TheVariants as instr;
 ghost use Rattle.mb_meaning.specs.Rows.{perform_arith_of};
-ghost use Rattle.mb_operands.specs.Endings.{carried_in_place, performed_in_place};
+ghost use Rattle.mb_meaning.specs.Ends.{closing};
+ghost use Rattle.mb_operands.specs.Endings.{is_unread, carried_in_place, performed_in_place};
 
 use crate::bit_fields::bit_field;
 use crate::bits::bit_row;
@@ -23,7 +24,7 @@ use crate::taking::{Effect, take};
 use crate::unary::{clear, combine_with_ccr, extend_register};
 use mb_alu::LogicKind;
 use mb_instr::{Arith, Ea, Plain, Size};
-use mb_operands::Undone;
+use mb_operands::{Undone, put_back};
 use mb_port::{Port, Space};
 use mb_writes::Ended;
 
@@ -171,7 +172,7 @@ fn carry_out<P: Port>(
 /// already. All accesses are made in `space`. Where it is not done, how it ended goes to `ended`; after a refused
 /// read the registers before the instruction count, and `plain` may have some that were stepped.
 #[inline(always)]
-pub fn perform_arith<P: Port>(
+pub fn perform_arith_in_place<P: Port>(
     instruction: &Arith,
     at: u32,
     space: Space,
@@ -189,4 +190,25 @@ pub fn perform_arith<P: Port>(
         Ok(()) => Ok(false),
         Err(undone) => Err(undone),
     }
+}
+
+/// Carries out an instruction that computes, which stands at `at`. PC is past its words already. All accesses are
+/// made in `space`. After a refused read the registers are as before.
+pub fn perform_arith<P: Port>(
+    instruction: &Arith,
+    at: u32,
+    plain: &mut Plain,
+    space: Space,
+    port: &mut P,
+) -> Ended
+    requires { IsInstr (instr.Arith instruction.now) }
+    ensures means { run P.bus (closing (perform_arith_of instruction.now at space plain.old)) (P.world port.old)
+        ≡ ((result, plain.new), P.world port.new) }
+    ensures unread { is_unread result ≡ true → plain.new ≡ plain.old }
+    ensures rest { P.rest port.new ≡ P.rest port.old }
+{
+    let before = *plain;
+    let mut ended = Ended::Done { flow: false };
+    let done = perform_arith_in_place(instruction, at, space, plain, port, &mut ended);
+    put_back(done, ended, &before, plain)
 }

@@ -11,4 +11,4 @@ mod performing;
 mod returns;
 mod traps;
 
-pub use performing::perform_flow;
+pub use performing::{perform_flow, perform_flow_in_place};

@@ -1,13 +1,14 @@
 //! Instructions that go elsewhere, each by its row.
 
-ghost use Rattle.std.specs.Prelude.{◌≡◌};
+ghost use Rattle.std.specs.Prelude.{◌≡◌, true};
 ghost use Rattle.mb_port.specs.Routine.{run};
 ghost use Rattle.mb_instr.specs.Codes.{IsInstr};
 ghost use Rattle.mb_instr.specs.Shapes.{operands_at};
 ghost use Rattle.mb_instr.specs.Rows.{flow_row};
 ghost use Rattle.mb_instr.specs.declared.instruction.Instr.TheVariants as instr;
 ghost use Rattle.mb_meaning.specs.Rows.{perform_flow_of};
-ghost use Rattle.mb_operands.specs.Endings.{performed_in_place};
+ghost use Rattle.mb_meaning.specs.Ends.{closing};
+ghost use Rattle.mb_operands.specs.Endings.{is_unread, performed_in_place};
 
 use crate::bounds::{check, check_bounds};
 use crate::branches::branch;
@@ -16,7 +17,7 @@ use crate::loops::loop_unless;
 use crate::returns::{return_and_deallocate, return_and_restore, return_from_subroutine};
 use crate::traps::{trap, trap_if, trap_on_overflow};
 use mb_instr::{Flow, Plain};
-use mb_operands::Undone;
+use mb_operands::{Undone, put_back};
 use mb_port::{Port, Space};
 use mb_writes::Ended;
 
@@ -64,7 +65,7 @@ fn carry_out<P: Port>(
 /// words already. All accesses are made in `space`. Where it is not done, how it ended goes to `ended`; after a
 /// refused read the registers before the instruction count, and `plain` may have some that were stepped.
 #[inline(always)]
-pub fn perform_flow<P: Port>(
+pub fn perform_flow_in_place<P: Port>(
     instruction: &Flow,
     at: u32,
     space: Space,
@@ -79,4 +80,25 @@ pub fn perform_flow<P: Port>(
     ensures rest { P.rest port.new ≡ P.rest port.old }
 {
     carry_out(instruction, at, space, plain, port, ended)
+}
+
+/// Carries out an instruction that goes elsewhere, which stands at `at`. PC is past its words already. All accesses are
+/// made in `space`. After a refused read the registers are as before.
+pub fn perform_flow<P: Port>(
+    instruction: &Flow,
+    at: u32,
+    plain: &mut Plain,
+    space: Space,
+    port: &mut P,
+) -> Ended
+    requires { IsInstr (instr.Flow instruction.now) }
+    ensures means { run P.bus (closing (perform_flow_of instruction.now at space plain.old)) (P.world port.old)
+        ≡ ((result, plain.new), P.world port.new) }
+    ensures unread { is_unread result ≡ true → plain.new ≡ plain.old }
+    ensures rest { P.rest port.new ≡ P.rest port.old }
+{
+    let before = *plain;
+    let mut ended = Ended::Done { flow: false };
+    let done = perform_flow_in_place(instruction, at, space, plain, port, &mut ended);
+    put_back(done, ended, &before, plain)
 }

@@ -12,4 +12,4 @@ mod peripheral;
 mod registers;
 mod stack;
 
-pub use performing::perform_move;
+pub use performing::{perform_move, perform_move_in_place};

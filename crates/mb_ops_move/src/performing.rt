@@ -1,13 +1,14 @@
 //! Instructions that move, each by its row.
 
-ghost use Rattle.std.specs.Prelude.{◌≡◌};
+ghost use Rattle.std.specs.Prelude.{◌≡◌, true};
 ghost use Rattle.mb_port.specs.Routine.{run};
 ghost use Rattle.mb_instr.specs.Codes.{IsInstr};
 ghost use Rattle.mb_instr.specs.Shapes.{operands_at};
 ghost use Rattle.mb_instr.specs.Rows.{move_row};
 ghost use Rattle.mb_instr.specs.declared.instruction.Instr.TheVariants as instr;
 ghost use Rattle.mb_meaning.specs.Rows.{perform_move_of};
-ghost use Rattle.mb_operands.specs.Endings.{carried_in_place, performed_in_place};
+ghost use Rattle.mb_meaning.specs.Ends.{closing};
+ghost use Rattle.mb_operands.specs.Endings.{is_unread, carried_in_place, performed_in_place};
 
 use crate::codes::{move_from_ccr, move_to_ccr, set_by_condition};
 use crate::lines::{move_line_absolute, move_line_post};
@@ -17,7 +18,7 @@ use crate::peripheral::move_peripheral;
 use crate::registers::{exchange, swap};
 use crate::stack::{link, push_address, unlink};
 use mb_instr::{Move, Plain, Size};
-use mb_operands::Undone;
+use mb_operands::{Undone, put_back};
 use mb_port::{Port, Space};
 use mb_writes::Ended;
 
@@ -81,7 +82,7 @@ fn carry_out<P: Port>(
 /// already. All accesses are made in `space`. Where it is not done, how it ended goes to `ended`; after a refused
 /// read the registers before the instruction count, and `plain` may have some that were stepped.
 #[inline(always)]
-pub fn perform_move<P: Port>(
+pub fn perform_move_in_place<P: Port>(
     instruction: &Move,
     at: u32,
     space: Space,
@@ -99,4 +100,25 @@ pub fn perform_move<P: Port>(
         Ok(()) => Ok(false),
         Err(undone) => Err(undone),
     }
+}
+
+/// Carries out an instruction that moves, which stands at `at`. PC is past its words already. All accesses are
+/// made in `space`. After a refused read the registers are as before.
+pub fn perform_move<P: Port>(
+    instruction: &Move,
+    at: u32,
+    plain: &mut Plain,
+    space: Space,
+    port: &mut P,
+) -> Ended
+    requires { IsInstr (instr.Move instruction.now) }
+    ensures means { run P.bus (closing (perform_move_of instruction.now at space plain.old)) (P.world port.old)
+        ≡ ((result, plain.new), P.world port.new) }
+    ensures unread { is_unread result ≡ true → plain.new ≡ plain.old }
+    ensures rest { P.rest port.new ≡ P.rest port.old }
+{
+    let before = *plain;
+    let mut ended = Ended::Done { flow: false };
+    let done = perform_move_in_place(instruction, at, space, plain, port, &mut ended);
+    put_back(done, ended, &before, plain)
 }

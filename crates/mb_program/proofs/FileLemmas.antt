@@ -5,7 +5,7 @@ use Rattle.std.proofs.lemmas.Bool.{le-ltb}
 use Rattle.mb_words.specs.Words.{Text, Asked}
 use Rattle.mb_program.specs.Answers.{Answer, Told, File, Course, reads, ends, most_of, unless_long, answer_at, course_of, Names}
 use Rattle.mb_program.specs.Ends.{Around, Ends}
-use Rattle.mb_program.specs.Causes.{IsAllTold}
+use Rattle.mb_program.specs.Causes.{IsAllTold, IsStatus}
 use Rattle.mb_program.specs.Lines.{status_of}
 use Rattle.mb_program.specs.declared.end.End.{End}
 use Rattle.mb_program.specs.declared.end.End.TheVariants.{Done, Words, Refused, Unread, Output, Memory}
@@ -49,3 +49,12 @@ unread_never (Some asked) a (Refused name why) h all e = absurd cc
 unread_never (Some asked) a (Unread name) h all e = h.1 all.0 (named_is_told a.shelf.told (course_of asked) (string_bytes name) all.1 h.0)
 unread_never (Some asked) a Output h all e = absurd cc
 unread_never (Some asked) a Memory h all e = absurd cc
+
+-- the status of each end is one of the six
+pub status_known : (end : End) → IsStatus (status_of end)
+status_known Done = inl refl
+status_known Words = inr (inl refl)
+status_known (Refused name why) = inr (inr (inl refl))
+status_known (Unread name) = inr (inr (inr (inl refl)))
+status_known Output = inr (inr (inr (inr (inl refl))))
+status_known Memory = inr (inr (inr (inr (inr refl))))

@@ -5,7 +5,7 @@ use Rattle.mb_outside.specs.Counts.{Rose}
 use Rattle.mb_outside.specs.Sink.{Grows}
 use Rattle.mb_words.specs.Words.{Text, Asked}
 use Rattle.mb_program.specs.Answers.{Shown, Answer, shows, refuses, course_of, answer_of}
-use Rattle.mb_program.specs.Ends.{Around, Said, IsSaid, IsShown, IsCut, IsRefused, IsFileOn, AnswerIs}
+use Rattle.mb_program.specs.Ends.{Around, Said, IsSaid, IsShown, IsCut, IsRefused, IsFileOn, IsMissing, AnswerIs}
 use Rattle.mb_program.specs.Lines.{named, why_text}
 use Rattle.mb_program.specs.declared.end.FileWhy.{FileWhy}
 
@@ -69,11 +69,16 @@ SaysRefused asked a s = Asks asked (λ command. (name : Text) × (why : FileWhy)
     × AnswerIs (course_of command) a (IsRefused name why)
     × IsSaid s (named name (why_text why)))
 
--- the line that names a file of the command as one that cannot be read was put
+-- the line that names a file of the command as one that cannot be read was put; a whole shelf does not tell it
 abbrev pub SaysUnread : Option Asked → Around → Said → Type 0
 SaysUnread asked a s = Asks asked (λ command. (name : Text)
     × IsFileOn (course_of command) a name
+    × IsMissing a.shelf name
     × IsSaid s (named name (codes " cannot be read\n")))
+
+-- the statuses
+abbrev pub IsStatus : ℕ → Type 0
+IsStatus status = (status ≡ 0) ⊎ (status ≡ 2) ⊎ (status ≡ 3) ⊎ (status ≡ 5) ⊎ (status ≡ 6) ⊎ (status ≡ 7)
 
 -- the line of the status was put, or a first part of it before diag failed, and nothing more
 abbrev pub Says : Option Asked → Around → Said → ℕ → Type 0
@@ -83,6 +88,8 @@ Says asked a s status =
 
 -- What stands after a run of the program.
 pub record Causes (asked : Option Asked) (a : Around) (said : Said) (status : ℕ) : Type 0 where
+  -- There are no other statuses.
+  pub known : IsStatus status
   -- Words are refused only where they ask for nothing, and always, unless memory runs out.
   pub words_only : status ≡ 2 → asked ≡ None
   pub words_always : asked ≡ None → (status ≡ 2) ⊎ (status ≡ 7)

@@ -10,7 +10,7 @@ ghost use Rattle.mb_operands.specs.Endings.{end_of, with_end};
 ghost use Rattle.mb_meaning.specs.Step.{finish_of, supervised_of, unprivileged_of, executed_of};
 
 use crate::finishing::{finish_instruction, finish_unfinished, finish_unread};
-use crate::performing::perform;
+use crate::performing::perform_in_place;
 use crate::raising::{is_due, refuse, trace_if};
 use crate::returning::return_from_exception;
 use mb_instr::{Instr, Plain, System};
@@ -101,7 +101,7 @@ fn execute_unprivileged<P: Port>(
     let at = plain.pc;
     plain.pc = at.wrapping_add(2 * u32::from(length));
     let mut ended = Ended::Done { flow: false };
-    let done = perform(instruction, at, cpu.space(), &mut plain, port, &mut ended);
+    let done = perform_in_place(instruction, at, cpu.space(), &mut plain, port, &mut ended);
     finish_plain(instruction, done, &ended, &mut plain, cpu, port)
 }
 

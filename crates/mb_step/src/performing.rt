@@ -1,16 +1,17 @@
 //! Instructions, each by its family.
 
-ghost use Rattle.std.specs.Prelude.{◌≡◌};
+ghost use Rattle.std.specs.Prelude.{◌≡◌, true};
 ghost use Rattle.mb_port.specs.Routine.{run};
 ghost use Rattle.mb_instr.specs.Codes.{IsInstr};
 ghost use Rattle.mb_meaning.specs.Rows.{perform_of};
-ghost use Rattle.mb_operands.specs.Endings.{performed_in_place};
+ghost use Rattle.mb_meaning.specs.Ends.{closing};
+ghost use Rattle.mb_operands.specs.Endings.{is_unread, performed_in_place};
 
 use mb_instr::{Instr, Plain};
-use mb_operands::{Undone, refused};
-use mb_ops_arith::perform_arith;
-use mb_ops_flow::perform_flow;
-use mb_ops_move::perform_move;
+use mb_operands::{Undone, put_back, refused};
+use mb_ops_arith::perform_arith_in_place;
+use mb_ops_flow::perform_flow_in_place;
+use mb_ops_move::perform_move_in_place;
 use mb_port::{Port, Space};
 use mb_writes::Ended;
 
@@ -22,7 +23,7 @@ const PRIVILEGED: u8 = 8;
 /// registers before the instruction count, and `plain` may have some that were stepped.
 #[inline(always)]
 #[tactic(auto, unfolding(mb_meaning::specs::Rows::perform_of))]
-pub fn perform<P: Port>(
+pub(crate) fn perform_in_place<P: Port>(
     instruction: &Instr,
     at: u32,
     space: Space,
@@ -36,9 +37,51 @@ pub fn perform<P: Port>(
     ensures rest { P.rest port.new ≡ P.rest port.old }
 {
     match instruction {
-        Instr::Move(instruction) => perform_move(instruction, at, space, plain, port, ended),
-        Instr::Arith(instruction) => perform_arith(instruction, at, space, plain, port, ended),
-        Instr::Flow(instruction) => perform_flow(instruction, at, space, plain, port, ended),
+        Instr::Move(instruction) => perform_move_in_place(
+            instruction,
+            at,
+            space,
+            plain,
+            port,
+            ended,
+        ),
+        Instr::Arith(instruction) => perform_arith_in_place(
+            instruction,
+            at,
+            space,
+            plain,
+            port,
+            ended,
+        ),
+        Instr::Flow(instruction) => perform_flow_in_place(
+            instruction,
+            at,
+            space,
+            plain,
+            port,
+            ended,
+        ),
         Instr::System(_) => Err(refused(PRIVILEGED, ended)),
     }
+}
+
+/// Carries out the instruction that stands at `at`. PC is past its words already. All accesses are made in
+/// `space`. After a refused read the registers are as before.
+pub fn perform<P: Port>(
+    instruction: &Instr,
+    at: u32,
+    plain: &mut Plain,
+    space: Space,
+    port: &mut P,
+) -> Ended
+    requires { IsInstr instruction.now }
+    ensures means { run P.bus (closing (perform_of instruction.now at space plain.old)) (P.world port.old)
+        ≡ ((result, plain.new), P.world port.new) }
+    ensures unread { is_unread result ≡ true → plain.new ≡ plain.old }
+    ensures rest { P.rest port.new ≡ P.rest port.old }
+{
+    let before = *plain;
+    let mut ended = Ended::Done { flow: false };
+    let done = perform_in_place(instruction, at, space, plain, port, &mut ended);
+    put_back(done, ended, &before, plain)
 }

@@ -1,9 +1,10 @@
 use Rattle.std.proofs.Common.{rules, sym, ◌∙◌}
-use Rattle.mb_program.proofs.FileLemmas.{unread_never}
+use Rattle.mb_program.proofs.FileLemmas.{unread_never, status_known}
 use Rattle.mb_program.proofs.top.run_program.Goals as goal
 
 pub returns-clause-causes : goal.returns-clause-causes
 returns-clause-causes g c = record {
+  known = rw c.status.ensures (status_known c.run_words-end.result);
   words_only = search rules;
   words_always = search rules;
   refused_only = search rules;
