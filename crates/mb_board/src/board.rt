@@ -248,7 +248,9 @@ impl Board {
         ensures ram { length self.new.world.ram ≡ length self.old.world.ram }
     {
         let mut next = place_behind(script, self.core.steps);
-        self.core.step_on(self.table.as_ref(), script, &mut next).step_end()
+        self.core
+            .step_on(self.table.as_ref(), script, &mut next)
+            .step_end()
     }
 
     /// Takes so many steps, or fewer where the machine halts or is switched off. It takes no memory. A board whose

@@ -1,9 +1,9 @@
 -- So many ticks at once.
-use Rattle.std.proofs.Common.{◌≡◌, ◌∙◌, ◌⊎◌, ℕ, zero, suc, ◌+◌, ◌-◌, ◌<◌, ◌≤◌, ◌==◌, min, [], ◌∷◌, Bool, true, false, cond, refl, ap, sym, subst, inl, inr, arith}
+use Rattle.std.proofs.Common.{◌≡◌, ◌∙◌, ℕ, zero, suc, ◌-◌, ◌<◌, ◌==◌, true, false, refl, ap, sym, inl, inr, arith}
 use Rattle.std.proofs.lemmas.Bool.{cases_Bool}
 use Rattle.std.proofs.lemmas.Bool.Decides.{nat_tests}
 use Rattle.mb_devices.specs.Devices.{DeviceState, ticked, ticks, IsNotDue, passed, level_of}
-use Rattle.mb_devices.specs.Laws.{Passes, TicksPass}
+use Rattle.mb_devices.specs.Laws.{TicksPass}
 
 is_yes : (a b : ℕ) → a ≡ b → (a == b) ≡ true
 is_yes a b h = grind (arith, nat_tests)

@@ -26,7 +26,7 @@ use Rattle.mb_walk.proofs.LongLemmas.{number_bytes}
 use Rattle.mb_meaning.specs.Locked.{probe_pieces}
 use Rattle.mb_meaning.specs.declared.entering.Entered.TheVariants as entered
 use Rattle.mb_meaning.specs.Entry as entry
-use Rattle.mb_meaning.specs.Entry.{Stacked, Frames, frames_of, settled, awake, put_bytes, probe_frame, probe_second, put_second, check_frames, put_frames, vectored, enter_of, Entrance, unstacked}
+use Rattle.mb_meaning.specs.Entry.{Stacked, Frames, frames_of, settled, awake, put_bytes, probe_frame, probe_second, put_second, check_frames, put_frames, vectored, enter_of, unstacked}
 use Rattle.mb_machine.specs.World.{World}
 use Rattle.mb_machine.specs.Places.{in_ram, taken, checked}
 use Rattle.mb_machine.specs.Bus.{bus_of, place_at, fault_of, Take, faulting, read_at, read_by}

@@ -92,8 +92,9 @@ pub fn perform_flow<P: Port>(
     port: &mut P,
 ) -> Ended
     requires { IsInstr (instr.Flow instruction.now) }
-    ensures means { run P.bus (closing (perform_flow_of instruction.now at space plain.old)) (P.world port.old)
-        ≡ ((result, plain.new), P.world port.new) }
+    ensures means { run P.bus
+        (closing (perform_flow_of instruction.now (operands_at (flow_row instruction.now) at) space plain.old))
+        (P.world port.old) ≡ ((result, plain.new), P.world port.new) }
     ensures unread { is_unread result ≡ true → plain.new ≡ plain.old }
     ensures rest { P.rest port.new ≡ P.rest port.old }
 {

@@ -112,8 +112,9 @@ pub fn perform_move<P: Port>(
     port: &mut P,
 ) -> Ended
     requires { IsInstr (instr.Move instruction.now) }
-    ensures means { run P.bus (closing (perform_move_of instruction.now at space plain.old)) (P.world port.old)
-        ≡ ((result, plain.new), P.world port.new) }
+    ensures means { run P.bus
+        (closing (perform_move_of instruction.now (operands_at (move_row instruction.now) at) space plain.old))
+        (P.world port.old) ≡ ((result, plain.new), P.world port.new) }
     ensures unread { is_unread result ≡ true → plain.new ≡ plain.old }
     ensures rest { P.rest port.new ≡ P.rest port.old }
 {
