@@ -15,7 +15,7 @@ use crate::raising::refuse;
 use arrayvec::ArrayVec;
 use mb_decode::{Decoded, Decoding, decode_into};
 use mb_ea::ReadFault;
-use mb_instr::{Flow, Instr};
+use mb_instr::{Exchange, Instr, Move};
 use mb_meaning::Finish;
 use mb_model::Cpu;
 use mb_port::{Fault, Port};
@@ -24,8 +24,12 @@ use mb_table::FirstWords;
 /// How many words an instruction can have behind its first.
 const MOST_BEHIND: usize = 10;
 
-/// What stands where no instruction was decoded yet.
-const NOTHING: Instr = Instr::Flow(Flow::Nop);
+/// What stands where no instruction was decoded yet: one whose bytes are all 0, which costs a step the least.
+const NOTHING: Instr = Instr::Move(Move::Exg {
+    x: 0,
+    kind: Exchange::Data,
+    y: 0,
+});
 
 /// The vectors of what is no instruction.
 const ODD_COUNTER: u8 = 3;

@@ -98,9 +98,23 @@ fn run(board: &mut Board, alloc: Global, steps: u32)
     ensures { length board.new.world.ram ≡ SIZE }
 {
     let script = Script::new(Vec::new(alloc));
-    if steps < 100 && board.outcome().steps < 100 {
+    if steps < 100 && steps_of(board) < 100 {
         board.run_bare(&script, steps);
     }
+}
+
+/// How many steps the board has taken.
+fn steps_of(board: &Board) -> u32
+    ensures { result ≡ board.now.steps }
+{
+    board.outcome().steps
+}
+
+/// What the board does at its next step.
+fn state_of(board: &Board) -> RunState
+    ensures { result ≡ board.now.state }
+{
+    board.outcome().state
 }
 
 /// Whether these bytes stand in RAM.
@@ -460,8 +474,7 @@ fn a_double_fault_halts(rt: HostRuntime) {
 fn step_on(board: &mut Board, script: &Script)
     ensures { length board.new.world.ram ≡ length board.old.world.ram }
 {
-    let outcome = board.outcome();
-    if outcome.steps < 100 && matches!(outcome.state, RunState::Running) {
+    if steps_of(board) < 100 && matches!(state_of(board), RunState::Running) {
         board.step(script);
     }
 }
