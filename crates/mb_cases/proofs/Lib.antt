@@ -1,0 +1,2 @@
+pub mod SizeStays
+pub mod PassedLemmas

@@ -1,0 +1,29 @@
+//! Bytes in RAM.
+
+ghost use Rattle.std.specs.Prelude.{◌≡◌, ◌+◌, ◌≤◌, ◌↔◌, vec_len, length, IsSome, IfSome};
+
+/// Bytes that stand in RAM one after the other.
+#[derive(Debug, Drop)]
+pub struct Chunk {
+    /// The address of the first.
+    pub at: u32,
+    pub bytes: Vec<u8>,
+    ghost in_ram: { at + vec_len bytes ≤ 65536 },
+}
+
+impl Chunk {
+    /// `None` exactly where RAM does not have all these places.
+    pub fn new(at: u32, bytes: Vec<u8>) -> Option<Chunk>
+        ensures in_ram { IsSome result ↔ (at + vec_len bytes ≤ 65536) }
+        ensures chunk { IfSome result (λ chunk. (chunk.at ≡ at) × (chunk.bytes.items ≡ bytes.items)) }
+    {
+        if at as usize <= RAM_SIZE as usize && bytes.len() <= RAM_SIZE as usize - at as usize {
+            Some(Chunk { at, bytes })
+        } else {
+            None
+        }
+    }
+}
+
+/// How many bytes of RAM the machine of a case has.
+pub const RAM_SIZE: u32 = 65_536;
