@@ -5,3 +5,6 @@ pub mod Runs
 pub mod Accesses
 pub mod Upkeep
 pub mod Fills
+pub mod Spellings
+pub mod UserMode
+pub mod RunEnds

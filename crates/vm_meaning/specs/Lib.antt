@@ -1,2 +1,4 @@
 pub mod Free
 pub mod Laws
+pub mod Marks
+pub mod Native

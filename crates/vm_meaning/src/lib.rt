@@ -1,12 +1,27 @@
-//! What a monitor's promises are said in, of runs of the machine. So far: free runs, those of a board whose caches may
-//! hold whatever was searched out since the last flush that covers it. A run by any rule of keeping is one of them.
+//! What a monitor's promises are said in, of runs of the machine: free runs, and what a board that runs a guest in user
+//! mode counts.
 //!
-//! Stands on `mb_machine`, below the board and the monitor. [`specs/Free`] has the free bus, its steps and its runs,
-//! over the same routine of a step. The code has the laws.
+//! Stands on `mb_machine`, below the board and the monitor. [`specs/Free`] has free runs, those of a board whose caches
+//! may hold whatever was searched out since the last flush that covers it: the free bus, its steps and its runs, over
+//! the same routine of a step. A run by any rule of keeping is one of them. [`specs/Native`] has the run of a board in
+//! user mode, and [`specs/Marks`] the trail of its steps. The code has the laws.
 #![tactic(auto)]
 
 ghost use Rattle.vm_meaning.specs.Laws.{CallsAreFree, RunsAreFree, RunsFromResetAreFree};
 ghost use Rattle.vm_meaning.specs.Laws.{AccessesUseOrSearch, FreeBoardsKeep, FreeBoardsFill};
+ghost use Rattle.vm_meaning.specs.Marks.{TrailsBySpelling};
+ghost use Rattle.vm_meaning.specs.Native.{RunsEndByCause};
+
+/// How a run of a board in user mode ended.
+#[derive(Clone, Copy, Debug, PartialEq, Eq)]
+pub enum RunEnd {
+    /// So many steps were carried out.
+    Counted,
+    /// A step entered an exception: the vector of the last one that it entered.
+    Exit(u8),
+    /// The board is halted or off.
+    Gone,
+}
 
 /// Whatever a machine does by a rule of keeping, a free one may do too, and keeps all that the first keeps.
 pub fn runs_are_free()
@@ -21,4 +36,11 @@ pub fn free_boards_keep()
     ensures access { AccessesUseOrSearch }
     ensures kept { FreeBoardsKeep }
     ensures found { FreeBoardsFill }
+{}
+
+/// What a run in user mode counts: each of its ends has its cause, and the trail with a step's marks is had from what
+/// its registers spell in base 31.
+pub fn user_runs_count()
+    ensures ends { RunsEndByCause }
+    ensures trail { TrailsBySpelling }
 {}
