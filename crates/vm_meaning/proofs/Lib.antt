@@ -8,3 +8,5 @@ pub mod Fills
 pub mod Spellings
 pub mod UserMode
 pub mod RunEnds
+pub mod Writebacks
+pub mod Causes

@@ -1,16 +1,22 @@
-//! What a monitor's promises are said in, of runs of the machine: free runs, and what a board that runs a guest in user
-//! mode counts.
+//! What a monitor's promises are said in, of runs of the machine: free runs, what a board that runs a guest in user mode
+//! counts, and the rest of a step that a board began for a guest.
 //!
 //! Stands on `mb_machine`, below the board and the monitor. [`specs/Free`] has free runs, those of a board whose caches
 //! may hold whatever was searched out since the last flush that covers it: the free bus, its steps and its runs, over
 //! the same routine of a step. A run by any rule of keeping is one of them. [`specs/Native`] has the run of a board in
-//! user mode, and [`specs/Marks`] the trail of its steps. The code has the laws.
+//! user mode, and [`specs/Marks`] the trail of its steps; [`specs/Finishes`] has the rest of a begun step, and
+//! [`specs/Frames`] what a frame says of it. The code has the laws.
 #![tactic(auto)]
+
+mod left;
 
 ghost use Rattle.vm_meaning.specs.Laws.{CallsAreFree, RunsAreFree, RunsFromResetAreFree};
 ghost use Rattle.vm_meaning.specs.Laws.{AccessesUseOrSearch, FreeBoardsKeep, FreeBoardsFill};
 ghost use Rattle.vm_meaning.specs.Marks.{TrailsBySpelling};
 ghost use Rattle.vm_meaning.specs.Native.{RunsEndByCause};
+ghost use Rattle.vm_meaning.specs.Telling.{RefusalsTell, TrapsTell, FramesTell};
+
+pub use left::LeftOver;
 
 /// How a run of a board in user mode ended.
 #[derive(Clone, Copy, Debug, PartialEq, Eq)]
@@ -43,4 +49,11 @@ pub fn free_boards_keep()
 pub fn user_runs_count()
     ensures ends { RunsEndByCause }
     ensures trail { TrailsBySpelling }
+{}
+
+/// The frame of an exception that ended a board's step tells its cause, and what an access error left to do.
+pub fn frames_tell()
+    ensures refusals { RefusalsTell }
+    ensures traps { TrapsTell }
+    ensures left { FramesTell }
 {}
