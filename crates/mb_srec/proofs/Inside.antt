@@ -10,7 +10,8 @@ use Rattle.mb_srec.specs.declared.image.Image.{Image}
 use Rattle.mb_srec.specs.Image.{LiesBelow, contents_of}
 use Rattle.mb_srec.specs.Answers.{Gives}
 use Rattle.mb_lines.specs.Results.{◌>>=◌}
-use Rattle.mb_srec.specs.Records.{Record, Header, Data, Count, End, Reading, beginning, first_outside, counts_right, unless_outside, with_record, at_line, record_of, after_record, after_line, after_lines, at_end, records_of}
+use Rattle.mb_srec.specs.Records.{Record, Header, Data, Count, End, Reading, beginning, first_outside, counts_right, unless_outside}
+use Rattle.mb_srec.specs.Records.{with_record, at_line, record_of, after_record, after_line, after_lines, at_end, records_of}
 use Rattle.mb_srec.proofs.Outside.{some_outside}
 
 abbrev Within : ℕ → List (ℕ × List ℕ) → Type 0
@@ -50,7 +51,8 @@ taken_inside ram so_far next (Data at bytes) e inside =
 taken_inside ram so_far next (Count number) e inside = subst (λ (r : Reading). Within ram r.contents) (same so_far next e) inside
 taken_inside ram so_far next End e inside = subst (λ (r : Reading). Within ram r.contents) (same _ next e) inside
 
-record_inside : (ram number : ℕ) (so_far next : Reading) (said : Record) → after_record ram number so_far said ≡ Ok next → Within ram so_far.contents → Within ram next.contents
+record_inside : (ram number : ℕ) (so_far next : Reading) (said : Record) → after_record ram number so_far said ≡ Ok next → Within ram so_far.contents
+    → Within ram next.contents
 unfolding after_record
 record_inside ram number so_far next said e inside =
     taken_inside ram so_far next said (chosen so_far.ended _ _ next (chosen (not (counts_right so_far said)) _ _ next e)) inside
@@ -61,7 +63,8 @@ line_inside ram so_far next line e inside =
     let said = bound (at_line line.number (record_of line.characters)) (λ r. after_record ram line.number so_far r) next e in
     record_inside ram line.number so_far next said.0 said.2 inside
 
-lines_inside : (ram : ℕ) (so_far last : Reading) (all : List Line) → after_lines ram so_far all ≡ Ok last → Within ram so_far.contents → Within ram last.contents
+lines_inside : (ram : ℕ) (so_far last : Reading) (all : List Line) → after_lines ram so_far all ≡ Ok last → Within ram so_far.contents
+    → Within ram last.contents
 lines_inside ram so_far last [] e inside = subst (λ (r : Reading). Within ram r.contents) (same so_far last e) inside
 lines_inside ram so_far last (line ∷ others) e inside =
     let next = bound (after_line ram so_far line) (λ r. after_lines ram r others) last e in
@@ -75,8 +78,10 @@ pub records_inside : (text : List ℕ) (ram : ℕ) (contents : List (ℕ × List
 unfolding records_of at_end
 records_inside text ram contents e =
     let last = bound (after_lines ram beginning (numbered text)) at_end contents e in
-    subst (Within ram) (ended last.0.ended last.0.contents contents _ last.2) (lines_inside ram beginning last.0 (numbered text) last.1 (All-nil (LiesBelow ram)))
+    subst (Within ram) (ended last.0.ended last.0.contents contents _ last.2)
+    (lines_inside ram beginning last.0 (numbered text) last.1 (All-nil (LiesBelow ram)))
 
-pub image_inside : (text : List ℕ) (ram : ℕ) (r : Result Image ImageFault) → Gives contents_of r (records_of text ram) → IfOk r (λ image. All (LiesBelow ram) (contents_of image))
+pub image_inside : (text : List ℕ) (ram : ℕ) (r : Result Image ImageFault) → Gives contents_of r (records_of text ram)
+    → IfOk r (λ image. All (LiesBelow ram) (contents_of image))
 image_inside text ram (Ok image) given = records_inside text ram (contents_of image) given
 image_inside text ram (Err fault) given = tt

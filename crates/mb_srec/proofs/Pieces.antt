@@ -1,5 +1,6 @@
 -- Writing a chunk record by record.
-use Rattle.std.proofs.Common.{◌≡◌, ℕ, suc, ◌+◌, ◌/◌, ◌≤◌, ◌<◌, List, ◌∷◌, ◌++◌, length, map, take, drop, get_or, min, sym, ap, subst, ◌∙◌, add-one, append_assoc, drop-cons, inl, inr, arith}
+use Rattle.std.proofs.Common.{◌≡◌, ℕ, suc, ◌+◌, ◌/◌, ◌≤◌, ◌<◌, List, ◌∷◌, ◌++◌, length, map, take, drop, get_or, min, sym, ap, subst, ◌∙◌}
+use Rattle.std.proofs.Common.{add-one, append_assoc, drop-cons, inl, inr, arith}
 use Rattle.std.specs.Prelude.{All}
 use Rattle.std.specs.List.{flat_map}
 use Rattle.std.proofs.lemmas.List.Concat.{flat_map-cons}
@@ -35,20 +36,25 @@ pushed old new piece after bytes at some written front back =
 -- ---- chunk by chunk
 
 -- what holds of each chunk's contents holds of this one's
-pub of_chunk : (P : ℕ × List ℕ → Type 0) (chunks : List Chunk) (i : ℕ) (chunk : Chunk) → i < length chunks → chunk ≡ get_or chunks i chunk → All P (all_contents chunks) → P (content_of chunk)
+pub of_chunk : (P : ℕ × List ℕ → Type 0) (chunks : List Chunk) (i : ℕ) (chunk : Chunk) → i < length chunks → chunk ≡ get_or chunks i chunk
+    → All P (all_contents chunks) → P (content_of chunk)
 of_chunk P chunks i chunk within there all =
-    let here : get_or (map content_of chunks) i (content_of chunk) ≡ content_of chunk = get_or-map content_of chunks i chunk (content_of chunk) within ∙ ap content_of (sym there) in
+    let here : get_or (map content_of chunks) i (content_of chunk) ≡ content_of chunk = get_or-map content_of chunks i chunk (content_of chunk) within
+    ∙ ap content_of (sym there) in
     subst P here (all i (content_of chunk) (omega (arith, length-map chunks content_of)))
 
-pub chunk_pushed : (old new : List ℕ) (chunks : List Chunk) (i : ℕ) (chunk : Chunk) → i < length chunks → chunk ≡ get_or chunks i chunk → new ≡ old ++ chunk_lines (content_of chunk)
+pub chunk_pushed : (old new : List ℕ) (chunks : List Chunk) (i : ℕ) (chunk : Chunk) → i < length chunks → chunk ≡ get_or chunks i chunk
+    → new ≡ old ++ chunk_lines (content_of chunk)
     → new ++ flat_map chunk_lines (all_contents (drop (i + 1) chunks)) ≡ old ++ flat_map chunk_lines (all_contents (drop i chunks))
 chunk_pushed old new chunks i chunk within there written =
     let left = all_contents (drop (suc i) chunks) in
     let first : drop i chunks ≡ chunk ∷ drop (suc i) chunks = drop-cons chunks i chunk within ∙ ap (λ (c : Chunk). c ∷ drop (suc i) chunks) (sym there) in
-    rw (written, first, add-one, flat_map-cons chunk_lines (content_of chunk) left) (append_assoc old (chunk_lines (content_of chunk)) (flat_map chunk_lines left))
+    rw (written, first, add-one, flat_map-cons chunk_lines (content_of chunk) left)
+    (append_assoc old (chunk_lines (content_of chunk)) (flat_map chunk_lines left))
 
 pub all_written : (header text new end : List ℕ) (chunks : List Chunk) (i : ℕ) (contents : List (ℕ × List ℕ)) → length chunks ≤ i
-    → text ++ flat_map chunk_lines (all_contents (drop i chunks)) ≡ header ++ flat_map chunk_lines contents → new ≡ text ++ end → new ≡ header ++ flat_map chunk_lines contents ++ end
+    → text ++ flat_map chunk_lines (all_contents (drop i chunks)) ≡ header ++ flat_map chunk_lines contents → new ≡ text ++ end
+    → new ≡ header ++ flat_map chunk_lines contents ++ end
 all_written header text new end chunks i contents past so_far written =
     let none : text ++ flat_map chunk_lines (all_contents (drop i chunks)) ≡ text =
     ap (λ (cs : List Chunk). text ++ flat_map chunk_lines (all_contents cs)) (drop_all i chunks past) ∙ append-nil text in

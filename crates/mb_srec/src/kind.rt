@@ -4,7 +4,7 @@ ghost use Rattle.std.specs.Prelude.{◌≡◌};
 ghost use Rattle.mb_srec.specs.Kinds.{address_len, kind_of, may_hold_data};
 
 /// A kind of record, named by its letter and digit.
-#[derive(Clone, Copy, Debug, PartialEq, Eq)]
+#[derive(Clone, Copy)]
 pub(crate) enum Kind {
     /// A header, at a 16-bit address.
     S0,

@@ -4,7 +4,8 @@ ghost use Rattle.std.specs.Prelude.{◌≡◌, ◌<◌, ◌^◌, All, IfErr, IfO
 ghost use Rattle.mb_lines.specs.Lines.{numbered};
 ghost use Rattle.mb_lines.specs.Answers.{line_said};
 ghost use Rattle.mb_srec.specs.Image.{LiesBelow, contents_of};
-ghost use Rattle.mb_srec.specs.Records.{after_line, after_lines, after_record, at_line, beginning, counts_right, first_outside, record_of, records_of, with_record};
+ghost use Rattle.mb_srec.specs.Records.{after_line, after_lines, after_record, at_line, beginning, counts_right};
+ghost use Rattle.mb_srec.specs.Records.{first_outside, record_of, records_of, with_record};
 ghost use Rattle.mb_srec.specs.Answers.{Faults, Gives, said, so_far};
 
 use crate::fault::{ImageFault, RecordWhy};

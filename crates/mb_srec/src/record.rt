@@ -5,7 +5,8 @@ ghost use Rattle.std.specs.Option.{ok_or};
 ghost use Rattle.mb_srec.specs.declared.fault.RecordWhy.TheVariants as why;
 ghost use Rattle.mb_srec.specs.declared.record.RecordFault.TheVariants.{Memory};
 ghost use Rattle.mb_srec.specs.Kinds.{address_len};
-ghost use Rattle.mb_srec.specs.Records.{Data, address_of, bytes_of, checksum_of, data_of, has_its_length, meaning_of, record_of, said_by};
+ghost use Rattle.mb_srec.specs.Records.{Data, address_of, bytes_of, checksum_of, data_of, has_its_length};
+ghost use Rattle.mb_srec.specs.Records.{meaning_of, record_of, said_by};
 ghost use Rattle.mb_srec.specs.Answers.{GivesAlone, said};
 
 use crate::fault::RecordWhy;

@@ -74,5 +74,6 @@ fn record_bytes(alloc: Global, at: u32, data: &[u8]) -> Result<Vec<u8>, Memory>
 /// The text of chunks, read for a RAM that has each of their addresses, has the same bytes at the same
 /// addresses, and no others.
 pub fn written_reads_back()
-    ensures { (contents : List (ℕ × List ℕ)) (ram : ℕ) → All IsContent contents → All (LiesBelow ram) contents → SameBytes contents (records_of (text_of contents) ram) }
+    ensures { (contents : List (ℕ × List ℕ)) (ram : ℕ) → All IsContent contents → All (LiesBelow ram) contents
+        → SameBytes contents (records_of (text_of contents) ram) }
 {}

@@ -11,7 +11,8 @@ records-preserved c =
     let addressed : c.records.at + length rest ≤ 2 ^ 32 = c.records.invariant.addressed some in
     record {
       written =
-          pushed c.records.text.items c.push_data.new.text.items c.split_at.result.0.now c.split_at.result.1.now rest c.records.at some c.in_ok-push_data.ensures
+          pushed c.records.text.items c.push_data.new.text.items c.split_at.result.0.now c.split_at.result.1.now rest c.records.at some
+          c.in_ok-push_data.ensures
           (c.split_at.ensures.front ∙ ap (λ n. take n rest) c.min.ensures) (c.split_at.ensures.back ∙ ap (λ n. drop n rest) c.min.ensures)
           ∙ c.records.invariant.written;
       addressed = λ more. omega (arith, c.min.ensures, c.split_at.ensures.back_len);

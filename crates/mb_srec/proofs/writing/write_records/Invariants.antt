@@ -6,4 +6,6 @@ use Rattle.mb_srec.specs.Written.{chunk_lines, header_line}
 use Rattle.mb_srec.proofs.writing.write_records.Given as goal
 
 abbrev pub invariant-chunks : goal.invariant-chunks
-invariant-chunks l = l.text.items ++ flat_map chunk_lines (all_contents (drop l.chunk-index l.chunk-items)) ≡ header_line ++ flat_map chunk_lines (contents_of l.image)
+invariant-chunks l =
+    l.text.items ++ flat_map chunk_lines (all_contents (drop l.chunk-index l.chunk-items))
+    ≡ header_line ++ flat_map chunk_lines (contents_of l.image)
