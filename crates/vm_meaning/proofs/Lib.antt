@@ -10,3 +10,5 @@ pub mod UserMode
 pub mod RunEnds
 pub mod Writebacks
 pub mod Causes
+pub mod Batches
+pub mod Past

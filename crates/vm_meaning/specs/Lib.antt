@@ -5,3 +5,5 @@ pub mod Native
 pub mod Finishes
 pub mod Frames
 pub mod Telling
+pub mod Batches
+pub mod Tidy

@@ -1,11 +1,13 @@
-//! What a monitor's promises are said in, of runs of the machine: free runs, what a board that runs a guest in user mode
-//! counts, and the rest of a step that a board began for a guest.
+//! What a monitor's promises are said in, of runs of the machine: free runs, what a board that runs a guest in user
+//! mode counts, the rest of a step that a board began for a guest, which steps it may carry out in one run, and tidy
+//! runs.
 //!
 //! Stands on `mb_machine`, below the board and the monitor. [`specs/Free`] has free runs, those of a board whose caches
 //! may hold whatever was searched out since the last flush that covers it: the free bus, its steps and its runs, over
 //! the same routine of a step. A run by any rule of keeping is one of them. [`specs/Native`] has the run of a board in
 //! user mode, and [`specs/Marks`] the trail of its steps; [`specs/Finishes`] has the rest of a begun step, and
-//! [`specs/Frames`] what a frame says of it. The code has the laws.
+//! [`specs/Frames`] what a frame says of it. [`specs/Batches`] has stretches of steps at which nothing happens but
+//! ticks, and [`specs/Tidy`] the runs in which no translation is used stale. The code has the laws.
 #![tactic(auto)]
 
 mod left;
@@ -14,6 +16,8 @@ ghost use Rattle.vm_meaning.specs.Laws.{CallsAreFree, RunsAreFree, RunsFromReset
 ghost use Rattle.vm_meaning.specs.Laws.{AccessesUseOrSearch, FreeBoardsKeep, FreeBoardsFill};
 ghost use Rattle.vm_meaning.specs.Marks.{TrailsBySpelling};
 ghost use Rattle.vm_meaning.specs.Native.{RunsEndByCause};
+ghost use Rattle.vm_meaning.specs.Batches.{QuietStretches, BatchesAreQuiet};
+ghost use Rattle.vm_meaning.specs.Tidy.{EachAccessSearches, PastIsWhatWasSearchedOut};
 ghost use Rattle.vm_meaning.specs.Telling.{RefusalsTell, TrapsTell, FramesTell};
 
 pub use left::LeftOver;
@@ -56,4 +60,17 @@ pub fn frames_tell()
     ensures refusals { RefusalsTell }
     ensures traps { TrapsTell }
     ensures left { FramesTell }
+{}
+
+/// A stretch in which nothing arrives and the timer does not come to 0 stays one behind each of its steps, and how long
+/// it is.
+pub fn stretches_are_quiet()
+    ensures stays { QuietStretches }
+    ensures more { BatchesAreQuiet }
+{}
+
+/// The run that searches at each access has searched out just what no flush or PTEST has covered since.
+pub fn past_is_searched_out()
+    ensures accesses { EachAccessSearches }
+    ensures past { PastIsWhatWasSearchedOut }
 {}

@@ -1,0 +1,72 @@
+-- What the shadow allows leaves it as it is, and how far an attempt is judged.
+use Rattle.std.proofs.Common.{◌≡◌, ◌∙◌, ℕ, ◌^◌, ◌<◌, Bool, true, false, cond, refl, ap}
+use Rattle.std.specs.Prelude.{Option, Some, None, not, ◌&&◌, ◌||◌, length}
+use Rattle.mb_port.specs.declared.types.Space.{Space}
+use Rattle.mb_laws.proofs.Finished.{finish_until, stops_at_refused}
+use Rattle.mb_instr.specs.Registers.{plain_of}
+use Rattle.mb_model.specs.Keeping.{rule_k}
+use Rattle.mb_model.specs.Pages.{page_of}
+use Rattle.mb_model.specs.Status.{space_of}
+use Rattle.mb_meaning.specs.Attempt.{attempt_of}
+use Rattle.mb_machine.specs.declared.reference.Reference.{Reference}
+use Rattle.mb_machine.specs.declared.reference.Settled.{Settled}
+use Rattle.mb_machine.specs.declared.reference.Settled.TheVariants.{To}
+use Rattle.mb_machine.specs.World.{World}
+use Rattle.mb_machine.specs.Access.{settled, by_settled, translated}
+use Rattle.vm_shadow.specs.Shadows.{Shadowed, filled}
+use Rattle.vm_machine.specs.Guests.{Guest, Truthful, ref, lets, allows, may, placed_at}
+use Rattle.vm_machine.specs.Bus.{gone_settled, without_kept, is_split, is_in_ram, is_writable, put, guest_bus}
+use Rattle.vm_machine.specs.Classes.{class_of_attempt}
+use Rattle.vm_machine.specs.Laws.{AllowedAccessesAreStill, AttemptsAreJudged}
+
+-- ---- an access that is allowed
+
+lets_writes : (writable : Bool) → (not true || writable) ≡ true → writable ≡ true
+lets_writes true h = refl
+lets_writes false h = absurd (cc h)
+
+-- it is known where it leads
+settled_by : (size : ℕ) (g : Guest) (code : Bool) (space : Space) (at : ℕ) (write : Bool) → Truthful size g → at < 2 ^ 32 → (write ≡ true → code ≡ false)
+    → (entry : Option (ℕ × Bool)) → g.shadow.entries space (page_of at) ≡ entry → lets entry write ≡ true
+    → (place : ℕ) × (settled rule_k g.world.mmu g.world.kept (ref code space at write) ≡ To place)
+settled_by size g code space at write t less side None e h = absurd (let z : ⊥ = cc h in z)
+settled_by size g code space at false t less side (Some (frame, writable)) e h = (placed_at frame at, t.reads code space at frame writable less e)
+settled_by size g code space at true t less side (Some (frame, writable)) e h =
+    let same : g.shadow.entries space (page_of at) ≡ Some (frame, true) =
+    e ∙ ap (λ (w : Bool). (let entry : Option (ℕ × Bool) = Some (frame, w) in entry)) (lets_writes writable h) in (
+      placed_at frame at,
+      ap (λ (side : Bool). settled rule_k g.world.mmu g.world.kept (ref side space at true)) (side refl) ∙ t.writes space at frame less same,
+    )
+
+last_not : (a b c : Bool) → c ≡ true → (a && (b && not c)) ≡ false
+last_not true true c h = ap not h
+last_not true false c h = refl
+last_not false b c h = refl
+
+-- nothing is put where the shadow allows
+puts_nothing : (w : World) (r : Reference) (at : ℕ) (shadow : Shadowed) → allows shadow r ≡ true → put w r shadow (Some at) ≡ shadow
+puts_nothing w r at shadow h =
+    ap (λ (b : Bool). cond b (filled r.space (page_of r.at) (page_of at) (is_writable w r.space (page_of r.at)) shadow) shadow)
+    (last_not (is_in_ram (length w.ram) at) (not (is_split w.mmu r.space (page_of r.at))) (allows shadow r) h)
+
+pub allowed_accesses_are_still : AllowedAccessesAreStill
+unfolding translated
+allowed_accesses_are_still size g r truthful is allowed =
+    let entry = g.shadow.entries r.space (page_of r.at) in
+    let (place, known) = settled_by size g r.code r.space r.at r.write truthful is.at is.on_data entry refl allowed in record {
+      shadow =
+          ap (λ (s : Settled). (let t = by_settled rule_k g.world r s in put t.1 r (without_kept (gone_settled g.world r s) g.shadow) t.0)) known
+          ∙ puts_nothing g.world r place g.shadow allowed;
+      world = ap (λ (s : Settled). (by_settled rule_k g.world r s).1) known;
+    }
+
+-- ---- an attempt
+
+pub attempts_are_judged : AttemptsAreJudged
+unfolding class_of_attempt
+attempts_are_judged cpu g =
+    let m = attempt_of (space_of cpu) (plain_of cpu.regs) in record {
+      class = refl;
+      first = stops_at_refused may guest_bus m g;
+      whole = finish_until may guest_bus m g;
+    }

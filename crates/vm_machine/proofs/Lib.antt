@@ -1,0 +1,11 @@
+pub mod ByRule
+pub mod Judged
+pub mod TurnLaws
+pub mod Trails
+pub mod Counts
+pub mod Seated
+pub mod Independent
+pub mod Counters
+pub mod Rounds
+pub mod Rests
+pub mod Exits

@@ -1,0 +1,11 @@
+pub mod Guests
+pub mod Bus
+pub mod Held
+pub mod Classes
+pub mod Turns
+pub mod Seats
+pub mod Stages
+pub mod Rounds
+pub mod Rests
+pub mod Exits
+pub mod Laws

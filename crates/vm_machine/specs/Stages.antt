@@ -1,0 +1,75 @@
+-- Many guests on one board, and turns of theirs in any order.
+use Rattle.std.specs.Prelude.{◌≡◌, ◌≢◌, ◌⊎◌, ℕ, zero, suc, ◌+◌, ◌<◌, ◌≤◌, ◌==◌, if◌then◌else◌, List, [], ◌∷◌, ◌++◌}
+use Rattle.mb_instr.specs.declared.registers.Plain.{Plain}
+use Rattle.vm_meaning.specs.Marks.{trail}
+use Rattle.vm_meaning.specs.Native.{NativeState}
+use Rattle.vm_machine.specs.Turns.{Tally, exits, turn_of}
+use Rattle.vm_machine.specs.Seats.{Seat, end_of, turned_on, IsSeated, Scene, Takes}
+
+-- No byte is in the areas of both.
+abbrev pub LieApart : Seat → Seat → Type 0
+LieApart g h = (end_of g ≤ h.base) ⊎ (end_of h ≤ g.base)
+
+-- so many guests, by their numbers, on one board
+pub record Stage : Type 0 where
+  pub count : ℕ
+  pub guests : ℕ → Seat
+  pub ram : List ℕ
+  pub native : NativeState
+
+-- one of them with the board
+abbrev pub scene : ℕ → Stage → Scene
+scene i s = record { guest = s.guests i; ram = s.ram; native = s.native }
+
+-- All guests stand on the board, each apart from every other.
+pub record AllSeated (s : Stage) : Type 0 where
+  pub seated : (i : ℕ) → i < s.count → IsSeated (s.guests i) s.ram
+  pub apart : (i j : ℕ) → i < s.count → j < s.count → i ≢ j → LieApart (s.guests i) (s.guests j)
+
+-- ---- turns
+
+-- A guest takes a turn, and no other guest changes.
+pub record TakesTurn (i n : ℕ) (s t : Stage) : Type 0 where
+  pub number : i < s.count
+  pub count : t.count ≡ s.count
+  pub turn : Takes n (scene i s) (scene i t)
+  pub others : (j : ℕ) → j ≢ i → t.guests j ≡ s.guests j
+
+-- turns in their order: of each its guest and its steps
+abbrev pub Turns : Type 0
+Turns = List (ℕ × ℕ)
+
+-- They are taken one after the other.
+abbrev pub TakeTurns : Turns → Stage → Stage → Type 0
+TakeTurns [] s t = s ≡ t
+TakeTurns (turn ∷ turns) s t = (u : Stage) × TakesTurn turn.0 turn.1 s u × TakeTurns turns u t
+
+-- the steps that these turns give a guest
+abbrev pub steps_for : ℕ → Turns → ℕ
+steps_for j [] = 0
+steps_for j (turn ∷ turns) = (if turn.0 == j then turn.1 else 0) + steps_for j turns
+
+-- A guest's machine, shadow and counts are those of one turn of so many steps.
+abbrev pub HasTaken : ℕ → ℕ → Stage → Stage → Type 0
+HasTaken j steps s t = (marks : List Plain)
+    × (turned_on (t.guests j) t.ram marks ≡ turn_of (s.guests j).script steps (turned_on (s.guests j) s.ram []))
+
+-- ---- what all turns count
+
+-- the marks of these turns, one turn after the other
+abbrev pub marks_of_turns : (turns : Turns) (s t : Stage) → TakeTurns turns s t → List Plain
+marks_of_turns [] s t same = []
+marks_of_turns (turn ∷ turns) s t (u, taken, rest) = taken.turn.marks ++ marks_of_turns turns u t rest
+
+-- a count of each of so many guests, in all
+abbrev pub in_all : (Tally → ℕ) → (count : ℕ) → (ℕ → Seat) → ℕ
+in_all of zero guests = 0
+in_all of (suc n) guests = of (guests n).tally + in_all of n guests
+
+-- What boards have counted rises by what the guests' counts rise by, and the trail goes on by the marks of all turns.
+pub record CountersRise (turns : Turns) (s t : Stage) (taken : TakeTurns turns s t) : Type 0 where
+  pub retired : t.native.retired + in_all (λ c. c.retired) s.count s.guests
+      ≡ s.native.retired + in_all (λ c. c.retired) s.count t.guests
+  pub exceptions : t.native.exceptions + in_all exits s.count s.guests
+      ≡ s.native.exceptions + in_all exits s.count t.guests
+  pub trail_is : t.native.trail ≡ trail s.native.trail (marks_of_turns turns s t taken)

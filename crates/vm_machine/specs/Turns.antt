@@ -1,0 +1,146 @@
+-- A guest's steps and turns: its machine with its shadow, how many steps of each class there were, and their marks.
+use Rattle.std.specs.Prelude.{ℕ, zero, suc, ◌+◌, ◌-◌, List, [], ◌∷◌, ◌++◌, if◌then◌else◌}
+use Rattle.mb_port.specs.Routine.{run}
+use Rattle.mb_instr.specs.declared.registers.Plain.{Plain}
+use Rattle.mb_instr.specs.Registers.{plain_of}
+use Rattle.mb_model.specs.declared.processor.Cpu.{Cpu}
+use Rattle.mb_model.specs.Keeping.{rule_k}
+use Rattle.mb_devices.specs.Devices.{level_of}
+use Rattle.mb_meaning.specs.Raise.{Stepped}
+use Rattle.mb_meaning.specs.Step.{step_of}
+use Rattle.mb_machine.specs.Machine.{Machine, Contents, Entries, start, begun, one_later, takes_steps}
+use Rattle.vm_shadow.specs.Shadows.{Shadowed, nothing}
+use Rattle.vm_machine.specs.declared.class.Class.{Class}
+use Rattle.vm_machine.specs.declared.class.Class.TheVariants.{Entered, Idle, Traced, Privileged, Denied, Trapped}
+use Rattle.vm_machine.specs.declared.class.Class.TheVariants.{Retired}
+use Rattle.vm_machine.specs.Guests.{Guest}
+use Rattle.vm_machine.specs.Bus.{guest_bus}
+use Rattle.vm_machine.specs.Classes.{class_of}
+
+-- ---- the machine with its shadow
+
+pub record Guested : Type 0 where
+  pub machine : Machine
+  pub shadow : Shadowed
+
+-- what its bus reads and changes
+abbrev pub world_of : Guested → Guest
+world_of g = record { world = g.machine.world; shadow = g.shadow }
+
+-- ---- a step
+
+-- it begins as a machine's step does
+abbrev pub guest_begun : Entries → Guested → Guested
+guest_begun script g = record g { machine = begun script g.machine }
+
+-- the processor's part of it, over the guest's bus
+abbrev pub guest_processed : Guested → Stepped × Guest
+guest_processed b = run guest_bus (step_of (level_of b.machine.world.devices) b.machine.cpu) (world_of b)
+
+-- one step later, with what that part left
+abbrev pub guest_later : Machine → Stepped × Guest → Guested
+guest_later b r = record { machine = one_later b r.0.0 r.0.1 r.1.world; shadow = r.1.shadow }
+
+-- Machine and shadow one step later.
+unfoldable pub guest_stepped : Entries → Guested → Guested
+guest_stepped script g =
+    let b = guest_begun script g in guest_later b.machine (guest_processed b)
+
+-- The class of that step, judged once it has begun.
+unfoldable pub class_of_step : Entries → Guested → Class
+class_of_step script g =
+    let b = guest_begun script g in class_of (level_of b.machine.world.devices) b.machine.cpu (world_of b)
+
+-- ---- counts and marks
+
+-- how many steps of each class there were
+pub record Tally : Type 0 where
+  pub retired : ℕ
+  pub privileged : ℕ
+  pub trapped : ℕ
+  pub denied : ℕ
+  pub traced : ℕ
+  pub entered : ℕ
+  pub idle : ℕ
+  -- retired ones that the board began again after a fill
+  pub refilled : ℕ
+
+abbrev pub no_steps : Tally
+no_steps = record {
+  retired = 0;
+  privileged = 0;
+  trapped = 0;
+  denied = 0;
+  traced = 0;
+  entered = 0;
+  idle = 0;
+  refilled = 0;
+}
+
+-- with one more step of a class
+abbrev pub counted : Class → Tally → Tally
+counted Retired t = record t { retired = t.retired + 1 }
+counted Privileged t = record t { privileged = t.privileged + 1 }
+counted Trapped t = record t { trapped = t.trapped + 1 }
+counted Denied t = record t { denied = t.denied + 1 }
+counted Traced t = record t { traced = t.traced + 1 }
+counted Entered t = record t { entered = t.entered + 1 }
+counted Idle t = record t { idle = t.idle + 1 }
+
+-- all steps
+abbrev pub steps_in : Tally → ℕ
+steps_in t = t.retired + t.privileged + t.trapped + t.denied + t.traced + t.entered + t.idle
+
+-- the steps that the board began and left by an exception
+abbrev pub exits : Tally → ℕ
+exits t = t.privileged + t.trapped + t.denied
+
+-- the marks of a step: where it is retired, the registers at its beginning, and those at its end
+abbrev pub marks_of : Class → Cpu → Cpu → List Plain
+marks_of Retired before after = plain_of before.regs ∷ plain_of after.regs ∷ []
+marks_of _ before after = []
+
+-- ---- turns
+
+-- a guest, what was counted of its steps, and the marks of those that were retired
+pub record Turned : Type 0 where
+  pub guest : Guested
+  pub tally : Tally
+  pub marks : List Plain
+
+-- with a step of this class, which leaves this guest
+abbrev pub by_class : Class → Guested → Turned → Turned
+by_class class after t = record {
+  guest = after;
+  tally = counted class t.tally;
+  marks = t.marks ++ marks_of class t.guest.machine.cpu after.machine.cpu;
+}
+
+-- One step.
+unfoldable pub advanced : Entries → Turned → Turned
+advanced script t = by_class (class_of_step script t.guest) (guest_stepped script t.guest) t
+
+-- A turn: so many steps, or fewer where the machine is halted or off.
+unfoldable pub turn_of : Entries → ℕ → Turned → Turned
+turn_of script zero t = t
+turn_of script (suc n) t = if takes_steps t.guest.machine.state then turn_of script n (advanced script t) else t
+
+-- ---- a guest's run
+
+-- the start of a guest: its machine with an image, an empty shadow, nothing counted
+abbrev pub prepared : Contents → (size : ℕ) → Turned
+prepared contents size =
+    record { guest = record { machine = start rule_k contents size; shadow = nothing }; tally = no_steps; marks = [] }
+
+-- The count of each class over the first n steps.
+abbrev pub tally_of : Contents → Entries → (size n : ℕ) → Tally
+tally_of contents script size n = (turn_of script n (prepared contents size)).tally
+
+-- before a turn whose marks are asked for alone
+abbrev pub unmarked : Turned → Turned
+unmarked t = record t { marks = [] }
+
+-- The marks of the steps k + 1 to n.
+abbrev pub marks_between : Contents → Entries → (size k n : ℕ) → List Plain
+marks_between contents script size k n =
+    (turn_of script (n - k) (unmarked (turn_of script k (prepared contents size)))).marks
