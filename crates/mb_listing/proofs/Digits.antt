@@ -18,6 +18,7 @@ pub record Spells (digits : List ℕ) (value : ℕ) : Type 0 where
   pub spelled : digits_behind 16 0 digits ≡ value
 
 value_by : (d : ℕ) (b : Bool) → nat_lt d 10 ≡ b → d < 16 → digit_value (cond b (48 + d) (65 + (d - 10))) ≡ d
+unfolding digit_value
 value_by d true e h = grind (arith, nat_tests)
 value_by d false e h = grind (arith, nat_tests)
 

@@ -13,15 +13,10 @@ goes_on words None = None
 goes_on words (Some None) = Some ([], words)
 goes_on words (Some (Some found)) = with_front (found.0 ∷ []) (terms_at found.1)
 
-with_terms : (negative : Bool) (term : Term) (later : Option (List SignedTerm × List Word))
-    → before negative (Some term) later ≡ with_front (signed negative term ∷ []) later
-with_terms negative term None = refl
-with_terms negative term (Some (terms, rest)) = refl
-
 read_term : (negative : Bool) (term : Option Term) (words rest : List Word) → before negative term (terms_at rest)
     ≡ goes_on words (option_map Some (option_map (λ (x : Term). (signed negative x, rest)) term))
 read_term negative None words rest = refl
-read_term negative (Some term) words rest = with_terms negative term (terms_at rest)
+read_term negative (Some term) words rest = refl
 
 -- reading goes on behind the next term
 terms_step : (words : List Word) → terms_at words ≡ goes_on words (next_term words)

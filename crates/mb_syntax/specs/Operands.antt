@@ -33,7 +33,7 @@ abbrev pub mask_of : ℕ → ℕ → Option ℕ
 mask_of from to = if is_range from to then Some (2 ^ (to + 1) - 2 ^ from) else None
 
 -- `Xn-Xm`
-abbrev pub range : Register → Register → Option ℕ
+unfoldable pub range : Register → Register → Option ℕ
 range first last = do
   from ← general_of first
   to ← general_of last
@@ -102,7 +102,7 @@ pair (register.Data first) (register.Data second) = Some (operand.Pair first sec
 pair _ _ = None
 
 -- what stands behind `Dh:`
-abbrev pub pair_behind : Register → List Word → Option (Operand Sum × List Word)
+unfoldable pub pair_behind : Register → List Word → Option (Operand Sum × List Word)
 pair_behind first (word.Register second _ ∷ words) = option_map (with_rest words) (pair first second)
 pair_behind first _ = None
 
@@ -145,7 +145,7 @@ special_of (register.Control control) = Some (operand.Control control)
 special_of _ = None
 
 -- all words, the register that is the first of them, and what stands behind it: a pair, a register list or a mode
-abbrev pub behind_register : List Word → Register → List Word → Option (Operand Sum × List Word)
+unfoldable pub behind_register : List Word → Register → List Word → Option (Operand Sum × List Word)
 behind_register all first (word.Colon ∷ words) = pair_behind first words
 behind_register all first (word.Minus ∷ _) = option_map as_list (list_at all)
 behind_register all first (word.Slash ∷ _) = option_map as_list (list_at all)

@@ -47,10 +47,14 @@ term_of other = option_map term.Symbol (symbol_of other)
 abbrev pub signed : Bool → Term → SignedTerm
 signed negative term = record { is_negative = negative; term = term }
 
--- a term before others
+-- terms before others
+abbrev pub with_front : List SignedTerm → Option (List SignedTerm × List Word) → Option (List SignedTerm × List Word)
+with_front terms later = option_map (λ found. (terms ++ found.0, found.1)) later
+
+-- a term before others, where there is one
 abbrev pub before : Bool → Option Term → Option (List SignedTerm × List Word) → Option (List SignedTerm × List Word)
-before negative (Some term) (Some (terms, rest)) = Some (signed negative term ∷ terms, rest)
-before negative _ _ = None
+before negative (Some term) later = with_front (signed negative term ∷ []) later
+before negative None later = None
 
 abbrev pub signed_at : Bool → List Word → Option (SignedTerm × List Word)
 signed_at negative [] = None
@@ -75,7 +79,3 @@ unfoldable pub expression_at : List Word → Option (List SignedTerm × List Wor
 expression_at (word.Minus ∷ next ∷ words) = before true (term_of next) (terms_at words)
 expression_at (next ∷ words) = before false (term_of next) (terms_at words)
 expression_at [] = None
-
--- terms before others
-abbrev pub with_front : List SignedTerm → Option (List SignedTerm × List Word) → Option (List SignedTerm × List Word)
-with_front terms later = option_map (λ found. (terms ++ found.0, found.1)) later

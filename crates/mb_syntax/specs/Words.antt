@@ -14,7 +14,7 @@ use Rattle.mb_syntax.specs.Tables.{found_in}
 -- Numbers.
 
 -- the value of a hexadecimal digit of either case
-abbrev pub digit_value : ℕ → ℕ
+unfoldable pub digit_value : ℕ → ℕ
 digit_value digit = if is_digit digit then digit - 48 else if is_between 65 70 digit then digit - 55 else digit - 87
 
 -- the number that digits spell behind those that spell n

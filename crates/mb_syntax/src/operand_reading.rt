@@ -62,6 +62,7 @@ fn bits(from: u8, to: u8) -> u16
 }
 
 /// `Xn-Xm`.
+#[tactic(auto, unfolding(crate::specs::Operands::range))]
 fn range(first: Register, last: Register) -> Option<u16>
     ensures { result ≡ range first last }
 {
@@ -140,6 +141,7 @@ fn pair(first: Register, second: Register) -> Option<Operand<Expression>>
 }
 
 /// What stands behind `Dh:`.
+#[tactic(auto, unfolding(crate::specs::Operands::pair_behind))]
 fn pair_behind(first: Register, words: &[Word]) -> Option<(Operand<Expression>, &[Word])>
     ensures { option_map read_said result ≡ pair_behind first words.now }
 {
@@ -255,6 +257,7 @@ fn register_operand<'a>(
 }
 
 /// A pair, a register list or a mode.
+#[tactic(auto, unfolding(crate::specs::Operands::behind_register))]
 fn behind_register<'a>(
     alloc: Global,
     all: &'a [Word],

@@ -128,6 +128,7 @@ fn with_digit(base: u32, number: u32, digit: u8) -> Option<u32>
 }
 
 /// The value of a hexadecimal digit of either case.
+#[tactic(auto, unfolding(crate::specs::Words::digit_value))]
 fn digit_value(digit: u8) -> u8
     ensures { result ≡ digit_value digit }
 {
