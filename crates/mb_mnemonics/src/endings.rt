@@ -7,7 +7,7 @@ use crate::line::{Ending, Line};
 use mb_instr::Condition;
 
 /// A condition's name, in capital letters.
-#[derive(Clone, Copy, Debug)]
+#[derive(Clone, Copy)]
 struct NameOf {
     name: &'static [u8],
     condition: Condition,

@@ -20,7 +20,7 @@ use mb_instr::{Condition, Instr, Size};
 use mb_syntax::{Operand, SizeLetter};
 
 /// A line that a statement is written by, with the condition that the name says and the size.
-#[derive(Clone, Copy, Debug)]
+#[derive(Clone, Copy)]
 struct Form {
     line: &'static Line,
     condition: Condition,

@@ -16,7 +16,7 @@ pub enum Ending {
 }
 
 /// One line of the table.
-#[derive(Clone, Copy, Debug)]
+#[derive(Clone, Copy)]
 pub struct Line {
     /// The name without its ending, in capital letters.
     pub stem: &'static str,

@@ -3,7 +3,7 @@
 use mb_instr::{Caches, Condition, Ea, Size};
 
 /// The registers that a word behind the first names. An address register has 8 added.
-#[derive(Clone, Copy, Debug, PartialEq, Eq)]
+#[derive(Clone, Copy)]
 pub struct Named {
     /// Bits 15 to 12.
     pub upper: u8,
@@ -14,7 +14,7 @@ pub struct Named {
 }
 
 /// What a statement says: 0, D0 or the like where it says nothing.
-#[derive(Clone, Copy, Debug, PartialEq, Eq)]
+#[derive(Clone, Copy)]
 pub struct Parts {
     pub size: Size,
     pub condition: Condition,

@@ -4,7 +4,7 @@ use crate::range::Range;
 use mb_instr::{OperandClass, Size};
 
 /// Where a register's number goes.
-#[derive(Clone, Copy, Debug, PartialEq, Eq)]
+#[derive(Clone, Copy)]
 pub enum Place {
     /// The upper register of the first word, and where there is one alone.
     X,
@@ -21,7 +21,7 @@ pub enum Place {
 }
 
 /// An operand of a line, and what it says of the instruction.
-#[derive(Clone, Copy, Debug, PartialEq, Eq)]
+#[derive(Clone, Copy)]
 pub enum Pattern {
     /// An addressing mode of the class.
     Mode(OperandClass),

@@ -9,7 +9,7 @@ ghost use Rattle.mb_mnemonics.specs.Ranges.{is_reserved, branch};
 use mb_instr::Size;
 
 /// The numbers that an operand may have.
-#[derive(Clone, Copy, Debug, PartialEq, Eq)]
+#[derive(Clone, Copy)]
 pub enum Range {
     /// -128 to 255.
     Byte,

@@ -3,7 +3,7 @@
 use mb_instr::{BitKind, CacheScope, Exchange, FieldKind, FlushKind, LineMove, ShiftKind};
 
 /// A row of the table of instructions, with what a name or its form says of it.
-#[derive(Clone, Copy, Debug, PartialEq, Eq)]
+#[derive(Clone, Copy)]
 pub enum Row {
     /// In memory or not, as ADDX, SUBX, SBCD, PACK and UNPK.
     Abcd(bool),

@@ -7,7 +7,7 @@ use mb_instr::Size;
 use mb_syntax::SizeLetter;
 
 /// The sizes that an operation's name may have.
-#[derive(Clone, Copy, Debug, PartialEq, Eq)]
+#[derive(Clone, Copy)]
 pub enum Sizes {
     /// No size may be written.
     Unsized,
