@@ -16,8 +16,8 @@ use Rattle.mb_returns.specs.Keeping.{Placing, Viewing, Keeps, Shows}
 
 -- ---- what is entered
 
--- The frames of the cause are as the code holds them, the processor has the ranges of its type, and SR has no other bits
--- than its own.
+-- The frames of the cause are as the code holds them, the processor has the ranges of its type, and SR has no other
+-- bits than its own.
 pub record IsLawful (c : Cause) (cpu : Cpu) : Type 0 where
   pub frame : IsFrame (frame_of cpu.regs.sr c)
   pub thrown : IsFrame (throwaway_of cpu.regs.sr c)

@@ -1,7 +1,7 @@
 //! RTE gives back what the entry of an exception saved, over every bus that keeps what is put.
 //!
-//! The frames of an entry are the bytes that `mb_frames` lays out, put in pieces; RTE reads its operands there, cut into
-//! other pieces. The clauses here say that it comes to the same SR, PC, stacks and fields of an access error.
+//! The frames of an entry are the bytes that `mb_frames` lays out, put in pieces; RTE reads its operands there, cut
+//! into other pieces. The clauses here say that it comes to the same SR, PC, stacks and fields of an access error.
 #![tactic(auto)]
 
 ghost use Rattle.mb_returns.specs.Movems.{WordsSayMovem, WordsAreMovem};
