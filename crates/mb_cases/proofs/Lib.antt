@@ -1,2 +1,1 @@
-pub mod SizeStays
 pub mod PassedLemmas

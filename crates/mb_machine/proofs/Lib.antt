@@ -4,3 +4,4 @@ pub mod Refusals
 pub mod Beneath
 pub mod Pieces
 pub mod Enters
+pub mod ShownSize

@@ -1,6 +1,6 @@
 -- What holds of every call of the bus, by every rule: memory stays bytes, of the same size, what a refused access tells
--- and leaves, and what an access keeps.
-use Rattle.std.specs.Prelude.{◌≡◌, ℕ, is_none, length, IfSome}
+-- and leaves, and what an access keeps; and of every run, that the devices show one size of RAM.
+use Rattle.std.specs.Prelude.{◌≡◌, ℕ, List, is_none, length, IfSome}
 use Rattle.mb_port.specs.Routine.{Call, Fetch, Read, Write, ReadLine, WriteLine, Probe, Get, Put, ReadMmu, SetMmu}
 use Rattle.mb_port.specs.Routine.{FlushKept, Test, ResetDevices}
 use Rattle.mb_port.specs.declared.types.Fault.{Fault}
@@ -11,6 +11,7 @@ use Rattle.mb_machine.specs.declared.reference.Reference.{Reference}
 use Rattle.mb_machine.specs.World.{World, HasBytes}
 use Rattle.mb_machine.specs.Access.{translated}
 use Rattle.mb_machine.specs.Bus.{fetching, reading, writing, reference_of, fault_of, bus_of}
+use Rattle.mb_machine.specs.Machine.{Entries, Machine, reset_with, run_of}
 
 abbrev pub BytesStay : Type 0
 BytesStay = (rule : Rule) (c : Call) (w : World) → HasBytes w → HasBytes (bus_of rule c w).1
@@ -74,3 +75,16 @@ IsWhole other = Unit {0}
 abbrev pub SizesStay : Type 0
 SizesStay = (rule : Rule) (c : Call) (w : World) → HasBytes w → IsWhole c
     → length (bus_of rule c w).1.ram ≡ length w.ram
+
+-- The devices of a machine that is reset show its size,
+abbrev pub ResetsShowTheSize : Type 0
+ResetsShowTheSize = (rule : Rule) (size : ℕ) (ram : List ℕ) → (reset_with rule size ram).world.devices.ram ≡ size
+
+-- and no call changes the size that they show,
+abbrev pub CallsLeaveTheSize : Type 0
+CallsLeaveTheSize = (rule : Rule) (c : Call) (w : World) → (bus_of rule c w).1.devices.ram ≡ w.devices.ram
+
+-- nor does a run, whatever arrives.
+abbrev pub RunsLeaveTheSize : Type 0
+RunsLeaveTheSize = (rule : Rule) (script : Entries) (steps : ℕ) (m : Machine)
+    → (run_of rule script steps m).world.devices.ram ≡ m.world.devices.ram

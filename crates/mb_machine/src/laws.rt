@@ -1,8 +1,9 @@
-//! Laws of the bus.
+//! Laws of the bus and of runs.
 
 ghost use Rattle.mb_machine.specs.Laws.{BytesStay, SizesStay, FaultsTell, TranslationsStayBeside};
 ghost use Rattle.mb_machine.specs.Enters.{EntersStacked};
 ghost use Rattle.mb_machine.specs.Laws.{CallsStandBeneath, PlacesStandBeneath};
+ghost use Rattle.mb_machine.specs.Laws.{ResetsShowTheSize, CallsLeaveTheSize, RunsLeaveTheSize};
 
 /// Whatever is called, a memory of bytes stays one, by every rule of keeping.
 pub fn memory_stays_bytes()
@@ -31,4 +32,11 @@ pub fn refused_accesses()
 /// goes on at the long that its vector names.
 pub fn entries_are_stacked()
     ensures { EntersStacked }
+{}
+
+/// The devices show the size with which the machine was reset, after whatever calls and steps, and whatever arrives.
+pub fn devices_show_one_size()
+    ensures reset { ResetsShowTheSize }
+    ensures calls { CallsLeaveTheSize }
+    ensures runs { RunsLeaveTheSize }
 {}

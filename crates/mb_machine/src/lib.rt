@@ -3,7 +3,7 @@
 //!
 //! Whatever the program prints is said of [`specs/Machine`]; the board above carries it out. `specs/Access` has where
 //! a reference to memory leads, one stage a definition, and `specs/Bus` the calls of the bus. The code has the words
-//! for a reference, and the laws of the bus.
+//! for a reference, and the laws of the bus and of runs.
 #![tactic(auto)]
 
 mod laws;
@@ -11,8 +11,8 @@ mod reference;
 mod settling;
 
 pub use laws::{
-    accesses_stand_beneath, entries_are_stacked, memory_keeps_its_size, memory_stays_bytes,
-    refused_accesses,
+    accesses_stand_beneath, devices_show_one_size, entries_are_stacked, memory_keeps_its_size,
+    memory_stays_bytes, refused_accesses,
 };
 pub use reference::{Reference, Settled};
 pub use settling::{admits, by_entry, marks, root, through, untranslated};

@@ -68,7 +68,8 @@ impl Reference {
         }
     }
 
-    /// The fault where it, to so many bytes, is refused: by its translation, or, with ATC clear, since nothing stands at its place.
+    /// The fault where it, to so many bytes, is refused: by its translation, or, with ATC clear, since nothing stands
+    /// at its place.
     pub fn refused(self, len: u8, atc: bool) -> Fault
         ensures { result ≡ fault_of self len atc }
     {
