@@ -12,7 +12,7 @@ use Rattle.vm_machine.proofs.TurnLaws.{nothing_turned}
 use Rattle.vm_machine.proofs.Seated.{Alone, alone, turned_alone, turned_add}
 
 -- a guest that did not take the turn, on the board after it
-other_alone : (i n : ℕ) (s u : Stage) → AllSeated s → TakesTurn i n s u → (j : ℕ) → j < s.count → j ≢ i → Alone (s.guests j) s.ram u.ram
+pub other_alone : (i n : ℕ) (s u : Stage) → AllSeated s → TakesTurn i n s u → (j : ℕ) → j < s.count → j ≢ i → Alone (s.guests j) s.ram u.ram
 other_alone i n s u all t j less ne =
     alone (s.guests i) (s.guests j) s.ram u.ram t.turn.within (all.apart i j t.number less (λ e. ne (sym e))) (all.seated i t.number).behind (all.seated j less)
 
@@ -48,7 +48,7 @@ still_seated i n s u all t j less = elim (cases_eq j i) [
   | inr ne ↦ subst (λ (g : Seat). IsSeated g u.ram) (sym (t.others j ne)) (other_alone i n s u all t j less ne).seated
 ]
 
-all_seated : (i n : ℕ) (s u : Stage) → AllSeated s → TakesTurn i n s u → AllSeated u
+pub all_seated : (i n : ℕ) (s u : Stage) → AllSeated s → TakesTurn i n s u → AllSeated u
 all_seated i n s u all t = record {
   seated = λ j h. still_seated i n s u all t j (rw t.count at h);
   apart = λ a b h k ne. still_apart (s.guests a) (s.guests b) (u.guests a) (u.guests b) (same_span i n s u t a) (same_span i n s u t b)

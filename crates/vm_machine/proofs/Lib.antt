@@ -7,5 +7,6 @@ pub mod Seated
 pub mod Independent
 pub mod Counters
 pub mod Rounds
+pub mod Hosts
 pub mod Rests
 pub mod Exits

@@ -63,6 +63,7 @@ after_test None space page kept shadow = dropped_all (Page space page) (list_of 
 
 -- ---- Put: the shadow gains the entry of an access
 
+-- one of them, and not the other
 abbrev pub differ : Bool → Bool → Bool
 differ true b = not b
 differ false b = b

@@ -43,6 +43,7 @@ may c g = allows_call c g.shadow
 
 -- ---- what a shadow says
 
+-- a reference by its side, space and address, and whether it writes
 abbrev pub ref : Bool → Space → ℕ → Bool → Reference
 ref code space at write = record { code = code; space = space; at = at; write = write }
 

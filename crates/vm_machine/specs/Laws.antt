@@ -109,7 +109,7 @@ TrailsAppend = (t : ℕ) (marks more : List Plain) → trail t (marks ++ more) �
 
 -- ---- a guest on a board
 
--- A seated guest takes no step at once.
+-- A guest that stays as it is has taken a turn of no steps.
 abbrev pub NothingIsTaken : Type 0
 NothingIsTaken = (s : Scene) → IsSeated s.guest s.ram → Takes 0 s s
 

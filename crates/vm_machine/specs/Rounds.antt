@@ -53,6 +53,7 @@ marks_after slice (m ∷ members) = (turn_in slice m).marks ++ marks_after slice
 abbrev pub round : ℕ → Hosted → Hosted
 round slice h = record { members = members_after slice h.members; marks = h.marks ++ marks_after slice h.members }
 
+-- all guests are
 abbrev pub all_done : List Member → Bool
 all_done [] = true
 all_done (m ∷ members) = is_done m && all_done members

@@ -19,6 +19,7 @@ use Rattle.vm_machine.specs.Classes.{class_of}
 
 -- ---- the machine with its shadow
 
+-- a guest between steps: its machine, and its shadow
 pub record Guested : Type 0 where
   pub machine : Machine
   pub shadow : Shadowed
@@ -65,6 +66,7 @@ pub record Tally : Type 0 where
   -- retired ones that the board began again after a fill
   pub refilled : ℕ
 
+-- before any step
 abbrev pub no_steps : Tally
 no_steps = record {
   retired = 0;

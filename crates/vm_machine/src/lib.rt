@@ -3,8 +3,8 @@
 //!
 //! Stands above `vm_shadow` and `vm_meaning`. [`specs/Guests`] and [`specs/Bus`] have a guest's world and its bus: what
 //! each call answers, and what it makes of the shadow. [`specs/Held`] has the same bus where the shadow is a bound.
-//! [`specs/Classes`] and [`specs/Turns`] say why a step is carried out as it is, and count. [`specs/Seats`],
-//! [`specs/Stages`] and [`specs/Rounds`] have a guest on a board, many guests, and their rounds. [`specs/Rests`] and
+//! [`specs/Classes`] and [`specs/Turns`] say why a step is carried out as it is, and count. [`specs/Seats`] has a guest
+//! on a board, [`specs/Stages`] many guests, [`specs/Rounds`] and [`specs/Hosts`] their rounds. [`specs/Rests`] and
 //! [`specs/Exits`] have the rest of a step that the board left. The code has the laws.
 #![tactic(auto)]
 
@@ -16,6 +16,7 @@ ghost use Rattle.vm_machine.specs.Laws.{HaltedTurnsStay, TurnsAdd, MarksStayBefo
 ghost use Rattle.vm_machine.specs.Laws.{CountsAreSteps, MarksAreOfRetired, MarksAppend, TrailsAppend};
 ghost use Rattle.vm_machine.specs.Laws.{NothingIsTaken, TakesAdd};
 ghost use Rattle.vm_machine.specs.Laws.{TurnsAreIndependent, PreparedGuestsRunAlone, CountersRiseByTurns, RoundsEnd};
+ghost use Rattle.vm_machine.specs.Hosts.{RoundsAreTurns};
 ghost use Rattle.vm_machine.specs.Rests.{TrapsAreFinished, DeniedWritesGoOn, DeniedLinesGoOn, DeniedTransfersGoOn};
 ghost use Rattle.vm_machine.specs.Exits.{ExitsTell};
 
@@ -67,9 +68,10 @@ pub fn turns_are_independent()
     ensures counters { CountersRiseByTurns }
 {}
 
-/// Rounds of slices end, and give each guest its steps.
+/// Rounds of slices end, and give each guest its steps; and the turns of all guests on a board are a round.
 pub fn rounds_end()
-    ensures { RoundsEnd }
+    ensures end { RoundsEnd }
+    ensures turns { RoundsAreTurns }
 {}
 
 /// A step that was left in the middle goes on as its finish, over every bus.
