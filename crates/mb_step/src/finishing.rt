@@ -13,12 +13,9 @@ use mb_encode::encode;
 use mb_entry::{line_fields, movem_fields, read_fields, write_fields};
 use mb_instr::{Instr, Plain};
 use mb_meaning::Finish;
-use mb_model::Cpu;
+use mb_model::{Cpu, PAGE_SIZE};
 use mb_port::{Fault, Port};
 use mb_writes::{Ended, Movem, MovemFault, WriteFault};
-
-/// The bytes of a page.
-pub(crate) const PAGE_SIZE: u32 = 4096;
 
 /// After a refused fetch, read or locked check. The processor is as before the instruction.
 #[inline(never)]

@@ -4,12 +4,12 @@ ghost use Rattle.std.specs.Prelude.{◌≡◌, ◌≢◌};
 ghost use Rattle.mb_port.specs.Routine.{run};
 ghost use Rattle.mb_meaning.specs.Step.{is_due_by, untransferred_again_of, rte_of};
 
-use crate::finishing::{PAGE_SIZE, finish_unread};
+use crate::finishing::finish_unread;
 use crate::raising::{access_error, has_ct, is_due, refuse, trace_if, traces_all, with_ct};
 use mb_entry::{continues, movem_fields, return_held};
 use mb_frames::Access;
 use mb_meaning::Finish;
-use mb_model::Cpu;
+use mb_model::{Cpu, PAGE_SIZE};
 use mb_port::Port;
 use mb_writes::{Ended, MovemFault};
 

@@ -9,12 +9,11 @@ ghost use Rattle.mb_ea.specs.Addresses.{IsTarget, IsMemory, IsPlace};
 ghost use Rattle.mb_meaning.specs.SystemEnds.{system_carried_by};
 ghost use Rattle.mb_system.specs.Ends.{SystemEnds};
 ghost use Rattle.mb_meaning.specs.Spaces.{function_space, taken, out_of_register, into_register, is_store, moves_of};
-ghost use Rattle.mb_model.specs.Pages.{page_of};
 ghost use Rattle.mb_meaning.specs.Spaces.{flushed_by, pflush_of, ptest_of};
 
 use mb_ea::{Target, read_value, resolve};
 use mb_instr::{Ea, FlushKind, Plain, Size};
-use mb_model::Cpu;
+use mb_model::{Cpu, page_of};
 use mb_operands::{finish_with, named_register, place, with_low};
 use mb_port::{Flush, MmuReg, Port, Space};
 use mb_writes::Ended;
@@ -149,15 +148,6 @@ pub(crate) fn move_by_function_code<P: Port>(
     } else {
         move_in(size, target, register, &mut plain, cpu, port)
     }
-}
-
-/// The page of 4 KiB that has an address.
-#[inline(always)]
-fn page_of(address: u32) -> u32
-    ensures value { result ≡ page_of address }
-    ensures range { result < 2 ^ 20 }
-{
-    address >> 12
 }
 
 /// What PFLUSH drops.

@@ -6,6 +6,7 @@ use Rattle.mb_port.specs.Pieces.{IsPiece}
 use Rattle.mb_port.specs.declared.types.Space.{Space}
 use Rattle.mb_port.specs.declared.types.Piece.{Piece}
 use Rattle.mb_port.specs.declared.types.Fault.{Fault}
+use Rattle.mb_model.specs.Pages.{offset_of}
 use Rattle.mb_laws.specs.Refusal.{Refuses}
 use Rattle.mb_laws.specs.Probing.{OpensProbed}
 
@@ -45,7 +46,7 @@ IsReading ResetDevices = ⊥
 
 -- no byte of one has the offset in its page of a byte of the other: they are apart wherever their pages lead
 abbrev pub Apart : Piece → Piece → Type 0
-Apart p q = (p.at % 4096 + p.len ≤ q.at % 4096) ⊎ (q.at % 4096 + q.len ≤ p.at % 4096)
+Apart p q = (offset_of p.at + p.len ≤ offset_of q.at) ⊎ (offset_of q.at + q.len ≤ offset_of p.at)
 
 -- The call is lawful in a state that serves, and is not refused.
 abbrev pub Goes : {S : Type 0} → Guarded S → Call → S → Type 0
