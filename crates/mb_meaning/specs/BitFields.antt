@@ -10,8 +10,7 @@ use Rattle.mb_instr.specs.declared.kinds.FieldKind.{FieldKind}
 use Rattle.mb_instr.specs.declared.kinds.FieldKind.TheVariants as field
 use Rattle.mb_instr.specs.declared.registers.Plain.{Plain}
 use Rattle.mb_instr.specs.Registers.{data_register, with_data_register}
-use Rattle.mb_alu.specs.declared.bitwise.LogicKind.TheVariants.{Pass}
-use Rattle.mb_alu.specs.Logic.{logic_of}
+use Rattle.mb_alu.specs.Conditions.{conditions_of, ccr_of, is_set}
 use Rattle.mb_fields.specs.Fields.{field_of, with_field, first_of}
 use Rattle.mb_ea.specs.Addresses.{sum}
 use Rattle.mb_ea.specs.Reading.{read_of}
@@ -54,9 +53,15 @@ field_after field.Set width old value = 2 ^ width - 1
 field_after field.Insert width old value = value % 2 ^ width
 field_after _ width old value = old
 
--- N and Z by a field of that width, V and C are cleared, X stays
+-- N is the top bit of a field of that width, Z says that the field is 0, V and C are cleared, X stays
 abbrev pub field_flags : ℕ → ℕ → ℕ → ℕ
-field_flags width value ccr = (logic_of Pass Long (value * 2 ^ (32 - width)) 0 ccr).ccr
+field_flags width value ccr = ccr_of (record {
+  x = (conditions_of ccr).x;
+  n = is_set value (width - 1);
+  z = value == 0;
+  v = false;
+  c = false;
+})
 
 -- the field whose flags are set: the inserted one for BFINS, else the old one
 abbrev pub field_seen : FieldKind → ℕ → ℕ → ℕ → ℕ

@@ -1,15 +1,11 @@
 -- Numbers of a field's width.
 use Rattle.std.proofs.Common.{◌≡◌, ℕ, zero, suc, ◌-◌, ◌*◌, ◌%◌, ◌^◌, ◌<◌, ◌≤◌, refl, ap, ◌∙◌, subst, arith}
 use Rattle.std.specs.Prelude.{bit_and}
-use Rattle.std.proofs.lemmas.Nat.{and_mask, shl_whole}
+use Rattle.std.proofs.lemmas.Nat.{and_mask}
 
 -- the low bits of a number, by a mask
 pub masked : (v m k : ℕ) → m ≡ 2 ^ k - 1 → bit_and v m ≡ v % 2 ^ k
 masked v m k e = ap (bit_and v) e ∙ and_mask v k
-
--- a field at the top of a long
-pub at_the_top : (v k : ℕ) → k ≤ 32 → v < 2 ^ k → v * 2 ^ (32 - k) % 2 ^ 32 ≡ v * 2 ^ (32 - k)
-at_the_top v k h less = shl_whole v k (32 - k) 32 less (omega arith)
 
 -- the bits of one to five bytes
 pub bits_of_bytes : (n : ℕ) → n ≤ 5 → 256 ^ n ≡ 2 ^ (8 * n)

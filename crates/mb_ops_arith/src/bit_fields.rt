@@ -9,7 +9,7 @@ ghost use Rattle.mb_meaning.specs.BitFields.{field_in_register, field_in_memory,
 ghost use Rattle.mb_meaning.specs.BitFields.{field_row_of};
 ghost use Rattle.mb_operands.specs.Endings.{carried_in_place};
 
-use mb_alu::{LogicKind, logic};
+use mb_alu::Conditions;
 use mb_ea::read_operand;
 use mb_fields::{field_first, field_get, field_put};
 use mb_instr::{Ea, FieldKind, Plain, Size};
@@ -138,16 +138,22 @@ fn field_seen(kind: FieldKind, width: u8, old: u32, value: u32) -> u32
     }
 }
 
-/// N and Z by a field, V and C clear, X as it was.
+/// N is a field's top bit, Z says that the field is 0, V and C are clear, X as it was.
 #[inline(always)]
-#[tactic(auto, using(crate::proofs::FieldNumbers::at_the_top))]
 fn field_flags(width: u8, value: u32, ccr: u8) -> u8
     requires some { 1 ≤ width }
     requires width { width ≤ 32 }
     requires value { value < 2 ^ width }
     ensures { result ≡ field_flags width value ccr }
 {
-    logic(LogicKind::Pass, Size::Long, value << (32 - width), 0, ccr).ccr
+    let codes = Conditions {
+        x: Conditions::of(ccr).x,
+        n: value >> (width - 1) & 1 == 1,
+        z: value == 0,
+        v: false,
+        c: false,
+    };
+    codes.ccr()
 }
 
 /// The field with its sign.
