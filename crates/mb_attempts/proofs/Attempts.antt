@@ -1,31 +1,30 @@
 -- A step is its attempt, and the finish of the end that the attempt came to.
-use Rattle.std.proofs.Common.{◌≡◌, ◌∙◌, ◌≤◌, ℕ, ◌||◌, ◌&&◌, Bool, true, false, nat_lt, not, Ok, Err, refl, ap, sym, subst, arith}
+use Rattle.std.proofs.Common.{◌≡◌, ◌∙◌, ◌≤◌, ℕ, Bool, true, false, nat_lt, not, Ok, Err, refl, ap, subst, arith}
 use Rattle.std.proofs.lemmas.Bool.Decides.{nat_tests}
 use Rattle.mb_port.specs.Routine.{Bus, Routine, Return, run, either, choose}
 use Rattle.mb_port.specs.declared.types.Space.{Space}
 use Rattle.mb_instr.specs.declared.instruction.Instr.{Instr}
 use Rattle.mb_instr.specs.declared.instruction.Instr.TheVariants as instr
-use Rattle.mb_instr.specs.declared.instruction.Flow.TheVariants as flow
 use Rattle.mb_instr.specs.declared.instruction.System.{System}
 use Rattle.mb_instr.specs.declared.registers.Plain.{Plain}
 use Rattle.mb_instr.specs.Registers.{is_supervisor, plain_of}
 use Rattle.mb_model.specs.declared.processor.Cpu.{Cpu}
 use Rattle.mb_model.specs.Status.{space_of}
 use Rattle.mb_meaning.specs.declared.Finish.TheVariants as finish
-use Rattle.mb_meaning.specs.Ends.{Carried, Stopped, Performed, closed, stopped}
+use Rattle.mb_meaning.specs.Ends.{Carried, Stopped, Performed}
 use Rattle.mb_meaning.specs.SystemEnds.{with_registers}
-use Rattle.mb_meaning.specs.Rows.{perform_of}
-use Rattle.mb_meaning.specs.Attempt.{Unfound, NoInstruction, Unfetched, end_without, Found, fetched_of, past, attempt_of}
-use Rattle.mb_meaning.specs.Raise.{Stepped, traces_flow, is_due, tracing_of, interrupt_of, refused_of}
+use Rattle.mb_meaning.specs.Rows.{row_of, perform_of}
+use Rattle.mb_meaning.specs.Attempt.{Unfound, NoInstruction, Unfetched, found_none, Found, fetched_of, past, attempt_of}
+use Rattle.mb_meaning.specs.Raise.{is_due, tracing_of, interrupt_of, refused_of}
 use Rattle.mb_meaning.specs.Step.{finish_of, supervised_of, unprivileged_of, executed_of, unfound_of, instruction_of, interrupt_mask, step_of}
-use Rattle.mb_attempts.specs.Attempts.{AttemptsPerform, AttemptsFindNone, is_attempted, NoOther, attempted_by, finished_by, AttemptThenFinish, IsUntraced, UntracedStepsGo}
+use Rattle.mb_attempts.specs.Attempts.{AttemptsPerform, AttemptsFindNone, is_attempted, NoOther, finished_by, AttemptThenFinish, IsUntraced, UntracedStepsGo}
 
 -- ---- an attempt
 
 -- what an attempt does with an answer of the fetch
 abbrev carrying : {S : Type 0} → Bus S → Space → Plain → Found × S → Performed × S
 carrying bus space p r =
-    run bus (either r.0 (λ unfound. Return (stopped (end_without unfound) p)) (λ found. perform_of found.0 p.pc space (past found.1 p))) r.1
+    run bus (either r.0 (λ unfound. Return (found_none unfound p)) (λ found. perform_of found.0 p.pc space (past found.1 p))) r.1
 
 pub attempts_perform : {S : Type 0} → AttemptsPerform S
 unfolding attempt_of
@@ -53,7 +52,7 @@ in_user_mode bus cpu t i n true h = absurd (cc h)
 executed : {S : Type 0} (bus : Bus S) (i : Instr) (n : ℕ) (cpu : Cpu) (t : S) → is_attempted i cpu ≡ true
     → run bus (executed_of i n cpu) t
     ≡ finished_by bus i cpu (run bus (perform_of i (plain_of cpu.regs).pc (space_of cpu) (past n (plain_of cpu.regs))) t)
-unfolding executed_of unprivileged_of perform_of finish_of
+unfolding executed_of unprivileged_of perform_of row_of finish_of
 executed bus (instr.Move i) n cpu t k = refl
 executed bus (instr.Arith i) n cpu t k = refl
 executed bus (instr.Flow i) n cpu t k = refl
@@ -61,7 +60,7 @@ executed bus (instr.System i) n cpu t k = in_user_mode bus cpu t i n (is_supervi
 
 -- where none was found, the end without one is finished, as any instruction's
 none_found : {S : Type 0} (bus : Bus S) (i : Instr) (unfound : Unfound) (cpu : Cpu) (p : Plain) (t : S)
-    → run bus (unfound_of unfound cpu) t ≡ finished_by bus i cpu (stopped (end_without unfound) p, t)
+    → run bus (unfound_of unfound cpu) t ≡ finished_by bus i cpu (found_none unfound p, t)
 unfolding unfound_of finish_of
 none_found bus i (NoInstruction vector) cpu p t = refl
 none_found bus i (Unfetched refused) cpu p t = refl
@@ -106,7 +105,7 @@ goes_on : {S : Type 0} (bus : Bus S) (cpu : Cpu) (done : Carried) (t : S) (r : F
     → carrying bus (space_of cpu) (plain_of cpu.regs) r ≡ (Ok done, t)
     → run bus (either r.0 (λ unfound. unfound_of unfound cpu) (λ found. executed_of found.0 found.1 cpu)) r.1
     ≡ ((finish.Went, with_registers done.plain cpu), t)
-unfolding perform_of
+unfolding perform_of row_of
 goes_on bus cpu done t (Ok (instr.Move i, n), u) untraced e =
     executed bus (instr.Move i) n cpu u refl ∙ finished_done bus (instr.Move i) cpu _ t done untraced e
 goes_on bus cpu done t (Ok (instr.Arith i, n), u) untraced e =

@@ -9,10 +9,10 @@ use Rattle.mb_instr.specs.Registers.{is_supervisor, plain_of}
 use Rattle.mb_model.specs.declared.processor.Cpu.{Cpu}
 use Rattle.mb_model.specs.Status.{space_of}
 use Rattle.mb_meaning.specs.declared.Finish.TheVariants as finish
-use Rattle.mb_meaning.specs.Ends.{Carried, Performed, stopped, closed}
+use Rattle.mb_meaning.specs.Ends.{Carried, Performed, closed}
 use Rattle.mb_meaning.specs.SystemEnds.{with_registers}
 use Rattle.mb_meaning.specs.Rows.{perform_of}
-use Rattle.mb_meaning.specs.Attempt.{Unfound, end_without, Found, fetched_of, past, attempt_of}
+use Rattle.mb_meaning.specs.Attempt.{Unfound, found_none, Found, fetched_of, past, attempt_of}
 use Rattle.mb_meaning.specs.Raise.{Stepped, traces_all, traces_flow}
 use Rattle.mb_meaning.specs.Step.{finish_of, interrupt_mask, step_of}
 
@@ -28,7 +28,7 @@ AttemptsPerform S = (bus : Bus S) (space : Space) (p : Plain) (s t : S) (i : Ins
 abbrev pub AttemptsFindNone : Type 0 → Type 0
 AttemptsFindNone S = (bus : Bus S) (space : Space) (p : Plain) (s t : S) (unfound : Unfound)
     → run bus (fetched_of space p.pc) s ≡ (Err unfound, t)
-    → run bus (attempt_of space p) s ≡ (stopped (end_without unfound) p, t)
+    → run bus (attempt_of space p) s ≡ (found_none unfound p, t)
 
 -- ---- a step
 

@@ -11,7 +11,7 @@ use Rattle.mb_ea.specs.Reading.{refused_in}
 use Rattle.mb_ea.specs.declared.reading.ReadFault.{ReadFault}
 use Rattle.mb_writes.specs.declared.ends.Ended.{Ended}
 use Rattle.mb_writes.specs.declared.ends.Ended.TheVariants as ended
-use Rattle.mb_meaning.specs.Ends.{Performed, stopped}
+use Rattle.mb_meaning.specs.Ends.{Performed}
 use Rattle.mb_meaning.specs.Rows.{perform_of}
 
 -- why no instruction was found: none stands there, which has this vector, or the fetch of a word was refused
@@ -36,6 +36,10 @@ line_f = NoInstruction 11
 abbrev pub end_without : Unfound → Ended
 end_without (NoInstruction vector) = ended.Refused vector
 end_without (Unfetched refused) = ended.ReadFault refused
+
+-- what an attempt without an instruction answers: nothing was done
+abbrev pub found_none : Unfound → Plain → Performed
+found_none unfound p = Err (record { ended = end_without unfound; plain = p })
 
 -- an instruction and how many words it has, or why there is none
 abbrev pub Found : Type 0
@@ -72,7 +76,7 @@ past n p = record p { pc = (p.pc + 2 * n) % 2 ^ 32 }
 -- what of a fetched instruction is done, as an instruction's own routine answers it
 abbrev pub attempted : Space → Plain → Routine Found → Routine Performed
 attempted space p found =
-    caught found (λ unfound. Return (stopped (end_without unfound) p))
+    caught found (λ unfound. Return (found_none unfound p))
     (λ found. perform_of found.0 p.pc space (past found.1 p))
 
 -- The attempt: an instruction is fetched at PC, decoded and carried out, all accesses in this space. A privileged one

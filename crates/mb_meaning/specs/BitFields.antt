@@ -15,7 +15,7 @@ use Rattle.mb_fields.specs.Fields.{field_of, with_field, first_of}
 use Rattle.mb_ea.specs.Addresses.{sum}
 use Rattle.mb_ea.specs.Reading.{read_of}
 use Rattle.mb_writes.specs.Writing.{put_of}
-use Rattle.mb_meaning.specs.Ends.{Performed, carried, reading, writing}
+use Rattle.mb_meaning.specs.Ends.{Rowed, carried, reading, writing}
 use Rattle.mb_meaning.specs.Operands.{address_of}
 
 -- the data register in bits 14 to 12
@@ -110,13 +110,13 @@ abbrev pub bytes_held : ℕ → ℕ → ℕ
 bytes_held offset width = (offset % 8 + width + 7) / 8
 
 -- exactly the bytes that hold the field are read and, where the row changes it, written
-unfoldable pub field_in_memory : FieldKind → ℕ → ℕ → Space → Plain → Routine Performed
+unfoldable pub field_in_memory : FieldKind → ℕ → ℕ → Space → Plain → Routine Rowed
 field_in_memory kind word address space p =
     let offset = offset_of word p in
     let width = width_of word p in
     let first = sum address (bytes_before offset) in
     let held = bytes_held offset width in do
-      bytes ← reading p (read_of space first held)
+      bytes ← reading (read_of space first held)
       let old = field_of bytes (8 * held) (offset % 8) width
       let new = field_after kind width old (data_register p (named_by word))
       let changed = with_field bytes (8 * held) (offset % 8) width new
@@ -126,8 +126,8 @@ field_in_memory kind word address space p =
           (Return (carried done))
 
 -- BFTST, BFEXTU, BFCHG, BFEXTS, BFCLR, BFFFO, BFSET and BFINS
-unfoldable pub field_row_of : FieldKind → Ea → ℕ → ℕ → Space → Plain → Routine Performed
+unfoldable pub field_row_of : FieldKind → Ea → ℕ → ℕ → Space → Plain → Routine Rowed
 field_row_of kind (Dn n) word word_at space p = Return (carried (field_in_register kind word n p))
 field_row_of kind ea word word_at space p = do
-  address ← reading p (address_of Long ea word_at space p)
+  address ← reading (address_of Long ea word_at space p)
   field_in_memory kind word address space p

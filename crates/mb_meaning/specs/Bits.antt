@@ -12,7 +12,7 @@ use Rattle.mb_instr.specs.declared.registers.Plain.{Plain}
 use Rattle.mb_instr.specs.Sizes.{bits_of}
 use Rattle.mb_alu.specs.declared.conditions.Flagged.{Flagged}
 use Rattle.mb_alu.specs.Conditions.{bit, is_set, conditions_of, ccr_of}
-use Rattle.mb_meaning.specs.Ends.{Performed, carried, reading}
+use Rattle.mb_meaning.specs.Ends.{Rowed, carried, reading}
 use Rattle.mb_meaning.specs.Operands.{operand_of}
 use Rattle.mb_meaning.specs.Modifying.{modifying}
 
@@ -42,9 +42,9 @@ bit_changed kind number size value ccr =
     }
 
 -- BTST only reads its operand; the others write it back
-unfoldable pub bit_row_of : BitKind → ℕ → Ea → ℕ → Space → Plain → Routine Performed
+unfoldable pub bit_row_of : BitKind → ℕ → Ea → ℕ → Space → Plain → Routine Rowed
 bit_row_of Test number ea word_at space p = do
-  operand ← reading p (operand_of (bit_size ea) ea word_at space p)
+  operand ← reading (operand_of (bit_size ea) ea word_at space p)
   let tested = bit_changed Test number (bit_size ea) operand.value operand.plain.ccr
   Return (carried (record operand.plain { ccr = tested.ccr }))
 bit_row_of kind number ea word_at space p =

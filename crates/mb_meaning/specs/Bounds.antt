@@ -14,7 +14,7 @@ use Rattle.mb_alu.specs.Signs.{signed_of}
 use Rattle.mb_ea.specs.declared.reading.ReadFault.{ReadFault}
 use Rattle.mb_ea.specs.Addresses.{sum, difference}
 use Rattle.mb_ea.specs.Reading.{read_of}
-use Rattle.mb_meaning.specs.Ends.{Performed, carried, stopped, reading}
+use Rattle.mb_meaning.specs.Ends.{Rowed, carried, stopped, reading}
 use Rattle.mb_meaning.specs.Operands.{operand_of, address_of, named_register}
 use Rattle.mb_meaning.specs.Traps.{out_of_bounds}
 
@@ -29,16 +29,16 @@ abbrev pub is_above : Size → ℕ → ℕ → Bool
 is_above size bound value = int_lt (signed_of size bound) (signed_of size value)
 
 -- a value below 0 or above the bound traps; then N says whether it is below 0, and the other condition codes stay
-unfoldable pub checked : Size → ℕ → ℕ → Plain → Performed
+unfoldable pub checked : Size → ℕ → ℕ → Plain → Rowed
 checked size bound value p =
     if is_below size value || is_above size bound value
     then stopped out_of_bounds (record p { ccr = ccr_of (record (conditions_of p.ccr) { n = is_below size value }) })
     else carried p
 
 -- CHK: the value is a data register's, and the operand is the bound
-unfoldable pub chk_of : ℕ → Size → Ea → ℕ → Space → Plain → Routine Performed
+unfoldable pub chk_of : ℕ → Size → Ea → ℕ → Space → Plain → Routine Rowed
 chk_of n size ea word_at space p = do
-  bound ← reading p (operand_of size ea word_at space p)
+  bound ← reading (operand_of size ea word_at space p)
   Return (checked size bound.value (data_register bound.plain n) bound.plain)
 
 -- ---- two bounds
@@ -78,17 +78,17 @@ bounds_of size ea w word_at space p = do
   Return (Ok (compared size lower upper (named_register w) p))
 
 -- CMP2
-unfoldable pub cmp2_of : Size → Ea → ℕ → ℕ → Space → Plain → Routine Performed
+unfoldable pub cmp2_of : Size → Ea → ℕ → ℕ → Space → Plain → Routine Rowed
 cmp2_of size ea w word_at space p = do
-  ccr ← reading p (bounds_of size ea w word_at space p)
+  ccr ← reading (bounds_of size ea w word_at space p)
   Return (carried (record p { ccr = ccr }))
 
 -- a value out of bounds, which C says, traps
-unfoldable pub checked_carry : Plain → Performed
+unfoldable pub checked_carry : Plain → Rowed
 checked_carry p = if (conditions_of p.ccr).c then stopped out_of_bounds p else carried p
 
 -- CHK2
-unfoldable pub chk2_of : Size → Ea → ℕ → ℕ → Space → Plain → Routine Performed
+unfoldable pub chk2_of : Size → Ea → ℕ → ℕ → Space → Plain → Routine Rowed
 chk2_of size ea w word_at space p = do
-  ccr ← reading p (bounds_of size ea w word_at space p)
+  ccr ← reading (bounds_of size ea w word_at space p)
   Return (checked_carry (record p { ccr = ccr }))

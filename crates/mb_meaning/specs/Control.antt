@@ -10,7 +10,7 @@ use Rattle.mb_instr.specs.declared.control.ControlRegister.{ControlRegister}
 use Rattle.mb_instr.specs.declared.control.ControlRegister.TheVariants as control
 use Rattle.mb_instr.specs.Control.{control_of, kept_bits}
 use Rattle.mb_meaning.specs.Operands.{named_register}
-use Rattle.mb_meaning.specs.SystemEnds.{SystemPerformed, with_registers, completing, ended_by}
+use Rattle.mb_meaning.specs.SystemEnds.{SystemRowed, with_registers, completing, ended_by}
 
 -- the control register that a word names in its other bits
 abbrev pub named_control : ℕ → Option ControlRegister
@@ -54,11 +54,11 @@ abbrev pub not_carried_out : Ended
 not_carried_out = ended.Refused 4
 
 -- A code that no control register has makes no instruction.
-abbrev pub moving_control : Option ControlRegister → Bool → ℕ → Cpu → Routine SystemPerformed
+abbrev pub moving_control : Option ControlRegister → Bool → ℕ → Cpu → Routine SystemRowed
 moving_control (Some register) to_control n cpu =
     completing (choose to_control (to_control_of register n cpu) (from_control_of register n cpu))
 moving_control None to_control n cpu = Return (ended_by not_carried_out cpu)
 
 -- MOVEC
-unfoldable pub movec_of : Bool → ℕ → Cpu → Routine SystemPerformed
+unfoldable pub movec_of : Bool → ℕ → Cpu → Routine SystemRowed
 movec_of to_control word cpu = moving_control (named_control word) to_control (named_register word) cpu

@@ -11,7 +11,7 @@ use Rattle.mb_instr.specs.Sizes.{low_of}
 use Rattle.mb_alu.specs.declared.conditions.Flagged.{Flagged}
 use Rattle.mb_fields.specs.Decimals.{nbcd_of}
 use Rattle.mb_ea.specs.Resolve.{resolve_of}
-use Rattle.mb_meaning.specs.Ends.{Performed, reading}
+use Rattle.mb_meaning.specs.Ends.{Rowed, reading}
 use Rattle.mb_meaning.specs.Operands.{operand_of, storing}
 
 -- NBCD: 0 less the digits of the byte and X
@@ -24,17 +24,17 @@ paired false n = Dn n
 paired true n = Pre n
 
 -- ABCD and SBCD: the source's byte is read first, then the destination's, where the result goes
-unfoldable pub decimal_of : (ℕ → ℕ → ℕ → Flagged) → ℕ → Bool → ℕ → ℕ → Space → Plain → Routine Performed
+unfoldable pub decimal_of : (ℕ → ℕ → ℕ → Flagged) → ℕ → Bool → ℕ → ℕ → Space → Plain → Routine Rowed
 decimal_of operation x in_memory y word_at space p = do
-  source ← reading p (operand_of Byte (paired in_memory y) word_at space p)
-  destination ← reading p (operand_of Byte (paired in_memory x) word_at space source.plain)
+  source ← reading (operand_of Byte (paired in_memory y) word_at space p)
+  destination ← reading (operand_of Byte (paired in_memory x) word_at space source.plain)
   let result = operation source.value destination.value destination.plain.ccr
   storing destination.target Byte result.value space (record destination.plain { ccr = result.ccr })
 
 -- PACK, from a word to a byte, and UNPK, from a byte to a word: the source is read, and its digits with the adjustment
 -- go to the destination, which is not read. No condition code changes.
-unfoldable pub digits_of : (ℕ → ℕ → ℕ) → Size → Size → ℕ → Bool → ℕ → ℕ → ℕ → Space → Plain → Routine Performed
+unfoldable pub digits_of : (ℕ → ℕ → ℕ) → Size → Size → ℕ → Bool → ℕ → ℕ → ℕ → Space → Plain → Routine Rowed
 digits_of operation from to x in_memory y adjust word_at space p = do
-  source ← reading p (operand_of from (paired in_memory y) word_at space p)
-  destination ← reading p (resolve_of (paired in_memory x) to word_at space source.plain)
+  source ← reading (operand_of from (paired in_memory y) word_at space p)
+  destination ← reading (resolve_of (paired in_memory x) to word_at space source.plain)
   storing destination.target to (operation source.value adjust) space destination.plain

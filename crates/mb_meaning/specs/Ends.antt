@@ -21,28 +21,54 @@ pub record Stopped : Type 0 where
 abbrev pub Performed : Type 0
 Performed = Result Carried Stopped
 
+-- ---- rows
+
+-- What cuts a row short: a part that reads was refused, or the row ends otherwise, and says how.
+pub data Cut (A : Type 0) : Type 0 where
+  Unread : ReadFault → Cut A
+  Stop : A → Cut A
+
+-- What the routine of a row answers.
+abbrev pub Rowed : Type 0
+Rowed = Result Carried (Cut Stopped)
+
+-- how an instruction ends that began with these registers, and whose row was cut short so
+abbrev pub restored : Plain → Cut Stopped → Stopped
+restored before (Unread refused) = record { ended = ended.ReadFault refused; plain = before }
+restored before (Stop stop) = stop
+
+-- A row as the instruction that began with these registers: a part which reads and is refused leaves them.
+abbrev pub restoring : Plain → Routine Rowed → Routine Performed
+restoring before m = failing (restored before) m
+
+-- carried out, and whether the flow of control changed
+abbrev pub went : Bool → Plain → Rowed
+went flow p = Ok (record { flow = flow; plain = p })
+
 -- carried out, and the next instruction follows
-abbrev pub carried : Plain → Performed
-carried p = Ok (record { flow = false; plain = p })
+abbrev pub carried : Plain → Rowed
+carried p = went false p
 
 -- carried out, and the flow of control changed
-abbrev pub jumped : Plain → Performed
-jumped p = Ok (record { flow = true; plain = p })
+abbrev pub jumped : Plain → Rowed
+jumped p = went true p
 
-abbrev pub stopped : Ended → Plain → Performed
-stopped ended p = Err (record { ended = ended; plain = p })
+abbrev pub stopped : Ended → Plain → Rowed
+stopped ended p = Err (Stop (record { ended = ended; plain = p }))
+
+-- a part that reads, whose fault cuts the row short and says nothing of the registers
+abbrev pub reading : {A B : Type 0} → Routine (Result A ReadFault) → Routine (Result A (Cut B))
+reading m = failing (λ refused. Unread refused) m
 
 -- a part whose fault ends the instruction so, with these registers
-abbrev pub ending : {A E : Type 0} → (E → Ended) → Plain → Routine (Result A E) → Routine (Result A Stopped)
-ending how p m = failing (λ fault. record { ended = how fault; plain = p }) m
-
--- a read: its fault leaves the registers as they were before the instruction
-abbrev pub reading : {A : Type 0} → Plain → Routine (Result A ReadFault) → Routine (Result A Stopped)
-reading before m = ending (λ refused. ended.ReadFault refused) before m
+abbrev pub ending : {A E : Type 0} → (E → Ended) → Plain → Routine (Result A E) → Routine (Result A (Cut Stopped))
+ending how p m = failing (λ fault. Stop (record { ended = how fault; plain = p })) m
 
 -- a write: its fault leaves the registers as they are after the instruction
-abbrev pub writing : {A : Type 0} → Plain → Routine (Result A WriteFault) → Routine (Result A Stopped)
+abbrev pub writing : {A : Type 0} → Plain → Routine (Result A WriteFault) → Routine (Result A (Cut Stopped))
 writing after m = ending (λ refused. ended.WriteFault refused) after m
+
+-- ---- instructions
 
 -- an end and the registers then
 abbrev pub End : Type 0
@@ -54,13 +80,3 @@ closed (Err stop) = (stop.ended, stop.plain)
 
 abbrev pub closing : Routine Performed → Routine End
 closing m = Then m (λ performed. Return (closed performed))
-
--- What a function answered, beside the registers that it left: whether the flow of control changed, or another end.
-abbrev pub performed_by : Result Bool Ended → Plain → Performed
-performed_by (Ok flow) p = Ok (record { flow = flow; plain = p })
-performed_by (Err ended) p = stopped ended p
-
--- the same of a function whose instruction never changes the flow
-abbrev pub carried_by : Result (Unit {0}) Ended → Plain → Performed
-carried_by (Ok done) p = carried p
-carried_by (Err ended) p = stopped ended p

@@ -9,16 +9,16 @@ use Rattle.mb_instr.specs.Registers.{address_register, with_address_register}
 use Rattle.mb_ea.specs.Addresses.{sum}
 use Rattle.mb_ea.specs.Reading.{refused_in}
 use Rattle.mb_writes.specs.declared.ends.Ended.TheVariants as ended
-use Rattle.mb_meaning.specs.Ends.{Performed, carried, ending, reading}
+use Rattle.mb_meaning.specs.Ends.{Rowed, carried, ending, reading}
 
 -- the line of 16 bytes that has an address: the address with its low four bits clear
 abbrev pub line_at : ℕ → ℕ
 line_at address = address / 2 ^ 4 * 2 ^ 4
 
--- a line is read, and then written; the registers after the instruction are given
-unfoldable pub line_moved : ℕ → ℕ → Plain → Space → Plain → Routine Performed
-line_moved from to after space p = do
-  line ← reading p (failing (refused_in (line_at from)) (read_line space (line_at from)))
+-- a line is read, and then written; the registers are those after the instruction
+unfoldable pub line_moved : ℕ → ℕ → Space → Plain → Routine Rowed
+line_moved from to space after = do
+  line ← reading (failing (refused_in (line_at from)) (read_line space (line_at from)))
   ending (λ fault. ended.LineFault fault line) after (write_line space (line_at to) line)
   Return (carried after)
 
@@ -27,11 +27,11 @@ abbrev pub past_line : ℕ → Plain → Plain
 past_line n p = with_address_register p n (sum (address_register p n) 16)
 
 -- MOVE16 between (An)+ or (An) and an absolute address
-unfoldable pub move16_absolute_of : LineMove → ℕ → ℕ → Space → Plain → Routine Performed
-move16_absolute_of line.PostToAbsolute n place space p = line_moved (address_register p n) place (past_line n p) space p
-move16_absolute_of line.AbsoluteToPost n place space p = line_moved place (address_register p n) (past_line n p) space p
-move16_absolute_of line.IndirectToAbsolute n place space p = line_moved (address_register p n) place p space p
-move16_absolute_of line.AbsoluteToIndirect n place space p = line_moved place (address_register p n) p space p
+unfoldable pub move16_absolute_of : LineMove → ℕ → ℕ → Space → Plain → Routine Rowed
+move16_absolute_of line.PostToAbsolute n place space p = line_moved (address_register p n) place space (past_line n p)
+move16_absolute_of line.AbsoluteToPost n place space p = line_moved place (address_register p n) space (past_line n p)
+move16_absolute_of line.IndirectToAbsolute n place space p = line_moved (address_register p n) place space p
+move16_absolute_of line.AbsoluteToIndirect n place space p = line_moved place (address_register p n) space p
 
 -- both registers step, but one that is both steps once
 abbrev pub past_lines : ℕ → ℕ → Plain → Plain
@@ -42,7 +42,7 @@ abbrev pub destination_in : ℕ → ℕ
 destination_in word = word / 2 ^ 12 % 8
 
 -- MOVE16 (Ax)+,(Ay)+
-unfoldable pub move16_of : ℕ → ℕ → Space → Plain → Routine Performed
+unfoldable pub move16_of : ℕ → ℕ → Space → Plain → Routine Rowed
 move16_of x word space p =
     let y = destination_in word in
-    line_moved (address_register p x) (address_register p y) (past_lines x y p) space p
+    line_moved (address_register p x) (address_register p y) space (past_lines x y p)

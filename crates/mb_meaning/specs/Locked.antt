@@ -22,7 +22,7 @@ use Rattle.mb_ea.specs.declared.reading.ReadFault.{ReadFault}
 use Rattle.mb_ea.specs.Reading.{refused_in}
 use Rattle.mb_ea.specs.Resolve.{resolve_of}
 use Rattle.mb_writes.specs.Writing.{part_of}
-use Rattle.mb_meaning.specs.Ends.{Performed, carried, reading}
+use Rattle.mb_meaning.specs.Ends.{Rowed, carried, reading}
 use Rattle.mb_meaning.specs.Operands.{with_low, place_of}
 use Rattle.mb_meaning.specs.Modifying.{modifying}
 
@@ -65,20 +65,20 @@ abbrev pub test_and_set : ℕ → ℕ → Flagged
 test_and_set value ccr = record { value = bit_or value (2 ^ 7); ccr = (logic_of Pass Byte value 0 ccr).ccr }
 
 -- a locked byte, which is always written
-unfoldable pub tas_in_memory : ℕ → Space → Plain → Plain → Routine Performed
-tas_in_memory address space before p = do
-  places ← reading before (probe_of space address 1)
+unfoldable pub tas_in_memory : ℕ → Space → Plain → Routine Rowed
+tas_in_memory address space p = do
+  places ← reading (probe_of space address 1)
   value ← sure (get_of places)
   let result = test_and_set value p.ccr
   sure (put_at places 1 result.value)
   Return (carried (record p { ccr = result.ccr }))
 
 -- TAS: a data register is no memory
-unfoldable pub tas_of : Ea → ℕ → Space → Plain → Routine Performed
+unfoldable pub tas_of : Ea → ℕ → Space → Plain → Routine Rowed
 tas_of (Dn n) word_at space p = modifying test_and_set Byte (Dn n) word_at space p
 tas_of ea word_at space p = do
-  to ← reading p (resolve_of ea Byte word_at space p)
-  tas_in_memory (place_of to.target) space p to.plain
+  to ← reading (resolve_of ea Byte word_at space p)
+  tas_in_memory (place_of to.target) space to.plain
 
 -- ---- CAS and CAS2
 
@@ -108,9 +108,9 @@ abbrev pub cas_equal : Size → ℕ → ℕ → Plain → Bool
 cas_equal size word value p = low_of size (data_register p (compared_by word)) == value
 
 -- Du goes to the places of an operand that is the same as Dc. Else Dc takes the operand, and nothing is written.
-unfoldable pub cas_at : Size → ℕ → ℕ → Space → Plain → Plain → Routine Performed
-cas_at size word address space before p = do
-  places ← reading before (probe_of space address (bytes_of size))
+unfoldable pub cas_at : Size → ℕ → ℕ → Space → Plain → Routine Rowed
+cas_at size word address space p = do
+  places ← reading (probe_of space address (bytes_of size))
   value ← sure (get_of places)
   let after = record p { ccr = cas_codes size word value p }
   choose (cas_equal size word value p)
@@ -118,10 +118,10 @@ cas_at size word address space before p = do
       (Return (carried (cas_loaded size word value after)))
 
 -- CAS
-unfoldable pub cas_of : Size → Ea → ℕ → ℕ → Space → Plain → Routine Performed
+unfoldable pub cas_of : Size → Ea → ℕ → ℕ → Space → Plain → Routine Rowed
 cas_of size ea word word_at space p = do
-  to ← reading p (resolve_of ea size word_at space p)
-  cas_at size word (place_of to.target) space p to.plain
+  to ← reading (resolve_of ea size word_at space p)
+  cas_at size word (place_of to.target) space to.plain
 
 -- both are the same as theirs; the codes are of the first that is not, else of operand 2
 abbrev pub cas2_equal : Size → ℕ → ℕ → ℕ → ℕ → Plain → Bool
@@ -133,10 +133,10 @@ cas2_codes size first second one two p =
 
 -- CAS2: both operands are checked, and then read. Where each is the same as its Dc, operand 1 is written first, and
 -- then operand 2. Else both are loaded; a register that is Dc of both takes operand 1.
-unfoldable pub cas2_of : Size → ℕ → ℕ → Space → Plain → Routine Performed
+unfoldable pub cas2_of : Size → ℕ → ℕ → Space → Plain → Routine Rowed
 cas2_of size first second space p = do
-  places ← reading p (probe_of space (register_of p (pointer_by first)) (bytes_of size))
-  others ← reading p (probe_of space (register_of p (pointer_by second)) (bytes_of size))
+  places ← reading (probe_of space (register_of p (pointer_by first)) (bytes_of size))
+  others ← reading (probe_of space (register_of p (pointer_by second)) (bytes_of size))
   one ← sure (get_of places)
   two ← sure (get_of others)
   let after = record p { ccr = cas2_codes size first second one two p }

@@ -23,7 +23,7 @@ use Rattle.mb_writes.specs.declared.transfers.MovemMode.TheVariants as mode
 use Rattle.mb_writes.specs.declared.ends.Ended.TheVariants as ended
 use Rattle.mb_writes.specs.Moving.{Halfway, transfer_of}
 use Rattle.mb_meaning.specs.Conditions.{is_met}
-use Rattle.mb_meaning.specs.Ends.{Performed, Stopped, carried, reading}
+use Rattle.mb_meaning.specs.Ends.{Rowed, Cut, Stop, Stopped, carried, reading}
 use Rattle.mb_meaning.specs.Operands.{behind, operand_of, address_of, storing}
 
 -- MOVEQ: the byte, sign-extended; N and Z by it, V and C are cleared, X stays
@@ -37,22 +37,22 @@ abbrev pub move_flags : Size → ℕ → Plain → Plain
 move_flags size value p = record p { ccr = (logic_of Pass size value 0 p.ccr).ccr }
 
 -- MOVE: the source is read before the destination's address is formed, and the pieces are written last
-unfoldable pub move_of : Size → Ea → Ea → ℕ → Space → Plain → Routine Performed
+unfoldable pub move_of : Size → Ea → Ea → ℕ → Space → Plain → Routine Rowed
 move_of size destination source word_at space p = do
-  from ← reading p (operand_of size source word_at space p)
-  to ← reading p (resolve_of destination size (behind size source word_at) space from.plain)
+  from ← reading (operand_of size source word_at space p)
+  to ← reading (resolve_of destination size (behind size source word_at) space from.plain)
   storing to.target size from.value space (move_flags size from.value to.plain)
 
 -- MOVEA: the source, read at its size, goes to the whole register with its sign; no condition code changes
-unfoldable pub movea_of : Size → ℕ → Ea → ℕ → Space → Plain → Routine Performed
+unfoldable pub movea_of : Size → ℕ → Ea → ℕ → Space → Plain → Routine Rowed
 movea_of size n source word_at space p = do
-  from ← reading p (operand_of size source word_at space p)
+  from ← reading (operand_of size source word_at space p)
   Return (carried (with_address_register from.plain n (sign_extended size from.value)))
 
 -- LEA: the address of an operand, which is not read
-unfoldable pub lea_of : ℕ → Ea → ℕ → Space → Plain → Routine Performed
+unfoldable pub lea_of : ℕ → Ea → ℕ → Space → Plain → Routine Rowed
 lea_of n ea word_at space p = do
-  place ← reading p (address_of Long ea word_at space p)
+  place ← reading (address_of Long ea word_at space p)
   Return (carried (with_address_register p n place))
 
 -- two of all sixteen registers with each other's values
@@ -72,15 +72,15 @@ swap_of n p =
     move_flags Long swapped (with_data_register p n swapped)
 
 -- MOVE to CCR: a word is read, and its low five bits are the condition codes
-unfoldable pub to_ccr_of : Ea → ℕ → Space → Plain → Routine Performed
+unfoldable pub to_ccr_of : Ea → ℕ → Space → Plain → Routine Rowed
 to_ccr_of ea word_at space p = do
-  operand ← reading p (operand_of Word ea word_at space p)
+  operand ← reading (operand_of Word ea word_at space p)
   Return (carried (record operand.plain { ccr = operand.value % 2 ^ 5 }))
 
 -- MOVE from CCR: a word with X, N, Z, V and C in bits 4 to 0; the destination is not read
-unfoldable pub from_ccr_of : Ea → ℕ → Space → Plain → Routine Performed
+unfoldable pub from_ccr_of : Ea → ℕ → Space → Plain → Routine Rowed
 from_ccr_of ea word_at space p = do
-  to ← reading p (resolve_of ea Word word_at space p)
+  to ← reading (resolve_of ea Word word_at space p)
   storing to.target Word (p.ccr % 2 ^ 5) space to.plain
 
 -- a byte of ones, or of zeros
@@ -88,9 +88,9 @@ abbrev pub byte_of : Bool → ℕ
 byte_of met = if met then 2 ^ 8 - 1 else 0
 
 -- Scc: ones where the condition is met, else zeros; the destination is not read
-unfoldable pub scc_of : Condition → Ea → ℕ → Space → Plain → Routine Performed
+unfoldable pub scc_of : Condition → Ea → ℕ → Space → Plain → Routine Rowed
 scc_of c ea word_at space p = do
-  to ← reading p (resolve_of ea Byte word_at space p)
+  to ← reading (resolve_of ea Byte word_at space p)
   storing to.target Byte (byte_of (is_met c p.ccr)) space to.plain
 
 -- what becomes of the address register of a MOVEM's operand
@@ -104,12 +104,12 @@ abbrev pub movem_by : Bool → Size → Ea → ℕ → Movem
 movem_by is_load size ea mask = record { is_load = is_load; size = size; mode = movem_mode ea; mask = mask }
 
 -- a refused transfer ends the instruction, with what was loaded so far
-abbrev pub transferring : Routine (Result Plain Halfway) → Routine (Result Plain Stopped)
-transferring m = failing (λ halfway. record { ended = ended.Movem halfway.fault; plain = halfway.plain }) m
+abbrev pub transferring : Routine (Result Plain Halfway) → Routine (Result Plain (Cut Stopped))
+transferring m = failing (λ halfway. Stop (record { ended = ended.Movem halfway.fault; plain = halfway.plain })) m
 
 -- MOVEM
-unfoldable pub movem_of : Bool → Size → Ea → ℕ → ℕ → Space → Plain → Routine Performed
+unfoldable pub movem_of : Bool → Size → Ea → ℕ → ℕ → Space → Plain → Routine Rowed
 movem_of is_load size ea mask word_at space p = do
-  place ← reading p (address_of size ea word_at space p)
+  place ← reading (address_of size ea word_at space p)
   moved ← transferring (transfer_of (movem_by is_load size ea mask) place 0 space p)
   Return (carried moved)

@@ -16,7 +16,7 @@ use Rattle.mb_ea.specs.Reading.{read_of}
 use Rattle.mb_ea.specs.Resolve.{resolve_of}
 use Rattle.mb_writes.specs.declared.ends.WriteFault.{WriteFault}
 use Rattle.mb_writes.specs.Writing.{put_of}
-use Rattle.mb_meaning.specs.Ends.{Performed, Stopped, carried, writing}
+use Rattle.mb_meaning.specs.Ends.{Rowed, Cut, Stopped, carried, writing}
 
 -- the register of all sixteen that an instruction's second word names: bit 15 says an address register, bits 14 to 12
 -- are its number
@@ -76,7 +76,7 @@ address_of size ea word_at space p = do
   Return (Ok (place_of resolved.target))
 
 -- The last part of an instruction: a value goes to its target. The registers are these but for that.
-unfoldable pub storing : Target → Size → ℕ → Space → Plain → Routine Performed
+unfoldable pub storing : Target → Size → ℕ → Space → Plain → Routine Rowed
 storing target size value space after = do
   done ← writing after (store_of target size value space after)
   Return (carried done)
@@ -89,7 +89,7 @@ abbrev pub raised : Plain → Plain
 raised p = with_address_register p 7 (sum (address_register p 7) 4)
 
 -- A long goes onto the stack, whose new top is given. After the instruction the registers are these.
-unfoldable pub pushing : ℕ → ℕ → Space → Plain → Routine (Result (Unit {0}) Stopped)
+unfoldable pub pushing : ℕ → ℕ → Space → Plain → Routine (Result (Unit {0}) (Cut Stopped))
 pushing value top space after = writing after (put_of space top 4 value)
 
 -- what a store answered, with the registers after it

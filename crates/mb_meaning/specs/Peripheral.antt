@@ -12,7 +12,7 @@ use Rattle.mb_ea.specs.declared.reading.ReadFault.{ReadFault}
 use Rattle.mb_ea.specs.Addresses.{sum}
 use Rattle.mb_ea.specs.Reading.{read_pieces, refused_in}
 use Rattle.mb_writes.specs.Writing.{apart, put_apart_of}
-use Rattle.mb_meaning.specs.Ends.{Performed, carried, reading, writing}
+use Rattle.mb_meaning.specs.Ends.{Rowed, carried, reading, writing}
 use Rattle.mb_meaning.specs.Operands.{storing}
 
 -- an operand whose bytes stand at every second address, the highest first
@@ -20,19 +20,19 @@ unfoldable pub read_apart_of : Space → ℕ → Size → Routine (Result ℕ Re
 read_apart_of space at size = failing (refused_in at) (read_pieces space (apart at (bytes_of size)) 0)
 
 -- all bytes are read, and then the low word or the long of Dn is set
-unfoldable pub from_peripheral : ℕ → Size → ℕ → Space → Plain → Routine Performed
+unfoldable pub from_peripheral : ℕ → Size → ℕ → Space → Plain → Routine Rowed
 from_peripheral n size place space p = do
-  value ← reading p (read_apart_of space place size)
+  value ← reading (read_apart_of space place size)
   storing (Reg n) size value space p
 
 -- the low word or the long of Dn is written byte by byte
-unfoldable pub to_peripheral : ℕ → Size → ℕ → Space → Plain → Routine Performed
+unfoldable pub to_peripheral : ℕ → Size → ℕ → Space → Plain → Routine Rowed
 to_peripheral n size place space p = do
   writing p (put_apart_of space place size (data_register p n))
   Return (carried p)
 
 -- MOVEP: from An plus the displacement on; no condition code changes
-unfoldable pub movep_of : ℕ → Bool → Size → ℕ → ℕ → Space → Plain → Routine Performed
+unfoldable pub movep_of : ℕ → Bool → Size → ℕ → ℕ → Space → Plain → Routine Rowed
 movep_of n is_store size address displacement space p =
     let place = sum (address_register p address) (sign_extended Word displacement) in
     choose is_store (to_peripheral n size place space p) (from_peripheral n size place space p)

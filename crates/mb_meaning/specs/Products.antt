@@ -8,29 +8,29 @@ use Rattle.mb_alu.specs.declared.quotients.Divided.{Divided}
 use Rattle.mb_alu.specs.declared.quotients.Divided.TheVariants.{Done, ZeroDivide, Overflow}
 use Rattle.mb_alu.specs.Products.{mul_of, div_of}
 use Rattle.mb_writes.specs.declared.ends.Ended.TheVariants as ended
-use Rattle.mb_meaning.specs.Ends.{Performed, carried, stopped}
+use Rattle.mb_meaning.specs.Ends.{Rowed, carried, stopped}
 
 -- ---- by words
 
 -- MULU.W and MULS.W: the product is the whole register
-abbrev pub multiplied_by_word : Bool → ℕ → ℕ → Plain → Performed
+abbrev pub multiplied_by_word : Bool → ℕ → ℕ → Plain → Rowed
 multiplied_by_word signed n value p =
     let product = mul_of signed Word value (data_register p n) p.ccr in
     carried (record (with_data_register p n product.value) { ccr = product.ccr })
 
 -- a zero divide is a trap of this vector, and changes only condition codes
-abbrev pub zero_divided : ℕ → Plain → Performed
+abbrev pub zero_divided : ℕ → Plain → Rowed
 zero_divided ccr p = stopped (ended.Trap 5) (record p { ccr = ccr })
 
 -- the quotient is the low word of the register, and the remainder the high one
-abbrev pub divided_by_word : ℕ → Divided → Plain → Performed
+abbrev pub divided_by_word : ℕ → Divided → Plain → Rowed
 divided_by_word n (Done quotient remainder ccr) p =
     carried (record (with_data_register p n (remainder * 2 ^ 16 + quotient)) { ccr = ccr })
 divided_by_word n (Overflow ccr) p = carried (record p { ccr = ccr })
 divided_by_word n (ZeroDivide ccr) p = zero_divided ccr p
 
 -- DIVU.W and DIVS.W
-abbrev pub word_divided : Bool → ℕ → ℕ → Plain → Performed
+abbrev pub word_divided : Bool → ℕ → ℕ → Plain → Rowed
 word_divided signed n value p = divided_by_word n (div_of signed Word value (data_register p n) p.ccr) p
 
 -- ---- by longs: the word behind the first is `0lll sw00 0000 0hhh`
@@ -68,7 +68,7 @@ multiplied_wide word value p =
     }
 
 -- MULU.L and MULS.L
-abbrev pub multiplied_by_long : ℕ → ℕ → Plain → Performed
+abbrev pub multiplied_by_long : ℕ → ℕ → Plain → Rowed
 multiplied_by_long word value p =
     carried (if is_wide word then multiplied_wide word value p else multiplied_long word value p)
 
@@ -82,13 +82,13 @@ abbrev pub width_of : ℕ → Width
 width_of word = if is_wide word then Wide else Long
 
 -- the register of the remainder is written first
-abbrev pub divided_by_long : ℕ → Divided → Plain → Performed
+abbrev pub divided_by_long : ℕ → Divided → Plain → Rowed
 divided_by_long word (Done quotient remainder ccr) p =
     carried (record (with_two p (high_register word) remainder (low_register word) quotient) { ccr = ccr })
 divided_by_long word (Overflow ccr) p = carried (record p { ccr = ccr })
 divided_by_long word (ZeroDivide ccr) p = zero_divided ccr p
 
 -- DIVUL.L, DIVSL.L, DIVU.L and DIVS.L
-abbrev pub long_divided : ℕ → ℕ → Plain → Performed
+abbrev pub long_divided : ℕ → ℕ → Plain → Rowed
 long_divided word value p =
     divided_by_long word (div_of (is_signed word) (width_of word) value (dividend_of word p) p.ccr) p

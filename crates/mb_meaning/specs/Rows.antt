@@ -21,7 +21,7 @@ use Rattle.mb_fields.specs.Decimals.{abcd_of, sbcd_of}
 use Rattle.mb_fields.specs.Packing.{pack_of, unpk_of}
 use Rattle.mb_writes.specs.declared.ends.Ended.{Ended}
 use Rattle.mb_writes.specs.declared.ends.Ended.TheVariants as ended
-use Rattle.mb_meaning.specs.Ends.{Performed, carried, stopped}
+use Rattle.mb_meaning.specs.Ends.{Performed, Rowed, carried, stopped, restoring}
 use Rattle.mb_instr.specs.Sizes.{sign_extended}
 use Rattle.mb_meaning.specs.Moves.{moveq_of, move_of, movea_of, lea_of, exg_of, swap_of, movem_of, to_ccr_of}
 use Rattle.mb_meaning.specs.Moves.{from_ccr_of, scc_of}
@@ -50,7 +50,7 @@ abbrev pub privileged : Ended
 privileged = ended.Refused 8
 
 -- What moves.
-unfoldable pub perform_move_of : Move → ℕ → Space → Plain → Routine Performed
+unfoldable pub perform_move_of : Move → ℕ → Space → Plain → Routine Rowed
 perform_move_of (move.Move size destination source) word_at space p = move_of size destination source word_at space p
 perform_move_of (move.Moveq register immediate) word_at space p = Return (carried (moveq_of register immediate p))
 perform_move_of (move.MovemLoad size ea mask) word_at space p = movem_of true size ea mask word_at space p
@@ -74,7 +74,7 @@ perform_move_of (move.Move16Abs kind register address) word_at space p =
 perform_move_of (move.Move16Post x word) word_at space p = move16_of x word space p
 
 -- What computes.
-unfoldable pub perform_arith_of : Arith → ℕ → Space → Plain → Routine Performed
+unfoldable pub perform_arith_of : Arith → ℕ → Space → Plain → Routine Rowed
 perform_arith_of (arith.Add register to_memory size ea) word_at space p =
     either_way (added size) register to_memory size ea word_at space p
 perform_arith_of (arith.Sub register to_memory size ea) word_at space p =
@@ -152,7 +152,7 @@ perform_arith_of (arith.Cas2 size first second) word_at space p = cas2_of size f
 perform_arith_of (arith.Cmp2 size ea word) word_at space p = cmp2_of size ea word word_at space p
 
 -- What goes elsewhere.
-unfoldable pub perform_flow_of : Flow → ℕ → Space → Plain → Routine Performed
+unfoldable pub perform_flow_of : Flow → ℕ → Space → Plain → Routine Rowed
 perform_flow_of flow.Nop word_at space p = Return (carried p)
 perform_flow_of (flow.Bcc condition displacement) word_at space p = branch_of condition displacement word_at space p
 perform_flow_of (flow.Dbcc condition register displacement) word_at space p =
@@ -168,10 +168,15 @@ perform_flow_of flow.Trapv word_at space p = Return (trapv_of p)
 perform_flow_of (flow.Chk register size ea) word_at space p = chk_of register size ea word_at space p
 perform_flow_of (flow.Chk2 size ea word) word_at space p = chk2_of size ea word word_at space p
 
--- What an instruction does, all accesses in this space. `at` is its address; PC is past it. Its row knows no more of
--- the address than where the words of its operands begin. A privileged instruction is not carried out here.
+-- What an instruction's row does, by its family. A row knows no more of the instruction's address than where the words
+-- of its operands begin. A privileged instruction is not carried out here.
+unfoldable pub row_of : Instr → ℕ → Space → Plain → Routine Rowed
+row_of (instr.Move i) at space p = perform_move_of i (operands_at (move_row i) at) space p
+row_of (instr.Arith i) at space p = perform_arith_of i (operands_at (arith_row i) at) space p
+row_of (instr.Flow i) at space p = perform_flow_of i (operands_at (flow_row i) at) space p
+row_of (instr.System i) at space p = Return (stopped privileged p)
+
+-- What an instruction does, all accesses in this space. `at` is its address; PC is past it. A part which reads and is
+-- refused leaves the registers, whatever the row.
 unfoldable pub perform_of : Instr → ℕ → Space → Plain → Routine Performed
-perform_of (instr.Move i) at space p = perform_move_of i (operands_at (move_row i) at) space p
-perform_of (instr.Arith i) at space p = perform_arith_of i (operands_at (arith_row i) at) space p
-perform_of (instr.Flow i) at space p = perform_flow_of i (operands_at (flow_row i) at) space p
-perform_of (instr.System i) at space p = Return (stopped privileged p)
+perform_of i at space p = restoring p (row_of i at space p)

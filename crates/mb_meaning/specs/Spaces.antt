@@ -20,7 +20,8 @@ use Rattle.mb_ea.specs.Resolve.{resolve_of}
 use Rattle.mb_model.specs.declared.processor.Cpu.{Cpu}
 use Rattle.mb_model.specs.Pages.{page_of}
 use Rattle.mb_meaning.specs.Operands.{named_register, with_low, place_of, storing}
-use Rattle.mb_meaning.specs.SystemEnds.{SystemPerformed, completed, reading_for, with_registers, finishing}
+use Rattle.mb_meaning.specs.Ends.{reading}
+use Rattle.mb_meaning.specs.SystemEnds.{SystemRowed, completed, with_registers, finishing}
 
 -- the space of a function code, by its bit 2
 abbrev pub function_space : ℕ → Space
@@ -35,13 +36,13 @@ taken size n value p =
     else with_address_register p (n - 8) (sign_extended size value)
 
 -- to memory, in DFC's space. An address register that has stepped is stored with its new value.
-unfoldable pub out_of_register : Size → Target → ℕ → Plain → Cpu → Routine SystemPerformed
+unfoldable pub out_of_register : Size → Target → ℕ → Plain → Cpu → Routine SystemRowed
 out_of_register size target n p cpu = finishing cpu (storing target size (register_of p n) (function_space cpu.dfc) p)
 
 -- from memory, in SFC's space. An address register that has stepped becomes what was read.
-unfoldable pub into_register : Size → Target → ℕ → Plain → Cpu → Routine SystemPerformed
+unfoldable pub into_register : Size → Target → ℕ → Plain → Cpu → Routine SystemRowed
 into_register size target n p cpu = do
-  value ← reading_for cpu (read_of (function_space cpu.sfc) (place_of target) (bytes_of size))
+  value ← reading (read_of (function_space cpu.sfc) (place_of target) (bytes_of size))
   Return (completed (with_registers (taken size n value p) cpu))
 
 -- bit 11 of the word says to memory
@@ -50,9 +51,9 @@ is_store word = word / 2 ^ 11 % 2 == 1
 
 -- MOVES: a memory indirection of its address reads in supervisor space, whatever the function codes say. Only the
 -- operand itself goes by SFC or DFC.
-unfoldable pub moves_of : Size → Ea → ℕ → ℕ → Cpu → Routine SystemPerformed
+unfoldable pub moves_of : Size → Ea → ℕ → ℕ → Cpu → Routine SystemRowed
 moves_of size ea word word_at cpu = do
-  to ← reading_for cpu (resolve_of ea size word_at Super (plain_of cpu.regs))
+  to ← reading (resolve_of ea size word_at Super (plain_of cpu.regs))
   choose (is_store word) (out_of_register size to.target (named_register word) to.plain cpu)
       (into_register size to.target (named_register word) to.plain cpu)
 

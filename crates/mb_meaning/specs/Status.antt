@@ -11,7 +11,8 @@ use Rattle.mb_ea.specs.Resolve.{resolve_of}
 use Rattle.mb_model.specs.declared.processor.Cpu.{Cpu}
 use Rattle.mb_model.specs.Status.{kept_status}
 use Rattle.mb_meaning.specs.Operands.{operand_of, storing}
-use Rattle.mb_meaning.specs.SystemEnds.{SystemPerformed, redirected, reading_for, with_registers, finishing}
+use Rattle.mb_meaning.specs.Ends.{reading}
+use Rattle.mb_meaning.specs.SystemEnds.{SystemRowed, redirected, with_registers, finishing}
 
 -- SR becomes this. What A7 was stays in its stack pointer, and A7 is now the one that the new S and M choose.
 abbrev pub with_status : ℕ → Cpu → Cpu
@@ -22,15 +23,15 @@ unfoldable pub status_by : LogicKind → ℕ → Cpu → Cpu
 status_by kind word cpu = with_status (logic_of kind Word word cpu.regs.sr 0).value cpu
 
 -- MOVE to SR: a word is read, by the registers as the old S and M give them
-unfoldable pub to_status_of : Ea → ℕ → Cpu → Routine SystemPerformed
+unfoldable pub to_status_of : Ea → ℕ → Cpu → Routine SystemRowed
 to_status_of ea word_at cpu = do
-  operand ← reading_for cpu (operand_of Word ea word_at Super (plain_of cpu.regs))
+  operand ← reading (operand_of Word ea word_at Super (plain_of cpu.regs))
   Return (redirected (with_status operand.value (with_registers operand.plain cpu)))
 
 -- MOVE from SR: the destination is not read
-unfoldable pub from_status_of : Ea → ℕ → Cpu → Routine SystemPerformed
+unfoldable pub from_status_of : Ea → ℕ → Cpu → Routine SystemRowed
 from_status_of ea word_at cpu = do
-  to ← reading_for cpu (resolve_of ea Word word_at Super (plain_of cpu.regs))
+  to ← reading (resolve_of ea Word word_at Super (plain_of cpu.regs))
   finishing cpu (storing to.target Word cpu.regs.sr Super to.plain)
 
 -- STOP: SR is loaded, and the processor stops

@@ -135,7 +135,8 @@ beyond n cpu = record cpu { regs = record cpu.regs { pc = (cpu.regs.pc + 2 * n) 
 unfoldable pub supervised_of : System → ℕ → Cpu → Routine Stepped
 supervised_of system.Rte n cpu = rte_of cpu
 supervised_of i n cpu =
-    Then (system_closing (perform_system_of i (operands_at (system_row i) cpu.regs.pc) (beyond n cpu)))
+    let moved = beyond n cpu in
+    Then (system_closing moved (perform_system_of i (operands_at (system_row i) cpu.regs.pc) moved))
     (λ end. finish_of (instr.System i) end.0 cpu end.1)
 
 -- an instruction of so many words that is not privileged: it knows the space of its accesses alone

@@ -7,7 +7,7 @@ use Rattle.mb_alu.specs.declared.bitwise.LogicKind.TheVariants as logic
 use Rattle.mb_writes.specs.declared.ends.Ended.{Ended}
 use Rattle.mb_writes.specs.declared.ends.Ended.TheVariants as ended
 use Rattle.mb_model.specs.declared.processor.Cpu.{Cpu}
-use Rattle.mb_meaning.specs.SystemEnds.{SystemPerformed, completed, redirected, ended_by, completing}
+use Rattle.mb_meaning.specs.SystemEnds.{SystemRowed, completed, redirected, ended_by, completing}
 use Rattle.mb_meaning.specs.Status.{status_by, to_status_of, from_status_of, stop_of, move_usp_of}
 use Rattle.mb_meaning.specs.Control.{movec_of}
 use Rattle.mb_meaning.specs.Spaces.{moves_of, pflush_of, ptest_of}
@@ -18,17 +18,17 @@ abbrev pub reset_of : Cpu → Routine Cpu
 reset_of cpu = Then reset_devices (λ done. Return cpu)
 
 -- how RTE ended, as a row's routine answers it
-abbrev pub gone_by : Ended → Cpu → SystemPerformed
+abbrev pub gone_by : Ended → Cpu → SystemRowed
 gone_by (ended.Done flow) cpu = Ok (record { flow = flow; cpu = cpu })
 gone_by end cpu = ended_by end cpu
 
 -- RTE. What it tells of the frame that it took is for its finish.
-abbrev pub gone_back : Routine Returned → Routine SystemPerformed
+abbrev pub gone_back : Routine Returned → Routine SystemRowed
 gone_back m = Then m (λ returned. Return (gone_by returned.ended returned.cpu))
 
 -- What a privileged instruction does in supervisor mode. The words of its operand begin at `word_at`; PC is past it.
 -- CINV and CPUSH do nothing more.
-unfoldable pub perform_system_of : System → ℕ → Cpu → Routine SystemPerformed
+unfoldable pub perform_system_of : System → ℕ → Cpu → Routine SystemRowed
 perform_system_of (system.AndiSr word) word_at cpu = Return (redirected (status_by logic.And word cpu))
 perform_system_of (system.OriSr word) word_at cpu = Return (redirected (status_by logic.Or word cpu))
 perform_system_of (system.EoriSr word) word_at cpu = Return (redirected (status_by logic.Eor word cpu))

@@ -5,7 +5,7 @@ use Rattle.mb_instr.specs.declared.kinds.Condition.TheVariants.{OverflowSet}
 use Rattle.mb_instr.specs.declared.registers.Plain.{Plain}
 use Rattle.mb_writes.specs.declared.ends.Ended.{Ended}
 use Rattle.mb_writes.specs.declared.ends.Ended.TheVariants as ended
-use Rattle.mb_meaning.specs.Ends.{Performed, carried, stopped}
+use Rattle.mb_meaning.specs.Ends.{Rowed, carried, stopped}
 use Rattle.mb_meaning.specs.Conditions.{is_met}
 
 -- the vectors of traps
@@ -19,13 +19,13 @@ abbrev pub numbered_trap : ℕ → Ended
 numbered_trap number = ended.Trap (32 + number)
 
 -- TRAP
-unfoldable pub trap_of : ℕ → Plain → Performed
+unfoldable pub trap_of : ℕ → Plain → Rowed
 trap_of number p = stopped (numbered_trap number) p
 
 -- TRAPcc, whose operand is passed over: a trap where the condition is met
-unfoldable pub trapcc_of : Condition → Plain → Performed
+unfoldable pub trapcc_of : Condition → Plain → Rowed
 trapcc_of c p = if is_met c p.ccr then stopped conditional_trap p else carried p
 
 -- TRAPV: a trap on overflow
-unfoldable pub trapv_of : Plain → Performed
+unfoldable pub trapv_of : Plain → Rowed
 trapv_of p = trapcc_of OverflowSet p

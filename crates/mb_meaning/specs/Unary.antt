@@ -14,7 +14,7 @@ use Rattle.mb_alu.specs.Extend.{extend_of}
 use Rattle.mb_alu.specs.Logic.{logic_of}
 use Rattle.mb_alu.specs.Sums.{sub_of}
 use Rattle.mb_ea.specs.Resolve.{resolve_of}
-use Rattle.mb_meaning.specs.Ends.{Performed, carried, reading}
+use Rattle.mb_meaning.specs.Ends.{Rowed, carried, reading}
 use Rattle.mb_meaning.specs.Operands.{with_low, storing}
 use Rattle.mb_meaning.specs.Moves.{move_flags}
 
@@ -31,13 +31,13 @@ abbrev pub complemented : Size → ℕ → ℕ → Flagged
 complemented size value ccr = logic_of Not size value 0 ccr
 
 -- CLR: 0 is moved to the operand, which is not read
-unfoldable pub clr_of : Size → Ea → ℕ → Space → Plain → Routine Performed
+unfoldable pub clr_of : Size → Ea → ℕ → Space → Plain → Routine Rowed
 clr_of size ea word_at space p = do
-  to ← reading p (resolve_of ea size word_at space p)
+  to ← reading (resolve_of ea size word_at space p)
   storing to.target size 0 space (move_flags size 0 to.plain)
 
 -- TST
-abbrev pub tested : Size → ℕ → Plain → Performed
+abbrev pub tested : Size → ℕ → Plain → Rowed
 tested size value p = carried (move_flags size value p)
 
 -- the low bytes of a data register become these, and the condition codes too

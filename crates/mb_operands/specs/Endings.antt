@@ -1,9 +1,10 @@
 -- What a call answers whose end, where it is not done, stands beside its answer.
-use Rattle.std.specs.Prelude.{◌≤◌, Bool, false, true, Result, Ok, Err, if◌then◌else◌, length}
+use Rattle.std.specs.Prelude.{◌≤◌, Bool, false, true, Result, Ok, Err, length}
+use Rattle.mb_port.specs.Routine.{other_fault}
 use Rattle.mb_instr.specs.declared.registers.Plain.{Plain}
 use Rattle.mb_writes.specs.declared.ends.Ended.{Ended}
 use Rattle.mb_writes.specs.declared.ends.Ended.TheVariants as ends
-use Rattle.mb_meaning.specs.Ends.{Performed, stopped, performed_by, carried_by}
+use Rattle.mb_meaning.specs.Ends.{Stopped, Performed, Cut, Unread, Stop, Rowed, restored, went, carried}
 use Rattle.mb_operands.specs.declared.endings.Undone.{Undone}
 
 -- what it answered, with that end
@@ -15,8 +16,6 @@ with_end (Err undone) end = Err end
 abbrev pub end_of : Result Bool Ended → Ended
 end_of (Ok flow) = ends.Done flow
 end_of (Err end) = end
-
--- ---- functions that work on the registers in place
 
 -- a refused read ended it
 abbrev pub is_unread : Ended → Bool
@@ -33,18 +32,24 @@ IsUnfinished (ends.WriteFault refused) = 1 ≤ length refused.rest.items
 IsUnfinished (ends.LineFault fault line) = ⊥
 IsUnfinished (ends.Movem refused) = ⊥
 
--- The registers after an instruction that ended so. After a refused read they are those before it, whatever its
--- function has put into them by then.
-abbrev pub left_after : Ended → Plain → Plain → Plain
-left_after end before now = if is_unread end then before else now
+-- ---- functions that work on the registers in place
 
--- What a function answered, with how it ended otherwise, the registers before it and those now: whether the flow of
--- control changed.
+-- what cut a row short whose function left this end, and these registers
+abbrev pub cut_by : Ended → Plain → Cut Stopped
+cut_by (ends.ReadFault refused) now = Unread refused
+cut_by end now = Stop (record { ended = end; plain = now })
+
+-- What the function of a row answered, with its end and the registers now: whether the flow of control changed.
+abbrev pub performed_by : Result Bool Undone → Ended → Plain → Rowed
+performed_by (Ok flow) end now = went flow now
+performed_by (Err undone) end now = Err (cut_by end now)
+
+-- the same of a row that never changes the flow
+abbrev pub carried_by : Result (Unit {0}) Undone → Ended → Plain → Rowed
+carried_by (Ok done) end now = carried now
+carried_by (Err undone) end now = Err (cut_by end now)
+
+-- The same of an instruction that began with the registers before: a refused read leaves those, whatever its function
+-- has put into the registers by then.
 abbrev pub performed_in_place : Result Bool Undone → Ended → Plain → Plain → Performed
-performed_in_place (Ok flow) end before now = performed_by (Ok flow) now
-performed_in_place (Err undone) end before now = stopped end (left_after end before now)
-
--- the same of a function whose instruction never changes the flow
-abbrev pub carried_in_place : Result (Unit {0}) Undone → Ended → Plain → Plain → Performed
-carried_in_place (Ok done) end before now = carried_by (Ok done) now
-carried_in_place (Err undone) end before now = stopped end (left_after end before now)
+performed_in_place done end before now = other_fault (restored before) (performed_by done end now)

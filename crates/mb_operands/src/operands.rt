@@ -1,15 +1,14 @@
 //! Operands: what stands there, and what is put there.
 
-ghost use Rattle.std.specs.Prelude.{◌≡◌, ◌<◌, ◌≤◌, false, length, OnErr, IfOk, IfErr};
+ghost use Rattle.std.specs.Prelude.{◌≡◌, ◌<◌, ◌≤◌, length, OnErr, IfOk, IfErr};
 ghost use Rattle.mb_port.specs.Routine.{run};
 ghost use Rattle.mb_instr.specs.Sizes.{values_of};
 ghost use Rattle.mb_instr.specs.Operands.{IsEa, IsInMemory, IsDestination};
 ghost use Rattle.mb_ea.specs.Addresses.{IsTarget, IsMemory, IsPlace};
 ghost use Rattle.mb_meaning.specs.Operands.{behind, named_register, with_low, load_of, store_of, operand_of, stored, address_of};
 ghost use Rattle.mb_meaning.specs.Operands.{place_of, storing, pushing};
-ghost use Rattle.mb_meaning.specs.Ends.{carried_by};
 ghost use Rattle.mb_operands.specs.Fetched.{fetched, pushed, IsOperand};
-ghost use Rattle.mb_operands.specs.Endings.{with_end, is_unread, IsUnfinished};
+ghost use Rattle.mb_operands.specs.Endings.{IsUnfinished, carried_by};
 
 use crate::endings::{Undone, unwritten};
 use mb_ea::{ReadFault, Target, find_target, read_value, resolve};
@@ -173,8 +172,7 @@ pub fn finish_with<P: Port>(
     requires target { IsTarget size target }
     requires place { IsPlace target }
     ensures means { run P.bus (storing target size value space plain.old) (P.world port.old)
-        ≡ (carried_by (with_end result ended.new) plain.new, P.world port.new) }
-    ensures read { OnErr result (is_unread ended.new ≡ false) }
+        ≡ (carried_by result ended.new plain.new, P.world port.new) }
     ensures left { OnErr result (IsUnfinished ended.new) }
     ensures rest { P.rest port.new ≡ P.rest port.old }
 {
@@ -196,8 +194,7 @@ pub fn push<P: Port>(
     ended: &mut Ended,
 ) -> Result<(), Undone>
     ensures means { run P.bus (pushing value top space plain.now) (P.world port.old)
-        ≡ (pushed (with_end result ended.new) plain.now, P.world port.new) }
-    ensures read { OnErr result (is_unread ended.new ≡ false) }
+        ≡ (pushed result ended.new plain.now, P.world port.new) }
     ensures rest { P.rest port.new ≡ P.rest port.old }
 {
     match put_value(space, top, Size::Long, value, port) {

@@ -2,7 +2,7 @@
 use Rattle.std.specs.Prelude.{ℕ, ⊤, ◌<◌}
 use Rattle.mb_instr.specs.declared.size.Size.{Size}
 use Rattle.mb_instr.specs.declared.registers.Plain.{Plain}
-use Rattle.mb_meaning.specs.Ends.{Performed}
+use Rattle.mb_meaning.specs.Ends.{Rowed}
 use Rattle.mb_meaning.specs.Arithmetic.{address_moved, address_compared}
 use Rattle.mb_meaning.specs.Unary.{tested}
 use Rattle.mb_meaning.specs.Products.{multiplied_by_word, word_divided, multiplied_by_long, long_divided}
@@ -11,7 +11,7 @@ use Rattle.mb_ops_arith.specs.declared.taking.Effect.{Effect}
 use Rattle.mb_ops_arith.specs.declared.taking.Effect.TheVariants as effect
 
 -- how the instruction ends by the operand's value and the registers
-abbrev pub effect_of : Effect → Size → ℕ → Plain → Performed
+abbrev pub effect_of : Effect → Size → ℕ → Plain → Rowed
 effect_of effect.Test size value p = tested size value p
 effect_of (effect.MoveAddress sum register) size value p = address_moved (moved_of sum) register size value p
 effect_of (effect.CompareAddress register) size value p = address_compared register size value p

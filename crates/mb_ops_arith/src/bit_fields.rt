@@ -7,7 +7,7 @@ ghost use Rattle.mb_meaning.specs.BitFields.{named_by, offset_of, width_bits, wi
 ghost use Rattle.mb_meaning.specs.BitFields.{field_flags, field_seen, field_signed, with_result, field_done};
 ghost use Rattle.mb_meaning.specs.BitFields.{field_in_register, field_in_memory, bytes_before, bytes_held};
 ghost use Rattle.mb_meaning.specs.BitFields.{field_row_of};
-ghost use Rattle.mb_operands.specs.Endings.{carried_in_place};
+ghost use Rattle.mb_operands.specs.Endings.{carried_by};
 
 use mb_alu::Conditions;
 use mb_ea::read_operand;
@@ -264,7 +264,7 @@ fn field_in_memory<P: Port>(
     ended: &mut Ended,
 ) -> Result<(), Undone>
     ensures means { run P.bus (field_in_memory kind word address space plain.old) (P.world port.old)
-        ≡ (carried_in_place result ended.new plain.old plain.new, P.world port.new) }
+        ≡ (carried_by result ended.new plain.new, P.world port.new) }
     ensures rest { P.rest port.new ≡ P.rest port.old }
 {
     let (offset, width) = (offset(word, plain), width(word, plain));
@@ -305,7 +305,7 @@ pub(crate) fn bit_field<P: Port>(
     requires operand { IsEa Size.Long ea.now }
     requires place { IsData ea.now }
     ensures means { run P.bus (field_row_of kind ea.now word word_at space plain.old) (P.world port.old)
-        ≡ (carried_in_place result ended.new plain.old plain.new, P.world port.new) }
+        ≡ (carried_by result ended.new plain.new, P.world port.new) }
     ensures rest { P.rest port.new ≡ P.rest port.old }
 {
     if let Ea::Dn(n) = *ea {

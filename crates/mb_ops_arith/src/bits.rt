@@ -4,7 +4,7 @@ ghost use Rattle.std.specs.Prelude.{◌≡◌, ◌<◌, ◌^◌, ◌≢◌};
 ghost use Rattle.mb_port.specs.Routine.{run};
 ghost use Rattle.mb_instr.specs.Operands.{IsEa, IsDestination};
 ghost use Rattle.mb_meaning.specs.Bits.{bit_size, bit_after, bit_changed, bit_row_of};
-ghost use Rattle.mb_operands.specs.Endings.{carried_in_place};
+ghost use Rattle.mb_operands.specs.Endings.{carried_by};
 
 use crate::modifying::modify;
 use crate::operations::Change;
@@ -93,7 +93,7 @@ fn test_bit<P: Port>(
 ) -> Result<(), Undone>
     requires { IsEa Size.Byte ea.now }
     ensures means { run P.bus (bit_row_of BitKind.Test number ea.now word_at space plain.old) (P.world port.old)
-        ≡ (carried_in_place result ended.new plain.old plain.new, P.world port.new) }
+        ≡ (carried_by result ended.new plain.new, P.world port.new) }
     ensures rest { P.rest port.new ≡ P.rest port.old }
 {
     let size = bit_size(ea);
@@ -122,7 +122,7 @@ pub(crate) fn bit_row<P: Port>(
     requires operand { IsEa Size.Byte ea.now }
     requires destination { kind ≢ BitKind.Test → IsDestination ea.now }
     ensures means { run P.bus (bit_row_of kind number ea.now word_at space plain.old) (P.world port.old)
-        ≡ (carried_in_place result ended.new plain.old plain.new, P.world port.new) }
+        ≡ (carried_by result ended.new plain.new, P.world port.new) }
     ensures rest { P.rest port.new ≡ P.rest port.old }
 {
     match kind {

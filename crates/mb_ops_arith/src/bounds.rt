@@ -4,7 +4,7 @@ ghost use Rattle.std.specs.Prelude.{◌≡◌};
 ghost use Rattle.mb_port.specs.Routine.{run};
 ghost use Rattle.mb_instr.specs.Operands.{IsEa, IsInMemory};
 ghost use Rattle.mb_meaning.specs.Bounds.{cmp2_of};
-ghost use Rattle.mb_operands.specs.Endings.{carried_in_place};
+ghost use Rattle.mb_operands.specs.Endings.{carried_by};
 
 use mb_instr::{Ea, Plain, Size};
 use mb_operands::{Undone, compare_bounds, unread};
@@ -27,7 +27,7 @@ pub fn compare_with_bounds<P: Port>(
     requires operand { IsEa size ea.now }
     requires place { IsInMemory ea.now }
     ensures means { run P.bus (cmp2_of size ea.now word word_at space plain.old) (P.world port.old)
-        ≡ (carried_in_place result ended.new plain.old plain.new, P.world port.new) }
+        ≡ (carried_by result ended.new plain.new, P.world port.new) }
     ensures rest { P.rest port.new ≡ P.rest port.old }
 {
     match compare_bounds(size, ea, word, word_at, space, plain, port) {

@@ -6,7 +6,7 @@ ghost use Rattle.mb_instr.specs.Operands.{IsEa, IsDestination};
 ghost use Rattle.mb_instr.specs.Sizes.{values_of};
 ghost use Rattle.mb_meaning.specs.Decimals.{negated_decimal, paired, decimal_of, digits_of};
 ghost use Rattle.mb_ops_arith.specs.Decimals.{decimal_operation, packing_operation, packed_from, packed_to};
-ghost use Rattle.mb_operands.specs.Endings.{carried_in_place};
+ghost use Rattle.mb_operands.specs.Endings.{carried_by};
 
 use mb_alu::Flagged;
 use mb_ea::resolve;
@@ -117,7 +117,7 @@ pub(crate) fn decimal<P: Port>(
     requires destination { x < 8 }
     requires source { y < 8 }
     ensures means { run P.bus (decimal_of (decimal_operation operation) x in_memory y word_at space plain.old)
-        (P.world port.old) ≡ (carried_in_place result ended.new plain.old plain.new, P.world port.new) }
+        (P.world port.old) ≡ (carried_by result ended.new plain.new, P.world port.new) }
     ensures rest { P.rest port.new ≡ P.rest port.old }
 {
     let from = paired(in_memory, y, Size::Byte);
@@ -162,7 +162,7 @@ pub(crate) fn repack<P: Port>(
     requires source { y < 8 }
     ensures means { run P.bus (digits_of (packing_operation operation) (packed_from operation) (packed_to operation)
         x in_memory y adjust word_at space plain.old) (P.world port.old)
-        ≡ (carried_in_place result ended.new plain.old plain.new, P.world port.new) }
+        ≡ (carried_by result ended.new plain.new, P.world port.new) }
     ensures rest { P.rest port.new ≡ P.rest port.old }
 {
     let (from_size, to_size) = (operation.from_size(), operation.to_size());

@@ -8,7 +8,7 @@ ghost use Rattle.mb_meaning.specs.Operands.{place_of};
 ghost use Rattle.mb_meaning.specs.Locked.{test_and_set, tas_of, compared_by, update_by, pointer_by};
 ghost use Rattle.mb_meaning.specs.Locked.{cas_codes, cas_loaded, cas_equal, cas_of};
 ghost use Rattle.mb_meaning.specs.Locked.{cas2_codes, cas2_equal, cas2_of};
-ghost use Rattle.mb_operands.specs.Endings.{carried_in_place};
+ghost use Rattle.mb_operands.specs.Endings.{carried_by};
 
 use crate::locking::{get_operand, probe_operand, put_operand};
 use crate::modifying::modify;
@@ -45,7 +45,7 @@ pub(crate) fn tas<P: Port>(
     requires operand { IsEa Size.Byte ea.now }
     requires place { IsData ea.now }
     ensures means { run P.bus (tas_of ea.now word_at space plain.old) (P.world port.old)
-        ≡ (carried_in_place result ended.new plain.old plain.new, P.world port.new) }
+        ≡ (carried_by result ended.new plain.new, P.world port.new) }
     ensures rest { P.rest port.new ≡ P.rest port.old }
 {
     if let Ea::Dn(_) = *ea {
@@ -143,7 +143,7 @@ pub(crate) fn cas<P: Port>(
     requires operand { IsEa size ea.now }
     requires place { IsInMemory ea.now }
     ensures means { run P.bus (cas_of size ea.now word word_at space plain.old) (P.world port.old)
-        ≡ (carried_in_place result ended.new plain.old plain.new, P.world port.new) }
+        ≡ (carried_by result ended.new plain.new, P.world port.new) }
     ensures rest { P.rest port.new ≡ P.rest port.old }
 {
     let target = match resolve(ea, size, plain, word_at, space, port) {
@@ -190,7 +190,7 @@ pub(crate) fn cas2<P: Port>(
     ended: &mut Ended,
 ) -> Result<(), Undone>
     ensures means { run P.bus (cas2_of size first second space plain.old) (P.world port.old)
-        ≡ (carried_in_place result ended.new plain.old plain.new, P.world port.new) }
+        ≡ (carried_by result ended.new plain.new, P.world port.new) }
     ensures rest { P.rest port.new ≡ P.rest port.old }
 {
     let places = match probe_operand(space, plain.register(pointer(first)), size, port) {

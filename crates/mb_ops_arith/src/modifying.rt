@@ -5,7 +5,7 @@ ghost use Rattle.mb_port.specs.Routine.{run};
 ghost use Rattle.mb_instr.specs.Operands.{IsEa, IsDestination};
 ghost use Rattle.mb_meaning.specs.Modifying.{modifying};
 ghost use Rattle.mb_ops_arith.specs.Changes.{change_of};
-ghost use Rattle.mb_operands.specs.Endings.{carried_in_place};
+ghost use Rattle.mb_operands.specs.Endings.{carried_by};
 
 use crate::operations::Change;
 use mb_instr::{Ea, Plain, Size};
@@ -29,7 +29,7 @@ pub(crate) fn modify<P: Port>(
     requires operand { IsEa size ea.now }
     requires destination { IsDestination ea.now }
     ensures means { run P.bus (modifying (change_of change size) size ea.now word_at space plain.old) (P.world port.old)
-        ≡ (carried_in_place result ended.new plain.old plain.new, P.world port.new) }
+        ≡ (carried_by result ended.new plain.new, P.world port.new) }
     ensures rest { P.rest port.new ≡ P.rest port.old }
 {
     let operand = match fetch_operand(size, ea, word_at, space, plain, port) {

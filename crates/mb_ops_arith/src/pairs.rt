@@ -8,7 +8,7 @@ ghost use Rattle.mb_operands.specs.Fetched.{IsOperand};
 ghost use Rattle.mb_meaning.specs.Arithmetic.{pair_of, combining, comparing, either_way, chaining};
 ghost use Rattle.mb_ops_arith.specs.Changes.{operation_of};
 ghost use Rattle.mb_ops_arith.specs.Pairs.{paired};
-ghost use Rattle.mb_operands.specs.Endings.{carried_in_place};
+ghost use Rattle.mb_operands.specs.Endings.{carried_by};
 ghost use Rattle.mb_ea.specs.Addresses.{IsPlace};
 
 use crate::operations::Operation;
@@ -75,7 +75,7 @@ pub(crate) fn combine<P: Port>(
     requires place { IsDestination destination.now }
     ensures means { run P.bus
         (combining (operation_of operation size) size source.now destination.now word_at space plain.old)
-        (P.world port.old) ≡ (carried_in_place result ended.new plain.old plain.new, P.world port.new) }
+        (P.world port.old) ≡ (carried_by result ended.new plain.new, P.world port.new) }
     ensures rest { P.rest port.new ≡ P.rest port.old }
 {
     let pair = match fetch_pair(size, source, destination, word_at, space, plain, port) {
@@ -104,7 +104,7 @@ pub(crate) fn compare_pair<P: Port>(
     requires source { IsEa size source.now }
     requires destination { IsEa size destination.now }
     ensures means { run P.bus (comparing size source.now destination.now word_at space plain.old) (P.world port.old)
-        ≡ (carried_in_place result ended.new plain.old plain.new, P.world port.new) }
+        ≡ (carried_by result ended.new plain.new, P.world port.new) }
     ensures rest { P.rest port.new ≡ P.rest port.old }
 {
     let pair = match fetch_pair(size, source, destination, word_at, space, plain, port) {
@@ -134,7 +134,7 @@ pub(crate) fn combine_either_way<P: Port>(
     requires register { register < 8 }
     ensures means { run P.bus
         (either_way (operation_of operation size) register to_memory size ea.now word_at space plain.old)
-        (P.world port.old) ≡ (carried_in_place result ended.new plain.old plain.new, P.world port.new) }
+        (P.world port.old) ≡ (carried_by result ended.new plain.new, P.world port.new) }
     ensures rest { P.rest port.new ≡ P.rest port.old }
 {
     let register = Ea::Dn(register);
@@ -167,7 +167,7 @@ pub(crate) fn chain<P: Port>(
     requires destination { destination < 8 }
     ensures means { run P.bus
         (chaining (operation_of operation size) size in_memory source destination word_at space plain.old)
-        (P.world port.old) ≡ (carried_in_place result ended.new plain.old plain.new, P.world port.new) }
+        (P.world port.old) ≡ (carried_by result ended.new plain.new, P.world port.new) }
     ensures rest { P.rest port.new ≡ P.rest port.old }
 {
     if in_memory {
@@ -214,7 +214,7 @@ pub(crate) fn combine_immediate<P: Port>(
     requires destination { IsDestination ea.now }
     ensures means { run P.bus
         (combining (operation_of operation size) size (Imm immediate) ea.now word_at space plain.old)
-        (P.world port.old) ≡ (carried_in_place result ended.new plain.old plain.new, P.world port.new) }
+        (P.world port.old) ≡ (carried_by result ended.new plain.new, P.world port.new) }
     ensures rest { P.rest port.new ≡ P.rest port.old }
 {
     combine(

@@ -7,8 +7,8 @@ ghost use Rattle.mb_instr.specs.Shapes.{operands_at};
 ghost use Rattle.mb_instr.specs.Rows.{arith_row};
 ghost use Rattle.mb_instr.specs.declared.instruction.Instr.TheVariants as instr;
 ghost use Rattle.mb_meaning.specs.Rows.{perform_arith_of};
-ghost use Rattle.mb_meaning.specs.Ends.{closing};
-ghost use Rattle.mb_operands.specs.Endings.{is_unread, carried_in_place, performed_in_place};
+ghost use Rattle.mb_meaning.specs.Ends.{closing, restoring};
+ghost use Rattle.mb_operands.specs.Endings.{is_unread, performed_by, carried_by};
 
 use crate::bit_fields::bit_field;
 use crate::bits::bit_row;
@@ -57,7 +57,7 @@ fn carry_out<P: Port>(
     requires { IsInstr (instr.Arith instruction.now) }
     ensures means { run P.bus
         (perform_arith_of instruction.now (operands_at (arith_row instruction.now) at) space plain.old)
-        (P.world port.old) ≡ (carried_in_place result ended.new plain.old plain.new, P.world port.new) }
+        (P.world port.old) ≡ (carried_by result ended.new plain.new, P.world port.new) }
     ensures rest { P.rest port.new ≡ P.rest port.old }
 {
     let first_word = at.wrapping_add(2);
@@ -183,7 +183,7 @@ pub fn perform_arith_in_place<P: Port>(
     requires { IsInstr (instr.Arith instruction.now) }
     ensures means { run P.bus
         (perform_arith_of instruction.now (operands_at (arith_row instruction.now) at) space plain.old)
-        (P.world port.old) ≡ (performed_in_place result ended.new plain.old plain.new, P.world port.new) }
+        (P.world port.old) ≡ (performed_by result ended.new plain.new, P.world port.new) }
     ensures rest { P.rest port.new ≡ P.rest port.old }
 {
     match carry_out(instruction, at, space, plain, port, ended) {
@@ -203,7 +203,8 @@ pub fn perform_arith<P: Port>(
 ) -> Ended
     requires { IsInstr (instr.Arith instruction.now) }
     ensures means { run P.bus
-        (closing (perform_arith_of instruction.now (operands_at (arith_row instruction.now) at) space plain.old))
+        (closing (restoring plain.old
+            (perform_arith_of instruction.now (operands_at (arith_row instruction.now) at) space plain.old)))
         (P.world port.old) ≡ ((result, plain.new), P.world port.new) }
     ensures unread { is_unread result ≡ true → plain.new ≡ plain.old }
     ensures rest { P.rest port.new ≡ P.rest port.old }

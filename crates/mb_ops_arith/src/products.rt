@@ -1,14 +1,14 @@
 //! Multiplication and division.
 
-ghost use Rattle.std.specs.Prelude.{◌≡◌, ◌<◌, ◌^◌, false, OnErr};
+ghost use Rattle.std.specs.Prelude.{◌≡◌, ◌<◌, ◌^◌};
 ghost use Rattle.mb_alu.specs.Products.{IsBounded};
 ghost use Rattle.mb_alu.specs.declared.width.Width.TheVariants as width;
-ghost use Rattle.mb_meaning.specs.Ends.{carried, carried_by};
+ghost use Rattle.mb_meaning.specs.Ends.{carried};
 ghost use Rattle.mb_meaning.specs.Products.{multiplied_by_word, divided_by_word, word_divided};
 ghost use Rattle.mb_meaning.specs.Products.{low_register, high_register, is_signed, is_wide};
 ghost use Rattle.mb_meaning.specs.Products.{multiplied_long, multiplied_wide, multiplied_by_long};
 ghost use Rattle.mb_meaning.specs.Products.{dividend_of, width_of, divided_by_long, long_divided};
-ghost use Rattle.mb_operands.specs.Endings.{with_end, is_unread};
+ghost use Rattle.mb_operands.specs.Endings.{carried_by};
 
 use mb_alu::{Divided, Width, div, mul};
 use mb_instr::Plain;
@@ -40,8 +40,7 @@ fn leave_words(
 ) -> Result<(), Undone>
     requires register { register < 8 }
     requires divided { IsBounded width.Word divided }
-    ensures means { carried_by (with_end result ended.new) plain.new ≡ divided_by_word register divided plain.old }
-    ensures read { OnErr result (is_unread ended.new ≡ false) }
+    ensures means { carried_by result ended.new plain.new ≡ divided_by_word register divided plain.old }
 {
     match divided {
         Divided::Done {
@@ -74,8 +73,7 @@ pub(crate) fn divide_word(
     ended: &mut Ended,
 ) -> Result<(), Undone>
     requires { register < 8 }
-    ensures means { carried_by (with_end result ended.new) plain.new ≡ word_divided signed register value plain.old }
-    ensures read { OnErr result (is_unread ended.new ≡ false) }
+    ensures means { carried_by result ended.new plain.new ≡ word_divided signed register value plain.old }
 {
     let dividend = u64::from(plain.d[register as usize]);
     let divided = div(signed, Width::Word, value, dividend, plain.ccr);
@@ -184,8 +182,7 @@ fn leave_longs(
     plain: &mut Plain,
     ended: &mut Ended,
 ) -> Result<(), Undone>
-    ensures means { carried_by (with_end result ended.new) plain.new ≡ divided_by_long word divided plain.old }
-    ensures read { OnErr result (is_unread ended.new ≡ false) }
+    ensures means { carried_by result ended.new plain.new ≡ divided_by_long word divided plain.old }
 {
     match divided {
         Divided::Done {
@@ -217,8 +214,7 @@ pub(crate) fn divide_long(
     plain: &mut Plain,
     ended: &mut Ended,
 ) -> Result<(), Undone>
-    ensures means { carried_by (with_end result ended.new) plain.new ≡ long_divided word value plain.old }
-    ensures read { OnErr result (is_unread ended.new ≡ false) }
+    ensures means { carried_by result ended.new plain.new ≡ long_divided word value plain.old }
 {
     let dividend = dividend(word, plain);
     let divided = div(is_signed(word), width(word), value, dividend, plain.ccr);

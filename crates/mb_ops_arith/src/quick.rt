@@ -5,7 +5,7 @@ ghost use Rattle.mb_port.specs.Routine.{run};
 ghost use Rattle.mb_instr.specs.Operands.{IsEa, IsDestination};
 ghost use Rattle.mb_meaning.specs.Arithmetic.{quick_of};
 ghost use Rattle.mb_ops_arith.specs.Changes.{moved_of, sum_of};
-ghost use Rattle.mb_operands.specs.Endings.{carried_in_place};
+ghost use Rattle.mb_operands.specs.Endings.{carried_by};
 
 use crate::modifying::modify;
 use crate::operations::{Change, Operation, Sum};
@@ -31,7 +31,7 @@ pub(crate) fn combine_quick<P: Port>(
     requires destination { IsDestination ea.now }
     ensures means { run P.bus
         (quick_of (sum_of sum size quick) (λ address. moved_of sum address quick) size ea.now word_at space plain.old)
-        (P.world port.old) ≡ (carried_in_place result ended.new plain.old plain.new, P.world port.new) }
+        (P.world port.old) ≡ (carried_by result ended.new plain.new, P.world port.new) }
     ensures rest { P.rest port.new ≡ P.rest port.old }
 {
     let quick = u32::from(quick);

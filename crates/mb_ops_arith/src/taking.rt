@@ -1,12 +1,11 @@
 //! Operands that are only read.
 
-ghost use Rattle.std.specs.Prelude.{◌≡◌, ◌<◌, false, OnErr};
+ghost use Rattle.std.specs.Prelude.{◌≡◌, ◌<◌};
 ghost use Rattle.mb_port.specs.Routine.{run};
 ghost use Rattle.mb_instr.specs.Operands.{IsEa};
-ghost use Rattle.mb_meaning.specs.Ends.{carried_by};
 ghost use Rattle.mb_meaning.specs.Arithmetic.{taking};
 ghost use Rattle.mb_ops_arith.specs.Effects.{effect_of, IsEffect};
-ghost use Rattle.mb_operands.specs.Endings.{with_end, is_unread, carried_in_place};
+ghost use Rattle.mb_operands.specs.Endings.{carried_by};
 
 use crate::operations::Sum;
 use crate::products::{divide_long, divide_word, multiply_long, multiply_word};
@@ -44,8 +43,7 @@ impl Effect {
         ended: &mut Ended,
     ) -> Result<(), Undone>
         requires { IsEffect self }
-        ensures means { carried_by (with_end result ended.new) plain.new ≡ effect_of self size value plain.old }
-        ensures read { OnErr result (is_unread ended.new ≡ false) }
+        ensures means { carried_by result ended.new plain.new ≡ effect_of self size value plain.old }
     {
         match self {
             Effect::Test => plain.ccr = logic(LogicKind::Pass, size, value, 0, plain.ccr).ccr,
@@ -87,7 +85,7 @@ pub(crate) fn take<P: Port>(
     requires operand { IsEa size ea.now }
     requires effect { IsEffect effect }
     ensures means { run P.bus (taking (effect_of effect size) size ea.now word_at space plain.old) (P.world port.old)
-        ≡ (carried_in_place result ended.new plain.old plain.new, P.world port.new) }
+        ≡ (carried_by result ended.new plain.new, P.world port.new) }
     ensures rest { P.rest port.new ≡ P.rest port.old }
 {
     let operand = match fetch_operand(size, ea, word_at, space, plain, port) {

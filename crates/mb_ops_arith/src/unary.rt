@@ -4,7 +4,7 @@ ghost use Rattle.std.specs.Prelude.{◌≡◌, ◌<◌};
 ghost use Rattle.mb_port.specs.Routine.{run};
 ghost use Rattle.mb_instr.specs.Operands.{IsEa, IsDestination};
 ghost use Rattle.mb_meaning.specs.Unary.{clr_of, in_register, ext_of, ccr_by};
-ghost use Rattle.mb_operands.specs.Endings.{carried_in_place};
+ghost use Rattle.mb_operands.specs.Endings.{carried_by};
 
 use mb_alu::{Flagged, LogicKind, extend, logic};
 use mb_ea::resolve;
@@ -30,7 +30,7 @@ pub(crate) fn clear<P: Port>(
     requires operand { IsEa size ea.now }
     requires destination { IsDestination ea.now }
     ensures means { run P.bus (clr_of size ea.now word_at space plain.old) (P.world port.old)
-        ≡ (carried_in_place result ended.new plain.old plain.new, P.world port.new) }
+        ≡ (carried_by result ended.new plain.new, P.world port.new) }
     ensures rest { P.rest port.new ≡ P.rest port.old }
 {
     let target = match resolve(ea, size, plain, word_at, space, port) {

@@ -1,12 +1,11 @@
 //! CHK and CHK2.
 
-ghost use Rattle.std.specs.Prelude.{◌≡◌, ◌<◌, false, OnErr};
+ghost use Rattle.std.specs.Prelude.{◌≡◌, ◌<◌};
 ghost use Rattle.mb_port.specs.Routine.{run};
 ghost use Rattle.mb_instr.specs.Operands.{IsEa, IsInMemory};
 ghost use Rattle.mb_alu.specs.Signs.{signed_of};
-ghost use Rattle.mb_meaning.specs.Ends.{performed_by};
 ghost use Rattle.mb_meaning.specs.Bounds.{checked, chk_of, checked_carry, chk2_of};
-ghost use Rattle.mb_operands.specs.Endings.{with_end, is_unread, performed_in_place};
+ghost use Rattle.mb_operands.specs.Endings.{performed_by};
 
 use mb_alu::Conditions;
 use mb_instr::{Ea, Plain, Size};
@@ -41,8 +40,7 @@ fn check_bound(
     plain: &mut Plain,
     ended: &mut Ended,
 ) -> Result<bool, Undone>
-    ensures means { performed_by (with_end result ended.new) plain.new ≡ checked size bound value plain.old }
-    ensures read { OnErr result (is_unread ended.new ≡ false) }
+    ensures means { performed_by result ended.new plain.new ≡ checked size bound value plain.old }
 {
     let bound = signed(size, bound);
     let value = signed(size, value);
@@ -74,7 +72,7 @@ pub fn check<P: Port>(
     requires register { register < 8 }
     requires operand { IsEa size ea.now }
     ensures means { run P.bus (chk_of register size ea.now word_at space plain.old) (P.world port.old)
-        ≡ (performed_in_place result ended.new plain.old plain.new, P.world port.new) }
+        ≡ (performed_by result ended.new plain.new, P.world port.new) }
     ensures rest { P.rest port.new ≡ P.rest port.old }
 {
     match fetch_operand(size, ea, word_at, space, plain, port) {
@@ -87,8 +85,7 @@ pub fn check<P: Port>(
 #[inline(always)]
 #[tactic(auto, unfolding(mb_meaning::specs::Bounds::checked_carry))]
 fn check_carry(plain: &Plain, ended: &mut Ended) -> Result<bool, Undone>
-    ensures means { performed_by (with_end result ended.new) plain.now ≡ checked_carry plain.now }
-    ensures read { OnErr result (is_unread ended.new ≡ false) }
+    ensures means { performed_by result ended.new plain.now ≡ checked_carry plain.now }
 {
     if Conditions::of(plain.ccr).c {
         Err(trapped(OUT_OF_BOUNDS, ended))
@@ -113,7 +110,7 @@ pub fn check_bounds<P: Port>(
     requires operand { IsEa size ea.now }
     requires place { IsInMemory ea.now }
     ensures means { run P.bus (chk2_of size ea.now word word_at space plain.old) (P.world port.old)
-        ≡ (performed_in_place result ended.new plain.old plain.new, P.world port.new) }
+        ≡ (performed_by result ended.new plain.new, P.world port.new) }
     ensures rest { P.rest port.new ≡ P.rest port.old }
 {
     match compare_bounds(size, ea, word, word_at, space, plain, port) {

@@ -2,9 +2,9 @@
 
 ghost use Rattle.std.specs.Prelude.{◌≡◌, ◌<◌, ◌^◌};
 ghost use Rattle.mb_port.specs.Routine.{run};
-ghost use Rattle.mb_meaning.specs.Ends.{performed_by};
+ghost use Rattle.mb_meaning.specs.Ends.{went};
 ghost use Rattle.mb_meaning.specs.Flow.{displacement_of, target_of, is_call, call_of, branched, branch_of};
-ghost use Rattle.mb_operands.specs.Endings.{performed_in_place};
+ghost use Rattle.mb_operands.specs.Endings.{performed_by};
 
 use mb_instr::{Branch, Condition, Plain, Size};
 use mb_operands::{Undone, is_met, push};
@@ -67,7 +67,7 @@ pub(crate) fn call<P: Port>(
     ended: &mut Ended,
 ) -> Result<bool, Undone>
     ensures means { run P.bus (call_of target space plain.old) (P.world port.old)
-        ≡ (performed_in_place result ended.new plain.old plain.new, P.world port.new) }
+        ≡ (performed_by result ended.new plain.new, P.world port.new) }
     ensures rest { P.rest port.new ≡ P.rest port.old }
 {
     let next = plain.pc;
@@ -81,7 +81,7 @@ pub(crate) fn call<P: Port>(
 #[inline(always)]
 #[tactic(auto, unfolding(mb_meaning::specs::Flow::branched))]
 fn go_if_met(condition: Condition, target: u32, plain: &mut Plain) -> bool
-    ensures { performed_by (Ok result) plain.new ≡ branched condition target plain.old }
+    ensures { went result plain.new ≡ branched condition target plain.old }
 {
     let met = is_met(condition, plain.ccr);
     if met {
@@ -103,7 +103,7 @@ pub fn branch<P: Port>(
     ended: &mut Ended,
 ) -> Result<bool, Undone>
     ensures means { run P.bus (branch_of condition branch word_at space plain.old) (P.world port.old)
-        ≡ (performed_in_place result ended.new plain.old plain.new, P.world port.new) }
+        ≡ (performed_by result ended.new plain.new, P.world port.new) }
     ensures rest { P.rest port.new ≡ P.rest port.old }
 {
     let target = target(word_at, branch);

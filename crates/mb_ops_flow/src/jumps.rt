@@ -4,7 +4,7 @@ ghost use Rattle.std.specs.Prelude.{◌≡◌};
 ghost use Rattle.mb_port.specs.Routine.{run};
 ghost use Rattle.mb_instr.specs.Operands.{IsEa, IsInMemory};
 ghost use Rattle.mb_meaning.specs.Flow.{jmp_of, jsr_of};
-ghost use Rattle.mb_operands.specs.Endings.{performed_in_place};
+ghost use Rattle.mb_operands.specs.Endings.{performed_by};
 
 use crate::branches::call;
 use mb_instr::{Ea, Plain, Size};
@@ -26,7 +26,7 @@ pub fn jump<P: Port>(
     requires operand { IsEa Size.Long ea.now }
     requires place { IsInMemory ea.now }
     ensures means { run P.bus (jmp_of ea.now word_at space plain.old) (P.world port.old)
-        ≡ (performed_in_place result ended.new plain.old plain.new, P.world port.new) }
+        ≡ (performed_by result ended.new plain.new, P.world port.new) }
     ensures rest { P.rest port.new ≡ P.rest port.old }
 {
     match find_address(Size::Long, ea, word_at, space, plain, port) {
@@ -52,7 +52,7 @@ pub fn jump_to_subroutine<P: Port>(
     requires operand { IsEa Size.Long ea.now }
     requires place { IsInMemory ea.now }
     ensures means { run P.bus (jsr_of ea.now word_at space plain.old) (P.world port.old)
-        ≡ (performed_in_place result ended.new plain.old plain.new, P.world port.new) }
+        ≡ (performed_by result ended.new plain.new, P.world port.new) }
     ensures rest { P.rest port.new ≡ P.rest port.old }
 {
     match find_address(Size::Long, ea, word_at, space, plain, port) {

@@ -1,7 +1,7 @@
 //! DBcc.
 
 ghost use Rattle.std.specs.Prelude.{◌≡◌, ◌<◌};
-ghost use Rattle.mb_meaning.specs.Ends.{performed_by};
+ghost use Rattle.mb_meaning.specs.Ends.{went};
 ghost use Rattle.mb_meaning.specs.Flow.{counted_down, looped, dbcc_of};
 
 use crate::branches::target;
@@ -27,7 +27,7 @@ fn count_down(register: u8, plain: &mut Plain)
 #[tactic(auto, unfolding(mb_meaning::specs::Flow::looped))]
 fn go_if_counted(register: u8, target: u32, plain: &mut Plain) -> bool
     requires { register < 8 }
-    ensures { performed_by (Ok result) plain.new ≡ looped register target plain.old }
+    ensures { went result plain.new ≡ looped register target plain.old }
 {
     count_down(register, plain);
     let goes = Size::Word.low(plain.d[register as usize]) != NO_MORE;
@@ -49,7 +49,7 @@ pub fn loop_unless(
     plain: &mut Plain,
 ) -> bool
     requires { register < 8 }
-    ensures { performed_by (Ok result) plain.new ≡ dbcc_of condition register displacement word_at plain.old }
+    ensures { went result plain.new ≡ dbcc_of condition register displacement word_at plain.old }
 {
     if is_met(condition, plain.ccr) {
         false

@@ -7,8 +7,8 @@ ghost use Rattle.mb_instr.specs.Shapes.{operands_at};
 ghost use Rattle.mb_instr.specs.Rows.{flow_row};
 ghost use Rattle.mb_instr.specs.declared.instruction.Instr.TheVariants as instr;
 ghost use Rattle.mb_meaning.specs.Rows.{perform_flow_of};
-ghost use Rattle.mb_meaning.specs.Ends.{closing};
-ghost use Rattle.mb_operands.specs.Endings.{is_unread, performed_in_place};
+ghost use Rattle.mb_meaning.specs.Ends.{closing, restoring};
+ghost use Rattle.mb_operands.specs.Endings.{is_unread, performed_by};
 
 use crate::bounds::{check, check_bounds};
 use crate::branches::branch;
@@ -37,7 +37,7 @@ fn carry_out<P: Port>(
     requires { IsInstr (instr.Flow instruction.now) }
     ensures means { run P.bus
         (perform_flow_of instruction.now (operands_at (flow_row instruction.now) at) space plain.old) (P.world port.old)
-        ≡ (performed_in_place result ended.new plain.old plain.new, P.world port.new) }
+        ≡ (performed_by result ended.new plain.new, P.world port.new) }
     ensures rest { P.rest port.new ≡ P.rest port.old }
 {
     let first_word = at.wrapping_add(2);
@@ -76,7 +76,7 @@ pub fn perform_flow_in_place<P: Port>(
     requires { IsInstr (instr.Flow instruction.now) }
     ensures means { run P.bus
         (perform_flow_of instruction.now (operands_at (flow_row instruction.now) at) space plain.old) (P.world port.old)
-        ≡ (performed_in_place result ended.new plain.old plain.new, P.world port.new) }
+        ≡ (performed_by result ended.new plain.new, P.world port.new) }
     ensures rest { P.rest port.new ≡ P.rest port.old }
 {
     carry_out(instruction, at, space, plain, port, ended)
@@ -93,7 +93,8 @@ pub fn perform_flow<P: Port>(
 ) -> Ended
     requires { IsInstr (instr.Flow instruction.now) }
     ensures means { run P.bus
-        (closing (perform_flow_of instruction.now (operands_at (flow_row instruction.now) at) space plain.old))
+        (closing (restoring plain.old
+        (perform_flow_of instruction.now (operands_at (flow_row instruction.now) at) space plain.old)))
         (P.world port.old) ≡ ((result, plain.new), P.world port.new) }
     ensures unread { is_unread result ≡ true → plain.new ≡ plain.old }
     ensures rest { P.rest port.new ≡ P.rest port.old }

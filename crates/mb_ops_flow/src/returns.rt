@@ -3,7 +3,7 @@
 ghost use Rattle.std.specs.Prelude.{◌≡◌};
 ghost use Rattle.mb_port.specs.Routine.{run};
 ghost use Rattle.mb_meaning.specs.Returns.{rts_of, rtd_of, rtr_of};
-ghost use Rattle.mb_operands.specs.Endings.{performed_in_place};
+ghost use Rattle.mb_operands.specs.Endings.{performed_by};
 
 use mb_ea::read_value;
 use mb_instr::{Plain, Size};
@@ -21,7 +21,7 @@ pub fn return_from_subroutine<P: Port>(
     ended: &mut Ended,
 ) -> Result<bool, Undone>
     ensures means { run P.bus (rts_of space plain.old) (P.world port.old)
-        ≡ (performed_in_place result ended.new plain.old plain.new, P.world port.new) }
+        ≡ (performed_by result ended.new plain.new, P.world port.new) }
     ensures rest { P.rest port.new ≡ P.rest port.old }
 {
     match read_value(space, plain.a[7], Size::Long, port) {
@@ -45,7 +45,7 @@ pub fn return_and_deallocate<P: Port>(
     ended: &mut Ended,
 ) -> Result<bool, Undone>
     ensures means { run P.bus (rtd_of displacement space plain.old) (P.world port.old)
-        ≡ (performed_in_place result ended.new plain.old plain.new, P.world port.new) }
+        ≡ (performed_by result ended.new plain.new, P.world port.new) }
     ensures rest { P.rest port.new ≡ P.rest port.old }
 {
     let offset = Size::Word.sign_extend(u32::from(displacement));
@@ -69,7 +69,7 @@ pub fn return_and_restore<P: Port>(
     ended: &mut Ended,
 ) -> Result<bool, Undone>
     ensures means { run P.bus (rtr_of space plain.old) (P.world port.old)
-        ≡ (performed_in_place result ended.new plain.old plain.new, P.world port.new) }
+        ≡ (performed_by result ended.new plain.new, P.world port.new) }
     ensures rest { P.rest port.new ≡ P.rest port.old }
 {
     let codes = match read_value(space, plain.a[7], Size::Word, port) {

@@ -1,9 +1,8 @@
 //! TRAP, TRAPcc and TRAPV.
 
-ghost use Rattle.std.specs.Prelude.{◌≡◌, ◌<◌, false, OnErr};
-ghost use Rattle.mb_meaning.specs.Ends.{performed_by};
+ghost use Rattle.std.specs.Prelude.{◌≡◌, ◌<◌};
 ghost use Rattle.mb_meaning.specs.Traps.{trap_of, trapcc_of, trapv_of};
-ghost use Rattle.mb_operands.specs.Endings.{with_end, is_unread};
+ghost use Rattle.mb_operands.specs.Endings.{performed_by};
 
 use mb_instr::{Condition, Plain};
 use mb_operands::{Undone, is_met, trapped};
@@ -20,8 +19,7 @@ const FIRST_TRAP: u8 = 32;
 #[tactic(auto, unfolding(mb_meaning::specs::Traps::trap_of))]
 pub fn trap(number: u8, plain: &Plain, ended: &mut Ended) -> Result<bool, Undone>
     requires { number < 16 }
-    ensures means { performed_by (with_end result ended.new) plain.now ≡ trap_of number plain.now }
-    ensures read { OnErr result (is_unread ended.new ≡ false) }
+    ensures means { performed_by result ended.new plain.now ≡ trap_of number plain.now }
 {
     Err(trapped(FIRST_TRAP + number, ended))
 }
@@ -30,8 +28,7 @@ pub fn trap(number: u8, plain: &Plain, ended: &mut Ended) -> Result<bool, Undone
 #[inline(always)]
 #[tactic(auto, unfolding(mb_meaning::specs::Traps::trapcc_of))]
 pub fn trap_if(condition: Condition, plain: &Plain, ended: &mut Ended) -> Result<bool, Undone>
-    ensures means { performed_by (with_end result ended.new) plain.now ≡ trapcc_of condition plain.now }
-    ensures read { OnErr result (is_unread ended.new ≡ false) }
+    ensures means { performed_by result ended.new plain.now ≡ trapcc_of condition plain.now }
 {
     if is_met(condition, plain.ccr) {
         Err(trapped(CONDITION_MET, ended))
@@ -44,8 +41,7 @@ pub fn trap_if(condition: Condition, plain: &Plain, ended: &mut Ended) -> Result
 #[inline(always)]
 #[tactic(auto, unfolding(mb_meaning::specs::Traps::trapv_of))]
 pub fn trap_on_overflow(plain: &Plain, ended: &mut Ended) -> Result<bool, Undone>
-    ensures means { performed_by (with_end result ended.new) plain.now ≡ trapv_of plain.now }
-    ensures read { OnErr result (is_unread ended.new ≡ false) }
+    ensures means { performed_by result ended.new plain.now ≡ trapv_of plain.now }
 {
     trap_if(Condition::OverflowSet, plain, ended)
 }

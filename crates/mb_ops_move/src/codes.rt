@@ -4,7 +4,7 @@ ghost use Rattle.std.specs.Prelude.{◌≡◌, ◌<◌, ◌^◌};
 ghost use Rattle.mb_port.specs.Routine.{run};
 ghost use Rattle.mb_instr.specs.Operands.{IsEa, IsDestination};
 ghost use Rattle.mb_meaning.specs.Moves.{to_ccr_of, from_ccr_of, byte_of, scc_of};
-ghost use Rattle.mb_operands.specs.Endings.{carried_in_place};
+ghost use Rattle.mb_operands.specs.Endings.{carried_by};
 
 use mb_ea::resolve;
 use mb_instr::{Condition, Ea, Plain, Size};
@@ -25,7 +25,7 @@ pub fn move_to_ccr<P: Port>(
 ) -> Result<(), Undone>
     requires { IsEa Size.Word ea.now }
     ensures means { run P.bus (to_ccr_of ea.now word_at space plain.old) (P.world port.old)
-        ≡ (carried_in_place result ended.new plain.old plain.new, P.world port.new) }
+        ≡ (carried_by result ended.new plain.new, P.world port.new) }
     ensures rest { P.rest port.new ≡ P.rest port.old }
 {
     match fetch_operand(Size::Word, ea, word_at, space, plain, port) {
@@ -51,7 +51,7 @@ pub fn move_from_ccr<P: Port>(
     requires operand { IsEa Size.Word ea.now }
     requires destination { IsDestination ea.now }
     ensures means { run P.bus (from_ccr_of ea.now word_at space plain.old) (P.world port.old)
-        ≡ (carried_in_place result ended.new plain.old plain.new, P.world port.new) }
+        ≡ (carried_by result ended.new plain.new, P.world port.new) }
     ensures rest { P.rest port.new ≡ P.rest port.old }
 {
     let codes = u32::from(plain.ccr % 32);
@@ -85,7 +85,7 @@ pub fn set_by_condition<P: Port>(
     requires operand { IsEa Size.Byte ea.now }
     requires destination { IsDestination ea.now }
     ensures means { run P.bus (scc_of condition ea.now word_at space plain.old) (P.world port.old)
-        ≡ (carried_in_place result ended.new plain.old plain.new, P.world port.new) }
+        ≡ (carried_by result ended.new plain.new, P.world port.new) }
     ensures rest { P.rest port.new ≡ P.rest port.old }
 {
     let byte = byte_of(is_met(condition, plain.ccr));

@@ -4,7 +4,7 @@ ghost use Rattle.std.specs.Prelude.{◌≡◌, ◌<◌, ◌%◌};
 ghost use Rattle.mb_port.specs.Routine.{run};
 ghost use Rattle.mb_meaning.specs.Lines.{line_at, line_moved, past_line, past_lines, destination_in};
 ghost use Rattle.mb_meaning.specs.Lines.{move16_absolute_of, move16_of};
-ghost use Rattle.mb_operands.specs.Endings.{carried_in_place};
+ghost use Rattle.mb_operands.specs.Endings.{carried_by};
 
 use mb_ea::ReadFault;
 use mb_instr::{LineMove, Plain};
@@ -24,7 +24,7 @@ fn line_at(address: u32) -> u32
     address / LINE * LINE
 }
 
-/// Reads a line, and then writes it, whatever the registers before the instruction and after it.
+/// Reads a line, and then writes it, whatever the registers after the instruction.
 #[inline(always)]
 #[tactic(auto, unfolding(mb_meaning::specs::Lines::line_moved))]
 fn move_line<P: Port>(
@@ -34,8 +34,8 @@ fn move_line<P: Port>(
     port: &mut P,
     ended: &mut Ended,
 ) -> Result<(), Undone>
-    ensures means { (before after : Plain) → run P.bus (line_moved from to after space before) (P.world port.old)
-        ≡ (carried_in_place result ended.new before after, P.world port.new) }
+    ensures means { (after : Plain) → run P.bus (line_moved from to space after) (P.world port.old)
+        ≡ (carried_by result ended.new after, P.world port.new) }
     ensures rest { P.rest port.new ≡ P.rest port.old }
 {
     let first = line_at(from);
@@ -72,7 +72,7 @@ pub fn move_line_absolute<P: Port>(
 ) -> Result<(), Undone>
     requires { register < 8 }
     ensures means { run P.bus (move16_absolute_of kind register place space plain.old) (P.world port.old)
-        ≡ (carried_in_place result ended.new plain.old plain.new, P.world port.new) }
+        ≡ (carried_by result ended.new plain.new, P.world port.new) }
     ensures rest { P.rest port.new ≡ P.rest port.old }
 {
     let address = plain.a[register as usize];
@@ -123,7 +123,7 @@ pub fn move_line_post<P: Port>(
 ) -> Result<(), Undone>
     requires { x < 8 }
     ensures means { run P.bus (move16_of x word space plain.old) (P.world port.old)
-        ≡ (carried_in_place result ended.new plain.old plain.new, P.world port.new) }
+        ≡ (carried_by result ended.new plain.new, P.world port.new) }
     ensures rest { P.rest port.new ≡ P.rest port.old }
 {
     let y = destination(word);

@@ -5,7 +5,7 @@ ghost use Rattle.mb_port.specs.Routine.{run};
 ghost use Rattle.mb_instr.specs.Operands.{IsEa, IsInMemory};
 ghost use Rattle.mb_writes.specs.Transfers.{IsMode};
 ghost use Rattle.mb_meaning.specs.Moves.{movem_mode, movem_of};
-ghost use Rattle.mb_operands.specs.Endings.{carried_in_place};
+ghost use Rattle.mb_operands.specs.Endings.{carried_by};
 
 use mb_instr::{Ea, Plain, Size};
 use mb_operands::{Undone, find_address, left_undone, unread};
@@ -50,7 +50,7 @@ pub fn movem<P: Port>(
     requires operand { IsEa size ea.now }
     requires place { IsInMemory ea.now }
     ensures means { run P.bus (movem_of is_load size ea.now mask word_at space plain.old) (P.world port.old)
-        ≡ (carried_in_place result ended.new plain.old plain.new, P.world port.new) }
+        ≡ (carried_by result ended.new plain.new, P.world port.new) }
     ensures rest { P.rest port.new ≡ P.rest port.old }
 {
     let place = match find_address(size, ea, word_at, space, plain, port) {

@@ -4,7 +4,7 @@ ghost use Rattle.std.specs.Prelude.{◌≡◌, ◌<◌};
 ghost use Rattle.mb_port.specs.Routine.{run};
 ghost use Rattle.mb_instr.specs.Operands.{IsEa, IsInMemory, IsDestination};
 ghost use Rattle.mb_meaning.specs.Moves.{moveq_of, move_of, movea_of, lea_of};
-ghost use Rattle.mb_operands.specs.Endings.{carried_in_place};
+ghost use Rattle.mb_operands.specs.Endings.{carried_by};
 
 use mb_alu::{LogicKind, extend, logic};
 use mb_ea::resolve;
@@ -42,7 +42,7 @@ pub fn move_operand<P: Port>(
     requires destination { IsDestination destination.now }
     requires source { IsEa size from.now }
     ensures means { run P.bus (move_of size destination.now from.now word_at space plain.old) (P.world port.old)
-        ≡ (carried_in_place result ended.new plain.old plain.new, P.world port.new) }
+        ≡ (carried_by result ended.new plain.new, P.world port.new) }
     ensures rest { P.rest port.new ≡ P.rest port.old }
 {
     let source = match fetch_operand(size, from, word_at, space, plain, port) {
@@ -74,7 +74,7 @@ pub fn move_address<P: Port>(
     requires source { IsEa size from.now }
     requires register { register < 8 }
     ensures means { run P.bus (movea_of size register from.now word_at space plain.old) (P.world port.old)
-        ≡ (carried_in_place result ended.new plain.old plain.new, P.world port.new) }
+        ≡ (carried_by result ended.new plain.new, P.world port.new) }
     ensures rest { P.rest port.new ≡ P.rest port.old }
 {
     match fetch_operand(size, from, word_at, space, plain, port) {
@@ -102,7 +102,7 @@ pub fn load_address<P: Port>(
     requires place { IsInMemory ea.now }
     requires register { register < 8 }
     ensures means { run P.bus (lea_of register ea.now word_at space plain.old) (P.world port.old)
-        ≡ (carried_in_place result ended.new plain.old plain.new, P.world port.new) }
+        ≡ (carried_by result ended.new plain.new, P.world port.new) }
     ensures rest { P.rest port.new ≡ P.rest port.old }
 {
     match find_address(Size::Long, ea, word_at, space, plain, port) {

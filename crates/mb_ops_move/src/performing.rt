@@ -7,8 +7,8 @@ ghost use Rattle.mb_instr.specs.Shapes.{operands_at};
 ghost use Rattle.mb_instr.specs.Rows.{move_row};
 ghost use Rattle.mb_instr.specs.declared.instruction.Instr.TheVariants as instr;
 ghost use Rattle.mb_meaning.specs.Rows.{perform_move_of};
-ghost use Rattle.mb_meaning.specs.Ends.{closing};
-ghost use Rattle.mb_operands.specs.Endings.{is_unread, carried_in_place, performed_in_place};
+ghost use Rattle.mb_meaning.specs.Ends.{closing, restoring};
+ghost use Rattle.mb_operands.specs.Endings.{is_unread, performed_by, carried_by};
 
 use crate::codes::{move_from_ccr, move_to_ccr, set_by_condition};
 use crate::lines::{move_line_absolute, move_line_post};
@@ -37,7 +37,7 @@ fn carry_out<P: Port>(
     requires { IsInstr (instr.Move instruction.now) }
     ensures means { run P.bus
         (perform_move_of instruction.now (operands_at (move_row instruction.now) at) space plain.old) (P.world port.old)
-        ≡ (carried_in_place result ended.new plain.old plain.new, P.world port.new) }
+        ≡ (carried_by result ended.new plain.new, P.world port.new) }
     ensures rest { P.rest port.new ≡ P.rest port.old }
 {
     let first_word = at.wrapping_add(2);
@@ -93,7 +93,7 @@ pub fn perform_move_in_place<P: Port>(
     requires { IsInstr (instr.Move instruction.now) }
     ensures means { run P.bus
         (perform_move_of instruction.now (operands_at (move_row instruction.now) at) space plain.old) (P.world port.old)
-        ≡ (performed_in_place result ended.new plain.old plain.new, P.world port.new) }
+        ≡ (performed_by result ended.new plain.new, P.world port.new) }
     ensures rest { P.rest port.new ≡ P.rest port.old }
 {
     match carry_out(instruction, at, space, plain, port, ended) {
@@ -113,7 +113,8 @@ pub fn perform_move<P: Port>(
 ) -> Ended
     requires { IsInstr (instr.Move instruction.now) }
     ensures means { run P.bus
-        (closing (perform_move_of instruction.now (operands_at (move_row instruction.now) at) space plain.old))
+        (closing (restoring plain.old
+        (perform_move_of instruction.now (operands_at (move_row instruction.now) at) space plain.old)))
         (P.world port.old) ≡ ((result, plain.new), P.world port.new) }
     ensures unread { is_unread result ≡ true → plain.new ≡ plain.old }
     ensures rest { P.rest port.new ≡ P.rest port.old }

@@ -1,13 +1,12 @@
 //! MOVEP.
 
-ghost use Rattle.std.specs.Prelude.{◌≡◌, ◌<◌, false, OnErr};
+ghost use Rattle.std.specs.Prelude.{◌≡◌, ◌<◌};
 ghost use Rattle.mb_port.specs.Routine.{run};
 ghost use Rattle.mb_instr.specs.Sizes.{bytes_of};
 ghost use Rattle.mb_ea.specs.Reading.{read_pieces};
 ghost use Rattle.mb_writes.specs.Writing.{apart};
-ghost use Rattle.mb_meaning.specs.Ends.{carried_by};
 ghost use Rattle.mb_meaning.specs.Peripheral.{read_apart_of, from_peripheral, to_peripheral, movep_of};
-ghost use Rattle.mb_operands.specs.Endings.{with_end, is_unread, carried_in_place};
+ghost use Rattle.mb_operands.specs.Endings.{carried_by};
 
 use mb_ea::{ReadFault, Target};
 use mb_instr::{Plain, Size};
@@ -95,7 +94,7 @@ fn load<P: Port>(
 ) -> Result<(), Undone>
     requires { register < 8 }
     ensures means { run P.bus (from_peripheral register size place space plain.old) (P.world port.old)
-        ≡ (carried_in_place result ended.new plain.old plain.new, P.world port.new) }
+        ≡ (carried_by result ended.new plain.new, P.world port.new) }
     ensures rest { P.rest port.new ≡ P.rest port.old }
 {
     match read_apart(space, place, size, port) {
@@ -125,8 +124,7 @@ fn store<P: Port>(
 ) -> Result<(), Undone>
     requires { register < 8 }
     ensures means { run P.bus (to_peripheral register size place space plain.now) (P.world port.old)
-        ≡ (carried_by (with_end result ended.new) plain.now, P.world port.new) }
-    ensures read { OnErr result (is_unread ended.new ≡ false) }
+        ≡ (carried_by result ended.new plain.now, P.world port.new) }
     ensures rest { P.rest port.new ≡ P.rest port.old }
 {
     match put_apart(space, place, size, plain.d[register as usize], port) {
@@ -150,7 +148,7 @@ pub fn move_peripheral<P: Port>(
 ) -> Result<(), Undone>
     requires { (register < 8) × (address < 8) }
     ensures means { run P.bus (movep_of register is_store size address displacement space plain.old) (P.world port.old)
-        ≡ (carried_in_place result ended.new plain.old plain.new, P.world port.new) }
+        ≡ (carried_by result ended.new plain.new, P.world port.new) }
     ensures rest { P.rest port.new ≡ P.rest port.old }
 {
     let displacement = Size::Word.sign_extend(u32::from(displacement));

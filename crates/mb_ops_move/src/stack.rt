@@ -4,7 +4,7 @@ ghost use Rattle.std.specs.Prelude.{◌≡◌, ◌<◌};
 ghost use Rattle.mb_port.specs.Routine.{run};
 ghost use Rattle.mb_instr.specs.Operands.{IsEa, IsInMemory};
 ghost use Rattle.mb_meaning.specs.Stack.{pea_of, link_of, unlk_of};
-ghost use Rattle.mb_operands.specs.Endings.{carried_in_place};
+ghost use Rattle.mb_operands.specs.Endings.{carried_by};
 
 use mb_ea::read_value;
 use mb_instr::{Ea, Plain, Size};
@@ -26,7 +26,7 @@ pub fn push_address<P: Port>(
     requires operand { IsEa Size.Long ea.now }
     requires place { IsInMemory ea.now }
     ensures means { run P.bus (pea_of ea.now word_at space plain.old) (P.world port.old)
-        ≡ (carried_in_place result ended.new plain.old plain.new, P.world port.new) }
+        ≡ (carried_by result ended.new plain.new, P.world port.new) }
     ensures rest { P.rest port.new ≡ P.rest port.old }
 {
     let place = match find_address(Size::Long, ea, word_at, space, plain, port) {
@@ -50,7 +50,7 @@ pub fn link<P: Port>(
 ) -> Result<(), Undone>
     requires { register < 8 }
     ensures means { run P.bus (link_of register displacement space plain.old) (P.world port.old)
-        ≡ (carried_in_place result ended.new plain.old plain.new, P.world port.new) }
+        ≡ (carried_by result ended.new plain.new, P.world port.new) }
     ensures rest { P.rest port.new ≡ P.rest port.old }
 {
     let register = register as usize;
@@ -74,7 +74,7 @@ pub fn unlink<P: Port>(
 ) -> Result<(), Undone>
     requires { register < 8 }
     ensures means { run P.bus (unlk_of register space plain.old) (P.world port.old)
-        ≡ (carried_in_place result ended.new plain.old plain.new, P.world port.new) }
+        ≡ (carried_by result ended.new plain.new, P.world port.new) }
     ensures rest { P.rest port.new ≡ P.rest port.old }
 {
     let register = register as usize;

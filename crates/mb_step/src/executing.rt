@@ -84,7 +84,7 @@ fn finish_plain<P: Port>(
 
 /// Carries out an instruction of so many words that is not privileged.
 #[inline(always)]
-#[tactic(auto, unfolding(mb_meaning::specs::Step::unprivileged_of), using(crate::proofs::Finishes::finish_left))]
+#[tactic(auto, unfolding(mb_meaning::specs::Step::unprivileged_of))]
 fn execute_unprivileged<P: Port>(
     instruction: &Instr,
     length: u8,

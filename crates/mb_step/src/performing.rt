@@ -22,7 +22,7 @@ const PRIVILEGED: u8 = 8;
 /// accesses are made in `space`. Where it is not done, how it ended goes to `ended`; after a refused read the
 /// registers before the instruction count, and `plain` may have some that were stepped.
 #[inline(always)]
-#[tactic(auto, unfolding(mb_meaning::specs::Rows::perform_of))]
+#[tactic(auto, unfolding(mb_meaning::specs::Rows::perform_of, mb_meaning::specs::Rows::row_of))]
 pub(crate) fn perform_in_place<P: Port>(
     instruction: &Instr,
     at: u32,

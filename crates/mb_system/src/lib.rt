@@ -4,6 +4,7 @@
 #![tactic(auto)]
 
 mod control;
+mod finishing;
 mod performing;
 mod spaces;
 mod status;

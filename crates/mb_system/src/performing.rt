@@ -72,11 +72,13 @@ fn carry_out<P: Port>(
 
 /// Carries out a privileged instruction but RTE in supervisor mode, which stands at `at`. PC is past its words already.
 #[inline(always)]
+#[tactic(auto, using(crate::proofs::Ends::closed_as))]
 pub fn perform_system<P: Port>(instruction: &System, at: u32, cpu: &mut Cpu, port: &mut P) -> Ended
     requires row { IsInstr (instr.System instruction.now) }
     requires stays { instruction.now ≢ System.Rte }
     ensures means { run P.bus
-        (system_closing (perform_system_of instruction.now (operands_at (system_row instruction.now) at) cpu.old))
+        (system_closing cpu.old
+        (perform_system_of instruction.now (operands_at (system_row instruction.now) at) cpu.old))
         (P.world port.old) ≡ ((result, cpu.new), P.world port.new) }
     ensures ends { SystemEnds result cpu.old cpu.new }
     ensures rest { P.rest port.new ≡ P.rest port.old }

@@ -11,10 +11,11 @@ ghost use Rattle.mb_system.specs.Ends.{SystemEnds};
 ghost use Rattle.mb_meaning.specs.Spaces.{function_space, taken, out_of_register, into_register, is_store, moves_of};
 ghost use Rattle.mb_meaning.specs.Spaces.{flushed_by, pflush_of, ptest_of};
 
+use crate::finishing::finish_row;
 use mb_ea::{Target, read_value, resolve};
 use mb_instr::{Ea, FlushKind, Plain, Size};
 use mb_model::{Cpu, page_of};
-use mb_operands::{finish_with, named_register, place, with_low};
+use mb_operands::{named_register, place, with_low};
 use mb_port::{Flush, MmuReg, Port, Space};
 use mb_writes::Ended;
 
@@ -47,7 +48,7 @@ fn take(size: Size, register: u8, value: u32, plain: &mut Plain)
 
 /// MOVES to memory, in DFC's space. The registers are those after the address was formed.
 #[inline(always)]
-#[tactic(auto, unfolding(mb_meaning::specs::Spaces::out_of_register), using(crate::proofs::Ends::unfinished))]
+#[tactic(auto, unfolding(mb_meaning::specs::Spaces::out_of_register))]
 fn move_out<P: Port>(
     size: Size,
     target: Target,
@@ -65,21 +66,15 @@ fn move_out<P: Port>(
     ensures rest { P.rest port.new ≡ P.rest port.old }
 {
     let value = plain.register(register);
-    let mut ended = Ended::Done { flow: false };
-    let done = match finish_with(
+    finish_row(
         target,
         size,
         value,
         function_space(cpu.dfc),
         plain,
+        cpu,
         port,
-        &mut ended,
-    ) {
-        Ok(()) => Ok(()),
-        Err(_) => Err(ended),
-    };
-    cpu.regs.set_plain(plain);
-    done
+    )
 }
 
 /// MOVES from memory, in SFC's space. The registers are those after the address was formed.

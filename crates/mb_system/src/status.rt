@@ -8,11 +8,12 @@ ghost use Rattle.mb_system.specs.Ends.{SystemEnds};
 ghost use Rattle.mb_meaning.specs.Status.{with_status, status_by, to_status_of, from_status_of, stop_of};
 ghost use Rattle.mb_meaning.specs.Status.{to_usp_of, from_usp_of, move_usp_of};
 
+use crate::finishing::finish_row;
 use mb_alu::{LogicKind, logic};
 use mb_ea::resolve;
 use mb_instr::{Ea, Size};
 use mb_model::{Cpu, kept_status};
-use mb_operands::{fetch_operand, finish_with};
+use mb_operands::fetch_operand;
 use mb_port::{Port, Space};
 use mb_writes::Ended;
 
@@ -65,7 +66,7 @@ pub(crate) fn move_to_status<P: Port>(
 
 /// MOVE from SR. The destination is not read.
 #[inline(always)]
-#[tactic(auto, unfolding(mb_meaning::specs::Status::from_status_of), using(crate::proofs::Ends::unfinished))]
+#[tactic(auto, unfolding(mb_meaning::specs::Status::from_status_of))]
 pub(crate) fn move_from_status<P: Port>(
     ea: &Ea,
     word_at: u32,
@@ -85,21 +86,15 @@ pub(crate) fn move_from_status<P: Port>(
         Err(refused) => return Err(Ended::ReadFault(refused)),
     };
     let status = u32::from(cpu.regs.sr);
-    let mut ended = Ended::Done { flow: false };
-    let done = match finish_with(
+    finish_row(
         target,
         Size::Word,
         status,
         Space::Super,
         &mut plain,
+        cpu,
         port,
-        &mut ended,
-    ) {
-        Ok(()) => Ok(()),
-        Err(_) => Err(ended),
-    };
-    cpu.regs.set_plain(&plain);
-    done
+    )
 }
 
 /// STOP: SR is loaded, and the processor stops.

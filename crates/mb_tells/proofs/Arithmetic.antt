@@ -9,16 +9,15 @@ use Rattle.mb_instr.specs.declared.registers.Plain.{Plain}
 use Rattle.mb_instr.specs.Operands.{address_number}
 use Rattle.mb_alu.specs.declared.conditions.Flagged.{Flagged}
 use Rattle.mb_writes.specs.declared.transfers.Movem.{Movem}
-use Rattle.mb_meaning.specs.Ends.{Performed}
+use Rattle.mb_meaning.specs.Ends.{Rowed}
 use Rattle.mb_meaning.specs.Operands.{behind}
 use Rattle.mb_meaning.specs.Moves.{move_flags}
 use Rattle.mb_meaning.specs.Arithmetic.{Pair, pair_of, combining, comparing, either_way, chaining, quick_to, quick_of, taking}
 use Rattle.mb_meaning.specs.Unary.{clr_of}
 use Rattle.mb_tells.specs.Guarded.{Guarded, Guards}
-use Rattle.mb_tells.specs.Left.{Row}
 use Rattle.mb_tells.specs.Laws.{AreLongs}
 use Rattle.mb_tells.proofs.Ranges.{IsFormed}
-use Rattle.mb_tells.proofs.Parts.{Reads, reads_then, reads_none, row_reading, row_done, row_ends}
+use Rattle.mb_tells.proofs.Parts.{RowTells, Reads, reads_then, reads_none, row_reading, row_done, row_ends}
 use Rattle.mb_tells.proofs.Operands.{IsFetched, resolve_tells, fetched_tells, storing_tells}
 use Rattle.mb_tells.proofs.Modifying.{modifying_tells}
 
@@ -35,7 +34,7 @@ module _ {S : Type 0} (x : Guarded S) (space : Space) (g : Guards x space) where
 
 module _ {S : Type 0} (x : Guarded S) (space : Space) (g : Guards x space) {moves : Movem → Type 0} where
   pub combining_tells : (operation : ℕ → ℕ → ℕ → Flagged) (size : Size) (source destination : Ea) (word_at : ℕ) (p : Plain)
-      → IsFormed source → IsFormed destination → AreLongs p.a → Row x space p moves (combining operation size source destination word_at space p)
+      → IsFormed source → IsFormed destination → AreLongs p.a → RowTells x space p moves (combining operation size source destination word_at space p)
   unfolding combining
   combining_tells operation size source destination word_at p comes goes longs =
       row_reading x space (pair_tells x space g size source destination word_at p comes goes longs) (λ pair found.
@@ -44,20 +43,20 @@ module _ {S : Type 0} (x : Guarded S) (space : Space) (g : Guards x space) {move
       storing_tells x space g to.target size result.value (record to.plain { ccr = result.ccr }) found.0)
 
   pub comparing_tells : (size : Size) (source destination : Ea) (word_at : ℕ) (p : Plain) → IsFormed source → IsFormed destination → AreLongs p.a
-      → Row x space p moves (comparing size source destination word_at space p)
+      → RowTells x space p moves (comparing size source destination word_at space p)
   unfolding comparing
   comparing_tells size source destination word_at p comes goes longs =
       row_reading x space (pair_tells x space g size source destination word_at p comes goes longs) (λ pair found. row_done x space _)
 
   pub either_way_tells : (operation : ℕ → ℕ → ℕ → Flagged) (register : ℕ) (to_memory : Bool) (size : Size) (ea : Ea) (word_at : ℕ) (p : Plain)
-      → IsFormed ea → AreLongs p.a → Row x space p moves (either_way operation register to_memory size ea word_at space p)
+      → IsFormed ea → AreLongs p.a → RowTells x space p moves (either_way operation register to_memory size ea word_at space p)
   unfolding either_way
   either_way_tells operation register to_memory size ea word_at p is longs =
       tells_choose to_memory _ _ (λ e. combining_tells operation size (Dn register) ea word_at p tt is longs)
       (λ e. combining_tells operation size ea (Dn register) word_at p is tt longs)
 
   pub chaining_tells : (operation : ℕ → ℕ → ℕ → Flagged) (size : Size) (in_memory : Bool) (source destination word_at : ℕ) (p : Plain)
-      → AreLongs p.a → Row x space p moves (chaining operation size in_memory source destination word_at space p)
+      → AreLongs p.a → RowTells x space p moves (chaining operation size in_memory source destination word_at space p)
   unfolding chaining
   chaining_tells operation size in_memory source destination word_at p longs =
       tells_choose in_memory _ _ (λ e. combining_tells operation size (Pre source) (Pre destination) word_at p tt tt longs)
@@ -66,24 +65,24 @@ module _ {S : Type 0} (x : Guarded S) (space : Space) (g : Guards x space) {move
   -- ---- quick values
 
   quick_to_tells : (o : Option ℕ) (change : ℕ → ℕ → Flagged) (moved : ℕ → ℕ) (size : Size) (ea : Ea) (word_at : ℕ) (p : Plain)
-      → IsFormed ea → AreLongs p.a → Row x space p moves (quick_to o change moved size ea word_at space p)
+      → IsFormed ea → AreLongs p.a → RowTells x space p moves (quick_to o change moved size ea word_at space p)
   quick_to_tells (Some n) change moved size ea word_at p is longs = row_done x space _
   quick_to_tells None change moved size ea word_at p is longs = modifying_tells x space g change size ea word_at p is longs
 
   pub quick_tells : (change : ℕ → ℕ → Flagged) (moved : ℕ → ℕ) (size : Size) (ea : Ea) (word_at : ℕ) (p : Plain)
-      → IsFormed ea → AreLongs p.a → Row x space p moves (quick_of change moved size ea word_at space p)
+      → IsFormed ea → AreLongs p.a → RowTells x space p moves (quick_of change moved size ea word_at space p)
   unfolding quick_of
   quick_tells change moved size ea word_at p is longs = quick_to_tells (address_number ea) change moved size ea word_at p is longs
 
   -- ---- operands that are only read, or only written
 
-  pub taking_tells : (effect : ℕ → Plain → Performed) (size : Size) (ea : Ea) (word_at : ℕ) (p : Plain) → IsFormed ea → AreLongs p.a
-      → Row x space p moves (taking effect size ea word_at space p)
+  pub taking_tells : (effect : ℕ → Plain → Rowed) (size : Size) (ea : Ea) (word_at : ℕ) (p : Plain) → IsFormed ea → AreLongs p.a
+      → RowTells x space p moves (taking effect size ea word_at space p)
   unfolding taking
   taking_tells effect size ea word_at p is longs =
       row_reading x space (fetched_tells x space g size ea word_at p is longs) (λ operand read. row_ends x space (effect operand.value operand.plain))
 
-  pub clr_tells : (size : Size) (ea : Ea) (word_at : ℕ) (p : Plain) → IsFormed ea → AreLongs p.a → Row x space p moves (clr_of size ea word_at space p)
+  pub clr_tells : (size : Size) (ea : Ea) (word_at : ℕ) (p : Plain) → IsFormed ea → AreLongs p.a → RowTells x space p moves (clr_of size ea word_at space p)
   unfolding clr_of
   clr_tells size ea word_at p is longs =
       row_reading x space (resolve_tells x space g ea size word_at p is longs) (λ to found.

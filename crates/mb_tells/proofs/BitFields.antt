@@ -4,7 +4,6 @@ use Rattle.mb_port.specs.declared.types.Space.{Space}
 use Rattle.mb_instr.specs.declared.registers.Plain.{Plain}
 use Rattle.mb_writes.specs.declared.transfers.Movem.{Movem}
 use Rattle.mb_tells.specs.Guarded.{Guarded, Guards}
-use Rattle.mb_tells.specs.Left.{Row}
 use Rattle.mb_tells.specs.Laws.{AreLongs}
 use Rattle.mb_laws.proofs.Told.{tells_choose}
 use Rattle.mb_instr.specs.declared.size.Size.TheVariants.{Long}
@@ -19,11 +18,11 @@ use Rattle.mb_meaning.specs.BitFields.{named_by, offset_of, width_of, is_change,
 use Rattle.mb_meaning.specs.BitFields.{bytes_before, bytes_held, field_in_memory, field_row_of}
 use Rattle.mb_tells.proofs.Longs.{sum_long}
 use Rattle.mb_tells.proofs.Ranges.{IsFormed}
-use Rattle.mb_tells.proofs.Parts.{row_reading, row_done, row_writing}
+use Rattle.mb_tells.proofs.Parts.{RowTells, row_reading, row_done, row_writing}
 use Rattle.mb_tells.proofs.Operands.{reading_tells, address_tells, writing_tells}
 
 module _ {S : Type 0} (x : Guarded S) (space : Space) (g : Guards x space) {moves : Movem → Type 0} where
-  in_memory_tells : (kind : FieldKind) (word address : ℕ) (p : Plain) → Row x space p moves (field_in_memory kind word address space p)
+  in_memory_tells : (kind : FieldKind) (word address : ℕ) (p : Plain) → RowTells x space p moves (field_in_memory kind word address space p)
   unfolding field_in_memory
   in_memory_tells kind word address p =
       let offset = offset_of word p in
@@ -40,7 +39,7 @@ module _ {S : Type 0} (x : Guarded S) (space : Space) (g : Guards x space) {move
       (λ e. row_done x space done))
 
   pub field_row_tells : (kind : FieldKind) (ea : Ea) (word word_at : ℕ) (p : Plain) → IsFormed ea → AreLongs p.a
-      → Row x space p moves (field_row_of kind ea word word_at space p)
+      → RowTells x space p moves (field_row_of kind ea word word_at space p)
   unfolding field_row_of
   field_row_tells kind (Dn n) word word_at p is longs = row_done x space _
   field_row_tells kind ea word word_at p is longs =

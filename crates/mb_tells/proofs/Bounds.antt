@@ -4,7 +4,6 @@ use Rattle.mb_port.specs.declared.types.Space.{Space}
 use Rattle.mb_instr.specs.declared.registers.Plain.{Plain}
 use Rattle.mb_writes.specs.declared.transfers.Movem.{Movem}
 use Rattle.mb_tells.specs.Guarded.{Guarded, Guards}
-use Rattle.mb_tells.specs.Left.{Row}
 use Rattle.mb_tells.specs.Laws.{AreLongs}
 use Rattle.mb_instr.specs.declared.size.Size.{Size}
 use Rattle.mb_instr.specs.declared.operand.Ea.{Ea}
@@ -13,7 +12,7 @@ use Rattle.mb_ea.specs.Addresses.{sum}
 use Rattle.mb_meaning.specs.Bounds.{chk_of, bounds_of, cmp2_of, chk2_of}
 use Rattle.mb_tells.proofs.Longs.{sum_long}
 use Rattle.mb_tells.proofs.Ranges.{IsFormed}
-use Rattle.mb_tells.proofs.Parts.{Reads, reads_then, reads_none, row_reading, row_done, row_ends}
+use Rattle.mb_tells.proofs.Parts.{RowTells, Reads, reads_then, reads_none, row_reading, row_done, row_ends}
 use Rattle.mb_tells.proofs.Operands.{reading_tells, fetched_tells, address_tells}
 
 module _ {S : Type 0} (x : Guarded S) (space : Space) (g : Guards x space) where
@@ -28,15 +27,17 @@ module _ {S : Type 0} (x : Guarded S) (space : Space) (g : Guards x space) where
 
 module _ {S : Type 0} (x : Guarded S) (space : Space) (g : Guards x space) {moves : Movem → Type 0} where
   pub chk_tells : (n : ℕ) (size : Size) (ea : Ea) (word_at : ℕ) (p : Plain) → IsFormed ea → AreLongs p.a
-      → Row x space p moves (chk_of n size ea word_at space p)
+      → RowTells x space p moves (chk_of n size ea word_at space p)
   unfolding chk_of
   chk_tells n size ea word_at p is longs =
       row_reading x space (fetched_tells x space g size ea word_at p is longs) (λ bound read. row_ends x space _)
 
-  pub cmp2_tells : (size : Size) (ea : Ea) (w word_at : ℕ) (p : Plain) → IsFormed ea → AreLongs p.a → Row x space p moves (cmp2_of size ea w word_at space p)
+  pub cmp2_tells : (size : Size) (ea : Ea) (w word_at : ℕ) (p : Plain) → IsFormed ea → AreLongs p.a
+      → RowTells x space p moves (cmp2_of size ea w word_at space p)
   unfolding cmp2_of
   cmp2_tells size ea w word_at p is longs = row_reading x space (bounds_tells x space g size ea w word_at p is longs) (λ ccr read. row_done x space _)
 
-  pub chk2_tells : (size : Size) (ea : Ea) (w word_at : ℕ) (p : Plain) → IsFormed ea → AreLongs p.a → Row x space p moves (chk2_of size ea w word_at space p)
+  pub chk2_tells : (size : Size) (ea : Ea) (w word_at : ℕ) (p : Plain) → IsFormed ea → AreLongs p.a
+      → RowTells x space p moves (chk2_of size ea w word_at space p)
   unfolding chk2_of
   chk2_tells size ea w word_at p is longs = row_reading x space (bounds_tells x space g size ea w word_at p is longs) (λ ccr read. row_ends x space _)

@@ -4,14 +4,13 @@ use Rattle.mb_port.specs.declared.types.Space.{Space}
 use Rattle.mb_instr.specs.declared.registers.Plain.{Plain}
 use Rattle.mb_writes.specs.declared.transfers.Movem.{Movem}
 use Rattle.mb_tells.specs.Guarded.{Guarded, Guards}
-use Rattle.mb_tells.specs.Left.{Row}
 use Rattle.mb_tells.specs.Laws.{AreLongs}
 use Rattle.mb_instr.specs.declared.size.Size.{Size}
 use Rattle.mb_instr.specs.declared.size.Size.TheVariants.{Byte}
 use Rattle.mb_alu.specs.declared.conditions.Flagged.{Flagged}
 use Rattle.mb_meaning.specs.Decimals.{paired, decimal_of, digits_of}
 use Rattle.mb_tells.proofs.Ranges.{IsFormed}
-use Rattle.mb_tells.proofs.Parts.{row_reading}
+use Rattle.mb_tells.proofs.Parts.{RowTells, row_reading}
 use Rattle.mb_tells.proofs.Operands.{resolve_tells, fetched_tells, storing_tells}
 
 paired_formed : (in_memory : Bool) (n : ℕ) → IsFormed (paired in_memory n)
@@ -20,7 +19,7 @@ paired_formed false n = tt
 
 module _ {S : Type 0} (x : Guarded S) (space : Space) (g : Guards x space) {moves : Movem → Type 0} where
   pub decimal_tells : (operation : ℕ → ℕ → ℕ → Flagged) (to : ℕ) (in_memory : Bool) (from word_at : ℕ) (p : Plain) → AreLongs p.a
-      → Row x space p moves (decimal_of operation to in_memory from word_at space p)
+      → RowTells x space p moves (decimal_of operation to in_memory from word_at space p)
   unfolding decimal_of
   decimal_tells operation to in_memory from word_at p longs =
       row_reading x space (fetched_tells x space g Byte (paired in_memory from) word_at p (paired_formed in_memory from) longs) (λ source read.
@@ -30,7 +29,7 @@ module _ {S : Type 0} (x : Guarded S) (space : Space) (g : Guards x space) {move
       storing_tells x space g destination.target Byte result.value (record destination.plain { ccr = result.ccr }) found.0))
 
   pub digits_tells : (operation : ℕ → ℕ → ℕ) (read written : Size) (to : ℕ) (in_memory : Bool) (from adjust word_at : ℕ) (p : Plain) → AreLongs p.a
-      → Row x space p moves (digits_of operation read written to in_memory from adjust word_at space p)
+      → RowTells x space p moves (digits_of operation read written to in_memory from adjust word_at space p)
   unfolding digits_of
   digits_tells operation read written to in_memory from adjust word_at p longs =
       row_reading x space (fetched_tells x space g read (paired in_memory from) word_at p (paired_formed in_memory from) longs) (λ source comes.

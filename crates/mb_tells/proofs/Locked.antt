@@ -5,7 +5,6 @@ use Rattle.mb_port.specs.declared.types.Space.{Space}
 use Rattle.mb_instr.specs.declared.registers.Plain.{Plain}
 use Rattle.mb_writes.specs.declared.transfers.Movem.{Movem}
 use Rattle.mb_tells.specs.Guarded.{Guarded, Guards}
-use Rattle.mb_tells.specs.Left.{Row}
 use Rattle.mb_tells.specs.Laws.{AreLongs}
 use Rattle.mb_port.specs.Routine.{Probe, sure, probe, get, put}
 use Rattle.mb_port.specs.Pieces.{split_of}
@@ -31,7 +30,7 @@ use Rattle.mb_tells.specs.Left.{Answered, Telling}
 use Rattle.mb_tells.proofs.Apart.{ArePlaced, split_placed}
 use Rattle.mb_tells.proofs.Longs.{register_long}
 use Rattle.mb_tells.proofs.Ranges.{IsFormed}
-use Rattle.mb_tells.proofs.Parts.{Reads, Calm, knowing, row_reading, row_tail, tail_done, tail_then, calm_sure, calm_then}
+use Rattle.mb_tells.proofs.Parts.{RowTells, Reads, Calm, knowing, row_reading, row_tail, tail_done, tail_then, calm_sure, calm_then}
 use Rattle.mb_tells.proofs.Operands.{resolve_tells, place_long}
 use Rattle.mb_tells.proofs.Modifying.{modifying_tells}
 
@@ -97,14 +96,14 @@ module _ {S : Type 0} (x : Guarded S) (space : Space) (g : Guards x space) where
 module _ {S : Type 0} (x : Guarded S) (space : Space) (g : Guards x space) {moves : Movem → Type 0} where
   -- ---- rows
 
-  tas_in_memory_tells : (address : ℕ) (before p : Plain) → address < 2 ^ 32 → Row x space before moves (tas_in_memory address space before p)
+  tas_in_memory_tells : (address : ℕ) (before p : Plain) → address < 2 ^ 32 → RowTells x space before moves (tas_in_memory address space p)
   unfolding tas_in_memory
   tas_in_memory_tells address before p lt =
       row_reading x space (probe_tells x space g address 1 lt) (λ places may. row_tail x space (
       tail_then x space (get_calm x space g places may) (λ value.
       tail_then x space (put_calm x space g places 1 (test_and_set value p.ccr).value may) (λ done. tail_done x space _))))
 
-  pub tas_tells : (ea : Ea) (word_at : ℕ) (p : Plain) → IsFormed ea → AreLongs p.a → Row x space p moves (tas_of ea word_at space p)
+  pub tas_tells : (ea : Ea) (word_at : ℕ) (p : Plain) → IsFormed ea → AreLongs p.a → RowTells x space p moves (tas_of ea word_at space p)
   unfolding tas_of
   tas_tells (Dn n) word_at p is longs = modifying_tells x space g test_and_set Byte (Dn n) word_at p tt longs
   tas_tells ea word_at p is longs =
@@ -112,7 +111,7 @@ module _ {S : Type 0} (x : Guarded S) (space : Space) (g : Guards x space) {move
       (λ to found. tas_in_memory_tells (place_of to.target) p to.plain (place_long to.target found.0))
 
   cas_at_tells : (size : Size) (word address : ℕ) (before p : Plain) → address < 2 ^ 32
-      → Row x space before moves (cas_at size word address space before p)
+      → RowTells x space before moves (cas_at size word address space p)
   unfolding cas_at
   cas_at_tells size word address before p lt =
       row_reading x space (probe_tells x space g address (bytes_of size) lt) (λ places may. row_tail x space (
@@ -122,13 +121,13 @@ module _ {S : Type 0} (x : Guarded S) (space : Space) (g : Guards x space) {move
       (λ e. tail_done x space _))))
 
   pub cas_tells : (size : Size) (ea : Ea) (word word_at : ℕ) (p : Plain) → IsFormed ea → AreLongs p.a
-      → Row x space p moves (cas_of size ea word word_at space p)
+      → RowTells x space p moves (cas_of size ea word word_at space p)
   unfolding cas_of
   cas_tells size ea word word_at p is longs =
       row_reading x space (resolve_tells x space g ea size word_at p is longs)
       (λ to found. cas_at_tells size word (place_of to.target) p to.plain (place_long to.target found.0))
 
-  pub cas2_tells : (size : Size) (first second : ℕ) (p : Plain) → AreLongs p.d → AreLongs p.a → Row x space p moves (cas2_of size first second space p)
+  pub cas2_tells : (size : Size) (first second : ℕ) (p : Plain) → AreLongs p.d → AreLongs p.a → RowTells x space p moves (cas2_of size first second space p)
   unfolding cas2_of
   cas2_tells size first second p words longs =
       let len = bytes_of size in

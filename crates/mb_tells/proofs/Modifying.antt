@@ -8,15 +8,14 @@ use Rattle.mb_alu.specs.declared.conditions.Flagged.{Flagged}
 use Rattle.mb_writes.specs.declared.transfers.Movem.{Movem}
 use Rattle.mb_meaning.specs.Modifying.{modifying}
 use Rattle.mb_tells.specs.Guarded.{Guarded, Guards}
-use Rattle.mb_tells.specs.Left.{Row}
 use Rattle.mb_tells.specs.Laws.{AreLongs}
 use Rattle.mb_tells.proofs.Ranges.{IsFormed}
-use Rattle.mb_tells.proofs.Parts.{row_reading}
+use Rattle.mb_tells.proofs.Parts.{RowTells, row_reading}
 use Rattle.mb_tells.proofs.Operands.{fetched_tells, storing_tells}
 
 module _ {S : Type 0} (x : Guarded S) (space : Space) (g : Guards x space) {moves : Movem → Type 0} where
   pub modifying_tells : (change : ℕ → ℕ → Flagged) (size : Size) (ea : Ea) (word_at : ℕ) (p : Plain) → IsFormed ea → AreLongs p.a
-      → Row x space p moves (modifying change size ea word_at space p)
+      → RowTells x space p moves (modifying change size ea word_at space p)
   unfolding modifying
   modifying_tells change size ea word_at p is longs =
       row_reading x space (fetched_tells x space g size ea word_at p is longs) (λ operand read.

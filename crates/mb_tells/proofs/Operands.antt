@@ -26,12 +26,12 @@ use Rattle.mb_frames.specs.AccessFields.{piece_of}
 use Rattle.mb_meaning.specs.Ends.{Carried}
 use Rattle.mb_meaning.specs.Operands.{load_of, store_of, Fetched, operand_of, place_of, address_of, storing, pushing}
 use Rattle.mb_tells.specs.Guarded.{Guarded, Guards}
-use Rattle.mb_tells.specs.Left.{AreOwn, Row}
+use Rattle.mb_tells.specs.Left.{AreOwn}
 use Rattle.mb_tells.specs.Laws.{AreLongs}
 use Rattle.mb_tells.proofs.Ranges.{IsFormed}
 use Rattle.mb_tells.proofs.Longs.{IsReached, sum_long, difference_long, extended_long, address_long, with_long}
 use Rattle.mb_tells.proofs.Resumed.{then_nothing}
-use Rattle.mb_tells.proofs.Parts.{Reads, Writes, reads_then, reads_none, row_writing}
+use Rattle.mb_tells.proofs.Parts.{RowTells, Reads, Writes, reads_then, reads_none, row_writing}
 use Rattle.mb_tells.proofs.Pieces.{operand_tells, put_tells}
 
 -- a target with an address, where it is in memory, and registers that are longs
@@ -141,14 +141,14 @@ module _ {S : Type 0} (x : Guarded S) (space : Space) (g : Guards x space) where
   -- ---- the last parts of instructions
 
   pub storing_tells : {p : Plain} {moves : Movem → Type 0} (target : Target) (size : Size) (value : ℕ) (after : Plain) → IsReached target
-      → Row x space p moves (storing target size value space after)
+      → RowTells x space p moves (storing target size value space after)
   unfolding storing
   storing_tells target size value after h =
       row_writing x space after (λ done. record { flow = false; plain = done }) (store_tells target size value after h)
 
   -- a long is pushed, and the instruction is carried out
   pub pushing_tells : {p : Plain} {moves : Movem → Type 0} (value top : ℕ) (done : Carried) → top < 2 ^ 32
-      → Row x space p moves (pushing value top space done.plain >> Return (Ok done))
+      → RowTells x space p moves (pushing value top space done.plain >> Return (Ok done))
   unfolding pushing
   pushing_tells value top done h = row_writing x space tt (λ pushed. done) (writing_tells top 4 value h)
 

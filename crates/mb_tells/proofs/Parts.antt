@@ -12,9 +12,9 @@ use Rattle.mb_writes.specs.declared.ends.WriteFault.{WriteFault}
 use Rattle.mb_writes.specs.declared.ends.Ended.TheVariants as ended
 use Rattle.mb_writes.specs.declared.transfers.Movem.{Movem}
 use Rattle.mb_writes.specs.Writing.{write_all}
-use Rattle.mb_meaning.specs.Ends.{Carried, Stopped, Performed, reading, writing}
+use Rattle.mb_meaning.specs.Ends.{Carried, Stopped, Cut, Unread, Stop, Rowed, restored, restoring, reading, writing}
 use Rattle.mb_tells.specs.Guarded.{Guarded, quiet}
-use Rattle.mb_tells.specs.Left.{Left, Answered, IsRest, SameCalls, Telling, Row}
+use Rattle.mb_tells.specs.Left.{Left, Answered, IsRest, SameCalls, Telling}
 use Rattle.mb_tells.proofs.Resumed.{goes_to_end}
 
 -- a part that reads: where it is refused, nothing was written
@@ -34,12 +34,20 @@ StoreLeft x space a rest t refused =
 abbrev pub Writes : {S A : Type 0} → Guarded S → Space → A → Routine (Result A WriteFault) → Type 0
 Writes x space a m = Telling x x.serving m (StoreLeft x space a) (λ b s. x.serving s)
 
--- the end of an instruction, where it may have written something already
-abbrev pub Tail : {S : Type 0} → Guarded S → Space → Plain → (Movem → Type 0) → Routine Performed → Type 0
-Tail x space before moves m = Telling x x.serving m (Left x space before moves) (λ done s. x.serving s)
+-- what is left of an instruction that began with these registers, where its row was cut short
+abbrev pub RowLeft : {S : Type 0} → Guarded S → Space → Plain → (Movem → Type 0) → Fact S Carried (Cut Stopped)
+RowLeft x space before moves rest t cut = Left x space before moves (restoring before rest) t (restored before cut)
+
+-- the row of such an instruction
+abbrev pub RowTells : {S : Type 0} → Guarded S → Space → Plain → (Movem → Type 0) → Routine Rowed → Type 0
+RowTells x space before moves m = Telling x (quiet x) m (RowLeft x space before moves) (λ done s. x.serving s)
+
+-- the end of a row, where it may have written something already
+abbrev pub Tail : {S : Type 0} → Guarded S → Space → Plain → (Movem → Type 0) → Routine Rowed → Type 0
+Tail x space before moves m = Telling x x.serving m (RowLeft x space before moves) (λ done s. x.serving s)
 
 -- a part that is never refused a call
-abbrev pub Calm : {S A : Type 0} → Guarded S → Routine (Result A Stopped) → Type 0
+abbrev pub Calm : {S A : Type 0} → Guarded S → Routine (Result A (Cut Stopped)) → Type 0
 Calm x m = Telling x x.serving m (λ rest t e. ⊥) (λ a s. x.serving s)
 
 -- what is known of an answer
@@ -57,25 +65,25 @@ module _ {S : Type 0} (x : Guarded S) (space : Space) where
   reads_none a h = tells_ok a (λ s p. (p, h))
 
   -- an instruction that ends with no call, carried out
-  pub row_done : {p : Plain} {moves : Movem → Type 0} (done : Carried) → Row x space p moves (Return (Ok done))
+  pub row_done : {p : Plain} {moves : Movem → Type 0} (done : Carried) → RowTells x space p moves (Return (Ok done))
   row_done done = tells_ok done (λ s p. p.0)
 
   -- with no call, carried out or not
-  pub row_ends : {p : Plain} {moves : Movem → Type 0} (end : Performed) → Row x space p moves (Return end)
+  pub row_ends : {p : Plain} {moves : Movem → Type 0} (end : Rowed) → RowTells x space p moves (Return end)
   row_ends (Ok done) = row_done done
-  row_ends (Err stop) = tells_err stop
+  row_ends (Err cut) = tells_err cut
 
   -- an instruction that first reads
-  pub row_reading : {A : Type 0} {P : A → Type 0} {p : Plain} {moves : Movem → Type 0} {m : Routine (Result A ReadFault)} {f : A → Routine Performed}
-      → Reads x P m → ((a : A) → P a → Row x space p moves (f a)) → Row x space p moves (reading p m >>= f)
-  row_reading {P = P} {p} {m = m} {f} h more = tells_bind (reading p m) f
-      (tells_failing (λ refused. record { ended = ended.ReadFault refused; plain = p }) m
+  pub row_reading : {A : Type 0} {P : A → Type 0} {p : Plain} {moves : Movem → Type 0} {m : Routine (Result A ReadFault)} {f : A → Routine Rowed}
+      → Reads x P m → ((a : A) → P a → RowTells x space p moves (f a)) → RowTells x space p moves (reading m >>= f)
+  row_reading {P = P} {p} {m = m} {f} h more = tells_bind (reading m) f
+      (tells_failing (λ refused. Unread refused) m
       (tells_weaker m h (λ s q. q) (λ rest t e told. (told.0, (told.1, refl))) (λ a t q. q)))
       (λ a. knowing x (quiet x) (P a) (f a) _ _ (more a))
 
   -- ---- the end of an instruction
 
-  pub row_tail : {p : Plain} {moves : Movem → Type 0} {m : Routine Performed} → Tail x space p moves m → Row x space p moves m
+  pub row_tail : {p : Plain} {moves : Movem → Type 0} {m : Routine Rowed} → Tail x space p moves m → RowTells x space p moves m
   row_tail {m = m} h = tells_weaker m h (λ s q. q.0) (λ rest t e told. told) (λ a t q. q)
 
   pub tail_done : {p : Plain} {moves : Movem → Type 0} (done : Carried) → Tail x space p moves (Return (Ok done))
@@ -84,8 +92,8 @@ module _ {S : Type 0} (x : Guarded S) (space : Space) where
   -- it writes last
   pub tail_writing : {A : Type 0} {p : Plain} {moves : Movem → Type 0} {m : Routine (Result A WriteFault)} (a : A) (done : A → Carried)
       → Writes x space a m → Tail x space p moves (writing (done a).plain m >>= λ b. Return (Ok (done b)))
-  tail_writing {m = m} a done h = tells_bind (writing (done a).plain m) (λ b. Return (Ok (done b)))
-      (tells_failing (λ refused. record { ended = ended.WriteFault refused; plain = (done a).plain }) m
+  tail_writing {p = p} {m = m} a done h = tells_bind (writing (done a).plain m) (λ b. Return (Ok (done b)))
+      (tells_failing (λ refused. Stop (record { ended = ended.WriteFault refused; plain = (done a).plain })) m
       (tells_weaker m h (λ s q. q)
       (λ rest t e told. (
         told.0,
@@ -93,14 +101,14 @@ module _ {S : Type 0} (x : Guarded S) (space : Space) where
           told.2,
           done a,
           refl,
-          goes_to_end _ a done (tree_of (write_all space e.first e.rest.items)) (tree_of rest) told.1,
+          goes_to_end _ (restored p) a done (tree_of (write_all space e.first e.rest.items)) (tree_of rest) told.1,
         ),
       ))
       (λ b t q. q)))
       (λ b. tells_ok (done b) (λ s q. q))
 
   pub row_writing : {A : Type 0} {p : Plain} {moves : Movem → Type 0} {m : Routine (Result A WriteFault)} (a : A) (done : A → Carried)
-      → Writes x space a m → Row x space p moves (writing (done a).plain m >>= λ b. Return (Ok (done b)))
+      → Writes x space a m → RowTells x space p moves (writing (done a).plain m >>= λ b. Return (Ok (done b)))
   row_writing a done h = row_tail (tail_writing a done h)
 
   -- ---- parts that are never refused a call, as the end of an instruction has them
@@ -108,9 +116,9 @@ module _ {S : Type 0} (x : Guarded S) (space : Space) where
   pub calm_sure : {A : Type 0} {m : Routine A} → Ends x.lawful x.allowed x.bus x.serving m (λ a s. x.serving s) → Calm x (sure m)
   calm_sure {m = m} h = tells_sure m h
 
-  pub calm_then : {A B : Type 0} {m : Routine (Result A Stopped)} {n : Routine (Result B Stopped)} → Calm x m → Calm x n → Calm x (m >> n)
+  pub calm_then : {A B : Type 0} {m : Routine (Result A (Cut Stopped))} {n : Routine (Result B (Cut Stopped))} → Calm x m → Calm x n → Calm x (m >> n)
   calm_then {m = m} {n} h more = tells_bind m (λ a. n) h (λ a. more)
 
-  pub tail_then : {A : Type 0} {p : Plain} {moves : Movem → Type 0} {m : Routine (Result A Stopped)} {f : A → Routine Performed}
+  pub tail_then : {A : Type 0} {p : Plain} {moves : Movem → Type 0} {m : Routine (Result A (Cut Stopped))} {f : A → Routine Rowed}
       → Calm x m → ((a : A) → Tail x space p moves (f a)) → Tail x space p moves (m >>= f)
   tail_then {m = m} {f} h more = tells_bind m f (tells_weaker m h (λ s q. q) (λ rest t e never. absurd never) (λ a t q. q)) more

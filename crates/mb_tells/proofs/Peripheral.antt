@@ -19,14 +19,14 @@ use Rattle.mb_writes.specs.declared.ends.WriteFault.{WriteFault}
 use Rattle.mb_writes.specs.declared.ends.Ended.TheVariants as ended
 use Rattle.mb_writes.specs.declared.transfers.Movem.{Movem}
 use Rattle.mb_writes.specs.Writing.{part_of, parts_of, left_by, write_all, apart, put_apart_of}
-use Rattle.mb_meaning.specs.Ends.{Carried, carried, writing}
+use Rattle.mb_meaning.specs.Ends.{Carried, Stop, restored, restoring, carried, writing}
 use Rattle.mb_meaning.specs.Peripheral.{read_apart_of, from_peripheral, to_peripheral, movep_of}
 use Rattle.mb_tells.specs.Guarded.{Guarded, Guards, IsPlaced, quiet}
-use Rattle.mb_tells.specs.Left.{Answered, IsRest, SameCalls, WriteLeft, Telling, Row}
+use Rattle.mb_tells.specs.Left.{Answered, IsRest, SameCalls, WriteLeft, Telling}
 use Rattle.mb_tells.proofs.Resumed.{goes_to_end}
 use Rattle.mb_tells.proofs.Apart.{ArePlaced, parts_own, parts_as_many}
 use Rattle.mb_tells.proofs.Longs.{sum_long}
-use Rattle.mb_tells.proofs.Parts.{Reads, row_reading}
+use Rattle.mb_tells.proofs.Parts.{RowTells, Reads, row_reading}
 use Rattle.mb_tells.proofs.Pieces.{pieces_tell}
 use Rattle.mb_tells.proofs.Operands.{storing_tells, list_tells}
 
@@ -86,34 +86,34 @@ module _ {S : Type 0} (x : Guarded S) (space : Space) (g : Guards x space) where
   either_left : (p : Plain) (rest : Routine (Result (Unit {0}) WriteFault)) (t : S) (e : WriteFault)
       → (x.unwritten t × (e.rest.items ≡ []))
       ⊎ (IsRest e.rest.items × SameCalls rest (write_all space e.first e.rest.items >> Return (Ok tt)))
-      → WriteLeft x space p (writing p rest >>= λ done. Return (carried p)) t e p
+      → WriteLeft x space p (restoring p (writing p rest >>= λ done. Return (carried p))) t e p
   either_left p rest t e (inl a) = inl ((a.0, refl), a.1)
   either_left p rest t e (inr s) = inr (
     s.0,
     record { flow = false; plain = p },
     refl,
-    goes_to_end _ tt (λ (done : Unit {0}). let end : Carried = record { flow = false; plain = p } in end) (tree_of (write_all space e.first e.rest.items))
-        (tree_of rest) s.1,
+    goes_to_end _ (restored p) tt (λ (done : Unit {0}). let end : Carried = record { flow = false; plain = p } in end)
+        (tree_of (write_all space e.first e.rest.items)) (tree_of rest) s.1,
   )
 
 module _ {S : Type 0} (x : Guarded S) (space : Space) (g : Guards x space) {moves : Movem → Type 0} where
-  load_tells : (n : ℕ) (size : Size) (place : ℕ) (p : Plain) → place < 2 ^ 32 → Row x space p moves (from_peripheral n size place space p)
+  load_tells : (n : ℕ) (size : Size) (place : ℕ) (p : Plain) → place < 2 ^ 32 → RowTells x space p moves (from_peripheral n size place space p)
   unfolding from_peripheral
   load_tells n size place p h =
       row_reading x space (read_apart_tells x space g place size h) (λ value read. storing_tells x space g (Reg n) size value p tt)
 
-  store_tells : (n : ℕ) (size : Size) (place : ℕ) (p : Plain) → place < 2 ^ 32 → Row x space p moves (to_peripheral n size place space p)
+  store_tells : (n : ℕ) (size : Size) (place : ℕ) (p : Plain) → place < 2 ^ 32 → RowTells x space p moves (to_peripheral n size place space p)
   unfolding to_peripheral BytesLeft
   store_tells n size place p h =
       let m = put_apart_of space place size (data_register p n) in
       tells_bind (writing p m) (λ done. Return (carried p))
-      (tells_failing (λ refused. record { ended = ended.WriteFault refused; plain = p }) m
+      (tells_failing (λ refused. Stop (record { ended = ended.WriteFault refused; plain = p })) m
       (tells_weaker m (put_apart_tells x space g place size (data_register p n) h) (λ s q. q)
       (λ rest t e told. (told.0, either_left x space g p rest t e told.1)) (λ a t q. q)))
       (λ done. tells_ok _ (λ s q. q))
 
   pub movep_tells : (n : ℕ) (is_store : Bool) (size : Size) (address displacement : ℕ) (p : Plain)
-      → Row x space p moves (movep_of n is_store size address displacement space p)
+      → RowTells x space p moves (movep_of n is_store size address displacement space p)
   unfolding movep_of
   movep_tells n is_store size address displacement p =
       let place = sum (address_register p address) (sign_extended Word displacement) in

@@ -4,28 +4,27 @@ use Rattle.mb_port.specs.declared.types.Space.{Space}
 use Rattle.mb_instr.specs.declared.registers.Plain.{Plain}
 use Rattle.mb_writes.specs.declared.transfers.Movem.{Movem}
 use Rattle.mb_tells.specs.Guarded.{Guarded, Guards}
-use Rattle.mb_tells.specs.Left.{Row}
 use Rattle.mb_tells.specs.Laws.{AreLongs}
 use Rattle.mb_instr.specs.declared.size.Size.TheVariants.{Word, Long}
 use Rattle.mb_instr.specs.Sizes.{bytes_of}
 use Rattle.mb_instr.specs.Registers.{address_register}
 use Rattle.mb_meaning.specs.Returns.{rts_of, rtd_of, word_raised, rtr_of}
 use Rattle.mb_tells.proofs.Longs.{address_long, with_long, sum_long}
-use Rattle.mb_tells.proofs.Parts.{row_reading, row_done}
+use Rattle.mb_tells.proofs.Parts.{RowTells, row_reading, row_done}
 use Rattle.mb_tells.proofs.Operands.{reading_tells}
 
 module _ {S : Type 0} (x : Guarded S) (space : Space) (g : Guards x space) {moves : Movem → Type 0} where
-  pub rts_tells : (p : Plain) → AreLongs p.a → Row x space p moves (rts_of space p)
+  pub rts_tells : (p : Plain) → AreLongs p.a → RowTells x space p moves (rts_of space p)
   unfolding rts_of
   rts_tells p longs =
       row_reading x space (reading_tells x space g (address_register p 7) (bytes_of Long) (address_long p 7 longs)) (λ target read. row_done x space _)
 
-  pub rtd_tells : (d : ℕ) (p : Plain) → AreLongs p.a → Row x space p moves (rtd_of d space p)
+  pub rtd_tells : (d : ℕ) (p : Plain) → AreLongs p.a → RowTells x space p moves (rtd_of d space p)
   unfolding rtd_of
   rtd_tells d p longs =
       row_reading x space (reading_tells x space g (address_register p 7) (bytes_of Long) (address_long p 7 longs)) (λ target read. row_done x space _)
 
-  pub rtr_tells : (p : Plain) → AreLongs p.a → Row x space p moves (rtr_of space p)
+  pub rtr_tells : (p : Plain) → AreLongs p.a → RowTells x space p moves (rtr_of space p)
   unfolding rtr_of
   rtr_tells p longs =
       let above = address_long (word_raised p) 7 (with_long p 7 _ longs (sum_long (address_register p 7) 2)) in

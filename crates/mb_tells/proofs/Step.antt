@@ -39,14 +39,14 @@ use Rattle.mb_ea.specs.Reading.{refused_in}
 use Rattle.mb_writes.specs.declared.ends.Ended.{Ended}
 use Rattle.mb_writes.specs.declared.ends.Ended.TheVariants as ended
 use Rattle.mb_writes.specs.declared.transfers.Movem.{Movem}
-use Rattle.mb_meaning.specs.Ends.{Performed}
-use Rattle.mb_meaning.specs.Rows.{perform_move_of, perform_arith_of, perform_flow_of, perform_of}
+use Rattle.mb_meaning.specs.Ends.{Performed, restored}
+use Rattle.mb_meaning.specs.Rows.{perform_move_of, perform_arith_of, perform_flow_of, row_of, perform_of}
 use Rattle.mb_meaning.specs.Attempt.{Unfound, NoInstruction, Unfetched, end_without, Found, judged, found_of, fetched_of, past, most_words, attempt_of}
 use Rattle.mb_tells.specs.Guarded.{Guarded, Guards, Goes, quiet}
 use Rattle.mb_tells.specs.Left.{Answered, LeftBy, Telling, Row, Attempt}
 use Rattle.mb_tells.specs.Laws.{AreLongs, HasLongs, is_movem, moves, moves_fetched}
 use Rattle.mb_tells.proofs.Ranges.{formed, formed_behind_word, formed_behind_immediate}
-use Rattle.mb_tells.proofs.Parts.{knowing, row_done, row_ends}
+use Rattle.mb_tells.proofs.Parts.{RowTells, knowing, row_done, row_ends}
 use Rattle.mb_tells.proofs.Moves.{move_tells, movea_tells, lea_tells, to_ccr_tells, from_ccr_tells, scc_tells}
 use Rattle.mb_tells.proofs.Stack.{pea_tells, link_tells, unlk_tells}
 use Rattle.mb_tells.proofs.Peripheral.{movep_tells}
@@ -81,7 +81,7 @@ looser x space before these others rest t _ after any told = told
 module _ {S : Type 0} (x : Guarded S) (space : Space) (g : Guards x space) where
   -- a line a row
   perform_move_tells : (i : Move) (word_at : ℕ) (p : Plain) → IsInstr (instr.Move i) → AreLongs p.a
-      → Row x space p (is_movem i) (perform_move_of i word_at space p)
+      → RowTells x space p (is_movem i) (perform_move_of i word_at space p)
   unfolding perform_move_of
   perform_move_tells (move.Move size destination source) word_at p is longs =
       move_tells x space g size destination source word_at p (formed size destination (AreWords-right (more size source) (more size destination) is.are_words))
@@ -110,7 +110,7 @@ module _ {S : Type 0} (x : Guarded S) (space : Space) (g : Guards x space) where
   perform_move_tells (move.Move16Post m word) word_at p is longs = move16_tells x space g m word p longs
 
   perform_arith_tells : (i : Arith) (word_at : ℕ) (p : Plain) → IsInstr (instr.Arith i) → AreLongs p.d → AreLongs p.a
-      → Row x space p (λ m. ⊥) (perform_arith_of i word_at space p)
+      → RowTells x space p (λ m. ⊥) (perform_arith_of i word_at space p)
   unfolding perform_arith_of
   perform_arith_tells (arithmetic.Add register to_memory size ea) word_at p is words longs =
       either_way_tells x space g (added size) register to_memory size ea word_at p (formed size ea is.are_words) longs
@@ -199,7 +199,8 @@ module _ {S : Type 0} (x : Guarded S) (space : Space) (g : Guards x space) where
   perform_arith_tells (arithmetic.Cmp2 size ea word) word_at p is words longs =
       cmp2_tells x space g size ea word word_at p (formed_behind_word size ea word is.are_words) longs
 
-  perform_flow_tells : (i : Flow) (word_at : ℕ) (p : Plain) → IsInstr (instr.Flow i) → AreLongs p.a → Row x space p (λ m. ⊥) (perform_flow_of i word_at space p)
+  perform_flow_tells : (i : Flow) (word_at : ℕ) (p : Plain) → IsInstr (instr.Flow i) → AreLongs p.a
+      → RowTells x space p (λ m. ⊥) (perform_flow_of i word_at space p)
   unfolding perform_flow_of
   perform_flow_tells flow.Nop word_at p is longs = row_done x space _
   perform_flow_tells (flow.Bcc condition displacement) word_at p is longs = branch_tells x space g condition displacement word_at p longs
@@ -216,12 +217,16 @@ module _ {S : Type 0} (x : Guarded S) (space : Space) (g : Guards x space) where
   perform_flow_tells (flow.Chk2 size ea word) word_at p is longs =
       chk2_tells x space g size ea word word_at p (formed_behind_word size ea word is.are_words) longs
 
+  row_tells : (i : Instr) (at : ℕ) (p : Plain) → IsInstr i → HasLongs p → RowTells x space p (moves i) (row_of i at space p)
+  unfolding row_of
+  row_tells (instr.Move i) at p is longs = perform_move_tells i (operands_at (move_row i) at) p is longs.1
+  row_tells (instr.Arith i) at p is longs = perform_arith_tells i (operands_at (arith_row i) at) p is longs.0 longs.1
+  row_tells (instr.Flow i) at p is longs = perform_flow_tells i (operands_at (flow_row i) at) p is longs.1
+  row_tells (instr.System i) at p is longs = tells_err _
+
   pub perform_tells : (i : Instr) (at : ℕ) (p : Plain) → IsInstr i → HasLongs p → Row x space p (moves i) (perform_of i at space p)
   unfolding perform_of
-  perform_tells (instr.Move i) at p is longs = perform_move_tells i (operands_at (move_row i) at) p is longs.1
-  perform_tells (instr.Arith i) at p is longs = perform_arith_tells i (operands_at (arith_row i) at) p is longs.0 longs.1
-  perform_tells (instr.Flow i) at p is longs = perform_flow_tells i (operands_at (flow_row i) at) p is longs.1
-  perform_tells (instr.System i) at p is longs = tells_err _
+  perform_tells i at p is longs = tells_failing (restored p) (row_of i at space p) (row_tells i at p is longs)
 
   unfoldable pub Founds : Routine Found → Type 0
   Founds m = Telling x (quiet x) m (FoundLeft x) (λ found s. quiet x s × IsInstr found.0)

@@ -19,15 +19,15 @@ use Rattle.mb_writes.specs.declared.transfers.Transfer.{Transfer}
 use Rattle.mb_writes.specs.Transfers.{transfers_of}
 use Rattle.mb_writes.specs.Writing.{put_of}
 use Rattle.mb_writes.specs.Moving.{Halfway, refused_at, stored_of, store_all, loaded_of, load_all, stepped_of, transfer_of}
-use Rattle.mb_meaning.specs.Ends.{carried}
+use Rattle.mb_meaning.specs.Ends.{Carried, Stopped, Cut, Stop, restored, restoring, carried}
 use Rattle.mb_meaning.specs.Moves.{movem_by, transferring, movem_of}
 use Rattle.mb_tells.specs.Guarded.{Guarded, Guards, quiet}
-use Rattle.mb_tells.specs.Left.{Answered, Resumes, Telling, Row}
+use Rattle.mb_tells.specs.Left.{Answered, Resumes, Telling}
 use Rattle.mb_tells.specs.Laws.{AreLongs}
 use Rattle.mb_tells.proofs.Ranges.{IsFormed}
 use Rattle.mb_tells.proofs.Longs.{HaveAddresses, transfer_addresses}
-use Rattle.mb_tells.proofs.Resumed.{resumes_then}
-use Rattle.mb_tells.proofs.Parts.{row_reading}
+use Rattle.mb_tells.proofs.Resumed.{resumes_then, closed_end}
+use Rattle.mb_tells.proofs.Parts.{RowTells, row_reading}
 use Rattle.mb_tells.proofs.Pieces.{operand_tells, put_tells}
 use Rattle.mb_tells.proofs.Operands.{address_tells}
 
@@ -133,13 +133,25 @@ module _ {S : Type 0} (x : Guarded S) (space : Space) (g : Guards x space) where
   transfer_tells false size ea mask place done p h = store_tells size ea mask place done p h
 
   pub movem_tells : {moves : Movem → Type 0} (is_load : Bool) (size : Size) (ea : Ea) (mask word_at : ℕ) (p : Plain)
-      → moves (movem_by is_load size ea mask) → IsFormed ea → AreLongs p.a → Row x space p moves (movem_of is_load size ea mask word_at space p)
+      → moves (movem_by is_load size ea mask) → IsFormed ea → AreLongs p.a → RowTells x space p moves (movem_of is_load size ea mask word_at space p)
   unfolding movem_of TransferLeft
   movem_tells is_load size ea mask word_at p is in_range longs =
       row_reading x space (address_tells x space g size ea word_at p in_range longs) (λ place found.
       let m = movem_by is_load size ea mask in
+      let stop_by : Halfway → Cut Stopped = λ halfway. Stop (record { ended = ended.Movem halfway.fault; plain = halfway.plain }) in
       tells_bind (transferring (transfer_of m place 0 space p)) (λ moved. Return (carried moved))
-      (tells_failing (λ halfway. record { ended = ended.Movem halfway.fault; plain = halfway.plain }) (transfer_of m place 0 space p)
+      (tells_failing stop_by (transfer_of m place 0 space p)
       (tells_weaker (transfer_of m place 0 space p) (transfer_tells is_load size ea mask place 0 p found) (λ s q. q)
-      (λ rest t e told. (told.0, (m, is, resumes_then _ (resumes_then _ told.1)))) (λ a t q. q)))
+      (λ rest t e told. (
+        told.0,
+        (
+          m,
+          is,
+          subst (λ whole. Resumes (λ c answer. x.stands c answer t) whole (tree_of (restoring p (transferring rest >>= λ moved. Return (carried moved)))))
+              (closed_end stop_by (restored p) (λ (moved : Plain). let end : Carried = record { flow = false; plain = moved } in end)
+              (tree_of (transfer_of m e.fault.first e.fault.done space e.plain)))
+              (resumes_then _ (resumes_then _ (resumes_then _ told.1))),
+        ),
+      ))
+      (λ a t q. q)))
       (λ moved. tells_ok _ (λ s q. q)))

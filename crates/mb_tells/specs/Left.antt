@@ -1,6 +1,6 @@
 -- What the end of an instruction says of what was left to do, where one of its calls was refused.
-use Rattle.std.specs.Prelude.{◌≡◌, ◌⊎◌, ℕ, ◌<◌, ◌≤◌, Some, Result, Ok, List, [], ◌∷◌, length}
-use Rattle.mb_port.specs.Routine.{Call, Answer, Routine, Return, ◌>>=◌, ◌>>◌, write_line}
+use Rattle.std.specs.Prelude.{◌≡◌, ◌⊎◌, ℕ, ◌<◌, ◌≤◌, Some, false, Result, Ok, List, [], ◌∷◌, length}
+use Rattle.mb_port.specs.Routine.{Call, Answer, Routine, Return, ◌>>=◌, ◌>>◌, failing, write_line}
 use Rattle.mb_port.specs.Pieces.{span_of}
 use Rattle.mb_port.specs.declared.types.Space.{Space}
 use Rattle.mb_port.specs.declared.types.Fault.{Fault}
@@ -16,9 +16,8 @@ use Rattle.mb_writes.specs.declared.ends.Ended.TheVariants as ended
 use Rattle.mb_writes.specs.declared.ends.WriteFault.{WriteFault}
 use Rattle.mb_writes.specs.declared.ends.MovemFault.{MovemFault}
 use Rattle.mb_writes.specs.Writing.{write_all}
-use Rattle.mb_writes.specs.Moving.{transfer_of}
-use Rattle.mb_meaning.specs.Ends.{Carried, Stopped, Performed, carried, writing, ending}
-use Rattle.mb_meaning.specs.Moves.{transferring}
+use Rattle.mb_writes.specs.Moving.{Halfway, transfer_of}
+use Rattle.mb_meaning.specs.Ends.{Carried, Stopped, Performed}
 use Rattle.mb_tells.specs.Guarded.{Guarded, IsPlaced, quiet}
 
 -- The routines make the same calls, whatever is answered, and end alike: they do the same over every bus.
@@ -35,18 +34,28 @@ pub data Resumes {A : Type 0} (P : (c : Call) → Answer c → Type 0) : Tree A 
 abbrev pub Answered : {S A : Type 0} → Guarded S → Routine A → S → Fault → Type 0
 Answered x rest t fault = (c : Call) × (first_call rest ≡ Some c) × IsFault c ((x.bus c t).0) fault
 
+-- a part whose fault ends the instruction so, with these registers
+abbrev pub ending : {A E : Type 0} → (E → Ended) → Plain → Routine (Result A E) → Routine (Result A Stopped)
+ending how after m = failing (λ fault. record { ended = how fault; plain = after }) m
+
 -- what is left where a write was refused: these pieces are written, and the instruction is carried out
 abbrev pub completing : Space → ℕ → List Pend → Carried → Routine Performed
-completing space first pieces done = writing done.plain (write_all space first pieces) >> Return (Ok done)
+completing space first pieces done =
+    ending (λ refused. ended.WriteFault refused) done.plain (write_all space first pieces) >> Return (Ok done)
 
 -- what is left where the write of a line was refused: it is written, and the instruction is carried out
 abbrev pub line_completing : Space → ℕ → List ℕ → Carried → Routine Performed
 line_completing space at line done =
     ending (λ fault. ended.LineFault fault line) done.plain (write_line space at line) >> Return (Ok done)
 
+-- transfers, of which a refused one ends the instruction with what was loaded so far
+abbrev pub transferring : Routine (Result Plain Halfway) → Routine (Result Plain Stopped)
+transferring m = failing (λ halfway. record { ended = ended.Movem halfway.fault; plain = halfway.plain }) m
+
 -- a MOVEM from a transfer on, whose first one is at `first`
 abbrev pub moving : Movem → ℕ → ℕ → Space → Plain → Routine Performed
-moving m first done space p = transferring (transfer_of m first done space p) >>= λ moved. Return (carried moved)
+moving m first done space p =
+    transferring (transfer_of m first done space p) >>= λ moved. Return (Ok (record { flow = false; plain = moved }))
 
 -- The instruction has written nothing, and its registers are as before: it can begin again.
 abbrev pub Again : {S : Type 0} → Guarded S → Plain → S → Plain → Type 0

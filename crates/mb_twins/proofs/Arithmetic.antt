@@ -9,13 +9,13 @@ use Rattle.mb_instr.specs.declared.operand.Ea.TheVariants.{Dn, Pre}
 use Rattle.mb_instr.specs.declared.registers.Plain.{Plain}
 use Rattle.mb_instr.specs.Operands.{address_number}
 use Rattle.mb_alu.specs.declared.conditions.Flagged.{Flagged}
-use Rattle.mb_meaning.specs.Ends.{Performed}
+use Rattle.mb_meaning.specs.Ends.{Rowed}
 use Rattle.mb_meaning.specs.Operands.{behind}
 use Rattle.mb_meaning.specs.Moves.{move_flags}
 use Rattle.mb_meaning.specs.Arithmetic.{pair_of, combining, comparing, either_way, chaining, quick_to, quick_of, taking}
 use Rattle.mb_meaning.specs.Unary.{clr_of}
-use Rattle.mb_twins.specs.Twins.{SameRead, SameStop, SamePerformed}
-use Rattle.mb_twins.proofs.Parts.{Rows, Reads, then_twins, reading_twins}
+use Rattle.mb_twins.specs.Twins.{SameRead}
+use Rattle.mb_twins.proofs.Parts.{SameCut, SameRowed, Rows, Reads, then_twins, reading_twins}
 use Rattle.mb_twins.proofs.Operands.{operand_twins, resolve_twins, storing_twins}
 use Rattle.mb_twins.proofs.Modifying.{modifying_twins}
 
@@ -32,7 +32,7 @@ pub combining_twins : (x : Setting) (operation : ℕ → ℕ → ℕ → Flagged
     → Rows x (combining operation size source destination word_at x.here p) (combining operation size source destination word_at x.there p)
 unfolding combining
 combining_twins x operation size source destination word_at p =
-    then_twins x (SameStop x) (reading_twins x p (pair_twins x size source destination word_at p)) (λ pair.
+    then_twins x (SameCut x) (reading_twins x (pair_twins x size source destination word_at p)) (λ pair.
     let to = pair.destination in
     let result = operation pair.source to.value to.plain.ccr in
     storing_twins x to.target size result.value (record to.plain { ccr = result.ccr }))
@@ -41,20 +41,20 @@ pub comparing_twins : (x : Setting) (size : Size) (source destination : Ea) (wor
     → Rows x (comparing size source destination word_at x.here p) (comparing size source destination word_at x.there p)
 unfolding comparing
 comparing_twins x size source destination word_at p =
-    then_twins x (SameStop x) (reading_twins x p (pair_twins x size source destination word_at p)) (λ pair. returned refl)
+    then_twins x (SameCut x) (reading_twins x (pair_twins x size source destination word_at p)) (λ pair. returned refl)
 
 pub either_way_twins : (x : Setting) (operation : ℕ → ℕ → ℕ → Flagged) (register : ℕ) (to_memory : Bool) (size : Size) (ea : Ea) (word_at : ℕ) (p : Plain)
     → Rows x (either_way operation register to_memory size ea word_at x.here p) (either_way operation register to_memory size ea word_at x.there p)
 unfolding either_way
 either_way_twins x operation register to_memory size ea word_at p =
-    twins_choose (between x) (SamePerformed x) to_memory _ _ _ _
+    twins_choose (between x) (SameRowed x) to_memory _ _ _ _
     (combining_twins x operation size (Dn register) ea word_at p) (combining_twins x operation size ea (Dn register) word_at p)
 
 pub chaining_twins : (x : Setting) (operation : ℕ → ℕ → ℕ → Flagged) (size : Size) (in_memory : Bool) (source destination word_at : ℕ) (p : Plain)
     → Rows x (chaining operation size in_memory source destination word_at x.here p) (chaining operation size in_memory source destination word_at x.there p)
 unfolding chaining
 chaining_twins x operation size in_memory source destination word_at p =
-    twins_choose (between x) (SamePerformed x) in_memory _ _ _ _
+    twins_choose (between x) (SameRowed x) in_memory _ _ _ _
     (combining_twins x operation size (Pre source) (Pre destination) word_at p) (combining_twins x operation size (Dn source) (Dn destination) word_at p)
 
 -- ---- quick values
@@ -72,16 +72,16 @@ quick_twins x change moved size ea word_at p = quick_to_twins x (address_number 
 -- ---- operands that are only read, or only written
 
 -- the same registers end both alike, where the end tells of no fault
-pub taking_twins : (x : Setting) (effect : ℕ → Plain → Performed) (size : Size) (ea : Ea) (word_at : ℕ) (p : Plain)
-    → ((value : ℕ) (q : Plain) → SamePerformed x (effect value q) (effect value q))
+pub taking_twins : (x : Setting) (effect : ℕ → Plain → Rowed) (size : Size) (ea : Ea) (word_at : ℕ) (p : Plain)
+    → ((value : ℕ) (q : Plain) → SameRowed x (effect value q) (effect value q))
     → Rows x (taking effect size ea word_at x.here p) (taking effect size ea word_at x.there p)
 unfolding taking
 taking_twins x effect size ea word_at p same =
-    then_twins x (SameStop x) (reading_twins x p (operand_twins x size ea word_at p)) (λ operand.
+    then_twins x (SameCut x) (reading_twins x (operand_twins x size ea word_at p)) (λ operand.
     returned (same operand.value operand.plain))
 
 pub clr_twins : (x : Setting) (size : Size) (ea : Ea) (word_at : ℕ) (p : Plain) → Rows x (clr_of size ea word_at x.here p) (clr_of size ea word_at x.there p)
 unfolding clr_of
 clr_twins x size ea word_at p =
-    then_twins x (SameStop x) (reading_twins x p (resolve_twins x ea size word_at p)) (λ to.
+    then_twins x (SameCut x) (reading_twins x (resolve_twins x ea size word_at p)) (λ to.
     storing_twins x to.target size 0 (move_flags size 0 to.plain))

@@ -7,8 +7,7 @@ use Rattle.mb_instr.specs.declared.kinds.BitKind.{BitKind}
 use Rattle.mb_instr.specs.declared.kinds.BitKind.TheVariants as bit
 use Rattle.mb_instr.specs.declared.registers.Plain.{Plain}
 use Rattle.mb_meaning.specs.Bits.{bit_size, bit_changed, bit_row_of}
-use Rattle.mb_twins.specs.Twins.{SameStop}
-use Rattle.mb_twins.proofs.Parts.{Rows, then_twins, reading_twins}
+use Rattle.mb_twins.proofs.Parts.{SameCut, Rows, then_twins, reading_twins}
 use Rattle.mb_twins.proofs.Operands.{operand_twins}
 use Rattle.mb_twins.proofs.Modifying.{modifying_twins}
 
@@ -16,5 +15,5 @@ pub bit_row_twins : (x : Setting) (kind : BitKind) (number : ℕ) (ea : Ea) (wor
     → Rows x (bit_row_of kind number ea word_at x.here p) (bit_row_of kind number ea word_at x.there p)
 unfolding bit_row_of
 bit_row_twins x bit.Test number ea word_at p =
-    then_twins x (SameStop x) (reading_twins x p (operand_twins x (bit_size ea) ea word_at p)) (λ operand. returned refl)
+    then_twins x (SameCut x) (reading_twins x (operand_twins x (bit_size ea) ea word_at p)) (λ operand. returned refl)
 bit_row_twins x kind number ea word_at p = modifying_twins x (bit_changed kind number (bit_size ea)) (bit_size ea) ea word_at p

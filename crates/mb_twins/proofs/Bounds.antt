@@ -13,12 +13,12 @@ use Rattle.mb_ea.specs.Addresses.{sum}
 use Rattle.mb_meaning.specs.Ends.{carried, stopped}
 use Rattle.mb_meaning.specs.Traps.{out_of_bounds}
 use Rattle.mb_meaning.specs.Bounds.{is_below, is_above, checked, chk_of, bounds_of, cmp2_of, checked_carry, chk2_of}
-use Rattle.mb_twins.specs.Twins.{SameRead, SameStop, SamePerformed}
-use Rattle.mb_twins.proofs.Parts.{Rows, Reads, then_twins, reading_twins}
+use Rattle.mb_twins.specs.Twins.{SameRead}
+use Rattle.mb_twins.proofs.Parts.{SameCut, SameRowed, Rows, Reads, then_twins, reading_twins}
 use Rattle.mb_twins.proofs.Operands.{read_twins, operand_twins, address_twins}
 use Rattle.mb_twins.proofs.Flow.{either_same}
 
-checked_same : (x : Setting) (size : Size) (bound value : ℕ) (p : Plain) → SamePerformed x (checked size bound value p) (checked size bound value p)
+checked_same : (x : Setting) (size : Size) (bound value : ℕ) (p : Plain) → SameRowed x (checked size bound value p) (checked size bound value p)
 unfolding checked
 checked_same x size bound value p =
     either_same x (is_below size value || is_above size bound value) (stopped out_of_bounds _) (carried p) ((refl, inr (inl refl)), refl) refl
@@ -27,7 +27,7 @@ pub chk_twins : (x : Setting) (n : ℕ) (size : Size) (ea : Ea) (word_at : ℕ) 
     → Rows x (chk_of n size ea word_at x.here p) (chk_of n size ea word_at x.there p)
 unfolding chk_of
 chk_twins x n size ea word_at p =
-    then_twins x (SameStop x) (reading_twins x p (operand_twins x size ea word_at p)) (λ bound.
+    then_twins x (SameCut x) (reading_twins x (operand_twins x size ea word_at p)) (λ bound.
     returned (checked_same x size bound.value (data_register bound.plain n) bound.plain))
 
 bounds_twins : (x : Setting) (size : Size) (ea : Ea) (w word_at : ℕ) (p : Plain)
@@ -41,9 +41,9 @@ bounds_twins x size ea w word_at p =
 pub cmp2_twins : (x : Setting) (size : Size) (ea : Ea) (w word_at : ℕ) (p : Plain)
     → Rows x (cmp2_of size ea w word_at x.here p) (cmp2_of size ea w word_at x.there p)
 unfolding cmp2_of
-cmp2_twins x size ea w word_at p = then_twins x (SameStop x) (reading_twins x p (bounds_twins x size ea w word_at p)) (λ ccr. returned refl)
+cmp2_twins x size ea w word_at p = then_twins x (SameCut x) (reading_twins x (bounds_twins x size ea w word_at p)) (λ ccr. returned refl)
 
-checked_carry_same : (x : Setting) (p : Plain) → SamePerformed x (checked_carry p) (checked_carry p)
+checked_carry_same : (x : Setting) (p : Plain) → SameRowed x (checked_carry p) (checked_carry p)
 unfolding checked_carry
 checked_carry_same x p = either_same x (conditions_of p.ccr).c (stopped out_of_bounds p) (carried p) ((refl, inr (inl refl)), refl) refl
 
@@ -51,4 +51,4 @@ pub chk2_twins : (x : Setting) (size : Size) (ea : Ea) (w word_at : ℕ) (p : Pl
     → Rows x (chk2_of size ea w word_at x.here p) (chk2_of size ea w word_at x.there p)
 unfolding chk2_of
 chk2_twins x size ea w word_at p =
-    then_twins x (SameStop x) (reading_twins x p (bounds_twins x size ea w word_at p)) (λ ccr. returned (checked_carry_same x (record p { ccr = ccr })))
+    then_twins x (SameCut x) (reading_twins x (bounds_twins x size ea w word_at p)) (λ ccr. returned (checked_carry_same x (record p { ccr = ccr })))

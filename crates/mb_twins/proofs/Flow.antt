@@ -11,27 +11,26 @@ use Rattle.mb_instr.specs.declared.kinds.Condition.{Condition}
 use Rattle.mb_instr.specs.declared.registers.Plain.{Plain}
 use Rattle.mb_instr.specs.Sizes.{low_of}
 use Rattle.mb_instr.specs.Registers.{data_register, address_register}
-use Rattle.mb_meaning.specs.Ends.{Performed, carried, jumped}
+use Rattle.mb_meaning.specs.Ends.{Rowed, carried, jumped}
 use Rattle.mb_meaning.specs.Conditions.{is_met}
 use Rattle.mb_meaning.specs.Operands.{lowered}
 use Rattle.mb_meaning.specs.Flow.{target_of, is_call, call_of, branched, branch_of, counted_down, looped, dbcc_of, jmp_of, jsr_of}
-use Rattle.mb_twins.specs.Twins.{SameStop, SamePerformed}
-use Rattle.mb_twins.proofs.Parts.{Rows, then_twins, reading_twins}
+use Rattle.mb_twins.proofs.Parts.{SameCut, SameRowed, Rows, then_twins, reading_twins}
 use Rattle.mb_twins.proofs.Operands.{address_twins, pushing_twins}
 
 call_twins : (x : Setting) (target : ℕ) (p : Plain) → Rows x (call_of target x.here p) (call_of target x.there p)
 unfolding call_of
 call_twins x target p =
     let after = record (lowered p) { pc = target } in
-    then_twins x (SameStop x) (pushing_twins x p.pc (address_register after 7) after) (λ done. returned refl)
+    then_twins x (SameCut x) (pushing_twins x p.pc (address_register after 7) after) (λ done. returned refl)
 
 -- one of two ends
-pub either_same : (x : Setting) (b : Bool) (one other : Performed) → SamePerformed x one one → SamePerformed x other other →
-    let end = if b then one else other in SamePerformed x end end
+pub either_same : (x : Setting) (b : Bool) (one other : Rowed) → SameRowed x one one → SameRowed x other other →
+    let end = if b then one else other in SameRowed x end end
 either_same x true one other h k = h
 either_same x false one other h k = k
 
-branched_same : (x : Setting) (c : Condition) (target : ℕ) (p : Plain) → SamePerformed x (branched c target p) (branched c target p)
+branched_same : (x : Setting) (c : Condition) (target : ℕ) (p : Plain) → SameRowed x (branched c target p) (branched c target p)
 unfolding branched
 branched_same x c target p = either_same x (is_met c p.ccr) (jumped (record p { pc = target })) (carried p) refl refl
 
@@ -39,15 +38,15 @@ pub branch_twins : (x : Setting) (c : Condition) (d : Branch) (word_at : ℕ) (p
     → Rows x (branch_of c d word_at x.here p) (branch_of c d word_at x.there p)
 unfolding branch_of
 branch_twins x c d word_at p =
-    twins_choose (between x) (SamePerformed x) (is_call c) _ _ _ _ (call_twins x (target_of word_at d) p) (returned (branched_same x c (target_of word_at d) p))
+    twins_choose (between x) (SameRowed x) (is_call c) _ _ _ _ (call_twins x (target_of word_at d) p) (returned (branched_same x c (target_of word_at d) p))
 
-looped_same : (x : Setting) (n target : ℕ) (p : Plain) → SamePerformed x (looped n target p) (looped n target p)
+looped_same : (x : Setting) (n target : ℕ) (p : Plain) → SameRowed x (looped n target p) (looped n target p)
 unfolding looped
 looped_same x n target p =
     let after = counted_down n p in
     either_same x (low_of Word (data_register after n) == 2 ^ 16 - 1) (carried after) (jumped (record after { pc = target })) refl refl
 
-pub dbcc_same : (x : Setting) (c : Condition) (n d word_at : ℕ) (p : Plain) → SamePerformed x (dbcc_of c n d word_at p) (dbcc_of c n d word_at p)
+pub dbcc_same : (x : Setting) (c : Condition) (n d word_at : ℕ) (p : Plain) → SameRowed x (dbcc_of c n d word_at p) (dbcc_of c n d word_at p)
 unfolding dbcc_of
 dbcc_same x c n d word_at p =
     let target = target_of word_at (displacement.Word d) in
@@ -56,9 +55,9 @@ dbcc_same x c n d word_at p =
 pub jmp_twins : (x : Setting) (ea : Ea) (word_at : ℕ) (p : Plain) → Rows x (jmp_of ea word_at x.here p) (jmp_of ea word_at x.there p)
 unfolding jmp_of
 jmp_twins x ea word_at p =
-    then_twins x (SameStop x) (reading_twins x p (address_twins x Long ea word_at p)) (λ target. returned refl)
+    then_twins x (SameCut x) (reading_twins x (address_twins x Long ea word_at p)) (λ target. returned refl)
 
 pub jsr_twins : (x : Setting) (ea : Ea) (word_at : ℕ) (p : Plain) → Rows x (jsr_of ea word_at x.here p) (jsr_of ea word_at x.there p)
 unfolding jsr_of
 jsr_twins x ea word_at p =
-    then_twins x (SameStop x) (reading_twins x p (address_twins x Long ea word_at p)) (λ target. call_twins x target p)
+    then_twins x (SameCut x) (reading_twins x (address_twins x Long ea word_at p)) (λ target. call_twins x target p)

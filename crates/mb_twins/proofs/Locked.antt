@@ -19,12 +19,12 @@ use Rattle.mb_instr.specs.declared.registers.Plain.{Plain}
 use Rattle.mb_instr.specs.Sizes.{bytes_of}
 use Rattle.mb_instr.specs.Registers.{register_of, data_register}
 use Rattle.mb_writes.specs.Writing.{part_of}
-use Rattle.mb_meaning.specs.Ends.{Performed, Stopped, reading}
+use Rattle.mb_meaning.specs.Ends.{Rowed, Cut, Stopped, reading}
 use Rattle.mb_meaning.specs.Operands.{place_of}
 use Rattle.mb_meaning.specs.Locked.{probe_pieces, probe_of, get_places, get_of, put_places, put_at, test_and_set, tas_in_memory, tas_of}
 use Rattle.mb_meaning.specs.Locked.{update_by, pointer_by, cas_equal, cas_at, cas_of, cas2_equal, cas2_of}
-use Rattle.mb_twins.specs.Twins.{SameRead, SameStop, SamePerformed}
-use Rattle.mb_twins.proofs.Parts.{Rows, Stages, then_twins, reading_twins}
+use Rattle.mb_twins.specs.Twins.{SameRead}
+use Rattle.mb_twins.proofs.Parts.{SameCut, SameRowed, Rows, Stages, then_twins, reading_twins}
 use Rattle.mb_twins.proofs.Operands.{resolve_twins}
 use Rattle.mb_twins.proofs.Modifying.{modifying_twins}
 
@@ -47,12 +47,12 @@ pieces_twins x (piece ∷ pieces) ps qs e =
     (λ p q h. pieces_twins x pieces (ps ++ p ∷ []) (qs ++ q ∷ []) (one_more x ps qs p q e h))
 
 -- a check whose refusal is the instruction's end
-probe_twins : (x : Setting) (before : Plain) (at len : ℕ)
-    → Twin (between x) (Result (List Place) Stopped) (Result (List Place) Stopped) (Results (AreRaised x) (SameStop x))
-    (reading before (probe_of x.here at len)) (reading before (probe_of x.there at len))
+probe_twins : (x : Setting) (at len : ℕ)
+    → Twin (between x) (Result (List Place) (Cut Stopped)) (Result (List Place) (Cut Stopped)) (Results (AreRaised x) (SameCut x))
+    (reading (probe_of x.here at len)) (reading (probe_of x.there at len))
 unfolding probe_of
-probe_twins x before at len =
-    twins_failing (between x) (AreRaised x) (SameRead x) (SameStop x) _ _ _ _ (λ e f h. (h, refl))
+probe_twins x at len =
+    twins_failing (between x) (AreRaised x) (SameRead x) (SameCut x) _ _ _ _ (λ e f h. h)
     (twins_failing (between x) (AreRaised x) (SameFault x) (SameRead x) _ _ _ _ (λ e f h. record { fault = h; first = refl })
     (pieces_twins x (split_of at len) [] [] refl))
 
@@ -69,7 +69,7 @@ put_places_twins x (q ∷ qs) before_end value =
     (λ done. put_places_twins x qs (before_end - q.len) value)
 
 sure_twins : {A : Type 0} (x : Setting) {m n : Routine A} → Twin (between x) A A Equal m n → Stages x (sure m) (sure n)
-sure_twins x w = twins_then_same (between x) (Results Equal (SameStop x)) _ _ _ _ w (λ a. returned refl)
+sure_twins x w = twins_then_same (between x) (Results Equal (SameCut x)) _ _ _ _ w (λ a. returned refl)
 
 get_twins : (x : Setting) (ps qs : List Place) → AreRaised x ps qs → Stages x (sure (get_of ps)) (sure (get_of qs))
 unfolding get_of
@@ -82,54 +82,53 @@ put_twins x ps qs len value e =
     (put_places_twins x qs len value))
 
 -- a locked operand, and what follows from its places
-locked_twins : (x : Setting) (before : Plain) (at len : ℕ) {f g : List Place → Routine Performed}
+locked_twins : (x : Setting) (at len : ℕ) {f g : List Place → Routine Rowed}
     → ((ps qs : List Place) → AreRaised x ps qs → Rows x (f ps) (g qs))
-    → Rows x (reading before (probe_of x.here at len) >>= f) (reading before (probe_of x.there at len) >>= g)
-locked_twins x before at len more = twins_bind (between x) (AreRaised x) (SameStop x) Equal _ _ _ _ (probe_twins x before at len) more
+    → Rows x (reading (probe_of x.here at len) >>= f) (reading (probe_of x.there at len) >>= g)
+locked_twins x at len more = twins_bind (between x) (AreRaised x) (SameCut x) Equal _ _ _ _ (probe_twins x at len) more
 
 -- ---- rows
 
-tas_in_memory_twins : (x : Setting) (address : ℕ) (before p : Plain)
-    → Rows x (tas_in_memory address x.here before p) (tas_in_memory address x.there before p)
+tas_in_memory_twins : (x : Setting) (address : ℕ) (p : Plain) → Rows x (tas_in_memory address x.here p) (tas_in_memory address x.there p)
 unfolding tas_in_memory
-tas_in_memory_twins x address before p = locked_twins x before address 1 (λ ps qs e.
-    then_twins x (SameStop x) (get_twins x ps qs e) (λ value.
-    then_twins x (SameStop x) (put_twins x ps qs 1 (test_and_set value p.ccr).value e) (λ done. returned refl)))
+tas_in_memory_twins x address p = locked_twins x address 1 (λ ps qs e.
+    then_twins x (SameCut x) (get_twins x ps qs e) (λ value.
+    then_twins x (SameCut x) (put_twins x ps qs 1 (test_and_set value p.ccr).value e) (λ done. returned refl)))
 
 pub tas_twins : (x : Setting) (ea : Ea) (word_at : ℕ) (p : Plain) → Rows x (tas_of ea word_at x.here p) (tas_of ea word_at x.there p)
 unfolding tas_of
 tas_twins x (Dn n) word_at p = modifying_twins x test_and_set Byte (Dn n) word_at p
 tas_twins x ea word_at p =
-    then_twins x (SameStop x) (reading_twins x p (resolve_twins x ea Byte word_at p))
-    (λ to. tas_in_memory_twins x (place_of to.target) p to.plain)
+    then_twins x (SameCut x) (reading_twins x (resolve_twins x ea Byte word_at p))
+    (λ to. tas_in_memory_twins x (place_of to.target) to.plain)
 
-cas_at_twins : (x : Setting) (size : Size) (word address : ℕ) (before p : Plain)
-    → Rows x (cas_at size word address x.here before p) (cas_at size word address x.there before p)
+cas_at_twins : (x : Setting) (size : Size) (word address : ℕ) (p : Plain)
+    → Rows x (cas_at size word address x.here p) (cas_at size word address x.there p)
 unfolding cas_at
-cas_at_twins x size word address before p = locked_twins x before address (bytes_of size) (λ ps qs e.
-    then_twins x (SameStop x) (get_twins x ps qs e) (λ value.
-    twins_choose (between x) (SamePerformed x) (cas_equal size word value p) _ _ _ _
-    (then_twins x (SameStop x) (put_twins x ps qs (bytes_of size) (data_register p (update_by word)) e) (λ done. returned refl))
+cas_at_twins x size word address p = locked_twins x address (bytes_of size) (λ ps qs e.
+    then_twins x (SameCut x) (get_twins x ps qs e) (λ value.
+    twins_choose (between x) (SameRowed x) (cas_equal size word value p) _ _ _ _
+    (then_twins x (SameCut x) (put_twins x ps qs (bytes_of size) (data_register p (update_by word)) e) (λ done. returned refl))
     (returned refl)))
 
 pub cas_twins : (x : Setting) (size : Size) (ea : Ea) (word word_at : ℕ) (p : Plain)
     → Rows x (cas_of size ea word word_at x.here p) (cas_of size ea word word_at x.there p)
 unfolding cas_of
 cas_twins x size ea word word_at p =
-    then_twins x (SameStop x) (reading_twins x p (resolve_twins x ea size word_at p))
-    (λ to. cas_at_twins x size word (place_of to.target) p to.plain)
+    then_twins x (SameCut x) (reading_twins x (resolve_twins x ea size word_at p))
+    (λ to. cas_at_twins x size word (place_of to.target) to.plain)
 
 pub cas2_twins : (x : Setting) (size : Size) (first second : ℕ) (p : Plain) → Rows x (cas2_of size first second x.here p) (cas2_of size first second x.there p)
 unfolding cas2_of
 cas2_twins x size first second p =
     let len = bytes_of size in
-    locked_twins x p (register_of p (pointer_by first)) len (λ ps qs e.
-    locked_twins x p (register_of p (pointer_by second)) len (λ ps' qs' e'.
-    then_twins x (SameStop x) (get_twins x ps qs e) (λ one.
-    then_twins x (SameStop x) (get_twins x ps' qs' e') (λ two.
-    twins_choose (between x) (SamePerformed x) (cas2_equal size first second one two p) _ _ _ _
-    (then_twins x (SameStop x)
-    (then_twins x (SameStop x) (put_twins x ps qs len (data_register p (update_by first)) e)
+    locked_twins x (register_of p (pointer_by first)) len (λ ps qs e.
+    locked_twins x (register_of p (pointer_by second)) len (λ ps' qs' e'.
+    then_twins x (SameCut x) (get_twins x ps qs e) (λ one.
+    then_twins x (SameCut x) (get_twins x ps' qs' e') (λ two.
+    twins_choose (between x) (SameRowed x) (cas2_equal size first second one two p) _ _ _ _
+    (then_twins x (SameCut x)
+    (then_twins x (SameCut x) (put_twins x ps qs len (data_register p (update_by first)) e)
     (λ done. put_twins x ps' qs' len (data_register p (update_by second)) e'))
     (λ done. returned refl))
     (returned refl)))))

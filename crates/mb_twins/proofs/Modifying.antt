@@ -6,14 +6,13 @@ use Rattle.mb_instr.specs.declared.operand.Ea.{Ea}
 use Rattle.mb_instr.specs.declared.registers.Plain.{Plain}
 use Rattle.mb_alu.specs.declared.conditions.Flagged.{Flagged}
 use Rattle.mb_meaning.specs.Modifying.{modifying}
-use Rattle.mb_twins.specs.Twins.{SameStop}
-use Rattle.mb_twins.proofs.Parts.{Rows, then_twins, reading_twins}
+use Rattle.mb_twins.proofs.Parts.{SameCut, Rows, then_twins, reading_twins}
 use Rattle.mb_twins.proofs.Operands.{operand_twins, storing_twins}
 
 pub modifying_twins : (x : Setting) (change : ℕ → ℕ → Flagged) (size : Size) (ea : Ea) (word_at : ℕ) (p : Plain)
     → Rows x (modifying change size ea word_at x.here p) (modifying change size ea word_at x.there p)
 unfolding modifying
 modifying_twins x change size ea word_at p =
-    then_twins x (SameStop x) (reading_twins x p (operand_twins x size ea word_at p)) (λ operand.
+    then_twins x (SameCut x) (reading_twins x (operand_twins x size ea word_at p)) (λ operand.
     let result = change operand.value operand.plain.ccr in
     storing_twins x operand.target size result.value (record operand.plain { ccr = result.ccr }))

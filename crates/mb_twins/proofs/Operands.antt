@@ -23,8 +23,8 @@ use Rattle.mb_ea.specs.Reading.{read_pieces, read_cut, read_of}
 use Rattle.mb_ea.specs.Resolve.{indirect_of, full_of, parts_of, indexed_of, in_memory, resolve_of}
 use Rattle.mb_writes.specs.Writing.{pending_of, write_all, put_of}
 use Rattle.mb_meaning.specs.Operands.{load_of, store_of, operand_of, address_of, storing, pushing}
-use Rattle.mb_twins.specs.Twins.{SameRead, SameWrite, SameStop}
-use Rattle.mb_twins.proofs.Parts.{Rows, Stages, TwinParts, Reads, Writes, then_twins, failing_twins, writing_twins}
+use Rattle.mb_twins.specs.Twins.{SameRead, SameWrite}
+use Rattle.mb_twins.proofs.Parts.{SameCut, Rows, Stages, TwinParts, Reads, Writes, then_twins, failing_twins, writing_twins}
 
 -- ---- what stands in memory
 
@@ -118,7 +118,7 @@ pub storing_twins : (x : Setting) (target : Target) (size : Size) (value : ℕ) 
     → Rows x (storing target size value x.here after) (storing target size value x.there after)
 unfolding storing
 storing_twins x target size value after =
-    then_twins x (SameStop x) (writing_twins x after (store_twins x target size value after)) (λ done. returned refl)
+    then_twins x (SameCut x) (writing_twins x after (store_twins x target size value after)) (λ done. returned refl)
 
 pub pushing_twins : (x : Setting) (value top : ℕ) (after : Plain) → Stages x (pushing value top x.here after) (pushing value top x.there after)
 unfolding pushing

@@ -13,8 +13,8 @@ use Rattle.mb_ea.specs.declared.addresses.Target.TheVariants.{Reg}
 use Rattle.mb_ea.specs.Addresses.{sum}
 use Rattle.mb_writes.specs.Writing.{part_of, parts_of, apart, put_apart_of}
 use Rattle.mb_meaning.specs.Peripheral.{read_apart_of, from_peripheral, to_peripheral, movep_of}
-use Rattle.mb_twins.specs.Twins.{SameRead, SameWrite, SameStop, SamePerformed}
-use Rattle.mb_twins.proofs.Parts.{Rows, Reads, Writes, then_twins, failing_twins, reading_twins, writing_twins}
+use Rattle.mb_twins.specs.Twins.{SameRead, SameWrite}
+use Rattle.mb_twins.proofs.Parts.{SameCut, SameRowed, Rows, Reads, Writes, then_twins, failing_twins, reading_twins, writing_twins}
 use Rattle.mb_twins.proofs.Operands.{pieces_twins, write_all_twins, storing_twins}
 
 read_apart_twins : (x : Setting) (at : ℕ) (size : Size) → Reads x (read_apart_of x.here at size) (read_apart_of x.there at size)
@@ -36,17 +36,17 @@ load_twins : (x : Setting) (n : ℕ) (size : Size) (place : ℕ) (p : Plain)
     → Rows x (from_peripheral n size place x.here p) (from_peripheral n size place x.there p)
 unfolding from_peripheral
 load_twins x n size place p =
-    then_twins x (SameStop x) (reading_twins x p (read_apart_twins x place size)) (λ value. storing_twins x (Reg n) size value p)
+    then_twins x (SameCut x) (reading_twins x (read_apart_twins x place size)) (λ value. storing_twins x (Reg n) size value p)
 
 store_twins : (x : Setting) (n : ℕ) (size : Size) (place : ℕ) (p : Plain)
     → Rows x (to_peripheral n size place x.here p) (to_peripheral n size place x.there p)
 unfolding to_peripheral
 store_twins x n size place p =
-    then_twins x (SameStop x) (writing_twins x p (put_apart_twins x place size (data_register p n))) (λ done. returned refl)
+    then_twins x (SameCut x) (writing_twins x p (put_apart_twins x place size (data_register p n))) (λ done. returned refl)
 
 pub movep_twins : (x : Setting) (n : ℕ) (is_store : Bool) (size : Size) (address displacement : ℕ) (p : Plain)
     → Rows x (movep_of n is_store size address displacement x.here p) (movep_of n is_store size address displacement x.there p)
 unfolding movep_of
 movep_twins x n is_store size address displacement p =
     let place = sum (address_register p address) (sign_extended Word displacement) in
-    twins_choose (between x) (SamePerformed x) is_store _ _ _ _ (store_twins x n size place p) (load_twins x n size place p)
+    twins_choose (between x) (SameRowed x) is_store _ _ _ _ (store_twins x n size place p) (load_twins x n size place p)

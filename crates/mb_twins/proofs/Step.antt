@@ -40,11 +40,11 @@ use Rattle.mb_instr.specs.Registers.{data_register}
 use Rattle.mb_fields.specs.Decimals.{abcd_of, sbcd_of}
 use Rattle.mb_fields.specs.Packing.{pack_of, unpk_of}
 use Rattle.mb_meaning.specs.Decimals.{negated_decimal}
-use Rattle.mb_meaning.specs.Rows.{perform_move_of, perform_arith_of, perform_flow_of, perform_of}
+use Rattle.mb_meaning.specs.Rows.{perform_move_of, perform_arith_of, perform_flow_of, row_of, perform_of}
 use Rattle.mb_meaning.specs.Ends.{Performed}
 use Rattle.mb_meaning.specs.Attempt.{Unfound, end_without, Found, judged, found_of, fetched_of, past, most_words, attempt_of}
-use Rattle.mb_twins.specs.Twins.{SameEnd, SamePerformed, MayRefuse}
-use Rattle.mb_twins.proofs.Parts.{Rows}
+use Rattle.mb_twins.specs.Twins.{SameEnd, SameStop, SamePerformed, MayRefuse}
+use Rattle.mb_twins.proofs.Parts.{SameCut, Rows, restored_same, failing_twins}
 use Rattle.mb_twins.proofs.Moves.{move_twins, movea_twins, lea_twins, to_ccr_twins, from_ccr_twins, scc_twins}
 use Rattle.mb_twins.proofs.Stack.{pea_twins, link_twins, unlk_twins}
 use Rattle.mb_twins.proofs.Peripheral.{movep_twins}
@@ -160,13 +160,23 @@ perform_flow_twins x flow.Trapv word_at p is = returned (trapv_same x p)
 perform_flow_twins x (flow.Chk register size ea) word_at p is = chk_twins x register size ea word_at p
 perform_flow_twins x (flow.Chk2 size ea word) word_at p is = chk2_twins x size ea word word_at p
 
+row_twins : (x : Setting) (i : Instr) (at : ℕ) (p : Plain) → IsInstr i → MayRefuse x i → Rows x (row_of i at x.here p) (row_of i at x.there p)
+unfolding row_of
+row_twins x (instr.Move i) at p is may = perform_move_twins x i (operands_at (move_row i) at) p
+row_twins x (instr.Arith i) at p is may = perform_arith_twins x i (operands_at (arith_row i) at) p
+row_twins x (instr.Flow i) at p is may = perform_flow_twins x i (operands_at (flow_row i) at) p is
+row_twins x (instr.System i) at p is may = returned ((may, refl, inr (inr (inl refl))), refl)
+
+-- ---- instructions
+
+-- an instruction here and there
+abbrev pub Instrs : Setting → Routine Performed → Routine Performed → Type 1
+Instrs x m n = Twin (between x) Performed Performed (SamePerformed x) m n
+
 pub perform_twins : (x : Setting) (i : Instr) (at : ℕ) (p : Plain) → IsInstr i → MayRefuse x i
-    → Rows x (perform_of i at x.here p) (perform_of i at x.there p)
+    → Instrs x (perform_of i at x.here p) (perform_of i at x.there p)
 unfolding perform_of
-perform_twins x (instr.Move i) at p is may = perform_move_twins x i (operands_at (move_row i) at) p
-perform_twins x (instr.Arith i) at p is may = perform_arith_twins x i (operands_at (arith_row i) at) p
-perform_twins x (instr.Flow i) at p is may = perform_flow_twins x i (operands_at (flow_row i) at) p is
-perform_twins x (instr.System i) at p is may = returned ((may, refl, inr (inr (inl refl))), refl)
+perform_twins x i at p is may = failing_twins x (SameCut x) (SameStop x) (restored_same x p) (row_twins x i at p is may)
 
 -- any instruction, where instructions may be refused
 pub may_refuse : (x : Setting) (i : Instr) → x.refuses ≡ true → MayRefuse x i
@@ -214,12 +224,12 @@ pub fetched_twins : (x : Setting) (pc : ℕ) → x.refuses ≡ true → Founds x
 unfolding fetched_of
 fetched_twins x pc h = twins_choose (between x) _ (pc % 2 == 1) _ _ _ _ (returned (h, refl, inl refl)) (found_twins x most_words pc [] h AreWords-nil)
 
-pub attempt_twins : (x : Setting) (p : Plain) → x.refuses ≡ true → Rows x (attempt_of x.here p) (attempt_of x.there p)
+pub attempt_twins : (x : Setting) (p : Plain) → x.refuses ≡ true → Instrs x (attempt_of x.here p) (attempt_of x.there p)
 unfolding attempt_of
 attempt_twins x p h =
     let carry : Space → Instr × ℕ → Routine Performed = λ space found. perform_of found.0 p.pc space (past found.1 p) in
     twins_caught (between x) SameFound (SameUnfound x) (SamePerformed x) _ _ _ _ (carry x.here) (carry x.there) (fetched_twins x p.pc h)
     (λ e f same. returned (same, refl))
     (λ found other same.
-    subst (λ (i : Instr × ℕ). Rows x (carry x.here i) (carry x.there other)) (sym same.0)
+    subst (λ (i : Instr × ℕ). Instrs x (carry x.here i) (carry x.there other)) (sym same.0)
     (perform_twins x other.0 p.pc (past other.1 p) same.1 (may_refuse x other.0 h)))

@@ -12,8 +12,8 @@ use Rattle.mb_writes.specs.declared.transfers.Transfer.{Transfer}
 use Rattle.mb_writes.specs.Transfers.{transfers_of}
 use Rattle.mb_writes.specs.Moving.{Halfway, stored_of, store_all, loaded_of, load_all, storing, transfer_of}
 use Rattle.mb_meaning.specs.Moves.{movem_by, movem_of}
-use Rattle.mb_twins.specs.Twins.{SameRead, SameWrite, SameTransfer, SameStop}
-use Rattle.mb_twins.proofs.Parts.{Rows, TwinParts, then_twins, failing_twins, reading_twins}
+use Rattle.mb_twins.specs.Twins.{SameRead, SameWrite, SameTransfer}
+use Rattle.mb_twins.proofs.Parts.{SameCut, Rows, TwinParts, then_twins, failing_twins, reading_twins}
 use Rattle.mb_twins.proofs.Operands.{read_twins, address_twins, put_twins}
 
 -- both came equally far, with the same registers
@@ -57,7 +57,7 @@ pub movem_twins : (x : Setting) (is_load : Bool) (size : Size) (ea : Ea) (mask w
     → Rows x (movem_of is_load size ea mask word_at x.here p) (movem_of is_load size ea mask word_at x.there p)
 unfolding movem_of
 movem_twins x is_load size ea mask word_at p =
-    then_twins x (SameStop x) (reading_twins x p (address_twins x size ea word_at p)) (λ place.
-    then_twins x (SameStop x)
-    (failing_twins x (SameHalfway x) (SameStop x) (λ e f h. h) (transfer_twins x (movem_by is_load size ea mask) place 0 p))
+    then_twins x (SameCut x) (reading_twins x (address_twins x size ea word_at p)) (λ place.
+    then_twins x (SameCut x)
+    (failing_twins x (SameHalfway x) (SameCut x) (λ e f h. h) (transfer_twins x (movem_by is_load size ea mask) place 0 p))
     (λ moved. returned refl))

@@ -8,17 +8,17 @@ use Rattle.mb_instr.specs.declared.registers.Plain.{Plain}
 use Rattle.mb_meaning.specs.Ends.{carried, stopped}
 use Rattle.mb_meaning.specs.Conditions.{is_met}
 use Rattle.mb_meaning.specs.Traps.{conditional_trap, trap_of, trapcc_of, trapv_of}
-use Rattle.mb_twins.specs.Twins.{SamePerformed}
 use Rattle.mb_twins.proofs.Flow.{either_same}
+use Rattle.mb_twins.proofs.Parts.{SameRowed}
 
-pub trap_same : (x : Setting) (number : ℕ) (p : Plain) → number < 16 → SamePerformed x (trap_of number p) (trap_of number p)
+pub trap_same : (x : Setting) (number : ℕ) (p : Plain) → number < 16 → SameRowed x (trap_of number p) (trap_of number p)
 unfolding trap_of
 trap_same x number p lt = ((refl, inr (inr (inr (omega arith, omega arith)))), refl)
 
-pub trapcc_same : (x : Setting) (c : Condition) (p : Plain) → SamePerformed x (trapcc_of c p) (trapcc_of c p)
+pub trapcc_same : (x : Setting) (c : Condition) (p : Plain) → SameRowed x (trapcc_of c p) (trapcc_of c p)
 unfolding trapcc_of
 trapcc_same x c p = either_same x (is_met c p.ccr) (stopped conditional_trap p) (carried p) ((refl, inr (inr (inl refl))), refl) refl
 
-pub trapv_same : (x : Setting) (p : Plain) → SamePerformed x (trapv_of p) (trapv_of p)
+pub trapv_same : (x : Setting) (p : Plain) → SameRowed x (trapv_of p) (trapv_of p)
 unfolding trapv_of
 trapv_same x p = trapcc_same x OverflowSet p

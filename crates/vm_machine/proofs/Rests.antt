@@ -20,7 +20,7 @@ use Rattle.mb_writes.specs.Moving.{Halfway, transfer_of}
 use Rattle.mb_writes.specs.Writing.{left_by, write_all}
 use Rattle.mb_meaning.specs.declared.Finish.{Finish}
 use Rattle.mb_meaning.specs.declared.Finish.TheVariants as finish
-use Rattle.mb_meaning.specs.Ends.{Carried, Stopped, Performed, carried}
+use Rattle.mb_meaning.specs.Ends.{Carried, Stopped, Performed}
 use Rattle.mb_meaning.specs.SystemEnds.{with_registers}
 use Rattle.mb_meaning.specs.Raise.{Stepped, traces_all, is_due, cause_at, raise_of, trap_of, tracing_of, access_error_of, with_ct}
 use Rattle.mb_meaning.specs.Step.{unfinished_of, unwritten_of, line_unwritten_of, untransferred_of, movem_words, finish_of, is_flow, step_of}
@@ -165,7 +165,8 @@ denied_lines_go_on bus level cpu s t i at line done b e =
 
 moved_finish : {S : Type 0} (bus : Bus S) (i : Instr) (before now : Cpu) → IsUntraced before → HandsOn before now → (r : Result Plain Halfway) (t : S)
     → finished_by bus i before
-    (run bus (tried (other_fault (λ half. record { ended = ended.Movem half.fault; plain = half.plain }) r) (λ moved. Return (carried moved))) t)
+    (run bus (tried (other_fault (λ half. record { ended = ended.Movem half.fault; plain = half.plain }) r)
+    (λ moved. Return (Ok (record { flow = false; plain = moved })))) t)
     ≡ run bus (moved_on (movem_words i) now r) t
 unfolding finish_of untransferred_of
 moved_finish bus i before now h on (Ok p) t =
