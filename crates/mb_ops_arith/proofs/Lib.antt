@@ -1,2 +1,3 @@
 pub mod FieldNumbers
 pub mod OneBit
+pub mod Spelled

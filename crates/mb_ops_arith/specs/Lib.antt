@@ -4,3 +4,4 @@ pub mod Pairs
 pub mod Counts
 pub mod Decimals
 pub mod Locking
+pub mod Groups

@@ -10,42 +10,18 @@ ghost use Rattle.mb_meaning.specs.Rows.{perform_arith_of};
 ghost use Rattle.mb_meaning.specs.Ends.{closing, restoring};
 ghost use Rattle.mb_operands.specs.Endings.{is_unread, performed_by, carried_by};
 
-use crate::bit_fields::bit_field;
-use crate::bits::bit_row;
-use crate::bounds::compare_with_bounds;
-use crate::decimals::{DecimalKind, PackingKind, decimal, repack};
-use crate::locked::{cas, cas2, tas};
-use crate::modifying::modify;
-use crate::operations::{Change, Operation, Sum};
-use crate::pairs::{chain, combine_either_way, combine_immediate, compare_pair};
-use crate::quick::combine_quick;
-use crate::shifts::shift_register;
-use crate::taking::{Effect, take};
-use crate::unary::{clear, combine_with_ccr, extend_register};
-use mb_alu::LogicKind;
-use mb_instr::{Arith, Ea, Plain, Size};
+use crate::groups::{
+    bits_row, comparison_row, decimal_row, immediate_row, locked_row, pair_row,
+    register_result_row, single_row,
+};
+use mb_instr::{Arith, Plain};
 use mb_operands::{Undone, put_back};
 use mb_port::{Port, Space};
 use mb_writes::Ended;
 
-const ADD: Operation = Operation::Sum(Sum::Add);
-
-const SUB: Operation = Operation::Sum(Sum::Subtract);
-
-const ADDX: Operation = Operation::Extended(Sum::Add);
-
-const SUBX: Operation = Operation::Extended(Sum::Subtract);
-
-const AND: Operation = Operation::Logic(LogicKind::And);
-
-const OR: Operation = Operation::Logic(LogicKind::Or);
-
-const EOR: Operation = Operation::Logic(LogicKind::Eor);
-
-/// Carries out the instruction by its row.
+/// Carries out the instruction by its row, which one of the groups has.
 #[rattlefmt::skip]
 #[inline(always)]
-#[tactic(auto, unfolding(mb_meaning::specs::Rows::perform_arith_of))]
 fn carry_out<P: Port>(
     instruction: &Arith,
     at: u32,
@@ -60,111 +36,25 @@ fn carry_out<P: Port>(
         (P.world port.old) ≡ (carried_by result ended.new plain.new, P.world port.new) }
     ensures rest { P.rest port.new ≡ P.rest port.old }
 {
-    let first_word = at.wrapping_add(2);
-    let second_word = at.wrapping_add(4);
-    match *instruction {
-        Arith::Add { register, to_memory, size, ref ea } =>
-            combine_either_way(ADD, register, to_memory, size, ea, first_word, space, plain, port, ended),
-        Arith::Sub { register, to_memory, size, ref ea } =>
-            combine_either_way(SUB, register, to_memory, size, ea, first_word, space, plain, port, ended),
-        Arith::And { register, to_memory, size, ref ea } =>
-            combine_either_way(AND, register, to_memory, size, ea, first_word, space, plain, port, ended),
-        Arith::Or { register, to_memory, size, ref ea } =>
-            combine_either_way(OR, register, to_memory, size, ea, first_word, space, plain, port, ended),
-        Arith::Eor { register, size, ref ea } =>
-            combine_either_way(EOR, register, true, size, ea, first_word, space, plain, port, ended),
-        Arith::Addi { size, ref ea, immediate } =>
-            combine_immediate(ADD, immediate, size, ea, first_word, space, plain, port, ended),
-        Arith::Subi { size, ref ea, immediate } =>
-            combine_immediate(SUB, immediate, size, ea, first_word, space, plain, port, ended),
-        Arith::Andi { size, ref ea, immediate } =>
-            combine_immediate(AND, immediate, size, ea, first_word, space, plain, port, ended),
-        Arith::Ori { size, ref ea, immediate } =>
-            combine_immediate(OR, immediate, size, ea, first_word, space, plain, port, ended),
-        Arith::Eori { size, ref ea, immediate } =>
-            combine_immediate(EOR, immediate, size, ea, first_word, space, plain, port, ended),
-        Arith::Addq { quick, size, ref ea } =>
-            combine_quick(Sum::Add, quick, size, ea, first_word, space, plain, port, ended),
-        Arith::Subq { quick, size, ref ea } =>
-            combine_quick(Sum::Subtract, quick, size, ea, first_word, space, plain, port, ended),
-        Arith::Addx { x, size, in_memory, y } =>
-            chain(ADDX, size, in_memory, y, x, first_word, space, plain, port, ended),
-        Arith::Subx { x, size, in_memory, y } =>
-            chain(SUBX, size, in_memory, y, x, first_word, space, plain, port, ended),
-        Arith::Cmp { register, size, ref ea } =>
-            compare_pair(size, ea, &Ea::Dn(register), first_word, space, plain, port, ended),
-        Arith::Cmpi { size, ref ea, immediate } =>
-            compare_pair(size, &Ea::Imm(immediate), ea, first_word, space, plain, port, ended),
-        Arith::Cmpm { x, size, y } =>
-            compare_pair(size, &Ea::Post(y), &Ea::Post(x), first_word, space, plain, port, ended),
-        Arith::Cmp2 { size, ref ea, word } =>
-            compare_with_bounds(size, ea, word, second_word, space, plain, port, ended),
-        Arith::Adda { register, size, ref ea } =>
-            take(Effect::MoveAddress(Sum::Add, register), size, ea, first_word, space, plain, port, ended),
-        Arith::Suba { register, size, ref ea } =>
-            take(Effect::MoveAddress(Sum::Subtract, register), size, ea, first_word, space, plain, port, ended),
-        Arith::Cmpa { register, size, ref ea } =>
-            take(Effect::CompareAddress(register), size, ea, first_word, space, plain, port, ended),
-        Arith::Neg { size, ref ea } => modify(Change::Negate, size, ea, first_word, space, plain, port, ended),
-        Arith::Negx { size, ref ea } => modify(Change::NegateExtended, size, ea, first_word, space, plain, port, ended),
-        Arith::Not { size, ref ea } => modify(Change::Complement, size, ea, first_word, space, plain, port, ended),
-        Arith::Clr { size, ref ea } => clear(size, ea, first_word, space, plain, port, ended),
-        Arith::Tst { size, ref ea } => take(Effect::Test, size, ea, first_word, space, plain, port, ended),
-        Arith::ExtW { register } => {
-            extend_register(Size::Byte, Size::Word, register, plain);
-            Ok(())
-        }
-        Arith::ExtL { register } => {
-            extend_register(Size::Word, Size::Long, register, plain);
-            Ok(())
-        }
-        Arith::ExtbL { register } => {
-            extend_register(Size::Byte, Size::Long, register, plain);
-            Ok(())
-        }
-        Arith::OriCcr { word } => {
-            combine_with_ccr(LogicKind::Or, word, plain);
-            Ok(())
-        }
-        Arith::AndiCcr { word } => {
-            combine_with_ccr(LogicKind::And, word, plain);
-            Ok(())
-        }
-        Arith::EoriCcr { word } => {
-            combine_with_ccr(LogicKind::Eor, word, plain);
-            Ok(())
-        }
-        Arith::ShiftReg { count, is_left, size, by_register, kind, register } => {
-            shift_register(kind, is_left, size, by_register, count, register, plain);
-            Ok(())
-        }
-        Arith::ShiftMem { kind, is_left, ref ea } =>
-            modify(Change::ShiftWord { kind, is_left }, Size::Word, ea, first_word, space, plain, port, ended),
-        Arith::MulW { register, is_signed, ref ea } =>
-            take(Effect::MultiplyWord { is_signed, register }, Size::Word, ea, first_word, space, plain, port, ended),
-        Arith::MulL { ref ea, word } =>
-            take(Effect::MultiplyLong(word), Size::Long, ea, second_word, space, plain, port, ended),
-        Arith::DivW { register, is_signed, ref ea } =>
-            take(Effect::DivideWord { is_signed, register }, Size::Word, ea, first_word, space, plain, port, ended),
-        Arith::DivL { ref ea, word } =>
-            take(Effect::DivideLong(word), Size::Long, ea, second_word, space, plain, port, ended),
-        Arith::BitReg { register, kind, ref ea } =>
-            bit_row(kind, plain.d[register as usize], ea, first_word, space, plain, port, ended),
-        Arith::BitImm { kind, ref ea, word } =>
-            bit_row(kind, u32::from(word), ea, second_word, space, plain, port, ended),
-        Arith::Field { kind, ref ea, word } => bit_field(kind, ea, word, second_word, space, plain, port, ended),
-        Arith::Nbcd { ref ea } => modify(Change::NegateDecimal, Size::Byte, ea, first_word, space, plain, port, ended),
-        Arith::Abcd { x, in_memory, y } =>
-            decimal(DecimalKind::Add, x, in_memory, y, first_word, space, plain, port, ended),
-        Arith::Sbcd { x, in_memory, y } =>
-            decimal(DecimalKind::Subtract, x, in_memory, y, first_word, space, plain, port, ended),
-        Arith::Pack { x, in_memory, y, word } =>
-            repack(PackingKind::Pack, x, in_memory, y, word, first_word, space, plain, port, ended),
-        Arith::Unpk { x, in_memory, y, word } =>
-            repack(PackingKind::Unpack, x, in_memory, y, word, first_word, space, plain, port, ended),
-        Arith::Tas { ref ea } => tas(ea, first_word, space, plain, port, ended),
-        Arith::Cas { size, ref ea, word } => cas(size, ea, word, second_word, space, plain, port, ended),
-        Arith::Cas2 { size, first, second } => cas2(size, first, second, space, plain, port, ended),
+    match instruction {
+        Arith::Add { .. } | Arith::Sub { .. } | Arith::And { .. } | Arith::Or { .. } | Arith::Eor { .. }
+        | Arith::Addx { .. } | Arith::Subx { .. } => pair_row(instruction, at, space, plain, port, ended),
+        Arith::Addi { .. } | Arith::Subi { .. } | Arith::Andi { .. } | Arith::Ori { .. } | Arith::Eori { .. }
+        | Arith::OriCcr { .. } | Arith::AndiCcr { .. } | Arith::EoriCcr { .. } | Arith::Addq { .. }
+        | Arith::Subq { .. } => immediate_row(instruction, at, space, plain, port, ended),
+        Arith::Cmp { .. } | Arith::Cmpi { .. } | Arith::Cmpm { .. } | Arith::Cmp2 { .. } | Arith::Cmpa { .. }
+        | Arith::Tst { .. } => comparison_row(instruction, at, space, plain, port, ended),
+        Arith::Adda { .. } | Arith::Suba { .. } | Arith::MulW { .. } | Arith::MulL { .. } | Arith::DivW { .. }
+        | Arith::DivL { .. } => register_result_row(instruction, at, space, plain, port, ended),
+        Arith::Neg { .. } | Arith::Negx { .. } | Arith::Not { .. } | Arith::Clr { .. } | Arith::ShiftMem { .. }
+        | Arith::Nbcd { .. } | Arith::ExtW { .. } | Arith::ExtL { .. } | Arith::ExtbL { .. }
+        | Arith::ShiftReg { .. } => single_row(instruction, at, space, plain, port, ended),
+        Arith::BitReg { .. } | Arith::BitImm { .. } | Arith::Field { .. } =>
+            bits_row(instruction, at, space, plain, port, ended),
+        Arith::Abcd { .. } | Arith::Sbcd { .. } | Arith::Pack { .. } | Arith::Unpk { .. } =>
+            decimal_row(instruction, at, space, plain, port, ended),
+        Arith::Tas { .. } | Arith::Cas { .. } | Arith::Cas2 { .. } =>
+            locked_row(instruction, at, space, plain, port, ended),
     }
 }
 
@@ -204,7 +94,7 @@ pub fn perform_arith<P: Port>(
     requires { IsInstr (instr.Arith instruction.now) }
     ensures means { run P.bus
         (closing (restoring plain.old
-            (perform_arith_of instruction.now (operands_at (arith_row instruction.now) at) space plain.old)))
+        (perform_arith_of instruction.now (operands_at (arith_row instruction.now) at) space plain.old)))
         (P.world port.old) ≡ ((result, plain.new), P.world port.new) }
     ensures unread { is_unread result ≡ true → plain.new ≡ plain.old }
     ensures rest { P.rest port.new ≡ P.rest port.old }
