@@ -4,7 +4,7 @@ ghost use Rattle.std.specs.Prelude.{◌≡◌, ◌+◌, ◌≤◌, ◌<◌, ◌^
 ghost use Rattle.vm_shadow.specs.Area.{Maps};
 
 use Space::{Super, User};
-use mb_model::Kept;
+use mb_model::{Kept, PAGE_SIZE};
 use mb_port::Space;
 use mb_walk::{Found, Ram, long_at, search, set_long_at, size_of};
 use std::alloc::Global;
@@ -109,22 +109,58 @@ fn a_full_area_is_cleared_whole(rt: HostRuntime) {
 }
 
 #[test]
-fn an_empty_table_stays(rt: HostRuntime) {
+fn an_empty_table_is_freed(rt: HostRuntime) {
     for space in [User, Super] {
         let mut guest = Guest::new(rt.alloc()).expect(&rt, "memory");
         for k in 0..125u32 {
             assert!(rt; !guest.fill(space, 64 * k, k, true));
         }
+        assert!(rt; guest.is_full_for(space, 8000));
         guest.drop_page(space, 192);
+        assert!(rt; !guest.is_full_for(space, 8000));
+        assert!(rt; !guest.fill(space, 8000, 1, true));
         assert_eq!(rt;
-            (guest.find(space, 192), guest.find(space, 128)),
-            (None, Some((2, true)))
+            (guest.find(space, 192), guest.find(space, 8000)),
+            (None, Some((1, true)))
         );
-        assert!(rt; guest.fill(space, 8000, 1, true));
-        assert_eq!(rt;
-            (guest.find(space, 8000), guest.find(space, 128)),
-            (Some((1, true)), None)
-        );
+        for k in 0..125u32 {
+            if k != 3 {
+                assert_eq!(rt; guest.find(space, 64 * k), Some((k, true)));
+            }
+        }
+    }
+}
+
+#[test]
+fn slots_are_taken_and_freed(rt: HostRuntime) {
+    let mut guest = Guest::new(rt.alloc()).expect(&rt, "memory");
+    // two entries of one table, one of them filled twice
+    assert!(rt; !guest.fill(User, 5, 1, true));
+    assert!(rt; !guest.fill(User, 6, 2, true));
+    assert!(rt; !guest.fill(User, 6, 3, false));
+    guest.drop_page(User, 5);
+    assert_eq!(rt;
+        (guest.find(User, 5), guest.find(User, 6)),
+        (None, Some((3, false)))
+    );
+    guest.drop_page(User, 6);
+    guest.drop_page(User, 6);
+    assert_eq!(rt; (guest.ram.long(AREA), guest.ram.long(AREA + 0x400)), (0, 0));
+    // 63 page tables, each below a pointer table of its own, fill all slots, again and again
+    for round in 0..3u32 {
+        for k in 0..63u32 {
+            assert!(rt; !guest.fill(Super, 8192 * k, 100 * round + k, true));
+        }
+        assert!(rt; guest.is_full_for(Super, 64));
+        assert!(rt; guest.is_full_for(User, 0));
+        assert!(rt; !guest.is_full_for(Super, 63));
+        for k in 0..63u32 {
+            assert_eq!(rt; guest.find(Super, 8192 * k), Some((100 * round + k, true)));
+            guest.drop_page(Super, 8192 * k);
+        }
+    }
+    for index in 0..0x1_0000u32 / 4 {
+        assert_eq!(rt; guest.ram.long(AREA + 4 * index), 0);
     }
 }
 
@@ -165,7 +201,7 @@ fn a_search_finds_the_entries(rt: HostRuntime) {
     }
     for (space, page, frame, writable) in entries {
         assert!(rt; page < 0x10_0000);
-        let kept = match search(&mut ram, shadow.root(space), User, 4096 * page, true) {
+        let kept = match search(&mut ram, shadow.root(space), User, PAGE_SIZE * page, true) {
             Found::Entry(kept, _) => Some(kept),
             _ => None,
         };

@@ -1,6 +1,6 @@
 -- What the search finds, and the walk of `find`.
 use Rattle.std.proofs.Common.{◌≡◌, ◌∙◌, ℕ, ◌+◌, ◌*◌, ◌/◌, ◌%◌, ◌^◌, ◌≤◌, ◌<◌, not, Bool, true, false, cond, List, length}
-use Rattle.std.proofs.Common.{refl, ap, sym, arith, inl, inr}
+use Rattle.std.proofs.Common.{ap, sym, arith, inl, inr}
 use Rattle.std.specs.Prelude.{Option, Some, None}
 use Rattle.std.proofs.lemmas.Bool.{cases_Bool, cases_lt, false≢true}
 use Rattle.mb_port.specs.declared.types.Space.{Space}
@@ -8,16 +8,16 @@ use Rattle.mb_walk.specs.declared.descriptors.TableDescriptor.{TableDescriptor}
 use Rattle.mb_walk.specs.declared.descriptors.PageDescriptor.{PageDescriptor}
 use Rattle.mb_walk.specs.Memory.{number_at}
 use Rattle.mb_walk.specs.Descriptors.{table_descriptor, page_descriptor, entry_at, pointer_index, page_index}
-use Rattle.vm_shadow.specs.Slots.{Slots, slot_of, pages_of, pointers_of}
+use Rattle.vm_shadow.specs.Slots.{Placed, number_of, pages_of, pointers_of}
 use Rattle.vm_shadow.specs.Mapped.{first, second, mapped, root_of, entries_in}
-use Rattle.vm_shadow.specs.Area.{longs, in_slot, entry_of, Maps}
+use Rattle.vm_shadow.specs.Area.{longs, in_slot, entry_of, Laid}
 use Rattle.vm_shadow.proofs.Changes.{held_yes, held_no}
 use Rattle.vm_shadow.proofs.Walks.{mapped_is, second_at, second_resident}
 use Rattle.vm_shadow.proofs.Walks.{third_at, third_is, has_pointers, has_pages, root_whole}
 use Rattle.vm_shadow.proofs.Held.{find_is}
 
 -- ---- the walk of find
-module _ (s : Slots) (ram : List ℕ) (space : Space) (page : ℕ) (m : Maps s ram) (h : page < 2 ^ 20) where
+module _ (s : Placed) (ram : List ℕ) (space : Space) (page : ℕ) (m : Laid s ram) (h : page < 2 ^ 20) where
   abbrev root : ℕ
   root = root_of s.area space
 
@@ -31,9 +31,9 @@ module _ (s : Slots) (ram : List ℕ) (space : Space) (page : ℕ) (m : Maps s r
   second_inside a e r =
       let has = has_pointers s ram m space page h (sym (ap (λ (d : ℕ). (table_descriptor d).resident) e) ∙ r) in
       let at = ap (λ (d : ℕ). entry_at d 512 (pointer_index page)) e ∙ second_at s ram m space page h has in
-      let few : length s.tables ≤ 126 = m.tables.few in
+      let low = m.tables.inside (pointers_of space page) has in
       let inside : s.area + 65536 ≤ length ram = m.inside in
-      let at' : a / 512 * 512 + 4 * (page / 64 % 128) ≡ s.area + 4 * in_slot (slot_of (pointers_of space page) s.tables) (page / 64 % 128) = at in
+      let at' : a / 512 * 512 + 4 * (page / 64 % 128) ≡ s.area + 4 * in_slot (s.slot (pointers_of space page)) (page / 64 % 128) = at in
       omega arith
 
   pub meets_second : (a b : ℕ) → a ≡ first ram root page → b ≡ number_at ram (a / 512 * 512 + 4 * (page / 64 % 128)) 4 → b ≡ second ram root page
@@ -46,22 +46,18 @@ module _ (s : Slots) (ram : List ℕ) (space : Space) (page : ℕ) (m : Maps s r
       has_pages s ram m space page h (sym (ap (λ (d : ℕ). (table_descriptor d).resident) e) ∙ r)
       (sym (ap (λ (d : ℕ). (table_descriptor d).resident) f) ∙ q) in
       let at = ap (λ (d : ℕ). entry_at d 256 (page_index page)) f ∙ third_at s ram m space page h has in
-      let few : length s.tables ≤ 126 = m.tables.few in
+      let low = m.tables.inside (pages_of space page) has in
       let inside : s.area + 65536 ≤ length ram = m.inside in
-      let at' : b / 256 * 256 + 4 * (page % 64) ≡ s.area + 4 * in_slot (slot_of (pages_of space page) s.tables) (page % 64) = at in
+      let at' : b / 256 * 256 + 4 * (page % 64) ≡ s.area + 4 * in_slot (s.slot (pages_of space page)) (page % 64) = at in
       omega arith
-
-  pub found_none_first : (a : ℕ) → a ≡ first ram root page → (table_descriptor a).resident ≡ false → None ≡ mapped ram root page
-  unfolding mapped
-  found_none_first a e r = let b = sym (ap (λ (d : ℕ). (table_descriptor d).resident) e) ∙ r in rw b refl
 
   pub found_none_second : (a b : ℕ) → a ≡ first ram root page → (table_descriptor a).resident ≡ true → b ≡ second ram root page
       → (table_descriptor b).resident ≡ false → None ≡ mapped ram root page
   found_none_second a b e r f q =
       let has = has_pointers s ram m space page h (sym (ap (λ (d : ℕ). (table_descriptor d).resident) e) ∙ r) in
-      sym (mapped_is s ram m space page h ∙ elim (cases_lt (slot_of (pages_of space page) s.tables) (length s.tables)) [
+      sym (mapped_is s ram m space page h ∙ elim (cases_lt (number_of (pages_of space page) s.tables) (length s.tables)) [
         | inl there ↦ absurd (false≢true (sym q ∙ ap (λ (d : ℕ). (table_descriptor d).resident) f ∙ second_resident s ram m space page h there))
-        | inr k ↦ held_no s.tables (longs ram s.area) space page k
+        | inr k ↦ held_no s.tables s.slot (longs ram s.area) space page k
       ])
 
   pub found_entry : (a b c : ℕ) → a ≡ first ram root page → (table_descriptor a).resident ≡ true → b ≡ second ram root page
@@ -71,7 +67,7 @@ module _ (s : Slots) (ram : List ℕ) (space : Space) (page : ℕ) (m : Maps s r
       has_pages s ram m space page h (sym (ap (λ (d : ℕ). (table_descriptor d).resident) e) ∙ r)
       (sym (ap (λ (d : ℕ). (table_descriptor d).resident) f) ∙ q) in
       ap entry_of (l ∙ ap (λ (d : ℕ). number_at ram (entry_at d 256 (page_index page)) 4) f ∙ third_is s ram m space page h has)
-      ∙ sym (mapped_is s ram m space page h ∙ held_yes s.tables (longs ram s.area) space page has)
+      ∙ sym (mapped_is s ram m space page h ∙ held_yes s.tables s.slot (longs ram s.area) space page has)
 
   pub entry_is : (r : Option (ℕ × Bool)) → r ≡ mapped ram root page → r ≡ entries_in ram s.area space page
   entry_is r e = e ∙ sym (find_is s ram space page h)

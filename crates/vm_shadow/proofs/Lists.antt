@@ -6,7 +6,7 @@ use Rattle.std.proofs.lemmas.Bool.{cases_Bool, cases_eq, cases_lt}
 use Rattle.std.proofs.lemmas.Bool.Decides.{nat_tests}
 use Rattle.mb_port.specs.declared.types.Space.{Space}
 use Rattle.mb_port.specs.declared.types.Space.TheVariants.{User, Super}
-use Rattle.vm_shadow.specs.Slots.{is_full_for}
+use Rattle.vm_shadow.specs.Slots.{placed, is_full_for}
 use Rattle.vm_shadow.specs.Shadows.{Entries, Shadowed, is_at, with_entry, nothing, room_for}
 use Rattle.vm_shadow.specs.Mapped.{shadowed}
 use Rattle.vm_shadow.specs.Listed.{ShadowEntry, listed, AtMostOne, Lists, fronted, list_below, unlisted, relisted}
@@ -191,4 +191,4 @@ module _ (entries : Entries) where
   }
 
 pub entries_are_listed : EntriesAreListed
-entries_are_listed s ram = whole (shadowed s ram).entries (2 ^ 20) (λ space page h. entries_past s ram space page h)
+entries_are_listed s ram = whole (shadowed s ram).entries (2 ^ 20) (λ space page h. entries_past (placed s) ram space page h)

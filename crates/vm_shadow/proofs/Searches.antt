@@ -15,15 +15,16 @@ use Rattle.mb_walk.specs.Search.{Searched, Level, and_below, is_inside, descende
 use Rattle.mb_walk.proofs.LongLemmas.{long_back}
 use Rattle.mb_walk.proofs.Marks.{used_before}
 use Rattle.mb_walk.proofs.Again.{goes, stops, paged_left, left, ended_page, ended_invalid}
-use Rattle.vm_shadow.specs.Slots.{Slots, slot_of, pages_of, pointers_of}
+use Rattle.vm_shadow.specs.Slots.{Placed, placed, number_of, pages_of, pointers_of, Has}
 use Rattle.vm_shadow.specs.Mapped.{first, second, root_of, entries_in}
-use Rattle.vm_shadow.specs.Area.{longs, link, entry_of, page_long, IsPageLong, Has, Maps}
+use Rattle.vm_shadow.specs.Area.{longs, link, entry_of, page_long, IsPageLong, Laid}
 use Rattle.vm_shadow.specs.Laws.{found_of, SearchesFindEntries}
 use Rattle.vm_shadow.proofs.Changes.{held_yes, held_no, root_low}
 use Rattle.vm_shadow.proofs.Walks.{mapped_is, first_at, first_link, first_resident, first_open, first_absent, has_above}
 use Rattle.vm_shadow.proofs.Walks.{second_at, second_link, second_resident, second_open, second_absent, third_at, third_is, third_long}
 use Rattle.vm_shadow.proofs.PageLongs.{PageCases, page_cases}
 use Rattle.vm_shadow.proofs.Held.{find_is}
+use Rattle.vm_shadow.proofs.Maps.{laid}
 
 -- ---- a descriptor that is marked
 module _ (ram : List ℕ) (bytes : AreBytes ram) (p : ℕ) (room : p + 4 ≤ length ram) where
@@ -152,7 +153,7 @@ searched ram root space page write = refl
 link_used : (area slot : ℕ) → area % 65536 ≡ 0 → link area slot / 2 ^ 3 % 2 ≡ 1
 link_used area slot a = omega arith
 
-module _ (s : Slots) (ram : List ℕ) (of space : Space) (page : ℕ) (write : Bool) (m : Maps s ram) (bytes : AreBytes ram) (h : page < 2 ^ 20) where
+module _ (s : Placed) (ram : List ℕ) (of space : Space) (page : ℕ) (write : Bool) (m : Laid s ram) (bytes : AreBytes ram) (h : page < 2 ^ 20) where
   abbrev root : ℕ
   root = root_of s.area of
 
@@ -162,15 +163,12 @@ module _ (s : Slots) (ram : List ℕ) (of space : Space) (page : ℕ) (write : B
   entry : Option (ℕ × Bool)
   entry = entries_in ram s.area of page
 
-  few : length s.tables ≤ 126
-  few = m.tables.few
-
   room : s.area + 65536 ≤ length ram
   room = m.inside
 
-  invalid : length s.tables ≤ slot_of (pages_of of page) s.tables → Finds (record { ram = ram; found = Invalid })
+  invalid : length s.tables ≤ number_of (pages_of of page) s.tables → Finds (record { ram = ram; found = Invalid })
   invalid k = ap (λ (o : Option (ℕ × Bool)). record { ram = ram; found = found_of space page o })
-      (sym (find_is s ram of page h ∙ mapped_is s ram m of page h ∙ held_no s.tables (longs ram s.area) of page k))
+      (sym (find_is s ram of page h ∙ mapped_is s ram m of page h ∙ held_no s.tables s.slot (longs ram s.area) of page k))
 
   first_room : entry_at root 512 (root_index page) + 4 ≤ length ram
   first_room = let e = first_at s ram m of page h in let low = root_low of (page / 2 ^ 13) (omega arith) in let r = room in omega arith
@@ -182,23 +180,23 @@ module _ (s : Slots) (ram : List ℕ) (of space : Space) (page : ℕ) (write : B
       let open_second = second_open s ram m of page h has in
       let q = entry_at (second ram root page) 256 (page_index page) in
       let e = third_at s ram m of page h has in
-      let inside : q + 4 ≤ length ram = let f = few in let r = room in omega arith in
+      let inside : q + 4 ≤ length ram = let f = m.tables.inside (pages_of of page) has in let r = room in omega arith in
       ap (λ (b : Bool). ended ram q space page (b || (table_descriptor (second ram root page)).protected) write) open_first
       ∙ ap (λ (b : Bool). ended ram q space page b write) open_second
       ∙ page_found ram bytes q inside space page write (third_long s ram m of page h has)
       ∙ ap (λ (o : Option (ℕ × Bool)). record { ram = ram; found = found_of space page o })
       (ap entry_of (third_is s ram m of page h has)
-      ∙ sym (find_is s ram of page h ∙ mapped_is s ram m of page h ∙ held_yes s.tables (longs ram s.area) of page has))
+      ∙ sym (find_is s ram of page h ∙ mapped_is s ram m of page h ∙ held_yes s.tables s.slot (longs ram s.area) of page has))
 
   at_lower : Has s.tables (pointers_of of page) → Finds (lower space page write ram (first ram root page))
   at_lower above =
       let p = entry_at (first ram root page) 512 (pointer_index page) in
       let e = second_at s ram m of page h above in
-      let inside : p + 4 ≤ length ram = let f = few in let r = room in omega arith in
-      elim (cases_lt (slot_of (pages_of of page) s.tables) (length s.tables)) [
+      let inside : p + 4 ≤ length ram = let f = m.tables.inside (pointers_of of page) above in let r = room in omega arith in
+      elim (cases_lt (number_of (pages_of of page) s.tables) (length s.tables)) [
         | inl has ↦
             let used : second ram root page / 2 ^ 3 % 2 ≡ 1 =
-            ap (λ (d : ℕ). d / 2 ^ 3 % 2) (second_link s ram m of page h has) ∙ link_used s.area (slot_of (pages_of of page) s.tables) m.aligned in
+            ap (λ (d : ℕ). d / 2 ^ 3 % 2) (second_link s ram m of page h has) ∙ link_used s.area (s.slot (pages_of of page)) m.aligned in
             ap (λ (l : Level). and_below l (last space page write (table_descriptor (first ram root page)).protected))
             (level_still ram bytes p inside (second_resident s ram m of page h has) used)
             ∙ at_last has
@@ -209,15 +207,15 @@ module _ (s : Slots) (ram : List ℕ) (of space : Space) (page : ℕ) (write : B
       ]
 
   pub search_finds : Finds (search_of ram root space page write)
-  search_finds = searched ram root space page write ∙ elim (cases_lt (slot_of (pointers_of of page) s.tables) (length s.tables)) [
+  search_finds = searched ram root space page write ∙ elim (cases_lt (number_of (pointers_of of page) s.tables) (length s.tables)) [
     | inl above ↦
         let used : first ram root page / 2 ^ 3 % 2 ≡ 1 =
-        ap (λ (d : ℕ). d / 2 ^ 3 % 2) (first_link s ram m of page h above) ∙ link_used s.area (slot_of (pointers_of of page) s.tables) m.aligned in
+        ap (λ (d : ℕ). d / 2 ^ 3 % 2) (first_link s ram m of page h above) ∙ link_used s.area (s.slot (pointers_of of page)) m.aligned in
         ap (λ (l : Level). and_below l (lower space page write))
         (level_still ram bytes (entry_at root 512 (root_index page)) first_room (first_resident s ram m of page h above) used)
         ∙ at_lower above
     | inr k ↦
-        let none : length s.tables ≤ slot_of (pages_of of page) s.tables = elim (cases_lt (slot_of (pages_of of page) s.tables) (length s.tables)) [
+        let none : length s.tables ≤ number_of (pages_of of page) s.tables = elim (cases_lt (number_of (pages_of of page) s.tables) (length s.tables)) [
           | inl has ↦ let up = has_above s ram m of page h has in absurd (omega arith)
           | inr l ↦ l
         ] in
@@ -227,4 +225,4 @@ module _ (s : Slots) (ram : List ℕ) (of space : Space) (page : ℕ) (write : B
   ]
 
 pub searches_find_entries : SearchesFindEntries
-searches_find_entries s ram of space page write m bytes h = search_finds s ram of space page write m bytes h
+searches_find_entries s ram of space page write m bytes h = search_finds (placed s) ram of space page write (laid (placed s) ram m) bytes h

@@ -8,6 +8,7 @@ use Rattle.mb_walk.specs.Memory.{AreBytes}
 use Rattle.mb_walk.specs.Descriptors.{resident_status}
 use Rattle.mb_walk.specs.Search.{search_of}
 use Rattle.vm_shadow.specs.Slots.{Slots}
+use Rattle.vm_shadow.specs.Shadows.{AreNeeded}
 use Rattle.vm_shadow.specs.Mapped.{area_bytes, root_of, shadowed, BothStand}
 use Rattle.vm_shadow.specs.Area.{page_long, Maps}
 
@@ -40,3 +41,7 @@ TablesAreOfTheArea = (s : Slots) (ram after : List ℕ) → Maps s ram → s.are
 -- Both roots and all tables stand in the area.
 abbrev pub TablesStand : Type 0
 TablesStand = (s : Slots) (ram : List ℕ) → Maps s ram → BothStand ram s.area
+
+-- The tables that stand are exactly those that the entries need.
+abbrev pub TablesAreNeeded : Type 0
+TablesAreNeeded = (s : Slots) (ram : List ℕ) → Maps s ram → AreNeeded (shadowed s ram)

@@ -1,9 +1,11 @@
 -- What a shadow holds, and what each call makes of it.
-use Rattle.std.specs.Prelude.{ℕ, ◌==◌, ◌&&◌, Bool, if◌then◌else◌, List, [], Option, Some, None}
+use Rattle.std.specs.Prelude.{◌≡◌, ℕ, zero, suc, ◌+◌, ◌*◌, ◌^◌, ◌==◌, ◌&&◌, ◌||◌, ◌⊎◌, Bool, true, false, if◌then◌else◌}
+use Rattle.std.specs.Prelude.{List, [], filter, Option, Some, None, is_some}
 use Rattle.mb_port.specs.declared.types.Space.{Space}
 use Rattle.mb_model.specs.Keeping.{same_space}
 use Rattle.vm_shadow.specs.declared.table.Table.{Table}
-use Rattle.vm_shadow.specs.Slots.{tables_for, is_full_for}
+use Rattle.vm_shadow.specs.declared.table.Table.TheVariants.{Pointers, Pages}
+use Rattle.vm_shadow.specs.Slots.{tables_for, is_full_for, pointers_of, pages_of, Has, Once}
 
 -- what a page of a space leads to: a frame of the board, and whether it takes writes
 abbrev pub Entries : Type 0
@@ -43,6 +45,33 @@ abbrev pub filled : Space → ℕ → ℕ → Bool → Shadowed → Shadowed
 filled space page frame writable shadow =
     with_page space page (Some (frame, writable)) (with_tables space page (room_for space page shadow))
 
--- after an entry is dropped: its tables stay
+-- whether one of so many pages from a first on has an entry
+unfoldable pub has_entry : Entries → Space → ℕ → ℕ → Bool
+has_entry entries space first zero = false
+has_entry entries space first (suc n) = is_some (entries space (first + n)) || has_entry entries space first n
+
+-- whether an entry needs a table
+abbrev pub is_needed : Entries → Table → Bool
+is_needed entries (Pointers space index) = has_entry entries space (2 ^ 13 * index) (2 ^ 13)
+is_needed entries (Pages space index) = has_entry entries space (2 ^ 6 * index) (2 ^ 6)
+
+-- without the tables that no entry needs
+abbrev pub trimmed : Shadowed → Shadowed
+trimmed shadow = record { entries = shadow.entries; tables = filter (is_needed shadow.entries) shadow.tables }
+
+-- after an entry is dropped: a table that no other needs goes with it
 abbrev pub dropped : Space → ℕ → Shadowed → Shadowed
-dropped space page shadow = with_page space page None shadow
+dropped space page shadow = trimmed (with_page space page None shadow)
+
+-- an entry needs a table: that of its space and root index, or that of its pointer index below it
+pub record Needs (entries : Entries) (table : Table) : Type 0 where
+  pub space : Space
+  pub page : ℕ
+  pub entry : is_some (entries space page) ≡ true
+  pub two : (table ≡ pointers_of space page) ⊎ (table ≡ pages_of space page)
+
+-- The tables that stand are those that the entries need, and each stands once.
+pub record AreNeeded (shadow : Shadowed) : Type 0 where
+  pub standing : (table : Table) → Has shadow.tables table → Needs shadow.entries table
+  pub needed : (table : Table) → Needs shadow.entries table → Has shadow.tables table
+  pub once : Once shadow.tables

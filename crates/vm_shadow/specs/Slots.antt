@@ -1,6 +1,6 @@
 -- The tables of an area, in its slots.
-use Rattle.std.specs.Prelude.{ℕ, ◌/◌, ◌^◌, ◌==◌, ◌&&◌, Bool, false, nat_lt, if◌then◌else◌}
-use Rattle.std.specs.Prelude.{List, [], ◌∷◌, ◌++◌, length}
+use Rattle.std.specs.Prelude.{◌≡◌, ℕ, ◌/◌, ◌^◌, ◌==◌, ◌&&◌, ◌<◌, Bool, true, false, not, nat_lt, if◌then◌else◌}
+use Rattle.std.specs.Prelude.{List, [], ◌∷◌, ◌++◌, length, get_or}
 use Rattle.std.specs.List.{position_or_len}
 use Rattle.mb_port.specs.declared.types.Space.{Space}
 use Rattle.mb_model.specs.Keeping.{same_space}
@@ -11,8 +11,12 @@ use Rattle.vm_shadow.specs.declared.table.Table.TheVariants.{Pointers, Pages}
 pub record Slots : Type 0 where
   -- the address of its area
   pub area : ℕ
-  -- the table in each slot in use
+  -- the tables that stand, in the order in which they came to stand
   pub tables : List Table
+  -- the slot of each
+  pub places : List ℕ
+  -- how many longs of each slot are not 0
+  pub counts : List ℕ
 
 abbrev pub same_table : Table → Table → Bool
 same_table (Pointers space index) (Pointers other number) = same_space space other && (index == number)
@@ -20,9 +24,36 @@ same_table (Pointers space index) (Pages other number) = false
 same_table (Pages space index) (Pointers other number) = false
 same_table (Pages space index) (Pages other number) = same_space space other && (index == number)
 
--- the slot of a table, or the number of the slots in use
-abbrev pub slot_of : Table → List Table → ℕ
-slot_of table tables = position_or_len (same_table table) tables
+-- which of the tables a table is, or how many they are
+abbrev pub number_of : Table → List Table → ℕ
+number_of table tables = position_or_len (same_table table) tables
+
+-- a table stands
+abbrev pub Has : List Table → Table → Type 0
+Has tables table = number_of table tables < length tables
+
+-- no table stands twice
+abbrev pub once : List Table → Bool
+once [] = true
+once (table ∷ tables) = not (nat_lt (number_of table tables) (length tables)) && once tables
+
+abbrev pub Once : List Table → Type 0
+Once tables = once tables ≡ true
+
+-- the same, with the slot of a table that stands and the count of a slot as functions
+pub record Placed : Type 0 where
+  pub area : ℕ
+  pub tables : List Table
+  pub slot : Table → ℕ
+  pub count : ℕ → ℕ
+
+abbrev pub placed : Slots → Placed
+placed s = record {
+  area = s.area;
+  tables = s.tables;
+  slot = λ table. get_or s.places (number_of table s.tables) 0;
+  count = λ number. get_or s.counts number 0;
+}
 
 -- how many slots there are
 abbrev pub slots : ℕ
@@ -30,7 +61,7 @@ slots = 126
 
 -- the tables once this one stands
 abbrev pub with_table : Table → List Table → List Table
-with_table table tables = if nat_lt (slot_of table tables) (length tables) then tables else tables ++ table ∷ []
+with_table table tables = if nat_lt (number_of table tables) (length tables) then tables else tables ++ table ∷ []
 
 -- the two tables that an entry of a page needs: of its space and root index, and of its pointer index below it
 abbrev pub pointers_of : Space → ℕ → Table

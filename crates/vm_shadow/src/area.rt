@@ -1,9 +1,10 @@
 //! The longs of an area.
 
-ghost use Rattle.std.specs.Prelude.{◌≡◌, ℕ, ◌+◌, ◌*◌, ◌%◌, ◌^◌, ◌≤◌, ◌<◌, length, take, drop};
+ghost use Rattle.std.specs.Prelude.{◌≡◌, ℕ, ◌+◌, ◌*◌, ◌%◌, ◌^◌, ◌≤◌, ◌<◌, ◌⊎◌, length, take, drop, MatchOption};
 ghost use Rattle.vm_shadow.specs.Area.{longs, updated, in_root as root_place, in_slot as slot_place};
 ghost use Rattle.vm_shadow.specs.Area.{link as link_of, page_long as long_of, IsPageLong};
 
+use mb_model::PAGE_SIZE;
 use mb_port::Space;
 use mb_walk::Ram;
 
@@ -41,13 +42,36 @@ pub fn link(area: u32, slot: u32) -> u32
     area + 1024 + 512 * slot + 10
 }
 
+/// The slot of the table that a descriptor leads to.
+pub fn led(area: u32, long: u32) -> Option<u32>
+    requires aligned { area % 65536 ≡ 0 }
+    requires link { (long ≡ 0) ⊎ ((slot : ℕ) × ((slot < 126) × (long ≡ link_of area slot))) }
+    ensures { MatchOption result (long ≡ 0) (λ slot. (slot < 126) × (long ≡ link_of area slot)) }
+{
+    if long == 0 {
+        None
+    } else {
+        Some((long - area - 1024) / 512)
+    }
+}
+
 /// The descriptor of a page.
 pub fn page_long(frame: u32, writable: bool) -> u32
     requires { frame < 2 ^ 20 }
     ensures long { result ≡ long_of frame writable }
     ensures lawful { IsPageLong result }
 {
-    4096 * frame + if writable { 25 } else { 29 }
+    PAGE_SIZE * frame + if writable { 25 } else { 29 }
+}
+
+/// A long of an area.
+pub fn long_in<R: Ram>(ram: &R, area: u32, index: u32) -> u32
+    requires aligned { area % 65536 ≡ 0 }
+    requires inside { area + 65536 ≤ length (R.bytes ram.now) }
+    requires index { index < 16384 }
+    ensures { result ≡ longs (R.bytes ram.now) area index }
+{
+    ram.long(area + 4 * index)
 }
 
 /// Sets a long of an area.

@@ -5,9 +5,12 @@
 
 mod area;
 mod laws;
+mod nodes;
 mod shadow;
 mod table;
 
-pub use laws::{entries_are_listed, searches_find_entries, tables_are_of_the_area};
+pub use laws::{
+    entries_are_listed, searches_find_entries, tables_are_needed, tables_are_of_the_area,
+};
 pub use shadow::Shadow;
 pub use table::Table;

@@ -1,16 +1,16 @@
 //! The shadow and its calls.
 
-ghost use Rattle.std.specs.Prelude.{◌≡◌, ℕ, ◌+◌, ◌*◌, ◌/◌, ◌%◌, ◌^◌, ◌≤◌, ◌<◌, [], ◌∷◌, ◌++◌, length, take, drop};
-ghost use Rattle.std.specs.Prelude.{vec_len, vec_capacity, IfOk, MatchOption, None, Some};
-ghost use Rattle.std.specs.List.{position};
-ghost use Rattle.vm_shadow.specs.Slots.{Slots, slots, same_table, slot_of, with_table, tables_for};
+ghost use Rattle.std.specs.Prelude.{◌≡◌, ℕ, ◌+◌, ◌*◌, ◌/◌, ◌%◌, ◌^◌, ◌==◌, ◌≤◌, ◌<◌, [], length, take, drop};
+ghost use Rattle.std.specs.Prelude.{IfOk, MatchOption, None, Some};
+ghost use Rattle.vm_shadow.specs.Slots.{placed, number_of, with_table, tables_for, Has, Once};
 ghost use Rattle.vm_shadow.specs.Slots.{is_full_for as full_for, pages_of, pointers_of};
-ghost use Rattle.vm_shadow.specs.Shadows.{nothing, room_for, filled, dropped, with_page};
+ghost use Rattle.vm_shadow.specs.Shadows.{nothing, room_for, filled, dropped, with_entry};
 ghost use Rattle.vm_shadow.specs.Mapped.{mapped, root_of, shadowed, BothStand};
-ghost use Rattle.vm_shadow.specs.Area.{longs, updated, link as link_of, in_slot as slot_place, Has, IsPageLong};
-ghost use Rattle.vm_shadow.specs.Area.{entry_of, Maps};
+ghost use Rattle.vm_shadow.specs.Area.{longs, updated, in_root as root_place, in_slot as slot_place, entry_of};
+ghost use Rattle.vm_shadow.specs.Area.{Counted, IsPageLong, Laid, Maps, OnlyGo, Pushed, Removed, UsedBut};
 
-use crate::area::{in_root, in_slot, link, page_long, set_in, wipe};
+use crate::area::{in_root, in_slot, led, link, long_in, page_long, set_in, wipe};
+use crate::nodes::{Nodes, SLOTS};
 use crate::table::Table;
 use mb_outside::Memory;
 use mb_port::Space;
@@ -18,35 +18,32 @@ use mb_walk::{PageDescriptor, Ram, TableDescriptor};
 use std::alloc::Global;
 use std::marker::Model;
 
-/// How many slots an area has.
-const SLOTS: usize = 126;
-
 /// Translation tables of a guest in an area of the board's memory: 65,536 bytes, of which two tables of 512 bytes are
 /// the roots of both spaces, and the others are 126 slots for a table each.
 ///
-/// A contract sees the area's address and the tables in the slots; `shadowed` of these and of memory has the entries.
+/// A contract sees the area's address, the tables that stand and their slots; `shadowed` of these and of memory has the
+/// entries. A table stands as long as an entry needs it.
 #[derive(Drop)]
 pub struct Shadow {
     area: u32,
-    tables: Vec<Table>,
+    nodes: Nodes,
 }
 
 impl Model for Shadow {
-    ghost use Rattle.std.specs.Prelude.{◌≡◌, ◌%◌, ◌≤◌, vec_len, vec_capacity};
+    ghost use Rattle.std.specs.Prelude.{◌≡◌, ◌%◌};
     ghost use Rattle.vm_shadow.specs.Slots.{Slots};
+    ghost use Rattle.vm_shadow.specs.Links.{links_of, order, tables as tables_in, counts as counts_in, Sound};
 
     ghost Value = { Slots };
 
-    ghost view = { λ s. record { area = s.area; tables = s.tables.items } };
+    ghost view = { λ s. record {
+      area = s.area;
+      tables = tables_in (links_of s.nodes);
+      places = order (links_of s.nodes);
+      counts = counts_in s.nodes;
+    } };
 
-    ghost invariant = { λ s. (s.area % 65536 ≡ 0) × (vec_len s.tables ≤ 126) × (126 ≤ vec_capacity s.tables) };
-}
-
-/// The slot of a table.
-fn place_of(tables: &[Table], table: Table) -> Option<usize>
-    ensures { result ≡ position (same_table table) tables.now }
-{
-    tables.iter().position(|t| table.is(*t))
+    ghost invariant = { λ s. (s.area % 65536 ≡ 0) × Sound s.nodes };
 }
 
 impl Shadow {
@@ -54,10 +51,10 @@ impl Shadow {
     /// that it will need.
     pub fn new(alloc: Global, area: u32) -> Result<Shadow, Memory>
         requires { area % 65536 ≡ 0 }
-        ensures { IfOk result (λ shadow. shadow ≡ record { area = area; tables = [] }) }
+        ensures { IfOk result (λ shadow. (shadow.area ≡ area) × (shadow.tables ≡ [])) }
     {
-        match Vec::with_capacity(alloc, SLOTS) {
-            Ok(tables) => Ok(Shadow { area, tables }),
+        match Nodes::new(alloc) {
+            Ok(nodes) => Ok(Shadow { area, nodes }),
             Err(_) => Err(Memory),
         }
     }
@@ -82,60 +79,86 @@ impl Shadow {
 
     /// How many slots are in use.
     fn count(&self) -> u32
-        ensures { result ≡ length self.now.tables }
+        ensures used { result ≡ length self.now.tables }
+        ensures few { result ≤ 126 }
     {
-        self.tables.len() as u32
+        self.nodes.used
     }
 
-    /// The slot of a table. `None` exactly where it does not stand.
-    fn slot(&self, table: Table) -> Option<usize>
-        ensures { MatchOption result (length self.now.tables ≤ slot_of table self.now.tables)
-            (λ slot. (slot ≡ slot_of table self.now.tables) × (slot < length self.now.tables)) }
+    /// Whether all longs of a slot are 0.
+    fn is_empty(&self, slot: u32) -> bool
+        requires { slot < 126 }
+        ensures { result ≡ ((placed self.now).count slot == 0) }
     {
-        place_of(&self.tables, table)
+        self.nodes.count(slot) == 0
     }
 
-    /// The slot of a table that stands.
-    fn standing(&self, table: Table) -> u32
-        requires { Has self.now.tables table }
-        ensures slot { result ≡ slot_of table self.now.tables }
-        ensures few { result < 126 }
+    /// Has a table stand in a free slot.
+    fn push(&mut self, table: Table) -> u32
+        requires room { length self.old.tables < 126 }
+        requires new { length self.old.tables ≤ number_of table self.old.tables }
+        ensures pushed { Pushed (placed self.old) (placed self.new) table result }
+        ensures inside { result < 126 }
     {
-        let _ = &self.area;
-        match self.slot(table) {
-            Some(slot) => slot as u32,
-            None => unreachable!(),
-        }
+        self.nodes.push(table)
     }
 
-    /// Has a table stand in the next slot.
-    fn push(&mut self, table: Table)
-        requires { length self.old.tables < 126 }
-        ensures { self.new ≡ record { area = self.old.area; tables = self.old.tables ++ table ∷ [] } }
+    /// Frees the slot of a table.
+    fn remove(&mut self, table: Table, slot: u32)
+        requires stands { Has self.old.tables table }
+        requires once { Once self.old.tables }
+        requires slot { slot ≡ (placed self.old).slot table }
+        ensures { Removed (placed self.old) (placed self.new) table }
     {
-        self.tables.push_reserved(table);
+        let _ = table;
+        self.nodes.remove(slot);
     }
 
     /// Frees all slots.
     fn empty(&mut self)
-        ensures { self.new ≡ record { area = self.old.area; tables = [] } }
+        ensures area { self.new.area ≡ self.old.area }
+        ensures tables { self.new.tables ≡ [] }
+        ensures count { (slot : ℕ) → slot < 126 → (placed self.new).count slot ≡ 0 }
     {
-        self.tables.clear();
+        self.nodes.reset();
     }
 
-    /// Sets a long of the area.
-    fn set<R: Ram>(&self, ram: &mut R, index: u32, long: u32)
+    /// Sets an entry of a root.
+    fn set_root<R: Ram>(&self, ram: &mut R, space: Space, index: u32, long: u32)
+        requires index { index < 128 }
         requires inside { self.now.area + 65536 ≤ length (R.bytes ram.old) }
-        requires index { index < 16384 }
         ensures longs { longs (R.bytes ram.new) self.now.area
-            ≡ updated (longs (R.bytes ram.old) self.now.area) index long }
+            ≡ updated (longs (R.bytes ram.old) self.now.area) (root_place space index) long }
         ensures size { length (R.bytes ram.new) ≡ length (R.bytes ram.old) }
         ensures below { take self.now.area (R.bytes ram.new) ≡ take self.now.area (R.bytes ram.old) }
         ensures above { drop (self.now.area + 65536) (R.bytes ram.new)
             ≡ drop (self.now.area + 65536) (R.bytes ram.old) }
         ensures rest { R.rest ram.new ≡ R.rest ram.old }
     {
-        set_in(ram, self.area(), index, long);
+        set_in(ram, self.area(), in_root(space, index), long);
+    }
+
+    /// Sets a long of a slot, and counts it.
+    fn set<R: Ram>(&mut self, ram: &mut R, slot: u32, index: u32, long: u32)
+        requires slot { slot < 126 }
+        requires index { index < 128 }
+        requires inside { self.old.area + 65536 ≤ length (R.bytes ram.old) }
+        requires counted { Counted (placed self.old) (R.bytes ram.old) }
+        ensures longs { longs (R.bytes ram.new) self.old.area
+            ≡ updated (longs (R.bytes ram.old) self.old.area) (slot_place slot index) long }
+        ensures counted { Counted (placed self.new) (R.bytes ram.new) }
+        ensures same { self.new ≡ record self.old { counts = self.new.counts } }
+        ensures size { length (R.bytes ram.new) ≡ length (R.bytes ram.old) }
+        ensures below { take self.old.area (R.bytes ram.new) ≡ take self.old.area (R.bytes ram.old) }
+        ensures above { drop (self.old.area + 65536) (R.bytes ram.new)
+            ≡ drop (self.old.area + 65536) (R.bytes ram.old) }
+        ensures rest { R.rest ram.new ≡ R.rest ram.old }
+    {
+        let area = self.area();
+        let at = in_slot(slot, index);
+        let old = long_in(ram, area, at);
+        set_in(ram, area, at, long);
+        self.nodes.recount(slot, old, long);
     }
 
     /// Removes all entries and tables, or makes the first.
@@ -179,38 +202,141 @@ impl Shadow {
         }
     }
 
+    /// The slot of the pointer table of a root index. `None` exactly where it does not stand.
+    fn pointers<R: Ram>(&self, ram: &R, space: Space, index: u32) -> Option<u32>
+        requires index { index < 128 }
+        requires laid { Laid (placed self.now) (R.bytes ram.now) }
+        ensures { MatchOption result
+            (length self.now.tables ≤ number_of (Table.Pointers space index) self.now.tables)
+            (λ slot. (slot ≡ (placed self.now).slot (Table.Pointers space index))
+            × Has self.now.tables (Table.Pointers space index)) }
+    {
+        let area = self.area();
+        led(area, long_in(ram, area, in_root(space, index)))
+    }
+
+    /// The slot of a table of 64 pages, as the slot of its pointer table has it.
+    fn below<R: Ram>(&self, ram: &R, space: Space, index: u32, above: u32) -> Option<u32>
+        requires index { index < 2 ^ 14 }
+        requires laid { Laid (placed self.now) (R.bytes ram.now) }
+        requires above { Has self.now.tables (Table.Pointers space (index / 128)) }
+        requires slot { above ≡ (placed self.now).slot (Table.Pointers space (index / 128)) }
+        ensures { MatchOption result
+            (length self.now.tables ≤ number_of (Table.Pages space index) self.now.tables)
+            (λ slot. (slot ≡ (placed self.now).slot (Table.Pages space index))
+            × Has self.now.tables (Table.Pages space index)) }
+    {
+        let area = self.area();
+        let _ = space;
+        led(area, long_in(ram, area, in_slot(above, index % 128)))
+    }
+
+    /// The slot of a table of 64 pages. `None` exactly where it does not stand.
+    fn pages<R: Ram>(&self, ram: &R, space: Space, index: u32) -> Option<u32>
+        requires index { index < 2 ^ 14 }
+        requires laid { Laid (placed self.now) (R.bytes ram.now) }
+        ensures { MatchOption result
+            (length self.now.tables ≤ number_of (Table.Pages space index) self.now.tables)
+            (λ slot. (slot ≡ (placed self.now).slot (Table.Pages space index))
+            × Has self.now.tables (Table.Pages space index)) }
+    {
+        match self.pointers(ram, space, index / 128) {
+            Some(above) => self.below(ram, space, index, above),
+            None => None,
+        }
+    }
+
     /// Whether a fill of the page would now clear the area.
-    pub fn is_full_for<R: Ram>(&self, _ram: &R, space: Space, page: u32) -> bool
+    pub fn is_full_for<R: Ram>(&self, ram: &R, space: Space, page: u32) -> bool
         requires page { page < 2 ^ 20 }
-        requires tables { Maps self.now (R.bytes _ram.now) }
+        requires tables { Maps self.now (R.bytes ram.now) }
         ensures { result ≡ full_for space page self.now.tables }
     {
-        let pointers = self.slot(Table::Pointers(space, page / 8192)).is_none();
-        let pages = self.slot(Table::Pages(space, page / 64)).is_none();
-        self.tables.len() + usize::from(pointers) + usize::from(pages) > SLOTS
+        let pointers = self.pointers(ram, space, page / 8192).is_none();
+        let pages = self.pages(ram, space, page / 64).is_none();
+        self.count() + u32::from(pointers) + u32::from(pages) > SLOTS
     }
 
     /// Sets the entry of a page whose table stands.
-    fn put<R: Ram>(&self, ram: &mut R, space: Space, page: u32, slot: u32, long: u32)
+    fn put<R: Ram>(&mut self, ram: &mut R, space: Space, page: u32, slot: u32, long: u32)
         requires page { page < 2 ^ 20 }
-        requires slot { slot ≡ slot_of (pages_of space page) self.now.tables }
-        requires stands { slot < length self.now.tables }
-        requires few { slot < 126 }
+        requires stands { Has self.old.tables (pages_of space page) }
+        requires slot { slot ≡ (placed self.old).slot (pages_of space page) }
         requires long { IsPageLong long }
-        requires tables { Maps self.now (R.bytes ram.old) }
-        ensures tables { Maps self.now (R.bytes ram.new) }
-        ensures shadow { shadowed self.now (R.bytes ram.new)
-            ≡ with_page space page (entry_of long) (shadowed self.now (R.bytes ram.old)) }
+        requires laid { Laid (placed self.old) (R.bytes ram.old) }
+        requires full { UsedBut (pages_of space page) (placed self.old) (R.bytes ram.old) }
+        ensures laid { Laid (placed self.new) (R.bytes ram.new) }
+        ensures full { UsedBut (pages_of space page) (placed self.new) (R.bytes ram.new) }
+        ensures entries { (shadowed self.new (R.bytes ram.new)).entries
+            ≡ with_entry space page (entry_of long) (shadowed self.old (R.bytes ram.old)).entries }
+        ensures long { longs (R.bytes ram.new) self.new.area (slot_place slot (page % 64)) ≡ long }
+        ensures same { self.new ≡ record self.old { counts = self.new.counts } }
         ensures size { length (R.bytes ram.new) ≡ length (R.bytes ram.old) }
-        ensures below { take self.now.area (R.bytes ram.new) ≡ take self.now.area (R.bytes ram.old) }
-        ensures above { drop (self.now.area + 65536) (R.bytes ram.new)
-            ≡ drop (self.now.area + 65536) (R.bytes ram.old) }
+        ensures below { take self.old.area (R.bytes ram.new) ≡ take self.old.area (R.bytes ram.old) }
+        ensures above { drop (self.old.area + 65536) (R.bytes ram.new)
+            ≡ drop (self.old.area + 65536) (R.bytes ram.old) }
         ensures rest { R.rest ram.new ≡ R.rest ram.old }
     {
-        self.set(ram, in_slot(slot, page % 64), long);
+        let _ = space;
+        self.set(ram, slot, page % 64, long);
     }
 
-    /// Removes the entry of a page, if it has one. Its tables stay.
+    /// Frees a table of 64 pages if none has an entry.
+    fn free_pages<R: Ram>(&mut self, ram: &mut R, space: Space, index: u32, slot: u32)
+        requires index { index < 2 ^ 14 }
+        requires stands { Has self.old.tables (Table.Pages space index) }
+        requires slot { slot ≡ (placed self.old).slot (Table.Pages space index) }
+        requires laid { Laid (placed self.old) (R.bytes ram.old) }
+        requires full { UsedBut (Table.Pages space index) (placed self.old) (R.bytes ram.old) }
+        ensures laid { Laid (placed self.new) (R.bytes ram.new) }
+        ensures full { UsedBut (Table.Pointers space (index / 128)) (placed self.new) (R.bytes ram.new) }
+        ensures entries { (shadowed self.new (R.bytes ram.new)).entries
+            ≡ (shadowed self.old (R.bytes ram.old)).entries }
+        ensures gone { OnlyGo self.old.tables self.new.tables }
+        ensures above { Has self.new.tables (Table.Pointers space (index / 128)) }
+        ensures area { self.new.area ≡ self.old.area }
+        ensures size { length (R.bytes ram.new) ≡ length (R.bytes ram.old) }
+        ensures under { take self.old.area (R.bytes ram.new) ≡ take self.old.area (R.bytes ram.old) }
+        ensures over { drop (self.old.area + 65536) (R.bytes ram.new)
+            ≡ drop (self.old.area + 65536) (R.bytes ram.old) }
+        ensures rest { R.rest ram.new ≡ R.rest ram.old }
+    {
+        if !self.is_empty(slot) {
+            return;
+        }
+        match self.pointers(ram, space, index / 128) {
+            Some(above) => self.set(ram, above, index % 128, 0),
+            None => unreachable!(),
+        }
+        self.remove(Table::Pages(space, index), slot);
+    }
+
+    /// Frees the pointer table of a root index if it leads to none.
+    fn free_pointers<R: Ram>(&mut self, ram: &mut R, space: Space, index: u32)
+        requires index { index < 128 }
+        requires stands { Has self.old.tables (Table.Pointers space index) }
+        requires laid { Laid (placed self.old) (R.bytes ram.old) }
+        requires full { UsedBut (Table.Pointers space index) (placed self.old) (R.bytes ram.old) }
+        ensures tables { Maps self.new (R.bytes ram.new) }
+        ensures entries { (shadowed self.new (R.bytes ram.new)).entries
+            ≡ (shadowed self.old (R.bytes ram.old)).entries }
+        ensures gone { OnlyGo self.old.tables self.new.tables }
+        ensures area { self.new.area ≡ self.old.area }
+        ensures size { length (R.bytes ram.new) ≡ length (R.bytes ram.old) }
+        ensures below { take self.old.area (R.bytes ram.new) ≡ take self.old.area (R.bytes ram.old) }
+        ensures above { drop (self.old.area + 65536) (R.bytes ram.new)
+            ≡ drop (self.old.area + 65536) (R.bytes ram.old) }
+        ensures rest { R.rest ram.new ≡ R.rest ram.old }
+    {
+        if let Some(slot) = self.pointers(ram, space, index) {
+            if self.is_empty(slot) {
+                self.set_root(ram, space, index, 0);
+                self.remove(Table::Pointers(space, index), slot);
+            }
+        }
+    }
+
+    /// Removes the entry of a page, if it has one, and each table that no other entry needs.
     pub fn drop_page<R: Ram>(&mut self, ram: &mut R, space: Space, page: u32)
         requires page { page < 2 ^ 20 }
         requires tables { Maps self.old (R.bytes ram.old) }
@@ -225,22 +351,24 @@ impl Shadow {
             ≡ drop (self.old.area + 65536) (R.bytes ram.old) }
         ensures rest { R.rest ram.new ≡ R.rest ram.old }
     {
-        let table = Table::Pages(space, page / 64);
-        if self.slot(table).is_some() {
-            let slot = self.standing(table);
+        if let Some(slot) = self.pages(ram, space, page / 64) {
             self.put(ram, space, page, slot, 0);
+            self.free_pages(ram, space, page / 64, slot);
+            self.free_pointers(ram, space, page / 8192);
         }
     }
 
-    /// Has the pointer table of a root index stand.
-    fn stand_pointers<R: Ram>(&mut self, ram: &mut R, space: Space, index: u32)
+    /// Has the pointer table of a root index stand. The answer is its slot.
+    fn stand_pointers<R: Ram>(&mut self, ram: &mut R, space: Space, index: u32) -> u32
         requires index { index < 128 }
         requires room { length (with_table (Table.Pointers space index) self.old.tables) ≤ 126 }
         requires tables { Maps self.old (R.bytes ram.old) }
-        ensures tables { Maps self.new (R.bytes ram.new) }
+        ensures laid { Laid (placed self.new) (R.bytes ram.new) }
+        ensures full { UsedBut (Table.Pointers space index) (placed self.new) (R.bytes ram.new) }
         ensures entries { (shadowed self.new (R.bytes ram.new)).entries
             ≡ (shadowed self.old (R.bytes ram.old)).entries }
-        ensures slots { self.new.tables ≡ with_table (Table.Pointers space index) self.old.tables }
+        ensures tables { self.new.tables ≡ with_table (Table.Pointers space index) self.old.tables }
+        ensures slot { result ≡ (placed self.new).slot (Table.Pointers space index) }
         ensures area { self.new.area ≡ self.old.area }
         ensures size { length (R.bytes ram.new) ≡ length (R.bytes ram.old) }
         ensures below { take self.old.area (R.bytes ram.new) ≡ take self.old.area (R.bytes ram.old) }
@@ -248,40 +376,41 @@ impl Shadow {
             ≡ drop (self.old.area + 65536) (R.bytes ram.old) }
         ensures rest { R.rest ram.new ≡ R.rest ram.old }
     {
-        let table = Table::Pointers(space, index);
-        if self.slot(table).is_some() {
-            return;
+        if let Some(slot) = self.pointers(ram, space, index) {
+            return slot;
         }
-        let long = link(self.area(), self.count());
-        self.set(ram, in_root(space, index), long);
-        self.push(table);
+        let slot = self.push(Table::Pointers(space, index));
+        self.set_root(ram, space, index, link(self.area(), slot));
+        slot
     }
 
-    /// Has the table of 64 pages stand, whose pointer table stands.
-    fn stand_pages<R: Ram>(&mut self, ram: &mut R, space: Space, index: u32)
+    /// Has the table of 64 pages stand, whose pointer table stands in a slot. The answer is its slot.
+    fn stand_pages<R: Ram>(&mut self, ram: &mut R, space: Space, index: u32, above: u32) -> u32
         requires index { index < 2 ^ 14 }
         requires above { Has self.old.tables (Table.Pointers space (index / 128)) }
+        requires slot { above ≡ (placed self.old).slot (Table.Pointers space (index / 128)) }
         requires room { length (with_table (Table.Pages space index) self.old.tables) ≤ 126 }
-        requires tables { Maps self.old (R.bytes ram.old) }
-        ensures tables { Maps self.new (R.bytes ram.new) }
+        requires laid { Laid (placed self.old) (R.bytes ram.old) }
+        requires full { UsedBut (Table.Pointers space (index / 128)) (placed self.old) (R.bytes ram.old) }
+        ensures laid { Laid (placed self.new) (R.bytes ram.new) }
+        ensures full { UsedBut (Table.Pages space index) (placed self.new) (R.bytes ram.new) }
         ensures entries { (shadowed self.new (R.bytes ram.new)).entries
             ≡ (shadowed self.old (R.bytes ram.old)).entries }
-        ensures slots { self.new.tables ≡ with_table (Table.Pages space index) self.old.tables }
+        ensures tables { self.new.tables ≡ with_table (Table.Pages space index) self.old.tables }
+        ensures slot { result ≡ (placed self.new).slot (Table.Pages space index) }
         ensures area { self.new.area ≡ self.old.area }
         ensures size { length (R.bytes ram.new) ≡ length (R.bytes ram.old) }
-        ensures below { take self.old.area (R.bytes ram.new) ≡ take self.old.area (R.bytes ram.old) }
-        ensures above { drop (self.old.area + 65536) (R.bytes ram.new)
+        ensures under { take self.old.area (R.bytes ram.new) ≡ take self.old.area (R.bytes ram.old) }
+        ensures over { drop (self.old.area + 65536) (R.bytes ram.new)
             ≡ drop (self.old.area + 65536) (R.bytes ram.old) }
         ensures rest { R.rest ram.new ≡ R.rest ram.old }
     {
-        let table = Table::Pages(space, index);
-        if self.slot(table).is_some() {
-            return;
+        if let Some(slot) = self.below(ram, space, index, above) {
+            return slot;
         }
-        let above = self.standing(Table::Pointers(space, index / 128));
-        let long = link(self.area(), self.count());
-        self.set(ram, in_slot(above, index % 128), long);
-        self.push(table);
+        let slot = self.push(Table::Pages(space, index));
+        self.set(ram, above, index % 128, link(self.area(), slot));
+        slot
     }
 
     /// Clears the area where its slots do not suffice for a page's tables. The answer says whether it did.
@@ -333,9 +462,8 @@ impl Shadow {
         ensures rest { R.rest ram.new ≡ R.rest ram.old }
     {
         let full = self.make_room(ram, space, page);
-        self.stand_pointers(ram, space, page / 8192);
-        self.stand_pages(ram, space, page / 64);
-        let slot = self.standing(Table::Pages(space, page / 64));
+        let above = self.stand_pointers(ram, space, page / 8192);
+        let slot = self.stand_pages(ram, space, page / 64, above);
         self.put(ram, space, page, slot, page_long(frame, writable));
         full
     }
