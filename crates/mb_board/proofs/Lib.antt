@@ -1,3 +1,5 @@
 pub mod Modal
 pub mod Due
 pub mod Runs
+pub mod Spellings
+pub mod UserRuns

@@ -2,3 +2,4 @@ pub mod State
 pub mod Modes
 pub mod Arrivals
 pub mod Beside
+pub mod Spelling

@@ -5,6 +5,8 @@ use Rattle.mb_model.specs.declared.processor.Cpu.{Cpu}
 use Rattle.mb_model.specs.declared.outcome.RunState.{RunState}
 use Rattle.mb_machine.specs.World.{World}
 use Rattle.mb_machine.specs.Machine.{Machine}
+use Rattle.vm_meaning.specs.declared.RunEnd.{RunEnd}
+use Rattle.vm_meaning.specs.Native.{NativeState, Ran, about_to_run}
 
 -- Its machine, and the registers at the beginning of the last step that it took in user mode for a monitor.
 pub record BoardState : Type 0 where
@@ -29,3 +31,11 @@ no_registers = record { d = replicate 8 0; a = replicate 8 0; pc = 0; ccr = 0 }
 abbrev pub board_at_reset : Machine → BoardState
 board_at_reset m =
     record { cpu = m.cpu; world = m.world; steps = m.steps; state = m.state; before = no_registers }
+
+-- what a run of the board in user mode begins with
+abbrev pub run_from : BoardState → NativeState → Ran
+run_from b native = about_to_run (machine_in b) native b.before
+
+-- a run in user mode that ended so and left this board, with what was counted
+abbrev pub ran_to : RunEnd → BoardState → NativeState → Ran
+ran_to end b native = record { end = end; machine = machine_in b; native = native; before = b.before }

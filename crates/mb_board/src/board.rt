@@ -8,6 +8,7 @@ ghost use Rattle.mb_meaning.specs.Raise.{step_end};
 ghost use Rattle.mb_machine.specs.Machine.{reset_with, run_of, seen_machine, stepped, stepping, with_cpu, with_ram};
 ghost use Rattle.mb_machine.specs.Machine.{state_after, takes_steps};
 ghost use Rattle.vm_meaning.specs.Free.{IsFreeRun};
+ghost use Rattle.vm_meaning.specs.Native.{user_step};
 ghost use Rattle.mb_board.specs.Arrivals.{IsNext};
 ghost use Rattle.mb_board.specs.State.{board_at_reset, machine_in, with_machine};
 
@@ -93,7 +94,7 @@ impl Core {
         self.state = RunState::Running;
     }
 
-    fn takes_steps(&self) -> bool
+    pub(crate) fn takes_steps(&self) -> bool
         ensures { result ≡ takes_steps self.now.state }
     {
         match self.state {
@@ -122,10 +123,25 @@ impl Core {
         }
     }
 
+    /// One step at which nothing arrives, and which is not counted.
+    #[inline(always)]
+    #[tactic(auto, unfolding(vm_meaning::specs::Native::user_step, mb_machine::specs::Machine::stepping, mb_machine::specs::Machine::begun))]
+    pub(crate) fn step_uncounted(&mut self, table: &FirstWords) -> Finish
+        ensures means { (result, self.new) ≡ user_step self.old }
+        ensures steps { self.new.steps ≡ self.old.steps }
+        ensures ram { length self.new.world.ram ≡ length self.old.world.ram }
+    {
+        self.bus.tick();
+        let level = self.bus.level();
+        let finish = step_to_finish(table, &mut self.cpu, &mut self.bus, level);
+        self.state = self.state_after(finish);
+        finish
+    }
+
     /// One step; the script's entries from `next` on are of steps that were not taken yet, and it goes behind those of
     /// this one.
     #[inline(always)]
-    #[tactic(auto, unfolding(mb_machine::specs::Machine::stepping, mb_machine::specs::Machine::begun))]
+    #[tactic(auto, unfolding(vm_meaning::specs::Native::user_step, mb_machine::specs::Machine::stepping, mb_machine::specs::Machine::begun))]
     fn step_on(&mut self, table: &FirstWords, script: &Script, next: &mut u32) -> Finish
         requires room { self.old.steps + 1 < 2 ^ 32 }
         requires behind { IsNext script.now self.old.steps next.old }
@@ -136,11 +152,7 @@ impl Core {
     {
         *next = receive(&mut self.bus, script, self.steps, *next);
         self.steps += 1;
-        self.bus.tick();
-        let level = self.bus.level();
-        let finish = step_to_finish(table, &mut self.cpu, &mut self.bus, level);
-        self.state = self.state_after(finish);
-        finish
+        self.step_uncounted(table)
     }
 
     /// Takes so many steps, or fewer where the machine halts or is switched off.

@@ -10,8 +10,13 @@ mod board_port;
 mod bus;
 mod bus_port;
 mod lending;
+mod native;
 mod places;
 mod receiving;
+mod running;
+mod spelling;
 mod translating;
 
 pub use board::Board;
+pub use native::Native;
+pub use vm_meaning::RunEnd;

@@ -12,4 +12,6 @@ mod machines;
 #[cfg(test)]
 mod shadow;
 #[cfg(test)]
+mod user_runs;
+#[cfg(test)]
 mod walks;

@@ -111,7 +111,7 @@ fn steps_of(board: &Board) -> u32
 }
 
 /// What the board does at its next step.
-fn state_of(board: &Board) -> RunState
+pub(crate) fn state_of(board: &Board) -> RunState
     ensures { result ≡ board.now.state }
 {
     board.outcome().state

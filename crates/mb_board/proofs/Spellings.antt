@@ -1,0 +1,71 @@
+-- What numbers spell, as machine words sum it.
+use Rattle.std.proofs.Common.{◌≡◌, ◌∙◌, ℕ, ◌+◌, ◌*◌, ◌%◌, ◌^◌, ◌<◌, List, [], ◌∷◌, ◌++◌, length, get_or, length-append, ap, sym, zero-mul, arith}
+use Rattle.mb_instr.specs.declared.registers.Plain.{Plain}
+use Rattle.vm_meaning.specs.Marks.{numbers_of, with_numbers, spelled, with_spelled, trail, HasNumbers}
+use Rattle.vm_meaning.proofs.Spellings.{sum-spells, numbers-append, trails-by_spelling}
+use Rattle.mb_board.specs.Spelling.{Spell}
+
+eight : (t a b c d e f g h : ℕ) → t < 2 ^ 64
+    → ((t * 852891037441 % 2 ^ 64 + a * 27512614111 % 2 ^ 64) % 2 ^ 64
+    + (b * 887503681 + c * 28629151 + d * 923521 + e * 29791 + f * 961 + g * 31 + h)) % 2 ^ 64
+    ≡ with_numbers t (a ∷ b ∷ c ∷ d ∷ e ∷ f ∷ g ∷ h ∷ [])
+eight t a b c d e f g h less =
+    let powers : (t * 31 ^ 8 + spelled (a ∷ b ∷ c ∷ d ∷ e ∷ f ∷ g ∷ h ∷ [])) % 2 ^ 64
+    ≡ ((t * 852891037441 % 2 ^ 64 + a * 27512614111 % 2 ^ 64) % 2 ^ 64
+    + (b * 887503681 + c * 28629151 + d * 923521 + e * 29791 + f * 961 + g * 31 + h)) % 2 ^ 64 = omega arith in
+    sym (sum-spells (a ∷ b ∷ c ∷ d ∷ e ∷ f ∷ g ∷ h ∷ []) t less ∙ powers)
+
+-- eight numbers at once, by the powers of 31
+pub eight-at_once : (t : ℕ) (xs : List ℕ) → length xs ≡ 8 → t < 2 ^ 64
+    → ((t * 852891037441 % 2 ^ 64 + get_or xs 0 0 * 27512614111 % 2 ^ 64) % 2 ^ 64
+    + (get_or xs 1 0 * 887503681 + get_or xs 2 0 * 28629151 + get_or xs 3 0 * 923521 + get_or xs 4 0 * 29791 + get_or xs 5 0 * 961
+    + get_or xs 6 0 * 31 + get_or xs 7 0)) % 2 ^ 64
+    ≡ with_numbers t xs
+eight-at_once t (a ∷ b ∷ c ∷ d ∷ e ∷ f ∷ g ∷ h ∷ []) n less = eight t a b c d e f g h less
+eight-at_once t _ n less = absurd (omega arith)
+
+-- two numbers at once
+pub two-at_once : (t pc ccr : ℕ) → (t * 961 % 2 ^ 64 + (pc * 31 + ccr)) % 2 ^ 64 ≡ with_numbers t (pc ∷ ccr ∷ [])
+two-at_once t pc ccr = omega arith
+
+remainder_of : (x y : ℕ) → x % 2 ^ 64 ≡ (0 * y + x) % 2 ^ 64
+remainder_of x y = ap (λ (z : ℕ). z % 2 ^ 64) (let e : x ≡ 0 * y + x = omega (arith, zero-mul y) in e)
+
+has_eighteen : (p : Plain) → length p.d ≡ 8 → length p.a ≡ 8 → HasNumbers p
+has_eighteen p d a =
+    length-append (p.d ++ p.a) (p.pc ∷ p.ccr ∷ [])
+    ∙ ap (λ (n : ℕ). n + 2) (length-append p.d p.a ∙ ap (λ (n : ℕ). n + length p.a) d ∙ ap (λ (n : ℕ). 8 + n) a)
+
+-- what registers spell is the sum over all their numbers
+pub sum-is_spelled : (p : Plain) (sum front whole : ℕ) → length p.d ≡ 8 → length p.a ≡ 8 → front ≡ with_numbers 0 p.d
+    → whole ≡ with_numbers front p.a → sum ≡ (whole * 961 % 2 ^ 64 + (p.pc * 31 + p.ccr)) % 2 ^ 64 → Spell p sum
+sum-is_spelled p sum front whole n m d a e =
+    let tail = p.pc ∷ p.ccr ∷ [] in
+    let all = numbers_of p in
+    let behind : whole ≡ with_numbers (with_numbers 0 p.d) p.a = a ∙ ap (λ (t : ℕ). with_numbers t p.a) d in record {
+      numbers = has_eighteen p n m;
+      remainder =
+          e ∙ two-at_once whole p.pc p.ccr ∙ ap (λ (t : ℕ). with_numbers t tail) behind
+          ∙ ap (λ (t : ℕ). with_numbers t tail) (sym (numbers-append 0 p.d p.a)) ∙ sym (numbers-append 0 (p.d ++ p.a) tail)
+          ∙ sum-spells all 0 (omega arith) ∙ sym (remainder_of (spelled all) (31 ^ length all));
+    }
+
+-- 31 to the 18 counts by its remainder
+pub places : (t s : ℕ) → (t * 12439396676277002689 % 2 ^ 64 + s) % 2 ^ 64 ≡ with_spelled t s
+places t s = omega arith
+
+-- a spelling counts by its remainder
+pub with-remainder : (t s : ℕ) → with_spelled t (s % 2 ^ 64) ≡ with_spelled t s
+with-remainder t s = omega arith
+
+-- the trail by what is kept of the spellings
+pub trail-by_spellings : (t beginning end : ℕ) (p q : Plain) → Spell p beginning → Spell q end → t < 2 ^ 64
+    → with_spelled (with_spelled t beginning) end ≡ trail t (p ∷ q ∷ [])
+trail-by_spellings t beginning end p q f g h =
+    ap (λ (s : ℕ). with_spelled (with_spelled t s) end) f.remainder
+    ∙ ap (λ (x : ℕ). with_spelled x end) (with-remainder t (spelled (numbers_of p)))
+    ∙ ap (λ (s : ℕ). with_spelled (with_spelled t (spelled (numbers_of p))) s) g.remainder
+    ∙ with-remainder (with_spelled t (spelled (numbers_of p))) (spelled (numbers_of q))
+    ∙ sym (trails-by_spelling t p q f.numbers g.numbers h)
+
+pub ruleset spellings = (eight-at_once)

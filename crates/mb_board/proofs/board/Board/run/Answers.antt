@@ -1,0 +1,22 @@
+use Rattle.std.proofs.Common.{◌∙◌, ap, refl}
+use Rattle.mb_machine.specs.Machine.{takes_steps}
+use Rattle.mb_model.specs.declared.outcome.RunState.{RunState}
+use Rattle.vm_meaning.specs.Native.{Ran, user_run}
+use Rattle.vm_meaning.proofs.RunEnds.{run-keeps_steps}
+use Rattle.mb_board.specs.State.{BoardState, run_from}
+use Rattle.mb_board.proofs.UserRuns.{cause-of}
+use Rattle.mb_board.proofs.board.Board.run.Goals as goal
+
+pub returns-clause-means : goal.returns-clause-means
+returns-clause-means c =
+    c.run.ensures.means ∙ ap (λ (b : BoardState). user_run c.args.limit (run_from b c.args.native.now)) c.self.view_is
+
+pub returns-clause-cause : goal.returns-clause-cause
+returns-clause-cause c =
+    let from = run_from c.args.self.now c.args.native.now in
+    cause-of c.args.limit from _ (returns-clause-means c) refl (ap (λ (s : RunState). takes_steps s) c.requires.running) c.requires.user
+
+pub returns-clause-steps : goal.returns-clause-steps
+returns-clause-steps c =
+    ap (λ (x : Ran). x.machine.steps) (returns-clause-means c)
+    ∙ run-keeps_steps c.args.limit (run_from c.args.self.now c.args.native.now)

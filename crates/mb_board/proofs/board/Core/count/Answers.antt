@@ -1,0 +1,17 @@
+use Rattle.std.proofs.Common.{◌∙◌, ap, sym, inl, inr}
+use Rattle.mb_instr.specs.declared.registers.Plain.{Plain}
+use Rattle.mb_instr.specs.Registers.{plain_of}
+use Rattle.mb_machine.specs.Machine.{Machine}
+use Rattle.mb_meaning.specs.declared.Finish.{Finish}
+use Rattle.vm_meaning.specs.Native.{with_retired, with_step}
+use Rattle.mb_board.proofs.board.Core.count.Goals as goal
+
+pub returns-in-Went-clause-counted : goal.returns-in-Went-clause-counted
+returns-in-Went-clause-counted c =
+    let retired = c.retire.ensures c.args.before.now c.plain-after.result c.requires.spelled c.spelling.ensures in
+    let after = c.plain-after.ensures ∙ ap (λ (m : Machine). plain_of m.cpu.regs) c.self.view_is in
+    let so_far = retired ∙ ap (λ (q : Plain). with_retired c.args.before.now q c.args.native.now) after in
+    elim c.in-Went.is [
+      | inl went ↦ so_far ∙ sym (ap (λ (f : Finish). with_step f c.args.before.now c.args.self.now c.args.native.now) went)
+      | inr idle ↦ so_far ∙ sym (ap (λ (f : Finish). with_step f c.args.before.now c.args.self.now c.args.native.now) idle)
+    ]

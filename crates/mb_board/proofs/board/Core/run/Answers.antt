@@ -1,0 +1,34 @@
+use Rattle.std.proofs.Common.{◌∙◌, ◌+◌, ◌-◌, arith}
+use Rattle.vm_meaning.specs.Native.{about_to_run}
+use Rattle.mb_board.proofs.UserRuns.{ran_of, steps-on, step-off, no-step}
+use Rattle.mb_board.proofs.board.Core.run.Goals as goal
+
+pub loop-preserved : goal.loop-preserved
+loop-preserved c =
+    let r = about_to_run c.loop.self c.loop.native c.loop.before in
+    let left = c.args.limit - (c.loop.counter + 1) in
+    let on = steps-on (c.args.limit - c.loop.counter) left r c.run_on.result c.run_on.new.self c.run_on.new.native c.run_on.new.before
+    (omega arith) c.run_on.ensures.means c.in-Counted.is in
+    record {
+      run = on.run ∙ c.loop.invariant.run;
+      spelled = c.run_on.ensures.spelled;
+      retired = (let a = on.retired in let b = c.loop.invariant.retired in omega arith);
+      exceptions = (let a = on.exceptions in let b = c.loop.invariant.exceptions in omega arith);
+      ram = c.run_on.ensures.ram ∙ c.loop.invariant.ram;
+    }
+
+pub returns-clause-means : goal.returns-clause-means
+returns-clause-means c =
+    no-step (c.args.limit - c.loop.counter) (about_to_run c.loop.self c.loop.native c.loop.before) (omega arith) ∙ c.loop.invariant.run
+
+pub returns-in_default : goal.returns-in_default
+returns-in_default c =
+    let r = about_to_run c.loop.self c.loop.native c.loop.before in
+    let last = ran_of c.run_on.result c.run_on.new.self c.run_on.new.native c.run_on.new.before in
+    record {
+      means =
+          step-off (c.args.limit - c.loop.counter) (c.args.limit - (c.loop.counter + 1)) r last (omega arith) c.run_on.ensures.means
+          c.in_default.not-Counted
+          ∙ c.loop.invariant.run;
+      ram = c.run_on.ensures.ram ∙ c.loop.invariant.ram;
+    }

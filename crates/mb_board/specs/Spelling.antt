@@ -1,0 +1,15 @@
+-- What registers spell, as far as a sum modulo 2^64 knows it.
+use Rattle.std.specs.Prelude.{◌≡◌, ℕ, ◌%◌, ◌^◌}
+use Rattle.mb_instr.specs.declared.registers.Plain.{Plain}
+use Rattle.vm_meaning.specs.Marks.{numbers_of, spelled, HasNumbers}
+use Rattle.vm_meaning.specs.Native.{NativeState, with_retired}
+
+-- The eighteen numbers of the registers spell this, modulo 2^64.
+pub record Spell (p : Plain) (sum : ℕ) : Type 0 where
+  pub numbers : HasNumbers p
+  pub remainder : sum ≡ spelled (numbers_of p) % 2 ^ 64
+
+-- A step was carried out, whose registers spell these at its beginning and at its end.
+abbrev pub IsRetired : (beginning end : ℕ) (native after : NativeState) → Type 0
+IsRetired beginning end native after =
+    (p q : Plain) → Spell p beginning → Spell q end → after ≡ with_retired p q native

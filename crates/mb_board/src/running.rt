@@ -1,0 +1,120 @@
+//! Runs in user mode, for a monitor.
+
+ghost use Rattle.std.specs.Prelude.{◌≡◌, ◌+◌, ◌^◌, ◌<◌, length, false};
+ghost use Rattle.mb_instr.specs.Registers.{is_supervisor, plain_of};
+ghost use Rattle.vm_meaning.specs.Native.{EndsBy, about_to_run, ended_by, ran_by, user_run, user_step, with_step};
+ghost use Rattle.mb_board.specs.Spelling.{Spell};
+ghost use Rattle.mb_board.specs.State.{ran_to, run_from};
+
+use crate::board::{Board, Core};
+use crate::native::Native;
+use crate::spelling::spelling;
+use mb_instr::Plain;
+use mb_meaning::Finish;
+use mb_model::RunState;
+use mb_table::FirstWords;
+use vm_meaning::RunEnd;
+
+impl Core {
+    /// How a run in user mode ends with a step that ended so, or that it goes on.
+    #[inline(always)]
+    fn ended_by(&self, finish: Finish) -> RunEnd
+        ensures { result ≡ ended_by finish self.now }
+    {
+        if !self.takes_steps() {
+            return RunEnd::Gone;
+        }
+        match finish {
+            Finish::Entered(vector) => RunEnd::Exit(vector),
+            Finish::Went | Finish::Idle | Finish::Halted => RunEnd::Counted,
+        }
+    }
+
+    /// Counts the step that led here from these registers and ended so. They spelled `spelled`, which becomes what the
+    /// registers spell now.
+    #[inline(always)]
+    fn count(&self, finish: Finish, before: &Plain, spelled: &mut u64, native: &mut Native)
+        requires retired { native.old.retired + 1 < 2 ^ 64 }
+        requires exceptions { native.old.exceptions + 1 < 2 ^ 64 }
+        requires spelled { Spell before.now spelled.old }
+        ensures counted { native.new ≡ with_step finish before.now self.now native.old }
+        ensures spelled { Spell (plain_of self.now.cpu.regs) spelled.new }
+    {
+        let beginning = *spelled;
+        let after = self.cpu.regs.plain();
+        *spelled = spelling(&after);
+        match finish {
+            Finish::Went | Finish::Idle => native.retire(beginning, *spelled),
+            Finish::Entered(_) if self.takes_steps() => native.except(),
+            Finish::Entered(_) | Finish::Halted => {}
+        }
+    }
+
+    /// One more step of a run in user mode, which is counted, and how the run ends with it. `before` becomes the
+    /// registers at its beginning, which spelled `spelled`; that becomes what those at its end spell.
+    #[inline(always)]
+    fn run_on(
+        &mut self,
+        table: &FirstWords,
+        native: &mut Native,
+        before: &mut Plain,
+        spelled: &mut u64,
+    ) -> RunEnd
+        requires retired { native.old.retired + 1 < 2 ^ 64 }
+        requires exceptions { native.old.exceptions + 1 < 2 ^ 64 }
+        requires spelled { Spell (plain_of self.old.cpu.regs) spelled.old }
+        ensures means { record { end = result; machine = self.new; native = native.new; before = before.new }
+            ≡ ran_by (user_step self.old) (about_to_run self.old native.old before.old) }
+        ensures spelled { Spell (plain_of self.new.cpu.regs) spelled.new }
+        ensures ram { length self.new.world.ram ≡ length self.old.world.ram }
+    {
+        *before = self.cpu.regs.plain();
+        let finish = self.step_uncounted(table);
+        self.count(finish, before, spelled, native);
+        self.ended_by(finish)
+    }
+
+    /// Takes steps in user mode, at which nothing arrives and which are counted in `native` alone, up to the first that
+    /// enters an exception, halts or switches off, or so many.
+    fn run(
+        &mut self,
+        table: &FirstWords,
+        limit: u32,
+        native: &mut Native,
+        before: &mut Plain,
+    ) -> RunEnd
+        requires retired { native.old.retired < 2 ^ 63 }
+        requires exceptions { native.old.exceptions < 2 ^ 63 }
+        ensures means { record { end = result; machine = self.new; native = native.new; before = before.new }
+            ≡ user_run limit (about_to_run self.old native.old before.old) }
+        ensures ram { length self.new.world.ram ≡ length self.old.world.ram }
+    {
+        let mut spelled = spelling(&self.cpu.regs.plain());
+        for _ in 0..limit {
+            match self.run_on(table, native, before, &mut spelled) {
+                RunEnd::Counted => {}
+                end => return end,
+            }
+        }
+        RunEnd::Counted
+    }
+}
+
+impl Board {
+    /// Takes `limit` steps in user mode, at which nothing arrives, or fewer: it ends with its first step that enters an
+    /// exception, halts or switches off. They are counted in `native`, and the board's own count of steps stays. Each
+    /// step that entered no exception and did not halt is retired; each exit is an exception. It takes no memory.
+    pub fn run(&mut self, limit: u32, native: &mut Native) -> RunEnd
+        requires running { self.old.state ≡ RunState.Running }
+        requires user { is_supervisor self.old.cpu.regs.sr ≡ false }
+        requires retired { native.old.retired < 2 ^ 63 }
+        requires exceptions { native.old.exceptions < 2 ^ 63 }
+        ensures means { ran_to result self.new native.new ≡ user_run limit (run_from self.old native.old) }
+        ensures cause { EndsBy limit (run_from self.old native.old) (ran_to result self.new native.new) result }
+        ensures steps { self.new.steps ≡ self.old.steps }
+        ensures ram { length self.new.world.ram ≡ length self.old.world.ram }
+    {
+        self.core
+            .run(self.table.as_ref(), limit, native, &mut self.before)
+    }
+}
