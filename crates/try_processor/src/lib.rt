@@ -4,6 +4,8 @@
 #[cfg(test)]
 mod entry;
 #[cfg(test)]
+mod finishes;
+#[cfg(test)]
 mod frames;
 #[cfg(test)]
 mod privileged;

@@ -15,10 +15,10 @@ use mb_vector::VectorPort;
 use std::alloc::{AllocError, Global};
 
 /// No byte is refused by a hole.
-const NO_HOLE: u32 = u32::MAX;
+pub(crate) const NO_HOLE: u32 = u32::MAX;
 
 /// Where the code stands.
-const CODE: u32 = 0x400;
+pub(crate) const CODE: u32 = 0x400;
 
 /// Vectors and the handlers that they name: of access errors, odd PCs, zero divides, privilege violations, traces,
 /// interrupts of level 6 and TRAP #0.
@@ -36,7 +36,7 @@ const HANDLERS: [(u32, u32); 7] = [
 const RTE: u16 = 0x4E73;
 
 /// A processor at the code, with A0 at $1000, A1 at $2000 and stacks at $3004, $8000 and $9000.
-fn processor(sr: u16) -> Cpu {
+pub(crate) fn processor(sr: u16) -> Cpu {
     Cpu {
         regs: Regs {
             d: [
@@ -65,7 +65,7 @@ fn processor(sr: u16) -> Cpu {
 }
 
 /// A memory of 64 KiB that refuses one byte, with the vectors, a handler that returns, and this code.
-fn memory(alloc: Global, hole: u32, code: &[u16]) -> Result<VectorPort, AllocError> {
+pub(crate) fn memory(alloc: Global, hole: u32, code: &[u16]) -> Result<VectorPort, AllocError> {
     let mut port = VectorPort::new(alloc, 0x4000, hole)?;
     for (vector, handler) in HANDLERS {
         put(&mut port, vector, 4, handler);
@@ -80,7 +80,7 @@ fn memory(alloc: Global, hole: u32, code: &[u16]) -> Result<VectorPort, AllocErr
 }
 
 /// A word or a long at an address that is a multiple of its length.
-fn put(port: &mut VectorPort, at: u32, len: u8, value: u32) {
+pub(crate) fn put(port: &mut VectorPort, at: u32, len: u8, value: u32) {
     let (at, len) = if len == 4 {
         (at / 4 * 4, 4)
     } else {
@@ -90,7 +90,7 @@ fn put(port: &mut VectorPort, at: u32, len: u8, value: u32) {
 }
 
 /// Whether these longs stand from an address on.
-fn stands(port: &VectorPort, at: u32, longs: &[u32]) -> bool {
+pub(crate) fn stands(port: &VectorPort, at: u32, longs: &[u32]) -> bool {
     let mut at = (at / 4) as usize;
     for long in longs {
         if port.longs.get(at) != Some(long) {

@@ -1,0 +1,74 @@
+//! The rest of a step that a board began, by hand. The guest is in user mode.
+
+mod movems;
+mod steps;
+mod traps;
+mod writes;
+
+ghost use Rattle.std.specs.Prelude.{IsTrue, ◌≤◌};
+ghost use Rattle.mb_writes.specs.Transfers.{count_of, mask_in};
+
+use crate::steps::{memory, processor, stands};
+use mb_model::Cpu;
+use mb_step::StepEnd;
+use mb_vector::VectorPort;
+use mb_writes::count;
+use std::alloc::{AllocError, Global};
+use std::process::Abort;
+
+/// The guest's status register: user mode, with X, Z and C.
+const GUEST: u16 = 0x0015;
+
+/// Vectors beyond memory.
+const NO_VECTORS: u32 = 0x1_0000;
+
+/// A finish: the byte that memory refuses, the interrupt stack pointer and the vector base before it, and what it comes
+/// to.
+#[derive(Clone, Copy)]
+struct Row<'a> {
+    name: &'a str,
+    hole: u32,
+    isp: u32,
+    vbr: u32,
+    end: StepEnd,
+    /// SR, PC and the interrupt stack pointer then.
+    after: (u16, u32, u32),
+    /// The longs of memory then, where the finish writes.
+    longs: &'a [u32],
+    /// The frame where the interrupt stack pointer is then; of none nothing.
+    frame: &'a [u32],
+}
+
+impl Row<'_> {
+    fn memory(&self, alloc: Global) -> Result<VectorPort, AllocError> {
+        memory(alloc, self.hole, &[])
+    }
+
+    fn processor(&self, pc: u32) -> Cpu {
+        let mut cpu = processor(GUEST);
+        cpu.regs.pc = pc;
+        cpu.regs.isp = self.isp;
+        cpu.vbr = self.vbr;
+        cpu
+    }
+
+    /// Ends the test where the finish came to anything else; `at` is where it writes.
+    fn expect(&self, rt: &impl Abort, end: StepEnd, cpu: &Cpu, at: u32, port: &VectorPort) {
+        assert_eq!(rt; end, self.end, "{}", self.name);
+        assert_eq!(rt;
+            (cpu.regs.sr, cpu.regs.pc, cpu.regs.isp),
+            self.after,
+            "{}",
+            self.name
+        );
+        assert!(rt; stands(port, at, self.longs), "{}", self.name);
+        assert!(rt; stands(port, cpu.regs.isp, self.frame), "{}", self.name);
+    }
+}
+
+/// Whether a MOVEM of these words has so many transfers.
+fn has_transfers(words: u32, done: u32) -> bool
+    ensures { IsTrue result → done ≤ count_of (mask_in words) }
+{
+    done <= u32::from(count((words % 0x1_0000) as u16))
+}
