@@ -20,7 +20,7 @@ use mb_meaning::{Finish, StepEnd};
 use mb_model::{Cpu, Outcome, RunState};
 use mb_outside::Memory;
 use mb_script::Script;
-use mb_step::step_to_finish;
+use mb_step::{Scratch, step_to_finish};
 use mb_table::FirstWords;
 use mb_walk::Ram;
 use std::alloc::Global;
@@ -40,6 +40,8 @@ const NO_REGISTERS: Plain = Plain {
 pub(crate) struct Core {
     pub(crate) cpu: Cpu,
     pub(crate) bus: BoardBus,
+    /// Where steps decode an instruction of several words; no part of the machine.
+    pub(crate) scratch: Scratch,
     pub(crate) steps: u32,
     pub(crate) state: RunState,
 }
@@ -133,7 +135,13 @@ impl Core {
     {
         self.bus.tick();
         let level = self.bus.level();
-        let finish = step_to_finish(table, &mut self.cpu, &mut self.bus, level);
+        let finish = step_to_finish(
+            table,
+            &mut self.scratch,
+            &mut self.cpu,
+            &mut self.bus,
+            level,
+        );
         self.state = self.state_after(finish);
         finish
     }
@@ -206,6 +214,7 @@ impl Board {
             core: Core {
                 cpu: Cpu::at_reset(0, 0),
                 bus,
+                scratch: Scratch::new(),
                 steps: 0,
                 state: RunState::Running,
             },

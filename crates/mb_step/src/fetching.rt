@@ -24,12 +24,25 @@ use mb_table::FirstWords;
 /// How many words an instruction can have behind its first.
 const MOST_BEHIND: usize = 10;
 
-/// What stands where no instruction was decoded yet: one whose bytes are all 0, which costs a step the least.
-const NOTHING: Instr = Instr::Move(Move::Exg {
-    x: 0,
-    kind: Exchange::Data,
-    y: 0,
-});
+/// Where a step decodes an instruction of several words. What it holds does not count for a later step, which decodes
+/// its own there; so a run of steps has one, and no step makes it.
+#[derive(Drop)]
+pub struct Scratch {
+    longer: Instr,
+}
+
+impl Scratch {
+    /// A place in which nothing was decoded.
+    pub fn new() -> Scratch {
+        Scratch {
+            longer: Instr::Move(Move::Exg {
+                x: 0,
+                kind: Exchange::Data,
+                y: 0,
+            }),
+        }
+    }
+}
 
 /// The vectors of what is no instruction.
 const ODD_COUNTER: u8 = 3;
@@ -94,7 +107,12 @@ fn fetch_longer<P: Port>(
 /// are carried out by one call.
 #[inline(always)]
 #[tactic(auto, unfolding(mb_meaning::specs::Step::instruction_of))]
-pub(crate) fn execute_next<P: Port>(table: &FirstWords, cpu: &mut Cpu, port: &mut P) -> Finish
+pub(crate) fn execute_next<P: Port>(
+    table: &FirstWords,
+    scratch: &mut Scratch,
+    cpu: &mut Cpu,
+    port: &mut P,
+) -> Finish
     ensures means { run P.bus (instruction_of cpu.old) (P.world port.old) ≡ ((result, cpu.new), P.world port.new) }
     ensures busy { result ≢ Finish.Idle }
     ensures rest { P.rest port.new ≡ P.rest port.old }
@@ -107,11 +125,11 @@ pub(crate) fn execute_next<P: Port>(table: &FirstWords, cpu: &mut Cpu, port: &mu
         Ok(word) => word,
         Err(fault) => return finish_unfetched(fault, at, cpu, port),
     };
-    let mut longer = NOTHING;
+    let longer = &mut scratch.longer;
     let (instruction, length) = match table.of(first) {
         Decoded::Whole(instruction, length) => (instruction, *length),
-        Decoded::More => match fetch_longer(first, &mut longer, cpu, port) {
-            Ok(length) => (&longer, length),
+        Decoded::More => match fetch_longer(first, longer, cpu, port) {
+            Ok(length) => (&*longer, length),
             Err(end) => return end,
         },
         Decoded::Illegal => return refuse(ILLEGAL, cpu, port),

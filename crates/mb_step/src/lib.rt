@@ -15,6 +15,7 @@ mod raising;
 mod returning;
 mod stepping;
 
+pub use fetching::Scratch;
 pub use mb_meaning::{Finish, StepEnd};
 pub use performing::perform;
 pub use raising::{access_error, unchecked};

@@ -5,7 +5,7 @@ ghost use Rattle.mb_port.specs.Routine.{run};
 ghost use Rattle.mb_meaning.specs.Raise.{by_its_end};
 ghost use Rattle.mb_meaning.specs.Step.{Halts, interrupt_mask, step_of};
 
-use crate::fetching::execute_next;
+use crate::fetching::{Scratch, execute_next};
 use crate::raising::interrupt;
 use mb_meaning::{Finish, StepEnd};
 use mb_model::Cpu;
@@ -24,10 +24,17 @@ fn interrupt_mask(cpu: &Cpu) -> u8
 ///
 /// An interrupt above the mask is entered, and the step has nothing else. A processor that STOP holds idles. Else the
 /// instruction at PC is carried out, with the exceptions that it causes. The table says what its first word begins
-/// with; any table of first words says the same. The answer names the last exception that was entered.
+/// with; any table of first words says the same. An instruction of several words is decoded in the scratch place,
+/// whatever it held. The answer names the last exception that was entered.
 #[inline(always)]
 #[tactic(auto, unfolding(mb_meaning::specs::Step::step_of))]
-pub fn step_to_finish<P: Port>(table: &FirstWords, cpu: &mut Cpu, port: &mut P, level: u8) -> Finish
+pub fn step_to_finish<P: Port>(
+    table: &FirstWords,
+    scratch: &mut Scratch,
+    cpu: &mut Cpu,
+    port: &mut P,
+    level: u8,
+) -> Finish
     requires { level < 8 }
     ensures means { run P.bus (step_of level cpu.old) (P.world port.old) ≡ ((result, cpu.new), P.world port.new) }
     ensures idle { result ≡ Finish.Idle ↔ (level ≤ interrupt_mask cpu.old) × (cpu.old.stopped ≡ true) }
@@ -40,7 +47,7 @@ pub fn step_to_finish<P: Port>(table: &FirstWords, cpu: &mut Cpu, port: &mut P, 
     if cpu.stopped {
         return Finish::Idle;
     }
-    execute_next(table, cpu, port)
+    execute_next(table, scratch, cpu, port)
 }
 
 /// One step as `step_to_finish` takes it, without a word of the exceptions that it entered.
@@ -53,5 +60,5 @@ pub fn step<P: Port>(table: &FirstWords, cpu: &mut Cpu, port: &mut P, level: u8)
     ensures halted { result ≡ StepEnd.Halted ↔ Halts P.bus level cpu.old (P.world port.old) }
     ensures rest { P.rest port.new ≡ P.rest port.old }
 {
-    step_to_finish(table, cpu, port, level).step_end()
+    step_to_finish(table, &mut Scratch::new(), cpu, port, level).step_end()
 }
