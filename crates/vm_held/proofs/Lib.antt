@@ -1,0 +1,15 @@
+pub mod Keys
+pub mod Stages
+pub mod Allowed
+pub mod Accesses
+pub mod Puts
+pub mod Holding
+pub mod Again
+pub mod Names
+pub mod Flushes
+pub mod Truths
+pub mod Clean
+pub mod Own
+pub mod Rows
+pub mod Attempts
+pub mod Keeps

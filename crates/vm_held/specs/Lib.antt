@@ -1,0 +1,5 @@
+pub mod Lawful
+pub mod Sound
+pub mod Truth
+pub mod Denied
+pub mod Names

@@ -1,0 +1,52 @@
+-- Whole attempts, and their two parts: the board in user mode, and the held guest.
+use Rattle.std.specs.Prelude.{◌^◌, ◌<◌, ℕ}
+use Rattle.mb_port.specs.Routine.{run}
+use Rattle.mb_port.specs.declared.types.Space.TheVariants.{User}
+use Rattle.mb_instr.specs.declared.registers.Plain.{Plain}
+use Rattle.mb_machine.specs.World.{World}
+use Rattle.mb_meaning.specs.Ends.{Performed}
+use Rattle.mb_meaning.specs.Attempt.{Found, end_without, attempt_of, fetched_of}
+use Rattle.mb_twins.specs.Twins.{SamePerformed, SameEnd}
+use Rattle.mb_tells.specs.Laws.{HasLongs}
+use Rattle.mb_laws.specs.Between.{Setting, Equal}
+use Rattle.mb_laws.specs.Twin.{Results}
+use Rattle.mb_instr.specs.declared.instruction.Instr.{Instr}
+use Rattle.mb_instr.specs.Codes.{IsInstr}
+use Rattle.mb_meaning.specs.Rows.{perform_of}
+use Rattle.vm_machine.specs.Guests.{Guest}
+use Rattle.vm_machine.specs.Held.{held_bus}
+use Rattle.vm_mirror.specs.Related.{Site, setting, Related}
+use Rattle.vm_mirror.specs.Laws.{board_bus, Outside}
+use Rattle.vm_held.specs.Denied.{by_held}
+use Rattle.vm_held.specs.Sound.{OnlyRam}
+
+abbrev pub on_the_board : Plain → World → Performed × World
+on_the_board p b = run board_bus (attempt_of User p) b
+
+-- board and guest later, where the board stood ready for the guest before
+pub record Stays (x : Site) (b : World) (g : Guest) (u : World) (h : Guest) : Type 0 where
+  pub related : Related x u h
+  pub outside : Outside x b u
+  pub only : OnlyRam g h
+
+-- An attempt ends alike on the board and at the held guest, and changes the guest's RAM alone.
+abbrev pub AttemptsStay : Type 0
+AttemptsStay = (x : Site) (p : Plain) (b : World) (g : Guest) → HasLongs p → p.pc < 2 ^ 32 → Related x b g
+    → SamePerformed (setting x) (on_the_board p b).0 (by_held x.space p g).0
+    × Stays x b g (on_the_board p b).1 (by_held x.space p g).1
+
+-- the same instruction, or why there is none
+abbrev pub SameFound : Setting → Found → Found → Type 0
+SameFound x = Results Equal (λ e f. SameEnd x (end_without e) (end_without f))
+
+-- The board fetches what the held guest fetches: the same instruction, or the same end.
+abbrev pub FetchesStay : Type 0
+FetchesStay = (x : Site) (pc : ℕ) (b : World) (g : Guest) → pc < 2 ^ 32 → Related x b g
+    → let s = run board_bus (fetched_of User pc) b in let k = run held_bus (fetched_of x.space pc) g in
+    SameFound (setting x) s.0 k.0 × Stays x b g s.1 k.1
+
+-- And carries it out as the held guest does.
+abbrev pub RowsStay : Type 0
+RowsStay = (x : Site) (i : Instr) (at : ℕ) (p : Plain) (b : World) (g : Guest) → IsInstr i → HasLongs p → Related x b g
+    → let s = run board_bus (perform_of i at User p) b in let k = run held_bus (perform_of i at x.space p) g in
+    SamePerformed (setting x) s.0 k.0 × Stays x b g s.1 k.1

@@ -1,0 +1,44 @@
+-- In user mode the board mirrors the guest's held bus at every call.
+use Rattle.std.specs.Prelude.{◌≡◌, Bool, true, ◌+◌, length, take, drop}
+use Rattle.mb_port.specs.Routine.{Call, Bus}
+use Rattle.mb_port.specs.declared.types.Space.TheVariants.{User}
+use Rattle.mb_laws.specs.Between.{call_here, IsThere, like, between}
+use Rattle.mb_laws.specs.Twin.{AlikeOn}
+use Rattle.mb_model.specs.Keeping.{rule_a}
+use Rattle.mb_machine.specs.World.{World}
+use Rattle.mb_machine.specs.Bus.{bus_of}
+use Rattle.vm_machine.specs.Guests.{Guest}
+use Rattle.vm_held.specs.Lawful.{IsLawful}
+use Rattle.vm_machine.specs.Held.{held_bus}
+use Rattle.vm_mirror.specs.Related.{Site, setting, Related, Serves}
+
+abbrev pub board_bus : Bus World
+board_bus = bus_of rule_a
+
+abbrev pub lawful : Site → Call → World → Type 0
+lawful x c b = IsLawful User x.base x.size c
+
+-- One call: the board answers as the held guest, and both states are related again.
+abbrev pub MirrorsCalls : Type 0
+MirrorsCalls = (x : Site) (d : Call) (b : World) (g : Guest) → Related x b g → IsThere (setting x) d
+    → lawful x (call_here (setting x) d) b
+    → like (setting x) d (board_bus (call_here (setting x) d) b).0 (held_bus d g).0
+    × Related x (board_bus (call_here (setting x) d) b).1 (held_bus d g).1
+
+abbrev pub always : {S : Type 0} → Call → S → Bool
+always c s = true
+
+abbrev pub IsAlike : Type 0
+IsAlike = (x : Site) → AlikeOn (between (setting x)) (Related x) (lawful x) always always board_bus held_bus
+
+-- What stays of the board: all below the guest and above its tables, its registers, its devices.
+pub record Outside (x : Site) (b after : World) : Type 0 where
+  pub count : length after.ram ≡ length b.ram
+  pub below : take x.base after.ram ≡ take x.base b.ram
+  pub above : drop (x.base + x.size) after.ram ≡ drop (x.base + x.size) b.ram
+  pub mmu : after.mmu ≡ b.mmu
+  pub devices : after.devices ≡ b.devices
+
+-- Each lawful call touches nothing else of the board.
+abbrev pub StaysInside : Type 0
+StaysInside = (x : Site) (c : Call) (b : World) → Serves x b → lawful x c b → Outside x b (board_bus c b).1

@@ -1,0 +1,207 @@
+-- The exception of an end: what its cause and its frame say.
+use Rattle.std.proofs.Common.{◌≡◌, ◌∙◌, ℕ, ◌<◌, ◌≤◌, ◌==◌, Bool, true, false, cond, List, [], ◌∷◌, length, take, not, ◌&&◌, arith, refl, ap, sym, subst}
+use Rattle.mb_port.specs.Routine.{Routine, run}
+use Rattle.mb_instr.specs.declared.instruction.Instr.{Instr}
+use Rattle.mb_instr.specs.declared.registers.Plain.{Plain}
+use Rattle.mb_instr.specs.Registers.{is_supervisor, plain_of}
+use Rattle.mb_frames.specs.declared.frame.Access.{Access}
+use Rattle.mb_frames.specs.declared.pend.Pend.{Pend}
+use Rattle.mb_frames.specs.AccessFields as fields
+use Rattle.mb_frames.specs.AccessFields.{write_fields, line_fields, access_fields}
+use Rattle.mb_writes.specs.Transfers.{movem_in, refused_transfer}
+use Rattle.mb_port.specs.declared.types.Fault.{Fault}
+use Rattle.mb_model.specs.declared.processor.Cpu.{Cpu}
+use Rattle.mb_ea.specs.declared.reading.ReadFault.{ReadFault}
+use Rattle.mb_writes.specs.declared.ends.WriteFault.{WriteFault}
+use Rattle.mb_writes.specs.declared.ends.MovemFault.{MovemFault}
+use Rattle.mb_writes.specs.declared.ends.Ended.{Ended}
+use Rattle.mb_writes.specs.declared.ends.Ended.TheVariants as ended
+use Rattle.mb_meaning.specs.SystemEnds.{with_registers}
+use Rattle.mb_meaning.specs.Raise.{Stepped, traces_all, is_due, with_ct, cause_at}
+use Rattle.mb_model.specs.Pages.{page_size}
+use Rattle.mb_meaning.specs.Step.{movem_words, is_flow}
+use Rattle.mb_twins.specs.Twins.{SameEnd}
+use Rattle.mb_attempts.specs.Attempts.{IsUntraced}
+use Rattle.vm_machine.specs.Guests.{Guest}
+use Rattle.vm_machine.specs.Bus.{guest_bus}
+use Rattle.vm_mirror.specs.Related.{Site, setting}
+use Rattle.vm_leave.specs.Exits.{Exit, writing_exit, exit_of}
+use Rattle.vm_machine.specs.declared.class.Class.TheVariants.{Privileged, Trapped, Retired}
+use Rattle.vm_machine.specs.Classes.{class_of_end}
+use Rattle.vm_meaning.specs.Finishes.{finish_trap_of, finish_writes_of, finish_line_of, finish_movem_of}
+use Rattle.vm_meaning.specs.Frames.{left_in}
+use Rattle.vm_meaning.specs.declared.left.LeftOver.{LeftOver}
+use Rattle.vm_meaning.specs.declared.left.LeftOver.TheVariants.{Again, Writes, Line, Movem}
+use Rattle.vm_step.proofs.Rest.{with_counter}
+use Rattle.vm_step.proofs.Usual.{IsUsual}
+use Rattle.vm_meaning.specs.Telling.{AreOwn}
+use Rattle.vm_step.specs.Registers.{tidy, IsFrom}
+use Rattle.vm_machine.specs.Rests.{left_pieces, rest_by, rest_of}
+use Rattle.vm_machine.specs.Exits.{is_refusal, class_of_vector, rest_without, rest_by_frame}
+use Rattle.vm_meaning.proofs.Writebacks.{frames_tell}
+use Rattle.vm_step.proofs.Registers.{plain_again, is_set, registers_tidy, seven_set}
+
+is_itself : (cpu : Cpu) → is_supervisor cpu.regs.sr ≡ false → IsFrom cpu cpu
+is_itself cpu user = record { isp = refl; master = refl; vbr = refl; user = user }
+
+over : (m n : Routine Stepped) (h : Guest) → m ≡ n → run guest_bus m h ≡ run guest_bus n h
+over m n h e = ap (λ (r : Routine Stepped). run guest_bus r h) e
+
+pub record ExitIs (i : Instr) (level : ℕ) (guest cpu : Cpu) (end : Ended) (p : Plain) (e : Exit) : Type 0 where
+  pub alone : e.cause.level ≡ 0
+  pub small : e.cause.vector < 256
+  pub class : class_of_vector e.cause.vector ≡ class_of_end end
+  pub from : IsFrom cpu e.cpu
+  -- a processor has seven address registers beside its stacks
+  pub rest : length e.cpu.regs.a ≡ 7 → (q : Plain) → q ≡ record (plain_of e.cpu.regs) { pc = e.cause.pc }
+      → (h : Guest) → run guest_bus (rest_by_frame e.cause.vector e.cause.access level guest q) h ≡ run guest_bus (rest_of level guest i end p) h
+
+-- the registers that are handed on, with a PC
+set_to : (p : Plain) (cpu : Cpu) (pc : ℕ) (q : Plain) → q ≡ record (plain_of (with_registers p cpu).regs) { pc = pc } → q ≡ record (tidy p) { pc = pc }
+set_to p cpu pc q e = e ∙ ap (λ (r : Plain). (let o : Plain = record r { pc = pc } in o)) (plain_again cpu.regs p)
+
+-- with the PC behind the instruction
+set_behind : (p : Plain) (cpu : Cpu) (q : Plain) → q ≡ record (plain_of (with_registers p cpu).regs) { pc = (with_registers p cpu).regs.pc } → q ≡ tidy p
+set_behind p cpu q e =
+    set_to p cpu (with_registers p cpu).regs.pc q e ∙ ap (λ (n : ℕ). (let o : Plain = record (tidy p) { pc = n } in o)) (with_counter p cpu)
+
+-- what was left, by the registers that were read back
+rest_tidy : (l : LeftOver) (level : ℕ) (guest : Cpu) (p : Plain) → length (take 7 p.a) ≡ 7 → rest_by l level guest (tidy p) ≡ rest_by l level guest p
+unfolding rest_by
+rest_tidy Again level guest p h = refl
+rest_tidy (Writes pending first) level guest p h = ap (finish_writes_of pending.items first) (registers_tidy p guest h)
+rest_tidy (Line at line) level guest p h = ap (finish_line_of at line) (registers_tidy p guest h)
+rest_tidy (Movem words ea done next) level guest p h = ap (finish_movem_of words ea done next) (registers_tidy p guest h)
+
+class_by : (v : ℕ) (r : Bool) → (v == 2) ≡ false → is_refusal v ≡ r → class_of_vector v ≡ cond r Privileged Trapped
+class_by v r h k = rw h (rw k refl)
+
+left_by : (level : ℕ) (guest : Cpu) (q : Plain) (a : Access) (l : LeftOver) → left_in a ≡ l → rest_by (left_in a) level guest q ≡ rest_by l level guest q
+left_by level guest q a l e = ap (λ (o : LeftOver). rest_by o level guest q) e
+
+no_trace : (due : Bool) (a : Access) → due ≡ false → with_ct due a ≡ a
+no_trace due a h = rw h refl
+
+never_due : (cpu : Cpu) (flow : Bool) → IsUntraced cpu → is_due cpu.regs.sr flow ≡ false
+never_due cpu flow h = rw h.all (rw h.flow refl)
+
+module _ (x : Site) (i : Instr) (level : ℕ) (guest cpu : Cpu) (p : Plain) (plain : IsUntraced cpu) (user : is_supervisor cpu.regs.sr ≡ false)
+    (counter : cpu.regs.pc ≡ (plain_of guest.regs).pc) where
+  abbrev Is : Ended → Exit → Type 0
+  Is end e = ExitIs i level guest cpu end p e
+
+  abbrev after : Cpu
+  after = with_registers p cpu
+
+  trap_is : (v : ℕ) → IsUsual (ended.Trap v) → Is (ended.Trap v) (exit_of i (ended.Trap v) cpu after)
+  unfolding rest_of
+  trap_is v u = record {
+    alone = refl;
+    small = u.0;
+    class = class_by v false u.1 u.2;
+    from = is_set p cpu user;
+    rest = λ seven q e now. over _ _ now (
+        ap (λ (b : Bool). rest_without b v level guest q) u.2
+        ∙ ap (λ (r : Plain). finish_trap_of (cause_at v r.pc guest.regs.pc) (plain_of guest.regs) (with_registers r guest)) (set_behind p cpu q e)
+        ∙ ap (finish_trap_of (cause_at v p.pc guest.regs.pc) (plain_of guest.regs)) (registers_tidy p guest (seven_set p cpu seven)));
+  }
+
+  refused_is : (v : ℕ) → IsUsual (ended.Refused v) → Is (ended.Refused v) (exit_of i (ended.Refused v) cpu after)
+  unfolding rest_of rest_by
+  refused_is v u = record {
+    alone = refl;
+    small = u.0;
+    class = class_by v true u.1 u.2;
+    from = is_itself cpu user;
+    rest = λ _ q e now. over _ _ now (ap (λ (b : Bool). rest_without b v level guest q) u.2);
+  }
+
+  read_is : (f g : ReadFault) → Is (ended.ReadFault g) (exit_of i (ended.ReadFault f) cpu after)
+  unfolding rest_of rest_by
+  read_is f g = record {
+    alone = refl;
+    small = omega arith;
+    class = refl;
+    from = is_itself cpu user;
+    rest = λ _ q e now. over _ _ now (ap (λ (o : LeftOver). rest_by o level guest q) (frames_tell (fields.Read f.fault f.first) page_size tt));
+  }
+
+  write_is : (due : Bool) (f : WriteFault) (g : WriteFault) (items : List Pend) → due ≡ false → f.rest.items ≡ items → g.rest.items ≡ items → f.first ≡ g.first
+      → IsUsual (ended.WriteFault g)
+      → Is (ended.WriteFault g) (writing_exit due f items cpu after)
+  unfolding rest_of rest_by
+  write_is due f g [] none e h first u = record {
+    alone = refl;
+    small = omega arith;
+    class = refl;
+    from = is_itself cpu user;
+    rest = λ _ q e now. over _ _ now (
+        ap (λ (o : LeftOver). rest_by o level guest q) (frames_tell (fields.Write f.fault f.first []) page_size (omega arith, tt))
+        ∙ ap (λ (ps : List Pend). rest_by (left_pieces ps g.first) level guest p) (sym h));
+  }
+  write_is due f g (piece ∷ pieces) none e h first u = record {
+    alone = refl;
+    small = omega arith;
+    class = refl;
+    from = is_set p cpu user;
+    rest = λ seven q k now. over _ _ now (
+        let own = subst (λ (ps : List Pend). (length ps ≤ 3) × AreOwn ps) h u in
+        ap (λ (a : Access). rest_by (left_in a) level guest q) (no_trace due (write_fields f.fault f.first f.rest.items page_size) none)
+        ∙ ap (λ (ps : List Pend). rest_by (left_in (write_fields f.fault f.first ps page_size)) level guest q) e
+        ∙ ap (λ (o : LeftOver). rest_by o level guest q) (frames_tell (fields.Write f.fault f.first (piece ∷ pieces)) page_size own)
+        ∙ ap (λ (n : ℕ). rest_by (Writes (record { items = piece ∷ pieces }) n) level guest q) first
+        ∙ ap (λ (r : Plain). rest_by (Writes (record { items = piece ∷ pieces }) g.first) level guest r) (set_behind p cpu q k)
+        ∙ rest_tidy (Writes (record { items = piece ∷ pieces }) g.first) level guest p (seven_set p cpu seven)
+        ∙ ap (λ (ps : List Pend). rest_by (left_pieces ps g.first) level guest p) (sym h));
+  }
+
+  line_is : (f g : Fault) (longs : List ℕ) → g.at ≡ f.at → length longs ≡ 4 → Is (ended.LineFault g longs) (exit_of i (ended.LineFault f longs) cpu after)
+  unfolding rest_of rest_by
+  line_is f g longs same four = record {
+    alone = refl;
+    small = omega arith;
+    class = refl;
+    from = is_set p cpu user;
+    rest = λ seven q k now. over _ _ now (
+        ap (λ (a : Access). rest_by (left_in a) level guest q) (no_trace (traces_all cpu.regs.sr) (line_fields f longs page_size) plain.all)
+        ∙ ap (λ (o : LeftOver). rest_by o level guest q) (frames_tell (fields.Line f longs) page_size four)
+        ∙ ap (λ (n : ℕ). rest_by (Line n longs) level guest q) (sym same)
+        ∙ ap (λ (r : Plain). rest_by (Line g.at longs) level guest r) (set_behind p cpu q k)
+        ∙ rest_tidy (Line g.at longs) level guest p (seven_set p cpu seven));
+  }
+
+  movem_is : (f g : MovemFault) → f.first ≡ g.first → f.done ≡ g.done → Is (ended.Movem g) (exit_of i (ended.Movem f) cpu after)
+  unfolding rest_of rest_by
+  movem_is f g first done = record {
+    alone = refl;
+    small = omega arith;
+    class = refl;
+    from = is_set p cpu user;
+    rest = λ seven q k now. over _ _ now (
+        let words = movem_words i in
+        let own : Plain = record p { pc = (plain_of guest.regs).pc } in
+        let is : q ≡ tidy own = set_to p cpu cpu.regs.pc q k ∙ ap (λ (n : ℕ). (let o : Plain = record (tidy p) { pc = n } in o)) counter in
+        let moved = refused_transfer f words after.regs.pc in
+        ap (λ (b : Bool). rest_by (left_in (with_ct (b && not (movem_in words).is_load) (access_fields moved page_size))) level guest q) plain.all
+        ∙ ap (λ (o : LeftOver). rest_by o level guest q) (frames_tell moved page_size tt)
+        ∙ ap (λ (n : ℕ). rest_by (Movem words f.first f.done n) level guest q) (with_counter p cpu)
+        ∙ ap (λ (n : ℕ). rest_by (Movem words n f.done p.pc) level guest q) first
+        ∙ ap (λ (n : ℕ). rest_by (Movem words g.first n p.pc) level guest q) done
+        ∙ ap (λ (r : Plain). rest_by (Movem words g.first g.done p.pc) level guest r) is
+        ∙ rest_tidy (Movem words g.first g.done p.pc) level guest own (seven_set p cpu seven));
+  }
+
+  pub exit_is : (e k : Ended) → SameEnd (setting x) e k → IsUsual k → (class_of_end k ≡ Retired → ⊥) → Is k (exit_of i e cpu after)
+  exit_is (ended.Done f) (ended.Done g) same u never = absurd (never refl)
+  exit_is (ended.Trap v) (ended.Trap w) same u never =
+      subst (λ (n : ℕ). Is (ended.Trap w) (exit_of i (ended.Trap n) cpu after)) (sym same.0) (trap_is w u)
+  exit_is (ended.Refused v) (ended.Refused w) same u never =
+      subst (λ (n : ℕ). Is (ended.Refused w) (exit_of i (ended.Refused n) cpu after)) (sym same.1) (refused_is w u)
+  exit_is (ended.ReadFault f) (ended.ReadFault g) same u never = read_is f g
+  exit_is (ended.WriteFault f) (ended.WriteFault g) same u never =
+      write_is (is_due cpu.regs.sr (is_flow i)) f g f.rest.items (never_due cpu (is_flow i) plain) refl (sym (ap (λ r. r.items) same.rest)) same.first u
+  exit_is (ended.LineFault f l) (ended.LineFault g o) same u never =
+      subst (λ (longs : List ℕ). Is (ended.LineFault g o) (exit_of i (ended.LineFault f longs) cpu after)) (sym same.1)
+      (line_is f g o (ap (λ (r : Fault). r.at) same.0.1) u)
+  exit_is (ended.Movem f) (ended.Movem g) same u never = movem_is f g same.first same.done
+  exit_is _ _ same u never = absurd same

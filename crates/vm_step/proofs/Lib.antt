@@ -1,0 +1,14 @@
+pub mod Lists
+pub mod Registers
+pub mod Held
+pub mod Retire
+pub mod Tidy
+pub mod Rest
+pub mod Usual
+pub mod Room
+pub mod ExitIs
+pub mod Exit
+pub mod Batch
+pub mod Quiet
+pub mod Turn
+pub mod Taking

@@ -1,0 +1,286 @@
+-- A turn of a seated guest.
+use Rattle.std.proofs.Common.{◌≡◌, ◌∙◌, ℕ, ◌+◌, ◌^◌, ◌≤◌, List, [], ◌∷◌, ◌++◌, length, Bool, cond, ◌==◌, true, false, arith, refl, ap, sym, subst, inl, inr}
+use Rattle.std.proofs.lemmas.List.{length-append}
+use Rattle.mb_instr.specs.declared.registers.Plain.{Plain}
+use Rattle.mb_instr.specs.declared.registers.Regs.{Regs}
+use Rattle.mb_instr.specs.Registers.{plain_of, active_stack, is_supervisor}
+use Rattle.mb_model.specs.Keeping.{KeptLists}
+use Rattle.mb_port.specs.declared.types.Mmu.{Mmu}
+use Rattle.mb_model.specs.declared.processor.Cpu.{Cpu}
+use Rattle.mb_model.specs.declared.outcome.RunState.{RunState}
+use Rattle.mb_model.specs.declared.outcome.RunState.TheVariants.{Running}
+use Rattle.mb_walk.specs.Memory.{AreBytes, part}
+use Rattle.mb_devices.specs.Devices.{DeviceState, level_of}
+use Rattle.mb_meaning.specs.SystemEnds.{with_registers}
+use Rattle.mb_machine.specs.Machine.{begun, takes_steps}
+use Rattle.mb_port.specs.Routine.{run}
+use Rattle.mb_meaning.specs.Operands.{behind}
+use Rattle.mb_meaning.specs.Return.{low}
+use Rattle.vm_machine.specs.Seats.{end_of, on_board, Seat, own, shadow_on, guested_on, turned_on, monitor_bytes, IsSeated, OnlyWithin}
+use Rattle.vm_shadow.specs.Shadows.{Shadowed}
+use Rattle.vm_shadow.specs.Mapped.{area_bytes, shadowed}
+use Rattle.vm_machine.specs.Guests.{Guest, Truthful}
+use Rattle.vm_mirror.specs.Related.{Site}
+use Rattle.vm_meaning.specs.declared.RunEnd.TheVariants.{Counted, Exit}
+use Rattle.vm_machine.specs.Turns.{Guested, Turned, Tally, world_of, guest_begun, guest_later, counted, exits, marks_of, by_class, advanced, turn_of}
+use Rattle.vm_meaning.specs.Native.{Ran, about_to_run, user_run}
+use Rattle.vm_step.specs.Batch.{stepped_by, IsInside, IsCounted, IsExit, Batch}
+use Rattle.vm_step.specs.Quiet.{IsAfter}
+use Rattle.vm_step.specs.Turn.{ready_for, Stands}
+use Rattle.vm_step.specs.Taking.{site_of, retired_seat, left_seat, BatchesTake, ExitsTake}
+use Rattle.vm_machine.specs.Exits.{is_refusal, class_of_vector, frame_access, handed_by, rest_by_frame}
+use Rattle.vm_step.specs.Exit.{left_guest}
+use Rattle.vm_machine.specs.declared.class.Class.TheVariants as class
+use Rattle.vm_machine.specs.Bus.{guest_bus}
+use Rattle.vm_machine.proofs.TurnLaws.{going_turn, nothing_turned, turns_add}
+use Rattle.vm_step.proofs.Registers.{is_set}
+use Rattle.vm_step.proofs.Lists.{between, beyond}
+use Rattle.vm_step.proofs.Batch.{runs_are_batches}
+use Rattle.vm_step.proofs.Quiet.{retired_steps_leave}
+use Rattle.vm_step.proofs.Turn.{boards_are_ready, exits_advance}
+
+goes : (s : RunState) → s ≡ Running → takes_steps s ≡ true
+goes s h = ap takes_steps h
+
+same_turned : (a b : Turned) → a.guest ≡ b.guest → a.tally ≡ b.tally → a.marks ≡ b.marks → a ≡ b
+same_turned a b g t m =
+    ap (λ (x : Guested). (let o : Turned = record { guest = x; tally = a.tally; marks = a.marks } in o)) g
+    ∙ ap (λ (x : Tally). (let o : Turned = record { guest = b.guest; tally = x; marks = a.marks } in o)) t
+    ∙ ap (λ (x : List Plain). (let o : Turned = record { guest = b.guest; tally = b.tally; marks = x } in o)) m
+
+same_guest : (a b : Guested) → a.machine.cpu ≡ b.machine.cpu → a.machine.world.ram ≡ b.machine.world.ram → a.machine.world.mmu ≡ b.machine.world.mmu
+    → a.machine.world.devices ≡ b.machine.world.devices → a.machine.world.kept ≡ b.machine.world.kept → a.machine.steps ≡ b.machine.steps
+    → a.machine.state ≡ b.machine.state → a.shadow ≡ b.shadow → a ≡ b
+same_guest a b c r m d k n s h =
+    let of : Cpu → List ℕ → Mmu → DeviceState → KeptLists → ℕ → RunState → Shadowed → Guested =
+    λ c r m d k n s h. record { machine = record { cpu = c; world = record { ram = r; mmu = m; devices = d; kept = k }; steps = n; state = s }; shadow = h } in
+    let w = a.machine.world in
+    let v = b.machine.world in
+    ap (λ (x : Cpu). of x w.ram w.mmu w.devices w.kept a.machine.steps a.machine.state a.shadow) c
+    ∙ ap (λ (x : List ℕ). of b.machine.cpu x w.mmu w.devices w.kept a.machine.steps a.machine.state a.shadow) r
+    ∙ ap (λ (x : Mmu). of b.machine.cpu v.ram x w.devices w.kept a.machine.steps a.machine.state a.shadow) m
+    ∙ ap (λ (x : DeviceState). of b.machine.cpu v.ram v.mmu x w.kept a.machine.steps a.machine.state a.shadow) d
+    ∙ ap (λ (x : KeptLists). of b.machine.cpu v.ram v.mmu v.devices x a.machine.steps a.machine.state a.shadow) k
+    ∙ ap (λ (x : ℕ). of b.machine.cpu v.ram v.mmu v.devices v.kept x a.machine.state a.shadow) n
+    ∙ ap (λ (x : RunState). of b.machine.cpu v.ram v.mmu v.devices v.kept b.machine.steps x a.shadow) s
+    ∙ ap (λ (x : Shadowed). of b.machine.cpu v.ram v.mmu v.devices v.kept b.machine.steps b.machine.state x) h
+
+-- as many address registers on both
+same_count : (r q : Regs) → plain_of r ≡ plain_of q → length r.a ≡ 7 → length q.a ≡ 7
+unfolding plain_of
+same_count r q e h =
+    let one = length-append r.a (active_stack r ∷ []) in
+    let two = length-append q.a (active_stack q ∷ []) in
+    let same = ap (λ (p : Plain). length p.a) e in
+    omega arith
+
+stands_of : (g : Seat) (ram : List ℕ) → IsSeated g ram → AreBytes ram → length ram ≤ 2 ^ 32 → Stands (site_of g) ram (world_of (guested_on g ram))
+stands_of g ram s bytes small = record {
+  bytes = bytes;
+  maps = s.maps;
+  under = (let e = s.area in omega arith);
+  whole = (let e = s.aligned in omega arith);
+  ram_is = refl;
+  shadow = s.tables;
+  truthful = s.truthful;
+  table = (let e = s.behind in omega arith);
+  small = small;
+}
+
+-- ---- within
+
+only_within : (g : Seat) (ram after : List ℕ) → IsSeated g ram → IsInside (site_of g) ram after → OnlyWithin g ram after
+only_within g ram after s i = record {
+  count = i.count;
+  below = between after ram g.base monitor_bytes i.below s.behind;
+  above = beyond after ram (g.base + g.size) area_bytes i.above;
+}
+
+-- ---- the turn
+
+is_counted : (x : Site) (k : ℕ) (r after : Ran) (t : Turned) (g : Seat) → after.end ≡ Counted → (b : Batch x g.script k r t after)
+    → (b.retired ≡ k) × IsCounted x (turn_of g.script b.retired t) r after
+is_counted x k r after t g e b = elim b.end [
+  | inl h ↦ h
+  | inr (few, h) ↦ absurd (let z : Counted ≡ Exit h.vector = sym e ∙ h.end in let y : ⊥ = cc in y)
+]
+
+pub batches_take : BatchesTake
+batches_take g ram c d steps state native before k s bytes small running seven cpu off stretch counted has =
+    let x = site_of g in
+    let guest = guested_on g ram in
+    let r = about_to_run (ready_for x c ram d steps state guest) native before in
+    let after = user_run k r in
+    let t = turned_on g ram [] in
+    let ready = boards_are_ready x c ram d steps state guest cpu off refl seven (stands_of g ram s bytes small) in
+    let b = runs_are_batches x g.script k r t refl ready.0 ready.1 (goes g.state running) stretch in
+    let (all, done) = is_counted x k r after t g counted b in
+    let u = turn_of g.script b.retired t in
+    let v = stepped_by g.script b.retired guest in
+    let is_v : u.guest ≡ v = b.guest in
+    let left : IsAfter b.retired guest v = retired_steps_leave x g.script b.retired r.machine guest ready.0 b.all in
+    let related = done.boarded.related in
+    let seat = retired_seat g k (plain_of after.machine.cpu.regs) (stepped_by g.script k guest).machine.world.devices in
+    let ram' = after.machine.world.ram in
+    let plain : plain_of after.machine.cpu.regs ≡ plain_of v.machine.cpu.regs = done.boarded.plain ∙ ap (λ (q : Guested). plain_of q.machine.cpu.regs) is_v in
+    let cpu_is : seat.cpu ≡ v.machine.cpu =
+    ap (λ (p : Plain). with_registers p g.cpu) plain ∙ left.cpu (same_count after.machine.cpu.regs v.machine.cpu.regs plain has) in
+    let shadow_is : u.guest.shadow ≡ shadow_on g ram = ap (λ (q : Guested). q.shadow) is_v ∙ left.shadow in
+    let tables : shadowed g.slots ram' ≡ shadowed g.slots ram = related.shadow ∙ ap (λ (h : Shadowed). on_board g.base h) shadow_is ∙ sym s.tables in
+    let same : guested_on seat ram' ≡ u.guest = same_guest (guested_on seat ram') v cpu_is
+    (related.ram ∙ ap (λ (q : Guested). q.machine.world.ram) is_v)
+    (sym left.mmu)
+    (ap (λ (n : ℕ). (stepped_by g.script n guest).machine.world.devices) (sym all))
+    (sym left.kept)
+    (ap (λ (n : ℕ). g.steps + n) (sym all) ∙ sym left.steps)
+    (running ∙ sym (left.state running))
+    (ap (λ (h : Shadowed). own g.base h) tables ∙ sym left.shadow)
+    ∙ sym is_v in
+    let tally_is : seat.tally ≡ u.tally = ap (λ (n : ℕ). (let o : Tally = record g.tally { retired = g.tally.retired + n } in o)) (sym all) ∙ sym b.tally in
+    record {
+      marks = b.marks;
+      turned = same_turned (turned_on seat ram' b.marks) u same tally_is (sym b.marked) ∙ ap (λ (n : ℕ). turn_of g.script n t) all;
+      same = record { script = refl; base = refl; size = refl; area = refl };
+      seated = record {
+        aligned = s.aligned;
+        whole = s.whole;
+        behind = s.behind;
+        inside = subst (λ (n : ℕ). end_of g ≤ n) (sym done.inside.count) s.inside;
+        area = s.area;
+        maps = related.maps;
+        tables = related.shadow ∙ ap (λ (q : Guested). on_board g.base q.shadow) (sym same);
+        truthful = subst (λ (q : Guested). Truthful g.size (world_of q)) (sym same) related.truthful;
+      };
+      within = only_within g ram ram' s done.inside;
+      retired = (let e = b.counted in omega arith);
+      trail = b.sum;
+      exceptions = (let e = done.exceptions in omega arith);
+    }
+
+-- ---- a run that the board left
+
+is_exit : (x : Site) (k v : ℕ) (r after : Ran) (t : Turned) (g : Seat) → after.end ≡ Exit v → (b : Batch x g.script k r t after)
+    → IsExit x g.script (turn_of g.script b.retired t) r after
+is_exit x k v r after t g e b = elim b.end [
+  | inl (all, h) ↦ absurd (let z : Counted ≡ Exit v = sym h.end ∙ e in let y : ⊥ = cc in y)
+  | inr (few, h) ↦ h
+]
+
+-- an exit counts one more exception of the turn
+by_vector : (a b : Bool) (t : Tally) → exits (counted (cond a class.Denied (cond b class.Privileged class.Trapped)) t) ≡ exits t + 1
+by_vector true b t = omega arith
+by_vector false true t = omega arith
+by_vector false false t = omega arith
+
+exit_counts : (v : ℕ) (t : Tally) → exits (counted (class_of_vector v) t) ≡ exits t + 1
+exit_counts v t = by_vector (v == 2) (is_refusal v) t
+
+exit_keeps_by : (a b : Bool) (t : Tally) → (counted (cond a class.Denied (cond b class.Privileged class.Trapped)) t).retired ≡ t.retired
+exit_keeps_by true b t = refl
+exit_keeps_by false true t = refl
+exit_keeps_by false false t = refl
+
+exit_keeps : (v : ℕ) (t : Tally) → (counted (class_of_vector v) t).retired ≡ t.retired
+exit_keeps v t = exit_keeps_by (v == 2) (is_refusal v) t
+
+no_marks_by : (a b : Bool) (before after : Cpu) → marks_of (cond a class.Denied (cond b class.Privileged class.Trapped)) before after ≡ []
+no_marks_by true b before after = refl
+no_marks_by false true before after = refl
+no_marks_by false false before after = refl
+
+no_marks : (v : ℕ) (before after : Cpu) → marks_of (class_of_vector v) before after ≡ []
+no_marks v before after = no_marks_by (v == 2) (is_refusal v) before after
+
+nothing_more : (xs : List Plain) → xs ++ [] ≡ xs
+nothing_more [] = refl
+nothing_more (x ∷ xs) = ap (λ (l : List Plain). x ∷ l) (nothing_more xs)
+
+pub exits_take : ExitsTake
+unfolding begun
+exits_take g ram c d steps state native before k v s bytes small running seven cpu low off stretch exits_at wide =
+    let x = site_of g in
+    let guest = guested_on g ram in
+    let r = about_to_run (ready_for x c ram d steps state guest) native before in
+    let after = user_run k r in
+    let t = turned_on g ram [] in
+    let ready = boards_are_ready x c ram d steps state guest cpu off refl seven (stands_of g ram s bytes small) in
+    let b = runs_are_batches x g.script k r t refl ready.0 ready.1 (goes g.state running) stretch in
+    let h = is_exit x k v r after t g exits_at b in
+    let j = b.retired in
+    let u = turn_of g.script j t in
+    let w = stepped_by g.script j guest in
+    let is_w : u.guest ≡ w = b.guest in
+    let left : IsAfter j guest w = retired_steps_leave x g.script j r.machine guest ready.0 b.all in
+    let begun = (guest_begun g.script w).machine.world.devices in
+    let mid = left_seat g j after.before begun in
+    let ram' = after.machine.world.ram in
+    let related = h.left.related in
+    let seven_w : length w.machine.cpu.regs.a ≡ 7 = subst (λ (q : Guested). length q.machine.cpu.regs.a ≡ 7) is_w h.seven in
+    let cpu_is : mid.cpu ≡ w.machine.cpu =
+    ap (λ (p : Plain). with_registers p g.cpu) (h.before ∙ ap (λ (q : Guested). plain_of q.machine.cpu.regs) is_w) ∙ left.cpu seven_w in
+    let shadow_is : u.guest.shadow ≡ shadow_on g ram = ap (λ (q : Guested). q.shadow) is_w ∙ left.shadow in
+    let tables : shadowed g.slots ram' ≡ shadowed g.slots ram = related.shadow ∙ ap (λ (q : Shadowed). on_board g.base q) shadow_is ∙ sym s.tables in
+    let opened : Guested =
+    record {
+      machine = record (guest_begun g.script w).machine {
+        world =
+            record (guest_begun g.script w).machine.world { ram = part ram' g.base g.size };
+      };
+      shadow = w.shadow;
+    } in
+    let same : guested_on mid ram' ≡ opened = same_guest (guested_on mid ram') opened cpu_is refl (sym left.mmu) refl (sym left.kept) (sym left.steps)
+    (running ∙ sym (left.state running)) (ap (λ (q : Shadowed). own g.base q) tables ∙ sym left.shadow) in
+    let of : Guested → Guest = λ q. left_guest x ram' (world_of (guest_begun g.script q)) in
+    let world_is : world_of (guested_on mid ram') ≡ of u.guest = ap world_of same ∙ ap of (sym is_w) in
+    let top : h.last.cpu.regs.isp ≤ monitor_bytes =
+    subst (λ (n : ℕ). n ≤ monitor_bytes) (sym (h.isp ∙ (is_set (plain_of g.cpu.regs) c (ap is_supervisor cpu.status)).isp)) low in
+    let within_left : OnlyWithin g ram ram' = record {
+      count = h.left.count ∙ h.inside.count;
+      below = h.left.between monitor_bytes top s.behind ∙ between h.last.world.ram ram g.base monitor_bytes h.inside.below s.behind;
+      above = beyond ram' ram (g.base + g.size) area_bytes (h.left.above ∙ h.inside.above);
+    } in
+    let frame = h.left.frame in
+    let handed = handed_by after.machine.cpu.regs frame in
+    let with_rest : Guested → ℕ → Guested = λ q n. guest_later q.machine
+    (run guest_bus (rest_by_frame h.vector (frame_access frame) n q.machine.cpu handed) (world_of q)) in
+    let rest_at : Guested → Guested = λ q. let o = guest_begun g.script q in guest_later o.machine
+    (run guest_bus (rest_by_frame h.vector (frame_access frame) (level_of o.machine.world.devices) o.machine.cpu handed) (of q)) in
+    let later : Turned = by_class (class_of_vector h.vector) (rest_at u.guest) u in
+    let turn_is : turn_of g.script (j + 1) t ≡ later =
+    turns_add g.script j 1 t ∙ going_turn g.script 0 u b.goes ∙ nothing_turned g.script (advanced g.script u)
+    ∙ exits_advance x g.script u h.vector h.last after.machine h.left wide in
+    record {
+      retired = j;
+      vector = h.vector;
+      end = h.end;
+      frame = frame;
+      stands = h.left.stands;
+      begun = begun;
+      begins = refl;
+      counts = b.counted;
+      seated = record {
+        aligned = s.aligned;
+        whole = s.whole;
+        behind = s.behind;
+        inside = subst (λ (n : ℕ). end_of g ≤ n) (sym (h.left.count ∙ h.inside.count)) s.inside;
+        area = s.area;
+        maps = related.maps;
+        tables = related.shadow ∙ ap (λ (q : Guest). on_board g.base q.shadow) (sym world_is);
+        truthful = subst (λ (q : Guest). Truthful g.size q) (sym world_is) related.truthful;
+      };
+      within = within_left;
+      turn = λ seat next e tally is seated within. record {
+        marks = b.marks;
+        turned = same_turned (turned_on seat next b.marks) later (e ∙ ap (λ (q : Guested). with_rest q (level_of begun)) same ∙ ap rest_at (sym is_w))
+            (tally ∙ ap (λ (q : Tally). counted (class_of_vector h.vector) q) (sym b.tally))
+            (sym (ap (λ (l : List Plain). u.marks ++ l) (no_marks h.vector u.guest.machine.cpu (rest_at u.guest).machine.cpu) ∙ nothing_more u.marks
+            ∙ b.marked))
+            ∙ sym turn_is;
+        same = record { script = is.script; base = is.base; size = is.size; area = is.area };
+        seated = seated;
+        within = record { count = within.count ∙ within_left.count; below = within.below ∙ within_left.below; above = within.above ∙ within_left.above };
+        retired = (let e = b.counted in let f = ap (λ (q : Tally). q.retired) tally ∙ exit_keeps h.vector mid.tally in omega arith);
+        trail = b.sum;
+        exceptions = (let e = h.exceptions in let f = ap exits tally ∙ exit_counts h.vector mid.tally in omega arith);
+      };
+    }

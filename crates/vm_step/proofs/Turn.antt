@@ -1,0 +1,97 @@
+-- A turn by its parts.
+use Rattle.std.proofs.Common.{◌≡◌, ◌∙◌, ℕ, ◌/◌, ◌%◌, ◌^◌, ◌≤◌, false, List, [], ◌∷◌, ◌++◌, length, arith, refl, ap, sym, subst}
+use Rattle.std.specs.Prelude.{slice_index}
+use Rattle.mb_port.specs.Routine.{Return, Ask, Then, run}
+use Rattle.mb_instr.specs.declared.registers.Plain.{Plain}
+use Rattle.mb_instr.specs.declared.registers.Regs.{Regs}
+use Rattle.mb_instr.specs.Registers.{is_supervisor, is_master, active_stack, plain_of}
+use Rattle.mb_meaning.specs.Raise.{Stepped, traces_all, traces_flow}
+use Rattle.mb_devices.specs.Devices.{level_of}
+use Rattle.mb_machine.specs.World.{World}
+use Rattle.mb_attempts.specs.Attempts.{IsUntraced}
+use Rattle.mb_meaning.specs.declared.Finish.TheVariants as finish
+use Rattle.vm_machine.specs.Guests.{Guest}
+use Rattle.vm_machine.specs.Bus.{guest_bus}
+use Rattle.vm_mirror.specs.Ready.{native_mmu}
+use Rattle.vm_mirror.proofs.Ready.{starts_flushed}
+use Rattle.vm_held.proofs.Truths.{calls_keep_truth}
+use Rattle.vm_machine.specs.declared.class.Class.{Class}
+use Rattle.vm_machine.specs.Turns.{Turned, world_of, guest_begun, guest_processed, guest_later, guest_stepped, class_of_step, by_class, advanced, turn_of}
+use Rattle.vm_step.specs.Registers.{IsTidy}
+use Rattle.vm_machine.specs.Exits.{class_of_vector, handed_by, frame_access, rest_by_frame}
+use Rattle.vm_step.specs.Exit.{left_guest}
+use Rattle.vm_step.specs.Turn.{BoardsAreReady, RunsKeepTruth, ExitsAdvance, done, stepping, running, still, CoursesAreTurns}
+use Rattle.vm_step.proofs.Registers.{seven, plain_again, same_user, same_mask, stays_plain, is_set}
+use Rattle.vm_machine.proofs.TurnLaws.{halted_turn, going_turn, nothing_turned, turns_add}
+
+-- ---- ready again
+
+pub plain_tidy : (r : Regs) → length r.a ≡ 7 → IsTidy (plain_of r)
+unfolding plain_of
+plain_tidy r h =
+    let top = active_stack r in
+    let (first, last) = seven r.a top h in
+    ap (λ (a : List ℕ). (let p : Plain = record { d = r.d; a = a ++ slice_index (r.a ++ top ∷ []) 7 ∷ []; pc = r.pc; ccr = r.sr % 2 ^ 5 % 2 ^ 5 } in p)) first
+    ∙ ap (λ (t : ℕ). (let p : Plain = record { d = r.d; a = r.a ++ t ∷ []; pc = r.pc; ccr = r.sr % 2 ^ 5 % 2 ^ 5 } in p)) last
+    ∙ ap (λ (c : ℕ). (let p : Plain = record { d = r.d; a = r.a ++ top ∷ []; pc = r.pc; ccr = c } in p)) (let e : r.sr % 2 ^ 5 % 2 ^ 5 ≡ r.sr % 2 ^ 5 =
+    omega arith in e)
+
+pub boards_are_ready : BoardsAreReady
+boards_are_ready x c ram d steps state g n off present has s =
+    let p = plain_of g.machine.cpu.regs in
+    let user : is_supervisor c.regs.sr ≡ false = ap is_supervisor n.status in
+    let plain : IsUntraced c = record { going = n.awake; all = ap traces_all n.status; flow = ap traces_flow n.status } in
+    let set = is_set p c user in
+    let b : World = record { ram = ram; mmu = native_mmu 0; devices = d; kept = [] } in (
+      record {
+        on = off;
+        user = same_user p c ∙ user;
+        goes = stays_plain p c plain;
+        mask = same_mask p c ∙ ap (λ (k : ℕ). k / 2 ^ 8 % 2 ^ 3) n.status;
+        plain = plain_again c.regs p ∙ plain_tidy g.machine.cpu.regs has;
+        present = present;
+        related = starts_flushed x b (world_of g) s.bytes s.maps s.under s.whole s.ram_is s.shadow s.truthful;
+      },
+      record {
+        mmu = refl;
+        master = set.master ∙ ap is_master n.status;
+        vectors = n.vectors;
+        stack = subst (λ (k : ℕ). 60 ≤ k) (sym set.isp) n.stack;
+        below = subst (λ (k : ℕ). k ≤ x.base) (sym set.isp) n.below;
+        table = s.table;
+        small = s.small;
+      },
+    )
+
+-- ---- truth
+
+pub runs_keep_truth : (A : Type 0) → RunsKeepTruth A
+runs_keep_truth A size (Return a) g along fine = fine
+runs_keep_truth A size (Ask c) g along fine = calls_keep_truth size c g along fine
+runs_keep_truth A size (Then {A = B} m f) g along fine =
+    runs_keep_truth A size (f (run guest_bus m g).0) (run guest_bus m g).1 along.1 (runs_keep_truth B size m g along.0 fine)
+
+-- ---- a turn
+
+same_number : (v n : ℕ) → finish.Entered v ≡ finish.Entered n → v ≡ n
+same_number v n e = cc
+
+pub exits_advance : ExitsAdvance
+unfolding advanced guest_stepped
+exits_advance x script u v m after l wide =
+    let b = guest_begun script u.guest in
+    let h = left_guest x after.world.ram (world_of b) in
+    let is : v ≡ l.vector = same_number v l.vector l.entered in
+    let of : ℕ → Stepped × Guest =
+    λ n. run guest_bus (rest_by_frame n (frame_access l.frame) (level_of b.machine.world.devices) b.machine.cpu (handed_by after.cpu.regs l.frame)) h in
+    let rest : guest_processed b ≡ of v = l.rest wide ∙ ap of (sym is) in
+    ap (λ (r : Stepped × Guest). by_class (class_of_step script u.guest) (guest_later b.machine r) u) rest
+    ∙ ap (λ (c : Class). by_class c (guest_later b.machine (of v)) u) (sym (ap class_of_vector is ∙ l.class))
+
+pub courses_are_turns : CoursesAreTurns
+courses_are_turns script n t u done = sym (nothing_turned script t)
+courses_are_turns script n t v (stepping {n = m} {u = u} goes e rest) =
+    courses_are_turns script m u v rest ∙ ap (λ (w : Turned). turn_of script m w) e ∙ sym (going_turn script m t goes)
+courses_are_turns script n t v (running {n = m} {u = u} k e rest) =
+    courses_are_turns script m u v rest ∙ ap (λ (w : Turned). turn_of script m w) e ∙ sym (turns_add script k m t)
+courses_are_turns script n t v (still h) = sym (halted_turn script n t h)

@@ -1,0 +1,71 @@
+-- A step of a guest that the board leaves by an exception.
+use Rattle.std.specs.Prelude.{◌≡◌, ℕ, ◌+◌, ◌-◌, ◌^◌, ◌≤◌, true, false, List, length, take, drop}
+use Rattle.mb_port.specs.Routine.{run}
+use Rattle.mb_instr.specs.Registers.{is_master, plain_of}
+use Rattle.mb_frames.specs.declared.frame.Frame.{Frame}
+use Rattle.mb_frames.specs.Layout.{BeginsWith}
+use Rattle.mb_devices.specs.Devices.{level_of}
+use Rattle.mb_meaning.specs.declared.Finish.{Finish}
+use Rattle.mb_meaning.specs.declared.Finish.TheVariants as finish
+use Rattle.mb_machine.specs.Machine.{Machine, Entries, takes_steps}
+use Rattle.mb_walk.specs.Memory.{part}
+use Rattle.vm_machine.specs.Exits.{class_of_vector, handed_by, frame_access, rest_by_frame}
+use Rattle.vm_shadow.specs.Mapped.{root_of}
+use Rattle.vm_machine.specs.Guests.{Guest}
+use Rattle.vm_machine.specs.Bus.{guest_bus}
+use Rattle.vm_mirror.specs.Related.{Site, Related}
+use Rattle.vm_mirror.specs.Ready.{native_mmu}
+use Rattle.vm_machine.specs.declared.class.Class.{Class}
+use Rattle.vm_machine.specs.declared.class.Class.TheVariants.{Privileged, Denied, Trapped}
+use Rattle.vm_machine.specs.Turns.{Guested, world_of, guest_begun, guest_processed, class_of_step}
+use Rattle.vm_meaning.specs.Native.{user_step}
+use Rattle.vm_step.specs.Retire.{Boarded, HasRegisters}
+
+-- What the monitor sets besides: the translation for the guest's space, vectors at 0, and a stack below the guest that
+-- has room for a frame.
+pub record Furnished (x : Site) (m : Machine) : Type 0 where
+  pub mmu : m.world.mmu ≡ native_mmu (root_of x.slots.area x.space)
+  pub master : is_master m.cpu.regs.sr ≡ false
+  pub vectors : m.cpu.vbr ≡ 0
+  pub stack : 60 ≤ m.cpu.regs.isp
+  pub below : m.cpu.regs.isp ≤ x.base
+  pub table : 1024 ≤ x.base
+  pub small : length m.world.ram ≤ 2 ^ 32
+
+-- The guest once the board has left it: as it began the step, with the bytes that its part of the board's memory has
+-- now.
+abbrev pub left_guest : Site → List ℕ → Guest → Guest
+left_guest x ram g = record g { world = record g.world { ram = part ram x.base x.size } }
+
+-- The board entered this vector, which tells the class of the step, and has a frame on its stack. The guest's own step
+-- is the rest that the frame names, from the guest as the board has left it. And the board is related to that.
+pub record Leaves (x : Site) (script : Entries) (m : Machine) (g : Guested) (s : Finish × Machine) : Type 0 where
+  pub vector : ℕ
+  pub entered : s.0 ≡ finish.Entered vector
+  pub class : class_of_vector vector ≡ class_of_step script g
+  pub running : takes_steps s.1.state ≡ true
+  pub frame : Frame
+  pub stands : BeginsWith (drop s.1.cpu.regs.isp s.1.world.ram) frame
+  -- a processor has seven address registers beside its stacks
+  pub rest : length s.1.cpu.regs.a ≡ 7 → let b = guest_begun script g in let h =
+      left_guest x s.1.world.ram (world_of b) in
+      guest_processed b ≡ run guest_bus (rest_by_frame vector (frame_access frame) (level_of b.machine.world.devices)
+      b.machine.cpu (handed_by s.1.cpu.regs frame)) h
+  pub related : Related x s.1.world (left_guest x s.1.world.ram (world_of (guest_begun script g)))
+  -- of the board's memory nothing has changed but the guest's RAM and what is below the top of the stack
+  pub count : length s.1.world.ram ≡ length m.world.ram
+  pub between : (n : ℕ) → m.cpu.regs.isp ≤ n → n ≤ x.base
+      → take (x.base - n) (drop n s.1.world.ram) ≡ take (x.base - n) (drop n m.world.ram)
+  pub above : drop (x.base + x.size) s.1.world.ram ≡ drop (x.base + x.size) m.world.ram
+
+abbrev pub IsLeft : Class → Type 0
+IsLeft Privileged = Unit {0}
+IsLeft Trapped = Unit {0}
+IsLeft Denied = Unit {0}
+IsLeft _ = ⊥
+
+-- Every step that the board attempts and does not carry out.
+abbrev pub LeftSteps : Type 0
+LeftSteps = (x : Site) (script : Entries) (m : Machine) (g : Guested) → Boarded x m g → Furnished x m
+    → HasRegisters (plain_of g.machine.cpu.regs) → length g.machine.cpu.regs.a ≡ 7
+    → IsLeft (class_of_step script g) → Leaves x script m g (user_step m)

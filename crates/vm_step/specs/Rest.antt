@@ -1,0 +1,28 @@
+-- The rest of a guest's step that was not carried out.
+use Rattle.std.specs.Prelude.{◌≡◌, ℕ, ◌≤◌, length}
+use Rattle.mb_port.specs.Routine.{run}
+use Rattle.mb_instr.specs.declared.instruction.Instr.{Instr}
+use Rattle.mb_instr.specs.Registers.{plain_of}
+use Rattle.mb_model.specs.declared.processor.Cpu.{Cpu}
+use Rattle.mb_model.specs.Status.{space_of}
+use Rattle.mb_meaning.specs.Step.{interrupt_mask, step_of}
+use Rattle.mb_attempts.specs.Attempts.{IsUntraced, NoOther, fetched_by}
+use Rattle.vm_machine.specs.Guests.{Guest}
+use Rattle.vm_machine.specs.Held.{held_bus}
+use Rattle.vm_machine.specs.Bus.{guest_bus}
+use Rattle.vm_held.specs.Denied.{by_held, held_end}
+use Rattle.vm_held.specs.Sound.{Sound}
+use Rattle.vm_machine.specs.Rests.{rest_of}
+use Rattle.vm_machine.specs.declared.class.Class.TheVariants.{Retired}
+use Rattle.vm_machine.specs.Classes.{class_of_end}
+use Rattle.vm_step.specs.Retire.{HasRegisters}
+
+-- The guest's own step is the rest of the held one, from the state that it is in: of the instruction that was fetched.
+-- (Where none was, any will do.)
+abbrev pub StepsGoOn : Type 0
+StepsGoOn = (size level : ℕ) (guest : Cpu) (g : Guest) (i : Instr) → IsUntraced guest → length guest.regs.a ≡ 7
+    → HasRegisters (plain_of guest.regs) → Sound size g → level ≤ interrupt_mask guest
+    → NoOther i (fetched_by held_bus guest g).0
+    → let k = held_end (space_of guest) (plain_of guest.regs) g in (class_of_end k.0 ≡ Retired → ⊥)
+    → run guest_bus (step_of level guest) g
+    ≡ run guest_bus (rest_of level guest i k.0 k.1) (by_held (space_of guest) (plain_of guest.regs) g).1

@@ -1,0 +1,72 @@
+-- A step of a guest that is retired, on the board and alone.
+use Rattle.std.specs.Prelude.{◌≡◌, ℕ, ◌+◌, ◌^◌, ◌<◌, true, false, []}
+use Rattle.mb_port.specs.declared.types.Space.{Space}
+use Rattle.mb_meaning.specs.declared.Finish.{Finish}
+use Rattle.mb_meaning.specs.declared.Finish.TheVariants as finish
+use Rattle.mb_instr.specs.declared.registers.Plain.{Plain}
+use Rattle.mb_instr.specs.Registers.{is_supervisor, plain_of}
+use Rattle.mb_model.specs.Status.{space_of}
+use Rattle.mb_meaning.specs.SystemEnds.{with_registers}
+use Rattle.mb_meaning.specs.Attempt.{attempt_of}
+use Rattle.mb_meaning.specs.Step.{interrupt_mask}
+use Rattle.mb_tells.specs.Laws.{HasLongs}
+use Rattle.mb_machine.specs.Machine.{Machine, Entries, begun, takes_steps}
+use Rattle.mb_laws.specs.Until.{run_until}
+use Rattle.mb_model.specs.declared.outcome.RunState.TheVariants.{Running}
+use Rattle.mb_attempts.specs.Attempts.{IsUntraced}
+use Rattle.vm_held.specs.Denied.{held_end}
+use Rattle.vm_machine.specs.Guests.{Guest, may}
+use Rattle.vm_machine.specs.Bus.{guest_bus}
+use Rattle.vm_mirror.specs.Related.{Site, Related}
+use Rattle.vm_mirror.specs.Laws.{Outside}
+use Rattle.vm_held.specs.Sound.{Sound, OnlyRam}
+use Rattle.vm_machine.specs.declared.class.Class.TheVariants.{Retired}
+use Rattle.vm_machine.specs.Classes.{class_of_end, class_at}
+use Rattle.vm_machine.specs.Turns.{Guested, world_of, guest_begun, guest_stepped, class_of_step}
+use Rattle.vm_meaning.specs.Native.{user_step}
+use Rattle.vm_step.specs.Registers.{IsFrom}
+
+-- A board made ready for the next step of a guest.
+pub record Boarded (x : Site) (m : Machine) (g : Guested) : Type 0 where
+  pub on : m.world.devices.off ≡ false
+  pub user : is_supervisor m.cpu.regs.sr ≡ false
+  pub goes : IsUntraced m.cpu
+  pub mask : interrupt_mask m.cpu ≡ 7
+  pub plain : plain_of m.cpu.regs ≡ plain_of g.machine.cpu.regs
+  pub present : space_of g.machine.cpu ≡ x.space
+  pub related : Related x m.world (world_of g)
+
+-- registers that fit
+pub record HasRegisters (p : Plain) : Type 0 where
+  pub longs : HasLongs p
+  pub counter : p.pc < 2 ^ 32
+
+-- The class of a step, by how the held guest's attempt ends.
+abbrev pub ClassesAreHeld : Type 0
+ClassesAreHeld = (space : Space) (size : ℕ) (p : Plain) (g : Guest) → HasRegisters p → Sound size g
+    → class_at (run_until may guest_bus (attempt_of space p) g) ≡ class_of_end (held_end space p g).0
+
+-- What becomes of board and guest in a step that is retired: the board enters nothing, and is ready for the guest as it
+-- is one step later. Of the guest nothing but registers, RAM and the devices that its step began with has changed, and
+-- outside its RAM nothing of the board but its devices.
+pub record Retires (x : Site) (script : Entries) (m : Machine) (g : Guested) (s : Finish × Machine)
+    (t : Guested) : Type 0 where
+  pub step : s.0 ≡ finish.Went
+  pub running : takes_steps s.1.state ≡ true
+  pub alone : takes_steps t.machine.state ≡ true
+  pub boarded : Boarded x s.1 t
+  pub from : IsFrom m.cpu s.1.cpu
+  pub only : OnlyRam (world_of (guest_begun script g)) (world_of t)
+  pub outside : Outside x (begun [] m).world s.1.world
+  pub goes : IsUntraced t.machine.cpu
+  pub mask : interrupt_mask t.machine.cpu ≡ interrupt_mask g.machine.cpu
+  pub steps : t.machine.steps ≡ g.machine.steps + 1
+  pub state : t.machine.state ≡ Running
+  pub registers : Plain
+  pub set : t.machine.cpu ≡ with_registers registers g.machine.cpu
+
+abbrev pub RetiredSteps : Type 0
+RetiredSteps = (x : Site) (script : Entries) (m : Machine) (g : Guested) → Boarded x m g
+    → HasRegisters (plain_of g.machine.cpu.regs) → class_of_step script g ≡ Retired
+    → g.machine.world.devices.off ≡ false
+    → Retires x script m g (user_step m) (guest_stepped script g)

@@ -1,0 +1,97 @@
+-- A turn of a guest that is seated on a board, by a run of the board.
+use Rattle.std.specs.Prelude.{◌≡◌, ℕ, ◌+◌, ◌^◌, ◌≤◌, false, List, length, drop}
+use Rattle.mb_instr.specs.declared.registers.Plain.{Plain}
+use Rattle.mb_instr.specs.Registers.{plain_of}
+use Rattle.mb_model.specs.declared.processor.Cpu.{Cpu}
+use Rattle.mb_model.specs.declared.outcome.RunState.{RunState}
+use Rattle.mb_model.specs.declared.outcome.RunState.TheVariants.{Running}
+use Rattle.mb_model.specs.Status.{space_of}
+use Rattle.mb_walk.specs.Memory.{AreBytes}
+use Rattle.mb_devices.specs.Devices.{DeviceState, level_of}
+use Rattle.mb_meaning.specs.SystemEnds.{with_registers, within}
+use Rattle.mb_port.specs.Routine.{run}
+use Rattle.mb_frames.specs.declared.frame.Frame.{Frame}
+use Rattle.mb_frames.specs.Layout.{BeginsWith}
+use Rattle.mb_machine.specs.Machine.{begun}
+use Rattle.vm_machine.specs.Bus.{guest_bus}
+use Rattle.vm_mirror.specs.Related.{Site}
+use Rattle.vm_machine.specs.Turns.{world_of, guest_begun, guest_later, counted}
+use Rattle.vm_machine.specs.Exits.{class_of_vector, frame_access, handed_by, rest_by_frame}
+use Rattle.vm_meaning.specs.declared.RunEnd.TheVariants.{Counted, Exit}
+use Rattle.vm_meaning.specs.Native.{NativeState, Ran, about_to_run, user_run}
+use Rattle.vm_machine.specs.Seats.{Seat, guested_on, monitor_bytes, IsSeated, IsSame, OnlyWithin, Takes}
+use Rattle.vm_step.specs.Batch.{IsStretch, stepped_by}
+use Rattle.vm_step.specs.Turn.{IsNativeCpu, ready_for}
+
+abbrev pub site_of : Seat → Site
+site_of g = record { base = g.base; size = g.size; slots = g.slots; space = space_of g.cpu }
+
+-- the guest after so many retired steps, with the board's registers
+abbrev pub retired_seat : Seat → ℕ → Plain → DeviceState → Seat
+retired_seat g k p d = record g {
+  cpu = with_registers p g.cpu;
+  devices = d;
+  steps = g.steps + k;
+  tally = record g.tally { retired = g.tally.retired + k };
+}
+
+-- the run of the board that is made ready for it
+abbrev pub run_for : Seat → List ℕ → Cpu → DeviceState → ℕ → RunState → NativeState → Plain → ℕ → Ran
+run_for g ram c d steps state native before k =
+    user_run k (about_to_run (ready_for (site_of g) c ram d steps state (guested_on g ram)) native before)
+
+-- What the monitor has then is a turn of so many steps.
+abbrev pub BatchesTake : Type 0
+BatchesTake = (g : Seat) (ram : List ℕ) (c : Cpu) (d : DeviceState) (steps : ℕ) (state : RunState)
+    (native : NativeState) (before : Plain) (k : ℕ)
+    → IsSeated g ram → AreBytes ram → length ram ≤ 2 ^ 32 → g.state ≡ Running → length g.cpu.regs.a ≡ 7
+    → IsNativeCpu (site_of g) c → d.off ≡ false → IsStretch g.script k (guested_on g ram)
+    → let after = run_for g ram c d steps state native before k in after.end ≡ Counted
+    → length after.machine.cpu.regs.a ≡ 7
+    → Takes k (record { guest = g; ram = ram; native = native })
+    (record {
+      guest = retired_seat g k (plain_of after.machine.cpu.regs)
+          (stepped_by g.script k (guested_on g ram)).machine.world.devices;
+      ram = after.machine.world.ram;
+      native = after.native;
+    })
+
+-- ---- a run that the board left
+
+-- the guest at the beginning of the step that was left: behind so many retired ones, with the registers that the board
+-- had then, and the devices as this step began with them
+abbrev pub left_seat : Seat → ℕ → Plain → DeviceState → Seat
+left_seat g k p d = retired_seat g k p d
+
+-- What the monitor has when the board left the guest's step behind `retired` others: a seated guest in the middle of
+-- its step, and what is to be carried out of it. Done over the guest's own bus, with the class by the vector, that is a
+-- turn.
+pub record IsLeft (g : Seat) (ram : List ℕ) (native : NativeState) (after : Ran) : Type 0 where
+  pub retired : ℕ
+  pub vector : ℕ
+  pub end : after.end ≡ Exit vector
+  pub frame : Frame
+  pub stands : BeginsWith (drop after.machine.cpu.regs.isp after.machine.world.ram) frame
+  pub begun : DeviceState
+  -- the guest's begin of this step
+  pub begins : begun ≡ (guest_begun g.script (stepped_by g.script retired (guested_on g ram))).machine.world.devices
+  pub counts : after.native.retired ≡ native.retired + retired
+  pub seated : IsSeated (left_seat g retired after.before begun) after.machine.world.ram
+  pub within : OnlyWithin g ram after.machine.world.ram
+  pub turn : (seat : Seat) (next : List ℕ) → let mid = left_seat g retired after.before begun in
+      let b = guested_on mid after.machine.world.ram in
+      guested_on seat next ≡ guest_later b.machine
+      (run guest_bus (rest_by_frame vector (frame_access frame) (level_of begun) mid.cpu
+      (handed_by after.machine.cpu.regs frame)) (world_of b))
+      → seat.tally ≡ counted (class_of_vector vector) mid.tally → IsSame mid seat → IsSeated seat next
+      → OnlyWithin mid after.machine.world.ram next
+      → Takes (retired + 1) (record { guest = g; ram = ram; native = native })
+      (record { guest = seat; ram = next; native = after.native })
+
+abbrev pub ExitsTake : Type 0
+ExitsTake = (g : Seat) (ram : List ℕ) (c : Cpu) (d : DeviceState) (steps : ℕ) (state : RunState) (native : NativeState)
+    (before : Plain) (k v : ℕ)
+    → IsSeated g ram → AreBytes ram → length ram ≤ 2 ^ 32 → g.state ≡ Running → length g.cpu.regs.a ≡ 7
+    → IsNativeCpu (site_of g) c → c.regs.isp ≤ monitor_bytes → d.off ≡ false → IsStretch g.script k (guested_on g ram)
+    → let after = run_for g ram c d steps state native before k in after.end ≡ Exit v
+    → length after.machine.cpu.regs.a ≡ 7 → IsLeft g ram native after

@@ -1,0 +1,102 @@
+-- A turn of a guest by parts: steps over its own bus, runs of the board, and what the board left.
+use Rattle.std.specs.Prelude.{◌≡◌, ℕ, suc, ◌+◌, ◌%◌, ◌^◌, ◌≤◌, false, true, List, length}
+use Rattle.mb_port.specs.Routine.{Routine, run}
+use Rattle.mb_laws.specs.Relations.{Along}
+use Rattle.mb_instr.specs.Registers.{plain_of}
+use Rattle.mb_model.specs.declared.processor.Cpu.{Cpu}
+use Rattle.mb_model.specs.declared.outcome.RunState.{RunState}
+use Rattle.mb_model.specs.Status.{space_of}
+use Rattle.mb_model.specs.Keeping.{rule_a, nothing_kept}
+use Rattle.mb_walk.specs.Memory.{AreBytes, part}
+use Rattle.mb_devices.specs.Devices.{DeviceState, level_of}
+use Rattle.mb_meaning.specs.declared.Finish.TheVariants as finish
+use Rattle.mb_meaning.specs.SystemEnds.{with_registers}
+use Rattle.mb_machine.specs.Machine.{Machine, Entries, takes_steps}
+use Rattle.mb_meaning.specs.Entry.{awake}
+use Rattle.vm_shadow.specs.Mapped.{root_of, shadowed}
+use Rattle.vm_shadow.specs.Area.{Maps}
+use Rattle.vm_machine.specs.Guests.{Guest, Truthful}
+use Rattle.vm_machine.specs.Bus.{guest_bus}
+use Rattle.vm_mirror.specs.Related.{Site}
+use Rattle.vm_machine.specs.Seats.{on_board}
+use Rattle.vm_mirror.specs.Ready.{native_mmu}
+use Rattle.vm_held.specs.Truth.{Fine, HasAddress}
+use Rattle.vm_machine.specs.Turns.{Guested, Turned, world_of, guest_begun, guest_later, by_class, advanced, turn_of}
+use Rattle.vm_step.specs.Retire.{Boarded}
+use Rattle.vm_step.specs.Exit.{Furnished, left_guest, Leaves}
+use Rattle.vm_machine.specs.Exits.{class_of_vector, handed_by, frame_access, rest_by_frame}
+
+-- ---- the board is made ready again
+
+-- the monitor's processor: user mode with mask 7 and no trace, vectors at 0, and a stack
+pub record IsNativeCpu (x : Site) (c : Cpu) : Type 0 where
+  pub status : c.regs.sr ≡ 0x0700
+  pub awake : c.stopped ≡ false
+  pub vectors : c.vbr ≡ 0
+  pub stack : 60 ≤ c.regs.isp
+  pub below : c.regs.isp ≤ x.base
+
+-- the board as the monitor makes it ready for the guest's next step: its registers, the root of its space, nothing kept
+abbrev pub ready_for : Site → Cpu → List ℕ → DeviceState → ℕ → RunState → Guested → Machine
+ready_for x c ram devices steps state g = record {
+  cpu = with_registers (plain_of g.machine.cpu.regs) c;
+  world = record {
+    ram = ram;
+    mmu = native_mmu (root_of x.slots.area x.space);
+    devices = devices;
+    kept = nothing_kept rule_a;
+  };
+  steps = steps;
+  state = state;
+}
+
+-- what stands in the board's memory for a guest
+pub record Stands (x : Site) (ram : List ℕ) (g : Guest) : Type 0 where
+  pub bytes : AreBytes ram
+  pub maps : Maps x.slots ram
+  pub under : x.base + x.size ≤ x.slots.area
+  pub whole : x.base % 4096 ≡ 0
+  pub ram_is : part ram x.base x.size ≡ g.world.ram
+  pub shadow : shadowed x.slots ram ≡ on_board x.base g.shadow
+  pub truthful : Truthful x.size g
+  pub table : 1024 ≤ x.base
+  pub small : length ram ≤ 2 ^ 32
+
+-- With the caches flushed and the registers set, the board is ready, whatever it did before.
+abbrev pub BoardsAreReady : Type 0
+BoardsAreReady = (x : Site) (c : Cpu) (ram : List ℕ) (d : DeviceState) (steps : ℕ) (state : RunState) (g : Guested)
+    → IsNativeCpu x c → d.off ≡ false → space_of g.machine.cpu ≡ x.space → length g.machine.cpu.regs.a ≡ 7
+    → Stands x ram (world_of g)
+    → Boarded x (ready_for x c ram d steps state g) g × Furnished x (ready_for x c ram d steps state g)
+
+-- ---- the guest's own bus keeps the shadow's truth
+
+abbrev pub RunsKeepTruth : Type 0 → Type 1
+RunsKeepTruth A = (size : ℕ) (m : Routine A) (g : Guest) → Along (λ c (h : Guest). HasAddress c) guest_bus m g
+    → Fine size g
+    → Fine size (run guest_bus m g).1
+
+-- ---- a turn
+
+-- A step that the board left is one step of the turn: its class by the vector, and machine and shadow by the rest.
+abbrev pub ExitsAdvance : Type 0
+ExitsAdvance = (x : Site) (script : Entries) (u : Turned) (v : ℕ) (m after : Machine)
+    → (l : Leaves x script m u.guest (finish.Entered v, after))
+    → length after.cpu.regs.a ≡ 7 → let b = guest_begun script u.guest in
+    advanced script u ≡ by_class (class_of_vector v) (guest_later b.machine
+    (run guest_bus (rest_by_frame v (frame_access l.frame) (level_of b.machine.world.devices) b.machine.cpu
+    (handed_by after.cpu.regs l.frame))
+    (left_guest x after.world.ram (world_of b)))) u
+
+-- A turn's parts: a step by itself (over the guest's own bus, or by its rest), or so many steps of a run of the board.
+pub data Course (script : Entries) : ℕ → Turned → Turned → Type 0 where
+  done : {t : Turned} → Course script 0 t t
+  stepping : {n : ℕ} {t u v : Turned} → takes_steps t.guest.machine.state ≡ true → u ≡ advanced script t
+      → Course script n u v
+      → Course script (suc n) t v
+  running : {n : ℕ} {t u v : Turned} (k : ℕ) → u ≡ turn_of script k t → Course script n u v → Course script (k + n) t v
+  -- halted or off
+  still : {n : ℕ} {t : Turned} → takes_steps t.guest.machine.state ≡ false → Course script n t t
+
+abbrev pub CoursesAreTurns : Type 0
+CoursesAreTurns = (script : Entries) (n : ℕ) (t u : Turned) → Course script n t u → u ≡ turn_of script n t

@@ -1,0 +1,55 @@
+//! A guest's whole step on a board, and runs of the board.
+//!
+//! A step's class is that of the held guest's end. A retired step of the guest is one of the board, with the same
+//! registers. Any other step that the board attempts it leaves by an exception: its vector tells the class, and what
+//! the frame says, with the registers, gives the rest of the guest's own step. So a run of the board is so many retired
+//! steps of the guest, counted to its end or left behind them, and each is what a turn promises of a seated guest.
+//! [`specs/Retire`], [`specs/Rest`] and [`specs/Exit`] have the step, [`specs/Batch`] and [`specs/Quiet`] the run,
+//! [`specs/Turn`] and [`specs/Taking`] the turn. The code has the laws.
+#![tactic(auto)]
+
+ghost use Rattle.vm_step.specs.Retire.{ClassesAreHeld, RetiredSteps};
+ghost use Rattle.vm_step.specs.Rest.{StepsGoOn};
+ghost use Rattle.vm_step.specs.Exit.{LeftSteps};
+ghost use Rattle.vm_step.specs.Batch.{RunsAreBatches};
+ghost use Rattle.vm_step.specs.Quiet.{QuietStepsAreTried, RetiredStepsTick, RetiredStepsKeepTruth, RetiredStepsLeave};
+ghost use Rattle.vm_step.specs.Turn.{BoardsAreReady, ExitsAdvance, CoursesAreTurns};
+ghost use Rattle.vm_step.specs.Taking.{BatchesTake, ExitsTake};
+
+/// One step of a guest that the board begins: its class, and where it is retired.
+pub fn guest_steps_retire()
+    ensures classes { ClassesAreHeld }
+    ensures retired { RetiredSteps }
+{}
+
+/// One that the board leaves: the rest of the guest's own step, and what the board hands back of it.
+pub fn guest_steps_are_left()
+    ensures goes_on { StepsGoOn }
+    ensures left { LeftSteps }
+{}
+
+/// A run of the board is so many retired steps of the guest, and an exit or none.
+pub fn runs_are_batches()
+    ensures { RunsAreBatches }
+{}
+
+/// A stretch that the board may carry out in one run, and what it leaves.
+pub fn quiet_stretches()
+    ensures tried { QuietStepsAreTried }
+    ensures ticks { RetiredStepsTick }
+    ensures truth { RetiredStepsKeepTruth }
+    ensures leave { RetiredStepsLeave }
+{}
+
+/// A turn by its parts.
+pub fn turns_have_parts()
+    ensures ready { BoardsAreReady }
+    ensures advance { ExitsAdvance }
+    ensures courses { CoursesAreTurns }
+{}
+
+/// What a run of the board has taken of a seated guest's turn.
+pub fn runs_take_turns()
+    ensures batches { BatchesTake }
+    ensures exits { ExitsTake }
+{}
