@@ -48,7 +48,7 @@ abbrev pub plain_bytes : ℕ → Scope → Option Sum → Result (List ℕ) AsmK
 plain_bytes unit scope (Some terms) = unit_bytes unit scope terms
 plain_bytes unit scope None = Err kind.Operand
 
-abbrev pub item_bytes : ℕ → Scope → Operand Sum → Result (List ℕ) AsmKind
+unfoldable pub item_bytes : ℕ → Scope → Operand Sum → Result (List ℕ) AsmKind
 item_bytes unit scope (operand.Text text) = Ok (text_bytes scope.line text)
 item_bytes unit scope item = plain_bytes unit scope (plain_of item)
 

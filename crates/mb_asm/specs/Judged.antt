@@ -125,6 +125,6 @@ judged_statement symbols layout line statement = elim statement.operation [
 ]
 
 -- The statement of a line, which may be none.
-abbrev pub judged : List Symbol → Layout → List ℕ → Option Statement → Result Laid AsmKind
+unfoldable pub judged : List Symbol → Layout → List ℕ → Option Statement → Result Laid AsmKind
 judged symbols layout line (Some statement) = judged_statement symbols layout line statement
 judged symbols layout line None = Err kind.Syntax

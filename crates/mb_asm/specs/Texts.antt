@@ -44,7 +44,7 @@ abbrev pub with_bytes : Chunks → List ℕ → Chunks
 with_bytes chunks bytes = record { whole = chunks.whole; at = chunks.at; bytes = chunks.bytes ++ bytes }
 
 -- A gap is left where the address behind a statement is not where its bytes end.
-abbrev pub with_laid : Chunks → ℕ → Laid → Chunks
+unfoldable pub with_laid : Chunks → ℕ → Laid → Chunks
 with_laid chunks at laid =
     let more = with_bytes chunks laid.bytes in
     if laid.next == at + length laid.bytes then more else closed more laid.next

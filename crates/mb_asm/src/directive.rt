@@ -8,7 +8,7 @@ ghost use Rattle.mb_asm.specs.Directives.{directives, only_of, plain_of, unit_of
 use mb_syntax::{Expression, Mode, Operand, SizeLetter, found_in};
 
 /// What is no instruction.
-#[derive(Clone, Copy, Debug, PartialEq, Eq)]
+#[derive(Clone, Copy)]
 pub(crate) enum Directive {
     /// Goes to an address.
     Org,

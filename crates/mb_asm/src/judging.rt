@@ -275,7 +275,7 @@ fn judged_label(
 }
 
 /// What the statement of a line writes, or the first fault that the line has.
-#[tactic(auto, unfolding(crate::specs::Layouts::next_at))]
+#[tactic(auto, unfolding(crate::specs::Judged::judged, crate::specs::Layouts::next_at))]
 pub(crate) fn judged(
     alloc: Global,
     symbols: &[Symbol],

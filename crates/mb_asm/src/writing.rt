@@ -84,6 +84,7 @@ fn unit_bytes(
     }
 }
 
+#[tactic(auto, unfolding(crate::specs::Bytes::item_bytes))]
 fn item_bytes(
     alloc: Global,
     unit: u8,

@@ -9,7 +9,7 @@ use Rattle.mb_mnemonics.specs.Ranges.{number}
 use Rattle.mb_asm.specs.Symbols.{Symbol}
 use Rattle.mb_asm.specs.Values.{Scope}
 use Rattle.mb_asm.specs.Extents.{behind, behind_dc, directive_in}
-use Rattle.mb_asm.specs.Bytes.{bytes, dc_bytes, unit_bytes}
+use Rattle.mb_asm.specs.Bytes.{bytes, dc_bytes, item_bytes, unit_bytes}
 use Rattle.mb_asm.specs.Layouts.{Layout, earlier}
 use Rattle.mb_asm.specs.Judged.{admitted, judged, judged_by, judged_operation, laid_to}
 use Rattle.mb_asm.specs.Texts.{assembled}
@@ -46,7 +46,7 @@ dc_judged_by : (symbols : List Symbol) (layout : Layout) (digits : List ℕ) (va
     → judged_by layout (dc_line digits) None (operation_by (name_at 1 3) (Some letter.Word) value)
     (directive_in (dc_line digits) (operation_by (name_at 1 3) (Some letter.Word) value))
     (record { symbols = symbols; line = dc_line digits; at = layout.at }) (Ok (layout.at + 2)) ≡ Ok (laid_by (value / 256 ∷ value % 256 ∷ []) (layout.at + 2))
-unfolding judged_by admitted laid_to bytes dc_bytes
+unfolding judged_by admitted laid_to bytes dc_bytes item_bytes
 dc_judged_by symbols layout digits value small inside =
     let none : nat_lt 4294967296 (layout.at + 2) ≡ false = le-ltb 4294967296 (layout.at + 2) inside in
     rw (word_bytes (record { symbols = symbols; line = dc_line digits; at = layout.at }) value small, none) refl
@@ -54,7 +54,7 @@ dc_judged_by symbols layout digits value small inside =
 dc_judged : (symbols : List Symbol) (layout : Layout) (digits : List ℕ) (value : ℕ) → Spells digits value → value < 65536
     → layout.at + 2 ≤ 4294967296
     → judged symbols layout (dc_line digits) (statement_in (dc_line digits)) ≡ Ok (laid_by (value / 256 ∷ value % 256 ∷ []) (layout.at + 2))
-unfolding judged_operation
+unfolding judged judged_operation
 dc_judged symbols layout digits value spells small inside =
     rw (dc_statement digits value spells (omega arith), dc_behind_line layout digits value inside)
     (dc_judged_by symbols layout digits value small inside)

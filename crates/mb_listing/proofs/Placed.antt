@@ -68,7 +68,7 @@ org_judged_by layout digits value small inside =
 
 org_judged : (symbols : List Symbol) (layout : Layout) (digits : List ℕ) (value : ℕ) → Spells digits value → value ≤ 4294967295 → layout.at ≤ 4294967296
     → judged symbols layout (org_line digits) (statement_in (org_line digits)) ≡ Ok (laid_by [] value)
-unfolding judged_operation
+unfolding judged judged_operation
 org_judged symbols layout digits value spells small inside =
     rw (org_statement digits value spells small, org_behind_line layout digits value small) (org_judged_by layout digits value small inside)
 
@@ -86,6 +86,7 @@ org_after digits value spells small =
     rw (org_statement digits value spells small, org_behind_line beginning digits value small) refl
 
 org_chunks_by : (value : ℕ) (b : Bool) → (value == 0) ≡ b → with_laid no_chunks 0 (laid_by [] value) ≡ started value
+unfolding with_laid
 org_chunks_by value true e = let same : value ≡ 0 = eqb-true value 0 e in rw same refl
 org_chunks_by value false e = rw e refl
 
@@ -103,6 +104,7 @@ org_laid symbols digits value lines spells small =
 last_laid : (symbols : List Symbol) (at first : ℕ) (others : List ℕ) (line : Line)
     → judged symbols (placed at) line.characters (statement_in line.characters) ≡ Ok (laid_by (first ∷ others) (at + length (first ∷ others)))
     → finished (chunks_from symbols (placed at) (started at) (line ∷ [])) ≡ Ok ((at, first ∷ others) ∷ [])
+unfolding with_laid
 last_laid symbols at first others line laid =
     let whole : (at + length (first ∷ others) == at + length (first ∷ others)) ≡ true = eq-eqb _ _ refl in
     rw (laid, whole) refl
