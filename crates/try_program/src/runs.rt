@@ -6,6 +6,7 @@ mod sources;
 use mb_outside::{MemShelf, MemSink};
 use mb_program::{run_program, run_unfailing};
 use std::alloc::Global;
+use std::process::Abort;
 use std::test::Fail;
 
 /// A program of three instructions: it prints one character and switches the machine off.
@@ -335,9 +336,23 @@ fn the_whole_text_is_written(rt: HostRuntime) {
     assert!(rt; ran.diag.bytes().is_empty());
 }
 
+/// The words of each line are refused, and nothing is written to out.
+fn check_refused(rt: &impl Abort, alloc: Global, lines: &[&str]) {
+    for line in lines {
+        let ran = run_text(alloc, line, HELLO, NOTHING).expect(rt, "ample memory");
+        assert_eq!(rt; ran.status, 2, "{line}");
+        assert_eq!(rt;
+            ran.diag.bytes(),
+            b"mbx: words refused\n".as_slice(),
+            "{line}"
+        );
+        assert!(rt; ran.out.bytes().is_empty(), "{line}");
+    }
+}
+
 #[test]
-fn words_are_refused(rt: HostRuntime) {
-    let refused: [&str; 99] = [
+fn other_commands_are_refused(rt: HostRuntime) {
+    let refused: [&str; 25] = [
         "mbx",
         "mbx bare",
         "mbx help",
@@ -362,6 +377,14 @@ fn words_are_refused(rt: HostRuntime) {
         "bare hello.s19 --ram 64 --steps 10",
         "mbx --ram 64 bare hello.s19 --steps 10",
         "mbx -- bare hello.s19 --ram 64 --steps 10",
+        "mbx bäre hello.s19 --ram 64 --steps 10",
+    ];
+    check_refused(&rt, rt.alloc(), &refused);
+}
+
+#[test]
+fn missing_and_extra_words_are_refused(rt: HostRuntime) {
+    let refused: [&str; 19] = [
         "mbx bare hello.s19",
         "mbx bare hello.s19 --ram 64",
         "mbx bare hello.s19 --steps 10",
@@ -381,6 +404,13 @@ fn words_are_refused(rt: HostRuntime) {
         "mbx bare hello.s19 --ram 64 --ram 64 --steps 10",
         "mbx bare hello.s19 --ram=64 --ram=64 --steps 10",
         "mbx bare hello.s19 --ram 64 --steps 10 --steps 10",
+    ];
+    check_refused(&rt, rt.alloc(), &refused);
+}
+
+#[test]
+fn other_options_are_refused(rt: HostRuntime) {
+    let refused: [&str; 22] = [
         "mbx bare - --ram 64 --steps 10",
         "mbx bare hello.s19 --ram - --steps 10",
         "mbx bare hello.s19 - --ram 64 --steps 10",
@@ -402,6 +432,14 @@ fn words_are_refused(rt: HostRuntime) {
         "mbx bare --IMAGE=hello.s19 --ram 64 --steps 10",
         "mbx bare hello.s19 ---ram 64 --steps 10",
         "mbx bare hello.s19 --=64 --steps 10",
+        "mbx bare hello.s19 –ram 64 --steps 10",
+    ];
+    check_refused(&rt, rt.alloc(), &refused);
+}
+
+#[test]
+fn words_of_a_script_are_refused(rt: HostRuntime) {
+    let refused: [&str; 10] = [
         "mbx bare hello.s19 --ram 64 --steps 10 --script",
         "mbx bare hello.s19 --ram 64 --steps 10 --script=",
         "mbx bare hello.s19 --ram 64 --steps 10 --script ",
@@ -412,10 +450,24 @@ fn words_are_refused(rt: HostRuntime) {
         "mbx bare --ram 64 --steps 10 --script typed.txt",
         "mbx bare hello.s19 --ram 64 --script typed.txt",
         "mbx bare hello.s19 --ram 64 --steps 10 --scrip typed.txt",
+    ];
+    check_refused(&rt, rt.alloc(), &refused);
+}
+
+#[test]
+fn words_behind_two_hyphens_are_refused(rt: HostRuntime) {
+    let refused: [&str; 4] = [
         "mbx bare --ram 64 --steps 10 --",
         "mbx bare hello.s19 --ram 64 -- --steps 10",
         "mbx bare hello.s19 --ram 64 --steps 10 -- --",
         "mbx bare --ram 64 --steps 10 -- hello.s19 hello.s19",
+    ];
+    check_refused(&rt, rt.alloc(), &refused);
+}
+
+#[test]
+fn numbers_are_refused(rt: HostRuntime) {
+    let refused: [&str; 19] = [
         "mbx bare hello.s19 --ram 63 --steps 10",
         "mbx bare hello.s19 --ram 65 --steps 10",
         "mbx bare hello.s19 --ram 0 --steps 10",
@@ -435,19 +487,8 @@ fn words_are_refused(rt: HostRuntime) {
         "mbx bare hello.s19 --ram 64 --steps ten",
         "mbx bare hello.s19 --ram 64 --steps 1.5",
         "mbx bare hello.s19 --ram 64 --steps ١٠",
-        "mbx bäre hello.s19 --ram 64 --steps 10",
-        "mbx bare hello.s19 –ram 64 --steps 10",
     ];
-    for line in refused {
-        let ran = run_text(rt.alloc(), line, HELLO, NOTHING).expect(&rt, "ample memory");
-        assert_eq!(rt; ran.status, 2, "{line}");
-        assert_eq!(rt;
-            ran.diag.bytes(),
-            b"mbx: words refused\n".as_slice(),
-            "{line}"
-        );
-        assert!(rt; ran.out.bytes().is_empty(), "{line}");
-    }
+    check_refused(&rt, rt.alloc(), &refused);
 }
 
 #[test]
