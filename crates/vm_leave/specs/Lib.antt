@@ -1,2 +1,3 @@
 pub mod Exits
 pub mod Steps
+pub mod Fits

@@ -15,6 +15,7 @@ use Rattle.vm_meaning.specs.Marks.{trail}
 use Rattle.vm_meaning.specs.Native.{end_of, with_exception, NativeState, Ran, user_step, user_run, ran_by, ended_by, with_step, with_retired}
 use Rattle.vm_step.specs.Retire.{Retires}
 use Rattle.vm_step.specs.Exit.{Furnished, Leaves, IsLeft}
+use Rattle.vm_step.proofs.Registers.{same_word}
 use Rattle.vm_step.specs.Batch.{Wanted, IsTried, stepped_by, AllRetired, IsInside, IsCounted, IsExit, Batch, RunsAreBatches}
 use Rattle.vm_step.proofs.Retire.{retired_steps}
 use Rattle.vm_step.proofs.Exit.{left_steps}
@@ -74,6 +75,7 @@ stays_furnished : (x : Site) (script : Entries) (m : Machine) (g : Guested) (s :
 unfolding begun
 stays_furnished x script m g s t h f = record {
   mmu = h.outside.mmu ∙ f.mmu;
+  status = same_word s.1.cpu.regs.sr m.cpu.regs.sr h.from.upper f.status;
   master = h.from.master ∙ f.master;
   vectors = h.from.vbr ∙ f.vectors;
   stack = subst (λ (n : ℕ). 60 ≤ n) (sym h.from.isp) f.stack;

@@ -1,5 +1,5 @@
 -- A step that the board leaves by an exception.
-use Rattle.std.proofs.Common.{◌≡◌, ◌∙◌, ℕ, ◌+◌, ◌-◌, ◌*◌, ◌^◌, ◌≤◌, Bool, true, false, cond, List, [], ◌∷◌, ◌++◌, length, take, drop, Option, Some, None}
+use Rattle.std.proofs.Common.{◌≡◌, ◌∙◌, ℕ, ◌+◌, ◌-◌, ◌*◌, ◌^◌, ◌<◌, ◌≤◌, Bool, true, false, cond, List, [], ◌∷◌, ◌++◌, length, take, drop, Option, Some, None}
 use Rattle.std.proofs.Common.{arith, refl, ap, sym, subst}
 use Rattle.std.proofs.lemmas.List.{length-take}
 use Rattle.mb_port.specs.Routine.{run}
@@ -12,7 +12,7 @@ use Rattle.mb_instr.specs.Registers.{is_supervisor, is_master, active_stack, pla
 use Rattle.mb_frames.specs.declared.frame.Access.{Access}
 use Rattle.mb_frames.specs.declared.frame.Frame.{Frame}
 use Rattle.mb_frames.specs.declared.frame.Frame.TheVariants as frame
-use Rattle.mb_frames.specs.Layout.{frame_bytes, BeginsWith}
+use Rattle.mb_frames.specs.Layout.{frame_bytes, IsFrame, BeginsWith}
 use Rattle.mb_model.specs.declared.processor.Cpu.{Cpu}
 use Rattle.mb_model.specs.Status.{space_of}
 use Rattle.mb_walk.specs.Memory.{overwritten, part}
@@ -23,6 +23,7 @@ use Rattle.mb_meaning.specs.declared.entering.Cause.{Cause}
 use Rattle.mb_meaning.specs.declared.Finish.{Finish}
 use Rattle.mb_meaning.specs.declared.Finish.TheVariants as finish
 use Rattle.mb_meaning.specs.Ends.{closed}
+use Rattle.mb_meaning.specs.Attempt.{fetched_of}
 use Rattle.mb_meaning.specs.SystemEnds.{with_registers}
 use Rattle.mb_meaning.specs.Entry.{frames_of, frame_of, frame_with, has_address, settled}
 use Rattle.mb_meaning.specs.Step.{interrupt_mask, step_of}
@@ -59,7 +60,8 @@ use Rattle.vm_machine.specs.Exits.{frame_sr, frame_access, handed_by, rest_by_fr
 use Rattle.vm_step.specs.Exit.{left_guest, Leaves, IsLeft, LeftSteps}
 use Rattle.vm_step.proofs.Lists.{between}
 use Rattle.vm_step.proofs.Rest.{steps_go_on}
-use Rattle.vm_step.proofs.Room.{OnStack, on_stack, has_room}
+use Rattle.vm_step.proofs.Room.{by_format, OnStack, on_stack, has_room}
+use Rattle.vm_step.proofs.FrameFits.{read_as, exit_fits}
 use Rattle.vm_step.proofs.ExitIs.{ExitIs, exit_is}
 use Rattle.vm_step.proofs.Retire.{is_attempt, masked_by, class_held, off_ticked, end_of_held, mirrored_by, related_devices, user_later, user_step_is}
 use Rattle.vm_step.specs.Batch.{IsTried}
@@ -68,6 +70,8 @@ use Rattle.vm_leave.specs.Steps.{LeavesBy, Mirrored}
 use Rattle.vm_mirror.specs.Attempts.{Stays}
 use Rattle.vm_mirror.proofs.Mirrors.{sound_of}
 use Rattle.vm_held.proofs.Attempts.{attempts_go_on}
+use Rattle.vm_leave.specs.Fits.{IsLong}
+use Rattle.vm_leave.proofs.FitEnds.{ends_fit}
 use Rattle.vm_leave.proofs.Steps.{in_it, instr_in, steps_leave}
 use Rattle.vm_meaning.specs.Frames.{pc_of}
 
@@ -144,6 +148,7 @@ pub record BoardLeft (x : Site) (level own_level : ℕ) (i : Instr) (cpu : Cpu) 
   pub is : ExitIs i own_level guest cpu (end_of_held x guest g).0 (end_of_held x guest g).1 e
   pub stack : OnStack e.cause e.cpu e.cpu.regs.isp
   pub room : HasRoom world e.cause e.cpu
+  pub fits : IsFrame (frame_of e.cpu.regs.sr e.cause)
   pub related : Related x (left e world).1 (by_held x.space (plain_of guest.regs) g).1
 
 is_end : (end : Ended) → (class_of_end end ≡ Retired → ⊥) → IsEnd end
@@ -156,11 +161,11 @@ is_end (ended.LineFault f line) never = tt
 is_end (ended.Movem f) never = tt
 
 board_left : (x : Site) (root level own_level : ℕ) (i : Instr) (cpu : Cpu) (w : World) (guest : Cpu) (g : Guest) → Mirrored x cpu guest → Related x w g
-    → w.mmu ≡ native_mmu root → is_master cpu.regs.sr ≡ false → cpu.vbr ≡ 0 → 60 ≤ cpu.regs.isp → cpu.regs.isp ≤ x.base → 1024 ≤ x.base → length w.ram ≤ 2 ^ 32
-    → level ≤ interrupt_mask cpu → NoOther i (fetched_by held_bus guest g).0
+    → w.mmu ≡ native_mmu root → cpu.regs.sr < 2 ^ 16 → is_master cpu.regs.sr ≡ false → cpu.vbr ≡ 0 → 60 ≤ cpu.regs.isp → cpu.regs.isp ≤ x.base
+    → 1024 ≤ x.base → length w.ram ≤ 2 ^ 32 → level ≤ interrupt_mask cpu → NoOther i (fetched_by held_bus guest g).0
     → (class_of_end (end_of_held x guest g).0 ≡ Retired → ⊥) → BoardLeft x level own_level i cpu w guest g
 unfolding plain_of
-board_left x root level own_level i cpu w guest g m related mmu master vbr low below table small masked other never =
+board_left x root level own_level i cpu w guest g m related mmu status master vbr low below table small masked other never =
     let k = end_of_held x guest g in
     let p = k.1 in
     let by : LeavesBy x level i cpu w g k (by_held x.space (plain_of guest.regs) g).1 =
@@ -169,6 +174,10 @@ board_left x root level own_level i cpu w guest g m related mmu master vbr low b
     let usual : IsUsual k.0 = usual_end x x.space (moves_fetched held_bus x.space (plain_of guest.regs).pc g) g (by_held x.space (plain_of guest.regs) g)
     (by_guest x.space (plain_of guest.regs) g) by.ended by.same goes in
     let e = exit_of i by.ended cpu (with_registers p cpu) in
+    let found : NoOther i (run held_bus (fetched_of x.space guest.regs.pc) g).0 =
+    subst (λ (s : Space). NoOther i (run held_bus (fetched_of s guest.regs.pc) g).0) m.present other in
+    let said = ends_fit x.space x.size (plain_of guest.regs) g i m.longs m.counter (sound_of x w g related) found (is_end k.0 never) in
+    let counter : IsLong cpu.regs.pc = subst IsLong (sym (ap (λ (r : Plain). r.pc) m.plain)) m.counter in
     let is = exit_is x i own_level guest cpu p m.board_untraced m.user (ap (λ (r : Plain). r.pc) m.plain) by.ended k.0 by.same usual never in
     let inside : x.base ≤ length w.ram = (let h = related.under in let z : x.slots.area + area_bytes ≤ length w.ram = related.maps.inside in omega arith) in
     let count : length by.world.ram ≡ length w.ram = by.stays.outside.count in
@@ -187,6 +196,7 @@ board_left x root level own_level i cpu w guest g m related mmu master vbr low b
       is = is;
       stack = stack;
       room = room;
+      fits = exit_fits x i cpu p m.board_untraced status counter said.1 by.ended k.0 by.same usual said.0 (is_end k.0 never);
       related = frames_leave_ready x by.world (by_held x.space (plain_of guest.regs) g).1 e by.stays.related room below_e;
     }
 
@@ -241,7 +251,7 @@ left_steps x script m g b fur regs seven is_left =
     let held : class_of_end (closed k.0).0 ≡ c = class_held x guest h c b.present regs sound attempt.of in
     let never : class_of_end (closed k.0).0 ≡ Retired → ⊥ = λ z. subst IsLeft (sym held ∙ z) is_left in
     let bl = board_left x (root_of x.slots.area x.space) (level_of d) level i m.cpu w guest h (mirrored_by x m g b regs attempt.plain) related
-    fur.mmu fur.master fur.vectors fur.stack fur.below fur.table fur.small (masked_by m.cpu d b.mask) (in_it found) never in
+    fur.mmu fur.status fur.master fur.vectors fur.stack fur.below fur.table fur.small (masked_by m.cpu d b.mask) (in_it found) never in
     let e = bl.e in
     let q = bl.world in
     let l = left e q in
@@ -259,6 +269,11 @@ left_steps x script m g b fur regs seven is_left =
     let top : at + length bytes ≡ m.cpu.regs.isp = bl.stack.ends ∙ bl.is.from.isp in
     let room : x.base + x.size ≤ length q.ram = (let h = b.related.under in let z : x.slots.area + area_bytes ≤ length m.world.ram = b.related.maps.inside in
     let e : length q.ram ≡ length m.world.ram = stays.outside.count in omega arith) in
+    let whole : x.base + 60 ≤ length q.ram = (let h = b.related.under in let z : x.slots.area + area_bytes ≤ length m.world.ram = b.related.maps.inside in
+    let e : length q.ram ≡ length m.world.ram = stays.outside.count in omega arith) in
+    let begun : BeginsWith (drop l.0.1.regs.isp l.1.ram) f = subst (λ (n : ℕ). BeginsWith (drop n l.1.ram) f) (sym entered.isp)
+    (subst (λ (r : List ℕ). BeginsWith r f) (sym (stands_at q.ram bytes at (omega arith)))
+    (begins bytes (drop (at + length bytes) q.ram) f bl.stack.bytes)) in
     let s : Finish × Machine = user_later m l in
     let is_s : user_step m ≡ s = user_step_is m ∙ ap (λ (r : Stepped × World). user_later m r) bl.native in
     subst (λ (v : Finish × Machine). Leaves x script m g v) (sym is_s) (record {
@@ -267,9 +282,10 @@ left_steps x script m g b fur regs seven is_left =
       class = bl.is.class ∙ held;
       running = entered_after e.cause.vector l.0.1 l.1.devices off refl;
       frame = f;
-      stands = subst (λ (n : ℕ). BeginsWith (drop n l.1.ram) f) (sym entered.isp)
-          (subst (λ (r : List ℕ). BeginsWith r f) (sym (stands_at q.ram bytes at (omega arith)))
-          (begins bytes (drop (at + length bytes) q.ram) f bl.stack.bytes));
+      stands = begun;
+      room = (let a = entered.isp in let b = top in let c = fur.below in let d = length-overwritten q.ram at bytes fits in let e = whole in omega arith);
+      fits = bl.fits;
+      read_back = λ n enough. read_as l.1.ram l.0.1.regs.isp f n bl.fits begun (let few = by_format f in omega arith);
       rest = λ wide. goes_on_in x level i guest h attempt.plain seven regs sound attempt.masked (in_it found) x.space b.present never
           ∙ sym (bl.is.rest (ap (λ (a : List ℕ). length a) (sym entered.a) ∙ wide) (handed_by l.0.1.regs f) given k.1)
           ∙ ap (λ (a : Option Access). run guest_bus (rest_by_frame e.cause.vector a level guest (handed_by l.0.1.regs f)) k.1) (sym access)

@@ -42,7 +42,7 @@ use Rattle.vm_meaning.proofs.Writebacks.{frames_tell}
 use Rattle.vm_step.proofs.Registers.{plain_again, is_set, registers_tidy, seven_set}
 
 is_itself : (cpu : Cpu) → is_supervisor cpu.regs.sr ≡ false → IsFrom cpu cpu
-is_itself cpu user = record { isp = refl; master = refl; vbr = refl; user = user }
+is_itself cpu user = record { isp = refl; master = refl; vbr = refl; user = user; upper = refl }
 
 over : (m n : Routine Stepped) (h : Guest) → m ≡ n → run guest_bus m h ≡ run guest_bus n h
 over m n h e = ap (λ (r : Routine Stepped). run guest_bus r h) e
@@ -79,10 +79,10 @@ class_by v r h k = rw h (rw k refl)
 left_by : (level : ℕ) (guest : Cpu) (q : Plain) (a : Access) (l : LeftOver) → left_in a ≡ l → rest_by (left_in a) level guest q ≡ rest_by l level guest q
 left_by level guest q a l e = ap (λ (o : LeftOver). rest_by o level guest q) e
 
-no_trace : (due : Bool) (a : Access) → due ≡ false → with_ct due a ≡ a
+pub no_trace : (due : Bool) (a : Access) → due ≡ false → with_ct due a ≡ a
 no_trace due a h = rw h refl
 
-never_due : (cpu : Cpu) (flow : Bool) → IsUntraced cpu → is_due cpu.regs.sr flow ≡ false
+pub never_due : (cpu : Cpu) (flow : Bool) → IsUntraced cpu → is_due cpu.regs.sr flow ≡ false
 never_due cpu flow h = rw h.all (rw h.flow refl)
 
 module _ (x : Site) (i : Instr) (level : ℕ) (guest cpu : Cpu) (p : Plain) (plain : IsUntraced cpu) (user : is_supervisor cpu.regs.sr ≡ false)

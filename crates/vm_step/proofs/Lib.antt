@@ -7,6 +7,7 @@ pub mod Rest
 pub mod Usual
 pub mod Room
 pub mod ExitIs
+pub mod FrameFits
 pub mod Exit
 pub mod Batch
 pub mod Quiet

@@ -15,7 +15,6 @@ use Rattle.mb_machine.specs.Machine.{Machine, Entries, begun, arrived}
 use Rattle.mb_model.specs.Keeping.{KeptLists, Apart, list_of}
 use Rattle.mb_instr.specs.declared.registers.Regs.{Regs}
 use Rattle.mb_meaning.specs.SystemEnds.{with_registers}
-use Rattle.mb_writes.specs.Writing.{apart}
 use Rattle.mb_meaning.specs.Return.{high, low}
 use Rattle.mb_instr.specs.Operands.{more}
 use Rattle.mb_tells.specs.Guarded.{quiet}

@@ -1,5 +1,5 @@
 -- The registers once those that user mode sees are set.
-use Rattle.std.proofs.Common.{◌≡◌, ◌∙◌, ℕ, ◌+◌, ◌-◌, ◌/◌, ◌%◌, ◌^◌, ◌==◌, Bool, true, false, cond, List, [], ◌∷◌, ◌++◌, take, length, arith, refl, ap, sym}
+use Rattle.std.proofs.Common.{◌<◌, ◌≡◌, ◌∙◌, ℕ, ◌+◌, ◌-◌, ◌/◌, ◌%◌, ◌^◌, ◌==◌, Bool, true, false, cond, List, [], ◌∷◌, ◌++◌, take, length, arith, refl, ap, sym}
 use Rattle.std.specs.Prelude.{slice_index}
 use Rattle.mb_port.specs.declared.types.Space.TheVariants.{User, Super}
 use Rattle.mb_instr.specs.declared.registers.Plain.{Plain}
@@ -84,6 +84,9 @@ isp_by : (s m : Bool) (r : Regs) (top : ℕ) → s ≡ false → (cond s (cond m
 isp_by false m r top h = refl
 isp_by true m r top h = absurd (let z : true ≡ false = h in let y : ⊥ = cc in y)
 
+same_upper : (sr ccr : ℕ) → with_ccr sr ccr / 2 ^ 5 ≡ sr / 2 ^ 5
+same_upper sr ccr = omega arith
+
 pub is_set : (p : Plain) (cpu : Cpu) → is_supervisor cpu.regs.sr ≡ false → IsFrom cpu (with_registers p cpu)
 unfolding with_plain
 is_set p cpu user = record {
@@ -91,7 +94,12 @@ is_set p cpu user = record {
   master = same_master cpu.regs.sr p.ccr;
   vbr = refl;
   user = same_user p cpu ∙ user;
+  upper = same_upper cpu.regs.sr p.ccr;
 }
+
+-- a word stays one where its condition codes change
+pub same_word : (sr before : ℕ) → sr / 2 ^ 5 ≡ before / 2 ^ 5 → before < 2 ^ 16 → sr < 2 ^ 16
+same_word sr before e h = omega arith
 
 -- ---- set twice
 

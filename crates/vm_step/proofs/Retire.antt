@@ -22,7 +22,7 @@ use Rattle.mb_devices.specs.Devices.{DeviceState, ticked, level_of, has_received
 use Rattle.mb_laws.specs.Until.{run_until}
 use Rattle.mb_attempts.specs.Attempts.{IsUntraced}
 use Rattle.mb_machine.specs.World.{World}
-use Rattle.mb_machine.specs.Machine.{Machine, Entries, begun, arrived, processed, one_later, stepping, takes_steps, state_after, going}
+use Rattle.mb_machine.specs.Machine.{Machine, Entries, begun, arrived, processed, one_later, stepping, takes_steps, state_after}
 use Rattle.vm_meaning.specs.Native.{user_step}
 use Rattle.vm_machine.specs.declared.class.Class.{Class}
 use Rattle.vm_machine.specs.declared.class.Class.TheVariants as class

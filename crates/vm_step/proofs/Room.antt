@@ -1,5 +1,5 @@
 -- A frame has room on the interrupt stack.
-use Rattle.std.proofs.Common.{◌≡◌, ◌∙◌, ℕ, ◌+◌, ◌-◌, ◌*◌, ◌%◌, ◌^◌, ◌<◌, ◌≤◌, Bool, false, cond, [], length, None, arith, refl, ap, sym, subst}
+use Rattle.std.proofs.Common.{◌≡◌, ◌∙◌, ℕ, ◌+◌, ◌*◌, ◌%◌, ◌^◌, ◌<◌, ◌≤◌, Bool, false, cond, length, None, arith, refl, ap, sym, subst}
 use Rattle.mb_instr.specs.Registers.{is_master}
 use Rattle.mb_frames.specs.declared.frame.Frame.{Frame}
 use Rattle.mb_frames.specs.declared.frame.Frame.TheVariants as frame
@@ -11,10 +11,9 @@ use Rattle.mb_meaning.specs.declared.entering.Cause.{Cause}
 use Rattle.mb_meaning.specs.Entry.{frames_of, frame_of, stacked}
 use Rattle.mb_machine.specs.World.{World}
 use Rattle.mb_machine.specs.Enters.{HasRoom}
-use Rattle.mb_instr.specs.Operands.{fits}
 use Rattle.mb_meaning.specs.Return.{low}
 
-by_format : (f : Frame) → length (frame_bytes f) ≤ 60
+pub by_format : (f : Frame) → length (frame_bytes f) ≤ 60
 by_format (frame.Short sr pc offset) = let h = length-frame_bytes (frame.Short sr pc offset) in omega arith
 by_format (frame.Throwaway sr pc offset) = let h = length-frame_bytes (frame.Throwaway sr pc offset) in omega arith
 by_format (frame.Address sr pc offset address) = let h = length-frame_bytes (frame.Address sr pc offset address) in omega arith

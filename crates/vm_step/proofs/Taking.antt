@@ -14,7 +14,6 @@ use Rattle.mb_devices.specs.Devices.{DeviceState, level_of}
 use Rattle.mb_meaning.specs.SystemEnds.{with_registers}
 use Rattle.mb_machine.specs.Machine.{begun, takes_steps}
 use Rattle.mb_port.specs.Routine.{run}
-use Rattle.mb_meaning.specs.Operands.{behind}
 use Rattle.mb_meaning.specs.Return.{low}
 use Rattle.vm_machine.specs.Seats.{end_of, on_board, Seat, own, shadow_on, guested_on, turned_on, monitor_bytes, IsSeated, OnlyWithin}
 use Rattle.vm_shadow.specs.Shadows.{Shadowed}
@@ -255,6 +254,9 @@ exits_take g ram c d steps state native before k v s bytes small running seven c
       end = h.end;
       frame = frame;
       stands = h.left.stands;
+      room = h.left.room;
+      fits = h.left.fits;
+      read_back = h.left.read_back;
       begun = begun;
       begins = refl;
       counts = b.counted;

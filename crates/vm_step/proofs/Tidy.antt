@@ -3,7 +3,7 @@ use Rattle.std.proofs.Common.{◌≡◌, ◌∙◌, ℕ, ◌+◌, ◌-◌, ◌%�
 use Rattle.std.proofs.Common.{Err, arith, refl, ap, sym, subst}
 use Rattle.std.specs.Prelude.{slice_index}
 use Rattle.std.proofs.lemmas.List.{length-append, length-set}
-use Rattle.mb_port.specs.Routine.{Routine, Return, Bus, run, choose, tried, other_fault, ◌>>=◌}
+use Rattle.mb_port.specs.Routine.{Return, Bus, run, choose, tried, other_fault, ◌>>=◌}
 use Rattle.mb_port.specs.declared.types.Space.{Space}
 use Rattle.mb_instr.specs.declared.size.Size.{Size}
 use Rattle.mb_instr.specs.Sizes.{bytes_of, sign_extended}
@@ -18,7 +18,6 @@ use Rattle.mb_instr.specs.Rows.{move_row}
 use Rattle.mb_instr.specs.Shapes.{operands_at}
 use Rattle.mb_ea.specs.declared.reading.ReadFault.{ReadFault}
 use Rattle.mb_ea.specs.Reading.{read_of}
-use Rattle.mb_writes.specs.declared.ends.Ended.TheVariants as ended
 use Rattle.mb_writes.specs.declared.ends.MovemFault.{MovemFault}
 use Rattle.mb_writes.specs.declared.transfers.Movem.{Movem}
 use Rattle.mb_writes.specs.declared.transfers.MovemMode.{MovemMode}

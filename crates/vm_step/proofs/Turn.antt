@@ -1,5 +1,5 @@
 -- A turn by its parts.
-use Rattle.std.proofs.Common.{◌≡◌, ◌∙◌, ℕ, ◌/◌, ◌%◌, ◌^◌, ◌≤◌, false, List, [], ◌∷◌, ◌++◌, length, arith, refl, ap, sym, subst}
+use Rattle.std.proofs.Common.{◌≡◌, ◌∙◌, ℕ, ◌/◌, ◌%◌, ◌^◌, ◌<◌, ◌≤◌, false, List, [], ◌∷◌, ◌++◌, length, arith, refl, ap, sym, subst}
 use Rattle.std.specs.Prelude.{slice_index}
 use Rattle.mb_port.specs.Routine.{Return, Ask, Then, run}
 use Rattle.mb_instr.specs.declared.registers.Plain.{Plain}
@@ -21,7 +21,7 @@ use Rattle.vm_step.specs.Registers.{IsTidy}
 use Rattle.vm_machine.specs.Exits.{class_of_vector, handed_by, frame_access, rest_by_frame}
 use Rattle.vm_step.specs.Exit.{left_guest}
 use Rattle.vm_step.specs.Turn.{BoardsAreReady, RunsKeepTruth, ExitsAdvance, done, stepping, running, still, CoursesAreTurns}
-use Rattle.vm_step.proofs.Registers.{seven, plain_again, same_user, same_mask, stays_plain, is_set}
+use Rattle.vm_step.proofs.Registers.{same_word, seven, plain_again, same_user, same_mask, stays_plain, is_set}
 use Rattle.vm_machine.proofs.TurnLaws.{halted_turn, going_turn, nothing_turned, turns_add}
 
 -- ---- ready again
@@ -54,6 +54,7 @@ boards_are_ready x c ram d steps state g n off present has s =
       },
       record {
         mmu = refl;
+        status = same_word _ c.regs.sr set.upper (subst (λ (k : ℕ). k < 2 ^ 16) (sym n.status) (omega arith));
         master = set.master ∙ ap is_master n.status;
         vectors = n.vectors;
         stack = subst (λ (k : ℕ). 60 ≤ k) (sym set.isp) n.stack;

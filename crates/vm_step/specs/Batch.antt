@@ -8,7 +8,7 @@ use Rattle.vm_mirror.specs.Related.{Site}
 use Rattle.vm_machine.specs.declared.class.Class.{Class}
 use Rattle.vm_machine.specs.declared.class.Class.TheVariants.{Privileged, Denied, Trapped, Retired}
 use Rattle.vm_meaning.specs.declared.RunEnd.TheVariants.{Counted, Exit}
-use Rattle.vm_machine.specs.Turns.{Guested, Turned, world_of, guest_begun, guest_stepped, class_of_step, turn_of}
+use Rattle.vm_machine.specs.Turns.{Guested, Turned, guest_stepped, class_of_step, turn_of}
 use Rattle.vm_meaning.specs.Marks.{trail}
 use Rattle.vm_meaning.specs.Native.{Ran, user_run}
 use Rattle.vm_step.specs.Retire.{Boarded, HasRegisters}

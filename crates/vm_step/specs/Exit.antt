@@ -1,9 +1,10 @@
 -- A step of a guest that the board leaves by an exception.
-use Rattle.std.specs.Prelude.{◌≡◌, ℕ, ◌+◌, ◌-◌, ◌^◌, ◌≤◌, true, false, List, length, take, drop}
+use Rattle.std.specs.Prelude.{◌≡◌, ℕ, ◌+◌, ◌-◌, ◌^◌, ◌<◌, ◌≤◌, true, false, Some, List, length, take, drop, slice_range}
 use Rattle.mb_port.specs.Routine.{run}
 use Rattle.mb_instr.specs.Registers.{is_master, plain_of}
 use Rattle.mb_frames.specs.declared.frame.Frame.{Frame}
-use Rattle.mb_frames.specs.Layout.{BeginsWith}
+use Rattle.mb_frames.specs.Layout.{IsFrame, BeginsWith}
+use Rattle.mb_frames.specs.Reading.{frame_in}
 use Rattle.mb_devices.specs.Devices.{level_of}
 use Rattle.mb_meaning.specs.declared.Finish.{Finish}
 use Rattle.mb_meaning.specs.declared.Finish.TheVariants as finish
@@ -22,9 +23,10 @@ use Rattle.vm_meaning.specs.Native.{user_step}
 use Rattle.vm_step.specs.Retire.{Boarded, HasRegisters}
 
 -- What the monitor sets besides: the translation for the guest's space, vectors at 0, and a stack below the guest that
--- has room for a frame.
+-- has room for a frame. SR is a word.
 pub record Furnished (x : Site) (m : Machine) : Type 0 where
   pub mmu : m.world.mmu ≡ native_mmu (root_of x.slots.area x.space)
+  pub status : m.cpu.regs.sr < 2 ^ 16
   pub master : is_master m.cpu.regs.sr ≡ false
   pub vectors : m.cpu.vbr ≡ 0
   pub stack : 60 ≤ m.cpu.regs.isp
@@ -46,6 +48,11 @@ pub record Leaves (x : Site) (script : Entries) (m : Machine) (g : Guested) (s :
   pub running : takes_steps s.1.state ≡ true
   pub frame : Frame
   pub stands : BeginsWith (drop s.1.cpu.regs.isp s.1.world.ram) frame
+  -- RAM has 60 bytes there, and whoever reads so many, or more, reads this frame: each of its fields fits
+  pub room : s.1.cpu.regs.isp + 60 ≤ length s.1.world.ram
+  pub fits : IsFrame frame
+  pub read_back : (n : ℕ) → 60 ≤ n → let isp = s.1.cpu.regs.isp in
+      frame_in (slice_range s.1.world.ram isp (isp + n)) ≡ Some frame
   -- a processor has seven address registers beside its stacks
   pub rest : length s.1.cpu.regs.a ≡ 7 → let b = guest_begun script g in let h =
       left_guest x s.1.world.ram (world_of b) in

@@ -1,5 +1,5 @@
 -- A turn of a guest that is seated on a board, by a run of the board.
-use Rattle.std.specs.Prelude.{◌≡◌, ℕ, ◌+◌, ◌^◌, ◌≤◌, false, List, length, drop}
+use Rattle.std.specs.Prelude.{◌≡◌, ℕ, ◌+◌, ◌^◌, ◌≤◌, false, Some, List, length, drop, slice_range}
 use Rattle.mb_instr.specs.declared.registers.Plain.{Plain}
 use Rattle.mb_instr.specs.Registers.{plain_of}
 use Rattle.mb_model.specs.declared.processor.Cpu.{Cpu}
@@ -8,11 +8,11 @@ use Rattle.mb_model.specs.declared.outcome.RunState.TheVariants.{Running}
 use Rattle.mb_model.specs.Status.{space_of}
 use Rattle.mb_walk.specs.Memory.{AreBytes}
 use Rattle.mb_devices.specs.Devices.{DeviceState, level_of}
-use Rattle.mb_meaning.specs.SystemEnds.{with_registers, within}
+use Rattle.mb_meaning.specs.SystemEnds.{with_registers}
 use Rattle.mb_port.specs.Routine.{run}
 use Rattle.mb_frames.specs.declared.frame.Frame.{Frame}
-use Rattle.mb_frames.specs.Layout.{BeginsWith}
-use Rattle.mb_machine.specs.Machine.{begun}
+use Rattle.mb_frames.specs.Layout.{IsFrame, BeginsWith}
+use Rattle.mb_frames.specs.Reading.{frame_in}
 use Rattle.vm_machine.specs.Bus.{guest_bus}
 use Rattle.vm_mirror.specs.Related.{Site}
 use Rattle.vm_machine.specs.Turns.{world_of, guest_begun, guest_later, counted}
@@ -72,6 +72,11 @@ pub record IsLeft (g : Seat) (ram : List ℕ) (native : NativeState) (after : Ra
   pub end : after.end ≡ Exit vector
   pub frame : Frame
   pub stands : BeginsWith (drop after.machine.cpu.regs.isp after.machine.world.ram) frame
+  -- RAM has 60 bytes there, and whoever reads so many, or more, reads this frame: each of its fields fits
+  pub room : after.machine.cpu.regs.isp + 60 ≤ length after.machine.world.ram
+  pub fits : IsFrame frame
+  pub read_back : (n : ℕ) → 60 ≤ n → let isp = after.machine.cpu.regs.isp in
+      frame_in (slice_range after.machine.world.ram isp (isp + n)) ≡ Some frame
   pub begun : DeviceState
   -- the guest's begin of this step
   pub begins : begun ≡ (guest_begun g.script (stepped_by g.script retired (guested_on g ram))).machine.world.devices

@@ -12,7 +12,6 @@ use Rattle.mb_devices.specs.Devices.{DeviceState, level_of}
 use Rattle.mb_meaning.specs.declared.Finish.TheVariants as finish
 use Rattle.mb_meaning.specs.SystemEnds.{with_registers}
 use Rattle.mb_machine.specs.Machine.{Machine, Entries, takes_steps}
-use Rattle.mb_meaning.specs.Entry.{awake}
 use Rattle.vm_shadow.specs.Mapped.{root_of, shadowed}
 use Rattle.vm_shadow.specs.Area.{Maps}
 use Rattle.vm_machine.specs.Guests.{Guest, Truthful}

@@ -1,0 +1,516 @@
+-- Rows over the held bus: what each kind of instruction says where it is not carried out.
+use Rattle.std.proofs.Common.{◌≡◌, ℕ, zero, suc, ◌+◌, ◌-◌, ◌%◌, ◌^◌, ◌<◌, ◌≤◌, ◌==◌, nat_lt, ◌||◌, Bool, true, false, cond, List, [], ◌∷◌, ◌++◌, length, drop}
+use Rattle.std.proofs.Common.{arith, refl, sym, subst, Option, Some, None}
+use Rattle.mb_port.specs.Routine.{Return, ◌>>◌, run, failing, read_line, write_line}
+use Rattle.mb_port.specs.declared.types.Space.{Space}
+use Rattle.mb_instr.specs.declared.instruction.Instr.{Instr}
+use Rattle.mb_instr.specs.declared.size.Size.{Size}
+use Rattle.mb_instr.specs.declared.size.Size.TheVariants.{Byte, Word, Long}
+use Rattle.mb_instr.specs.declared.operand.Ea.{Ea}
+use Rattle.mb_instr.specs.declared.operand.Ea.TheVariants.{Dn, Pre}
+use Rattle.mb_instr.specs.declared.kinds.BitKind.{BitKind}
+use Rattle.mb_instr.specs.declared.kinds.BitKind.TheVariants as bit
+use Rattle.mb_instr.specs.declared.kinds.Branch.{Branch}
+use Rattle.mb_instr.specs.declared.kinds.Branch.TheVariants as displacement
+use Rattle.mb_instr.specs.declared.kinds.Condition.{Condition}
+use Rattle.mb_instr.specs.declared.kinds.Condition.TheVariants as condition
+use Rattle.mb_instr.specs.declared.kinds.FieldKind.{FieldKind}
+use Rattle.mb_instr.specs.declared.kinds.FieldKind.TheVariants as field
+use Rattle.mb_instr.specs.declared.kinds.LineMove.{LineMove}
+use Rattle.mb_instr.specs.declared.kinds.LineMove.TheVariants as line_move
+use Rattle.mb_instr.specs.declared.registers.Plain.{Plain}
+use Rattle.mb_instr.specs.Operands.{address_number}
+use Rattle.mb_instr.specs.Sizes.{bytes_of, low_of, sign_extended}
+use Rattle.mb_instr.specs.Registers.{data_register, address_register, register_of, with_register, with_data_register, with_address_register}
+use Rattle.mb_alu.specs.declared.conditions.Flagged.{Flagged}
+use Rattle.mb_alu.specs.Conditions.{ccr_of, conditions_of}
+use Rattle.mb_ea.specs.declared.addresses.Target.TheVariants.{Reg}
+use Rattle.mb_ea.specs.Addresses.{sum}
+use Rattle.mb_ea.specs.Reading.{refused_in}
+use Rattle.mb_writes.specs.declared.ends.MovemFault.{MovemFault}
+use Rattle.mb_writes.specs.declared.ends.Ended.TheVariants as ended
+use Rattle.mb_writes.specs.declared.transfers.Movem.{Movem}
+use Rattle.mb_writes.specs.declared.transfers.MovemMode.{MovemMode}
+use Rattle.mb_writes.specs.declared.transfers.MovemMode.TheVariants as mode
+use Rattle.mb_writes.specs.declared.transfers.Transfer.{Transfer}
+use Rattle.mb_writes.specs.Transfers.{is_set, set_bits, transfers_of}
+use Rattle.mb_writes.specs.Moving.{Halfway, refused_at, stored_of, store_all, loaded_of, load_all, transfer_of}
+use Rattle.mb_writes.proofs.Bits.{length-transfers}
+use Rattle.mb_meaning.specs.Ends.{Unread, Stop, Rowed, carried, jumped, stopped, reading, ending}
+use Rattle.mb_meaning.specs.Operands.{lowered, behind, place_of}
+use Rattle.mb_meaning.specs.Moves.{move_flags, move_of, movea_of, lea_of, to_ccr_of, from_ccr_of, byte_of, scc_of, movem_by, movem_of}
+use Rattle.mb_meaning.specs.Stack.{pea_of, linked, link_of, unlk_of}
+use Rattle.mb_meaning.specs.Peripheral.{from_peripheral, to_peripheral, movep_of}
+use Rattle.mb_meaning.specs.Lines.{line_at, line_moved, past_line, past_lines, destination_in, move16_absolute_of, move16_of}
+use Rattle.mb_meaning.specs.Modifying.{modifying}
+use Rattle.mb_meaning.specs.Arithmetic.{Pair, pair_of, combining, comparing, either_way, chaining, quick_to, quick_of, taking}
+use Rattle.mb_meaning.specs.Unary.{clr_of}
+use Rattle.mb_meaning.specs.Bits.{bit_size, bit_changed, bit_row_of}
+use Rattle.mb_meaning.specs.Decimals.{paired, decimal_of, digits_of}
+use Rattle.mb_meaning.specs.BitFields.{offset_of, width_of, is_change, bytes_before, bytes_held, field_done, field_in_memory, field_row_of}
+use Rattle.mb_meaning.specs.Locked.{test_and_set, tas_in_memory, tas_of, pointer_by, cas_equal, cas_at, cas_of, cas2_equal, cas2_of}
+use Rattle.mb_meaning.specs.Conditions.{is_met}
+use Rattle.mb_meaning.specs.Flow.{target_of, is_call, call_of, branched, branch_of, counted_down, looped, dbcc_of, jmp_of, jsr_of}
+use Rattle.mb_meaning.specs.Returns.{rts_of, rtd_of, word_raised, rtr_of}
+use Rattle.mb_meaning.specs.Traps.{out_of_bounds, trap_of, trapcc_of, trapv_of}
+use Rattle.mb_meaning.specs.Bounds.{is_below, is_above, checked, chk_of, bounds_of, checked_carry, cmp2_of, chk2_of}
+use Rattle.mb_meaning.specs.Step.{movem_words}
+use Rattle.mb_tells.specs.Guarded.{IsLine}
+use Rattle.mb_tells.specs.Laws.{AreLongs}
+use Rattle.mb_tells.proofs.Ranges.{IsFormed}
+use Rattle.mb_tells.proofs.Longs.{sum_long, address_long, register_long, with_long, lowered_long, HaveAddresses, transfer_addresses}
+use Rattle.mb_tells.proofs.Operands.{place_long}
+use Rattle.vm_machine.specs.Guests.{Guest}
+use Rattle.vm_machine.specs.Held.{held_bus}
+use Rattle.vm_held.specs.Sound.{Sound}
+use Rattle.vm_leave.specs.Fits.{IsLong}
+use Rattle.vm_leave.proofs.Fits.{IsAnswer, any, Answers, goes_on, answers_then, answers_ok, in_other_words, answers_failing, answers_choose, answers_sure}
+use Rattle.vm_leave.proofs.Fits.{FaultFits, line_writing_fits, line_reading_fits}
+use Rattle.vm_leave.proofs.FitParts.{ReadFits, CutFits, IsFit, Reads, Row, row_done, row_ends, row_reading, row_writing, row_sure}
+use Rattle.vm_leave.proofs.FitParts.{read_fits, read_apart_fits, probe_fits, put_fits, put_apart_fits, resolve_fits, IsFetched, operand_fits}
+use Rattle.vm_leave.proofs.FitParts.{address_fits, storing_fits, pushing_fits}
+
+-- ---- PC stays
+
+pub with_register_pc : (p : Plain) (n value : ℕ) → (with_register p n value).pc ≡ p.pc
+with_register_pc p n value = by_kind (nat_lt n 8)
+  where
+    by_kind : (b : Bool) → (cond b (with_data_register p n value) (with_address_register p (n - 8) value)).pc ≡ p.pc
+    by_kind true = refl
+    by_kind false = refl
+
+loaded_pc : (m : MovemMode) (size : Size) (p : Plain) (r value : ℕ) → (loaded_of m size p r value).pc ≡ p.pc
+loaded_pc mode.Control size p r value = with_register_pc p r (sign_extended size value)
+loaded_pc (mode.Post n) size p r value = by_kind (r == 8 + n)
+  where
+    by_kind : (b : Bool) → (cond b p (with_register p r (sign_extended size value))).pc ≡ p.pc
+    by_kind true = refl
+    by_kind false = with_register_pc p r (sign_extended size value)
+loaded_pc (mode.Pre n) size p r value = with_register_pc p r (sign_extended size value)
+
+field_pc : (kind : FieldKind) (word old : ℕ) (p : Plain) → (field_done kind word old p).pc ≡ p.pc
+unfolding field_done
+field_pc field.Test word old p = refl
+field_pc field.ExtractUnsigned word old p = refl
+field_pc field.ExtractSigned word old p = refl
+field_pc field.FindFirst word old p = refl
+field_pc field.Change word old p = refl
+field_pc field.Clear word old p = refl
+field_pc field.Set word old p = refl
+field_pc field.Insert word old p = refl
+
+lines_pc : (m n : ℕ) (p : Plain) → (past_lines m n p).pc ≡ p.pc
+lines_pc m n p = by_kind (m == n)
+  where
+    by_kind : (b : Bool) → (cond b (past_line m p) (past_line n (past_line m p))).pc ≡ p.pc
+    by_kind true = refl
+    by_kind false = refl
+
+-- ---- transfers
+
+bits_few : (mask k n : ℕ) → length (set_bits mask k n) ≤ n
+unfolding set_bits
+bits_few mask k zero = omega arith
+bits_few mask k (suc n) = by_bit (is_set mask k) (bits_few mask (k + 1) n)
+  where
+    by_bit : (b : Bool) → length (set_bits mask (k + 1) n) ≤ n → length ((cond b (k ∷ []) []) ++ set_bits mask (k + 1) n) ≤ suc n
+    by_bit true h = omega arith
+    by_bit false h = omega arith
+
+transfers_few : (m : Movem) (ea : ℕ) → length (transfers_of m ea) ≤ 16
+transfers_few m ea = let h = bits_few m.mask 0 16 in let e = length-transfers m ea in omega arith
+
+abbrev MovemFits : MovemFault → Type 0
+MovemFits f = IsLong f.fault.at × IsLong f.first × (f.done < 16)
+
+abbrev HalfFits : Halfway → Type 0
+HalfFits h = MovemFits h.fault × IsLong h.plain.pc
+
+module _ (space : Space) where
+  stores_fit : (m : Movem) (p : Plain) (first done : ℕ) (ts : List Transfer) → IsLong first → done + length ts ≤ 16 → HaveAddresses ts
+      → Answers any MovemFits (store_all m space p first done ts)
+  stores_fit m p first done [] h few have = answers_ok tt tt
+  stores_fit m p first done (t ∷ ts) h few have =
+      answers_then (answers_failing (λ refused. refused_at first done refused.fault)
+      (put_fits space t.at (bytes_of m.size) (stored_of m.mode m.size p t.register) have.0) (λ e k. (k.0, h, omega arith)))
+      (λ stored u. stores_fit m p first (done + 1) ts h (omega arith) have.1)
+
+  loads_fit : (m : Movem) (first done : ℕ) (ts : List Transfer) (p : Plain) → IsLong first → done + length ts ≤ 16 → HaveAddresses ts → IsLong p.pc
+      → Answers (λ (q : Plain). IsLong q.pc) HalfFits (load_all m space first done ts p)
+  loads_fit m first done [] p h few have pc = answers_ok p pc
+  loads_fit m first done (t ∷ ts) p h few have pc =
+      answers_then (answers_failing (λ refused. record { fault = refused_at first done refused.fault; plain = p })
+      (read_fits space t.at (bytes_of m.size) have.0) (λ e k. ((k.0, h, omega arith), pc)))
+      (λ value u. loads_fit m first (done + 1) ts (loaded_of m.mode m.size p t.register value) h (omega arith) have.1
+      (subst IsLong (sym (loaded_pc m.mode m.size p t.register value)) pc))
+
+  transfer_fits : (m : Movem) (ea : ℕ) (p : Plain) → IsLong ea → IsLong p.pc → Answers any HalfFits (transfer_of m ea 0 space p)
+  unfolding transfer_of
+  transfer_fits m ea p h pc =
+      let ts = transfers_of m ea in
+      let few : 0 + length (drop 0 ts) ≤ 16 = (let h = transfers_few m ea in omega arith) in
+      let have = transfer_addresses m ea 0 h in
+      answers_then (answers_choose m.is_load (loads_fit m ea 0 (drop 0 ts) p h few have pc)
+      (answers_then (answers_failing (λ fault. record { fault = fault; plain = p }) (stores_fit m p ea 0 (drop 0 ts) h few have) (λ e k. (k, pc)))
+      (λ stored u. answers_ok p pc)))
+      (λ moved u. answers_ok _ tt)
+
+-- ---- rows
+
+module _ (i : Instr) (space : Space) where
+  -- either end
+  ends_if : (b : Bool) (x y : Rowed) → IsAnswer any (CutFits i) x → IsAnswer any (CutFits i) y → IsAnswer any (CutFits i) (cond b x y)
+  ends_if true x y h k = h
+  ends_if false x y h k = k
+
+  -- what moves
+
+  pub move_fits : (size : Size) (destination source : Ea) (word_at : ℕ) (p : Plain) → IsFormed destination → IsFormed source → IsFit p
+      → Row i (move_of size destination source word_at space p)
+  unfolding move_of
+  move_fits size destination source word_at p goes comes fit =
+      row_reading i (operand_fits space size source word_at p comes fit) (λ from read.
+      row_reading i (resolve_fits space destination size (behind size source word_at) from.plain goes read.1) (λ to found.
+      storing_fits space i to.target size from.value (move_flags size from.value to.plain) found.0 found.1.1))
+
+  pub movea_fits : (size : Size) (n : ℕ) (source : Ea) (word_at : ℕ) (p : Plain) → IsFormed source → IsFit p → Row i (movea_of size n source word_at space p)
+  unfolding movea_of
+  movea_fits size n source word_at p is fit = row_reading i (operand_fits space size source word_at p is fit) (λ from read. row_done i _)
+
+  pub lea_fits : (n : ℕ) (ea : Ea) (word_at : ℕ) (p : Plain) → IsFormed ea → IsFit p → Row i (lea_of n ea word_at space p)
+  unfolding lea_of
+  lea_fits n ea word_at p is fit = row_reading i (address_fits space Long ea word_at p is fit) (λ place found. row_done i _)
+
+  pub to_ccr_fits : (ea : Ea) (word_at : ℕ) (p : Plain) → IsFormed ea → IsFit p → Row i (to_ccr_of ea word_at space p)
+  unfolding to_ccr_of
+  to_ccr_fits ea word_at p is fit = row_reading i (operand_fits space Word ea word_at p is fit) (λ operand read. row_done i _)
+
+  pub from_ccr_fits : (ea : Ea) (word_at : ℕ) (p : Plain) → IsFormed ea → IsFit p → Row i (from_ccr_of ea word_at space p)
+  unfolding from_ccr_of
+  from_ccr_fits ea word_at p is fit =
+      row_reading i (resolve_fits space ea Word word_at p is fit) (λ to found. storing_fits space i to.target Word (p.ccr % 2 ^ 5) to.plain found.0 found.1.1)
+
+  pub scc_fits : (c : Condition) (ea : Ea) (word_at : ℕ) (p : Plain) → IsFormed ea → IsFit p → Row i (scc_of c ea word_at space p)
+  unfolding scc_of
+  scc_fits c ea word_at p is fit =
+      row_reading i (resolve_fits space ea Byte word_at p is fit) (λ to found.
+      storing_fits space i to.target Byte (byte_of (is_met c p.ccr)) to.plain found.0 found.1.1)
+
+  pub movem_fits : (is_load : Bool) (size : Size) (ea : Ea) (mask word_at : ℕ) (p : Plain) → IsLong (movem_words i) → IsFormed ea → IsFit p
+      → Row i (movem_of is_load size ea mask word_at space p)
+  unfolding movem_of
+  movem_fits is_load size ea mask word_at p words is fit =
+      row_reading i (address_fits space size ea word_at p is fit) (λ place found.
+      answers_then (answers_failing (λ halfway. Stop (record { ended = ended.Movem halfway.fault; plain = halfway.plain }))
+      (transfer_fits space (movem_by is_load size ea mask) place p found fit.1) (λ e k. ((k.0.0, k.0.1, k.0.2, words), k.1)))
+      (λ moved u. row_done i _))
+
+  pub pea_fits : (ea : Ea) (word_at : ℕ) (p : Plain) → IsFormed ea → IsFit p → Row i (pea_of ea word_at space p)
+  unfolding pea_of
+  pea_fits ea word_at p is fit =
+      row_reading i (address_fits space Long ea word_at p is fit) (λ place found.
+      let after = lowered p in
+      pushing_fits space i place (address_register after 7) (record { flow = false; plain = after }) (lowered_long p fit.0) fit.1)
+
+  pub link_fits : (n displacement : ℕ) (p : Plain) → IsFit p → Row i (link_of n displacement space p)
+  unfolding link_of
+  link_fits n displacement p fit =
+      let low = lowered p in
+      pushing_fits space i (address_register low n) (address_register low 7) (record { flow = false; plain = linked n displacement low })
+      (lowered_long p fit.0) fit.1
+
+  pub unlk_fits : (n : ℕ) (p : Plain) → IsFit p → Row i (unlk_of n space p)
+  unfolding unlk_of
+  unlk_fits n p fit = row_reading i (read_fits space (address_register p n) 4 (address_long p n fit.0)) (λ frame u. row_done i _)
+
+  pub movep_fits : (n : ℕ) (is_store : Bool) (size : Size) (address displacement : ℕ) (p : Plain) → IsFit p
+      → Row i (movep_of n is_store size address displacement space p)
+  unfolding movep_of to_peripheral from_peripheral
+  movep_fits n is_store size address displacement p fit =
+      let place = sum (address_register p address) (sign_extended Word displacement) in
+      let lt = sum_long (address_register p address) (sign_extended Word displacement) in
+      answers_choose is_store (row_writing i p fit.1 (put_apart_fits space place size (data_register p n) lt) (λ done. row_done i _))
+      (row_reading i (read_apart_fits space place size lt) (λ value u. storing_fits space i (Reg n) size value p tt fit.1))
+
+  -- what reads an operand
+
+  pub taking_fits : (effect : ℕ → Plain → Rowed) (size : Size) (ea : Ea) (word_at : ℕ) (p : Plain) → IsFormed ea → IsFit p
+      → ((value : ℕ) (q : Plain) → IsFit q → IsAnswer any (CutFits i) (effect value q)) → Row i (taking effect size ea word_at space p)
+  unfolding taking
+  taking_fits effect size ea word_at p is fit ends =
+      row_reading i (operand_fits space size ea word_at p is fit) (λ operand read.
+      row_ends i (effect operand.value operand.plain) (ends operand.value operand.plain read.1))
+
+  pub modifying_fits : (change : ℕ → ℕ → Flagged) (size : Size) (ea : Ea) (word_at : ℕ) (p : Plain) → IsFormed ea → IsFit p
+      → Row i (modifying change size ea word_at space p)
+  unfolding modifying
+  modifying_fits change size ea word_at p is fit =
+      row_reading i (operand_fits space size ea word_at p is fit) (λ operand read.
+      let result = change operand.value operand.plain.ccr in
+      storing_fits space i operand.target size result.value (record operand.plain { ccr = result.ccr }) read.0 read.1.1)
+
+  pair_fits : (size : Size) (source destination : Ea) (word_at : ℕ) (p : Plain) → IsFormed source → IsFormed destination → IsFit p
+      → Reads (λ (pair : Pair). IsFetched space pair.destination) (pair_of size source destination word_at space p)
+  unfolding pair_of
+  pair_fits size source destination word_at p comes goes fit =
+      answers_then (operand_fits space size source word_at p comes fit) (λ from read.
+      answers_then (operand_fits space size destination (behind size source word_at) from.plain goes read.1) (λ to found. answers_ok _ found))
+
+  pub combining_fits : (operation : ℕ → ℕ → ℕ → Flagged) (size : Size) (source destination : Ea) (word_at : ℕ) (p : Plain)
+      → IsFormed source → IsFormed destination → IsFit p → Row i (combining operation size source destination word_at space p)
+  unfolding combining
+  combining_fits operation size source destination word_at p comes goes fit =
+      row_reading i (pair_fits size source destination word_at p comes goes fit) (λ pair found.
+      let to = pair.destination in
+      let result = operation pair.source to.value to.plain.ccr in
+      storing_fits space i to.target size result.value (record to.plain { ccr = result.ccr }) found.0 found.1.1)
+
+  pub comparing_fits : (size : Size) (source destination : Ea) (word_at : ℕ) (p : Plain) → IsFormed source → IsFormed destination → IsFit p
+      → Row i (comparing size source destination word_at space p)
+  unfolding comparing
+  comparing_fits size source destination word_at p comes goes fit =
+      row_reading i (pair_fits size source destination word_at p comes goes fit) (λ pair found. row_done i _)
+
+  pub either_way_fits : (operation : ℕ → ℕ → ℕ → Flagged) (register : ℕ) (to_memory : Bool) (size : Size) (ea : Ea) (word_at : ℕ) (p : Plain)
+      → IsFormed ea → IsFit p → Row i (either_way operation register to_memory size ea word_at space p)
+  unfolding either_way
+  either_way_fits operation register to_memory size ea word_at p is fit =
+      answers_choose to_memory (combining_fits operation size (Dn register) ea word_at p tt is fit)
+      (combining_fits operation size ea (Dn register) word_at p is tt fit)
+
+  pub chaining_fits : (operation : ℕ → ℕ → ℕ → Flagged) (size : Size) (in_memory : Bool) (source destination word_at : ℕ) (p : Plain)
+      → IsFit p → Row i (chaining operation size in_memory source destination word_at space p)
+  unfolding chaining
+  chaining_fits operation size in_memory source destination word_at p fit =
+      answers_choose in_memory (combining_fits operation size (Pre source) (Pre destination) word_at p tt tt fit)
+      (combining_fits operation size (Dn source) (Dn destination) word_at p tt tt fit)
+
+  quick_to_fits : (o : Option ℕ) (change : ℕ → ℕ → Flagged) (moved : ℕ → ℕ) (size : Size) (ea : Ea) (word_at : ℕ) (p : Plain)
+      → IsFormed ea → IsFit p → Row i (quick_to o change moved size ea word_at space p)
+  quick_to_fits (Some n) change moved size ea word_at p is fit = row_done i _
+  quick_to_fits None change moved size ea word_at p is fit = modifying_fits change size ea word_at p is fit
+
+  pub quick_fits : (change : ℕ → ℕ → Flagged) (moved : ℕ → ℕ) (size : Size) (ea : Ea) (word_at : ℕ) (p : Plain)
+      → IsFormed ea → IsFit p → Row i (quick_of change moved size ea word_at space p)
+  unfolding quick_of
+  quick_fits change moved size ea word_at p is fit = quick_to_fits (address_number ea) change moved size ea word_at p is fit
+
+  pub clr_fits : (size : Size) (ea : Ea) (word_at : ℕ) (p : Plain) → IsFormed ea → IsFit p → Row i (clr_of size ea word_at space p)
+  unfolding clr_of
+  clr_fits size ea word_at p is fit =
+      row_reading i (resolve_fits space ea size word_at p is fit) (λ to found.
+      storing_fits space i to.target size 0 (move_flags size 0 to.plain) found.0 found.1.1)
+
+  pub bit_row_fits : (kind : BitKind) (number : ℕ) (ea : Ea) (word_at : ℕ) (p : Plain) → IsFormed ea → IsFit p
+      → Row i (bit_row_of kind number ea word_at space p)
+  unfolding bit_row_of
+  bit_row_fits bit.Test number ea word_at p is fit = row_reading i (operand_fits space (bit_size ea) ea word_at p is fit) (λ operand read. row_done i _)
+  bit_row_fits bit.Change number ea word_at p is fit = modifying_fits (bit_changed bit.Change number (bit_size ea)) (bit_size ea) ea word_at p is fit
+  bit_row_fits bit.Clear number ea word_at p is fit = modifying_fits (bit_changed bit.Clear number (bit_size ea)) (bit_size ea) ea word_at p is fit
+  bit_row_fits bit.Set number ea word_at p is fit = modifying_fits (bit_changed bit.Set number (bit_size ea)) (bit_size ea) ea word_at p is fit
+
+  paired_formed : (in_memory : Bool) (n : ℕ) → IsFormed (paired in_memory n)
+  paired_formed true n = tt
+  paired_formed false n = tt
+
+  pub decimal_fits : (operation : ℕ → ℕ → ℕ → Flagged) (m : ℕ) (in_memory : Bool) (n word_at : ℕ) (p : Plain) → IsFit p
+      → Row i (decimal_of operation m in_memory n word_at space p)
+  unfolding decimal_of
+  decimal_fits operation m in_memory n word_at p fit =
+      row_reading i (operand_fits space Byte (paired in_memory n) word_at p (paired_formed in_memory n) fit) (λ source read.
+      row_reading i (operand_fits space Byte (paired in_memory m) word_at source.plain (paired_formed in_memory m) read.1) (λ destination found.
+      let result = operation source.value destination.value destination.plain.ccr in
+      storing_fits space i destination.target Byte result.value (record destination.plain { ccr = result.ccr }) found.0 found.1.1))
+
+  pub digits_fits : (operation : ℕ → ℕ → ℕ) (from to : Size) (m : ℕ) (in_memory : Bool) (n adjust word_at : ℕ) (p : Plain) → IsFit p
+      → Row i (digits_of operation from to m in_memory n adjust word_at space p)
+  unfolding digits_of
+  digits_fits operation from to m in_memory n adjust word_at p fit =
+      row_reading i (operand_fits space from (paired in_memory n) word_at p (paired_formed in_memory n) fit) (λ source read.
+      row_reading i (resolve_fits space (paired in_memory m) to word_at source.plain (paired_formed in_memory m) read.1) (λ destination found.
+      storing_fits space i destination.target to (operation source.value adjust) destination.plain found.0 found.1.1))
+
+  field_in_memory_fits : (kind : FieldKind) (word address : ℕ) (p : Plain) → IsFit p → Row i (field_in_memory kind word address space p)
+  unfolding field_in_memory
+  field_in_memory_fits kind word address p fit =
+      let first = sum address (bytes_before (offset_of word p)) in
+      let lt = sum_long address (bytes_before (offset_of word p)) in
+      row_reading i (read_fits space first (bytes_held (offset_of word p) (width_of word p)) lt) (λ bytes read.
+      answers_choose (is_change kind)
+      (row_writing i _ (subst IsLong (sym (field_pc kind word _ p)) fit.1) (put_fits space first _ _ lt) (λ written. row_done i _)) (row_done i _))
+
+  pub field_row_fits : (kind : FieldKind) (ea : Ea) (word word_at : ℕ) (p : Plain) → IsFormed ea → IsFit p → Row i (field_row_of kind ea word word_at space p)
+  unfolding field_row_of
+  field_row_fits kind (Dn n) word word_at p is fit = row_done i _
+  field_row_fits kind ea word word_at p is fit =
+      row_reading i (address_fits space Long ea word_at p is fit) (λ address found. field_in_memory_fits kind word address p fit)
+
+  -- what checks its operands for writing
+
+  tas_in_memory_fits : (address : ℕ) (p : Plain) → IsLong address → Row i (tas_in_memory address space p)
+  unfolding tas_in_memory
+  tas_in_memory_fits address p h =
+      row_reading i (probe_fits space address 1 h) (λ places u. row_sure i (λ value. row_sure i (λ done. row_done i _)))
+
+  pub tas_fits : (ea : Ea) (word_at : ℕ) (p : Plain) → IsFormed ea → IsFit p → Row i (tas_of ea word_at space p)
+  unfolding tas_of
+  tas_fits (Dn n) word_at p is fit = modifying_fits test_and_set Byte (Dn n) word_at p tt fit
+  tas_fits ea word_at p is fit =
+      row_reading i (resolve_fits space ea Byte word_at p is fit) (λ to found. tas_in_memory_fits (place_of to.target) to.plain (place_long to.target found.0))
+
+  cas_at_fits : (size : Size) (word address : ℕ) (p : Plain) → IsLong address → Row i (cas_at size word address space p)
+  unfolding cas_at
+  cas_at_fits size word address p h =
+      row_reading i (probe_fits space address (bytes_of size) h) (λ places u. row_sure i (λ value.
+      answers_choose (cas_equal size word value p) (row_sure i (λ done. row_done i _)) (row_done i _)))
+
+  pub cas_fits : (size : Size) (ea : Ea) (word word_at : ℕ) (p : Plain) → IsFormed ea → IsFit p → Row i (cas_of size ea word word_at space p)
+  unfolding cas_of
+  cas_fits size ea word word_at p is fit =
+      row_reading i (resolve_fits space ea size word_at p is fit) (λ to found.
+      cas_at_fits size word (place_of to.target) to.plain (place_long to.target found.0))
+
+  pub cas2_fits : (size : Size) (first second : ℕ) (p : Plain) → AreLongs p.d → AreLongs p.a → Row i (cas2_of size first second space p)
+  unfolding cas2_of
+  cas2_fits size first second p words longs =
+      let len = bytes_of size in
+      row_reading i (probe_fits space (register_of p (pointer_by first)) len (register_long p (pointer_by first) words longs)) (λ places u.
+      row_reading i (probe_fits space (register_of p (pointer_by second)) len (register_long p (pointer_by second) words longs)) (λ others v.
+      row_sure i (λ one. row_sure i (λ two.
+      answers_choose (cas2_equal size first second one two p)
+      (answers_then (answers_then (answers_sure _) (λ done w. answers_sure _)) (λ done w. row_done i _)) (row_done i _)))))
+
+  -- what goes elsewhere
+
+  call_fits : (target : ℕ) (p : Plain) → IsLong target → IsFit p → Row i (call_of target space p)
+  unfolding call_of
+  call_fits target p h fit =
+      let after = record (lowered p) { pc = target } in
+      pushing_fits space i p.pc (address_register after 7) (record { flow = true; plain = after }) (lowered_long p fit.0) h
+
+  pub branch_fits : (c : Condition) (d : Branch) (word_at : ℕ) (p : Plain) → IsFit p → Row i (branch_of c d word_at space p)
+  unfolding branch_of branched
+  branch_fits c d word_at p fit =
+      answers_choose (is_call c) (call_fits (target_of word_at d) p (sum_long word_at _) fit)
+      (row_ends i (branched c (target_of word_at d) p) (ends_if (is_met c p.ccr) (jumped (record p { pc = target_of word_at d })) (carried p) tt tt))
+
+  pub dbcc_fits : (c : Condition) (n d word_at : ℕ) (p : Plain) → Row i (Return (dbcc_of c n d word_at p))
+  unfolding dbcc_of looped
+  dbcc_fits c n d word_at p =
+      let target = target_of word_at (displacement.Word d) in
+      let after = counted_down n p in
+      row_ends i (dbcc_of c n d word_at p) (ends_if (is_met c p.ccr) (carried p) (looped n target p) tt
+      (ends_if (low_of Word (data_register after n) == 2 ^ 16 - 1) (carried after) (jumped (record after { pc = target })) tt tt))
+
+  pub jmp_fits : (ea : Ea) (word_at : ℕ) (p : Plain) → IsFormed ea → IsFit p → Row i (jmp_of ea word_at space p)
+  unfolding jmp_of
+  jmp_fits ea word_at p is fit = row_reading i (address_fits space Long ea word_at p is fit) (λ target found. row_done i _)
+
+  pub jsr_fits : (ea : Ea) (word_at : ℕ) (p : Plain) → IsFormed ea → IsFit p → Row i (jsr_of ea word_at space p)
+  unfolding jsr_of
+  jsr_fits ea word_at p is fit = row_reading i (address_fits space Long ea word_at p is fit) (λ target found. call_fits target p found fit)
+
+  pub rts_fits : (p : Plain) → IsFit p → Row i (rts_of space p)
+  unfolding rts_of
+  rts_fits p fit = row_reading i (read_fits space (address_register p 7) (bytes_of Long) (address_long p 7 fit.0)) (λ target u. row_done i _)
+
+  pub rtd_fits : (d : ℕ) (p : Plain) → IsFit p → Row i (rtd_of d space p)
+  unfolding rtd_of
+  rtd_fits d p fit = row_reading i (read_fits space (address_register p 7) (bytes_of Long) (address_long p 7 fit.0)) (λ target u. row_done i _)
+
+  pub rtr_fits : (p : Plain) → IsFit p → Row i (rtr_of space p)
+  unfolding rtr_of
+  rtr_fits p fit =
+      let up = word_raised p in
+      row_reading i (read_fits space (address_register p 7) (bytes_of Word) (address_long p 7 fit.0)) (λ codes u.
+      row_reading i (read_fits space (address_register up 7) (bytes_of Long) (address_long up 7 (with_long p 7 _ fit.0 (sum_long (address_register p 7) 2))))
+      (λ target v. row_done i _))
+
+  pub trap_fits : (number : ℕ) (p : Plain) → IsFit p → Row i (Return (trap_of number p))
+  unfolding trap_of
+  trap_fits number p fit = row_ends i (trap_of number p) (tt, fit.1)
+
+  pub trapcc_fits : (c : Condition) (p : Plain) → IsFit p → Row i (Return (trapcc_of c p))
+  unfolding trapcc_of
+  trapcc_fits c p fit = row_ends i (trapcc_of c p) (ends_if (is_met c p.ccr) _ _ (tt, fit.1) tt)
+
+  pub trapv_fits : (p : Plain) → IsFit p → Row i (Return (trapv_of p))
+  unfolding trapv_of
+  trapv_fits p fit = trapcc_fits condition.OverflowSet p fit
+
+  checked_fits : (size : Size) (bound value : ℕ) (p : Plain) → IsFit p → IsAnswer any (CutFits i) (checked size bound value p)
+  unfolding checked
+  checked_fits size bound value p fit =
+      let below = is_below size value in
+      let codes = ccr_of (record (conditions_of p.ccr) { n = below }) in
+      ends_if (below || is_above size bound value) (stopped out_of_bounds (record p { ccr = codes })) (carried p) (tt, fit.1) tt
+
+  checked_carry_fits : (p : Plain) → IsFit p → IsAnswer any (CutFits i) (checked_carry p)
+  unfolding checked_carry
+  checked_carry_fits p fit = ends_if (conditions_of p.ccr).c (stopped out_of_bounds p) (carried p) (tt, fit.1) tt
+
+  pub chk_fits : (n : ℕ) (size : Size) (ea : Ea) (word_at : ℕ) (p : Plain) → IsFormed ea → IsFit p → Row i (chk_of n size ea word_at space p)
+  unfolding chk_of
+  chk_fits n size ea word_at p is fit =
+      row_reading i (operand_fits space size ea word_at p is fit) (λ bound read.
+      let q = bound.plain in
+      row_ends i (checked size bound.value (data_register q n) q) (checked_fits size bound.value (data_register q n) q read.1))
+
+  bounds_fits : (size : Size) (ea : Ea) (w word_at : ℕ) (p : Plain) → IsFormed ea → IsFit p → Reads any (bounds_of size ea w word_at space p)
+  unfolding bounds_of
+  bounds_fits size ea w word_at p is fit =
+      answers_then (address_fits space size ea word_at p is fit) (λ place found.
+      answers_then (read_fits space place (bytes_of size) found) (λ lower u.
+      answers_then (read_fits space (sum place (bytes_of size)) (bytes_of size) (sum_long place (bytes_of size))) (λ upper v. answers_ok _ tt)))
+
+  pub cmp2_fits : (size : Size) (ea : Ea) (w word_at : ℕ) (p : Plain) → IsFormed ea → IsFit p → Row i (cmp2_of size ea w word_at space p)
+  unfolding cmp2_of
+  cmp2_fits size ea w word_at p is fit = row_reading i (bounds_fits size ea w word_at p is fit) (λ ccr u. row_done i _)
+
+  pub chk2_fits : (size : Size) (ea : Ea) (w word_at : ℕ) (p : Plain) → IsFormed ea → IsFit p → Row i (chk2_of size ea w word_at space p)
+  unfolding chk2_of
+  chk2_fits size ea w word_at p is fit =
+      row_reading i (bounds_fits size ea w word_at p is fit) (λ ccr u.
+      row_ends i (checked_carry (record p { ccr = ccr })) (checked_carry_fits (record p { ccr = ccr }) fit))
+
+  -- lines, of a sound guest
+
+  line_is : (at : ℕ) → IsLong at → IsLine (line_at at)
+  line_is at h = (omega arith, omega arith)
+
+  line_fits : (size from to : ℕ) (after : Plain) (g : Guest) → Sound size g → IsLong from → IsLong to → IsLong after.pc
+      → IsAnswer any (CutFits i) (run held_bus (line_moved from to space after) g).0
+  unfolding line_moved
+  line_fits size from to after g s comes goes pc =
+      let first = line_is from comes in
+      let m = reading (failing (refused_in (line_at from)) (read_line space (line_at from))) in
+      let got : IsAnswer AreLongs FaultFits (run held_bus (read_line space (line_at from)) g).0 = line_reading_fits size space (line_at from) g s first in
+      let told = in_other_words AreLongs FaultFits ReadFits (refused_in (line_at from)) (run held_bus (read_line space (line_at from)) g).0 got
+      (λ e k. (k, first.1)) in
+      let cut = in_other_words AreLongs ReadFits (CutFits i) (λ refused. Unread refused)
+      (run held_bus (failing (refused_in (line_at from)) (read_line space (line_at from))) g).0 told (λ e k. k) in
+      goes_on {P = AreLongs} {Q = any} {F = CutFits i}
+      (λ line. ending (λ fault. ended.LineFault fault line) after (write_line space (line_at to) line) >> Return (carried after))
+      (run held_bus m g).0 (run held_bus m g).1 cut (λ line longs.
+      answers_then (answers_failing (λ fault. Stop (record { ended = ended.LineFault fault line; plain = after }))
+      (line_writing_fits space (line_at to) line (line_is to goes).1) (λ e k. ((k, longs), pc))) (λ done u. row_done i _))
+
+  pub move16_absolute_fits : (size : ℕ) (kind : LineMove) (n place : ℕ) (p : Plain) (g : Guest) → Sound size g → IsLong place → IsFit p
+      → IsAnswer any (CutFits i) (run held_bus (move16_absolute_of kind n place space p) g).0
+  unfolding move16_absolute_of
+  move16_absolute_fits size line_move.PostToAbsolute n place p g s lt fit =
+      line_fits size (address_register p n) place (past_line n p) g s (address_long p n fit.0) lt fit.1
+  move16_absolute_fits size line_move.AbsoluteToPost n place p g s lt fit =
+      line_fits size place (address_register p n) (past_line n p) g s lt (address_long p n fit.0) fit.1
+  move16_absolute_fits size line_move.IndirectToAbsolute n place p g s lt fit =
+      line_fits size (address_register p n) place p g s (address_long p n fit.0) lt fit.1
+  move16_absolute_fits size line_move.AbsoluteToIndirect n place p g s lt fit =
+      line_fits size place (address_register p n) p g s lt (address_long p n fit.0) fit.1
+
+  pub move16_fits : (size m word : ℕ) (p : Plain) (g : Guest) → Sound size g → IsFit p
+      → IsAnswer any (CutFits i) (run held_bus (move16_of m word space p) g).0
+  unfolding move16_of
+  move16_fits size m word p g s fit =
+      let n = destination_in word in
+      line_fits size (address_register p m) (address_register p n) (past_lines m n p) g s (address_long p m fit.0) (address_long p n fit.0)
+      (subst IsLong (sym (lines_pc m n p)) fit.1)
