@@ -6,6 +6,8 @@ mod devices;
 #[cfg(test)]
 mod guest_kept;
 #[cfg(test)]
+mod guest_port;
+#[cfg(test)]
 mod kept;
 #[cfg(test)]
 mod machines;

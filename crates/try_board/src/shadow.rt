@@ -145,7 +145,10 @@ fn slots_are_taken_and_freed(rt: HostRuntime) {
     );
     guest.drop_page(User, 6);
     guest.drop_page(User, 6);
-    assert_eq!(rt; (guest.ram.long(AREA), guest.ram.long(AREA + 0x400)), (0, 0));
+    assert_eq!(rt;
+        (guest.ram.long(AREA), guest.ram.long(AREA + 0x400)),
+        (0, 0)
+    );
     // 63 page tables, each below a pointer table of its own, fill all slots, again and again
     for round in 0..3u32 {
         for k in 0..63u32 {

@@ -1,0 +1,349 @@
+//! A guest's bus over plain memory, worked by hand.
+
+ghost use Rattle.std.specs.Prelude.{◌≡◌, ◌%◌, ◌<◌, ◌^◌, length};
+ghost use Rattle.mb_port.specs.Flushes.{NamesPage};
+ghost use Rattle.vm_shadow.specs.Area.{Maps};
+ghost use Rattle.vm_shadow.specs.Mapped.{shadowed};
+ghost use Rattle.vm_machine.specs.Seats.{own};
+ghost use Rattle.vm_port.specs.Own.{IsPlaced};
+ghost use Rattle.vm_port.specs.Stands.{IsTruthful};
+
+use Space::{Super, User};
+use mb_devices::Devices;
+use mb_model::Cpu;
+use mb_port::{Flush, Mmu, MmuReg, Piece, Port, Space};
+use mb_step::{StepEnd, step};
+use mb_table::FirstWords;
+use mb_walk::{Ram, long_at, set_long_at, size_of};
+use std::alloc::Global;
+use vm_port::GuestPort;
+use vm_shadow::Shadow;
+use vm_tlb::Tlb;
+
+/// Where the guest's RAM begins, and its bytes: 16 pages from frame 16 on.
+const BASE: u32 = 0x1_0000;
+
+const SIZE: u32 = 0x1_0000;
+
+/// All of memory: the guest's tables stand behind its RAM.
+const ALL: u32 = 0x3_0000;
+
+/// The guest's own tables: the root, one pointer table, and one page table, to which each pointer leads.
+const ROOT: u32 = 0xC000;
+
+const POINTERS: u32 = 0xC200;
+
+const PAGES: u32 = 0xC400;
+
+/// Plain memory, of which the guest's area is the last part.
+#[derive(Drop)]
+struct Bytes {
+    memory: Vec<u8>,
+    ghost size: { length memory.items ≡ 0x30000 },
+}
+
+impl Ram for Bytes {
+    ghost bytes = { λ b. b.memory.items };
+
+    ghost Rest = { Unit {0} };
+
+    ghost rest = { λ b. tt };
+
+    fn size(&self) -> u32 {
+        size_of(&self.memory)
+    }
+
+    fn long(&self, at: u32) -> u32 {
+        long_at(&self.memory, at as usize)
+    }
+
+    #[tactic(auto, using(mb_walk::proofs::MemoryLemmas::lengths))]
+    fn set_long(&mut self, at: u32, value: u32) {
+        set_long_at(&mut self.memory, at as usize, value);
+    }
+}
+
+/// Memory of zeros.
+fn memory(alloc: Global) -> Option<Bytes> {
+    let memory = vec![in alloc; 0u8; ALL as usize].ok()?;
+    Some(Bytes { memory })
+}
+
+/// The bus of a guest.
+macro_rules! port {
+    ($guest:expr) => {
+        GuestPort::new(
+            &mut $guest.ram,
+            BASE,
+            SIZE,
+            &mut $guest.devices,
+            &mut $guest.mmu,
+            &mut $guest.tlb,
+            &mut $guest.shadow,
+        )
+    };
+}
+
+/// What a guest's bus borrows.
+#[derive(Drop)]
+struct Guest {
+    ram: Bytes,
+    devices: Devices,
+    mmu: Mmu,
+    tlb: Tlb,
+    shadow: Shadow,
+    ghost area: { shadow.area ≡ 0x20000 },
+    ghost maps: { Maps shadow ram.memory.items },
+    ghost placed: { IsPlaced 0x10000 (shadowed shadow ram.memory.items) },
+    ghost truthful: { IsTruthful 0x10000 mmu tlb (own 0x10000 (shadowed shadow ram.memory.items)) },
+}
+
+impl Guest {
+    /// A guest with zeros in its RAM and nothing kept, whose translation is off.
+    fn new(alloc: Global) -> Option<Guest> {
+        let mut ram = memory(alloc)?;
+        let devices = Devices::new(alloc, SIZE).ok()?;
+        let tlb = Tlb::new(alloc).ok()?;
+        let mut shadow = Shadow::new(alloc, BASE + SIZE).ok()?;
+        shadow.clear(&mut ram);
+        Some(Guest {
+            ram,
+            devices,
+            mmu: Mmu {
+                tc: 0,
+                itt0: 0,
+                itt1: 0,
+                dtt0: 0,
+                dtt1: 0,
+                mmusr: 0,
+                urp: 0,
+                srp: 0,
+            },
+            tlb,
+            shadow,
+        })
+    }
+
+    /// A guest whose pages are translated to themselves, as are those 64 pages further, and so on.
+    fn translated(alloc: Global) -> Option<Guest> {
+        let mut guest = Guest::new(alloc)?;
+        guest.set(ROOT, POINTERS + 2);
+        for index in 0..128u32 {
+            guest.set(POINTERS + 4 * index, PAGES + 2);
+        }
+        for page in 0..16u32 {
+            guest.set(PAGES + 4 * page, page * 0x1000 + 1);
+        }
+        guest.set_mmu(MmuReg::Urp, ROOT);
+        guest.set_mmu(MmuReg::Srp, ROOT);
+        guest.set_mmu(MmuReg::Tc, 0x8000);
+        Some(guest)
+    }
+
+    /// Sets a long of its RAM.
+    #[tactic(auto, using(vm_port::proofs::Frames::lengths))]
+    fn set(&mut self, at: u32, value: u32)
+        requires aligned { at % 4 ≡ 0 }
+        requires inside { at < 0x10000 }
+    {
+        port!(self).set_long(at, value);
+    }
+
+    fn fetch(&mut self, space: Space, at: u32) -> Option<u16>
+        requires { at % 2 ≡ 0 }
+    {
+        port!(self).fetch(space, at).ok()
+    }
+
+    /// Reads a long.
+    fn read(&mut self, space: Space, at: u32) -> Option<u32>
+        requires { at % 4 ≡ 0 }
+    {
+        port!(self).read(space, Piece { at, len: 4 }).ok()
+    }
+
+    /// Writes a long.
+    fn write(&mut self, space: Space, at: u32, value: u32) -> Option<()>
+        requires { at % 4 ≡ 0 }
+    {
+        port!(self).write(space, Piece { at, len: 4 }, value).ok()
+    }
+
+    fn set_mmu(&mut self, which: MmuReg, value: u32) {
+        port!(self).set_mmu(which, value);
+    }
+
+    fn flush(&mut self, what: Flush)
+        requires { NamesPage what }
+    {
+        port!(self).flush(what);
+    }
+
+    fn test(&mut self, space: Space, at: u32) -> u32 {
+        port!(self).test(space, at, false)
+    }
+
+    fn step(&mut self, table: &FirstWords, cpu: &mut Cpu) -> StepEnd {
+        step(table, cpu, &mut port!(self), 0)
+    }
+
+    /// What its shadow has of a page: a frame of memory, and whether it takes writes.
+    fn find(&self, space: Space, page: u32) -> Option<(u32, bool)>
+        requires { page < 2 ^ 20 }
+    {
+        self.shadow.find(&self.ram, space, page)
+    }
+}
+
+#[test]
+fn a_changed_descriptor_counts_after_a_flush(rt: HostRuntime) {
+    let mut guest = Guest::translated(rt.alloc()).expect(&rt, "memory");
+    guest.set(0x5000, 0x55);
+    guest.set(0x6000, 0x66);
+    assert_eq!(rt; guest.read(Super, 0x5000), Some(0x55));
+    assert_eq!(rt; guest.find(Super, 5), Some((21, false)));
+    guest.set(PAGES + 20, 0x6001);
+    assert_eq!(rt; guest.read(Super, 0x5000), Some(0x55));
+    assert_eq!(rt; guest.find(Super, 5), Some((21, false)));
+    guest.flush(Flush::Page(Super, 5));
+    assert_eq!(rt; guest.find(Super, 5), None);
+    assert_eq!(rt; guest.read(Super, 0x5000), Some(0x66));
+    assert_eq!(rt; guest.find(Super, 5), Some((22, false)));
+    assert_eq!(rt; guest.find(User, 5), None);
+}
+
+#[test]
+fn a_page_is_put_again_as_writable(rt: HostRuntime) {
+    let mut guest = Guest::translated(rt.alloc()).expect(&rt, "memory");
+    assert_eq!(rt; guest.read(Super, 0x5000), Some(0));
+    assert_eq!(rt; guest.find(Super, 5), Some((21, false)));
+    assert_eq!(rt; guest.read(Super, PAGES + 20), Some(0x5009));
+    assert_eq!(rt; guest.write(Super, 0x5004, 7), Some(()));
+    assert_eq!(rt; guest.find(Super, 5), Some((21, true)));
+    assert_eq!(rt; guest.read(Super, PAGES + 20), Some(0x5019));
+    assert_eq!(rt; guest.read(Super, 0x5004), Some(7));
+}
+
+#[test]
+fn a_compare_reads_what_its_own_search_marks(rt: HostRuntime) {
+    let table = FirstWords::new(rt.alloc()).expect(&rt, "memory");
+    let mut guest = Guest::translated(rt.alloc()).expect(&rt, "memory");
+    // CMPM.L (A0)+,(A1)+, where (A0) is the descriptor of its own page
+    guest.set(0x400, 0xB388_4E71);
+    guest.set(0x3000, 0xC009);
+    let mut cpu = Cpu::at_reset(0x8000, 0x400);
+    cpu.regs.a[0] = PAGES + 0x30;
+    cpu.regs.a[1] = 0x3000;
+    assert_eq!(rt; guest.step(&table, &mut cpu), StepEnd::Went);
+    assert_eq!(rt; (cpu.regs.pc, cpu.regs.sr), (0x402, 0x2704));
+    assert_eq!(rt; guest.find(Super, 0xC), Some((28, false)));
+    assert_eq!(rt; guest.find(Super, 3), Some((19, false)));
+    assert_eq!(rt; guest.find(Super, 0), Some((16, false)));
+}
+
+#[test]
+fn a_full_area_goes_whole(rt: HostRuntime) {
+    for space in [User, Super] {
+        let mut guest = Guest::translated(rt.alloc()).expect(&rt, "memory");
+        // 126 tables stand then: one of pointers, and 125 of pages
+        for index in 0..125u32 {
+            assert_eq!(rt; guest.read(space, 0x4_0000 * index), Some(0));
+        }
+        assert_eq!(rt; guest.find(space, 0), Some((16, false)));
+        assert_eq!(rt; guest.find(space, 64 * 124), Some((16, false)));
+        assert_eq!(rt; guest.read(space, 0x4_0000 * 125), Some(0));
+        assert_eq!(rt; guest.find(space, 0), None);
+        assert_eq!(rt; guest.find(space, 64 * 124), None);
+        assert_eq!(rt; guest.find(space, 64 * 125), Some((16, false)));
+        // what is kept of a page is put again
+        assert_eq!(rt; guest.read(space, 0), Some(0));
+        assert_eq!(rt; guest.find(space, 0), Some((16, false)));
+    }
+}
+
+#[test]
+fn flushes_drop_what_they_cover(rt: HostRuntime) {
+    // What is flushed, and which of the four entries it leaves: page 5 in user and supervisor space, and page 6, which
+    // is global.
+    let flushes = [
+        (Flush::All, [false, false, false, false]),
+        (Flush::AllLocal, [false, false, true, true]),
+        (Flush::Page(User, 5), [false, true, true, true]),
+        (Flush::Page(Super, 6), [true, true, true, false]),
+        (Flush::PageLocal(Super, 5), [true, false, true, true]),
+        (Flush::PageLocal(User, 6), [true, true, true, true]),
+    ];
+    for (what, left) in flushes {
+        let mut guest = Guest::translated(rt.alloc()).expect(&rt, "memory");
+        guest.set(PAGES + 24, 0x6401);
+        for space in [User, Super] {
+            assert_eq!(rt; guest.read(space, 0x5000), Some(0));
+            assert_eq!(rt; guest.read(space, 0x6000), Some(0));
+        }
+        guest.flush(what);
+        let found = [
+            guest.find(User, 5).is_some(),
+            guest.find(Super, 5).is_some(),
+            guest.find(User, 6).is_some(),
+            guest.find(Super, 6).is_some(),
+        ];
+        assert_eq!(rt; found, left, "{what:?}");
+    }
+}
+
+#[test]
+fn a_test_drops_its_page(rt: HostRuntime) {
+    let mut guest = Guest::translated(rt.alloc()).expect(&rt, "memory");
+    for space in [User, Super] {
+        assert_eq!(rt; guest.read(space, 0x5000), Some(0));
+    }
+    assert_eq!(rt; guest.test(Super, 0x5FFC), 0x5001);
+    assert_eq!(rt; guest.find(Super, 5), None);
+    assert_eq!(rt; guest.find(User, 5), Some((21, false)));
+}
+
+#[test]
+fn a_written_register_forgets(rt: HostRuntime) {
+    // Each register that forgets, with the value that it has already; MMUSR does not.
+    let registers = [
+        (MmuReg::Tc, 0x8000, None),
+        (MmuReg::Itt0, 0, None),
+        (MmuReg::Itt1, 0, None),
+        (MmuReg::Dtt0, 0, None),
+        (MmuReg::Dtt1, 0, None),
+        (MmuReg::Urp, ROOT, None),
+        (MmuReg::Srp, ROOT, None),
+        (MmuReg::Mmusr, 0xFFFF_FFFF, Some((21, false))),
+    ];
+    for (which, value, left) in registers {
+        let mut guest = Guest::translated(rt.alloc()).expect(&rt, "memory");
+        for space in [User, Super] {
+            assert_eq!(rt; guest.read(space, 0x5000), Some(0));
+            assert_eq!(rt; guest.find(space, 5), Some((21, false)));
+        }
+        guest.set_mmu(which, value);
+        for space in [User, Super] {
+            assert_eq!(rt; guest.find(space, 5), left, "{which:?}");
+        }
+    }
+}
+
+#[test]
+fn a_split_page_is_never_put(rt: HostRuntime) {
+    let mut guest = Guest::new(rt.alloc()).expect(&rt, "memory");
+    // the low 16 MiB, of code alone
+    guest.set_mmu(MmuReg::Itt0, 0xC000);
+    assert_eq!(rt; guest.fetch(Super, 0x5000), Some(0));
+    assert_eq!(rt; guest.read(Super, 0x5000), Some(0));
+    assert_eq!(rt; guest.write(Super, 0x5000, 1), Some(()));
+    assert_eq!(rt; guest.find(Super, 5), None);
+    // and of data too, where writes are refused
+    guest.set_mmu(MmuReg::Dtt0, 0xC004);
+    assert_eq!(rt; guest.write(Super, 0x5000, 2), None);
+    assert_eq!(rt; guest.find(Super, 5), None);
+    assert_eq!(rt; guest.read(Super, 0x5000), Some(1));
+    assert_eq!(rt; guest.find(Super, 5), Some((21, false)));
+    guest.set_mmu(MmuReg::Dtt0, 0xC000);
+    assert_eq!(rt; guest.fetch(Super, 0x5000), Some(0));
+    assert_eq!(rt; guest.find(Super, 5), Some((21, true)));
+}

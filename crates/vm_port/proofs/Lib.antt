@@ -1,0 +1,4 @@
+pub mod Frames
+pub mod Owns
+pub mod Truth
+pub mod Covered

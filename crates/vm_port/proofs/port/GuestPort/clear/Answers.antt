@@ -1,0 +1,49 @@
+use Rattle.std.proofs.Common.{◌∙◌, ap, sym, subst, refl}
+use Rattle.vm_shadow.specs.Mapped.{shadowed}
+use Rattle.vm_machine.specs.Seats.{own}
+use Rattle.vm_port.specs.Own.{IsPlaced}
+use Rattle.vm_port.proofs.Frames.{around}
+use Rattle.vm_port.proofs.Owns.{placed_nothing, own_nothing}
+use Rattle.vm_port.proofs.Truth.{same_truth, nothing_is_truthful}
+use Rattle.vm_port.proofs.port.GuestPort.clear.Goals as goal
+
+pub invariant_of-self : goal.invariant_of-self
+invariant_of-self g c =
+    let m = c.args.self.now in
+    let e = c.clear.ensures in
+    let before = shadowed m.shadow.now (g.R.Ram.bytes m.ram.now) in
+    let is = e.shadow in
+    record {
+      aligned = m.aligned;
+      whole = m.whole;
+      small = rw e.size m.small;
+      inside = rw e.size m.inside;
+      area = e.area ∙ m.area;
+      maps = e.tables;
+      placed = subst (IsPlaced m.base) (sym is) (placed_nothing m.base);
+      apart = m.apart;
+      truthful = same_truth refl refl refl (ap (own m.base) is ∙ own_nothing m.base)
+          (nothing_is_truthful m.size m.registers.now m.tlb.now);
+    }
+
+pub returns-clause-shadow : goal.returns-clause-shadow
+returns-clause-shadow g c =
+    let m = c.args.self.now in
+    let e = c.clear.ensures in
+    let before = shadowed m.shadow.now (g.R.Ram.bytes m.ram.now) in
+    let is = e.shadow in
+    ap (own m.base) is ∙ own_nothing m.base
+
+pub returns-clause-world : goal.returns-clause-world
+returns-clause-world g c =
+    let m = c.args.self.now in
+    let e = c.clear.ensures in
+    let (part, below, above) = around (g.R.Ram.bytes m.ram.now) (g.R.Ram.bytes c.clear.new.ram) m.base m.size m.shadow.now.area m.area e.below e.above in
+    rw part refl
+
+pub returns-clause-beyond : goal.returns-clause-beyond
+returns-clause-beyond g c =
+    let m = c.args.self.now in
+    let e = c.clear.ensures in
+    let (part, below, above) = around (g.R.Ram.bytes m.ram.now) (g.R.Ram.bytes c.clear.new.ram) m.base m.size m.shadow.now.area m.area e.below e.above in
+    rw (e.rest, e.size, below, above) refl

@@ -1,0 +1,50 @@
+use Rattle.std.proofs.Common.{◌∙◌, ap, sym, subst, refl}
+use Rattle.vm_shadow.specs.Mapped.{shadowed}
+use Rattle.vm_machine.specs.Seats.{own}
+use Rattle.vm_port.specs.Own.{IsPlaced}
+use Rattle.vm_port.specs.Parts.{tables_of}
+use Rattle.vm_port.proofs.Frames.{around}
+use Rattle.vm_port.proofs.Owns.{placed_dropped, own_dropped}
+use Rattle.vm_port.proofs.Truth.{same_truth, dropped_truthful}
+use Rattle.vm_port.proofs.port.GuestPort.drop_page.Goals as goal
+
+pub invariant_of-self : goal.invariant_of-self
+invariant_of-self g c =
+    let m = c.args.self.now in
+    let e = c.drop_page.ensures in
+    let before = shadowed m.shadow.now (g.R.Ram.bytes m.ram.now) in
+    let is = e.shadow in
+    record {
+      aligned = m.aligned;
+      whole = m.whole;
+      small = rw e.size m.small;
+      inside = rw e.size m.inside;
+      area = e.area ∙ m.area;
+      maps = e.tables;
+      placed = subst (IsPlaced m.base) (sym is) (placed_dropped m.base before c.args.space c.args.page m.placed);
+      apart = m.apart;
+      truthful = same_truth refl refl refl (ap (own m.base) is ∙ own_dropped m.base before c.args.space c.args.page)
+          (dropped_truthful m.size m.registers.now m.tlb.now (tables_of m) c.args.space c.args.page m.truthful);
+    }
+
+pub returns-clause-shadow : goal.returns-clause-shadow
+returns-clause-shadow g c =
+    let m = c.args.self.now in
+    let e = c.drop_page.ensures in
+    let before = shadowed m.shadow.now (g.R.Ram.bytes m.ram.now) in
+    let is = e.shadow in
+    ap (own m.base) is ∙ own_dropped m.base before c.args.space c.args.page
+
+pub returns-clause-world : goal.returns-clause-world
+returns-clause-world g c =
+    let m = c.args.self.now in
+    let e = c.drop_page.ensures in
+    let (part, below, above) = around (g.R.Ram.bytes m.ram.now) (g.R.Ram.bytes c.drop_page.new.ram) m.base m.size m.shadow.now.area m.area e.below e.above in
+    rw part refl
+
+pub returns-clause-beyond : goal.returns-clause-beyond
+returns-clause-beyond g c =
+    let m = c.args.self.now in
+    let e = c.drop_page.ensures in
+    let (part, below, above) = around (g.R.Ram.bytes m.ram.now) (g.R.Ram.bytes c.drop_page.new.ram) m.base m.size m.shadow.now.area m.area e.below e.above in
+    rw (e.rest, e.size, below, above) refl

@@ -1,0 +1,78 @@
+use Rattle.std.proofs.Common.{◌∙◌, ap, sym, subst, refl, arith}
+use Rattle.mb_walk.specs.Memory.{part}
+use Rattle.mb_walk.proofs.Parts.{length-part}
+use Rattle.vm_shadow.specs.Mapped.{shadowed}
+use Rattle.vm_machine.specs.Seats.{own}
+use Rattle.vm_machine.specs.Bus.{without_kept}
+use Rattle.vm_port.specs.Own.{IsPlaced}
+use Rattle.vm_port.specs.Parts.{tables_of}
+use Rattle.vm_port.proofs.Frames.{around}
+use Rattle.vm_port.proofs.Owns.{placed_dropped, own_dropped}
+use Rattle.vm_port.proofs.Truth.{are_apart_of, found_truthful, same_truth}
+use Rattle.vm_port.proofs.port.GuestPort.keep.Goals as goal
+
+pub invariant_of-self : goal.invariant_of-self
+invariant_of-self g c =
+    let m = c.args.self.now in
+    let ram = g.R.Ram.bytes m.ram.now in
+    let k = c.args.k in
+    let gone = c.in-Some.gone in
+    let e = c.drop_page.ensures in
+    let before = shadowed m.shadow.now ram in
+    let is = ap (own m.base) e.shadow ∙ own_dropped m.base before gone.space gone.page ∙ ap (λ o. without_kept o (tables_of m)) c.in-Some.ensures.gone in
+    record {
+      aligned = m.aligned;
+      whole = m.whole;
+      small = rw e.size m.small;
+      inside = rw e.size m.inside;
+      area = e.area ∙ m.area;
+      maps = e.tables;
+      placed = subst (IsPlaced m.base) (sym e.shadow) (placed_dropped m.base before gone.space gone.page m.placed);
+      apart = are_apart_of c.fill.new.self c.fill.ensures.apart;
+      truthful = same_truth refl refl c.fill.ensures.entries is
+          (found_truthful m.size (part ram m.base m.size) m.registers.now m.devices.now m.tlb.now (tables_of m) m.truthful m.apart
+          (length-part ram m.base m.size (omega (arith, m.inside))) c.size.ensures.bytes c.args.r k c.requires.reference c.requires.needed
+          (c.requires.found.0, c.requires.found.1));
+    }
+
+pub invariant_of-self-in_default : goal.invariant_of-self-in_default
+invariant_of-self-in_default g c =
+    let m = c.args.self.now in
+    let ram = g.R.Ram.bytes m.ram.now in
+    let k = c.args.k in
+    record {
+      aligned = m.aligned;
+      whole = m.whole;
+      small = m.small;
+      inside = m.inside;
+      area = m.area;
+      maps = m.maps;
+      placed = m.placed;
+      apart = are_apart_of c.fill.new.self c.fill.ensures.apart;
+      truthful = same_truth refl refl c.fill.ensures.entries (ap (λ o. without_kept o (tables_of m)) c.in_default.ensures.gone)
+          (found_truthful m.size (part ram m.base m.size) m.registers.now m.devices.now m.tlb.now (tables_of m) m.truthful m.apart
+          (length-part ram m.base m.size (omega (arith, m.inside))) c.size.ensures.bytes c.args.r k c.requires.reference c.requires.needed
+          (c.requires.found.0, c.requires.found.1));
+    }
+
+pub returns-in-Some-clause-shadow : goal.returns-in-Some-clause-shadow
+returns-in-Some-clause-shadow g c =
+    let m = c.args.self.now in
+    let gone = c.in-Some.gone in
+    let before = shadowed m.shadow.now (g.R.Ram.bytes m.ram.now) in
+    ap (own m.base) c.drop_page.ensures.shadow ∙ own_dropped m.base before gone.space gone.page
+    ∙ ap (λ o. without_kept o (tables_of m)) c.in-Some.ensures.gone
+
+pub returns-in-Some-clause-world : goal.returns-in-Some-clause-world
+returns-in-Some-clause-world g c =
+    let m = c.args.self.now in
+    let e = c.drop_page.ensures in
+    let (part, below, above) = around (g.R.Ram.bytes m.ram.now) (g.R.Ram.bytes c.drop_page.new.ram) m.base m.size m.shadow.now.area m.area e.below e.above in
+    rw (part, c.fill.ensures.entries) refl
+
+pub returns-in-Some-clause-beyond : goal.returns-in-Some-clause-beyond
+returns-in-Some-clause-beyond g c =
+    let m = c.args.self.now in
+    let e = c.drop_page.ensures in
+    let (part, below, above) = around (g.R.Ram.bytes m.ram.now) (g.R.Ram.bytes c.drop_page.new.ram) m.base m.size m.shadow.now.area m.area e.below e.above in
+    rw (e.rest, e.size, below, above) refl

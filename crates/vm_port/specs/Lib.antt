@@ -1,0 +1,5 @@
+pub mod Own
+pub mod Stands
+pub mod Around
+pub mod Places
+pub mod Parts

@@ -1,0 +1,126 @@
+//! The calls of a guest's bus.
+
+ghost use Rattle.vm_machine.specs.Guests.{Guest};
+ghost use Rattle.vm_machine.specs.Bus.{guest_bus};
+ghost use Rattle.vm_port.specs.Places.{HasPiece};
+
+use crate::port::GuestPort;
+use mb_machine::Reference;
+use mb_port::{Fault, Flush, Mmu, MmuReg, Piece, Place, Port, Space};
+use mb_walk::Ram;
+
+#[tactic(auto, unfolding(mb_machine::specs::Bus::bus_of, vm_machine::specs::Bus::shadow_after))]
+impl<R: Ram> Port for GuestPort<'_, R> {
+    ghost use Rattle.vm_port.specs.Parts.{guest_of, beyond_of};
+    ghost use Rattle.vm_port.specs.Around.{Beyond};
+
+    ghost World = { Guest };
+
+    ghost world = { guest_of };
+
+    ghost Rest = { Beyond R.Rest };
+
+    ghost rest = { beyond_of };
+
+    ghost bus = { guest_bus };
+
+    ghost exists = { λ rest place. HasPiece rest.size place };
+
+    fn fetch(&mut self, space: Space, at: u32) -> Result<u16, Fault> {
+        let r = Reference::fetching(space, at);
+        let Some(at) = self.accessed(r) else {
+            return Err(r.refused(2, true));
+        };
+        match self.take(Place { at, len: 2 }) {
+            Some(word) => Ok(word as u16),
+            None => Err(r.refused(2, false)),
+        }
+    }
+
+    fn read(&mut self, space: Space, piece: Piece) -> Result<u32, Fault> {
+        let r = Reference::reading(space, piece.at);
+        let Some(at) = self.accessed(r) else {
+            return Err(r.refused(piece.len, true));
+        };
+        match self.take(Place { at, len: piece.len }) {
+            Some(value) => Ok(value),
+            None => Err(r.refused(piece.len, false)),
+        }
+    }
+
+    fn write(&mut self, space: Space, piece: Piece, value: u32) -> Result<(), Fault> {
+        let r = Reference::writing(space, piece.at);
+        let Some(at) = self.accessed(r) else {
+            return Err(r.refused(piece.len, true));
+        };
+        match self.store(Place { at, len: piece.len }, value) {
+            Some(()) => Ok(()),
+            None => Err(r.refused(piece.len, false)),
+        }
+    }
+
+    fn read_line(&mut self, space: Space, at: u32) -> Result<[u32; 4], Fault> {
+        let r = Reference::reading(space, at);
+        let Some(at) = self.accessed(r) else {
+            return Err(r.refused(16, true));
+        };
+        match self.take_line(Place { at, len: 16 }) {
+            Some(line) => Ok(line),
+            None => Err(r.refused(16, false)),
+        }
+    }
+
+    fn write_line(&mut self, space: Space, at: u32, value: [u32; 4]) -> Result<(), Fault> {
+        let r = Reference::writing(space, at);
+        let Some(at) = self.accessed(r) else {
+            return Err(r.refused(16, true));
+        };
+        match self.store_line(Place { at, len: 16 }, value) {
+            Some(()) => Ok(()),
+            None => Err(r.refused(16, false)),
+        }
+    }
+
+    fn probe(&mut self, space: Space, piece: Piece) -> Result<Place, Fault> {
+        let r = Reference::writing(space, piece.at);
+        let Some(at) = self.accessed(r) else {
+            return Err(r.refused(piece.len, true));
+        };
+        let place = Place { at, len: piece.len };
+        if !self.takes_writes(place) {
+            return Err(r.refused(piece.len, false));
+        }
+        Ok(place)
+    }
+
+    fn get(&mut self, place: Place) -> u32 {
+        match self.take(place) {
+            Some(value) => value,
+            None => 0,
+        }
+    }
+
+    fn put(&mut self, place: Place, value: u32) {
+        let _ = self.store(place, value);
+    }
+
+    fn mmu(&self) -> Mmu {
+        *self.registers
+    }
+
+    fn set_mmu(&mut self, which: MmuReg, value: u32) {
+        self.set_register(which, value);
+    }
+
+    fn flush(&mut self, what: Flush) {
+        self.flushed(what);
+    }
+
+    fn test(&mut self, space: Space, at: u32, write: bool) -> u32 {
+        self.tested(space, at, write)
+    }
+
+    fn reset_devices(&mut self) {
+        self.devices.reset();
+    }
+}

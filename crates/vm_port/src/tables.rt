@@ -1,0 +1,80 @@
+//! The tables that a guest's bus keeps.
+
+ghost use Rattle.std.specs.Prelude.{◌≡◌, ◌+◌, ◌*◌, ◌≤◌, ◌<◌, ◌^◌};
+ghost use Rattle.mb_model.specs.Keeping.{rule_k, displaced, filled as kept_after, NamesPages};
+ghost use Rattle.mb_model.specs.Pages.{page_size, page_of as page_number};
+ghost use Rattle.mb_machine.specs.Access.{settled};
+ghost use Rattle.vm_shadow.specs.Shadows.{nothing, filled, dropped};
+ghost use Rattle.vm_machine.specs.Guests.{allows, IsReference};
+ghost use Rattle.vm_machine.specs.Bus.{without_kept};
+ghost use Rattle.vm_port.specs.Stands.{IsTruthful};
+
+use crate::port::GuestPort;
+use mb_machine::{Reference, Settled};
+use mb_model::{Kept, page_of};
+use mb_port::Space;
+use mb_walk::Ram;
+
+impl<R: Ram> GuestPort<'_, R> {
+    ghost use Rattle.vm_port.specs.Parts.{world_of, beyond_of, tables_of};
+
+    /// Whether the shadow allows an access.
+    #[tactic(auto, using(crate::proofs::Owns::letting))]
+    pub(crate) fn allows(&self, r: Reference) -> bool
+        ensures { result ≡ allows (tables_of self.now) r }
+    {
+        match self.shadow.find(self.ram, r.space, page_of(r.at)) {
+            Some((_, writable)) => !r.write || writable,
+            None => false,
+        }
+    }
+
+    /// Puts an entry with a frame of the guest. Where the slots do not suffice, all else goes first.
+    pub(crate) fn put_page(&mut self, space: Space, page: u32, frame: u32, writable: bool)
+        requires page { page < 2 ^ 20 }
+        requires frame { page_size * frame + page_size ≤ self.old.size }
+        requires truthful { IsTruthful self.old.size self.old.registers.now self.old.tlb.now
+            (filled space page frame writable (tables_of self.old)) }
+        ensures shadow { tables_of self.new ≡ filled space page frame writable (tables_of self.old) }
+        ensures world { world_of self.new ≡ world_of self.old }
+        ensures beyond { beyond_of self.new ≡ beyond_of self.old }
+    {
+        self.shadow.fill(self.ram, space, page, page_of(self.base) + frame, writable);
+    }
+
+    /// Removes the entry of a page.
+    pub(crate) fn drop_page(&mut self, space: Space, page: u32)
+        requires page { page < 2 ^ 20 }
+        ensures shadow { tables_of self.new ≡ dropped space page (tables_of self.old) }
+        ensures world { world_of self.new ≡ world_of self.old }
+        ensures beyond { beyond_of self.new ≡ beyond_of self.old }
+    {
+        self.shadow.drop_page(self.ram, space, page);
+    }
+
+    /// Removes all entries and tables.
+    pub(crate) fn clear(&mut self)
+        ensures shadow { tables_of self.new ≡ nothing }
+        ensures world { world_of self.new ≡ world_of self.old }
+        ensures beyond { beyond_of self.new ≡ beyond_of self.old }
+    {
+        self.shadow.clear(self.ram);
+    }
+
+    /// Keeps what the search for a reference found. The shadow loses the entry of the translation that goes for it.
+    pub(crate) fn keep(&mut self, r: Reference, k: Kept)
+        requires reference { IsReference r }
+        requires needed { settled rule_k (world_of self.old).mmu (world_of self.old).kept r ≡ Settled.Unsettled }
+        requires found { (k.space ≡ r.space) × (k.page ≡ page_number r.at) × NamesPages k }
+        ensures world { world_of self.new
+            ≡ record (world_of self.old) { kept = kept_after rule_k r.code k (world_of self.old).kept } }
+        ensures shadow { tables_of self.new
+            ≡ without_kept (displaced rule_k.capacity k self.old.tlb.now) (tables_of self.old) }
+        ensures beyond { beyond_of self.new ≡ beyond_of self.old }
+    {
+        let _ = self.size();
+        if let Some(gone) = self.tlb.fill(k) {
+            self.shadow.drop_page(self.ram, gone.space, gone.page);
+        }
+    }
+}

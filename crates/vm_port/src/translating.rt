@@ -1,0 +1,143 @@
+//! Where a reference leads by the rule of guests, what is kept of it, and what becomes of the shadow.
+
+ghost use Rattle.std.specs.Prelude.{◌≡◌, ◌*◌, ◌<◌, ◌^◌, length, IfSome};
+ghost use Rattle.mb_model.specs.Keeping.{rule_k, entry_for};
+ghost use Rattle.mb_model.specs.Pages.{page_of as page_number, offset_of};
+ghost use Rattle.mb_machine.specs.Access.{by_entry as by_kept_entry, searched, settled, translated, LeadsTo};
+ghost use Rattle.vm_machine.specs.Guests.{IsReference};
+ghost use Rattle.vm_machine.specs.Bus.{gone_settled, without_kept, gone, put, accessed};
+ghost use Rattle.vm_machine.specs.Bus.{is_in_ram, is_split, is_writable};
+ghost use Rattle.vm_port.specs.Stands.{IsTruthful};
+
+use crate::port::GuestPort;
+use mb_machine::{Reference, Settled, by_entry, root, through, untranslated};
+use mb_model::{PAGE_SIZE, page_of};
+use mb_port::Space;
+use mb_walk::{Found, Ram, search, transparent};
+
+impl<R: Ram> GuestPort<'_, R> {
+    ghost use Rattle.vm_port.specs.Parts.{world_of, beyond_of, tables_of};
+
+    /// Point 3: what the kept entry of its page says.
+    #[inline(always)]
+    fn by_kept(&self, r: Reference) -> Settled
+        ensures settled { result
+            ≡ by_kept_entry r (entry_for rule_k r.code r.space (page_number r.at) (world_of self.now).kept) }
+        ensures offset { LeadsTo result (λ at. offset_of at ≡ offset_of r.at) }
+    {
+        by_entry(r, self.tlb.find(r.space, page_of(r.at)))
+    }
+
+    /// What is known of a reference without a search.
+    #[inline(always)]
+    #[tactic(auto, unfolding(mb_machine::specs::Access::settled))]
+    pub(crate) fn settled(&self, r: Reference) -> Settled
+        ensures settled { result ≡ settled rule_k (world_of self.now).mmu (world_of self.now).kept r }
+        ensures offset { LeadsTo result (λ at. offset_of at ≡ offset_of r.at) }
+    {
+        match untranslated(self.registers, r) {
+            Some(protected) if protected && r.write => Settled::Refused,
+            Some(_) => Settled::To(r.at),
+            None => self.by_kept(r),
+        }
+    }
+
+    /// Points 4 and 5: the tables are searched, and what is found is kept; the shadow loses the entry of what goes for
+    /// it.
+    #[tactic(auto, unfolding(mb_machine::specs::Access::searched))]
+    fn searched(&mut self, r: Reference) -> Option<u32>
+        requires reference { IsReference r }
+        requires needed { settled rule_k (world_of self.old).mmu (world_of self.old).kept r ≡ Settled.Unsettled }
+        ensures means { (result, world_of self.new) ≡ searched rule_k (world_of self.old) r }
+        ensures shadow { tables_of self.new
+            ≡ without_kept (gone_settled (world_of self.old) r Settled.Unsettled) (tables_of self.old) }
+        ensures beyond { beyond_of self.new ≡ beyond_of self.old }
+        ensures offset { IfSome result (λ at. offset_of at ≡ offset_of r.at) }
+    {
+        let root = root(self.registers, r.space);
+        match search(self, root, r.space, r.at, r.write) {
+            Found::Entry(k, _) => {
+                self.keep(r, k);
+                through(&k, r)
+            }
+            Found::Invalid | Found::BusError => None,
+        }
+    }
+
+    /// The physical address that a reference leads to. `None` where it is refused.
+    #[inline(always)]
+    #[tactic(auto, unfolding(mb_machine::specs::Access::translated))]
+    fn translated(&mut self, r: Reference) -> Option<u32>
+        requires { IsReference r }
+        ensures means { (result, world_of self.new) ≡ translated rule_k r (world_of self.old) }
+        ensures shadow { tables_of self.new ≡ without_kept (gone (world_of self.old) r) (tables_of self.old) }
+        ensures beyond { beyond_of self.new ≡ beyond_of self.old }
+        ensures offset { IfSome result (λ at. offset_of at ≡ offset_of r.at) }
+    {
+        match self.settled(r) {
+            Settled::To(at) => Some(at),
+            Settled::Refused => None,
+            Settled::Unsettled => self.searched(r),
+        }
+    }
+
+    /// Whether the page of a place is one of RAM.
+    #[tactic(auto, using(crate::proofs::Frames::lengths))]
+    fn is_in_ram(&self, at: u32) -> bool
+        ensures { result ≡ is_in_ram (length (world_of self.now).ram) at }
+    {
+        page_of(at) < page_of(self.size)
+    }
+
+    /// Whether exactly one of the two sides has a transparent register that matches the page.
+    fn is_split(&self, space: Space, at: u32) -> bool
+        ensures { result ≡ is_split (world_of self.now).mmu space (page_number at) }
+    {
+        let code = transparent(self.registers.itt0, self.registers.itt1, space, at).is_some();
+        let data = transparent(self.registers.dtt0, self.registers.dtt1, space, at).is_some();
+        if code { !data } else { data }
+    }
+
+    /// Whether a data write to a page needs no search now, and is not refused.
+    fn is_writable(&self, space: Space, page: u32) -> bool
+        requires { page < 2 ^ 20 }
+        ensures { result ≡ is_writable (world_of self.now) space page }
+    {
+        matches!(
+            self.settled(Reference::writing(space, PAGE_SIZE * page)),
+            Settled::To(_)
+        )
+    }
+
+    /// Puts an entry for an access that led to a place, where its page is one of RAM and not split, and the shadow does
+    /// not allow it.
+    fn put_entry(&mut self, r: Reference, place: Option<u32>)
+        requires truthful { IsTruthful self.old.size self.old.registers.now self.old.tlb.now
+            (put (world_of self.old) r (tables_of self.old) place) }
+        ensures shadow { tables_of self.new ≡ put (world_of self.old) r (tables_of self.old) place }
+        ensures world { world_of self.new ≡ world_of self.old }
+        ensures beyond { beyond_of self.new ≡ beyond_of self.old }
+    {
+        let Some(at) = place else {
+            return;
+        };
+        if self.is_in_ram(at) && !self.is_split(r.space, r.at) && !self.allows(r) {
+            let writable = self.is_writable(r.space, page_of(r.at));
+            self.put_page(r.space, page_of(r.at), page_of(at), writable);
+        }
+    }
+
+    /// The physical address that an access leads to, and what it makes of the shadow.
+    pub(crate) fn accessed(&mut self, r: Reference) -> Option<u32>
+        requires { IsReference r }
+        ensures means { (result, world_of self.new) ≡ translated rule_k r (world_of self.old) }
+        ensures shadow { tables_of self.new ≡ accessed r (world_of self.old) (tables_of self.old) }
+        ensures beyond { beyond_of self.new ≡ beyond_of self.old }
+        ensures offset { IfSome result (λ at. offset_of at ≡ offset_of r.at) }
+    {
+        let _ = self.size();
+        let place = self.translated(r);
+        self.put_entry(r, place);
+        place
+    }
+}
