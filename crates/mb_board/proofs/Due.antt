@@ -6,11 +6,8 @@ use Rattle.std.proofs.lemmas.Option.{get_or_from_slice_get, slice_get_within, sl
 use Rattle.std.proofs.lemmas.List.{drop_all, get_or-drop, length-drop}
 use Rattle.std.proofs.Math.Seq.{drop-cons}
 use Rattle.std.proofs.lemmas.Bool.Decides.{nat_tests}
-use Rattle.mb_port.specs.declared.types.Mmu.{Mmu}
-use Rattle.mb_model.specs.Keeping.{KeptLists}
 use Rattle.mb_script.specs.Script.{IsScript}
 use Rattle.mb_devices.specs.Devices.{DeviceState, received}
-use Rattle.mb_machine.specs.World.{World}
 use Rattle.mb_machine.specs.Machine.{Entries, arrived}
 use Rattle.mb_board.specs.Arrivals.{due_at}
 
@@ -105,13 +102,3 @@ later-behind script place taken entry is got ne later =
     let here = step_of_entry script place entry got in
     let open_yet = later place (omega arith) (slice_get_within script place entry got) in
     later-from script place (taken + 1) entry is got (omega arith)
-
-abbrev world_of : List ℕ → Mmu → DeviceState → KeptLists → World
-world_of ram mmu devices kept = record { ram = ram; mmu = mmu; devices = devices; kept = kept }
-
--- a world of the parts of another, but for its devices
-pub of_parts : (w v : World) (devices : DeviceState) → w.ram ≡ v.ram → w.mmu ≡ v.mmu → w.kept ≡ v.kept → w.devices ≡ devices
-    → w ≡ record v { devices = devices }
-of_parts w v devices a b c d =
-    ap (λ (ram : List ℕ). world_of ram w.mmu w.devices w.kept) a ∙ ap (λ (mmu : Mmu). world_of v.ram mmu w.devices w.kept) b
-    ∙ ap (λ (d : DeviceState). world_of v.ram v.mmu d w.kept) d ∙ ap (λ (kept : KeptLists). world_of v.ram v.mmu devices kept) c

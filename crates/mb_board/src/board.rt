@@ -6,14 +6,15 @@ ghost use Rattle.mb_model.specs.Seen.{seen_of};
 ghost use Rattle.mb_walk.specs.Memory.{overwritten};
 ghost use Rattle.mb_meaning.specs.Raise.{step_end};
 ghost use Rattle.mb_machine.specs.Machine.{reset_with, run_of, seen_machine, stepped, stepping, with_cpu, with_ram};
-ghost use Rattle.mb_machine.specs.Machine.{state_after, takes_steps};
+ghost use Rattle.mb_machine.specs.Machine.{takes_steps};
 ghost use Rattle.vm_meaning.specs.Free.{IsFreeRun};
 ghost use Rattle.vm_meaning.specs.Native.{user_step};
 ghost use Rattle.mb_board.specs.Arrivals.{IsNext};
 ghost use Rattle.mb_board.specs.State.{board_at_reset, machine_in, with_machine};
 
 use crate::bus::BoardBus;
-use crate::receiving::{place_behind, receive};
+use crate::receiving::place_behind;
+use crate::states::{state_after, takes_steps};
 use mb_devices::Devices;
 use mb_instr::Plain;
 use mb_meaning::{Finish, StepEnd};
@@ -99,30 +100,7 @@ impl Core {
     pub(crate) fn takes_steps(&self) -> bool
         ensures { result ≡ takes_steps self.now.state }
     {
-        match self.state {
-            RunState::Running | RunState::Stopped => true,
-            RunState::Halted | RunState::Off => false,
-        }
-    }
-
-    /// The state after a step that ended so.
-    #[inline(always)]
-    #[tactic(auto, unfolding(mb_machine::specs::Machine::state_after))]
-    fn state_after(&self, finish: Finish) -> RunState
-        ensures { result ≡ state_after finish self.now.cpu self.now.world.devices }
-    {
-        match finish {
-            Finish::Halted => RunState::Halted,
-            Finish::Went | Finish::Entered(_) | Finish::Idle => {
-                if self.bus.is_off() {
-                    RunState::Off
-                } else if self.cpu.stopped {
-                    RunState::Stopped
-                } else {
-                    RunState::Running
-                }
-            }
-        }
+        takes_steps(self.state)
     }
 
     /// One step at which nothing arrives, and which is not counted.
@@ -142,7 +120,7 @@ impl Core {
             &mut self.bus,
             level,
         );
-        self.state = self.state_after(finish);
+        self.state = state_after(finish, &self.cpu, self.bus.devices());
         finish
     }
 
@@ -158,7 +136,7 @@ impl Core {
         ensures counted { self.new.steps ≡ self.old.steps + 1 }
         ensures ram { length self.new.world.ram ≡ length self.old.world.ram }
     {
-        *next = receive(&mut self.bus, script, self.steps, *next);
+        *next = self.bus.receive(script, self.steps, *next);
         self.steps += 1;
         self.step_uncounted(table)
     }

@@ -1,16 +1,19 @@
 //! What the board's bus holds, and what the board does with it beside its calls.
 
-ghost use Rattle.std.specs.Prelude.{◌≡◌, ◌+◌, ◌≤◌, length, replicate, IfOk};
+ghost use Rattle.std.specs.Prelude.{◌≡◌, ◌+◌, ◌^◌, ◌<◌, ◌≤◌, length, replicate, IfOk};
 ghost use Rattle.mb_model.specs.Keeping.{rule_a};
 ghost use Rattle.mb_walk.specs.Memory.{overwritten};
-ghost use Rattle.mb_devices.specs.Devices.{level_of, received, ticked};
-ghost use Rattle.mb_machine.specs.Machine.{mmu_at_reset, world_at_reset};
+ghost use Rattle.mb_devices.specs.Devices.{level_of, ticked};
+ghost use Rattle.mb_machine.specs.Machine.{arrived, mmu_at_reset, world_at_reset};
+ghost use Rattle.mb_board.specs.Arrivals.{IsNext};
 ghost use Rattle.mb_board.specs.Modes.{has_transparent, is_enabled as has_enabled, mode_of as translates};
 
+use crate::receiving::receive;
 use mb_atc::Atc;
 use mb_devices::Devices;
 use mb_outside::Memory;
 use mb_port::Mmu;
+use mb_script::Script;
 use mb_walk::overwrite;
 use std::alloc::Global;
 use std::marker::Model;
@@ -116,11 +119,15 @@ impl BoardBus {
         self.kept.clear();
     }
 
-    /// A byte arrives on the serial line.
-    pub fn receive(&mut self, byte: u8)
-        ensures { self.new ≡ record self.old { devices = received byte self.old.devices } }
+    /// Receives what arrives at the step after so many, and gives the place behind it in the script.
+    #[inline(always)]
+    pub fn receive(&mut self, script: &Script, taken: u32, next: u32) -> u32
+        requires room { taken + 1 < 2 ^ 32 }
+        requires next { IsNext script.now taken next }
+        ensures means { self.new ≡ record self.old { devices = arrived (taken + 1) script.now self.old.devices } }
+        ensures next { IsNext script.now (taken + 1) result }
     {
-        self.devices.receive(byte);
+        receive(&mut self.devices, script, taken, next)
     }
 
     /// A step begins: the timer counts it.

@@ -15,8 +15,11 @@ mod places;
 mod receiving;
 mod running;
 mod spelling;
+mod states;
 mod translating;
 
 pub use board::Board;
 pub use native::Native;
+pub use receiving::{place_behind, receive};
+pub use states::{state_after, takes_steps};
 pub use vm_meaning::RunEnd;

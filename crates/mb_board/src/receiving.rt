@@ -4,7 +4,7 @@ ghost use Rattle.std.specs.Prelude.{◌≡◌, ◌+◌, ◌≤◌, ◌<◌, ◌^
 ghost use Rattle.mb_machine.specs.Machine.{arrived};
 ghost use Rattle.mb_board.specs.Arrivals.{IsNext};
 
-use crate::bus::BoardBus;
+use mb_devices::Devices;
 use mb_script::Script;
 
 /// The place of the first entry behind a step.
@@ -23,17 +23,17 @@ pub fn place_behind(script: &Script, step: u32) -> u32
     low
 }
 
-/// Hands on what arrives at the step after so many, and gives the place behind it.
+/// Hands devices what arrives at the step after so many, and gives the place behind it.
 #[inline(always)]
-pub fn receive(bus: &mut BoardBus, script: &Script, taken: u32, next: u32) -> u32
+pub fn receive(devices: &mut Devices, script: &Script, taken: u32, next: u32) -> u32
     requires room { taken + 1 < 2 ^ 32 }
     requires next { IsNext script.now taken next }
-    ensures means { bus.new ≡ record bus.old { devices = arrived (taken + 1) script.now bus.old.devices } }
+    ensures means { devices.new ≡ arrived (taken + 1) script.now devices.old }
     ensures next { IsNext script.now (taken + 1) result }
 {
     for place in next..script.count() {
         match script.entry(place) {
-            Some((due, byte)) if due == taken + 1 => bus.receive(byte),
+            Some((due, byte)) if due == taken + 1 => devices.receive(byte),
             _ => return place,
         }
     }

@@ -1,4 +1,5 @@
-//! Tests of machines and their parts: searches through tables, kept translations, shadow tables, devices and boards.
+//! Tests of machines and their parts: searches through tables, kept translations, shadow tables, devices, boards, and
+//! guests on boards.
 #![tactic(auto)]
 
 #[cfg(test)]
@@ -7,6 +8,8 @@ mod devices;
 mod guest_kept;
 #[cfg(test)]
 mod guest_port;
+#[cfg(test)]
+mod guests;
 #[cfg(test)]
 mod kept;
 #[cfg(test)]

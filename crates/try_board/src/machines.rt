@@ -34,7 +34,7 @@ fn write(board: &mut Board, at: u32, bytes: &[u8])
 }
 
 /// A board with these bytes in its RAM, after reset.
-fn board_with(alloc: Global, chunks: &[(u32, &[u8])]) -> Result<Board, Memory>
+pub(crate) fn board_with(alloc: Global, chunks: &[(u32, &[u8])]) -> Result<Board, Memory>
     ensures { IfOk result (λ board. length board.world.ram ≡ SIZE) }
 {
     let mut board = Board::new(alloc, SIZE)?;

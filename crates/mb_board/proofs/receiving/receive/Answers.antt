@@ -1,18 +1,15 @@
-use Rattle.std.proofs.Common.{◌∙◌, ◌+◌, drop, refl, sym, ap, arith}
-use Rattle.mb_machine.specs.World.{World}
+use Rattle.std.proofs.Common.{◌∙◌, ◌+◌, drop, sym, ap, arith}
+use Rattle.mb_devices.specs.Devices.{DeviceState}
 use Rattle.mb_machine.specs.Machine.{arrived}
-use Rattle.mb_board.proofs.Due.{past-through, later-behind, none-outside, arrived-past, arrived-next, arrived-none, of_parts}
+use Rattle.mb_board.proofs.Due.{past-through, later-behind, none-outside, arrived-past, arrived-next, arrived-none}
 use Rattle.mb_board.proofs.receiving.receive.Goals as goal
 
 pub loop-place-init : goal.loop-place-init
 loop-place-init c =
     let next = c.requires.next in
     record {
-      rest = arrived-past c.args.next (c.args.taken + 1) c.args.script.now c.args.bus.now.devices
+      rest = arrived-past c.args.next (c.args.taken + 1) c.args.script.now c.args.devices.now
           (λ k lt e. let past = next.past k lt in absurd (omega (arith, past, e)));
-      ram = refl;
-      mmu = refl;
-      kept = refl;
       past = λ k lt. let past = next.past k lt in omega (arith, past);
       later = next.later;
     }
@@ -22,8 +19,7 @@ returns-in_default-clause-means c =
     let kept = c.loop-place.invariant in
     let later = later-behind c.args.script.now c.loop-place.place c.args.taken (c.in-Some.due, c.in-Some.byte)
     c.count-place-end.ensures.lawful (sym c.entry.ensures ∙ c.in-Some.is) c.if-due-taken.false kept.later in
-    of_parts c.loop-place.bus c.args.bus.now _ kept.ram kept.mmu kept.kept
-    (sym (arrived-none c.args.script.now c.loop-place.place (c.args.taken + 1) c.loop-place.bus.devices later) ∙ kept.rest)
+    sym (arrived-none c.args.script.now c.loop-place.place (c.args.taken + 1) c.loop-place.devices later) ∙ kept.rest
 
 pub returns-in_default-clause-next : goal.returns-in_default-clause-next
 returns-in_default-clause-next c =
@@ -49,12 +45,9 @@ loop-place-preserved c =
     let got = sym c.entry.ensures ∙ c.in-Some.is in
     let now = c.if-due-taken.true in
     record {
-      rest = ap (λ (w : World). arrived (c.args.taken + 1) (drop (c.loop-place.place + 1) c.args.script.now) w.devices) c.receive.ensures
-          ∙ sym (arrived-next c.args.script.now c.loop-place.place (c.args.taken + 1) (c.in-Some.due, c.in-Some.byte) c.loop-place.bus.devices got now)
+      rest = ap (λ (d : DeviceState). arrived (c.args.taken + 1) (drop (c.loop-place.place + 1) c.args.script.now) d) c.receive.ensures
+          ∙ sym (arrived-next c.args.script.now c.loop-place.place (c.args.taken + 1) (c.in-Some.due, c.in-Some.byte) c.loop-place.devices got now)
           ∙ kept.rest;
-      ram = ap (λ (w : World). w.ram) c.receive.ensures ∙ kept.ram;
-      mmu = ap (λ (w : World). w.mmu) c.receive.ensures ∙ kept.mmu;
-      kept = ap (λ (w : World). w.kept) c.receive.ensures ∙ kept.kept;
       past = past-through c.args.script.now c.loop-place.place (c.args.taken + 1) (c.in-Some.due, c.in-Some.byte)
           c.count-place-end.ensures.lawful got (omega arith);
       later = λ k le lt. kept.later k (omega arith) lt;

@@ -5,10 +5,7 @@ use Rattle.mb_board.proofs.receiving.receive.Given as goal
 
 abbrev pub invariant-loop-place : goal.invariant-loop-place
 invariant-loop-place l = record {
-  rest : arrived (l.taken + 1) (drop l.place l.script) l.bus.devices ≡ arrived (l.taken + 1) l.script l.initial.bus.devices;
-  ram : l.bus.ram ≡ l.initial.bus.ram;
-  mmu : l.bus.mmu ≡ l.initial.bus.mmu;
-  kept : l.bus.kept ≡ l.initial.bus.kept;
+  rest : arrived (l.taken + 1) (drop l.place l.script) l.devices ≡ arrived (l.taken + 1) l.script l.initial.devices;
   past : (place : ℕ) → place < l.place → due_at l.script place ≤ l.taken + 1;
   later : (place : ℕ) → l.place ≤ place → place < length l.script → l.taken < due_at l.script place;
 }

@@ -1,0 +1,38 @@
+//! The state of a machine between its steps.
+
+ghost use Rattle.std.specs.Prelude.{◌≡◌};
+ghost use Rattle.mb_machine.specs.Machine.{state_after, takes_steps};
+
+use mb_devices::Devices;
+use mb_meaning::Finish;
+use mb_model::{Cpu, RunState};
+
+/// Whether a machine in this state takes a step: one that is halted or switched off takes none.
+pub fn takes_steps(state: RunState) -> bool
+    ensures { result ≡ takes_steps state }
+{
+    match state {
+        RunState::Running | RunState::Stopped => true,
+        RunState::Halted | RunState::Off => false,
+    }
+}
+
+/// The state after a step that ended so, with the processor and the devices that it left.
+#[inline(always)]
+#[tactic(auto, unfolding(mb_machine::specs::Machine::state_after))]
+pub fn state_after(finish: Finish, cpu: &Cpu, devices: &Devices) -> RunState
+    ensures { result ≡ state_after finish cpu.now devices.now }
+{
+    match finish {
+        Finish::Halted => RunState::Halted,
+        Finish::Went | Finish::Entered(_) | Finish::Idle => {
+            if devices.is_off() {
+                RunState::Off
+            } else if cpu.stopped {
+                RunState::Stopped
+            } else {
+                RunState::Running
+            }
+        }
+    }
+}

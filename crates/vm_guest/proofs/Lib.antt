@@ -1,0 +1,5 @@
+pub mod Loads
+pub mod Prepared
+pub mod Seated
+pub mod Steps
+pub mod Taken

@@ -1,0 +1,14 @@
+use Rattle.std.proofs.Common.{◌≡◌, drop, length}
+use Rattle.mb_srec.specs.Image.{all_contents}
+use Rattle.mb_machine.specs.Machine.{with_contents, with_ram}
+use Rattle.mb_board.specs.State.{machine_in, with_machine}
+use Rattle.vm_guest.specs.Memory.{contents_from}
+use Rattle.vm_guest.proofs.loading.load.Given as goal
+
+abbrev pub invariant-loop-chunk : goal.invariant-loop-chunk
+invariant-loop-chunk l = record {
+  loads : with_contents l.board.world.ram (contents_from l.base (all_contents (drop l.chunk-index l.chunks)))
+      ≡ with_contents l.initial.board.world.ram (contents_from l.base (all_contents l.chunks));
+  size : length l.board.world.ram ≡ length l.initial.board.world.ram;
+  others : l.board ≡ with_machine l.initial.board (with_ram (machine_in l.initial.board) l.board.world.ram);
+}

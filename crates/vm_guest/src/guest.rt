@@ -1,0 +1,169 @@
+//! A guest, and how it is prepared.
+
+ghost use Rattle.std.specs.Prelude.{◌≡◌, ◌+◌, ◌%◌, ◌≤◌, [], length, IfOk, IfErr, All};
+ghost use Rattle.mb_srec.specs.Image.{contents_of, LiesBelow};
+ghost use Rattle.mb_model.specs.Seen.{seen_of};
+ghost use Rattle.mb_machine.specs.Machine.{seen_machine};
+ghost use Rattle.mb_board.specs.Beside.{but_ram};
+ghost use Rattle.vm_shadow.specs.Mapped.{area_bytes};
+ghost use Rattle.vm_machine.specs.Turns.{prepared};
+ghost use Rattle.vm_machine.specs.Seats.{machine_on, monitor_bytes, turned_on, IsSeated};
+ghost use Rattle.vm_guest.specs.Memory.{OnlyBetween};
+
+use crate::loading::{clear, load};
+use mb_board::{Board, place_behind};
+use mb_devices::Devices;
+use mb_model::{Cpu, Outcome, RunState};
+use mb_outside::Memory;
+use mb_port::Mmu;
+use mb_script::Script;
+use mb_srec::Image;
+use mb_step::Scratch;
+use mb_table::FirstWords;
+use mb_walk::Ram;
+use std::alloc::Global;
+use std::marker::Model;
+use std::rc::Rc;
+use vm_shadow::Shadow;
+use vm_tlb::Tlb;
+
+/// Every register is 0.
+const MMU_AT_RESET: Mmu = Mmu {
+    tc: 0,
+    itt0: 0,
+    itt1: 0,
+    dtt0: 0,
+    dtt1: 0,
+    mmusr: 0,
+    urp: 0,
+    srp: 0,
+};
+
+/// A guest, but for its RAM and its tables, which stand on a board.
+#[derive(Drop)]
+pub struct Guest {
+    pub(crate) cpu: Cpu,
+    pub(crate) mmu: Mmu,
+    pub(crate) devices: Devices,
+    pub(crate) tlb: Tlb,
+    pub(crate) shadow: Shadow,
+    pub(crate) script: Script,
+    /// The place in the script of what arrives next.
+    pub(crate) next: u32,
+    pub(crate) steps: u32,
+    pub(crate) state: RunState,
+    /// Where its RAM begins on the board.
+    pub(crate) base: u32,
+    /// The bytes of its RAM.
+    pub(crate) size: u32,
+    /// The board's, so that a step can use it while the board's memory is lent.
+    pub(crate) table: Rc<FirstWords>,
+    /// Where steps decode an instruction of several words; no part of the guest.
+    pub(crate) scratch: Scratch,
+}
+
+/// Nothing is counted of its steps by their classes.
+impl Model for Guest {
+    ghost use Rattle.vm_machine.specs.Turns.{no_steps};
+    ghost use Rattle.vm_machine.specs.Seats.{Seat};
+    ghost use Rattle.mb_board.specs.Arrivals.{IsNext};
+
+    ghost Value = { Seat };
+
+    ghost view = { λ g. record {
+      cpu = g.cpu;
+      mmu = g.mmu;
+      devices = g.devices;
+      kept = g.tlb;
+      slots = g.shadow;
+      script = g.script;
+      steps = g.steps;
+      state = g.state;
+      tally = no_steps;
+      base = g.base;
+      size = g.size;
+    } };
+
+    ghost invariant = { λ g. IsNext g.script g.steps g.next };
+}
+
+impl Guest {
+    /// A guest with an image in its RAM, after reset, with what is to arrive at its terminal: `ram` bytes of RAM stand
+    /// on the board from `base` on, and 65,536 bytes for its tables behind them. It takes all the memory that it will
+    /// need, and where that runs out, the board stays as it is.
+    pub fn prepare(
+        alloc: Global,
+        image: Image,
+        script: Script,
+        ram: u32,
+        base: u32,
+        board: &mut Board,
+    ) -> Result<Guest, Memory>
+        requires ram { (65536 ≤ ram) × (ram % 65536 ≡ 0) }
+        requires image { All (LiesBelow ram) (contents_of image) }
+        requires base { (monitor_bytes ≤ base) × (base % 65536 ≡ 0) }
+        requires inside { base + ram + area_bytes ≤ length board.old.world.ram }
+        ensures start { IfOk result (λ guest.
+            turned_on guest board.new.world.ram [] ≡ prepared (contents_of image) ram) }
+        ensures script { IfOk result (λ guest. guest.script ≡ script) }
+        ensures place { IfOk result (λ guest. (guest.base ≡ base) × (guest.size ≡ ram)) }
+        ensures seated { IfOk result (λ guest. IsSeated guest board.new.world.ram) }
+        ensures within { OnlyBetween base (base + ram + area_bytes) board.old.world.ram board.new.world.ram }
+        ensures others { but_ram board.new ≡ but_ram board.old }
+        ensures refused { IfErr result (λ memory. board.new ≡ board.old) }
+    {
+        let _size = board.size();
+        let table = board.table()?;
+        let devices = Devices::new(alloc, ram)?;
+        let tlb = Tlb::new(alloc)?;
+        let mut shadow = Shadow::new(alloc, base + ram)?;
+        clear(board, base, ram);
+        load(board, base, image.chunks());
+        shadow.clear(board);
+        let next = place_behind(&script, 0);
+        Ok(Guest {
+            cpu: Cpu::at_reset(board.long(base), board.long(base + 4)),
+            mmu: MMU_AT_RESET,
+            devices,
+            tlb,
+            shadow,
+            script,
+            next,
+            steps: 0,
+            state: RunState::Running,
+            base,
+            size: ram,
+            table,
+            scratch: Scratch::new(),
+        })
+    }
+
+    /// What the guest shows, with its RAM on the board that it was prepared on.
+    pub fn outcome<'a>(&'a self, board: &'a Board) -> Outcome<'a>
+        requires { self.now.base + self.now.size ≤ length board.now.world.ram }
+        ensures { seen_of result ≡ seen_machine (machine_on self.now board.now.world.ram) }
+    {
+        Outcome {
+            cpu: &self.cpu,
+            mmu: &self.mmu,
+            console: self.devices.console(),
+            lost: self.devices.lost(),
+            queue: self.devices.queue(),
+            ctrl: self.devices.ctrl(),
+            status: self.devices.status(),
+            period: self.devices.period(),
+            count: self.devices.count(),
+            pending: self.devices.pending(),
+            steps: self.steps,
+            state: self.state,
+            ram: board.memory(self.base, self.size),
+        }
+    }
+
+    /// The guest's devices.
+    pub fn devices(&self) -> &Devices
+        ensures { result.now ≡ self.now.devices }
+    {
+        &self.devices
+    }
+}
