@@ -1,3 +1,4 @@
+pub mod Free
 pub mod Loads
 pub mod Prepared
 pub mod Seated

@@ -7,7 +7,7 @@ ghost use Rattle.mb_board.specs.Beside.{but_ram};
 ghost use Rattle.vm_machine.specs.Turns.{turn_of};
 ghost use Rattle.vm_machine.specs.Seats.{end_of, guested_on, machine_on, turned_on, IsSame, IsSeated, OnlyWithin};
 ghost use Rattle.vm_guest.specs.Memory.{OnlyBetween};
-ghost use Rattle.vm_guest.specs.Turns.{end_by};
+ghost use Rattle.vm_guest.specs.Turns.{end_by, GoesOnFreely};
 
 use crate::guest::Guest;
 use crate::turn_end::TurnEnd;
@@ -49,6 +49,8 @@ impl Guest {
             ≡ (turn_of self.old.script limit (turned_on self.old board.old.world.ram [])).guest }
         ensures machine { machine_on self.new board.new.world.ram
             ≡ run_of rule_k self.old.script limit (machine_on self.old board.old.world.ram) }
+        ensures free { GoesOnFreely self.old.script limit
+            (machine_on self.old board.old.world.ram) (machine_on self.new board.new.world.ram) }
         ensures end { result ≡ end_by self.new.state }
         ensures counted { result ≡ TurnEnd.Counted → self.new.steps ≡ self.old.steps + limit }
         ensures stays { takes_steps self.old.state ≡ false

@@ -6,6 +6,7 @@ use Rattle.vm_machine.specs.Seats.{end_of, turned_on}
 use Rattle.vm_machine.proofs.ByRule.{turns_by_rule}
 use Rattle.vm_guest.specs.Memory.{OnlyBetween}
 use Rattle.vm_guest.proofs.Seated.{only_within}
+use Rattle.vm_guest.proofs.Free.{goes_on_freely}
 use Rattle.vm_guest.proofs.guest.Guest.turn.Goals as goal
 
 pub returns-clause-machine : goal.returns-clause-machine
@@ -15,6 +16,9 @@ returns-clause-machine c =
     ap (λ (t : Guested). t.machine) c.take_steps.ensures.turned
     ∙ ap (λ (ram : List ℕ). (turn_of g.script c.args.limit (turned_on g ram [])).guest.machine) c.reset.ensures.ram
     ∙ turns_by_rule g.script c.args.limit from
+
+pub returns-clause-free : goal.returns-clause-free
+returns-clause-free c = goes_on_freely _ _ _ _ (returns-clause-machine c)
 
 pub returns-clause-within : goal.returns-clause-within
 returns-clause-within c =
