@@ -9,9 +9,11 @@
 mod guest;
 mod lending;
 mod loading;
+mod session;
 mod stepping;
 mod turn_end;
 mod turns;
 
 pub use guest::Guest;
+pub use session::{Session, SessionGuest};
 pub use turn_end::TurnEnd;

@@ -1,0 +1,41 @@
+-- A session: a board, the steps of a turn, and what its guests begin with.
+use Rattle.std.specs.Prelude.{◌≡◌, ℕ, ◌%◌, ◌≤◌, List, length, All}
+use Rattle.mb_srec.specs.Image.{LiesBelow}
+use Rattle.mb_machine.specs.Machine.{Contents, Entries}
+
+-- what a guest begins with: its image, what is to arrive at its terminal, the bytes of its RAM, and how many steps it
+-- takes at most
+pub record GuestAtStart : Type 0 where
+  pub image : Contents
+  pub script : Entries
+  pub ram : ℕ
+  pub steps : ℕ
+
+-- the bytes of a board, the steps of a turn, and the guests in their order
+pub record SessionAtStart : Type 0 where
+  pub board : ℕ
+  pub slice : ℕ
+  pub guests : List GuestAtStart
+
+-- ---- what a session can be
+
+-- 64 to 16,384 KiB, a multiple of 64
+abbrev pub IsRamBytes : ℕ → Type 0
+IsRamBytes bytes = (65536 ≤ bytes) × (bytes ≤ 16777216) × (bytes % 65536 ≡ 0)
+
+-- 128 to 65,536 KiB, a multiple of 64
+abbrev pub IsBoardBytes : ℕ → Type 0
+IsBoardBytes bytes = (131072 ≤ bytes) × (bytes ≤ 67108864) × (bytes % 65536 ≡ 0)
+
+-- its image lies in its RAM
+pub record IsGuest (guest : GuestAtStart) : Type 0 where
+  pub ram : IsRamBytes guest.ram
+  pub image : All (LiesBelow guest.ram) guest.image
+
+-- The sizes and numbers are in their ranges, and there are one to sixteen guests.
+pub record IsSession (session : SessionAtStart) : Type 0 where
+  pub board : IsBoardBytes session.board
+  pub slice : 1 ≤ session.slice
+  pub some : 1 ≤ length session.guests
+  pub few : length session.guests ≤ 16
+  pub guests : All IsGuest session.guests

@@ -1,0 +1,5 @@
+pub mod Fits
+pub mod Lent
+pub mod Places
+pub mod RoundLaws
+pub mod Turns

@@ -1,0 +1,25 @@
+use Rattle.std.proofs.Common.{◌∙◌, ◌^◌, ◌<◌, List, map, ap, sym, subst, arith}
+use Rattle.vm_guest.specs.Session.{GuestAtStart}
+use Rattle.vm_slices.specs.Fit.{need_of}
+use Rattle.vm_slices.specs.Members.{member_at_start}
+use Rattle.vm_slices.proofs.Fits.{need_fits, as_many}
+use Rattle.vm_slices.proofs.host.Host.prepare.Goals as goal
+
+pub bytes_needed-need-requires : goal.bytes_needed-need-requires
+bytes_needed-need-requires c =
+    subst (λ (gs : List GuestAtStart). need_of gs < 2 ^ 32) (sym c.guests.ensures)
+    (need_fits c.args.session.guests c.requires.guests c.requires.few)
+
+pub invariant_of-result : goal.invariant_of-result
+invariant_of-result c =
+    let members = c.in_ok-guests.ensures.members ∙ ap (map member_at_start) c.into_guests.ensures in
+    record {
+      some = let slice = c.slice-slice.ensures in let some = c.requires.slice in omega arith;
+      few =
+          let count = as_many c.args.session.guests c.in_ok-guests.guests.items c.prepare_guests.new.board.world.ram members in
+          let few = c.requires.few in omega arith;
+      stand = c.in_ok-guests.ensures.stand;
+    }
+
+pub returns-clause-members : goal.returns-clause-members
+returns-clause-members c = c.in_ok-guests.ensures.members ∙ ap (map member_at_start) c.into_guests.ensures

@@ -1,0 +1,4 @@
+pub mod Fit
+pub mod Lending
+pub mod Members
+pub mod Places

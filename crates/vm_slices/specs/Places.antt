@@ -1,0 +1,51 @@
+-- Guests of a session on a board.
+use Rattle.std.specs.Prelude.{ℕ, ◌≤◌, List, [], ◌∷◌, length, map, zero, suc}
+use Rattle.vm_machine.specs.Turns.{no_steps}
+use Rattle.vm_machine.specs.Seats.{guested_on, end_of, monitor_bytes, IsSeated}
+use Rattle.vm_machine.specs.Rounds.{Member}
+use Rattle.vm_slices.specs.declared.host_guest.HostGuest.{HostGuest}
+use Rattle.vm_slices.specs.Members.{after_turn}
+
+-- a guest with the board's memory as one of a session
+abbrev pub member_of : List ℕ → HostGuest → Member
+member_of ram g = record {
+  script = g.guest.script;
+  bound = g.bound;
+  guest = guested_on g.guest ram;
+  tally = no_steps;
+}
+
+abbrev pub members_of : List HostGuest → List ℕ → List Member
+members_of guests ram = map (member_of ram) guests
+
+-- A host: how many steps a turn has at most, the guests, and the board's memory. Of all but the slice, clauses speak by
+-- the members alone, since a member's shadow is a function, which a model cannot hold.
+pub record HostState : Type 0 where
+  pub slice : ℕ
+  pub guests : List HostGuest
+  pub ram : List ℕ
+
+abbrev pub members_in : HostState → List Member
+members_in host = members_of host.guests host.ram
+
+-- They stand one after the other from a place on.
+abbrev pub StandFrom : ℕ → List HostGuest → List ℕ → Type 0
+StandFrom from [] ram = Unit {0}
+StandFrom from (g ∷ guests) ram = (from ≤ g.guest.base) × IsSeated g.guest ram × StandFrom (end_of g.guest) guests ram
+
+-- where the last of them ends
+abbrev pub end_of_all : ℕ → List HostGuest → ℕ
+end_of_all from [] = from
+end_of_all from (g ∷ guests) = end_of_all (end_of g.guest) guests
+
+-- what holds of a host: turns have steps, and all guests stand behind the monitor's bytes
+pub record IsHost (slice : ℕ) (guests : List HostGuest) (ram : List ℕ) : Type 0 where
+  pub some : 1 ≤ slice
+  pub few : length guests ≤ 16
+  pub stand : StandFrom monitor_bytes guests ram
+
+-- members of which the one at a place has taken its turn of a round
+abbrev pub with_turn : (slice place : ℕ) → List Member → List Member
+with_turn slice place [] = []
+with_turn slice zero (m ∷ members) = after_turn slice m ∷ members
+with_turn slice (suc place) (m ∷ members) = m ∷ with_turn slice place members

@@ -1,0 +1,81 @@
+//! One guest of a session on its board.
+
+ghost use Rattle.std.specs.Prelude.{◌≡◌, ◌+◌, ◌%◌, ◌^◌, ◌<◌, ◌≤◌, length, IfOk};
+ghost use Rattle.vm_shadow.specs.Mapped.{area_bytes};
+ghost use Rattle.vm_machine.specs.Seats.{end_of, monitor_bytes, IsSame, IsSeated, OnlyWithin};
+ghost use Rattle.vm_machine.specs.Rounds.{left, is_done};
+ghost use Rattle.vm_guest.specs.Memory.{OnlyBetween};
+ghost use Rattle.vm_guest.specs.Session.{IsGuest};
+ghost use Rattle.vm_slices.specs.Members.{after_turn, member_at_start};
+ghost use Rattle.vm_slices.specs.Places.{member_of};
+
+use mb_board::{Board, takes_steps};
+use mb_outside::Memory;
+use std::alloc::Global;
+use vm_guest::{Guest, SessionGuest};
+
+/// A guest, and how many steps it takes at most.
+#[derive(Drop)]
+pub(crate) struct HostGuest {
+    pub(crate) guest: Guest,
+    pub(crate) bound: u32,
+}
+
+impl HostGuest {
+    /// A guest at its start, from this place of the board on.
+    pub(crate) fn prepare(
+        alloc: Global,
+        guest: SessionGuest,
+        base: u32,
+        board: &mut Board,
+    ) -> Result<HostGuest, Memory>
+        requires guest { IsGuest guest }
+        requires base { (monitor_bytes ≤ base) × (base % 65536 ≡ 0) }
+        requires inside { base + guest.ram + area_bytes ≤ length board.old.world.ram }
+        ensures start { IfOk result (λ host. member_of board.new.world.ram host ≡ member_at_start guest) }
+        ensures place { IfOk result (λ host. (host.guest.base ≡ base) × (host.guest.size ≡ guest.ram)) }
+        ensures seated { IfOk result (λ host. IsSeated host.guest board.new.world.ram) }
+        ensures within { OnlyBetween base (base + guest.ram + area_bytes) board.old.world.ram board.new.world.ram }
+    {
+        let ram = guest.ram();
+        let bound = guest.steps();
+        let (image, script) = guest.into_parts();
+        let guest = Guest::prepare(alloc, image, script, ram, base, board)?;
+        Ok(HostGuest { guest, bound })
+    }
+
+    /// How many steps it has left: none where it is halted or off.
+    pub(crate) fn left(&self, board: &Board) -> u32
+        requires { IsSeated self.now.guest board.now.world.ram }
+        ensures left { result ≡ left (member_of board.now.world.ram self.now) }
+        ensures room { self.now.guest.steps + result < 2 ^ 32 }
+    {
+        let outcome = self.guest.outcome(board);
+        if takes_steps(outcome.state) {
+            self.bound.saturating_sub(outcome.steps)
+        } else {
+            0
+        }
+    }
+
+    /// Whether it has done its steps, or is halted or off.
+    pub(crate) fn is_done(&self, board: &Board) -> bool
+        requires { IsSeated self.now.guest board.now.world.ram }
+        ensures { result ≡ is_done (member_of board.now.world.ram self.now) }
+    {
+        self.left(board) == 0
+    }
+
+    /// Its turn of a round: up to a slice of steps, as many as it has left.
+    pub(crate) fn take_turn(&mut self, board: &mut Board, slice: u32)
+        requires { IsSeated self.old.guest board.old.world.ram }
+        ensures turn { member_of board.new.world.ram self.new
+            ≡ after_turn slice (member_of board.old.world.ram self.old) }
+        ensures same { IsSame self.old.guest self.new.guest }
+        ensures seated { IsSeated self.new.guest board.new.world.ram }
+        ensures within { OnlyWithin self.old.guest board.old.world.ram board.new.world.ram }
+    {
+        let steps = slice.min(self.left(board));
+        self.guest.turn(board, steps);
+    }
+}
