@@ -1,5 +1,5 @@
 -- How what the code has stands to what the definitions give.
-use Rattle.std.specs.Prelude.{◌≡◌, ℕ, List, map, Result, Ok, Err, Option, Some, None}
+use Rattle.std.specs.Prelude.{◌≡◌, ℕ, Result, Ok, Err}
 use Rattle.mb_asm.specs.declared.fault.AsmKind.{AsmKind}
 use Rattle.mb_asm.specs.declared.fault.AsmFault.{AsmFault}
 use Rattle.mb_asm.specs.declared.fault.AsmFault.TheVariants.{Memory, Line}

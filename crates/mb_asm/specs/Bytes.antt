@@ -1,7 +1,7 @@
 -- The bytes that an operation writes, with the symbols of all lines.
 use Rattle.std.specs.Prelude.{ℕ, ◌+◌, ◌-◌, ◌%◌, ◌^◌, ◌==◌, if◌then◌else◌, List, [], ◌∷◌, ◌++◌, Option, Some, None}
-use Rattle.std.specs.Prelude.{option_map, Result, Ok, Err, slice_range}
-use Rattle.std.specs.Option.{ok_or}
+use Rattle.std.specs.Prelude.{Result, Ok, Err, slice_range}
+use Rattle.std.specs.Option.{ok_or, unwrap_or}
 use Rattle.std.specs.List.{flat_map}
 use Rattle.byteorder.specs.Endian.{big_bytes}
 use Rattle.mb_instr.specs.declared.instruction.Instr.{Instr}
@@ -24,9 +24,9 @@ use Rattle.mb_asm.specs.declared.directive.Directive.{Directive}
 use Rattle.mb_asm.specs.declared.directive.Directive.TheVariants as directive
 use Rattle.mb_asm.specs.Kinds.{meant}
 use Rattle.mb_asm.specs.Results.{◌>>=◌, refuse}
-use Rattle.mb_asm.specs.Values.{Scope, have_flaw, value_of, values_of}
+use Rattle.mb_asm.specs.Values.{Scope, have_flaw, values_of}
 use Rattle.mb_asm.specs.Directives.{plain_of, unit_of}
-use Rattle.mb_asm.specs.Extents.{directive_in, narrow_value}
+use Rattle.mb_asm.specs.Extents.{directive_in, narrow_value, ranged}
 
 -- DC
 
@@ -37,12 +37,12 @@ unit_range unit = if unit == 1 then range.Byte else if unit == 2 then range.Word
 abbrev pub text_bytes : List ℕ → Name → List ℕ
 text_bytes line text = slice_range line (text.start + 1) (text.end - 1)
 
--- a value as a unit of so many bytes
+-- a value as a unit of so many bytes; one that is not known counts as 0
 unfoldable pub unit_bytes : ℕ → Scope → Sum → Result (List ℕ) AsmKind
 unit_bytes unit scope terms = do
   value ← narrow_value scope terms
-  spelled ← ok_or (number (unit_range unit) value) kind.Range
-  Ok (big_bytes unit spelled)
+  spelled ← ranged (number (unit_range unit)) value
+  Ok (big_bytes unit (unwrap_or spelled 0))
 
 abbrev pub plain_bytes : ℕ → Scope → Option Sum → Result (List ℕ) AsmKind
 plain_bytes unit scope (Some terms) = unit_bytes unit scope terms
@@ -70,12 +70,27 @@ dc_bytes scope operation = do
 abbrev pub bytes_of : Instr → List ℕ
 bytes_of i = flat_map (big_bytes 2) (words_of (row i))
 
+-- the address of an instruction, where all that its numbers rest on is known
+unfoldable pub settled_at : Scope → Operation → Option ℕ
+settled_at scope operation = if have_flaw flaw.Unknown scope operation.operands then None else scope.at
+
+-- an instruction at the address
+unfoldable pub bytes_there : Scope → Operation → ℕ → Result (List ℕ) AsmKind
+bytes_there scope operation at = do
+  i ← meant (meaning (bytes_at scope.line operation.name) operation.size (values_of scope operation.operands)
+      (at % 2 ^ 32))
+  Ok (bytes_of i)
+
+-- The numbers of an instruction that rests on what is not known are not judged.
+abbrev pub settled_bytes : Scope → Operation → Option ℕ → Result (List ℕ) AsmKind
+settled_bytes scope operation None = Ok []
+settled_bytes scope operation (Some at) = bytes_there scope operation at
+
 unfoldable pub instruction_bytes : Scope → Operation → Result (List ℕ) AsmKind
 instruction_bytes scope operation = do
-  i ← meant (meaning (bytes_at scope.line operation.name) operation.size (values_of scope operation.operands)
-      (scope.at % 2 ^ 32))
+  written ← settled_bytes scope operation (settled_at scope operation)
   narrow ← refuse (have_flaw flaw.Wide scope operation.operands) kind.Range
-  Ok (bytes_of i)
+  Ok written
 
 abbrev pub directive_bytes : Scope → Operation → Directive → Result (List ℕ) AsmKind
 directive_bytes scope operation directive.Dc = dc_bytes scope operation

@@ -1,11 +1,10 @@
 -- What a statement writes, or the first fault that it has.
-use Rattle.std.specs.Prelude.{ℕ, ◌+◌, ◌%◌, ◌==◌, nat_lt, Bool, true, false, not, ◌&&◌, ◌||◌, if◌then◌else◌, List, []}
-use Rattle.std.specs.Prelude.{◌∷◌, length, Option, Some, None, Result, Ok, Err}
-use Rattle.std.specs.Option.{is_some}
+use Rattle.std.specs.Prelude.{ℕ, ◌+◌, ◌%◌, ◌==◌, nat_lt, Bool, true, false, ◌&&◌, ◌||◌, if◌then◌else◌, List, []}
+use Rattle.std.specs.Prelude.{length, Option, Some, None, Result, Ok, Err}
+use Rattle.std.specs.Option.{is_some, unwrap_or}
 use Rattle.mb_syntax.specs.declared.word.Name.{Name}
 use Rattle.mb_syntax.specs.Statements.{Operation, Statement}
 use Rattle.mb_syntax.specs.Spans.{bytes_at}
-use Rattle.mb_mnemonics.specs.declared.fault.MeansFault.TheVariants as means
 use Rattle.mb_asm.specs.declared.fault.AsmKind.{AsmKind}
 use Rattle.mb_asm.specs.declared.fault.AsmKind.TheVariants as kind
 use Rattle.mb_asm.specs.declared.value.Flaw.TheVariants as flaw
@@ -36,7 +35,7 @@ scope_of symbols layout line found =
     if reads_earlier found then earlier layout line else record { symbols = symbols; line = line; at = layout.at }
 
 -- no operation has the name
-abbrev pub has_no_name : Result ℕ AsmKind → Bool
+abbrev pub has_no_name : Result (Option ℕ) AsmKind → Bool
 has_no_name (Err kind.Name) = true
 has_no_name _ = false
 
@@ -50,7 +49,11 @@ abbrev pub is_again : Layout → List ℕ → Option Name → Bool
 is_again layout line (Some name) = is_some (value_in layout.symbols (bytes_at line name))
 is_again layout line None = false
 
--- Place: a word or long at an odd address by an instruction, or an address past the last.
+-- Place: a word or long at an odd address by an instruction, or an address past the last. An address that is not known
+-- counts as 0, where all may stand.
+abbrev pub place : Option ℕ → ℕ
+place at = unwrap_or at 0
+
 abbrev pub is_odd : ℕ → Option Directive → Bool
 is_odd at None = at % 2 == 1
 is_odd at (Some _) = false
@@ -89,18 +92,19 @@ admitted layout line label found unknown = do
   refuse (is_again layout line label) kind.Twice
 
 -- what is written by an operation that ends at the address
-unfoldable pub laid_to : ℕ → Scope → Option Name → Option Directive → Operation → Result Laid AsmKind
+unfoldable pub laid_to : Option ℕ → Scope → Option Name → Option Directive → Operation → Result Laid AsmKind
 laid_to end scope label found operation = do
   value ← equ_checked scope operation found
   written ← bytes scope operation
-  placed ← refuse (is_misplaced scope.at label found end || reaches_past scope.at written) kind.Place
-  Ok (record { bytes = written; next = end })
+  placed ← refuse (is_misplaced (place scope.at) label found (place end) || reaches_past (place scope.at) written)
+      kind.Place
+  Ok (record { bytes = written; next = place end })
 
 -- an operation that is a directive or none, by what it reads its symbols in and the address behind it
-unfoldable pub judged_by : Layout → List ℕ → Option Name → Operation → Option Directive → Scope → Result ℕ AsmKind
-    → Result Laid AsmKind
+unfoldable pub judged_by : Layout → List ℕ → Option Name → Operation → Option Directive → Scope
+    → Result (Option ℕ) AsmKind → Result Laid AsmKind
 judged_by layout line label operation found scope next = do
-  first ← admitted layout line label found (has_no_name next || have_flaw flaw.Unknown scope operation.operands)
+  first ← admitted layout line label found (has_no_name next || have_flaw flaw.Nameless scope operation.operands)
   end ← next
   laid_to end scope label found operation
 
@@ -115,8 +119,8 @@ judged_operation symbols layout line label operation =
 unfoldable pub judged_label : Layout → List ℕ → Option Name → Result Laid AsmKind
 judged_label layout line label = do
   first ← refuse (is_again layout line label) kind.Twice
-  placed ← refuse (is_address label None && is_past layout.at) kind.Place
-  Ok (record { bytes = []; next = layout.at })
+  placed ← refuse (is_address label None && is_past (place layout.at)) kind.Place
+  Ok (record { bytes = []; next = place layout.at })
 
 abbrev pub judged_statement : List Symbol → Layout → List ℕ → Statement → Result Laid AsmKind
 judged_statement symbols layout line statement = elim statement.operation [

@@ -4,4 +4,4 @@ use Rattle.mb_asm.specs.Said.{symbols_said}
 use Rattle.mb_asm.specs.Layouts as layouts
 
 abbrev pub layout_said : Layout → layouts.Layout
-layout_said layout = record { at = layout.at; symbols = symbols_said layout.symbols.items }
+layout_said layout = record { at = layout.at; symbols = symbols_said layout.symbols }

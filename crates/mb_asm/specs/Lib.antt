@@ -15,3 +15,4 @@ pub mod Laids
 pub mod Texts
 pub mod Gathered
 pub mod Answers
+pub mod Laws

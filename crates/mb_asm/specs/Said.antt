@@ -1,10 +1,12 @@
--- What the code's symbols and scopes stand for.
-use Rattle.std.specs.Prelude.{List, map}
-use Rattle.mb_asm.specs.declared.symbol.Symbol.{Symbol}
+-- What the code's symbols stand for.
+use denote.Ref.{Bor}
+use Rattle.std.specs.Prelude.{ℕ, List, map}
+use Rattle.std.specs.HashMap.{HashMap}
+use Rattle.mb_asm.specs.declared.symbol.SymbolValue.{SymbolValue}
 use Rattle.mb_asm.specs.Symbols as symbols
 
-abbrev pub symbol_said : Symbol → symbols.Symbol
-symbol_said symbol = record { name = symbol.name.now; value = symbol.value }
+abbrev pub symbol_said : Bor (List ℕ) × SymbolValue → symbols.Symbol
+symbol_said entry = record { name = entry.0.now; value = entry.1.number }
 
-abbrev pub symbols_said : List Symbol → List symbols.Symbol
-symbols_said given = map symbol_said given
+abbrev pub symbols_said : {S : Type 0} → HashMap (Bor (List ℕ)) SymbolValue S → List symbols.Symbol
+symbols_said given = map symbol_said given.entries

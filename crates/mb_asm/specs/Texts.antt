@@ -1,5 +1,5 @@
 -- The image of a text, or its first faulty line.
-use Rattle.std.specs.Prelude.{ℕ, ◌+◌, ◌==◌, Bool, true, false, if◌then◌else◌, List, [], ◌∷◌, ◌++◌, length, Result, Ok}
+use Rattle.std.specs.Prelude.{ℕ, ◌+◌, ◌==◌, if◌then◌else◌, List, [], ◌∷◌, ◌++◌, length, Result, Ok}
 use Rattle.std.specs.Prelude.{Err}
 use Rattle.mb_lines.specs.Lines.{Line, numbered}
 use Rattle.mb_syntax.specs.Lines.{statement_in}
@@ -7,7 +7,7 @@ use Rattle.mb_asm.specs.declared.fault.AsmKind.{AsmKind}
 use Rattle.mb_asm.specs.Results.{◌>>=◌}
 use Rattle.mb_asm.specs.Symbols.{Symbol}
 use Rattle.mb_asm.specs.Layouts.{Layout, after_line, after_lines, beginning}
-use Rattle.mb_asm.specs.Judged.{Laid, judged}
+use Rattle.mb_asm.specs.Judged.{Laid, judged, place}
 
 -- The number of a line, and the first kind of fault that it has.
 pub record Fault : Type 0 where
@@ -54,7 +54,7 @@ abbrev pub chunks_from : List Symbol → Layout → Chunks → List Line → Res
 chunks_from symbols layout chunks [] = Ok chunks
 chunks_from symbols layout chunks (line ∷ lines) =
     at_line line.number (judged symbols layout line.characters (statement_in line.characters)) >>= λ laid.
-    chunks_from symbols (after_line layout line) (with_laid chunks layout.at laid) lines
+    chunks_from symbols (after_line layout line) (with_laid chunks (place layout.at) laid) lines
 
 -- the symbols of all lines
 abbrev pub symbols_of : List Line → List Symbol

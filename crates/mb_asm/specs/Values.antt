@@ -1,6 +1,6 @@
 -- The values of expressions.
-use Rattle.std.specs.Prelude.{ℕ, ◌^◌, ℤ, pos, ◌+ℤ◌, neg_ℤ, Bool, true, false, not, ◌||◌, nat_lt, if◌then◌else◌, List}
-use Rattle.std.specs.Prelude.{[], ◌∷◌, length, map, Option, Some, None}
+use Rattle.std.specs.Prelude.{ℕ, ℤ, pos, ◌+ℤ◌, neg_ℤ, Bool, true, false, not, ◌||◌, nat_lt, if◌then◌else◌, List}
+use Rattle.std.specs.Prelude.{[], ◌∷◌, length, map, Option, Some, None, option_map, option_and_then}
 use Rattle.std.specs.Option.{is_some, unwrap_or}
 use Rattle.std.specs.List.{list_any}
 use Rattle.mb_syntax.specs.declared.expression.Term.{Term}
@@ -12,7 +12,6 @@ use Rattle.mb_syntax.specs.declared.mode.Mode.{Mode}
 use Rattle.mb_syntax.specs.declared.mode.Mode.TheVariants as mode
 use Rattle.mb_syntax.specs.declared.operand.Operand.{Operand}
 use Rattle.mb_syntax.specs.declared.operand.Operand.TheVariants as operand
-use Rattle.mb_syntax.specs.declared.operand.BitField.{BitField}
 use Rattle.mb_syntax.specs.declared.operand.FieldNumber.{FieldNumber}
 use Rattle.mb_syntax.specs.declared.operand.FieldNumber.TheVariants as number
 use Rattle.mb_syntax.specs.Spans.{bytes_at}
@@ -22,42 +21,50 @@ use Rattle.mb_asm.specs.declared.value.Flaw.{Flaw}
 use Rattle.mb_asm.specs.declared.value.Flaw.TheVariants as flaw
 use Rattle.mb_asm.specs.Symbols.{Symbol, value_in}
 
--- What an expression is read with: symbols, the line that it stands in, and the address of its statement.
+-- What an expression is read with: symbols, the line that it stands in, and the address of its statement, if that is
+-- known.
 pub record Scope : Type 0 where
   pub symbols : List Symbol
   pub line : List ℕ
-  pub at : ℕ
+  pub at : Option ℕ
 
--- Values are exact. A symbol that is not known and a number wider than 32 bits count as 0 here.
-abbrev pub term_value : Scope → Term → ℤ
-term_value scope (term.Number n) = pos n
-term_value scope term.WideNumber = pos 0
-term_value scope (term.Symbol name) = unwrap_or (value_in scope.symbols (bytes_at scope.line name)) (pos 0)
-term_value scope term.Here = pos scope.at
+-- Values are exact, and one that rests on what is not known is not known. A number wider than 32 bits counts as 0 here.
+abbrev pub term_value : Scope → Term → Option ℤ
+term_value scope (term.Number n) = Some (pos n)
+term_value scope term.WideNumber = Some (pos 0)
+term_value scope (term.Symbol name) = unwrap_or (value_in scope.symbols (bytes_at scope.line name)) None
+term_value scope term.Here = option_map pos scope.at
 
-abbrev pub signed_value : Scope → SignedTerm → ℤ
-signed_value scope signed = if signed.is_negative then neg_ℤ (term_value scope signed.term) else term_value scope
-    signed.term
+abbrev pub with_sign : Bool → ℤ → ℤ
+with_sign is_negative value = if is_negative then neg_ℤ value else value
+
+abbrev pub signed_value : Scope → SignedTerm → Option ℤ
+signed_value scope signed = option_map (with_sign signed.is_negative) (term_value scope signed.term)
 
 -- from the left, behind a sum so far
-abbrev pub sum_behind : Scope → ℤ → Sum → ℤ
-sum_behind scope sum [] = sum
-sum_behind scope sum (signed ∷ terms) = sum_behind scope (sum +ℤ signed_value scope signed) terms
+abbrev pub sum_behind : Scope → ℤ → Sum → Option ℤ
+sum_behind scope sum [] = Some sum
+sum_behind scope sum (signed ∷ terms) =
+    option_and_then (λ value. sum_behind scope (sum +ℤ value) terms) (signed_value scope signed)
 
--- no line has so many terms
+-- More than 2 ^ 30 terms. No line of a text below 2 ^ 31 bytes has so many: each term but the first has two bytes.
 abbrev pub is_long : Sum → Bool
-is_long terms = nat_lt 536870912 (length terms)
+is_long terms = nat_lt 1073741824 (length terms)
 
-abbrev pub value_of : Scope → Sum → ℤ
-value_of scope terms = if is_long terms then pos 0 else sum_behind scope (pos 0) terms
+abbrev pub value_of : Scope → Sum → Option ℤ
+value_of scope terms = if is_long terms then Some (pos 0) else sum_behind scope (pos 0) terms
+
+-- a value that is not known counts as 0, where numbers have no part
+abbrev pub counted : Scope → Sum → ℤ
+counted scope terms = unwrap_or (value_of scope terms) (pos 0)
 
 abbrev pub values_of : Scope → List (Operand Sum) → List (Operand ℤ)
-values_of scope operands = map (valued (value_of scope)) operands
+values_of scope operands = map (valued (counted scope)) operands
 
 -- Flaws of expressions.
 
-abbrev pub is_unknown : Scope → SignedTerm → Bool
-is_unknown scope signed = elim signed.term [
+abbrev pub is_nameless : Scope → SignedTerm → Bool
+is_nameless scope signed = elim signed.term [
   | term.Symbol name ↦ not (is_some (value_in scope.symbols (bytes_at scope.line name)))
   | _ ↦ false
 ]
@@ -65,11 +72,12 @@ is_unknown scope signed = elim signed.term [
 abbrev pub is_wide : SignedTerm → Bool
 is_wide signed = elim signed.term [ term.WideNumber ↦ true | _ ↦ false ]
 
--- A symbol is not known, or a number is wider than 32 bits. A sum of more than 2 ^ 29 terms, which no line has, counts
--- as wide.
+-- There is no such symbol, a number is wider than 32 bits, or the value is not known. A sum that is too long counts as
+-- wide.
 abbrev pub has_flaw : Flaw → Scope → Sum → Bool
-has_flaw flaw.Unknown scope terms = list_any (is_unknown scope) terms
+has_flaw flaw.Nameless scope terms = list_any (is_nameless scope) terms
 has_flaw flaw.Wide scope terms = is_long terms || list_any is_wide terms
+has_flaw flaw.Unknown scope terms = not (is_some (value_of scope terms))
 
 -- Whether one of the expressions passes a test.
 

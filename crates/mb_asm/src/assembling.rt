@@ -12,10 +12,11 @@ ghost use Rattle.mb_asm.specs.Texts.{assembled, chunks_from, no_chunks};
 
 use crate::chunks::Chunks;
 use crate::fault::AsmFault;
-use crate::judging::judged;
+use crate::judging::{judged, place};
 use crate::laying::{lay, statement_in};
 use crate::layout::Layout;
-use crate::symbol::Symbol;
+use crate::symbol::Symbols;
+use indexmap::IndexMap;
 use mb_lines::Lines;
 use mb_srec::Image;
 use std::alloc::{AllocError, Global};
@@ -49,8 +50,8 @@ fn beginning<'t>(alloc: Global) -> Layout<'t>
     ensures { layout_said result ≡ beginning }
 {
     Layout {
-        at: 0,
-        symbols: Vec::new(alloc),
+        at: Some(0),
+        symbols: IndexMap::new(alloc),
     }
 }
 
@@ -69,7 +70,7 @@ fn laid_out(alloc: Global, text: &[u8]) -> Result<Layout<'_>, AllocError>
 }
 
 /// The chunks of all lines, with these symbols.
-fn chunks_of(alloc: Global, text: &[u8], symbols: &[Symbol]) -> Result<Chunks, AsmFault>
+fn chunks_of(alloc: Global, text: &[u8], symbols: &Symbols) -> Result<Chunks, AsmFault>
     requires { length text.now < 2 ^ 31 }
     ensures { Gives chunks_said result
         (chunks_from (symbols_said symbols.now) beginning no_chunks (numbered text.now)) }
@@ -84,7 +85,7 @@ fn chunks_of(alloc: Global, text: &[u8], symbols: &[Symbol]) -> Result<Chunks, A
     while let Some(line) = lines.next_line() {
         let statement = statement_in(alloc, line.characters)?;
         match judged(alloc, symbols, &layout, line.characters, &statement) {
-            Ok(laid) => chunks.add(alloc, layout.at, &laid)?,
+            Ok(laid) => chunks.add(alloc, place(layout.at), &laid)?,
             Err(refusal) => return Err(refusal.at(line.number)),
         }
         lay(alloc, &mut layout, line.characters, &statement)?;

@@ -1,13 +1,13 @@
 //! The values of expressions.
 
-ghost use Rattle.std.specs.Prelude.{◌≡◌, ◌^◌, ◌≤◌, ◌≤ℤ◌, ◌+ℤ◌, IfOk, length, negsuc, option_map, pos};
+ghost use Rattle.std.specs.Prelude.{◌≡◌, ◌^◌, ◌≤◌, ◌≤ℤ◌, ◌+ℤ◌, IfOk, IfSome, length, negsuc, option_map, pos};
 ghost use Rattle.std.specs.List.{list_any};
 ghost use Rattle.mb_mnemonics.specs.Values.{valued, valued_displacement, valued_field, valued_form, valued_mode};
 ghost use Rattle.mb_mnemonics.specs.Values.{valued_number};
 ghost use Rattle.mb_asm.specs.Scopes.{scope_said};
 ghost use Rattle.mb_asm.specs.Values.{have_flaw, has_flaw, in_form, in_mode, in_number, in_operand, in_option};
-ghost use Rattle.mb_asm.specs.Values.{in_displacement, is_long, is_unknown, is_wide, signed_value, sum_behind};
-ghost use Rattle.mb_asm.specs.Values.{term_value, value_of, values_of};
+ghost use Rattle.mb_asm.specs.Values.{in_displacement, is_long, is_nameless, is_wide, signed_value, sum_behind};
+ghost use Rattle.mb_asm.specs.Values.{counted, term_value, value_of, values_of};
 
 use crate::lookup::value_in;
 use crate::value::{Flaw, Scope};
@@ -16,52 +16,69 @@ use mb_syntax::{
 };
 use std::alloc::{AllocError, Global};
 
-fn term_value(scope: &Scope, term: Term) -> i64
+fn term_value(scope: &Scope, term: Term) -> Option<i64>
     ensures value { result ≡ term_value (scope_said scope.now) term }
-    ensures least { negsuc 4294967296 ≤ℤ result }
-    ensures greatest { result ≤ℤ pos 4294967297 }
+    ensures least { IfSome result (λ value. negsuc 4294967296 ≤ℤ value) }
+    ensures greatest { IfSome result (λ value. value ≤ℤ pos 4294967297) }
 {
     match term {
-        Term::Number(number) => i64::from(number),
-        Term::WideNumber => 0,
-        Term::Symbol(name) => value_in(scope.symbols, name.bytes(scope.line)).unwrap_or(0),
-        Term::Here => scope.at as i64,
+        Term::Number(number) => Some(i64::from(number)),
+        Term::WideNumber => Some(0),
+        Term::Symbol(name) => value_in(scope.symbols, name.bytes(scope.line)).unwrap_or(None),
+        Term::Here => match scope.at {
+            Some(at) => Some(at as i64),
+            None => None,
+        },
     }
 }
 
-fn signed_value(scope: &Scope, signed: SignedTerm) -> i64
+fn signed_value(scope: &Scope, signed: SignedTerm) -> Option<i64>
     ensures value { result ≡ signed_value (scope_said scope.now) signed }
-    ensures least { negsuc 4294967296 ≤ℤ result }
-    ensures greatest { result ≤ℤ pos 4294967297 }
+    ensures least { IfSome result (λ value. negsuc 4294967296 ≤ℤ value) }
+    ensures greatest { IfSome result (λ value. value ≤ℤ pos 4294967297) }
 {
-    let value = term_value(scope, signed.term);
-    if signed.is_negative { -value } else { value }
+    let value = term_value(scope, signed.term)?;
+    if signed.is_negative {
+        Some(-value)
+    } else {
+        Some(value)
+    }
 }
 
-/// The exact value of an expression.
-pub(crate) fn value_of(scope: &Scope, expression: &Expression) -> i64
+/// The exact value of an expression, if it is known.
+pub(crate) fn value_of(scope: &Scope, expression: &Expression) -> Option<i64>
     ensures { result ≡ value_of (scope_said scope.now) expression.now }
 {
     let terms = expression.terms();
-    if terms.len() > 1 << 29 {
-        return 0;
+    if terms.len() > 1 << 30 {
+        return Some(0);
     }
     sum_of(scope, terms)
 }
 
-fn sum_of(scope: &Scope, terms: &[SignedTerm]) -> i64
-    requires { length terms.now ≤ 2 ^ 29 }
+fn sum_of(scope: &Scope, terms: &[SignedTerm]) -> Option<i64>
+    requires { length terms.now ≤ 2 ^ 30 }
     ensures { result ≡ sum_behind (scope_said scope.now) (pos 0) terms.now }
 {
     let mut sum = 0;
     for term in terms {
-        sum += signed_value(scope, *term);
+        match signed_value(scope, *term) {
+            Some(value) => sum += value,
+            None => return None,
+        }
     }
-    sum
+    Some(sum)
 }
 
-fn is_unknown(scope: &Scope, signed: SignedTerm) -> bool
-    ensures { result ≡ is_unknown (scope_said scope.now) signed }
+/// The value of an expression, and 0 where it is not known.
+fn counted(scope: &Scope, expression: &Expression) -> i64
+    ensures { result ≡ counted (scope_said scope.now) expression.now }
+{
+    value_of(scope, expression).unwrap_or(0)
+}
+
+fn is_nameless(scope: &Scope, signed: SignedTerm) -> bool
+    ensures { result ≡ is_nameless (scope_said scope.now) signed }
 {
     match signed.term {
         Term::Symbol(name) => value_in(scope.symbols, name.bytes(scope.line)).is_none(),
@@ -81,16 +98,17 @@ pub(crate) fn has_flaw(flaw: Flaw, scope: &Scope, expression: &Expression) -> bo
 {
     let terms = expression.terms();
     match flaw {
-        Flaw::Unknown => has_unknown(scope, terms),
-        Flaw::Wide => terms.len() > 1 << 29 || has_wide(terms),
+        Flaw::Nameless => has_nameless(scope, terms),
+        Flaw::Wide => terms.len() > 1 << 30 || has_wide(terms),
+        Flaw::Unknown => value_of(scope, expression).is_none(),
     }
 }
 
-fn has_unknown(scope: &Scope, terms: &[SignedTerm]) -> bool
-    ensures { result ≡ list_any (is_unknown (scope_said scope.now)) terms.now }
+fn has_nameless(scope: &Scope, terms: &[SignedTerm]) -> bool
+    ensures { result ≡ list_any (is_nameless (scope_said scope.now)) terms.now }
 {
     for term in terms {
-        if is_unknown(scope, *term) {
+        if is_nameless(scope, *term) {
             return true;
         }
     }
@@ -184,11 +202,11 @@ fn displacement_value(
     scope: &Scope,
     displacement: &Option<Displacement<Expression>>,
 ) -> Option<Displacement<i64>>
-    ensures { result ≡ option_map (valued_displacement (value_of (scope_said scope.now))) displacement.now }
+    ensures { result ≡ option_map (valued_displacement (counted (scope_said scope.now))) displacement.now }
 {
     match displacement {
         Some(displacement) => Some(Displacement {
-            value: value_of(scope, &displacement.value),
+            value: counted(scope, &displacement.value),
             width: displacement.width,
         }),
         None => None,
@@ -196,7 +214,7 @@ fn displacement_value(
 }
 
 fn form_value(scope: &Scope, form: &FullForm<Expression>) -> FullForm<i64>
-    ensures { result ≡ valued_form (value_of (scope_said scope.now)) form.now }
+    ensures { result ≡ valued_form (counted (scope_said scope.now)) form.now }
 {
     FullForm {
         displacement: displacement_value(scope, &form.displacement),
@@ -209,7 +227,7 @@ fn form_value(scope: &Scope, form: &FullForm<Expression>) -> FullForm<i64>
 
 #[rattlefmt::skip]
 fn mode_value(scope: &Scope, mode: &Mode<Expression>) -> Mode<i64>
-    ensures { result ≡ valued_mode (value_of (scope_said scope.now)) mode.now }
+    ensures { result ≡ valued_mode (counted (scope_said scope.now)) mode.now }
 {
     match mode {
         Mode::Data(register) => Mode::Data(*register),
@@ -218,28 +236,28 @@ fn mode_value(scope: &Scope, mode: &Mode<Expression>) -> Mode<i64>
         Mode::PostIncrement(register) => Mode::PostIncrement(*register),
         Mode::PreDecrement(register) => Mode::PreDecrement(*register),
         Mode::Displaced { register, displacement } =>
-            Mode::Displaced { register: *register, displacement: value_of(scope, displacement) },
+            Mode::Displaced { register: *register, displacement: counted(scope, displacement) },
         Mode::Indexed { register, displacement, index } =>
-            Mode::Indexed { register: *register, displacement: value_of(scope, displacement), index: *index },
-        Mode::Absolute { address, width } => Mode::Absolute { address: value_of(scope, address), width: *width },
-        Mode::PcDisplaced { target } => Mode::PcDisplaced { target: value_of(scope, target) },
-        Mode::PcIndexed { target, index } => Mode::PcIndexed { target: value_of(scope, target), index: *index },
+            Mode::Indexed { register: *register, displacement: counted(scope, displacement), index: *index },
+        Mode::Absolute { address, width } => Mode::Absolute { address: counted(scope, address), width: *width },
+        Mode::PcDisplaced { target } => Mode::PcDisplaced { target: counted(scope, target) },
+        Mode::PcIndexed { target, index } => Mode::PcIndexed { target: counted(scope, target), index: *index },
         Mode::Full(form) => Mode::Full(form_value(scope, form)),
-        Mode::Immediate(e) => Mode::Immediate(value_of(scope, e)),
+        Mode::Immediate(e) => Mode::Immediate(counted(scope, e)),
     }
 }
 
 fn number_value(scope: &Scope, number: &FieldNumber<Expression>) -> FieldNumber<i64>
-    ensures { result ≡ valued_number (value_of (scope_said scope.now)) number.now }
+    ensures { result ≡ valued_number (counted (scope_said scope.now)) number.now }
 {
     match number {
         FieldNumber::Data(register) => FieldNumber::Data(*register),
-        FieldNumber::Number(e) => FieldNumber::Number(value_of(scope, e)),
+        FieldNumber::Number(e) => FieldNumber::Number(counted(scope, e)),
     }
 }
 
 fn field_value(scope: &Scope, field: &BitField<Expression>) -> BitField<i64>
-    ensures { result ≡ valued_field (value_of (scope_said scope.now)) field.now }
+    ensures { result ≡ valued_field (counted (scope_said scope.now)) field.now }
 {
     BitField {
         offset: number_value(scope, &field.offset),
@@ -250,7 +268,7 @@ fn field_value(scope: &Scope, field: &BitField<Expression>) -> BitField<i64>
 /// An operand with the values of its expressions.
 #[rattlefmt::skip]
 fn operand_value(scope: &Scope, operand: &Operand<Expression>) -> Operand<i64>
-    ensures { result ≡ valued (value_of (scope_said scope.now)) operand.now }
+    ensures { result ≡ valued (counted (scope_said scope.now)) operand.now }
 {
     match operand {
         Operand::Mode(mode) => Operand::Mode(mode_value(scope, mode)),

@@ -1,13 +1,12 @@
 //! Where the bytes of an operation end.
 
-ghost use Rattle.std.specs.Prelude.{◌≡◌, ◌+◌, ◌-◌, ◌*◌, ◌≤◌, ◌≤ℤ◌, IfOk, IfSome, IsTrue, negsuc, option_map, pos};
-ghost use Rattle.mb_mnemonics.specs.declared.range.Range.TheVariants as range;
+ghost use Rattle.std.specs.Prelude.{◌≡◌, ◌+◌, ◌-◌, ◌*◌, ◌≤◌, ◌≤ℤ◌, IfOk, IfSome, negsuc, option_map, pos};
 ghost use Rattle.mb_asm.specs.Scopes.{scope_said};
 ghost use Rattle.mb_syntax.specs.Answers.{operation_said};
 ghost use Rattle.mb_asm.specs.Answers.{GivesAlone};
 ghost use Rattle.mb_asm.specs.Extents.{address_of, behind, behind_dc, behind_directive, behind_ds, behind_even};
-ghost use Rattle.mb_asm.specs.Extents.{behind_instruction, behind_items, behind_org, count_of, equ_value, is_in};
-ghost use Rattle.mb_asm.specs.Extents.{item_len, narrow_value, no_size, only_value, onward, past, text_len};
+ghost use Rattle.mb_asm.specs.Extents.{behind_instruction, behind_items, behind_org, count_of, equ_value, even_from};
+ghost use Rattle.mb_asm.specs.Extents.{item_len, long_of, narrow_value, no_size, only_value, onward, text_len};
 
 use crate::directive::{Directive, directive_of, only_of, plain_of, unit_of};
 use crate::evaluation::{has_flaw, value_of, values_of};
@@ -21,12 +20,13 @@ use std::alloc::{AllocError, Global};
 /// Stands for all addresses past 2^32, which is the end of the last byte.
 const PAST: u64 = 0x1_0000_0001;
 
-/// The address so many bytes on.
-pub(crate) fn onward(at: u64, len: u64) -> u64
+/// The address so many bytes on, if it is known.
+fn onward(at: Option<u64>, len: u64) -> Option<u64>
     ensures value { result ≡ onward at len }
-    ensures most { result ≤ 4294967297 }
+    ensures most { IfSome result (λ known. known ≤ 4294967297) }
 {
-    at.saturating_add(len).min(PAST)
+    let known = at?;
+    Some(known.saturating_add(len).min(PAST))
 }
 
 /// What has no size.
@@ -39,9 +39,9 @@ fn no_size(size: Option<SizeLetter>) -> Result<(), AsmKind>
     Ok(())
 }
 
-/// The value of an expression.
+/// The value of an expression, if it is known.
 #[tactic(auto, unfolding(crate::specs::Extents::narrow_value))]
-pub(crate) fn narrow_value(scope: &Scope, expression: &Expression) -> Result<i64, AsmKind>
+pub(crate) fn narrow_value(scope: &Scope, expression: &Expression) -> Result<Option<i64>, AsmKind>
     ensures { result ≡ narrow_value (scope_said scope.now) expression.now }
 {
     if has_flaw(Flaw::Wide, scope, expression) {
@@ -52,7 +52,7 @@ pub(crate) fn narrow_value(scope: &Scope, expression: &Expression) -> Result<i64
 
 /// The value of the one operand of ORG, EQU or DS.
 #[tactic(auto, unfolding(crate::specs::Extents::only_value))]
-fn only_value(scope: &Scope, operands: &[Operand<Expression>]) -> Result<i64, AsmKind>
+fn only_value(scope: &Scope, operands: &[Operand<Expression>]) -> Result<Option<i64>, AsmKind>
     ensures { result ≡ only_value (scope_said scope.now) operands.now }
 {
     let Some(expression) = only_of(operands) else {
@@ -72,39 +72,49 @@ fn address_of(value: i64) -> Option<u64>
 }
 
 #[tactic(auto, unfolding(crate::specs::Extents::behind_org))]
-fn behind_org(scope: &Scope, operation: &Operation) -> Result<u64, AsmKind>
+fn behind_org(scope: &Scope, operation: &Operation) -> Result<Option<u64>, AsmKind>
     ensures value { result ≡ behind_org (scope_said scope.now) (operation_said operation.now) }
-    ensures most { IfOk result (λ at. at ≤ 4294967297) }
+    ensures most { IfOk result (λ at. IfSome at (λ known. known ≤ 4294967297)) }
 {
     no_size(operation.size)?;
     let value = only_value(scope, &operation.operands)?;
-    match address_of(value) {
-        Some(at) => Ok(at),
-        None => Err(AsmKind::Range),
+    match value {
+        Some(value) => match address_of(value) {
+            Some(at) => Ok(Some(at)),
+            None => Err(AsmKind::Range),
+        },
+        None => Ok(None),
     }
 }
 
 /// A value of 32 bits, with or without a sign.
 #[tactic(auto, unfolding(crate::specs::Extents::equ_value))]
-pub(crate) fn equ_value(scope: &Scope, operation: &Operation) -> Result<i64, AsmKind>
+pub(crate) fn equ_value(scope: &Scope, operation: &Operation) -> Result<Option<i64>, AsmKind>
     ensures value { result ≡ equ_value (scope_said scope.now) (operation_said operation.now) }
-    ensures least { IfOk result (λ value. negsuc 2147483647 ≤ℤ value) }
-    ensures greatest { IfOk result (λ value. value ≤ℤ pos 4294967295) }
+    ensures least { IfOk result (λ found. IfSome found (λ value. negsuc 2147483647 ≤ℤ value)) }
+    ensures greatest { IfOk result (λ found. IfSome found (λ value. value ≤ℤ pos 4294967295)) }
 {
     no_size(operation.size)?;
     let value = only_value(scope, &operation.operands)?;
-    if !is_long(value) {
-        return Err(AsmKind::Range);
+    match value {
+        Some(value) => match long_of(value) {
+            Some(value) => Ok(Some(value)),
+            None => Err(AsmKind::Range),
+        },
+        None => Ok(None),
     }
-    Ok(value)
 }
 
-fn is_long(value: i64) -> bool
-    ensures value { result ≡ is_in range.Long value }
-    ensures least { IsTrue result → negsuc 2147483647 ≤ℤ value }
-    ensures greatest { IsTrue result → value ≤ℤ pos 4294967295 }
+fn long_of(value: i64) -> Option<i64>
+    ensures value { result ≡ long_of value }
+    ensures least { IfSome result (λ value. negsuc 2147483647 ≤ℤ value) }
+    ensures greatest { IfSome result (λ value. value ≤ℤ pos 4294967295) }
 {
-    -0x8000_0000 <= value && value <= 0xffff_ffff
+    if -0x8000_0000 <= value && value <= 0xffff_ffff {
+        Some(value)
+    } else {
+        None
+    }
 }
 
 fn count_of(value: i64) -> Option<u32>
@@ -117,18 +127,21 @@ fn count_of(value: i64) -> Option<u32>
 }
 
 #[tactic(auto, unfolding(crate::specs::Extents::behind_ds))]
-fn behind_ds(scope: &Scope, operation: &Operation) -> Result<u64, AsmKind>
+fn behind_ds(scope: &Scope, operation: &Operation) -> Result<Option<u64>, AsmKind>
     ensures value { result ≡ behind_ds (scope_said scope.now) (operation_said operation.now) }
-    ensures most { IfOk result (λ at. at ≤ 4294967297) }
+    ensures most { IfOk result (λ at. IfSome at (λ known. known ≤ 4294967297)) }
 {
     let Some(unit) = unit_of(operation.size) else {
         return Err(AsmKind::Operand);
     };
     let value = only_value(scope, &operation.operands)?;
-    let Some(count) = count_of(value) else {
-        return Err(AsmKind::Range);
-    };
-    Ok(onward(scope.at, u64::from(unit) * u64::from(count)))
+    match value {
+        Some(value) => match count_of(value) {
+            Some(count) => Ok(onward(scope.at, u64::from(unit) * u64::from(count))),
+            None => Err(AsmKind::Range),
+        },
+        None => Ok(None),
+    }
 }
 
 /// What a text has between its quotation marks.
@@ -156,10 +169,14 @@ fn item_len(unit: u8, item: &Operand<Expression>) -> Option<u64>
     }
 }
 
-fn behind_items(unit: u8, at: u64, items: &[Operand<Expression>]) -> Result<u64, AsmKind>
-    requires { at ≤ 4294967297 }
+fn behind_items(
+    unit: u8,
+    at: Option<u64>,
+    items: &[Operand<Expression>],
+) -> Result<Option<u64>, AsmKind>
+    requires { IfSome at (λ known. known ≤ 4294967297) }
     ensures value { result ≡ behind_items unit at items.now }
-    ensures most { IfOk result (λ at. at ≤ 4294967297) }
+    ensures most { IfOk result (λ at. IfSome at (λ known. known ≤ 4294967297)) }
 {
     let mut next = at;
     for item in items {
@@ -172,10 +189,10 @@ fn behind_items(unit: u8, at: u64, items: &[Operand<Expression>]) -> Result<u64,
 }
 
 #[tactic(auto, unfolding(crate::specs::Extents::behind_dc))]
-fn behind_dc(at: u64, operation: &Operation) -> Result<u64, AsmKind>
-    requires { at ≤ 4294967297 }
+fn behind_dc(at: Option<u64>, operation: &Operation) -> Result<Option<u64>, AsmKind>
+    requires { IfSome at (λ known. known ≤ 4294967297) }
     ensures value { result ≡ behind_dc at (operation_said operation.now) }
-    ensures most { IfOk result (λ at. at ≤ 4294967297) }
+    ensures most { IfOk result (λ at. IfSome at (λ known. known ≤ 4294967297)) }
 {
     let Some(unit) = unit_of(operation.size) else {
         return Err(AsmKind::Operand);
@@ -186,23 +203,35 @@ fn behind_dc(at: u64, operation: &Operation) -> Result<u64, AsmKind>
     behind_items(unit, at, &operation.operands)
 }
 
+fn even_from(at: Option<u64>) -> Option<u64>
+    ensures value { result ≡ even_from at }
+    ensures most { IfSome result (λ known. known ≤ 4294967297) }
+{
+    let known = at?;
+    Some(known.saturating_add(known % 2).min(PAST))
+}
+
 #[tactic(auto, unfolding(crate::specs::Extents::behind_even))]
-fn behind_even(at: u64, operation: &Operation) -> Result<u64, AsmKind>
+fn behind_even(at: Option<u64>, operation: &Operation) -> Result<Option<u64>, AsmKind>
     ensures value { result ≡ behind_even at (operation_said operation.now) }
-    ensures most { IfOk result (λ at. at ≤ 4294967297) }
+    ensures most { IfOk result (λ at. IfSome at (λ known. known ≤ 4294967297)) }
 {
     no_size(operation.size)?;
     if !operation.operands.is_empty() {
         return Err(AsmKind::Operand);
     }
-    Ok(onward(at, at % 2))
+    Ok(even_from(at))
 }
 
 #[tactic(auto, unfolding(crate::specs::Extents::behind_instruction))]
-fn behind_instruction(alloc: Global, scope: &Scope, operation: &Operation) -> Result<u64, Refusal>
+fn behind_instruction(
+    alloc: Global,
+    scope: &Scope,
+    operation: &Operation,
+) -> Result<Option<u64>, Refusal>
     ensures value { GivesAlone (λ at. at) result
         (behind_instruction (scope_said scope.now) (operation_said operation.now)) }
-    ensures most { IfOk result (λ at. at ≤ 4294967297) }
+    ensures most { IfOk result (λ at. IfSome at (λ known. known ≤ 4294967297)) }
 {
     let values = values_of(alloc, scope, &operation.operands)?;
     match length_of(operation.name.bytes(scope.line), operation.size, &values) {
@@ -216,9 +245,9 @@ fn behind_directive(
     scope: &Scope,
     operation: &Operation,
     directive: Directive,
-) -> Result<u64, AsmKind>
+) -> Result<Option<u64>, AsmKind>
     ensures value { result ≡ behind_directive (scope_said scope.now) (operation_said operation.now) directive }
-    ensures most { IfOk result (λ at. at ≤ 4294967297) }
+    ensures most { IfOk result (λ at. IfSome at (λ known. known ≤ 4294967297)) }
 {
     match directive {
         Directive::Org => behind_org(scope, operation),
@@ -231,9 +260,9 @@ fn behind_directive(
 
 /// The address behind an operation, with the symbols of earlier lines.
 #[tactic(auto, unfolding(crate::specs::Extents::behind))]
-fn behind(alloc: Global, scope: &Scope, operation: &Operation) -> Result<u64, Refusal>
+fn behind(alloc: Global, scope: &Scope, operation: &Operation) -> Result<Option<u64>, Refusal>
     ensures value { GivesAlone (λ at. at) result (behind (scope_said scope.now) (operation_said operation.now)) }
-    ensures most { IfOk result (λ at. at ≤ 4294967297) }
+    ensures most { IfOk result (λ at. IfSome at (λ known. known ≤ 4294967297)) }
 {
     match directive_of(operation.name.bytes(scope.line)) {
         Some(directive) => match behind_directive(scope, operation, directive) {
@@ -249,9 +278,9 @@ pub(crate) fn reached(
     alloc: Global,
     scope: &Scope,
     operation: &Operation,
-) -> Result<Result<u64, AsmKind>, AllocError>
+) -> Result<Result<Option<u64>, AsmKind>, AllocError>
     ensures value { IfOk result (λ reached. reached ≡ behind (scope_said scope.now) (operation_said operation.now)) }
-    ensures most { IfOk result (λ reached. IfOk reached (λ at. at ≤ 4294967297)) }
+    ensures most { IfOk result (λ reached. IfOk reached (λ at. IfSome at (λ known. known ≤ 4294967297))) }
 {
     match behind(alloc, scope, operation) {
         Ok(at) => Ok(Ok(at)),

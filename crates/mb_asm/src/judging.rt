@@ -1,17 +1,17 @@
 //! Judges the statement of a line.
 
-ghost use Rattle.std.specs.Prelude.{◌≡◌, ◌+◌, ◌≤◌, ◌||◌, [], IfOk, Ok, Some, length, option_map};
+ghost use Rattle.std.specs.Prelude.{◌≡◌, ◌+◌, ◌≤◌, ◌||◌, [], IfOk, IfSome, Some, length, option_map};
 ghost use Rattle.mb_syntax.specs.Answers.{operation_said, statement_said};
 ghost use Rattle.mb_asm.specs.Answers.{GivesAlone};
 ghost use Rattle.mb_asm.specs.Said.{symbols_said};
 ghost use Rattle.mb_asm.specs.Scopes.{scope_said};
 ghost use Rattle.mb_asm.specs.Laying.{layout_said};
-ghost use Rattle.mb_asm.specs.Layouts.{after_statement, next_at};
+ghost use Rattle.mb_asm.specs.Layouts.{after_statement, if_known, next_at};
 ghost use Rattle.mb_asm.specs.Laids.{laid_said};
 ghost use Rattle.mb_asm.specs.Results.{refuse};
 ghost use Rattle.mb_asm.specs.Judged.{ends_past, equ_checked, has_no_name, is_address, is_again, is_misplaced};
 ghost use Rattle.mb_asm.specs.Judged.{is_odd, judged, judged_by, judged_label, judged_operation, reaches_past};
-ghost use Rattle.mb_asm.specs.Judged.{reads_earlier, scope_of, wants_label, admitted, laid_to};
+ghost use Rattle.mb_asm.specs.Judged.{reads_earlier, scope_of, wants_label, admitted, laid_to, place};
 ghost use Rattle.mb_asm.specs.declared.value.Flaw.TheVariants as flaw;
 ghost use Rattle.mb_asm.specs.Values.{have_flaw};
 
@@ -24,7 +24,7 @@ use crate::laying::earlier;
 use crate::layout::Layout;
 use crate::lookup::value_in;
 use crate::refusal::Refusal;
-use crate::symbol::Symbol;
+use crate::symbol::Symbols;
 use crate::value::{Flaw, Scope};
 use crate::writing::bytes;
 use mb_syntax::{Name, Operation, Statement};
@@ -56,7 +56,7 @@ fn reads_earlier(directive: Option<Directive>) -> bool
 
 /// What an operation reads its symbols in.
 fn scope_of<'s>(
-    symbols: &'s [Symbol<'_>],
+    symbols: &'s Symbols<'_>,
     layout: &'s Layout<'_>,
     line: &'s [u8],
     directive: Option<Directive>,
@@ -77,7 +77,7 @@ fn scope_of<'s>(
 }
 
 /// Whether no operation has the name.
-fn has_no_name(next: Result<u64, AsmKind>) -> bool
+fn has_no_name(next: Result<Option<u64>, AsmKind>) -> bool
     ensures { result ≡ has_no_name next }
 {
     matches!(next, Err(AsmKind::Name))
@@ -117,6 +117,15 @@ fn ends_past(directive: Option<Directive>, next: u64) -> bool
     }
 }
 
+/// An address; one that is not known counts as 0, where all may stand.
+pub(crate) fn place(at: Option<u64>) -> u64
+    requires { IfSome at (λ known. known ≤ 4294967297) }
+    ensures value { result ≡ place at }
+    ensures most { result ≤ 4294967297 }
+{
+    at.unwrap_or(0)
+}
+
 /// An instruction at an odd address, or an address past the last.
 fn is_misplaced(at: u64, label: Option<Name>, directive: Option<Directive>, next: u64) -> bool
     ensures { result ≡ is_misplaced at label directive next }
@@ -148,12 +157,13 @@ fn admitted(
     line: &[u8],
     label: Option<Name>,
     directive: Option<Directive>,
-    is_unknown: bool,
+    is_nameless: bool,
 ) -> Result<(), Refusal>
-    ensures { GivesAlone (λ none. none) result (admitted (layout_said layout.now) line.now label directive is_unknown) }
+    ensures { GivesAlone (λ none. none) result
+        (admitted (layout_said layout.now) line.now label directive is_nameless) }
 {
     refuse(wants_label(label, directive), AsmKind::Syntax)?;
-    refuse(is_unknown, AsmKind::Name)?;
+    refuse(is_nameless, AsmKind::Name)?;
     refuse(is_again(layout, line, label), AsmKind::Twice)
 }
 
@@ -161,25 +171,26 @@ fn admitted(
 #[tactic(auto, unfolding(crate::specs::Judged::laid_to))]
 fn laid_to(
     alloc: Global,
-    end: u64,
+    end: Option<u64>,
     scope: &Scope,
     label: Option<Name>,
     directive: Option<Directive>,
     operation: &Operation,
 ) -> Result<Laid, Refusal>
-    requires { end ≤ 4294967297 }
+    requires { IfSome end (λ known. known ≤ 4294967297) }
     ensures given { GivesAlone laid_said result
         (laid_to end (scope_said scope.now) label directive (operation_said operation.now)) }
-    ensures inside { IfOk result (λ laid. scope.now.at + length laid.bytes.items ≤ 4294967296) }
+    ensures inside { IfOk result (λ laid. place scope.now.at + length laid.bytes.items ≤ 4294967296) }
     ensures last { IfOk result (λ laid. laid.next ≤ 4294967296) }
-    ensures reached { IfOk result (λ laid. laid.next ≡ end) }
+    ensures reached { IfOk result (λ laid. laid.next ≡ place end) }
 {
     equ_checked(scope, operation, directive)?;
     let bytes = bytes(alloc, scope, operation)?;
-    let is_misplaced = is_misplaced(scope.at, label, directive, end)
-        || reaches_past(scope.at, &bytes);
+    let at = place(scope.at);
+    let next = place(end);
+    let is_misplaced = is_misplaced(at, label, directive, next) || reaches_past(at, &bytes);
     refuse(is_misplaced, AsmKind::Place)?;
-    Ok(Laid { bytes, next: end })
+    Ok(Laid { bytes, next })
 }
 
 /// A byte at an address past the last.
@@ -194,7 +205,7 @@ fn reaches_past(at: u64, bytes: &[u8]) -> bool
 #[tactic(auto, unfolding(crate::specs::Judged::judged_operation, crate::specs::Layouts::next_at))]
 fn judged_operation(
     alloc: Global,
-    symbols: &[Symbol],
+    symbols: &Symbols,
     layout: &Layout,
     line: &[u8],
     label: Option<Name>,
@@ -203,10 +214,10 @@ fn judged_operation(
     ensures given { GivesAlone laid_said result
         (judged_operation (symbols_said symbols.now) (layout_said layout.now) line.now label
         (operation_said operation.now)) }
-    ensures inside { IfOk result (λ laid. layout.now.at + length laid.bytes.items ≤ 4294967296) }
+    ensures inside { IfOk result (λ laid. place layout.now.at + length laid.bytes.items ≤ 4294967296) }
     ensures last { IfOk result (λ laid. laid.next ≤ 4294967296) }
     ensures reached { IfOk result
-        (λ laid. laid.next ≡ next_at (layout_said layout.now) line.now (Some (operation_said operation.now))) }
+        (λ laid. laid.next ≡ place (next_at (layout_said layout.now) line.now (Some (operation_said operation.now)))) }
 {
     let directive = directive_of(operation.name.bytes(line));
     let scope = scope_of(symbols, layout, line, directive);
@@ -226,18 +237,18 @@ fn judged_by(
     operation: &Operation,
     directive: Option<Directive>,
     scope: &Scope,
-    next: Result<u64, AsmKind>,
+    next: Result<Option<u64>, AsmKind>,
 ) -> Result<Laid, Refusal>
-    requires { IfOk next (λ end. end ≤ 4294967297) }
+    requires { IfOk next (λ end. IfSome end (λ known. known ≤ 4294967297)) }
     ensures given { GivesAlone laid_said result
         (judged_by (layout_said layout.now) line.now label (operation_said operation.now) directive
         (scope_said scope.now) next) }
-    ensures inside { IfOk result (λ laid. scope.now.at + length laid.bytes.items ≤ 4294967296) }
+    ensures inside { IfOk result (λ laid. place scope.now.at + length laid.bytes.items ≤ 4294967296) }
     ensures last { IfOk result (λ laid. laid.next ≤ 4294967296) }
-    ensures reached { IfOk result (λ laid. next ≡ Ok laid.next) }
+    ensures reached { IfOk result (λ laid. laid.next ≡ place (if_known next)) }
 {
-    let is_unknown = is_unknown(next, scope, operation);
-    match admitted(layout, line, label, directive, is_unknown) {
+    let is_nameless = is_nameless(next, scope, operation);
+    match admitted(layout, line, label, directive, is_nameless) {
         Ok(()) => match next {
             Ok(end) => laid_to(alloc, end, scope, label, directive, operation),
             Err(kind) => Err(Refusal::Kind(kind)),
@@ -247,11 +258,11 @@ fn judged_by(
 }
 
 /// Whether an operation has no name that is known, or a symbol that is not known.
-fn is_unknown(next: Result<u64, AsmKind>, scope: &Scope, operation: &Operation) -> bool
+fn is_nameless(next: Result<Option<u64>, AsmKind>, scope: &Scope, operation: &Operation) -> bool
     ensures { result
-        ≡ (has_no_name next || have_flaw flaw.Unknown (scope_said scope.now) (operation_said operation.now).operands) }
+        ≡ (has_no_name next || have_flaw flaw.Nameless (scope_said scope.now) (operation_said operation.now).operands) }
 {
-    has_no_name(next) || have_flaw(Flaw::Unknown, scope, &operation.operands)
+    has_no_name(next) || have_flaw(Flaw::Nameless, scope, &operation.operands)
 }
 
 /// A label alone.
@@ -264,13 +275,14 @@ fn judged_label(
 ) -> Result<Laid, Refusal>
     ensures given { GivesAlone laid_said result (judged_label (layout_said layout.now) line.now label) }
     ensures written { IfOk result (λ laid. laid.bytes.items ≡ []) }
-    ensures next { IfOk result (λ laid. laid.next ≡ layout.now.at) }
+    ensures next { IfOk result (λ laid. laid.next ≡ place layout.now.at) }
 {
+    let at = place(layout.at);
     refuse(is_again(layout, line, label), AsmKind::Twice)?;
-    refuse(label.is_some() && layout.at >= END, AsmKind::Place)?;
+    refuse(label.is_some() && at >= END, AsmKind::Place)?;
     Ok(Laid {
         bytes: Vec::new(alloc),
-        next: layout.at,
+        next: at,
     })
 }
 
@@ -278,19 +290,19 @@ fn judged_label(
 #[tactic(auto, unfolding(crate::specs::Judged::judged, crate::specs::Layouts::next_at))]
 pub(crate) fn judged(
     alloc: Global,
-    symbols: &[Symbol],
+    symbols: &Symbols,
     layout: &Layout,
     line: &[u8],
     statement: &Option<Statement>,
 ) -> Result<Laid, Refusal>
-    requires { layout.now.at ≤ 4294967296 }
+    requires { place layout.now.at ≤ 4294967296 }
     ensures given { GivesAlone laid_said result (judged (symbols_said symbols.now) (layout_said layout.now) line.now
         (option_map statement_said statement.now)) }
-    ensures inside { IfOk result (λ laid. layout.now.at + length laid.bytes.items ≤ 4294967296) }
+    ensures inside { IfOk result (λ laid. place layout.now.at + length laid.bytes.items ≤ 4294967296) }
     ensures next { IfOk result (λ laid. laid.next ≤ 4294967296) }
     ensures reached { IfOk result
         (λ laid. laid.next
-        ≡ (after_statement (layout_said layout.now) line.now (option_map statement_said statement.now)).at) }
+        ≡ place (after_statement (layout_said layout.now) line.now (option_map statement_said statement.now)).at) }
 {
     let Some(statement) = statement else {
         return Err(Refusal::Kind(AsmKind::Syntax));

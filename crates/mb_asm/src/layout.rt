@@ -1,13 +1,14 @@
 //! Where the statements of a text stand, and its symbols.
 
 ghost use Rattle.std.specs.Prelude.{◌≤◌};
+ghost use Rattle.std.specs.Option.{ForSome};
 
-use crate::symbol::Symbol;
+use crate::symbol::Symbols;
 
-/// The address that is reached, and the symbols so far.
+/// The address that is reached, if it is known, and the symbols so far.
 #[derive(Drop)]
 pub(crate) struct Layout<'t> {
-    pub(crate) at: u64,
-    pub(crate) symbols: Vec<Symbol<'t>>,
-    ghost at_most: { at ≤ 4294967297 },
+    pub(crate) at: Option<u64>,
+    pub(crate) symbols: Symbols<'t>,
+    ghost at_most: { ForSome at (λ known. known ≤ 4294967297) },
 }

@@ -14,6 +14,7 @@ mod fault;
 mod gathering;
 mod judging;
 mod laid;
+pub mod laws;
 mod laying;
 mod layout;
 mod lookup;

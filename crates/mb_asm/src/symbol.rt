@@ -1,12 +1,18 @@
 //! Symbols.
 
 ghost use Rattle.std.specs.Prelude.{pos, negsuc, ◌≤ℤ◌};
+ghost use Rattle.std.specs.Option.{ForSome};
 
-/// A name with its value: an address from 0 to 2^32 + 1, or a number of 32 bits with or without a sign.
-#[derive(Clone, Copy)]
-pub(crate) struct Symbol<'t> {
-    pub(crate) name: &'t [u8],
-    pub(crate) value: i64,
-    ghost least: { negsuc 2147483647 ≤ℤ value },
-    ghost greatest: { value ≤ℤ pos 4294967297 },
+use indexmap::IndexMap;
+
+/// The value of a symbol, if it is known: an address from 0 to 2^32 + 1, or a number of 32 bits with or without a
+/// sign.
+#[derive(Clone, Copy, Drop)]
+pub(crate) struct SymbolValue {
+    pub(crate) number: Option<i64>,
+    ghost least: { ForSome number (λ value. negsuc 2147483647 ≤ℤ value) },
+    ghost greatest: { ForSome number (λ value. value ≤ℤ pos 4294967297) },
 }
+
+/// Symbols by their names, in the order of their lines.
+pub(crate) type Symbols<'t> = IndexMap<&'t [u8], SymbolValue>;

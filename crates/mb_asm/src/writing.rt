@@ -9,7 +9,8 @@ ghost use Rattle.mb_asm.specs.Scopes.{scope_said};
 ghost use Rattle.mb_syntax.specs.Answers.{operation_said};
 ghost use Rattle.mb_asm.specs.Answers.{GivesAlone};
 ghost use Rattle.mb_asm.specs.Bytes.{bytes, bytes_of, dc_bytes, directive_bytes, instruction_bytes, item_bytes};
-ghost use Rattle.mb_asm.specs.Bytes.{items_bytes, text_bytes, unit_bytes, unit_range};
+ghost use Rattle.mb_asm.specs.Bytes.{bytes_there, items_bytes, settled_at, settled_bytes, text_bytes, unit_bytes};
+ghost use Rattle.mb_asm.specs.Bytes.{unit_range};
 
 use crate::directive::{Directive, directive_of, plain_of, unit_of};
 use crate::evaluation::{have_flaw, values_of};
@@ -66,7 +67,7 @@ fn spelled_bytes(alloc: Global, unit: u8, spelled: u32) -> Result<Vec<u8>, Alloc
     }
 }
 
-/// A value as a unit of so many bytes.
+/// A value as a unit of so many bytes; one that is not known counts as 0.
 #[tactic(auto, unfolding(crate::specs::Bytes::unit_bytes))]
 fn unit_bytes(
     alloc: Global,
@@ -77,11 +78,14 @@ fn unit_bytes(
     requires { (unit ≡ 1) ⊎ ((unit ≡ 2) ⊎ (unit ≡ 4)) }
     ensures { GivesAlone (λ bytes. bytes.items) result (unit_bytes unit (scope_said scope.now) expression.now) }
 {
-    let value = narrow_value(scope, expression)?;
-    match number(unit_range(unit), value) {
-        Some(spelled) => Ok(spelled_bytes(alloc, unit, spelled)?),
-        None => Err(Refusal::Kind(AsmKind::Range)),
-    }
+    let spelled = match narrow_value(scope, expression)? {
+        Some(value) => match number(unit_range(unit), value) {
+            Some(spelled) => spelled,
+            None => return Err(Refusal::Kind(AsmKind::Range)),
+        },
+        None => 0,
+    };
+    Ok(spelled_bytes(alloc, unit, spelled)?)
 }
 
 #[tactic(auto, unfolding(crate::specs::Bytes::item_bytes))]
@@ -155,6 +159,53 @@ fn bytes_of(alloc: Global, instruction: &Instr) -> Result<Vec<u8>, AllocError>
     Ok(bytes)
 }
 
+/// The address of an instruction, where all that its numbers rest on is known.
+#[tactic(auto, unfolding(crate::specs::Bytes::settled_at))]
+fn settled_at(scope: &Scope, operation: &Operation) -> Option<u64>
+    ensures { result ≡ settled_at (scope_said scope.now) (operation_said operation.now) }
+{
+    if have_flaw(Flaw::Unknown, scope, &operation.operands) {
+        return None;
+    }
+    scope.at
+}
+
+/// An instruction at the address.
+#[tactic(auto, unfolding(crate::specs::Bytes::bytes_there))]
+fn bytes_there(
+    alloc: Global,
+    scope: &Scope,
+    operation: &Operation,
+    at: u64,
+) -> Result<Vec<u8>, Refusal>
+    ensures { GivesAlone (λ bytes. bytes.items) result
+        (bytes_there (scope_said scope.now) (operation_said operation.now) at) }
+{
+    let values = values_of(alloc, scope, &operation.operands)?;
+    let name = operation.name.bytes(scope.line);
+    let at = (at % 0x1_0000_0000) as u32;
+    match instruction_of(name, operation.size, &values, at) {
+        Ok(instruction) => Ok(bytes_of(alloc, &instruction)?),
+        Err(fault) => Err(Refusal::Kind(AsmKind::from(fault))),
+    }
+}
+
+/// The numbers of an instruction that rests on what is not known are not judged.
+fn settled_bytes(
+    alloc: Global,
+    scope: &Scope,
+    operation: &Operation,
+    at: Option<u64>,
+) -> Result<Vec<u8>, Refusal>
+    ensures { GivesAlone (λ bytes. bytes.items) result
+        (settled_bytes (scope_said scope.now) (operation_said operation.now) at) }
+{
+    match at {
+        Some(at) => bytes_there(alloc, scope, operation, at),
+        None => Ok(Vec::new(alloc)),
+    }
+}
+
 #[tactic(auto, unfolding(crate::specs::Bytes::instruction_bytes))]
 fn instruction_bytes(
     alloc: Global,
@@ -164,18 +215,12 @@ fn instruction_bytes(
     ensures { GivesAlone (λ bytes. bytes.items) result
         (instruction_bytes (scope_said scope.now) (operation_said operation.now)) }
 {
-    let values = values_of(alloc, scope, &operation.operands)?;
-    let name = operation.name.bytes(scope.line);
-    let at = (scope.at % 0x1_0000_0000) as u32;
-    match instruction_of(name, operation.size, &values, at) {
-        Ok(instruction) => {
-            if have_flaw(Flaw::Wide, scope, &operation.operands) {
-                return Err(Refusal::Kind(AsmKind::Range));
-            }
-            Ok(bytes_of(alloc, &instruction)?)
-        }
-        Err(fault) => Err(Refusal::Kind(AsmKind::from(fault))),
+    let at = settled_at(scope, operation);
+    let bytes = settled_bytes(alloc, scope, operation, at)?;
+    if have_flaw(Flaw::Wide, scope, &operation.operands) {
+        return Err(Refusal::Kind(AsmKind::Range));
     }
+    Ok(bytes)
 }
 
 /// The bytes that an operation writes, with the symbols of all lines.

@@ -10,7 +10,7 @@ use Rattle.mb_asm.specs.Symbols.{Symbol}
 use Rattle.mb_asm.specs.Values.{Scope}
 use Rattle.mb_asm.specs.Extents.{behind, behind_dc, directive_in}
 use Rattle.mb_asm.specs.Bytes.{bytes, dc_bytes, item_bytes, unit_bytes}
-use Rattle.mb_asm.specs.Layouts.{Layout, earlier}
+use Rattle.mb_asm.specs.Layouts.{earlier}
 use Rattle.mb_asm.specs.Judged.{admitted, judged, judged_by, judged_operation, laid_to}
 use Rattle.mb_asm.specs.Texts.{assembled}
 use Rattle.mb_statement.specs.Numbers.{last_digits}
@@ -22,11 +22,11 @@ use Rattle.mb_listing.proofs.NumberWords.{name_at, dc_statement}
 use Rattle.mb_listing.proofs.Sources.{dc_plain, digits_plain}
 use Rattle.mb_listing.proofs.Placed.{laid_by, number_narrow, number_sum, operation_by, placed, statement_placed}
 
-dc_behind_line : (layout : Layout) (digits : List ℕ) (value : ℕ) → layout.at + 2 ≤ 4294967296
-    → behind (earlier layout (dc_line digits)) (operation_by (name_at 1 3) (Some letter.Word) value) ≡ Ok (layout.at + 2)
+dc_behind_line : (at : ℕ) (digits : List ℕ) (value : ℕ) → at + 2 ≤ 4294967296
+    → behind (earlier (placed at) (dc_line digits)) (operation_by (name_at 1 3) (Some letter.Word) value) ≡ Ok (Some (at + 2))
 unfolding behind behind_dc
-dc_behind_line layout digits value inside =
-    let least : min (layout.at + 2) 4294967297 ≡ layout.at + 2 = omega arith in
+dc_behind_line at digits value inside =
+    let least : min (at + 2) 4294967297 ≡ at + 2 = omega arith in
     rw least refl
 
 word_number : (value : ℕ) → value < 65536 → number range.Word (pos value) ≡ Some value
@@ -42,22 +42,22 @@ word_bytes scope value small =
     let high : value / 256 % 256 ≡ value / 256 = omega arith in
     rw (number_narrow scope value, word_number value small, high) refl
 
-dc_judged_by : (symbols : List Symbol) (layout : Layout) (digits : List ℕ) (value : ℕ) → value < 65536 → layout.at + 2 ≤ 4294967296
-    → judged_by layout (dc_line digits) None (operation_by (name_at 1 3) (Some letter.Word) value)
+dc_judged_by : (symbols : List Symbol) (at : ℕ) (digits : List ℕ) (value : ℕ) → value < 65536 → at + 2 ≤ 4294967296
+    → judged_by (placed at) (dc_line digits) None (operation_by (name_at 1 3) (Some letter.Word) value)
     (directive_in (dc_line digits) (operation_by (name_at 1 3) (Some letter.Word) value))
-    (record { symbols = symbols; line = dc_line digits; at = layout.at }) (Ok (layout.at + 2)) ≡ Ok (laid_by (value / 256 ∷ value % 256 ∷ []) (layout.at + 2))
+    (record { symbols = symbols; line = dc_line digits; at = Some at }) (Ok (Some (at + 2))) ≡ Ok (laid_by (value / 256 ∷ value % 256 ∷ []) (at + 2))
 unfolding judged_by admitted laid_to bytes dc_bytes item_bytes
-dc_judged_by symbols layout digits value small inside =
-    let none : nat_lt 4294967296 (layout.at + 2) ≡ false = le-ltb 4294967296 (layout.at + 2) inside in
-    rw (word_bytes (record { symbols = symbols; line = dc_line digits; at = layout.at }) value small, none) refl
+dc_judged_by symbols at digits value small inside =
+    let none : nat_lt 4294967296 (at + 2) ≡ false = le-ltb 4294967296 (at + 2) inside in
+    rw (word_bytes (record { symbols = symbols; line = dc_line digits; at = Some at }) value small, none) refl
 
-dc_judged : (symbols : List Symbol) (layout : Layout) (digits : List ℕ) (value : ℕ) → Spells digits value → value < 65536
-    → layout.at + 2 ≤ 4294967296
-    → judged symbols layout (dc_line digits) (statement_in (dc_line digits)) ≡ Ok (laid_by (value / 256 ∷ value % 256 ∷ []) (layout.at + 2))
+dc_judged : (symbols : List Symbol) (at : ℕ) (digits : List ℕ) (value : ℕ) → Spells digits value → value < 65536
+    → at + 2 ≤ 4294967296
+    → judged symbols (placed at) (dc_line digits) (statement_in (dc_line digits)) ≡ Ok (laid_by (value / 256 ∷ value % 256 ∷ []) (at + 2))
 unfolding judged judged_operation
-dc_judged symbols layout digits value spells small inside =
-    rw (dc_statement digits value spells (omega arith), dc_behind_line layout digits value inside)
-    (dc_judged_by symbols layout digits value small inside)
+dc_judged symbols at digits value spells small inside =
+    rw (dc_statement digits value spells (omega arith), dc_behind_line at digits value inside)
+    (dc_judged_by symbols at digits value small inside)
 
 -- a data line at its address is its word
 pub data_gives_its_word : (at word : ℕ) → at + 2 ≤ 2 ^ 32 → word < 2 ^ 16 → GivesItsWords (data_line at word)
@@ -67,4 +67,4 @@ data_gives_its_word at word inside small =
     let text : List ℕ = codes "DC.W " ++ 36 ∷ digits in
     ap (λ (shown : List ℕ). assembled (source_at at (codes "DC.W " ++ shown))) spells.0
     ∙ statement_placed at (word / 256) (word % 256 ∷ []) text (omega arith) (dc_plain digits (digits_plain digits spells.1.all))
-    (λ symbols. dc_judged symbols (placed at) digits word spells.1 small inside)
+    (λ symbols. dc_judged symbols at digits word spells.1 small inside)

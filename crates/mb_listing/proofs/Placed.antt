@@ -1,6 +1,6 @@
 -- A statement at an address: what its two lines lay.
 use Rattle.std.proofs.Common.{◌≡◌, ℕ, ◌+◌, ◌^◌, ◌≤◌, ◌<◌, Bool, true, false, min, List, [], ◌∷◌, length, refl, ap, ◌∙◌, zero-add, arith}
-use Rattle.std.specs.Prelude.{pos, ◌==◌, nat_lt, Option, None, Ok}
+use Rattle.std.specs.Prelude.{pos, ◌==◌, Option, Some, None, Ok}
 use Rattle.std.proofs.lemmas.Bool.{le-ltb, eq-eqb, eqb-true}
 use Rattle.mb_lines.specs.Lines.{Line}
 use Rattle.mb_lines.proofs.Written.{IsPlain}
@@ -29,11 +29,11 @@ use Rattle.mb_listing.proofs.Sources.{numbered_line, source_lines}
 abbrev pub number_sum : ℕ → Sum
 number_sum value = signed false (term.Number value) ∷ []
 
-number_value : (scope : Scope) (value : ℕ) → value_of scope (number_sum value) ≡ pos value
-number_value scope value = ap pos (zero-add value)
+number_value : (scope : Scope) (value : ℕ) → value_of scope (number_sum value) ≡ Some (pos value)
+number_value scope value = ap (λ (n : ℕ). Some (pos n)) (zero-add value)
 
 -- its value
-pub number_narrow : (scope : Scope) (value : ℕ) → narrow_value scope (number_sum value) ≡ Ok (pos value)
+pub number_narrow : (scope : Scope) (value : ℕ) → narrow_value scope (number_sum value) ≡ Ok (Some (pos value))
 unfolding narrow_value
 number_narrow scope value = ap Ok (number_value scope value)
 
@@ -47,34 +47,32 @@ laid_by written next = record { bytes = written; next = next }
 
 -- ---- ORG
 
-org_behind : (scope : Scope) (value : ℕ) → value ≤ 4294967295 → behind_org scope (operation_by (name_at 1 4) None value) ≡ Ok value
+org_behind : (scope : Scope) (value : ℕ) → value ≤ 4294967295 → behind_org scope (operation_by (name_at 1 4) None value) ≡ Ok (Some value)
 unfolding behind_org only_value
 org_behind scope value small =
     let least : min value 4294967297 ≡ value = omega arith in
     rw (number_narrow scope value, least) refl
 
 org_behind_line : (layout : Layout) (digits : List ℕ) (value : ℕ) → value ≤ 4294967295
-    → behind (earlier layout (org_line digits)) (operation_by (name_at 1 4) None value) ≡ Ok value
+    → behind (earlier layout (org_line digits)) (operation_by (name_at 1 4) None value) ≡ Ok (Some value)
 unfolding behind
 org_behind_line layout digits value small = org_behind (earlier layout (org_line digits)) value small
 
-org_judged_by : (layout : Layout) (digits : List ℕ) (value : ℕ) → value ≤ 4294967295 → layout.at ≤ 4294967296
-    → judged_by layout (org_line digits) None (operation_by (name_at 1 4) None value)
-    (directive_in (org_line digits) (operation_by (name_at 1 4) None value)) (earlier layout (org_line digits)) (Ok value) ≡ Ok (laid_by [] value)
+org_judged_by : (digits : List ℕ) (value : ℕ) → value ≤ 4294967295
+    → judged_by beginning (org_line digits) None (operation_by (name_at 1 4) None value)
+    (directive_in (org_line digits) (operation_by (name_at 1 4) None value)) (earlier beginning (org_line digits)) (Ok (Some value)) ≡ Ok (laid_by [] value)
 unfolding judged_by admitted laid_to bytes
-org_judged_by layout digits value small inside =
-    let none : nat_lt 4294967296 (layout.at + 0) ≡ false = le-ltb 4294967296 (layout.at + 0) (omega arith) in
-    rw (le-ltb 4294967295 value small, none) refl
+org_judged_by digits value small = rw (le-ltb 4294967295 value small) refl
 
-org_judged : (symbols : List Symbol) (layout : Layout) (digits : List ℕ) (value : ℕ) → Spells digits value → value ≤ 4294967295 → layout.at ≤ 4294967296
-    → judged symbols layout (org_line digits) (statement_in (org_line digits)) ≡ Ok (laid_by [] value)
+org_judged : (symbols : List Symbol) (digits : List ℕ) (value : ℕ) → Spells digits value → value ≤ 4294967295
+    → judged symbols beginning (org_line digits) (statement_in (org_line digits)) ≡ Ok (laid_by [] value)
 unfolding judged judged_operation
-org_judged symbols layout digits value spells small inside =
-    rw (org_statement digits value spells small, org_behind_line layout digits value small) (org_judged_by layout digits value small inside)
+org_judged symbols digits value spells small =
+    rw (org_statement digits value spells small, org_behind_line beginning digits value small) (org_judged_by digits value small)
 
 -- the layout behind an ORG, where nothing stood before
 abbrev pub placed : ℕ → Layout
-placed at = record { at = at; symbols = [] }
+placed at = record { at = Some at; symbols = [] }
 
 -- no chunk yet; the first one begins at the address
 abbrev pub started : ℕ → Chunks
@@ -95,7 +93,7 @@ org_laid : (symbols : List Symbol) (digits : List ℕ) (value : ℕ) (lines : Li
     → chunks_from symbols beginning no_chunks (numbered_line 1 (org_line digits) ∷ lines) ≡ chunks_from symbols (placed value) (started value) lines
 org_laid symbols digits value lines spells small =
     rw (
-      org_judged symbols beginning digits value spells small (omega arith),
+      org_judged symbols digits value spells small,
       org_after digits value spells small,
       org_chunks_by value (value == 0) refl,
     ) refl

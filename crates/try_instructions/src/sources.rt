@@ -30,7 +30,7 @@ fn fault_of(rt: &impl Abort, alloc: std::alloc::Global, text: &[u8]) -> Option<(
 #[rattlefmt::skip]
 #[test]
 fn faulty_lines(rt: HostRuntime) -> Result<(), Fail> {
-    let cases: [(&[u8], Option<(u32, AsmKind)>); 30] = [
+    let cases: [(&[u8], Option<(u32, AsmKind)>); 44] = [
         (b"", None),
         (b"; nothing\n* nothing\n\n   \n", None),
         (b" NOP\n", None),
@@ -61,6 +61,20 @@ fn faulty_lines(rt: HostRuntime) -> Result<(), Fail> {
         (b" ORG $FFFFFFFF\n DC.B 1,2\n", Some((2, AsmKind::Place))),
         (b" DC.B 1\n NOP\n", Some((2, AsmKind::Place))),
         (b" DC.B 1\n DC.W 2\n", None),
+        (b" BRA.S there\n DS.B 300\nthere NOP\n", Some((1, AsmKind::Range))),
+        (b" BRA.S there\n DS.B 300\n MOVEX\nthere NOP\n", Some((3, AsmKind::Name))),
+        (b" BRA.S there\n MOVEX\n ORG 300\nthere NOP\n", Some((1, AsmKind::Range))),
+        (b" BEQ.S skip\n MOVEA.B D0,A0\nskip NOP\n", Some((2, AsmKind::Operand))),
+        (b" BEQ.S skip\n @\nskip NOP\n", Some((2, AsmKind::Syntax))),
+        (b" BEQ.S skip\n DS.B *-3\nskip NOP\n", Some((2, AsmKind::Range))),
+        (b" LEA (msg,PC),A0\nmsg DC.B @\n", Some((2, AsmKind::Syntax))),
+        (b" LEA (msg,PC),A0\nmsg: DC.B 1,\n", Some((2, AsmKind::Syntax))),
+        (b" LEA (msg,PC),A0\nmsg:DC.B 1\n", Some((1, AsmKind::Name))),
+        (b" LEA (msg,PC),A0\nmsg MOVEA.B D0,A0\n", Some((2, AsmKind::Operand))),
+        (b" DC.B a\na EQU $100000000\n", Some((2, AsmKind::Range))),
+        (b" DC.B 256,b\n MOVEX\nb NOP\n", Some((1, AsmKind::Range))),
+        (b" MOVE.L #$100000000,b\n MOVEX\nb NOP\n", Some((1, AsmKind::Range))),
+        (b" MOVEX\na EQU *\n DS.B a\nb NOP\n", Some((1, AsmKind::Name))),
     ];
     for (text, fault) in cases {
         assert_eq!(rt; fault_of(&rt, rt.alloc(), text), fault);

@@ -1,7 +1,6 @@
 -- What is found in the rest is what is found in all.
 use Rattle.std.proofs.Common.{◌≡◌, drop}
 use Rattle.std.specs.List.{list_any}
-use Rattle.mb_asm.specs.Scopes.{scope_said}
 use Rattle.mb_asm.specs.Values.{is_wide}
 use Rattle.mb_asm.proofs.evaluation.has_wide.Given as goal
 

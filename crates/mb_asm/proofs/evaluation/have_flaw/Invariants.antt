@@ -1,6 +1,5 @@
 -- What is found in the rest is what is found in all.
 use Rattle.std.proofs.Common.{◌≡◌, drop}
-use Rattle.std.specs.List.{list_any}
 use Rattle.mb_asm.specs.Scopes.{scope_said}
 use Rattle.mb_asm.specs.Values.{have_flaw}
 use Rattle.mb_asm.proofs.evaluation.have_flaw.Given as goal
