@@ -53,7 +53,7 @@ fn spelled_bytes(alloc: Global, unit: u8, spelled: u32) -> Result<Vec<u8>, Alloc
     ensures { IfOk result (λ bytes. bytes.items ≡ big_bytes unit spelled) }
 {
     match unit {
-        1 => Vec::from_slice(alloc, &[spelled as u8]),
+        1 => Vec::from_slice(alloc, &[(spelled & 0xff) as u8]),
         2 => {
             let mut bytes = [0; 2];
             BigEndian::write_u16(&mut bytes, spelled as u16);

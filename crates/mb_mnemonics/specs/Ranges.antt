@@ -32,9 +32,9 @@ greatest range.Vector = pos 15
 greatest range.Offset = pos 31
 greatest range.Width = pos 32
 
--- how many values its spelling has: a byte immediate has the low byte of its word, a width of 32 is spelled 0
+-- how many values its spelling has: a byte immediate has a whole word, a width of 32 is spelled 0
 abbrev pub values : Range → ℕ
-values range.Byte = 2 ^ 8
+values range.Byte = 2 ^ 16
 values range.Word = 2 ^ 16
 values range.Long = 2 ^ 32
 values range.Displacement8 = 2 ^ 8

@@ -11,7 +11,7 @@ use mb_instr::Size;
 /// The numbers that an operand may have.
 #[derive(Clone, Copy)]
 pub enum Range {
-    /// -128 to 255.
+    /// -128 to 255, in a word: -1 is `$FFFF`, 255 is `$00FF`.
     Byte,
     /// -32,768 to 65,535.
     Word,
@@ -69,8 +69,8 @@ impl Range {
         ensures most { result ≤ 2 ^ 32 }
     {
         match self {
-            Range::Byte | Range::Displacement8 | Range::Count | Range::Vector => 1 << 8,
-            Range::Word | Range::Displacement16 => 1 << 16,
+            Range::Displacement8 | Range::Count | Range::Vector => 1 << 8,
+            Range::Byte | Range::Word | Range::Displacement16 => 1 << 16,
             Range::Long => 1 << 32,
             Range::Offset | Range::Width => 1 << 5,
         }
@@ -98,9 +98,8 @@ fn modulo(values: u64, number: i64) -> u32
     number.rem_euclid(values as i64) as u32
 }
 
-/// A number of the range, as it is spelled: in two's complement, in the low byte where it is a byte; none where it is
-/// out
-/// of the range.
+/// A number of the range, as it is spelled: in two's complement, a byte in a whole word; none where it is out of the
+/// range.
 #[tactic(auto, unfolding(crate::specs::Ranges::number))]
 pub fn number(range: Range, value: i64) -> Option<u32>
     ensures value { result ≡ number range value }

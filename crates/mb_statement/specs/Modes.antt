@@ -1,5 +1,5 @@
 -- Operands as they are written, by the operands that instructions have.
-use Rattle.std.specs.Prelude.{ℕ, ◌+◌, ◌/◌, ◌%◌, ◌^◌, ◌==◌, ℤ, pos, Bool, false, nat_lt, if◌then◌else◌}
+use Rattle.std.specs.Prelude.{ℕ, ◌+◌, ◌-◌, ◌/◌, ◌%◌, ◌^◌, ◌==◌, ℤ, pos, Bool, false, nat_lt, if◌then◌else◌}
 use Rattle.std.specs.Prelude.{Option, Some, None}
 use Rattle.mb_alu.specs.Signs.{signed_of}
 use Rattle.mb_instr.specs.declared.size.Size.{Size}
@@ -87,6 +87,12 @@ full_of place from w bd od = record {
   indirection = indirection_of w;
   outer = displacement_of (w % 4) od;
 }
+
+-- The number of an immediate of the size. A byte has a whole word, which is $FF80 to $FFFF where it is negative.
+abbrev pub immediate_number : Size → ℕ → ℤ
+immediate_number Byte v = if nat_lt v (2 ^ 16 - 2 ^ 7) then pos v else signed_of Word v
+immediate_number Word v = pos v
+immediate_number Long v = pos v
 
 -- ---- operands
 

@@ -33,7 +33,7 @@ use Rattle.mb_instr.specs.declared.instruction.Instr.{Instr}
 use Rattle.mb_instr.specs.declared.instruction.Instr.TheVariants as instr
 use Rattle.mb_syntax.specs.declared.statement.SizeLetter.{SizeLetter}
 use Rattle.mb_syntax.specs.declared.statement.SizeLetter.TheVariants as letter
-use Rattle.mb_instr.specs.declared.operand.Ea.TheVariants.{Pre}
+use Rattle.mb_instr.specs.declared.operand.Ea.TheVariants.{Pre, Imm}
 use Rattle.mb_instr.specs.declared.control.ControlRegister.{ControlRegister}
 use Rattle.mb_instr.specs.declared.control.ControlRegister.TheVariants as control
 use Rattle.mb_instr.specs.Control.{control_of}
@@ -45,7 +45,7 @@ use Rattle.mb_syntax.specs.declared.operand.FieldNumber.TheVariants as field_par
 use Rattle.mb_syntax.specs.declared.operand.Operand.{Operand}
 use Rattle.mb_syntax.specs.declared.operand.Operand.TheVariants as operand
 use Rattle.std.specs.Int.{reverse_bits, w16}
-use Rattle.mb_statement.specs.Modes.{mode_of, target_of}
+use Rattle.mb_statement.specs.Modes.{mode_of, target_of, immediate_number}
 use Rattle.mb_statement.specs.Names.{branch_name, set_name, loop_name, trap_name, bit_name, shift_name, field_name}
 use Rattle.mb_statement.specs.Names.{invalidate_name, push_name, flush_name, product_name, quotient_name}
 use Rattle.mb_statement.specs.Names.{remainder_name}
@@ -114,6 +114,11 @@ behind at words = (at + 2 * words) % 2 ^ 32
 -- an operand in an instruction at an address, behind so many words
 abbrev pub place : ℕ → ℕ → Ea → Operand ℤ
 place at words ea = operand.Mode (mode_of (behind at words) ea)
+
+-- an operand of the size behind the first word, which may be an immediate
+abbrev pub sized_place : ℕ → Size → Ea → Operand ℤ
+sized_place at s (Imm v) = immediate (immediate_number s v)
+sized_place at s ea = place at 1 ea
 
 -- the words before an operand that stands behind an immediate
 abbrev pub words_before : Size → ℕ
@@ -206,14 +211,14 @@ flush_operands _ a = []
 
 -- an immediate of the size, and an operand
 abbrev pub adjust : List ℕ → ℕ → Size → ℕ → Ea → Statement
-adjust n at s v ea = sized n s (count v ∷ place at (words_before s) ea ∷ [])
+adjust n at s v ea = sized n s (immediate (immediate_number s v) ∷ place at (words_before s) ea ∷ [])
 
 -- an operand, and a register in the first word
 abbrev pub to_address : List ℕ → ℕ → Size → ℕ → Ea → Statement
 to_address n at s a ea = sized n s (place at 1 ea ∷ address_operand a ∷ [])
 
 abbrev pub alone : List ℕ → ℕ → Size → Ea → Statement
-alone n at s ea = sized n s (place at 1 ea ∷ [])
+alone n at s ea = sized n s (sized_place at s ea ∷ [])
 
 -- `0lll sw00 0000 0hhh`
 unfoldable pub product : Operand ℤ → ℕ → Statement
@@ -250,7 +255,7 @@ move_statement at (move.Lea a ea) = plain (codes "LEA") (place at 1 ea ∷ addre
 move_statement at (move.LinkL a d) = sized (codes "LINK") size.Long
     (address_operand a ∷ immediate (signed_of size.Long d) ∷ [])
 move_statement at (move.LinkW a d) = plain (codes "LINK") (address_operand a ∷ immediate (signed_of size.Word d) ∷ [])
-move_statement at (move.Move s d e) = sized (codes "MOVE") s (place at 1 e ∷ place at 1 d ∷ [])
+move_statement at (move.Move s d e) = sized (codes "MOVE") s (sized_place at s e ∷ place at 1 d ∷ [])
 move_statement at (move.Move16Abs k a l) = plain (codes "MOVE16") (moved k a l)
 move_statement at (move.Move16Post x w) = plain (codes "MOVE16") (post x ∷ post (w / 2 ^ 12 % 8) ∷ [])
 move_statement at (move.Movea s a e) = to_address (codes "MOVEA") at s a e
@@ -266,23 +271,23 @@ move_statement at (move.Unlk a) = plain (codes "UNLK") (address_operand a ∷ []
 
 unfoldable pub arith_statement : ℕ → Arith → Statement
 arith_statement at (arith.Abcd x m y) = plain (codes "ABCD") (pairs m x y)
-arith_statement at (arith.Add d k s ea) = sized (codes "ADD") s (in_turn k (data_operand d) (place at 1 ea))
+arith_statement at (arith.Add d k s ea) = sized (codes "ADD") s (in_turn k (data_operand d) (sized_place at s ea))
 arith_statement at (arith.Adda a s ea) = to_address (codes "ADDA") at s a ea
 arith_statement at (arith.Addi s ea v) = adjust (codes "ADDI") at s v ea
 arith_statement at (arith.Addq q s ea) = sized (codes "ADDQ") s (count q ∷ place at 1 ea ∷ [])
 arith_statement at (arith.Addx x s m y) = sized (codes "ADDX") s (pairs m x y)
-arith_statement at (arith.And d k s ea) = sized (codes "AND") s (in_turn k (data_operand d) (place at 1 ea))
+arith_statement at (arith.And d k s ea) = sized (codes "AND") s (in_turn k (data_operand d) (sized_place at s ea))
 arith_statement at (arith.Andi s ea v) = adjust (codes "ANDI") at s v ea
 arith_statement at (arith.AndiCcr w) = plain (codes "ANDI") (count w ∷ operand.Ccr ∷ [])
 arith_statement at (arith.BitImm k ea w) = plain (bit_name k) (count w ∷ place at 2 ea ∷ [])
-arith_statement at (arith.BitReg d k ea) = plain (bit_name k) (data_operand d ∷ place at 1 ea ∷ [])
+arith_statement at (arith.BitReg d k ea) = plain (bit_name k) (data_operand d ∷ sized_place at size.Byte ea ∷ [])
 arith_statement at (arith.Cas s ea w) = sized (codes "CAS") s
     (data_operand (w % 8) ∷ data_operand (w / 2 ^ 6 % 8) ∷ place at 2 ea ∷ [])
 arith_statement at (arith.Cas2 s w v) = sized (codes "CAS2") s
     (operand.Pair (w % 8) (v % 8) ∷ operand.Pair (w / 2 ^ 6 % 8) (v / 2 ^ 6 % 8)
     ∷ operand.IndirectPair (w / 2 ^ 12) (v / 2 ^ 12) ∷ [])
 arith_statement at (arith.Clr s ea) = alone (codes "CLR") at s ea
-arith_statement at (arith.Cmp d s ea) = sized (codes "CMP") s (place at 1 ea ∷ data_operand d ∷ [])
+arith_statement at (arith.Cmp d s ea) = sized (codes "CMP") s (sized_place at s ea ∷ data_operand d ∷ [])
 arith_statement at (arith.Cmp2 s ea w) = sized (codes "CMP2") s (place at 2 ea ∷ register (w / 2 ^ 12) ∷ [])
 arith_statement at (arith.Cmpa a s ea) = to_address (codes "CMPA") at s a ea
 arith_statement at (arith.Cmpi s ea v) = adjust (codes "CMPI") at s v ea
@@ -303,7 +308,7 @@ arith_statement at (arith.Nbcd ea) = plain (codes "NBCD") (place at 1 ea ∷ [])
 arith_statement at (arith.Neg s ea) = alone (codes "NEG") at s ea
 arith_statement at (arith.Negx s ea) = alone (codes "NEGX") at s ea
 arith_statement at (arith.Not s ea) = alone (codes "NOT") at s ea
-arith_statement at (arith.Or d k s ea) = sized (codes "OR") s (in_turn k (data_operand d) (place at 1 ea))
+arith_statement at (arith.Or d k s ea) = sized (codes "OR") s (in_turn k (data_operand d) (sized_place at s ea))
 arith_statement at (arith.Ori s ea v) = adjust (codes "ORI") at s v ea
 arith_statement at (arith.OriCcr w) = plain (codes "ORI") (count w ∷ operand.Ccr ∷ [])
 arith_statement at (arith.Pack x m y w) = plain (codes "PACK") (adjusted_pairs m x y w)
@@ -311,7 +316,7 @@ arith_statement at (arith.Sbcd x m y) = plain (codes "SBCD") (pairs m x y)
 arith_statement at (arith.ShiftMem k l ea) = plain (shift_name k l) (place at 1 ea ∷ [])
 arith_statement at (arith.ShiftReg n l s i k r) = sized (shift_name k l) s
     ((if i then data_operand n else count n) ∷ data_operand r ∷ [])
-arith_statement at (arith.Sub d k s ea) = sized (codes "SUB") s (in_turn k (data_operand d) (place at 1 ea))
+arith_statement at (arith.Sub d k s ea) = sized (codes "SUB") s (in_turn k (data_operand d) (sized_place at s ea))
 arith_statement at (arith.Suba a s ea) = to_address (codes "SUBA") at s a ea
 arith_statement at (arith.Subi s ea v) = adjust (codes "SUBI") at s v ea
 arith_statement at (arith.Subq q s ea) = sized (codes "SUBQ") s (count q ∷ place at 1 ea ∷ [])

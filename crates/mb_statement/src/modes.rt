@@ -4,7 +4,7 @@ ghost use Rattle.std.specs.Prelude.{◌≡◌, pos};
 ghost use Rattle.mb_alu.specs.Signs.{signed_of};
 ghost use Rattle.mb_statement.specs.Modes.{target_of, width_of, scale_of, index_of, displacement_of, distance_of};
 ghost use Rattle.mb_statement.specs.Modes.{base_displacement, address_base, pc_base, indirection_of, full_of, indexed};
-ghost use Rattle.mb_statement.specs.Modes.{pc_indexed, mode_of};
+ghost use Rattle.mb_statement.specs.Modes.{immediate_number, pc_indexed, mode_of};
 
 use mb_instr::{Ea, Ext, Size};
 use mb_syntax::{Base, Displacement, FullForm, Index, Indirection, Mode, Scale, Width};
@@ -173,6 +173,16 @@ fn pc_indexed(place: u32, ext: Ext) -> Mode<i64>
             index: index_of(false, word),
         },
         Ext::Full { word, bd, od } => Mode::Full(full_of(place, pc_base(word), word, bd, od)),
+    }
+}
+
+/// The number of an immediate of the size. A byte has a whole word, which is `$FF80` to `$FFFF` where it is negative.
+pub(crate) fn immediate_number(size: Size, value: u32) -> i64
+    ensures { result ≡ immediate_number size value }
+{
+    match size {
+        Size::Byte if value >= 0xff80 => signed_of(Size::Word, value),
+        Size::Byte | Size::Word | Size::Long => i64::from(value),
     }
 }
 

@@ -1,10 +1,11 @@
 //! Operands of instructions that the table names by their numbers.
 
 ghost use Rattle.std.specs.Prelude.{◌≡◌, ◌<◌, ◌≤◌};
+ghost use Rattle.mb_statement.specs.Modes.{immediate_number};
 ghost use Rattle.mb_statement.specs.Statements as statements;
 ghost use Rattle.mb_statement.specs.Answers.{operands_said};
 
-use crate::modes::{mode_of, signed_of, target_of};
+use crate::modes::{immediate_number, mode_of, signed_of, target_of};
 use crate::statement::Operands;
 use mb_instr::{ControlRegister, Ea, Size};
 use mb_syntax::{BitField, FieldNumber, Mode, Operand, Width};
@@ -50,6 +51,13 @@ pub(crate) fn immediate(value: i64) -> Operand<i64>
     ensures { result ≡ statements.immediate value }
 {
     Operand::Mode(Mode::Immediate(value))
+}
+
+/// An immediate of the size.
+pub(crate) fn immediate_of(size: Size, value: u32) -> Operand<i64>
+    ensures { result ≡ statements.immediate (immediate_number size value) }
+{
+    immediate(immediate_number(size, value))
 }
 
 /// A number that is not negative.
@@ -99,6 +107,16 @@ pub(crate) fn place(at: u32, words: u8, ea: &Ea) -> Operand<i64>
     ensures { result ≡ statements.place at words ea.now }
 {
     Operand::Mode(mode_of(behind(at, words), ea))
+}
+
+/// An operand of the size behind the first word, which may be an immediate.
+pub(crate) fn sized_place(at: u32, size: Size, ea: &Ea) -> Operand<i64>
+    ensures { result ≡ statements.sized_place at size ea.now }
+{
+    match ea {
+        Ea::Imm(value) => immediate_of(size, *value),
+        _ => place(at, 1, ea),
+    }
 }
 
 /// The words before an operand that stands behind an immediate.

@@ -11,7 +11,8 @@ use crate::names::{
 };
 use crate::operands::{
     absolute, address, adjusted_pairs, control_register, count, data, displaced, field, immediate,
-    in_turn, indirect, list, pairs, place, post, register, target, words_before,
+    immediate_of, in_turn, indirect, list, pairs, place, post, register, sized_place, target,
+    words_before,
 };
 use crate::statement::Operands::{Nothing, One, Three, Two};
 use crate::statement::{Operands, Statement, plain, sized};
@@ -81,7 +82,7 @@ fn adjust(name: &'static [u8], at: u32, size: Size, value: u32, ea: &Ea) -> Stat
     sized(
         name,
         size,
-        Two([count(value), place(at, words_before(size), ea)]),
+        Two([immediate_of(size, value), place(at, words_before(size), ea)]),
     )
 }
 
@@ -99,7 +100,7 @@ fn alone(name: &'static [u8], at: u32, size: Size, ea: &Ea) -> Statement
     ensures statement { statement_said result ≡ statements.alone name.now at size ea.now }
     ensures short { length result.name.now ≤ 8 }
 {
-    sized(name, size, One([place(at, 1, ea)]))
+    sized(name, size, One([sized_place(at, size, ea)]))
 }
 
 /// `0lll sw00 0000 0hhh`.
@@ -202,7 +203,7 @@ fn move_statement(at: u32, i: &Move) -> Statement
             plain(b"LINK", Two([address(*n), immediate(signed_of(Size::Word, u32::from(*d)))]))
         }
         Move::Move { size, destination, source } => {
-            sized(b"MOVE", *size, Two([place(at, 1, source), place(at, 1, destination)]))
+            sized(b"MOVE", *size, Two([sized_place(at, *size, source), place(at, 1, destination)]))
         }
         Move::Move16Abs { kind, register: n, address } => plain(b"MOVE16", moved(*kind, *n, *address)),
         Move::Move16Post { x, word } => plain(b"MOVE16", Two([post(*x), post((word >> 12 & 7) as u8)])),
@@ -234,14 +235,14 @@ fn arith_statement(at: u32, i: &Arith) -> Statement
 {
     match i {
         Arith::Add { register: n, to_memory, size, ea } => {
-            sized(b"ADD", *size, in_turn(*to_memory, data(*n), place(at, 1, ea)))
+            sized(b"ADD", *size, in_turn(*to_memory, data(*n), sized_place(at, *size, ea)))
         }
         Arith::Adda { register: n, size, ea } => to_address(b"ADDA", at, *size, *n, ea),
         Arith::Addi { size, ea, immediate } => adjust(b"ADDI", at, *size, *immediate, ea),
         Arith::Addq { quick, size, ea } => sized(b"ADDQ", *size, Two([count(u32::from(*quick)), place(at, 1, ea)])),
         Arith::Addx { x, size, in_memory, y } => sized(b"ADDX", *size, pairs(*in_memory, *x, *y)),
         Arith::Clr { size, ea } => alone(b"CLR", at, *size, ea),
-        Arith::Cmp { register: n, size, ea } => sized(b"CMP", *size, Two([place(at, 1, ea), data(*n)])),
+        Arith::Cmp { register: n, size, ea } => sized(b"CMP", *size, Two([sized_place(at, *size, ea), data(*n)])),
         Arith::Cmp2 { size, ea, word } => {
             sized(b"CMP2", *size, Two([place(at, 2, ea), register((word >> 12) as u8)]))
         }
@@ -254,7 +255,7 @@ fn arith_statement(at: u32, i: &Arith) -> Statement
         Arith::Neg { size, ea } => alone(b"NEG", at, *size, ea),
         Arith::Negx { size, ea } => alone(b"NEGX", at, *size, ea),
         Arith::Sub { register: n, to_memory, size, ea } => {
-            sized(b"SUB", *size, in_turn(*to_memory, data(*n), place(at, 1, ea)))
+            sized(b"SUB", *size, in_turn(*to_memory, data(*n), sized_place(at, *size, ea)))
         }
         Arith::Suba { register: n, size, ea } => to_address(b"SUBA", at, *size, *n, ea),
         Arith::Subi { size, ea, immediate } => adjust(b"SUBI", at, *size, *immediate, ea),
@@ -275,14 +276,16 @@ fn bits_statement(at: u32, i: &Arith) -> Statement
 {
     match i {
         Arith::And { register: n, to_memory, size, ea } => {
-            sized(b"AND", *size, in_turn(*to_memory, data(*n), place(at, 1, ea)))
+            sized(b"AND", *size, in_turn(*to_memory, data(*n), sized_place(at, *size, ea)))
         }
         Arith::Andi { size, ea, immediate } => adjust(b"ANDI", at, *size, *immediate, ea),
         Arith::AndiCcr { word } => plain(b"ANDI", Two([count(u32::from(*word)), Operand::Ccr])),
         Arith::BitImm { kind, ea, word } => {
             plain(bit_name(*kind), Two([count(u32::from(*word)), place(at, 2, ea)]))
         }
-        Arith::BitReg { register: n, kind, ea } => plain(bit_name(*kind), Two([data(*n), place(at, 1, ea)])),
+        Arith::BitReg { register: n, kind, ea } => {
+            plain(bit_name(*kind), Two([data(*n), sized_place(at, Size::Byte, ea)]))
+        }
         Arith::Eor { register: n, size, ea } => sized(b"EOR", *size, Two([data(*n), place(at, 1, ea)])),
         Arith::Eori { size, ea, immediate } => adjust(b"EORI", at, *size, *immediate, ea),
         Arith::EoriCcr { word } => plain(b"EORI", Two([count(u32::from(*word)), Operand::Ccr])),
@@ -291,7 +294,7 @@ fn bits_statement(at: u32, i: &Arith) -> Statement
         }
         Arith::Not { size, ea } => alone(b"NOT", at, *size, ea),
         Arith::Or { register: n, to_memory, size, ea } => {
-            sized(b"OR", *size, in_turn(*to_memory, data(*n), place(at, 1, ea)))
+            sized(b"OR", *size, in_turn(*to_memory, data(*n), sized_place(at, *size, ea)))
         }
         Arith::Ori { size, ea, immediate } => adjust(b"ORI", at, *size, *immediate, ea),
         Arith::OriCcr { word } => plain(b"ORI", Two([count(u32::from(*word)), Operand::Ccr])),

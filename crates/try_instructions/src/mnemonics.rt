@@ -124,7 +124,7 @@ macro_rules! control { ($register:expr) => { Operand::Control($register) }; }
 macro_rules! caches { ($name:ident) => { Operand::Caches(Caches::$name) }; }
 
 #[rattlefmt::skip]
-static CASES: [Case; 42] = [
+static CASES: [Case; 45] = [
     case!("ADD", Some(Long), [data!(2), pre!(3)], "d5a3"),
     case!("ADDQ", None, [immediate!(8), data!(3)], "5043"),
     case!("ANDI", Some(Byte), [immediate!(0x1f), Operand::Ccr], "023c 001f"),
@@ -148,7 +148,10 @@ static CASES: [Case; 42] = [
     case!("DIVUL", Some(Long), [data!(1), Operand::Pair(3, 2)], "4c41 2003"),
     case!("EXG", None, [data!(1), address!(2)], "c38a"),
     case!("LINK", Some(Long), [address!(6), immediate!(-0x12345)], "480e fffe dcbb"),
-    case!("MOVE", Some(Byte), [immediate!(-2), indirect!(1)], "12bc 00fe"),
+    case!("MOVE", Some(Byte), [immediate!(-2), indirect!(1)], "12bc fffe"),
+    case!("MOVE", Some(Byte), [immediate!(0xfe), indirect!(1)], "12bc 00fe"),
+    case!("ANDI", Some(Byte), [immediate!(-5), data!(0)], "0200 fffb"),
+    case!("MOVEQ", None, [immediate!(-5), data!(0)], "70fb"),
     case!("MOVE", None, [pc_displaced!(0x1010), displaced!(3, 4)], "377a 000e 0004"),
     case!("MOVE", None, [control!(ControlRegister::Usp), address!(1)], "4e69"),
     case!("MOVE16", None, [post!(1), post!(2)], "f621 a000"),

@@ -364,14 +364,32 @@ static MODES: [Row; 19] = [
     row!(b"MOVE.W D0,([$4.W,A1,ZA2.L],$8.W)", [0x33, 0x80, 0xa9, 0x62, 0x00, 0x04, 0x00, 0x08]),
 ];
 
+/// Byte immediates by their words: negative ones have the high byte `$FF`.
+#[rattlefmt::skip]
+static BYTES: [Row; 11] = [
+    row!(b"ANDI.B #-$5,D0", [0x02, 0x00, 0xff, 0xfb]),
+    row!(b"ANDI.B #$FB,D0", [0x02, 0x00, 0x00, 0xfb]),
+    row!(b"CMPI.B #-$80,($4,A1)", [0x0c, 0x29, 0xff, 0x80, 0x00, 0x04]),
+    row!(b"CMPI.B #-$1,($1010,PC)", [0x0c, 0x3a, 0xff, 0xff, 0x00, 0x0c]),
+    row!(b"MOVE.B #-$2,(A1)", [0x12, 0xbc, 0xff, 0xfe]),
+    row!(b"MOVE.W #$FFFE,(A1)", [0x32, 0xbc, 0xff, 0xfe]),
+    row!(b"ADD.B #-$5,D1", [0xd2, 0x3c, 0xff, 0xfb]),
+    row!(b"AND.B #$80,D1", [0xc2, 0x3c, 0x00, 0x80]),
+    row!(b"TST.B #-$7F", [0x4a, 0x3c, 0xff, 0x81]),
+    row!(b"BTST D1,#-$1", [0x03, 0x3c, 0xff, 0xff]),
+    row!(b"MOVEQ #-$5,D0", [0x70, 0xfb]),
+];
+
 /// What no statement gives: no instruction, a byte immediate or a register that counts for nothing, no register in a
 /// list, a full form that nothing asks for.
 #[rattlefmt::skip]
-static DATA: [Row; 9] = [
+static DATA: [Row; 11] = [
     row!(b"DC.W $4AFC", [0x4a, 0xfc]),
     row!(b"DC.W $A000", [0xa0, 0x00]),
     row!(b"DC.W $F280", [0xf2, 0x80]),
     row!(b"DC.W $601", [0x06, 0x01, 0xff, 0x12]),
+    row!(b"DC.W $601", [0x06, 0x01, 0xff, 0x7f]),
+    row!(b"DC.W $601", [0x06, 0x01, 0x01, 0x00]),
     row!(b"DC.W $F519", [0xf5, 0x19]),
     row!(b"DC.W $48D0", [0x48, 0xd0, 0x00, 0x00]),
     row!(b"DC.W $3030", [0x30, 0x30, 0x01, 0x10]),
@@ -502,6 +520,11 @@ fn statements_s_to_u(rt: HostRuntime) -> Result<(), Fail> {
 #[test]
 fn modes(rt: HostRuntime) -> Result<(), Fail> {
     check_rows(&rt, rt.alloc(), &MODES)
+}
+
+#[test]
+fn byte_immediates(rt: HostRuntime) -> Result<(), Fail> {
+    check_rows(&rt, rt.alloc(), &BYTES)
 }
 
 #[test]
