@@ -62,7 +62,7 @@ letter_of size.Byte = letter.Byte
 letter_of size.Word = letter.Word
 letter_of size.Long = letter.Long
 
--- without a size, where the row has one at most
+-- without a size
 abbrev pub plain : List ℕ → List (Operand ℤ) → Statement
 plain n os = record { name = n; size = None; operands = os }
 
@@ -233,7 +233,7 @@ quotient ea w =
     then sized (quotient_name (w / 2 ^ 11 % 2 == 1)) size.Long (ea ∷ operand.Pair (w % 8) (w / 2 ^ 12 % 8) ∷ [])
     else if w / 2 ^ 12 % 8 == w % 8
     then sized (quotient_name (w / 2 ^ 11 % 2 == 1)) size.Long (ea ∷ data_operand (w % 8) ∷ [])
-    else plain (remainder_name (w / 2 ^ 11 % 2 == 1)) (ea ∷ operand.Pair (w % 8) (w / 2 ^ 12 % 8) ∷ [])
+    else sized (remainder_name (w / 2 ^ 11 % 2 == 1)) size.Long (ea ∷ operand.Pair (w % 8) (w / 2 ^ 12 % 8) ∷ [])
 
 unfoldable pub branching : ℕ → Condition → Branch → Statement
 branching at c (branch.Byte d) = sized (branch_name c) size.Byte (target size.Byte at d ∷ [])
@@ -298,8 +298,8 @@ arith_statement at (arith.Eor d s ea) = sized (codes "EOR") s (data_operand d �
 arith_statement at (arith.Eori s ea v) = adjust (codes "EORI") at s v ea
 arith_statement at (arith.EoriCcr w) = plain (codes "EORI") (count w ∷ operand.Ccr ∷ [])
 arith_statement at (arith.ExtL d) = sized (codes "EXT") size.Long (data_operand d ∷ [])
-arith_statement at (arith.ExtW d) = plain (codes "EXT") (data_operand d ∷ [])
-arith_statement at (arith.ExtbL d) = plain (codes "EXTB") (data_operand d ∷ [])
+arith_statement at (arith.ExtW d) = sized (codes "EXT") size.Word (data_operand d ∷ [])
+arith_statement at (arith.ExtbL d) = sized (codes "EXTB") size.Long (data_operand d ∷ [])
 arith_statement at (arith.Field k ea w) = plain (field_name k)
     (field_operands k (w / 2 ^ 12 % 8) (field at ea w))
 arith_statement at (arith.MulL ea w) = product (place at 2 ea) w

@@ -48,7 +48,7 @@ fn letter_of(size: Size) -> SizeLetter
     }
 }
 
-/// A statement without a size, where the row has one at most.
+/// A statement without a size.
 pub(crate) fn plain(name: &'static [u8], operands: Operands) -> Statement
     requires { length name.now ≤ 8 }
     ensures statement { statement_said result ≡ plain name.now (operands_said operands) }

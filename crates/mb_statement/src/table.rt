@@ -134,8 +134,9 @@ fn quotient(operand: Operand<i64>, word: u16) -> Statement
     } else if low == rest {
         sized(name, Size::Long, Two([operand, data(rest)]))
     } else {
-        plain(
+        sized(
             remainder_name(is_signed),
+            Size::Long,
             Two([operand, Operand::Pair(rest, low)]),
         )
     }
@@ -250,8 +251,8 @@ fn arith_statement(at: u32, i: &Arith) -> Statement
         Arith::Cmpi { size, ea, immediate } => adjust(b"CMPI", at, *size, *immediate, ea),
         Arith::Cmpm { x, size, y } => sized(b"CMPM", *size, Two([post(*y), post(*x)])),
         Arith::ExtL { register: n } => sized(b"EXT", Size::Long, One([data(*n)])),
-        Arith::ExtW { register: n } => plain(b"EXT", One([data(*n)])),
-        Arith::ExtbL { register: n } => plain(b"EXTB", One([data(*n)])),
+        Arith::ExtW { register: n } => sized(b"EXT", Size::Word, One([data(*n)])),
+        Arith::ExtbL { register: n } => sized(b"EXTB", Size::Long, One([data(*n)])),
         Arith::Neg { size, ea } => alone(b"NEG", at, *size, ea),
         Arith::Negx { size, ea } => alone(b"NEGX", at, *size, ea),
         Arith::Sub { register: n, to_memory, size, ea } => {
