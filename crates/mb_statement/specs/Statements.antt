@@ -325,51 +325,6 @@ arith_statement at (arith.Tas ea) = plain (codes "TAS") (place at 1 ea ∷ [])
 arith_statement at (arith.Tst s ea) = alone (codes "TST") at s ea
 arith_statement at (arith.Unpk x m y w) = plain (codes "UNPK") (adjusted_pairs m x y w)
 
--- what adds, subtracts, compares, extends or clears
-abbrev pub is_sum : Arith → Bool
-is_sum (arith.Add d k s ea) = true
-is_sum (arith.Adda a s ea) = true
-is_sum (arith.Addi s ea v) = true
-is_sum (arith.Addq q s ea) = true
-is_sum (arith.Addx x s m y) = true
-is_sum (arith.Clr s ea) = true
-is_sum (arith.Cmp d s ea) = true
-is_sum (arith.Cmp2 s ea w) = true
-is_sum (arith.Cmpa a s ea) = true
-is_sum (arith.Cmpi s ea v) = true
-is_sum (arith.Cmpm x s y) = true
-is_sum (arith.ExtL d) = true
-is_sum (arith.ExtW d) = true
-is_sum (arith.ExtbL d) = true
-is_sum (arith.Neg s ea) = true
-is_sum (arith.Negx s ea) = true
-is_sum (arith.Sub d k s ea) = true
-is_sum (arith.Suba a s ea) = true
-is_sum (arith.Subi s ea v) = true
-is_sum (arith.Subq q s ea) = true
-is_sum (arith.Subx x s m y) = true
-is_sum (arith.Tst s ea) = true
-is_sum _ = false
-
--- what works on bits, and shifts
-abbrev pub is_of_bits : Arith → Bool
-is_of_bits (arith.And d k s ea) = true
-is_of_bits (arith.Andi s ea v) = true
-is_of_bits (arith.AndiCcr w) = true
-is_of_bits (arith.BitImm k ea w) = true
-is_of_bits (arith.BitReg d k ea) = true
-is_of_bits (arith.Eor d s ea) = true
-is_of_bits (arith.Eori s ea v) = true
-is_of_bits (arith.EoriCcr w) = true
-is_of_bits (arith.Field k ea w) = true
-is_of_bits (arith.Not s ea) = true
-is_of_bits (arith.Or d k s ea) = true
-is_of_bits (arith.Ori s ea v) = true
-is_of_bits (arith.OriCcr w) = true
-is_of_bits (arith.ShiftMem k l ea) = true
-is_of_bits (arith.ShiftReg n l s i k r) = true
-is_of_bits _ = false
-
 unfoldable pub flow_statement : ℕ → Flow → Statement
 flow_statement at (flow.Bcc c d) = branching at c d
 flow_statement at (flow.Chk d s ea) = sized (codes "CHK") s (place at 1 ea ∷ data_operand d ∷ [])

@@ -1,6 +1,7 @@
 //! The statement of each instruction: a line a row of the table of instructions.
 
 ghost use Rattle.std.specs.Prelude.{◌≡◌, ◌≤◌, false, length};
+ghost use Rattle.mb_statement.specs.Groups.{is_sum, is_of_bits};
 ghost use Rattle.mb_statement.specs.Statements as statements;
 ghost use Rattle.mb_statement.specs.Answers.{operands_said, statement_said};
 
@@ -271,7 +272,7 @@ fn arith_statement(at: u32, i: &Arith) -> Statement
 #[rattlefmt::skip]
 #[tactic(auto, unfolding(crate::specs::Statements::arith_statement))]
 fn bits_statement(at: u32, i: &Arith) -> Statement
-    requires { statements.is_sum i.now ≡ false }
+    requires { is_sum i.now ≡ false }
     ensures statement { statement_said result ≡ statements.arith_statement at i.now }
     ensures short { length result.name.now ≤ 8 }
 {
@@ -312,8 +313,8 @@ fn bits_statement(at: u32, i: &Arith) -> Statement
 #[rattlefmt::skip]
 #[tactic(auto, unfolding(crate::specs::Statements::arith_statement))]
 fn product_statement(at: u32, i: &Arith) -> Statement
-    requires sums { statements.is_sum i.now ≡ false }
-    requires bits { statements.is_of_bits i.now ≡ false }
+    requires sums { is_sum i.now ≡ false }
+    requires bits { is_of_bits i.now ≡ false }
     ensures statement { statement_said result ≡ statements.arith_statement at i.now }
     ensures short { length result.name.now ≤ 8 }
 {
