@@ -62,13 +62,12 @@ fn form_among(
     ensures form { option_map form_said result ≡ form_among (map entry_of lines.now) name.now letter operands.now }
     ensures short { IfSome result (λ f. IsTrue (is_short f.line.now)) }
 {
-    match lines {
-        [] => None,
-        [line, lines @ ..] => match form_by(line, name, letter, operands) {
-            Some(form) => Some(form),
-            None => form_among(lines, name, letter, operands),
-        },
+    for line in lines {
+        if let Some(form) = form_by(line, name, letter, operands) {
+            return Some(form);
+        }
     }
+    None
 }
 
 /// Whether one of the lines has the name.
