@@ -5,6 +5,8 @@
 #[cfg(test)]
 mod devices;
 #[cfg(test)]
+mod generated;
+#[cfg(test)]
 mod guest_kept;
 #[cfg(test)]
 mod guest_port;

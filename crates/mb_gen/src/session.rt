@@ -1,0 +1,56 @@
+//! The session of a seed.
+
+ghost use Rattle.std.specs.Prelude.{◌≡◌, ◌≤◌, IfOk, OnOk};
+ghost use Rattle.vm_guest.specs.Session.{IsSession};
+ghost use Rattle.mb_gen.specs.Draws.{after, draws};
+ghost use Rattle.mb_gen.specs.Seen.{generator_seen};
+ghost use Rattle.mb_gen.specs.Sessions.{generated, guest_of, IsJustFilled};
+
+use crate::draws::seeded;
+use crate::program::image;
+use mb_outside::Memory;
+use mb_script::Script;
+use rand_pcg::Lcg64Xsh32;
+use std::alloc::{AllocError, Global};
+use vm_guest::{Session, SessionGuest};
+
+/// What a monitor has at the front of a board, in bytes.
+const MONITOR_BYTES: u32 = 65_536;
+
+/// The bytes of a guest's RAM.
+const RAM: u32 = 65_536;
+
+/// A guest's RAM and its tables, in bytes.
+const GUEST_BYTES: u32 = 131_072;
+
+/// A bound on the steps of a guest, whose program takes 200,302.
+const STEPS: u32 = 250_000;
+
+/// The steps of a turn.
+const SLICE: u32 = 1_000;
+
+/// The session of a seed, with so many guests. Each guest takes the next 2,000 draws.
+pub fn make_session(alloc: Global, seed: u64, guests: u8) -> Result<Session, Memory>
+    requires { (1 ≤ guests) × (guests ≤ 16) }
+    ensures generated { IfOk result (λ session. session ≡ generated seed guests) }
+    ensures lawful { IfOk result IsSession }
+    ensures filled { IfOk result IsJustFilled }
+{
+    let mut generator = seeded(seed);
+    let mut all = Vec::new(alloc);
+    for _ in 0..guests {
+        all.push(guest(alloc, &mut generator)?)?;
+    }
+    let board = MONITOR_BYTES + GUEST_BYTES * u32::from(guests);
+    Ok(Session::new(board, SLICE, all))
+}
+
+/// A guest by the next draws.
+fn guest(alloc: Global, generator: &mut Lcg64Xsh32) -> Result<SessionGuest, AllocError>
+    ensures guest { IfOk result (λ guest. guest ≡ guest_of (draws 2000 (generator_seen generator.old))) }
+    ensures after { OnOk result (generator_seen generator.new ≡ after 2000 (generator_seen generator.old)) }
+{
+    let image = image(alloc, generator)?;
+    let script = Script::new(Vec::new(alloc));
+    Ok(SessionGuest::new(image, script, RAM, STEPS))
+}
