@@ -1,23 +1,20 @@
-//! A guest on a board beside a bare board with the same image and script: where the rules of both keep the same, both
-//! show the same.
+//! Guests on a board, each beside a bare board with the same image and script: where the rules of both keep the same,
+//! both show the same.
 
-ghost use Rattle.std.specs.Prelude.{◌≡◌, ◌≤◌, ◌<◌, ◌^◌, length, IfSome};
+ghost use Rattle.std.specs.Prelude.{◌≡◌, ◌<◌, ◌^◌, length, IfSome};
 ghost use Rattle.vm_machine.specs.Seats.{IsSeated};
 
-use crate::machines::board_with;
+use crate::images::{SIZE, image_of};
+use crate::machines::{board_with, steps_of};
 use mb_board::Board;
-use mb_model::RunState;
+use mb_model::{Outcome, RunState};
 use mb_port::Place;
 use mb_report::same;
 use mb_script::{Script, read_script};
-use mb_srec::{Chunk, Image};
 use std::alloc::Global;
 use vm_guest::{Guest, TurnEnd};
 
-/// The bytes of the guest's RAM, which is that of the bare board.
-const SIZE: u32 = 0x1_0000;
-
-/// Where it begins on the host, and how many bytes the host has.
+/// Where the guest begins on the host, and how many bytes the host has.
 const BASE: u32 = 0x2_0000;
 
 const HOST: u32 = 0x5_0000;
@@ -75,14 +72,16 @@ fn used_board(alloc: Global) -> Option<Board>
     Some(board)
 }
 
-/// The memory of a board as an image.
-fn image_of(alloc: Global, board: &Board) -> Option<Image>
-    requires { length board.now.world.ram ≡ SIZE }
+/// A guest on the host, with what stands in a bare board's memory.
+fn guest_on(alloc: Global, bare: &Board, script: &[u8], host: &mut Board) -> Option<Guest>
+    requires bare { length bare.now.world.ram ≡ SIZE }
+    requires script { length script.now < 2 ^ 31 }
+    requires host { length host.old.world.ram ≡ HOST }
+    ensures { IfSome result (λ guest. IsSeated guest host.new.world.ram) }
 {
-    let bytes = board.memory(0, SIZE).to_vec(alloc).ok()?;
-    let mut chunks = Vec::new(alloc);
-    chunks.push(Chunk::new(0, bytes)).ok()?;
-    Some(Image::new(chunks))
+    let image = image_of(alloc, bare)?;
+    let script = read_script(alloc, script).ok()?;
+    Guest::prepare(alloc, image, script, SIZE, BASE, host).ok()
 }
 
 /// A guest on its host beside a bare board.
@@ -101,17 +100,16 @@ impl Pair {
     fn new(alloc: Global, chunks: &[(u32, &[u8])], script: &[u8]) -> Option<Pair>
         requires { length script.now < 2 ^ 31 }
     {
-        let bare = board_with(alloc, chunks).ok()?;
+        Pair::beside(alloc, board_with(alloc, chunks).ok()?, script)
+    }
+
+    /// A bare board, and a guest with what stands in its memory.
+    fn beside(alloc: Global, bare: Board, script: &[u8]) -> Option<Pair>
+        requires bare { length bare.world.ram ≡ SIZE }
+        requires script { length script.now < 2 ^ 31 }
+    {
         let mut host = used_board(alloc)?;
-        let guest = Guest::prepare(
-            alloc,
-            image_of(alloc, &bare)?,
-            read_script(alloc, script).ok()?,
-            SIZE,
-            BASE,
-            &mut host,
-        )
-        .ok()?;
+        let guest = guest_on(alloc, &bare, script, &mut host)?;
         Some(Pair {
             bare,
             script: read_script(alloc, script).ok()?,
@@ -120,18 +118,16 @@ impl Pair {
         })
     }
 
-    /// How many steps the guest has taken.
-    fn steps(&self) -> u32 {
-        self.guest.outcome(&self.host).steps
-    }
-
-    fn state(&self) -> RunState {
-        self.guest.outcome(&self.host).state
+    /// What the guest shows.
+    fn outcome<'a>(&'a self) -> Outcome<'a>
+        ensures { result.steps ≡ self.now.guest.steps }
+    {
+        self.guest.outcome(&self.host)
     }
 
     /// A turn of the guest, while there are fewer than a million steps.
     fn turn(&mut self, steps: u32) -> Option<TurnEnd> {
-        if self.steps() < 1_000_000 && steps < 1_000_000 {
+        if self.outcome().steps < 1_000_000 && steps < 1_000_000 {
             Some(self.guest.turn(&mut self.host, steps))
         } else {
             None
@@ -140,17 +136,45 @@ impl Pair {
 
     /// Whether the bare board shows the same after so many steps.
     fn is_as_bare(&mut self, steps: u32) -> bool {
-        if self.bare.outcome().steps < 1_000_000 && steps < 1_000_000 {
+        if steps_of(&self.bare) < 1_000_000 && steps < 1_000_000 {
             self.bare.run_bare(&self.script, steps);
         }
-        same(&self.guest.outcome(&self.host), &self.bare.outcome())
+        same(&self.outcome(), &self.bare.outcome())
     }
 
     /// Whether these bytes stand in the guest's RAM.
     fn holds(&self, at: u32, bytes: &[u8]) -> bool {
         let at = at as usize;
-        self.guest.outcome(&self.host).ram.get(at..at + bytes.len()) == Some(bytes)
+        self.outcome().ram.get(at..at + bytes.len()) == Some(bytes)
     }
+}
+
+/// A bare board that translates, whose page $3000 leads to a frame: it reads there, changes that page's descriptor to
+/// frame $6000, reads again, flushes, and reads once more.
+fn keeper(alloc: Global, frame: u8) -> Option<Board>
+    ensures { IfSome result (λ board. length board.world.ram ≡ SIZE) }
+{
+    let code = [
+        0x32, 0x38, 0x30, 0, // MOVE.W $3000,D1
+        0x23, 0xFC, 0, 0, 0x60, 1, 0, 0, 0xC4, 0x0C, // MOVE.L #$6001,$C40C
+        0x34, 0x38, 0x30, 0, // MOVE.W $3000,D2
+        0x7E, 5, 0x4E, 0x7B, 0x70, 1, // MOVEQ #5,D7; MOVEC D7,DFC
+        0x41, 0xF8, 0x30, 0, 0xF5, 8, // LEA $3000,A0; PFLUSH (A0)
+        0x36, 0x38, 0x30, 0, // MOVE.W $3000,D3
+    ];
+    let chunks: [(u32, &[u8]); 10] = [
+        RESET,
+        TRANSLATES,
+        (THEN, &code),
+        ROOT,
+        POINTERS,
+        SELVES,
+        (PAGES + 12, &[0, 0, frame, 1]),
+        (0x5000, &[0x55, 0x55]),
+        (0x6000, &[0x66, 0x66]),
+        (0x7000, &[0x77, 0x77]),
+    ];
+    board_with(alloc, &chunks).ok()
 }
 
 /// `MOVE.B DATA,DATA` in a loop: what arrives at which step shows on the console. One turn of 99 steps, or turns of 3,
@@ -171,13 +195,8 @@ fn turns_add_up(rt: HostRuntime) {
         assert_eq!(rt; often.turn(steps), Some(TurnEnd::Counted));
     }
     assert!(rt; often.is_as_bare(99));
-    assert_eq!(rt; once.guest.outcome(&once.host).console.len(), 49);
-    assert!(rt;
-        same(
-            &once.guest.outcome(&once.host),
-            &often.guest.outcome(&often.host)
-        )
-    );
+    assert_eq!(rt; once.outcome().console.len(), 49);
+    assert!(rt; same(&once.outcome(), &often.outcome()));
 }
 
 /// Nothing but vectors: after 16,384 steps a fetch past RAM faults, and no frame can be stacked below a stack at 0.
@@ -187,8 +206,8 @@ fn a_guest_halts_at_a_frame(rt: HostRuntime) {
     assert_eq!(rt; pair.turn(16_384), Some(TurnEnd::Counted));
     assert_eq!(rt; pair.turn(100), Some(TurnEnd::Halted));
     assert_eq!(rt; pair.turn(100), Some(TurnEnd::Halted));
-    assert_eq!(rt; pair.steps(), 16_385);
-    assert_eq!(rt; pair.state(), RunState::Halted);
+    assert_eq!(rt; pair.outcome().steps, 16_385);
+    assert_eq!(rt; pair.outcome().state, RunState::Halted);
     assert!(rt; pair.is_as_bare(20_000));
 }
 
@@ -201,8 +220,8 @@ fn a_guest_switches_off(rt: HostRuntime) {
     let mut pair = Pair::new(rt.alloc(), &[RESET, (0x400, &code)], b"").expect(&rt, "ample memory");
     assert_eq!(rt; pair.turn(3), Some(TurnEnd::Off));
     assert_eq!(rt; pair.turn(3), Some(TurnEnd::Off));
-    assert_eq!(rt; pair.steps(), 3);
-    assert_eq!(rt; pair.guest.outcome(&pair.host).console, [0x41].as_slice());
+    assert_eq!(rt; pair.outcome().steps, 3);
+    assert_eq!(rt; pair.outcome().console, [0x41].as_slice());
     assert!(rt; pair.is_as_bare(10));
 }
 
@@ -210,28 +229,10 @@ fn a_guest_switches_off(rt: HostRuntime) {
 /// covers it.
 #[test]
 fn a_guest_keeps_until_a_flush(rt: HostRuntime) {
-    let code = [
-        0x32, 0x38, 0x30, 0, // MOVE.W $3000,D1
-        0x23, 0xFC, 0, 0, 0x60, 1, 0, 0, 0xC4, 0x0C, // MOVE.L #$6001,$C40C
-        0x34, 0x38, 0x30, 0, // MOVE.W $3000,D2
-        0x7E, 5, 0x4E, 0x7B, 0x70, 1, // MOVEQ #5,D7; MOVEC D7,DFC
-        0x41, 0xF8, 0x30, 0, 0xF5, 8, // LEA $3000,A0; PFLUSH (A0)
-        0x36, 0x38, 0x30, 0, // MOVE.W $3000,D3
-    ];
-    let chunks = [
-        RESET,
-        TRANSLATES,
-        (THEN, &code),
-        ROOT,
-        POINTERS,
-        SELVES,
-        (PAGES + 12, &[0, 0, 0x50, 1]),
-        (0x5000, &[0x55, 0x55]),
-        (0x6000, &[0x66, 0x66]),
-    ];
-    let mut pair = Pair::new(rt.alloc(), &chunks, b"").expect(&rt, "ample memory");
+    let bare = keeper(rt.alloc(), 0x50).expect(&rt, "ample memory");
+    let mut pair = Pair::beside(rt.alloc(), bare, b"").expect(&rt, "ample memory");
     assert_eq!(rt; pair.turn(13), Some(TurnEnd::Counted));
-    let registers = pair.guest.outcome(&pair.host).cpu.regs.d;
+    let registers = pair.outcome().cpu.regs.d;
     assert_eq!(rt; registers[1], 0x5555);
     assert_eq!(rt; registers[2], 0x5555);
     assert_eq!(rt; registers[3], 0x6666);
@@ -260,7 +261,7 @@ fn a_guest_forgets_where_a_board_keeps(rt: HostRuntime) {
     ];
     let mut pair = Pair::new(rt.alloc(), &chunks, b"").expect(&rt, "ample memory");
     assert_eq!(rt; pair.turn(10), Some(TurnEnd::Counted));
-    let registers = pair.guest.outcome(&pair.host).cpu.regs.d;
+    let registers = pair.outcome().cpu.regs.d;
     assert_eq!(rt; registers[1], 0x5555);
     assert_eq!(rt; registers[2], 0x6666);
     assert!(rt; !pair.is_as_bare(10));
@@ -286,7 +287,7 @@ fn a_guest_compares_a_descriptor(rt: HostRuntime) {
     let mut pair = Pair::new(rt.alloc(), &chunks, b"").expect(&rt, "ample memory");
     assert_eq!(rt; pair.turn(8), Some(TurnEnd::Counted));
     assert!(rt; pair.holds(PAGES + 16, &[0, 0, 0x40, 9]));
-    assert_eq!(rt; pair.guest.outcome(&pair.host).cpu.regs.sr & 4, 4);
+    assert_eq!(rt; pair.outcome().cpu.regs.sr & 4, 4);
     assert!(rt; pair.is_as_bare(8));
 }
 
@@ -307,7 +308,7 @@ fn a_guest_moves_over_its_own_words(rt: HostRuntime) {
     ];
     let mut pair = Pair::new(rt.alloc(), &chunks, b"").expect(&rt, "ample memory");
     assert_eq!(rt; pair.turn(11), Some(TurnEnd::Counted));
-    assert_eq!(rt; pair.guest.outcome(&pair.host).cpu.regs.pc, 0x1FFC);
+    assert_eq!(rt; pair.outcome().cpu.regs.pc, 0x1FFC);
     assert!(rt;
         pair.holds(
             0x1FF8,
@@ -336,10 +337,10 @@ fn a_guest_moves_to_devices(rt: HostRuntime) {
     ];
     let mut pair = Pair::new(rt.alloc(), &chunks, b"").expect(&rt, "ample memory");
     assert_eq!(rt; pair.turn(8), Some(TurnEnd::Counted));
-    assert_eq!(rt; pair.guest.outcome(&pair.host).cpu.regs.pc, 0x500);
+    assert_eq!(rt; pair.outcome().cpu.regs.pc, 0x500);
     assert!(rt; pair.holds(0x5FF8, &[0, 0, 0x80, 0, 0xFF, 0xFF, 0xFF, 0xD1]));
     assert!(rt; pair.holds(0x7FD8, &[0, 0, 0x60, 0]));
-    assert!(rt; pair.guest.outcome(&pair.host).console.is_empty());
+    assert!(rt; pair.outcome().console.is_empty());
     assert!(rt; pair.is_as_bare(8));
 }
 
@@ -361,6 +362,6 @@ fn tables_outside_ram_are_bus_errors(rt: HostRuntime) {
     )
     .expect(&rt, "ample memory");
     assert_eq!(rt; pair.turn(100), Some(TurnEnd::Halted));
-    assert_eq!(rt; pair.steps(), 6);
+    assert_eq!(rt; pair.outcome().steps, 6);
     assert!(rt; pair.is_as_bare(100));
 }

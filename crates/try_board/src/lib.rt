@@ -1,5 +1,5 @@
-//! Tests of machines and their parts: searches through tables, kept translations, shadow tables, devices, boards, and
-//! guests on boards.
+//! Tests of machines and their parts: searches through tables, kept translations, shadow tables, devices, boards,
+//! guests on boards, hosts, and generated sessions.
 #![tactic(auto)]
 
 #[cfg(test)]
@@ -12,6 +12,10 @@ mod guest_kept;
 mod guest_port;
 #[cfg(test)]
 mod guests;
+#[cfg(test)]
+mod hosts;
+#[cfg(test)]
+mod images;
 #[cfg(test)]
 mod kept;
 #[cfg(test)]

@@ -104,7 +104,7 @@ fn run(board: &mut Board, alloc: Global, steps: u32)
 }
 
 /// How many steps the board has taken.
-fn steps_of(board: &Board) -> u32
+pub(crate) fn steps_of(board: &Board) -> u32
     ensures { result ≡ board.now.steps }
 {
     board.outcome().steps

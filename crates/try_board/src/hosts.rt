@@ -1,0 +1,186 @@
+//! Sessions of guests, each beside a bare board with the same image and script: whatever the slice is, each guest shows
+//! what its own board shows.
+
+ghost use Rattle.std.specs.Prelude.{IfSome};
+ghost use Rattle.vm_guest.specs.Session.{IsBoardBytes, IsGuest, IsSession};
+
+use crate::images::{SIZE, image_of};
+use crate::machines::board_with;
+use mb_model::{Outcome, RunState};
+use mb_report::same;
+use mb_script::{Script, read_script};
+use std::alloc::Global;
+use vm_slices::{Host, OpenFault, Session, SessionGuest};
+
+/// The board on which three guests fit, and one that is 64 KiB smaller.
+const FITS: u32 = 0x7_0000;
+
+const TOO_SMALL: u32 = 0x6_0000;
+
+/// The stack and the code of the guests here.
+const RESET: (u32, &[u8]) = (0, &[0, 0, 0x80, 0, 0, 0, 4, 0]);
+
+/// What a guest begins with: the bytes in its RAM, its script, and how many steps it takes at most.
+#[derive(Clone, Copy)]
+struct Begins<'a> {
+    chunks: &'a [(u32, &'a [u8])],
+    script: &'a [u8],
+    steps: u32,
+}
+
+/// `MOVE.B #1,CTRL`, and `MOVE.B DATA,DATA` in a loop: what arrives shows on the console.
+const ECHO: Begins<'static> = Begins {
+    chunks: &[
+        RESET,
+        (
+            0x400,
+            &[
+                0x13, 0xFC, 0, 1, 0xFF, 0xF0, 0, 2, 0x13, 0xF9, 0xFF, 0xF0, 0, 0, 0xFF, 0xF0, 0, 0,
+                0x60, 0xF4,
+            ],
+        ),
+    ],
+    script: b"at 1 hex 40\nat 3 hex 4142\nat 39 hex 44\nat 40 hex 4546\n",
+    steps: 99,
+};
+
+/// `LEA $1000,A0`, and `MOVE.L A0,(A0)+` in a loop: it fills its RAM.
+const FILL: Begins<'static> = Begins {
+    chunks: &[
+        RESET,
+        (0x400, &[0x41, 0xF8, 0x10, 0, 0x20, 0xC8, 0x60, 0xFC]),
+    ],
+    script: b"",
+    steps: 3000,
+};
+
+/// No image: after 16,384 steps a fetch past RAM faults, and no frame can be stacked below a stack at 0.
+const HALTS: Begins<'static> = Begins {
+    chunks: &[],
+    script: b"",
+    steps: 20_000,
+};
+
+/// `MOVEQ #$41,D0`, `MOVE.B D0,DATA`, `MOVE.L #1,POWER`.
+const SWITCHES_OFF: Begins<'static> = Begins {
+    chunks: &[
+        RESET,
+        (
+            0x400,
+            &[
+                0x70, 0x41, 0x13, 0xC0, 0xFF, 0xF0, 0, 0, 0x23, 0xFC, 0, 0, 0, 1, 0xFF, 0xF0, 0,
+                0x20,
+            ],
+        ),
+    ],
+    script: b"",
+    steps: 10,
+};
+
+/// Its script, which is short.
+fn script_of(alloc: Global, begins: &Begins) -> Option<Script> {
+    if begins.script.len() > 1000 {
+        return None;
+    }
+    read_script(alloc, begins.script).ok()
+}
+
+fn guest_of(alloc: Global, begins: &Begins) -> Option<SessionGuest>
+    ensures { IfSome result IsGuest }
+{
+    let image = image_of(alloc, &board_with(alloc, begins.chunks).ok()?)?;
+    let script = script_of(alloc, begins)?;
+    Some(SessionGuest::new(image, script, SIZE, begins.steps))
+}
+
+/// A session of these guests.
+fn session_of(alloc: Global, board: u32, slice: u32, guests: &[Begins]) -> Option<Session>
+    requires { IsBoardBytes board }
+    ensures { IfSome result IsSession }
+{
+    if slice == 0 || guests.is_empty() || guests.len() > 16 {
+        return None;
+    }
+    let mut all = Vec::new(alloc);
+    for begins in guests {
+        all.push(guest_of(alloc, begins)?).ok()?;
+    }
+    Some(Session::new(board, slice, all))
+}
+
+/// What a guest shows, if there is such a guest.
+fn outcome_of(host: &Host, number: u8) -> Option<Outcome<'_>> {
+    if number == 0 || number > host.guest_count() {
+        return None;
+    }
+    Some(host.outcome(number))
+}
+
+/// Whether a guest shows what a bare board with its image and script shows after its steps.
+fn is_as_bare(alloc: Global, host: &Host, number: u8, begins: &Begins) -> Option<bool> {
+    let script = script_of(alloc, begins)?;
+    let mut bare = board_with(alloc, begins.chunks).ok()?;
+    if bare.outcome().steps < 1_000_000 && begins.steps < 1_000_000 {
+        bare.run_bare(&script, begins.steps);
+    }
+    Some(same(&outcome_of(host, number)?, &bare.outcome()))
+}
+
+/// Three guests in turns of 1, of 7 and of 1,000 steps.
+#[test]
+fn each_guest_shows_what_its_own_board_shows(rt: HostRuntime) {
+    let guests = [ECHO, HALTS, FILL];
+    for slice in [1, 7, 1000] {
+        let session = session_of(rt.alloc(), FITS, slice, &guests).expect(&rt, "ample memory");
+        let mut host = Host::prepare(rt.alloc(), session).expect(&rt, "it fits");
+        host.run();
+        assert_eq!(rt; host.guest_count(), 3);
+        for (number, begins) in [(1, &ECHO), (2, &HALTS), (3, &FILL)] {
+            assert_eq!(rt;
+                is_as_bare(rt.alloc(), &host, number, begins),
+                Some(true),
+                "{number} in {slice}"
+            );
+        }
+    }
+}
+
+/// How a guest stands, and after how many steps.
+fn stands(host: &Host, number: u8) -> Option<(RunState, u32)> {
+    let outcome = outcome_of(host, number)?;
+    Some((outcome.state, outcome.steps))
+}
+
+/// A guest that halts beside one that switches off, and a second run.
+#[test]
+fn one_halts_and_one_is_off(rt: HostRuntime) {
+    let session = session_of(rt.alloc(), FITS, 1000, &[HALTS, SWITCHES_OFF]).expect(
+        &rt,
+        "ample memory",
+    );
+    let mut host = Host::prepare(rt.alloc(), session).expect(&rt, "it fits");
+    for _ in 0..2 {
+        host.run();
+        assert_eq!(rt; stands(&host, 1), Some((RunState::Halted, 16_385)));
+        assert_eq!(rt; stands(&host, 2), Some((RunState::Off, 3)));
+        assert_eq!(rt; is_as_bare(rt.alloc(), &host, 1, &HALTS), Some(true));
+        assert_eq!(rt; is_as_bare(rt.alloc(), &host, 2, &SWITCHES_OFF), Some(true));
+    }
+}
+
+/// 64 KiB for the monitor, and 128 KiB for each of three guests.
+#[test]
+fn a_session_fits_to_the_byte(rt: HostRuntime) {
+    let guests = [FILL, ECHO, SWITCHES_OFF];
+    let session = session_of(rt.alloc(), TOO_SMALL, 1, &guests).expect(&rt, "ample memory");
+    let refused = Host::prepare(rt.alloc(), session).err();
+    assert_eq!(rt;
+        refused,
+        Some(OpenFault::Oversize {
+            need: FITS,
+            have: TOO_SMALL
+        })
+    );
+    let session = session_of(rt.alloc(), FITS, 1, &guests).expect(&rt, "ample memory");
+    assert!(rt; Host::prepare(rt.alloc(), session).is_ok());
+}
