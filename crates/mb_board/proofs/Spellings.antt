@@ -1,4 +1,5 @@
 -- What numbers spell, as machine words sum it.
+use Rattle.std.specs.Prelude.{All}
 use Rattle.std.proofs.Common.{◌≡◌, ◌∙◌, ℕ, ◌+◌, ◌*◌, ◌%◌, ◌^◌, ◌<◌, List, [], ◌∷◌, ◌++◌, length, get_or, length-append, ap, sym, zero-mul, arith}
 use Rattle.mb_instr.specs.declared.registers.Plain.{Plain}
 use Rattle.vm_meaning.specs.Marks.{numbers_of, with_numbers, spelled, with_spelled, trail, HasNumbers}
@@ -37,13 +38,15 @@ has_eighteen p d a =
     ∙ ap (λ (n : ℕ). n + 2) (length-append p.d p.a ∙ ap (λ (n : ℕ). n + length p.a) d ∙ ap (λ (n : ℕ). 8 + n) a)
 
 -- what registers spell is the sum over all their numbers
-pub sum-is_spelled : (p : Plain) (sum front whole : ℕ) → length p.d ≡ 8 → length p.a ≡ 8 → front ≡ with_numbers 0 p.d
+pub sum-is_spelled : (p : Plain) (sum front whole : ℕ) → length p.d ≡ 8 → length p.a ≡ 8 → All (λ v. v < 2 ^ 32) p.d
+    → All (λ v. v < 2 ^ 32) p.a → p.pc < 2 ^ 32 → front ≡ with_numbers 0 p.d
     → whole ≡ with_numbers front p.a → sum ≡ (whole * 961 % 2 ^ 64 + (p.pc * 31 + p.ccr)) % 2 ^ 64 → Spell p sum
-sum-is_spelled p sum front whole n m d a e =
+sum-is_spelled p sum front whole n m x y counter d a e =
     let tail = p.pc ∷ p.ccr ∷ [] in
     let all = numbers_of p in
     let behind : whole ≡ with_numbers (with_numbers 0 p.d) p.a = a ∙ ap (λ (t : ℕ). with_numbers t p.a) d in record {
       numbers = has_eighteen p n m;
+      fit = record { longs = (x, y); eight = m; counter = counter };
       remainder =
           e ∙ two-at_once whole p.pc p.ccr ∙ ap (λ (t : ℕ). with_numbers t tail) behind
           ∙ ap (λ (t : ℕ). with_numbers t tail) (sym (numbers-append 0 p.d p.a)) ∙ sym (numbers-append 0 (p.d ++ p.a) tail)

@@ -1,11 +1,12 @@
 -- A run in user mode by its first step.
 use Rattle.std.proofs.Common.{◌≡◌, ◌∙◌, ℕ, suc, ◌+◌, refl, ap, sym, subst, true, false}
 use Rattle.mb_instr.specs.declared.registers.Plain.{Plain}
-use Rattle.mb_instr.specs.Registers.{is_supervisor}
+use Rattle.mb_instr.specs.Registers.{is_supervisor, plain_of}
 use Rattle.mb_machine.specs.Machine.{Machine, takes_steps}
 use Rattle.vm_meaning.specs.declared.RunEnd.{RunEnd}
 use Rattle.vm_meaning.specs.declared.RunEnd.TheVariants.{Counted, Exit, Gone}
 use Rattle.vm_meaning.specs.Native.{NativeState, Ran, user_step, user_run, ran_by, about_to_run, goes_on, EndsBy}
+use Rattle.mb_board.specs.Fits.{IsFit, FitsAlong}
 use Rattle.vm_meaning.proofs.RunEnds.{run-none, run-on, run-off, goes-on, runs-end_by_cause}
 
 not_counted : (e : RunEnd) → (e ≡ Counted → ⊥) → goes_on e ≡ false
@@ -40,6 +41,30 @@ pub step-off : (k n : ℕ) (r ran : Ran) → k ≡ suc n → ran ≡ ran_by (use
 step-off k n r ran count is left =
     let off = sym (ap (λ (x : Ran). goes_on x.end) is) ∙ not_counted ran.end left in
     is ∙ sym (run-off n r off) ∙ ap (λ (j : ℕ). user_run j r) (sym count)
+
+-- ---- registers that fit
+
+fits-next : (n : ℕ) (r ran : Ran) → ran ≡ ran_by (user_step r.machine) r → IsFit (plain_of r.machine.cpu.regs)
+    → (goes_on ran.end ≡ true → FitsAlong n ran) → FitsAlong (suc n) r
+fits-next n r ran is fit later = subst (λ (x : Ran). IsFit (plain_of r.machine.cpu.regs) × (goes_on x.end ≡ true → FitsAlong n x)) is (fit, later)
+
+-- of a run that goes on
+pub fits-on : (k n : ℕ) (r : Ran) (end : RunEnd) (m : Machine) (native : NativeState) (before : Plain) → k ≡ suc n
+    → ran_of end m native before ≡ ran_by (user_step r.machine) r → end ≡ Counted → IsFit (plain_of r.machine.cpu.regs)
+    → FitsAlong n (about_to_run m native before) → FitsAlong k r
+fits-on k n r end m native before count is counted fit later =
+    subst (λ (j : ℕ). FitsAlong j r) (sym count)
+    (fits-next n r (ran_of end m native before) is fit (λ on. subst (λ (e : RunEnd). FitsAlong n (ran_of e m native before)) (sym counted) later))
+
+-- of one that ends
+pub fits-off : (k n : ℕ) (r ran : Ran) → k ≡ suc n → ran ≡ ran_by (user_step r.machine) r → (ran.end ≡ Counted → ⊥)
+    → IsFit (plain_of r.machine.cpu.regs) → FitsAlong k r
+fits-off k n r ran count is left fit =
+    subst (λ (j : ℕ). FitsAlong j r) (sym count)
+    (fits-next n r ran is fit (λ on. absurd (let e : false ≡ true = sym (not_counted ran.end left) ∙ on in let z : ⊥ = cc in z)))
+
+pub fits-none : (k : ℕ) (r : Ran) → k ≡ 0 → FitsAlong k r
+fits-none k r e = subst (λ (j : ℕ). FitsAlong j r) (sym e) tt
 
 pub no-step : (k : ℕ) (r : Ran) → k ≡ 0 → r ≡ user_run k r
 no-step k r e = sym (ap (λ (j : ℕ). user_run j r) e ∙ run-none r)

@@ -3,3 +3,4 @@ pub mod Modes
 pub mod Arrivals
 pub mod Beside
 pub mod Spelling
+pub mod Fits

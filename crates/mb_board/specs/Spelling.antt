@@ -3,10 +3,12 @@ use Rattle.std.specs.Prelude.{◌≡◌, ℕ, ◌%◌, ◌^◌}
 use Rattle.mb_instr.specs.declared.registers.Plain.{Plain}
 use Rattle.vm_meaning.specs.Marks.{numbers_of, spelled, HasNumbers}
 use Rattle.vm_meaning.specs.Native.{NativeState, with_retired}
+use Rattle.mb_board.specs.Fits.{IsFit}
 
--- The eighteen numbers of the registers spell this, modulo 2^64.
+-- The eighteen numbers of registers, which a processor may have, spell this, modulo 2^64.
 pub record Spell (p : Plain) (sum : ℕ) : Type 0 where
   pub numbers : HasNumbers p
+  pub fit : IsFit p
   pub remainder : sum ≡ spelled (numbers_of p) % 2 ^ 64
 
 -- A step was carried out, whose registers spell these at its beginning and at its end.

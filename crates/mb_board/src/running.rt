@@ -3,6 +3,7 @@
 ghost use Rattle.std.specs.Prelude.{◌≡◌, ◌+◌, ◌^◌, ◌<◌, length, false};
 ghost use Rattle.mb_instr.specs.Registers.{is_supervisor, plain_of};
 ghost use Rattle.vm_meaning.specs.Native.{EndsBy, about_to_run, ended_by, ran_by, user_run, user_step, with_step};
+ghost use Rattle.mb_board.specs.Fits.{FitsAlong};
 ghost use Rattle.mb_board.specs.Spelling.{Spell};
 ghost use Rattle.mb_board.specs.State.{ran_to, run_from};
 
@@ -87,6 +88,7 @@ impl Core {
         requires exceptions { native.old.exceptions < 2 ^ 63 }
         ensures means { record { end = result; machine = self.new; native = native.new; before = before.new }
             ≡ user_run limit (about_to_run self.old native.old before.old) }
+        ensures fit { FitsAlong limit (about_to_run self.old native.old before.old) }
         ensures ram { length self.new.world.ram ≡ length self.old.world.ram }
     {
         let mut spelled = spelling(&self.cpu.regs.plain());
@@ -111,6 +113,7 @@ impl Board {
         requires exceptions { native.old.exceptions < 2 ^ 63 }
         ensures means { ran_to result self.new native.new ≡ user_run limit (run_from self.old native.old) }
         ensures cause { EndsBy limit (run_from self.old native.old) (ran_to result self.new native.new) result }
+        ensures fit { FitsAlong limit (run_from self.old native.old) }
         ensures steps { self.new.steps ≡ self.old.steps }
         ensures ram { length self.new.world.ram ≡ length self.old.world.ram }
     {

@@ -1,6 +1,6 @@
 //! What registers spell: the digits of a number in base 31.
 
-ghost use Rattle.std.specs.Prelude.{◌≡◌, length};
+ghost use Rattle.std.specs.Prelude.{◌≡◌, ◌<◌, ◌^◌, length, All};
 ghost use Rattle.vm_meaning.specs.Marks.{with_numbers};
 ghost use Rattle.mb_board.specs.Spelling.{Spell};
 
@@ -12,6 +12,7 @@ use mb_instr::Plain;
 fn with_eight(sum: u64, numbers: &[u32; 8]) -> u64
     ensures means { result ≡ with_numbers sum numbers.now }
     ensures eight { length numbers.now ≡ 8 }
+    ensures longs { All (λ v. v < 2 ^ 32) numbers.now }
 {
     let [first, a, b, c, d, e, f, g] = *numbers;
     let others = u64::from(a) * 887_503_681

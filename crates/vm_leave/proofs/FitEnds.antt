@@ -45,17 +45,21 @@ use Rattle.mb_alu.specs.declared.quotients.Divided.TheVariants.{Done, Overflow, 
 use Rattle.mb_meaning.specs.Products.{divided_by_word, divided_by_long, width_of, dividend_of, is_signed}
 use Rattle.mb_alu.specs.Products.{div_of}
 use Rattle.mb_meaning.specs.Ends.{Stopped, Cut, Unread, Stop, Performed, restored, closed}
+use Rattle.mb_writes.specs.declared.transfers.Movem.{Movem}
+use Rattle.mb_writes.specs.Transfers.{movem_in}
+use Rattle.mb_meaning.specs.Moves.{movem_by}
 use Rattle.mb_meaning.specs.Step.{long_of, movem_words}
 use Rattle.mb_meaning.specs.Rows.{perform_move_of, perform_arith_of, perform_flow_of, row_of, perform_of}
 use Rattle.mb_meaning.specs.Attempt.{Unfound, NoInstruction, Unfetched, found_none, Found, judged, found_of, fetched_of, past, most_words, attempt_of}
 use Rattle.mb_attempts.specs.Attempts.{NoOther}
-use Rattle.mb_tells.specs.Laws.{AreLongs, HasLongs}
+use Rattle.mb_tells.specs.Laws.{AreLongs, HasLongs, is_movem}
 use Rattle.mb_tells.proofs.Ranges.{formed, formed_behind_word, formed_behind_immediate}
 use Rattle.vm_machine.specs.Guests.{Guest}
 use Rattle.vm_machine.specs.Held.{held_bus}
 use Rattle.vm_held.specs.Sound.{Sound}
 use Rattle.vm_held.specs.Denied.{IsFound}
 use Rattle.vm_held.proofs.Rows.{fetches_go_on}
+use Rattle.vm_held.proofs.Names.{words_name}
 use Rattle.vm_leave.specs.Exits.{IsEnd}
 use Rattle.vm_leave.specs.Fits.{IsLong, EndFits, EndsFit}
 use Rattle.vm_leave.proofs.Fits.{IsAnswer, any, Answers, answers_then, answers_ok, answers_err, in_other_words, answers_failing, answers_choose, fetching_fits}
@@ -88,36 +92,37 @@ module _ (i : Instr) where
 -- ---- a line a row
 
 module _ (i : Instr) (space : Space) where
-  perform_move_fits : (bytes : ℕ) (row : Move) (word_at : ℕ) (p : Plain) (g : Guest) → Sound bytes g → IsLong (movem_words i) → IsInstr (instr.Move row)
+  perform_move_fits : (bytes : ℕ) (row : Move) (word_at : ℕ) (p : Plain) (g : Guest) → Sound bytes g → IsLong (movem_words i)
+      → ((m : Movem) → is_movem row m → movem_in (movem_words i) ≡ m) → IsInstr (instr.Move row)
       → IsFit p → IsAnswer any (CutFits i) (run held_bus (perform_move_of row word_at space p) g).0
   unfolding perform_move_of
-  perform_move_fits bytes (move.Move size destination source) word_at p g s words is fit =
+  perform_move_fits bytes (move.Move size destination source) word_at p g s words named is fit =
       (move_fits i space size destination source word_at p (formed size destination (AreWords-right (more size source) (more size destination) is.are_words))
       (formed size source (AreWords-left (more size source) (more size destination) is.are_words)) fit).are g
-  perform_move_fits bytes (move.Moveq register immediate) word_at p g s words is fit = tt
-  perform_move_fits bytes (move.MovemLoad size ea mask) word_at p g s words is fit =
-      (movem_fits i space true size ea mask word_at p words (formed_behind_word size ea mask is.are_words) fit).are g
-  perform_move_fits bytes (move.MovemStore size ea mask) word_at p g s words is fit =
-      (movem_fits i space false size ea mask word_at p words (formed_behind_word size ea mask is.are_words) fit).are g
-  perform_move_fits bytes (move.Movea size register source) word_at p g s words is fit =
+  perform_move_fits bytes (move.Moveq register immediate) word_at p g s words named is fit = tt
+  perform_move_fits bytes (move.MovemLoad size ea mask) word_at p g s words named is fit =
+      (movem_fits i space true size ea mask word_at p words (named (movem_by true size ea mask) refl) (formed_behind_word size ea mask is.are_words) fit).are g
+  perform_move_fits bytes (move.MovemStore size ea mask) word_at p g s words named is fit =
+      (movem_fits i space false size ea mask word_at p words (named (movem_by false size ea mask) refl) (formed_behind_word size ea mask is.are_words) fit).are g
+  perform_move_fits bytes (move.Movea size register source) word_at p g s words named is fit =
       (movea_fits i space size register source word_at p (formed size source is.are_words) fit).are g
-  perform_move_fits bytes (move.Lea register ea) word_at p g s words is fit = (lea_fits i space register ea word_at p (formed Long ea is.are_words) fit).are g
-  perform_move_fits bytes (move.Exg m kind n) word_at p g s words is fit = tt
-  perform_move_fits bytes (move.Swap register) word_at p g s words is fit = tt
-  perform_move_fits bytes (move.ToCcr ea) word_at p g s words is fit = (to_ccr_fits i space ea word_at p (formed Word ea is.are_words) fit).are g
-  perform_move_fits bytes (move.FromCcr ea) word_at p g s words is fit = (from_ccr_fits i space ea word_at p (formed Word ea is.are_words) fit).are g
-  perform_move_fits bytes (move.Scc condition ea) word_at p g s words is fit =
+  perform_move_fits bytes (move.Lea register ea) word_at p g s words named is fit = (lea_fits i space register ea word_at p (formed Long ea is.are_words) fit).are g
+  perform_move_fits bytes (move.Exg m kind n) word_at p g s words named is fit = tt
+  perform_move_fits bytes (move.Swap register) word_at p g s words named is fit = tt
+  perform_move_fits bytes (move.ToCcr ea) word_at p g s words named is fit = (to_ccr_fits i space ea word_at p (formed Word ea is.are_words) fit).are g
+  perform_move_fits bytes (move.FromCcr ea) word_at p g s words named is fit = (from_ccr_fits i space ea word_at p (formed Word ea is.are_words) fit).are g
+  perform_move_fits bytes (move.Scc condition ea) word_at p g s words named is fit =
       (scc_fits i space condition ea word_at p (formed Byte ea is.are_words) fit).are g
-  perform_move_fits bytes (move.Pea ea) word_at p g s words is fit = (pea_fits i space ea word_at p (formed Long ea is.are_words) fit).are g
-  perform_move_fits bytes (move.LinkW register displacement) word_at p g s words is fit =
+  perform_move_fits bytes (move.Pea ea) word_at p g s words named is fit = (pea_fits i space ea word_at p (formed Long ea is.are_words) fit).are g
+  perform_move_fits bytes (move.LinkW register displacement) word_at p g s words named is fit =
       (link_fits i space register (sign_extended Word displacement) p fit).are g
-  perform_move_fits bytes (move.LinkL register displacement) word_at p g s words is fit = (link_fits i space register displacement p fit).are g
-  perform_move_fits bytes (move.Unlk register) word_at p g s words is fit = (unlk_fits i space register p fit).are g
-  perform_move_fits bytes (move.Movep register is_store size address displacement) word_at p g s words is fit =
+  perform_move_fits bytes (move.LinkL register displacement) word_at p g s words named is fit = (link_fits i space register displacement p fit).are g
+  perform_move_fits bytes (move.Unlk register) word_at p g s words named is fit = (unlk_fits i space register p fit).are g
+  perform_move_fits bytes (move.Movep register is_store size address displacement) word_at p g s words named is fit =
       (movep_fits i space register is_store size address displacement p fit).are g
-  perform_move_fits bytes (move.Move16Abs kind register address) word_at p g s words is fit =
+  perform_move_fits bytes (move.Move16Abs kind register address) word_at p g s words named is fit =
       move16_absolute_fits i space bytes kind register address p g s (long_range address is.are_words) fit
-  perform_move_fits bytes (move.Move16Post m word) word_at p g s words is fit = move16_fits i space bytes m word p g s fit
+  perform_move_fits bytes (move.Move16Post m word) word_at p g s words named is fit = move16_fits i space bytes m word p g s fit
 
   perform_arith_fits : (row : Arith) (word_at : ℕ) (p : Plain) → IsInstr (instr.Arith row) → AreLongs p.d → IsFit p
       → Row i (perform_arith_of row word_at space p)
@@ -243,7 +248,8 @@ row_fits : (i : Instr) (space : Space) (size at : ℕ) (p : Plain) (g : Guest) �
     → IsAnswer any (CutFits i) (run held_bus (row_of i at space p) g).0
 unfolding row_of
 row_fits (instr.Move i) space size at p g s is words fit =
-    perform_move_fits (instr.Move i) space size i (operands_at (move_row i) at) p g s (movem_long (instr.Move i) is) is fit
+    perform_move_fits (instr.Move i) space size i (operands_at (move_row i) at) p g s (movem_long (instr.Move i) is)
+    (λ m moved. words_name (instr.Move i) m is moved) is fit
 row_fits (instr.Arith i) space size at p g s is words fit = (perform_arith_fits (instr.Arith i) space i (operands_at (arith_row i) at) p is words fit).are g
 row_fits (instr.Flow i) space size at p g s is words fit = (perform_flow_fits (instr.Flow i) space i (operands_at (flow_row i) at) p is fit).are g
 row_fits (instr.System i) space size at p g s is words fit = (tt, fit.1)

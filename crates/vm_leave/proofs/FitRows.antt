@@ -1,5 +1,5 @@
 -- Rows over the held bus: what each kind of instruction says where it is not carried out.
-use Rattle.std.proofs.Common.{◌≡◌, ℕ, zero, suc, ◌+◌, ◌-◌, ◌%◌, ◌^◌, ◌<◌, ◌≤◌, ◌==◌, nat_lt, ◌||◌, Bool, true, false, cond, List, [], ◌∷◌, ◌++◌, length, drop}
+use Rattle.std.proofs.Common.{◌≡◌, ◌∙◌, ap, ℕ, zero, suc, ◌+◌, ◌-◌, ◌%◌, ◌^◌, ◌<◌, ◌≤◌, ◌==◌, nat_lt, ◌||◌, Bool, true, false, cond, List, [], ◌∷◌, ◌++◌, length, drop}
 use Rattle.std.proofs.Common.{arith, refl, sym, subst, Option, Some, None}
 use Rattle.mb_port.specs.Routine.{Return, ◌>>◌, run, failing, read_line, write_line}
 use Rattle.mb_port.specs.declared.types.Space.{Space}
@@ -33,7 +33,7 @@ use Rattle.mb_writes.specs.declared.transfers.Movem.{Movem}
 use Rattle.mb_writes.specs.declared.transfers.MovemMode.{MovemMode}
 use Rattle.mb_writes.specs.declared.transfers.MovemMode.TheVariants as mode
 use Rattle.mb_writes.specs.declared.transfers.Transfer.{Transfer}
-use Rattle.mb_writes.specs.Transfers.{is_set, set_bits, transfers_of}
+use Rattle.mb_writes.specs.Transfers.{is_set, set_bits, count_of, mask_in, movem_in, transfers_of}
 use Rattle.mb_writes.specs.Moving.{Halfway, refused_at, stored_of, store_all, loaded_of, load_all, transfer_of}
 use Rattle.mb_writes.proofs.Bits.{length-transfers}
 use Rattle.mb_meaning.specs.Ends.{Unread, Stop, Rowed, carried, jumped, stopped, reading, ending}
@@ -120,23 +120,24 @@ bits_few mask k (suc n) = by_bit (is_set mask k) (bits_few mask (k + 1) n)
 transfers_few : (m : Movem) (ea : ℕ) → length (transfers_of m ea) ≤ 16
 transfers_few m ea = let h = bits_few m.mask 0 16 in let e = length-transfers m ea in omega arith
 
-abbrev MovemFits : MovemFault → Type 0
-MovemFits f = IsLong f.fault.at × IsLong f.first × (f.done < 16)
+-- of a MOVEM with so many transfers
+abbrev MovemFits : ℕ → MovemFault → Type 0
+MovemFits all f = IsLong f.fault.at × IsLong f.first × (f.done < all)
 
-abbrev HalfFits : Halfway → Type 0
-HalfFits h = MovemFits h.fault × IsLong h.plain.pc
+abbrev HalfFits : ℕ → Halfway → Type 0
+HalfFits all h = MovemFits all h.fault × IsLong h.plain.pc
 
-module _ (space : Space) where
-  stores_fit : (m : Movem) (p : Plain) (first done : ℕ) (ts : List Transfer) → IsLong first → done + length ts ≤ 16 → HaveAddresses ts
-      → Answers any MovemFits (store_all m space p first done ts)
+module _ (space : Space) (all : ℕ) where
+  stores_fit : (m : Movem) (p : Plain) (first done : ℕ) (ts : List Transfer) → IsLong first → done + length ts ≤ all → HaveAddresses ts
+      → Answers any (MovemFits all) (store_all m space p first done ts)
   stores_fit m p first done [] h few have = answers_ok tt tt
   stores_fit m p first done (t ∷ ts) h few have =
       answers_then (answers_failing (λ refused. refused_at first done refused.fault)
       (put_fits space t.at (bytes_of m.size) (stored_of m.mode m.size p t.register) have.0) (λ e k. (k.0, h, omega arith)))
       (λ stored u. stores_fit m p first (done + 1) ts h (omega arith) have.1)
 
-  loads_fit : (m : Movem) (first done : ℕ) (ts : List Transfer) (p : Plain) → IsLong first → done + length ts ≤ 16 → HaveAddresses ts → IsLong p.pc
-      → Answers (λ (q : Plain). IsLong q.pc) HalfFits (load_all m space first done ts p)
+  loads_fit : (m : Movem) (first done : ℕ) (ts : List Transfer) (p : Plain) → IsLong first → done + length ts ≤ all → HaveAddresses ts → IsLong p.pc
+      → Answers (λ (q : Plain). IsLong q.pc) (HalfFits all) (load_all m space first done ts p)
   loads_fit m first done [] p h few have pc = answers_ok p pc
   loads_fit m first done (t ∷ ts) p h few have pc =
       answers_then (answers_failing (λ refused. record { fault = refused_at first done refused.fault; plain = p })
@@ -144,11 +145,12 @@ module _ (space : Space) where
       (λ value u. loads_fit m first (done + 1) ts (loaded_of m.mode m.size p t.register value) h (omega arith) have.1
       (subst IsLong (sym (loaded_pc m.mode m.size p t.register value)) pc))
 
-  transfer_fits : (m : Movem) (ea : ℕ) (p : Plain) → IsLong ea → IsLong p.pc → Answers any HalfFits (transfer_of m ea 0 space p)
+  transfer_fits : (m : Movem) (ea : ℕ) (p : Plain) → length (transfers_of m ea) ≡ all → IsLong ea → IsLong p.pc
+      → Answers any (HalfFits all) (transfer_of m ea 0 space p)
   unfolding transfer_of
-  transfer_fits m ea p h pc =
+  transfer_fits m ea p count h pc =
       let ts = transfers_of m ea in
-      let few : 0 + length (drop 0 ts) ≤ 16 = (let h = transfers_few m ea in omega arith) in
+      let few : 0 + length (drop 0 ts) ≤ all = omega arith in
       let have = transfer_addresses m ea 0 h in
       answers_then (answers_choose m.is_load (loads_fit m ea 0 (drop 0 ts) p h few have pc)
       (answers_then (answers_failing (λ fault. record { fault = fault; plain = p }) (stores_fit m p ea 0 (drop 0 ts) h few have) (λ e k. (k, pc)))
@@ -196,13 +198,19 @@ module _ (i : Instr) (space : Space) where
       row_reading i (resolve_fits space ea Byte word_at p is fit) (λ to found.
       storing_fits space i to.target Byte (byte_of (is_met c p.ccr)) to.plain found.0 found.1.1)
 
-  pub movem_fits : (is_load : Bool) (size : Size) (ea : Ea) (mask word_at : ℕ) (p : Plain) → IsLong (movem_words i) → IsFormed ea → IsFit p
+  pub movem_fits : (is_load : Bool) (size : Size) (ea : Ea) (mask word_at : ℕ) (p : Plain) → IsLong (movem_words i)
+      → movem_in (movem_words i) ≡ movem_by is_load size ea mask → IsFormed ea → IsFit p
       → Row i (movem_of is_load size ea mask word_at space p)
   unfolding movem_of
-  movem_fits is_load size ea mask word_at p words is fit =
+  movem_fits is_load size ea mask word_at p words named is fit =
+      let m = movem_by is_load size ea mask in
+      let all = count_of (mask_in (movem_words i)) in
+      let mask_is : count_of m.mask ≡ all = ap (λ (o : Movem). count_of o.mask) (sym named) in
       row_reading i (address_fits space size ea word_at p is fit) (λ place found.
+      let count : length (transfers_of m place) ≡ all = length-transfers m place ∙ mask_is in
       answers_then (answers_failing (λ halfway. Stop (record { ended = ended.Movem halfway.fault; plain = halfway.plain }))
-      (transfer_fits space (movem_by is_load size ea mask) place p found fit.1) (λ e k. ((k.0.0, k.0.1, k.0.2, words), k.1)))
+      (transfer_fits space all m place p count found fit.1)
+      (λ e k. ((k.0.0, k.0.1, (let few = transfers_few m place in let less = k.0.2 in omega arith), words, k.0.2), k.1)))
       (λ moved u. row_done i _))
 
   pub pea_fits : (ea : Ea) (word_at : ℕ) (p : Plain) → IsFormed ea → IsFit p → Row i (pea_of ea word_at space p)
@@ -493,7 +501,7 @@ module _ (i : Instr) (space : Space) where
       (λ line. ending (λ fault. ended.LineFault fault line) after (write_line space (line_at to) line) >> Return (carried after))
       (run held_bus m g).0 (run held_bus m g).1 cut (λ line longs.
       answers_then (answers_failing (λ fault. Stop (record { ended = ended.LineFault fault line; plain = after }))
-      (line_writing_fits space (line_at to) line (line_is to goes).1) (λ e k. ((k, longs), pc))) (λ done u. row_done i _))
+      (line_writing_fits space (line_at to) line (line_is to goes)) (λ e k. ((k, longs), pc))) (λ done u. row_done i _))
 
   pub move16_absolute_fits : (size : ℕ) (kind : LineMove) (n place : ℕ) (p : Plain) (g : Guest) → Sound size g → IsLong place → IsFit p
       → IsAnswer any (CutFits i) (run held_bus (move16_absolute_of kind n place space p) g).0

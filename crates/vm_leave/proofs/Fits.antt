@@ -126,11 +126,29 @@ writing_fits space p value h = record {
       (writes_at r p.len (λ place. stored place value) (translated rule_k r g.world).0 (translated rule_k r g.world).1 h);
 }
 
-pub line_writing_fits : (space : Space) (at : ℕ) (line : List ℕ) → IsLong at → Answers any FaultFits (write_line space at line)
+-- the fault of a line is at its own address
+abbrev pub LineFits : Fault → Type 0
+LineFits f = IsLine f.at
+
+line_refused_or : {A : Type 0} (b : Bool) (q : Result A Fault × Guest) (r : Reference) (len : ℕ) (g : Guest) → IsLine r.at → IsAnswer any LineFits q.0
+    → IsAnswer any LineFits (or_refused b q r len g).0
+line_refused_or true q r len g h own = own
+line_refused_or false q r len g h own = h
+
+line_wrote_at : (w : World) (o : Option World) (r : Reference) (len : ℕ) → IsLine r.at → IsAnswer any LineFits (wrote w o (fault_of r len false)).0
+line_wrote_at w (Some after) r len h = tt
+line_wrote_at w None r len h = h
+
+line_writes_at : (r : Reference) (len : ℕ) (store : Store) (o : Option ℕ) (w : World) → IsLine r.at
+    → IsAnswer any LineFits (written_at r len store o w).0
+line_writes_at r len store (Some at) w h = line_wrote_at w (store (place_at at len) w) r len h
+line_writes_at r len store None w h = h
+
+pub line_writing_fits : (space : Space) (at : ℕ) (line : List ℕ) → IsLine at → Answers any LineFits (write_line space at line)
 unfolding bus_of
 line_writing_fits space at line h = record {
-  are = λ g. let r = writing space at in refused_or (allows g.shadow r) (plain_bus (WriteLine space at line) g) r 16 g h
-      (writes_at r 16 (λ place. stored_line place line) (translated rule_k r g.world).0 (translated rule_k r g.world).1 h);
+  are = λ g. let r = writing space at in line_refused_or (allows g.shadow r) (plain_bus (WriteLine space at line) g) r 16 g h
+      (line_writes_at r 16 (λ place. stored_line place line) (translated rule_k r g.world).0 (translated rule_k r g.world).1 h);
 }
 
 -- ---- a line of a sound guest

@@ -7,9 +7,11 @@ use Rattle.mb_instr.specs.declared.registers.Plain.{Plain}
 use Rattle.mb_frames.specs.declared.pend.Pend.{Pend}
 use Rattle.mb_writes.specs.declared.ends.Ended.{Ended}
 use Rattle.mb_writes.specs.declared.ends.Ended.TheVariants as ended
+use Rattle.mb_writes.specs.Transfers.{count_of, mask_in}
 use Rattle.mb_meaning.specs.Attempt.{fetched_of}
 use Rattle.mb_meaning.specs.Step.{movem_words}
 use Rattle.mb_attempts.specs.Attempts.{NoOther}
+use Rattle.mb_tells.specs.Guarded.{IsLine}
 use Rattle.mb_tells.specs.Laws.{AreLongs, HasLongs}
 use Rattle.vm_machine.specs.Guests.{Guest}
 use Rattle.vm_machine.specs.Held.{held_bus}
@@ -26,7 +28,7 @@ HaveAddresses [] = Unit {0}
 HaveAddresses (p ∷ ps) = IsLong p.at × HaveAddresses ps
 
 -- what the end of an instruction says: addresses, the longs of a line, and of a MOVEM, which has at most sixteen
--- transfers, how many of them were done, and its words
+-- transfers, how many of them were done, fewer than its mask names, and its words
 abbrev pub EndFits : Instr → Ended → Type 0
 EndFits i (ended.Done flow) = Unit {0}
 EndFits i (ended.Trap vector) = Unit {0}
@@ -34,9 +36,10 @@ EndFits i (ended.Refused vector) = Unit {0}
 EndFits i (ended.ReadFault refused) = IsLong refused.fault.at × IsLong refused.first
 EndFits i (ended.WriteFault refused) =
     IsLong refused.fault.at × IsLong refused.first × HaveAddresses refused.rest.items
-EndFits i (ended.LineFault fault line) = IsLong fault.at × AreLongs line
+EndFits i (ended.LineFault fault line) = IsLine fault.at × AreLongs line
 EndFits i (ended.Movem refused) =
     IsLong refused.fault.at × IsLong refused.first × (refused.done < 16) × IsLong (movem_words i)
+    × (refused.done < count_of (mask_in (movem_words i)))
 
 -- An attempt that is not carried out ends so, and its PC is a long.
 abbrev pub EndsFit : Type 0

@@ -62,6 +62,8 @@ use Rattle.vm_step.proofs.Lists.{between}
 use Rattle.vm_step.proofs.Rest.{steps_go_on}
 use Rattle.vm_step.proofs.Room.{by_format, OnStack, on_stack, has_room}
 use Rattle.vm_step.proofs.FrameFits.{read_as, exit_fits}
+use Rattle.vm_step.specs.Lawful.{LeavesLawful}
+use Rattle.vm_step.proofs.Lawful.{lawful_exit}
 use Rattle.vm_step.proofs.ExitIs.{ExitIs, exit_is}
 use Rattle.vm_step.proofs.Retire.{is_attempt, masked_by, class_held, off_ticked, end_of_held, mirrored_by, related_devices, user_later, user_step_is}
 use Rattle.vm_step.specs.Batch.{IsTried}
@@ -149,6 +151,7 @@ pub record BoardLeft (x : Site) (level own_level : ℕ) (i : Instr) (cpu : Cpu) 
   pub stack : OnStack e.cause e.cpu e.cpu.regs.isp
   pub room : HasRoom world e.cause e.cpu
   pub fits : IsFrame (frame_of e.cpu.regs.sr e.cause)
+  pub lawful : LeavesLawful e.cause.access
   pub related : Related x (left e world).1 (by_held x.space (plain_of guest.regs) g).1
 
 is_end : (end : Ended) → (class_of_end end ≡ Retired → ⊥) → IsEnd end
@@ -197,6 +200,7 @@ board_left x root level own_level i cpu w guest g m related mmu status master vb
       stack = stack;
       room = room;
       fits = exit_fits x i cpu p m.board_untraced status counter said.1 by.ended k.0 by.same usual said.0 (is_end k.0 never);
+      lawful = lawful_exit x i cpu p m.board_untraced by.ended k.0 by.same usual said.0 (is_end k.0 never);
       related = frames_leave_ready x by.world (by_held x.space (plain_of guest.regs) g).1 e by.stays.related room below_e;
     }
 
@@ -285,6 +289,7 @@ left_steps x script m g b fur regs seven is_left =
       stands = begun;
       room = (let a = entered.isp in let b = top in let c = fur.below in let d = length-overwritten q.ram at bytes fits in let e = whole in omega arith);
       fits = bl.fits;
+      lawful = subst LeavesLawful (sym access) bl.lawful;
       read_back = λ n enough. read_as l.1.ram l.0.1.regs.isp f n bl.fits begun (let few = by_format f in omega arith);
       rest = λ wide. goes_on_in x level i guest h attempt.plain seven regs sound attempt.masked (in_it found) x.space b.present never
           ∙ sym (bl.is.rest (ap (λ (a : List ℕ). length a) (sym entered.a) ∙ wide) (handed_by l.0.1.regs f) given k.1)

@@ -287,7 +287,7 @@ module _ (x : Site) (i : Instr) (cpu : Cpu) (p : Plain) (plain : IsUntraced cpu)
   exit_fits (ended.LineFault f l) (ended.LineFault g o) same u fits end =
       let longs : AreLongs l = subst AreLongs (sym same.1) fits.1 in
       access_frame after.regs.sr after.regs.pc (with_ct (traces_all cpu.regs.sr) (line_fields f l page_size)) (set_small cpu.regs.sr p.ccr status) next
-      (subst AccessFits (sym (no_trace (traces_all cpu.regs.sr) (line_fields f l page_size) plain.all)) (line_fit f l (same_at x f g same.0 fits.0) longs))
+      (subst AccessFits (sym (no_trace (traces_all cpu.regs.sr) (line_fields f l page_size) plain.all)) (line_fit f l (same_at x f g same.0 fits.0.1) longs))
   exit_fits (ended.Movem f) (ended.Movem g) same u fits end =
       let words = movem_words i in
       let fields = access_fields (refused_transfer f words after.regs.pc) page_size in

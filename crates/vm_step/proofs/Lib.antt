@@ -8,6 +8,7 @@ pub mod Usual
 pub mod Room
 pub mod ExitIs
 pub mod FrameFits
+pub mod Lawful
 pub mod Exit
 pub mod Batch
 pub mod Quiet

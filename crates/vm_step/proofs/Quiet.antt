@@ -39,12 +39,12 @@ use Rattle.vm_mirror.proofs.Mirrors.{sound_of}
 -- ---- devices
 
 -- a retired step leaves the devices that it began with
-kept_devices : (x : Site) (script : Entries) (m : Machine) (g : Guested) → Retires x script m g (user_step m) (guest_stepped script g)
+pub kept_devices : (x : Site) (script : Entries) (m : Machine) (g : Guested) → Retires x script m g (user_step m) (guest_stepped script g)
     → (guest_stepped script g).machine.world.devices ≡ (guest_begun script g).machine.world.devices
 kept_devices x script m g h = ap (λ (q : Guest). q.world.devices) h.only
 
 -- where nothing arrives, a step that begins only ticks
-only_ticks : (script : Entries) (g : Guested) → ((d : DeviceState) → arrived (g.machine.steps + 1) script d ≡ d)
+pub only_ticks : (script : Entries) (g : Guested) → ((d : DeviceState) → arrived (g.machine.steps + 1) script d ≡ d)
     → (guest_begun script g).machine.world.devices ≡ ticked g.machine.world.devices
 unfolding begun
 only_ticks script g h = ap ticked (h g.machine.world.devices)
@@ -101,7 +101,7 @@ tried_attempt cpu g = tried_at _
 not_above : (level mask : ℕ) → level ≤ mask → nat_lt mask level ≡ false
 not_above level mask h = grind (arith, nat_tests)
 
-tried_class : (level : ℕ) (cpu : Cpu) (g : Guest) → level ≤ interrupt_mask cpu → cpu.stopped ≡ false → is_traced cpu ≡ false → IsTried (class_of level cpu g)
+pub tried_class : (level : ℕ) (cpu : Cpu) (g : Guest) → level ≤ interrupt_mask cpu → cpu.stopped ≡ false → is_traced cpu ≡ false → IsTried (class_of level cpu g)
 unfolding class_of
 tried_class level cpu g a b t = by_tests (nat_lt (interrupt_mask cpu) level) cpu.stopped (is_traced cpu) (class_of_attempt cpu g)
     (not_above level (interrupt_mask cpu) a) b t (tried_attempt cpu g)

@@ -1,5 +1,5 @@
 -- A turn of a seated guest.
-use Rattle.std.proofs.Common.{◌≡◌, ◌∙◌, ℕ, ◌+◌, ◌^◌, ◌≤◌, List, [], ◌∷◌, ◌++◌, length, Bool, cond, ◌==◌, true, false, arith, refl, ap, sym, subst, inl, inr}
+use Rattle.std.proofs.Common.{◌≡◌, ◌∙◌, ℕ, ◌+◌, ◌^◌, ◌<◌, ◌≤◌, List, [], ◌∷◌, ◌++◌, length, Bool, cond, ◌==◌, true, false, arith, refl, ap, sym, subst, inl, inr}
 use Rattle.std.proofs.lemmas.List.{length-append}
 use Rattle.mb_instr.specs.declared.registers.Plain.{Plain}
 use Rattle.mb_instr.specs.declared.registers.Regs.{Regs}
@@ -73,7 +73,7 @@ same_count r q e h =
     let same = ap (λ (p : Plain). length p.a) e in
     omega arith
 
-stands_of : (g : Seat) (ram : List ℕ) → IsSeated g ram → AreBytes ram → length ram ≤ 2 ^ 32 → Stands (site_of g) ram (world_of (guested_on g ram))
+pub stands_of : (g : Seat) (ram : List ℕ) → IsSeated g ram → AreBytes ram → length ram ≤ 2 ^ 32 → Stands (site_of g) ram (world_of (guested_on g ram))
 stands_of g ram s bytes small = record {
   bytes = bytes;
   maps = s.maps;
@@ -97,7 +97,7 @@ only_within g ram after s i = record {
 
 -- ---- the turn
 
-is_counted : (x : Site) (k : ℕ) (r after : Ran) (t : Turned) (g : Seat) → after.end ≡ Counted → (b : Batch x g.script k r t after)
+pub is_counted : (x : Site) (k : ℕ) (r after : Ran) (t : Turned) (g : Seat) → after.end ≡ Counted → (b : Batch x g.script k r t after)
     → (b.retired ≡ k) × IsCounted x (turn_of g.script b.retired t) r after
 is_counted x k r after t g e b = elim b.end [
   | inl h ↦ h
@@ -159,10 +159,10 @@ batches_take g ram c d steps state native before k s bytes small running seven c
 -- ---- a run that the board left
 
 is_exit : (x : Site) (k v : ℕ) (r after : Ran) (t : Turned) (g : Seat) → after.end ≡ Exit v → (b : Batch x g.script k r t after)
-    → IsExit x g.script (turn_of g.script b.retired t) r after
+    → (b.retired < k) × IsExit x g.script (turn_of g.script b.retired t) r after
 is_exit x k v r after t g e b = elim b.end [
   | inl (all, h) ↦ absurd (let z : Counted ≡ Exit v = sym h.end ∙ e in let y : ⊥ = cc in y)
-  | inr (few, h) ↦ h
+  | inr h ↦ h
 ]
 
 -- an exit counts one more exception of the turn
@@ -204,7 +204,7 @@ exits_take g ram c d steps state native before k v s bytes small running seven c
     let t = turned_on g ram [] in
     let ready = boards_are_ready x c ram d steps state guest cpu off refl seven (stands_of g ram s bytes small) in
     let b = runs_are_batches x g.script k r t refl ready.0 ready.1 (goes g.state running) stretch in
-    let h = is_exit x k v r after t g exits_at b in
+    let (few, h) = is_exit x k v r after t g exits_at b in
     let j = b.retired in
     let u = turn_of g.script j t in
     let w = stepped_by g.script j guest in
@@ -250,6 +250,8 @@ exits_take g ram c d steps state native before k v s bytes small running seven c
     ∙ exits_advance x g.script u h.vector h.last after.machine h.left wide in
     record {
       retired = j;
+      few = few;
+      all = b.all;
       vector = h.vector;
       end = h.end;
       frame = frame;
@@ -257,6 +259,7 @@ exits_take g ram c d steps state native before k v s bytes small running seven c
       room = h.left.room;
       fits = h.left.fits;
       read_back = h.left.read_back;
+      lawful = h.left.lawful;
       begun = begun;
       begins = refl;
       counts = b.counted;

@@ -21,6 +21,7 @@ use Rattle.vm_machine.specs.declared.class.Class.TheVariants.{Privileged, Denied
 use Rattle.vm_machine.specs.Turns.{Guested, world_of, guest_begun, guest_processed, class_of_step}
 use Rattle.vm_meaning.specs.Native.{user_step}
 use Rattle.vm_step.specs.Retire.{Boarded, HasRegisters}
+use Rattle.vm_step.specs.Lawful.{LeavesLawful}
 
 -- What the monitor sets besides: the translation for the guest's space, vectors at 0, and a stack below the guest that
 -- has room for a frame. SR is a word.
@@ -53,6 +54,8 @@ pub record Leaves (x : Site) (script : Entries) (m : Machine) (g : Guested) (s :
   pub fits : IsFrame frame
   pub read_back : (n : ℕ) → 60 ≤ n → let isp = s.1.cpu.regs.isp in
       frame_in (slice_range s.1.world.ram isp (isp + n)) ≡ Some frame
+  -- what it leaves may be asked of buses
+  pub lawful : LeavesLawful (frame_access frame)
   -- a processor has seven address registers beside its stacks
   pub rest : length s.1.cpu.regs.a ≡ 7 → let b = guest_begun script g in let h =
       left_guest x s.1.world.ram (world_of b) in

@@ -1,6 +1,7 @@
 pub mod Registers
 pub mod Retire
 pub mod Rest
+pub mod Lawful
 pub mod Exit
 pub mod Batch
 pub mod Quiet

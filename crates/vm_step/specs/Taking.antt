@@ -1,5 +1,5 @@
 -- A turn of a guest that is seated on a board, by a run of the board.
-use Rattle.std.specs.Prelude.{◌≡◌, ℕ, ◌+◌, ◌^◌, ◌≤◌, false, Some, List, length, drop, slice_range}
+use Rattle.std.specs.Prelude.{◌≡◌, ℕ, ◌+◌, ◌^◌, ◌<◌, ◌≤◌, false, Some, List, length, drop, slice_range}
 use Rattle.mb_instr.specs.declared.registers.Plain.{Plain}
 use Rattle.mb_instr.specs.Registers.{plain_of}
 use Rattle.mb_model.specs.declared.processor.Cpu.{Cpu}
@@ -20,7 +20,8 @@ use Rattle.vm_machine.specs.Exits.{class_of_vector, frame_access, handed_by, res
 use Rattle.vm_meaning.specs.declared.RunEnd.TheVariants.{Counted, Exit}
 use Rattle.vm_meaning.specs.Native.{NativeState, Ran, about_to_run, user_run}
 use Rattle.vm_machine.specs.Seats.{Seat, guested_on, monitor_bytes, IsSeated, IsSame, OnlyWithin, Takes}
-use Rattle.vm_step.specs.Batch.{IsStretch, stepped_by}
+use Rattle.vm_step.specs.Lawful.{LeavesLawful}
+use Rattle.vm_step.specs.Batch.{AllRetired, IsStretch, stepped_by}
 use Rattle.vm_step.specs.Turn.{IsNativeCpu, ready_for}
 
 abbrev pub site_of : Seat → Site
@@ -66,8 +67,10 @@ left_seat g k p d = retired_seat g k p d
 -- What the monitor has when the board left the guest's step behind `retired` others: a seated guest in the middle of
 -- its step, and what is to be carried out of it. Done over the guest's own bus, with the class by the vector, that is a
 -- turn.
-pub record IsLeft (g : Seat) (ram : List ℕ) (native : NativeState) (after : Ran) : Type 0 where
+pub record IsLeft (g : Seat) (ram : List ℕ) (native : NativeState) (k : ℕ) (after : Ran) : Type 0 where
   pub retired : ℕ
+  pub few : retired < k
+  pub all : AllRetired g.script retired (guested_on g ram)
   pub vector : ℕ
   pub end : after.end ≡ Exit vector
   pub frame : Frame
@@ -77,6 +80,8 @@ pub record IsLeft (g : Seat) (ram : List ℕ) (native : NativeState) (after : Ra
   pub fits : IsFrame frame
   pub read_back : (n : ℕ) → 60 ≤ n → let isp = after.machine.cpu.regs.isp in
       frame_in (slice_range after.machine.world.ram isp (isp + n)) ≡ Some frame
+  -- what it leaves may be asked of buses
+  pub lawful : LeavesLawful (frame_access frame)
   pub begun : DeviceState
   -- the guest's begin of this step
   pub begins : begun ≡ (guest_begun g.script (stepped_by g.script retired (guested_on g ram))).machine.world.devices
@@ -99,4 +104,4 @@ ExitsTake = (g : Seat) (ram : List ℕ) (c : Cpu) (d : DeviceState) (steps : ℕ
     → IsSeated g ram → AreBytes ram → length ram ≤ 2 ^ 32 → g.state ≡ Running → length g.cpu.regs.a ≡ 7
     → IsNativeCpu (site_of g) c → c.regs.isp ≤ monitor_bytes → d.off ≡ false → IsStretch g.script k (guested_on g ram)
     → let after = run_for g ram c d steps state native before k in after.end ≡ Exit v
-    → length after.machine.cpu.regs.a ≡ 7 → IsLeft g ram native after
+    → length after.machine.cpu.regs.a ≡ 7 → IsLeft g ram native k after

@@ -1,9 +1,10 @@
-use Rattle.std.proofs.Common.{◌∙◌, ap, refl}
+use Rattle.std.proofs.Common.{◌∙◌, ap, refl, subst}
 use Rattle.mb_machine.specs.Machine.{takes_steps}
 use Rattle.mb_model.specs.declared.outcome.RunState.{RunState}
 use Rattle.vm_meaning.specs.Native.{Ran, user_run}
 use Rattle.vm_meaning.proofs.RunEnds.{run-keeps_steps}
 use Rattle.mb_board.specs.State.{BoardState, run_from}
+use Rattle.mb_board.specs.Fits.{FitsAlong}
 use Rattle.mb_board.proofs.UserRuns.{cause-of}
 use Rattle.mb_board.proofs.board.Board.run.Goals as goal
 
@@ -20,3 +21,6 @@ pub returns-clause-steps : goal.returns-clause-steps
 returns-clause-steps c =
     ap (λ (x : Ran). x.machine.steps) (returns-clause-means c)
     ∙ run-keeps_steps c.args.limit (run_from c.args.self.now c.args.native.now)
+
+pub returns-clause-fit : goal.returns-clause-fit
+returns-clause-fit c = subst (λ (b : BoardState). FitsAlong c.args.limit (run_from b c.args.native.now)) c.self.view_is c.run.ensures.fit

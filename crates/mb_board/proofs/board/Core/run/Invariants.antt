@@ -1,6 +1,7 @@
 use Rattle.std.proofs.Common.{◌≡◌, ◌+◌, ◌-◌, ◌<◌, ◌^◌, length}
 use Rattle.mb_instr.specs.Registers.{plain_of}
 use Rattle.vm_meaning.specs.Native.{about_to_run, user_run}
+use Rattle.mb_board.specs.Fits.{FitsAlong}
 use Rattle.mb_board.specs.Spelling.{Spell}
 use Rattle.mb_board.proofs.board.Core.run.Given as goal
 
@@ -8,6 +9,8 @@ abbrev pub invariant-loop : goal.invariant-loop
 invariant-loop l = record {
   run : user_run (l.limit - l.counter) (about_to_run l.self l.native l.before)
       ≡ user_run l.limit (about_to_run l.initial.self l.initial.native l.initial.before);
+  fit : FitsAlong (l.limit - l.counter) (about_to_run l.self l.native l.before)
+      → FitsAlong l.limit (about_to_run l.initial.self l.initial.native l.initial.before);
   spelled : Spell (plain_of l.self.cpu.regs) l.spelled;
   retired : l.native.retired + (l.limit - l.counter) < 2 ^ 64;
   exceptions : l.native.exceptions < 2 ^ 63;
