@@ -2,5 +2,13 @@ pub mod Free
 pub mod Loads
 pub mod Prepared
 pub mod Seated
-pub mod Steps
-pub mod Taken
+pub mod Lefts
+pub mod MadeReady
+pub mod Ended
+pub mod Assisted
+pub mod Along
+pub mod Stretches
+pub mod Runs
+pub mod Takings
+pub mod Turning
+pub mod Advances

@@ -1,5 +1,5 @@
 -- A guest's start on a board.
-use Rattle.std.proofs.Common.{◌≡◌, ◌∙◌, ℕ, ◌+◌, ◌-◌, ◌%◌, ◌≤◌, List, [], ◌∷◌, length, take, drop, ap, sym, subst, arith}
+use Rattle.std.proofs.Common.{◌≡◌, ◌∙◌, refl, ℕ, ◌+◌, ◌-◌, ◌%◌, ◌≤◌, List, [], ◌∷◌, length, take, drop, ap, sym, subst, arith}
 use Rattle.std.proofs.lemmas.List.{drop-drop}
 use Rattle.std.specs.Prelude.{All}
 use Rattle.mb_model.specs.declared.kept.Kept.{Kept}
@@ -11,13 +11,13 @@ use Rattle.mb_walk.specs.Memory.{number_at, overwritten, part}
 use Rattle.mb_walk.proofs.MemoryLemmas.{length-overwritten}
 use Rattle.mb_walk.proofs.Parts.{number-part}
 use Rattle.mb_devices.specs.Devices.{DeviceState, idle}
-use Rattle.mb_machine.specs.Machine.{Contents, Entries, mmu_at_reset, reset_with, with_contents}
+use Rattle.mb_machine.specs.Machine.{Contents, Entries, going, mmu_at_reset, reset_with, with_contents}
 use Rattle.vm_shadow.specs.Slots.{Slots}
 use Rattle.vm_shadow.specs.Shadows.{Shadowed, nothing}
 use Rattle.vm_shadow.specs.Mapped.{area_bytes, shadowed}
 use Rattle.vm_shadow.specs.Area.{Maps}
 use Rattle.vm_machine.specs.Guests.{Truthful}
-use Rattle.vm_machine.specs.Turns.{Turned, no_steps, prepared}
+use Rattle.vm_machine.specs.Turns.{Tally, Turned, no_steps, prepared}
 use Rattle.vm_machine.specs.Seats.{Seat, monitor_bytes, on_board, own, turned_on, IsSeated}
 use Rattle.vm_port.proofs.Frames.{around}
 use Rattle.vm_port.proofs.Owns.{own_nothing, placed_nothing}
@@ -67,8 +67,8 @@ laid base size area contents ram loaded after room lie e is count below above =
     }
 
 -- a guest of these parts, nothing of which was run
-abbrev pub new_seat : Cpu → DeviceState → List Kept → Slots → Entries → ℕ → ℕ → Seat
-new_seat cpu devices kept slots script base size = record {
+abbrev pub new_seat : Cpu → DeviceState → List Kept → Slots → Entries → Tally → ℕ → ℕ → Seat
+new_seat cpu devices kept slots script tally base size = record {
   cpu = cpu;
   mmu = mmu_at_reset;
   devices = devices;
@@ -77,13 +77,13 @@ new_seat cpu devices kept slots script base size = record {
   script = script;
   steps = 0;
   state = Running;
-  tally = no_steps;
+  tally = tally;
   base = base;
   size = size;
 }
 
-abbrev with_parts : Cpu → DeviceState → List Kept → Shadowed → List ℕ → Turned
-with_parts cpu devices kept shadow ram = record {
+abbrev with_parts : Cpu → DeviceState → List Kept → Shadowed → List ℕ → Tally → Turned
+with_parts cpu devices kept shadow ram tally = record {
   guest = record {
     machine = record {
       cpu = cpu;
@@ -93,17 +93,18 @@ with_parts cpu devices kept shadow ram = record {
     };
     shadow = shadow;
   };
-  tally = no_steps;
+  tally = tally;
   marks = [];
 }
 
 pub starts : (base size : ℕ) (contents : Contents) (after : List ℕ) (cpu : Cpu) (devices : DeviceState) (kept : List Kept) (slots : Slots) (script : Entries)
+    (tally : Tally)
     → 8 ≤ size → part after base size ≡ with_contents (zeros size) contents
     → cpu ≡ at_reset (number_at after base 4) (number_at after (base + 4) 4) → devices ≡ idle size → kept ≡ []
-    → shadowed slots after ≡ nothing
-    → turned_on (new_seat cpu devices kept slots script base size) after [] ≡ prepared contents size
+    → shadowed slots after ≡ nothing → tally ≡ no_steps
+    → turned_on (new_seat cpu devices kept slots script tally base size) after [] ≡ prepared contents size
 unfolding reset_with
-starts base size contents after cpu devices kept slots script big ram_is reset still free none =
+starts base size contents after cpu devices kept slots script tally big ram_is reset still free none uncounted =
     let first : number_at (part after base size) 0 4 ≡ number_at after base 4 =
     number-part after base size 0 4 (omega arith) ∙ ap (λ (at : ℕ). number_at after at 4) (let e : base + 0 ≡ base = omega arith in e) in
     let second : number_at (part after base size) 4 4 ≡ number_at after (base + 4) 4 = number-part after base size 4 4 (omega arith) in
@@ -115,18 +116,29 @@ starts base size contents after cpu devices kept slots script big ram_is reset s
     ∙ ap (λ (m : List ℕ). at_reset (number_at m 0 4) (number_at m 4 4)) ram_is in
     let tables = own base (shadowed slots after) in
     let bytes = part after base size in
-    ap (λ (c : Cpu). with_parts c devices kept tables bytes) by
-    ∙ ap (λ (d : DeviceState). with_parts fresh d kept tables bytes) still
-    ∙ ap (λ (k : List Kept). with_parts fresh (idle size) k tables bytes) free
-    ∙ ap (λ (s : Shadowed). with_parts fresh (idle size) [] (own base s) bytes) none
-    ∙ ap (λ (s : Shadowed). with_parts fresh (idle size) [] s bytes) (own_nothing base)
-    ∙ ap (λ (m : List ℕ). with_parts fresh (idle size) [] nothing m) ram_is
+    ap (λ (c : Cpu). with_parts c devices kept tables bytes tally) by
+    ∙ ap (λ (d : DeviceState). with_parts fresh d kept tables bytes tally) still
+    ∙ ap (λ (k : List Kept). with_parts fresh (idle size) k tables bytes tally) free
+    ∙ ap (λ (s : Shadowed). with_parts fresh (idle size) [] (own base s) bytes tally) none
+    ∙ ap (λ (s : Shadowed). with_parts fresh (idle size) [] s bytes tally) (own_nothing base)
+    ∙ ap (λ (m : List ℕ). with_parts fresh (idle size) [] nothing m tally) ram_is
+    ∙ ap (λ (t : Tally). with_parts fresh (idle size) [] nothing ram t) uncounted
+
+-- it is running
+runs_at_reset : (isp pc size : ℕ) → Running ≡ going (at_reset isp pc) (idle size)
+unfolding at_reset idle
+runs_at_reset isp pc size = refl
+
+pub goes : (cpu : Cpu) (devices : DeviceState) (isp pc size : ℕ) → cpu ≡ at_reset isp pc → devices ≡ idle size → Running ≡ going cpu devices
+goes cpu devices isp pc size reset still =
+    runs_at_reset isp pc size ∙ ap (λ (c : Cpu). going c (idle size)) (sym reset) ∙ ap (λ (d : DeviceState). going cpu d) (sym still)
 
 -- with empty tables it is seated
 pub seated : (base size : ℕ) (after : List ℕ) (cpu : Cpu) (devices : DeviceState) (kept : List Kept) (slots : Slots) (script : Entries)
+    (tally : Tally)
     → monitor_bytes ≤ base → base % 65536 ≡ 0 → size % 65536 ≡ 0 → base + size + area_bytes ≤ length after → slots.area ≡ base + size
-    → Maps slots after → shadowed slots after ≡ nothing → IsSeated (new_seat cpu devices kept slots script base size) after
-seated base size after cpu devices kept slots script behind aligned whole inside area maps none = record {
+    → Maps slots after → shadowed slots after ≡ nothing → IsSeated (new_seat cpu devices kept slots script tally base size) after
+seated base size after cpu devices kept slots script tally behind aligned whole inside area maps none = record {
   aligned = aligned;
   whole = whole;
   behind = behind;

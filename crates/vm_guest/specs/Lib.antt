@@ -1,3 +1,6 @@
 pub mod Memory
 pub mod Session
 pub mod Turns
+pub mod Counting
+pub mod Rests
+pub mod Native

@@ -1,11 +1,20 @@
 -- A guest's steps and turns in code.
-use Rattle.std.specs.Prelude.{◌≡◌, ℕ, ◌+◌}
+use Rattle.std.specs.Prelude.{◌≡◌, ℕ, ◌+◌, true, List}
 use Rattle.mb_model.specs.Keeping.{rule_k}
 use Rattle.mb_model.specs.declared.outcome.RunState.{RunState}
 use Rattle.mb_model.specs.declared.outcome.RunState.TheVariants as state
-use Rattle.mb_machine.specs.Machine.{Contents, Entries, Machine, start, run_of}
+use Rattle.mb_model.specs.declared.processor.Cpu.{Cpu}
+use Rattle.mb_devices.specs.Devices.{DeviceState, ticked}
+use Rattle.mb_meaning.specs.declared.StepEnd.{StepEnd}
+use Rattle.mb_meaning.specs.declared.StepEnd.TheVariants as step
+use Rattle.mb_meaning.specs.Raise.{Stepped}
+use Rattle.mb_machine.specs.Machine.{Contents, Entries, Machine, arrived, going, run_of, start}
+use Rattle.mb_machine.specs.Machine.{state_after, takes_steps}
 use Rattle.vm_meaning.specs.Free.{rule_free, FreeRun, Within}
-use Rattle.vm_machine.specs.Seats.{Seat}
+use Rattle.vm_meaning.specs.Native.{NativeState}
+use Rattle.vm_machine.specs.Guests.{Guest}
+use Rattle.vm_machine.specs.Turns.{Guested}
+use Rattle.vm_machine.specs.Seats.{Seat, Scene}
 use Rattle.vm_guest.specs.declared.turn_end.TurnEnd.{TurnEnd}
 use Rattle.vm_guest.specs.declared.turn_end.TurnEnd.TheVariants.{Counted, Halted, Off}
 
@@ -16,10 +25,39 @@ end_by state.Stopped = Counted
 end_by state.Halted = Halted
 end_by state.Off = Off
 
+-- A guest that takes steps is on, and is stopped exactly where STOP holds its processor.
+abbrev pub IsGoing : Seat → Type 0
+IsGoing g = takes_steps g.state ≡ true → g.state ≡ going g.cpu g.devices
+
+-- A guest whose step has begun.
+abbrev pub begun_seat : Seat → Seat
+begun_seat g = record g { devices = ticked (arrived (g.steps + 1) g.script g.devices); steps = g.steps + 1 }
+
 -- A guest with what the processor's part of a step changes: its processor, and what its bus has.
 abbrev pub processed : Seat → Seat → Seat
 processed g h =
     record g { cpu = h.cpu; mmu = h.mmu; devices = h.devices; kept = h.kept; slots = h.slots }
+
+-- A guest once the processor's part of a step has ended so, with so many steps taken.
+abbrev pub ended_at : ℕ → Stepped × Guest → Guested
+ended_at steps r = record {
+  machine = record {
+    cpu = r.0.1;
+    world = r.1.world;
+    steps = steps;
+    state = state_after r.0.0 r.0.1 r.1.world.devices;
+  };
+  shadow = r.1.shadow;
+}
+
+-- its state then
+abbrev pub state_by : StepEnd → Cpu → DeviceState → RunState
+state_by step.Halted cpu d = state.Halted
+state_by _ cpu d = going cpu d
+
+-- a guest, a board's memory, and what boards have counted
+abbrev pub scene : Seat → List ℕ → NativeState → Scene
+scene g ram native = record { guest = g; ram = ram; native = native }
 
 -- ---- turns as free runs
 

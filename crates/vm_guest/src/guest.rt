@@ -9,7 +9,10 @@ ghost use Rattle.vm_shadow.specs.Mapped.{area_bytes};
 ghost use Rattle.vm_machine.specs.Turns.{prepared};
 ghost use Rattle.vm_machine.specs.Seats.{machine_on, monitor_bytes, turned_on, IsSeated};
 ghost use Rattle.vm_guest.specs.Memory.{OnlyBetween};
+ghost use Rattle.vm_guest.specs.Counting.{tally_in};
+ghost use Rattle.vm_guest.specs.Turns.{IsGoing};
 
+use crate::counts::Counts;
 use crate::loading::{clear, load};
 use mb_board::{Board, place_behind};
 use mb_devices::Devices;
@@ -52,6 +55,7 @@ pub struct Guest {
     pub(crate) next: u32,
     pub(crate) steps: u32,
     pub(crate) state: RunState,
+    pub(crate) counts: Counts,
     /// Where its RAM begins on the board.
     pub(crate) base: u32,
     /// The bytes of its RAM.
@@ -62,11 +66,12 @@ pub struct Guest {
     pub(crate) scratch: Scratch,
 }
 
-/// Nothing is counted of its steps by their classes.
 impl Model for Guest {
-    ghost use Rattle.vm_machine.specs.Turns.{no_steps};
+    ghost use Rattle.std.specs.Prelude.{◌≤◌};
+    ghost use Rattle.vm_machine.specs.Turns.{steps_in};
     ghost use Rattle.vm_machine.specs.Seats.{Seat};
     ghost use Rattle.mb_board.specs.Arrivals.{IsNext};
+    ghost use Rattle.vm_guest.specs.Counting.{tally_in};
 
     ghost Value = { Seat };
 
@@ -79,12 +84,12 @@ impl Model for Guest {
       script = g.script;
       steps = g.steps;
       state = g.state;
-      tally = no_steps;
+      tally = tally_in g.counts;
       base = g.base;
       size = g.size;
     } };
 
-    ghost invariant = { λ g. IsNext g.script g.steps g.next };
+    ghost invariant = { λ g. IsNext g.script g.steps g.next × (steps_in (tally_in g.counts) ≤ g.steps) };
 }
 
 impl Guest {
@@ -108,6 +113,7 @@ impl Guest {
         ensures script { IfOk result (λ guest. guest.script ≡ script) }
         ensures place { IfOk result (λ guest. (guest.base ≡ base) × (guest.size ≡ ram)) }
         ensures seated { IfOk result (λ guest. IsSeated guest board.new.world.ram) }
+        ensures going { IfOk result IsGoing }
         ensures within { OnlyBetween base (base + ram + area_bytes) board.old.world.ram board.new.world.ram }
         ensures others { but_ram board.new ≡ but_ram board.old }
         ensures refused { IfErr result (λ memory. board.new ≡ board.old) }
@@ -131,6 +137,7 @@ impl Guest {
             next,
             steps: 0,
             state: RunState::Running,
+            counts: Counts::none(),
             base,
             size: ram,
             table,
@@ -158,6 +165,13 @@ impl Guest {
             state: self.state,
             ram: board.memory(self.base, self.size),
         }
+    }
+
+    /// How many steps of each class the guest has taken.
+    pub fn counts(&self) -> Counts
+        ensures { tally_in result ≡ self.now.tally }
+    {
+        self.counts
     }
 
     /// The guest's devices.

@@ -1,28 +1,64 @@
-//! One step of a guest.
+//! One step of a guest, carried out by the monitor.
 
 ghost use Rattle.std.specs.Prelude.{◌≡◌, ◌+◌, ◌^◌, ◌<◌};
 ghost use Rattle.mb_port.specs.Routine.{run};
-ghost use Rattle.mb_meaning.specs.Step.{step_of};
+ghost use Rattle.mb_meaning.specs.Raise.{by_its_end};
+ghost use Rattle.mb_devices.specs.Devices.{level_of};
 ghost use Rattle.mb_board.specs.Beside.{but_ram};
 ghost use Rattle.vm_machine.specs.Bus.{guest_bus};
-ghost use Rattle.vm_machine.specs.Turns.{world_of, guest_stepped};
+ghost use Rattle.vm_machine.specs.Turns.{counted, steps_in, world_of};
 ghost use Rattle.vm_machine.specs.Seats.{end_of, guested_on, IsSame, IsSeated};
 ghost use Rattle.vm_guest.specs.Memory.{OnlyBetween};
-ghost use Rattle.vm_guest.specs.Turns.{processed};
+ghost use Rattle.vm_guest.specs.Rests.{rest_in, IsLawfulRest};
+ghost use Rattle.vm_guest.specs.Turns.{begun_seat, ended_at, processed, state_by, IsGoing};
 
 use crate::guest::Guest;
-use mb_board::{Board, receive, state_after};
-use mb_meaning::Finish;
-use mb_step::step_to_finish;
+use crate::rest::Rest;
+use mb_board::{Board, receive};
+use mb_devices::Devices;
+use mb_meaning::StepEnd;
+use mb_model::{Cpu, RunState};
 use mb_walk::Ram;
+use vm_machine::Class;
 use vm_port::GuestPort;
 
+/// The state of a guest after a step that ended so, with the processor and the devices that it left.
+fn state_by(end: StepEnd, cpu: &Cpu, devices: &Devices) -> RunState
+    ensures { result ≡ state_by end cpu.now devices.now }
+{
+    match end {
+        StepEnd::Halted => RunState::Halted,
+        StepEnd::Went | StepEnd::Idle => {
+            if devices.is_off() {
+                RunState::Off
+            } else if cpu.stopped {
+                RunState::Stopped
+            } else {
+                RunState::Running
+            }
+        }
+    }
+}
+
 impl Guest {
-    /// The processor's part of a step, over the guest's bus.
-    fn process<R: Ram>(&mut self, ram: &mut R, level: u8) -> Finish
+    /// A step begins: what is due at it arrives, and the timer ticks.
+    pub(crate) fn begin(&mut self)
+        requires { self.old.steps + 1 < 2 ^ 32 }
+        ensures begun { self.new ≡ begun_seat self.old }
+        ensures counted { steps_in self.new.tally < self.new.steps }
+    {
+        self.next = receive(&mut self.devices, &self.script, self.steps, self.next);
+        self.steps += 1;
+        self.devices.tick();
+    }
+
+    /// What is left of the processor's part of a step, over the guest's bus.
+    fn process<R: Ram>(&mut self, ram: &mut R, rest: &Rest, level: u8) -> StepEnd
         requires level { level < 8 }
+        requires lawful { IsLawfulRest rest.now }
         requires seated { IsSeated self.old (R.bytes ram.old) }
-        ensures means { run guest_bus (step_of level self.old.cpu) (world_of (guested_on self.old (R.bytes ram.old)))
+        ensures means { by_its_end (run guest_bus (rest_in rest.now level self.old.cpu)
+            (world_of (guested_on self.old (R.bytes ram.old))))
             ≡ ((result, self.new.cpu), world_of (guested_on self.new (R.bytes ram.new))) }
         ensures guest { self.new ≡ processed self.old self.new }
         ensures seated { IsSeated self.new (R.bytes ram.new) }
@@ -38,7 +74,7 @@ impl Guest {
             &mut self.tlb,
             &mut self.shadow,
         );
-        step_to_finish(
+        rest.carry_out(
             self.table.as_ref(),
             &mut self.scratch,
             &mut self.cpu,
@@ -47,23 +83,25 @@ impl Guest {
         )
     }
 
-    /// One step, with what arrives at it by the script, carried out by the monitor.
-    pub(crate) fn step(&mut self, board: &mut Board)
-        requires room { self.old.steps + 1 < 2 ^ 32 }
+    /// Carries out what is left of a step that has begun, and counts it by its class.
+    pub(crate) fn assist(&mut self, board: &mut Board, rest: &Rest, class: Class)
+        requires counted { steps_in self.old.tally < self.old.steps }
+        requires lawful { IsLawfulRest rest.now }
         requires seated { IsSeated self.old board.old.world.ram }
-        ensures stepped { guested_on self.new board.new.world.ram
-            ≡ guest_stepped self.old.script (guested_on self.old board.old.world.ram) }
-        ensures steps { self.new.steps ≡ self.old.steps + 1 }
+        ensures means { guested_on self.new board.new.world.ram ≡ ended_at self.old.steps
+            (run guest_bus (rest_in rest.now (level_of self.old.devices) self.old.cpu)
+            (world_of (guested_on self.old board.old.world.ram))) }
+        ensures tally { self.new.tally ≡ counted class self.old.tally }
+        ensures steps { self.new.steps ≡ self.old.steps }
+        ensures going { IsGoing self.new }
         ensures same { IsSame self.old self.new }
         ensures seated { IsSeated self.new board.new.world.ram }
         ensures within { OnlyBetween self.old.base (end_of self.old) board.old.world.ram board.new.world.ram }
         ensures others { but_ram board.new ≡ but_ram board.old }
     {
-        self.next = receive(&mut self.devices, &self.script, self.steps, self.next);
-        self.steps += 1;
-        self.devices.tick();
         let level = self.devices.level();
-        let finish = self.process(board, level);
-        self.state = state_after(finish, &self.cpu, &self.devices);
+        let end = self.process(board, rest, level);
+        self.state = state_by(end, &self.cpu, &self.devices);
+        self.counts.add(class);
     }
 }

@@ -12,9 +12,9 @@ use Rattle.vm_guest.specs.Session.{GuestAtStart, IsGuest}
 use Rattle.vm_guest.proofs.Seated.{only_within}
 use Rattle.vm_slices.specs.declared.host_guest.HostGuest.{HostGuest}
 use Rattle.vm_slices.specs.Fit.{share_of, need_of}
-use Rattle.vm_slices.specs.Members.{member_at_start}
+use Rattle.vm_slices.specs.Members.{member_at_start, IsReady}
 use Rattle.vm_slices.specs.Places.{member_of, members_of, StandFrom, end_of_all}
-use Rattle.vm_slices.proofs.Places.{further}
+use Rattle.vm_slices.proofs.Places.{further, ready_behind}
 
 -- ---- numbers
 
@@ -54,14 +54,18 @@ pub record Stands (all rest : List GuestAtStart) (hosts : List HostGuest) (base 
   pub guests : All IsGuest rest
   pub members : members_of hosts ram ++ map member_at_start rest ≡ map member_at_start all
   pub stand : StandFrom monitor_bytes hosts ram
+  pub ready : All IsReady (members_of hosts ram)
   pub end : end_of_all monitor_bytes hosts ≡ base
   pub aligned : base % 65536 ≡ 0
   pub behind : monitor_bytes ≤ base
   pub room : base + sum_by share_of rest ≤ length ram
 
+none_ready : All IsReady []
+none_ready k d less = absurd (omega arith)
+
 pub first_stands : (all : List GuestAtStart) (ram : List ℕ) → All IsGuest all → need_of all ≤ length ram → Stands all all [] monitor_bytes ram
 first_stands all ram guests room =
-    record { guests = guests; members = refl; stand = tt; end = refl; aligned = refl; behind = omega arith; room = room }
+    record { guests = guests; members = refl; stand = tt; ready = none_ready; end = refl; aligned = refl; behind = omega arith; room = room }
 
 -- the next one has room
 pub next_guest : (all rest : List GuestAtStart) (g : GuestAtStart) (hosts : List HostGuest) (base : ℕ) (ram : List ℕ)
@@ -72,8 +76,8 @@ next_guest all rest g hosts base ram s =
 -- and is prepared
 pub next_stands : (all rest : List GuestAtStart) (g : GuestAtStart) (hosts : List HostGuest) (h : HostGuest) (base : ℕ) (x y : List ℕ)
     → Stands all (g ∷ rest) hosts base x → member_of y h ≡ member_at_start g → h.guest.base ≡ base → h.guest.size ≡ g.ram
-    → IsSeated h.guest y → OnlyBetween base (base + g.ram + area_bytes) x y → Stands all rest (hosts ++ h ∷ []) (base + g.ram + area_bytes) y
-next_stands all rest g hosts h base x y s start at size seated between =
+    → IsSeated h.guest y → IsReady (member_of y h) → OnlyBetween base (base + g.ram + area_bytes) x y → Stands all rest (hosts ++ h ∷ []) (base + g.ram + area_bytes) y
+next_stands all rest g hosts h base x y s start at size seated ready between =
     let end : base + g.ram + area_bytes ≡ end_of h.guest = omega arith in
     let last = s.end in
     let behind = s.behind in
@@ -94,6 +98,7 @@ next_stands all rest g hosts h base x y s start at size seated between =
           ∙ ap (λ (m : Member). members_of hosts x ++ m ∷ map member_at_start rest) start
           ∙ s.members;
       stand = f.stand;
+      ready = subst (λ (ms : List Member). All IsReady ms) (sym f.members) (ready_behind (members_of hosts x) (member_of y h) s.ready ready);
       end = f.end ∙ sym end;
       aligned = omega arith;
       behind = omega arith;

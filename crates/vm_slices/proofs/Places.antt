@@ -1,14 +1,21 @@
 -- Guests that stand one after the other: a turn of one, and a further one behind them.
 use Rattle.std.proofs.Common.{◌≡◌, ◌≢◌, ◌∙◌, ℕ, zero, suc, ◌+◌, ◌≤◌, ◌<◌, List, [], ◌∷◌, ◌++◌, length, get_or, set, drop, map}
 use Rattle.std.proofs.Common.{true, refl, ap, sym, subst, inl, inr, arith, Some}
-use Rattle.std.specs.Prelude.{slice_get, ◌&&◌}
-use Rattle.vm_machine.specs.Turns.{Turned, no_steps}
+use Rattle.std.specs.Prelude.{slice_get, ◌&&◌, All}
+use Rattle.std.proofs.Common.{append_assoc}
+use Rattle.std.proofs.lemmas.List.{append-nil}
+use Rattle.mb_instr.specs.declared.registers.Plain.{Plain}
+use Rattle.vm_meaning.specs.Marks.{trail}
+use Rattle.vm_meaning.specs.Native.{NativeState}
+use Rattle.vm_machine.specs.Turns.{Turned}
 use Rattle.vm_machine.specs.Seats.{end_of, monitor_bytes, IsSame, IsSeated, OnlyWithin}
-use Rattle.vm_machine.specs.Rounds.{Member, is_done, all_done}
+use Rattle.vm_machine.specs.Rounds.{Member, left, is_done, all_done, left_of_all, turn_in, members_after, marks_after}
 use Rattle.vm_machine.proofs.Seated.{Alone, alone, turned_alone}
 use Rattle.vm_slices.specs.declared.host_guest.HostGuest.{HostGuest}
-use Rattle.vm_slices.specs.Members.{after_turn, uncounted}
-use Rattle.vm_slices.specs.Places.{member_of, members_of, StandFrom, end_of_all, with_turn}
+use Rattle.vm_machine.proofs.Trails.{trail_append}
+use Rattle.vm_slices.specs.Counting.{AreCounted, HasRoom}
+use Rattle.vm_slices.specs.Members.{after_turn, IsReady}
+use Rattle.vm_slices.specs.Places.{member_of, members_of, StandFrom, end_of_all, with_turn, marks_at}
 
 -- ---- one of them
 
@@ -32,11 +39,6 @@ member_at shown [] ram i g less is = absurd (omega arith)
 member_at shown (k ∷ ks) ram zero g less is = ap (λ (x : HostGuest). Some (shown (member_of ram x))) (sym is)
 member_at shown (k ∷ ks) ram (suc i) g less is = member_at shown ks ram i g (omega arith) is
 
--- nothing is counted of any
-pub uncounted_members : (gs : List HostGuest) (ram : List ℕ) → uncounted (members_of gs ram) ≡ members_of gs ram
-uncounted_members [] ram = refl
-uncounted_members (k ∷ ks) ram = ap (λ (ms : List Member). member_of ram k ∷ ms) (uncounted_members ks ram)
-
 -- all behind a place are done where it is, and all behind it
 pub done_from : (gs : List HostGuest) (ram : List ℕ) (i : ℕ) (g : HostGuest) → i < length gs → g ≡ get_or gs i g
     → all_done (members_of (drop i gs) ram) ≡ (is_done (member_of ram g) && all_done (members_of (drop (i + 1) gs) ram))
@@ -56,7 +58,7 @@ none_behind (k ∷ ks) ram (suc i) more = none_behind ks ram i (omega arith)
 
 same_member : (g : HostGuest) (x y : List ℕ) → Alone g.guest x y → member_of y g ≡ member_of x g
 same_member g x y a =
-    ap (λ (t : Turned). (let m : Member = record { script = g.guest.script; bound = g.bound; guest = t.guest; tally = no_steps } in m))
+    ap (λ (t : Turned). (let m : Member = record { script = g.guest.script; bound = g.bound; guest = t.guest; tally = g.guest.tally } in m))
     (turned_alone g.guest x y [] a.machine a.tables)
 
 -- memory changes within a guest that is before them
@@ -134,9 +136,134 @@ one_more slice n [] = refl
 one_more slice zero (m ∷ ms) = ap (λ (ks : List Member). after_turn slice m ∷ ks) (sym (none_turned slice ms))
 one_more slice (suc n) (m ∷ ms) = ap (λ (ks : List Member). after_turn slice m ∷ ks) (one_more slice n ms)
 
-pub all_turned : (slice : ℕ) (ms : List Member) → first_turned slice (length ms) ms ≡ map (after_turn slice) ms
+pub all_turned : (slice : ℕ) (ms : List Member) → first_turned slice (length ms) ms ≡ members_after slice ms
 all_turned slice [] = refl
 all_turned slice (m ∷ ms) = ap (λ (ks : List Member). after_turn slice m ∷ ks) (all_turned slice ms)
+
+-- the marks of so many turns
+abbrev pub first_marks : (slice n : ℕ) → List Member → List Plain
+first_marks slice n [] = []
+first_marks slice zero (m ∷ ms) = []
+first_marks slice (suc n) (m ∷ ms) = (turn_in slice m).marks ++ first_marks slice n ms
+
+pub no_marks : (slice : ℕ) (ms : List Member) → first_marks slice 0 ms ≡ []
+no_marks slice [] = refl
+no_marks slice (m ∷ ms) = refl
+
+pub more_marks : (slice n : ℕ) (ms : List Member) → first_marks slice n ms ++ marks_at slice n (first_turned slice n ms) ≡ first_marks slice (suc n) ms
+more_marks slice n [] = refl
+more_marks slice zero (m ∷ ms) =
+    sym (append-nil (turn_in slice m).marks) ∙ ap (λ (marks : List Plain). (turn_in slice m).marks ++ marks) (sym (no_marks slice ms))
+more_marks slice (suc n) (m ∷ ms) =
+    append_assoc (turn_in slice m).marks (first_marks slice n ms) (marks_at slice n (first_turned slice n ms))
+    ∙ ap (λ (marks : List Plain). (turn_in slice m).marks ++ marks) (more_marks slice n ms)
+
+pub all_marks : (slice : ℕ) (ms : List Member) → first_marks slice (length ms) ms ≡ marks_after slice ms
+all_marks slice [] = refl
+all_marks slice (m ∷ ms) = ap (λ (marks : List Plain). (turn_in slice m).marks ++ marks) (all_marks slice ms)
+
+-- ---- what is counted
+
+pub nothing_counted : (ms : List Member) (native : NativeState) → AreCounted ms ms [] native native
+unfolding trail
+nothing_counted ms native = record { retired = refl; trail = refl; exceptions = refl }
+
+pub counted_on : (a b c : List Member) (first more : List Plain) (o p q : NativeState) → AreCounted a b first o p → AreCounted b c more p q
+    → AreCounted a c (first ++ more) o q
+counted_on a b c first more o p q x y =
+    let r = x.retired in
+    let s = y.retired in
+    let e = x.exceptions in
+    let f = y.exceptions in
+    record {
+      retired = omega arith;
+      trail = y.trail ∙ ap (λ (t : ℕ). trail t more) x.trail ∙ sym (trail_append o.trail first more);
+      exceptions = omega arith;
+    }
+
+-- of a turn of one of the members
+pub record Turn (slice place : ℕ) (ms : List Member) (old new : NativeState) : Type 0 where
+  pub counts : AreCounted ms (with_turn slice place ms) (marks_at slice place ms) old new
+  pub ready : All IsReady (with_turn slice place ms)
+  pub retired : new.retired + left_of_all (with_turn slice place ms) ≤ old.retired + left_of_all ms
+  pub exceptions : new.exceptions + left_of_all (with_turn slice place ms) ≤ old.exceptions + left_of_all ms
+
+-- what is known of the one that takes it
+pub record Own (slice : ℕ) (m : Member) (old new : NativeState) : Type 0 where
+  pub counts : AreCounted (m ∷ []) (after_turn slice m ∷ []) (turn_in slice m).marks old new
+  pub ready : IsReady (after_turn slice m)
+  pub retired : new.retired + left (after_turn slice m) ≤ old.retired + left m
+  pub exceptions : new.exceptions + left (after_turn slice m) ≤ old.exceptions + left m
+
+pub own_by : (slice : ℕ) (m k : Member) (old new : NativeState) → k ≡ after_turn slice m → AreCounted (m ∷ []) (k ∷ []) (turn_in slice m).marks old new
+    → IsReady k → (new.retired + left k ≤ old.retired + left m) × (new.exceptions + left k ≤ old.exceptions + left m) → Own slice m old new
+own_by slice m k old new is counts ready room = record {
+  counts = subst (λ (a : Member). AreCounted (m ∷ []) (a ∷ []) (turn_in slice m).marks old new) is counts;
+  ready = subst IsReady is ready;
+  retired = subst (λ (a : Member). new.retired + left a ≤ old.retired + left m) is room.0;
+  exceptions = subst (λ (a : Member). new.exceptions + left a ≤ old.exceptions + left m) is room.1;
+}
+
+all_behind : (m : Member) (ms : List Member) → All IsReady (m ∷ ms) → All IsReady ms
+all_behind m ms all k d less = all (suc k) d (omega arith)
+
+with_first : (m : Member) (ms : List Member) → IsReady m → All IsReady ms → All IsReady (m ∷ ms)
+with_first m ms first all zero d less = first
+with_first m ms first all (suc k) d less = all k d (omega arith)
+
+pub member_ready : (gs : List HostGuest) (x : List ℕ) (i : ℕ) (g : HostGuest) → i < length gs → g ≡ get_or gs i g → All IsReady (members_of gs x)
+    → IsReady (member_of x g)
+member_ready [] x i g less is all = absurd (omega arith)
+member_ready (k ∷ ks) x zero g less is all = subst (λ (a : HostGuest). IsReady (member_of x a)) (sym is) (all zero (member_of x k) (omega arith))
+member_ready (k ∷ ks) x (suc i) g less is all =
+    member_ready ks x i g (omega arith) is (all_behind (member_of x k) (members_of ks x) all)
+
+member_left : (gs : List HostGuest) (x : List ℕ) (i : ℕ) (g : HostGuest) → i < length gs → g ≡ get_or gs i g
+    → left (member_of x g) ≤ left_of_all (members_of gs x)
+member_left [] x i g less is = absurd (omega arith)
+member_left (k ∷ ks) x zero g less is =
+    subst (λ (a : HostGuest). left (member_of x a) ≤ left (member_of x k) + left_of_all (members_of ks x)) (sym is) (omega arith)
+member_left (k ∷ ks) x (suc i) g less is = let rest = member_left ks x i g (omega arith) is in omega arith
+
+pub member_room : (gs : List HostGuest) (x : List ℕ) (i : ℕ) (g : HostGuest) (native : NativeState) → i < length gs → g ≡ get_or gs i g
+    → HasRoom (left_of_all (members_of gs x)) native → HasRoom (left (member_of x g)) native
+member_room gs x i g native less is room =
+    let few = member_left gs x i g less is in
+    let a = room.0 in
+    let b = room.1 in
+    (omega arith, omega arith)
+
+pub ready_behind : (ms : List Member) (m : Member) → All IsReady ms → IsReady m → All IsReady (ms ++ m ∷ [])
+ready_behind [] m all own = with_first m [] own all
+ready_behind (k ∷ ks) m all own = with_first k (ks ++ m ∷ []) (all zero k (omega arith)) (ready_behind ks m (all_behind k ks all) own)
+
+pub turn_of_one : (slice i : ℕ) (gs : List HostGuest) (g : HostGuest) (x : List ℕ) (old new : NativeState) → i < length gs → g ≡ get_or gs i g
+    → All IsReady (members_of gs x) → Own slice (member_of x g) old new → Turn slice i (members_of gs x) old new
+turn_of_one slice i [] g x old new less is ready own = absurd (omega arith)
+turn_of_one slice zero (k ∷ ks) g x old new less is ready own =
+    let own : Own slice (member_of x k) old new = subst (λ (a : HostGuest). Own slice (member_of x a) old new) is own in
+    let r = own.counts.retired in
+    let e = own.counts.exceptions in
+    let s = own.retired in
+    let f = own.exceptions in
+    record {
+      counts = record { retired = omega arith; trail = own.counts.trail; exceptions = omega arith };
+      ready = with_first (after_turn slice (member_of x k)) (members_of ks x) own.ready (all_behind (member_of x k) (members_of ks x) ready);
+      retired = omega arith;
+      exceptions = omega arith;
+    }
+turn_of_one slice (suc i) (k ∷ ks) g x old new less is ready own =
+    let rest = turn_of_one slice i ks g x old new (omega arith) is (all_behind (member_of x k) (members_of ks x) ready) own in
+    let r = rest.counts.retired in
+    let e = rest.counts.exceptions in
+    let s = rest.retired in
+    let f = rest.exceptions in
+    record {
+      counts = record { retired = omega arith; trail = rest.counts.trail; exceptions = omega arith };
+      ready = with_first (member_of x k) (with_turn slice i (members_of ks x)) (ready zero (member_of x k) (omega arith)) rest.ready;
+      retired = omega arith;
+      exceptions = omega arith;
+    }
 
 -- ---- a further guest
 

@@ -1,45 +1,20 @@
--- Rounds of a session, whatever is counted.
-use Rattle.std.proofs.Common.{◌≡◌, ◌∙◌, ℕ, zero, suc, ◌+◌, ◌≤◌, ◌<◌, List, [], ◌∷◌, map, refl, ap, sym, Bool, true, false, inl, inr, arith}
-use Rattle.std.specs.Prelude.{nat_le, ◌&&◌, if◌then◌else◌}
+-- Rounds of a session.
+use Rattle.std.proofs.Common.{◌≡◌, ◌∙◌, ℕ, zero, suc, ◌+◌, ◌*◌, ◌≤◌, ◌<◌, ◌^◌, List, [], ◌∷◌, ◌++◌, length, map, refl, ap, sym, subst, Bool, true, false, inl, inr, arith}
+use Rattle.std.specs.Prelude.{nat_le, ◌&&◌, All}
 use Rattle.std.proofs.lemmas.Bool.{cases_Bool, cases_lt}
 use Rattle.std.proofs.lemmas.Bool.Decides.{nat_tests}
-use Rattle.mb_machine.specs.Machine.{Machine}
-use Rattle.vm_machine.specs.Rounds.{Member, left, is_done, opened, Hosted, members_after, round, all_done, left_of_all}
+use Rattle.mb_instr.specs.declared.registers.Plain.{Plain}
+use Rattle.mb_machine.specs.Machine.{Machine, takes_steps}
+use Rattle.vm_meaning.specs.Native.{NativeState}
+use Rattle.vm_machine.specs.Turns.{Tally}
+use Rattle.vm_machine.specs.Rounds.{Member, left, is_done, opened, Hosted, members_after, marks_after, round, all_done, left_of_all}
 use Rattle.vm_machine.specs.Rounds.{rounds, host_run, WholeTurns}
 use Rattle.vm_machine.proofs.ByRule.{turns_by_rule}
 use Rattle.vm_machine.proofs.Rounds.{rounds_end_all}
-use Rattle.vm_slices.specs.Members.{after_turn, machine_at_end, uncounted, after_rounds, machines_of}
-use Rattle.vm_slices.proofs.Turns.{plain, turn_plain, after_plain, turn_left}
-
--- ---- counts have no part in it
-
-round_plain : (slice : ℕ) (ms : List Member) → uncounted (members_after slice ms) ≡ map (after_turn slice) (uncounted ms)
-round_plain slice [] = refl
-round_plain slice (m ∷ ms) =
-    ap (λ (k : Member). k ∷ uncounted (members_after slice ms)) (turn_plain slice m)
-    ∙ ap (λ (ks : List Member). after_turn slice (plain m) ∷ ks) (round_plain slice ms)
-
-turns_plain : (slice : ℕ) (ms : List Member) → uncounted (map (after_turn slice) ms) ≡ map (after_turn slice) (uncounted ms)
-turns_plain slice [] = refl
-turns_plain slice (m ∷ ms) =
-    ap (λ (k : Member). k ∷ uncounted (map (after_turn slice) ms)) (after_plain slice m)
-    ∙ ap (λ (ks : List Member). after_turn slice (plain m) ∷ ks) (turns_plain slice ms)
-
-done_plain : (ms : List Member) → all_done (uncounted ms) ≡ all_done ms
-done_plain [] = refl
-done_plain (m ∷ ms) = ap (λ (b : Bool). is_done m && b) (done_plain ms)
-
-left_plain : (ms : List Member) → left_of_all (uncounted ms) ≡ left_of_all ms
-left_plain [] = refl
-left_plain (m ∷ ms) = ap (λ (n : ℕ). left m + n) (left_plain ms)
-
-pub plain_twice : (ms : List Member) → uncounted (uncounted ms) ≡ uncounted ms
-plain_twice [] = refl
-plain_twice (m ∷ ms) = ap (λ (ks : List Member). plain m ∷ ks) (plain_twice ms)
-
-machines_plain : (ms : List Member) → machines_of (uncounted ms) ≡ machines_of ms
-machines_plain [] = refl
-machines_plain (m ∷ ms) = ap (λ (ks : List Machine). m.guest.machine ∷ ks) (machines_plain ms)
+use Rattle.vm_slices.specs.Counting.{AreCounted, HasRoom}
+use Rattle.vm_slices.specs.Members.{machine_at_end, tally_at_end, after_rounds, machines_of, tallies_of, IsReady}
+use Rattle.vm_slices.proofs.Places.{counted_on, nothing_counted}
+use Rattle.vm_slices.proofs.Turns.{turn_left}
 
 -- ---- what is left
 
@@ -61,8 +36,8 @@ left_some (m ∷ ms) h = elim (cases_Bool (is_done m)) [
 ]
 
 turns_left : (slice : ℕ) (ms : List Member) → 1 ≤ slice
-    → (left_of_all (map (after_turn slice) ms) ≤ left_of_all ms)
-    × (1 ≤ left_of_all ms → left_of_all (map (after_turn slice) ms) < left_of_all ms)
+    → (left_of_all (members_after slice ms) ≤ left_of_all ms)
+    × (1 ≤ left_of_all ms → left_of_all (members_after slice ms) < left_of_all ms)
 turns_left slice [] h = (omega arith, λ some. some)
 turns_left slice (m ∷ ms) h =
     let one = turn_left slice m in
@@ -76,79 +51,95 @@ turns_left slice (m ∷ ms) h =
     )
 
 pub round_left : (slice : ℕ) (ms : List Member) → 1 ≤ slice → all_done ms ≡ false
-    → left_of_all (map (after_turn slice) ms) < left_of_all ms
+    → left_of_all (members_after slice ms) < left_of_all ms
 round_left slice ms h more = (turns_left slice ms h).1 (left_some ms more)
 
--- ---- rounds of which nothing is counted
-
-some_rounds : ℕ → ℕ → List Member → List Member
-some_rounds slice zero ms = ms
-some_rounds slice (suc n) ms = if all_done ms then ms else some_rounds slice n (map (after_turn slice) ms)
-
-rounds_plain : (slice n : ℕ) (h : Hosted) → uncounted (rounds slice n h).members ≡ some_rounds slice n (uncounted h.members)
-unfolding rounds some_rounds
-rounds_plain slice zero h = refl
-rounds_plain slice (suc n) h = elim (cases_Bool (all_done h.members)) [
-  | inl done ↦ let also = done_plain h.members ∙ done in rw (done, also) refl
-  | inr more ↦
-      let also = done_plain h.members ∙ more in
-      rw (more, also) (rounds_plain slice n (round slice h) ∙ ap (some_rounds slice n) (round_plain slice h.members))
+-- no guest has more left than its bound
+left_few : (m : Member) → left m ≤ m.bound
+left_few m = elim (cases_Bool (takes_steps m.guest.machine.state)) [
+  | inl going ↦ rw going (omega arith)
+  | inr still ↦ rw still (omega arith)
 ]
 
-rounds_stay : (slice n : ℕ) (ms : List Member) → all_done ms ≡ true → some_rounds slice n ms ≡ ms
-unfolding some_rounds
-rounds_stay slice zero ms done = refl
-rounds_stay slice (suc n) ms done = rw done refl
+pub all_left_few : (ms : List Member) → All IsReady ms → left_of_all ms ≤ 4294967296 * length ms
+all_left_few [] all = omega arith
+all_left_few (m ∷ ms) all =
+    let own = (all zero m (omega arith)).bound in
+    let few = left_few m in
+    let rest = all_left_few ms (λ k d less. all (suc k) d (omega arith)) in omega arith
 
-rounds_go : (slice n : ℕ) (ms : List Member) → all_done ms ≡ false
-    → some_rounds slice (suc n) ms ≡ some_rounds slice n (map (after_turn slice) ms)
-unfolding some_rounds
-rounds_go slice n ms more = rw more refl
+-- ---- rounds
+
+rounds_stay : (slice n : ℕ) (h : Hosted) → all_done h.members ≡ true → rounds slice n h ≡ h
+unfolding rounds
+rounds_stay slice zero h done = refl
+rounds_stay slice (suc n) h done = rw done refl
+
+rounds_go : (slice n : ℕ) (h : Hosted) → all_done h.members ≡ false → rounds slice (suc n) h ≡ rounds slice n (round slice h)
+unfolding rounds
+rounds_go slice n h more = rw more refl
 
 -- as many as are left are enough
-enough : (slice n k : ℕ) (ms : List Member) → 1 ≤ slice → left_of_all ms ≤ n → left_of_all ms ≤ k
-    → some_rounds slice n ms ≡ some_rounds slice k ms
-enough slice zero k ms h few more =
-    let done = nothing_left ms few in rounds_stay slice zero ms done ∙ sym (rounds_stay slice k ms done)
-enough slice (suc n) zero ms h few more =
-    let done = nothing_left ms more in rounds_stay slice (suc n) ms done ∙ sym (rounds_stay slice zero ms done)
-enough slice (suc n) (suc k) ms h few more = elim (cases_Bool (all_done ms)) [
-  | inl done ↦ rounds_stay slice (suc n) ms done ∙ sym (rounds_stay slice (suc k) ms done)
+enough : (slice n k : ℕ) (h : Hosted) → 1 ≤ slice → left_of_all h.members ≤ n → left_of_all h.members ≤ k → rounds slice n h ≡ rounds slice k h
+enough slice zero k h some few more =
+    let done = nothing_left h.members few in rounds_stay slice zero h done ∙ sym (rounds_stay slice k h done)
+enough slice (suc n) zero h some few more =
+    let done = nothing_left h.members more in rounds_stay slice (suc n) h done ∙ sym (rounds_stay slice zero h done)
+enough slice (suc n) (suc k) h some few more = elim (cases_Bool (all_done h.members)) [
+  | inl done ↦ rounds_stay slice (suc n) h done ∙ sym (rounds_stay slice (suc k) h done)
   | inr on ↦
-      let less = round_left slice ms h on in
-      rounds_go slice n ms on
-      ∙ enough slice n k (map (after_turn slice) ms) h (omega arith) (omega arith)
-      ∙ sym (rounds_go slice k ms on)
+      let less = round_left slice h.members some on in
+      rounds_go slice n h on
+      ∙ enough slice n k (round slice h) some (omega arith) (omega arith)
+      ∙ sym (rounds_go slice k h on)
 ]
 
-as_rounds : (slice : ℕ) (ms : List Member) → after_rounds slice ms ≡ some_rounds slice (left_of_all ms) (uncounted ms)
-unfolding host_run
-as_rounds slice ms = rounds_plain slice (left_of_all ms) (record { members = ms; marks = [] })
-
--- ---- the rounds of a session
-
 -- they go on from a round,
-pub rounds_go_on : (slice : ℕ) (ms : List Member) → 1 ≤ slice → all_done ms ≡ false
-    → after_rounds slice (map (after_turn slice) ms) ≡ after_rounds slice ms
-rounds_go_on slice ms h more =
-    let us = uncounted ms in
-    let next = map (after_turn slice) us in
-    let n = left_of_all ms in
-    let m = left_of_all (map (after_turn slice) ms) in
-    let on = done_plain ms ∙ more in
-    let less = round_left slice ms h more in
-    let same = left_plain ms in
-    let also : left_of_all next ≡ m = ap left_of_all (sym (turns_plain slice ms)) ∙ left_plain (map (after_turn slice) ms) in
-    as_rounds slice (map (after_turn slice) ms)
-    ∙ ap (some_rounds slice m) (turns_plain slice ms)
-    ∙ enough slice m n next h (omega arith) (omega arith)
-    ∙ sym (rounds_go slice n us on)
-    ∙ enough slice (suc n) n us h (omega arith) (omega arith)
-    ∙ sym (as_rounds slice ms)
+go_on : (slice : ℕ) (h : Hosted) → 1 ≤ slice → all_done h.members ≡ false → host_run slice (round slice h) ≡ host_run slice h
+unfolding host_run
+go_on slice h some more =
+    let n = left_of_all h.members in
+    let less = round_left slice h.members some more in
+    enough slice (left_of_all (round slice h).members) n (round slice h) some (omega arith) (omega arith)
+    ∙ sym (rounds_go slice n h more)
+    ∙ enough slice (suc n) n h some (omega arith) (omega arith)
 
 -- and end where all are done
-pub rounds_end : (slice : ℕ) (ms : List Member) → all_done ms ≡ true → after_rounds slice ms ≡ uncounted ms
-rounds_end slice ms done = as_rounds slice ms ∙ rounds_stay slice (left_of_all ms) (uncounted ms) (done_plain ms ∙ done)
+end_where : (slice : ℕ) (h : Hosted) → all_done h.members ≡ true → host_run slice h ≡ h
+unfolding host_run
+end_where slice h done = rounds_stay slice (left_of_all h.members) h done
+
+-- ---- the rounds of a session, so far
+
+pub record SoFar (slice : ℕ) (first now : List Member) (old new : NativeState) : Type 0 where
+  pub marks : List Plain
+  pub run : host_run slice (record { members = now; marks = marks }) ≡ after_rounds slice first
+  pub counts : AreCounted first now marks old new
+
+pub none_so_far : (slice : ℕ) (ms : List Member) (native : NativeState) → SoFar slice ms ms native native
+none_so_far slice ms native = record { marks = []; run = refl; counts = nothing_counted ms native }
+
+pub one_round : (slice : ℕ) (first now next : List Member) (o p q : NativeState) → 1 ≤ slice → all_done now ≡ false
+    → next ≡ members_after slice now → SoFar slice first now o p → AreCounted now next (marks_after slice now) p q → SoFar slice first next o q
+one_round slice first now next o p q some more is far counts =
+    let marks = far.marks ++ marks_after slice now in
+    record {
+      marks = marks;
+      run = ap (λ (ms : List Member). host_run slice (record { members = ms; marks = marks })) is
+          ∙ go_on slice (record { members = now; marks = far.marks }) some more ∙ far.run;
+      counts = counted_on first now next far.marks (marks_after slice now) o p q far.counts counts;
+    }
+
+pub run_ends : (slice : ℕ) (first now : List Member) (o p : NativeState) → all_done now ≡ true → SoFar slice first now o p
+    → (now ≡ (after_rounds slice first).members) × AreCounted first now (after_rounds slice first).marks o p
+run_ends slice first now o p done far =
+    let h : Hosted = record { members = now; marks = far.marks } in
+    let same : h ≡ after_rounds slice first = sym (end_where slice h done) ∙ far.run in (
+      ap (λ (x : Hosted). x.members) same,
+      subst (λ (marks : List Plain). AreCounted first now marks o p) (ap (λ (x : Hosted). x.marks) same) far.counts,
+    )
+
+-- ---- what comes of each guest
 
 whole_machines : (ms ks : List Member) → WholeTurns ms ks → machines_of ks ≡ map machine_at_end ms
 whole_machines [] [] h = refl
@@ -159,8 +150,21 @@ whole_machines (m ∷ ms) (k ∷ ks) h =
 whole_machines [] (k ∷ ks) h = absurd h
 whole_machines (m ∷ ms) [] h = absurd h
 
--- each machine is then that of its own run
-pub machines_end : (slice : ℕ) (ms : List Member) → 1 ≤ slice → machines_of (after_rounds slice ms) ≡ map machine_at_end ms
-machines_end slice ms h =
+whole_tallies : (ms ks : List Member) → WholeTurns ms ks → tallies_of ks ≡ map tally_at_end ms
+whole_tallies [] [] h = refl
+whole_tallies (m ∷ ms) (k ∷ ks) h =
+    ap (λ (x : Tally). x ∷ tallies_of ks) (ap (λ (x : Member). x.tally) h.0)
+    ∙ ap (λ (xs : List Tally). tally_at_end m ∷ xs) (whole_tallies ms ks h.1)
+whole_tallies [] (k ∷ ks) h = absurd h
+whole_tallies (m ∷ ms) [] h = absurd h
+
+-- its machine is that of its own run, and so are its counts
+pub machines_end : (slice : ℕ) (ms : List Member) → 1 ≤ slice → machines_of (after_rounds slice ms).members ≡ map machine_at_end ms
+machines_end slice ms some =
     let from : Hosted = record { members = ms; marks = [] } in
-    machines_plain (host_run slice from).members ∙ whole_machines ms (host_run slice from).members (rounds_end_all slice from h).whole
+    whole_machines ms (host_run slice from).members (rounds_end_all slice from some).whole
+
+pub tallies_end : (slice : ℕ) (ms : List Member) → 1 ≤ slice → tallies_of (after_rounds slice ms).members ≡ map tally_at_end ms
+tallies_end slice ms some =
+    let from : Hosted = record { members = ms; marks = [] } in
+    whole_tallies ms (host_run slice from).members (rounds_end_all slice from some).whole

@@ -1,3 +1,4 @@
+pub mod Counting
 pub mod Fit
 pub mod Lending
 pub mod Members

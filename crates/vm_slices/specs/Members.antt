@@ -1,12 +1,11 @@
--- The guests of a session, as contracts see them, and what becomes of them. Nothing is counted of their steps by their
--- classes.
-use Rattle.std.specs.Prelude.{ℕ, ◌-◌, List, [], map, slice_get, Option}
+-- The guests of a session, as contracts see them, and what becomes of them.
+use Rattle.std.specs.Prelude.{◌≡◌, ℕ, ◌-◌, ◌^◌, ◌<◌, true, List, [], map, slice_get, Option}
 use Rattle.mb_devices.specs.Devices.{DeviceState}
 use Rattle.mb_model.specs.Keeping.{rule_k}
 use Rattle.mb_model.specs.Seen.{Seen}
-use Rattle.mb_machine.specs.Machine.{Machine, run_of, seen_machine}
-use Rattle.vm_machine.specs.Turns.{no_steps, prepared}
-use Rattle.vm_machine.specs.Rounds.{Member, left, turn_in, host_run}
+use Rattle.mb_machine.specs.Machine.{Machine, going, run_of, seen_machine, takes_steps}
+use Rattle.vm_machine.specs.Turns.{Tally, no_steps, prepared}
+use Rattle.vm_machine.specs.Rounds.{Member, Hosted, left, closed_by, turn_in, host_run, whole_turn}
 use Rattle.vm_guest.specs.Session.{GuestAtStart}
 
 -- ---- one guest
@@ -22,25 +21,34 @@ member_at_start g = record {
 
 -- after its turn of a round
 abbrev pub after_turn : ℕ → Member → Member
-after_turn slice m = record m { guest = (turn_in slice m).guest }
+after_turn slice m = closed_by (turn_in slice m) m
 
 -- its machine once it has taken alone all the steps that it has left
 abbrev pub machine_at_end : Member → Machine
 machine_at_end m = run_of rule_k m.script (left m) m.guest.machine
 
+-- and what is counted of its steps then
+abbrev pub tally_at_end : Member → Tally
+tally_at_end m = (whole_turn m).tally
+
+-- One that can take turns: where it takes steps it is on, and is stopped exactly where STOP holds its processor.
+pub record IsReady (m : Member) : Type 0 where
+  pub going : takes_steps m.guest.machine.state ≡ true
+      → m.guest.machine.state ≡ going m.guest.machine.cpu m.guest.machine.world.devices
+  pub bound : m.bound < 2 ^ 32
+
 -- ---- all guests
 
--- but for what was counted
-abbrev pub uncounted : List Member → List Member
-uncounted members = map (λ (m : Member). record m { tally = no_steps }) members
+-- after the rounds of a session, with the marks of all their turns
+abbrev pub after_rounds : ℕ → List Member → Hosted
+after_rounds slice members = host_run slice (record { members = members; marks = [] })
 
--- after the rounds of a session
-abbrev pub after_rounds : ℕ → List Member → List Member
-after_rounds slice members = uncounted (host_run slice (record { members = members; marks = [] })).members
-
--- their machines, their devices, and what they show
+-- their machines, what is counted of their steps, their devices, and what they show
 abbrev pub machines_of : List Member → List Machine
 machines_of members = map (λ (m : Member). m.guest.machine) members
+
+abbrev pub tallies_of : List Member → List Tally
+tallies_of members = map (λ (m : Member). m.tally) members
 
 abbrev pub devices_of : List Member → List DeviceState
 devices_of members = map (λ (m : Member). m.guest.machine.world.devices) members

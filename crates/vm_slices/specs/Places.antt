@@ -1,8 +1,8 @@
 -- Guests of a session on a board.
 use Rattle.std.specs.Prelude.{ℕ, ◌≤◌, List, [], ◌∷◌, length, map, zero, suc}
-use Rattle.vm_machine.specs.Turns.{no_steps}
+use Rattle.mb_instr.specs.declared.registers.Plain.{Plain}
 use Rattle.vm_machine.specs.Seats.{guested_on, end_of, monitor_bytes, IsSeated}
-use Rattle.vm_machine.specs.Rounds.{Member}
+use Rattle.vm_machine.specs.Rounds.{Member, turn_in}
 use Rattle.vm_slices.specs.declared.host_guest.HostGuest.{HostGuest}
 use Rattle.vm_slices.specs.Members.{after_turn}
 
@@ -12,7 +12,7 @@ member_of ram g = record {
   script = g.guest.script;
   bound = g.bound;
   guest = guested_on g.guest ram;
-  tally = no_steps;
+  tally = g.guest.tally;
 }
 
 abbrev pub members_of : List HostGuest → List ℕ → List Member
@@ -43,6 +43,12 @@ pub record IsHost (slice : ℕ) (guests : List HostGuest) (ram : List ℕ) : Typ
   pub some : 1 ≤ slice
   pub few : length guests ≤ 16
   pub stand : StandFrom monitor_bytes guests ram
+
+-- the marks of the turn of a round of the member at a place
+abbrev pub marks_at : (slice place : ℕ) → List Member → List Plain
+marks_at slice place [] = []
+marks_at slice zero (m ∷ members) = (turn_in slice m).marks
+marks_at slice (suc place) (m ∷ members) = marks_at slice place members
 
 -- members of which the one at a place has taken its turn of a round
 abbrev pub with_turn : (slice place : ℕ) → List Member → List Member

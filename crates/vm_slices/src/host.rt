@@ -3,25 +3,28 @@
 ghost use Rattle.std.specs.Prelude.{◌≡◌, ◌+◌, ◌^◌, ◌<◌, ◌≤◌, length, map, true, Some, IfOk, IfErr, All};
 ghost use Rattle.mb_model.specs.Seen.{seen_of};
 ghost use Rattle.vm_machine.specs.Seats.{monitor_bytes};
-ghost use Rattle.vm_machine.specs.Rounds.{all_done};
+ghost use Rattle.vm_machine.specs.Rounds.{all_done, left_of_all, members_after, marks_after};
 ghost use Rattle.vm_guest.specs.Session.{IsGuest, IsSession};
 ghost use Rattle.vm_slices.specs.declared.open_fault.OpenFault.TheVariants as open_fault;
 ghost use Rattle.vm_slices.specs.Fit.{need_of, Fits};
-ghost use Rattle.vm_slices.specs.Members.{member_at_start, machine_at_end, uncounted, after_rounds, after_turn};
-ghost use Rattle.vm_slices.specs.Members.{machines_of, devices_of, shown_of, numbered};
+ghost use Rattle.vm_guest.specs.Counting.{tally_in};
+ghost use Rattle.vm_slices.specs.Counting.{AreCounted, HasRoom};
+ghost use Rattle.vm_slices.specs.Members.{member_at_start, machine_at_end, tally_at_end, after_rounds, IsReady};
+ghost use Rattle.vm_slices.specs.Members.{machines_of, tallies_of, devices_of, shown_of, numbered};
 ghost use Rattle.vm_slices.specs.Places.{members_in, members_of, StandFrom};
 
 use crate::fit::{AREA_BYTES, MONITOR_BYTES, bytes_needed};
 use crate::host_guest::HostGuest;
 use crate::open_fault::OpenFault;
 use crate::rounds::{are_done, take_round};
-use mb_board::Board;
+use mb_board::{Board, Native};
 use mb_devices::Devices;
 use mb_model::Outcome;
 use mb_outside::Memory;
+use mb_walk::Ram;
 use std::alloc::Global;
 use std::marker::Model;
-use vm_guest::{Session, SessionGuest};
+use vm_guest::{Counts, Session, SessionGuest};
 
 /// All guests of a session on their board. Guests are numbered from 1.
 #[derive(Drop)]
@@ -54,6 +57,7 @@ fn prepare_guests(
     ensures members { IfOk result (λ hosts. members_of hosts.items board.new.world.ram
         ≡ map member_at_start guests.items) }
     ensures stand { IfOk result (λ hosts. StandFrom monitor_bytes hosts.items board.new.world.ram) }
+    ensures ready { IfOk result (λ hosts. All IsReady (members_of hosts.items board.new.world.ram)) }
 {
     let mut prepared = Vec::with_capacity(alloc, guests.len())?;
     let mut base = MONITOR_BYTES;
@@ -73,6 +77,7 @@ impl Host {
         requires { IsSession session }
         ensures members { IfOk result (λ host. members_in host ≡ map member_at_start session.guests) }
         ensures slice { IfOk result (λ host. host.slice ≡ session.slice) }
+        ensures ready { IfOk result (λ host. All IsReady (members_in host)) }
         ensures fits { Fits session → IfErr result (λ fault. fault ≡ open_fault.Memory) }
         ensures oversize { session.board < need_of session.guests
             → result ≡ Err (open_fault.Oversize (need_of session.guests) session.board) }
@@ -102,38 +107,61 @@ impl Host {
 
     fn is_done(&self) -> bool
         ensures done { result ≡ all_done (members_in self.now) }
-        ensures uncounted { uncounted (members_in self.now) ≡ members_in self.now }
         ensures slice { 1 ≤ self.now.slice }
     {
         are_done(&self.board, &self.guests)
     }
 
-    fn take_round(&mut self)
-        ensures members { members_in self.new ≡ map (after_turn self.old.slice) (members_in self.old) }
+    fn take_round(&mut self, native: &mut Native)
+        requires ready { All IsReady (members_in self.old) }
+        requires room { HasRoom (left_of_all (members_in self.old)) native.old }
+        ensures members { members_in self.new ≡ members_after self.old.slice (members_in self.old) }
+        ensures counts { AreCounted (members_in self.old) (members_in self.new)
+            (marks_after self.old.slice (members_in self.old)) native.old native.new }
         ensures slice { self.new.slice ≡ self.old.slice }
+        ensures ready { All IsReady (members_in self.new) }
+        ensures room { HasRoom (left_of_all (members_in self.new)) native.new }
     {
-        take_round(&mut self.board, &mut self.guests, self.slice);
+        take_round(&mut self.board, &mut self.guests, self.slice, native);
     }
 
     /// Rounds, in each of which every guest in turn takes up to a slice of steps, until each has done its steps or is
-    /// halted or off.
-    pub fn run(&mut self)
-        ensures rounds { members_in self.new ≡ after_rounds self.old.slice (members_in self.old) }
+    /// halted or off. The board carries out their retired steps, and `native` counts them.
+    pub fn run(&mut self, native: &mut Native)
+        requires ready { All IsReady (members_in self.old) }
+        requires native { (native.old.retired < 2 ^ 61) × (native.old.exceptions < 2 ^ 61) }
+        ensures rounds { members_in self.new ≡ (after_rounds self.old.slice (members_in self.old)).members }
         ensures slice { self.new.slice ≡ self.old.slice }
         ensures machines { machines_of (members_in self.new) ≡ map machine_at_end (members_in self.old) }
+        ensures tallies { tallies_of (members_in self.new) ≡ map tally_at_end (members_in self.old) }
+        ensures counts { AreCounted (members_in self.old) (members_in self.new)
+            (after_rounds self.old.slice (members_in self.old)).marks native.old native.new }
+        ensures ready { All IsReady (members_in self.new) }
         ensures done { all_done (members_in self.new) ≡ true }
-        ensures again { all_done (members_in self.old) ≡ true → self.new ≡ self.old }
+        ensures again { all_done (members_in self.old) ≡ true → (self.new ≡ self.old) × (native.new ≡ native.old) }
     {
+        let _ = self.guest_count();
         while !self.is_done() {
-            self.take_round();
+            self.take_round(native);
         }
+    }
+
+    /// How many steps of each class a guest has taken.
+    pub fn counts(&self, guest: u8) -> Counts
+        requires { (1 ≤ guest) × (guest ≤ length (members_in self.now)) }
+        ensures { numbered guest (tallies_of (members_in self.now)) ≡ Some (tally_in result) }
+    {
+        let host_guest = &self.guests[guest as usize - 1];
+        host_guest.guest.counts()
     }
 
     /// What a guest shows.
     pub fn outcome(&self, guest: u8) -> Outcome<'_>
         requires { (1 ≤ guest) × (guest ≤ length (members_in self.now)) }
-        ensures { numbered guest (shown_of (members_in self.now)) ≡ Some (seen_of result) }
+        ensures shown { numbered guest (shown_of (members_in self.now)) ≡ Some (seen_of result) }
+        ensures ram { length (seen_of result).ram ≤ 2 ^ 32 }
     {
+        let _ = self.board.size();
         let host_guest = &self.guests[guest as usize - 1];
         host_guest.guest.outcome(&self.board)
     }

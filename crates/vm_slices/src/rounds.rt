@@ -1,36 +1,60 @@
 //! Rounds: in each, every guest takes its turn.
 
-ghost use Rattle.std.specs.Prelude.{◌≡◌, ◌≢◌, ℕ, ◌<◌, length, map, slice_get};
+ghost use Rattle.std.specs.Prelude.{◌≡◌, ◌≢◌, ℕ, ◌<◌, length, slice_get, All};
 ghost use Rattle.vm_machine.specs.Seats.{monitor_bytes};
-ghost use Rattle.vm_machine.specs.Rounds.{all_done};
-ghost use Rattle.vm_slices.specs.Members.{after_turn};
-ghost use Rattle.vm_slices.specs.Places.{members_of, with_turn, StandFrom};
+ghost use Rattle.vm_machine.specs.Rounds.{all_done, left_of_all, members_after, marks_after};
+ghost use Rattle.vm_slices.specs.Counting.{AreCounted, HasRoom};
+ghost use Rattle.vm_slices.specs.Members.{IsReady};
+ghost use Rattle.vm_slices.specs.Places.{members_of, with_turn, marks_at, StandFrom};
 
 use crate::host_guest::HostGuest;
-use mb_board::Board;
+use mb_board::{Board, Native};
 
 /// The turn of one guest. Every other guest stays as it is.
-fn take_turn(board: &mut Board, guests: &mut [HostGuest], place: usize, slice: u32)
+fn take_turn(
+    board: &mut Board,
+    guests: &mut [HostGuest],
+    place: usize,
+    slice: u32,
+    native: &mut Native,
+)
     requires place { place < length guests.old }
     requires stand { StandFrom monitor_bytes guests.old board.old.world.ram }
+    requires ready { All IsReady (members_of guests.old board.old.world.ram) }
+    requires room { HasRoom (left_of_all (members_of guests.old board.old.world.ram)) native.old }
     ensures turn { members_of guests.new board.new.world.ram
         ≡ with_turn slice place (members_of guests.old board.old.world.ram) }
     ensures others { (other : ℕ) → other ≢ place → slice_get (members_of guests.new board.new.world.ram) other
         ≡ slice_get (members_of guests.old board.old.world.ram) other }
+    ensures counts { AreCounted (members_of guests.old board.old.world.ram) (members_of guests.new board.new.world.ram)
+        (marks_at slice place (members_of guests.old board.old.world.ram)) native.old native.new }
     ensures stand { StandFrom monitor_bytes guests.new board.new.world.ram }
+    ensures ready { All IsReady (members_of guests.new board.new.world.ram) }
+    ensures room { HasRoom (left_of_all (members_of guests.new board.new.world.ram)) native.new }
 {
-    guests[place].take_turn(board, slice);
+    guests[place].take_turn(board, slice, native);
 }
 
 /// A round: every guest in turn.
-pub(crate) fn take_round(board: &mut Board, guests: &mut [HostGuest], slice: u32)
-    requires { StandFrom monitor_bytes guests.old board.old.world.ram }
+pub(crate) fn take_round(
+    board: &mut Board,
+    guests: &mut [HostGuest],
+    slice: u32,
+    native: &mut Native,
+)
+    requires stand { StandFrom monitor_bytes guests.old board.old.world.ram }
+    requires ready { All IsReady (members_of guests.old board.old.world.ram) }
+    requires room { HasRoom (left_of_all (members_of guests.old board.old.world.ram)) native.old }
     ensures members { members_of guests.new board.new.world.ram
-        ≡ map (after_turn slice) (members_of guests.old board.old.world.ram) }
+        ≡ members_after slice (members_of guests.old board.old.world.ram) }
+    ensures counts { AreCounted (members_of guests.old board.old.world.ram) (members_of guests.new board.new.world.ram)
+        (marks_after slice (members_of guests.old board.old.world.ram)) native.old native.new }
     ensures stand { StandFrom monitor_bytes guests.new board.new.world.ram }
+    ensures ready { All IsReady (members_of guests.new board.new.world.ram) }
+    ensures room { HasRoom (left_of_all (members_of guests.new board.new.world.ram)) native.new }
 {
     for place in 0..guests.len() {
-        take_turn(board, guests, place, slice);
+        take_turn(board, guests, place, slice, native);
     }
 }
 

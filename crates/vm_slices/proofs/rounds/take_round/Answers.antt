@@ -1,21 +1,41 @@
-use Rattle.std.proofs.Common.{◌≡◌, ◌∙◌, ℕ, suc, ◌+◌, length, ap, sym, arith, rules}
+use Rattle.std.proofs.Common.{◌≡◌, ◌∙◌, ℕ, suc, ◌+◌, List, ◌++◌, length, ap, sym, subst, arith, rules}
 use Rattle.std.proofs.lemmas.List.{length-map}
-use Rattle.vm_slices.specs.Places.{member_of, members_of, with_turn}
-use Rattle.vm_slices.proofs.Places.{first_turned, none_turned, one_more, all_turned}
+use Rattle.mb_instr.specs.declared.registers.Plain.{Plain}
+use Rattle.vm_machine.specs.Rounds.{Member}
+use Rattle.vm_slices.specs.Counting.{AreCounted}
+use Rattle.vm_slices.specs.Places.{member_of, members_of, marks_at, with_turn}
+use Rattle.vm_slices.proofs.Places.{first_turned, first_marks, none_turned, one_more, all_turned, no_marks, more_marks, all_marks, counted_on, nothing_counted}
 use Rattle.vm_slices.proofs.rounds.take_round.Goals as goal
 
 pub loop-place-init : goal.loop-place-init
-loop-place-init c = record {
-  turned = sym (none_turned c.args.slice (members_of c.args.guests.now c.args.board.now.world.ram));
-  stand = search rules;
-}
+loop-place-init c =
+    let all = members_of c.args.guests.now c.args.board.now.world.ram in record {
+      turned = sym (none_turned c.args.slice all);
+      counts = subst (λ (marks : List Plain). AreCounted all all marks c.args.native.now c.args.native.now) (sym (no_marks c.args.slice all))
+          (nothing_counted all c.args.native.now);
+      ready = search rules;
+      room = search rules;
+      stand = search rules;
+    }
 
 pub loop-place-preserved : goal.loop-place-preserved
 loop-place-preserved c =
     let all = members_of c.args.guests.now c.args.board.now.world.ram in
-    let place = c.loop-place.place in record {
-      turned = c.take_turn.ensures.turn ∙ ap (with_turn c.args.slice place) c.loop-place.invariant.turned ∙ one_more c.args.slice place all
-          ∙ ap (λ (n : ℕ). first_turned c.args.slice n all) (let e : suc place ≡ place + 1 = omega arith in e);
+    let now = members_of c.loop-place.guests c.loop-place.board.world.ram in
+    let next = members_of c.take_turn.new.guests c.take_turn.new.board.world.ram in
+    let slice = c.args.slice in
+    let place = c.loop-place.place in
+    let more : suc place ≡ place + 1 = omega arith in
+    let marks : first_marks slice place all ++ marks_at slice place now ≡ first_marks slice (place + 1) all =
+    ap (λ (ms : List Member). first_marks slice place all ++ marks_at slice place ms) c.loop-place.invariant.turned
+    ∙ more_marks slice place all ∙ ap (λ (n : ℕ). first_marks slice n all) more in record {
+      turned = c.take_turn.ensures.turn ∙ ap (with_turn slice place) c.loop-place.invariant.turned ∙ one_more slice place all
+          ∙ ap (λ (n : ℕ). first_turned slice n all) more;
+      counts = subst (λ (ks : List Plain). AreCounted all next ks c.args.native.now c.take_turn.new.native) marks
+          (counted_on all now next (first_marks slice place all) (marks_at slice place now) c.args.native.now c.loop-place.native c.take_turn.new.native
+          c.loop-place.invariant.counts c.take_turn.ensures.counts);
+      ready = search rules;
+      room = search rules;
       stand = search rules;
     }
 
@@ -26,3 +46,12 @@ returns-clause-members c =
     let count : length all ≡ length gs = length-map gs (member_of c.args.board.now.world.ram) in
     let end : c.loop-place.place ≡ length all = omega arith in
     c.loop-place.invariant.turned ∙ ap (λ (n : ℕ). first_turned c.args.slice n all) end ∙ all_turned c.args.slice all
+
+pub returns-clause-counts : goal.returns-clause-counts
+returns-clause-counts c =
+    let gs = c.args.guests.now in
+    let all = members_of gs c.args.board.now.world.ram in
+    let count : length all ≡ length gs = length-map gs (member_of c.args.board.now.world.ram) in
+    let end : c.loop-place.place ≡ length all = omega arith in
+    subst (λ (marks : List Plain). AreCounted all (members_of c.loop-place.guests c.loop-place.board.world.ram) marks c.args.native.now c.loop-place.native)
+    (ap (λ (n : ℕ). first_marks c.args.slice n all) end ∙ all_marks c.args.slice all) c.loop-place.invariant.counts

@@ -1,38 +1,80 @@
-use Rattle.std.proofs.Common.{◌∙◌, List, ap, subst}
-use Rattle.std.specs.Prelude.{slice_get}
+use Rattle.std.proofs.Common.{◌≡◌, ◌∙◌, List, get_or, set, ap, sym, subst, arith}
+use Rattle.std.specs.Prelude.{slice_get, All}
 use Rattle.vm_machine.specs.Seats.{monitor_bytes, IsSeated}
-use Rattle.vm_machine.specs.Rounds.{Member}
+use Rattle.vm_machine.specs.Rounds.{Member, left, left_of_all}
 use Rattle.vm_slices.specs.declared.host_guest.HostGuest.{HostGuest}
-use Rattle.vm_slices.specs.Places.{members_of}
-use Rattle.vm_slices.proofs.Places.{seated_at, turned_at, other_stays}
+use Rattle.vm_slices.specs.Counting.{AreCounted, HasRoom}
+use Rattle.vm_slices.specs.Members.{IsReady}
+use Rattle.vm_slices.specs.Places.{member_of, members_of, marks_at, with_turn, StandFrom}
+use Rattle.vm_slices.proofs.Places.{Turn, own_by, seated_at, member_ready, member_room, turn_of_one, turned_at, other_stays}
 use Rattle.vm_slices.proofs.rounds.take_turn.Goals as goal
 
-pub take_turn-requires : goal.take_turn-requires
-take_turn-requires c =
+pub take_turn-requires-clause-seated : goal.take_turn-requires-clause-seated
+take_turn-requires-clause-seated c =
     let r = c.index-guests-place.result in
     let ram = c.args.board.now.world.ram in
     subst (λ (g : HostGuest). IsSeated g.guest ram) c.index-guests-place.is
     (seated_at monitor_bytes c.args.guests.now ram c.args.place r c.requires.stand c.requires.place c.index-guests-place.is)
 
-pub returns-clause-turn : goal.returns-clause-turn
-returns-clause-turn c =
+pub take_turn-requires-clause-ready : goal.take_turn-requires-clause-ready
+take_turn-requires-clause-ready c =
+    let r = c.index-guests-place.result in
+    let ram = c.args.board.now.world.ram in
+    subst (λ (g : HostGuest). IsReady (member_of ram g)) c.index-guests-place.is
+    (member_ready c.args.guests.now ram c.args.place r c.requires.place c.index-guests-place.is c.requires.ready)
+
+pub take_turn-requires-clause-room : goal.take_turn-requires-clause-room
+take_turn-requires-clause-room c =
+    let r = c.index-guests-place.result in
+    let ram = c.args.board.now.world.ram in
+    subst (λ (g : HostGuest). HasRoom (left (member_of ram g)) c.args.native.now) c.index-guests-place.is
+    (member_room c.args.guests.now ram c.args.place r c.args.native.now c.requires.place c.index-guests-place.is c.requires.room)
+
+-- the guests after the turn of that one
+turned : (c : goal.After-take_turn) → Turn c.args.slice c.args.place (members_of c.args.guests.now c.args.board.now.world.ram) c.args.native.now c.take_turn.new.native
+turned c =
+    let gs = c.args.guests.now in
+    let x = c.args.board.now.world.ram in
+    let g = get_or gs c.args.place c.index-guests-place.result in
     let e = c.take_turn.ensures in
-    (turned_at c.args.slice c.args.guests.now c.args.place c.index-guests-place.result c.take_turn.new.self c.args.board.now.world.ram
+    turn_of_one c.args.slice c.args.place gs g x c.args.native.now c.take_turn.new.native c.requires.place
+    (ap (λ (a : HostGuest). get_or gs c.args.place a) c.index-guests-place.is) c.requires.ready
+    (own_by c.args.slice (member_of x g) (member_of c.take_turn.new.board.world.ram c.take_turn.new.self) c.args.native.now c.take_turn.new.native
+    e.turn e.counts e.ready e.room)
+
+stands : (c : goal.After-take_turn) → StandFrom monitor_bytes (set c.args.guests.now c.args.place c.take_turn.new.self) c.take_turn.new.board.world.ram
+    × (members_of (set c.args.guests.now c.args.place c.take_turn.new.self) c.take_turn.new.board.world.ram
+    ≡ with_turn c.args.slice c.args.place (members_of c.args.guests.now c.args.board.now.world.ram))
+stands c =
+    let e = c.take_turn.ensures in
+    turned_at c.args.slice c.args.guests.now c.args.place c.index-guests-place.result c.take_turn.new.self c.args.board.now.world.ram
     c.take_turn.new.board.world.ram c.requires.stand c.requires.place c.index-guests-place.is
-    (record { turn = e.turn; same = e.same; seated = e.seated; within = e.within })).1
+    (record { turn = e.turn; same = e.same; seated = e.seated; within = e.within })
+
+pub returns-clause-turn : goal.returns-clause-turn
+returns-clause-turn c = (stands c).1
 
 pub returns-clause-others : goal.returns-clause-others
 returns-clause-others c other ne =
-    let e = c.take_turn.ensures in
-    ap (λ (ms : List Member). slice_get ms other)
-    (turned_at c.args.slice c.args.guests.now c.args.place c.index-guests-place.result c.take_turn.new.self c.args.board.now.world.ram
-    c.take_turn.new.board.world.ram c.requires.stand c.requires.place c.index-guests-place.is
-    (record { turn = e.turn; same = e.same; seated = e.seated; within = e.within })).1
+    ap (λ (ms : List Member). slice_get ms other) (stands c).1
     ∙ other_stays c.args.slice c.args.place other (members_of c.args.guests.now c.args.board.now.world.ram) ne
 
 pub returns-clause-stand : goal.returns-clause-stand
-returns-clause-stand c =
-    let e = c.take_turn.ensures in
-    (turned_at c.args.slice c.args.guests.now c.args.place c.index-guests-place.result c.take_turn.new.self c.args.board.now.world.ram
-    c.take_turn.new.board.world.ram c.requires.stand c.requires.place c.index-guests-place.is
-    (record { turn = e.turn; same = e.same; seated = e.seated; within = e.within })).0
+returns-clause-stand c = (stands c).0
+
+pub returns-clause-counts : goal.returns-clause-counts
+returns-clause-counts c =
+    let ms = members_of c.args.guests.now c.args.board.now.world.ram in
+    subst (λ (ks : List Member). AreCounted ms ks (marks_at c.args.slice c.args.place ms) c.args.native.now c.take_turn.new.native)
+    (sym (stands c).1) (turned c).counts
+
+pub returns-clause-ready : goal.returns-clause-ready
+returns-clause-ready c = subst (λ (ks : List Member). All IsReady ks) (sym (stands c).1) (turned c).ready
+
+pub returns-clause-room : goal.returns-clause-room
+returns-clause-room c =
+    let retired = (turned c).retired in
+    let exceptions = (turned c).exceptions in
+    let a = c.requires.room.0 in
+    let b = c.requires.room.1 in
+    subst (λ (ks : List Member). HasRoom (left_of_all ks) c.take_turn.new.native) (sym (stands c).1) (omega arith, omega arith)

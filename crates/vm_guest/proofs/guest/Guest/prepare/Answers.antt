@@ -6,8 +6,9 @@ use Rattle.mb_model.specs.Reset.{at_reset}
 use Rattle.mb_machine.specs.Machine.{Contents, with_contents}
 use Rattle.mb_board.specs.State.{BoardState}
 use Rattle.vm_guest.specs.Memory.{contents_from}
+use Rattle.vm_guest.specs.Counting.{tally_in}
 use Rattle.vm_guest.proofs.Loads.{zeros, lie_inside}
-use Rattle.vm_guest.proofs.Prepared.{Laid, laid, cleared_count, starts, seated}
+use Rattle.vm_guest.proofs.Prepared.{Laid, laid, cleared_count, goes, starts, seated}
 use Rattle.vm_guest.proofs.guest.Guest.prepare.Goals as goal
 
 pub load-requires-clause-lie : goal.load-requires-clause-lie
@@ -39,10 +40,9 @@ returns-clause-start c =
     let after = c.clear-2.new.ram.world.ram in
     let big = c.requires.ram.0 in
     starts c.args.base c.args.ram (contents_of c.args.image) after c.at_reset.result c.in_ok-devices.devices c.in_ok-tlb.tlb c.clear-2.new.self c.args.script
-    (omega (arith, big)) (is_laid c).ram_is
-    (c.at_reset.ensures ∙ ap (λ (n : ℕ). at_reset n c.long-2.result) c.long.ensures
-    ∙ ap (λ (n : ℕ). at_reset (number_at after c.args.base 4) n) c.long-2.ensures)
-    c.in_ok-devices.ensures c.in_ok-tlb.ensures c.clear-2.ensures.shadow
+    (tally_in c.none.result) (omega (arith, big)) (is_laid c).ram_is
+    (c.at_reset.ensures ∙ ap (λ (n : ℕ). at_reset n c.long-2.result) c.long.ensures ∙ ap (λ (n : ℕ). at_reset (number_at after c.args.base 4) n) c.long-2.ensures)
+    c.in_ok-devices.ensures c.in_ok-tlb.ensures c.clear-2.ensures.shadow c.none.ensures
 
 pub returns-clause-seated : goal.returns-clause-seated
 returns-clause-seated c =
@@ -50,8 +50,12 @@ returns-clause-seated c =
     let inside = c.requires.inside in
     let count = (is_laid c).within.count in
     seated c.args.base c.args.ram after c.at_reset.result c.in_ok-devices.devices c.in_ok-tlb.tlb c.clear-2.new.self c.args.script
-    c.requires.base.0 c.requires.base.1 c.requires.ram.1 (omega (arith, inside, count)) (c.clear-2.ensures.area ∙ c.in_ok-shadow.ensures.0)
+    (tally_in c.none.result) c.requires.base.0 c.requires.base.1 c.requires.ram.1 (omega (arith, inside, count)) (c.clear-2.ensures.area ∙ c.in_ok-shadow.ensures.0)
     c.clear-2.ensures.tables c.clear-2.ensures.shadow
+
+pub returns-clause-going : goal.returns-clause-going
+returns-clause-going c = λ takes.
+    goes c.at_reset.result c.in_ok-devices.devices c.long.result c.long-2.result c.args.ram c.at_reset.ensures c.in_ok-devices.ensures
 
 pub returns-clause-within : goal.returns-clause-within
 returns-clause-within c = (is_laid c).within

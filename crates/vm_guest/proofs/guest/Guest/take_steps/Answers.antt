@@ -1,36 +1,61 @@
-use Rattle.std.proofs.Common.{◌≡◌, ◌∙◌, ◌+◌, ◌-◌, [], true, false, ap, sym, arith, rules}
-use Rattle.mb_machine.specs.Machine.{Entries, takes_steps}
-use Rattle.vm_machine.specs.Turns.{turn_of}
-use Rattle.vm_machine.specs.Seats.{Seat, turned_on}
-use Rattle.vm_guest.proofs.Taken.{turn_step, turn_still, turn_zero}
+use Rattle.std.proofs.Common.{◌≡◌, ◌∙◌, ◌-◌, ℕ, true, false, refl, ap, sym, subst, inl, inr, arith}
+use Rattle.mb_machine.specs.Machine.{takes_steps}
+use Rattle.vm_machine.specs.Seats.{Seat, Takes}
+use Rattle.vm_machine.proofs.Seated.{nothing_is_taken}
+use Rattle.vm_guest.specs.Turns.{scene}
+use Rattle.vm_guest.proofs.Turning.{more_taken, taken_all}
 use Rattle.vm_guest.proofs.guest.Guest.take_steps.Goals as goal
 
-pub returns-then-not-takes_steps-clause-turned : goal.returns-then-not-takes_steps-clause-turned
-returns-then-not-takes_steps-clause-turned c =
-    sym (turn_still c.loop.self.script (c.args.limit - c.loop.counter) (turned_on c.loop.self c.loop.board.world.ram [])
-    (ap (λ (g : Seat). takes_steps g.state) (sym c.self.view_is) ∙ sym c.takes_steps.ensures ∙ c.if-not-takes_steps.true))
-    ∙ c.loop.invariant.turned
-
-pub loop-preserved : goal.loop-preserved
-loop-preserved c =
-    let going : takes_steps c.loop.self.state ≡ true =
-    ap (λ (g : Seat). takes_steps g.state) (sym c.self.view_is) ∙ sym c.takes_steps.ensures ∙ c.if-not-takes_steps.false in
-    let left = c.args.limit - (c.loop.counter + 1) in
+pub loop-left-init : goal.loop-left-init
+loop-left-init c =
+    let s = scene c.args.self.now c.args.board.now.world.ram c.args.native.now in
+    let none : 0 ≡ c.args.limit - c.args.limit = omega arith in
     record {
-      turned = ap (λ (script : Entries). (turn_of script left (turned_on c.step.new.self c.step.new.board.world.ram [])).guest) c.step.ensures.same.script
-          ∙ turn_step c.loop.self.script (c.args.limit - c.loop.counter) left (turned_on c.loop.self c.loop.board.world.ram [])
-          (turned_on c.step.new.self c.step.new.board.world.ram []) (omega arith) going c.step.ensures.stepped
-          ∙ c.loop.invariant.turned;
-      steps = search rules;
-      same = search rules;
-      seated = search rules;
-      within = search rules;
-      stays = λ still. absurd (let same = ap (λ (g : Seat). takes_steps g.state) (c.loop.invariant.stays still).0 in
-          let e : false ≡ true = sym still ∙ sym same ∙ going in grind arith);
-      others = search rules;
+      few = omega arith;
+      takes = subst (λ (k : ℕ). Takes k s s) none (nothing_is_taken s c.requires.seated);
+      steps = omega arith;
+      going = c.requires.going;
+      retired = omega arith;
+      exceptions = omega arith;
+      stays = λ still. (refl, refl, refl);
     }
 
-pub returns-clause-turned : goal.returns-clause-turned
-returns-clause-turned c =
-    sym (turn_zero c.loop.self.script (c.args.limit - c.loop.counter) (turned_on c.loop.self c.loop.board.world.ram []) (omega arith))
-    ∙ c.loop.invariant.turned
+pub returns-then-not-takes_steps-clause-takes : goal.returns-then-not-takes_steps-clause-takes
+returns-then-not-takes_steps-clause-takes c =
+    let still : takes_steps c.loop-left.self.state ≡ false =
+    ap (λ (g : Seat). takes_steps g.state) (sym c.self.view_is) ∙ sym c.takes_steps.ensures ∙ c.if-not-takes_steps.true in
+    taken_all c.args.limit c.loop-left.left (scene c.args.self.now c.args.board.now.world.ram c.args.native.now)
+    (scene c.loop-left.self c.loop-left.board.world.ram c.loop-left.native) c.loop-left.invariant.few (inr still) c.loop-left.invariant.takes
+
+pub loop-left-preserved : goal.loop-left-preserved
+loop-left-preserved c =
+    let going : takes_steps c.loop-left.self.state ≡ true =
+    ap (λ (g : Seat). takes_steps g.state) (sym c.self.view_is) ∙ sym c.takes_steps.ensures ∙ c.if-not-takes_steps.false in
+    let now = c.loop-left.invariant in
+    let few = now.few in
+    let steps = now.steps in
+    let retired = now.retired in
+    let exceptions = now.exceptions in
+    let after = c.advance-left.ensures in
+    let more = after.some.1 in
+    let some = after.steps in
+    let counted = after.native.0 in
+    let left = after.native.1 in
+    record {
+      few = omega arith;
+      takes = more_taken c.args.limit c.loop-left.left c.advance-left.result (scene c.args.self.now c.args.board.now.world.ram c.args.native.now)
+          (scene c.loop-left.self c.loop-left.board.world.ram c.loop-left.native)
+          (scene c.advance-left.new.self c.advance-left.new.board.world.ram c.advance-left.new.native) few more now.takes after.takes;
+      steps = omega arith;
+      going = after.going;
+      retired = omega arith;
+      exceptions = omega arith;
+      stays = λ still. absurd (let same = ap (λ (g : Seat). takes_steps g.state) (now.stays still).0 in
+          let e : false ≡ true = sym still ∙ sym same ∙ going in grind arith);
+    }
+
+pub returns-clause-takes : goal.returns-clause-takes
+returns-clause-takes c =
+    let none : c.loop-left.left ≡ 0 = omega arith in
+    taken_all c.args.limit c.loop-left.left (scene c.args.self.now c.args.board.now.world.ram c.args.native.now)
+    (scene c.loop-left.self c.loop-left.board.world.ram c.loop-left.native) c.loop-left.invariant.few (inl none) c.loop-left.invariant.takes

@@ -1,33 +1,36 @@
-use Rattle.std.proofs.Common.{◌∙◌, List, [], ℕ, ap, subst}
+use Rattle.std.proofs.Common.{◌∙◌, List, ℕ, ap, sym, subst, arith}
 use Rattle.mb_machine.specs.Machine.{reset_with}
 use Rattle.mb_board.specs.State.{BoardState}
-use Rattle.vm_machine.specs.Turns.{Guested, turn_of}
-use Rattle.vm_machine.specs.Seats.{end_of, turned_on}
-use Rattle.vm_machine.proofs.ByRule.{turns_by_rule}
-use Rattle.vm_guest.specs.Memory.{OnlyBetween}
-use Rattle.vm_guest.proofs.Seated.{only_within}
+use Rattle.vm_machine.specs.Seats.{Takes}
+use Rattle.vm_guest.specs.Turns.{scene}
 use Rattle.vm_guest.proofs.Free.{goes_on_freely}
+use Rattle.vm_guest.proofs.Turning.{takes_machine}
 use Rattle.vm_guest.proofs.guest.Guest.turn.Goals as goal
+
+pub reset-requires : goal.reset-requires
+reset-requires c =
+    let seated = c.take_steps.ensures.takes.seated in
+    let behind = seated.behind in
+    let inside = seated.inside in
+    omega (arith, behind, inside)
+
+pub returns-clause-takes : goal.returns-clause-takes
+returns-clause-takes c =
+    subst (λ (ram : List ℕ). Takes c.args.limit (scene c.args.self.now c.args.board.now.world.ram c.args.native.now)
+    (scene c.take_steps.new.self ram c.take_steps.new.native))
+    (sym c.reset.ensures.ram) c.take_steps.ensures.takes
 
 pub returns-clause-machine : goal.returns-clause-machine
 returns-clause-machine c =
-    let g = c.args.self.now in
-    let from = turned_on g c.args.board.now.world.ram [] in
-    ap (λ (t : Guested). t.machine) c.take_steps.ensures.turned
-    ∙ ap (λ (ram : List ℕ). (turn_of g.script c.args.limit (turned_on g ram [])).guest.machine) c.reset.ensures.ram
-    ∙ turns_by_rule g.script c.args.limit from
+    takes_machine c.args.limit (scene c.args.self.now c.args.board.now.world.ram c.args.native.now)
+    (scene c.take_steps.new.self c.reset.new.self.world.ram c.take_steps.new.native) (returns-clause-takes c)
 
 pub returns-clause-free : goal.returns-clause-free
 returns-clause-free c = goes_on_freely _ _ _ _ (returns-clause-machine c)
 
-pub returns-clause-within : goal.returns-clause-within
-returns-clause-within c =
-    let g = c.args.self.now in
-    let after = c.take_steps.new.board.world.ram in
-    only_within g c.args.board.now.world.ram after c.requires.seated.behind
-    (subst (λ (ram : List ℕ). OnlyBetween g.base (end_of g) ram after) c.reset.ensures.ram c.take_steps.ensures.within)
+pub returns-clause-stays : goal.returns-clause-stays
+returns-clause-stays c = λ still. let same = c.take_steps.ensures.stays still in (same.0, c.reset.ensures.ram ∙ same.1, same.2)
 
 pub returns-clause-board : goal.returns-clause-board
 unfolding reset_with
-returns-clause-board c =
-    ap (λ (b : BoardState). b.state) c.take_steps.ensures.others ∙ ap (λ (b : BoardState). b.state) c.reset.ensures.after
+returns-clause-board c = ap (λ (b : BoardState). b.state) c.reset.ensures.after

@@ -21,8 +21,8 @@ outcome-requires c =
     let seated = seated_at monitor_bytes gs ram (c.args.guest - 1) c.index-host_guest.result.now c.self.invariant.stand less c.index-host_guest.ensures in
     let inside = seated.inside in omega arith
 
-pub returns : goal.returns
-returns c =
+pub returns-clause-shown : goal.returns-clause-shown
+returns-clause-shown c =
     let gs = c.self.inside.guests.items in
     let ram = c.self.inside.board.world.ram in
     let count : length (members_in c.args.self.now) ≡ length gs =

@@ -1,8 +1,10 @@
-use Rattle.std.proofs.Common.{◌≡◌, ◌∙◌, ℕ, ◌<◌, ◌≤◌, List, true, false, ap, sym, subst, arith}
-use Rattle.vm_machine.specs.Rounds.{Member, all_done, left_of_all}
+use Rattle.std.proofs.Common.{◌≡◌, ◌∙◌, ℕ, ◌<◌, ◌≤◌, List, true, false, refl, ap, sym, subst, arith, rules}
+use Rattle.vm_meaning.specs.Native.{NativeState}
+use Rattle.vm_machine.specs.Rounds.{Member, all_done, left_of_all, marks_after, members_after}
+use Rattle.vm_slices.specs.Counting.{AreCounted}
 use Rattle.vm_slices.specs.Places.{HostState, members_in}
-use Rattle.vm_slices.specs.Members.{after_rounds, machines_of}
-use Rattle.vm_slices.proofs.RoundLaws.{round_left, rounds_go_on, rounds_end, machines_end}
+use Rattle.vm_slices.specs.Members.{after_rounds, machines_of, tallies_of}
+use Rattle.vm_slices.proofs.RoundLaws.{all_left_few, machines_end, none_so_far, one_round, round_left, run_ends, tallies_end}
 use Rattle.vm_slices.proofs.host.Host.run.Goals as goal
 
 pub loop-self-smaller : goal.loop-self-smaller
@@ -12,35 +14,67 @@ loop-self-smaller c =
     subst (λ (ms : List Member). left_of_all ms < left_of_all (members_in s)) (sym c.take_round.ensures.members)
     (round_left s.slice (members_in s) c.is_done.ensures.slice more)
 
+pub loop-self-init : goal.loop-self-init
+loop-self-init c =
+    let ms = members_in c.args.self.now in
+    let left = all_left_few ms c.requires.ready in
+    let count = c.guest_count.ensures.count in
+    let few = c.guest_count.ensures.few in
+    let retired = c.requires.native.0 in
+    let exceptions = c.requires.native.1 in
+    record {
+      far = none_so_far c.args.self.now.slice ms c.args.native.now;
+      ready = c.requires.ready;
+      room = (omega (arith, left, count, few, retired), omega (arith, left, count, few, exceptions));
+      slice = refl;
+      again = λ done. (refl, refl);
+    }
+
 pub loop-self-preserved : goal.loop-self-preserved
 loop-self-preserved c =
     let s = c.loop-self.self in
+    let first = c.args.self.now in
     let more : all_done (members_in s) ≡ false = sym c.is_done.ensures.done ∙ c.loop-self-test.true in
+    let slice = c.loop-self.invariant.slice in
+    let some = c.is_done.ensures.slice in
+    let after = c.take_round.ensures in
     record {
-      rounds = ap (λ (n : ℕ). after_rounds n (members_in c.take_round.new.self)) c.take_round.ensures.slice
-          ∙ ap (after_rounds s.slice) c.take_round.ensures.members
-          ∙ rounds_go_on s.slice (members_in s) c.is_done.ensures.slice more
-          ∙ c.loop-self.invariant.rounds;
-      slice = c.take_round.ensures.slice ∙ c.loop-self.invariant.slice;
+      far = one_round first.slice (members_in first) (members_in s) (members_in c.take_round.new.self) c.args.native.now c.loop-self.native
+          c.take_round.new.native (omega (arith, slice, some)) more
+          (after.members ∙ ap (λ (n : ℕ). members_after n (members_in s)) slice) c.loop-self.invariant.far
+          (subst (λ (n : ℕ). AreCounted (members_in s) (members_in c.take_round.new.self) (marks_after n (members_in s)) c.loop-self.native
+          c.take_round.new.native) slice after.counts);
+      ready = after.ready;
+      room = after.room;
+      slice = after.slice ∙ slice;
       again = λ done. absurd (
-          let same = ap (λ (h : HostState). all_done (members_in h)) (c.loop-self.invariant.again done) in
+          let same = ap (λ (h : HostState). all_done (members_in h)) (c.loop-self.invariant.again done).0 in
           let e : false ≡ true = sym more ∙ same ∙ done in cc e
           );
     }
 
 pub returns-clause-rounds : goal.returns-clause-rounds
 returns-clause-rounds c =
-    let s = c.loop-self.self in
-    let done : all_done (members_in s) ≡ true = sym c.is_done.ensures.done ∙ c.loop-self-test.false in
-    sym c.is_done.ensures.uncounted ∙ sym (rounds_end s.slice (members_in s) done) ∙ c.loop-self.invariant.rounds
+    let done : all_done (members_in c.loop-self.self) ≡ true = sym c.is_done.ensures.done ∙ c.loop-self-test.false in
+    (run_ends c.args.self.now.slice (members_in c.args.self.now) (members_in c.loop-self.self) c.args.native.now c.loop-self.native done
+    c.loop-self.invariant.far).0
+
+pub returns-clause-counts : goal.returns-clause-counts
+returns-clause-counts c =
+    let done : all_done (members_in c.loop-self.self) ≡ true = sym c.is_done.ensures.done ∙ c.loop-self-test.false in
+    (run_ends c.args.self.now.slice (members_in c.args.self.now) (members_in c.loop-self.self) c.args.native.now c.loop-self.native done
+    c.loop-self.invariant.far).1
 
 pub returns-clause-machines : goal.returns-clause-machines
 returns-clause-machines c =
-    let s = c.loop-self.self in
     let first = c.args.self.now in
-    let done : all_done (members_in s) ≡ true = sym c.is_done.ensures.done ∙ c.loop-self-test.false in
     let slice = c.is_done.ensures.slice in
     let same = c.loop-self.invariant.slice in
-    let some : 1 ≤ first.slice = omega arith in
-    ap machines_of (sym c.is_done.ensures.uncounted ∙ sym (rounds_end s.slice (members_in s) done) ∙ c.loop-self.invariant.rounds)
-    ∙ machines_end first.slice (members_in first) some
+    ap machines_of (returns-clause-rounds c) ∙ machines_end first.slice (members_in first) (omega (arith, slice, same))
+
+pub returns-clause-tallies : goal.returns-clause-tallies
+returns-clause-tallies c =
+    let first = c.args.self.now in
+    let slice = c.is_done.ensures.slice in
+    let same = c.loop-self.invariant.slice in
+    ap tallies_of (returns-clause-rounds c) ∙ tallies_end first.slice (members_in first) (omega (arith, slice, same))

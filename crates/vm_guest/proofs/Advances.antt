@@ -1,0 +1,244 @@
+-- What the monitor knows of a guest whose step has begun, where the board is to carry it out.
+use Rattle.std.proofs.Common.{◌≡◌, ◌∙◌, ℕ, suc, ◌+◌, ◌-◌, ◌^◌, ◌≤◌, Bool, false, true, cond, nat_lt, List, [], ◌∷◌, ◌++◌, ◌==◌, length, Some, None, refl, ap, sym, subst, arith}
+use Rattle.mb_port.specs.Routine.{run}
+use Rattle.mb_instr.specs.declared.registers.Plain.{Plain}
+use Rattle.mb_instr.specs.Registers.{plain_of}
+use Rattle.mb_model.specs.declared.outcome.RunState.TheVariants.{Running, Stopped, Off}
+use Rattle.mb_walk.specs.Memory.{AreBytes}
+use Rattle.mb_devices.specs.Devices.{DeviceState, level_of, received, ticked, passed, queue_room, IsNotDue}
+use Rattle.mb_machine.specs.Machine.{Entries, arrived, going, takes_steps}
+use Rattle.mb_board.specs.Fits.{FitsAlong}
+use Rattle.mb_board.specs.State.{BoardState, ran_to}
+use Rattle.vm_meaning.specs.declared.RunEnd.{RunEnd}
+use Rattle.vm_meaning.specs.declared.RunEnd.TheVariants.{Counted, Exit, Gone}
+use Rattle.vm_meaning.specs.Native.{NativeState, Ran}
+use Rattle.vm_machine.specs.declared.class.Class.{Class}
+use Rattle.vm_machine.specs.declared.class.Class.TheVariants as class
+use Rattle.vm_machine.specs.Bus.{guest_bus}
+use Rattle.vm_machine.specs.Exits.{class_of_vector}
+use Rattle.vm_machine.specs.Turns.{Tally, counted, exits, world_of}
+use Rattle.vm_machine.specs.Seats.{Seat, Scene, end_of, guested_on, IsSame, IsSeated, Takes}
+use Rattle.vm_step.specs.Taking.{IsLeft}
+use Rattle.vm_step.proofs.Retire.{off_ticked}
+use Rattle.vm_guest.specs.Memory.{OnlyBetween}
+use Rattle.vm_guest.specs.Counting.{assisted, with_retired, NoneDue}
+use Rattle.vm_guest.specs.declared.rest.Rest.TheVariants.{Whole}
+use Rattle.vm_guest.specs.Rests.{rest_in}
+use Rattle.vm_guest.specs.Native.{gone_on, guest_run, guest_start, left_by, HasFrame}
+use Rattle.vm_guest.specs.Turns.{begun_seat, ended_at, scene, IsGoing}
+use Rattle.vm_guest.proofs.Assisted.{is_on, is_running, none_assisted}
+use Rattle.vm_guest.proofs.Runs.{MayRun, counted_takes, is_left, never_gone}
+use Rattle.vm_guest.proofs.Seated.{begun_seated}
+use Rattle.vm_guest.proofs.Stretches.{nothing_arrives}
+use Rattle.vm_guest.proofs.Takings.{assisted_takes, left_seated, left_takes}
+
+-- of the guest in the middle of its step
+pub record Found (b : Seat) (ram : List ℕ) (size : ℕ) (native : NativeState) (n : ℕ) : Type 0 where
+  pub tried : assisted (level_of b.devices) b.cpu ≡ None
+  pub none : NoneDue b.script b.steps n
+  pub due : IsNotDue n b.devices
+  pub seven : length b.cpu.regs.a ≡ 7
+  pub bytes : AreBytes ram
+  pub small : length ram ≤ 2 ^ 32
+  pub fit : FitsAlong (suc n) (guest_start b ram size native)
+
+pub may_run : (g : Seat) (ram : List ℕ) (size : ℕ) (native : NativeState) (n : ℕ) → IsSeated g ram → IsGoing g → takes_steps g.state ≡ true
+    → Found (begun_seat g) ram size native n → MayRun g ram size native n
+may_run g ram size native n seated going takes h = record {
+  seated = seated;
+  bytes = h.bytes;
+  small = h.small;
+  running = is_running g going takes (none_assisted (level_of (begun_seat g).devices) g.cpu h.tried).awake;
+  on = is_on g going takes;
+  seven = h.seven;
+  tried = h.tried;
+  arrives = nothing_arrives g.script (g.steps + 1) n h.none;
+  due = h.due;
+  fit = h.fit;
+}
+
+-- as code asks for it: `w` is that guest, too
+pub asked_is : (b w : Seat) (level : ℕ) → w ≡ b → level ≡ level_of w.devices → assisted (level_of b.devices) b.cpu ≡ assisted level w.cpu
+asked_is b w level view is =
+    sym (ap (λ (x : Seat). assisted (level_of x.devices) x.cpu) view) ∙ ap (λ (k : ℕ). assisted k w.cpu) (sym is)
+
+pub found_by : (b w : Seat) (ram : List ℕ) (size : ℕ) (native : NativeState) (n level : ℕ) → w ≡ b → level ≡ level_of w.devices
+    → assisted level w.cpu ≡ None → NoneDue w.script w.steps n → IsNotDue n w.devices → length b.cpu.regs.a ≡ 7 → AreBytes ram
+    → length ram ≤ 2 ^ 32 → FitsAlong (n + 1) (guest_start b ram size native) → Found b ram size native n
+found_by b w ram size native n level view is tried none due seven bytes small fit = record {
+  tried = asked_is b w level view is ∙ tried;
+  none = subst (λ (x : Seat). NoneDue x.script x.steps n) view none;
+  due = subst (λ (x : Seat). IsNotDue n x.devices) view due;
+  seven = seven;
+  bytes = bytes;
+  small = small;
+  fit = subst (λ (k : ℕ). FitsAlong k (guest_start b ram size native)) (let e : n + 1 ≡ suc n = omega arith in e) fit;
+}
+
+pub may_by : (g b : Seat) (ram : List ℕ) (size : ℕ) (native : NativeState) (n : ℕ) → b ≡ begun_seat g → IsSeated g ram → IsGoing g
+    → takes_steps g.state ≡ true → Found b ram size native n → MayRun g ram size native n
+may_by g b ram size native n is seated going takes found =
+    may_run g ram size native n seated going takes (subst (λ (s : Seat). Found s ram size native n) is found)
+
+-- it stands as before
+pub stands : (g b : Seat) (ram : List ℕ) → b ≡ begun_seat g → IsSeated g ram → IsSeated b ram
+stands g b ram is seated =
+    subst (λ (s : Seat). IsSeated s ram) (sym is) (begun_seated g ram (begun_seat g).devices (begun_seat g).steps seated)
+
+-- ---- a step in which the board has no part
+
+-- what the monitor has done of it
+pub record Assists (b h : Seat) (ram next : List ℕ) (c : Class) : Type 0 where
+  pub class : assisted (level_of b.devices) b.cpu ≡ Some c
+  pub means : guested_on h next ≡ ended_at b.steps (run guest_bus (rest_in Whole (level_of b.devices) b.cpu) (world_of (guested_on b ram)))
+  pub tally : h.tally ≡ counted c b.tally
+  pub same : IsSame b h
+  pub within : OnlyBetween b.base (end_of b) ram next
+
+pub assisted_by : (g b h : Seat) (ram next : List ℕ) (native : NativeState) (c : Class) → b ≡ begun_seat g → takes_steps g.state ≡ true
+    → Assists b h ram next c → IsSeated g ram → IsSeated h next → Takes 1 (scene g ram native) (scene h next native)
+assisted_by g b h ram next native c is goes has seated after =
+    let d = subst (λ (s : Seat). Assists s h ram next c) is has in
+    let same : IsSame g h = record { script = d.same.script; base = d.same.base; size = d.same.size; area = d.same.area } in
+    assisted_takes g h ram next native c goes d.class d.means d.tally same seated after d.within
+
+-- ---- steps that the board has carried out
+
+pub counted_by : (g b h : Seat) (ram : List ℕ) (size : ℕ) (native : NativeState) (n : ℕ) (u : Ran) (p : Plain) → b ≡ begun_seat g
+    → MayRun g ram size native n → u ≡ guest_run b ram size native (suc n) → u.end ≡ Counted → length u.machine.cpu.regs.a ≡ 7
+    → p ≡ plain_of u.machine.cpu.regs → h ≡ gone_on b n (suc n) p → Takes (suc n) (scene g ram native) (scene h u.machine.world.ram u.native)
+counted_by g b h ram size native n u p is may ran end wide plain goes =
+    subst (λ (s : Seat). Takes (suc n) (scene g ram native) (scene s u.machine.world.ram u.native))
+    (sym (goes ∙ ap (λ (s : Seat). gone_on s n (suc n) p) is))
+    (counted_takes g ram size native n may u (ran ∙ ap (λ (s : Seat). guest_run s ram size native (suc n)) is) end wide p plain)
+
+-- ---- it goes on
+
+off_received : (byte : ℕ) (d : DeviceState) → (received byte d).off ≡ d.off
+unfolding received
+off_received byte d = off_if (nat_lt (length d.queue) queue_room) d
+  where
+    off_if : (b : Bool) (d : DeviceState) → (cond b (record d { queue = d.queue ++ byte ∷ [] }) (record d { overrun = true })).off ≡ d.off
+    off_if true d = refl
+    off_if false d = refl
+
+off_arrived : (n : ℕ) (script : Entries) (d : DeviceState) → (arrived n script d).off ≡ d.off
+off_arrived n [] d = refl
+off_arrived n (entry ∷ script) d = off_arrived n script (cond (entry.0 == n) (received entry.1 d) d) ∙ off_if (entry.0 == n)
+  where
+    off_if : (b : Bool) → (cond b (received entry.1 d) d).off ≡ d.off
+    off_if true = off_received entry.1 d
+    off_if false = refl
+
+off_passed : (n : ℕ) (d : DeviceState) → (passed n d).off ≡ d.off
+unfolding passed
+off_passed n d = off_if (d.period == 0)
+  where
+    off_if : (b : Bool) → (cond b d (record d { count = d.count - n })).off ≡ d.off
+    off_if true = refl
+    off_if false = refl
+
+-- behind retired steps
+goes_behind : (g : Seat) (ram : List ℕ) (size : ℕ) (native : NativeState) (n more retired : ℕ) (p : Plain) → MayRun g ram size native n
+    → IsGoing (gone_on (begun_seat g) more retired p)
+goes_behind g ram size native n more retired p may takes =
+    let began = arrived (g.steps + 1) g.script g.devices in
+    let on = off_passed more (ticked began) ∙ off_ticked began ∙ off_arrived (g.steps + 1) g.script g.devices ∙ may.on in
+    let awake = (none_assisted (level_of (begun_seat g).devices) g.cpu may.tried).awake in
+    may.running
+    ∙ sym (ap (λ (b : Bool). cond b Off (cond g.cpu.stopped Stopped Running)) on ∙ ap (λ (b : Bool). cond b Stopped Running) awake)
+
+pub goes_by_board : (g b h : Seat) (ram : List ℕ) (size : ℕ) (native : NativeState) (n more retired : ℕ) (p : Plain) → b ≡ begun_seat g
+    → MayRun g ram size native n → h ≡ gone_on b more retired p → IsGoing h
+goes_by_board g b h ram size native n more retired p is may goes =
+    subst IsGoing (sym (goes ∙ ap (λ (s : Seat). gone_on s more retired p) is)) (goes_behind g ram size native n more retired p may)
+
+-- ---- what boards count
+
+-- no more retired steps and exits than steps
+pub record Rises (n : ℕ) (x y : Tally) : Type 0 where
+  pub retired : y.retired ≤ x.retired + n
+  pub left : exits y ≤ exits x + n
+
+pub native_rises : (n : ℕ) (s t : Scene) → Takes n s t → Rises n s.guest.tally t.guest.tally
+    → (t.native.retired ≤ s.native.retired + n) × (t.native.exceptions ≤ s.native.exceptions + n)
+native_rises n s t takes rises =
+    let a = takes.retired in
+    let b = rises.retired in
+    let e = takes.exceptions in
+    let f = rises.left in
+    (omega arith, omega arith)
+
+pub rises_counted : (n : ℕ) (t : Tally) → Rises n t (with_retired n t)
+rises_counted n t = record { retired = omega arith; left = omega arith }
+
+rises_once : (c : Class) (t : Tally) → Rises 1 t (counted c t)
+rises_once class.Retired t = record { retired = omega arith; left = omega arith }
+rises_once class.Privileged t = record { retired = omega arith; left = omega arith }
+rises_once class.Trapped t = record { retired = omega arith; left = omega arith }
+rises_once class.Denied t = record { retired = omega arith; left = omega arith }
+rises_once class.Traced t = record { retired = omega arith; left = omega arith }
+rises_once class.Entered t = record { retired = omega arith; left = omega arith }
+rises_once class.Idle t = record { retired = omega arith; left = omega arith }
+
+pub rises_left : (n : ℕ) (c : Class) (t : Tally) → Rises (n + 1) t (counted c (with_retired n t))
+rises_left n c t =
+    let once = rises_once c (with_retired n t) in
+    let a = once.retired in
+    let b = once.left in
+    record { retired = omega arith; left = omega arith }
+
+-- of a guest whose step has begun
+pub rises_from : (g b : Seat) (n : ℕ) (x y : Tally) → b ≡ begun_seat g → x ≡ y → Rises n b.tally y → Rises n g.tally x
+rises_from g b n x y is same rises =
+    subst (λ (t : Tally). Rises n g.tally t) (sym same) (subst (λ (s : Seat). Rises n s.tally y) is rises)
+
+-- ---- a step that the board left
+
+abbrev vector_in : RunEnd → ℕ
+vector_in (Exit vector) = vector
+vector_in Counted = 0
+vector_in Gone = 0
+
+-- what the monitor has then, behind so many retired steps
+pub record Leaving (g b : Seat) (ram : List ℕ) (native : NativeState) (n : ℕ) (after : BoardState) (counts : NativeState) (v r : ℕ) : Type 0 where
+  pub few : r ≤ n
+  pub retired : counts.retired ≡ native.retired + r
+  pub frame : HasFrame after
+  pub seated : IsSeated (gone_on b r r after.before) after.world.ram
+  pub takes : (seat : Seat) (next : List ℕ) → guested_on seat next ≡ left_by v frame.frame after (gone_on b r r after.before)
+      → seat.tally ≡ counted (class_of_vector v) (gone_on b r r after.before).tally → IsSame b seat → IsSeated seat next
+      → OnlyBetween b.base (end_of b) after.world.ram next → Takes (r + 1) (scene g ram native) (scene seat next counts)
+
+leaving_begun : (g : Seat) (ram : List ℕ) (size : ℕ) (native : NativeState) (n : ℕ) (may : MayRun g ram size native n) (e : RunEnd) (after : BoardState)
+    (counts : NativeState) (v : ℕ) (left : IsLeft g ram native (suc n) (ran_to e after counts)) → e ≡ Exit v
+    → Leaving g (begun_seat g) ram native n after counts v left.retired
+leaving_begun g ram size native n may e after counts v left is =
+    let u = ran_to e after counts in
+    let mid = gone_on (begun_seat g) left.retired left.retired after.before in
+    let vector : v ≡ left.vector = ap vector_in (sym is ∙ left.end) in
+    record {
+      few = (let few = left.few in omega arith);
+      retired = left.counts;
+      frame = record { room = left.room; frame = left.frame; stands = left.read_back 60 (omega arith); lawful = left.lawful };
+      seated = left_seated g ram size native n may u left;
+      takes = λ seat next means tally same seated within.
+          left_takes g ram size native n may u left seat next
+          (means ∙ ap (λ (k : ℕ). left_by k left.frame after mid) vector)
+          (tally ∙ ap (λ (k : ℕ). counted (class_of_vector k) mid.tally) vector)
+          (record { script = same.script; base = same.base; size = same.size; area = same.area }) seated within;
+    }
+
+pub leaving : (g b : Seat) (ram : List ℕ) (size : ℕ) (native : NativeState) (n : ℕ) (e : RunEnd) (after : BoardState) (counts : NativeState) (v r : ℕ)
+    → b ≡ begun_seat g → MayRun g ram size native n → ran_to e after counts ≡ guest_run b ram size native (suc n) → e ≡ Exit v
+    → length after.cpu.regs.a ≡ 7 → r ≡ counts.retired - native.retired → Leaving g b ram native n after counts v r
+leaving g b ram size native n e after counts v r is may ran end wide fewer =
+    let left = is_left g ram size native n may (ran_to e after counts) v (ran ∙ ap (λ (s : Seat). guest_run s ram size native (suc n)) is) end wide in
+    let same : left.retired ≡ r = (let c = left.counts in omega arith) in
+    subst (λ (s : Seat). Leaving g s ram native n after counts v r) (sym is)
+    (subst (λ (k : ℕ). Leaving g (begun_seat g) ram native n after counts v k) same (leaving_begun g ram size native n may e after counts v left end))
+
+pub never_gone_by : (g b : Seat) (ram : List ℕ) (size : ℕ) (native : NativeState) (n : ℕ) (u : Ran) → b ≡ begun_seat g → MayRun g ram size native n
+    → u ≡ guest_run b ram size native (suc n) → u.end ≡ Gone → ⊥
+never_gone_by g b ram size native n u is may ran gone =
+    never_gone g ram size native n may u (ran ∙ ap (λ (s : Seat). guest_run s ram size native (suc n)) is) gone

@@ -1,0 +1,82 @@
+-- Classes of steps in which the board has no part, and of all others.
+use Rattle.std.proofs.Common.{◌≡◌, ◌∙◌, ℕ, ◌≤◌, List, Bool, true, false, cond, nat_lt, Option, Some, None, refl, ap, sym, arith}
+use Rattle.std.proofs.lemmas.Bool.Decides.{nat_tests}
+use Rattle.mb_model.specs.declared.processor.Cpu.{Cpu}
+use Rattle.mb_model.specs.declared.outcome.RunState.TheVariants.{Running, Stopped, Off}
+use Rattle.mb_devices.specs.Devices.{level_of}
+use Rattle.mb_meaning.specs.Step.{interrupt_mask}
+use Rattle.mb_machine.specs.Machine.{begun, takes_steps}
+use Rattle.vm_machine.specs.declared.class.Class.{Class}
+use Rattle.vm_machine.specs.declared.class.Class.TheVariants.{Entered, Idle, Traced}
+use Rattle.vm_machine.specs.Guests.{Guest}
+use Rattle.vm_machine.specs.Classes.{class_of, class_of_attempt, is_traced}
+use Rattle.vm_machine.specs.Turns.{class_of_step}
+use Rattle.vm_machine.specs.Seats.{Seat, guested_on}
+use Rattle.vm_step.specs.Batch.{IsTried}
+use Rattle.vm_step.proofs.Quiet.{tried_class}
+use Rattle.vm_guest.specs.Counting.{assisted}
+use Rattle.vm_guest.specs.Turns.{begun_seat, IsGoing}
+
+pub inner : (b c : Class) → (let o : Option Class = Some b in o) ≡ Some c → b ≡ c
+inner b c h = cc
+
+by_tests : (a b t : Bool) (r c : Class) → cond a (Some Entered) (cond b (Some Idle) (cond t (Some Traced) None)) ≡ Some c
+    → cond a Entered (cond b Idle (cond t Traced r)) ≡ c
+by_tests true b t r c h = inner Entered c h
+by_tests false true t r c h = inner Idle c h
+by_tests false false true r c h = inner Traced c h
+by_tests false false false r c h = absurd (let z : ⊥ = cc in z)
+
+pub assisted_class : (level : ℕ) (cpu : Cpu) (g : Guest) (c : Class) → assisted level cpu ≡ Some c → class_of level cpu g ≡ c
+unfolding class_of
+assisted_class level cpu g c h = by_tests (nat_lt (interrupt_mask cpu) level) cpu.stopped (is_traced cpu) (class_of_attempt cpu g) c h
+
+-- what holds of a step that the board attempts
+pub record Attempts (level : ℕ) (cpu : Cpu) : Type 0 where
+  pub masked : level ≤ interrupt_mask cpu
+  pub awake : cpu.stopped ≡ false
+  pub untraced : is_traced cpu ≡ false
+
+all_false : (a b t : Bool) → cond a (Some Entered) (cond b (Some Idle) (cond t (Some Traced) None)) ≡ None
+    → (a ≡ false) × (b ≡ false) × (t ≡ false)
+all_false true b t h = absurd (let z : ⊥ = cc in z)
+all_false false true t h = absurd (let z : ⊥ = cc in z)
+all_false false false true h = absurd (let z : ⊥ = cc in z)
+all_false false false false h = (refl, refl, refl)
+
+not_less : (mask level : ℕ) → nat_lt mask level ≡ false → level ≤ mask
+not_less mask level h = grind (arith, nat_tests)
+
+pub none_assisted : (level : ℕ) (cpu : Cpu) → assisted level cpu ≡ None → Attempts level cpu
+none_assisted level cpu h =
+    let (a, b, t) = all_false (nat_lt (interrupt_mask cpu) level) cpu.stopped (is_traced cpu) h in
+    record { masked = not_less (interrupt_mask cpu) level a; awake = b; untraced = t }
+
+-- the class of a guest's step that has begun
+pub class_begun : (g : Seat) (ram : List ℕ) (c : Class) → assisted (level_of (begun_seat g).devices) g.cpu ≡ Some c
+    → class_of_step g.script (guested_on g ram) ≡ c
+unfolding class_of_step begun
+class_begun g ram c h = assisted_class (level_of (begun_seat g).devices) g.cpu _ c h
+
+pub tried_begun : (g : Seat) (ram : List ℕ) → assisted (level_of (begun_seat g).devices) g.cpu ≡ None
+    → IsTried (class_of_step g.script (guested_on g ram))
+unfolding class_of_step begun
+tried_begun g ram h =
+    let a = none_assisted (level_of (begun_seat g).devices) g.cpu h in
+    tried_class (level_of (begun_seat g).devices) g.cpu _ a.masked a.awake a.untraced
+
+-- ---- a guest that takes steps
+
+going_off : (off stopped : Bool) → takes_steps (cond off Off (cond stopped Stopped Running)) ≡ true → off ≡ false
+going_off true stopped h = absurd (let z : ⊥ = cc in z)
+going_off false stopped h = refl
+
+-- it is on,
+pub is_on : (g : Seat) → IsGoing g → takes_steps g.state ≡ true → g.devices.off ≡ false
+is_on g is takes = going_off g.devices.off g.cpu.stopped (sym (ap takes_steps (is takes)) ∙ takes)
+
+-- and runs where STOP does not hold its processor
+pub is_running : (g : Seat) → IsGoing g → takes_steps g.state ≡ true → g.cpu.stopped ≡ false → g.state ≡ Running
+is_running g is takes awake =
+    is takes ∙ ap (λ (b : Bool). cond b Off (cond g.cpu.stopped Stopped Running)) (is_on g is takes)
+    ∙ ap (λ (b : Bool). cond b Stopped Running) awake

@@ -1,0 +1,41 @@
+-- A guest's step, from what the processor's part of it leaves.
+use Rattle.std.proofs.Common.{◌≡◌, ◌∙◌, ℕ, true, false, refl, ap, sym}
+use Rattle.mb_model.specs.declared.processor.Cpu.{Cpu}
+use Rattle.mb_model.specs.declared.outcome.RunState.{RunState}
+use Rattle.mb_devices.specs.Devices.{DeviceState}
+use Rattle.mb_meaning.specs.declared.Finish.{Finish}
+use Rattle.mb_meaning.specs.declared.Finish.TheVariants as finish
+use Rattle.mb_meaning.specs.declared.StepEnd.{StepEnd}
+use Rattle.mb_meaning.specs.declared.StepEnd.TheVariants as step
+use Rattle.mb_meaning.specs.Raise.{Stepped, by_its_end, step_end}
+use Rattle.mb_machine.specs.Machine.{going, state_after, takes_steps}
+use Rattle.vm_machine.specs.Guests.{Guest}
+use Rattle.vm_machine.specs.Turns.{Guested}
+use Rattle.vm_guest.specs.Turns.{ended_at, state_by}
+
+state_is : (f : Finish) (cpu : Cpu) (d : DeviceState) → state_after f cpu d ≡ state_by (step_end f) cpu d
+unfolding state_after
+state_is finish.Went cpu d = refl
+state_is (finish.Entered v) cpu d = refl
+state_is finish.Idle cpu d = refl
+state_is finish.Halted cpu d = refl
+
+pub ended : (steps : ℕ) (r : Stepped × Guest) (end : StepEnd) (cpu : Cpu) (g : Guest) (state : RunState) → by_its_end r ≡ ((end, cpu), g)
+    → state ≡ state_by end cpu g.world.devices
+    → (let q : Guested = record { machine = record { cpu = cpu; world = g.world; steps = steps; state = state }; shadow = g.shadow } in q) ≡ ended_at steps r
+ended steps r end cpu g state means is =
+    let of : Cpu → Guest → RunState → Guested = λ c h s. record { machine = record { cpu = c; world = h.world; steps = steps; state = s }; shadow = h.shadow } in
+    let e : end ≡ step_end r.0.0 = sym (ap (λ (x : (StepEnd × Cpu) × Guest). x.0.0) means) in
+    let c : cpu ≡ r.0.1 = sym (ap (λ (x : (StepEnd × Cpu) × Guest). x.0.1) means) in
+    let w : g ≡ r.1 = sym (ap (λ (x : (StepEnd × Cpu) × Guest). x.1) means) in
+    ap (λ (s : RunState). of cpu g s) is
+    ∙ ap (λ (x : StepEnd). of cpu g (state_by x cpu g.world.devices)) e
+    ∙ ap (λ (x : Cpu). of x g (state_by (step_end r.0.0) x g.world.devices)) c
+    ∙ ap (λ (x : Guest). of r.0.1 x (state_by (step_end r.0.0) r.0.1 x.world.devices)) w
+    ∙ ap (λ (s : RunState). of r.0.1 r.1 s) (sym (state_is r.0.0 r.0.1 r.1.world.devices))
+
+-- a guest that goes on behind it is on
+pub goes_by : (end : StepEnd) (cpu : Cpu) (d : DeviceState) (state : RunState) → state ≡ state_by end cpu d → takes_steps state ≡ true → state ≡ going cpu d
+goes_by step.Went cpu d state is takes = is
+goes_by step.Idle cpu d state is takes = is
+goes_by step.Halted cpu d state is takes = absurd (let e : false ≡ true = sym (ap takes_steps is) ∙ takes in let z : ⊥ = cc in z)

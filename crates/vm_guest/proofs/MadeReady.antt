@@ -1,0 +1,69 @@
+-- The board is made ready.
+use Rattle.std.proofs.Common.{◌≡◌, ◌∙◌, ℕ, ◌-◌, ◌*◌, ◌/◌, ◌%◌, ◌^◌, ◌<◌, List, false, bit_and, refl, ap, arith}
+use Rattle.std.proofs.lemmas.Nat.Bits.{and_high_mask}
+use Rattle.mb_port.specs.declared.types.MmuReg.TheVariants.{Tc, Dtt0, Urp}
+use Rattle.mb_port.specs.declared.types.Space.{Space}
+use Rattle.mb_port.specs.declared.types.Space.TheVariants.{User, Super}
+use Rattle.mb_instr.specs.declared.registers.Plain.{Plain}
+use Rattle.mb_model.specs.declared.processor.Cpu.{Cpu}
+use Rattle.mb_model.specs.declared.outcome.RunState.TheVariants.{Running}
+use Rattle.mb_model.specs.Keeping.{rule_a, nothing_kept}
+use Rattle.mb_devices.specs.Devices.{idle}
+use Rattle.mb_meaning.specs.SystemEnds.{with_registers}
+use Rattle.mb_machine.specs.World.{World}
+use Rattle.mb_machine.specs.Bus.{with_register}
+use Rattle.mb_machine.specs.Machine.{reset_with, with_cpu}
+use Rattle.mb_board.specs.Beside.{Beside, beside}
+use Rattle.mb_board.specs.State.{BoardState, board_at_reset, machine_in, with_machine, no_registers}
+use Rattle.vm_shadow.specs.Mapped.{root_of}
+use Rattle.vm_mirror.specs.Ready.{native_mmu}
+use Rattle.vm_guest.specs.Native.{native_cpu, ready}
+
+-- a root that stands at a multiple of 512 is kept whole
+root_kept : (root : ℕ) → root % 512 ≡ 0 → root < 2 ^ 32 → bit_and root (2 ^ 32 - 2 ^ 9) ≡ root
+root_kept root whole small = and_high_mask 32 9 (omega arith) root small ∙ (let e : root / 2 ^ 9 * 2 ^ 9 ≡ root = omega arith in e)
+
+-- the three registers that are not 0
+written : (root size : ℕ) (ram : List ℕ) → root % 512 ≡ 0 → root < 2 ^ 32
+    → with_register rule_a Urp root (with_register rule_a Dtt0 0x00FFA000 (with_register rule_a Tc 0x8000 (reset_with rule_a size ram).world))
+    ≡ record { ram = ram; mmu = native_mmu root; devices = idle size; kept = nothing_kept rule_a }
+unfolding with_register reset_with
+written root size ram whole small =
+    ap (λ (urp : ℕ). (let w : World = record {
+      ram = ram;
+      mmu = record (native_mmu root) { urp = urp };
+      devices = idle size;
+      kept = nothing_kept rule_a;
+    } in w)) (root_kept root whole small)
+
+-- a register is written, and nothing beside the world changes
+pub record Sets (b after : BoardState) (w : World) : Type 0 where
+  pub world : after.world ≡ w
+  pub rest : beside after ≡ beside b
+
+with_state : (b : BoardState) (w : World) (c : Cpu) → c.stopped ≡ false → b.world ≡ w → b.steps ≡ 0 → b.state ≡ Running → b.before ≡ no_registers
+    → with_machine b (with_cpu (machine_in b) c) ≡ board_at_reset (record { cpu = c; world = w; steps = 0; state = Running })
+with_state b w c awake world steps state before = rw world (rw steps (rw state (rw before (rw awake refl))))
+
+pub is_ready : (root size : ℕ) (ram : List ℕ) (plain : Plain) (a b c d e : BoardState) → root % 512 ≡ 0 → root < 2 ^ 32
+    → a ≡ board_at_reset (reset_with rule_a size ram)
+    → Sets a b (with_register rule_a Tc 0x8000 a.world) → Sets b c (with_register rule_a Dtt0 0x00FFA000 b.world)
+    → Sets c d (with_register rule_a Urp root c.world)
+    → e ≡ with_machine d (with_cpu (machine_in d) (with_registers plain native_cpu))
+    → e ≡ board_at_reset (ready root size ram plain)
+unfolding reset_with
+is_ready root size ram plain a b c d e whole small reset one two three set =
+    let first = ap (λ (s : BoardState). s.world) reset in
+    let world : d.world ≡ record { ram = ram; mmu = native_mmu root; devices = idle size; kept = nothing_kept rule_a } =
+    three.world ∙ ap (with_register rule_a Urp root) (two.world ∙ ap (with_register rule_a Dtt0 0x00FFA000)
+    (one.world ∙ ap (with_register rule_a Tc 0x8000) first)) ∙ written root size ram whole small in
+    let rest : beside d ≡ beside a = three.rest ∙ two.rest ∙ one.rest in
+    let steps : d.steps ≡ 0 = ap (λ (x : Beside). x.steps) rest ∙ ap (λ (s : BoardState). s.steps) reset in
+    let state : d.state ≡ Running = ap (λ (x : Beside). x.state) rest ∙ ap (λ (s : BoardState). s.state) reset in
+    let before : d.before ≡ no_registers = ap (λ (x : Beside). x.before) rest ∙ ap (λ (s : BoardState). s.before) reset in
+    set ∙ with_state d _ (with_registers plain native_cpu) refl world steps state before
+
+-- the root of a space stands at such a multiple
+pub root_whole : (area : ℕ) (space : Space) → area % 65536 ≡ 0 → root_of area space % 512 ≡ 0
+root_whole area User h = omega arith
+root_whole area Super h = omega arith

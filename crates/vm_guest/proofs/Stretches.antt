@@ -1,0 +1,65 @@
+-- Steps at which no entry of a script is due.
+use Rattle.std.proofs.Common.{◌≡◌, ◌∙◌, ℕ, ◌+◌, ◌-◌, ◌<◌, ◌≤◌, length, ap, sym, inl, inr, arith}
+use Rattle.std.specs.Prelude.{Some, None, slice_get}
+use Rattle.std.proofs.lemmas.Option.{get_or_from_slice_get}
+use Rattle.std.proofs.lemmas.List.{drop_all}
+use Rattle.std.proofs.lemmas.Bool.{cases_lt}
+use Rattle.mb_script.specs.Script.{IsScript}
+use Rattle.mb_machine.specs.Machine.{Entries, arrived}
+use Rattle.mb_board.specs.Arrivals.{due_at, IsNext}
+use Rattle.mb_board.proofs.Due.{arrived-past, none-outside}
+use Rattle.vm_meaning.specs.Batches.{NothingArrives}
+use Rattle.vm_guest.specs.Counting.{NoneDue}
+
+-- before the next entry's step none is due
+pub none_due : (script : Entries) (taken next n : ℕ) → IsScript script → IsNext script taken next → (next < length script → taken + n < due_at script next)
+    → NoneDue script taken n
+none_due script taken next n is at before place within = elim (cases_lt place next) [
+  | inl past ↦ inl (at.past place past)
+  | inr behind ↦ inr (elim (cases_lt next place) [
+    | inl less ↦ let first = before (omega arith) in let later : due_at script next ≤ due_at script place = is.in_order next place (0, 0) less within in omega arith
+    | inr same ↦ let e : next ≡ place = omega arith in let first = before (omega arith) in let d : due_at script next ≡ due_at script place =
+        ap (λ (p : ℕ). due_at script p) e in omega arith
+  ])
+]
+
+pub until_entry : (script : Entries) (taken next n : ℕ) (entry : ℕ × ℕ) → IsScript script → IsNext script taken next → slice_get script next ≡ Some entry
+    → n ≤ entry.0 - taken - 1 → NoneDue script taken n
+until_entry script taken next n entry is at got few =
+    none_due script taken next n is at
+    (λ within.
+    let here : due_at script next ≡ entry.0 = ap (λ (e : ℕ × ℕ). e.0) (get_or_from_slice_get script next entry (0, 0) got) in
+    let later : taken < due_at script next = at.later next (omega arith) within in omega arith)
+
+-- nor where there is none
+pub behind_all : (script : Entries) (taken next n : ℕ) → IsScript script → IsNext script taken next → slice_get script next ≡ None
+    → NoneDue script taken n
+behind_all script taken next n is at none =
+    none_due script taken next n is at (λ within. absurd (none-outside script next none within))
+
+-- so nothing arrives,
+pub nothing_arrives : (script : Entries) (taken n : ℕ) → NoneDue script taken n → NothingArrives script taken n
+nothing_arrives script taken n none k more less d =
+    sym (arrived-past (length script) k script d (λ place within same. elim (none place within) [
+      | inl past ↦ (let z : ⊥ = omega arith in z)
+      | inr later ↦ (let z : ⊥ = omega arith in z)
+    ]))
+    ∙ ap (λ (s : Entries). arrived k s d) (drop_all (length script) script (omega arith))
+
+-- and the next entry stays the next one
+pub next_stays : (script : Entries) (taken next n : ℕ) → IsNext script taken next → NoneDue script taken n → IsNext script (taken + n) next
+next_stays script taken next n at none = record {
+  within = at.within;
+  past = λ place less. let h = at.past place less in omega arith;
+  later = λ place behind within. elim (none place within) [
+    | inl past ↦ absurd (let h = at.later place behind within in let z : ⊥ = omega arith in z)
+    | inr later ↦ later
+  ];
+}
+
+-- of fewer steps too
+pub fewer_due : (script : Entries) (taken n m : ℕ) → m ≤ n → NoneDue script taken n → NoneDue script taken m
+fewer_due script taken n m few none place within = elim (none place within) [
+  | inl past ↦ inl past
+  | inr later ↦ inr (omega arith)
+]

@@ -1,0 +1,41 @@
+-- Steps of a guest, and how they are counted.
+use Rattle.std.specs.Prelude.{ℕ, ◌+◌, ◌<◌, ◌≤◌, ◌⊎◌, nat_lt, if◌then◌else◌, length, Option, Some, None}
+use Rattle.mb_model.specs.declared.processor.Cpu.{Cpu}
+use Rattle.mb_meaning.specs.Step.{interrupt_mask}
+use Rattle.mb_machine.specs.Machine.{Entries}
+use Rattle.mb_board.specs.Arrivals.{due_at}
+use Rattle.vm_machine.specs.declared.class.Class.{Class}
+use Rattle.vm_machine.specs.declared.class.Class.TheVariants.{Entered, Idle, Traced}
+use Rattle.vm_machine.specs.Classes.{is_traced}
+use Rattle.vm_machine.specs.Turns.{Tally}
+use Rattle.vm_guest.specs.declared.counts.Counts.{Counts}
+
+-- the count of each class
+abbrev pub tally_in : Counts → Tally
+tally_in c = record {
+  retired = c.retired;
+  privileged = c.privileged;
+  trapped = c.trapped;
+  denied = c.denied;
+  traced = c.traced;
+  entered = c.entered;
+  idle = c.idle;
+  refilled = c.refilled;
+}
+
+-- At none of so many steps behind the first `taken` is an entry of the script due.
+abbrev pub NoneDue : Entries → (taken n : ℕ) → Type 0
+NoneDue script taken n =
+    (place : ℕ) → place < length script → (due_at script place ≤ taken) ⊎ (taken + n < due_at script place)
+
+-- with so many more retired steps
+abbrev pub with_retired : ℕ → Tally → Tally
+with_retired n t = record t { retired = t.retired + n }
+
+-- The class of a step that has begun in which the board has no part: an interrupt of this level is entered, STOP holds
+-- the processor, or a trace bit is set.
+abbrev pub assisted : (level : ℕ) → Cpu → Option Class
+assisted level cpu =
+    if nat_lt (interrupt_mask cpu) level then Some Entered else
+    if cpu.stopped then Some Idle else
+    if is_traced cpu then Some Traced else None

@@ -1,0 +1,91 @@
+-- The board as it carries out a guest's instructions.
+use Rattle.std.specs.Prelude.{◌≡◌, ℕ, ◌+◌, ◌≤◌, false, List, length, replicate, slice_range, Some}
+use Rattle.mb_port.specs.Routine.{run}
+use Rattle.mb_instr.specs.declared.registers.Plain.{Plain}
+use Rattle.mb_frames.specs.declared.frame.Frame.{Frame}
+use Rattle.mb_frames.specs.Reading.{frame_in}
+use Rattle.mb_model.specs.declared.processor.Cpu.{Cpu}
+use Rattle.mb_model.specs.declared.outcome.RunState.TheVariants.{Running}
+use Rattle.mb_model.specs.Keeping.{rule_a, nothing_kept}
+use Rattle.mb_devices.specs.Devices.{idle, level_of, passed}
+use Rattle.mb_meaning.specs.SystemEnds.{with_registers}
+use Rattle.mb_machine.specs.Machine.{Machine}
+use Rattle.mb_board.specs.State.{BoardState, no_registers}
+use Rattle.vm_meaning.specs.Native.{NativeState, Ran, about_to_run, user_run}
+use Rattle.vm_mirror.specs.Ready.{native_mmu}
+use Rattle.vm_machine.specs.Bus.{guest_bus}
+use Rattle.vm_machine.specs.Exits.{frame_access, handed_by, rest_by_frame}
+use Rattle.vm_machine.specs.Turns.{Guested, world_of}
+use Rattle.vm_machine.specs.Seats.{Seat, monitor_bytes, guested_on}
+use Rattle.vm_step.specs.Lawful.{LeavesLawful}
+use Rattle.vm_step.specs.Turn.{ready_for}
+use Rattle.vm_step.specs.Taking.{site_of}
+use Rattle.vm_guest.specs.Counting.{with_retired}
+use Rattle.vm_guest.specs.Turns.{ended_at}
+
+-- the processor with which it does: user mode with all interrupts masked and no trace, vectors at 0, the stack for its
+-- frames at the top of the monitor's bytes
+abbrev pub native_cpu : Cpu
+native_cpu = record {
+  regs = record {
+    d = replicate 8 0;
+    a = replicate 7 0;
+    usp = 0;
+    isp = monitor_bytes;
+    msp = 0;
+    pc = 0;
+    sr = 0x0700;
+  };
+  vbr = 0;
+  sfc = 0;
+  dfc = 0;
+  cacr = 0;
+  stopped = false;
+}
+
+-- The board with these registers, and with the tables of this root, as it is after a reset else.
+abbrev pub ready : (root size : ℕ) → List ℕ → Plain → Machine
+ready root size ram plain = record {
+  cpu = with_registers plain native_cpu;
+  world = record { ram = ram; mmu = native_mmu root; devices = idle size; kept = nothing_kept rule_a };
+  steps = 0;
+  state = Running;
+}
+
+-- the board as it is made ready for a guest, with what was counted before, on a board that shows so many bytes
+abbrev pub guest_start : Seat → List ℕ → (size : ℕ) → NativeState → Ran
+guest_start g ram size native =
+    about_to_run (ready_for (site_of g) native_cpu ram (idle size) 0 Running (guested_on g ram)) native no_registers
+
+-- its run of so many steps
+abbrev pub guest_run : Seat → List ℕ → (size : ℕ) → NativeState → ℕ → Ran
+guest_run g ram size native k = user_run k (guest_start g ram size native)
+
+-- A guest as the board has carried it out: with these registers, behind so many more steps, and so many more that are
+-- retired.
+abbrev pub gone_on : Seat → (more retired : ℕ) → Plain → Seat
+gone_on g more retired plain = record g {
+  cpu = with_registers plain g.cpu;
+  devices = passed more g.devices;
+  steps = g.steps + more;
+  tally = with_retired retired g.tally;
+}
+
+-- ---- what the board left
+
+-- the frame that the board stacked
+abbrev pub IsFrameOf : BoardState → Frame → Type 0
+IsFrameOf b f = let at = b.cpu.regs.isp in frame_in (slice_range b.world.ram at (at + 60)) ≡ Some f
+
+-- It has stacked one, in memory, which leaves what buses may be asked for.
+pub record HasFrame (b : BoardState) : Type 0 where
+  pub room : b.cpu.regs.isp + 60 ≤ length b.world.ram
+  pub frame : Frame
+  pub stands : IsFrameOf b frame
+  pub lawful : LeavesLawful (frame_access frame)
+
+-- What is left of a guest's step is carried out over its own bus, by the vector and the frame.
+abbrev pub left_by : (vector : ℕ) → Frame → BoardState → Seat → Guested
+left_by vector frame b g = ended_at g.steps
+    (run guest_bus (rest_by_frame vector (frame_access frame) (level_of g.devices) g.cpu (handed_by b.cpu.regs frame))
+    (world_of (guested_on g b.world.ram)))

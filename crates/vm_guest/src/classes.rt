@@ -1,0 +1,46 @@
+//! The class of a step, as the monitor finds it.
+
+ghost use Rattle.std.specs.Prelude.{◌≡◌, ◌<◌};
+ghost use Rattle.vm_machine.specs.Exits.{class_of_vector, is_refusal};
+ghost use Rattle.vm_guest.specs.Counting.{assisted};
+
+use mb_model::Cpu;
+use vm_machine::Class;
+
+/// The class of a step that has begun, with an interrupt of this level asked for, where the board has no part in it: an
+/// interrupt is entered, STOP holds the processor, or a trace bit is set.
+pub(crate) fn assisted(level: u8, cpu: &Cpu) -> Option<Class>
+    ensures { result ≡ assisted level cpu.now }
+{
+    let mask = (cpu.regs.sr >> 8 & 7) as u8;
+    if level > mask {
+        Some(Class::Entered)
+    } else if cpu.stopped {
+        Some(Class::Idle)
+    } else if cpu.regs.sr >> 14 & 3 != 0 {
+        Some(Class::Traced)
+    } else {
+        None
+    }
+}
+
+/// Whether a vector is of what is no instruction that user mode carries out: an odd PC, an illegal or a privileged
+/// instruction, line A or line F.
+pub(crate) fn is_refusal(vector: u8) -> bool
+    ensures { result ≡ is_refusal vector }
+{
+    matches!(vector, 3 | 4 | 8 | 10 | 11)
+}
+
+/// The class of a step that the board left by this vector.
+pub(crate) fn class_of_vector(vector: u8) -> Class
+    ensures { result ≡ class_of_vector vector }
+{
+    if vector == 2 {
+        Class::Denied
+    } else if is_refusal(vector) {
+        Class::Privileged
+    } else {
+        Class::Trapped
+    }
+}

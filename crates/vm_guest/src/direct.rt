@@ -1,0 +1,180 @@
+//! Runs of the board for a guest.
+
+ghost use Rattle.std.specs.Prelude.{◌≡◌, ◌+◌, ◌<◌, ◌≤◌, ◌^◌, true, length};
+ghost use Rattle.mb_instr.specs.Registers.{plain_of};
+ghost use Rattle.mb_walk.specs.Memory.{AreBytes};
+ghost use Rattle.mb_devices.specs.Devices.{IsNotDue};
+ghost use Rattle.mb_frames.specs.declared.frame.Frame.{Frame as FrameValue};
+ghost use Rattle.mb_machine.specs.Machine.{takes_steps};
+ghost use Rattle.mb_board.specs.Arrivals.{IsNext};
+ghost use Rattle.mb_board.specs.Beside.{but_ram};
+ghost use Rattle.mb_board.specs.Fits.{FitsAlong};
+ghost use Rattle.mb_board.specs.State.{ran_to};
+ghost use Rattle.vm_machine.specs.Exits.{class_of_vector as class_of};
+ghost use Rattle.vm_machine.specs.Turns.{counted, steps_in};
+ghost use Rattle.vm_machine.specs.Seats.{end_of, guested_on, IsSame, IsSeated, Takes};
+ghost use Rattle.vm_guest.specs.Memory.{OnlyBetween};
+ghost use Rattle.vm_guest.specs.Counting.{NoneDue};
+ghost use Rattle.vm_guest.specs.Native.{gone_on, guest_run, guest_start, left_by, HasFrame, IsFrameOf};
+ghost use Rattle.vm_guest.specs.Turns.{scene, IsGoing};
+
+use crate::classes::{assisted, class_of_vector};
+use crate::guest::Guest;
+use crate::readying::make_ready;
+use crate::rest::Rest;
+use mb_board::{Board, Native, RunEnd};
+use mb_devices::Devices;
+use mb_frames::from_bytes;
+use mb_instr::{Plain, Regs};
+use mb_script::Script;
+use mb_walk::Ram;
+
+/// The bytes of the longest frame.
+const FRAME: u32 = 60;
+
+/// How many steps behind one that has begun may be carried out together with it, at most `limit`: nothing arrives at
+/// them, and the timer does not come to 0. `taken` counts the one that has begun, and the script's entries from `next`
+/// on are of later steps.
+fn more_steps(script: &Script, next: u32, taken: u32, devices: &Devices, limit: u32) -> u32
+    requires { IsNext script.now taken next }
+    ensures none { NoneDue script.now taken result }
+    ensures due { IsNotDue result devices.now }
+    ensures within { result ≤ limit }
+{
+    let _ = script.count();
+    let before_entry = match script.entry(next) {
+        Some((due, _)) => limit.min(due - taken - 1),
+        None => limit,
+    };
+    if devices.period() == 0 {
+        before_entry
+    } else {
+        before_entry.min(devices.count() - 1)
+    }
+}
+
+/// The registers that user mode sees.
+fn plain(regs: &Regs) -> Plain
+    ensures means { result ≡ plain_of regs.now }
+    ensures seven { length regs.now.a ≡ 7 }
+{
+    let _seven = regs.a;
+    regs.plain()
+}
+
+/// There are seven address registers beside the stacks.
+fn seven(regs: &Regs)
+    ensures { length regs.now.a ≡ 7 }
+{
+    let _seven = regs.a;
+}
+
+impl Guest {
+    /// The board carries out so many steps of the guest, of which the first has begun, or fewer.
+    fn run_board(&self, board: &mut Board, steps: u32, native: &mut Native) -> RunEnd
+        requires seated { IsSeated self.now board.old.world.ram }
+        requires native { (native.old.retired < 2 ^ 63) × (native.old.exceptions < 2 ^ 63) }
+        ensures means { ran_to result board.new native.new
+            ≡ guest_run self.now board.old.world.ram board.old.world.devices.ram native.old steps }
+        ensures fit { FitsAlong steps
+            (guest_start self.now board.old.world.ram board.old.world.devices.ram native.old) }
+        ensures seven { length self.now.cpu.regs.a ≡ 7 }
+        ensures wide { length board.new.cpu.regs.a ≡ 7 }
+        ensures bytes { AreBytes board.old.world.ram × (length board.old.world.ram ≤ 2 ^ 32) }
+    {
+        let _ = board.size();
+        let root = self.shadow.root(self.cpu.space());
+        make_ready(board, root, &plain(&self.cpu.regs));
+        let end = board.run(steps, native);
+        seven(&board.cpu().regs);
+        end
+    }
+
+    /// Goes on as the board has carried it out: with these registers, behind so many more steps, and so many more that
+    /// are retired.
+    fn go_on(&mut self, plain: &Plain, more: u32, retired: u32)
+        requires room { self.old.steps + more < 2 ^ 32 }
+        requires counted { steps_in self.old.tally + retired ≤ self.old.steps + more }
+        requires none { NoneDue self.old.script self.old.steps more }
+        requires due { IsNotDue more self.old.devices }
+        ensures { self.new ≡ gone_on self.old more retired plain.now }
+    {
+        self.cpu.regs.set_plain(plain);
+        self.devices.pass(more);
+        self.steps += more;
+        self.counts.retire(retired);
+    }
+
+    /// The board left a step by this vector, behind so many that it carried out. What is left of that one is carried
+    /// out over the guest's bus.
+    fn leave(&mut self, board: &mut Board, vector: u8, steps: u32)
+        requires room { self.old.steps + steps < 2 ^ 32 }
+        requires counted { steps_in self.old.tally < self.old.steps }
+        requires none { NoneDue self.old.script self.old.steps steps }
+        requires due { IsNotDue steps self.old.devices }
+        requires frame { HasFrame board.old }
+        requires seated { IsSeated (gone_on self.old steps steps board.old.before) board.old.world.ram }
+        ensures means { (frame : FrameValue) → IsFrameOf board.old frame → guested_on self.new board.new.world.ram
+            ≡ left_by vector frame board.old (gone_on self.old steps steps board.old.before) }
+        ensures tally { self.new.tally
+            ≡ counted (class_of vector) (gone_on self.old steps steps board.old.before).tally }
+        ensures steps { self.new.steps ≡ self.old.steps + steps }
+        ensures going { IsGoing self.new }
+        ensures same { IsSame self.old self.new }
+        ensures seated { IsSeated self.new board.new.world.ram }
+        ensures within { OnlyBetween self.old.base (end_of self.old) board.old.world.ram board.new.world.ram }
+        ensures others { but_ram board.new ≡ but_ram board.old }
+    {
+        let regs = board.cpu().regs;
+        let Some(frame) = from_bytes(board.memory(regs.isp, FRAME)) else {
+            unreachable!()
+        };
+        self.go_on(board.before(), steps, steps);
+        let rest = Rest::left(vector, &frame, &regs);
+        self.assist(board, &rest, class_of_vector(vector));
+    }
+
+    /// Takes the next step, and as many behind it as the board may carry out together with it, at most `limit` in all.
+    /// Gives how many steps were taken.
+    pub(crate) fn advance(&mut self, board: &mut Board, limit: u32, native: &mut Native) -> u32
+        requires limit { 0 < limit }
+        requires room { self.old.steps + limit < 2 ^ 32 }
+        requires seated { IsSeated self.old board.old.world.ram }
+        requires going { IsGoing self.old }
+        requires takes { takes_steps self.old.state ≡ true }
+        requires native { (native.old.retired < 2 ^ 63) × (native.old.exceptions < 2 ^ 63) }
+        ensures some { (0 < result) × (result ≤ limit) }
+        ensures takes { Takes result (scene self.old board.old.world.ram native.old)
+            (scene self.new board.new.world.ram native.new) }
+        ensures steps { self.new.steps ≡ self.old.steps + result }
+        ensures going { IsGoing self.new }
+        ensures native { (native.new.retired ≤ native.old.retired + result)
+            × (native.new.exceptions ≤ native.old.exceptions + result) }
+    {
+        self.begin();
+        if let Some(class) = assisted(self.devices.level(), &self.cpu) {
+            self.assist(board, &Rest::Whole, class);
+            return 1;
+        }
+        let more = more_steps(
+            &self.script,
+            self.next,
+            self.steps,
+            &self.devices,
+            limit - 1,
+        );
+        let before = native.retired();
+        match self.run_board(board, more + 1, native) {
+            RunEnd::Counted => {
+                self.go_on(&plain(&board.cpu().regs), more, more + 1);
+                more + 1
+            }
+            RunEnd::Exit(vector) => {
+                let retired = (native.retired() - before) as u32;
+                self.leave(board, vector, retired);
+                retired + 1
+            }
+            RunEnd::Gone => unreachable!(),
+        }
+    }
+}

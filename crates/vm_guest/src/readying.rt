@@ -1,0 +1,55 @@
+//! The board is made ready to carry out a guest's instructions.
+
+ghost use Rattle.std.specs.Prelude.{◌≡◌, ◌≤◌, ◌%◌, length};
+ghost use Rattle.mb_meaning.specs.SystemEnds.{with_registers};
+ghost use Rattle.mb_board.specs.State.{board_at_reset};
+ghost use Rattle.vm_guest.specs.Native.{native_cpu, ready};
+
+use mb_board::Board;
+use mb_instr::{Plain, Regs};
+use mb_model::Cpu;
+use mb_port::{MmuReg, Port};
+
+/// The top of the stack for the board's frames: the monitor's bytes are below it.
+const STACK: u32 = 0x1_0000;
+
+/// The processor with which the board carries out a guest: user mode with all interrupts masked and no trace, vectors
+/// at 0, and these registers.
+fn native_cpu(plain: &Plain) -> Cpu
+    ensures { result ≡ with_registers plain.now native_cpu }
+{
+    let mut regs = Regs {
+        d: [0; 8],
+        a: [0; 7],
+        usp: 0,
+        isp: STACK,
+        msp: 0,
+        pc: 0,
+        sr: 0x0700,
+    };
+    regs.set_plain(plain);
+    Cpu {
+        regs,
+        vbr: 0,
+        sfc: 0,
+        dfc: 0,
+        cacr: 0,
+        stopped: false,
+    }
+}
+
+/// Makes the board ready for the instruction at PC of these registers, in the space whose tables have this root, a
+/// multiple of 512. All but its memory becomes as after a reset first, so nothing is kept. The supervisor's operands
+/// stand at their own addresses.
+pub(crate) fn make_ready(board: &mut Board, root: u32, plain: &Plain)
+    requires room { 8 ≤ length board.old.world.ram }
+    requires root { root % 512 ≡ 0 }
+    ensures { board.new
+        ≡ board_at_reset (ready root board.old.world.devices.ram board.old.world.ram plain.now) }
+{
+    board.reset();
+    board.set_mmu(MmuReg::Tc, 0x8000);
+    board.set_mmu(MmuReg::Dtt0, 0x00FF_A000);
+    board.set_mmu(MmuReg::Urp, root);
+    board.set_cpu(&native_cpu(plain));
+}

@@ -1,0 +1,178 @@
+//! The rest of a guest's step: what is left of it once it has begun, and how that is carried out.
+
+ghost use Rattle.std.specs.Prelude.{◌≡◌, ◌<◌, ℕ};
+ghost use Rattle.mb_port.specs.Routine.{run};
+ghost use Rattle.mb_meaning.specs.Raise.{by_its_end};
+ghost use Rattle.mb_model.specs.declared.processor.Cpu.{Cpu as CpuValue};
+ghost use Rattle.vm_machine.specs.Exits.{handed_by};
+ghost use Rattle.vm_machine.specs.Guests.{Guest};
+ghost use Rattle.vm_machine.specs.Rests.{rest_by, SameOver};
+ghost use Rattle.vm_machine.specs.Exits.{frame_access, rest_by_frame};
+ghost use Rattle.vm_step.specs.Lawful.{IsLawful, LeavesLawful};
+ghost use Rattle.vm_guest.specs.Rests.{rest_in, IsLawfulRest};
+
+use crate::classes::is_refusal;
+use arrayvec::ArrayVec;
+use mb_entry::Cause;
+use mb_frames::{Frame, Pend};
+use mb_instr::{Plain, Regs};
+use mb_meaning::StepEnd;
+use mb_model::Cpu;
+use mb_port::Port;
+use mb_step::{Scratch, step_to_finish};
+use mb_table::FirstWords;
+use vm_inject::{LeftOver, finish_line, finish_movem, finish_trap, finish_writes, left_in};
+
+/// What is left of a step that has begun. `after` are the registers that the board hands back.
+#[derive(Drop)]
+pub(crate) enum Rest {
+    /// The step is carried out from the registers before it.
+    Whole,
+    /// The exception of an instruction that traps is entered.
+    Trap {
+        vector: u8,
+        after: Plain,
+    },
+    /// Pieces of an operand, whose first byte is at `first`, are written.
+    Writes {
+        pending: ArrayVec<Pend, 3>,
+        first: u32,
+        after: Plain,
+    },
+    /// The line of a MOVE16 is written.
+    Line {
+        at: u32,
+        line: [u32; 4],
+        after: Plain,
+    },
+    /// A MOVEM goes on behind the first `done` transfers.
+    Movem {
+        words: u32,
+        ea: u32,
+        done: u8,
+        next: u32,
+        after: Plain,
+    },
+}
+
+/// The guest's registers as the board hands them back: D, A and USP are its own, PC and the condition codes those of
+/// the frame.
+fn handed(regs: &Regs, frame: &Frame) -> Plain
+    ensures { result ≡ handed_by regs.now frame.now }
+{
+    let (sr, pc) = match *frame {
+        Frame::Short { sr, pc, .. }
+        | Frame::Throwaway { sr, pc, .. }
+        | Frame::Address { sr, pc, .. }
+        | Frame::Access { sr, pc, .. } => (sr, pc),
+    };
+    let [a0, a1, a2, a3, a4, a5, a6] = regs.a;
+    Plain {
+        d: regs.d,
+        a: [a0, a1, a2, a3, a4, a5, a6, regs.usp],
+        pc,
+        ccr: (sr % 32) as u8,
+    }
+}
+
+impl Rest {
+    /// What an access error left.
+    #[tactic(auto, unfolding(vm_machine::specs::Rests::rest_by))]
+    fn of_access(left: LeftOver, after: Plain) -> Rest
+        requires lawful { IsLawful left }
+        ensures means { (level : ℕ) (cpu : CpuValue)
+            → SameOver Guest (rest_in result level cpu) (rest_by left level cpu after) }
+        ensures lawful { IsLawfulRest result }
+    {
+        match left {
+            LeftOver::Again => Rest::Whole,
+            LeftOver::Writes { pending, first } => Rest::Writes {
+                pending,
+                first,
+                after,
+            },
+            LeftOver::Line { at, line } => Rest::Line { at, line, after },
+            LeftOver::Movem {
+                words,
+                ea,
+                done,
+                next,
+            } => Rest::Movem {
+                words,
+                ea,
+                done,
+                next,
+                after,
+            },
+        }
+    }
+
+    /// What a board left that entered this vector, by the frame that it stacked and its registers then.
+    pub(crate) fn left(vector: u8, frame: &Frame, regs: &Regs) -> Rest
+        requires lawful { LeavesLawful (frame_access frame.now) }
+        ensures means { (level : ℕ) (cpu : CpuValue) → SameOver Guest (rest_in result level cpu)
+            (rest_by_frame vector (frame_access frame.now) level cpu (handed_by regs.now frame.now)) }
+        ensures lawful { IsLawfulRest result }
+    {
+        let after = handed(regs, frame);
+        match frame {
+            Frame::Access { access, .. } => Rest::of_access(left_in(access), after),
+            _ if is_refusal(vector) => Rest::Whole,
+            _ => Rest::Trap { vector, after },
+        }
+    }
+
+    /// Carries it out, from the processor before the step, with an interrupt of this level asked for.
+    pub(crate) fn carry_out<P: Port>(
+        &self,
+        table: &FirstWords,
+        scratch: &mut Scratch,
+        cpu: &mut Cpu,
+        port: &mut P,
+        level: u8,
+    ) -> StepEnd
+        requires level { level < 8 }
+        requires lawful { IsLawfulRest self.now }
+        ensures means { by_its_end (run P.bus (rest_in self.now level cpu.old) (P.world port.old))
+            ≡ ((result, cpu.new), P.world port.new) }
+        ensures rest { P.rest port.new ≡ P.rest port.old }
+    {
+        match self {
+            Rest::Whole => step_to_finish(table, scratch, cpu, port, level).step_end(),
+            Rest::Trap { vector, after } => {
+                let before = cpu.regs.plain();
+                let cause = Cause {
+                    vector: *vector,
+                    pc: after.pc,
+                    address: before.pc,
+                    access: None,
+                    level: 0,
+                };
+                cpu.regs.set_plain(after);
+                finish_trap(&cause, &before, cpu, port)
+            }
+            Rest::Writes {
+                pending,
+                first,
+                after,
+            } => {
+                cpu.regs.set_plain(after);
+                finish_writes(pending, *first, cpu, port)
+            }
+            Rest::Line { at, line, after } => {
+                cpu.regs.set_plain(after);
+                finish_line(*at, *line, cpu, port)
+            }
+            Rest::Movem {
+                words,
+                ea,
+                done,
+                next,
+                after,
+            } => {
+                cpu.regs.set_plain(after);
+                finish_movem(*words, *ea, *done, *next, cpu, port)
+            }
+        }
+    }
+}

@@ -1,0 +1,29 @@
+-- What boards count of the steps of a session's guests.
+use Rattle.std.specs.Prelude.{◌≡◌, ℕ, ◌+◌, ◌^◌, ◌<◌, ◌≤◌, List, [], ◌∷◌}
+use Rattle.mb_instr.specs.declared.registers.Plain.{Plain}
+use Rattle.vm_meaning.specs.Marks.{trail}
+use Rattle.vm_meaning.specs.Native.{NativeState}
+use Rattle.vm_machine.specs.Turns.{exits}
+use Rattle.vm_machine.specs.Rounds.{Member}
+
+-- the retired steps of all guests
+abbrev pub retired_by : List Member → ℕ
+retired_by [] = 0
+retired_by (m ∷ members) = m.tally.retired + retired_by members
+
+-- and those that the board left by an exception
+abbrev pub exits_by : List Member → ℕ
+exits_by [] = 0
+exits_by (m ∷ members) = exits m.tally + exits_by members
+
+-- From some guests to them after some turns, whose retired steps have these marks.
+pub record AreCounted (before after : List Member) (marks : List Plain) (old new : NativeState) : Type 0 where
+  -- boards have carried out the retired steps
+  pub retired : new.retired + retired_by before ≡ old.retired + retired_by after
+  pub trail : new.trail ≡ trail old.trail marks
+  -- and left the privileged, trapped and denied ones, each by one exception
+  pub exceptions : new.exceptions + exits_by before ≡ old.exceptions + exits_by after
+
+-- So many steps more can be counted.
+abbrev pub HasRoom : ℕ → NativeState → Type 0
+HasRoom steps native = (native.retired + steps < 2 ^ 62) × (native.exceptions + steps < 2 ^ 62)
