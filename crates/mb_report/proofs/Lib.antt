@@ -1,1 +1,3 @@
+pub mod BufferLemmas
 pub mod FlatMapLemmas
+pub mod SameLemmas

@@ -2,3 +2,4 @@ pub mod Digits
 pub mod Text
 pub mod Same
 pub mod Lines
+pub mod Buffered

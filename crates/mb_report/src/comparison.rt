@@ -2,7 +2,7 @@
 
 ghost use Rattle.std.specs.Prelude.{◌≡◌, ◌↔◌, IsTrue};
 ghost use Rattle.mb_model.specs.Seen.{seen_of};
-ghost use Rattle.mb_report.specs.Same.{SameProcessor, SameRun, SameLine, SameTimer};
+ghost use Rattle.mb_report.specs.Same.{SameProcessor, SameRun, SameLine, SameTimer, same_seen};
 
 use mb_instr::Regs;
 use mb_model::{Cpu, Outcome};
@@ -63,9 +63,17 @@ fn same_timer(a: &Outcome, b: &Outcome) -> bool
     a.period == b.period && a.count == b.count && a.pending == b.pending
 }
 
-/// Whether two outcomes show the same in all; then their texts are the same, but for the guest's number.
-pub fn same(a: &Outcome, b: &Outcome) -> bool
+/// Everything that outcomes show.
+fn same_parts(a: &Outcome, b: &Outcome) -> bool
     ensures { IsTrue result ↔ (seen_of a.now ≡ seen_of b.now) }
 {
     same_processor(a, b) && same_run(a, b) && same_line(a, b) && same_timer(a, b)
+}
+
+/// Whether two outcomes show the same in all; then their texts are the same, but for the guest's number.
+pub fn same(a: &Outcome, b: &Outcome) -> bool
+    ensures tested { result ≡ same_seen (seen_of a.now) (seen_of b.now) }
+    ensures equal { IsTrue result ↔ (seen_of a.now ≡ seen_of b.now) }
+{
+    same_parts(a, b)
 }

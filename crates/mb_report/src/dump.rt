@@ -2,15 +2,16 @@
 
 ghost use Rattle.std.specs.Prelude.{◌≡◌, ◌+◌, ◌*◌, ◌<◌, ◌≤◌, ◌^◌, ◌++◌, length, take, drop};
 ghost use Rattle.arrayvec.specs.ArrayVec.{array_vec_len};
-ghost use Rattle.mb_outside.specs.Prints.{PrintsMore};
+ghost use Rattle.mb_report.specs.Buffered.{Buffers};
 ghost use Rattle.mb_report.specs.Digits.{digits, hex8};
 ghost use Rattle.mb_report.specs.Text.{word_line, is_zero, dump_line, memory_line, memory_text, all_rows};
 
+use crate::buffered::Buffered;
 use crate::digits::{hex2, hex8};
 use arrayvec::ArrayVec;
-use mb_outside::{Sink, SinkFault, put_more};
+use mb_outside::Sink;
 
-/// A line before it is put. The longest is a row of 32 bytes.
+/// A line of bytes. The longest is a row of 32 bytes.
 type Line = ArrayVec<u8, 65>;
 
 /// The `width` bytes from `at` on, or what is left of them.
@@ -58,19 +59,13 @@ fn memory_line(address: u32, row: &[u8]) -> Line
 }
 
 /// Writes bytes in rows of 32.
-pub(crate) fn write_dump<O: Sink>(
-    out: &mut O,
-    so_far: Result<(), SinkFault>,
-    bytes: &[u8],
-) -> Result<(), SinkFault>
-    ensures { PrintsMore so_far (O.taken out.old) (O.taken out.new) (O.faults out.old) (O.faults out.new)
-        (all_rows dump_line 32 bytes.now) result }
+pub(crate) fn write_dump<O: Sink>(text: &mut Buffered, out: &mut O, bytes: &[u8])
+    ensures { Buffers text.old text.new (O.taken out.old) (O.taken out.new) (O.faults out.old) (O.faults out.new)
+        (all_rows dump_line 32 bytes.now) }
 {
-    let mut done = so_far;
     for row in 0..(bytes.len() + 31) / 32 {
-        done = put_more(out, done, &dump_line(row_at(bytes, 32 * row, 32)));
+        text.add(out, &dump_line(row_at(bytes, 32 * row, 32)));
     }
-    done
 }
 
 fn is_zero(row: &[u8]) -> bool
@@ -80,37 +75,25 @@ fn is_zero(row: &[u8]) -> bool
 }
 
 /// Writes a row of memory with its address, or nothing where it is all zero.
-fn write_memory_row<O: Sink>(
-    out: &mut O,
-    so_far: Result<(), SinkFault>,
-    address: u32,
-    row: &[u8],
-) -> Result<(), SinkFault>
+fn write_memory_row<O: Sink>(text: &mut Buffered, out: &mut O, address: u32, row: &[u8])
     requires { length row.now ≤ 16 }
-    ensures { PrintsMore so_far (O.taken out.old) (O.taken out.new) (O.faults out.old) (O.faults out.new)
-        (memory_line address row.now) result }
+    ensures { Buffers text.old text.new (O.taken out.old) (O.taken out.new) (O.faults out.old) (O.faults out.new)
+        (memory_line address row.now) }
 {
-    if is_zero(row) {
-        return so_far;
+    if !is_zero(row) {
+        text.add(out, &memory_line(address, row));
     }
-    put_more(out, so_far, &memory_line(address, row))
 }
 
 /// Writes the rows of 16 bytes of a memory that are not all zero.
 #[tactic(auto, unfolding(crate::specs::Text::memory_text))]
-pub(crate) fn write_memory<O: Sink>(
-    out: &mut O,
-    so_far: Result<(), SinkFault>,
-    ram: &[u8],
-) -> Result<(), SinkFault>
+pub(crate) fn write_memory<O: Sink>(text: &mut Buffered, out: &mut O, ram: &[u8])
     requires { length ram.now ≤ 2 ^ 32 }
-    ensures { PrintsMore so_far (O.taken out.old) (O.taken out.new) (O.faults out.old) (O.faults out.new)
-        (memory_text ram.now) result }
+    ensures { Buffers text.old text.new (O.taken out.old) (O.taken out.new) (O.faults out.old) (O.faults out.new)
+        (memory_text ram.now) }
 {
-    let mut done = so_far;
     for row in 0..(ram.len() + 15) / 16 {
         let at = 16 * row;
-        done = write_memory_row(out, done, at as u32, row_at(ram, at, 16));
+        write_memory_row(text, out, at as u32, row_at(ram, at, 16));
     }
-    done
 }

@@ -4,6 +4,7 @@
 //! prints with it. The text is defined in `specs/Text`, its digits in `specs/Digits`.
 #![tactic(auto)]
 
+mod buffered;
 mod comparison;
 mod digits;
 mod dump;

@@ -1,48 +1,40 @@
 //! The outcome text, part by part.
 
 ghost use Rattle.std.specs.Prelude.{◌≡◌, ◌≤◌, ◌^◌, length, map};
-ghost use Rattle.mb_outside.specs.Prints.{Prints, PrintsMore};
+ghost use Rattle.mb_outside.specs.Prints.{Prints};
 ghost use Rattle.mb_model.specs.Seen.{seen_of};
+ghost use Rattle.mb_report.specs.Buffered.{Buffers};
 ghost use Rattle.mb_report.specs.Text.{word_line, count_line, state_word, bytes_text};
 ghost use Rattle.mb_report.specs.Text.{lines_of, line_text, outcome_text};
 ghost use Rattle.mb_report.specs.Lines.{line_of};
 ghost use Rattle.std.specs.List.{flat_map};
 
+use crate::buffered::Buffered;
 use crate::digits::hex8;
 use crate::dump::{write_dump, write_memory};
 use itoa::Buffer;
 use mb_model::{Outcome, RunState};
-use mb_outside::{Sink, SinkFault, put_more};
+use mb_outside::{Sink, SinkFault};
 
 /// Writes a name, a space and a word.
-fn write_word<O: Sink>(
-    out: &mut O,
-    so_far: Result<(), SinkFault>,
-    name: &[u8],
-    word: &[u8],
-) -> Result<(), SinkFault>
-    ensures { PrintsMore so_far (O.taken out.old) (O.taken out.new) (O.faults out.old) (O.faults out.new)
-        (word_line name.now word.now) result }
+fn write_word<O: Sink>(text: &mut Buffered, out: &mut O, name: &[u8], word: &[u8])
+    ensures { Buffers text.old text.new (O.taken out.old) (O.taken out.new) (O.faults out.old) (O.faults out.new)
+        (word_line name.now word.now) }
 {
-    let named = put_more(out, so_far, name);
-    let spaced = put_more(out, named, b" ");
-    let told = put_more(out, spaced, word);
-    put_more(out, told, b"\n")
+    text.add(out, name);
+    text.add(out, b" ");
+    text.add(out, word);
+    text.add(out, b"\n");
 }
 
 /// Writes a name and a decimal number.
-fn write_count<O: Sink>(
-    out: &mut O,
-    so_far: Result<(), SinkFault>,
-    name: &[u8],
-    n: u64,
-) -> Result<(), SinkFault>
-    ensures { PrintsMore so_far (O.taken out.old) (O.taken out.new) (O.faults out.old) (O.faults out.new)
-        (count_line name.now n) result }
+fn write_count<O: Sink>(text: &mut Buffered, out: &mut O, name: &[u8], n: u64)
+    ensures { Buffers text.old text.new (O.taken out.old) (O.taken out.new) (O.faults out.old) (O.faults out.new)
+        (count_line name.now n) }
 {
     let mut buffer = Buffer::new();
     let digits = buffer.format(n).as_bytes();
-    write_word(out, so_far, name, digits)
+    write_word(text, out, name, digits);
 }
 
 fn state_word(state: RunState) -> &'static [u8]
@@ -57,17 +49,12 @@ fn state_word(state: RunState) -> &'static [u8]
 }
 
 /// Writes a name with how many bytes there are, and the bytes.
-fn write_bytes<O: Sink>(
-    out: &mut O,
-    so_far: Result<(), SinkFault>,
-    name: &[u8],
-    bytes: &[u8],
-) -> Result<(), SinkFault>
-    ensures { PrintsMore so_far (O.taken out.old) (O.taken out.new) (O.faults out.old) (O.faults out.new)
-        (bytes_text name.now bytes.now) result }
+fn write_bytes<O: Sink>(text: &mut Buffered, out: &mut O, name: &[u8], bytes: &[u8])
+    ensures { Buffers text.old text.new (O.taken out.old) (O.taken out.new) (O.faults out.old) (O.faults out.new)
+        (bytes_text name.now bytes.now) }
 {
-    let counted = write_count(out, so_far, name, bytes.len() as u64);
-    write_dump(out, counted, bytes)
+    write_count(text, out, name, bytes.len() as u64);
+    write_dump(text, out, bytes);
 }
 
 /// How a line of the text shows its value.
@@ -145,36 +132,26 @@ fn lines<'a>(guest: u8, o: &'a Outcome<'a>) -> [Line<'a>; 43]
 
 /// Writes a line, and the rows of bytes that belong to it.
 #[tactic(auto, unfolding(crate::specs::Text::line_text))]
-fn write_line<O: Sink>(
-    out: &mut O,
-    so_far: Result<(), SinkFault>,
-    line: &Line,
-) -> Result<(), SinkFault>
-    ensures { PrintsMore so_far (O.taken out.old) (O.taken out.new) (O.faults out.old) (O.faults out.new)
-        (line_text (line_of line.now)) result }
+fn write_line<O: Sink>(text: &mut Buffered, out: &mut O, line: &Line)
+    ensures { Buffers text.old text.new (O.taken out.old) (O.taken out.new) (O.faults out.old) (O.faults out.new)
+        (line_text (line_of line.now)) }
 {
     match line.shown {
-        Shown::Number(n) => write_count(out, so_far, line.name, n),
-        Shown::Word(word) => write_word(out, so_far, line.name, word),
-        Shown::Bytes(bytes) => write_bytes(out, so_far, line.name, bytes),
-        Shown::Long(value) => write_word(out, so_far, line.name, &hex8(value)),
+        Shown::Number(n) => write_count(text, out, line.name, n),
+        Shown::Word(word) => write_word(text, out, line.name, word),
+        Shown::Bytes(bytes) => write_bytes(text, out, line.name, bytes),
+        Shown::Long(value) => write_word(text, out, line.name, &hex8(value)),
     }
 }
 
 /// Writes lines.
-fn write_lines<O: Sink>(
-    out: &mut O,
-    so_far: Result<(), SinkFault>,
-    lines: &[Line],
-) -> Result<(), SinkFault>
-    ensures { PrintsMore so_far (O.taken out.old) (O.taken out.new) (O.faults out.old) (O.faults out.new)
-        (flat_map (λ line. line_text (line_of line)) lines.now) result }
+fn write_lines<O: Sink>(text: &mut Buffered, out: &mut O, lines: &[Line])
+    ensures { Buffers text.old text.new (O.taken out.old) (O.taken out.new) (O.faults out.old) (O.faults out.new)
+        (flat_map (λ line. line_text (line_of line)) lines.now) }
 {
-    let mut done = so_far;
     for line in lines {
-        done = write_line(out, done, line);
+        write_line(text, out, line);
     }
-    done
 }
 
 /// Writes the outcome text of the guest of this number, from its first line to `end`.
@@ -186,7 +163,9 @@ pub fn write_outcome<O: Sink>(guest: u8, o: &Outcome, out: &mut O) -> Result<(),
     ensures { Prints (O.taken out.old) (O.taken out.new) (O.faults out.old) (O.faults out.new)
         (outcome_text guest (seen_of o.now)) result }
 {
-    let told = write_lines(out, Ok(()), &lines(guest, o));
-    let memory = write_memory(out, told, o.ram);
-    put_more(out, memory, b"end\n")
+    let mut text = Buffered::new();
+    write_lines(&mut text, out, &lines(guest, o));
+    write_memory(&mut text, out, o.ram);
+    text.add(out, b"end\n");
+    text.finish(out)
 }
