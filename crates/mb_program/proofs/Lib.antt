@@ -1,3 +1,12 @@
 pub mod ChunkLemmas
 pub mod FileLemmas
 pub mod CourseLemmas
+pub mod GuestLemmas
+pub mod SessionLemmas
+pub mod TextLemmas
+pub mod ShowLemmas
+pub mod RunLemmas
+pub mod CompareLemmas
+pub mod TidyLemmas
+pub mod SummaryLemmas
+pub mod LineLemmas

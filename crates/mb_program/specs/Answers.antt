@@ -1,19 +1,29 @@
 -- What a command comes to, by the bytes that its files have.
-use Rattle.std.specs.Prelude.{◌≡◌, ◌⊎◌, ℕ, ◌*◌, ◌≤◌, nat_lt, List, [], ◌∷◌, length, if◌then◌else◌}
-use Rattle.std.specs.Prelude.{Option, Some, None, IfSome, option_and_then, Result, Ok, Err}
+use Rattle.std.specs.Prelude.{◌≡◌, ◌⊎◌, ℕ, ◌+◌, ◌*◌, ◌≤◌, nat_lt, Bool, List, [], ◌∷◌, ◌++◌, length, map, if◌then◌else◌}
+use Rattle.std.specs.Prelude.{Option, Some, None, IfSome, option_and_then, Result, Ok, Err, codes, decimal, slice_index}
+use Rattle.std.specs.List.{list_all}
 use Rattle.std.specs.Result.{result_map_both}
 use Rattle.mb_srec.specs.Records.{records_of}
 use Rattle.mb_srec.specs.Written.{text_of}
 use Rattle.mb_srec.specs.Faults as image_fault
 use Rattle.mb_script.specs.Scripts.{script_of}
+use Rattle.mb_script.specs.Sessions.{session_of}
+use Rattle.mb_script.specs.Plan.{Guest, Plan}
 use Rattle.mb_script.specs.Faults as line_fault
 use Rattle.mb_asm.specs.Texts as source_fault
 use Rattle.mb_asm.specs.Texts.{assembled}
-use Rattle.mb_model.specs.Keeping.{rule_a}
-use Rattle.mb_machine.specs.Machine.{Machine, Contents, Entries, start, run_of, seen_machine}
-use Rattle.mb_report.specs.Text.{outcome_text}
+use Rattle.mb_model.specs.Keeping.{Rule, rule_a, rule_k}
+use Rattle.mb_model.specs.Seen.{Seen}
+use Rattle.mb_machine.specs.Machine.{Contents, Entries, start, run_of, seen_machine}
+use Rattle.mb_report.specs.Digits.{hex8}
+use Rattle.mb_report.specs.Text.{outcome_text, state_word}
+use Rattle.mb_report.specs.Same.{same_seen}
 use Rattle.mb_listing.specs.Listing.{listing}
-use Rattle.mb_words.specs.Words.{Text, Run, Excerpt, Asked, bare, assembly, disassembly}
+use Rattle.vm_guest.specs.Session.{GuestAtStart, SessionAtStart}
+use Rattle.vm_slices.specs.Fit.{need_of}
+use Rattle.mb_gen.specs.Sessions.{generated}
+use Rattle.mb_words.specs.Words.{Text, Run, Excerpt, Workload}
+use Rattle.mb_words.specs.Words.{Asked, bare, assembly, disassembly, hosting, comparison, generation}
 use Rattle.mb_program.specs.declared.end.FileWhy.{FileWhy}
 use Rattle.mb_program.specs.declared.end.FileWhy.TheVariants.{TooLong, Line, Outside, NoEnd}
 use Rattle.mb_program.specs.declared.end.Reason.TheVariants.{Record, Words, Source}
@@ -26,10 +36,12 @@ pub record Shown : Type 0 where
   pub lines : Text
   pub status : ℕ
 
--- A command shows something, or refuses a file, with its name and why.
+-- A command shows something, or refuses a file, with its name and why, or its guests need more bytes than their board
+-- has.
 pub data Answer : Type 0 where
   shows : Shown → Answer
   refuses : Text → FileWhy → Answer
+  oversizes : (need have : ℕ) → Answer
 
 -- a text, and nothing on diag
 abbrev pub plain : Text → Shown
@@ -37,27 +49,14 @@ plain text = record { text = text; lines = []; status = 0 }
 
 -- ---- the files of a command
 
--- What a file is read as: an image for so many bytes of RAM, a script, or the source of an image.
-pub data Role : Type 0 where
-  image : ℕ → Role
-  script : Role
-  source : Role
-
 -- the most bytes of a file
-abbrev pub most_of : Role → ℕ
-most_of (image size) = 67108864
-most_of script = 67108864
-most_of source = 67108864
+abbrev pub most_bytes : ℕ
+most_bytes = 67108864
 
--- A file by its name and its role.
-pub record File : Type 0 where
-  pub name : Text
-  pub role : Role
-
--- What a command does with files: it reads one, and goes on by what that holds, or it has its answer. So its files
--- are a list in order, and a file may name those behind it.
+-- What a command does with files: it reads the one of this name, and goes on by its bytes, or it has its answer. So its
+-- files are a list in order, and a file may name those behind it.
 pub data Course : Type 0 where
-  reads : File → (Text → Course) → Course
+  reads : Text → (Text → Course) → Course
   ends : Answer → Course
 
 -- the bytes that a shelf tells of a name
@@ -65,30 +64,24 @@ abbrev pub Told : Type 0
 Told = Text → Option Text
 
 -- a file past its greatest length is refused
-abbrev pub unless_long : File → Text → Option Answer → Option Answer
-unless_long file bytes later =
-    if nat_lt (most_of file.role) (length bytes) then Some (refuses file.name TooLong) else later
+abbrev pub unless_long : Text → Text → Option Answer → Option Answer
+unless_long file bytes later = if nat_lt most_bytes (length bytes) then Some (refuses file TooLong) else later
 
 -- the answer at the end of a course, where each file on it is told
 abbrev pub answer_at : Told → Course → Option Answer
 answer_at told (reads file next) =
-    option_and_then (λ bytes. unless_long file bytes (answer_at told (next bytes))) (told file.name)
+    option_and_then (λ bytes. unless_long file bytes (answer_at told (next bytes))) (told file)
 answer_at told (ends answer) = Some answer
 
 -- The name is that of a file on the course: of the first one, or of one behind it by bytes that the first may have.
 abbrev pub Names : Told → Course → Text → Type 0
-Names told (reads file next) name = (name ≡ file.name) ⊎ ((bytes : Text)
-    × (length bytes ≤ most_of file.role)
-    × IfSome (told file.name) (λ content. bytes ≡ content)
+Names told (reads file next) name = (name ≡ file) ⊎ ((bytes : Text)
+    × (length bytes ≤ most_bytes)
+    × IfSome (told file) (λ content. bytes ≡ content)
     × Names told (next bytes) name)
 Names told (ends answer) name = ⊥
 
 -- ---- what a file holds
-
--- What a file holds: the contents of an image, which a source has too, or the entries of a script.
-pub data Held : Type 0 where
-  contents : Contents → Held
-  entries : Entries → Held
 
 -- why the first fault of an image refuses its file
 abbrev pub image_why : image_fault.Fault → FileWhy
@@ -96,7 +89,7 @@ image_why (image_fault.Line number why) = Line number (Record why)
 image_why (image_fault.Outside at) = Outside at
 image_why image_fault.NoEnd = NoEnd
 
--- why the first fault of a script refuses its file
+-- why the first fault of a script or of a session refuses its file
 abbrev pub line_why : line_fault.Fault → FileWhy
 line_why fault = Line fault.number (Words fault.why)
 
@@ -104,89 +97,175 @@ line_why fault = Line fault.number (Words fault.why)
 abbrev pub source_why : source_fault.Fault → FileWhy
 source_why fault = Line fault.number (Source fault.kind)
 
--- what a file's bytes hold by its role, or why it is refused
-unfoldable pub held_in : Role → Text → Result Held FileWhy
-held_in (image size) bytes = result_map_both contents image_why (records_of bytes size)
-held_in script bytes = result_map_both entries line_why (script_of bytes)
-held_in source bytes = result_map_both contents source_why (assembled bytes)
+-- the image that bytes are, for so many bytes of RAM, or why they are refused
+unfoldable pub image_in : (size : ℕ) → Text → Result Contents FileWhy
+image_in size bytes = result_map_both (λ image. image) image_why (records_of bytes size)
+
+-- the script that bytes are
+unfoldable pub script_in : Text → Result Entries FileWhy
+script_in bytes = result_map_both (λ script. script) line_why (script_of bytes)
+
+-- the image whose source bytes are
+unfoldable pub source_in : Text → Result Contents FileWhy
+source_in bytes = result_map_both (λ image. image) source_why (assembled bytes)
+
+-- the session that bytes are
+unfoldable pub session_in : Text → Result Plan FileWhy
+session_in bytes = result_map_both (λ plan. plan) line_why (session_of bytes)
 
 -- a file is refused for its reason, or the course goes on by what it holds
-abbrev pub unless_refused : File → Result Held FileWhy → (Held → Course) → Course
+abbrev pub unless_refused : {A : Type 0} → Text → Result A FileWhy → (A → Course) → Course
 unless_refused file (Ok held) next = next held
-unless_refused file (Err why) next = ends (refuses file.name why)
+unless_refused file (Err why) next = ends (refuses file why)
 
-abbrev pub reads_held : File → (Held → Course) → Course
-reads_held file next = reads file (λ bytes. unless_refused file (held_in file.role bytes) next)
+-- A file is read as an image, a script, a source or a session, and the course goes on by what it holds.
+abbrev pub reads_as : {A : Type 0} → (Text → Result A FileWhy) → Text → (A → Course) → Course
+reads_as held_in file next = reads file (λ bytes. unless_refused file (held_in bytes) next)
 
--- Files are read in their order, each added to what those before it hold, and the course goes on by all of them.
-abbrev pub reads_each : {A : Type 0} → (A → Held → A) → List File → A → (A → Course) → Course
-reads_each adds [] so_far next = next so_far
-reads_each adds (file ∷ files) so_far next =
-    reads_held file (λ held. reads_each adds files (adds so_far held) next)
-
--- ---- what was read
-
--- What was read for a command: an image's contents and a script's entries.
-pub record Parts : Type 0 where
-  pub image : Contents
-  pub script : Entries
-
-abbrev pub no_parts : Parts
-no_parts = record { image = []; script = [] }
-
-abbrev pub with_part : Parts → Held → Parts
-with_part parts (contents c) = record parts { image = c }
-with_part parts (entries e) = record parts { script = e }
+-- the same for a file that may not be named; where it is not, this stands in its place
+abbrev pub reads_if_named : {A : Type 0} → (Text → Result A FileWhy) → Option Text → A → (A → Course) → Course
+reads_if_named held_in None otherwise next = next otherwise
+reads_if_named held_in (Some file) otherwise next = reads_as held_in file next
 
 -- ---- machines
 
-abbrev pub bytes_of_ram : Run → ℕ
-bytes_of_ram run = 1024 * run.ram
+-- what a machine shows, by a rule of keeping, after its steps, or fewer where it halts or is switched off
+unfoldable pub outcome_by : Rule → GuestAtStart → Seen
+outcome_by rule guest = seen_machine (run_of rule guest.script guest.steps (start rule guest.image guest.ram))
 
-abbrev pub script_files : Option Text → List File
-script_files None = []
-script_files (Some name) = record { name = name; role = script } ∷ []
+abbrev pub guest_by : Run → Contents → Entries → GuestAtStart
+guest_by run image script = record { image = image; script = script; ram = 1024 * run.ram; steps = run.steps }
 
--- the files of a machine: its image, and then its script, where it has one
-abbrev pub files_of : Run → List File
-files_of run = record { name = run.image; role = image (bytes_of_ram run) } ∷ script_files run.script
-
--- the machine after its steps, or fewer where it halts or is switched off
-unfoldable pub machine_after : Run → Parts → Machine
-machine_after run parts = run_of rule_a parts.script run.steps (start rule_a parts.image (bytes_of_ram run))
+-- A machine's image and then its script, where it has one, are read, and the course goes on by the machine.
+abbrev pub reads_guest : Run → (GuestAtStart → Course) → Course
+reads_guest run next =
+    reads_as (image_in (1024 * run.ram)) run.image (λ image.
+    reads_if_named script_in run.script [] (λ script.
+    next (guest_by run image script)))
 
 -- ---- bare
 
--- its outcome, as guest 1
-abbrev pub bare_answer : Run → Parts → Answer
-bare_answer run parts = shows (plain (outcome_text 1 (seen_machine (machine_after run parts))))
+-- its outcome on the board, as guest 1
+abbrev pub bare_answer : GuestAtStart → Answer
+bare_answer guest = shows (plain (outcome_text 1 (outcome_by rule_a guest)))
 
 abbrev pub bare_course : Run → Course
-bare_course run = reads_each with_part (files_of run) no_parts (λ parts. ends (bare_answer run parts))
+bare_course run = reads_guest run (λ guest. ends (bare_answer guest))
 
 -- ---- asm
 
 -- the image of a source as S-records
-abbrev pub asm_answer : Parts → Answer
-asm_answer parts = shows (plain (text_of parts.image))
+abbrev pub asm_answer : Contents → Answer
+asm_answer image = shows (plain (text_of image))
 
 abbrev pub asm_course : Text → Course
-asm_course name =
-    reads_each with_part (record { name = name; role = source } ∷ []) no_parts (λ parts. ends (asm_answer parts))
+asm_course name = reads_as source_in name (λ image. ends (asm_answer image))
 
 -- ---- dis
 
 -- RAM as the image leaves it, before any step
-abbrev pub opening_ram : Excerpt → Parts → List ℕ
-opening_ram excerpt parts = (start rule_a parts.image (1024 * excerpt.ram)).world.ram
+abbrev pub opening_ram : Excerpt → Contents → List ℕ
+opening_ram excerpt image = (start rule_a image (1024 * excerpt.ram)).world.ram
 
 -- its lines from the address on
-abbrev pub dis_answer : Excerpt → Parts → Answer
-dis_answer excerpt parts = shows (plain (listing (opening_ram excerpt parts) excerpt.at excerpt.count))
+abbrev pub dis_answer : Excerpt → Contents → Answer
+dis_answer excerpt image = shows (plain (listing (opening_ram excerpt image) excerpt.at excerpt.count))
 
 abbrev pub dis_course : Excerpt → Course
-dis_course excerpt = reads_each with_part (record { name = excerpt.image; role = image (1024 * excerpt.ram) } ∷ [])
-    no_parts (λ parts. ends (dis_answer excerpt parts))
+dis_course excerpt =
+    reads_as (image_in (1024 * excerpt.ram)) excerpt.image (λ image. ends (dis_answer excerpt image))
+
+-- ---- the guests of a session
+
+-- a guest as a run of a machine
+abbrev pub run_of_guest : Guest → Run
+run_of_guest guest =
+    record { image = guest.image; ram = guest.ram; steps = guest.steps; script = guest.script }
+
+-- The files of each guest are read, guest by guest, and the course goes on by all of them, behind those so far.
+abbrev pub reads_guests : List Guest → List GuestAtStart → (List GuestAtStart → Course) → Course
+reads_guests [] so_far next = next so_far
+reads_guests (guest ∷ guests) so_far next =
+    reads_guest (run_of_guest guest) (λ read. reads_guests guests (so_far ++ read ∷ []) next)
+
+abbrev pub session_by : Plan → List GuestAtStart → SessionAtStart
+session_by plan guests = record { board = 1024 * plan.board; slice = plan.slice; guests = guests }
+
+-- A session file is read, and then the files of its guests, and the course goes on by the session.
+abbrev pub reads_session : Text → (SessionAtStart → Course) → Course
+reads_session name next =
+    reads_as session_in name (λ plan. reads_guests plan.guests [] (λ guests. next (session_by plan guests)))
+
+-- its guests fit on its board, or the answer is that they do not
+abbrev pub if_it_fits : SessionAtStart → Shown → Answer
+if_it_fits s shown =
+    if nat_lt s.board (need_of s.guests) then oversizes (need_of s.guests) s.board else shows shown
+
+-- a text for each, numbered from i
+abbrev pub texts_from : {A : Type 0} → (ℕ → A → Text) → ℕ → List A → Text
+texts_from text i [] = []
+texts_from text i (x ∷ xs) = text i x ++ texts_from text (i + 1) xs
+
+-- ---- host
+
+-- The outcomes of all guests under the monitor, in their order. No counts of their steps are said on diag.
+abbrev pub host_shown : List GuestAtStart → Shown
+host_shown guests = plain (texts_from outcome_text 1 (map (outcome_by rule_k) guests))
+
+abbrev pub host_answer : SessionAtStart → Answer
+host_answer s = if_it_fits s (host_shown s.guests)
+
+abbrev pub host_course : Text → Course
+host_course name = reads_session name (λ s. ends (host_answer s))
+
+-- ---- compare
+
+-- whether a guest shows the same on the board and under the monitor
+unfoldable pub is_same : GuestAtStart → Bool
+is_same guest = same_seen (outcome_by rule_a guest) (outcome_by rule_k guest)
+
+abbrev pub compared_text : ℕ → Bool → Text
+compared_text i same = codes "guest " ++ decimal i ++ (if same then codes " same\n" else codes " differs\n")
+
+-- a line for each guest, and status 1 where some guest differs
+abbrev pub compare_shown : List GuestAtStart → Shown
+compare_shown guests = record {
+  text = texts_from compared_text 1 (map is_same guests);
+  lines = [];
+  status = if list_all is_same guests then 0 else 1;
+}
+
+abbrev pub compare_answer : SessionAtStart → Answer
+compare_answer s = if_it_fits s (compare_shown s.guests)
+
+abbrev pub compare_course : Text → Course
+compare_course name = reads_session name (λ s. ends (compare_answer s))
+
+-- ---- gen
+
+-- a guest's state, how many steps it took and how many bytes it sent, and D0
+unfoldable pub summary_line : ℕ → Seen → Text
+summary_line i seen = codes "guest " ++ decimal i
+    ++ codes " " ++ state_word seen.state
+    ++ codes " steps " ++ decimal seen.steps
+    ++ codes " console " ++ decimal (length seen.console)
+    ++ codes " D0 " ++ hex8 (slice_index seen.cpu.regs.d 0)
+    ++ codes "\n"
+
+-- a line for each guest, and a last line
+abbrev pub summary_text : List Seen → Text
+summary_text shown = texts_from summary_line 1 shown ++ codes "end\n"
+
+-- What all guests of a session show under the monitor, in short.
+abbrev pub gen_shown : List GuestAtStart → Shown
+gen_shown guests = plain (summary_text (map (outcome_by rule_k) guests))
+
+-- The session that a number makes has room for its guests.
+abbrev pub gen_answer : Workload → Answer
+gen_answer workload = shows (gen_shown (generated workload.seed workload.guests).guests)
+
+abbrev pub gen_course : Workload → Course
+gen_course workload = ends (gen_answer workload)
 
 -- ---- every command
 
@@ -194,6 +273,9 @@ unfoldable pub course_of : Asked → Course
 course_of (bare run) = bare_course run
 course_of (assembly name) = asm_course name
 course_of (disassembly excerpt) = dis_course excerpt
+course_of (hosting name) = host_course name
+course_of (comparison name) = compare_course name
+course_of (generation workload) = gen_course workload
 
 -- The answer to what is asked, where each file that it needs is told.
 abbrev pub answer_of : Asked → Told → Option Answer

@@ -4,9 +4,12 @@ use Rattle.std.specs.Prelude.{Option, Some, None, IfSome, is_some, MatchBool}
 use Rattle.mb_outside.specs.Counts.{Rose}
 use Rattle.mb_outside.specs.Sink.{Grows}
 use Rattle.mb_words.specs.Words.{Text, Asked}
-use Rattle.mb_program.specs.Answers.{Shown, Answer, shows, refuses, course_of, answer_of}
-use Rattle.mb_program.specs.Ends.{Around, Said, IsSaid, IsShown, IsCut, IsRefused, IsFileOn, IsMissing, AnswerIs}
-use Rattle.mb_program.specs.Lines.{named, why_text}
+use Rattle.mb_program.specs.Answers.{Shown, Answer, shows, refuses, oversizes, course_of, answer_of}
+use Rattle.mb_program.specs.Ends.{Around, Said, IsSaid, IsShown, IsCut, IsRefused, IsOversize, IsFileOn, IsMissing}
+use Rattle.mb_program.specs.Ends.{AnswerIs, FailsNowhere}
+use Rattle.mb_program.specs.Sessions.{IsHosted, IsCompared, IsGenerated}
+use Rattle.mb_program.specs.Tidy.{IsTidyTold}
+use Rattle.mb_program.specs.Lines.{named, oversize_line, why_text}
 use Rattle.mb_program.specs.declared.end.FileWhy.{FileWhy}
 
 -- the words ask for a command, for which this holds
@@ -28,14 +31,15 @@ abbrev pub IsRefusal : Answer → Type 0
 IsRefusal (refuses name why) = ⊤
 IsRefusal _ = ⊥
 
+-- the guests of a session do not fit
+abbrev pub DoNotFit : Answer → Type 0
+DoNotFit (oversizes need have) = ⊤
+DoNotFit _ = ⊥
+
 -- the shelf is whole and tells every file of the command
 abbrev pub IsAllTold : Option Asked → Around → Type 0
 IsAllTold asked a =
     (a.shelf.whole ≡ true) × Asks asked (λ command. is_some (answer_of command a.shelf.told) ≡ true)
-
--- neither the shelf nor out has failed in this call
-abbrev pub FailsNowhere : Around → Type 0
-FailsNowhere a = (Rose a.shelf.faults a.shelf_after.faults → ⊥) × (Rose a.out.faults a.out_after.faults → ⊥)
 
 -- the status is that of what is shown, and out has gained exactly its text; or memory ran out and out is as before
 abbrev pub IsWritten : Around → ℕ → Shown → Type 0
@@ -47,6 +51,7 @@ IsWritten a status shown =
 abbrev pub LeadsTo : Around → ℕ → Answer → Type 0
 LeadsTo a status (shows shown) = IsWritten a status shown
 LeadsTo a status (refuses name why) = (status ≡ 3) ⊎ (status ≡ 7)
+LeadsTo a status (oversizes need have) = (status ≡ 4) ⊎ (status ≡ 7)
 
 -- Words that ask for nothing are refused. Where they ask for something whose answer is known, and nothing
 -- fails, that answer is given. Either way memory may have run out.
@@ -69,6 +74,12 @@ SaysRefused asked a s = Asks asked (λ command. (name : Text) × (why : FileWhy)
     × AnswerIs (course_of command) a (IsRefused name why)
     × IsSaid s (named name (why_text why)))
 
+-- the line with both numbers that the answer has was put
+abbrev pub SaysOversize : Option Asked → Around → Said → Type 0
+SaysOversize asked a s = Asks asked (λ command. (need : ℕ) × (have : ℕ)
+    × AnswerIs (course_of command) a (IsOversize need have)
+    × IsSaid s (oversize_line need have))
+
 -- the line that names a file of the command as one that cannot be read was put; a whole shelf does not tell it
 abbrev pub SaysUnread : Option Asked → Around → Said → Type 0
 SaysUnread asked a s = Asks asked (λ command. (name : Text)
@@ -78,13 +89,16 @@ SaysUnread asked a s = Asks asked (λ command. (name : Text)
 
 -- the statuses
 abbrev pub IsStatus : ℕ → Type 0
-IsStatus status = (status ≡ 0) ⊎ (status ≡ 2) ⊎ (status ≡ 3) ⊎ (status ≡ 5) ⊎ (status ≡ 6) ⊎ (status ≡ 7)
+IsStatus status =
+    (status ≡ 0) ⊎ (status ≡ 1) ⊎ (status ≡ 2) ⊎ (status ≡ 3) ⊎ (status ≡ 4) ⊎ (status ≡ 5) ⊎ (status ≡ 6)
+    ⊎ (status ≡ 7)
 
 -- the line of the status was put, or a first part of it before diag failed, and nothing more
 abbrev pub Says : Option Asked → Around → Said → ℕ → Type 0
 Says asked a s status =
     MatchBool (status == 3) (SaysRefused asked a s)
-    (MatchBool (status == 5) (SaysUnread asked a s) (IsSaid s (line_for status)))
+    (MatchBool (status == 4) (SaysOversize asked a s)
+    (MatchBool (status == 5) (SaysUnread asked a s) (IsSaid s (line_for status))))
 
 -- What stands after a run of the program.
 pub record Causes (asked : Option Asked) (a : Around) (said : Said) (status : ℕ) : Type 0 where
@@ -96,6 +110,10 @@ pub record Causes (asked : Option Asked) (a : Around) (said : Said) (status : �
   -- A file is refused only where the answer is that, and always, unless the shelf fails or memory runs out.
   pub refused_only : status ≡ 3 → AsksFor asked a IsRefusal
   pub refused_always : IsKnown asked a IsRefusal → (status ≡ 3) ⊎ ((status ≡ 5) ⊎ (status ≡ 7))
+  -- A session is refused for its size only where the answer is that, and always, unless the shelf fails or memory runs
+  -- out.
+  pub oversize_only : status ≡ 4 → AsksFor asked a DoNotFit
+  pub oversize_always : IsKnown asked a DoNotFit → (status ≡ 4) ⊎ ((status ≡ 5) ⊎ (status ≡ 7))
   -- A fault of reading comes only, and always, where the shelf has failed, and never where it is whole and tells
   -- every file of the command.
   pub unread_only : status ≡ 5 → Rose a.shelf.faults a.shelf_after.faults
@@ -105,12 +123,21 @@ pub record Causes (asked : Option Asked) (a : Around) (said : Said) (status : �
   pub output_only : status ≡ 6 → Rose a.out.faults a.out_after.faults
   pub output_always : a.out.faults < a.out_after.faults → status ≡ 6
   pub output_part : status ≡ 6 → AsksFor asked a (IsCut a)
-  -- All was done only where out has gained exactly the text.
-  pub done_only : status ≡ 0 → AsksFor asked a (IsShown a)
+  -- All was done only where out has gained exactly the text, and no guest differs; where some do, the status is 1.
+  pub done_only : status ≡ 0 → AsksFor asked a (IsShown a 0)
+  pub differs_only : status ≡ 1 → AsksFor asked a (IsShown a 1)
   -- Nothing goes to out, but at the end of a run or where out fails.
-  pub silent : (status ≡ 0 → ⊥) → (status ≡ 6 → ⊥) → a.out_after.taken ≡ a.out.taken
+  pub silent : (status ≡ 0 → ⊥) → (status ≡ 1 → ⊥) → (status ≡ 6 → ⊥) → a.out_after.taken ≡ a.out.taken
   -- Where the answer is known and nothing fails, it is given, unless memory runs out.
   pub complete : IsComplete asked a status
+  -- Each guest of a session runs as if it were alone: out gains exactly the outcomes of their own runs.
+  pub hosted : IsHosted asked a status
+  -- The runs of each guest on the board and under the monitor are compared.
+  pub compared : IsCompared asked a status
+  -- Of a guest that flushes what it changes, a comparison says that it shows the same.
+  pub tidy : IsTidyTold asked a status
+  -- The guests of a session that a number makes run so too, and out gains their summary.
+  pub generated : IsGenerated asked a status
   -- Diag gains exactly the line of the status, or a first part of it where diag fails.
   pub says : Says asked a said status
   -- What the shelf tells, and whether it is whole, are as before.
@@ -121,6 +148,7 @@ pub record Causes (asked : Option Asked) (a : Around) (said : Said) (status : �
 abbrev pub LeadsUnfailingTo : ℕ → Answer → Type 0
 LeadsUnfailingTo status (shows shown) = (status ≡ shown.status) ⊎ (status ≡ 7)
 LeadsUnfailingTo status (refuses name why) = (status ≡ 3) ⊎ (status ≡ 7)
+LeadsUnfailingTo status (oversizes need have) = (status ≡ 4) ⊎ (status ≡ 7)
 
 -- the words are refused, or the answer to them is given; either way memory may have run out
 abbrev pub IsUnfailing : Option Asked → (Text → Option Text) → ℕ → Type 0

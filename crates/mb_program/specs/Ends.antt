@@ -3,11 +3,12 @@ use Rattle.std.specs.Prelude.{◌≡◌, ◌⊎◌, ℕ, [], Bool, true, Option,
 use Rattle.mb_outside.specs.Counts.{Rose}
 use Rattle.mb_outside.specs.Prints.{Printed, PrintedPart}
 use Rattle.mb_words.specs.Words.{Text, Asked}
-use Rattle.mb_program.specs.Answers.{Answer, shows, refuses, Told, Course, Names, answer_at, course_of}
+use Rattle.mb_program.specs.Answers.{Answer, shows, refuses, oversizes, Told, Course, ends, Names, answer_at, course_of}
 use Rattle.mb_program.specs.Lines.{status_of, line_of}
 use Rattle.mb_program.specs.declared.end.FileWhy.{FileWhy}
 use Rattle.mb_program.specs.declared.end.End.{End}
-use Rattle.mb_program.specs.declared.end.End.TheVariants.{Done, Words, Refused, Unread, Output, Memory}
+use Rattle.mb_program.specs.declared.end.End.TheVariants.{Done, Differs, Words, Refused, Oversize, Unread, Output}
+use Rattle.mb_program.specs.declared.end.End.TheVariants.{Memory}
 
 -- ---- what stands around a run
 
@@ -35,9 +36,23 @@ pub record Around : Type 0 where
   pub out : SinkSeen
   pub out_after : SinkSeen
 
+-- around a call, by what a shelf and a sink show
+abbrev pub around : {S O : Type 0} → (S → Told) → (S → Bool) → (S → ℕ) → (O → Option Text) → (O → ℕ)
+    → (shelf shelf_after : S) → (out out_after : O) → Around
+around told whole faults taken failed shelf shelf_after out out_after = record {
+  shelf = shelf_seen told whole faults shelf;
+  shelf_after = shelf_seen told whole faults shelf_after;
+  out = sink_seen taken failed out;
+  out_after = sink_seen taken failed out_after;
+}
+
+-- the count of a shelf's faults stayed
+abbrev pub Stayed : ShelfSeen → ShelfSeen → Type 0
+Stayed before after = after.faults ≡ before.faults
+
 -- the shelf has not failed
 abbrev pub ReadsWell : Around → Type 0
-ReadsWell a = a.shelf_after.faults ≡ a.shelf.faults
+ReadsWell a = Stayed a.shelf a.shelf_after
 
 -- the shelf has failed
 abbrev pub ReadsBadly : Around → Type 0
@@ -47,15 +62,19 @@ ReadsBadly a = Rose a.shelf.faults a.shelf_after.faults
 abbrev pub PutsNothing : Around → Type 0
 PutsNothing a = (a.out_after.faults ≡ a.out.faults) × (a.out_after.taken ≡ a.out.taken)
 
+-- neither the shelf nor out has failed in this call
+abbrev pub FailsNowhere : Around → Type 0
+FailsNowhere a = (ReadsBadly a → ⊥) × (Rose a.out.faults a.out_after.faults → ⊥)
+
 -- ---- what an answer is
 
--- a text, which out has gained; nothing is said beside it, and the status is 0
-abbrev pub IsShown : Around → Answer → Type 0
-IsShown a (shows shown) =
+-- a text, which out has gained; nothing is said beside it, and this is its status
+abbrev pub IsShown : Around → ℕ → Answer → Type 0
+IsShown a status (shows shown) =
     Printed a.out.taken a.out_after.taken a.out.faults a.out_after.faults shown.text
     × (shown.lines ≡ [])
-    × (shown.status ≡ 0)
-IsShown a _ = ⊥
+    × (shown.status ≡ status)
+IsShown a status _ = ⊥
 
 -- a text, of which out has gained a first part before it failed
 abbrev pub IsCut : Around → Answer → Type 0
@@ -66,6 +85,11 @@ IsCut a _ = ⊥
 abbrev pub IsRefused : Text → FileWhy → Answer → Type 0
 IsRefused name why (refuses n w) = (n ≡ name) × (w ≡ why)
 IsRefused name why _ = ⊥
+
+-- that the guests need so many bytes, and the board has so many
+abbrev pub IsOversize : (need have : ℕ) → Answer → Type 0
+IsOversize need have (oversizes n h) = (n ≡ need) × (h ≡ have)
+IsOversize need have _ = ⊥
 
 -- ---- ends
 
@@ -84,16 +108,30 @@ IsMissing shelf name = shelf.whole ≡ true → is_some (shelf.told name) ≡ tr
 -- Each end of a course with its cause.
 abbrev pub CourseEnds : Course → Around → End → Type 0
 CourseEnds course a Done =
-    ReadsWell a × (a.out_after.faults ≡ a.out.faults) × AnswerIs course a (IsShown a)
+    ReadsWell a × (a.out_after.faults ≡ a.out.faults) × AnswerIs course a (IsShown a 0)
+CourseEnds course a Differs =
+    ReadsWell a × (a.out_after.faults ≡ a.out.faults) × AnswerIs course a (IsShown a 1)
 CourseEnds course a Words = ⊥
 CourseEnds course a (Refused name why) =
     IsFileOn course a (string_bytes name) × ReadsWell a × PutsNothing a
     × AnswerIs course a (IsRefused (string_bytes name) why)
+CourseEnds course a (Oversize need have) =
+    ReadsWell a × PutsNothing a × AnswerIs course a (IsOversize need have)
 CourseEnds course a (Unread name) =
     IsFileOn course a (string_bytes name) × IsMissing a.shelf (string_bytes name) × ReadsBadly a × PutsNothing a
 CourseEnds course a Output =
     ReadsWell a × Rose a.out.faults a.out_after.faults × AnswerIs course a (IsCut a)
 CourseEnds course a Memory = ReadsWell a × PutsNothing a
+
+-- behind files that were read well, an answer is given on out, or memory runs out before that
+abbrev pub GivesAnswer : Answer → SinkSeen → SinkSeen → End → Type 0
+GivesAnswer answer out out_after end = (shelf shelf_after : ShelfSeen) → Stayed shelf shelf_after
+    → CourseEnds (ends answer) (record {
+      shelf = shelf;
+      shelf_after = shelf_after;
+      out = out;
+      out_after = out_after;
+    }) end
 
 -- where the words ask for nothing, they are refused, or memory ran out before that was known
 abbrev pub WordsEnd : Around → End → Type 0

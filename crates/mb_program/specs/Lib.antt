@@ -1,5 +1,9 @@
 pub mod Answers
 pub mod Lines
 pub mod Ends
+pub mod Sessions
+pub mod Tidy
 pub mod Causes
 pub mod Reads
+pub mod Runs
+pub mod Compares

@@ -13,7 +13,8 @@ use Rattle.mb_program.specs.declared.end.FileWhy.TheVariants.{TooLong, Line, Out
 use Rattle.mb_program.specs.declared.end.Reason.{Reason}
 use Rattle.mb_program.specs.declared.end.Reason.TheVariants as reason
 use Rattle.mb_program.specs.declared.end.End.{End}
-use Rattle.mb_program.specs.declared.end.End.TheVariants.{Done, Words, Refused, Unread, Output, Memory}
+use Rattle.mb_program.specs.declared.end.End.TheVariants.{Done, Differs, Words, Refused, Oversize, Unread, Output}
+use Rattle.mb_program.specs.declared.end.End.TheVariants.{Memory}
 
 -- the beginning of a line that names a file
 abbrev pub named_file : Text → Text
@@ -58,18 +59,27 @@ why_text (Line number why) = codes " line " ++ decimal number ++ codes ": " ++ r
 why_text (Outside at) = codes " outside " ++ hex8 at ++ codes "\n"
 why_text NoEnd = codes " no end\n"
 
+-- the line of a session that does not fit on its board
+abbrev pub oversize_line : (need have : ℕ) → Text
+oversize_line need have =
+    codes "mbx: oversize need " ++ decimal need ++ codes " have " ++ decimal have ++ codes "\n"
+
 abbrev pub line_of : End → Text
 line_of Done = []
+line_of Differs = []
 line_of Words = codes "mbx: words refused\n"
 line_of (Refused name why) = named (string_bytes name) (why_text why)
+line_of (Oversize need have) = oversize_line need have
 line_of (Unread name) = named (string_bytes name) (codes " cannot be read\n")
 line_of Output = codes "mbx: output failed\n"
 line_of Memory = codes "mbx: no memory\n"
 
 abbrev pub status_of : End → ℕ
 status_of Done = 0
+status_of Differs = 1
 status_of Words = 2
 status_of (Refused name why) = 3
+status_of (Oversize need have) = 4
 status_of (Unread name) = 5
 status_of Output = 6
 status_of Memory = 7

@@ -1,9 +1,7 @@
 -- What reading a file gave.
-use Rattle.std.specs.Prelude.{◌≡◌, ◌⊎◌, ℕ, ◌<◌, ◌≤◌, length, IfSome, Result, Ok, Err, String, string_bytes}
+use Rattle.std.specs.Prelude.{◌≡◌, ◌⊎◌, ◌<◌, ◌≤◌, length, IfSome, Result, Ok, Err, String, string_bytes}
 use Rattle.std.specs.declared.alloc.Global.{Global}
 use Rattle.mb_outside.specs.Counts.{Rose}
-use Rattle.mb_srec.specs.Image.{contents_of}
-use Rattle.mb_srec.specs.declared.image.Image.{Image}
 use Rattle.mb_srec.specs.declared.fault.ImageFault.{ImageFault}
 use Rattle.mb_srec.specs.declared.fault.ImageFault.TheVariants as image_fault
 use Rattle.mb_script.specs.declared.fault.LineFault.{LineFault}
@@ -11,8 +9,8 @@ use Rattle.mb_script.specs.declared.fault.LineFault.TheVariants as line_fault
 use Rattle.mb_asm.specs.declared.fault.AsmFault.{AsmFault}
 use Rattle.mb_asm.specs.declared.fault.AsmFault.TheVariants as asm_fault
 use Rattle.mb_words.specs.Words.{Text}
-use Rattle.mb_program.specs.Answers.{Told, File, Held, contents, most_of, held_in}
-use Rattle.mb_program.specs.Ends.{ShelfSeen, IsMissing}
+use Rattle.mb_program.specs.Answers.{Told, Course, most_bytes}
+use Rattle.mb_program.specs.Ends.{Around, ShelfSeen, Stayed, CourseEnds, IsMissing, PutsNothing}
 use Rattle.mb_program.specs.declared.end.FileWhy.{FileWhy}
 use Rattle.mb_program.specs.declared.end.FileWhy.TheVariants.{TooLong, Line, Outside, NoEnd}
 use Rattle.mb_program.specs.declared.end.Reason.TheVariants.{Record, Words, Source}
@@ -21,10 +19,6 @@ use Rattle.mb_program.specs.declared.end.End.TheVariants.{Refused, Unread, Memor
 use Rattle.mb_program.specs.declared.files.Loaded.{Loaded}
 use Rattle.mb_program.specs.declared.files.Unheld.{Unheld}
 use Rattle.mb_program.specs.declared.files.Unheld.TheVariants as unheld
-
--- the count of the shelf's faults stayed
-abbrev pub Stayed : ShelfSeen → ShelfSeen → Type 0
-Stayed before after = after.faults ≡ before.faults
 
 -- A file is the cause of the end of a run: it is refused for a reason that its bytes have, or it cannot be read; or
 -- memory ran out.
@@ -38,41 +32,49 @@ FileEnds before after name IsWhy _ = ⊥
 
 -- ---- whole files
 
--- the bytes are more than so many
-abbrev pub IsTooLong : ℕ → FileWhy → Text → Type 0
-IsTooLong most why bytes = (why ≡ TooLong) × (most < length bytes)
+-- the bytes are more than a file may have
+abbrev pub IsTooLong : FileWhy → Text → Type 0
+IsTooLong why bytes = (why ≡ TooLong) × (most_bytes < length bytes)
 
--- The file, of at most so many bytes, was read to its end, or is the cause of an end.
-abbrev pub Loads : ShelfSeen → ShelfSeen → Text → ℕ → Result Loaded End → Type 0
-Loads before after name most (Ok file) =
-    (string_bytes file.name ≡ name) × Stayed before after × (length file.bytes.items ≤ most)
+-- The file was read to its end, or is the cause of an end.
+abbrev pub Loads : ShelfSeen → ShelfSeen → Text → Result Loaded End → Type 0
+Loads before after name (Ok file) =
+    (string_bytes file.name ≡ name) × Stayed before after × (length file.bytes.items ≤ most_bytes)
     × IfSome (before.told name) (λ bytes. file.bytes.items ≡ bytes)
-Loads before after name most (Err end) = FileEnds before after name (IsTooLong most) end
+Loads before after name (Err end) = FileEnds before after name IsTooLong end
 
--- ---- files by their roles
+-- ---- what files hold
 
 -- The file was read to its end, and holds this.
-pub record Holds (told : Told) (file : File) (held : Held) : Type 0 where
+pub record Holds {A : Type 0} (told : Told) (held_in : Text → Result A FileWhy) (file : Text) (held : A) : Type 0 where
   pub bytes : Text
-  pub short : length bytes ≤ most_of file.role
-  pub is_told : IfSome (told file.name) (λ content. bytes ≡ content)
-  pub holds : held_in file.role bytes ≡ Ok held
+  pub short : length bytes ≤ most_bytes
+  pub is_told : IfSome (told file) (λ content. bytes ≡ content)
+  pub holds : held_in bytes ≡ Ok held
 
--- the bytes are too many for the file's role, or hold nothing of that role, for this reason
-abbrev pub IsRefusedFor : File → FileWhy → Text → Type 0
-IsRefusedFor file why bytes =
-    IsTooLong (most_of file.role) why bytes
-    ⊎ ((length bytes ≤ most_of file.role) × (held_in file.role bytes ≡ Err why))
+-- the bytes are too many, or are refused for this reason
+abbrev pub IsRefusedFor : {A : Type 0} → (Text → Result A FileWhy) → FileWhy → Text → Type 0
+IsRefusedFor held_in why bytes =
+    IsTooLong why bytes ⊎ ((length bytes ≤ most_bytes) × (held_in bytes ≡ Err why))
 
 -- What the file holds was read, seen so, or the file is the cause of an end.
-abbrev pub Reads : {X : Type 0} → (X → Held) → ShelfSeen → ShelfSeen → File → Result X End → Type 0
-Reads view before after file (Ok x) = Stayed before after × Holds before.told file (view x)
-Reads view before after file (Err end) = FileEnds before after file.name (IsRefusedFor file) end
+abbrev pub Reads : {A X : Type 0} → (Text → Result A FileWhy) → (X → A) → ShelfSeen → ShelfSeen → Text → Result X End
+    → Type 0
+Reads held_in view before after file (Ok x) = Stayed before after × Holds before.told held_in file (view x)
+Reads held_in view before after file (Err end) = FileEnds before after file (IsRefusedFor held_in) end
+
+-- ---- parts of courses
+
+-- A part of a course was read, up to what comes behind it: the course goes on by what was read, seen so; or it ends at
+-- this part, whatever comes behind.
+abbrev pub Passes : {A X : Type 0} → ((A → Course) → Course) → (X → A) → ShelfSeen → ShelfSeen → Result X End → Type 0
+Passes {A} {X} part view before after (Ok x) = (after ≡ before)
+    × ((next : A → Course) (a : Around) (end : End) → a.shelf ≡ before
+    → CourseEnds (next (view x)) a end → CourseEnds (part next) a end)
+Passes {A} {X} part view before after (Err end) = (next : A → Course) (a : Around) → a.shelf ≡ before
+    → a.shelf_after ≡ after → PutsNothing a → CourseEnds (part next) a end
 
 -- ---- what bytes hold
-
-abbrev pub image_held : Image → Held
-image_held image = contents (contents_of image)
 
 -- what a fault of reading an image is
 abbrev pub unheld_image : ImageFault → Unheld
@@ -81,10 +83,10 @@ unheld_image (image_fault.Line number why) = unheld.Why (Line number (Record why
 unheld_image (image_fault.Outside at) = unheld.Why (Outside at)
 unheld_image image_fault.NoEnd = unheld.Why NoEnd
 
--- what a fault of reading a script is
-abbrev pub unheld_script : LineFault → Unheld
-unheld_script line_fault.Memory = unheld.Memory
-unheld_script (line_fault.Line number why) = unheld.Why (Line number (Words why))
+-- what a fault of reading a script or a session is
+abbrev pub unheld_lines : LineFault → Unheld
+unheld_lines line_fault.Memory = unheld.Memory
+unheld_lines (line_fault.Line number why) = unheld.Why (Line number (Words why))
 
 -- what a fault of assembling a source is
 abbrev pub unheld_source : AsmFault → Unheld

@@ -2,7 +2,7 @@
 
 ghost use Rattle.std.specs.Prelude.{◌≡◌};
 ghost use Rattle.mb_outside.specs.Prints.{Prints, PrintsMore};
-ghost use Rattle.mb_program.specs.Lines.{line_of, named, named_file, why_text, status_of};
+ghost use Rattle.mb_program.specs.Lines.{line_of, named, named_file, oversize_line, why_text, status_of};
 ghost use Rattle.mb_program.specs.Lines.{line_reason, reason_of, record_reason, source_reason};
 
 use crate::end::{End, FileWhy, Reason};
@@ -136,15 +136,30 @@ fn say_refused<E: Sink>(diag: &mut E, name: &str, why: FileWhy) -> Result<(), Si
     say_why(diag, begun, why)
 }
 
+/// Says how many bytes a session needs, and how many its board has.
+fn say_oversize<E: Sink>(diag: &mut E, need: u32, have: u32) -> Result<(), SinkFault>
+    ensures { Prints (E.taken diag.old) (E.taken diag.new) (E.faults diag.old) (E.faults diag.new)
+        (oversize_line need have) result }
+{
+    let mut needed = Buffer::new();
+    let mut had = Buffer::new();
+    let begun = put_all(diag, b"mbx: oversize need ");
+    let numbered = put_more(diag, begun, needed.format(need).as_bytes());
+    let parted = put_more(diag, numbered, b" have ");
+    let told = put_more(diag, parted, had.format(have).as_bytes());
+    put_more(diag, told, b"\n")
+}
+
 /// Says how a run ended; nothing where all was done.
 pub fn tell<E: Sink>(diag: &mut E, end: &End) -> Result<(), SinkFault>
     ensures { Prints (E.taken diag.old) (E.taken diag.new) (E.faults diag.old) (E.faults diag.new)
         (line_of end.now) result }
 {
     match end {
-        End::Done => put_all(diag, b""),
+        End::Done | End::Differs => put_all(diag, b""),
         End::Words => put_all(diag, b"mbx: words refused\n"),
         End::Refused(name, why) => say_refused(diag, name.as_str(), *why),
+        End::Oversize { need, have } => say_oversize(diag, *need, *have),
         End::Unread(name) => say(diag, name.as_str(), b" cannot be read\n"),
         End::Output => put_all(diag, b"mbx: output failed\n"),
         End::Memory => put_all(diag, b"mbx: no memory\n"),
@@ -157,8 +172,10 @@ pub fn status(end: &End) -> u8
 {
     match end {
         End::Done => 0,
+        End::Differs => 1,
         End::Words => 2,
         End::Refused(_, _) => 3,
+        End::Oversize { .. } => 4,
         End::Unread(_) => 5,
         End::Output => 6,
         End::Memory => 7,

@@ -33,10 +33,14 @@ pub enum FileWhy {
 pub enum End {
     /// The text was written.
     Done,
+    /// The text was written, and it says that some guest differs.
+    Differs,
     /// The words ask for nothing.
     Words,
     /// A file is refused.
     Refused(String, FileWhy),
+    /// The guests and the monitor need more bytes than the board has.
+    Oversize { need: u32, have: u32 },
     /// A file could not be read.
     Unread(String),
     /// A sink failed before it had the whole text.

@@ -1,11 +1,10 @@
 //! An excerpt of a machine's opening memory.
 
-ghost use Rattle.std.specs.Prelude.{◌*◌, All, []};
+ghost use Rattle.std.specs.Prelude.{◌*◌, All};
 ghost use Rattle.mb_srec.specs.Image.{LiesBelow, contents_of};
 ghost use Rattle.mb_words.specs.Words.{excerpt_said};
-ghost use Rattle.mb_program.specs.Answers.{dis_answer, ends};
-ghost use Rattle.mb_program.specs.Ends.{CourseEnds, ShelfSeen, sink_seen};
-ghost use Rattle.mb_program.specs.Reads.{Stayed};
+ghost use Rattle.mb_program.specs.Answers.{dis_answer};
+ghost use Rattle.mb_program.specs.Ends.{GivesAnswer, sink_seen};
 
 use crate::end::End;
 use crate::machine::start_board;
@@ -18,14 +17,8 @@ use std::alloc::Global;
 /// Writes the listing of an excerpt.
 pub(crate) fn show_excerpt<O: Sink>(alloc: Global, dis: &Dis, image: &Image, out: &mut O) -> End
     requires { All (LiesBelow (1024 * dis.now.ram)) (contents_of image.now) }
-    ensures { (shelf shelf_after : ShelfSeen) → Stayed shelf shelf_after → CourseEnds
-        (ends (dis_answer (excerpt_said dis.now) (record { image = contents_of image.now; script = [] })))
-        (record {
-          shelf = shelf;
-          shelf_after = shelf_after;
-          out = sink_seen O.taken O.faults out.old;
-          out_after = sink_seen O.taken O.faults out.new;
-        }) result }
+    ensures { GivesAnswer (dis_answer (excerpt_said dis.now) (contents_of image.now))
+        (sink_seen O.taken O.faults out.old) (sink_seen O.taken O.faults out.new) result }
 {
     let Ok(board) = start_board(alloc, image, 1024 * dis.ram) else {
         return End::Memory;

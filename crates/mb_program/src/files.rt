@@ -1,17 +1,20 @@
 //! The files of a command, read whole and by what they are.
 
-ghost use Rattle.std.specs.Prelude.{◌≡◌, ◌≤◌, ◌*◌, All, IfOk, string_bytes};
+ghost use Rattle.std.specs.Prelude.{◌≡◌, ◌≤◌, ◌*◌, All, IfOk, [], string_bytes};
 ghost use Rattle.mb_outside.specs.Counts.{Rose};
 ghost use Rattle.mb_srec.specs.Image.{IsAddressed, LiesBelow, contents_of};
-ghost use Rattle.mb_program.specs.Answers.{entries, image, script, source};
+ghost use Rattle.mb_script.specs.Answers.{plan_said};
+ghost use Rattle.mb_script.specs.Plan.{IsInRange};
+ghost use Rattle.mb_words.specs.Values.{file_said};
+ghost use Rattle.mb_program.specs.Answers.{image_in, script_in, session_in, source_in, reads_if_named};
 ghost use Rattle.mb_program.specs.Ends.{shelf_seen};
-ghost use Rattle.mb_program.specs.Reads.{Loads, Reads, image_held, ends_by};
-ghost use Rattle.mb_program.specs.Reads.{unheld_image, unheld_script, unheld_source};
+ghost use Rattle.mb_program.specs.Reads.{Loads, Passes, Reads, ends_by};
+ghost use Rattle.mb_program.specs.Reads.{unheld_image, unheld_lines, unheld_source};
 
 use crate::end::{End, FileWhy, Reason};
 use mb_asm::{AsmFault, assemble};
 use mb_outside::{LoadFault, Shelf, load};
-use mb_script::{LineFault, Script, read_script};
+use mb_script::{LineFault, Script, SessionPlan, read_script, read_session};
 use mb_srec::{Image, ImageFault, read_image};
 use std::alloc::Global;
 
@@ -50,7 +53,7 @@ impl From<ImageFault> for Unheld {
 }
 
 impl From<LineFault> for Unheld {
-    ghost from_gives = { λ given fault. fault ≡ unheld_script given };
+    ghost from_gives = { λ given fault. fault ≡ unheld_lines given };
 
     fn from(fault: LineFault) -> Unheld {
         match fault {
@@ -92,7 +95,7 @@ impl Loaded {
 /// Reads a file whole.
 fn load_file<F: Shelf>(alloc: Global, shelf: &mut F, name: &str) -> Result<Loaded, End>
     ensures loads { Loads (shelf_seen F.told F.whole F.faults shelf.old) (shelf_seen F.told F.whole F.faults shelf.new)
-        name.now 67108864 result }
+        name.now result }
     ensures told { F.told shelf.new ≡ F.told shelf.old }
     ensures whole { F.whole shelf.new ≡ F.whole shelf.old }
 {
@@ -108,16 +111,15 @@ fn load_file<F: Shelf>(alloc: Global, shelf: &mut F, name: &str) -> Result<Loade
 }
 
 /// Reads the image of a file, for so many bytes of RAM.
-#[tactic(auto, unfolding(crate::specs::Answers::held_in))]
+#[tactic(auto, unfolding(crate::specs::Answers::image_in))]
 pub(crate) fn image_file<F: Shelf>(
     alloc: Global,
     shelf: &mut F,
     name: &str,
     size: u32,
 ) -> Result<Image, End>
-    ensures reads { Reads image_held
-        (shelf_seen F.told F.whole F.faults shelf.old) (shelf_seen F.told F.whole F.faults shelf.new)
-        (record { name = name.now; role = image size }) result }
+    ensures reads { Reads (image_in size) contents_of (shelf_seen F.told F.whole F.faults shelf.old)
+        (shelf_seen F.told F.whole F.faults shelf.new) name.now result }
     ensures in_ram { IfOk result (λ image. All (LiesBelow size) (contents_of image)) }
     ensures told { F.told shelf.new ≡ F.told shelf.old }
     ensures whole { F.whole shelf.new ≡ F.whole shelf.old }
@@ -130,11 +132,10 @@ pub(crate) fn image_file<F: Shelf>(
 }
 
 /// Reads the script of a file.
-#[tactic(auto, unfolding(crate::specs::Answers::held_in))]
-pub(crate) fn script_file<F: Shelf>(alloc: Global, shelf: &mut F, name: &str) -> Result<Script, End>
-    ensures reads { Reads (λ read. entries read)
-        (shelf_seen F.told F.whole F.faults shelf.old) (shelf_seen F.told F.whole F.faults shelf.new)
-        (record { name = name.now; role = script }) result }
+#[tactic(auto, unfolding(crate::specs::Answers::script_in))]
+fn script_file<F: Shelf>(alloc: Global, shelf: &mut F, name: &str) -> Result<Script, End>
+    ensures reads { Reads script_in (λ script. script) (shelf_seen F.told F.whole F.faults shelf.old)
+        (shelf_seen F.told F.whole F.faults shelf.new) name.now result }
     ensures told { F.told shelf.new ≡ F.told shelf.old }
     ensures whole { F.whole shelf.new ≡ F.whole shelf.old }
 {
@@ -145,12 +146,48 @@ pub(crate) fn script_file<F: Shelf>(alloc: Global, shelf: &mut F, name: &str) ->
     }
 }
 
+/// Reads the script of a file, where there is one; else it has no entries.
+pub(crate) fn script_if_named<F: Shelf>(
+    alloc: Global,
+    shelf: &mut F,
+    name: Option<&str>,
+) -> Result<Script, End>
+    ensures passes { Passes (reads_if_named script_in (file_said name.entry) []) (λ script. script)
+        (shelf_seen F.told F.whole F.faults shelf.old) (shelf_seen F.told F.whole F.faults shelf.new) result }
+    ensures told { F.told shelf.new ≡ F.told shelf.old }
+    ensures whole { F.whole shelf.new ≡ F.whole shelf.old }
+{
+    match name {
+        Some(name) => script_file(alloc, shelf, name),
+        None => Ok(Script::new(Vec::new(alloc))),
+    }
+}
+
+/// Reads the plan of a session file.
+#[tactic(auto, unfolding(crate::specs::Answers::session_in))]
+pub(crate) fn session_file<F: Shelf>(
+    alloc: Global,
+    shelf: &mut F,
+    name: &str,
+) -> Result<SessionPlan, End>
+    ensures reads { Reads session_in plan_said (shelf_seen F.told F.whole F.faults shelf.old)
+        (shelf_seen F.told F.whole F.faults shelf.new) name.now result }
+    ensures in_range { IfOk result (λ plan. IsInRange (plan_said plan)) }
+    ensures told { F.told shelf.new ≡ F.told shelf.old }
+    ensures whole { F.whole shelf.new ≡ F.whole shelf.old }
+{
+    let file = load_file(alloc, shelf, name)?;
+    match read_session(alloc, &file.bytes) {
+        Ok(plan) => Ok(plan),
+        Err(fault) => Err(file.end(Unheld::from(fault))),
+    }
+}
+
 /// Assembles the source of a file.
-#[tactic(auto, unfolding(crate::specs::Answers::held_in))]
+#[tactic(auto, unfolding(crate::specs::Answers::source_in))]
 pub(crate) fn source_file<F: Shelf>(alloc: Global, shelf: &mut F, name: &str) -> Result<Image, End>
-    ensures reads { Reads image_held
-        (shelf_seen F.told F.whole F.faults shelf.old) (shelf_seen F.told F.whole F.faults shelf.new)
-        (record { name = name.now; role = source }) result }
+    ensures reads { Reads source_in contents_of (shelf_seen F.told F.whole F.faults shelf.old)
+        (shelf_seen F.told F.whole F.faults shelf.new) name.now result }
     ensures addressed { IfOk result (λ image. All IsAddressed (contents_of image)) }
     ensures told { F.told shelf.new ≡ F.told shelf.old }
     ensures whole { F.whole shelf.new ≡ F.whole shelf.old }

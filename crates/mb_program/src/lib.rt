@@ -5,11 +5,16 @@
 //! `specs/Answers` has what a command comes to by what its files hold.
 #![tactic(auto)]
 
+mod bare_machine;
 mod command;
+mod compared;
 mod diagnosis;
 mod end;
 mod excerpt;
 mod files;
+mod generated;
+mod guest_reading;
+mod hosted;
 mod machine;
 mod records;
 mod top;

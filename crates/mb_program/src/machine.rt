@@ -5,20 +5,18 @@ ghost use Rattle.mb_srec.specs.Image.{content_of, all_contents, contents_of, Lie
 ghost use Rattle.mb_walk.specs.Memory.{overwritten};
 ghost use Rattle.mb_model.specs.Keeping.{rule_a};
 ghost use Rattle.mb_board.specs.State.{machine_in, with_machine};
-ghost use Rattle.mb_machine.specs.Machine.{start, with_contents, with_ram};
-ghost use Rattle.mb_words.specs.Words.{run_said};
-ghost use Rattle.mb_program.specs.Answers.{bare_answer, ends, machine_after};
-ghost use Rattle.mb_program.specs.Ends.{CourseEnds, ShelfSeen, sink_seen};
-ghost use Rattle.mb_program.specs.Reads.{Stayed};
+ghost use Rattle.mb_machine.specs.Machine.{seen_machine, start, with_contents, with_ram};
+ghost use Rattle.vm_guest.specs.Session.{IsGuest};
+ghost use Rattle.mb_program.specs.Answers.{bare_answer, outcome_by};
+ghost use Rattle.mb_program.specs.Ends.{GivesAnswer, sink_seen};
 
 use crate::end::End;
 use mb_board::Board;
 use mb_outside::{Memory, Sink};
 use mb_report::write_outcome;
-use mb_script::Script;
 use mb_srec::{Chunk, Image};
-use mb_words::Bare;
 use std::alloc::Global;
+use vm_guest::SessionGuest;
 
 /// Writes a chunk that lies in RAM.
 #[tactic(auto, using(mb_walk::proofs::MemoryLemmas::writes))]
@@ -60,38 +58,25 @@ pub(crate) fn start_board(alloc: Global, image: &Image, size: u32) -> Result<Boa
     Ok(board)
 }
 
-/// A board after the steps of a run, with an image and a script.
-#[tactic(auto, unfolding(crate::specs::Answers::machine_after))]
-fn run_board(alloc: Global, run: &Bare, image: &Image, script: &Script) -> Result<Board, Memory>
-    requires { All (LiesBelow (1024 * run.now.ram)) (contents_of image.now) }
-    ensures after { IfOk result (λ board. machine_in board
-        ≡ machine_after (run_said run.now) (record { image = contents_of image.now; script = script.now })) }
+/// A board with a machine on it after its steps.
+#[tactic(auto, unfolding(crate::specs::Answers::outcome_by))]
+fn run_board(alloc: Global, guest: &SessionGuest) -> Result<Board, Memory>
+    requires { IsGuest guest.now }
+    ensures after { IfOk result (λ board. seen_machine (machine_in board) ≡ outcome_by rule_a guest.now) }
     ensures ram { IfOk result (λ board. length board.world.ram ≤ 67108864) }
 {
-    let mut board = start_board(alloc, image, 1024 * run.ram)?;
-    board.run_bare(script, run.steps);
+    let mut board = start_board(alloc, guest.image(), guest.ram())?;
+    board.run_bare(guest.script(), guest.steps());
     Ok(board)
 }
 
 /// Runs a machine, and writes its outcome.
-pub(crate) fn show_machine<O: Sink>(
-    alloc: Global,
-    run: &Bare,
-    image: &Image,
-    script: &Script,
-    out: &mut O,
-) -> End
-    requires { All (LiesBelow (1024 * run.now.ram)) (contents_of image.now) }
-    ensures { (shelf shelf_after : ShelfSeen) → Stayed shelf shelf_after → CourseEnds
-        (ends (bare_answer (run_said run.now) (record { image = contents_of image.now; script = script.now })))
-        (record {
-          shelf = shelf;
-          shelf_after = shelf_after;
-          out = sink_seen O.taken O.faults out.old;
-          out_after = sink_seen O.taken O.faults out.new;
-        }) result }
+pub(crate) fn show_machine<O: Sink>(alloc: Global, guest: &SessionGuest, out: &mut O) -> End
+    requires { IsGuest guest.now }
+    ensures { GivesAnswer (bare_answer guest.now)
+        (sink_seen O.taken O.faults out.old) (sink_seen O.taken O.faults out.new) result }
 {
-    let Ok(board) = run_board(alloc, run, image, script) else {
+    let Ok(board) = run_board(alloc, guest) else {
         return End::Memory;
     };
     match write_outcome(1, &board.outcome(), out) {

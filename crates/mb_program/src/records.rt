@@ -1,10 +1,9 @@
 //! The records of an image.
 
-ghost use Rattle.std.specs.Prelude.{All, []};
+ghost use Rattle.std.specs.Prelude.{All};
 ghost use Rattle.mb_srec.specs.Image.{IsAddressed, contents_of};
-ghost use Rattle.mb_program.specs.Answers.{asm_answer, ends};
-ghost use Rattle.mb_program.specs.Ends.{CourseEnds, ShelfSeen, sink_seen};
-ghost use Rattle.mb_program.specs.Reads.{Stayed};
+ghost use Rattle.mb_program.specs.Answers.{asm_answer};
+ghost use Rattle.mb_program.specs.Ends.{GivesAnswer, sink_seen};
 
 use crate::end::End;
 use mb_outside::{Sink, put_all};
@@ -14,14 +13,8 @@ use std::alloc::Global;
 /// Writes an image as S-records.
 pub(crate) fn show_records<O: Sink>(alloc: Global, image: &Image, out: &mut O) -> End
     requires { All IsAddressed (contents_of image.now) }
-    ensures { (shelf shelf_after : ShelfSeen) → Stayed shelf shelf_after → CourseEnds
-        (ends (asm_answer (record { image = contents_of image.now; script = [] })))
-        (record {
-          shelf = shelf;
-          shelf_after = shelf_after;
-          out = sink_seen O.taken O.faults out.old;
-          out_after = sink_seen O.taken O.faults out.new;
-        }) result }
+    ensures { GivesAnswer (asm_answer (contents_of image.now))
+        (sink_seen O.taken O.faults out.old) (sink_seen O.taken O.faults out.new) result }
 {
     let Ok(text) = write_records(alloc, image) else {
         return End::Memory;

@@ -2,7 +2,7 @@
 
 ghost use Rattle.std.specs.Prelude.{map, string_bytes};
 ghost use Rattle.mb_words.specs.Words.{asked_by};
-ghost use Rattle.mb_program.specs.Ends.{EndsWith, shelf_seen, sink_seen};
+ghost use Rattle.mb_program.specs.Ends.{EndsWith, around, sink_seen};
 ghost use Rattle.mb_program.specs.Causes.{Causes};
 
 use crate::command::run_words;
@@ -13,10 +13,14 @@ use std::alloc::Global;
 /// Reads the words, of which the first is the program's name, runs their command, and says on diag how
 /// it ended. The answer is the exit status:
 ///
-/// - 0: the text of the command was written to out: the outcome of a run, the records of an image, or a listing.
+/// - 0: the text of the command was written to out: the outcome of a run, the records of an image, a listing, the
+///   outcomes of all guests of a session, that each of them shows the same on the board and under the monitor, or the
+///   summary of guests that were made.
+/// - 1: the same was written, and some guest differs.
 /// - 2: the words ask for nothing.
-/// - 3: a file has more than 67,108,864 bytes, or is no image for this RAM, no script or no source; the line on diag
-///   says which, and why.
+/// - 3: a file has more than 67,108,864 bytes, or is no image for this RAM, no script, no source or no session; the
+///   line on diag says which, and why.
+/// - 4: the guests of a session do not fit on its board; the line on diag says how many bytes they need, and have.
 /// - 5: the shelf failed.
 /// - 6: out failed, and has a first part of the text.
 /// - 7: memory ran out.
@@ -29,12 +33,7 @@ pub fn run_program<F: Shelf, O: Sink, E: Sink>(
 ) -> u8
     // The run has an end, with its cause; its status is the result, and its line is put on diag.
     ensures ends { EndsWith (asked_by (map string_bytes words.entry.now))
-        (record {
-          shelf = shelf_seen F.told F.whole F.faults shelf.old;
-          shelf_after = shelf_seen F.told F.whole F.faults shelf.new;
-          out = sink_seen O.taken O.faults out.old;
-          out_after = sink_seen O.taken O.faults out.new;
-        })
+        (around F.told F.whole F.faults O.taken O.faults shelf.old shelf.new out.old out.new)
         (record {
           diag = sink_seen E.taken E.faults diag.old;
           diag_after = sink_seen E.taken E.faults diag.new;
@@ -42,12 +41,7 @@ pub fn run_program<F: Shelf, O: Sink, E: Sink>(
         result }
     // What each status says of its cause, a fact a field.
     ensures causes { Causes (asked_by (map string_bytes words.entry.now))
-        (record {
-          shelf = shelf_seen F.told F.whole F.faults shelf.old;
-          shelf_after = shelf_seen F.told F.whole F.faults shelf.new;
-          out = sink_seen O.taken O.faults out.old;
-          out_after = sink_seen O.taken O.faults out.new;
-        })
+        (around F.told F.whole F.faults O.taken O.faults shelf.old shelf.new out.old out.new)
         (record {
           diag = sink_seen E.taken E.faults diag.old;
           diag_after = sink_seen E.taken E.faults diag.new;

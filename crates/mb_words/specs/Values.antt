@@ -67,6 +67,17 @@ ram_of text = option_and_then (tested (λ kib. kib % 64 == 0)) (ranged 64 16384 
 abbrev pub IsRam : ℕ → Type 0
 IsRam kib = (64 ≤ kib) × (kib ≤ 16384) × (kib % 64 ≡ 0)
 
+-- the seed of a session that is made: up to 2^32 - 1
+abbrev pub seed_of : Text → Option ℕ
+seed_of text = ranged 0 4294967295 text
+
+-- how many guests it has: 1 to 16
+abbrev pub guests_of : Text → Option ℕ
+guests_of text = ranged 1 16 text
+
+abbrev pub IsGuestCount : ℕ → Type 0
+IsGuestCount guests = (1 ≤ guests) × (guests ≤ 16)
+
 -- what the value of a name says, where it has one
 abbrev pub said_by : {A : Type 0} → (Text → Option A) → Text → List Use → Option A
 said_by says name uses = option_and_then says (value_in name uses)

@@ -5,9 +5,12 @@ use Rattle.std.specs.Str.{bytes_eq}
 pub use Rattle.mb_forms.specs.Forms.{Text}
 use Rattle.mb_forms.specs.Forms.{Form, Use, read}
 use Rattle.mb_words.specs.Values.{file_said, said_by, said_if_given, name_of, ram_of, ranged, word_address_of}
+use Rattle.mb_words.specs.Values.{guests_of, seed_of}
 use Rattle.mb_words.specs.declared.asm.Asm.{Asm}
 use Rattle.mb_words.specs.declared.bare.Bare.{Bare}
 use Rattle.mb_words.specs.declared.dis.Dis.{Dis}
+use Rattle.mb_words.specs.declared.generate.Generate.{Generate}
+use Rattle.mb_words.specs.declared.session.SessionFile.{SessionFile}
 use Rattle.mb_words.specs.declared.command.Command.{Command}
 use Rattle.mb_words.specs.declared.command.Command.TheVariants as command
 
@@ -27,11 +30,21 @@ pub record Excerpt : Type 0 where
   pub at : ℕ
   pub count : ℕ
 
--- what words can ask for: a run, the assembly of a source, by the name of its file, or the listing of an excerpt
+-- a session that is made: its seed, and how many guests it has
+pub record Workload : Type 0 where
+  pub seed : ℕ
+  pub guests : ℕ
+
+-- what words can ask for: a run, the assembly of a source, the listing of an excerpt, the runs of all guests of a
+-- session, what their runs by both rules have in common, or the runs of guests that are made; a source and a session
+-- by the name of its file
 pub data Asked : Type 0 where
   bare : Run → Asked
   assembly : Text → Asked
   disassembly : Excerpt → Asked
+  hosting : Text → Asked
+  comparison : Text → Asked
+  generation : Workload → Asked
 
 abbrev pub run_said : Bare → Run
 run_said b = record { image = b.image.now; ram = b.ram; steps = b.steps; script = file_said b.script }
@@ -42,10 +55,19 @@ source_said a = a.source.now
 abbrev pub excerpt_said : Dis → Excerpt
 excerpt_said d = record { image = d.image.now; ram = d.ram; at = d.at; count = d.count }
 
+abbrev pub session_said : SessionFile → Text
+session_said s = s.name.now
+
+abbrev pub workload_said : Generate → Workload
+workload_said g = record { seed = g.seed; guests = g.guests }
+
 abbrev pub asked_of : Command → Asked
 asked_of (command.Bare b) = bare (run_said b)
 asked_of (command.Asm a) = assembly (source_said a)
 asked_of (command.Dis d) = disassembly (excerpt_said d)
+asked_of (command.Host s) = hosting (session_said s)
+asked_of (command.Compare s) = comparison (session_said s)
+asked_of (command.Gen g) = generation (workload_said g)
 
 -- `bare IMAGE --ram KIB --steps N [--script FILE]`
 abbrev pub bare_form : Form
@@ -107,6 +129,38 @@ dis_excerpt uses = excerpt_with
     (said_by word_address_of (codes "at") uses)
     (said_by (ranged 1 1000000) (codes "count") uses)
 
+-- `host SESSION`
+abbrev pub host_form : Form
+host_form = record { name = codes "host"; positionals = codes "SESSION" ∷ []; options = [] }
+
+-- `compare SESSION`
+abbrev pub compare_form : Form
+compare_form = record { name = codes "compare"; positionals = codes "SESSION" ∷ []; options = [] }
+
+-- the session that the values of `host` or of `compare` name
+abbrev pub session_named : List Use → Option Text
+session_named uses = said_by name_of (codes "SESSION") uses
+
+-- `gen --seed N --guests N`
+abbrev pub gen_form : Form
+gen_form = record {
+  name = codes "gen";
+  positionals = [];
+  options =
+      record { name = codes "seed"; required = true }
+      ∷ record { name = codes "guests"; required = true }
+      ∷ [];
+}
+
+-- a session that is made, where each of its values says something
+abbrev pub workload_with : Option ℕ → Option ℕ → Option Workload
+workload_with (Some seed) (Some guests) = Some (record { seed = seed; guests = guests })
+workload_with _ _ = None
+
+-- the session that the values of `gen` ask for
+abbrev pub gen_workload : List Use → Option Workload
+gen_workload uses = workload_with (said_by seed_of (codes "seed") uses) (said_by guests_of (codes "guests") uses)
+
 -- What the words ask for: `PROGRAM COMMAND`, and then the command's own words in its form. Other words ask
 -- for nothing.
 unfoldable pub asked_by : List Text → Option Asked
@@ -114,5 +168,9 @@ asked_by (program ∷ name ∷ words) =
     if bytes_eq name (codes "bare") then option_map bare (option_and_then bare_run (read bare_form words))
     else if bytes_eq name (codes "asm") then option_map assembly (option_and_then asm_source (read asm_form words))
     else if bytes_eq name (codes "dis") then option_map disassembly (option_and_then dis_excerpt (read dis_form words))
+    else if bytes_eq name (codes "host") then option_map hosting (option_and_then session_named (read host_form words))
+    else if bytes_eq name (codes "compare")
+    then option_map comparison (option_and_then session_named (read compare_form words))
+    else if bytes_eq name (codes "gen") then option_map generation (option_and_then gen_workload (read gen_form words))
     else None
 asked_by _ = None

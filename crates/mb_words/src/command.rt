@@ -3,6 +3,8 @@
 use crate::asm::Asm;
 use crate::bare::Bare;
 use crate::dis::Dis;
+use crate::generate::Generate;
+use crate::session::SessionFile;
 
 /// A command with its values.
 #[derive(Clone, Copy, Debug, Drop)]
@@ -10,4 +12,7 @@ pub enum Command<'a> {
     Bare(Bare<'a>),
     Asm(Asm<'a>),
     Dis(Dis<'a>),
+    Host(SessionFile<'a>),
+    Compare(SessionFile<'a>),
+    Gen(Generate),
 }

@@ -12,12 +12,18 @@ mod bare_words;
 mod command;
 mod dis;
 mod dis_words;
+mod gen_words;
+mod generate;
 mod reading;
+mod session;
+mod session_words;
 mod values;
 
 pub use asm::Asm;
 pub use bare::Bare;
 pub use command::Command;
 pub use dis::Dis;
+pub use generate::Generate;
 pub use mb_forms::WordsFault;
 pub use reading::read_words;
+pub use session::SessionFile;

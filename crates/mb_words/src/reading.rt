@@ -8,6 +8,8 @@ use crate::asm_words::read_asm;
 use crate::bare_words::read_bare;
 use crate::command::Command;
 use crate::dis_words::read_dis;
+use crate::gen_words::read_gen;
+use crate::session_words::{read_compare, read_host};
 use mb_forms::WordsFault;
 use std::alloc::Global;
 
@@ -24,6 +26,9 @@ pub fn read_words<'a>(alloc: Global, words: &'a [String]) -> Result<Command<'a>,
         "bare" => Ok(Command::Bare(read_bare(alloc, rest)?)),
         "asm" => Ok(Command::Asm(read_asm(alloc, rest)?)),
         "dis" => Ok(Command::Dis(read_dis(alloc, rest)?)),
+        "host" => Ok(Command::Host(read_host(alloc, rest)?)),
+        "compare" => Ok(Command::Compare(read_compare(alloc, rest)?)),
+        "gen" => Ok(Command::Gen(read_gen(alloc, rest)?)),
         _ => Err(WordsFault::Refused),
     }
 }

@@ -2,8 +2,8 @@
 
 ghost use Rattle.std.specs.Prelude.{◌≡◌, ◌*◌, ◌%◌, ◌^◌, ◌<◌, ◌≤◌, IfSome, option_map};
 ghost use Rattle.mb_forms.specs.Said.{text_said};
-ghost use Rattle.mb_words.specs.Values.{IsRam, digit_of, file_said, hex_of, if_given, name_of, number_of, ram_of, ranged};
-ghost use Rattle.mb_words.specs.Values.{word_address_of};
+ghost use Rattle.mb_words.specs.Values.{IsGuestCount, IsRam, digit_of, file_said, guests_of, hex_of, if_given, name_of};
+ghost use Rattle.mb_words.specs.Values.{number_of, ram_of, ranged, word_address_of};
 
 /// A file's name, which is not empty.
 pub(crate) fn name(text: &str) -> Option<&str>
@@ -104,4 +104,13 @@ pub(crate) fn ram(text: &str) -> Option<u32>
         return None;
     }
     Some(kib)
+}
+
+/// How many guests a session has: 1 to 16.
+pub(crate) fn guests(text: &str) -> Option<u8>
+    ensures given { result ≡ guests_of text.now }
+    ensures in_range { IfSome result IsGuestCount }
+{
+    let count = ranged(1, 16, text)?;
+    Some(count as u8)
 }

@@ -1,5 +1,5 @@
-//! mbx: runs an image of a MC68LC040 on a bare board, and prints what became of it. It assembles such images too, and
-//! lists their instructions.
+//! mbx: runs an image of a MC68LC040 on a bare board, or several under a monitor, and prints what became of them. It
+//! assembles such images too, and lists their instructions.
 //!
 //! The program's edge: it hands the real words, files and streams to the top call.
 #![tactic(auto)]

@@ -1,6 +1,8 @@
 //! Whole runs in memory: what no clause says, and each answer once with ample memory.
 
 mod excerpts;
+mod generated;
+mod sessions;
 mod sources;
 
 use mb_outside::{MemShelf, MemSink};
@@ -319,7 +321,7 @@ fn machines_run(rt: HostRuntime) -> Result<(), Fail> {
             &rt,
             "ample memory",
         );
-        assert_eq!(rt; ran.status, 0, "{}", row.what);
+        assert!(rt; ran.status == 0, "{}", row.what);
         assert!(rt; ran.diag.bytes().is_empty(), "{}", row.what);
         for line in row.lines {
             assert!(rt; contains(ran.out.bytes(), line), "{}", row.what);
@@ -331,8 +333,8 @@ fn machines_run(rt: HostRuntime) -> Result<(), Fail> {
 #[test]
 fn the_whole_text_is_written(rt: HostRuntime) {
     let ran = run_text(rt.alloc(), HELLO_WORDS, HELLO, NOTHING).expect(&rt, "ample memory");
-    assert_eq!(rt; ran.status, 0);
-    assert_eq!(rt; ran.out.bytes(), HELLO_TEXT);
+    assert!(rt; ran.status == 0);
+    assert!(rt; ran.out.bytes() == HELLO_TEXT);
     assert!(rt; ran.diag.bytes().is_empty());
 }
 
@@ -340,10 +342,9 @@ fn the_whole_text_is_written(rt: HostRuntime) {
 fn check_refused(rt: &impl Abort, alloc: Global, lines: &[&str]) {
     for line in lines {
         let ran = run_text(alloc, line, HELLO, NOTHING).expect(rt, "ample memory");
-        assert_eq!(rt; ran.status, 2, "{line}");
-        assert_eq!(rt;
-            ran.diag.bytes(),
-            b"mbx: words refused\n".as_slice(),
+        assert!(rt; ran.status == 2, "{line}");
+        assert!(rt;
+            ran.diag.bytes() == b"mbx: words refused\n".as_slice(),
             "{line}"
         );
         assert!(rt; ran.out.bytes().is_empty(), "{line}");
@@ -352,7 +353,7 @@ fn check_refused(rt: &impl Abort, alloc: Global, lines: &[&str]) {
 
 #[test]
 fn other_commands_are_refused(rt: HostRuntime) {
-    let refused: [&str; 25] = [
+    let refused: [&str; 30] = [
         "mbx",
         "mbx bare",
         "mbx help",
@@ -372,7 +373,12 @@ fn other_commands_are_refused(rt: HostRuntime) {
         "mbx asm -",
         "mbx Bare hello.s19 --ram 64 --steps 10",
         "mbx bar hello.s19 --ram 64 --steps 10",
+        "mbx host",
+        "mbx host ",
+        "mbx host hello.s19 hello.s19",
         "mbx host hello.s19 --ram 64 --steps 10",
+        "mbx compare",
+        "mbx compare --slice 1 hello.s19",
         "mbx  hello.s19 --ram 64 --steps 10",
         "bare hello.s19 --ram 64 --steps 10",
         "mbx --ram 64 bare hello.s19 --steps 10",
@@ -517,8 +523,8 @@ fn words_are_taken_in_any_order(rt: HostRuntime) {
     ];
     for line in taken {
         let ran = run_text(rt.alloc(), line, HELLO, NOTHING).expect(&rt, "ample memory");
-        assert_eq!(rt; ran.status, 0, "{line}");
-        assert_eq!(rt; ran.out.bytes(), HELLO_TEXT, "{line}");
+        assert!(rt; ran.status == 0, "{line}");
+        assert!(rt; ran.out.bytes() == HELLO_TEXT, "{line}");
         assert!(rt; ran.diag.bytes().is_empty(), "{line}");
     }
 }
@@ -540,8 +546,8 @@ fn words_name_other_files(rt: HostRuntime) -> Result<(), Fail> {
     for (line, name) in named {
         let ran = run_text(rt.alloc(), line, HELLO, NOTHING).expect(&rt, "ample memory");
         let unread = format!(in rt.alloc(); "mbx: {name} cannot be read\n")?;
-        assert_eq!(rt; ran.status, 5, "{line}");
-        assert_eq!(rt; ran.diag.bytes(), unread.as_bytes(), "{line}");
+        assert!(rt; ran.status == 5, "{line}");
+        assert!(rt; ran.diag.bytes() == unread.as_bytes(), "{line}");
     }
     Ok(())
 }
@@ -576,8 +582,8 @@ fn files_are_refused(rt: HostRuntime) -> Result<(), Fail> {
     for (text, why) in malformed {
         let ran = run_text(rt.alloc(), HELLO_WORDS, text, NOTHING).expect(&rt, "ample memory");
         let line = format!(in rt.alloc(); "mbx: hello.s19 {why}\n")?;
-        assert_eq!(rt; ran.status, 3, "{why}");
-        assert_eq!(rt; ran.diag.bytes(), line.as_bytes());
+        assert!(rt; ran.status == 3, "{why}");
+        assert!(rt; ran.diag.bytes() == line.as_bytes());
         assert!(rt; ran.out.bytes().is_empty(), "{why}");
     }
     Ok(())
@@ -602,8 +608,8 @@ fn scripts_are_refused(rt: HostRuntime) -> Result<(), Fail> {
             "ample memory",
         );
         let line = format!(in rt.alloc(); "mbx: typed.txt {why}\n")?;
-        assert_eq!(rt; ran.status, 3, "{why}");
-        assert_eq!(rt; ran.diag.bytes(), line.as_bytes());
+        assert!(rt; ran.status == 3, "{why}");
+        assert!(rt; ran.diag.bytes() == line.as_bytes());
         assert!(rt; ran.out.bytes().is_empty(), "{why}");
     }
     Ok(())
@@ -674,8 +680,8 @@ fn the_first_file_ends_the_run(rt: HostRuntime) {
             NOTHING,
         )
         .expect(&rt, "ample memory");
-        assert_eq!(rt; ran.status, ending.status, "{}", ending.words);
-        assert_eq!(rt; ran.diag.bytes(), ending.line, "{}", ending.words);
+        assert!(rt; ran.status == ending.status, "{}", ending.words);
+        assert!(rt; ran.diag.bytes() == ending.line, "{}", ending.words);
         assert!(rt; ran.out.bytes().is_empty(), "{}", ending.words);
     }
 }
@@ -685,8 +691,8 @@ fn an_image_has_a_greatest_length(rt: HostRuntime) -> Result<(), Fail> {
     let long = vec![in rt.alloc(); b'\n'; 67_108_865]?;
     let none = Vec::new(rt.alloc());
     let ran = run(rt.alloc(), HELLO_WORDS, long, none, NOTHING).expect(&rt, "ample memory");
-    assert_eq!(rt; ran.status, 3);
-    assert_eq!(rt; ran.diag.bytes(), b"mbx: hello.s19 too long\n".as_slice());
+    assert!(rt; ran.status == 3);
+    assert!(rt; ran.diag.bytes() == b"mbx: hello.s19 too long\n".as_slice());
     assert!(rt; ran.out.bytes().is_empty());
     Ok(())
 }
@@ -696,8 +702,8 @@ fn a_script_has_a_greatest_length(rt: HostRuntime) -> Result<(), Fail> {
     let image = Vec::from_slice(rt.alloc(), HELLO)?;
     let long = vec![in rt.alloc(); b'\n'; 67_108_865]?;
     let ran = run(rt.alloc(), SCRIPT_WORDS, image, long, NOTHING).expect(&rt, "ample memory");
-    assert_eq!(rt; ran.status, 3);
-    assert_eq!(rt; ran.diag.bytes(), b"mbx: typed.txt too long\n".as_slice());
+    assert!(rt; ran.status == 3);
+    assert!(rt; ran.diag.bytes() == b"mbx: typed.txt too long\n".as_slice());
     assert!(rt; ran.out.bytes().is_empty());
     Ok(())
 }
@@ -720,9 +726,9 @@ fn a_shelf_fails_at_each_call(rt: HostRuntime) {
             &rt,
             "ample memory",
         );
-        assert_eq!(rt; ran.status, status, "{fails}");
-        assert_eq!(rt; ran.diag.bytes(), line, "{fails}");
-        assert_eq!(rt; ran.out.bytes().is_empty(), status != 0, "{fails}");
+        assert!(rt; ran.status == status, "{fails}");
+        assert!(rt; ran.diag.bytes() == line, "{fails}");
+        assert!(rt; ran.out.bytes().is_empty() == (status != 0), "{fails}");
     }
 }
 
@@ -750,7 +756,10 @@ fn nothing_outside_fails(rt: HostRuntime) {
         let name = String::from_str(rt.alloc(), "hello.s19").expect(&rt, "ample memory");
         let hello = Vec::from_slice(rt.alloc(), HELLO).expect(&rt, "ample memory");
         files.push((name, hello)).expect(&rt, "ample memory");
-        assert_eq!(rt; run_unfailing(rt.alloc(), &words, files), status, "{line}");
+        assert!(rt;
+            run_unfailing(rt.alloc(), &words, files) == status,
+            "{line}"
+        );
     }
 }
 
@@ -765,14 +774,13 @@ fn out_fails_at_each_call(rt: HostRuntime) {
         let ran = run_text(rt.alloc(), HELLO_WORDS, HELLO, failing).expect(&rt, "ample memory");
         assert!(rt; HELLO_TEXT.starts_with(ran.out.bytes()), "{fails}");
         if ran.status == 0 {
-            assert_eq!(rt; ran.out.bytes(), HELLO_TEXT);
+            assert!(rt; ran.out.bytes() == HELLO_TEXT);
             whole = true;
             break;
         }
-        assert_eq!(rt; ran.status, 6, "{fails}");
-        assert_eq!(rt;
-            ran.diag.bytes(),
-            b"mbx: output failed\n".as_slice(),
+        assert!(rt; ran.status == 6, "{fails}");
+        assert!(rt;
+            ran.diag.bytes() == b"mbx: output failed\n".as_slice(),
             "{fails}"
         );
     }
@@ -784,7 +792,7 @@ fn out_has_a_room(rt: HostRuntime) {
     for room in [0, 1, 100, HELLO_TEXT.len() - 1] {
         let failing = Failing { room, ..NOTHING };
         let ran = run_text(rt.alloc(), HELLO_WORDS, HELLO, failing).expect(&rt, "ample memory");
-        assert_eq!(rt; ran.status, 6, "{room}");
-        assert_eq!(rt; ran.out.bytes(), &HELLO_TEXT[..room]);
+        assert!(rt; ran.status == 6, "{room}");
+        assert!(rt; ran.out.bytes() == &HELLO_TEXT[..room]);
     }
 }

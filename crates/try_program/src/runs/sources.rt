@@ -66,8 +66,8 @@ fn sources_are_assembled(rt: HostRuntime) {
     ];
     for (line, source, status, text, told) in rows {
         let ran = run_text(rt.alloc(), line, source, NOTHING).expect(&rt, "ample memory");
-        assert_eq!(rt; ran.status, status, "{line}");
-        assert_eq!(rt; ran.out.bytes(), text, "{line}");
-        assert_eq!(rt; ran.diag.bytes(), told, "{line}");
+        assert!(rt; ran.status == status, "{line}");
+        assert!(rt; ran.out.bytes() == text, "{line}");
+        assert!(rt; ran.diag.bytes() == told, "{line}");
     }
 }

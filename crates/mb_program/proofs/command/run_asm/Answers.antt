@@ -1,19 +1,24 @@
+use Rattle.std.proofs.Common.{refl}
 use Rattle.mb_srec.specs.Image.{contents_of}
+use Rattle.mb_machine.specs.Machine.{Contents}
 use Rattle.mb_words.specs.Words.{source_said}
-use Rattle.mb_program.specs.Answers.{Held, asm_answer, contents, course_of, ends, no_parts, source, with_part}
-use Rattle.mb_program.specs.Ends.{Around, shelf_seen, sink_seen}
-use Rattle.mb_program.proofs.CourseLemmas.{goes_on}
+use Rattle.mb_program.specs.Answers.{asm_answer, course_of, ends, source_in}
+use Rattle.mb_program.specs.Ends.{Around, around}
+use Rattle.mb_program.proofs.CourseLemmas.{ends_at, goes_on}
 use Rattle.mb_program.proofs.command.run_asm.Goals as goal
 
 pub returns-in-Ok-clause-ends : goal.returns-in-Ok-clause-ends
 unfolding course_of
 returns-in-Ok-clause-ends g c =
-    let around : Around = record {
-      shelf = shelf_seen g.F.Shelf.told g.F.Shelf.whole g.F.Shelf.faults c.args.shelf.now;
-      shelf_after = shelf_seen g.F.Shelf.told g.F.Shelf.whole g.F.Shelf.faults c.source_file.new.shelf;
-      out = sink_seen g.O.Sink.taken g.O.Sink.faults c.args.out.now;
-      out_after = sink_seen g.O.Sink.taken g.O.Sink.faults c.show_records.new.out;
-    } in
-    goes_on around (record { name = source_said c.args.asm.now; role = source }) (contents (contents_of c.in-Ok.image))
-    (λ (held : Held). ends (asm_answer (with_part no_parts held))) c.show_records.result c.in-Ok.ensures.reads.1
-    (c.show_records.ensures around.shelf around.shelf_after c.in-Ok.ensures.reads.0)
+    let a : Around = around g.F.Shelf.told g.F.Shelf.whole g.F.Shelf.faults g.O.Sink.taken g.O.Sink.faults
+    c.args.shelf.now c.source_file.new.shelf c.args.out.now c.show_records.new.out in
+    goes_on a source_in (source_said c.args.asm.now) (contents_of c.in-Ok.image) (λ (image : Contents). ends (asm_answer image))
+    c.show_records.result c.in-Ok.ensures.reads.1 (c.show_records.ensures a.shelf a.shelf_after c.in-Ok.ensures.reads.0)
+
+pub returns-in-Err-clause-ends : goal.returns-in-Err-clause-ends
+unfolding course_of
+returns-in-Err-clause-ends g c =
+    let a : Around = around g.F.Shelf.told g.F.Shelf.whole g.F.Shelf.faults g.O.Sink.taken g.O.Sink.faults
+    c.args.shelf.now c.source_file.new.shelf c.args.out.now c.args.out.now in
+    ends_at a source_in (source_said c.args.asm.now) (λ (image : Contents). ends (asm_answer image))
+    c.in-Err.end c.in-Err.ensures.reads (refl, refl)

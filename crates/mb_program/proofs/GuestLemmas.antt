@@ -1,0 +1,139 @@
+-- The files of guests, one after the other.
+use Rattle.std.proofs.Common.{◌≡◌, ◌∙◌, ◌<◌, ◌*◌, ℕ, suc, ◌+◌, ◌++◌, List, [], ◌∷◌, length, map, drop, get_or, refl, sym, ap, subst, arith, drop-cons, Ok, Err}
+use Rattle.std.proofs.lemmas.List.{drop-map}
+use Rattle.mb_script.specs.Plan.{Guest, Plan}
+use Rattle.mb_machine.specs.Machine.{Contents, Entries}
+use Rattle.mb_words.specs.Words.{Text, Run}
+use Rattle.vm_guest.specs.Session.{GuestAtStart, SessionAtStart}
+use Rattle.mb_program.specs.Answers.{Course, image_in, script_in, session_in, guest_by, session_by, run_of_guest, reads_as, reads_if_named, reads_guest, reads_guests, reads_session}
+use Rattle.mb_program.specs.Ends.{Around, ShelfSeen, CourseEnds}
+use Rattle.mb_program.specs.Reads.{Passes}
+use Rattle.mb_program.specs.declared.end.End.{End}
+use Rattle.mb_program.specs.declared.end.End.TheVariants.{Memory}
+
+-- ---- one guest
+
+behind_image : Run → (GuestAtStart → Course) → Contents → Course
+behind_image run next image = reads_if_named script_in run.script [] (λ script. next (guest_by run image script))
+
+pub guest_read : {X Y : Type 0} (run : Run) (seen : X → Contents) (view : Y → Entries) (s t u : ShelfSeen) (x : X) (y : Y) (guest : GuestAtStart)
+    → guest ≡ guest_by run (seen x) (view y)
+    → Passes (reads_as (image_in (1024 * run.ram)) run.image) seen s t (Ok x) → Passes (reads_if_named script_in run.script []) view t u (Ok y)
+    → Passes (reads_guest run) (λ (g : GuestAtStart). g) s u (Ok guest)
+unfolding behind_image
+guest_read run seen view s t u x y guest is p q = (
+  q.0 ∙ p.0,
+  λ next a end same e. p.1 (behind_image run next) a end same (q.1 (λ script. next (guest_by run (seen x) script)) a end (same ∙ sym p.0)
+      (subst (λ (g : GuestAtStart). CourseEnds (next g) a end) is e)),
+)
+
+pub script_ends : {X Y Z : Type 0} (run : Run) (seen : X → Contents) (view : Y → Entries) (shown : Z → GuestAtStart) (s t u : ShelfSeen) (x : X) (end : End)
+    → Passes (reads_as (image_in (1024 * run.ram)) run.image) seen s t (Ok x) → Passes (reads_if_named script_in run.script []) view t u (Err end)
+    → Passes (reads_guest run) shown s u (Err end)
+unfolding behind_image
+script_ends run seen view shown s t u x end p q = λ next a same same_after nothing.
+    p.1 (behind_image run next) a end same (q (λ script. next (guest_by run (seen x) script)) a (same ∙ sym p.0) same_after nothing)
+
+pub image_ends : {X Z : Type 0} (run : Run) (seen : X → Contents) (shown : Z → GuestAtStart) (s t : ShelfSeen) (end : End)
+    → Passes (reads_as (image_in (1024 * run.ram)) run.image) seen s t (Err end) → Passes (reads_guest run) shown s t (Err end)
+unfolding behind_image
+image_ends run seen shown s t end p = λ next a same same_after nothing. p (behind_image run next) a same same_after nothing
+
+-- ---- guest by guest
+
+-- The files of so many guests were read, and these are left.
+pub record ReadSoFar (guests : List Guest) (left : List Guest) (read : List GuestAtStart) (s t : ShelfSeen) : Type 0 where
+  pub stayed : t ≡ s
+  pub goes_on : (next : List GuestAtStart → Course) (a : Around) (end : End) → a.shelf ≡ s
+      → CourseEnds (reads_guests left read next) a end → CourseEnds (reads_guests guests [] next) a end
+
+pub none_so_far : (guests : List Guest) (s : ShelfSeen) → ReadSoFar guests guests [] s s
+none_so_far guests s = record { stayed = refl; goes_on = λ next a end same e. e }
+
+-- one more guest
+pub one_more : (guests left : List Guest) (guest : Guest) (read : List GuestAtStart) (one : GuestAtStart) (s t u : ShelfSeen)
+    → ReadSoFar guests (guest ∷ left) read s t → Passes (reads_guest (run_of_guest guest)) (λ (g : GuestAtStart). g) t u (Ok one)
+    → ReadSoFar guests left (read ++ one ∷ []) s u
+one_more guests left guest read one s t u h p = record {
+  stayed = p.0 ∙ h.stayed;
+  goes_on = λ next a end same e.
+      h.goes_on next a end same (p.1 (λ g. reads_guests left (read ++ g ∷ []) next) a end (same ∙ sym h.stayed) e);
+}
+
+-- a guest of whom a file is the cause of an end
+pub guest_ends : {Z : Type 0} (shown : Z → List GuestAtStart) (guests left : List Guest) (guest : Guest) (read : List GuestAtStart)
+    (end : End) (s t u : ShelfSeen) → ReadSoFar guests (guest ∷ left) read s t → Passes (reads_guest (run_of_guest guest)) (λ (g : GuestAtStart). g) t u (Err end)
+    → Passes (reads_guests guests []) shown s u (Err end)
+guest_ends shown guests left guest read end s t u h p = λ next a same same_after nothing.
+    h.goes_on next a end same (p (λ g. reads_guests left (read ++ g ∷ []) next) a (same ∙ sym h.stayed) same_after nothing)
+
+-- memory ran out
+pub memory_ends : {A Z : Type 0} (part : (A → Course) → Course) (shown : Z → A) (s t : ShelfSeen) → t ≡ s → Passes part shown s t (Err Memory)
+memory_ends part shown s t stayed = λ next a same same_after nothing. (ap (λ (x : ShelfSeen). x.faults) (same_after ∙ stayed ∙ sym same), nothing)
+
+-- all guests
+pub all_read : {Z : Type 0} (shown : Z → List GuestAtStart) (guests : List Guest) (z : Z) (read : List GuestAtStart) (s t : ShelfSeen) → shown z ≡ read
+    → ReadSoFar guests [] read s t → Passes (reads_guests guests []) shown s t (Ok z)
+all_read shown guests z read s t is h = (
+  h.stayed,
+  λ next a end same e. h.goes_on next a end same (subst (λ (gs : List GuestAtStart). CourseEnds (next gs) a end) is e),
+)
+
+-- what is left from a place on
+pub left_at : {X : Type 0} (f : X → Guest) (xs : List X) (i : ℕ) (x : X) → i < length xs → drop i (map f xs) ≡ f (get_or xs i x) ∷ drop (i + 1) (map f xs)
+left_at f xs i x within =
+    let next : i + 1 ≡ suc i = omega arith in
+    rw next (drop-map f i xs ∙ ap (λ ys. map f ys) (drop-cons xs i x within) ∙ ap (λ rest. f (get_or xs i x) ∷ rest) (sym (drop-map f (suc i) xs)))
+
+-- the guest at a place is the first of those that are left
+first_left : {X : Type 0} (f : X → Guest) (plans : List X) (i : ℕ) (plan : X) → i < length plans → plan ≡ get_or plans i plan
+    → drop i (map f plans) ≡ f plan ∷ drop (i + 1) (map f plans)
+first_left f plans i plan within is =
+    left_at f plans i plan within ∙ ap (λ p. f p ∷ drop (i + 1) (map f plans)) (sym is)
+
+pub next_read : {X : Type 0} (f : X → Guest) (plans : List X) (i : ℕ) (plan : X) (run : Run) (read : List GuestAtStart) (one : GuestAtStart) (s t u : ShelfSeen)
+    → i < length plans → plan ≡ get_or plans i plan → run ≡ run_of_guest (f plan)
+    → ReadSoFar (map f plans) (drop i (map f plans)) read s t → Passes (reads_guest run) (λ (g : GuestAtStart). g) t u (Ok one)
+    → ReadSoFar (map f plans) (drop (i + 1) (map f plans)) (read ++ one ∷ []) s u
+next_read f plans i plan run read one s t u within is same h p =
+    one_more (map f plans) (drop (i + 1) (map f plans)) (f plan) read one s t u
+    (subst (λ (left : List Guest). ReadSoFar (map f plans) left read s t) (first_left f plans i plan within is) h)
+    (subst (λ (r : Run). Passes (reads_guest r) (λ (g : GuestAtStart). g) t u (Ok one)) same p)
+
+pub next_ends : {X Z : Type 0} (shown : Z → List GuestAtStart) (f : X → Guest) (plans : List X) (i : ℕ) (plan : X) (run : Run)
+    (read : List GuestAtStart) (end : End) (s t u : ShelfSeen) → i < length plans → plan ≡ get_or plans i plan → run ≡ run_of_guest (f plan)
+    → ReadSoFar (map f plans) (drop i (map f plans)) read s t → Passes (reads_guest run) (λ (g : GuestAtStart). g) t u (Err end)
+    → Passes (reads_guests (map f plans) []) shown s u (Err end)
+next_ends shown f plans i plan run read end s t u within is same h p =
+    guest_ends shown (map f plans) (drop (i + 1) (map f plans)) (f plan) read end s t u
+    (subst (λ (left : List Guest). ReadSoFar (map f plans) left read s t) (first_left f plans i plan within is) h)
+    (subst (λ (r : Run). Passes (reads_guest r) (λ (g : GuestAtStart). g) t u (Err end)) same p)
+
+-- ---- sessions
+
+behind_plan : (SessionAtStart → Course) → Plan → Course
+behind_plan next plan = reads_guests plan.guests [] (λ guests. next (session_by plan guests))
+
+pub session_read : {X Y : Type 0} (name : Text) (seen : X → Plan) (view : Y → List GuestAtStart) (s t u : ShelfSeen) (x : X) (y : Y) (session : SessionAtStart)
+    → session ≡ session_by (seen x) (view y)
+    → Passes (reads_as session_in name) seen s t (Ok x) → Passes (reads_guests (seen x).guests []) view t u (Ok y)
+    → Passes (reads_session name) (λ (r : SessionAtStart). r) s u (Ok session)
+unfolding behind_plan
+session_read name seen view s t u x y session is p q = (
+  q.0 ∙ p.0,
+  λ next a end same e. p.1 (behind_plan next) a end same (q.1 (λ guests. next (session_by (seen x) guests)) a end (same ∙ sym p.0)
+      (subst (λ (r : SessionAtStart). CourseEnds (next r) a end) is e)),
+)
+
+pub guests_end : {X Y Z : Type 0} (name : Text) (seen : X → Plan) (view : Y → List GuestAtStart) (shown : Z → SessionAtStart)
+    (s t u : ShelfSeen) (x : X) (end : End)
+    → Passes (reads_as session_in name) seen s t (Ok x) → Passes (reads_guests (seen x).guests []) view t u (Err end)
+    → Passes (reads_session name) shown s u (Err end)
+unfolding behind_plan
+guests_end name seen view shown s t u x end p q = λ next a same same_after nothing.
+    p.1 (behind_plan next) a end same (q (λ guests. next (session_by (seen x) guests)) a (same ∙ sym p.0) same_after nothing)
+
+pub plan_ends : {X Z : Type 0} (name : Text) (seen : X → Plan) (shown : Z → SessionAtStart) (s t : ShelfSeen) (end : End)
+    → Passes (reads_as session_in name) seen s t (Err end) → Passes (reads_session name) shown s t (Err end)
+unfolding behind_plan
+plan_ends name seen shown s t end p = λ next a same same_after nothing. p (behind_plan next) a same same_after nothing

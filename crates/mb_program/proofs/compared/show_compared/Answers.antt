@@ -1,0 +1,50 @@
+use Rattle.std.proofs.Common.{◌∙◌, List, map, ap, sym, arith}
+use Rattle.mb_model.specs.Keeping.{rule_a}
+use Rattle.vm_guest.specs.Session.{GuestAtStart}
+use Rattle.mb_program.specs.Answers.{outcome_by}
+use Rattle.mb_program.specs.Compares.{found_of}
+use Rattle.mb_program.specs.Ends.{sink_seen}
+use Rattle.mb_program.proofs.CompareLemmas.{compared_cut, compared_other, compared_same, found_so, machine_for_each, member_for_each}
+use Rattle.mb_program.proofs.compared.show_compared.Goals as goal
+
+pub write_comparison-requires-clause-count : goal.write_comparison-requires-clause-count
+write_comparison-requires-clause-count g c =
+    let guests = c.args.session.guests in
+    let bare = c.in-Ok.ensures ∙ ap (λ (gs : List GuestAtStart). map (outcome_by rule_a) gs) c.guests.ensures in
+    machine_for_each guests c.in-Ok.machines.items bare
+    ∙ sym (member_for_each guests c.in-Ok-run_session.host c.in-Ok-run_session.ensures.1)
+
+pub write_comparison-requires-clause-few : goal.write_comparison-requires-clause-few
+write_comparison-requires-clause-few g c =
+    let bare = c.in-Ok.ensures ∙ ap (λ (gs : List GuestAtStart). map (outcome_by rule_a) gs) c.guests.ensures in
+    let count = machine_for_each c.args.session.guests c.in-Ok.machines.items bare in
+    omega (arith, c.requires.few)
+
+pub returns-in-Ok-true : goal.returns-in-Ok-true
+returns-in-Ok-true g c =
+    let machines = c.in-Ok.machines.items in
+    let host = c.in-Ok-run_session.host in
+    let bare = c.in-Ok.ensures ∙ ap (λ (gs : List GuestAtStart). map (outcome_by rule_a) gs) c.guests.ensures in
+    compared_same c.args.session (found_of machines host) (sink_seen g.O.Sink.taken g.O.Sink.faults c.args.out.now)
+    (sink_seen g.O.Sink.taken g.O.Sink.faults c.write_comparison.new.out) c.in-Ok-run_session.ensures.0
+    (found_so c.args.session.guests machines host bare c.in-Ok-run_session.ensures.1) (sym c.in-Ok-true.field-0-test ∙ c.in-Ok-true.ensures.all)
+    c.in-Ok-true.ensures.printed
+
+pub returns-in-Ok-false : goal.returns-in-Ok-false
+returns-in-Ok-false g c =
+    let machines = c.in-Ok.machines.items in
+    let host = c.in-Ok-run_session.host in
+    let bare = c.in-Ok.ensures ∙ ap (λ (gs : List GuestAtStart). map (outcome_by rule_a) gs) c.guests.ensures in
+    compared_other c.args.session (found_of machines host) (sink_seen g.O.Sink.taken g.O.Sink.faults c.args.out.now)
+    (sink_seen g.O.Sink.taken g.O.Sink.faults c.write_comparison.new.out) c.in-Ok-run_session.ensures.0
+    (found_so c.args.session.guests machines host bare c.in-Ok-run_session.ensures.1) (sym c.in-Ok-false.field-0-test ∙ c.in-Ok-false.ensures.all)
+    c.in-Ok-false.ensures.printed
+
+pub returns : goal.returns
+returns g c =
+    let machines = c.in-Ok.machines.items in
+    let host = c.in-Ok-run_session.host in
+    let bare = c.in-Ok.ensures ∙ ap (λ (gs : List GuestAtStart). map (outcome_by rule_a) gs) c.guests.ensures in
+    compared_cut c.args.session (found_of machines host) (sink_seen g.O.Sink.taken g.O.Sink.faults c.args.out.now)
+    (sink_seen g.O.Sink.taken g.O.Sink.faults c.write_comparison.new.out) c.in-Ok-run_session.ensures.0
+    (found_so c.args.session.guests machines host bare c.in-Ok-run_session.ensures.1) c.in-Err-write_comparison.ensures.printed

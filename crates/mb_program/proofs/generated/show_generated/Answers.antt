@@ -1,0 +1,33 @@
+use Rattle.std.proofs.Common.{◌≡◌, ℕ, sym, subst}
+use Rattle.vm_slices.specs.Members.{shown_of}
+use Rattle.vm_slices.specs.Places.{members_in}
+use Rattle.mb_gen.specs.Sessions.{generated}
+use Rattle.mb_words.specs.Words.{workload_said}
+use Rattle.mb_program.specs.Answers.{gen_answer}
+use Rattle.mb_program.specs.Ends.{GivesAnswer, sink_seen}
+use Rattle.mb_program.proofs.SummaryLemmas.{not_hosted, summary_cut, summary_done}
+use Rattle.mb_program.specs.declared.end.End.{End}
+use Rattle.mb_program.proofs.generated.show_generated.Goals as goal
+
+pub returns-in-Err : goal.returns-in-Err
+returns-in-Err g c =
+    let workload = workload_said c.args.workload.now in
+    let out = sink_seen g.O.Sink.taken g.O.Sink.faults c.args.out.now in
+    subst (λ (end : End). GivesAnswer (gen_answer workload) out out end) (sym c.from-in-Err.ensures)
+    (not_hosted workload c.in-Ok.session out c.in-Err.fault c.in-Ok.ensures.filled c.in-Err.ensures)
+
+pub returns-in-Ok-write_summary : goal.returns-in-Ok-write_summary
+returns-in-Ok-write_summary g c =
+    let workload = workload_said c.args.workload.now in
+    let made = subst (λ (seed : ℕ). c.in-Ok.session ≡ generated seed workload.guests) c.from.ensures c.in-Ok.ensures.generated in
+    summary_done workload c.in-Ok.session (shown_of (members_in c.in-Ok-run_session.host))
+    (sink_seen g.O.Sink.taken g.O.Sink.faults c.args.out.now) (sink_seen g.O.Sink.taken g.O.Sink.faults c.write_summary.new.out)
+    made c.in-Ok-run_session.ensures.1 c.in-Ok-write_summary.ensures
+
+pub returns : goal.returns
+returns g c =
+    let workload = workload_said c.args.workload.now in
+    let made = subst (λ (seed : ℕ). c.in-Ok.session ≡ generated seed workload.guests) c.from.ensures c.in-Ok.ensures.generated in
+    summary_cut workload c.in-Ok.session (shown_of (members_in c.in-Ok-run_session.host))
+    (sink_seen g.O.Sink.taken g.O.Sink.faults c.args.out.now) (sink_seen g.O.Sink.taken g.O.Sink.faults c.write_summary.new.out)
+    made c.in-Ok-run_session.ensures.1 c.in-Err-write_summary.ensures

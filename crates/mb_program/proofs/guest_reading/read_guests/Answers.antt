@@ -1,0 +1,69 @@
+use Rattle.std.proofs.Common.{◌≡◌, ◌∙◌, ◌<◌, ℕ, [], List, length, map, get_or, drop, refl, sym, ap, subst, rules}
+use Rattle.std.specs.Prelude.{Vec}
+use Rattle.std.specs.declared.alloc.Global.{Global}
+use Rattle.std.proofs.lemmas.List.{drop_all, get_or-map, length-map}
+use Rattle.std.proofs.lemmas.List.Elements.{All-nil, All-push}
+use Rattle.std.proofs.lemmas.Result.{err_from_is_err_and}
+use Rattle.mb_script.specs.Answers.{guest_said}
+use Rattle.mb_script.specs.Plan.{AreRams, Guest, IsRam}
+use Rattle.vm_guest.specs.Session.{GuestAtStart, IsGuest}
+use Rattle.mb_words.specs.Words.{run_said}
+use Rattle.mb_program.specs.Answers.{reads_guests}
+use Rattle.mb_program.proofs.GuestLemmas.{all_read, memory_ends, next_ends, next_read, none_so_far}
+use Rattle.mb_program.proofs.guest_reading.read_guests.Goals as goal
+
+-- the RAM of a plan at a place is in its range, since all are
+ram_at : {X : Type 0} (f : X → Guest) (plans : List X) (i : ℕ) (plan : X) → AreRams (map f plans) → i < length plans → plan ≡ get_or plans i plan
+    → IsRam (f plan).ram
+ram_at f plans i plan rams within is =
+    let here : IsRam (get_or (map f plans) i (f plan)).ram = rams i (f plan) (rw length-map within) in
+    let same : get_or (map f plans) i (f plan) ≡ f plan = get_or-map f plans i plan (f plan) within ∙ ap f (sym is) in
+    subst (λ (g : Guest). IsRam g.ram) same here
+
+pub run_of-requires : goal.run_of-requires
+run_of-requires g c =
+    ram_at guest_said c.args.plans.now c.loop-plan.plan-index c.plan-item.result c.requires c.loop-plan-test.true c.plan-item.is
+
+pub loop-plan-init : goal.loop-plan-init
+loop-plan-init g c = record {
+  read = rw c.new-guests.ensures.items (none_so_far (map guest_said c.args.plans.now) _);
+  in_range = rw c.new-guests.ensures.items (All-nil IsGuest);
+  count = ap (λ (gs : List GuestAtStart). length gs) c.new-guests.ensures.items;
+  told = refl;
+  whole = refl;
+}
+
+pub loop-plan-preserved : goal.loop-plan-preserved
+loop-plan-preserved g c =
+    let plans = c.args.plans.now in
+    let i = c.loop-plan.plan-index in
+    let read = next_read guest_said plans i c.plan-item.result (run_said c.run_of.result) c.loop-plan.guests.items c.in_ok-guest.guest _ _ _
+    c.loop-plan-test.true c.plan-item.is c.run_of.ensures c.loop-plan.invariant.read c.in_ok-guest.ensures.passes in
+    record {
+      read = rw c.in-Ok.ensures.items read;
+      in_range = rw c.in-Ok.ensures.items
+          (All-push IsGuest c.loop-plan.guests.items c.in_ok-guest.guest c.loop-plan.invariant.in_range c.in_ok-guest.ensures.in_range);
+      count = search rules;
+      told = c.in_ok-guest.ensures.told ∙ c.loop-plan.invariant.told;
+      whole = c.in_ok-guest.ensures.whole ∙ c.loop-plan.invariant.whole;
+    }
+
+pub returns-in_err-guest-clause-passes : goal.returns-in_err-guest-clause-passes
+returns-in_err-guest-clause-passes g c =
+    let items = λ (guests : Vec GuestAtStart Global). guests.items in
+    let p = err_from_is_err_and c.from_residual.result c.from_residual.ensures.1 in
+    rw (p.1, p.2) (next_ends items guest_said c.args.plans.now c.loop-plan.plan-index c.plan-item.result (run_said c.run_of.result)
+    c.loop-plan.guests.items c.in_err-guest.field-0.0 _ _ _
+    c.loop-plan-test.true c.plan-item.is c.run_of.ensures c.loop-plan.invariant.read c.in_err-guest.ensures.passes)
+
+pub returns-in_default-clause-passes : goal.returns-in_default-clause-passes
+returns-in_default-clause-passes g c =
+    memory_ends (reads_guests (map guest_said c.args.plans.now) []) (λ (guests : Vec GuestAtStart Global). guests.items) _ _
+    ((c.in_ok-guest.ensures.passes).0 ∙ c.loop-plan.invariant.read.stayed)
+
+pub returns-clause-passes : goal.returns-clause-passes
+returns-clause-passes g c =
+    let plans = map guest_said c.args.plans.now in
+    let none : drop c.loop-plan.plan-index plans ≡ [] = drop_all c.loop-plan.plan-index plans (rw length-map c.loop-plan-test.false) in
+    all_read (λ (guests : Vec GuestAtStart Global). guests.items) plans c.loop-plan.guests c.loop-plan.guests.items _ _ refl
+    (rw none at c.loop-plan.invariant.read)

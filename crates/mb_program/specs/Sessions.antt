@@ -1,0 +1,94 @@
+-- What is promised of a session whose files are told, and of one that a number makes.
+use Rattle.std.specs.Prelude.{◌≡◌, ◌⊎◌, ⊤, ℕ, ◌*◌, ◌≤◌, true, false, List, [], ◌∷◌, length, map}
+use Rattle.std.specs.Prelude.{Option, Some, None, Result, Ok}
+use Rattle.std.specs.List.{list_all}
+use Rattle.mb_script.specs.Plan.{Guest, Plan}
+use Rattle.mb_model.specs.Keeping.{rule_k}
+use Rattle.mb_machine.specs.Machine.{Entries}
+use Rattle.mb_report.specs.Text.{outcome_text}
+use Rattle.mb_outside.specs.Sink.{Grows}
+use Rattle.mb_gen.specs.Sessions.{generated}
+use Rattle.mb_words.specs.Words.{Text, Workload, Asked, hosting, comparison, generation}
+use Rattle.vm_guest.specs.Session.{GuestAtStart, SessionAtStart}
+use Rattle.vm_slices.specs.Fit.{Fits}
+use Rattle.mb_program.specs.Answers.{Told, most_bytes, image_in, script_in, session_in, texts_from}
+use Rattle.mb_program.specs.Answers.{compared_text, is_same, outcome_by, summary_text}
+use Rattle.mb_program.specs.Ends.{Around, FailsNowhere}
+use Rattle.mb_program.specs.declared.end.FileWhy.{FileWhy}
+
+-- ---- files that are told
+
+-- The shelf tells a file, which is not too long and holds this.
+pub record Tells {A : Type 0} (told : Told) (held_in : Text → Result A FileWhy) (file : Text) (held : A) : Type 0 where
+  pub bytes : Text
+  pub is_told : told file ≡ Some bytes
+  pub short : length bytes ≤ most_bytes
+  pub holds : held_in bytes ≡ Ok held
+
+-- the same for a script that may not be named; where it is not, it has no entries
+abbrev pub TellsScript : Told → Option Text → Entries → Type 0
+TellsScript told None script = script ≡ []
+TellsScript told (Some file) script = Tells told script_in file script
+
+-- The shelf tells the files of a guest, and with its own numbers it begins so.
+pub record TellsGuest (told : Told) (guest : Guest) (start : GuestAtStart) : Type 0 where
+  pub image : Tells told (image_in (1024 * guest.ram)) guest.image start.image
+  pub script : TellsScript told guest.script start.script
+  pub ram : start.ram ≡ 1024 * guest.ram
+  pub steps : start.steps ≡ guest.steps
+
+abbrev pub TellsGuests : Told → List Guest → List GuestAtStart → Type 0
+TellsGuests told [] [] = ⊤
+TellsGuests told (guest ∷ guests) (start ∷ starts) = TellsGuest told guest start × TellsGuests told guests starts
+TellsGuests told [] (start ∷ starts) = ⊥
+TellsGuests told (guest ∷ guests) [] = ⊥
+
+-- The shelf tells a session file and the files of its guests, and the session begins so.
+pub record TellsSession (told : Told) (name : Text) (s : SessionAtStart) : Type 0 where
+  pub plan : Plan
+  pub session : Tells told session_in name plan
+  pub board : s.board ≡ 1024 * plan.board
+  pub slice : s.slice ≡ plan.slice
+  pub guests : TellsGuests told plan.guests s.guests
+
+-- ---- host
+
+-- Out gains exactly the outcomes of the guests in their order: of each that of its own run by the rule of guests,
+-- of its own image, script, RAM and steps, and of nothing else. Where nothing fails, this is done, unless memory runs out.
+pub record Hosts (a : Around) (guests : List GuestAtStart) (status : ℕ) : Type 0 where
+  pub printed : status ≡ 0
+      → Grows a.out.taken a.out_after.taken (texts_from outcome_text 1 (map (outcome_by rule_k) guests))
+  pub ended : FailsNowhere a → (status ≡ 0) ⊎ (status ≡ 7)
+
+-- So it is where the words ask to host a session that is told and fits.
+abbrev pub IsHosted : Option Asked → Around → ℕ → Type 0
+IsHosted asked a status = (name : Text) (s : SessionAtStart) → asked ≡ Some (hosting name)
+    → TellsSession a.shelf.told name s → Fits s → Hosts a s.guests status
+
+-- ---- compare
+
+-- Out gains exactly a line for each guest, and the status tells whether all are the same.
+pub record Compares (a : Around) (guests : List GuestAtStart) (status : ℕ) : Type 0 where
+  pub printed : (status ≡ 0) ⊎ (status ≡ 1)
+      → Grows a.out.taken a.out_after.taken (texts_from compared_text 1 (map is_same guests))
+  pub same : status ≡ 0 → list_all is_same guests ≡ true
+  pub differs : status ≡ 1 → list_all is_same guests ≡ false
+  pub ended : FailsNowhere a → (status ≡ 0) ⊎ (status ≡ 1) ⊎ (status ≡ 7)
+
+-- So it is where the words ask to compare the guests of a session that is told and fits.
+abbrev pub IsCompared : Option Asked → Around → ℕ → Type 0
+IsCompared asked a status = (name : Text) (s : SessionAtStart) → asked ≡ Some (comparison name)
+    → TellsSession a.shelf.told name s → Fits s → Compares a s.guests status
+
+-- ---- gen
+
+-- Out gains exactly the summary of the guests, each after its own run by the rule of guests. Where nothing fails, this
+-- is done, unless memory runs out.
+pub record Generates (a : Around) (guests : List GuestAtStart) (status : ℕ) : Type 0 where
+  pub printed : status ≡ 0 → Grows a.out.taken a.out_after.taken (summary_text (map (outcome_by rule_k) guests))
+  pub ended : FailsNowhere a → (status ≡ 0) ⊎ (status ≡ 7)
+
+-- So it is where the words ask for a session that a number makes.
+abbrev pub IsGenerated : Option Asked → Around → ℕ → Type 0
+IsGenerated asked a status = (workload : Workload) → asked ≡ Some (generation workload)
+    → Generates a (generated workload.seed workload.guests).guests status

@@ -1,0 +1,93 @@
+//! The guests of a session on boards of their own, beside the same guests under the monitor.
+
+ghost use Rattle.std.specs.Prelude.{◌≡◌, ◌≤◌, All, IfOk, codes, if◌then◌else◌, length, map};
+ghost use Rattle.std.specs.List.{list_all};
+ghost use Rattle.mb_outside.specs.Prints.{Prints};
+ghost use Rattle.mb_model.specs.Keeping.{rule_a};
+ghost use Rattle.vm_guest.specs.Session.{IsGuest, IsSession};
+ghost use Rattle.vm_slices.specs.Places.{members_in};
+ghost use Rattle.mb_program.specs.Answers.{compare_answer, compared_text, outcome_by, texts_from};
+ghost use Rattle.mb_program.specs.Ends.{GivesAnswer, sink_seen};
+ghost use Rattle.mb_program.specs.Compares.{found_of, outcome_ahead};
+
+use crate::bare_machine::BareMachine;
+use crate::end::End;
+use crate::hosted::run_session;
+use itoa::Buffer;
+use mb_outside::{Memory, Sink, SinkFault, put_all, put_more};
+use std::alloc::Global;
+use vm_slices::{Host, Session, SessionGuest};
+
+/// The guests of a session, each by itself.
+fn bare_machines(alloc: Global, guests: &[SessionGuest]) -> Result<Vec<BareMachine>, Memory>
+    requires { All IsGuest guests.now }
+    ensures { IfOk result (λ machines. map outcome_ahead machines.items ≡ map (outcome_by rule_a) guests.now) }
+{
+    let mut machines = Vec::new(alloc);
+    for guest in guests {
+        machines.push(BareMachine::prepare(alloc, guest)?)?;
+    }
+    Ok(machines)
+}
+
+/// What is written behind a guest's number.
+fn finding(is_same: bool) -> &'static [u8]
+    ensures { result.now ≡ (if is_same then codes " same\n" else codes " differs\n") }
+{
+    if is_same { b" same\n" } else { b" differs\n" }
+}
+
+/// Writes of a guest whether it shows the same.
+fn write_compared<O: Sink>(out: &mut O, number: u8, is_same: bool) -> Result<(), SinkFault>
+    ensures { Prints (O.taken out.old) (O.taken out.new) (O.faults out.old) (O.faults out.new)
+        (compared_text number is_same) result }
+{
+    let mut buffer = Buffer::new();
+    let begun = put_all(out, b"guest ");
+    let numbered = put_more(out, begun, buffer.format(number).as_bytes());
+    put_more(out, numbered, finding(is_same))
+}
+
+/// Writes of each guest whether it shows the same, and answers whether all do.
+fn write_comparison<O: Sink>(
+    machines: Vec<BareMachine>,
+    host: &Host,
+    out: &mut O,
+) -> Result<bool, SinkFault>
+    requires count { length machines.items ≡ length (members_in host.now) }
+    requires few { length machines.items ≤ 16 }
+    ensures printed { Prints (O.taken out.old) (O.taken out.new) (O.faults out.old) (O.faults out.new)
+        (texts_from compared_text 1 (found_of machines.items host.now)) result }
+    ensures all { IfOk result (λ all. all ≡ list_all (λ same. same) (found_of machines.items host.now)) }
+{
+    let mut all_same = true;
+    let mut number = 0;
+    for machine in machines {
+        number += 1;
+        let is_same = machine.is_same_as(host, number);
+        write_compared(out, number, is_same)?;
+        all_same = all_same && is_same;
+    }
+    Ok(all_same)
+}
+
+/// Runs each guest of a session by itself and all under the monitor, and writes of each whether it shows the same. All
+/// memory is taken before the first line is written.
+pub(crate) fn show_compared<O: Sink>(alloc: Global, session: Session, out: &mut O) -> End
+    requires { IsSession session }
+    ensures { GivesAnswer (compare_answer session)
+        (sink_seen O.taken O.faults out.old) (sink_seen O.taken O.faults out.new) result }
+{
+    let Ok(machines) = bare_machines(alloc, session.guests()) else {
+        return End::Memory;
+    };
+    let host = match run_session(alloc, session) {
+        Ok(host) => host,
+        Err(fault) => return End::from(fault),
+    };
+    match write_comparison(machines, &host, out) {
+        Ok(true) => End::Done,
+        Ok(false) => End::Differs,
+        Err(_) => End::Output,
+    }
+}

@@ -1,0 +1,95 @@
+//! The guests of a session that a number makes, under the monitor.
+
+ghost use Rattle.std.specs.Prelude.{◌≡◌, ◌^◌, ◌<◌, ◌≤◌, length};
+ghost use Rattle.mb_model.specs.Seen.{seen_of};
+ghost use Rattle.mb_outside.specs.Prints.{Prints};
+ghost use Rattle.mb_report.specs.Text.{state_word};
+ghost use Rattle.mb_words.specs.Words.{workload_said};
+ghost use Rattle.vm_slices.specs.Places.{members_in};
+ghost use Rattle.vm_slices.specs.Members.{shown_of};
+ghost use Rattle.mb_program.specs.Answers.{gen_answer, summary_line, summary_text, texts_from};
+ghost use Rattle.mb_program.specs.Ends.{GivesAnswer, sink_seen};
+
+use crate::end::End;
+use crate::hosted::run_session;
+use itoa::Buffer;
+use mb_gen::make_session;
+use mb_model::{Outcome, RunState};
+use mb_outside::{Sink, SinkFault, put_all, put_more};
+use mb_report::hex8;
+use mb_words::Generate;
+use std::alloc::Global;
+use vm_slices::Host;
+
+/// The word for what a machine does at its next step.
+fn state_word(state: RunState) -> &'static [u8]
+    ensures { result.now ≡ state_word state }
+{
+    match state {
+        RunState::Running => b"running",
+        RunState::Stopped => b"stopped",
+        RunState::Halted => b"halted",
+        RunState::Off => b"off",
+    }
+}
+
+/// Writes a guest's line of the summary.
+#[tactic(auto, unfolding(crate::specs::Answers::summary_line))]
+fn write_line<O: Sink>(guest: u8, o: &Outcome, out: &mut O) -> Result<(), SinkFault>
+    ensures { Prints (O.taken out.old) (O.taken out.new) (O.faults out.old) (O.faults out.new)
+        (summary_line guest (seen_of o.now)) result }
+{
+    let mut number = Buffer::new();
+    let mut steps = Buffer::new();
+    let mut sent = Buffer::new();
+    let begun = put_all(out, b"guest ");
+    let numbered = put_more(out, begun, number.format(guest).as_bytes());
+    let parted = put_more(out, numbered, b" ");
+    let standing = put_more(out, parted, state_word(o.state));
+    let stepping = put_more(out, standing, b" steps ");
+    let stepped = put_more(out, stepping, steps.format(o.steps).as_bytes());
+    let sending = put_more(out, stepped, b" console ");
+    let sized = put_more(out, sending, sent.format(o.console.len()).as_bytes());
+    let named = put_more(out, sized, b" D0 ");
+    let held = put_more(out, named, &hex8(o.cpu.regs.d[0]));
+    put_more(out, held, b"\n")
+}
+
+/// Writes the lines of all guests in their order.
+fn write_lines<O: Sink>(host: &Host, out: &mut O) -> Result<(), SinkFault>
+    ensures { Prints (O.taken out.old) (O.taken out.new) (O.faults out.old) (O.faults out.new)
+        (texts_from summary_line 1 (shown_of (members_in host.now))) result }
+{
+    for index in 0..host.guest_count() {
+        let guest = index + 1;
+        write_line(guest, &host.outcome(guest), out)?;
+    }
+    Ok(())
+}
+
+/// Writes the summary of all guests.
+fn write_summary<O: Sink>(host: &Host, out: &mut O) -> Result<(), SinkFault>
+    ensures { Prints (O.taken out.old) (O.taken out.new) (O.faults out.old) (O.faults out.new)
+        (summary_text (shown_of (members_in host.now))) result }
+{
+    let told = write_lines(host, out);
+    put_more(out, told, b"end\n")
+}
+
+/// Makes a session, runs its guests, and writes their summary.
+pub(crate) fn show_generated<O: Sink>(alloc: Global, workload: &Generate, out: &mut O) -> End
+    ensures { GivesAnswer (gen_answer (workload_said workload.now))
+        (sink_seen O.taken O.faults out.old) (sink_seen O.taken O.faults out.new) result }
+{
+    let Ok(session) = make_session(alloc, u64::from(workload.seed), workload.guests) else {
+        return End::Memory;
+    };
+    let host = match run_session(alloc, session) {
+        Ok(host) => host,
+        Err(fault) => return End::from(fault),
+    };
+    match write_summary(&host, out) {
+        Ok(()) => End::Done,
+        Err(_) => End::Output,
+    }
+}

@@ -1,0 +1,67 @@
+//! The guests of a session under the monitor.
+
+ghost use Rattle.std.specs.Prelude.{◌≡◌, ◌^◌, ◌<◌, ◌≤◌, length};
+ghost use Rattle.mb_outside.specs.Prints.{Prints};
+ghost use Rattle.mb_report.specs.Text.{outcome_text};
+ghost use Rattle.vm_guest.specs.Session.{IsSession};
+ghost use Rattle.vm_slices.specs.Places.{members_in};
+ghost use Rattle.vm_slices.specs.Members.{shown_of};
+ghost use Rattle.mb_program.specs.Answers.{host_answer, texts_from};
+ghost use Rattle.mb_program.specs.Ends.{GivesAnswer, sink_seen};
+ghost use Rattle.mb_program.specs.Runs.{Runs, unopened};
+
+use crate::end::End;
+use mb_board::Native;
+use mb_outside::{Sink, SinkFault};
+use mb_report::write_outcome;
+use std::alloc::Global;
+use vm_slices::{Host, OpenFault, Session};
+
+impl From<OpenFault> for End {
+    ghost from_gives = { λ given end. end ≡ unopened given };
+
+    fn from(fault: OpenFault) -> End {
+        match fault {
+            OpenFault::Memory => End::Memory,
+            OpenFault::Oversize { need, have } => End::Oversize { need, have },
+        }
+    }
+}
+
+/// All guests of a session on their board, after their runs.
+pub(crate) fn run_session(alloc: Global, session: Session) -> Result<Host, OpenFault>
+    requires { IsSession session }
+    ensures { Runs session result }
+{
+    let mut host = Host::prepare(alloc, session)?;
+    host.run(&mut Native::new());
+    Ok(host)
+}
+
+/// Writes the outcomes of all guests in their order.
+fn write_outcomes<O: Sink>(host: &Host, out: &mut O) -> Result<(), SinkFault>
+    ensures { Prints (O.taken out.old) (O.taken out.new) (O.faults out.old) (O.faults out.new)
+        (texts_from outcome_text 1 (shown_of (members_in host.now))) result }
+{
+    for index in 0..host.guest_count() {
+        let guest = index + 1;
+        write_outcome(guest, &host.outcome(guest), out)?;
+    }
+    Ok(())
+}
+
+/// Runs all guests of a session, and writes their outcomes.
+pub(crate) fn show_hosted<O: Sink>(alloc: Global, session: Session, out: &mut O) -> End
+    requires { IsSession session }
+    ensures { GivesAnswer (host_answer session)
+        (sink_seen O.taken O.faults out.old) (sink_seen O.taken O.faults out.new) result }
+{
+    let host = match run_session(alloc, session) {
+        Ok(host) => host,
+        Err(fault) => return End::from(fault),
+    };
+    match write_outcomes(&host, out) {
+        Ok(()) => End::Done,
+        Err(_) => End::Output,
+    }
+}

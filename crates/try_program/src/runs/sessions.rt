@@ -1,0 +1,345 @@
+//! Sessions of several guests.
+
+use super::{Failing, HELLO, HELLO_TEXT, NOTHING, Ran, contains, file, split_words};
+use mb_outside::{MemShelf, MemSink};
+use mb_program::{run_program, run_unfailing};
+use std::alloc::Global;
+use std::process::Abort;
+
+/// It fills its RAM from $1000 on, and then the rest of its memory, until no frame can be stacked.
+const FILL: &[u8] = b"S10B00000001000000000400EF\nS10B040041F8100020C860FC63\nS9030000FC\n";
+
+/// Nothing but zeros: after 16,384 steps a fetch past RAM faults, and no frame can be stacked.
+const ZEROS: &[u8] = b"S9030000FC\n";
+
+/// A page that was read is moved in the tables and not flushed; then SRP is written, which is when guests forget.
+const STALE: &[u8] = b"S10B00000001000000000400EF\n\
+S113040041F820004E7B8807223C000080004E7B90\n\
+S113041010033438300021FC00004001240C4E7BD2\n\
+S1090420880736383000A5\n\
+S107200000002202B4\n\
+S107220000002402B0\n\
+S11324000000000100001001000020010000300164\n\
+S11324100000400100005001000060010000700154\n\
+S113242000008001000090010000A0010000B00144\n\
+S11324300000C0010000D0010000E0010000F00134\n\
+S10530001111A8\n\
+S1054000222276\n\
+S9030000FC\n";
+
+const ONE: &[u8] = b"session 1\nboard 192\nslice 1000\nguest 64 10 hello.s19 -\n";
+
+/// A run on these files, and what is to come of it.
+#[derive(Drop)]
+struct Row<'a> {
+    what: &'a str,
+    words: &'a str,
+    session: &'a [u8],
+    status: u8,
+    /// Parts of what out takes.
+    parts: &'a [&'a [u8]],
+    diag: &'a [u8],
+}
+
+/// A shelf with all images, a script that types a line, and a session.
+fn shelf(alloc: Global, session: &[u8], fails: u64) -> Option<MemShelf> {
+    let known: [(&str, &[u8]); 7] = [
+        ("s.txt", session),
+        ("hello.s19", HELLO),
+        ("fill.s19", FILL),
+        ("zeros.s19", ZEROS),
+        ("stale.s19", STALE),
+        ("bad.s19", b"S9030000FB\n"),
+        ("typed.txt", b"at 1 text A\n"),
+    ];
+    let mut files = Vec::new(alloc);
+    for (name, bytes) in known {
+        files
+            .push(file(alloc, name, Vec::from_slice(alloc, bytes).ok()?)?)
+            .ok()?;
+    }
+    Some(MemShelf::new(files, Vec::from_slice(alloc, &[fails]).ok()?))
+}
+
+fn run_session(alloc: Global, words: &str, session: &[u8], failing: Failing) -> Option<Ran> {
+    let words = split_words(alloc, words)?;
+    let mut shelf = shelf(alloc, session, failing.shelf)?;
+    let fails = Vec::from_slice(alloc, &[failing.out]).ok()?;
+    let mut out = MemSink::new(alloc, failing.room, fails).ok()?;
+    let mut diag = MemSink::new(alloc, 200, Vec::new(alloc)).ok()?;
+    let status = run_program(alloc, &words, &mut shelf, &mut out, &mut diag);
+    Some(Ran { status, out, diag })
+}
+
+/// Room for the outcomes of guests that fill their RAM.
+const ROOMY: Failing = Failing {
+    room: 4_000_000,
+    ..NOTHING
+};
+
+fn check_rows(rt: &impl Abort, alloc: Global, rows: &[Row]) {
+    for row in rows {
+        let ran = run_session(alloc, row.words, row.session, ROOMY).expect(rt, "ample memory");
+        assert!(rt; ran.status == row.status, "{}", row.what);
+        assert!(rt; ran.diag.bytes() == row.diag, "{}", row.what);
+        assert!(rt;
+            ran.out.bytes().is_empty() == row.parts.is_empty(),
+            "{}",
+            row.what
+        );
+        for part in row.parts {
+            assert!(rt; contains(ran.out.bytes(), part), "{}", row.what);
+        }
+    }
+}
+
+#[test]
+fn sessions_run(rt: HostRuntime) {
+    let rows: [Row; 9] = [
+        Row {
+            what: "one guest shows what it shows alone",
+            words: "mbx host s.txt",
+            session: ONE,
+            status: 0,
+            parts: &[HELLO_TEXT],
+            diag: b"",
+        },
+        Row {
+            what: "a guest that halts beside one that switches off",
+            words: "mbx host -- s.txt",
+            session: b"session 1\nboard 320\nslice 7\nguest 64 20000 zeros.s19 -\nguest 64 10 hello.s19 -\n",
+            status: 0,
+            parts: &[
+                b"guest 1\nstate halted\nsteps 16385\n",
+                b"guest 2\nstate off\nsteps 3\nconsole 1\n41\n",
+            ],
+            diag: b"",
+        },
+        Row {
+            what: "a script is its own guest's",
+            words: "mbx host s.txt",
+            session: b"session 1\nboard 320\nslice 1\nguest 64 1 zeros.s19 -\nguest 64 1 zeros.s19 typed.txt\n",
+            status: 0,
+            parts: &[
+                b"guest 1\nstate running\nsteps 1\nconsole 0\nlost 0\nqueue 0\n",
+                b"guest 2\nstate running\nsteps 1\nconsole 0\nlost 0\nqueue 1\n41\n",
+            ],
+            diag: b"",
+        },
+        Row {
+            what: "a board that is too small",
+            words: "mbx host s.txt",
+            session: b"session 1\nboard 256\nslice 1000\nguest 64 10 hello.s19 -\nguest 64 10 hello.s19 -\n",
+            status: 4,
+            parts: &[],
+            diag: b"mbx: oversize need 327680 have 262144\n",
+        },
+        Row {
+            what: "the board on which they fit",
+            words: "mbx host s.txt",
+            session: b"session 1\nboard 320\nslice 1000\nguest 64 10 hello.s19 -\nguest 64 10 hello.s19 -\n",
+            status: 0,
+            parts: &[HELLO_TEXT, b"guest 2\nstate off\nsteps 3\n"],
+            diag: b"",
+        },
+        Row {
+            what: "guests that translate nothing are the same",
+            words: "mbx compare s.txt",
+            session: b"session 1\nboard 320\nslice 1000\nguest 64 10 hello.s19 -\nguest 64 50000 fill.s19 -\n",
+            status: 0,
+            parts: &[b"guest 1 same\nguest 2 same\n"],
+            diag: b"",
+        },
+        Row {
+            what: "a script is its own guest's on both boards",
+            words: "mbx compare s.txt",
+            session: b"session 1\nboard 320\nslice 1\nguest 64 1 zeros.s19 -\nguest 64 1 zeros.s19 typed.txt\n",
+            status: 0,
+            parts: &[b"guest 1 same\nguest 2 same\n"],
+            diag: b"",
+        },
+        Row {
+            what: "a stale translation that a guest forgets and the board does not",
+            words: "mbx compare s.txt",
+            session: b"session 1\nboard 320\nslice 3\nguest 64 8 stale.s19 -\nguest 64 10 hello.s19 -\n",
+            status: 1,
+            parts: &[b"guest 1 differs\nguest 2 same\n"],
+            diag: b"",
+        },
+        Row {
+            what: "what does not fit is not compared",
+            words: "mbx compare s.txt",
+            session: b"session 1\nboard 128\nslice 3\nguest 64 8 stale.s19 -\n",
+            status: 4,
+            parts: &[],
+            diag: b"mbx: oversize need 196608 have 131072\n",
+        },
+    ];
+    check_rows(&rt, rt.alloc(), &rows);
+}
+
+/// Two guests in slices of so many steps.
+fn run_in_slices(alloc: Global, slice: &str) -> Option<Ran> {
+    let session = format!(in alloc;
+        "session 1\nboard 320\nslice {slice}\nguest 64 10 hello.s19 -\nguest 64 50000 fill.s19 -\n"
+    ).ok()?;
+    run_session(alloc, "mbx host s.txt", session.as_bytes(), ROOMY)
+}
+
+#[test]
+fn slices_do_not_show(rt: HostRuntime) {
+    let one = run_in_slices(rt.alloc(), "1").expect(&rt, "ample memory");
+    let thousand = run_in_slices(rt.alloc(), "1000").expect(&rt, "ample memory");
+    assert!(rt; one.status == 0 && thousand.status == 0);
+    assert!(rt; one.out.bytes() == thousand.out.bytes());
+}
+
+#[test]
+fn sixteen_guests_run(rt: HostRuntime) {
+    let mut session = String::from_str(rt.alloc(), "session 1\nboard 2112\nslice 2\n").expect(
+        &rt,
+        "ample memory",
+    );
+    for _ in 0..16 {
+        session
+            .push_str("guest 64 10 hello.s19 -\n")
+            .expect(&rt, "ample memory");
+    }
+    let ran = run_session(rt.alloc(), "mbx host s.txt", session.as_bytes(), ROOMY).expect(
+        &rt,
+        "ample memory",
+    );
+    assert!(rt; ran.status == 0);
+    assert!(rt; ran.out.bytes().starts_with(HELLO_TEXT));
+    assert!(rt; ran.out.bytes().len() == 16 * HELLO_TEXT.len() + 7);
+    assert!(rt; contains(ran.out.bytes(), b"guest 16\nstate off\n"));
+}
+
+#[test]
+fn files_of_sessions_are_refused(rt: HostRuntime) {
+    let rows: [(&[u8], u8, &[u8]); 10] = [
+        (b"", 3, b"mbx: s.txt line 1: word\n"),
+        (b"session 2\n", 3, b"mbx: s.txt line 1: number\n"),
+        (
+            b"session 1\nboard 320\nslice 1\n",
+            3,
+            b"mbx: s.txt line 4: word\n",
+        ),
+        (
+            b"session 1\nboard 320\nslice 1\nguest 64 1 bad.s19 other.txt\n",
+            3,
+            b"mbx: bad.s19 line 1: sum\n",
+        ),
+        (
+            b"session 1\nboard 128\nslice 1\nguest 64 1 hello.s19 bad.s19\nguest 64 1 bad.s19 -\n",
+            3,
+            b"mbx: bad.s19 line 1: word\n",
+        ),
+        (
+            b"session 1\nboard 128\nslice 1\nguest 64 1 hello.s19 -\nguest 64 1 bad.s19 -\n",
+            3,
+            b"mbx: bad.s19 line 1: sum\n",
+        ),
+        (
+            b"session 1\nboard 128\nslice 1\nguest 64 1 hello.s19 typed.txt\nguest 64 1 hello.s19 hello.s19\n",
+            3,
+            b"mbx: hello.s19 line 1: word\n",
+        ),
+        (
+            b"session 1\nboard 128\nslice 1\nguest 64 1 other.s19 bad.s19\n",
+            5,
+            b"mbx: other.s19 cannot be read\n",
+        ),
+        (
+            b"session 1\nboard 128\nslice 1\nguest 64 1 hello.s19 other.txt\nguest 64 1 bad.s19 -\n",
+            5,
+            b"mbx: other.txt cannot be read\n",
+        ),
+        (
+            b"session 1\nboard 128\nslice 1\nguest 64 1 hello.s19 -\nguest 64 1 other.s19 -\n",
+            5,
+            b"mbx: other.s19 cannot be read\n",
+        ),
+    ];
+    for words in ["mbx host s.txt", "mbx compare s.txt"] {
+        for (session, status, line) in rows {
+            let ran = run_session(rt.alloc(), words, session, NOTHING).expect(&rt, "ample memory");
+            assert!(rt; ran.diag.bytes() == line, "{words}");
+            assert!(rt; ran.status == status, "{words}");
+            assert!(rt; ran.out.bytes().is_empty(), "{words}");
+        }
+    }
+}
+
+#[test]
+fn the_shelf_fails_at_each_file_of_a_session(rt: HostRuntime) {
+    let session =
+        b"session 1\nboard 320\nslice 9\nguest 64 10 hello.s19 typed.txt\nguest 64 9 zeros.s19 -\n";
+    let calls: [(u64, &[u8]); 8] = [
+        (1, b"mbx: s.txt cannot be read\n"),
+        (2, b"mbx: s.txt cannot be read\n"),
+        (3, b"mbx: hello.s19 cannot be read\n"),
+        (4, b"mbx: hello.s19 cannot be read\n"),
+        (5, b"mbx: typed.txt cannot be read\n"),
+        (6, b"mbx: typed.txt cannot be read\n"),
+        (7, b"mbx: zeros.s19 cannot be read\n"),
+        (8, b"mbx: zeros.s19 cannot be read\n"),
+    ];
+    for words in ["mbx host s.txt", "mbx compare s.txt"] {
+        for (fails, line) in calls {
+            let failing = Failing {
+                shelf: fails,
+                ..NOTHING
+            };
+            let ran = run_session(rt.alloc(), words, session, failing).expect(&rt, "ample memory");
+            assert!(rt; ran.status == 5, "{words} {fails}");
+            assert!(rt; ran.diag.bytes() == line, "{words} {fails}");
+            assert!(rt; ran.out.bytes().is_empty(), "{words} {fails}");
+        }
+        let failing = Failing { shelf: 9, ..ROOMY };
+        let ran = run_session(rt.alloc(), words, session, failing).expect(&rt, "ample memory");
+        assert!(rt; ran.status == 0, "{words}");
+    }
+}
+
+#[test]
+fn out_has_a_room_for_part_of_a_session(rt: HostRuntime) {
+    for (words, room) in [
+        ("mbx host s.txt", 0),
+        ("mbx host s.txt", HELLO_TEXT.len() - 1),
+        ("mbx compare s.txt", 0),
+        ("mbx compare s.txt", 12),
+    ] {
+        let failing = Failing { room, ..NOTHING };
+        let ran = run_session(rt.alloc(), words, ONE, failing).expect(&rt, "ample memory");
+        assert!(rt; ran.status == 6, "{words}");
+        assert!(rt;
+            ran.diag.bytes() == b"mbx: output failed\n".as_slice(),
+            "{words}"
+        );
+        assert!(rt; ran.out.bytes().len() == room, "{words}");
+    }
+}
+
+#[test]
+fn no_session_outside_fails(rt: HostRuntime) {
+    let rows: [(&str, u8); 4] = [
+        ("mbx host s.txt", 0),
+        ("mbx compare s.txt", 0),
+        ("mbx host other.txt", 3),
+        ("mbx compare hello.s19", 3),
+    ];
+    for (line, status) in rows {
+        let words = split_words(rt.alloc(), line).expect(&rt, "ample memory");
+        let mut files = Vec::new(rt.alloc());
+        for (name, bytes) in [("s.txt", ONE), ("hello.s19", HELLO)] {
+            let bytes = Vec::from_slice(rt.alloc(), bytes).expect(&rt, "ample memory");
+            let file = file(rt.alloc(), name, bytes).expect(&rt, "ample memory");
+            files.push(file).expect(&rt, "ample memory");
+        }
+        assert!(rt;
+            run_unfailing(rt.alloc(), &words, files) == status,
+            "{line}"
+        );
+    }
+}
