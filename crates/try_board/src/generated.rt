@@ -8,13 +8,47 @@ use mb_script::{Script, read_script};
 use std::alloc::Global;
 use vm_guest::Session;
 
-/// A program: its first picked words, how many bytes it has, and a sum over them all.
-#[derive(Clone, Copy)]
+/// The program of a guest: its first picked words, how many bytes it has, and a sum over them all. Guests count from 0.
 struct Program {
-    first: [u8; 16],
+    seed: u64,
+    guest: usize,
+    first: &'static [u8],
     len: usize,
     sum: u32,
 }
+
+/// The draws of seeds 0, 1 and 2^32 - 1, and the last that a session of seed 1 takes.
+#[rattlefmt::skip]
+static PROGRAMS: [Program; 7] = [
+    Program {
+        seed: 0, guest: 0, len: 4_948, sum: 0x1A4EF41C,
+        first: &[0xB1, 0x84, 0x24, 0x2D, 0x7C, 0x84, 0xB5, 0x87, 0x2B, 0x47, 0x3E, 0xF8, 0xB7, 0x86, 0xE4, 0x88],
+    },
+    Program {
+        seed: 0, guest: 1, len: 5_020, sum: 0xECB1C973,
+        first: &[0x9E, 0x84, 0xE6, 0x8C, 0x26, 0x2D, 0x37, 0xB4, 0x7C, 0xF3, 0x2B, 0x45, 0x10, 0xC8, 0x70, 0xA4],
+    },
+    Program {
+        seed: 1, guest: 0, len: 5_022, sum: 0xBAF21CAC,
+        first: &[0x2B, 0x44, 0x33, 0xA4, 0x2B, 0x45, 0x7D, 0xBC, 0xD4, 0x85, 0x70, 0xAC, 0xBF, 0x80, 0x7A, 0x1F],
+    },
+    Program {
+        seed: 1, guest: 1, len: 5_068, sum: 0x4506598A,
+        first: &[0x2B, 0x42, 0x56, 0x98, 0x2B, 0x43, 0x04, 0xC8, 0xD4, 0x87, 0xE2, 0x8F, 0x9C, 0x80, 0x2B, 0x43],
+    },
+    Program {
+        seed: 1, guest: 15, len: 5_036, sum: 0x130CADFE,
+        first: &[0xB5, 0x80, 0x70, 0x33, 0x9A, 0x87, 0x76, 0x58, 0x28, 0x2D, 0x21, 0x60, 0xD8, 0x82, 0x26, 0x2D],
+    },
+    Program {
+        seed: 4_294_967_295, guest: 0, len: 5_010, sum: 0x0BD70EBF,
+        first: &[0xC2, 0xC7, 0x9C, 0x87, 0x2B, 0x43, 0x59, 0xE4, 0xC0, 0xC5, 0x2B, 0x43, 0x78, 0xA0, 0xE4, 0x89],
+    },
+    Program {
+        seed: 4_294_967_295, guest: 1, len: 5_054, sum: 0x34CB53DD,
+        first: &[0xD6, 0x83, 0xEE, 0x8F, 0xC4, 0xC2, 0xEA, 0x8B, 0x26, 0x2D, 0x14, 0xAC, 0xCC, 0xC3, 0xCC, 0xC2],
+    },
+];
 
 /// `LEA $8000,A5`.
 const ENTER: [u8; 6] = [0x4B, 0xF9, 0, 0, 0x80, 0];
@@ -34,19 +68,21 @@ fn chunk(session: &Session, guest: usize, place: usize) -> Option<(u32, &[u8])> 
     Some((chunk.at(), chunk.bytes()))
 }
 
-/// Whether this is the program of the guest.
-fn runs(session: &Session, guest: usize, program: &Program) -> bool {
-    match chunk(session, guest, 1) {
+/// Whether its guest has this program.
+fn runs(session: &Session, program: &Program) -> bool {
+    match chunk(session, program.guest, 1) {
         Some((0x400, bytes)) => {
-            begins(bytes, program) && bytes.len() == program.len && sum_of(bytes) == program.sum
+            begins(bytes, program.first)
+                && bytes.len() == program.len
+                && sum_of(bytes) == program.sum
         }
         _ => false,
     }
 }
 
-fn begins(bytes: &[u8], program: &Program) -> bool {
+fn begins(bytes: &[u8], first: &[u8]) -> bool {
     match bytes.strip_prefix(&ENTER) {
-        Some(picked) => picked.starts_with(&program.first),
+        Some(picked) => picked.starts_with(first),
         None => false,
     }
 }
@@ -68,78 +104,16 @@ fn run(board: &mut Board, script: &Script, steps: u32) {
     }
 }
 
-/// The programs of two guests by the draws of seeds 0, 1 and 2^32 - 1.
 #[test]
 fn programs_of_three_seeds(rt: HostRuntime) {
-    let cases = [
-        (
-            0,
-            [
-                Program {
-                    first: [
-                        0xB1, 0x84, 0x24, 0x2D, 0x7C, 0x84, 0xB5, 0x87, 0x2B, 0x47, 0x3E, 0xF8,
-                        0xB7, 0x86, 0xE4, 0x88,
-                    ],
-                    len: 4_948,
-                    sum: 0x1A4EF41C,
-                },
-                Program {
-                    first: [
-                        0x9E, 0x84, 0xE6, 0x8C, 0x26, 0x2D, 0x37, 0xB4, 0x7C, 0xF3, 0x2B, 0x45,
-                        0x10, 0xC8, 0x70, 0xA4,
-                    ],
-                    len: 5_020,
-                    sum: 0xECB1C973,
-                },
-            ],
-        ),
-        (
-            1,
-            [
-                Program {
-                    first: [
-                        0x2B, 0x44, 0x33, 0xA4, 0x2B, 0x45, 0x7D, 0xBC, 0xD4, 0x85, 0x70, 0xAC,
-                        0xBF, 0x80, 0x7A, 0x1F,
-                    ],
-                    len: 5_022,
-                    sum: 0xBAF21CAC,
-                },
-                Program {
-                    first: [
-                        0x2B, 0x42, 0x56, 0x98, 0x2B, 0x43, 0x04, 0xC8, 0xD4, 0x87, 0xE2, 0x8F,
-                        0x9C, 0x80, 0x2B, 0x43,
-                    ],
-                    len: 5_068,
-                    sum: 0x4506598A,
-                },
-            ],
-        ),
-        (
-            4_294_967_295,
-            [
-                Program {
-                    first: [
-                        0xC2, 0xC7, 0x9C, 0x87, 0x2B, 0x43, 0x59, 0xE4, 0xC0, 0xC5, 0x2B, 0x43,
-                        0x78, 0xA0, 0xE4, 0x89,
-                    ],
-                    len: 5_010,
-                    sum: 0x0BD70EBF,
-                },
-                Program {
-                    first: [
-                        0xD6, 0x83, 0xEE, 0x8F, 0xC4, 0xC2, 0xEA, 0x8B, 0x26, 0x2D, 0x14, 0xAC,
-                        0xCC, 0xC3, 0xCC, 0xC2,
-                    ],
-                    len: 5_054,
-                    sum: 0x34CB53DD,
-                },
-            ],
-        ),
-    ];
-    for (seed, programs) in &cases {
-        let session = make_session(rt.alloc(), *seed, 2).expect(&rt, "ample memory");
-        assert!(rt; runs(&session, 0, &programs[0]), "{seed}");
-        assert!(rt; runs(&session, 1, &programs[1]), "{seed}");
+    for program in &PROGRAMS {
+        let session = make_session(rt.alloc(), program.seed.into(), 16).expect(&rt, "ample memory");
+        assert!(rt;
+            runs(&session, program),
+            "guest {} of seed {}",
+            program.guest,
+            program.seed
+        );
     }
 }
 
@@ -147,14 +121,14 @@ fn programs_of_three_seeds(rt: HostRuntime) {
 #[test]
 fn what_stands_beside_a_program(rt: HostRuntime) {
     let session = make_session(rt.alloc(), 1, 2).expect(&rt, "ample memory");
-    assert_eq!(rt; session.board(), 327_680);
-    assert_eq!(rt; session.slice(), 1_000);
-    assert_eq!(rt; session.guests().len(), 2);
+    assert!(rt; session.board() == 327_680);
+    assert!(rt; session.slice() == 1_000);
+    assert!(rt; session.guests().len() == 2);
     for guest in session.guests() {
-        assert_eq!(rt; guest.ram(), 65_536);
-        assert_eq!(rt; guest.steps(), 250_000);
-        assert_eq!(rt; guest.script().count(), 0);
-        assert_eq!(rt; guest.image().chunks().len(), 3);
+        assert!(rt; guest.ram() == 65_536);
+        assert!(rt; guest.steps() == 250_000);
+        assert!(rt; guest.script().count() == 0);
+        assert!(rt; guest.image().chunks().len() == 3);
     }
     for guest in 0..2 {
         assert!(rt; chunk(&session, guest, 0) == Some((0, [0, 0, 0x80, 0, 0, 0, 4, 0].as_slice())));
@@ -166,21 +140,12 @@ fn what_stands_beside_a_program(rt: HostRuntime) {
 #[test]
 fn one_guest_and_sixteen(rt: HostRuntime) {
     let one = make_session(rt.alloc(), 1, 1).expect(&rt, "ample memory");
-    assert_eq!(rt; one.board(), 196_608);
-    assert_eq!(rt; one.guests().len(), 1);
+    assert!(rt; one.board() == 196_608);
+    assert!(rt; one.guests().len() == 1);
     let sixteen = make_session(rt.alloc(), 1, 16).expect(&rt, "ample memory");
-    assert_eq!(rt; sixteen.board(), 2_162_688);
-    assert_eq!(rt; sixteen.guests().len(), 16);
+    assert!(rt; sixteen.board() == 2_162_688);
+    assert!(rt; sixteen.guests().len() == 16);
     assert!(rt; chunk(&one, 0, 1) == chunk(&sixteen, 0, 1));
-    let last = Program {
-        first: [
-            0xB5, 0x80, 0x70, 0x33, 0x9A, 0x87, 0x76, 0x58, 0x28, 0x2D, 0x21, 0x60, 0xD8, 0x82,
-            0x26, 0x2D,
-        ],
-        len: 5_036,
-        sum: 0x130CADFE,
-    };
-    assert!(rt; runs(&sixteen, 15, &last));
 }
 
 /// LEA, the picked instructions, and then the byte; the next one comes 2,003 steps later.
@@ -191,7 +156,7 @@ fn a_lap_sends_a_byte(rt: HostRuntime) {
     let script = read_script(rt.alloc(), b"").expect(&rt, "ample memory");
     for (steps, sent) in [(2_001, 0), (1, 1), (2_002, 1), (1, 2)] {
         run(&mut board, &script, steps);
-        assert_eq!(rt; board.outcome().console.len(), sent);
-        assert_eq!(rt; board.outcome().state, RunState::Running);
+        assert!(rt; board.outcome().console.len() == sent);
+        assert!(rt; board.outcome().state == RunState::Running);
     }
 }

@@ -200,28 +200,28 @@ fn a_changed_descriptor_counts_after_a_flush(rt: HostRuntime) {
     let mut guest = Guest::translated(rt.alloc()).expect(&rt, "memory");
     guest.set(0x5000, 0x55);
     guest.set(0x6000, 0x66);
-    assert_eq!(rt; guest.read(Super, 0x5000), Some(0x55));
-    assert_eq!(rt; guest.find(Super, 5), Some((21, false)));
+    assert!(rt; guest.read(Super, 0x5000) == Some(0x55));
+    assert!(rt; guest.find(Super, 5) == Some((21, false)));
     guest.set(PAGES + 20, 0x6001);
-    assert_eq!(rt; guest.read(Super, 0x5000), Some(0x55));
-    assert_eq!(rt; guest.find(Super, 5), Some((21, false)));
+    assert!(rt; guest.read(Super, 0x5000) == Some(0x55));
+    assert!(rt; guest.find(Super, 5) == Some((21, false)));
     guest.flush(Flush::Page(Super, 5));
-    assert_eq!(rt; guest.find(Super, 5), None);
-    assert_eq!(rt; guest.read(Super, 0x5000), Some(0x66));
-    assert_eq!(rt; guest.find(Super, 5), Some((22, false)));
-    assert_eq!(rt; guest.find(User, 5), None);
+    assert!(rt; guest.find(Super, 5) == None);
+    assert!(rt; guest.read(Super, 0x5000) == Some(0x66));
+    assert!(rt; guest.find(Super, 5) == Some((22, false)));
+    assert!(rt; guest.find(User, 5) == None);
 }
 
 #[test]
 fn a_page_is_put_again_as_writable(rt: HostRuntime) {
     let mut guest = Guest::translated(rt.alloc()).expect(&rt, "memory");
-    assert_eq!(rt; guest.read(Super, 0x5000), Some(0));
-    assert_eq!(rt; guest.find(Super, 5), Some((21, false)));
-    assert_eq!(rt; guest.read(Super, PAGES + 20), Some(0x5009));
-    assert_eq!(rt; guest.write(Super, 0x5004, 7), Some(()));
-    assert_eq!(rt; guest.find(Super, 5), Some((21, true)));
-    assert_eq!(rt; guest.read(Super, PAGES + 20), Some(0x5019));
-    assert_eq!(rt; guest.read(Super, 0x5004), Some(7));
+    assert!(rt; guest.read(Super, 0x5000) == Some(0));
+    assert!(rt; guest.find(Super, 5) == Some((21, false)));
+    assert!(rt; guest.read(Super, PAGES + 20) == Some(0x5009));
+    assert!(rt; guest.write(Super, 0x5004, 7) == Some(()));
+    assert!(rt; guest.find(Super, 5) == Some((21, true)));
+    assert!(rt; guest.read(Super, PAGES + 20) == Some(0x5019));
+    assert!(rt; guest.read(Super, 0x5004) == Some(7));
 }
 
 #[test]
@@ -234,11 +234,11 @@ fn a_compare_reads_what_its_own_search_marks(rt: HostRuntime) {
     let mut cpu = Cpu::at_reset(0x8000, 0x400);
     cpu.regs.a[0] = PAGES + 0x30;
     cpu.regs.a[1] = 0x3000;
-    assert_eq!(rt; guest.step(&table, &mut cpu), StepEnd::Went);
-    assert_eq!(rt; (cpu.regs.pc, cpu.regs.sr), (0x402, 0x2704));
-    assert_eq!(rt; guest.find(Super, 0xC), Some((28, false)));
-    assert_eq!(rt; guest.find(Super, 3), Some((19, false)));
-    assert_eq!(rt; guest.find(Super, 0), Some((16, false)));
+    assert!(rt; guest.step(&table, &mut cpu) == StepEnd::Went);
+    assert!(rt; (cpu.regs.pc, cpu.regs.sr) == (0x402, 0x2704));
+    assert!(rt; guest.find(Super, 0xC) == Some((28, false)));
+    assert!(rt; guest.find(Super, 3) == Some((19, false)));
+    assert!(rt; guest.find(Super, 0) == Some((16, false)));
 }
 
 #[test]
@@ -247,17 +247,17 @@ fn a_full_area_goes_whole(rt: HostRuntime) {
         let mut guest = Guest::translated(rt.alloc()).expect(&rt, "memory");
         // 126 tables stand then: one of pointers, and 125 of pages
         for index in 0..125u32 {
-            assert_eq!(rt; guest.read(space, 0x4_0000 * index), Some(0));
+            assert!(rt; guest.read(space, 0x4_0000 * index) == Some(0));
         }
-        assert_eq!(rt; guest.find(space, 0), Some((16, false)));
-        assert_eq!(rt; guest.find(space, 64 * 124), Some((16, false)));
-        assert_eq!(rt; guest.read(space, 0x4_0000 * 125), Some(0));
-        assert_eq!(rt; guest.find(space, 0), None);
-        assert_eq!(rt; guest.find(space, 64 * 124), None);
-        assert_eq!(rt; guest.find(space, 64 * 125), Some((16, false)));
+        assert!(rt; guest.find(space, 0) == Some((16, false)));
+        assert!(rt; guest.find(space, 64 * 124) == Some((16, false)));
+        assert!(rt; guest.read(space, 0x4_0000 * 125) == Some(0));
+        assert!(rt; guest.find(space, 0) == None);
+        assert!(rt; guest.find(space, 64 * 124) == None);
+        assert!(rt; guest.find(space, 64 * 125) == Some((16, false)));
         // what is kept of a page is put again
-        assert_eq!(rt; guest.read(space, 0), Some(0));
-        assert_eq!(rt; guest.find(space, 0), Some((16, false)));
+        assert!(rt; guest.read(space, 0) == Some(0));
+        assert!(rt; guest.find(space, 0) == Some((16, false)));
     }
 }
 
@@ -277,8 +277,8 @@ fn flushes_drop_what_they_cover(rt: HostRuntime) {
         let mut guest = Guest::translated(rt.alloc()).expect(&rt, "memory");
         guest.set(PAGES + 24, 0x6401);
         for space in [User, Super] {
-            assert_eq!(rt; guest.read(space, 0x5000), Some(0));
-            assert_eq!(rt; guest.read(space, 0x6000), Some(0));
+            assert!(rt; guest.read(space, 0x5000) == Some(0));
+            assert!(rt; guest.read(space, 0x6000) == Some(0));
         }
         guest.flush(what);
         let found = [
@@ -287,7 +287,7 @@ fn flushes_drop_what_they_cover(rt: HostRuntime) {
             guest.find(User, 6).is_some(),
             guest.find(Super, 6).is_some(),
         ];
-        assert_eq!(rt; found, left, "{what:?}");
+        assert!(rt; found == left, "{what:?}");
     }
 }
 
@@ -295,11 +295,11 @@ fn flushes_drop_what_they_cover(rt: HostRuntime) {
 fn a_test_drops_its_page(rt: HostRuntime) {
     let mut guest = Guest::translated(rt.alloc()).expect(&rt, "memory");
     for space in [User, Super] {
-        assert_eq!(rt; guest.read(space, 0x5000), Some(0));
+        assert!(rt; guest.read(space, 0x5000) == Some(0));
     }
-    assert_eq!(rt; guest.test(Super, 0x5FFC), 0x5001);
-    assert_eq!(rt; guest.find(Super, 5), None);
-    assert_eq!(rt; guest.find(User, 5), Some((21, false)));
+    assert!(rt; guest.test(Super, 0x5FFC) == 0x5001);
+    assert!(rt; guest.find(Super, 5) == None);
+    assert!(rt; guest.find(User, 5) == Some((21, false)));
 }
 
 #[test]
@@ -318,12 +318,12 @@ fn a_written_register_forgets(rt: HostRuntime) {
     for (which, value, left) in registers {
         let mut guest = Guest::translated(rt.alloc()).expect(&rt, "memory");
         for space in [User, Super] {
-            assert_eq!(rt; guest.read(space, 0x5000), Some(0));
-            assert_eq!(rt; guest.find(space, 5), Some((21, false)));
+            assert!(rt; guest.read(space, 0x5000) == Some(0));
+            assert!(rt; guest.find(space, 5) == Some((21, false)));
         }
         guest.set_mmu(which, value);
         for space in [User, Super] {
-            assert_eq!(rt; guest.find(space, 5), left, "{which:?}");
+            assert!(rt; guest.find(space, 5) == left, "{which:?}");
         }
     }
 }
@@ -333,17 +333,17 @@ fn a_split_page_is_never_put(rt: HostRuntime) {
     let mut guest = Guest::new(rt.alloc()).expect(&rt, "memory");
     // the low 16 MiB, of code alone
     guest.set_mmu(MmuReg::Itt0, 0xC000);
-    assert_eq!(rt; guest.fetch(Super, 0x5000), Some(0));
-    assert_eq!(rt; guest.read(Super, 0x5000), Some(0));
-    assert_eq!(rt; guest.write(Super, 0x5000, 1), Some(()));
-    assert_eq!(rt; guest.find(Super, 5), None);
+    assert!(rt; guest.fetch(Super, 0x5000) == Some(0));
+    assert!(rt; guest.read(Super, 0x5000) == Some(0));
+    assert!(rt; guest.write(Super, 0x5000, 1) == Some(()));
+    assert!(rt; guest.find(Super, 5) == None);
     // and of data too, where writes are refused
     guest.set_mmu(MmuReg::Dtt0, 0xC004);
-    assert_eq!(rt; guest.write(Super, 0x5000, 2), None);
-    assert_eq!(rt; guest.find(Super, 5), None);
-    assert_eq!(rt; guest.read(Super, 0x5000), Some(1));
-    assert_eq!(rt; guest.find(Super, 5), Some((21, false)));
+    assert!(rt; guest.write(Super, 0x5000, 2) == None);
+    assert!(rt; guest.find(Super, 5) == None);
+    assert!(rt; guest.read(Super, 0x5000) == Some(1));
+    assert!(rt; guest.find(Super, 5) == Some((21, false)));
     guest.set_mmu(MmuReg::Dtt0, 0xC000);
-    assert_eq!(rt; guest.fetch(Super, 0x5000), Some(0));
-    assert_eq!(rt; guest.find(Super, 5), Some((21, true)));
+    assert!(rt; guest.fetch(Super, 0x5000) == Some(0));
+    assert!(rt; guest.find(Super, 5) == Some((21, true)));
 }

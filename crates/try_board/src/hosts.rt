@@ -6,6 +6,8 @@ ghost use Rattle.vm_guest.specs.Session.{IsBoardBytes, IsGuest, IsSession};
 
 use crate::images::{SIZE, image_of};
 use crate::machines::board_with;
+use crate::shown::{Chunk, RESET};
+use mb_board::Native;
 use mb_model::{Outcome, RunState};
 use mb_report::same;
 use mb_script::{Script, read_script};
@@ -17,19 +19,15 @@ const FITS: u32 = 0x7_0000;
 
 const TOO_SMALL: u32 = 0x6_0000;
 
-/// The stack and the code of the guests here.
-const RESET: (u32, &[u8]) = (0, &[0, 0, 0x80, 0, 0, 0, 4, 0]);
-
 /// What a guest begins with: the bytes in its RAM, its script, and how many steps it takes at most.
-#[derive(Clone, Copy)]
-struct Begins<'a> {
-    chunks: &'a [(u32, &'a [u8])],
-    script: &'a [u8],
+struct Begins {
+    chunks: &'static [Chunk],
+    script: &'static [u8],
     steps: u32,
 }
 
 /// `MOVE.B #1,CTRL`, and `MOVE.B DATA,DATA` in a loop: what arrives shows on the console.
-const ECHO: Begins<'static> = Begins {
+static ECHO: Begins = Begins {
     chunks: &[
         RESET,
         (
@@ -45,7 +43,7 @@ const ECHO: Begins<'static> = Begins {
 };
 
 /// `LEA $1000,A0`, and `MOVE.L A0,(A0)+` in a loop: it fills its RAM.
-const FILL: Begins<'static> = Begins {
+static FILL: Begins = Begins {
     chunks: &[
         RESET,
         (0x400, &[0x41, 0xF8, 0x10, 0, 0x20, 0xC8, 0x60, 0xFC]),
@@ -55,14 +53,14 @@ const FILL: Begins<'static> = Begins {
 };
 
 /// No image: after 16,384 steps a fetch past RAM faults, and no frame can be stacked below a stack at 0.
-const HALTS: Begins<'static> = Begins {
+static HALTS: Begins = Begins {
     chunks: &[],
     script: b"",
     steps: 20_000,
 };
 
 /// `MOVEQ #$41,D0`, `MOVE.B D0,DATA`, `MOVE.L #1,POWER`.
-const SWITCHES_OFF: Begins<'static> = Begins {
+static SWITCHES_OFF: Begins = Begins {
     chunks: &[
         RESET,
         (
@@ -94,7 +92,7 @@ fn guest_of(alloc: Global, begins: &Begins) -> Option<SessionGuest>
 }
 
 /// A session of these guests.
-fn session_of(alloc: Global, board: u32, slice: u32, guests: &[Begins]) -> Option<Session>
+fn session_of(alloc: Global, board: u32, slice: u32, guests: &[&Begins]) -> Option<Session>
     requires { IsBoardBytes board }
     ensures { IfSome result IsSession }
 {
@@ -129,16 +127,15 @@ fn is_as_bare(alloc: Global, host: &Host, number: u8, begins: &Begins) -> Option
 /// Three guests in turns of 1, of 7 and of 1,000 steps.
 #[test]
 fn each_guest_shows_what_its_own_board_shows(rt: HostRuntime) {
-    let guests = [ECHO, HALTS, FILL];
+    let guests = [&ECHO, &HALTS, &FILL];
     for slice in [1, 7, 1000] {
         let session = session_of(rt.alloc(), FITS, slice, &guests).expect(&rt, "ample memory");
         let mut host = Host::prepare(rt.alloc(), session).expect(&rt, "it fits");
-        host.run();
-        assert_eq!(rt; host.guest_count(), 3);
+        host.run(&mut Native::new());
+        assert!(rt; host.guest_count() == 3);
         for (number, begins) in [(1, &ECHO), (2, &HALTS), (3, &FILL)] {
-            assert_eq!(rt;
-                is_as_bare(rt.alloc(), &host, number, begins),
-                Some(true),
+            assert!(rt;
+                is_as_bare(rt.alloc(), &host, number, begins) == Some(true),
                 "{number} in {slice}"
             );
         }
@@ -154,32 +151,33 @@ fn stands(host: &Host, number: u8) -> Option<(RunState, u32)> {
 /// A guest that halts beside one that switches off, and a second run.
 #[test]
 fn one_halts_and_one_is_off(rt: HostRuntime) {
-    let session = session_of(rt.alloc(), FITS, 1000, &[HALTS, SWITCHES_OFF]).expect(
+    let session = session_of(rt.alloc(), FITS, 1000, &[&HALTS, &SWITCHES_OFF]).expect(
         &rt,
         "ample memory",
     );
     let mut host = Host::prepare(rt.alloc(), session).expect(&rt, "it fits");
-    for _ in 0..2 {
-        host.run();
-        assert_eq!(rt; stands(&host, 1), Some((RunState::Halted, 16_385)));
-        assert_eq!(rt; stands(&host, 2), Some((RunState::Off, 3)));
-        assert_eq!(rt; is_as_bare(rt.alloc(), &host, 1, &HALTS), Some(true));
-        assert_eq!(rt; is_as_bare(rt.alloc(), &host, 2, &SWITCHES_OFF), Some(true));
-    }
+    host.run(&mut Native::new());
+    assert!(rt; stands(&host, 1) == Some((RunState::Halted, 16_385)));
+    assert!(rt; stands(&host, 2) == Some((RunState::Off, 3)));
+    host.run(&mut Native::new());
+    assert!(rt; stands(&host, 1) == Some((RunState::Halted, 16_385)));
+    assert!(rt; stands(&host, 2) == Some((RunState::Off, 3)));
+    assert!(rt; is_as_bare(rt.alloc(), &host, 1, &HALTS) == Some(true));
+    assert!(rt; is_as_bare(rt.alloc(), &host, 2, &SWITCHES_OFF) == Some(true));
 }
 
 /// 64 KiB for the monitor, and 128 KiB for each of three guests.
 #[test]
 fn a_session_fits_to_the_byte(rt: HostRuntime) {
-    let guests = [FILL, ECHO, SWITCHES_OFF];
+    let guests = [&FILL, &ECHO, &SWITCHES_OFF];
     let session = session_of(rt.alloc(), TOO_SMALL, 1, &guests).expect(&rt, "ample memory");
     let refused = Host::prepare(rt.alloc(), session).err();
-    assert_eq!(rt;
-        refused,
-        Some(OpenFault::Oversize {
-            need: FITS,
-            have: TOO_SMALL
-        })
+    assert!(rt;
+        refused
+            == Some(OpenFault::Oversize {
+                need: FITS,
+                have: TOO_SMALL
+            })
     );
     let session = session_of(rt.alloc(), FITS, 1, &guests).expect(&rt, "ample memory");
     assert!(rt; Host::prepare(rt.alloc(), session).is_ok());

@@ -1,5 +1,5 @@
 //! Tests of machines and their parts: searches through tables, kept translations, shadow tables, devices, boards,
-//! guests on boards, hosts, and generated sessions.
+//! hosts, and generated sessions.
 #![tactic(auto)]
 
 #[cfg(test)]
@@ -11,8 +11,6 @@ mod guest_kept;
 #[cfg(test)]
 mod guest_port;
 #[cfg(test)]
-mod guests;
-#[cfg(test)]
 mod hosts;
 #[cfg(test)]
 mod images;
@@ -22,6 +20,8 @@ mod kept;
 mod machines;
 #[cfg(test)]
 mod shadow;
+#[cfg(test)]
+mod shown;
 #[cfg(test)]
 mod user_runs;
 #[cfg(test)]

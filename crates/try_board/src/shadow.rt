@@ -95,16 +95,16 @@ fn a_full_area_is_cleared_whole(rt: HostRuntime) {
         for k in 0..125u32 {
             assert!(rt; !guest.fill(space, 64 * k, k, true));
         }
-        assert_eq!(rt; guest.find(space, 64 * 124), Some((124, true)));
+        assert!(rt; guest.find(space, 64 * 124) == Some((124, true)));
         assert!(rt; !guest.is_full_for(space, 64 * 124 + 63));
         assert!(rt; guest.is_full_for(space, 64 * 125));
         assert!(rt; guest.fill(space, 64 * 125, 0xF_FFFF, false));
-        assert_eq!(rt; guest.find(space, 64 * 125), Some((0xF_FFFF, false)));
+        assert!(rt; guest.find(space, 64 * 125) == Some((0xF_FFFF, false)));
         for k in 0..125u32 {
-            assert_eq!(rt; guest.find(space, 64 * k), None);
+            assert!(rt; guest.find(space, 64 * k) == None);
         }
         // nothing below the area
-        assert_eq!(rt; guest.ram.long(AREA - 4), 0x0707_0707);
+        assert!(rt; guest.ram.long(AREA - 4) == 0x0707_0707);
     }
 }
 
@@ -119,13 +119,10 @@ fn an_empty_table_is_freed(rt: HostRuntime) {
         guest.drop_page(space, 192);
         assert!(rt; !guest.is_full_for(space, 8000));
         assert!(rt; !guest.fill(space, 8000, 1, true));
-        assert_eq!(rt;
-            (guest.find(space, 192), guest.find(space, 8000)),
-            (None, Some((1, true)))
-        );
+        assert!(rt; (guest.find(space, 192), guest.find(space, 8000)) == (None, Some((1, true))));
         for k in 0..125u32 {
             if k != 3 {
-                assert_eq!(rt; guest.find(space, 64 * k), Some((k, true)));
+                assert!(rt; guest.find(space, 64 * k) == Some((k, true)));
             }
         }
     }
@@ -139,16 +136,10 @@ fn slots_are_taken_and_freed(rt: HostRuntime) {
     assert!(rt; !guest.fill(User, 6, 2, true));
     assert!(rt; !guest.fill(User, 6, 3, false));
     guest.drop_page(User, 5);
-    assert_eq!(rt;
-        (guest.find(User, 5), guest.find(User, 6)),
-        (None, Some((3, false)))
-    );
+    assert!(rt; (guest.find(User, 5), guest.find(User, 6)) == (None, Some((3, false))));
     guest.drop_page(User, 6);
     guest.drop_page(User, 6);
-    assert_eq!(rt;
-        (guest.ram.long(AREA), guest.ram.long(AREA + 0x400)),
-        (0, 0)
-    );
+    assert!(rt; (guest.ram.long(AREA), guest.ram.long(AREA + 0x400)) == (0, 0));
     // 63 page tables, each below a pointer table of its own, fill all slots, again and again
     for round in 0..3u32 {
         for k in 0..63u32 {
@@ -158,22 +149,19 @@ fn slots_are_taken_and_freed(rt: HostRuntime) {
         assert!(rt; guest.is_full_for(User, 0));
         assert!(rt; !guest.is_full_for(Super, 63));
         for k in 0..63u32 {
-            assert_eq!(rt; guest.find(Super, 8192 * k), Some((100 * round + k, true)));
+            assert!(rt; guest.find(Super, 8192 * k) == Some((100 * round + k, true)));
             guest.drop_page(Super, 8192 * k);
         }
     }
     for index in 0..0x1_0000u32 / 4 {
-        assert_eq!(rt; guest.ram.long(AREA + 4 * index), 0);
+        assert!(rt; guest.ram.long(AREA + 4 * index) == 0);
     }
 }
 
 #[test]
 fn a_search_finds_the_entries(rt: HostRuntime) {
     let mut guest = Guest::new(rt.alloc()).expect(&rt, "memory");
-    assert_eq!(rt;
-        (guest.shadow.root(User), guest.shadow.root(Super)),
-        (AREA, AREA + 512)
-    );
+    assert!(rt; (guest.shadow.root(User), guest.shadow.root(Super)) == (AREA, AREA + 512));
     // The space, the page, the frame, and whether it takes writes.
     let entries = [
         (User, 0, 0x123, true),
@@ -185,7 +173,7 @@ fn a_search_finds_the_entries(rt: HostRuntime) {
     for (space, page, frame, writable) in entries {
         assert!(rt; page < 0x10_0000 && frame < 0x10_0000);
         assert!(rt; !guest.fill(space, page, frame, writable));
-        assert_eq!(rt; guest.find(space, page), Some((frame, writable)));
+        assert!(rt; guest.find(space, page) == Some((frame, writable)));
     }
     let Guest { mut ram, shadow } = guest;
     // The root's entries and those of the tables below, in the order in which they came to stand: each is resident and
@@ -200,7 +188,7 @@ fn a_search_finds_the_entries(rt: HostRuntime) {
     ];
     for (at, long) in longs {
         assert!(rt; at % 4 == 0 && at <= SIZE - 4);
-        assert_eq!(rt; ram.long(at), long);
+        assert!(rt; ram.long(at) == long);
     }
     for (space, page, frame, writable) in entries {
         assert!(rt; page < 0x10_0000);
@@ -217,10 +205,7 @@ fn a_search_finds_the_entries(rt: HostRuntime) {
             g: false,
             m: true,
         };
-        assert_eq!(rt; kept, Some(wanted));
+        assert!(rt; kept == Some(wanted));
     }
-    assert_eq!(rt;
-        search(&mut ram, shadow.root(Super), Super, 0x204_3000, false),
-        Found::Invalid
-    );
+    assert!(rt; search(&mut ram, shadow.root(Super), Super, 0x204_3000, false) == Found::Invalid);
 }

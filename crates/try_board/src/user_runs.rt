@@ -58,10 +58,10 @@ fn a_step_leaves_its_trail(rt: HostRuntime) {
     for (code, limit, numbers) in &cases {
         let mut board = board_with(rt.alloc(), code, &user(0)).expect(&rt, "ample memory");
         let mut native = Native::new();
-        assert_eq!(rt; run(&mut board, *limit, &mut native), Some(RunEnd::Counted));
-        assert_eq!(rt; counted(&native), *numbers);
-        assert_eq!(rt; board.before().pc, 0);
-        assert_eq!(rt; board.outcome().steps, 0);
+        assert!(rt; run(&mut board, *limit, &mut native) == Some(RunEnd::Counted));
+        assert!(rt; counted(&native) == *numbers);
+        assert!(rt; board.before().pc == 0);
+        assert!(rt; board.outcome().steps == 0);
     }
 }
 
@@ -72,13 +72,13 @@ fn further_steps_are_counted_behind(rt: HostRuntime) {
     let code = [0x76, 5, 0x60, 0xFC];
     let mut board = board_with(rt.alloc(), &code, &user(0)).expect(&rt, "ample memory");
     let mut native = Native::new();
-    assert_eq!(rt; run(&mut board, 3, &mut native), Some(RunEnd::Counted));
-    assert_eq!(rt; counted(&native), (3, 0, 256_721_248_896_225_299));
-    assert_eq!(rt; board.before().pc, 0);
-    assert_eq!(rt; board.before().d[3], 5);
-    assert_eq!(rt; run(&mut board, 1, &mut native), Some(RunEnd::Counted));
-    assert_eq!(rt; counted(&native), (4, 0, 10_930_215_216_108_088_987));
-    assert_eq!(rt; board.before().pc, 2);
+    assert!(rt; run(&mut board, 3, &mut native) == Some(RunEnd::Counted));
+    assert!(rt; counted(&native) == (3, 0, 256_721_248_896_225_299));
+    assert!(rt; board.before().pc == 0);
+    assert!(rt; board.before().d[3] == 5);
+    assert!(rt; run(&mut board, 1, &mut native) == Some(RunEnd::Counted));
+    assert!(rt; counted(&native) == (4, 0, 10_930_215_216_108_088_987));
+    assert!(rt; board.before().pc == 2);
 }
 
 /// A run from PC 0 with this status register: so many steps are carried out, and the next enters an exception.
@@ -133,9 +133,9 @@ fn an_exception_ends_a_run(rt: HostRuntime) {
         let mut board = board_with(rt.alloc(), case.code, &cpu).expect(&rt, "ample memory");
         let mut native = Native::new();
         let end = run(&mut board, 10, &mut native);
-        assert_eq!(rt; end, Some(RunEnd::Exit(case.vector)));
-        assert_eq!(rt; native.retired(), case.retired);
-        assert_eq!(rt; native.exceptions(), 1);
+        assert!(rt; end == Some(RunEnd::Exit(case.vector)));
+        assert!(rt; native.retired() == case.retired);
+        assert!(rt; native.exceptions() == 1);
         assert!(rt; board.cpu().regs.is_supervisor());
     }
 }
@@ -149,12 +149,12 @@ fn an_interrupt_ends_a_run(rt: HostRuntime) {
         at: 0xFFF0_0010,
         len: 4,
     };
-    assert_eq!(rt; board.write(Space::Super, period, 3), Ok(()));
+    assert!(rt; board.write(Space::Super, period, 3) == Ok(()));
     let mut native = Native::new();
-    assert_eq!(rt; run(&mut board, 10, &mut native), Some(RunEnd::Exit(30)));
-    assert_eq!(rt; native.retired(), 2);
-    assert_eq!(rt; native.exceptions(), 1);
-    assert_eq!(rt; board.before().pc, 4);
+    assert!(rt; run(&mut board, 10, &mut native) == Some(RunEnd::Exit(30)));
+    assert!(rt; native.retired() == 2);
+    assert!(rt; native.exceptions() == 1);
+    assert!(rt; board.before().pc == 4);
 }
 
 /// A board that halts, since its stack is nowhere, and one that is switched off: the step that switches off is carried
@@ -166,16 +166,16 @@ fn a_board_is_gone(rt: HostRuntime) {
         "ample memory",
     );
     let mut native = Native::new();
-    assert_eq!(rt; run(&mut board, 10, &mut native), Some(RunEnd::Gone));
-    assert_eq!(rt; state_of(&board), RunState::Halted);
-    assert_eq!(rt; native.retired(), 1);
-    assert_eq!(rt; native.exceptions(), 0);
+    assert!(rt; run(&mut board, 10, &mut native) == Some(RunEnd::Gone));
+    assert!(rt; state_of(&board) == RunState::Halted);
+    assert!(rt; native.retired() == 1);
+    assert!(rt; native.exceptions() == 0);
     let code = [0x23, 0xFC, 0, 0, 0, 1, 0xFF, 0xF0, 0, 0x20]; // MOVE.L #1,$FFF00020
     let mut board = board_with(rt.alloc(), &code, &user(0x8000)).expect(&rt, "ample memory");
     let mut native = Native::new();
-    assert_eq!(rt; run(&mut board, 10, &mut native), Some(RunEnd::Gone));
-    assert_eq!(rt; state_of(&board), RunState::Off);
-    assert_eq!(rt; native.retired(), 1);
-    assert_eq!(rt; native.exceptions(), 0);
-    assert_eq!(rt; board.before().pc, 0);
+    assert!(rt; run(&mut board, 10, &mut native) == Some(RunEnd::Gone));
+    assert!(rt; state_of(&board) == RunState::Off);
+    assert!(rt; native.retired() == 1);
+    assert!(rt; native.exceptions() == 0);
+    assert!(rt; board.before().pc == 0);
 }

@@ -88,13 +88,10 @@ fn entry(space: Space, flags: [bool; 4], status: u32) -> Found {
 #[test]
 fn a_root_that_is_its_own_table(rt: HostRuntime) {
     let mut bytes = memory(rt.alloc(), &[(0x8000, 0x0000_8002)]).expect(&rt, "memory");
-    assert_eq!(rt; search(&mut bytes, 0x8000, Super, 0, false), Found::Invalid);
+    assert!(rt; search(&mut bytes, 0x8000, Super, 0, false) == Found::Invalid);
     let wanted = memory(rt.alloc(), &[(0x8000, 0x0000_800A)]).expect(&rt, "memory");
-    assert_eq!(rt; bytes.memory, wanted.memory);
-    assert_eq!(rt;
-        search(&mut bytes, 0x10_0000, Super, 0, false),
-        Found::BusError
-    );
+    assert!(rt; bytes.memory == wanted.memory);
+    assert!(rt; search(&mut bytes, 0x10_0000, Super, 0, false) == Found::BusError);
 }
 
 #[test]
@@ -148,8 +145,8 @@ fn walks_by_hand(rt: HostRuntime) {
         set(&mut after, longs);
         set(&mut after, &[(0x8004, 0x0000_820A), (0x8204, 0x0000_840B)]);
         set(&mut after, left);
-        assert_eq!(rt; search(&mut bytes, 0x8000, space, AT, write), wanted);
-        assert_eq!(rt; bytes.memory, after.memory, "after {wanted:?}");
+        assert!(rt; search(&mut bytes, 0x8000, space, AT, write) == wanted);
+        assert!(rt; bytes.memory == after.memory, "after {wanted:?}");
     }
 }
 
@@ -172,31 +169,23 @@ fn transparent_registers_by_hand(rt: HostRuntime) {
         (0x0100_C000, 0x00FF_C004, User, 0x0100_0000, Some(false)),
     ];
     for (tt0, tt1, space, at, wanted) in tries {
-        assert_eq!(rt; transparent(tt0, tt1, space, at), wanted, "{tt0:x} {tt1:x} at {at:x}");
+        assert!(rt; transparent(tt0, tt1, space, at) == wanted, "{tt0:x} {tt1:x} at {at:x}");
     }
 }
 
 #[test]
 fn descriptors_and_results_by_hand(rt: HostRuntime) {
     let table = TableDescriptor::of(0x0000_820E);
-    assert_eq!(rt;
-        (table.resident, table.protected, table.used),
-        (true, true, true)
-    );
+    assert!(rt; (table.resident, table.protected, table.used) == (true, true, true));
     assert!(rt; !TableDescriptor::of(0x0000_8201).resident);
     let page = PageDescriptor::of(0x0012_3493);
-    assert_eq!(rt;
-        (page.resident, page.indirect, page.protected, page.used),
-        (true, false, false, false)
+    assert!(rt;
+        (page.resident, page.indirect, page.protected, page.used) == (true, false, false, false)
     );
-    assert_eq!(rt;
-        (page.modified, page.supervisor, page.global, page.frame),
-        (true, true, true, 0x123)
+    assert!(rt;
+        (page.modified, page.supervisor, page.global, page.frame) == (true, true, true, 0x123)
     );
     assert!(rt; PageDescriptor::of(0x0000_8502).indirect);
-    assert_eq!(rt; entry(User, [false; 4], 0x0012_3001).status(), 0x0012_3001);
-    assert_eq!(rt;
-        (Found::Invalid.status(), Found::BusError.status()),
-        (0, 0x800)
-    );
+    assert!(rt; entry(User, [false; 4], 0x0012_3001).status() == 0x0012_3001);
+    assert!(rt; (Found::Invalid.status(), Found::BusError.status()) == (0, 0x800));
 }

@@ -72,7 +72,7 @@ end\n";
 #[test]
 fn writes_a_program_that_ended(rt: HostRuntime) {
     let mut ram = zeros(rt.alloc(), 0x1_0000).expect(&rt, "ample memory");
-    assert_eq!(rt; ram.len(), 0x1_0000);
+    assert!(rt; ram.len() == 0x1_0000);
     ram[..8].copy_from_slice(&[0, 1, 0, 0, 0, 0, 4, 0]);
     ram[0x400..0x412].copy_from_slice(&[
         0x70, 0x41, 0x13, 0xc0, 0xff, 0xf0, 0, 0, 0x23, 0xfc, 0, 0, 0, 1, 0xff, 0xf0, 0, 0x20,
@@ -87,14 +87,14 @@ fn writes_a_program_that_ended(rt: HostRuntime) {
         ..nothing(&cpu, &NO_MMU)
     };
     let text = WORKED.as_bytes();
-    assert_eq!(rt; text.len(), 667);
+    assert!(rt; text.len() == 667);
     for (room, want) in [(100, Err(SinkFault)), (666, Err(SinkFault)), (667, Ok(()))] {
         let mut out = MemSink::new(rt.alloc(), room, Vec::new(rt.alloc())).expect(
             &rt,
             "ample memory",
         );
-        assert_eq!(rt; write_outcome(1, &outcome, &mut out), want, "room {room}");
-        assert_eq!(rt; out.bytes(), &text[..room.min(667)], "room {room}");
+        assert!(rt; write_outcome(1, &outcome, &mut out) == want, "room {room}");
+        assert!(rt; out.bytes() == &text[..room.min(667)], "room {room}");
     }
 }
 
@@ -170,8 +170,8 @@ fn writes_every_place(rt: HostRuntime) {
         ram: &ram,
     };
     let mut out = MemSink::new(rt.alloc(), 1_000, Vec::new(rt.alloc())).expect(&rt, "ample memory");
-    assert_eq!(rt; write_outcome(16, &outcome, &mut out), Ok(()));
-    assert_eq!(rt; out.bytes(), FULL.as_bytes());
+    assert!(rt; write_outcome(16, &outcome, &mut out) == Ok(()));
+    assert!(rt; out.bytes() == FULL.as_bytes());
 }
 
 /// The other states, of a machine that has nothing to show.
@@ -187,7 +187,7 @@ fn writes_states(rt: HostRuntime) {
             &rt,
             "ample memory",
         );
-        assert_eq!(rt; write_outcome(2, &outcome, &mut out), Ok(()), "{want}");
+        assert!(rt; write_outcome(2, &outcome, &mut out) == Ok(()), "{want}");
         let text = out.bytes();
         assert!(rt; text.starts_with(b"guest 2\nstate "), "{want}");
         assert!(rt; text[14..].starts_with(want.as_bytes()), "{want}");

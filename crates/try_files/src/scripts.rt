@@ -86,11 +86,11 @@ fn reads_every_printable_byte(rt: HostRuntime) -> Result<(), Fail> {
     text.extend_from_slice(ALL_PRINTABLE)?;
     assert!(rt; text.len() < 1000);
     let script = read_script(rt.alloc(), &text)?;
-    assert_eq!(rt; script.count(), 95);
+    assert!(rt; script.count() == 95);
     for byte in 0x20..=0x7E {
-        assert_eq!(rt; script.entry(u32::from(byte - 0x20)), Some((1, byte)));
+        assert!(rt; script.entry(u32::from(byte - 0x20)) == Some((1, byte)));
     }
-    assert_eq!(rt; script.entry(95), None);
+    assert!(rt; script.entry(95) == None);
     Ok(())
 }
 
@@ -160,7 +160,7 @@ fn tells_faults_of_scripts(rt: HostRuntime) {
     for (text, number, why) in table {
         assert!(rt; text.len() < 1000);
         let answer = read_script(rt.alloc(), text);
-        assert_eq!(rt; answer.err(), Some(line(number, why)), "{text:?}");
+        assert!(rt; answer.err() == Some(line(number, why)), "{text:?}");
     }
 }
 
@@ -175,7 +175,7 @@ fn prints_faults(rt: HostRuntime) -> Result<(), Fail> {
         (line(5, LineWhy::Many), "line 5: many"),
     ];
     for (fault, want) in table {
-        assert_eq!(rt; fault.to_string(rt.alloc())?.as_str(), want);
+        assert!(rt; fault.to_string(rt.alloc())?.as_str() == want);
     }
     Ok(())
 }
@@ -260,13 +260,10 @@ fn reads_every_byte_of_a_name(rt: HostRuntime) -> Result<(), Fail> {
     text.extend_from_slice(ALL_GRAPHIC)?;
     assert!(rt; text.len() < 1000);
     let plan = read_session(rt.alloc(), &text)?;
-    assert_eq!(rt; plan.guests().len(), 1);
+    assert!(rt; plan.guests().len() == 1);
     let guest = &plan.guests()[0];
-    assert_eq!(rt; guest.image().as_bytes(), ALL_GRAPHIC);
-    assert_eq!(rt;
-        guest.script().map(|name| name.as_bytes()),
-        Some(ALL_GRAPHIC)
-    );
+    assert!(rt; guest.image().as_bytes() == ALL_GRAPHIC);
+    assert!(rt; guest.script().map(|name| name.as_bytes()) == Some(ALL_GRAPHIC));
     Ok(())
 }
 

@@ -48,10 +48,10 @@ fn mem_shelf_gives_pieces(rt: HostRuntime) {
         let got = shelf.piece(rt.alloc(), name, at, &mut buf[..room.min(8)]);
         match want {
             Ok(bytes) => {
-                assert_eq!(rt; got, Ok(bytes.len()), "{name} at {at}");
+                assert!(rt; got == Ok(bytes.len()), "{name} at {at}");
                 assert!(rt; buf.starts_with(bytes), "{name} at {at}");
             }
-            Err(fault) => assert_eq!(rt; got, Err(fault), "{name} at {at}"),
+            Err(fault) => assert!(rt; got == Err(fault), "{name} at {at}"),
         }
     }
 }
@@ -73,8 +73,8 @@ fn mem_sink_takes_what_has_room(rt: HostRuntime) {
         let mut sink = MemSink::new(rt.alloc(), room, listed).expect(&rt, "ample memory");
         let first = put_all(&mut sink, b"hello");
         let got = put_more(&mut sink, first, b"!");
-        assert_eq!(rt; got, want, "room {room}, fails {fails}");
-        assert_eq!(rt; sink.bytes(), bytes, "room {room}, fails {fails}");
+        assert!(rt; got == want, "room {room}, fails {fails}");
+        assert!(rt; sink.bytes() == bytes, "room {room}, fails {fails}");
     }
 }
 
@@ -100,7 +100,7 @@ fn load_reads_whole_files(rt: HostRuntime) {
             Ok(bytes) => Ok(bytes.len()),
             Err(fault) => Err(fault),
         };
-        assert_eq!(rt; got, want, "{name} of at most {most}, fails {fails}");
+        assert!(rt; got == want, "{name} of at most {most}, fails {fails}");
     }
 }
 
@@ -122,13 +122,13 @@ fn nothing_fails(rt: HostRuntime) {
             Ok(bytes) => Ok(bytes.len()),
             Err(fault) => Err(fault),
         };
-        assert_eq!(rt; got, want, "{name} of at most {most}");
+        assert!(rt; got == want, "{name} of at most {most}");
     }
     let mut sink = NoFailSink::new();
-    assert_eq!(rt; put_all(&mut sink, b"hello"), Ok(()));
-    assert_eq!(rt; sink.put(b""), Ok(0));
-    assert_eq!(rt; sink.put(b"12"), Ok(2));
-    assert_eq!(rt; sink.bytes(), 7);
+    assert!(rt; put_all(&mut sink, b"hello") == Ok(()));
+    assert!(rt; sink.put(b"") == Ok(0));
+    assert!(rt; sink.put(b"12") == Ok(2));
+    assert!(rt; sink.bytes() == 7);
 }
 
 #[test]
@@ -156,10 +156,10 @@ fn file_shelf_reads_files(rt: HostRuntime) {
         let got = shelf.piece(alloc, name, at, &mut buf);
         match want {
             Ok(bytes) => {
-                assert_eq!(rt; got, Ok(bytes.len()), "{name} at {at}");
+                assert!(rt; got == Ok(bytes.len()), "{name} at {at}");
                 assert!(rt; buf.starts_with(bytes), "{name} at {at}");
             }
-            Err(fault) => assert_eq!(rt; got, Err(fault), "{name} at {at}"),
+            Err(fault) => assert!(rt; got == Err(fault), "{name} at {at}"),
         }
     }
     fs::remove_file(&rt, file).expect(&rt, "the file");
@@ -169,12 +169,12 @@ fn file_shelf_reads_files(rt: HostRuntime) {
 fn std_sink_writes(rt: HostRuntime) {
     let mut taking = StdSink::new(File::create(&rt, "/dev/null").expect(&rt, "a null device"));
     let mut full = StdSink::new(File::create(&rt, "/dev/full").expect(&rt, "a full device"));
-    assert_eq!(rt; taking.put(b"hello"), Ok(5));
-    assert_eq!(rt; full.put(b"hello"), Err(Failed));
-    assert_eq!(rt; put_all(&mut full, b""), Ok(()));
+    assert!(rt; taking.put(b"hello") == Ok(5));
+    assert!(rt; full.put(b"hello") == Err(Failed));
+    assert!(rt; put_all(&mut full, b"") == Ok(()));
     // room for three bytes
     let mut short = StdSink::new(Cursor::new([0u8; 3]));
-    assert_eq!(rt; short.put(b"hello"), Ok(3));
-    assert_eq!(rt; short.put(b"lo"), Err(Failed));
-    assert_eq!(rt; short.put(b""), Ok(0));
+    assert!(rt; short.put(b"hello") == Ok(3));
+    assert!(rt; short.put(b"lo") == Err(Failed));
+    assert!(rt; short.put(b"") == Ok(0));
 }

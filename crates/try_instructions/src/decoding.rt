@@ -213,13 +213,13 @@ fn words_decode(rt: HostRuntime) -> Result<(), Fail> {
             words.push(u16::from_str_radix(digits, 16).expect(&rt, "a word"))?;
         }
         let found = format!(in rt.alloc(); "{:?}", decode(&words))?;
-        assert_eq!(rt; found.as_str(), expected, "at {spelled}");
+        assert!(rt; found.as_str() == expected, "at {spelled}");
     }
     Ok(())
 }
 
 #[test]
 fn no_words_are_more(rt: HostRuntime) {
-    assert_eq!(rt; decode(&[]), Decoded::More);
+    assert!(rt; decode(&[]) == Decoded::More);
     spellings();
 }

@@ -44,7 +44,7 @@ fn rows(rt: HostRuntime) -> Result<(), Fail> {
         }
         found.push_str("\n")?;
     }
-    assert_eq!(rt; found.as_str(), WORDS);
+    assert!(rt; found.as_str() == WORDS);
     Ok(())
 }
 
@@ -70,8 +70,8 @@ fn no_rows(rt: HostRuntime) {
     ];
     for instruction in values {
         match encode(&instruction) {
-            Ok(_) => assert_eq!(rt; true, false, "at {instruction:?}"),
-            Err(none) => assert_eq!(rt; none, Unencodable),
+            Ok(_) => assert!(rt; true == false, "at {instruction:?}"),
+            Err(none) => assert!(rt; none == Unencodable),
         }
     }
 }

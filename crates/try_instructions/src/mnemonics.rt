@@ -232,9 +232,8 @@ fn words_of(alloc: Global, case: &Case) -> Result<String, Fail> {
 fn statements(rt: HostRuntime) -> Result<(), Fail> {
     for case in cases() {
         let words = words_of(rt.alloc(), case)?;
-        assert_eq!(rt;
-            words.as_str(),
-            case.words,
+        assert!(rt;
+            words.as_str() == case.words,
             "at {} {:?}",
             case.name,
             case.operands
@@ -247,9 +246,8 @@ fn statements(rt: HostRuntime) -> Result<(), Fail> {
 fn lengths(rt: HostRuntime) -> Result<(), Fail> {
     for case in cases() {
         let length = length_of(case.name.as_bytes(), case.size, case.operands)?;
-        assert_eq!(rt;
-            length as usize,
-            case.words.len() / 5 * 2 + 2,
+        assert!(rt;
+            length as usize == case.words.len() / 5 * 2 + 2,
             "at {} {:?}",
             case.name,
             case.operands
@@ -262,9 +260,8 @@ fn lengths(rt: HostRuntime) -> Result<(), Fail> {
 fn faults(rt: HostRuntime) {
     for case in refusals() {
         let fault = instruction_of(case.name.as_bytes(), case.size, case.operands, AT).err();
-        assert_eq!(rt;
-            fault,
-            Some(case.fault),
+        assert!(rt;
+            fault == Some(case.fault),
             "at {} {:?}",
             case.name,
             case.operands

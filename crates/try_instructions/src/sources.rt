@@ -77,7 +77,7 @@ fn faulty_lines(rt: HostRuntime) -> Result<(), Fail> {
         (b" MOVEX\na EQU *\n DS.B a\nb NOP\n", Some((1, AsmKind::Name))),
     ];
     for (text, fault) in cases {
-        assert_eq!(rt; fault_of(&rt, rt.alloc(), text), fault);
+        assert!(rt; fault_of(&rt, rt.alloc(), text) == fault);
     }
     Ok(())
 }
@@ -95,9 +95,9 @@ text    DC.B \"Hi\",10,0\n        EVEN\n        DS.W 2\nend     DC.W end-start, 
         (0x400, b"\x41\xFA\x00\x14\x10\x18\x67\x0A\x13\xC0\xFF\xF0\x00\x00\x60\x00\xFF\xF4\x4E\x72\x27\x00Hi\n\x00"),
         (0x41E, b"\x00\x1E\x04\x1E"),
     ];
-    assert_eq!(rt; image.chunks().len(), chunks.len());
+    assert!(rt; image.chunks().len() == chunks.len());
     for (chunk, (at, bytes)) in image.chunks().iter().zip(chunks) {
-        assert_eq!(rt; chunk.at(), at);
+        assert!(rt; chunk.at() == at);
         assert!(rt; chunk.bytes() == bytes);
     }
     Ok(())

@@ -104,8 +104,8 @@ fn one_statement(rt: HostRuntime) -> Result<(), Fail> {
     };
     assert!(rt; label.bytes(line) == b"here".as_slice());
     assert!(rt; name.bytes(line) == b"MOVE".as_slice());
-    assert_eq!(rt; size, Some(SizeLetter::Byte));
-    assert_eq!(rt; operands.len(), 2);
+    assert!(rt; size == Some(SizeLetter::Byte));
+    assert!(rt; operands.len() == 2);
     assert!(rt;
         matches!(
             operands[0],

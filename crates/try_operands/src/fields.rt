@@ -39,9 +39,8 @@ fn decimal_sums(rt: HostRuntime) {
             for extend in 0..2 {
                 let sum = x + y + extend;
                 let want = decimal(sum % 100, sum >= 100);
-                assert_eq!(rt;
-                    abcd(digits(x), digits(y), extend * 16 + 4),
-                    want,
+                assert!(rt;
+                    abcd(digits(x), digits(y), extend * 16 + 4) == want,
                     "{x} and {y}"
                 );
             }
@@ -55,9 +54,8 @@ fn decimal_differences(rt: HostRuntime) {
         for y in 0..100 {
             for extend in 0..2 {
                 let want = decimal((100 + y - x - extend) % 100, y < x + extend);
-                assert_eq!(rt;
-                    sbcd(digits(x), digits(y), extend * 16 + 4),
-                    want,
+                assert!(rt;
+                    sbcd(digits(x), digits(y), extend * 16 + 4) == want,
                     "{x} from {y}"
                 );
             }
@@ -70,7 +68,7 @@ fn decimal_complements(rt: HostRuntime) {
     for y in 0..100 {
         for extend in 0..2 {
             let want = decimal((100 - y - extend) % 100, 0 < y + extend);
-            assert_eq!(rt; nbcd(digits(y), extend * 16 + 4), want, "{y}");
+            assert!(rt; nbcd(digits(y), extend * 16 + 4) == want, "{y}");
         }
     }
 }
@@ -91,20 +89,20 @@ fn other_digits(rt: HostRuntime) {
         (0x5F, 0x41, 0x14, 7, 0x11, 0x7B, 0x11),
     ];
     for (x, y, ccr, sum, after_sum, difference, after) in rows {
-        assert_eq!(rt;
-            abcd(x, y, ccr),
-            Flagged {
-                value: sum,
-                ccr: after_sum
-            },
+        assert!(rt;
+            abcd(x, y, ccr)
+                == Flagged {
+                    value: sum,
+                    ccr: after_sum
+                },
             "{x:x} {y:x}"
         );
-        assert_eq!(rt;
-            sbcd(x, y, ccr),
-            Flagged {
-                value: difference,
-                ccr: after
-            },
+        assert!(rt;
+            sbcd(x, y, ccr)
+                == Flagged {
+                    value: difference,
+                    ccr: after
+                },
             "{x:x} {y:x}"
         );
     }
@@ -136,7 +134,7 @@ fn packed_digits(rt: HostRuntime) {
         (0xABCD, 0x1111, 0xCE),
     ];
     for (x, adjust, byte) in rows {
-        assert_eq!(rt; pack(x, adjust), byte, "{x:x} {adjust:x}");
+        assert!(rt; pack(x, adjust) == byte, "{x:x} {adjust:x}");
     }
 }
 
@@ -166,7 +164,7 @@ fn unpacked_digits(rt: HostRuntime) {
         (1, 0xFF00, 0xFF01),
     ];
     for (x, adjust, word) in rows {
-        assert_eq!(rt; unpk(x, adjust), word, "{x:x} {adjust:x}");
+        assert!(rt; unpk(x, adjust) == word, "{x:x} {adjust:x}");
     }
 }
 
@@ -224,14 +222,12 @@ fn bit_fields(rt: HostRuntime) {
     for (word, bits, offset, width, value, field, after) in rows {
         assert!(rt; bits <= 40 && word < 1 << bits && 1 <= width && width <= 32);
         assert!(rt; offset <= bits && width <= bits - offset);
-        assert_eq!(rt;
-            field_get(word, bits, offset, width),
-            field,
+        assert!(rt;
+            field_get(word, bits, offset, width) == field,
             "{word:x} at {offset}"
         );
-        assert_eq!(rt;
-            field_put(word, bits, offset, width, value),
-            after,
+        assert!(rt;
+            field_put(word, bits, offset, width, value) == after,
             "{word:x} at {offset}"
         );
     }
@@ -266,6 +262,6 @@ fn first_ones(rt: HostRuntime) {
     ];
     for (field, width, zeros) in rows {
         assert!(rt; 1 <= width && width <= 32 && u64::from(field) < 1 << width);
-        assert_eq!(rt; field_first(field, width), zeros, "{field:x} of {width}");
+        assert!(rt; field_first(field, width) == zeros, "{field:x} of {width}");
     }
 }

@@ -239,9 +239,8 @@ static PC_FULL_WORDS: [Case; 66] = [
 /// Each operand stands where its case says.
 fn check_cases(rt: &impl Abort, alloc: Global, cases: &[Case]) -> Result<(), AllocError> {
     for case in cases {
-        assert_eq!(rt;
-            found(case, alloc)?,
-            Ok(Target::Memory(case.5)),
+        assert!(rt;
+            found(case, alloc)? == Ok(Target::Memory(case.5)),
             "{:?}",
             case.0
         );
@@ -289,14 +288,14 @@ fn registers_that_step(rt: HostRuntime) -> Result<(), AllocError> {
         };
         assert!(rt; is_operand(ea));
         let found = find_target(&ea, size, &plain, 0, Space::User, &mut port);
-        assert_eq!(rt; found, Ok(target), "{ea:?}");
+        assert!(rt; found == Ok(target), "{ea:?}");
         let found = resolve(&ea, size, &mut plain, 0, Space::User, &mut port);
-        assert_eq!(rt; found, Ok(target), "{ea:?}");
+        assert!(rt; found == Ok(target), "{ea:?}");
         let register = match ea {
             Ea::Post(n) | Ea::Pre(n) => plain.a[n as usize],
             _ => plain.a[3],
         };
-        assert_eq!(rt; register, after, "{ea:?}");
+        assert!(rt; register == after, "{ea:?}");
     }
     Ok(())
 }
@@ -304,29 +303,17 @@ fn registers_that_step(rt: HostRuntime) -> Result<(), AllocError> {
 #[test]
 fn reads_in_pieces(rt: HostRuntime) -> Result<(), AllocError> {
     let mut port = memory(rt.alloc(), 0x101, 0x1122_3344)?;
-    assert_eq!(rt;
-        read_operand(Space::User, 0x101, 4, &mut port),
-        Ok(0x1122_3344)
-    );
-    assert_eq!(rt;
-        read_operand(Space::User, 0x101, 5, &mut port),
-        Ok(0x11_2233_4400)
-    );
-    assert_eq!(rt;
-        read_value(Space::User, 0x102, Size::Word, &mut port),
-        Ok(0x2233)
-    );
-    assert_eq!(rt;
-        read_value(Space::User, 0x103, Size::Word, &mut port),
-        Ok(0x3344)
-    );
+    assert!(rt; read_operand(Space::User, 0x101, 4, &mut port) == Ok(0x1122_3344));
+    assert!(rt; read_operand(Space::User, 0x101, 5, &mut port) == Ok(0x11_2233_4400));
+    assert!(rt; read_value(Space::User, 0x102, Size::Word, &mut port) == Ok(0x2233));
+    assert!(rt; read_value(Space::User, 0x103, Size::Word, &mut port) == Ok(0x3344));
     port.hole = 0x104;
     let refused = read_value(Space::User, 0x101, Size::Long, &mut port);
-    assert_eq!(rt;
+    assert!(rt;
         refused
             .err()
-            .map(|refused| (refused.first, refused.fault.at)),
-        Some((0x101, 0x104))
+            .map(|refused| (refused.first, refused.fault.at))
+            == Some((0x101, 0x104))
     );
     Ok(())
 }

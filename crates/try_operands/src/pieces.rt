@@ -13,7 +13,7 @@ fn first_pieces_by_hand(rt: HostRuntime) {
         (8, 1, 1),
     ] {
         assert!(rt; 1 <= left);
-        assert_eq!(rt; first_piece(at, left), Piece { at, len });
+        assert!(rt; first_piece(at, left) == Piece { at, len });
     }
 }
 
@@ -49,9 +49,9 @@ fn cuts_by_hand(rt: HostRuntime) {
     for (at, len, wanted) in cuts {
         assert!(rt; 1 <= len && len <= 5);
         let pieces = split(at, len);
-        assert_eq!(rt; pieces.len(), wanted.len(), "{len} bytes at {at}");
+        assert!(rt; pieces.len() == wanted.len(), "{len} bytes at {at}");
         for (piece, (at, len)) in pieces.iter().zip(wanted) {
-            assert_eq!(rt; (piece.at, piece.len), (*at, *len));
+            assert!(rt; (piece.at, piece.len) == (*at, *len));
         }
     }
 }
@@ -69,15 +69,14 @@ fn longs_by_hand(rt: HostRuntime) {
         (Piece { at: 4, len: 4 }, 0x1122_3344, 0x1122_3344),
     ];
     for (piece, value, long) in longs {
-        assert_eq!(rt;
-            lay(piece, value),
-            long,
+        assert!(rt;
+            lay(piece, value) == long,
             "{} bytes at {}",
             piece.len,
             piece.at
         );
     }
-    assert_eq!(rt; unlay(Piece { at: 5, len: 1 }, 0x1122_3344), 0x22);
-    assert_eq!(rt; unlay(Piece { at: 0, len: 2 }, 0x1122_3344), 0x1122);
-    assert_eq!(rt; unlay(Piece { at: 4, len: 4 }, 0x1122_3344), 0x1122_3344);
+    assert!(rt; unlay(Piece { at: 5, len: 1 }, 0x1122_3344) == 0x22);
+    assert!(rt; unlay(Piece { at: 0, len: 2 }, 0x1122_3344) == 0x1122);
+    assert!(rt; unlay(Piece { at: 4, len: 4 }, 0x1122_3344) == 0x1122_3344);
 }

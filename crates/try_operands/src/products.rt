@@ -22,7 +22,7 @@ fn unsigned_products(rt: HostRuntime) {
     ];
     for (width, x, y, ccr, value, codes) in rows {
         let product = Product { value, ccr: codes };
-        assert_eq!(rt; mul(false, width, x, y, ccr), product, "{x:x} {y:x}");
+        assert!(rt; mul(false, width, x, y, ccr) == product, "{x:x} {y:x}");
     }
 }
 
@@ -49,7 +49,7 @@ fn signed_products(rt: HostRuntime) {
     ];
     for (width, x, y, ccr, value, codes) in rows {
         let product = Product { value, ccr: codes };
-        assert_eq!(rt; mul(true, width, x, y, ccr), product, "{x:x} {y:x}");
+        assert!(rt; mul(true, width, x, y, ccr) == product, "{x:x} {y:x}");
     }
 }
 
@@ -95,7 +95,7 @@ fn unsigned_quotients(rt: HostRuntime) {
     ];
     for (width, divisor, dividend, ccr, answer) in rows {
         let divided = div(false, width, divisor, dividend, ccr);
-        assert_eq!(rt; divided, answer, "{dividend:x} by {divisor:x}");
+        assert!(rt; divided == answer, "{dividend:x} by {divisor:x}");
     }
 }
 
@@ -167,6 +167,6 @@ fn signed_quotients(rt: HostRuntime) {
     ];
     for (width, divisor, dividend, ccr, answer) in rows {
         let divided = div(true, width, divisor, dividend, ccr);
-        assert_eq!(rt; divided, answer, "{dividend:x} by {divisor:x}");
+        assert!(rt; divided == answer, "{dividend:x} by {divisor:x}");
     }
 }

@@ -33,12 +33,9 @@ fn bump<P: Port>(port: &mut P, at: u32) -> Result<u32, Fault> {
 #[test]
 fn bytes_and_words(rt: HostRuntime) -> Result<(), AllocError> {
     let mut port = port_of(rt.alloc())?;
-    assert_eq!(rt; port.fetch(Space::User, 6), Ok(0x6677));
-    assert_eq!(rt; bump(&mut port, 5), Ok(0x55));
-    assert_eq!(rt;
-        port.read(Space::User, Piece { at: 4, len: 4 }),
-        Ok(0x4456_6677)
-    );
+    assert!(rt; port.fetch(Space::User, 6) == Ok(0x6677));
+    assert!(rt; bump(&mut port, 5) == Ok(0x55));
+    assert!(rt; port.read(Space::User, Piece { at: 4, len: 4 }) == Ok(0x4456_6677));
     assert!(rt; bump(&mut port, 13).is_err());
     assert!(rt; bump(&mut port, 16).is_err());
     Ok(())
@@ -48,13 +45,10 @@ fn bytes_and_words(rt: HostRuntime) -> Result<(), AllocError> {
 fn places(rt: HostRuntime) -> Result<(), AllocError> {
     let mut port = port_of(rt.alloc())?;
     if let Ok(place) = port.probe(Space::Super, Piece { at: 2, len: 2 }) {
-        assert_eq!(rt; port.get(place), 0x2233);
+        assert!(rt; port.get(place) == 0x2233);
         port.put(place, 0xFFFF_ABCD);
     }
-    assert_eq!(rt;
-        port.read(Space::User, Piece { at: 0, len: 4 }),
-        Ok(0x0011_ABCD)
-    );
+    assert!(rt; port.read(Space::User, Piece { at: 0, len: 4 }) == Ok(0x0011_ABCD));
     Ok(())
 }
 
@@ -63,9 +57,9 @@ fn lines_and_registers(rt: HostRuntime) -> Result<(), AllocError> {
     let mut port = port_of(rt.alloc())?;
     assert!(rt; port.read_line(Space::User, 0).is_err());
     port.hole = u32::MAX;
-    assert_eq!(rt; port.write_line(Space::User, 0, [1, 2, 3, 4]), Ok(()));
-    assert_eq!(rt; port.read_line(Space::User, 0), Ok([1, 2, 3, 4]));
+    assert!(rt; port.write_line(Space::User, 0, [1, 2, 3, 4]) == Ok(()));
+    assert!(rt; port.read_line(Space::User, 0) == Ok([1, 2, 3, 4]));
     port.set_mmu(MmuReg::Dtt1, 7);
-    assert_eq!(rt; port.mmu().dtt1, 7);
+    assert!(rt; port.mmu().dtt1 == 7);
     Ok(())
 }

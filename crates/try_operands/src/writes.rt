@@ -95,30 +95,26 @@ fn refused_pieces(rt: HostRuntime) -> Result<(), AllocError> {
         assert!(rt; 1 <= row.len && row.len <= 5);
         let put = put_pieces(Space::User, row.at, row.len, 0xEE11_2233_4455, &mut port);
         assert!(rt; put.is_err(), "{} bytes at {}", row.len, row.at);
-        assert_eq!(rt; port.longs.as_slice(), row.then.as_slice());
+        assert!(rt; port.longs.as_slice() == row.then.as_slice());
         if let Err(refused) = put {
-            assert_eq!(rt; refused.first, row.at);
+            assert!(rt; refused.first == row.at);
             let fault = (refused.fault.at, refused.fault.len);
-            assert_eq!(rt;
-                row.rest.first().map(|piece| (piece.0, piece.1)),
-                Some(fault)
-            );
-            assert_eq!(rt;
-                refused.rest.len(),
-                row.rest.len(),
+            assert!(rt; row.rest.first().map(|piece| (piece.0, piece.1)) == Some(fault));
+            assert!(rt;
+                refused.rest.len() == row.rest.len(),
                 "{} bytes at {}",
                 row.len,
                 row.at
             );
             for (pend, piece) in refused.rest.iter().zip(row.rest) {
-                assert_eq!(rt; (pend.at, pend.len, pend.value), *piece);
+                assert!(rt; (pend.at, pend.len, pend.value) == *piece);
             }
             port.hole = u32::MAX;
             let left = refused.rest.as_slice();
             assert!(rt; are_pending(left));
-            assert_eq!(rt; complete(left, Space::User, &mut port), Ok(()));
+            assert!(rt; complete(left, Space::User, &mut port) == Ok(()));
         }
-        assert_eq!(rt; port.longs.as_slice(), row.whole.as_slice());
+        assert!(rt; port.longs.as_slice() == row.whole.as_slice());
     }
     Ok(())
 }
@@ -152,22 +148,19 @@ fn refused_bytes_apart(rt: HostRuntime) -> Result<(), AllocError> {
         let mut port = VectorPort::new(rt.alloc(), 2, row.hole)?;
         let put = put_apart(Space::User, 1, row.size, 0x2233_4455, &mut port);
         assert!(rt; put.is_err(), "byte {}", row.hole);
-        assert_eq!(rt; port.longs.as_slice(), row.then.as_slice());
+        assert!(rt; port.longs.as_slice() == row.then.as_slice());
         if let Err(refused) = put {
-            assert_eq!(rt;
-                (refused.first, refused.fault.at, refused.fault.len),
-                (1, row.hole, 1)
-            );
-            assert_eq!(rt; refused.rest.len(), row.rest.len(), "byte {}", row.hole);
+            assert!(rt; (refused.first, refused.fault.at, refused.fault.len) == (1, row.hole, 1));
+            assert!(rt; refused.rest.len() == row.rest.len(), "byte {}", row.hole);
             for (pend, byte) in refused.rest.iter().zip(row.rest) {
-                assert_eq!(rt; (pend.at, pend.len, pend.value), *byte);
+                assert!(rt; (pend.at, pend.len, pend.value) == *byte);
             }
             port.hole = u32::MAX;
             let left = refused.rest.as_slice();
             assert!(rt; are_pending(left));
-            assert_eq!(rt; complete(left, Space::User, &mut port), Ok(()));
+            assert!(rt; complete(left, Space::User, &mut port) == Ok(()));
         }
-        assert_eq!(rt; port.longs.as_slice(), row.whole.as_slice());
+        assert!(rt; port.longs.as_slice() == row.whole.as_slice());
     }
     Ok(())
 }
@@ -242,11 +235,10 @@ fn whole_transfers(rt: HostRuntime) -> Result<(), AllocError> {
             Space::User,
             &mut port,
         );
-        assert_eq!(rt; moved, Ok(()), "{:x}", row.words);
-        assert_eq!(rt; plain, registers(row.after), "{:x}", row.words);
-        assert_eq!(rt;
-            port.longs.as_slice(),
-            [LONGS[0], one, two, three].as_slice(),
+        assert!(rt; moved == Ok(()), "{:x}", row.words);
+        assert!(rt; plain == registers(row.after), "{:x}", row.words);
+        assert!(rt;
+            port.longs.as_slice() == [LONGS[0], one, two, three].as_slice(),
             "{:x}",
             row.words
         );
@@ -330,16 +322,14 @@ fn refused_transfers(rt: HostRuntime) -> Result<(), AllocError> {
         let refused = refused
             .err()
             .map(|fault| (fault.fault.at, fault.first, fault.done));
-        assert_eq!(rt;
-            refused,
-            Some((row.at, row.ea, row.done)),
+        assert!(rt;
+            refused == Some((row.at, row.ea, row.done)),
             "{:x}",
             row.words
         );
-        assert_eq!(rt; plain, registers(row.then), "{:x}", row.words);
-        assert_eq!(rt;
-            port.longs.as_slice(),
-            [LONGS[0], one, two, three].as_slice(),
+        assert!(rt; plain == registers(row.then), "{:x}", row.words);
+        assert!(rt;
+            port.longs.as_slice() == [LONGS[0], one, two, three].as_slice(),
             "{:x}",
             row.words
         );
@@ -353,15 +343,14 @@ fn refused_transfers(rt: HostRuntime) -> Result<(), AllocError> {
             Space::User,
             &mut port,
         );
-        assert_eq!(rt; rest, Ok(()), "{:x}", row.words);
+        assert!(rt; rest == Ok(()), "{:x}", row.words);
         let mut undisturbed = memory(rt.alloc(), u32::MAX)?;
         let mut moved = registers([D1, row.base, A3]);
         let all = transfer(&movem, row.ea, 0, &mut moved, Space::User, &mut undisturbed);
-        assert_eq!(rt; all, Ok(()), "{:x}", row.words);
-        assert_eq!(rt; plain, moved, "{:x}", row.words);
-        assert_eq!(rt;
-            port.longs.as_slice(),
-            undisturbed.longs.as_slice(),
+        assert!(rt; all == Ok(()), "{:x}", row.words);
+        assert!(rt; plain == moved, "{:x}", row.words);
+        assert!(rt;
+            port.longs.as_slice() == undisturbed.longs.as_slice(),
             "{:x}",
             row.words
         );

@@ -9,8 +9,8 @@ use std::process::Abort;
 fn stands_as(rt: &impl Abort, frame: &Frame, bytes: &[u8])
     requires { offset_of frame.now < 0x1000 }
 {
-    assert_eq!(rt; to_bytes(frame).as_slice(), bytes);
-    assert_eq!(rt; from_bytes(bytes), Some(*frame));
+    assert!(rt; to_bytes(frame).as_slice() == bytes);
+    assert!(rt; from_bytes(bytes) == Some(*frame));
 }
 
 #[test]
@@ -139,9 +139,8 @@ fn each_format_has_its_length(rt: HostRuntime) {
         bytes[6] = format as u8 * 16;
         for len in 0..=60usize {
             let whole = least.is_some_and(|least| len >= least);
-            assert_eq!(rt;
-                from_bytes(&bytes[..len]).is_some(),
-                whole,
+            assert!(rt;
+                from_bytes(&bytes[..len]).is_some() == whole,
                 "format {format}, {len} bytes"
             );
         }

@@ -102,8 +102,8 @@ fn status_by_hand(rt: HostRuntime) -> Result<(), AllocError> {
         wanted.regs.sr = after;
         wanted.regs.pc = AT.wrapping_add(2 * words.len() as u32);
         wanted.stopped = words[0] == 0x4E72;
-        assert_eq!(rt; performed(words, &mut cpu, &mut port), done(true));
-        assert_eq!(rt; cpu, wanted, "{words:?}");
+        assert!(rt; performed(words, &mut cpu, &mut port) == done(true));
+        assert!(rt; cpu == wanted, "{words:?}");
     }
     Ok(())
 }
@@ -132,8 +132,8 @@ fn stack_pointers_by_hand(rt: HostRuntime) -> Result<(), AllocError> {
         wanted.regs.msp = msp;
         wanted.regs.a[3] = a3;
         wanted.regs.pc = AT.wrapping_add(2 * words.len() as u32);
-        assert_eq!(rt; performed(words, &mut cpu, &mut port), done(false));
-        assert_eq!(rt; cpu, wanted, "{words:?}");
+        assert!(rt; performed(words, &mut cpu, &mut port) == done(false));
+        assert!(rt; cpu == wanted, "{words:?}");
     }
     Ok(())
 }
@@ -157,17 +157,14 @@ fn status_at_memory(rt: HostRuntime) -> Result<(), AllocError> {
         wanted.regs.isp = isp;
         wanted.regs.sr = sr;
         wanted.regs.pc = AT.wrapping_add(2);
-        assert_eq!(rt; performed(words, &mut cpu, &mut port), done(flow));
-        assert_eq!(rt; cpu, wanted, "{words:?}");
-        assert_eq!(rt;
-            port.read(Space::Super, Piece { at: 0x1000, len: 4 }),
-            Ok(long)
-        );
+        assert!(rt; performed(words, &mut cpu, &mut port) == done(flow));
+        assert!(rt; cpu == wanted, "{words:?}");
+        assert!(rt; port.read(Space::Super, Piece { at: 0x1000, len: 4 }) == Ok(long));
     }
     let mut port = memory(rt.alloc())?;
     let mut cpu = supervisor();
-    assert_eq!(rt; performed(&[0x40C0], &mut cpu, &mut port), done(false));
-    assert_eq!(rt; cpu.regs.d[0], 0xD0D0_2704);
+    assert!(rt; performed(&[0x40C0], &mut cpu, &mut port) == done(false));
+    assert!(rt; cpu.regs.d[0] == 0xD0D0_2704);
     Ok(())
 }
 
@@ -220,19 +217,13 @@ fn control_registers_by_hand(rt: HostRuntime) -> Result<(), AllocError> {
             register.code(),
             register.kept_bits(),
         ));
-        assert_eq!(rt; named, Some((code, kept)));
+        assert!(rt; named == Some((code, kept)));
         let old = held(code, &cpu, &port);
         // From the control register to D1, and then to it from D2, which is all ones, and from D1 again.
-        assert_eq!(rt;
-            performed(&[0x4E7A, 0x1000 | code], &mut cpu, &mut port),
-            done(false)
-        );
-        assert_eq!(rt; cpu.regs.d[1], old, "{code}");
-        assert_eq!(rt;
-            performed(&[0x4E7B, 0x2000 | code], &mut cpu, &mut port),
-            done(false)
-        );
-        assert_eq!(rt; held(code, &cpu, &port), kept, "{code}");
+        assert!(rt; performed(&[0x4E7A, 0x1000 | code], &mut cpu, &mut port) == done(false));
+        assert!(rt; cpu.regs.d[1] == old, "{code}");
+        assert!(rt; performed(&[0x4E7B, 0x2000 | code], &mut cpu, &mut port) == done(false));
+        assert!(rt; held(code, &cpu, &port) == kept, "{code}");
         for (other, _) in CONTROL {
             let untouched = held(other, &supervisor(), &memory(rt.alloc())?);
             assert!(rt;
@@ -240,11 +231,8 @@ fn control_registers_by_hand(rt: HostRuntime) -> Result<(), AllocError> {
                 "{code} {other}"
             );
         }
-        assert_eq!(rt;
-            performed(&[0x4E7B, 0x1000 | code], &mut cpu, &mut port),
-            done(false)
-        );
-        assert_eq!(rt; held(code, &cpu, &port), old & kept, "{code}");
+        assert!(rt; performed(&[0x4E7B, 0x1000 | code], &mut cpu, &mut port) == done(false));
+        assert!(rt; held(code, &cpu, &port) == old & kept, "{code}");
     }
     Ok(())
 }
@@ -274,9 +262,9 @@ fn moves_by_hand(rt: HostRuntime) -> Result<(), AllocError> {
         wanted.regs.a[3] = a3;
         wanted.regs.isp = isp;
         wanted.regs.pc = AT.wrapping_add(4);
-        assert_eq!(rt; performed(words, &mut cpu, &mut port), done(false));
-        assert_eq!(rt; cpu, wanted, "{words:?}");
-        assert_eq!(rt; port.longs.get((at / 4) as usize), Some(&long));
+        assert!(rt; performed(words, &mut cpu, &mut port) == done(false));
+        assert!(rt; cpu == wanted, "{words:?}");
+        assert!(rt; port.longs.get((at / 4) as usize) == Some(&long));
     }
     Ok(())
 }
@@ -309,8 +297,8 @@ fn refused_in_their_spaces(rt: HostRuntime) -> Result<(), AllocError> {
             Some(Ended::WriteFault(refused)) => Some((true, refused.fault.space, refused.first)),
             _ => None,
         };
-        assert_eq!(rt; refused, Some((write, space, 0x3000)), "{words:?}");
-        assert_eq!(rt; cpu, wanted, "{words:?}");
+        assert!(rt; refused == Some((write, space, 0x3000)), "{words:?}");
+        assert!(rt; cpu == wanted, "{words:?}");
     }
     Ok(())
 }
@@ -326,10 +314,10 @@ fn what_leaves_the_processor(rt: HostRuntime) -> Result<(), AllocError> {
         let mut cpu = supervisor();
         let mut wanted = cpu;
         wanted.regs.pc = AT.wrapping_add(2);
-        assert_eq!(rt; performed(&[word], &mut cpu, &mut port), done(false));
-        assert_eq!(rt; cpu, wanted, "{word}");
+        assert!(rt; performed(&[word], &mut cpu, &mut port) == done(false));
+        assert!(rt; cpu == wanted, "{word}");
         let is_test = word == 0xF548 || word == 0xF568;
-        assert_eq!(rt; port.mmu.mmusr, if is_test { 0 } else { 9 }, "{word}");
+        assert!(rt; port.mmu.mmusr == if is_test { 0 } else { 9 }, "{word}");
     }
     Ok(())
 }

@@ -440,9 +440,9 @@ fn check_rows(rt: &impl Abort, alloc: Global, rows: &[Row]) -> Result<(), Fail> 
         put(&mut board, AT, row.words);
         let line = listed(alloc, &board, AT, 1)?;
         let text = text_of(&line, row.words);
-        assert_eq!(rt; text, row.text);
+        assert!(rt; text == row.text);
         let words = assembled(alloc, text)?;
-        assert_eq!(rt; words.as_slice(), row.words, "{:?}", row.text);
+        assert!(rt; words.as_slice() == row.words, "{:?}", row.text);
     }
     Ok(())
 }
@@ -533,7 +533,7 @@ fn data(rt: HostRuntime) -> Result<(), Fail> {
     for row in &DATA {
         put(&mut board, AT, row.words);
         let line = listed(rt.alloc(), &board, AT, 1)?;
-        assert_eq!(rt; text_of(&line, b"##"), row.text);
+        assert!(rt; text_of(&line, b"##") == row.text);
     }
     Ok(())
 }
@@ -550,13 +550,10 @@ fn a_small_program(rt: HostRuntime) -> Result<(), Fail> {
     let mut board = Board::new(rt.alloc(), SIZE)?;
     put(&mut board, 0x400, &code);
     let lines = listed(rt.alloc(), &board, 0x400, 3)?;
-    assert_eq!(rt; lines.as_slice(), text);
+    assert!(rt; lines.as_slice() == text);
     let mut out = MemSink::new(rt.alloc(), 30, Vec::new(rt.alloc()))?;
-    assert_eq!(rt;
-        list_image(rt.alloc(), &board, 0x400, 3, &mut out),
-        Err(ListFault::Sink)
-    );
-    assert_eq!(rt; Some(out.bytes()), text.get(..30));
+    assert!(rt; list_image(rt.alloc(), &board, 0x400, 3, &mut out) == Err(ListFault::Sink));
+    assert!(rt; Some(out.bytes()) == text.get(..30));
     Ok(())
 }
 
@@ -567,10 +564,10 @@ fn the_end_of_memory(rt: HostRuntime) -> Result<(), Fail> {
     put(&mut board, SIZE - 6, &[0x4e, 0x71, 0x60, 0, 0x4e, 0xb9]);
     let text: &[u8] = b"0000FFFA 4E71 NOP\n0000FFFC 60004EB9 BRA.W $14EB7\n";
     let lines = listed(rt.alloc(), &board, SIZE - 6, 9)?;
-    assert_eq!(rt; lines.as_slice(), text);
+    assert!(rt; lines.as_slice() == text);
     let text: &[u8] = b"0000FFFE 4EB9 DC.W $4EB9\n";
     let lines = listed(rt.alloc(), &board, SIZE - 2, 9)?;
-    assert_eq!(rt; lines.as_slice(), text);
+    assert!(rt; lines.as_slice() == text);
     assert!(rt; listed(rt.alloc(), &board, SIZE, 9)?.is_empty());
     assert!(rt; listed(rt.alloc(), &board, 0xffff_fffe, 9)?.is_empty());
     assert!(rt; listed(rt.alloc(), &board, 0, 0)?.is_empty());

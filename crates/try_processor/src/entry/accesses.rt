@@ -26,16 +26,13 @@ fn refused(at: u32, len: u8, write: bool, atc: bool) -> Fault {
 fn refused_reads(rt: HostRuntime) -> Result<(), AllocError> {
     // A locked byte past memory.
     let locked = read_fields(&refused(0x10000, 1, true, false), 0x10000, PAGE);
-    assert_eq!(rt;
-        (locked.ea, locked.ssw, locked.fa),
-        (0x10000, 0x0325, 0x10000)
-    );
+    assert!(rt; (locked.ea, locked.ssw, locked.fa) == (0x10000, 0x0325, 0x10000));
     // A long over the end of a page, whose second word is refused.
     let over = read_fields(&refused(0x3000, 2, false, true), 0x2FFE, PAGE);
-    assert_eq!(rt; (over.ea, over.ssw, over.fa), (0x2FFE, 0x0D45, 0x3000));
+    assert!(rt; (over.ea, over.ssw, over.fa) == (0x2FFE, 0x0D45, 0x3000));
     // The same within a page of 8 KiB.
     let within = read_fields(&refused(0x3000, 2, false, true), 0x2FFE, LARGE_PAGE);
-    assert_eq!(rt; within.ssw, 0x0545);
+    assert!(rt; within.ssw == 0x0545);
     // A user's fetch.
     let fetched = Fault {
         at: 0x3000,
@@ -46,7 +43,7 @@ fn refused_reads(rt: HostRuntime) -> Result<(), AllocError> {
         atc: true,
     };
     let word = read_fields(&fetched, 0x2FFE, PAGE);
-    assert_eq!(rt; (word.ea, word.ssw, word.fa), (0x3000, 0x0542, 0x3000));
+    assert!(rt; (word.ea, word.ssw, word.fa) == (0x3000, 0x0542, 0x3000));
     Ok(())
 }
 
@@ -85,7 +82,7 @@ fn a_refused_write_over_the_end_of_a_page(rt: HostRuntime) -> Result<(), AllocEr
         pd2: 0,
         pd3: 0,
     };
-    assert_eq!(rt; write_fields(&write, PAGE), expected);
+    assert!(rt; write_fields(&write, PAGE) == expected);
     Ok(())
 }
 
@@ -93,15 +90,9 @@ fn a_refused_write_over_the_end_of_a_page(rt: HostRuntime) -> Result<(), AllocEr
 fn a_refused_line(rt: HostRuntime) -> Result<(), AllocError> {
     let line = [0x0011_2233, 0x4455_6677, 0x8899_AABB, 0xCCDD_EEFF];
     let access = line_fields(&refused(0x2000, 16, true, true), line, PAGE);
-    assert_eq!(rt;
-        (access.ea, access.ssw, access.fa),
-        (0x2000, 0x046D, 0x2000)
-    );
-    assert_eq!(rt;
-        (access.wb1s, access.wb1a, access.wb2s),
-        (0x00ED, 0x2000, 0)
-    );
-    assert_eq!(rt; [access.wb1d, access.pd1, access.pd2, access.pd3], line);
+    assert!(rt; (access.ea, access.ssw, access.fa) == (0x2000, 0x046D, 0x2000));
+    assert!(rt; (access.wb1s, access.wb1a, access.wb2s) == (0x00ED, 0x2000, 0));
+    assert!(rt; [access.wb1d, access.pd1, access.pd2, access.pd3] == line);
     Ok(())
 }
 
@@ -114,39 +105,30 @@ fn refused_transfers(rt: HostRuntime) -> Result<(), AllocError> {
         done: 2,
     };
     let access = movem_fields(&up, 0x48D0_000F, 0x404, PAGE);
-    assert_eq!(rt;
-        (access.ea, access.ssw, access.fa),
-        (0x1FF8, 0x1405, 0x2000)
-    );
-    assert_eq!(rt;
-        (access.pd1, access.pd2, access.pd3, access.wb1s),
-        (0x404, 0x48D0_000F, 2, 0)
-    );
+    assert!(rt; (access.ea, access.ssw, access.fa) == (0x1FF8, 0x1405, 0x2000));
+    assert!(rt; (access.pd1, access.pd2, access.pd3, access.wb1s) == (0x404, 0x48D0_000F, 2, 0));
     // A load of words from an odd address, refused at the second byte of the second.
     let load = MovemFault {
         fault: refused(0x2000, 1, false, true),
         first: 0x1FFD,
         done: 1,
     };
-    assert_eq!(rt; movem_fields(&load, 0x4C98_000F, 0x404, PAGE).ssw, 0x1D25);
+    assert!(rt; movem_fields(&load, 0x4C98_000F, 0x404, PAGE).ssw == 0x1D25);
     // Down, at the third transfer.
     let down = MovemFault {
         fault: refused(0x1FFC, 4, true, true),
         first: 0x2004,
         done: 2,
     };
-    assert_eq!(rt; movem_fields(&down, 0x48E0_F000, 0x404, PAGE).ssw, 0x1405);
+    assert!(rt; movem_fields(&down, 0x48E0_F000, 0x404, PAGE).ssw == 0x1405);
     Ok(())
 }
 
 #[test]
 fn refused_checks(rt: HostRuntime) -> Result<(), AllocError> {
     let page = check_fields(&refused(0x3000, 4, true, true));
-    assert_eq!(rt; (page.ea, page.ssw, page.fa), (0x3000, 0x0405, 0x3000));
+    assert!(rt; (page.ea, page.ssw, page.fa) == (0x3000, 0x0405, 0x3000));
     let past = check_fields(&refused(0x10000, 2, true, false));
-    assert_eq!(rt;
-        (past.ea, past.ssw, past.fa, past.wb1s),
-        (0x10000, 0x0045, 0x10000, 0)
-    );
+    assert!(rt; (past.ea, past.ssw, past.fa, past.wb1s) == (0x10000, 0x0045, 0x10000, 0));
     Ok(())
 }

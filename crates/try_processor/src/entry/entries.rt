@@ -21,15 +21,12 @@ fn a_trap_has_a_short_frame(rt: HostRuntime) -> Result<(), AllocError> {
     let mut port = memory(rt.alloc())?;
     set_long(&mut port, 0x80, 0x600);
     let mut cpu = processor(0xA71F);
-    assert_eq!(rt;
-        enter(&mut cpu, &mut port, &cause(32, 0x406, 0)),
-        Entered::Done
-    );
-    assert_eq!(rt; cpu.regs.sr, 0x271F);
-    assert_eq!(rt; cpu.regs.pc, 0x600);
-    assert_eq!(rt; cpu.regs.isp, 0x7FF8);
-    assert_eq!(rt; long(&port, 0x7FF8), 0xA71F_0000);
-    assert_eq!(rt; long(&port, 0x7FFC), 0x0406_0080);
+    assert!(rt; enter(&mut cpu, &mut port, &cause(32, 0x406, 0)) == Entered::Done);
+    assert!(rt; cpu.regs.sr == 0x271F);
+    assert!(rt; cpu.regs.pc == 0x600);
+    assert!(rt; cpu.regs.isp == 0x7FF8);
+    assert!(rt; long(&port, 0x7FF8) == 0xA71F_0000);
+    assert!(rt; long(&port, 0x7FFC) == 0x0406_0080);
     Ok(())
 }
 
@@ -39,14 +36,11 @@ fn a_trace_has_an_address(rt: HostRuntime) -> Result<(), AllocError> {
     set_long(&mut port, 0x24, 0x500);
     let mut cpu = processor(0xA700);
     let traced = cause(9, 0x406, 0x404);
-    assert_eq!(rt; enter(&mut cpu, &mut port, &traced), Entered::Done);
-    assert_eq!(rt;
-        (cpu.regs.pc, cpu.regs.sr, cpu.regs.isp),
-        (0x500, 0x2700, 0x7FF4)
-    );
-    assert_eq!(rt; long(&port, 0x7FF4), 0xA700_0000);
-    assert_eq!(rt; long(&port, 0x7FF8), 0x0406_2024);
-    assert_eq!(rt; long(&port, 0x7FFC), 0x0000_0404);
+    assert!(rt; enter(&mut cpu, &mut port, &traced) == Entered::Done);
+    assert!(rt; (cpu.regs.pc, cpu.regs.sr, cpu.regs.isp) == (0x500, 0x2700, 0x7FF4));
+    assert!(rt; long(&port, 0x7FF4) == 0xA700_0000);
+    assert!(rt; long(&port, 0x7FF8) == 0x0406_2024);
+    assert!(rt; long(&port, 0x7FFC) == 0x0000_0404);
     Ok(())
 }
 
@@ -55,16 +49,10 @@ fn user_mode_enters_the_master_stack(rt: HostRuntime) -> Result<(), AllocError> 
     let mut port = memory(rt.alloc())?;
     set_long(&mut port, 0x20, 0x420);
     let mut cpu = processor(0x1000);
-    assert_eq!(rt;
-        enter(&mut cpu, &mut port, &cause(8, 0x406, 0)),
-        Entered::Done
-    );
-    assert_eq!(rt; (cpu.regs.pc, cpu.regs.sr), (0x420, 0x3000));
-    assert_eq!(rt;
-        (cpu.regs.usp, cpu.regs.isp, cpu.regs.msp),
-        (0x7000, 0x8000, 0x8FF8)
-    );
-    assert_eq!(rt; long(&port, 0x8FF8), 0x1000_0000);
+    assert!(rt; enter(&mut cpu, &mut port, &cause(8, 0x406, 0)) == Entered::Done);
+    assert!(rt; (cpu.regs.pc, cpu.regs.sr) == (0x420, 0x3000));
+    assert!(rt; (cpu.regs.usp, cpu.regs.isp, cpu.regs.msp) == (0x7000, 0x8000, 0x8FF8));
+    assert!(rt; long(&port, 0x8FF8) == 0x1000_0000);
     Ok(())
 }
 
@@ -75,20 +63,11 @@ fn an_interrupt_goes_to_both_stacks(rt: HostRuntime) -> Result<(), AllocError> {
     let mut cpu = processor(0x3000);
     cpu.stopped = true;
     let timer = interrupt(6);
-    assert_eq!(rt; enter(&mut cpu, &mut port, &timer), Entered::Done);
-    assert_eq!(rt;
-        (cpu.regs.pc, cpu.regs.sr, cpu.stopped),
-        (0x700, 0x2600, false)
-    );
-    assert_eq!(rt; (cpu.regs.isp, cpu.regs.msp), (0x7FF8, 0x8FF8));
-    assert_eq!(rt;
-        (long(&port, 0x8FF8), long(&port, 0x8FFC)),
-        (0x3000_0000, 0x0400_0078)
-    );
-    assert_eq!(rt;
-        (long(&port, 0x7FF8), long(&port, 0x7FFC)),
-        (0x3000_0000, 0x0400_1078)
-    );
+    assert!(rt; enter(&mut cpu, &mut port, &timer) == Entered::Done);
+    assert!(rt; (cpu.regs.pc, cpu.regs.sr, cpu.stopped) == (0x700, 0x2600, false));
+    assert!(rt; (cpu.regs.isp, cpu.regs.msp) == (0x7FF8, 0x8FF8));
+    assert!(rt; (long(&port, 0x8FF8), long(&port, 0x8FFC)) == (0x3000_0000, 0x0400_0078));
+    assert!(rt; (long(&port, 0x7FF8), long(&port, 0x7FFC)) == (0x3000_0000, 0x0400_1078));
     Ok(())
 }
 
@@ -97,10 +76,10 @@ fn a_user_interrupt_throws_a_supervisor_status(rt: HostRuntime) -> Result<(), Al
     let mut port = memory(rt.alloc())?;
     let mut cpu = processor(0xD105);
     let serial = interrupt(4);
-    assert_eq!(rt; enter(&mut cpu, &mut port, &serial), Entered::Done);
-    assert_eq!(rt; cpu.regs.sr, 0x2405);
-    assert_eq!(rt; long(&port, 0x8FF8), 0xD105_0000);
-    assert_eq!(rt; long(&port, 0x7FF8), 0xF105_0000);
+    assert!(rt; enter(&mut cpu, &mut port, &serial) == Entered::Done);
+    assert!(rt; cpu.regs.sr == 0x2405);
+    assert!(rt; long(&port, 0x8FF8) == 0xD105_0000);
+    assert!(rt; long(&port, 0x7FF8) == 0xF105_0000);
     Ok(())
 }
 
@@ -110,16 +89,12 @@ fn an_interrupt_with_one_stack(rt: HostRuntime) -> Result<(), AllocError> {
     set_long(&mut port, 0x78, 0x700);
     let mut cpu = processor(0x2000);
     let timer = interrupt(6);
-    assert_eq!(rt; enter(&mut cpu, &mut port, &timer), Entered::Done);
-    assert_eq!(rt;
-        (cpu.regs.pc, cpu.regs.sr, cpu.regs.isp, cpu.regs.msp),
-        (0x700, 0x2600, 0x7FF8, 0x9000)
+    assert!(rt; enter(&mut cpu, &mut port, &timer) == Entered::Done);
+    assert!(rt;
+        (cpu.regs.pc, cpu.regs.sr, cpu.regs.isp, cpu.regs.msp) == (0x700, 0x2600, 0x7FF8, 0x9000)
     );
-    assert_eq!(rt;
-        (long(&port, 0x7FF8), long(&port, 0x7FFC)),
-        (0x2000_0000, 0x0400_0078)
-    );
-    assert_eq!(rt; long(&port, 0x8FF8), 0);
+    assert!(rt; (long(&port, 0x7FF8), long(&port, 0x7FFC)) == (0x2000_0000, 0x0400_0078));
+    assert!(rt; long(&port, 0x8FF8) == 0);
     Ok(())
 }
 
@@ -132,10 +107,10 @@ fn both_frames_are_checked_before_one_is_written(rt: HostRuntime) -> Result<(), 
     let mut awake = cpu;
     awake.stopped = false;
     let timer = interrupt(6);
-    assert_eq!(rt; enter(&mut cpu, &mut port, &timer), refused(0x7FFC, 4));
-    assert_eq!(rt; cpu, awake);
-    assert_eq!(rt; long(&port, 0x8FF8), 0);
-    assert_eq!(rt; long(&port, 0x8FFC), 0);
+    assert!(rt; enter(&mut cpu, &mut port, &timer) == refused(0x7FFC, 4));
+    assert!(rt; cpu == awake);
+    assert!(rt; long(&port, 0x8FF8) == 0);
+    assert!(rt; long(&port, 0x8FFC) == 0);
     Ok(())
 }
 
@@ -144,20 +119,14 @@ fn a_frame_at_an_odd_place_is_cut(rt: HostRuntime) -> Result<(), AllocError> {
     let mut port = memory(rt.alloc())?;
     let mut cpu = processor(0x2711);
     cpu.regs.isp = 0x7FFD;
-    assert_eq!(rt;
-        enter(&mut cpu, &mut port, &cause(4, 0x1122_3344, 0)),
-        Entered::Done
-    );
-    assert_eq!(rt; cpu.regs.isp, 0x7FF5);
-    assert_eq!(rt; long(&port, 0x7FF4), 0x0027_1111);
-    assert_eq!(rt; long(&port, 0x7FF8), 0x2233_4400);
-    assert_eq!(rt; long(&port, 0x7FFC), 0x1000_0000);
+    assert!(rt; enter(&mut cpu, &mut port, &cause(4, 0x1122_3344, 0)) == Entered::Done);
+    assert!(rt; cpu.regs.isp == 0x7FF5);
+    assert!(rt; long(&port, 0x7FF4) == 0x0027_1111);
+    assert!(rt; long(&port, 0x7FF8) == 0x2233_4400);
+    assert!(rt; long(&port, 0x7FFC) == 0x1000_0000);
     port.hole = 0x7FFC;
     cpu.regs.isp = 0x7FFD;
-    assert_eq!(rt;
-        enter(&mut cpu, &mut port, &cause(4, 0x400, 0)),
-        refused(0x7FFC, 1)
-    );
+    assert!(rt; enter(&mut cpu, &mut port, &cause(4, 0x400, 0)) == refused(0x7FFC, 1));
     Ok(())
 }
 
@@ -167,8 +136,8 @@ fn an_access_error_stacks_its_fields(rt: HostRuntime) -> Result<(), AllocError> 
     set_long(&mut port, 8, 0x500);
     let mut cpu = processor(0x2700);
     let error = access_error(0x40A);
-    assert_eq!(rt; enter(&mut cpu, &mut port, &error), Entered::Done);
-    assert_eq!(rt; (cpu.regs.pc, cpu.regs.isp), (0x500, 0x7FC4));
+    assert!(rt; enter(&mut cpu, &mut port, &error) == Entered::Done);
+    assert!(rt; (cpu.regs.pc, cpu.regs.isp) == (0x500, 0x7FC4));
     let stacked = [
         0x2700_0000,
         0x040A_7008,
@@ -187,7 +156,7 @@ fn an_access_error_stacks_its_fields(rt: HostRuntime) -> Result<(), AllocError> 
         0xA1A2_A3A4,
     ];
     for (i, expected) in stacked.iter().enumerate() {
-        assert_eq!(rt; port.longs.get(0x7FC4 / 4 + i), Some(expected));
+        assert!(rt; port.longs.get(0x7FC4 / 4 + i) == Some(expected));
     }
     Ok(())
 }
@@ -200,9 +169,9 @@ fn an_access_error_without_a_stack_halts(rt: HostRuntime) -> Result<(), AllocErr
     let mut halted = cpu;
     halted.regs.pc = 0x404;
     let error = access_error(0x404);
-    assert_eq!(rt; enter(&mut cpu, &mut port, &error), Entered::DoubleFault);
-    assert_eq!(rt; cpu, halted);
-    assert_eq!(rt; long(&port, 0xFFFC), 0);
+    assert!(rt; enter(&mut cpu, &mut port, &error) == Entered::DoubleFault);
+    assert!(rt; cpu == halted);
+    assert!(rt; long(&port, 0xFFFC) == 0);
     Ok(())
 }
 
@@ -211,15 +180,9 @@ fn a_vector_that_can_not_be_read_halts(rt: HostRuntime) -> Result<(), AllocError
     let mut port = memory(rt.alloc())?;
     let mut cpu = processor(0xA700);
     cpu.vbr = 0x1000_0000;
-    assert_eq!(rt;
-        enter(&mut cpu, &mut port, &cause(32, 0x406, 0)),
-        Entered::DoubleFault
-    );
-    assert_eq!(rt;
-        (cpu.regs.pc, cpu.regs.sr, cpu.regs.isp),
-        (0x406, 0x2700, 0x7FF8)
-    );
-    assert_eq!(rt; long(&port, 0x7FF8), 0xA700_0000);
+    assert!(rt; enter(&mut cpu, &mut port, &cause(32, 0x406, 0)) == Entered::DoubleFault);
+    assert!(rt; (cpu.regs.pc, cpu.regs.sr, cpu.regs.isp) == (0x406, 0x2700, 0x7FF8));
+    assert!(rt; long(&port, 0x7FF8) == 0xA700_0000);
     Ok(())
 }
 
@@ -230,10 +193,7 @@ fn a_vector_at_an_odd_place(rt: HostRuntime) -> Result<(), AllocError> {
     set_long(&mut port, 0x1084, 0x4400_0000);
     let mut cpu = processor(0x2700);
     cpu.vbr = 0x1001;
-    assert_eq!(rt;
-        enter(&mut cpu, &mut port, &cause(32, 0x406, 0)),
-        Entered::Done
-    );
-    assert_eq!(rt; cpu.regs.pc, 0x1122_3344);
+    assert!(rt; enter(&mut cpu, &mut port, &cause(32, 0x406, 0)) == Entered::Done);
+    assert!(rt; cpu.regs.pc == 0x1122_3344);
     Ok(())
 }

@@ -49,13 +49,13 @@ fn an_access_error_there_and_back(rt: HostRuntime) -> Result<(), AllocError> {
     let before = processor(0x8000);
     let mut cpu = before;
     let error = access_error(0x400);
-    assert_eq!(rt; enter(&mut cpu, &mut port, &error), Entered::Done);
+    assert!(rt; enter(&mut cpu, &mut port, &error) == Entered::Done);
     let mut held = Access::default();
     let mut at = 7;
-    assert_eq!(rt; return_held(&mut cpu, &mut port, &mut held, &mut at), WENT);
-    assert_eq!(rt; cpu, before);
-    assert_eq!(rt; held, fields());
-    assert_eq!(rt; at, 0x400);
+    assert!(rt; return_held(&mut cpu, &mut port, &mut held, &mut at) == WENT);
+    assert!(rt; cpu == before);
+    assert!(rt; held == fields());
+    assert!(rt; at == 0x400);
     Ok(())
 }
 
@@ -63,14 +63,11 @@ fn an_access_error_there_and_back(rt: HostRuntime) -> Result<(), AllocError> {
 fn nothing_is_held_of_other_frames(rt: HostRuntime) -> Result<(), AllocError> {
     let mut port = memory(rt.alloc())?;
     let mut cpu = processor(0x2700);
-    assert_eq!(rt;
-        enter(&mut cpu, &mut port, &cause(4, 0x400, 0)),
-        Entered::Done
-    );
+    assert!(rt; enter(&mut cpu, &mut port, &cause(4, 0x400, 0)) == Entered::Done);
     let mut held = fields();
     let mut at = 7;
-    assert_eq!(rt; return_held(&mut cpu, &mut port, &mut held, &mut at), WENT);
-    assert_eq!(rt; (held, at), (fields(), 7));
+    assert!(rt; return_held(&mut cpu, &mut port, &mut held, &mut at) == WENT);
+    assert!(rt; (held, at) == (fields(), 7));
     Ok(())
 }
 
@@ -97,8 +94,8 @@ fn format_errors_leave_all_registers(rt: HostRuntime) -> Result<(), AllocError> 
         set_long(&mut port, 0x9004, second.1);
         let before = processor(0x2300);
         let mut cpu = before;
-        assert_eq!(rt; return_from(&mut cpu, &mut port), FORMAT_ERROR);
-        assert_eq!(rt; cpu, before);
+        assert!(rt; return_from(&mut cpu, &mut port) == FORMAT_ERROR);
+        assert!(rt; cpu == before);
     }
     Ok(())
 }
@@ -109,11 +106,8 @@ fn only_the_bits_of_the_status_register_are_kept(rt: HostRuntime) -> Result<(), 
     set_long(&mut port, 0x8000, 0x0FFF_0000);
     set_long(&mut port, 0x8004, 0x0500_0FFF);
     let mut cpu = processor(0x2700);
-    assert_eq!(rt; return_from(&mut cpu, &mut port), WENT);
-    assert_eq!(rt;
-        (cpu.regs.sr, cpu.regs.pc, cpu.regs.isp),
-        (0x071F, 0x500, 0x8008)
-    );
+    assert!(rt; return_from(&mut cpu, &mut port) == WENT);
+    assert!(rt; (cpu.regs.sr, cpu.regs.pc, cpu.regs.isp) == (0x071F, 0x500, 0x8008));
     Ok(())
 }
 
@@ -134,13 +128,13 @@ fn a_refused_read_leaves_all_registers(rt: HostRuntime) -> Result<(), AllocError
         let before = processor(0x2700);
         let mut cpu = before;
         match return_from(&mut cpu, &mut port) {
-            Ended::ReadFault(refused) => assert_eq!(rt; refused.first, first),
+            Ended::ReadFault(refused) => assert!(rt; refused.first == first),
             _ => assert!(rt; false),
         }
-        assert_eq!(rt; cpu, before);
+        assert!(rt; cpu == before);
         port.hole = NO_HOLE;
-        assert_eq!(rt; return_from(&mut cpu, &mut port), WENT);
-        assert_eq!(rt; cpu.regs.isp, 0x803C);
+        assert!(rt; return_from(&mut cpu, &mut port) == WENT);
+        assert!(rt; cpu.regs.isp == 0x803C);
     }
     Ok(())
 }
@@ -173,14 +167,11 @@ fn a_movem_goes_on(rt: HostRuntime) -> Result<(), AllocError> {
     let mut cpu = processor(0x2700);
     let mut held = Access::default();
     let mut pc = 0;
-    assert_eq!(rt; return_held(&mut cpu, &mut port, &mut held, &mut pc), WENT);
-    assert_eq!(rt;
-        (cpu.regs.pc, cpu.regs.isp, cpu.regs.sr),
-        (0x404, 0x803C, 0x2000)
-    );
-    assert_eq!(rt; (pc, held.pd3, held.ssw), (0x400, 2, 0x1405));
-    assert_eq!(rt; (long(&port, 0x2000), long(&port, 0x2004)), (0, 0));
-    assert_eq!(rt; (long(&port, 0x2008), long(&port, 0x200C)), (0xD2, 0xD3));
+    assert!(rt; return_held(&mut cpu, &mut port, &mut held, &mut pc) == WENT);
+    assert!(rt; (cpu.regs.pc, cpu.regs.isp, cpu.regs.sr) == (0x404, 0x803C, 0x2000));
+    assert!(rt; (pc, held.pd3, held.ssw) == (0x400, 2, 0x1405));
+    assert!(rt; (long(&port, 0x2000), long(&port, 0x2004)) == (0, 0));
+    assert!(rt; (long(&port, 0x2008), long(&port, 0x200C)) == (0xD2, 0xD3));
     Ok(())
 }
 
@@ -194,19 +185,15 @@ fn a_movem_is_refused_again(rt: HostRuntime) -> Result<(), AllocError> {
     let mut cpu = processor(0x2700);
     match return_from(&mut cpu, &mut port) {
         Ended::Movem(refused) => {
-            assert_eq!(rt;
-                (refused.first, refused.done, refused.fault.at),
-                (0x2000, 3, 0x200C)
-            );
+            assert!(rt; (refused.first, refused.done, refused.fault.at) == (0x2000, 3, 0x200C));
         }
         _ => assert!(rt; false),
     }
-    assert_eq!(rt; (cpu.regs.pc, cpu.regs.isp), (0x400, 0x803C));
-    assert_eq!(rt;
-        (cpu.regs.d[0], cpu.regs.d[1], cpu.regs.d[2], cpu.regs.d[3]),
-        (0xD0, 0x1111, 0x2222, 0xD3)
+    assert!(rt; (cpu.regs.pc, cpu.regs.isp) == (0x400, 0x803C));
+    assert!(rt;
+        (cpu.regs.d[0], cpu.regs.d[1], cpu.regs.d[2], cpu.regs.d[3]) == (0xD0, 0x1111, 0x2222, 0xD3)
     );
-    assert_eq!(rt; cpu.regs.a[0], 0xA0);
+    assert!(rt; cpu.regs.a[0] == 0xA0);
     Ok(())
 }
 
@@ -215,8 +202,8 @@ fn a_movem_with_nothing_left_steps_its_register(rt: HostRuntime) -> Result<(), A
     let mut port = memory(rt.alloc())?;
     set_longs(&mut port, 0x8000, &interrupted(0x4CD8_000F, 4));
     let mut cpu = processor(0x2700);
-    assert_eq!(rt; return_from(&mut cpu, &mut port), WENT);
-    assert_eq!(rt; (cpu.regs.pc, cpu.regs.a[0]), (0x404, 0x2010));
+    assert!(rt; return_from(&mut cpu, &mut port) == WENT);
+    assert!(rt; (cpu.regs.pc, cpu.regs.a[0]) == (0x404, 0x2010));
     Ok(())
 }
 
@@ -245,8 +232,8 @@ fn what_is_no_movem_is_a_format_error(rt: HostRuntime) -> Result<(), AllocError>
         set_longs(&mut port, 0x8000, &interrupted(operation, done));
         let mut cpu = processor(0x2700);
         let ended = return_from(&mut cpu, &mut port);
-        assert_eq!(rt; ended == WENT, lawful, "{operation:x}");
-        assert_eq!(rt; ended == FORMAT_ERROR, !lawful, "{operation:x}");
+        assert!(rt; (ended == WENT) == lawful, "{operation:x}");
+        assert!(rt; (ended == FORMAT_ERROR) != lawful, "{operation:x}");
     }
     Ok(())
 }

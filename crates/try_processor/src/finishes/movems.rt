@@ -57,10 +57,7 @@ fn a_transfer_that_was_done_is_not_done_again(rt: HostRuntime) -> Result<(), All
     let mut port = memory(rt.alloc(), NO_HOLE, &[])?;
     let mut cpu = processor(GUEST);
     assert!(rt; has_transfers(STORE, 1));
-    assert_eq!(rt;
-        finish_movem(STORE, 0x1001, 1, 0x404, &mut cpu, &mut port),
-        Went
-    );
+    assert!(rt; finish_movem(STORE, 0x1001, 1, 0x404, &mut cpu, &mut port) == Went);
     assert!(rt; stands(&port, 0x1000, &[0, 0x00D1_D1D1, 0xD100_0000]));
     Ok(())
 }
@@ -71,18 +68,9 @@ fn transfers_to_registers(rt: HostRuntime) -> Result<(), AllocError> {
     let mut port = memory(rt.alloc(), 0x1007, &[])?;
     put(&mut port, 0x1000, 4, 0xAAAA_0001);
     let mut cpu = processor(GUEST);
-    assert_eq!(rt;
-        finish_movem(LOAD, 0x1000, 0, 0x404, &mut cpu, &mut port),
-        Went
-    );
-    assert_eq!(rt;
-        (cpu.regs.sr, cpu.regs.pc, cpu.regs.isp),
-        (0x2015, 0x500, 0x7FC4)
-    );
-    assert_eq!(rt;
-        (cpu.regs.d[4], cpu.regs.d[5], cpu.regs.a[0]),
-        (0xAAAA_0001, 5, 0x1000)
-    );
+    assert!(rt; finish_movem(LOAD, 0x1000, 0, 0x404, &mut cpu, &mut port) == Went);
+    assert!(rt; (cpu.regs.sr, cpu.regs.pc, cpu.regs.isp) == (0x2015, 0x500, 0x7FC4));
+    assert!(rt; (cpu.regs.d[4], cpu.regs.d[5], cpu.regs.a[0]) == (0xAAAA_0001, 5, 0x1000));
     let frame = [
         0x0015_0000,
         0x0400_7008,
@@ -109,17 +97,10 @@ fn transfers_to_registers(rt: HostRuntime) -> Result<(), AllocError> {
     let d = cpu.regs.d;
     guest.regs.d = d;
     assert!(rt; has_transfers(LOAD, 1));
-    assert_eq!(rt;
-        finish_movem(LOAD, 0x1000, 1, 0x404, &mut guest, &mut port),
-        Went
-    );
-    assert_eq!(rt;
-        (guest.regs.sr, guest.regs.pc, guest.regs.isp),
-        (0x0015, 0x404, 0x8000)
-    );
-    assert_eq!(rt;
-        (guest.regs.d[4], guest.regs.d[5], guest.regs.a[0]),
-        (0xAAAA_0001, 0xBBBB_0002, 0x1008)
+    assert!(rt; finish_movem(LOAD, 0x1000, 1, 0x404, &mut guest, &mut port) == Went);
+    assert!(rt; (guest.regs.sr, guest.regs.pc, guest.regs.isp) == (0x0015, 0x404, 0x8000));
+    assert!(rt;
+        (guest.regs.d[4], guest.regs.d[5], guest.regs.a[0]) == (0xAAAA_0001, 0xBBBB_0002, 0x1008)
     );
     Ok(())
 }

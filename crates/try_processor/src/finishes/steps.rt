@@ -159,9 +159,8 @@ fn denied_steps(rt: HostRuntime) -> Result<(), AllocError> {
         let mut port = memory(rt.alloc(), NO_HOLE, row.code)?;
         port.hole = row.hole;
         let mut board = processor(BOARD);
-        assert_eq!(rt;
-            step(&table, &mut board, &mut port, 0),
-            StepEnd::Went,
+        assert!(rt;
+            step(&table, &mut board, &mut port, 0) == StepEnd::Went,
             "{}",
             row.name
         );
@@ -174,11 +173,14 @@ fn denied_steps(rt: HostRuntime) -> Result<(), AllocError> {
         let end = go_on(&rt, &table, &access, &mut cpu, &mut port);
         let mut whole = memory(rt.alloc(), NO_HOLE, row.code)?;
         let mut own = guest();
-        assert_eq!(rt; end, step(&table, &mut own, &mut whole, 0), "{}", row.name);
-        assert_eq!(rt; cpu, own, "{}", row.name);
-        assert_eq!(rt;
-            port.longs.as_slice(),
-            whole.longs.as_slice(),
+        assert!(rt;
+            end == step(&table, &mut own, &mut whole, 0),
+            "{}",
+            row.name
+        );
+        assert!(rt; cpu == own, "{}", row.name);
+        assert!(rt;
+            port.longs.as_slice() == whole.longs.as_slice(),
             "{}",
             row.name
         );
@@ -202,9 +204,8 @@ fn trapped_steps(rt: HostRuntime) -> Result<(), AllocError> {
     for (code, exit) in &TRAPS {
         let mut port = memory(rt.alloc(), NO_HOLE, code)?;
         let mut board = processor(BOARD);
-        assert_eq!(rt;
-            step(&table, &mut board, &mut port, 0),
-            StepEnd::Went,
+        assert!(rt;
+            step(&table, &mut board, &mut port, 0) == StepEnd::Went,
             "{}",
             *exit
         );
@@ -217,14 +218,18 @@ fn trapped_steps(rt: HostRuntime) -> Result<(), AllocError> {
         let before = guest();
         assert!(rt; !before.regs.is_supervisor());
         let cause = cause_of(&frame, *exit, &before);
-        assert_eq!(rt; cause.address, CODE, "{}", *exit);
+        assert!(rt; cause.address == CODE, "{}", *exit);
         let mut cpu = handed(&board, pc, sr);
         let end = finish_trap(&cause, &before.regs.plain(), &mut cpu, &mut port);
         let mut whole = memory(rt.alloc(), NO_HOLE, code)?;
         let mut own = guest();
-        assert_eq!(rt; end, step(&table, &mut own, &mut whole, 0), "{}", *exit);
-        assert_eq!(rt; cpu, own, "{}", *exit);
-        assert_eq!(rt; port.longs.as_slice(), whole.longs.as_slice(), "{}", *exit);
+        assert!(rt; end == step(&table, &mut own, &mut whole, 0), "{}", *exit);
+        assert!(rt; cpu == own, "{}", *exit);
+        assert!(rt;
+            port.longs.as_slice() == whole.longs.as_slice(),
+            "{}",
+            *exit
+        );
     }
     Ok(())
 }
@@ -236,7 +241,7 @@ fn a_movem_over_its_own_words(rt: HostRuntime) -> Result<(), AllocError> {
     let mut port = memory(rt.alloc(), 0x404, &[0x48D0, 0x000F])?;
     let mut board = processor(BOARD);
     board.regs.a[0] = 0x3F8;
-    assert_eq!(rt; step(&table, &mut board, &mut port, 0), StepEnd::Went);
+    assert!(rt; step(&table, &mut board, &mut port, 0) == StepEnd::Went);
     port.hole = NO_HOLE;
     assert!(rt; stands(&port, CODE, &[0xD2D2_D2D2, 0]));
     let Some(Frame::Access { sr, pc, access, .. }) = take_frame(&mut port, board.regs.isp) else {
@@ -248,13 +253,10 @@ fn a_movem_over_its_own_words(rt: HostRuntime) -> Result<(), AllocError> {
         done: 3,
         next: 0x404,
     };
-    assert_eq!(rt; left(&rt, &access), movem);
+    assert!(rt; left(&rt, &access) == movem);
     let mut cpu = handed(&board, pc, sr);
-    assert_eq!(rt;
-        go_on(&rt, &table, &access, &mut cpu, &mut port),
-        StepEnd::Went
-    );
-    assert_eq!(rt; (cpu.regs.sr, cpu.regs.pc), (GUEST, 0x404));
+    assert!(rt; go_on(&rt, &table, &access, &mut cpu, &mut port) == StepEnd::Went);
+    assert!(rt; (cpu.regs.sr, cpu.regs.pc) == (GUEST, 0x404));
     assert!(rt;
         stands(
             &port,

@@ -56,7 +56,7 @@ fn zero_divides(rt: HostRuntime) -> Result<(), AllocError> {
         } else {
             after
         };
-        assert_eq!(rt; cpu.regs.d, left, "{}", row.name);
+        assert!(rt; cpu.regs.d == left, "{}", row.name);
     }
     Ok(())
 }
@@ -81,15 +81,12 @@ fn causes(rt: HostRuntime) {
     assert!(rt; !guest.regs.is_supervisor());
     for (frame, exit, address) in &FRAMES {
         let cause = cause_of(frame, *exit, &guest);
-        assert_eq!(rt;
-            (cause.vector, cause.address, cause.level),
-            (*exit, *address, 0)
-        );
+        assert!(rt; (cause.vector, cause.address, cause.level) == (*exit, *address, 0));
         assert!(rt; cause.access.is_none());
         let pc = match frame {
             Frame::Short { pc, .. } | Frame::Address { pc, .. } => Some(*pc),
             _ => None,
         };
-        assert_eq!(rt; Some(cause.pc), pc);
+        assert!(rt; Some(cause.pc) == pc);
     }
 }

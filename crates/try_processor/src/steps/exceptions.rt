@@ -82,8 +82,8 @@ fn frames_by_hand(rt: HostRuntime) -> Result<(), AllocError> {
         let mut port = memory(rt.alloc(), row.hole, row.code)?;
         let mut cpu = processor(row.sr);
         cpu.regs.isp = row.isp;
-        assert_eq!(rt; steps(&table, row.steps, &mut cpu, &mut port), StepEnd::Went, "{}", row.name);
-        assert_eq!(rt; (cpu.regs.sr, cpu.regs.pc, cpu.regs.isp), row.after, "{}", row.name);
+        assert!(rt; steps(&table, row.steps, &mut cpu, &mut port) == StepEnd::Went, "{}", row.name);
+        assert!(rt; (cpu.regs.sr, cpu.regs.pc, cpu.regs.isp) == row.after, "{}", row.name);
         assert!(rt; stands(&port, row.after.2, row.frame), "{}", row.name);
         assert!(rt; !cpu.stopped, "{}", row.name);
     }
@@ -96,21 +96,21 @@ fn what_was_done_before_a_fault(rt: HostRuntime) -> Result<(), AllocError> {
     // The line moves both registers; the long begins to be written; a MOVEM keeps what it loaded.
     let mut port = memory(rt.alloc(), 0x2004, &[0xF620, 0x9000])?;
     let mut cpu = processor(0x2700);
-    assert_eq!(rt; steps(&table, 1, &mut cpu, &mut port), StepEnd::Went);
-    assert_eq!(rt; (cpu.regs.a[0], cpu.regs.a[1]), (0x1010, 0x2010));
+    assert!(rt; steps(&table, 1, &mut cpu, &mut port) == StepEnd::Went);
+    assert!(rt; (cpu.regs.a[0], cpu.regs.a[1]) == (0x1010, 0x2010));
     let mut port = memory(
         rt.alloc(),
         NO_HOLE,
         &[0x23FC, 0x1122, 0x3344, 0x0000, 0xFFFF],
     )?;
     let mut cpu = processor(0x2700);
-    assert_eq!(rt; steps(&table, 1, &mut cpu, &mut port), StepEnd::Went);
+    assert!(rt; steps(&table, 1, &mut cpu, &mut port) == StepEnd::Went);
     assert!(rt; stands(&port, 0xFFFC, &[0x11]));
     let mut port = memory(rt.alloc(), 0x1008, &[0x4CD8, 0x00F0])?;
     let mut cpu = processor(0x2700);
-    assert_eq!(rt; steps(&table, 1, &mut cpu, &mut port), StepEnd::Went);
-    assert_eq!(rt; (cpu.regs.d[4], cpu.regs.d[5], cpu.regs.d[6]), (0, 0, 6));
-    assert_eq!(rt; cpu.regs.a[0], 0x1000);
+    assert!(rt; steps(&table, 1, &mut cpu, &mut port) == StepEnd::Went);
+    assert!(rt; (cpu.regs.d[4], cpu.regs.d[5], cpu.regs.d[6]) == (0, 0, 6));
+    assert!(rt; cpu.regs.a[0] == 0x1000);
     Ok(())
 }
 
@@ -123,19 +123,13 @@ fn halting(rt: HostRuntime) -> Result<(), AllocError> {
     cpu.regs.pc = 0;
     cpu.regs.isp = 0;
     cpu.regs.d[0] = 0;
-    assert_eq!(rt; steps(&table, 16_385, &mut cpu, &mut port), StepEnd::Halted);
-    assert_eq!(rt;
-        (cpu.regs.sr, cpu.regs.pc, cpu.regs.isp),
-        (0x2704, 0x10000, 0)
-    );
+    assert!(rt; steps(&table, 16_385, &mut cpu, &mut port) == StepEnd::Halted);
+    assert!(rt; (cpu.regs.sr, cpu.regs.pc, cpu.regs.isp) == (0x2704, 0x10000, 0));
     // The frame of a zero divide has no place, and that of the access error none either: all is as before it.
     let mut port = memory(rt.alloc(), NO_HOLE, &[0x44FC, 0x0001, 0x80FC, 0x0000])?;
     let mut cpu = processor(0x2700);
     cpu.regs.isp = 0xFFF0_0008;
-    assert_eq!(rt; steps(&table, 2, &mut cpu, &mut port), StepEnd::Halted);
-    assert_eq!(rt;
-        (cpu.regs.sr, cpu.regs.pc, cpu.regs.isp),
-        (0x2701, 0x404, 0xFFF0_0008)
-    );
+    assert!(rt; steps(&table, 2, &mut cpu, &mut port) == StepEnd::Halted);
+    assert!(rt; (cpu.regs.sr, cpu.regs.pc, cpu.regs.isp) == (0x2701, 0x404, 0xFFF0_0008));
     Ok(())
 }

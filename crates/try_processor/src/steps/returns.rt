@@ -30,11 +30,11 @@ fn traces_after_rte(rt: HostRuntime) -> Result<(), AllocError> {
         put(&mut port, 0x800C, 4, ssw);
         let mut cpu = processor(sr);
         let top = if format == 0x7008 { 0x803C } else { 0x8008 };
-        assert_eq!(rt; steps(&table, 1, &mut cpu, &mut port), StepEnd::Went);
+        assert!(rt; steps(&table, 1, &mut cpu, &mut port) == StepEnd::Went);
         if address == 0 {
-            assert_eq!(rt; (cpu.regs.pc, cpu.regs.isp), (pc, top));
+            assert!(rt; (cpu.regs.pc, cpu.regs.isp) == (pc, top));
         } else {
-            assert_eq!(rt; (cpu.regs.pc, cpu.regs.isp), (0x500, top - 12));
+            assert!(rt; (cpu.regs.pc, cpu.regs.isp) == (0x500, top - 12));
             assert!(rt; stands(&port, top - 12, &[saved << 16, pc << 16 | 0x2024, address]));
         }
     }
@@ -48,11 +48,8 @@ fn format_error(rt: HostRuntime) -> Result<(), AllocError> {
     put(&mut port, 0x8006, 2, 0x3000);
     put(&mut port, 0x38, 4, 0x660);
     let mut cpu = processor(0xA700);
-    assert_eq!(rt; steps(&table, 1, &mut cpu, &mut port), StepEnd::Went);
-    assert_eq!(rt;
-        (cpu.regs.sr, cpu.regs.pc, cpu.regs.isp),
-        (0x2700, 0x660, 0x7FF8)
-    );
+    assert!(rt; steps(&table, 1, &mut cpu, &mut port) == StepEnd::Went);
+    assert!(rt; (cpu.regs.sr, cpu.regs.pc, cpu.regs.isp) == (0x2700, 0x660, 0x7FF8));
     assert!(rt; stands(&port, 0x7FF8, &[0xA700_0000, 0x0400_0038]));
     Ok(())
 }
@@ -64,14 +61,11 @@ fn continued_movem(rt: HostRuntime) -> Result<(), AllocError> {
     let mut port = memory(rt.alloc(), 0x1008, &[0x48D0, 0x000F])?;
     put(&mut port, 0x500, 2, u32::from(RTE));
     let mut cpu = processor(0xA700);
-    assert_eq!(rt; steps(&table, 1, &mut cpu, &mut port), StepEnd::Went);
-    assert_eq!(rt; cpu.regs.pc, 0x500);
+    assert!(rt; steps(&table, 1, &mut cpu, &mut port) == StepEnd::Went);
+    assert!(rt; cpu.regs.pc == 0x500);
     // Refused again: the frame is the same.
-    assert_eq!(rt; steps(&table, 1, &mut cpu, &mut port), StepEnd::Went);
-    assert_eq!(rt;
-        (cpu.regs.sr, cpu.regs.pc, cpu.regs.isp),
-        (0x2700, 0x500, 0x7FC4)
-    );
+    assert!(rt; steps(&table, 1, &mut cpu, &mut port) == StepEnd::Went);
+    assert!(rt; (cpu.regs.sr, cpu.regs.pc, cpu.regs.isp) == (0x2700, 0x500, 0x7FC4));
     assert!(rt;
         stands(
             &port,
@@ -82,11 +76,8 @@ fn continued_movem(rt: HostRuntime) -> Result<(), AllocError> {
     assert!(rt; stands(&port, 0x7FF4, &[0x0404, 0x48D0_000F, 2]));
     // Done: the trace has the frame's PC.
     port.hole = NO_HOLE;
-    assert_eq!(rt; steps(&table, 1, &mut cpu, &mut port), StepEnd::Went);
-    assert_eq!(rt;
-        (cpu.regs.sr, cpu.regs.pc, cpu.regs.isp),
-        (0x2700, 0x500, 0x7FF4)
-    );
+    assert!(rt; steps(&table, 1, &mut cpu, &mut port) == StepEnd::Went);
+    assert!(rt; (cpu.regs.sr, cpu.regs.pc, cpu.regs.isp) == (0x2700, 0x500, 0x7FF4));
     assert!(rt; stands(&port, 0x7FF4, &[0xA700_0000, 0x0404_2024, 0x400]));
     assert!(rt;
         stands(

@@ -14,14 +14,14 @@ fn interrupt_with_a_master_stack(rt: HostRuntime) -> Result<(), AllocError> {
     let mut port = memory(rt.alloc(), NO_HOLE, &[0x4E71])?;
     let before = processor(0x3000);
     let mut cpu = before;
-    assert_eq!(rt; step(&table, &mut cpu, &mut port, 6), StepEnd::Went);
-    assert_eq!(rt; (cpu.regs.sr, cpu.regs.pc), (0x2600, 0x700));
-    assert_eq!(rt; (cpu.regs.msp, cpu.regs.isp), (0x8FF8, 0x7FF8));
+    assert!(rt; step(&table, &mut cpu, &mut port, 6) == StepEnd::Went);
+    assert!(rt; (cpu.regs.sr, cpu.regs.pc) == (0x2600, 0x700));
+    assert!(rt; (cpu.regs.msp, cpu.regs.isp) == (0x8FF8, 0x7FF8));
     assert!(rt; stands(&port, 0x8FF8, &[0x3000_0000, 0x0400_0078]));
     assert!(rt; stands(&port, 0x7FF8, &[0x3000_0000, 0x0400_1078]));
     // An equal mask holds it, and the handler returns.
-    assert_eq!(rt; step(&table, &mut cpu, &mut port, 6), StepEnd::Went);
-    assert_eq!(rt; cpu, before);
+    assert!(rt; step(&table, &mut cpu, &mut port, 6) == StepEnd::Went);
+    assert!(rt; cpu == before);
     Ok(())
 }
 
@@ -31,12 +31,9 @@ fn interrupt_without_an_interrupt_stack(rt: HostRuntime) -> Result<(), AllocErro
     let mut port = memory(rt.alloc(), 0x7FFC, &[0x4E71])?;
     let mut cpu = processor(0x3000);
     cpu.stopped = true;
-    assert_eq!(rt; step(&table, &mut cpu, &mut port, 6), StepEnd::Went);
-    assert_eq!(rt;
-        (cpu.regs.sr, cpu.regs.pc, cpu.stopped),
-        (0x3000, 0x500, false)
-    );
-    assert_eq!(rt; (cpu.regs.msp, cpu.regs.isp), (0x8FC4, 0x8000));
+    assert!(rt; step(&table, &mut cpu, &mut port, 6) == StepEnd::Went);
+    assert!(rt; (cpu.regs.sr, cpu.regs.pc, cpu.stopped) == (0x3000, 0x500, false));
+    assert!(rt; (cpu.regs.msp, cpu.regs.isp) == (0x8FC4, 0x8000));
     assert!(rt;
         stands(
             &port,
@@ -62,29 +59,20 @@ fn stopping(rt: HostRuntime) -> Result<(), AllocError> {
     let table = FirstWords::new(rt.alloc())?;
     let mut port = memory(rt.alloc(), NO_HOLE, &STOP)?;
     let mut cpu = processor(0x2700);
-    assert_eq!(rt; steps(&table, 1, &mut cpu, &mut port), StepEnd::Went);
+    assert!(rt; steps(&table, 1, &mut cpu, &mut port) == StepEnd::Went);
     let stopped = cpu;
-    assert_eq!(rt;
-        (cpu.regs.sr, cpu.regs.pc, cpu.stopped),
-        (0x2500, 0x404, true)
-    );
-    assert_eq!(rt; step(&table, &mut cpu, &mut port, 5), StepEnd::Idle);
-    assert_eq!(rt; cpu, stopped);
-    assert_eq!(rt; step(&table, &mut cpu, &mut port, 6), StepEnd::Went);
-    assert_eq!(rt;
-        (cpu.regs.sr, cpu.regs.pc, cpu.stopped),
-        (0x2600, 0x700, false)
-    );
+    assert!(rt; (cpu.regs.sr, cpu.regs.pc, cpu.stopped) == (0x2500, 0x404, true));
+    assert!(rt; step(&table, &mut cpu, &mut port, 5) == StepEnd::Idle);
+    assert!(rt; cpu == stopped);
+    assert!(rt; step(&table, &mut cpu, &mut port, 6) == StepEnd::Went);
+    assert!(rt; (cpu.regs.sr, cpu.regs.pc, cpu.stopped) == (0x2600, 0x700, false));
     assert!(rt; stands(&port, 0x7FF8, &[0x2500_0000, 0x0404_0078]));
     // Where a trace is due it does not stop.
     for sr in [0xA700, 0x6700] {
         let mut port = memory(rt.alloc(), NO_HOLE, &STOP)?;
         let mut cpu = processor(sr);
-        assert_eq!(rt; steps(&table, 1, &mut cpu, &mut port), StepEnd::Went);
-        assert_eq!(rt;
-            (cpu.regs.sr, cpu.regs.pc, cpu.stopped),
-            (0x2500, 0x500, false)
-        );
+        assert!(rt; steps(&table, 1, &mut cpu, &mut port) == StepEnd::Went);
+        assert!(rt; (cpu.regs.sr, cpu.regs.pc, cpu.stopped) == (0x2500, 0x500, false));
         assert!(rt; stands(&port, 0x7FF4, &[0x2500_0000, 0x0404_2024, 0x400]));
     }
     Ok(())
