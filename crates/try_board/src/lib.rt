@@ -1,5 +1,5 @@
 //! Tests of machines and their parts: searches through tables, kept translations, shadow tables, devices, boards,
-//! hosts, and generated sessions.
+//! guests on boards, hosts, and generated sessions.
 #![tactic(auto)]
 
 #[cfg(test)]
@@ -10,6 +10,8 @@ mod generated;
 mod guest_kept;
 #[cfg(test)]
 mod guest_port;
+#[cfg(test)]
+mod guests;
 #[cfg(test)]
 mod hosts;
 #[cfg(test)]
