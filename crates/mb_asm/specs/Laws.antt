@@ -1,13 +1,15 @@
--- What holds of faults.
-use Rattle.std.specs.Prelude.{◌≡◌, true, false, List, [], ◌++◌, Ok, Err}
-use Rattle.mb_lines.specs.Lines.{Line}
-use Rattle.mb_syntax.specs.Statements.{Operation}
+-- What holds of faults, and of what is not known.
+use Rattle.std.specs.Prelude.{◌≡◌, ℕ, ℤ, true, false, is_err, List, [], ◌++◌, All, Option, Some, None, Ok, Err}
+use Rattle.std.specs.Option.{is_some}
+use Rattle.mb_lines.specs.Lines.{Line, numbered}
+use Rattle.mb_syntax.specs.Statements.{Operation, Statement}
 use Rattle.mb_asm.specs.declared.value.Flaw.TheVariants as flaw
-use Rattle.mb_asm.specs.Symbols.{Symbol}
+use Rattle.mb_asm.specs.Symbols.{Symbol, value_in}
 use Rattle.mb_asm.specs.Values.{Scope, have_flaw}
 use Rattle.mb_asm.specs.Bytes.{instruction_bytes}
-use Rattle.mb_asm.specs.Layouts.{Layout}
-use Rattle.mb_asm.specs.Texts.{Chunks, Fault, chunks_from}
+use Rattle.mb_asm.specs.Layouts.{Layout, after_lines, beginning}
+use Rattle.mb_asm.specs.Judged.{judged}
+use Rattle.mb_asm.specs.Texts.{Chunks, Fault, assembled, chunks_from}
 
 -- With the same symbols, the first faulty line of lines is told whatever stands behind them.
 abbrev pub FirstFaultStays : Type 0
@@ -19,3 +21,39 @@ FirstFaultStays = (symbols : List Symbol) (layout : Layout) (chunks : Chunks) (l
 abbrev pub UnknownIsNoFault : Type 0
 UnknownIsNoFault = (scope : Scope) (operation : Operation) → have_flaw flaw.Unknown scope operation.operands ≡ true
     → have_flaw flaw.Wide scope operation.operands ≡ false → instruction_bytes scope operation ≡ Ok []
+
+-- what is known stays, and what is not may become known
+abbrev pub Stays : {A : Type 0} → Option A → Option A → Type 0
+Stays None after = Unit {0}
+Stays (Some x) after = after ≡ Some x
+
+-- the same of what is found by a name
+abbrev pub FoundStays : Option (Option ℤ) → Option (Option ℤ) → Type 0
+FoundStays None after = after ≡ None
+FoundStays (Some None) after = is_some after ≡ true
+FoundStays (Some (Some value)) after = after ≡ Some (Some value)
+
+-- The same names are symbols, and a value that is known stays.
+abbrev pub SymbolsStay : List Symbol → List Symbol → Type 0
+SymbolsStay before after = (name : List ℕ) → FoundStays (value_in before name) (value_in after name)
+
+-- and so does an address
+pub record LayoutStays (before after : Layout) : Type 0 where
+  pub at : Stays before.at after.at
+  pub symbols : SymbolsStay before.symbols after.symbols
+
+-- A line that is faulty while symbols or its address are not known is faulty when they are known.
+abbrev pub FaultyStaysFaulty : Type 0
+FaultyStaysFaulty = (symbols more : List Symbol) (before after : Layout) (line : List ℕ) (statement : Option Statement)
+    → SymbolsStay symbols more → LayoutStays before after
+    → is_err (judged symbols before line statement) ≡ true → is_err (judged more after line statement) ≡ true
+
+-- the address that is reached is known, and the value of each symbol
+pub record IsKnown (layout : Layout) : Type 0 where
+  pub at : is_some layout.at ≡ true
+  pub symbols : All (λ symbol. is_some symbol.value ≡ true) layout.symbols
+
+-- Where a text has an image, nothing is unknown, neither behind all lines nor at any of them.
+abbrev pub ImageLeavesNothingUnknown : Type 0
+ImageLeavesNothingUnknown = (text : List ℕ) (image : List (ℕ × List ℕ)) (lines behind : List Line)
+    → assembled text ≡ Ok image → numbered text ≡ lines ++ behind → IsKnown (after_lines beginning lines)

@@ -1,6 +1,6 @@
 //! What holds of every text.
 
-ghost use Rattle.mb_asm.specs.Laws.{FirstFaultStays, UnknownIsNoFault};
+ghost use Rattle.mb_asm.specs.Laws.{FaultyStaysFaulty, FirstFaultStays, ImageLeavesNothingUnknown, UnknownIsNoFault};
 
 /// The first faulty line of lines is told whatever stands behind them, as long as the symbols are the same.
 #[tactic(auto, using(crate::proofs::Faults::first_stays))]
@@ -12,4 +12,16 @@ pub fn first_fault_stays()
 #[tactic(auto, using(crate::proofs::Faults::unknown_passes))]
 pub fn unknown_is_no_fault()
     ensures { UnknownIsNoFault }
+{}
+
+/// A line that is faulty while symbols or its address are not known is faulty when they are known: no fault is made by
+/// what another line leaves unknown.
+#[tactic(auto, using(crate::proofs::Stays::faulty_stays))]
+pub fn faulty_stays_faulty()
+    ensures { FaultyStaysFaulty }
+{}
+
+/// Where a text has an image, the address of each line and the value of each symbol are known.
+pub fn image_leaves_nothing_unknown()
+    ensures { ImageLeavesNothingUnknown }
 {}
