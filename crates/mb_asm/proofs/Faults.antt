@@ -1,13 +1,12 @@
 -- The first faulty line.
-use Rattle.std.proofs.Common.{◌≡◌, [], ◌∷◌, ◌++◌, refl}
+use Rattle.std.proofs.Common.{◌≡◌, [], ◌∷◌, ◌++◌}
 use Rattle.std.specs.Prelude.{Result, Ok, Err}
 use Rattle.mb_syntax.specs.Lines.{statement_in}
 use Rattle.mb_asm.specs.Layouts.{after_line}
 use Rattle.mb_asm.specs.Judged.{judged, place}
 use Rattle.mb_asm.specs.Texts.{Fault, at_line, chunks_from, with_laid}
 use Rattle.mb_asm.specs.Results.{◌>>=◌}
-use Rattle.mb_asm.specs.Bytes.{instruction_bytes, settled_at}
-use Rattle.mb_asm.specs.Laws.{FirstFaultStays, UnknownIsNoFault}
+use Rattle.mb_asm.specs.Laws.{FirstFaultStays}
 
 -- a step and what stands behind it: a fault of the step is that of both, and a fault behind it stays where it stays there
 step_stays : {A B : Type 0} (first : Result A Fault) (f g : A → Result B Fault) (fault : Fault)
@@ -24,7 +23,3 @@ first_stays symbols layout chunks (line ∷ lines) behind fault is =
     fault
     (λ laid. first_stays symbols (after_line layout line) (with_laid chunks (place layout.at) laid) lines behind fault)
     is
-
-pub unknown_passes : UnknownIsNoFault
-unfolding instruction_bytes settled_at
-unknown_passes scope operation unknown narrow = rw (unknown, narrow) refl

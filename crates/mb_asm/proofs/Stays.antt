@@ -1,6 +1,6 @@
 -- A line that is faulty while something is not known is faulty when it is known.
 use Rattle.std.proofs.Common.{◌≡◌, ℕ, ◌≤◌, Bool, true, false, List, [], ◌∷◌, ◌++◌, length, Option, None, Some, refl, sym, ap, ◌∙◌, subst, is_some, arith}
-use Rattle.std.proofs.Common.{le_refl, length-append, true≢false, zero-le}
+use Rattle.std.proofs.Common.{inl, inr, le_refl, length-append, true≢false, zero-le}
 use Rattle.std.proofs.Math.Path.{fun_ext}
 use Rattle.std.proofs.lemmas.Bool.Decides.{nat_tests}
 use Rattle.std.specs.Prelude.{ℤ, pos, ◌+◌, ◌*◌, ◌%◌, ◌^◌, nat_lt, ◌+ℤ◌, ◌||◌, ◌&&◌, not, min, Result, Ok, Err, is_err, option_map, option_and_then, if◌then◌else◌, map}
@@ -22,6 +22,8 @@ use Rattle.mb_syntax.specs.declared.operand.FieldNumber.TheVariants as field_num
 use Rattle.mb_syntax.specs.Modes.{Sum}
 use Rattle.mb_syntax.specs.Spans.{bytes_at}
 use Rattle.mb_syntax.specs.Statements.{Operation}
+use Rattle.mb_instr.specs.declared.instruction.Instr.{Instr}
+use Rattle.mb_mnemonics.specs.declared.fault.MeansFault.{MeansFault}
 use Rattle.mb_mnemonics.specs.Means.{length_by, meaning}
 use Rattle.mb_mnemonics.specs.Ranges.{number}
 use Rattle.mb_mnemonics.specs.Values.{valued, valued_displacement, valued_mode, valued_number}
@@ -31,7 +33,7 @@ use Rattle.mb_asm.specs.declared.directive.Directive.TheVariants as directive
 use Rattle.mb_asm.specs.declared.fault.AsmKind.{AsmKind}
 use Rattle.mb_asm.specs.declared.fault.AsmKind.TheVariants as kind
 use Rattle.mb_asm.specs.declared.value.Flaw.TheVariants as flaw
-use Rattle.mb_asm.specs.Bytes.{bytes, bytes_of, bytes_there, dc_bytes, directive_bytes, instruction_bytes, item_bytes, items_bytes, plain_bytes, settled_at, settled_bytes}
+use Rattle.mb_asm.specs.Bytes.{bytes, bytes_of, has_out, is_out, bytes_there, dc_bytes, directive_bytes, instruction_bytes, item_bytes, items_bytes, plain_bytes, settled_at, settled_bytes}
 use Rattle.mb_asm.specs.Bytes.{text_bytes, unit_bytes, unit_range}
 use Rattle.mb_asm.specs.Directives.{only_of, plain_of, unit_of}
 use Rattle.mb_asm.specs.Extents.{address_of, behind, behind_dc, behind_ds, behind_even, behind_instruction, behind_item, behind_items}
@@ -44,8 +46,9 @@ use Rattle.mb_asm.specs.Laws.{FaultyStaysFaulty, FoundStays, LayoutStays, Stays,
 use Rattle.mb_asm.specs.Layouts.{Layout, earlier}
 use Rattle.mb_asm.specs.Results.{◌>>=◌, refuse}
 use Rattle.mb_asm.specs.Symbols.{Symbol, value_in}
-use Rattle.mb_asm.specs.Values.{Scope, counted, has_flaw, have_flaw, in_displacement, in_mode, in_number, in_operand, in_option, is_long, is_nameless}
+use Rattle.mb_asm.specs.Values.{Scope, counted, near, target, has_flaw, have_flaw, in_displacement, in_mode, in_number, in_operand, in_option, is_long, is_nameless}
 use Rattle.mb_asm.specs.Values.{is_wide, signed_value, sum_behind, term_value, value_of, values_of, with_sign}
+use Rattle.mb_asm.proofs.Filled.{Fills, IsNumber, IsTarget, all_filled, all_unmarked, fill, near_at, out_stays, unmarked}
 use Rattle.mb_asm.proofs.Known.{behind_by, bound, neither}
 
 -- ---- expressions
@@ -489,7 +492,7 @@ operands_value t u f g (o ∷ os) h k =
     let both = neither (in_operand t o) (list_any (in_operand t) os) k in
     rw (operand_value t u f g o h both.0, operands_value t u f g os h both.1) refl
 
-counted_stays : (x y : Option ℤ) → Stays x y → not (is_some x) ≡ false → unwrap_or x (pos 0) ≡ unwrap_or y (pos 0)
+counted_stays : (x y : Option ℤ) → Stays x y → not (is_some x) ≡ false → unwrap_or x (pos 1) ≡ unwrap_or y (pos 1)
 counted_stays None y p h = absurd cc
 counted_stays (Some v) y p h = rw p refl
 
@@ -514,12 +517,119 @@ unfolding bytes_there
 there_same line ss ts a b operation x same =
     ap (λ (values : List (Operand ℤ)). meant (meaning (bytes_at line operation.name) operation.size values (x % 2 ^ 32)) >>= λ i. Ok (bytes_of i)) same
 
-settled_stays : (line : List ℕ) (ss ts : List Symbol) (a b : Option ℕ) (operation : Operation) (unknown later : Bool)
+-- ---- where a number is out of its range
+
+counted_near : (x y : Option ℤ) → Stays x y → IsNumber (unwrap_or x (pos 1)) (unwrap_or y (pos 1))
+counted_near None y p = inr refl
+counted_near (Some v) y p = inl (rw p refl)
+
+target_near : (x : Option ℤ) (y : Option ℤ) (i j : ℕ) (u : ℤ) → Stays x y → i ≡ j → IsTarget i j (unwrap_or x (near_at i)) (unwrap_or y u)
+target_near None y i j u p same = inr refl
+target_near (Some v) y i j u p same = inl (same, rw p refl)
+
+-- the address of a statement, modulo 2^32
+abbrev pub low_at : Option ℕ → ℕ
+low_at at = unwrap_or at 0 % 4294967296
+
+near_same : (symbols : List Symbol) (line : List ℕ) (at : Option ℕ) → near (scope_at symbols line at) ≡ near_at (low_at at)
+near_same symbols line at =
+    let e : (unwrap_or at 0 + 4) % 4294967296 ≡ (low_at at + 4) % 4294967296 = omega arith in
+    ap pos e
+
+-- the targets of a scope beside those of one that knows more
+fill_target : (line : List ℕ) (ss ts : List Symbol) (a b : Option ℕ) (e : Sum) → SymbolsStay ss ts → Stays a b
+    → IsTarget (low_at a) (low_at b) (target (scope_at ss line a) e) (target (scope_at ts line b) e)
+fill_target line ss ts None b e s p = inr (near_same ss line None)
+fill_target line ss ts (Some x) b e s p =
+    rw (p, near_same ss line (Some x))
+    (target_near (value_of (scope_at ss line (Some x)) e) (value_of (scope_at ts line (Some x)) e) (low_at (Some x)) (low_at (Some x))
+    (near_at (low_at (Some x))) (value_stays line ss ts (Some x) (Some x) e s refl) refl)
+
+fills_more : (line : List ℕ) (ss ts : List Symbol) (a b : Option ℕ) → SymbolsStay ss ts → Stays a b
+    → Fills (low_at a) (low_at b) (fill (scope_at ss line a)) (fill (scope_at ts line b))
+fills_more line ss ts a b s p = record {
+  number = λ e. counted_near (value_of (scope_at ss line a) e) (value_of (scope_at ts line b) e) (value_stays line ss ts a b e s p);
+  target = λ e. fill_target line ss ts a b e s p;
+}
+
+-- the targets of a scope beside the values of one in which the address is known
+known_target : (line : List ℕ) (ss ts : List Symbol) (a : Option ℕ) (y : ℕ) (e : Sum) → SymbolsStay ss ts → Stays a (Some y)
+    → IsTarget (low_at a) (y % 4294967296) (target (scope_at ss line a) e) (counted (scope_at ts line (Some y)) e)
+known_target line ss ts None y e s p = inr (near_same ss line None)
+known_target line ss ts (Some x) y e s p =
+    let same : x ≡ y = cc in
+    rw (near_same ss line (Some x))
+    (target_near (value_of (scope_at ss line (Some x)) e) (value_of (scope_at ts line (Some y)) e) (low_at (Some x)) (y % 4294967296)
+    (pos 1) (value_stays line ss ts (Some x) (Some y) e s p) (ap (λ (n : ℕ). n % 4294967296) same))
+
+fills_known : (line : List ℕ) (ss ts : List Symbol) (a : Option ℕ) (y : ℕ) → SymbolsStay ss ts → Stays a (Some y)
+    → Fills (low_at a) (y % 4294967296) (fill (scope_at ss line a)) (unmarked (counted (scope_at ts line (Some y))))
+fills_known line ss ts a y s p = record {
+  number = λ e. counted_near (value_of (scope_at ss line a) e) (value_of (scope_at ts line (Some y)) e) (value_stays line ss ts a (Some y) e s p);
+  target = λ e. known_target line ss ts a y e s p;
+}
+
+out_more : (line : List ℕ) (ss ts : List Symbol) (a b : Option ℕ) (operation : Operation) → SymbolsStay ss ts → Stays a b
+    → has_out (scope_at ss line a) operation ≡ true → has_out (scope_at ts line b) operation ≡ true
+unfolding has_out
+out_more line ss ts a b operation s p h =
+    let name = bytes_at line operation.name in
+    let os = operation.operands in
+    subst (λ (vs : List (Operand ℤ)). is_out (meaning name operation.size vs (low_at b)) ≡ true) (sym (all_filled (scope_at ts line b) os))
+    (out_stays name operation.size os (low_at a) (low_at b) (fill (scope_at ss line a)) (fill (scope_at ts line b)) (fills_more line ss ts a b s p)
+    (subst (λ (vs : List (Operand ℤ)). is_out (meaning name operation.size vs (low_at a)) ≡ true) (all_filled (scope_at ss line a) os) h))
+
+out_faulty : (r : Result Instr MeansFault) → is_out r ≡ true → is_err (meant r >>= λ i. Ok (bytes_of i)) ≡ true
+out_faulty (Err fault) h = refl
+out_faulty (Ok i) h = absurd cc
+
+out_known : (line : List ℕ) (ss ts : List Symbol) (a : Option ℕ) (y : ℕ) (operation : Operation) → SymbolsStay ss ts → Stays a (Some y)
+    → has_out (scope_at ss line a) operation ≡ true → is_err (bytes_there (scope_at ts line (Some y)) operation y) ≡ true
+unfolding has_out bytes_there
+out_known line ss ts a y operation s p h =
+    let name = bytes_at line operation.name in
+    let os = operation.operands in
+    let value = counted (scope_at ts line (Some y)) in
+    out_faulty (meaning name operation.size (map (valued value) os) (y % 4294967296))
+    (subst (λ (vs : List (Operand ℤ)). is_out (meaning name operation.size vs (y % 4294967296)) ≡ true) (sym (all_unmarked value os))
+    (out_stays name operation.size os (low_at a) (y % 4294967296) (fill (scope_at ss line a)) (unmarked value) (fills_known line ss ts a y s p)
+    (subst (λ (vs : List (Operand ℤ)). is_out (meaning name operation.size vs (low_at a)) ≡ true) (all_filled (scope_at ss line a) os) h)))
+
+-- what is written where a number may be out of its range
+abbrev pub unless_out : Bool → Result (List ℕ) AsmKind
+unless_out out = refuse out kind.Range >>= λ known. Ok []
+
+unless_first : (out : Bool) (r : Result (List ℕ) AsmKind) → (out ≡ true → is_err r ≡ true) → BytesStay (unless_out out) r
+unless_first true r m = record { faulty = λ h. m refl; longer = λ x y is there. absurd cc }
+unless_first false r m = nothing_first r
+
+unless_faulty : (out : Bool) → out ≡ true → is_err (unless_out out) ≡ true
+unless_faulty out h = rw h refl
+
+-- what is not settled beside what may be
+unsettled_stays : (line : List ℕ) (ss ts : List Symbol) (a b there : Option ℕ) (operation : Operation) → SymbolsStay ss ts → Stays a b
+    → Stays there b
+    → BytesStay (unless_out (has_out (scope_at ss line a) operation)) (settled_bytes (scope_at ts line b) operation there)
+unsettled_stays line ss ts a b None operation s p within =
+    unless_first (has_out (scope_at ss line a) operation) (unless_out (has_out (scope_at ts line b) operation))
+    (λ h. unless_faulty (has_out (scope_at ts line b) operation) (out_more line ss ts a b operation s p h))
+unsettled_stays line ss ts a b (Some y) operation s p within =
+    unless_first (has_out (scope_at ss line a) operation) (bytes_there (scope_at ts line b) operation y)
+    (λ h. rw within (out_known line ss ts a y operation s (subst (Stays a) within p) h))
+
+settled_within : (unknown : Bool) (b : Option ℕ) → Stays (if unknown then None else b) b
+settled_within true b = tt
+settled_within false None = tt
+settled_within false (Some y) = refl
+
+settled_stays : (line : List ℕ) (ss ts : List Symbol) (a b : Option ℕ) (operation : Operation) (unknown later : Bool) → SymbolsStay ss ts
     → Stays a b → (unknown ≡ false → later ≡ false) → (unknown ≡ false → values_of (scope_at ss line a) operation.operands ≡ values_of (scope_at ts line b) operation.operands)
     → BytesStay (settled_bytes (scope_at ss line a) operation (if unknown then None else a)) (settled_bytes (scope_at ts line b) operation (if later then None else b))
-settled_stays line ss ts a b operation true later p more same = nothing_first (settled_bytes (scope_at ts line b) operation (if later then None else b))
-settled_stays line ss ts None b operation false later p more same = nothing_first (settled_bytes (scope_at ts line b) operation (if later then None else b))
-settled_stays line ss ts (Some x) b operation false later p more same =
+settled_stays line ss ts a b operation true later s p more same =
+    unsettled_stays line ss ts a b (if later then None else b) operation s p (settled_within later b)
+settled_stays line ss ts None b operation false later s p more same =
+    unsettled_stays line ss ts None b (if later then None else b) operation s p (settled_within later b)
+settled_stays line ss ts (Some x) b operation false later s p more same =
     let there : (if later then None else b) ≡ Some x = rw (more refl) p in
     let e : settled_bytes (scope_at ts line b) operation (if later then None else b) ≡ bytes_there (scope_at ts line b) operation x =
     ap (settled_bytes (scope_at ts line b) operation) there in
@@ -553,7 +663,7 @@ instruction_bytes_stay line ss ts a b operation s p =
     allowed_stay (settled_bytes (scope_at ss line a) operation (if unknown then None else a))
     (settled_bytes (scope_at ts line b) operation (if later then None else b))
     (have_flaw flaw.Wide (scope_at ts line b) operation.operands)
-    (settled_stays line ss ts a b operation unknown later p
+    (settled_stays line ss ts a b operation unknown later s p
     (λ k. operands_test t u f g operation.operands (follows line ss ts a b s p) k)
     (λ k. operands_value t u f g operation.operands (follows line ss ts a b s p) k))
 

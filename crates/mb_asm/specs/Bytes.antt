@@ -1,6 +1,6 @@
 -- The bytes that an operation writes, with the symbols of all lines.
-use Rattle.std.specs.Prelude.{ℕ, ◌+◌, ◌-◌, ◌%◌, ◌^◌, ◌==◌, if◌then◌else◌, List, [], ◌∷◌, ◌++◌, Option, Some, None}
-use Rattle.std.specs.Prelude.{Result, Ok, Err, slice_range}
+use Rattle.std.specs.Prelude.{ℕ, ◌+◌, ◌-◌, ◌%◌, ◌^◌, ◌==◌, Bool, true, false, if◌then◌else◌, List, [], ◌∷◌, ◌++◌, map}
+use Rattle.std.specs.Prelude.{Option, Some, None, Result, Ok, Err, slice_range}
 use Rattle.std.specs.Option.{ok_or, unwrap_or}
 use Rattle.std.specs.List.{flat_map}
 use Rattle.byteorder.specs.Endian.{big_bytes}
@@ -13,6 +13,8 @@ use Rattle.mb_syntax.specs.declared.operand.Operand.TheVariants as operand
 use Rattle.mb_syntax.specs.Modes.{Sum}
 use Rattle.mb_syntax.specs.Statements.{Operation}
 use Rattle.mb_syntax.specs.Spans.{bytes_at}
+use Rattle.mb_mnemonics.specs.declared.fault.MeansFault.{MeansFault}
+use Rattle.mb_mnemonics.specs.declared.fault.MeansFault.TheVariants as fault
 use Rattle.mb_mnemonics.specs.declared.range.Range.{Range}
 use Rattle.mb_mnemonics.specs.declared.range.Range.TheVariants as range
 use Rattle.mb_mnemonics.specs.Ranges.{number}
@@ -24,7 +26,7 @@ use Rattle.mb_asm.specs.declared.directive.Directive.{Directive}
 use Rattle.mb_asm.specs.declared.directive.Directive.TheVariants as directive
 use Rattle.mb_asm.specs.Kinds.{meant}
 use Rattle.mb_asm.specs.Results.{◌>>=◌, refuse}
-use Rattle.mb_asm.specs.Values.{Scope, have_flaw, values_of}
+use Rattle.mb_asm.specs.Values.{Scope, filled, have_flaw, values_of}
 use Rattle.mb_asm.specs.Directives.{plain_of, unit_of}
 use Rattle.mb_asm.specs.Extents.{directive_in, narrow_value, ranged}
 
@@ -81,9 +83,20 @@ bytes_there scope operation at = do
       (at % 2 ^ 32))
   Ok (bytes_of i)
 
--- The numbers of an instruction that rests on what is not known are not judged.
+-- a number is out of its range
+abbrev pub is_out : Result Instr MeansFault → Bool
+is_out (Err fault.Range) = true
+is_out _ = false
+
+-- a number of an operation that is known is out of its range, whatever those are that are not
+unfoldable pub has_out : Scope → Operation → Bool
+has_out scope operation =
+    is_out (meaning (bytes_at scope.line operation.name) operation.size (map (filled scope) operation.operands)
+    (unwrap_or scope.at 0 % 2 ^ 32))
+
+-- Of an instruction that rests on what is not known, the numbers that are known are judged.
 abbrev pub settled_bytes : Scope → Operation → Option ℕ → Result (List ℕ) AsmKind
-settled_bytes scope operation None = Ok []
+settled_bytes scope operation None = refuse (has_out scope operation) kind.Range >>= λ known. Ok []
 settled_bytes scope operation (Some at) = bytes_there scope operation at
 
 unfoldable pub instruction_bytes : Scope → Operation → Result (List ℕ) AsmKind

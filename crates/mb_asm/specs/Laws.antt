@@ -1,12 +1,9 @@
 -- What holds of faults, and of what is not known.
-use Rattle.std.specs.Prelude.{◌≡◌, ℕ, ℤ, true, false, is_err, List, [], ◌++◌, All, Option, Some, None, Ok, Err}
+use Rattle.std.specs.Prelude.{◌≡◌, ℕ, ℤ, true, is_err, List, ◌++◌, All, Option, Some, None, Ok, Err}
 use Rattle.std.specs.Option.{is_some}
 use Rattle.mb_lines.specs.Lines.{Line, numbered}
-use Rattle.mb_syntax.specs.Statements.{Operation, Statement}
-use Rattle.mb_asm.specs.declared.value.Flaw.TheVariants as flaw
+use Rattle.mb_syntax.specs.Statements.{Statement}
 use Rattle.mb_asm.specs.Symbols.{Symbol, value_in}
-use Rattle.mb_asm.specs.Values.{Scope, have_flaw}
-use Rattle.mb_asm.specs.Bytes.{instruction_bytes}
 use Rattle.mb_asm.specs.Layouts.{Layout, after_lines, beginning}
 use Rattle.mb_asm.specs.Judged.{judged}
 use Rattle.mb_asm.specs.Texts.{Chunks, Fault, assembled, chunks_from}
@@ -16,11 +13,6 @@ abbrev pub FirstFaultStays : Type 0
 FirstFaultStays = (symbols : List Symbol) (layout : Layout) (chunks : Chunks) (lines behind : List Line) (fault : Fault)
     → chunks_from symbols layout chunks lines ≡ Err fault
     → chunks_from symbols layout chunks (lines ++ behind) ≡ Err fault
-
--- What is not known makes no fault of an instruction's numbers.
-abbrev pub UnknownIsNoFault : Type 0
-UnknownIsNoFault = (scope : Scope) (operation : Operation) → have_flaw flaw.Unknown scope operation.operands ≡ true
-    → have_flaw flaw.Wide scope operation.operands ≡ false → instruction_bytes scope operation ≡ Ok []
 
 -- what is known stays, and what is not may become known
 abbrev pub Stays : {A : Type 0} → Option A → Option A → Type 0

@@ -1,11 +1,13 @@
 -- The values of expressions.
-use Rattle.std.specs.Prelude.{ℕ, ℤ, pos, ◌+ℤ◌, neg_ℤ, Bool, true, false, not, ◌||◌, nat_lt, if◌then◌else◌, List}
+use Rattle.std.specs.Prelude.{ℕ, ◌+◌, ◌%◌, ◌^◌, ℤ, pos, ◌+ℤ◌, neg_ℤ, Bool, true, false, not, ◌||◌, nat_lt, if◌then◌else◌, List}
 use Rattle.std.specs.Prelude.{[], ◌∷◌, length, map, Option, Some, None, option_map, option_and_then}
 use Rattle.std.specs.Option.{is_some, unwrap_or}
 use Rattle.std.specs.List.{list_any}
 use Rattle.mb_syntax.specs.declared.expression.Term.{Term}
 use Rattle.mb_syntax.specs.declared.expression.Term.TheVariants as term
 use Rattle.mb_syntax.specs.declared.expression.SignedTerm.{SignedTerm}
+use Rattle.mb_syntax.specs.declared.mode.Base.{Base}
+use Rattle.mb_syntax.specs.declared.mode.Base.TheVariants as base
 use Rattle.mb_syntax.specs.declared.mode.Displacement.{Displacement}
 use Rattle.mb_syntax.specs.declared.mode.FullForm.{FullForm}
 use Rattle.mb_syntax.specs.declared.mode.Mode.{Mode}
@@ -16,7 +18,7 @@ use Rattle.mb_syntax.specs.declared.operand.FieldNumber.{FieldNumber}
 use Rattle.mb_syntax.specs.declared.operand.FieldNumber.TheVariants as number
 use Rattle.mb_syntax.specs.Spans.{bytes_at}
 use Rattle.mb_syntax.specs.Modes.{Sum}
-use Rattle.mb_mnemonics.specs.Values.{valued}
+use Rattle.mb_mnemonics.specs.Values.{valued, valued_displacement, valued_field, valued_mode}
 use Rattle.mb_asm.specs.declared.value.Flaw.{Flaw}
 use Rattle.mb_asm.specs.declared.value.Flaw.TheVariants as flaw
 use Rattle.mb_asm.specs.Symbols.{Symbol, value_in}
@@ -54,12 +56,49 @@ is_long terms = nat_lt 1073741824 (length terms)
 abbrev pub value_of : Scope → Sum → Option ℤ
 value_of scope terms = if is_long terms then Some (pos 0) else sum_behind scope (pos 0) terms
 
--- a value that is not known counts as 0, where numbers have no part
+-- a value that is not known counts as 1, which every range of numbers has
 abbrev pub counted : Scope → Sum → ℤ
-counted scope terms = unwrap_or (value_of scope terms) (pos 0)
+counted scope terms = unwrap_or (value_of scope terms) (pos 1)
 
 abbrev pub values_of : Scope → List (Operand Sum) → List (Operand ℤ)
 values_of scope operands = map (valued (counted scope)) operands
+
+-- Where numbers are not known. A target is relative to the PC, or an address without a width, as a branch has it; it
+-- rests on the statement's address too, and one that is not known counts as the place 4 bytes on, which every
+-- displacement reaches.
+
+abbrev pub near : Scope → ℤ
+near scope = pos ((unwrap_or scope.at 0 + 4) % 2 ^ 32)
+
+abbrev pub target : Scope → Sum → ℤ
+target scope terms = unwrap_or (option_and_then (λ at. value_of scope terms) scope.at) (near scope)
+
+-- the base displacement of a full form, by its base
+abbrev pub filled_base : Scope → Base → Option (Displacement Sum) → Option (Displacement ℤ)
+filled_base scope base.Pc displacement = option_map (valued_displacement (target scope)) displacement
+filled_base scope _ displacement = option_map (valued_displacement (counted scope)) displacement
+
+abbrev pub filled_form : Scope → FullForm Sum → FullForm ℤ
+filled_form scope form = record {
+  displacement = filled_base scope form.base form.displacement;
+  base = form.base;
+  index = form.index;
+  indirection = form.indirection;
+  outer = option_map (valued_displacement (counted scope)) form.outer;
+}
+
+abbrev pub filled_mode : Scope → Mode Sum → Mode ℤ
+filled_mode scope (mode.Absolute e None) = mode.Absolute (target scope e) None
+filled_mode scope (mode.PcDisplaced e) = mode.PcDisplaced (target scope e)
+filled_mode scope (mode.PcIndexed e i) = mode.PcIndexed (target scope e) i
+filled_mode scope (mode.Full form) = mode.Full (filled_form scope form)
+filled_mode scope m = valued_mode (counted scope) m
+
+-- an operand with numbers in range in the place of those that are not known
+abbrev pub filled : Scope → Operand Sum → Operand ℤ
+filled scope (operand.Mode m) = operand.Mode (filled_mode scope m)
+filled scope (operand.Field m field) = operand.Field (filled_mode scope m) (valued_field (counted scope) field)
+filled scope o = valued (counted scope) o
 
 -- Flaws of expressions.
 

@@ -70,11 +70,11 @@ fn sum_of(scope: &Scope, terms: &[SignedTerm]) -> Option<i64>
     Some(sum)
 }
 
-/// The value of an expression, and 0 where it is not known.
+/// The value of an expression, and 1 where it is not known.
 fn counted(scope: &Scope, expression: &Expression) -> i64
     ensures { result ≡ counted (scope_said scope.now) expression.now }
 {
-    value_of(scope, expression).unwrap_or(0)
+    value_of(scope, expression).unwrap_or(1)
 }
 
 fn is_nameless(scope: &Scope, signed: SignedTerm) -> bool
@@ -198,7 +198,7 @@ pub(crate) fn have_flaw(flaw: Flaw, scope: &Scope, operands: &[Operand<Expressio
     false
 }
 
-fn displacement_value(
+pub(crate) fn displacement_value(
     scope: &Scope,
     displacement: &Option<Displacement<Expression>>,
 ) -> Option<Displacement<i64>>
@@ -226,7 +226,7 @@ fn form_value(scope: &Scope, form: &FullForm<Expression>) -> FullForm<i64>
 }
 
 #[rattlefmt::skip]
-fn mode_value(scope: &Scope, mode: &Mode<Expression>) -> Mode<i64>
+pub(crate) fn mode_value(scope: &Scope, mode: &Mode<Expression>) -> Mode<i64>
     ensures { result ≡ valued_mode (counted (scope_said scope.now)) mode.now }
 {
     match mode {
@@ -256,7 +256,7 @@ fn number_value(scope: &Scope, number: &FieldNumber<Expression>) -> FieldNumber<
     }
 }
 
-fn field_value(scope: &Scope, field: &BitField<Expression>) -> BitField<i64>
+pub(crate) fn field_value(scope: &Scope, field: &BitField<Expression>) -> BitField<i64>
     ensures { result ≡ valued_field (counted (scope_said scope.now)) field.now }
 {
     BitField {
@@ -267,7 +267,7 @@ fn field_value(scope: &Scope, field: &BitField<Expression>) -> BitField<i64>
 
 /// An operand with the values of its expressions.
 #[rattlefmt::skip]
-fn operand_value(scope: &Scope, operand: &Operand<Expression>) -> Operand<i64>
+pub(crate) fn operand_value(scope: &Scope, operand: &Operand<Expression>) -> Operand<i64>
     ensures { result ≡ valued (counted (scope_said scope.now)) operand.now }
 {
     match operand {

@@ -11,6 +11,7 @@ mod directive;
 mod evaluation;
 mod extent;
 mod fault;
+mod filling;
 mod gathering;
 mod judging;
 mod laid;

@@ -8,20 +8,21 @@ ghost use Rattle.mb_mnemonics.specs.Ranges.{values};
 ghost use Rattle.mb_asm.specs.Scopes.{scope_said};
 ghost use Rattle.mb_syntax.specs.Answers.{operation_said};
 ghost use Rattle.mb_asm.specs.Answers.{GivesAlone};
-ghost use Rattle.mb_asm.specs.Bytes.{bytes, bytes_of, dc_bytes, directive_bytes, instruction_bytes, item_bytes};
-ghost use Rattle.mb_asm.specs.Bytes.{bytes_there, items_bytes, settled_at, settled_bytes, text_bytes, unit_bytes};
+ghost use Rattle.mb_asm.specs.Bytes.{bytes, bytes_of, dc_bytes, directive_bytes, has_out, instruction_bytes, is_out};
+ghost use Rattle.mb_asm.specs.Bytes.{bytes_there, item_bytes, items_bytes, settled_at, settled_bytes, text_bytes, unit_bytes};
 ghost use Rattle.mb_asm.specs.Bytes.{unit_range};
 
 use crate::directive::{Directive, directive_of, plain_of, unit_of};
 use crate::evaluation::{have_flaw, values_of};
 use crate::extent::narrow_value;
 use crate::fault::AsmKind;
+use crate::filling::all_filled;
 use crate::refusal::Refusal;
 use crate::value::{Flaw, Scope};
 use byteorder::{BigEndian, ByteOrder};
 use mb_encode::encode;
 use mb_instr::Instr;
-use mb_mnemonics::{Range, instruction_of, number};
+use mb_mnemonics::{MeansFault, Range, instruction_of, number};
 use mb_syntax::{Expression, Name, Operand, Operation};
 use std::alloc::{AllocError, Global};
 
@@ -190,7 +191,25 @@ fn bytes_there(
     }
 }
 
-/// The numbers of an instruction that rests on what is not known are not judged.
+/// A number is out of its range.
+fn is_out(meaning: &Result<Instr, MeansFault>) -> bool
+    ensures { result ≡ is_out meaning.now }
+{
+    matches!(meaning, Err(MeansFault::Range))
+}
+
+/// Whether a number of an operation that is known is out of its range, whatever those are that are not.
+#[tactic(auto, unfolding(crate::specs::Bytes::has_out))]
+fn has_out(alloc: Global, scope: &Scope, operation: &Operation) -> Result<bool, AllocError>
+    ensures { IfOk result (λ out. out ≡ has_out (scope_said scope.now) (operation_said operation.now)) }
+{
+    let values = all_filled(alloc, scope, &operation.operands)?;
+    let name = operation.name.bytes(scope.line);
+    let at = (scope.at.unwrap_or(0) % 0x1_0000_0000) as u32;
+    Ok(is_out(&instruction_of(name, operation.size, &values, at)))
+}
+
+/// Of an instruction that rests on what is not known, the numbers that are known are judged.
 fn settled_bytes(
     alloc: Global,
     scope: &Scope,
@@ -202,6 +221,7 @@ fn settled_bytes(
 {
     match at {
         Some(at) => bytes_there(alloc, scope, operation, at),
+        None if has_out(alloc, scope, operation)? => Err(Refusal::Kind(AsmKind::Range)),
         None => Ok(Vec::new(alloc)),
     }
 }

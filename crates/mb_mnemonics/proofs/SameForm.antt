@@ -105,7 +105,7 @@ unfolding operand_words
 target_words size.Long s o t = refl
 target_words _ s o t = refl
 
-operand_words_same : {E : Type 0} (f g : E → ℤ) (p : Pattern) (s : Size) (o : Operand E)
+pub operand_words_same : {E : Type 0} (f g : E → ℤ) (p : Pattern) (s : Size) (o : Operand E)
     → operand_words p s (valued f o) ≡ operand_words p s (valued g o)
 unfolding operand_words
 operand_words_same f g p s (operand.Mode m) =

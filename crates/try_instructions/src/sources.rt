@@ -30,7 +30,7 @@ fn fault_of(rt: &impl Abort, alloc: std::alloc::Global, text: &[u8]) -> Option<(
 #[rattlefmt::skip]
 #[test]
 fn faulty_lines(rt: HostRuntime) -> Result<(), Fail> {
-    let cases: [(&[u8], Option<(u32, AsmKind)>); 44] = [
+    let cases: [(&[u8], Option<(u32, AsmKind)>); 53] = [
         (b"", None),
         (b"; nothing\n* nothing\n\n   \n", None),
         (b" NOP\n", None),
@@ -74,6 +74,15 @@ fn faulty_lines(rt: HostRuntime) -> Result<(), Fail> {
         (b" DC.B a\na EQU $100000000\n", Some((2, AsmKind::Range))),
         (b" DC.B 256,b\n MOVEX\nb NOP\n", Some((1, AsmKind::Range))),
         (b" MOVE.L #$100000000,b\n MOVEX\nb NOP\n", Some((1, AsmKind::Range))),
+        (b" MOVE.W #70000,skip\n MOVEX\nskip NOP\n", Some((1, AsmKind::Range))),
+        (b" MOVE.W #70000,(skip,A0)\n MOVEX\nskip NOP\n", Some((1, AsmKind::Range))),
+        (b" MOVE.W (skip,PC),(40000,A0)\n MOVEX\nskip NOP\n", Some((1, AsmKind::Range))),
+        (b" MOVE.W ([skip,PC],40000.W),D0\n MOVEX\nskip NOP\n", Some((1, AsmKind::Range))),
+        (b" BFEXTU skip{1:33},D0\n MOVEX\nskip NOP\n", Some((1, AsmKind::Range))),
+        (b" ADDQ.L #8,skip\n MOVEX\nskip NOP\n", Some((2, AsmKind::Name))),
+        (b" ADDQ.L #skip,(skip,A0,D0.W)\n MOVEX\nskip NOP\n", Some((2, AsmKind::Name))),
+        (b" BTST #70,(skip,PC,D0.W)\n MOVEX\nskip NOP\n", Some((2, AsmKind::Name))),
+        (b" BFEXTU (skip,PC){skip:skip},D0\n MOVEX\nskip NOP\n", Some((2, AsmKind::Name))),
         (b" MOVEX\na EQU *\n DS.B a\nb NOP\n", Some((1, AsmKind::Name))),
     ];
     for (text, fault) in cases {
