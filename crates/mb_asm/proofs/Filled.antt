@@ -1,5 +1,6 @@
 -- A number that is not known counts as one in range: where the numbers are in range, they are so with it too.
-use Rattle.std.proofs.Common.{◌≡◌, ℕ, ◌+◌, ◌*◌, ◌-◌, ◌%◌, ◌^◌, ◌<◌, ◌≤◌, ◌⊎◌, inl, inr, Bool, true, false, List, [], ◌∷◌, length, map, Option, None, Some, refl, sym, ◌∙◌, subst, is_some}
+use Rattle.std.proofs.Common.{◌≡◌, ℕ, ◌+◌, ◌*◌, ◌-◌, ◌%◌, ◌^◌, ◌<◌, ◌≤◌, ◌⊎◌, inl, inr, Bool, true, false, List, [], ◌∷◌, length, map, Option, None, Some, refl}
+use Rattle.std.proofs.Common.{sym, ◌∙◌, subst, is_some}
 use Rattle.std.proofs.Common.{arith, true≢false, zero-le, Ok, Err}
 use Rattle.std.proofs.lemmas.Bool.Decides.{nat_tests}
 use Rattle.std.specs.Prelude.{ℤ, pos, ◌==◌, ◌&&◌, nat_le, option_map, option_and_then, if◌then◌else◌}
@@ -38,8 +39,10 @@ use Rattle.mb_mnemonics.specs.declared.range.Range.TheVariants as range
 use Rattle.mb_mnemonics.specs.Lines.{Entry, condition_by}
 use Rattle.mb_mnemonics.specs.Means.{Form, form_among, form_by, form_of, is_instr, is_named, meaning, meaning_by, said, size_by, told}
 use Rattle.mb_mnemonics.specs.Meant.{meant}
-use Rattle.mb_mnemonics.specs.Modes.{base_displacement, brief, displacement_words, ea_of, from_pc, full, full_word, is_word, mode_words, outer_of, plain, with_base, immediate_words, lower_of}
-use Rattle.mb_mnemonics.specs.Operands.{field_bits, field_part, is_displaced, is_immediate_form, is_long_address, is_target, nothing, operand_words, takes_operand, with_displacement}
+use Rattle.mb_mnemonics.specs.Modes.{base_displacement, brief, displacement_words, ea_of, from_pc, full, full_word, is_word, mode_words, outer_of, plain}
+use Rattle.mb_mnemonics.specs.Modes.{with_base, immediate_words, lower_of}
+use Rattle.mb_mnemonics.specs.Operands.{field_bits, field_part, is_displaced, is_immediate_form, is_long_address, is_target, nothing, operand_words}
+use Rattle.mb_mnemonics.specs.Operands.{takes_operand, with_displacement}
 use Rattle.mb_mnemonics.specs.Operands.{takes_operands, value_of, with_mode, with_operand, with_operands, with_value}
 use Rattle.mb_mnemonics.specs.Ranges.{branch, displacement, distance, immediate_range, number}
 use Rattle.mb_mnemonics.specs.Sizes.{size_in}
@@ -245,13 +248,20 @@ outer_near i j f g Direct d fills h = refl
 outer_near i j f g PreIndexed d fills h = plain_near i j f g d fills h
 outer_near i j f g PostIndexed d fills h = plain_near i j f g d fills h
 
-based_near : (i j c : ℕ) (f g : Marked → ℤ) (b : Base) (t : FullForm Sum) → c ≤ 60 → Fills i j f g → t.base ≡ b
-    → is_some (base_displacement ((j + c) % 4294967296) (record (valued_form g (marked_form t)) { base = b; displacement = option_map (valued_displacement g) (option_map (marked_displacement (is_pc b)) t.displacement) })) ≡ true
-    → is_some (base_displacement ((i + c) % 4294967296) (record (valued_form f (marked_form t)) { base = b; displacement = option_map (valued_displacement f) (option_map (marked_displacement (is_pc b)) t.displacement) })) ≡ true
-based_near i j c f g (base.Address n) t small fills same h = plain_near i j f g t.displacement fills h
-based_near i j c f g (base.NoAddress n) t small fills same h = plain_near i j f g t.displacement fills h
-based_near i j c f g base.Pc t small fills same h = pc_near i j c f g t.displacement small fills h
-based_near i j c f g base.NoPc t small fills same h = plain_near i j f g t.displacement fills h
+-- a full form's values, with another base
+abbrev pub based : (Marked → ℤ) → Base → FullForm Sum → FullForm ℤ
+based value b t = record (valued_form value (marked_form t)) {
+  base = b;
+  displacement = option_map (valued_displacement value) (option_map (marked_displacement (is_pc b)) t.displacement);
+}
+
+based_near : (i j c : ℕ) (f g : Marked → ℤ) (b : Base) (t : FullForm Sum) → c ≤ 60 → Fills i j f g
+    → is_some (base_displacement ((j + c) % 4294967296) (based g b t)) ≡ true
+    → is_some (base_displacement ((i + c) % 4294967296) (based f b t)) ≡ true
+based_near i j c f g (base.Address n) t small fills h = plain_near i j f g t.displacement fills h
+based_near i j c f g (base.NoAddress n) t small fills h = plain_near i j f g t.displacement fills h
+based_near i j c f g base.Pc t small fills h = pc_near i j c f g t.displacement small fills h
+based_near i j c f g base.NoPc t small fills h = plain_near i j f g t.displacement fills h
 
 full_near : (i j c : ℕ) (f g : Marked → ℤ) (t : FullForm Sum) → c ≤ 60 → Fills i j f g
     → is_some (full ((j + c) % 4294967296) (valued_form g (marked_form t))) ≡ true
@@ -262,7 +272,7 @@ full_near i j c f g t small fills h =
     let b = valued_form g (marked_form t) in
     two_some (λ bd od. Full (full_word a) bd od) (λ bd od. Full (full_word b) bd od) (base_displacement ((i + c) % 4294967296) a)
     (base_displacement ((j + c) % 4294967296) b) (plain (outer_of a)) (plain (outer_of b))
-    (based_near i j c f g t.base t small fills refl) (outer_near i j f g t.indirection t.outer fills) h
+    (based_near i j c f g t.base t small fills) (outer_near i j f g t.indirection t.outer fills) h
 
 ea_near : (s : Size) (i j c : ℕ) (f g : Marked → ℤ) (m : Mode Sum) → c ≤ 60 → Fills i j f g
     → is_some (ea_of s ((j + c) % 4294967296) (valued_mode g (marked_mode m))) ≡ true
@@ -272,7 +282,8 @@ ea_near s i j c f g (mode.Displaced n e) small fills h =
     map_some (λ d. Disp n d) (λ d. Disp n d) (number range.Displacement16 (f (mark false e))) (number range.Displacement16 (g (mark false e)))
     (number_near range.Displacement16 (f (mark false e)) (g (mark false e)) (fills.number e)) h
 ea_near s i j c f g (mode.Indexed n e x) small fills h =
-    map_some (λ d. Index n (brief x d)) (λ d. Index n (brief x d)) (number range.Displacement8 (f (mark false e))) (number range.Displacement8 (g (mark false e)))
+    map_some (λ d. Index n (brief x d)) (λ d. Index n (brief x d)) (number range.Displacement8 (f (mark false e))) (number range.Displacement8 (g
+    (mark false e)))
     (number_near range.Displacement8 (f (mark false e)) (g (mark false e)) (fills.number e)) h
 ea_near s i j c f g (mode.Absolute e None) small fills h =
     map_some (λ a. AbsL a) (λ a. AbsL a) (number range.Long (f (mark true e))) (number range.Long (g (mark true e)))
@@ -488,7 +499,8 @@ operands_near (p ∷ ps) s i j c f g (o ∷ os) a b small fills takes h =
     let less : c + 2 * w + 10 * length ps ≤ 60 = omega arith in
     let tight : c ≤ 60 = omega arith in
     let same = operand_words_same f g p s (marked o) in
-    then_some (λ more. with_operands ps s i (((i + c) % 4294967296 + 2 * operand_words p s (valued f (marked o))) % 4294967296) (map (valued f) (map marked os)) more)
+    then_some (λ more. with_operands ps s i (((i + c) % 4294967296 + 2 * operand_words p s (valued f (marked o))) % 4294967296) (map (valued f)
+    (map marked os)) more)
     (λ more. with_operands ps s j (((j + c) % 4294967296 + 2 * w) % 4294967296) (map (valued g) (map marked os)) more)
     (with_operand p s i ((i + c) % 4294967296) (valued f (marked o)) a) (with_operand p s j ((j + c) % 4294967296) (valued g (marked o)) b)
     (operand_near p s i j c f g o a b tight fills both.0)

@@ -1,5 +1,5 @@
 -- A text without a fault leaves nothing unknown.
-use Rattle.std.proofs.Common.{◌≡◌, ℕ, Bool, true, false, List, [], ◌∷◌, ◌++◌, All, Option, None, Some, refl, ap, subst, is_some}
+use Rattle.std.proofs.Common.{◌≡◌, ℕ, Bool, true, false, List, [], ◌∷◌, ◌++◌, All, Option, None, Some, refl, sym, ap, ◌∙◌, subst, is_some}
 use Rattle.std.specs.Prelude.{ℤ, pos, ◌+◌, ◌*◌, ◌%◌, ◌+ℤ◌, ◌||◌, not, min, Result, Ok, Err, option_map, option_and_then, if◌then◌else◌}
 use Rattle.std.specs.Option.{ok_or, unwrap_or}
 use Rattle.std.specs.List.{list_any}
@@ -23,18 +23,23 @@ use Rattle.mb_asm.specs.declared.fault.AsmKind.{AsmKind}
 use Rattle.mb_asm.specs.declared.fault.AsmKind.TheVariants as kind
 use Rattle.mb_asm.specs.declared.value.Flaw.TheVariants as flaw
 use Rattle.mb_asm.specs.Bytes.{bytes}
+use Rattle.mb_asm.specs.Code.{admitted, laid_to}
 use Rattle.mb_asm.specs.Directives.{only_of, plain_of, unit_of}
 use Rattle.mb_asm.specs.Extents.{address_of, behind, behind_dc, behind_directive, behind_ds, behind_even, behind_instruction, behind_item, behind_items}
-use Rattle.mb_asm.specs.Extents.{behind_org, count_of, directive_in, equ_value, even_from, item_len, long_of, narrow_value, no_size, only_value, onward, ranged, is_empty, past}
-use Rattle.mb_asm.specs.Judged.{Laid, admitted, equ_checked, has_no_name, is_again, is_misplaced, judged, judged_by, judged_operation, judged_statement, laid_to, place}
+use Rattle.mb_asm.specs.Extents.{behind_org, count_of, directive_in, equ_value, even_from, item_len, long_of, narrow_value, no_size, only_value, onward, ranged}
+use Rattle.mb_asm.specs.Extents.{is_empty, past}
+use Rattle.mb_asm.specs.Judged.{Laid, equ_checked, has_no_name, is_again, is_misplaced, judged, judged_operation, judged_statement}
+use Rattle.mb_asm.specs.Judged.{place}
 use Rattle.mb_asm.specs.Judged.{reaches_past, reads_earlier, scope_of, wants_label}
 use Rattle.mb_asm.specs.Kinds.{meant}
 use Rattle.mb_asm.specs.Laws.{ImageLeavesNothingUnknown, IsKnown}
 use Rattle.mb_asm.specs.Layouts.{Layout, after_line, after_lines, after_statement, beginning, earlier, label_value, next_at, operation_value, with_label}
 use Rattle.mb_asm.specs.Results.{◌>>=◌, refuse}
 use Rattle.mb_asm.specs.Symbols.{Symbol, value_in, with_symbol}
+use Rattle.mb_asm.proofs.Parts.{judged_parts}
 use Rattle.mb_asm.specs.Texts.{Chunks, Fault, assembled, at_line, chunks_from, finished, no_chunks, symbols_of, with_laid}
-use Rattle.mb_asm.specs.Values.{Scope, has_flaw, have_flaw, in_operand, is_long, is_nameless, signed_value, sum_behind, term_value, value_of, values_of, with_sign}
+use Rattle.mb_asm.specs.Values.{Scope, has_flaw, have_flaw, in_operand, is_long, is_nameless, signed_value, sum_behind, term_value, value_of, values_of}
+use Rattle.mb_asm.specs.Values.{with_sign}
 
 abbrev pub HasValue : Symbol → Type 0
 HasValue symbol = is_some symbol.value ≡ true
@@ -285,13 +290,15 @@ admitted_named layout line label found a b x is =
 
 operation_known : (symbols : List Symbol) (layout : Layout) (line : List ℕ) (label : Option Name) (operation : Operation) (laid : Laid)
     → IsKnown layout → judged_operation symbols layout line label operation ≡ Ok laid → OperationKnown layout line operation
-unfolding judged_operation judged_by laid_to next_at label_value behind
+unfolding judged_operation laid_to next_at label_value behind
 operation_known symbols layout line label operation laid known is =
     let found = directive_in line operation in
     let scope = scope_of symbols layout line found in
     let next = behind (earlier layout line) operation in
     let flawed = have_flaw flaw.Nameless scope operation.operands in
-    let a = bound (admitted layout line label found (has_no_name next || flawed)) (λ first. next >>= λ end. laid_to end scope label found operation) laid is in
+    let parts = judged_parts layout line label operation found scope next in
+    let a = bound (admitted layout line label found (has_no_name next || flawed)) (λ first. next >>= λ end. laid_to end scope label found operation) laid
+    (sym parts ∙ is) in
     let b = bound next (λ end. laid_to end scope label found operation) laid a.1.1 in
     let named : flawed ≡ false = admitted_named layout line label found (has_no_name next) flawed a.0 a.1.0 in
     let placed = λ (written : List ℕ).

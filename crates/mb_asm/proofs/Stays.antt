@@ -3,7 +3,8 @@ use Rattle.std.proofs.Common.{◌≡◌, ℕ, ◌≤◌, Bool, true, false, List
 use Rattle.std.proofs.Common.{inl, inr, le_refl, length-append, true≢false, zero-le}
 use Rattle.std.proofs.Math.Path.{fun_ext}
 use Rattle.std.proofs.lemmas.Bool.Decides.{nat_tests}
-use Rattle.std.specs.Prelude.{ℤ, pos, ◌+◌, ◌*◌, ◌%◌, ◌^◌, nat_lt, ◌+ℤ◌, ◌||◌, ◌&&◌, not, min, Result, Ok, Err, is_err, option_map, option_and_then, if◌then◌else◌, map}
+use Rattle.std.specs.Prelude.{ℤ, pos, ◌+◌, ◌*◌, ◌%◌, ◌^◌, nat_lt, ◌+ℤ◌, ◌||◌, ◌&&◌, not, min, Result, Ok, Err, is_err, option_map, option_and_then}
+use Rattle.std.specs.Prelude.{if◌then◌else◌, map}
 use Rattle.std.specs.Option.{ok_or, unwrap_or}
 use Rattle.std.specs.List.{list_any}
 use Rattle.byteorder.specs.Endian.{big_bytes}
@@ -33,22 +34,28 @@ use Rattle.mb_asm.specs.declared.directive.Directive.TheVariants as directive
 use Rattle.mb_asm.specs.declared.fault.AsmKind.{AsmKind}
 use Rattle.mb_asm.specs.declared.fault.AsmKind.TheVariants as kind
 use Rattle.mb_asm.specs.declared.value.Flaw.TheVariants as flaw
-use Rattle.mb_asm.specs.Bytes.{bytes, bytes_of, has_out, is_out, bytes_there, dc_bytes, directive_bytes, instruction_bytes, item_bytes, items_bytes, plain_bytes, settled_at, settled_bytes}
+use Rattle.mb_asm.specs.Bytes.{bytes, bytes_of, has_out, is_out, bytes_there, dc_bytes, directive_bytes, instruction_bytes, item_bytes, items_bytes}
+use Rattle.mb_asm.specs.Bytes.{plain_bytes, settled_at, settled_bytes}
 use Rattle.mb_asm.specs.Bytes.{text_bytes, unit_bytes, unit_range}
+use Rattle.mb_asm.specs.Code.{admitted, laid_to}
 use Rattle.mb_asm.specs.Directives.{only_of, plain_of, unit_of}
 use Rattle.mb_asm.specs.Extents.{address_of, behind, behind_dc, behind_ds, behind_even, behind_instruction, behind_item, behind_items}
-use Rattle.mb_asm.specs.Extents.{behind_org, count_of, directive_in, equ_value, even_from, is_empty, item_len, long_of, narrow_value, no_size, only_value, onward, past}
+use Rattle.mb_asm.specs.Extents.{behind_org, count_of, directive_in, equ_value, even_from, is_empty, item_len, long_of, narrow_value, no_size, only_value}
+use Rattle.mb_asm.specs.Extents.{onward, past}
 use Rattle.mb_asm.specs.Extents.{ranged}
-use Rattle.mb_asm.specs.Judged.{Laid, admitted, ends_past, equ_checked, has_no_name, is_address, is_again, is_misplaced, is_odd, is_past, judged, judged_by, judged_label}
-use Rattle.mb_asm.specs.Judged.{judged_operation, judged_statement, laid_to, place, reaches_past, reads_earlier, wants_label}
+use Rattle.mb_asm.specs.Judged.{Laid, ends_past, equ_checked, has_no_name, is_address, is_again, is_misplaced, is_odd, is_past, judged, judged_by}
+use Rattle.mb_asm.specs.Judged.{judged_label}
+use Rattle.mb_asm.specs.Judged.{judged_operation, judged_statement, place, reaches_past, reads_earlier, wants_label}
 use Rattle.mb_asm.specs.Kinds.{meant}
 use Rattle.mb_asm.specs.Laws.{FaultyStaysFaulty, FoundStays, LayoutStays, Stays, SymbolsStay}
 use Rattle.mb_asm.specs.Layouts.{Layout, earlier}
 use Rattle.mb_asm.specs.Results.{◌>>=◌, refuse}
 use Rattle.mb_asm.specs.Symbols.{Symbol, value_in}
-use Rattle.mb_asm.specs.Values.{Scope, counted, near, target, has_flaw, have_flaw, in_displacement, in_mode, in_number, in_operand, in_option, is_long, is_nameless}
+use Rattle.mb_asm.specs.Values.{Scope, counted, near, target, has_flaw, have_flaw, in_displacement, in_mode, in_number, in_operand, in_option, is_long}
+use Rattle.mb_asm.specs.Values.{is_nameless}
 use Rattle.mb_asm.specs.Values.{is_wide, signed_value, sum_behind, term_value, value_of, values_of, with_sign}
 use Rattle.mb_asm.proofs.Filled.{Fills, IsNumber, IsTarget, all_filled, all_unmarked, fill, near_at, out_stays, unmarked}
+use Rattle.mb_asm.proofs.Parts.{judged_parts}
 use Rattle.mb_asm.proofs.Known.{behind_by, bound, neither}
 
 -- ---- expressions
@@ -254,7 +261,8 @@ behind_stays : (line : List ℕ) (ss ts : List Symbol) (a b : Option ℕ) (opera
     → GivenStays (behind (scope_at ss line a) operation) (behind (scope_at ts line b) operation)
 unfolding behind
 behind_stays line ss ts a b operation s p =
-    elim (directive_in line operation) as (λ found. GivenStays (behind_by (scope_at ss line a) operation found) (behind_by (scope_at ts line b) operation found)) [
+    elim (directive_in line operation) as (λ found. GivenStays (behind_by (scope_at ss line a) operation found)
+    (behind_by (scope_at ts line b) operation found)) [
       | None ↦ instruction_stays line ss ts a b operation p
       | Some directive.Org ↦ org_stays line ss ts a b operation s p
       | Some directive.Equ ↦ ok_stays a b p
@@ -501,14 +509,20 @@ some_stays None y p h = absurd cc
 some_stays (Some v) y p h = rw p refl
 
 follows : (line : List ℕ) (ss ts : List Symbol) (a b : Option ℕ) → SymbolsStay ss ts → Stays a b
-    → Follows (has_flaw flaw.Unknown (scope_at ss line a)) (has_flaw flaw.Unknown (scope_at ts line b)) (counted (scope_at ss line a)) (counted (scope_at ts line b))
+    → Follows (has_flaw flaw.Unknown (scope_at ss line a)) (has_flaw flaw.Unknown (scope_at ts line b)) (counted (scope_at ss line a))
+    (counted (scope_at ts line b))
 follows line ss ts a b s p = record {
   test = λ e k. some_stays (value_of (scope_at ss line a) e) (value_of (scope_at ts line b) e) (value_stays line ss ts a b e s p) k;
   value = λ e k. counted_stays (value_of (scope_at ss line a) e) (value_of (scope_at ts line b) e) (value_stays line ss ts a b e s p) k;
 }
 
 nothing_first : (r : Result (List ℕ) AsmKind) → BytesStay (Ok []) r
-nothing_first r = record { faulty = λ h. absurd (true≢false (sym h)); longer = λ x y is there. let same : [] ≡ x = cc in subst (λ (z : List ℕ). length z ≤ length y) same zero-le }
+nothing_first r = record {
+  faulty = λ h. absurd (true≢false (sym h));
+  longer = λ x y is there.
+      let same : [] ≡ x = cc in
+      subst (λ (z : List ℕ). length z ≤ length y) same zero-le;
+}
 
 there_same : (line : List ℕ) (ss ts : List Symbol) (a b : Option ℕ) (operation : Operation) (x : ℕ)
     → values_of (scope_at ss line a) operation.operands ≡ values_of (scope_at ts line b) operation.operands
@@ -623,8 +637,10 @@ settled_within false None = tt
 settled_within false (Some y) = refl
 
 settled_stays : (line : List ℕ) (ss ts : List Symbol) (a b : Option ℕ) (operation : Operation) (unknown later : Bool) → SymbolsStay ss ts
-    → Stays a b → (unknown ≡ false → later ≡ false) → (unknown ≡ false → values_of (scope_at ss line a) operation.operands ≡ values_of (scope_at ts line b) operation.operands)
-    → BytesStay (settled_bytes (scope_at ss line a) operation (if unknown then None else a)) (settled_bytes (scope_at ts line b) operation (if later then None else b))
+    → Stays a b → (unknown ≡ false → later ≡ false) → (unknown ≡ false
+    → values_of (scope_at ss line a) operation.operands ≡ values_of (scope_at ts line b) operation.operands)
+    → BytesStay (settled_bytes (scope_at ss line a) operation (if unknown then None else a)) (settled_bytes (scope_at ts line b) operation
+    (if later then None else b))
 settled_stays line ss ts a b operation true later s p more same =
     unsettled_stays line ss ts a b (if later then None else b) operation s p (settled_within later b)
 settled_stays line ss ts None b operation false later s p more same =
@@ -790,8 +806,8 @@ laid_stays line ss ts a b end later label found operation s p q =
 
 judged_by_stays : (before after : Layout) (line : List ℕ) (ss ts : List Symbol) (label : Option Name) (found : Option Directive) (operation : Operation)
     (next later : Result (Option ℕ) AsmKind) → SymbolsStay ss ts → LayoutStays before after → GivenStays next later
-    → ErrStays (judged_by before line label operation found (scope_at ss line before.at) next) (judged_by after line label operation found (scope_at ts line after.at) later)
-unfolding judged_by
+    → ErrStays (judged_by before line label operation found (scope_at ss line before.at) next) (judged_by after line label operation found
+    (scope_at ts line after.at) later)
 judged_by_stays before after line ss ts label found operation next later s p q =
     let sc = scope_at ss line before.at in
     let sd = scope_at ts line after.at in
@@ -802,10 +818,11 @@ judged_by_stays before after line ss ts label found operation next later s p q =
     let same = nameless_same line ss ts before.at after.at operation.operands s in
     let m : b ≡ true → c ≡ true = or_stays (has_no_name next) (have_flaw flaw.Nameless sc operation.operands) (has_no_name later)
     (have_flaw flaw.Nameless sd operation.operands) (nameless_next next later q) (λ h. sym same ∙ h) in
-    bound_stays (admitted before line label found b) (admitted after line label found c) (λ first. next >>= f) (λ first. later >>= g)
+    rw (judged_parts before line label operation found sc next, judged_parts after line label operation found sd later) (bound_stays
+    (admitted before line label found b) (admitted after line label found c) (λ first. next >>= f) (λ first. later >>= g)
     (admitted_stays before after line label found b c p m)
     (λ one two i j. bound_stays next later f g (err_by next later q)
-    (λ x y is there. laid_stays line ss ts before.at after.at x y label found operation s p.at (given_by next later x y q is there)))
+    (λ x y is there. laid_stays line ss ts before.at after.at x y label found operation s p.at (given_by next later x y q is there))))
 
 -- what an operation reads its symbols in
 abbrev pub symbols_by : Bool → List Symbol → Layout → List Symbol

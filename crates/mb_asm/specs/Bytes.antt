@@ -115,7 +115,3 @@ bytes scope operation = elim (directive_in scope.line operation) [
   | Some directive ↦ directive_bytes scope operation directive
   | None ↦ instruction_bytes scope operation
 ]
-
--- bytes before others
-abbrev pub with_front : List ℕ → Result (List ℕ) AsmKind → Result (List ℕ) AsmKind
-with_front front later = later >>= λ more. Ok (front ++ more)

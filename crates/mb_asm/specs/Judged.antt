@@ -84,29 +84,20 @@ abbrev pub equ_checked : Scope → Operation → Option Directive → Result (Un
 equ_checked scope operation (Some directive.Equ) = equ_value scope operation >>= λ value. Ok tt
 equ_checked scope operation _ = Ok tt
 
--- what is looked for before the operands
-unfoldable pub admitted : Layout → List ℕ → Option Name → Option Directive → Bool → Result (Unit {0}) AsmKind
-admitted layout line label found unknown = do
+-- An operation that is a directive or none, by what it reads its symbols in and the address behind it. In this order the
+-- kinds of faults are looked for; what has no such operands comes before what is out of its range.
+unfoldable pub judged_by : Layout → List ℕ → Option Name → Operation → Option Directive → Scope
+    → Result (Option ℕ) AsmKind → Result Laid AsmKind
+judged_by layout line label operation found scope next = do
   labelled ← refuse (wants_label label found) kind.Syntax
-  named ← refuse unknown kind.Name
-  refuse (is_again layout line label) kind.Twice
-
--- what is written by an operation that ends at the address
-unfoldable pub laid_to : Option ℕ → Scope → Option Name → Option Directive → Operation → Result Laid AsmKind
-laid_to end scope label found operation = do
+  named ← refuse (has_no_name next || have_flaw flaw.Nameless scope operation.operands) kind.Name
+  first ← refuse (is_again layout line label) kind.Twice
+  end ← next
   value ← equ_checked scope operation found
   written ← bytes scope operation
   placed ← refuse (is_misplaced (place scope.at) label found (place end) || reaches_past (place scope.at) written)
       kind.Place
   Ok (record { bytes = written; next = place end })
-
--- an operation that is a directive or none, by what it reads its symbols in and the address behind it
-unfoldable pub judged_by : Layout → List ℕ → Option Name → Operation → Option Directive → Scope
-    → Result (Option ℕ) AsmKind → Result Laid AsmKind
-judged_by layout line label operation found scope next = do
-  first ← admitted layout line label found (has_no_name next || have_flaw flaw.Nameless scope operation.operands)
-  end ← next
-  laid_to end scope label found operation
 
 -- an operation in the line, with the symbols of all lines
 unfoldable pub judged_operation : List Symbol → Layout → List ℕ → Option Name → Operation → Result Laid AsmKind

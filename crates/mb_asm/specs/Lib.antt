@@ -11,6 +11,7 @@ pub mod Bytes
 pub mod Layouts
 pub mod Laying
 pub mod Judged
+pub mod Code
 pub mod Laids
 pub mod Texts
 pub mod Gathered

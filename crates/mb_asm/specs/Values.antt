@@ -1,5 +1,6 @@
 -- The values of expressions.
-use Rattle.std.specs.Prelude.{ℕ, ◌+◌, ◌%◌, ◌^◌, ℤ, pos, ◌+ℤ◌, neg_ℤ, Bool, true, false, not, ◌||◌, nat_lt, if◌then◌else◌, List}
+use Rattle.std.specs.Prelude.{ℕ, ◌+◌, ◌%◌, ◌^◌, ℤ, pos, ◌+ℤ◌, neg_ℤ, Bool, true, false, not, ◌||◌, nat_lt}
+use Rattle.std.specs.Prelude.{if◌then◌else◌, List}
 use Rattle.std.specs.Prelude.{[], ◌∷◌, length, map, Option, Some, None, option_map, option_and_then}
 use Rattle.std.specs.Option.{is_some, unwrap_or}
 use Rattle.std.specs.List.{list_any}

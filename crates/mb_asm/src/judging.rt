@@ -9,9 +9,10 @@ ghost use Rattle.mb_asm.specs.Laying.{layout_said};
 ghost use Rattle.mb_asm.specs.Layouts.{after_statement, if_known, next_at};
 ghost use Rattle.mb_asm.specs.Laids.{laid_said};
 ghost use Rattle.mb_asm.specs.Results.{refuse};
+ghost use Rattle.mb_asm.specs.Code.{admitted, laid_to};
 ghost use Rattle.mb_asm.specs.Judged.{ends_past, equ_checked, has_no_name, is_address, is_again, is_misplaced};
 ghost use Rattle.mb_asm.specs.Judged.{is_odd, judged, judged_by, judged_label, judged_operation, reaches_past};
-ghost use Rattle.mb_asm.specs.Judged.{reads_earlier, scope_of, wants_label, admitted, laid_to, place};
+ghost use Rattle.mb_asm.specs.Judged.{reads_earlier, scope_of, wants_label, place};
 ghost use Rattle.mb_asm.specs.declared.value.Flaw.TheVariants as flaw;
 ghost use Rattle.mb_asm.specs.Values.{have_flaw};
 
@@ -151,7 +152,7 @@ fn equ_checked(
 }
 
 /// What is looked for before the operands.
-#[tactic(auto, unfolding(crate::specs::Judged::admitted))]
+#[tactic(auto, unfolding(crate::specs::Code::admitted))]
 fn admitted(
     layout: &Layout,
     line: &[u8],
@@ -168,7 +169,7 @@ fn admitted(
 }
 
 /// What is written by an operation that ends at the address.
-#[tactic(auto, unfolding(crate::specs::Judged::laid_to))]
+#[tactic(auto, unfolding(crate::specs::Code::laid_to))]
 fn laid_to(
     alloc: Global,
     end: Option<u64>,
@@ -228,7 +229,7 @@ fn judged_operation(
 }
 
 /// An operation that is a directive or none, by what it reads its symbols in and the address behind it.
-#[tactic(auto, unfolding(crate::specs::Judged::judged_by))]
+#[tactic(auto, using(crate::proofs::Parts::judged_parts))]
 fn judged_by(
     alloc: Global,
     layout: &Layout,

@@ -9,7 +9,8 @@ ghost use Rattle.mb_asm.specs.Scopes.{scope_said};
 ghost use Rattle.mb_syntax.specs.Answers.{operation_said};
 ghost use Rattle.mb_asm.specs.Answers.{GivesAlone};
 ghost use Rattle.mb_asm.specs.Bytes.{bytes, bytes_of, dc_bytes, directive_bytes, has_out, instruction_bytes, is_out};
-ghost use Rattle.mb_asm.specs.Bytes.{bytes_there, item_bytes, items_bytes, settled_at, settled_bytes, text_bytes, unit_bytes};
+ghost use Rattle.mb_asm.specs.Bytes.{bytes_there, item_bytes, items_bytes, settled_at, settled_bytes, text_bytes};
+ghost use Rattle.mb_asm.specs.Bytes.{unit_bytes};
 ghost use Rattle.mb_asm.specs.Bytes.{unit_range};
 
 use crate::directive::{Directive, directive_of, plain_of, unit_of};

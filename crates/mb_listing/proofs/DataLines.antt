@@ -11,7 +11,7 @@ use Rattle.mb_asm.specs.Values.{Scope}
 use Rattle.mb_asm.specs.Extents.{behind, behind_dc, directive_in}
 use Rattle.mb_asm.specs.Bytes.{bytes, dc_bytes, item_bytes, unit_bytes}
 use Rattle.mb_asm.specs.Layouts.{earlier}
-use Rattle.mb_asm.specs.Judged.{admitted, judged, judged_by, judged_operation, laid_to}
+use Rattle.mb_asm.specs.Judged.{judged, judged_by, judged_operation}
 use Rattle.mb_asm.specs.Texts.{assembled}
 use Rattle.mb_statement.specs.Numbers.{last_digits}
 use Rattle.mb_listing.specs.Listing.{data_line, source_at}
@@ -46,7 +46,7 @@ dc_judged_by : (symbols : List Symbol) (at : ℕ) (digits : List ℕ) (value : �
     → judged_by (placed at) (dc_line digits) None (operation_by (name_at 1 3) (Some letter.Word) value)
     (directive_in (dc_line digits) (operation_by (name_at 1 3) (Some letter.Word) value))
     (record { symbols = symbols; line = dc_line digits; at = Some at }) (Ok (Some (at + 2))) ≡ Ok (laid_by (value / 256 ∷ value % 256 ∷ []) (at + 2))
-unfolding judged_by admitted laid_to bytes dc_bytes item_bytes
+unfolding judged_by bytes dc_bytes item_bytes
 dc_judged_by symbols at digits value small inside =
     let none : nat_lt 4294967296 (at + 2) ≡ false = le-ltb 4294967296 (at + 2) inside in
     rw (word_bytes (record { symbols = symbols; line = dc_line digits; at = Some at }) value small, none) refl

@@ -16,7 +16,7 @@ use Rattle.mb_asm.specs.Values.{Scope, value_of}
 use Rattle.mb_asm.specs.Extents.{behind, behind_org, directive_in, narrow_value, only_value}
 use Rattle.mb_asm.specs.Bytes.{bytes}
 use Rattle.mb_asm.specs.Layouts.{Layout, beginning, after_line, earlier, next_at}
-use Rattle.mb_asm.specs.Judged.{Laid, admitted, judged, judged_by, judged_operation, laid_to}
+use Rattle.mb_asm.specs.Judged.{Laid, judged, judged_by, judged_operation}
 use Rattle.mb_asm.specs.Texts.{Chunks, assembled, chunks_from, finished, no_chunks, symbols_of, with_laid}
 use Rattle.mb_report.specs.Digits.{hex8}
 use Rattle.mb_listing.specs.Listing.{source_at}
@@ -61,7 +61,7 @@ org_behind_line layout digits value small = org_behind (earlier layout (org_line
 org_judged_by : (digits : List ℕ) (value : ℕ) → value ≤ 4294967295
     → judged_by beginning (org_line digits) None (operation_by (name_at 1 4) None value)
     (directive_in (org_line digits) (operation_by (name_at 1 4) None value)) (earlier beginning (org_line digits)) (Ok (Some value)) ≡ Ok (laid_by [] value)
-unfolding judged_by admitted laid_to bytes
+unfolding judged_by bytes
 org_judged_by digits value small = rw (le-ltb 4294967295 value small) refl
 
 org_judged : (symbols : List Symbol) (digits : List ℕ) (value : ℕ) → Spells digits value → value ≤ 4294967295
