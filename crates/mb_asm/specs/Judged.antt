@@ -84,8 +84,8 @@ abbrev pub equ_checked : Scope → Operation → Option Directive → Result (Un
 equ_checked scope operation (Some directive.Equ) = equ_value scope operation >>= λ value. Ok tt
 equ_checked scope operation _ = Ok tt
 
--- An operation that is a directive or none, by what it reads its symbols in and the address behind it. In this order the
--- kinds of faults are looked for; what has no such operands comes before what is out of its range.
+-- An operation that is a directive or none, by what it reads its symbols in and the address behind it. In this order
+-- the kinds of faults are looked for; what has no such operands comes before what is out of its range.
 unfoldable pub judged_by : Layout → List ℕ → Option Name → Operation → Option Directive → Scope
     → Result (Option ℕ) AsmKind → Result Laid AsmKind
 judged_by layout line label operation found scope next = do

@@ -1,4 +1,5 @@
 -- An instruction is what it is in its family.
+use Rattle.mb_mnemonics.specs.Code.{arith_in, flow_in, move_in, system_in}
 use Rattle.std.proofs.Common.{◌≡◌, refl}
 use Rattle.std.specs.Prelude.{Option, Some, None}
 use Rattle.mb_instr.specs.declared.instruction.Move.{Move}
@@ -7,7 +8,6 @@ use Rattle.mb_instr.specs.declared.instruction.Flow.{Flow}
 use Rattle.mb_instr.specs.declared.instruction.System.{System}
 use Rattle.mb_instr.specs.declared.instruction.Instr.{Instr}
 use Rattle.mb_instr.specs.declared.instruction.Instr.TheVariants as instr
-use Rattle.mb_mnemonics.specs.Meant.{move_in, arith_in, system_in, flow_in}
 
 -- the first family that has it
 abbrev pub by_families : Option Move → Option Arith → Option System → Flow → Instr

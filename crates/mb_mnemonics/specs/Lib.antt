@@ -8,3 +8,4 @@ pub mod Words
 pub mod Meant
 pub mod Means
 pub mod Values
+pub mod Code

@@ -1,5 +1,5 @@
 -- Lines of the table, and the names that they have.
-use Rattle.std.specs.Prelude.{ℕ, Bool, ◌&&◌, nat_le, nat_lt, List, [], ◌∷◌, Option, Some, None, if◌then◌else◌}
+use Rattle.std.specs.Prelude.{ℕ, Bool, nat_lt, List, [], ◌∷◌, Option, Some, None, if◌then◌else◌}
 use Rattle.std.specs.Prelude.{codes, take, drop, length}
 use Rattle.std.specs.Str.{str_eq_ignore_ascii_case}
 use Rattle.mb_instr.specs.declared.kinds.Condition.{Condition}
@@ -31,10 +31,6 @@ entry_of l = record {
   words = l.words;
   row = l.row;
 }
-
--- no line has more than three operands, or more than two words before theirs
-abbrev pub is_short : Line → Bool
-is_short l = nat_le (length l.operands.now) 3 && nat_le l.words 2
 
 abbrev pub line : List ℕ → Ending → Sizes → List Pattern → ℕ → Row → Entry
 line n e s os w r = record { stem = n; ending = e; sizes = s; operands = os; words = w; row = r }

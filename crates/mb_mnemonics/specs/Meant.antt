@@ -1,14 +1,10 @@
 -- The table of instructions, by the parts of a statement.
-use Rattle.std.specs.Prelude.{true, false, Option, Some, None}
+use Rattle.std.specs.Prelude.{true, false}
 use Rattle.mb_instr.specs.declared.kinds.Branch.TheVariants as branch
 use Rattle.mb_instr.specs.declared.kinds.TrapOperand.TheVariants as trap
-use Rattle.mb_instr.specs.declared.instruction.Move.{Move}
 use Rattle.mb_instr.specs.declared.instruction.Move.TheVariants as move
-use Rattle.mb_instr.specs.declared.instruction.Arith.{Arith}
 use Rattle.mb_instr.specs.declared.instruction.Arith.TheVariants as arith
-use Rattle.mb_instr.specs.declared.instruction.Flow.{Flow}
 use Rattle.mb_instr.specs.declared.instruction.Flow.TheVariants as flow
-use Rattle.mb_instr.specs.declared.instruction.System.{System}
 use Rattle.mb_instr.specs.declared.instruction.System.TheVariants as system
 use Rattle.mb_instr.specs.declared.instruction.Instr.{Instr}
 use Rattle.mb_instr.specs.declared.instruction.Instr.TheVariants as instr
@@ -121,22 +117,3 @@ meant row.Reset p = instr.System system.Reset
 meant row.Rte p = instr.System system.Rte
 meant row.Stop p = instr.System (system.Stop p.word)
 meant row.ToSr p = instr.System (system.ToSr p.ea)
-
--- The parts of the table, by families.
-
-abbrev pub move_in : Instr → Option Move
-move_in (instr.Move i) = Some i
-move_in _ = None
-
-abbrev pub arith_in : Instr → Option Arith
-arith_in (instr.Arith i) = Some i
-arith_in _ = None
-
-abbrev pub system_in : Instr → Option System
-system_in (instr.System i) = Some i
-system_in _ = None
-
--- NOP where it is of another family
-abbrev pub flow_in : Instr → Flow
-flow_in (instr.Flow i) = i
-flow_in _ = flow.Nop

@@ -3,7 +3,8 @@
 ghost use Rattle.std.specs.Prelude.{◌≡◌, ◌*◌, ◌^◌, ◌<◌, ◌≤◌, IfOk, IfSome, IsTrue, length, map, option_map};
 ghost use Rattle.std.specs.List.{list_all};
 ghost use Rattle.mb_instr.specs.Codes.{IsInstr};
-ghost use Rattle.mb_mnemonics.specs.Lines.{entry_of, is_short};
+ghost use Rattle.mb_mnemonics.specs.Code.{is_short};
+ghost use Rattle.mb_mnemonics.specs.Lines.{entry_of};
 ghost use Rattle.mb_mnemonics.specs.Means.{form_said, said_form, form_by, form_among, is_named, form_of};
 ghost use Rattle.mb_mnemonics.specs.Means.{said, is_instr, meaning, length_by};
 ghost use Rattle.mb_mnemonics.specs.Operands.{operands_words};

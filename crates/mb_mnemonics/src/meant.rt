@@ -1,7 +1,8 @@
 //! The table of instructions, by the parts of a statement.
 
 ghost use Rattle.std.specs.Prelude.{◌≡◌};
-ghost use Rattle.mb_mnemonics.specs.Meant.{meant, move_in, arith_in, system_in, flow_in};
+ghost use Rattle.mb_mnemonics.specs.Code.{arith_in, flow_in, move_in, system_in};
+ghost use Rattle.mb_mnemonics.specs.Meant.{meant};
 ghost use Rattle.mb_mnemonics.specs.Words.{bounds, swap, swap_pair, long_pair, control, field_word, list_for};
 
 use crate::parts::{Named, Parts};

@@ -2,7 +2,8 @@
 
 ghost use Rattle.std.specs.Prelude.{◌≡◌, IsTrue, map};
 ghost use Rattle.std.specs.List.{list_all};
-ghost use Rattle.mb_mnemonics.specs.Lines.{entry_of, is_short};
+ghost use Rattle.mb_mnemonics.specs.Code.{is_short};
+ghost use Rattle.mb_mnemonics.specs.Lines.{entry_of};
 ghost use Rattle.mb_mnemonics.specs.Table.{lines};
 
 use crate::line::Ending::{Branch, Condition, Plain};

@@ -1,13 +1,14 @@
 -- Register lists, range by range.
 use Rattle.std.proofs.Common.{◌≡◌, ℕ, zero, suc, ◌-◌, ◌<◌, ◌≤◌, Bool, true, false, List, [], ◌∷◌, ◌++◌, refl, sym, ◌∙◌, ap, append_assoc, arith}
 use Rattle.std.specs.Prelude.{Option, Some, None, option_map, bit_or}
+use Rattle.mb_syntax.specs.Code.{range_at, slash_at, with_front}
 use Rattle.mb_syntax.specs.declared.word.Word.{Word}
 use Rattle.mb_syntax.specs.declared.word.Word.TheVariants as word
 use Rattle.mb_syntax.specs.declared.operand.Operand.{Operand}
 use Rattle.mb_syntax.specs.Options.{◌>>=◌}
 use Rattle.mb_syntax.specs.Sums.{comma_at}
 use Rattle.mb_syntax.specs.Modes.{Sum, with_rest}
-use Rattle.mb_syntax.specs.Operands.{is_end, list_behind, operand_among, operands_of, range, range_at, slash_at, with_front, with_operand}
+use Rattle.mb_syntax.specs.Operands.{is_end, list_behind, operand_among, operands_of, range, with_operand}
 
 -- what is read behind a range
 abbrev pub behind_range : ℕ → ℕ × List Word → Option (ℕ × List Word)

@@ -5,8 +5,9 @@ use Rattle.std.specs.Prelude.{nat_le}
 use Rattle.std.proofs.lemmas.Bool.{le-leb, lt-leb, leb-false}
 use Rattle.std.proofs.lemmas.List.{drop_all}
 use Rattle.std.proofs.Math.Nat.{mul-le-mul_left}
+use Rattle.mb_syntax.specs.Code.{narrow_number}
 use Rattle.mb_syntax.specs.declared.word.Word.TheVariants as word
-use Rattle.mb_syntax.specs.Words.{digit_value, digits_behind, narrow_number, number_word}
+use Rattle.mb_syntax.specs.Words.{digit_value, digits_behind, number_word}
 
 not_less : (base n more : ℕ) → 1 ≤ base → n ≤ base * n + more
 not_less base n more some = let h : n * 1 ≤ n * base = mul-le-mul_left n some in omega (arith, h)

@@ -1,11 +1,12 @@
 -- The terms of an expression, one by one.
 use Rattle.std.proofs.Common.{◌≡◌, List, [], ◌∷◌, ◌++◌, refl, sym, ◌∙◌, ap, append_assoc, append-nil}
 use Rattle.std.specs.Prelude.{Bool, true, false, Option, Some, None, option_map}
+use Rattle.mb_syntax.specs.Code.{next_term}
 use Rattle.mb_syntax.specs.declared.word.Word.{Word}
 use Rattle.mb_syntax.specs.declared.word.Word.TheVariants as word
 use Rattle.mb_syntax.specs.declared.expression.Term.{Term}
 use Rattle.mb_syntax.specs.declared.expression.SignedTerm.{SignedTerm}
-use Rattle.mb_syntax.specs.Sums.{before, next_term, signed, term_of, terms_at, with_front}
+use Rattle.mb_syntax.specs.Sums.{before, signed, term_of, terms_at, with_front}
 
 -- what is read where the next term is so
 abbrev pub goes_on : List Word → Option (Option (SignedTerm × List Word)) → Option (List SignedTerm × List Word)

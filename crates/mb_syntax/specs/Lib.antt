@@ -6,6 +6,7 @@ pub mod Words
 pub mod Sums
 pub mod Modes
 pub mod Operands
+pub mod Code
 pub mod Statements
 pub mod Answers
 pub mod Lines

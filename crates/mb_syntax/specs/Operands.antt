@@ -1,6 +1,6 @@
 -- Operands.
 use Rattle.std.specs.Prelude.{ℕ, zero, suc, ◌+◌, ◌-◌, ◌^◌, Bool, true, false, nat_le, nat_lt, ◌&&◌, ◌||◌}
-use Rattle.std.specs.Prelude.{if◌then◌else◌, List, [], ◌∷◌, ◌++◌, Option, Some, None, option_map, bit_or}
+use Rattle.std.specs.Prelude.{if◌then◌else◌, List, [], ◌∷◌, Option, Some, None, option_map, bit_or}
 use Rattle.std.specs.Option.{option_or}
 use Rattle.mb_syntax.specs.declared.word.Word.{Word}
 use Rattle.mb_syntax.specs.declared.word.Word.TheVariants as word
@@ -49,17 +49,6 @@ list_behind mask (word.Register only _ ∷ word.Slash ∷ words) = range only on
     λ more. list_behind (bit_or mask more) words
 list_behind mask (word.Register only _ ∷ words) = range only only >>= λ more. Some (bit_or mask more, words)
 list_behind _ _ = None
-
-abbrev pub slash_at : List Word → Option (List Word)
-slash_at (word.Slash ∷ words) = Some words
-slash_at _ = None
-
--- a range or a register, and what stands behind it
-abbrev pub range_at : List Word → Option (ℕ × List Word)
-range_at (word.Register first _ ∷ word.Minus ∷ word.Register last _ ∷ words) =
-    option_map (with_rest words) (range first last)
-range_at (word.Register only _ ∷ words) = option_map (with_rest words) (range only only)
-range_at _ = None
 
 unfoldable pub list_at : List Word → Option (ℕ × List Word)
 list_at words = list_behind 0 words
@@ -188,7 +177,3 @@ operands_of zero caches words = None
 operands_of (suc most) caches words = operand_among caches words >>= λ found.
     if is_end found.1 then Some (found.0 ∷ [])
     else comma_at found.1 >>= λ rest. with_operand found.0 (operands_of most caches rest)
-
--- operands before others
-abbrev pub with_front : List (Operand Sum) → Option (List (Operand Sum)) → Option (List (Operand Sum))
-with_front front later = option_map (λ others. front ++ others) later

@@ -56,16 +56,6 @@ abbrev pub before : Bool → Option Term → Option (List SignedTerm × List Wor
 before negative (Some term) later = with_front (signed negative term ∷ []) later
 before negative None later = None
 
-abbrev pub signed_at : Bool → List Word → Option (SignedTerm × List Word)
-signed_at negative [] = None
-signed_at negative (next ∷ words) = option_map (λ term. (signed negative term, words)) (term_of next)
-
--- the next term, where `+` or `-` stands
-abbrev pub next_term : List Word → Option (Option (SignedTerm × List Word))
-next_term (word.Plus ∷ words) = option_map Some (signed_at false words)
-next_term (word.Minus ∷ words) = option_map Some (signed_at true words)
-next_term _ = Some None
-
 -- the terms behind the first, as long as `+` or `-` stands there, and what stands behind them
 abbrev pub terms_at : List Word → Option (List SignedTerm × List Word)
 terms_at (word.Plus ∷ []) = None

@@ -36,10 +36,7 @@ number_of (byte ∷ bytes) =
     else if is_apostrophe byte then character_of bytes
     else digits_behind 10 0 (byte ∷ bytes)
 
--- 32 bits at most
-abbrev pub narrow_number : ℕ → Option ℕ
-narrow_number n = if nat_le n 4294967295 then Some n else None
-
+-- a number of 32 bits at most, or a wider one
 abbrev pub number_word : ℕ → Word
 number_word n = if nat_le n 4294967295 then word.Number n else word.WideNumber
 

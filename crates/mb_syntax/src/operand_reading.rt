@@ -1,11 +1,12 @@
 //! Reads operands.
 
 ghost use Rattle.std.specs.Prelude.{◌≡◌, ◌+◌, ◌-◌, ◌^◌, ◌<◌, ◌≤◌, IfSome, IsTrue, length, option_map};
+ghost use Rattle.mb_syntax.specs.Code.{range_at, slash_at};
 ghost use Rattle.mb_syntax.specs.Operands.{as_list, as_number, behind_mode, close_brace_at, colon_at, field_at};
 ghost use Rattle.mb_syntax.specs.Operands.{field_number_at, general_of, behind_register, closed_register_at};
-ghost use Rattle.mb_syntax.specs.Operands.{colon_open_at, indirect_pair_at, pair_behind, slash_at, special_of};
+ghost use Rattle.mb_syntax.specs.Operands.{colon_open_at, indirect_pair_at, pair_behind, special_of};
 ghost use Rattle.mb_syntax.specs.Operands.{special_or, is_end, is_range, list_at, mask_of, operand_among, operand_at};
-ghost use Rattle.mb_syntax.specs.Operands.{operands_of, pair, place_at, range, range_at};
+ghost use Rattle.mb_syntax.specs.Operands.{operands_of, pair, place_at, range};
 ghost use Rattle.mb_syntax.specs.Sums.{expression_at};
 ghost use Rattle.mb_syntax.specs.Answers.{Gives, read_said, words_said};
 

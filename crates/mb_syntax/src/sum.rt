@@ -2,8 +2,9 @@
 
 ghost use Rattle.std.specs.Prelude.{◌≡◌, List, option_map};
 ghost use denote.Ref.{Bor};
+ghost use Rattle.mb_syntax.specs.Code.{next_term, signed_at};
 ghost use Rattle.mb_syntax.specs.declared.word.Word.{Word};
-ghost use Rattle.mb_syntax.specs.Sums.{before, comma_at, expression_at, short, next_term, signed_at, skip_blank};
+ghost use Rattle.mb_syntax.specs.Sums.{before, comma_at, expression_at, short, skip_blank};
 ghost use Rattle.mb_syntax.specs.Sums.{symbol_of, term_of, terms_at, with_front};
 ghost use Rattle.mb_syntax.specs.Answers.{Gives, read_said, words_said};
 

@@ -1,8 +1,9 @@
 //! The words of a line.
 
 ghost use Rattle.std.specs.Prelude.{◌≡◌, ◌+◌, ◌*◌, ◌≤◌, IfOk};
+ghost use Rattle.mb_syntax.specs.Code.{narrow_number};
 ghost use Rattle.mb_syntax.specs.Tables.{found_in};
-ghost use Rattle.mb_syntax.specs.Words.{character_of, digit_value, digits_behind, marks, name_word, narrow_number};
+ghost use Rattle.mb_syntax.specs.Words.{character_of, digit_value, digits_behind, marks, name_word};
 ghost use Rattle.mb_syntax.specs.Words.{number_of, number_word, word_of, words_of};
 
 use crate::naming::{caches_of, register_of, size_letter};

@@ -2,7 +2,8 @@
 use Rattle.std.proofs.Common.{◌≡◌, map, drop}
 use Rattle.std.specs.Prelude.{IsTrue}
 use Rattle.std.specs.List.{list_all}
-use Rattle.mb_mnemonics.specs.Lines.{entry_of, is_short}
+use Rattle.mb_mnemonics.specs.Code.{is_short}
+use Rattle.mb_mnemonics.specs.Lines.{entry_of}
 use Rattle.mb_mnemonics.specs.Means.{form_among}
 use Rattle.mb_mnemonics.proofs.front.form_among.Given as goal
 

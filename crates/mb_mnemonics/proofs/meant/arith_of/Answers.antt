@@ -1,8 +1,9 @@
 use Rattle.std.proofs.Common.{◌≡◌, refl}
 use Rattle.std.specs.Prelude.{None}
+use Rattle.mb_mnemonics.specs.Code.{arith_in}
 use Rattle.mb_mnemonics.specs.declared.row.Row.{Row}
 use Rattle.mb_mnemonics.specs.declared.row.Row.TheVariants as row
-use Rattle.mb_mnemonics.specs.Meant.{meant, arith_in}
+use Rattle.mb_mnemonics.specs.Meant.{meant}
 use Rattle.mb_mnemonics.proofs.meant.arith_of.Goals as goal
 
 pub returns-in_default : goal.returns-in_default

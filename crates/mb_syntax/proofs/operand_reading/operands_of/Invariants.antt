@@ -1,6 +1,7 @@
 -- The operands so far, with those that are left, are all operands.
 use Rattle.std.proofs.Common.{◌≡◌, length}
-use Rattle.mb_syntax.specs.Operands.{operands_of, with_front}
+use Rattle.mb_syntax.specs.Code.{with_front}
+use Rattle.mb_syntax.specs.Operands.{operands_of}
 use Rattle.mb_syntax.proofs.operand_reading.operands_of.Given as goal
 
 abbrev pub invariant-loop-most : goal.invariant-loop-most
