@@ -72,7 +72,7 @@ by_stays : {A : Type 0} (x y : Option A) (v : A) → Stays x y → x ≡ Some v 
 by_stays None y v p h = absurd cc
 by_stays (Some u) y v p h = p ∙ h
 
-map_stays : {A B : Type 0} (f : A → B) (x y : Option A) → Stays x y → Stays (option_map f x) (option_map f y)
+pub map_stays : {A B : Type 0} (f : A → B) (x y : Option A) → Stays x y → Stays (option_map f x) (option_map f y)
 map_stays f None y p = tt
 map_stays f (Some v) y p = rw p refl
 
@@ -86,7 +86,7 @@ found_stays None a s = tt
 found_stays (Some None) a s = tt
 found_stays (Some (Some x)) a s = rw s refl
 
-found_same : (b a : Option (Option ℤ)) → FoundStays b a → is_some b ≡ is_some a
+pub found_same : (b a : Option (Option ℤ)) → FoundStays b a → is_some b ≡ is_some a
 found_same None a s = rw s refl
 found_same (Some None) a s = sym s
 found_same (Some (Some x)) a s = rw s refl
@@ -186,7 +186,7 @@ org_stays line ss ts a b operation s p =
     (λ none. ranged_stays address_of (only_value (scope_at ss line a) operation.operands) (only_value (scope_at ts line b) operation.operands)
     (only_stays line ss ts a b operation.operands s p))
 
-equ_stays : (line : List ℕ) (ss ts : List Symbol) (a b : Option ℕ) (operation : Operation) → SymbolsStay ss ts → Stays a b
+pub equ_stays : (line : List ℕ) (ss ts : List Symbol) (a b : Option ℕ) (operation : Operation) → SymbolsStay ss ts → Stays a b
     → GivenStays (equ_value (scope_at ss line a) operation) (equ_value (scope_at ts line b) operation)
 unfolding equ_value
 equ_stays line ss ts a b operation s p =
@@ -257,7 +257,7 @@ instruction_stays line ss ts a b operation p =
     (front_stays (meant (length_by (bytes_at line operation.name) operation.size (values_of (scope_at ts line b) operation.operands)))
     (λ len. Ok (onward a len)) (λ len. Ok (onward b len)) (λ len. ok_stays (onward a len) (onward b len) (onward_stays a b len p)))
 
-behind_stays : (line : List ℕ) (ss ts : List Symbol) (a b : Option ℕ) (operation : Operation) → SymbolsStay ss ts → Stays a b
+pub behind_stays : (line : List ℕ) (ss ts : List Symbol) (a b : Option ℕ) (operation : Operation) → SymbolsStay ss ts → Stays a b
     → GivenStays (behind (scope_at ss line a) operation) (behind (scope_at ts line b) operation)
 unfolding behind
 behind_stays line ss ts a b operation s p =
