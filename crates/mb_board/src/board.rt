@@ -21,12 +21,10 @@ use mb_meaning::{Finish, StepEnd};
 use mb_model::{Cpu, Outcome, RunState};
 use mb_outside::Memory;
 use mb_script::Script;
-use mb_step::{Scratch, step_to_finish};
-use mb_table::FirstWords;
+use mb_step::{Decoder, step_to_finish};
 use mb_walk::Ram;
 use std::alloc::Global;
 use std::marker::Model;
-use std::rc::Rc;
 
 /// The registers where none are remembered.
 const NO_REGISTERS: Plain = Plain {
@@ -41,8 +39,8 @@ const NO_REGISTERS: Plain = Plain {
 pub(crate) struct Core {
     pub(crate) cpu: Cpu,
     pub(crate) bus: BoardBus,
-    /// Where steps decode an instruction of several words; no part of the machine.
-    pub(crate) scratch: Scratch,
+    /// What steps decode with; no part of the machine.
+    pub(crate) decoder: Decoder,
     pub(crate) steps: u32,
     pub(crate) state: RunState,
 }
@@ -64,8 +62,6 @@ impl Model for Core {
 #[derive(Drop)]
 pub struct Board {
     pub(crate) core: Core,
-    /// Shared, so that a guest's step can use it while the board's memory is borrowed.
-    pub(crate) table: Rc<FirstWords>,
     /// The registers at the beginning of the last step in user mode for a monitor.
     pub(crate) before: Plain,
 }
@@ -106,20 +102,14 @@ impl Core {
     /// One step at which nothing arrives, and which is not counted.
     #[inline(always)]
     #[tactic(auto, unfolding(vm_meaning::specs::Native::user_step, mb_machine::specs::Machine::stepping, mb_machine::specs::Machine::begun))]
-    pub(crate) fn step_uncounted(&mut self, table: &FirstWords) -> Finish
+    pub(crate) fn step_uncounted(&mut self) -> Finish
         ensures means { (result, self.new) ≡ user_step self.old }
         ensures steps { self.new.steps ≡ self.old.steps }
         ensures ram { length self.new.world.ram ≡ length self.old.world.ram }
     {
         self.bus.tick();
         let level = self.bus.level();
-        let finish = step_to_finish(
-            table,
-            &mut self.scratch,
-            &mut self.cpu,
-            &mut self.bus,
-            level,
-        );
+        let finish = step_to_finish(&mut self.decoder, &mut self.cpu, &mut self.bus, level);
         self.state = state_after(finish, &self.cpu, self.bus.devices());
         finish
     }
@@ -128,7 +118,7 @@ impl Core {
     /// this one.
     #[inline(always)]
     #[tactic(auto, unfolding(vm_meaning::specs::Native::user_step, mb_machine::specs::Machine::stepping, mb_machine::specs::Machine::begun))]
-    fn step_on(&mut self, table: &FirstWords, script: &Script, next: &mut u32) -> Finish
+    fn step_on(&mut self, script: &Script, next: &mut u32) -> Finish
         requires room { self.old.steps + 1 < 2 ^ 32 }
         requires behind { IsNext script.now self.old.steps next.old }
         ensures means { (result, self.new) ≡ stepping rule_a script.now self.old }
@@ -138,11 +128,11 @@ impl Core {
     {
         *next = self.bus.receive(script, self.steps, *next);
         self.steps += 1;
-        self.step_uncounted(table)
+        self.step_uncounted()
     }
 
     /// Takes so many steps, or fewer where the machine halts or is switched off.
-    fn run_bare(&mut self, table: &FirstWords, script: &Script, steps: u32)
+    fn run_bare(&mut self, script: &Script, steps: u32)
         requires { self.old.steps + steps < 2 ^ 32 }
         ensures means { self.new ≡ run_of rule_a script.now steps self.old }
         ensures free { IsFreeRun script.now steps self.old self.new }
@@ -153,7 +143,7 @@ impl Core {
             if !self.takes_steps() {
                 return;
             }
-            self.step_on(table, script, &mut next);
+            self.step_on(script, &mut next);
         }
     }
 
@@ -182,21 +172,17 @@ impl Board {
         ensures ram { IfOk result (λ board. length board.world.ram ≡ size) }
     {
         let bus = BoardBus::new(alloc, size)?;
-        let Ok(table) = FirstWords::new(alloc) else {
-            return Err(Memory);
-        };
-        let Ok(table) = Rc::new(alloc, table) else {
+        let Ok(decoder) = Decoder::new(alloc) else {
             return Err(Memory);
         };
         let mut board = Board {
             core: Core {
                 cpu: Cpu::at_reset(0, 0),
                 bus,
-                scratch: Scratch::new(),
+                decoder,
                 steps: 0,
                 state: RunState::Running,
             },
-            table,
             before: NO_REGISTERS,
         };
         board.reset();
@@ -247,9 +233,7 @@ impl Board {
         ensures ram { length self.new.world.ram ≡ length self.old.world.ram }
     {
         let mut next = place_behind(script, self.core.steps);
-        self.core
-            .step_on(self.table.as_ref(), script, &mut next)
-            .step_end()
+        self.core.step_on(script, &mut next).step_end()
     }
 
     /// Takes so many steps, or fewer where the machine halts or is switched off. It takes no memory. A board whose
@@ -261,7 +245,7 @@ impl Board {
         ensures free { IsFreeRun script.now steps (machine_in self.old) (machine_in self.new) }
         ensures ram { length self.new.world.ram ≡ length self.old.world.ram }
     {
-        self.core.run_bare(self.table.as_ref(), script, steps);
+        self.core.run_bare(script, steps);
     }
 
     /// The processor.
@@ -285,14 +269,6 @@ impl Board {
         ensures { result.now ≡ self.now.before }
     {
         &self.before
-    }
-
-    /// The table of first words, which is shared. The board can be lent while it is held.
-    pub fn table(&self) -> Result<Rc<FirstWords>, Memory> {
-        match self.table.clone() {
-            Ok(table) => Ok(table),
-            Err(_) => Err(Memory),
-        }
     }
 
     /// What the board shows.

@@ -13,7 +13,6 @@ use crate::spelling::spelling;
 use mb_instr::Plain;
 use mb_meaning::Finish;
 use mb_model::RunState;
-use mb_table::FirstWords;
 use vm_meaning::RunEnd;
 
 impl Core {
@@ -54,13 +53,7 @@ impl Core {
     /// One more step of a run in user mode, which is counted, and how the run ends with it. `before` becomes the
     /// registers at its beginning, which spelled `spelled`; that becomes what those at its end spell.
     #[inline(always)]
-    fn run_on(
-        &mut self,
-        table: &FirstWords,
-        native: &mut Native,
-        before: &mut Plain,
-        spelled: &mut u64,
-    ) -> RunEnd
+    fn run_on(&mut self, native: &mut Native, before: &mut Plain, spelled: &mut u64) -> RunEnd
         requires retired { native.old.retired + 1 < 2 ^ 64 }
         requires exceptions { native.old.exceptions + 1 < 2 ^ 64 }
         requires spelled { Spell (plain_of self.old.cpu.regs) spelled.old }
@@ -70,20 +63,14 @@ impl Core {
         ensures ram { length self.new.world.ram ≡ length self.old.world.ram }
     {
         *before = self.cpu.regs.plain();
-        let finish = self.step_uncounted(table);
+        let finish = self.step_uncounted();
         self.count(finish, before, spelled, native);
         self.ended_by(finish)
     }
 
     /// Takes steps in user mode, at which nothing arrives and which are counted in `native` alone, up to the first that
     /// enters an exception, halts or switches off, or so many.
-    fn run(
-        &mut self,
-        table: &FirstWords,
-        limit: u32,
-        native: &mut Native,
-        before: &mut Plain,
-    ) -> RunEnd
+    fn run(&mut self, limit: u32, native: &mut Native, before: &mut Plain) -> RunEnd
         requires retired { native.old.retired < 2 ^ 63 }
         requires exceptions { native.old.exceptions < 2 ^ 63 }
         ensures means { record { end = result; machine = self.new; native = native.new; before = before.new }
@@ -93,7 +80,7 @@ impl Core {
     {
         let mut spelled = spelling(&self.cpu.regs.plain());
         for _ in 0..limit {
-            match self.run_on(table, native, before, &mut spelled) {
+            match self.run_on(native, before, &mut spelled) {
                 RunEnd::Counted => {}
                 end => return end,
             }
@@ -117,7 +104,6 @@ impl Board {
         ensures steps { self.new.steps ≡ self.old.steps }
         ensures ram { length self.new.world.ram ≡ length self.old.world.ram }
     {
-        self.core
-            .run(self.table.as_ref(), limit, native, &mut self.before)
+        self.core.run(limit, native, &mut self.before)
     }
 }

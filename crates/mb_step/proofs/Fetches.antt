@@ -87,6 +87,11 @@ pub seeking_whole : {S : Type 0} (bus : Bus S) (cpu q : Cpu) (more : Routine Fou
     → run bus (sought_of cpu (judged d more)) t ≡ ((Ok (i, n), q), t)
 seeking_whole bus cpu q more t d i n h k = rw (h, k) refl
 
+-- what the words are so far
+pub seeking_judged : {S : Type 0} (bus : Bus S) (cpu : Cpu) (more : Routine Found) (t : S) (now : List ℕ) (d : Decoded) → d ≡ decode_of now
+    → run bus (sought_of cpu (judged (decode_of now) more)) t ≡ run bus (sought_of cpu (judged d more)) t
+seeking_judged bus cpu more t now d h = rw (sym h) refl
+
 -- ---- all words, which are carried out once they are an instruction
 
 -- it is carried out once it is found
@@ -122,12 +127,38 @@ carried_on : {S : Type 0} (bus : Bus S) (cpu : Cpu) (answer : Found) (s : S)
 carried_on bus cpu (Ok found) s = refl
 carried_on bus cpu (Err end) s = refl
 
--- it has more words, and these were sought, with this answer
-pub has_more : {S : Type 0} (bus : Bus S) (cpu q : Cpu) (word : ℕ) (s t : S) (answer : Result (Instr × ℕ) Finish)
-    → run bus (sought_of cpu (behind cpu word)) s ≡ ((answer, q), t) → run bus (found_executed cpu (behind cpu word)) s ≡ carried bus answer q t
-has_more bus cpu q word s t answer h =
-    carried_on bus cpu (run bus (behind cpu word) s).0 (run bus (behind cpu word) s).1
-    ∙ ap (λ (sought : Sought × _). carried bus sought.0.0 sought.0.1 sought.1) h
+-- more words were sought, with this answer
+sought : {S : Type 0} (bus : Bus S) (cpu q : Cpu) (more : Routine Found) (s t : S) (answer : Result (Instr × ℕ) Finish)
+    → run bus (sought_of cpu more) s ≡ ((answer, q), t) → run bus (found_executed cpu more) s ≡ carried bus answer q t
+sought bus cpu q more s t answer h =
+    carried_on bus cpu (run bus more s).0 (run bus more s).1
+    ∙ ap (λ (found : Sought × _). carried bus found.0.0 found.0.1 found.1) h
+
+-- what follows the first two words, by what these are
+abbrev pub by_two : Cpu → ℕ → ℕ → Routine Found
+by_two cpu first second =
+    judged (decode_of (first ∷ second ∷ []))
+    (found_of (most_words - 2) (space_of cpu) (((cpu.regs.pc + 2) % 2 ^ 32 + 2) % 2 ^ 32) (first ∷ second ∷ []))
+
+-- it has more words: the second came, and what the two are, or begin, was sought, with this answer
+pub has_more : {S : Type 0} (bus : Bus S) (cpu q : Cpu) (space : Space) (first second : ℕ) (s t u : S) (answer : Result (Instr × ℕ) Finish)
+    → space ≡ space_of cpu → Answered bus space ((cpu.regs.pc + 2) % 2 ^ 32) s (Ok second) t
+    → run bus (sought_of cpu (by_two cpu first second)) t ≡ ((answer, q), u)
+    → run bus (found_executed cpu (behind cpu first)) s ≡ carried bus answer q u
+has_more bus cpu q space first second s t u answer k h found =
+    ap (doing bus cpu)
+    (fetched bus (most_words - 1) (most_words - 2) (space_of cpu) ((cpu.regs.pc + 2) % 2 ^ 32) (first ∷ []) second s t (first ∷ second ∷ [])
+    (decode_of (first ∷ second ∷ [])) refl (rw (sym k) h) refl refl)
+    ∙ sought bus cpu q (by_two cpu first second) t u answer found
+
+-- it has more words, and the second did not come
+pub no_second_word : {S : Type 0} (bus : Bus S) (cpu : Cpu) (space : Space) (first : ℕ) (fault : Fault) (s t : S)
+    → space ≡ space_of cpu → Answered bus space ((cpu.regs.pc + 2) % 2 ^ 32) s (Err fault) t
+    → run bus (found_executed cpu (behind cpu first)) s ≡ run bus (unread_of (refused_in ((cpu.regs.pc + 2) % 2 ^ 32) fault) cpu) t
+unfolding unfound_of
+no_second_word bus cpu space first fault s t k h =
+    ap (doing bus cpu)
+    (unfetched bus (most_words - 1) (most_words - 2) (space_of cpu) ((cpu.regs.pc + 2) % 2 ^ 32) (first ∷ []) fault s t refl (rw (sym k) h))
 
 -- at an odd PC nothing is fetched
 at_odd : {S : Type 0} (bus : Bus S) (cpu : Cpu) (s : S) (odd : Bool) → (cpu.regs.pc % 2 == 1) ≡ odd → odd ≡ true

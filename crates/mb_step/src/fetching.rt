@@ -5,17 +5,19 @@ ghost use Rattle.mb_port.specs.Routine.{run};
 ghost use Rattle.mb_instr.specs.Codes.{IsInstr};
 ghost use Rattle.mb_model.specs.Status.{space_of};
 ghost use Rattle.mb_ea.specs.Reading.{refused_in};
-ghost use Rattle.mb_meaning.specs.Attempt.{found_of, most_words};
+ghost use Rattle.mb_decode.specs.Decodes.{decode_of};
+ghost use Rattle.mb_meaning.specs.Attempt.{found_of, judged, most_words};
 ghost use Rattle.mb_meaning.specs.Step.{unread_of, instruction_of};
 ghost use Rattle.mb_step.specs.Fetching.{sought_of, sought_by};
 
+use crate::decoder::Longer;
 use crate::executing::execute;
 use crate::finishing::finish_unread;
 use crate::raising::refuse;
 use arrayvec::ArrayVec;
 use mb_decode::{Decoded, Decoding, decode_into};
 use mb_ea::ReadFault;
-use mb_instr::{Exchange, Instr, Move};
+use mb_instr::Instr;
 use mb_meaning::Finish;
 use mb_model::Cpu;
 use mb_port::{Fault, Port};
@@ -23,26 +25,6 @@ use mb_table::FirstWords;
 
 /// How many words an instruction can have behind its first.
 const MOST_BEHIND: usize = 10;
-
-/// Where a step decodes an instruction of several words. What it holds does not count for a later step, which decodes
-/// its own there; so a run of steps has one, and no step makes it.
-#[derive(Drop)]
-pub struct Scratch {
-    longer: Instr,
-}
-
-impl Scratch {
-    /// A place in which nothing was decoded.
-    pub fn new() -> Scratch {
-        Scratch {
-            longer: Instr::Move(Move::Exg {
-                x: 0,
-                kind: Exchange::Data,
-                y: 0,
-            }),
-        }
-    }
-}
 
 /// The vectors of what is no instruction.
 const ODD_COUNTER: u8 = 3;
@@ -64,27 +46,31 @@ fn finish_unfetched<P: Port>(fault: Fault, at: u32, cpu: &mut Cpu, port: &mut P)
     finish_unread(&ReadFault { fault, first: at }, cpu, port)
 }
 
-/// Fetches the words behind a first one, one at a time, until they are an instruction or can no longer become one. The
-/// instruction is put into its place, and how many words it has is answered; or how the step ended without one.
+/// Fetches the words behind the first two, from that of the second on, one at a time, until they are an instruction or
+/// can no longer become one. The instruction is put into its place, and how many words it has is answered; or how the
+/// step ended without one.
 #[inline(never)]
-fn fetch_longer<P: Port>(
+fn fetch_more<P: Port>(
     first: u16,
+    second: u16,
+    second_at: u32,
     instruction: &mut Instr,
     cpu: &mut Cpu,
     port: &mut P,
 ) -> Result<u8, Finish>
-    requires { cpu.old.regs.pc % 2 ≡ 0 }
-    ensures means { run P.bus (sought_of cpu.old (found_of (most_words - 1) (space_of cpu.old)
-        ((cpu.old.regs.pc + 2) % 2 ^ 32) (first ∷ []))) (P.world port.old)
+    requires { second_at % 2 ≡ 0 }
+    ensures means { run P.bus (sought_of cpu.old (found_of (most_words - 2) (space_of cpu.old)
+        ((second_at + 2) % 2 ^ 32) (first ∷ second ∷ []))) (P.world port.old)
         ≡ ((sought_by result instruction.new, cpu.new), P.world port.new) }
     ensures valid { IfOk result (λ n. IsInstr instruction.new) }
     ensures busy { IfErr result (λ end. end ≢ Finish.Idle) }
     ensures rest { P.rest port.new ≡ P.rest port.old }
 {
     let mut behind = ArrayVec::<u16, MOST_BEHIND>::new();
+    behind.push(second);
     let space = cpu.space();
-    let mut at = cpu.regs.pc.wrapping_add(2);
-    for _ in 0..MOST_BEHIND {
+    let mut at = second_at.wrapping_add(2);
+    for _ in 1..MOST_BEHIND {
         match port.fetch(space, at) {
             Ok(word) => behind.push(word),
             Err(fault) => return Err(finish_unfetched(fault, at, cpu, port)),
@@ -100,16 +86,77 @@ fn fetch_longer<P: Port>(
     Err(refuse(ILLEGAL, cpu, port))
 }
 
+/// Decodes the first two words, the second of which was fetched from `second_at`, and those that follow where an
+/// instruction has more. It is put into its place, and how many words it has is answered; or how the step ended without
+/// one. An instruction of two words is remembered.
+#[inline(never)]
+fn decode_longer<P: Port>(
+    first: u16,
+    second: u16,
+    second_at: u32,
+    longer: &mut Longer,
+    cpu: &mut Cpu,
+    port: &mut P,
+) -> Result<u8, Finish>
+    requires { second_at % 2 ≡ 0 }
+    ensures means { run P.bus (sought_of cpu.old (judged (decode_of (first ∷ second ∷ []))
+        (found_of (most_words - 2) (space_of cpu.old) ((second_at + 2) % 2 ^ 32) (first ∷ second ∷ []))))
+        (P.world port.old)
+        ≡ ((sought_by result longer.new.instruction, cpu.new), P.world port.new) }
+    ensures valid { IfOk result (λ n. IsInstr longer.new.instruction) }
+    ensures busy { IfErr result (λ end. end ≢ Finish.Idle) }
+    ensures rest { P.rest port.new ≡ P.rest port.old }
+{
+    match decode_into(first, &[second], &mut longer.instruction) {
+        Decoding::Whole(length) => {
+            if length == 2 {
+                longer.words.keep(first, second, &longer.instruction);
+            }
+            Ok(length)
+        }
+        Decoding::More => fetch_more(first, second, second_at, &mut longer.instruction, cpu, port),
+        Decoding::Illegal => Err(refuse(ILLEGAL, cpu, port)),
+        Decoding::LineA => Err(refuse(LINE_A, cpu, port)),
+        Decoding::LineF => Err(refuse(LINE_F, cpu, port)),
+    }
+}
+
+/// As `decode_longer`, but two words that are remembered are not decoded again.
+#[inline(always)]
+fn find_longer<P: Port>(
+    first: u16,
+    second: u16,
+    second_at: u32,
+    longer: &mut Longer,
+    cpu: &mut Cpu,
+    port: &mut P,
+) -> Result<u8, Finish>
+    requires { second_at % 2 ≡ 0 }
+    ensures means { run P.bus (sought_of cpu.old (judged (decode_of (first ∷ second ∷ []))
+        (found_of (most_words - 2) (space_of cpu.old) ((second_at + 2) % 2 ^ 32) (first ∷ second ∷ []))))
+        (P.world port.old)
+        ≡ ((sought_by result longer.new.instruction, cpu.new), P.world port.new) }
+    ensures valid { IfOk result (λ n. IsInstr longer.new.instruction) }
+    ensures busy { IfErr result (λ end. end ≢ Finish.Idle) }
+    ensures rest { P.rest port.new ≡ P.rest port.old }
+{
+    if let Some(kept) = longer.words.find(first, second) {
+        longer.instruction = *kept;
+        return Ok(2);
+    }
+    decode_longer(first, second, second_at, longer, cpu, port)
+}
+
 /// Fetches the instruction that stands at PC and carries it out. No word is fetched behind those that the instruction
 /// needs, and none at an odd PC.
 ///
-/// An instruction of one word stays in the table, and a longer one where it was decoded: neither is copied, and both
-/// are carried out by one call.
+/// An instruction of one word stays where it is remembered, and a longer one in its place, from which all are carried
+/// out by one call.
 #[inline(always)]
 #[tactic(auto, unfolding(mb_meaning::specs::Step::instruction_of))]
 pub(crate) fn execute_next<P: Port>(
-    table: &FirstWords,
-    scratch: &mut Scratch,
+    first_words: &mut FirstWords,
+    longer: &mut Longer,
     cpu: &mut Cpu,
     port: &mut P,
 ) -> Finish
@@ -117,21 +164,28 @@ pub(crate) fn execute_next<P: Port>(
     ensures busy { result ≢ Finish.Idle }
     ensures rest { P.rest port.new ≡ P.rest port.old }
 {
-    let at = cpu.regs.pc;
+    let (at, space) = (cpu.regs.pc, cpu.space());
     if at % 2 == 1 {
         return refuse(ODD_COUNTER, cpu, port);
     }
-    let first = match port.fetch(cpu.space(), at) {
+    let first = match port.fetch(space, at) {
         Ok(word) => word,
         Err(fault) => return finish_unfetched(fault, at, cpu, port),
     };
-    let longer = &mut scratch.longer;
-    let (instruction, length) = match table.of(first) {
+    let longer = &mut *longer;
+    let (instruction, length) = match first_words.of(first) {
         Decoded::Whole(instruction, length) => (instruction, *length),
-        Decoded::More => match fetch_longer(first, longer, cpu, port) {
-            Ok(length) => (&*longer, length),
-            Err(end) => return end,
-        },
+        Decoded::More => {
+            let second_at = at.wrapping_add(2);
+            let second = match port.fetch(space, second_at) {
+                Ok(word) => word,
+                Err(fault) => return finish_unfetched(fault, second_at, cpu, port),
+            };
+            match find_longer(first, second, second_at, longer, cpu, port) {
+                Ok(length) => (&longer.instruction, length),
+                Err(end) => return end,
+            }
+        }
         Decoded::Illegal => return refuse(ILLEGAL, cpu, port),
         Decoded::LineA => return refuse(LINE_A, cpu, port),
         Decoded::LineF => return refuse(LINE_F, cpu, port),

@@ -7,6 +7,7 @@
 //! returned from, in the processor's own registers.
 #![tactic(auto)]
 
+mod decoder;
 mod executing;
 mod fetching;
 mod finishing;
@@ -15,7 +16,7 @@ mod raising;
 mod returning;
 mod stepping;
 
-pub use fetching::Scratch;
+pub use decoder::Decoder;
 pub use mb_meaning::{Finish, StepEnd};
 pub use performing::perform;
 pub use raising::{access_error, unchecked};

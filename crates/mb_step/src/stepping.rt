@@ -5,12 +5,12 @@ ghost use Rattle.mb_port.specs.Routine.{run};
 ghost use Rattle.mb_meaning.specs.Raise.{by_its_end};
 ghost use Rattle.mb_meaning.specs.Step.{Halts, interrupt_mask, step_of};
 
-use crate::fetching::{Scratch, execute_next};
+use crate::decoder::Decoder;
+use crate::fetching::execute_next;
 use crate::raising::interrupt;
 use mb_meaning::{Finish, StepEnd};
 use mb_model::Cpu;
 use mb_port::Port;
-use mb_table::FirstWords;
 
 /// The interrupt mask, bits 10 to 8 of the status register.
 #[inline(always)]
@@ -23,14 +23,12 @@ fn interrupt_mask(cpu: &Cpu) -> u8
 /// One step of the processor, with an interrupt of `level` asked for, or of level 0 for none.
 ///
 /// An interrupt above the mask is entered, and the step has nothing else. A processor that STOP holds idles. Else the
-/// instruction at PC is carried out, with the exceptions that it causes. The table says what its first word begins
-/// with; any table of first words says the same. An instruction of several words is decoded in the scratch place,
-/// whatever it held. The answer names the last exception that was entered.
+/// instruction at PC is carried out, with the exceptions that it causes. The decoder is the caller's, whatever it
+/// remembers. The answer names the last exception that was entered.
 #[inline(always)]
 #[tactic(auto, unfolding(mb_meaning::specs::Step::step_of))]
 pub fn step_to_finish<P: Port>(
-    table: &FirstWords,
-    scratch: &mut Scratch,
+    decoder: &mut Decoder,
     cpu: &mut Cpu,
     port: &mut P,
     level: u8,
@@ -47,12 +45,12 @@ pub fn step_to_finish<P: Port>(
     if cpu.stopped {
         return Finish::Idle;
     }
-    execute_next(table, scratch, cpu, port)
+    execute_next(&mut decoder.first_words, &mut decoder.longer, cpu, port)
 }
 
 /// One step as `step_to_finish` takes it, without a word of the exceptions that it entered.
 #[inline(always)]
-pub fn step<P: Port>(table: &FirstWords, cpu: &mut Cpu, port: &mut P, level: u8) -> StepEnd
+pub fn step<P: Port>(decoder: &mut Decoder, cpu: &mut Cpu, port: &mut P, level: u8) -> StepEnd
     requires { level < 8 }
     ensures means { by_its_end (run P.bus (step_of level cpu.old) (P.world port.old))
         ≡ ((result, cpu.new), P.world port.new) }
@@ -60,5 +58,5 @@ pub fn step<P: Port>(table: &FirstWords, cpu: &mut Cpu, port: &mut P, level: u8)
     ensures halted { result ≡ StepEnd.Halted ↔ Halts P.bus level cpu.old (P.world port.old) }
     ensures rest { P.rest port.new ≡ P.rest port.old }
 {
-    step_to_finish(table, &mut Scratch::new(), cpu, port, level).step_end()
+    step_to_finish(decoder, cpu, port, level).step_end()
 }

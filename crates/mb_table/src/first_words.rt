@@ -1,9 +1,9 @@
-//! The table of first words.
+//! What first words begin with.
 
-ghost use Rattle.std.specs.Prelude.{◌≡◌, ◌≤◌, IfOk};
+ghost use Rattle.std.specs.Prelude.{◌≡◌, ◌<◌, length, All};
 ghost use Rattle.mb_instr.specs.Codes.{IsInstr};
 ghost use Rattle.mb_decode.specs.Decodes.{IfWhole};
-ghost use Rattle.mb_table.specs.FirstWords.{alone, answers_below};
+ghost use Rattle.mb_table.specs.FirstWords.{IsKnown, alone};
 
 use mb_decode::{Decoded, decode};
 use std::alloc::{AllocError, Global};
@@ -12,50 +12,95 @@ use std::marker::Model;
 /// How many first words there are.
 const FIRST_WORDS: usize = 65_536;
 
-/// What each first word alone begins with. There is one such table, so nothing more is seen of it.
+/// How many of them are known at a time.
+const PLACES: usize = 4096;
+
+/// A first word, and what it begins with.
+#[derive(Clone, Copy)]
+pub struct Known {
+    first: u16,
+    decoded: Decoded,
+}
+
+/// What the first words that came lately begin with. Which they are does not count, so nothing is seen of it.
 #[derive(Drop)]
 pub struct FirstWords {
-    entries: Vec<Decoded>,
+    /// Where each first word is known, if it is.
+    places: Vec<u16>,
+    known: Vec<Known>,
+    /// The place that the next one takes; they are taken in turn.
+    next: u16,
 }
 
 impl Model for FirstWords {
-    ghost use Rattle.std.specs.Prelude.{◌≡◌, ⊤};
-    ghost use Rattle.mb_table.specs.FirstWords.{answers_below};
+    ghost use Rattle.std.specs.Prelude.{◌≡◌, ⊤, length};
+    ghost use Rattle.std.specs.List.{All};
+    ghost use Rattle.mb_table.specs.FirstWords.{IsKnown};
 
     ghost Value = { ⊤ };
 
     ghost view = { λ _. tt };
 
-    ghost invariant = { λ t. t.entries.items ≡ answers_below 65536 };
+    ghost invariant = { λ t. (length t.places.items ≡ 65536) × (length t.known.items ≡ 4096)
+        × All IsKnown t.known.items };
 }
 
-/// The answers of so many first words, in order.
-#[tactic(auto, unfolding(crate::specs::FirstWords::answers_below))]
-fn answers(alloc: Global, count: usize) -> Result<Vec<Decoded>, AllocError>
-    requires { count ≤ 65536 }
-    ensures { IfOk result (λ entries. entries.items ≡ answers_below count) }
+/// One of the places.
+#[inline(always)]
+fn within(place: u16) -> usize
+    ensures { result < 4096 }
 {
-    let mut entries = Vec::with_capacity(alloc, count)?;
-    for first in 0..count {
-        entries.push(decode(&[first as u16]))?;
+    usize::from(place) % PLACES
+}
+
+/// A first word, decoded.
+#[tactic(auto, unfolding(crate::specs::FirstWords::IsKnown))]
+fn decoded(first: u16) -> Known
+    ensures right { IsKnown result }
+    ensures word { result.first ≡ first }
+{
+    Known {
+        first,
+        decoded: decode(&[first]),
     }
-    Ok(entries)
+}
+
+/// A first word is decoded in this place.
+#[inline(never)]
+fn learn(known: &mut Known, first: u16)
+    ensures right { IsKnown known.new }
+    ensures word { known.new.first ≡ first }
+{
+    *known = decoded(first);
 }
 
 impl FirstWords {
-    /// Decodes each first word. It takes all the memory that it will need.
+    /// Nothing is known but the word 0. It takes all the memory that it will need.
     pub fn new(alloc: Global) -> Result<FirstWords, AllocError> {
-        let entries = answers(alloc, FIRST_WORDS)?;
-        Ok(FirstWords { entries })
+        let places = vec![in alloc; 0; FIRST_WORDS]?;
+        let known = vec![in alloc; decoded(0); PLACES]?;
+        Ok(FirstWords {
+            places,
+            known,
+            next: 1,
+        })
     }
 
     /// What a first word alone begins with: an instruction of one word, or less than a whole one, or none.
     #[inline(always)]
-    #[tactic(auto, unfolding(crate::specs::FirstWords::answers_below))]
-    pub fn of(&self, first: u16) -> &Decoded
+    #[tactic(auto, unfolding(crate::specs::FirstWords::IsKnown))]
+    pub fn of(&mut self, first: u16) -> &Decoded
         ensures means { result.now ≡ alone first }
         ensures valid { IfWhole result.now (λ i n. IsInstr i) }
     {
-        &self.entries[first as usize]
+        let place = within(self.places[usize::from(first)]);
+        if self.known[place].first == first {
+            return &self.known[place].decoded;
+        }
+        let place = within(self.next);
+        self.places[usize::from(first)] = self.next;
+        self.next = self.next.wrapping_add(1);
+        learn(&mut self.known[place], first);
+        &self.known[place].decoded
     }
 }

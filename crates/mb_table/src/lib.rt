@@ -1,10 +1,13 @@
-//! Each of the 65,536 first words, decoded once.
+//! What words decode to, remembered.
 //!
-//! A processor that decodes at every step decodes the same words again and again. Here each first word has its answer,
-//! taken from `mb_decode` when the table is made, and looked up afterwards. It stands on `mb_decode` alone and knows no
-//! bus.
+//! A processor that decodes at every step decodes the same words again and again. Here each first word is decoded when
+//! it first comes, and each instruction of two words is kept by its words; later they are looked up. All answers are
+//! those of `mb_decode`, whatever is remembered, so this is no part of a machine. It stands on `mb_decode` alone and
+//! knows no bus.
 #![tactic(auto)]
 
 mod first_words;
+mod longer_words;
 
 pub use first_words::FirstWords;
+pub use longer_words::LongerWords;

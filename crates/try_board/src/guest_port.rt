@@ -12,8 +12,7 @@ use Space::{Super, User};
 use mb_devices::Devices;
 use mb_model::Cpu;
 use mb_port::{Flush, Mmu, MmuReg, Piece, Port, Space};
-use mb_step::{StepEnd, step};
-use mb_table::FirstWords;
+use mb_step::{Decoder, StepEnd, step};
 use mb_walk::{Ram, long_at, set_long_at, size_of};
 use std::alloc::Global;
 use vm_port::GuestPort;
@@ -183,8 +182,8 @@ impl Guest {
         port!(self).test(space, at, false)
     }
 
-    fn step(&mut self, table: &FirstWords, cpu: &mut Cpu) -> StepEnd {
-        step(table, cpu, &mut port!(self), 0)
+    fn step(&mut self, decoder: &mut Decoder, cpu: &mut Cpu) -> StepEnd {
+        step(decoder, cpu, &mut port!(self), 0)
     }
 
     /// What its shadow has of a page: a frame of memory, and whether it takes writes.
@@ -226,7 +225,7 @@ fn a_page_is_put_again_as_writable(rt: HostRuntime) {
 
 #[test]
 fn a_compare_reads_what_its_own_search_marks(rt: HostRuntime) {
-    let table = FirstWords::new(rt.alloc()).expect(&rt, "memory");
+    let mut decoder = Decoder::new(rt.alloc()).expect(&rt, "memory");
     let mut guest = Guest::translated(rt.alloc()).expect(&rt, "memory");
     // CMPM.L (A0)+,(A1)+, where (A0) is the descriptor of its own page
     guest.set(0x400, 0xB388_4E71);
@@ -234,7 +233,7 @@ fn a_compare_reads_what_its_own_search_marks(rt: HostRuntime) {
     let mut cpu = Cpu::at_reset(0x8000, 0x400);
     cpu.regs.a[0] = PAGES + 0x30;
     cpu.regs.a[1] = 0x3000;
-    assert!(rt; guest.step(&table, &mut cpu) == StepEnd::Went);
+    assert!(rt; guest.step(&mut decoder, &mut cpu) == StepEnd::Went);
     assert!(rt; (cpu.regs.pc, cpu.regs.sr) == (0x402, 0x2704));
     assert!(rt; guest.find(Super, 0xC) == Some((28, false)));
     assert!(rt; guest.find(Super, 3) == Some((19, false)));

@@ -17,7 +17,7 @@ const ROWS: [(u16, Decoded); 6] = [
 
 #[test]
 fn words_of_each_answer(rt: HostRuntime) -> Result<(), AllocError> {
-    let table = FirstWords::new(rt.alloc())?;
+    let mut table = FirstWords::new(rt.alloc())?;
     for (first, wanted) in ROWS {
         assert!(rt; *table.of(first) == wanted, "{first:04x}");
     }

@@ -9,8 +9,7 @@ ghost use Rattle.std.specs.Prelude.{◌<◌};
 use mb_instr::Regs;
 use mb_model::Cpu;
 use mb_port::{Piece, Port, Space};
-use mb_step::{StepEnd, step};
-use mb_table::FirstWords;
+use mb_step::{Decoder, StepEnd, step};
 use mb_vector::VectorPort;
 use std::alloc::{AllocError, Global};
 
@@ -102,11 +101,11 @@ pub(crate) fn stands(port: &VectorPort, at: u32, longs: &[u32]) -> bool {
 }
 
 /// How so many steps end, each of which but the last goes on.
-fn steps(table: &FirstWords, count: u32, cpu: &mut Cpu, port: &mut VectorPort) -> StepEnd {
+fn steps(decoder: &mut Decoder, count: u32, cpu: &mut Cpu, port: &mut VectorPort) -> StepEnd {
     for _ in 1..count {
-        if step(table, cpu, port, 0) != StepEnd::Went {
+        if step(decoder, cpu, port, 0) != StepEnd::Went {
             return StepEnd::Halted;
         }
     }
-    step(table, cpu, port, 0)
+    step(decoder, cpu, port, 0)
 }

@@ -21,12 +21,10 @@ use mb_outside::Memory;
 use mb_port::Mmu;
 use mb_script::Script;
 use mb_srec::Image;
-use mb_step::Scratch;
-use mb_table::FirstWords;
+use mb_step::Decoder;
 use mb_walk::Ram;
 use std::alloc::Global;
 use std::marker::Model;
-use std::rc::Rc;
 use vm_shadow::Shadow;
 use vm_tlb::Tlb;
 
@@ -60,10 +58,8 @@ pub struct Guest {
     pub(crate) base: u32,
     /// The bytes of its RAM.
     pub(crate) size: u32,
-    /// The board's, so that a step can use it while the board's memory is lent.
-    pub(crate) table: Rc<FirstWords>,
-    /// Where steps decode an instruction of several words; no part of the guest.
-    pub(crate) scratch: Scratch,
+    /// What its own steps decode with; no part of the guest.
+    pub(crate) decoder: Decoder,
 }
 
 impl Model for Guest {
@@ -119,7 +115,9 @@ impl Guest {
         ensures refused { IfErr result (λ memory. board.new ≡ board.old) }
     {
         let _size = board.size();
-        let table = board.table()?;
+        let Ok(decoder) = Decoder::new(alloc) else {
+            return Err(Memory);
+        };
         let devices = Devices::new(alloc, ram)?;
         let tlb = Tlb::new(alloc)?;
         let mut shadow = Shadow::new(alloc, base + ram)?;
@@ -140,8 +138,7 @@ impl Guest {
             counts: Counts::none(),
             base,
             size: ram,
-            table,
-            scratch: Scratch::new(),
+            decoder,
         })
     }
 

@@ -19,8 +19,7 @@ use mb_instr::{Plain, Regs};
 use mb_meaning::StepEnd;
 use mb_model::Cpu;
 use mb_port::Port;
-use mb_step::{Scratch, step_to_finish};
-use mb_table::FirstWords;
+use mb_step::{Decoder, step_to_finish};
 use vm_inject::{LeftOver, finish_line, finish_movem, finish_trap, finish_writes, left_in};
 
 /// What is left of a step that has begun. `after` are the registers that the board hands back.
@@ -125,8 +124,7 @@ impl Rest {
     /// Carries it out, from the processor before the step, with an interrupt of this level asked for.
     pub(crate) fn carry_out<P: Port>(
         &self,
-        table: &FirstWords,
-        scratch: &mut Scratch,
+        decoder: &mut Decoder,
         cpu: &mut Cpu,
         port: &mut P,
         level: u8,
@@ -138,7 +136,7 @@ impl Rest {
         ensures rest { P.rest port.new ≡ P.rest port.old }
     {
         match self {
-            Rest::Whole => step_to_finish(table, scratch, cpu, port, level).step_end(),
+            Rest::Whole => step_to_finish(decoder, cpu, port, level).step_end(),
             Rest::Trap { vector, after } => {
                 let before = cpu.regs.plain();
                 let cause = Cause {

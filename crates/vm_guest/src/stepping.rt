@@ -74,13 +74,7 @@ impl Guest {
             &mut self.tlb,
             &mut self.shadow,
         );
-        rest.carry_out(
-            self.table.as_ref(),
-            &mut self.scratch,
-            &mut self.cpu,
-            &mut port,
-            level,
-        )
+        rest.carry_out(&mut self.decoder, &mut self.cpu, &mut port, level)
     }
 
     /// Carries out what is left of a step that has begun, and counts it by its class.

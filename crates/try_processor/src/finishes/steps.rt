@@ -12,8 +12,7 @@ use arrayvec::ArrayVec;
 use mb_entry::continues;
 use mb_frames::{Access, Frame, Pend, from_bytes};
 use mb_model::Cpu;
-use mb_step::{StepEnd, step};
-use mb_table::FirstWords;
+use mb_step::{Decoder, StepEnd, step};
 use mb_vector::VectorPort;
 use std::alloc::AllocError;
 use std::process::Abort;
@@ -94,7 +93,7 @@ fn handed(board: &Cpu, pc: u32, sr: u16) -> Cpu {
 /// Does what was left.
 fn go_on(
     rt: &impl Abort,
-    table: &FirstWords,
+    decoder: &mut Decoder,
     access: &Access,
     cpu: &mut Cpu,
     port: &mut VectorPort,
@@ -102,7 +101,7 @@ fn go_on(
     match left(rt, access) {
         LeftOver::Again => {
             *cpu = guest();
-            step(table, cpu, port, 0)
+            step(decoder, cpu, port, 0)
         }
         LeftOver::Writes { pending, first } => {
             assert!(rt; are_pending(pending.as_slice()));
@@ -154,13 +153,13 @@ static DENIED: [Denied; 17] = [
 
 #[test]
 fn denied_steps(rt: HostRuntime) -> Result<(), AllocError> {
-    let table = FirstWords::new(rt.alloc())?;
+    let mut decoder = Decoder::new(rt.alloc())?;
     for row in &DENIED {
         let mut port = memory(rt.alloc(), NO_HOLE, row.code)?;
         port.hole = row.hole;
         let mut board = processor(BOARD);
         assert!(rt;
-            step(&table, &mut board, &mut port, 0) == StepEnd::Went,
+            step(&mut decoder, &mut board, &mut port, 0) == StepEnd::Went,
             "{}",
             row.name
         );
@@ -170,11 +169,11 @@ fn denied_steps(rt: HostRuntime) -> Result<(), AllocError> {
             panic!(rt; "{}", row.name);
         };
         let mut cpu = handed(&board, pc, sr);
-        let end = go_on(&rt, &table, &access, &mut cpu, &mut port);
+        let end = go_on(&rt, &mut decoder, &access, &mut cpu, &mut port);
         let mut whole = memory(rt.alloc(), NO_HOLE, row.code)?;
         let mut own = guest();
         assert!(rt;
-            end == step(&table, &mut own, &mut whole, 0),
+            end == step(&mut decoder, &mut own, &mut whole, 0),
             "{}",
             row.name
         );
@@ -200,12 +199,12 @@ static TRAPS: [(&[u16], u8); 5] = [
 
 #[test]
 fn trapped_steps(rt: HostRuntime) -> Result<(), AllocError> {
-    let table = FirstWords::new(rt.alloc())?;
+    let mut decoder = Decoder::new(rt.alloc())?;
     for (code, exit) in &TRAPS {
         let mut port = memory(rt.alloc(), NO_HOLE, code)?;
         let mut board = processor(BOARD);
         assert!(rt;
-            step(&table, &mut board, &mut port, 0) == StepEnd::Went,
+            step(&mut decoder, &mut board, &mut port, 0) == StepEnd::Went,
             "{}",
             *exit
         );
@@ -223,7 +222,11 @@ fn trapped_steps(rt: HostRuntime) -> Result<(), AllocError> {
         let end = finish_trap(&cause, &before.regs.plain(), &mut cpu, &mut port);
         let mut whole = memory(rt.alloc(), NO_HOLE, code)?;
         let mut own = guest();
-        assert!(rt; end == step(&table, &mut own, &mut whole, 0), "{}", *exit);
+        assert!(rt;
+            end == step(&mut decoder, &mut own, &mut whole, 0),
+            "{}",
+            *exit
+        );
         assert!(rt; cpu == own, "{}", *exit);
         assert!(rt;
             port.longs.as_slice() == whole.longs.as_slice(),
@@ -236,12 +239,12 @@ fn trapped_steps(rt: HostRuntime) -> Result<(), AllocError> {
 
 #[test]
 fn a_movem_over_its_own_words(rt: HostRuntime) -> Result<(), AllocError> {
-    let table = FirstWords::new(rt.alloc())?;
+    let mut decoder = Decoder::new(rt.alloc())?;
     // MOVEM.L D0-D3,(A0) at $400 to $3F8: the third transfer is over its words, the fourth is refused at first.
     let mut port = memory(rt.alloc(), 0x404, &[0x48D0, 0x000F])?;
     let mut board = processor(BOARD);
     board.regs.a[0] = 0x3F8;
-    assert!(rt; step(&table, &mut board, &mut port, 0) == StepEnd::Went);
+    assert!(rt; step(&mut decoder, &mut board, &mut port, 0) == StepEnd::Went);
     port.hole = NO_HOLE;
     assert!(rt; stands(&port, CODE, &[0xD2D2_D2D2, 0]));
     let Some(Frame::Access { sr, pc, access, .. }) = take_frame(&mut port, board.regs.isp) else {
@@ -255,7 +258,7 @@ fn a_movem_over_its_own_words(rt: HostRuntime) -> Result<(), AllocError> {
     };
     assert!(rt; left(&rt, &access) == movem);
     let mut cpu = handed(&board, pc, sr);
-    assert!(rt; go_on(&rt, &table, &access, &mut cpu, &mut port) == StepEnd::Went);
+    assert!(rt; go_on(&rt, &mut decoder, &access, &mut cpu, &mut port) == StepEnd::Went);
     assert!(rt; (cpu.regs.sr, cpu.regs.pc) == (GUEST, 0x404));
     assert!(rt;
         stands(

@@ -1,8 +1,7 @@
 //! Exceptions of instructions.
 
 use super::{NO_HOLE, memory, processor, stands, steps};
-use mb_step::StepEnd;
-use mb_table::FirstWords;
+use mb_step::{Decoder, StepEnd};
 use std::alloc::AllocError;
 
 /// Code, and what it leads to from a status register and an interrupt stack.
@@ -22,7 +21,7 @@ struct Row<'a> {
 #[test]
 #[rattlefmt::skip]
 fn frames_by_hand(rt: HostRuntime) -> Result<(), AllocError> {
-    let table = FirstWords::new(rt.alloc())?;
+    let mut decoder = Decoder::new(rt.alloc())?;
     let rows = [
         Row { name: "privilege", sr: 0x2700, isp: 0x10000, hole: NO_HOLE,
             code: &[0x46FC, 0x0000, 0x42C1, 0x40C0], steps: 3,
@@ -82,7 +81,7 @@ fn frames_by_hand(rt: HostRuntime) -> Result<(), AllocError> {
         let mut port = memory(rt.alloc(), row.hole, row.code)?;
         let mut cpu = processor(row.sr);
         cpu.regs.isp = row.isp;
-        assert!(rt; steps(&table, row.steps, &mut cpu, &mut port) == StepEnd::Went, "{}", row.name);
+        assert!(rt; steps(&mut decoder, row.steps, &mut cpu, &mut port) == StepEnd::Went, "{}", row.name);
         assert!(rt; (cpu.regs.sr, cpu.regs.pc, cpu.regs.isp) == row.after, "{}", row.name);
         assert!(rt; stands(&port, row.after.2, row.frame), "{}", row.name);
         assert!(rt; !cpu.stopped, "{}", row.name);
@@ -92,11 +91,11 @@ fn frames_by_hand(rt: HostRuntime) -> Result<(), AllocError> {
 
 #[test]
 fn what_was_done_before_a_fault(rt: HostRuntime) -> Result<(), AllocError> {
-    let table = FirstWords::new(rt.alloc())?;
+    let mut decoder = Decoder::new(rt.alloc())?;
     // The line moves both registers; the long begins to be written; a MOVEM keeps what it loaded.
     let mut port = memory(rt.alloc(), 0x2004, &[0xF620, 0x9000])?;
     let mut cpu = processor(0x2700);
-    assert!(rt; steps(&table, 1, &mut cpu, &mut port) == StepEnd::Went);
+    assert!(rt; steps(&mut decoder, 1, &mut cpu, &mut port) == StepEnd::Went);
     assert!(rt; (cpu.regs.a[0], cpu.regs.a[1]) == (0x1010, 0x2010));
     let mut port = memory(
         rt.alloc(),
@@ -104,11 +103,11 @@ fn what_was_done_before_a_fault(rt: HostRuntime) -> Result<(), AllocError> {
         &[0x23FC, 0x1122, 0x3344, 0x0000, 0xFFFF],
     )?;
     let mut cpu = processor(0x2700);
-    assert!(rt; steps(&table, 1, &mut cpu, &mut port) == StepEnd::Went);
+    assert!(rt; steps(&mut decoder, 1, &mut cpu, &mut port) == StepEnd::Went);
     assert!(rt; stands(&port, 0xFFFC, &[0x11]));
     let mut port = memory(rt.alloc(), 0x1008, &[0x4CD8, 0x00F0])?;
     let mut cpu = processor(0x2700);
-    assert!(rt; steps(&table, 1, &mut cpu, &mut port) == StepEnd::Went);
+    assert!(rt; steps(&mut decoder, 1, &mut cpu, &mut port) == StepEnd::Went);
     assert!(rt; (cpu.regs.d[4], cpu.regs.d[5], cpu.regs.d[6]) == (0, 0, 6));
     assert!(rt; cpu.regs.a[0] == 0x1000);
     Ok(())
@@ -116,20 +115,20 @@ fn what_was_done_before_a_fault(rt: HostRuntime) -> Result<(), AllocError> {
 
 #[test]
 fn halting(rt: HostRuntime) -> Result<(), AllocError> {
-    let table = FirstWords::new(rt.alloc())?;
+    let mut decoder = Decoder::new(rt.alloc())?;
     // A memory of ORI.B #0,D0 alone, to its end, where the frame of the fetch has no place.
     let mut port = mb_vector::VectorPort::new(rt.alloc(), 0x4000, NO_HOLE)?;
     let mut cpu = processor(0x2700);
     cpu.regs.pc = 0;
     cpu.regs.isp = 0;
     cpu.regs.d[0] = 0;
-    assert!(rt; steps(&table, 16_385, &mut cpu, &mut port) == StepEnd::Halted);
+    assert!(rt; steps(&mut decoder, 16_385, &mut cpu, &mut port) == StepEnd::Halted);
     assert!(rt; (cpu.regs.sr, cpu.regs.pc, cpu.regs.isp) == (0x2704, 0x10000, 0));
     // The frame of a zero divide has no place, and that of the access error none either: all is as before it.
     let mut port = memory(rt.alloc(), NO_HOLE, &[0x44FC, 0x0001, 0x80FC, 0x0000])?;
     let mut cpu = processor(0x2700);
     cpu.regs.isp = 0xFFF0_0008;
-    assert!(rt; steps(&table, 2, &mut cpu, &mut port) == StepEnd::Halted);
+    assert!(rt; steps(&mut decoder, 2, &mut cpu, &mut port) == StepEnd::Halted);
     assert!(rt; (cpu.regs.sr, cpu.regs.pc, cpu.regs.isp) == (0x2701, 0x404, 0xFFF0_0008));
     Ok(())
 }

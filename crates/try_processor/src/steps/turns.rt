@@ -1,8 +1,7 @@
 //! Interrupts, and the stopped state.
 
 use super::{NO_HOLE, memory, processor, stands, steps};
-use mb_step::{StepEnd, step};
-use mb_table::FirstWords;
+use mb_step::{Decoder, StepEnd, step};
 use std::alloc::AllocError;
 
 /// STOP #$2500.
@@ -10,28 +9,28 @@ const STOP: [u16; 2] = [0x4E72, 0x2500];
 
 #[test]
 fn interrupt_with_a_master_stack(rt: HostRuntime) -> Result<(), AllocError> {
-    let table = FirstWords::new(rt.alloc())?;
+    let mut decoder = Decoder::new(rt.alloc())?;
     let mut port = memory(rt.alloc(), NO_HOLE, &[0x4E71])?;
     let before = processor(0x3000);
     let mut cpu = before;
-    assert!(rt; step(&table, &mut cpu, &mut port, 6) == StepEnd::Went);
+    assert!(rt; step(&mut decoder, &mut cpu, &mut port, 6) == StepEnd::Went);
     assert!(rt; (cpu.regs.sr, cpu.regs.pc) == (0x2600, 0x700));
     assert!(rt; (cpu.regs.msp, cpu.regs.isp) == (0x8FF8, 0x7FF8));
     assert!(rt; stands(&port, 0x8FF8, &[0x3000_0000, 0x0400_0078]));
     assert!(rt; stands(&port, 0x7FF8, &[0x3000_0000, 0x0400_1078]));
     // An equal mask holds it, and the handler returns.
-    assert!(rt; step(&table, &mut cpu, &mut port, 6) == StepEnd::Went);
+    assert!(rt; step(&mut decoder, &mut cpu, &mut port, 6) == StepEnd::Went);
     assert!(rt; cpu == before);
     Ok(())
 }
 
 #[test]
 fn interrupt_without_an_interrupt_stack(rt: HostRuntime) -> Result<(), AllocError> {
-    let table = FirstWords::new(rt.alloc())?;
+    let mut decoder = Decoder::new(rt.alloc())?;
     let mut port = memory(rt.alloc(), 0x7FFC, &[0x4E71])?;
     let mut cpu = processor(0x3000);
     cpu.stopped = true;
-    assert!(rt; step(&table, &mut cpu, &mut port, 6) == StepEnd::Went);
+    assert!(rt; step(&mut decoder, &mut cpu, &mut port, 6) == StepEnd::Went);
     assert!(rt; (cpu.regs.sr, cpu.regs.pc, cpu.stopped) == (0x3000, 0x500, false));
     assert!(rt; (cpu.regs.msp, cpu.regs.isp) == (0x8FC4, 0x8000));
     assert!(rt;
@@ -56,22 +55,22 @@ fn interrupt_without_an_interrupt_stack(rt: HostRuntime) -> Result<(), AllocErro
 
 #[test]
 fn stopping(rt: HostRuntime) -> Result<(), AllocError> {
-    let table = FirstWords::new(rt.alloc())?;
+    let mut decoder = Decoder::new(rt.alloc())?;
     let mut port = memory(rt.alloc(), NO_HOLE, &STOP)?;
     let mut cpu = processor(0x2700);
-    assert!(rt; steps(&table, 1, &mut cpu, &mut port) == StepEnd::Went);
+    assert!(rt; steps(&mut decoder, 1, &mut cpu, &mut port) == StepEnd::Went);
     let stopped = cpu;
     assert!(rt; (cpu.regs.sr, cpu.regs.pc, cpu.stopped) == (0x2500, 0x404, true));
-    assert!(rt; step(&table, &mut cpu, &mut port, 5) == StepEnd::Idle);
+    assert!(rt; step(&mut decoder, &mut cpu, &mut port, 5) == StepEnd::Idle);
     assert!(rt; cpu == stopped);
-    assert!(rt; step(&table, &mut cpu, &mut port, 6) == StepEnd::Went);
+    assert!(rt; step(&mut decoder, &mut cpu, &mut port, 6) == StepEnd::Went);
     assert!(rt; (cpu.regs.sr, cpu.regs.pc, cpu.stopped) == (0x2600, 0x700, false));
     assert!(rt; stands(&port, 0x7FF8, &[0x2500_0000, 0x0404_0078]));
     // Where a trace is due it does not stop.
     for sr in [0xA700, 0x6700] {
         let mut port = memory(rt.alloc(), NO_HOLE, &STOP)?;
         let mut cpu = processor(sr);
-        assert!(rt; steps(&table, 1, &mut cpu, &mut port) == StepEnd::Went);
+        assert!(rt; steps(&mut decoder, 1, &mut cpu, &mut port) == StepEnd::Went);
         assert!(rt; (cpu.regs.sr, cpu.regs.pc, cpu.stopped) == (0x2500, 0x500, false));
         assert!(rt; stands(&port, 0x7FF4, &[0x2500_0000, 0x0404_2024, 0x400]));
     }

@@ -2,7 +2,7 @@ use Rattle.std.proofs.Common.{◌∙◌, ◌-◌, ◌+◌, ℕ, ◌∷◌, ap, s
 use Rattle.mb_decode.specs.Decodes.{decode_of, told}
 use Rattle.mb_meaning.specs.Attempt.{most_words}
 use Rattle.mb_step.proofs.Fetches.{seeking_on, seeking_without, seeking_no_more, seeking_whole, seeking_none}
-use Rattle.mb_step.proofs.fetching.fetch_longer.Goals as goal
+use Rattle.mb_step.proofs.fetching.fetch_more.Goals as goal
 
 pub returns-in-Err-clause-means : goal.returns-in-Err-clause-means
 returns-in-Err-clause-means g c =
@@ -15,8 +15,8 @@ pub returns-in-Whole-clause-means : goal.returns-in-Whole-clause-means
 returns-in-Whole-clause-means g c =
     sym c.loop.invariant.means
     ∙ seeking_on g.P.Port.bus _ _ (most_words - (c.loop.counter + 2)) _ c.loop.at (c.args.first ∷ c.loop.behind.items) c.in-Ok.word _ _
-    (c.args.first ∷ c.push.new.self.items) _ (omega arith) c.in-Ok.ensures.means
-    (ap (λ words. c.args.first ∷ words) c.push.ensures.items)
+    (c.args.first ∷ c.push-in-Ok.new.self.items) _ (omega arith) c.in-Ok.ensures.means
+    (ap (λ words. c.args.first ∷ words) c.push-in-Ok.ensures.items)
     (c.decode_into.ensures.means ∙ ap (λ words. decode_of (c.args.first ∷ words)) c.as_slice.ensures.value)
     ∙ seeking_whole g.P.Port.bus _ c.loop.cpu _ _ _ c.decode_into.new.instruction c.in-Whole.length
     (ap (λ answer. told answer c.decode_into.new.instruction) c.in-Whole.is) c.loop.invariant.cpu
@@ -25,8 +25,8 @@ pub returns-in-Illegal-clause-means : goal.returns-in-Illegal-clause-means
 returns-in-Illegal-clause-means g c =
     sym c.loop.invariant.means
     ∙ seeking_on g.P.Port.bus _ _ (most_words - (c.loop.counter + 2)) _ c.loop.at (c.args.first ∷ c.loop.behind.items) c.in-Ok.word _ _
-    (c.args.first ∷ c.push.new.self.items) _ (omega arith) c.in-Ok.ensures.means
-    (ap (λ words. c.args.first ∷ words) c.push.ensures.items)
+    (c.args.first ∷ c.push-in-Ok.new.self.items) _ (omega arith) c.in-Ok.ensures.means
+    (ap (λ words. c.args.first ∷ words) c.push-in-Ok.ensures.items)
     (ap (λ answer. told answer c.decode_into.new.instruction) (sym c.in-Illegal.is) ∙ c.decode_into.ensures.means
     ∙ ap (λ words. decode_of (c.args.first ∷ words)) c.as_slice.ensures.value)
     ∙ seeking_none g.P.Port.bus _ c.loop.cpu 4 _ _ c.loop.invariant.cpu c.refuse.ensures.means
@@ -35,8 +35,8 @@ pub returns-in-LineA-clause-means : goal.returns-in-LineA-clause-means
 returns-in-LineA-clause-means g c =
     sym c.loop.invariant.means
     ∙ seeking_on g.P.Port.bus _ _ (most_words - (c.loop.counter + 2)) _ c.loop.at (c.args.first ∷ c.loop.behind.items) c.in-Ok.word _ _
-    (c.args.first ∷ c.push.new.self.items) _ (omega arith) c.in-Ok.ensures.means
-    (ap (λ words. c.args.first ∷ words) c.push.ensures.items)
+    (c.args.first ∷ c.push-in-Ok.new.self.items) _ (omega arith) c.in-Ok.ensures.means
+    (ap (λ words. c.args.first ∷ words) c.push-in-Ok.ensures.items)
     (ap (λ answer. told answer c.decode_into.new.instruction) (sym c.in-LineA.is) ∙ c.decode_into.ensures.means
     ∙ ap (λ words. decode_of (c.args.first ∷ words)) c.as_slice.ensures.value)
     ∙ seeking_none g.P.Port.bus _ c.loop.cpu 10 _ _ c.loop.invariant.cpu c.refuse-in-LineA.ensures.means
@@ -45,8 +45,8 @@ pub returns-in-LineF-clause-means : goal.returns-in-LineF-clause-means
 returns-in-LineF-clause-means g c =
     sym c.loop.invariant.means
     ∙ seeking_on g.P.Port.bus _ _ (most_words - (c.loop.counter + 2)) _ c.loop.at (c.args.first ∷ c.loop.behind.items) c.in-Ok.word _ _
-    (c.args.first ∷ c.push.new.self.items) _ (omega arith) c.in-Ok.ensures.means
-    (ap (λ words. c.args.first ∷ words) c.push.ensures.items)
+    (c.args.first ∷ c.push-in-Ok.new.self.items) _ (omega arith) c.in-Ok.ensures.means
+    (ap (λ words. c.args.first ∷ words) c.push-in-Ok.ensures.items)
     (ap (λ answer. told answer c.decode_into.new.instruction) (sym c.in-LineF.is) ∙ c.decode_into.ensures.means
     ∙ ap (λ words. decode_of (c.args.first ∷ words)) c.as_slice.ensures.value)
     ∙ seeking_none g.P.Port.bus _ c.loop.cpu 11 _ _ c.loop.invariant.cpu c.refuse-in-LineF.ensures.means
@@ -56,13 +56,13 @@ loop-preserved g c =
     let even = c.loop.invariant.even in
     let count = c.loop.invariant.count in record {
       means = sym (seeking_on g.P.Port.bus _ _ (most_words - (c.loop.counter + 1 + 1)) _ c.loop.at (c.args.first ∷ c.loop.behind.items) c.in-Ok.word _ _
-          (c.args.first ∷ c.push.new.self.items) _ (omega arith) c.in-Ok.ensures.means
-          (ap (λ words. c.args.first ∷ words) c.push.ensures.items)
+          (c.args.first ∷ c.push-in-Ok.new.self.items) _ (omega arith) c.in-Ok.ensures.means
+          (ap (λ words. c.args.first ∷ words) c.push-in-Ok.ensures.items)
           (ap (λ answer. told answer c.decode_into.new.instruction) (sym c.in-More.is) ∙ c.decode_into.ensures.means
           ∙ ap (λ words. decode_of (c.args.first ∷ words)) c.as_slice.ensures.value))
           ∙ c.loop.invariant.means;
       even = omega arith;
-      count = c.push.ensures.len ∙ ap (λ (n : ℕ). n + 1) count;
+      count = c.push-in-Ok.ensures.len ∙ ap (λ (n : ℕ). n + 1) count;
       cpu = c.loop.invariant.cpu;
       rest = c.in-Ok.ensures.rest ∙ c.loop.invariant.rest;
     }

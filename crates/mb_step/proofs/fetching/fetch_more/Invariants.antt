@@ -2,12 +2,12 @@ use Rattle.std.proofs.Common.{◌≡◌, ◌-◌, ◌+◌, ◌%◌, ◌^◌, [],
 use Rattle.mb_model.specs.Status.{space_of}
 use Rattle.mb_meaning.specs.Attempt.{most_words}
 use Rattle.mb_step.proofs.Fetches.{seeking}
-use Rattle.mb_step.proofs.fetching.fetch_longer.Given as goal
+use Rattle.mb_step.proofs.fetching.fetch_more.Given as goal
 
 abbrev pub invariant-loop : goal.invariant-loop
 invariant-loop g l = record {
   means : seeking g.P.Port.bus l.fn.cpu l.space (most_words - (l.counter + 1)) l.at (l.first ∷ l.behind.items) (g.P.Port.world l.port)
-      ≡ seeking g.P.Port.bus l.fn.cpu (space_of l.fn.cpu) (most_words - 1) ((l.fn.cpu.regs.pc + 2) % 2 ^ 32) (l.first ∷ []) (g.P.Port.world l.fn.port);
+      ≡ seeking g.P.Port.bus l.fn.cpu (space_of l.fn.cpu) (most_words - 2) ((l.second_at + 2) % 2 ^ 32) (l.first ∷ l.second ∷ []) (g.P.Port.world l.fn.port);
   even : l.at % 2 ≡ 0;
   count : length l.behind.items ≡ l.counter;
   cpu : l.cpu ≡ l.fn.cpu;
