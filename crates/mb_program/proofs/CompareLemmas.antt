@@ -10,11 +10,13 @@ use Rattle.mb_outside.specs.Prints.{Printed, PrintedPart}
 use Rattle.mb_model.specs.Keeping.{rule_a, rule_k}
 use Rattle.mb_model.specs.Seen.{Seen}
 use Rattle.mb_report.specs.Same.{same_seen}
+use Rattle.vm_meaning.specs.Native.{NativeState}
 use Rattle.vm_guest.specs.Session.{GuestAtStart, SessionAtStart}
 use Rattle.vm_slices.specs.Fit.{Fits}
 use Rattle.vm_slices.specs.Members.{numbered, shown_of}
 use Rattle.vm_slices.specs.Places.{HostState, members_in}
 use Rattle.mb_program.specs.Answers.{compare_answer, compare_shown, compared_text, is_same, outcome_by, texts_from}
+use Rattle.mb_program.specs.Direct.{carried_out}
 use Rattle.mb_program.specs.Compares.{found_of, outcome_ahead, same_each}
 use Rattle.mb_program.specs.Ends.{SinkSeen, GivesAnswer}
 use Rattle.mb_program.proofs.ShowLemmas.{fitting}
@@ -138,27 +140,31 @@ status_so : (guests : List GuestAtStart) (all : Bool) (found : List Bool) → fo
 status_so guests all found same is =
     ap (λ (b : Bool). let n : ℕ = cond b 0 1 in n) (sym (is ∙ ap (λ bs. list_all (λ (same : Bool). same) bs) same ∙ all_said guests))
 
-pub compared_same : (s : SessionAtStart) (found : List Bool) (out out_after : SinkSeen) → Fits s → found ≡ map is_same s.guests
-    → true ≡ list_all (λ (same : Bool). same) found
-    → Printed out.taken out_after.taken out.faults out_after.faults (texts_from compared_text 1 found) → GivesAnswer (compare_answer s) out out_after Done
-compared_same s found out out_after fits same all printed =
+pub compared_same : (s : SessionAtStart) (found : List Bool) (out out_after : SinkSeen) (native native_after : NativeState) → Fits s
+    → found ≡ map is_same s.guests → native_after ≡ carried_out s native → true ≡ list_all (λ (same : Bool). same) found
+    → Printed out.taken out_after.taken out.faults out_after.faults (texts_from compared_text 1 found)
+    → GivesAnswer (compare_answer s) out out_after native native_after Done
+compared_same s found out out_after native native_after fits same counted all printed =
     let text : Printed out.taken out_after.taken out.faults out_after.faults (texts_from compared_text 1 (map is_same s.guests)) =
     subst (λ (bs : List Bool). Printed out.taken out_after.taken out.faults out_after.faults (texts_from compared_text 1 bs)) same printed in
-    fitting s (compare_shown s.guests) out out_after Done fits
-    (λ shelf shelf_after stayed. (stayed, printed.same, (text, refl, status_so s.guests true found same all)))
+    fitting s (compare_shown s) out out_after native native_after Done fits
+    (λ shelf shelf_after stayed. (stayed, printed.same, (text, status_so s.guests true found same all, counted), (refl, refl)))
 
-pub compared_other : (s : SessionAtStart) (found : List Bool) (out out_after : SinkSeen) → Fits s → found ≡ map is_same s.guests
-    → false ≡ list_all (λ (same : Bool). same) found
-    → Printed out.taken out_after.taken out.faults out_after.faults (texts_from compared_text 1 found) → GivesAnswer (compare_answer s) out out_after Differs
-compared_other s found out out_after fits same all printed =
+pub compared_other : (s : SessionAtStart) (found : List Bool) (out out_after : SinkSeen) (native native_after : NativeState) → Fits s
+    → found ≡ map is_same s.guests → native_after ≡ carried_out s native → false ≡ list_all (λ (same : Bool). same) found
+    → Printed out.taken out_after.taken out.faults out_after.faults (texts_from compared_text 1 found)
+    → GivesAnswer (compare_answer s) out out_after native native_after Differs
+compared_other s found out out_after native native_after fits same counted all printed =
     let text : Printed out.taken out_after.taken out.faults out_after.faults (texts_from compared_text 1 (map is_same s.guests)) =
     subst (λ (bs : List Bool). Printed out.taken out_after.taken out.faults out_after.faults (texts_from compared_text 1 bs)) same printed in
-    fitting s (compare_shown s.guests) out out_after Differs fits
-    (λ shelf shelf_after stayed. (stayed, printed.same, (text, refl, status_so s.guests false found same all)))
+    fitting s (compare_shown s) out out_after native native_after Differs fits
+    (λ shelf shelf_after stayed. (stayed, printed.same, (text, status_so s.guests false found same all, counted), (refl, refl)))
 
-pub compared_cut : (s : SessionAtStart) (found : List Bool) (out out_after : SinkSeen) → Fits s → found ≡ map is_same s.guests
-    → PrintedPart out.taken out_after.taken out.faults out_after.faults (texts_from compared_text 1 found) → GivesAnswer (compare_answer s) out out_after Output
-compared_cut s found out out_after fits same printed =
+pub compared_cut : (s : SessionAtStart) (found : List Bool) (out out_after : SinkSeen) (native native_after : NativeState) → Fits s
+    → found ≡ map is_same s.guests → native_after ≡ carried_out s native
+    → PrintedPart out.taken out_after.taken out.faults out_after.faults (texts_from compared_text 1 found)
+    → GivesAnswer (compare_answer s) out out_after native native_after Output
+compared_cut s found out out_after native native_after fits same counted printed =
     let part : PrintedPart out.taken out_after.taken out.faults out_after.faults (texts_from compared_text 1 (map is_same s.guests)) =
     subst (λ (bs : List Bool). PrintedPart out.taken out_after.taken out.faults out_after.faults (texts_from compared_text 1 bs)) same printed in
-    fitting s (compare_shown s.guests) out out_after Output fits (λ shelf shelf_after stayed. (stayed, printed.rose, part))
+    fitting s (compare_shown s) out out_after native native_after Output fits (λ shelf shelf_after stayed. (stayed, printed.rose, (part, counted)))

@@ -3,12 +3,12 @@ use Rattle.std.proofs.Common.{◌≡◌, ◌≤◌, inl, inr, length, refl, sym,
 use Rattle.std.specs.Prelude.{IfSome, option_and_then, string_bytes}
 use Rattle.std.proofs.lemmas.Bool.{le-ltb, lt-ltb}
 use Rattle.mb_words.specs.Words.{Text}
-use Rattle.mb_program.specs.Answers.{Answer, Told, Course, reads_as, reads_if_named, unless_long, unless_refused, most_bytes, answer_at, Names}
-use Rattle.mb_program.specs.Ends.{Around, ShelfSeen, CourseEnds, PutsNothing, IsRefused}
+use Rattle.mb_program.specs.Answers.{Answer, Told, Course, reads_as, reads_if_named, unless_long, unless_refused, most_bytes, answer_at, MayEnd, Names}
+use Rattle.mb_program.specs.Ends.{Around, ShelfSeen, CourseEnds, DoesNothing, HasLines, IsRefused, SaysBeside}
 use Rattle.mb_program.specs.Reads.{Holds, FileEnds, IsRefusedFor, Passes, Reads}
 use Rattle.mb_program.specs.declared.end.FileWhy.{FileWhy}
 use Rattle.mb_program.specs.declared.end.End.{End}
-use Rattle.mb_program.specs.declared.end.End.TheVariants.{Done, Differs, Words, Refused, Oversize, Unread, Output, Memory}
+use Rattle.mb_program.specs.declared.end.End.TheVariants.{Done, Hosted, Differs, Words, Refused, Oversize, Unread, Output, Memory}
 
 -- what holds of what comes behind a file's bytes, where they are so, holds where the file is told
 where_told : (o : Option Text) (R : Text → Type 0) (f : Text → Option Answer) (P : Answer → Type 0)
@@ -37,12 +37,24 @@ named_behind : {A : Type 0} (told : Told) (held_in : Text → Result A FileWhy) 
 named_behind {A} told held_in file held next name h names =
     inr (h.bytes, h.short, h.is_told, subst (λ (r : Result A FileWhy). Names told (unless_refused file r next) name) (sym h.holds) names)
 
+-- lines that are said behind it are said beside the answer
+says_behind : {A : Type 0} (a : Around) (held_in : Text → Result A FileWhy) (file : Text) (held : A) (next : A → Course) (lines : Text)
+    → Holds a.shelf.told held_in file held → SaysBeside (next held) a lines → SaysBeside (reads_as held_in file next) a lines
+says_behind {A} a held_in file held next lines h says = (
+  answer_behind a.shelf.told held_in file held next (HasLines lines) h says.0,
+  (h.bytes, h.short, h.is_told, subst (λ (r : Result A FileWhy). MayEnd a.shelf.told (unless_refused file r next) (HasLines lines)) (sym h.holds) says.1),
+)
+
 -- a course ends as what is left of it does behind a file that was read
 pub goes_on : {A : Type 0} (a : Around) (held_in : Text → Result A FileWhy) (file : Text) (held : A) (next : A → Course) (end : End)
     → Holds a.shelf.told held_in file held
     → CourseEnds (next held) a end → CourseEnds (reads_as held_in file next) a end
-goes_on a held_in file held next Done h e = (e.0, e.1, answer_behind a.shelf.told held_in file held next _ h e.2)
-goes_on a held_in file held next Differs h e = (e.0, e.1, answer_behind a.shelf.told held_in file held next _ h e.2)
+goes_on a held_in file held next Done h e =
+    (e.0, e.1, answer_behind a.shelf.told held_in file held next _ h e.2, says_behind a held_in file held next _ h e.3)
+goes_on a held_in file held next (Hosted host) h e =
+    (e.0, e.1, answer_behind a.shelf.told held_in file held next _ h e.2, says_behind a held_in file held next _ h e.3)
+goes_on a held_in file held next Differs h e =
+    (e.0, e.1, answer_behind a.shelf.told held_in file held next _ h e.2, says_behind a held_in file held next _ h e.3)
 goes_on a held_in file held next Words h e = e
 goes_on a held_in file held next (Refused name why) h e =
     (named_behind a.shelf.told held_in file held next _ h e.0, e.1, e.2, answer_behind a.shelf.told held_in file held next _ h e.3)
@@ -61,8 +73,9 @@ refusal told held_in file next name why bytes named (inr bad) =
 
 -- a course ends at its first file where that is the cause of an end
 pub ends_at : {A : Type 0} (a : Around) (held_in : Text → Result A FileWhy) (file : Text) (next : A → Course) (end : End)
-    → FileEnds a.shelf a.shelf_after file (IsRefusedFor held_in) end → PutsNothing a → CourseEnds (reads_as held_in file next) a end
+    → FileEnds a.shelf a.shelf_after file (IsRefusedFor held_in) end → DoesNothing a → CourseEnds (reads_as held_in file next) a end
 ends_at a held_in file next Done e nothing = absurd e
+ends_at a held_in file next (Hosted host) e nothing = absurd e
 ends_at a held_in file next Differs e nothing = absurd e
 ends_at a held_in file next Words e nothing = absurd e
 ends_at a held_in file next (Refused name why) e nothing = (

@@ -8,7 +8,7 @@ use Rattle.mb_program.specs.Ends.{Around, Ends}
 use Rattle.mb_program.specs.Causes.{IsAllTold, IsStatus}
 use Rattle.mb_program.specs.Lines.{status_of}
 use Rattle.mb_program.specs.declared.end.End.{End}
-use Rattle.mb_program.specs.declared.end.End.TheVariants.{Done, Differs, Words, Refused, Oversize, Unread, Output, Memory}
+use Rattle.mb_program.specs.declared.end.End.TheVariants.{Done, Hosted, Differs, Words, Refused, Oversize, Unread, Output, Memory}
 
 -- what goes on by a value that gives something had that value
 gave : {A B : Type 0} (o : Option A) (f : A → Option B) → is_some (option_and_then f o) ≡ true → (x : A) × (o ≡ Some x) × (is_some (f x) ≡ true)
@@ -44,6 +44,7 @@ named_is_told told (reads file next) name known (inr later) =
 pub unread_never : (asked : Option Asked) (a : Around) (end : End) → Ends asked a end → IsAllTold asked a → status_of end ≡ 5 → ⊥
 unread_never None a end h all e = all.1
 unread_never (Some asked) a Done h all e = absurd cc
+unread_never (Some asked) a (Hosted host) h all e = absurd cc
 unread_never (Some asked) a Differs h all e = absurd cc
 unread_never (Some asked) a Words h all e = absurd h
 unread_never (Some asked) a (Refused name why) h all e = absurd cc
@@ -55,6 +56,7 @@ unread_never (Some asked) a Memory h all e = absurd cc
 -- the status of each end is one of the eight
 pub status_known : (end : End) → IsStatus (status_of end)
 status_known Done = inl refl
+status_known (Hosted host) = inl refl
 status_known Differs = inr (inl refl)
 status_known Words = inr (inr (inl refl))
 status_known (Refused name why) = inr (inr (inr (inl refl)))

@@ -62,7 +62,8 @@ one_more guests left guest read one s t u h p = record {
 
 -- a guest of whom a file is the cause of an end
 pub guest_ends : {Z : Type 0} (shown : Z → List GuestAtStart) (guests left : List Guest) (guest : Guest) (read : List GuestAtStart)
-    (end : End) (s t u : ShelfSeen) → ReadSoFar guests (guest ∷ left) read s t → Passes (reads_guest (run_of_guest guest)) (λ (g : GuestAtStart). g) t u (Err end)
+    (end : End) (s t u : ShelfSeen) → ReadSoFar guests (guest ∷ left) read s t
+    → Passes (reads_guest (run_of_guest guest)) (λ (g : GuestAtStart). g) t u (Err end)
     → Passes (reads_guests guests []) shown s u (Err end)
 guest_ends shown guests left guest read end s t u h p = λ next a same same_after nothing.
     h.goes_on next a end same (p (λ g. reads_guests left (read ++ g ∷ []) next) a (same ∙ sym h.stayed) same_after nothing)

@@ -1,5 +1,6 @@
 pub mod ChunkLemmas
 pub mod FileLemmas
+pub mod EndLemmas
 pub mod CourseLemmas
 pub mod GuestLemmas
 pub mod SessionLemmas

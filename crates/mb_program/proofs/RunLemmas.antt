@@ -1,18 +1,24 @@
 -- The guests of a session after their rounds show the outcomes of their own runs.
-use Rattle.std.proofs.Common.{◌≡◌, ◌∙◌, ◌<◌, inl, inr, List, [], ◌∷◌, map, refl, ap, arith, Result, Ok, Err}
+use Rattle.std.proofs.Common.{◌≡◌, ◌∙◌, ◌<◌, ℕ, ◌+◌, inl, inr, List, [], ◌∷◌, map, refl, sym, ap, arith, Result, Ok, Err, sum_by}
 use Rattle.std.specs.Prelude.{◌-◌}
+use Rattle.std.proofs.lemmas.List.Sums.{sum_by-cons}
 use Rattle.std.proofs.lemmas.Bool.Decides.{leb_tells}
 use Rattle.mb_model.specs.Keeping.{rule_k}
 use Rattle.mb_machine.specs.Machine.{reset_with, run_of, seen_machine, start}
+use Rattle.vm_meaning.specs.Marks.{trail}
+use Rattle.vm_meaning.specs.Native.{NativeState}
 use Rattle.vm_machine.specs.Rounds.{Member, left}
+use Rattle.vm_machine.specs.Turns.{Tally, exits, prepared, turn_of}
 use Rattle.vm_guest.specs.Session.{GuestAtStart, SessionAtStart}
+use Rattle.vm_slices.specs.Counting.{AreCounted, exits_by, retired_by}
 use Rattle.vm_slices.specs.Fit.{Fits, need_of}
 use Rattle.vm_slices.specs.Places.{HostState}
 use Rattle.vm_slices.specs.declared.open_fault.OpenFault.{OpenFault}
 use Rattle.vm_slices.specs.declared.open_fault.OpenFault.TheVariants as open_fault
 use Rattle.mb_program.specs.Runs.{Runs}
-use Rattle.vm_slices.specs.Members.{machine_at_end, machines_of, member_at_start, shown_of}
+use Rattle.vm_slices.specs.Members.{after_rounds, machine_at_end, machines_of, member_at_start, shown_of, tallies_of, tally_at_end}
 use Rattle.mb_program.specs.Answers.{outcome_by}
+use Rattle.mb_program.specs.Direct.{carried_out, hosted_by, tallies_by, tally_by}
 
 -- a guest has all its steps left at its start
 all_left : (g : GuestAtStart) → left (member_at_start g) ≡ g.steps
@@ -40,6 +46,68 @@ pub shown_so : (guests : List GuestAtStart) (before after : List Member) → bef
 shown_so guests before after begun ended =
     shown_machines after ∙ ap (λ ms. map seen_machine ms) (ended ∙ ap (λ ms. map machine_at_end ms) begun) ∙ all_ended guests
 
+-- ---- what is counted
+
+tally_so : (g : GuestAtStart) → tally_at_end (member_at_start g) ≡ tally_by g
+unfolding tally_by
+tally_so g = ap (λ n. (turn_of g.script n (prepared g.image g.ram)).tally) (all_left g)
+
+all_tallied : (guests : List GuestAtStart) → map tally_at_end (map member_at_start guests) ≡ tallies_by guests
+all_tallied [] = refl
+all_tallied (g ∷ guests) =
+    ap (λ t. t ∷ map tally_at_end (map member_at_start guests)) (tally_so g) ∙ ap (λ ts. tally_by g ∷ ts) (all_tallied guests)
+
+-- after the rounds that are promised of a host
+pub tallied_so : (guests : List GuestAtStart) (before after : List Member) → before ≡ map member_at_start guests
+    → tallies_of after ≡ map tally_at_end before → tallies_of after ≡ tallies_by guests
+tallied_so guests before after begun ended = ended ∙ ap (λ ms. map tally_at_end ms) begun ∙ all_tallied guests
+
+none_retired : (guests : List GuestAtStart) → retired_by (map member_at_start guests) ≡ 0
+none_retired [] = refl
+none_retired (g ∷ guests) = omega (arith, none_retired guests)
+
+none_left : (guests : List GuestAtStart) → exits_by (map member_at_start guests) ≡ 0
+none_left [] = refl
+none_left (g ∷ guests) = omega (arith, none_left guests)
+
+retired_sum : (members : List Member) → retired_by members ≡ sum_by (λ (t : Tally). t.retired) (tallies_of members)
+retired_sum [] = refl
+retired_sum (m ∷ members) =
+    ap (λ (n : ℕ). m.tally.retired + n) (retired_sum members) ∙ sym (sum_by-cons (λ (t : Tally). t.retired) m.tally (tallies_of members))
+
+exits_sum : (members : List Member) → exits_by members ≡ sum_by exits (tallies_of members)
+exits_sum [] = refl
+exits_sum (m ∷ members) = ap (λ (n : ℕ). exits m.tally + n) (exits_sum members) ∙ sym (sum_by-cons exits m.tally (tallies_of members))
+
+-- from the start of all guests to their end
+pub carried_so : (s : SessionAtStart) (slice : ℕ) (before after : List Member) (native native_after : NativeState)
+    → before ≡ map member_at_start s.guests → slice ≡ s.slice → tallies_of after ≡ map tally_at_end before
+    → AreCounted before after (after_rounds slice before).marks native native_after → native_after ≡ carried_out s native
+unfolding carried_out hosted_by
+carried_so s slice before after native native_after begun same ended counted =
+    let tallies = tallied_so s.guests before after begun ended in
+    let none : retired_by before ≡ 0 = ap (λ ms. retired_by ms) begun ∙ none_retired s.guests in
+    let stayed : exits_by before ≡ 0 = ap (λ ms. exits_by ms) begun ∙ none_left s.guests in
+    let sum : retired_by after ≡ sum_by (λ (t : Tally). t.retired) (tallies_by s.guests) =
+    retired_sum after ∙ ap (λ ts. sum_by (λ (t : Tally). t.retired) ts) tallies in
+    let left : exits_by after ≡ sum_by exits (tallies_by s.guests) = exits_sum after ∙ ap (λ ts. sum_by exits ts) tallies in
+    let steps = counted.retired in
+    let faults = counted.exceptions in
+    let retired : native_after.retired ≡ native.retired + sum_by (λ (t : Tally). t.retired) (tallies_by s.guests) =
+    omega (arith, steps, none, sum) in
+    let exceptions : native_after.exceptions ≡ native.exceptions + sum_by exits (tallies_by s.guests) =
+    omega (arith, faults, stayed, left) in
+    let marks : native_after.trail ≡ trail native.trail (after_rounds s.slice (map member_at_start s.guests)).marks =
+    counted.trail ∙ ap (λ (n : ℕ). trail native.trail (after_rounds n before).marks) same
+    ∙ ap (λ ms. trail native.trail (after_rounds s.slice ms).marks) begun in
+    let x : NativeState = record { retired = native_after.retired; exceptions = native_after.exceptions; trail = native_after.trail } in
+    let y : NativeState = record {
+      retired = native.retired + sum_by (λ (t : Tally). t.retired) (tallies_by s.guests);
+      exceptions = native.exceptions + sum_by exits (tallies_by s.guests);
+      trail = trail native.trail (after_rounds s.slice (map member_at_start s.guests)).marks;
+    } in
+    let e : x ≡ y = cc (retired, exceptions, marks) in e
+
 -- ---- what preparing a session tells of its size
 
 -- there is a host only of a session that fits
@@ -48,7 +116,8 @@ pub fits_so : (s : SessionAtStart) (r : Result HostState OpenFault) (host : Host
 fits_so s r host fault ok big = elim (leb_tells (need_of s.guests) s.board) [ inl less ↦ less.1 | inr more ↦ absurd (cc (big more.1)) ]
 
 pub not_prepared : (s : SessionAtStart) (fault : OpenFault) → (Fits s → fault ≡ open_fault.Memory)
-    → (s.board < need_of s.guests → ◌≡◌ {A = Result HostState OpenFault} (Err fault) (Err (open_fault.Oversize (need_of s.guests) s.board))) → Runs s (Err fault)
+    → (s.board < need_of s.guests → ◌≡◌ {A = Result HostState OpenFault} (Err fault) (Err (open_fault.Oversize (need_of s.guests) s.board)))
+    → Runs s (Err fault)
 not_prepared s open_fault.Memory fits big = tt
 not_prepared s (open_fault.Oversize need have) fits big = elim (leb_tells (need_of s.guests) s.board)
     [ inl less ↦ absurd (cc (fits less.1)) | inr more ↦ (more.1, cc (big more.1), cc (big more.1)) ]

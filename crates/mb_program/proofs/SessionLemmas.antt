@@ -1,5 +1,5 @@
 -- What is promised of a session follows from the answer at the end of its course.
-use Rattle.std.proofs.Common.{◌≡◌, ◌∙◌, ◌⊎◌, ℕ, ◌*◌, ◌++◌, List, [], ◌∷◌, inl, inr, length, refl, sym, ap, append_assoc, Bool, true, false, Option, Some, None, Result, cond}
+use Rattle.std.proofs.Common.{◌≡◌, ◌∙◌, ◌⊎◌, ℕ, ◌*◌, ◌++◌, List, [], ◌∷◌, inl, inr, length, refl, sym, ap, subst, append_assoc, Bool, true, false, Option, Some, None, Result, cond}
 use Rattle.std.specs.List.{list_all}
 use Rattle.std.proofs.lemmas.Bool.{le-ltb}
 use Rattle.std.proofs.lemmas.List.{append-nil}
@@ -10,9 +10,9 @@ use Rattle.mb_words.specs.Words.{Text, Workload, Asked, hosting, comparison, gen
 use Rattle.vm_guest.specs.Session.{GuestAtStart, SessionAtStart}
 use Rattle.vm_slices.specs.Fit.{Fits, need_of}
 use Rattle.mb_program.specs.Answers.{Answer, shows, Shown, Told, Course, ends, most_bytes, answer_at, course_of, reads_as, reads_if_named, reads_guest, reads_guests, reads_session, guest_by, run_of_guest, session_by, script_in, image_in, session_in, if_it_fits, host_answer, host_shown, compare_answer, compare_shown, is_same, gen_shown}
-use Rattle.mb_program.specs.Ends.{Around, FailsNowhere, IsShown}
+use Rattle.mb_program.specs.Ends.{Around, FailsNowhere, IsSaid, IsShown, Said}
 use Rattle.mb_program.specs.Sessions.{Tells, TellsScript, TellsGuest, TellsGuests, TellsSession, IsHosted, IsCompared, IsGenerated}
-use Rattle.mb_program.specs.Causes.{AsksFor, IsComplete, LeadsTo}
+use Rattle.mb_program.specs.Causes.{AsksFor, IsComplete, LeadsTo, SaysShown}
 use Rattle.mb_program.specs.declared.end.FileWhy.{FileWhy}
 
 -- ---- the answer behind files that are told
@@ -69,12 +69,12 @@ pub it_fits : (s : SessionAtStart) (shown : Shown) → Fits s → if_it_fits s s
 it_fits s shown fits = rw (le-ltb s.board (need_of s.guests) fits) refl
 
 host_known : (told : Told) (name : Text) (s : SessionAtStart) → TellsSession told name s → Fits s
-    → answer_at told (course_of (hosting name)) ≡ Some (shows (host_shown s.guests))
+    → answer_at told (course_of (hosting name)) ≡ Some (shows (host_shown s))
 unfolding course_of
 host_known told name s t fits = at_session told name s (λ r. ends (host_answer r)) t ∙ ap (λ (answer : Answer). Some answer) (it_fits s _ fits)
 
 pub compare_known : (told : Told) (name : Text) (s : SessionAtStart) → TellsSession told name s → Fits s
-    → answer_at told (course_of (comparison name)) ≡ Some (shows (compare_shown s.guests))
+    → answer_at told (course_of (comparison name)) ≡ Some (shows (compare_shown s))
 unfolding course_of
 compare_known told name s t fits = at_session told name s (λ r. ends (compare_answer r)) t ∙ ap (λ (answer : Answer). Some answer) (it_fits s _ fits)
 
@@ -88,14 +88,26 @@ led_so : (asked : Option Asked) (command : Asked) (a : Around) (answer : Answer)
     → answer_at a.shelf.told (course_of command) ≡ Some answer → IsComplete asked a status → FailsNowhere a → LeadsTo a status answer
 led_so asked command a answer status is known h fine = rw known at ((rw is at h) fine)
 
-pub hosts : (asked : Option Asked) (a : Around) (status : ℕ) → (status ≡ 0 → AsksFor asked a (IsShown a 0)) → IsComplete asked a status
-    → IsHosted asked a status
-hosts asked a status done complete name s is tells fits =
+-- the lines that an answer has were said
+lines_so : (asked : Option Asked) (command : Asked) (a : Around) (said : Said) (shown : Shown) → asked ≡ Some command
+    → answer_at a.shelf.told (course_of command) ≡ Some (shows shown) → SaysShown asked a said → IsSaid said shown.lines
+lines_so asked command a said shown is known h =
+    let put = rw is at h in
+    let same : shown.lines ≡ put.0 = rw known at put.1.0 in
+    subst (λ (lines : Text). IsSaid said lines) (sym same) put.2
+
+pub hosts : (asked : Option Asked) (a : Around) (said : Said) (status : ℕ) → (status ≡ 0 → AsksFor asked a (IsShown a 0))
+    → (status ≡ 0 → SaysShown asked a said) → IsComplete asked a status → IsHosted asked a said status
+hosts asked a said status done says complete name s is tells fits =
     let known = host_known a.shelf.told name s tells fits in
+    let shown = host_shown s in
+    let zeros = λ (zero : status ≡ 0). asked_so asked (hosting name) a (shows shown) (IsShown a 0) is known (done zero) in
     record {
-      printed = λ zero. (asked_so asked (hosting name) a (shows (host_shown s.guests)) (IsShown a 0) is known (done zero)).0.grows;
-      ended = λ fine. elim (led_so asked (hosting name) a (shows (host_shown s.guests)) status is known complete fine)
+      printed = λ zero. (zeros zero).0.grows;
+      ended = λ fine. elim (led_so asked (hosting name) a (shows shown) status is known complete fine)
           [ inl written ↦ inl written.0 | inr gone ↦ inr gone.0 ];
+      tallied = λ zero. lines_so asked (hosting name) a said shown is known (says zero);
+      direct = λ zero. (zeros zero).2;
     }
 
 -- ---- compare
@@ -116,21 +128,22 @@ pub compares : (asked : Option Asked) (a : Around) (status : ℕ) → (status �
     → IsComplete asked a status → IsCompared asked a status
 compares asked a status done differs complete name s is tells fits =
     let known = compare_known a.shelf.told name s tells fits in
-    let shown = shows (compare_shown s.guests) in
+    let shown = shows (compare_shown s) in
     let zeros = λ (zero : status ≡ 0). asked_so asked (comparison name) a shown (IsShown a 0) is known (done zero) in
     let ones = λ (one : status ≡ 1). asked_so asked (comparison name) a shown (IsShown a 1) is known (differs one) in
     record {
       printed = λ told. elim told [ inl zero ↦ (zeros zero).0.grows | inr one ↦ (ones one).0.grows ];
-      same = λ zero. all_same (list_all is_same s.guests) (zeros zero).2;
-      differs = λ one. some_differ (list_all is_same s.guests) (ones one).2;
+      same = λ zero. all_same (list_all is_same s.guests) (zeros zero).1;
+      differs = λ one. some_differ (list_all is_same s.guests) (ones one).1;
       ended = λ fine. elim (led_so asked (comparison name) a shown status is known complete fine)
           [ inl written ↦ either (list_all is_same s.guests) status written.0 | inr gone ↦ inr (inr gone.0) ];
+      direct = λ told. elim told [ inl zero ↦ (zeros zero).2 | inr one ↦ (ones one).2 ];
     }
 
 -- ---- gen
 
 summary_known : (told : Told) (workload : Workload)
-    → answer_at told (course_of (generation workload)) ≡ Some (shows (gen_shown (generated workload.seed workload.guests).guests))
+    → answer_at told (course_of (generation workload)) ≡ Some (shows (gen_shown (generated workload.seed workload.guests)))
 unfolding course_of
 summary_known told workload = refl
 
@@ -138,8 +151,10 @@ pub generates : (asked : Option Asked) (a : Around) (status : ℕ) → (status �
     → IsGenerated asked a status
 generates asked a status done complete workload is =
     let known = summary_known a.shelf.told workload in
-    let shown = shows (gen_shown (generated workload.seed workload.guests).guests) in
+    let shown = shows (gen_shown (generated workload.seed workload.guests)) in
+    let zeros = λ (zero : status ≡ 0). asked_so asked (generation workload) a shown (IsShown a 0) is known (done zero) in
     record {
-      printed = λ zero. (asked_so asked (generation workload) a shown (IsShown a 0) is known (done zero)).0.grows;
+      printed = λ zero. (zeros zero).0.grows;
       ended = λ fine. elim (led_so asked (generation workload) a shown status is known complete fine) [ inl written ↦ inl written.0 | inr gone ↦ inr gone.0 ];
+      direct = λ zero. (zeros zero).2;
     }

@@ -5,11 +5,13 @@ use Rattle.mb_model.specs.Keeping.{rule_k}
 use Rattle.mb_model.specs.Seen.{Seen}
 use Rattle.mb_gen.specs.Sessions.{generated, IsJustFilled}
 use Rattle.mb_words.specs.Words.{Workload}
+use Rattle.vm_meaning.specs.Native.{NativeState}
 use Rattle.vm_guest.specs.Session.{SessionAtStart}
 use Rattle.vm_slices.specs.Fit.{need_of}
 use Rattle.vm_slices.specs.declared.open_fault.OpenFault.{OpenFault}
 use Rattle.vm_slices.specs.declared.open_fault.OpenFault.TheVariants as open_fault
 use Rattle.mb_program.specs.Answers.{gen_answer, outcome_by, summary_text}
+use Rattle.mb_program.specs.Direct.{carried_out}
 use Rattle.mb_program.specs.Ends.{SinkSeen, GivesAnswer}
 use Rattle.mb_program.specs.Runs.{Runs, unopened}
 use Rattle.mb_program.specs.declared.end.End.TheVariants.{Done, Output}
@@ -19,30 +21,38 @@ made_so : (workload : Workload) (s : SessionAtStart) (shown : List Seen) → s �
     → shown ≡ map (outcome_by rule_k) s.guests → shown ≡ map (outcome_by rule_k) (generated workload.seed workload.guests).guests
 made_so workload s shown is same = same ∙ ap (λ (r : SessionAtStart). map (outcome_by rule_k) r.guests) is
 
-pub summary_done : (workload : Workload) (s : SessionAtStart) (shown : List Seen) (out out_after : SinkSeen) → s ≡ generated workload.seed workload.guests
-    → shown ≡ map (outcome_by rule_k) s.guests → Printed out.taken out_after.taken out.faults out_after.faults (summary_text shown)
-    → GivesAnswer (gen_answer workload) out out_after Done
-summary_done workload s shown out out_after is same printed =
+-- and what is counted of them is what it gives
+counted_so : (workload : Workload) (s : SessionAtStart) (native native_after : NativeState) → s ≡ generated workload.seed workload.guests
+    → native_after ≡ carried_out s native → native_after ≡ carried_out (generated workload.seed workload.guests) native
+counted_so workload s native native_after is counted = counted ∙ ap (λ (r : SessionAtStart). carried_out r native) is
+
+pub summary_done : (workload : Workload) (s : SessionAtStart) (shown : List Seen) (out out_after : SinkSeen) (native native_after : NativeState)
+    → s ≡ generated workload.seed workload.guests → shown ≡ map (outcome_by rule_k) s.guests → native_after ≡ carried_out s native
+    → Printed out.taken out_after.taken out.faults out_after.faults (summary_text shown)
+    → GivesAnswer (gen_answer workload) out out_after native native_after Done
+summary_done workload s shown out out_after native native_after is same counted printed =
     let all : Printed out.taken out_after.taken out.faults out_after.faults
     (summary_text (map (outcome_by rule_k) (generated workload.seed workload.guests).guests)) =
-    subst (λ (seen : List Seen). Printed out.taken out_after.taken out.faults out_after.faults (summary_text seen)) (made_so workload s shown is same) printed in
-    λ shelf shelf_after stayed. (stayed, printed.same, (all, refl, refl))
+    subst (λ (seen : List Seen). Printed out.taken out_after.taken out.faults out_after.faults (summary_text seen))
+    (made_so workload s shown is same) printed in
+    λ shelf shelf_after stayed. (stayed, printed.same, (all, refl, counted_so workload s native native_after is counted), (refl, refl))
 
-pub summary_cut : (workload : Workload) (s : SessionAtStart) (shown : List Seen) (out out_after : SinkSeen) → s ≡ generated workload.seed workload.guests
-    → shown ≡ map (outcome_by rule_k) s.guests → PrintedPart out.taken out_after.taken out.faults out_after.faults (summary_text shown)
-    → GivesAnswer (gen_answer workload) out out_after Output
-summary_cut workload s shown out out_after is same printed =
+pub summary_cut : (workload : Workload) (s : SessionAtStart) (shown : List Seen) (out out_after : SinkSeen) (native native_after : NativeState)
+    → s ≡ generated workload.seed workload.guests → shown ≡ map (outcome_by rule_k) s.guests → native_after ≡ carried_out s native
+    → PrintedPart out.taken out_after.taken out.faults out_after.faults (summary_text shown)
+    → GivesAnswer (gen_answer workload) out out_after native native_after Output
+summary_cut workload s shown out out_after native native_after is same counted printed =
     let part : PrintedPart out.taken out_after.taken out.faults out_after.faults
     (summary_text (map (outcome_by rule_k) (generated workload.seed workload.guests).guests)) =
     subst (λ (seen : List Seen). PrintedPart out.taken out_after.taken out.faults out_after.faults (summary_text seen))
     (made_so workload s shown is same) printed in
-    λ shelf shelf_after stayed. (stayed, printed.rose, part)
+    λ shelf shelf_after stayed. (stayed, printed.rose, (part, counted_so workload s native native_after is counted))
 
 -- a session that just fills its board has a host, unless memory runs out
-pub not_hosted : (workload : Workload) (s : SessionAtStart) (out : SinkSeen) (fault : OpenFault) → IsJustFilled s → Runs s (Err fault)
-    → GivesAnswer (gen_answer workload) out out (unopened fault)
-not_hosted workload s out open_fault.Memory filled runs = λ shelf shelf_after stayed. (stayed, (refl, refl))
-not_hosted workload s out (open_fault.Oversize need have) filled runs =
+pub not_hosted : (workload : Workload) (s : SessionAtStart) (out : SinkSeen) (native native_after : NativeState) (fault : OpenFault) → IsJustFilled s
+    → Runs s (Err fault) → native_after ≡ native → GivesAnswer (gen_answer workload) out out native native_after (unopened fault)
+not_hosted workload s out native native_after open_fault.Memory filled runs same = λ shelf shelf_after stayed. (stayed, (refl, refl, same))
+not_hosted workload s out native native_after (open_fault.Oversize need have) filled runs same =
     let less : s.board < need_of s.guests = runs.0 in
     let full : need_of s.guests ≡ s.board = filled in
     absurd (omega arith)

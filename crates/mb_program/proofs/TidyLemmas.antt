@@ -10,13 +10,13 @@ use Rattle.mb_report.proofs.SameLemmas.{seen_decides}
 use Rattle.mb_words.specs.Words.{Text, Asked, comparison}
 use Rattle.vm_tidy.proofs.TidyRuns.{rules-show_the_same}
 use Rattle.vm_guest.specs.Session.{GuestAtStart}
-use Rattle.mb_program.specs.Answers.{Course, compare_shown, compared_text, course_of, is_same, outcome_by, shows}
-use Rattle.mb_program.specs.Ends.{Around, AnswerIs, CourseEnds, IsShown}
+use Rattle.mb_program.specs.Answers.{compare_shown, compared_text, course_of, is_same, outcome_by, shows}
+use Rattle.mb_program.specs.Ends.{Around, CourseEnds, IsShown}
 use Rattle.mb_program.specs.Lines.{status_of}
 use Rattle.mb_program.specs.Sessions.{IsCompared}
 use Rattle.mb_program.specs.Tidy.{IsTidyGuest, IsTidyTold, TidyAreToldSame, lines_from}
 use Rattle.mb_program.specs.declared.end.End.{End}
-use Rattle.mb_program.specs.declared.end.End.TheVariants.{Done, Differs, Words, Refused, Oversize, Unread, Output, Memory}
+use Rattle.mb_program.proofs.EndLemmas.{differing_shown, done_shown}
 use Rattle.mb_program.proofs.SessionLemmas.{asked_so, compare_known, some_differ}
 
 -- ---- a guest
@@ -79,37 +79,17 @@ tidy_told asked a status compared name s is tells fits =
 
 -- ---- at the end of a course
 
-done_shown : (course : Course) (a : Around) (end : End) → CourseEnds course a end → status_of end ≡ 0 → AnswerIs course a (IsShown a 0)
-done_shown course a Done h zero = h.2
-done_shown course a Differs h zero = absurd cc
-done_shown course a Words h zero = absurd cc
-done_shown course a (Refused name why) h zero = absurd cc
-done_shown course a (Oversize need have) h zero = absurd cc
-done_shown course a (Unread name) h zero = absurd cc
-done_shown course a Output h zero = absurd cc
-done_shown course a Memory h zero = absurd cc
-
-differing_shown : (course : Course) (a : Around) (end : End) → CourseEnds course a end → status_of end ≡ 1 → AnswerIs course a (IsShown a 1)
-differing_shown course a Done h one = absurd cc
-differing_shown course a Differs h one = h.2
-differing_shown course a Words h one = absurd cc
-differing_shown course a (Refused name why) h one = absurd cc
-differing_shown course a (Oversize need have) h one = absurd cc
-differing_shown course a (Unread name) h one = absurd cc
-differing_shown course a Output h one = absurd cc
-differing_shown course a Memory h one = absurd cc
-
 -- so it is promised of the tidy guests of a comparison that has come to its end
 pub end_tells : (name : Text) (a : Around) (end : End) → CourseEnds (course_of (comparison name)) a end
     → IsTidyTold (Some (comparison name)) a (status_of end)
 end_tells name a end h other s is tells fits =
     let course = course_of (comparison name) in
     let known = compare_known a.shelf.told other s tells fits in
-    let shown = shows (compare_shown s.guests) in
+    let shown = shows (compare_shown s) in
     let zeros = λ (zero : status_of end ≡ 0).
     asked_so (Some (comparison name)) (comparison other) a shown (IsShown a 0) is known (done_shown course a end h zero) in
     let ones = λ (one : status_of end ≡ 1).
     asked_so (Some (comparison name)) (comparison other) a shown (IsShown a 1) is known (differing_shown course a end h one) in
     told_same a s.guests (status_of end)
     (λ told. elim told [ inl zero ↦ (zeros zero).0.grows | inr one ↦ (ones one).0.grows ])
-    (λ one. some_differ (list_all is_same s.guests) (ones one).2)
+    (λ one. some_differ (list_all is_same s.guests) (ones one).1)

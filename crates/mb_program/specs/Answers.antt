@@ -19,22 +19,26 @@ use Rattle.mb_report.specs.Digits.{hex8}
 use Rattle.mb_report.specs.Text.{outcome_text, state_word}
 use Rattle.mb_report.specs.Same.{same_seen}
 use Rattle.mb_listing.specs.Listing.{listing}
+use Rattle.vm_meaning.specs.Native.{NativeState}
 use Rattle.vm_guest.specs.Session.{GuestAtStart, SessionAtStart}
 use Rattle.vm_slices.specs.Fit.{need_of}
 use Rattle.mb_gen.specs.Sessions.{generated}
 use Rattle.mb_words.specs.Words.{Text, Run, Excerpt, Workload}
 use Rattle.mb_words.specs.Words.{Asked, bare, assembly, disassembly, hosting, comparison, generation}
+use Rattle.mb_program.specs.Direct.{carried_out, counts_line, tallies_by, uncounted}
 use Rattle.mb_program.specs.declared.end.FileWhy.{FileWhy}
 use Rattle.mb_program.specs.declared.end.FileWhy.TheVariants.{TooLong, Line, Outside, NoEnd}
 use Rattle.mb_program.specs.declared.end.Reason.TheVariants.{Record, Words, Source}
 
 -- ---- answers
 
--- A text for out, with what is said on diag beside it, and the status.
+-- A text for out, with what is said on diag beside it, and the status; and what is counted of boards in user mode once
+-- it is shown, by what was counted before.
 pub record Shown : Type 0 where
   pub text : Text
   pub lines : Text
   pub status : ℕ
+  pub counted : NativeState → NativeState
 
 -- A command shows something, or refuses a file, with its name and why, or its guests need more bytes than their board
 -- has.
@@ -43,9 +47,9 @@ pub data Answer : Type 0 where
   refuses : Text → FileWhy → Answer
   oversizes : (need have : ℕ) → Answer
 
--- a text, and nothing on diag
+-- a text, and nothing on diag; no board runs in user mode
 abbrev pub plain : Text → Shown
-plain text = record { text = text; lines = []; status = 0 }
+plain text = record { text = text; lines = []; status = 0; counted = uncounted }
 
 -- ---- the files of a command
 
@@ -80,6 +84,14 @@ Names told (reads file next) name = (name ≡ file) ⊎ ((bytes : Text)
     × IfSome (told file) (λ content. bytes ≡ content)
     × Names told (next bytes) name)
 Names told (ends answer) name = ⊥
+
+-- The answer at some end of the course, by bytes that its files may have, is so.
+abbrev pub MayEnd : Told → Course → (Answer → Type 0) → Type 0
+MayEnd told (reads file next) P = (bytes : Text)
+    × (length bytes ≤ most_bytes)
+    × IfSome (told file) (λ content. bytes ≡ content)
+    × MayEnd told (next bytes) P
+MayEnd told (ends answer) P = P answer
 
 -- ---- what a file holds
 
@@ -208,12 +220,18 @@ texts_from text i (x ∷ xs) = text i x ++ texts_from text (i + 1) xs
 
 -- ---- host
 
--- The outcomes of all guests under the monitor, in their order. No counts of their steps are said on diag.
-abbrev pub host_shown : List GuestAtStart → Shown
-host_shown guests = plain (texts_from outcome_text 1 (map (outcome_by rule_k) guests))
+-- The outcomes of all guests under the monitor, in their order. On diag a line for each says how many steps of each
+-- class it took, and the board carries out the retired ones.
+abbrev pub host_shown : SessionAtStart → Shown
+host_shown s = record {
+  text = texts_from outcome_text 1 (map (outcome_by rule_k) s.guests);
+  lines = texts_from counts_line 1 (tallies_by s.guests);
+  status = 0;
+  counted = carried_out s;
+}
 
 abbrev pub host_answer : SessionAtStart → Answer
-host_answer s = if_it_fits s (host_shown s.guests)
+host_answer s = if_it_fits s (host_shown s)
 
 abbrev pub host_course : Text → Course
 host_course name = reads_session name (λ s. ends (host_answer s))
@@ -227,16 +245,17 @@ is_same guest = same_seen (outcome_by rule_a guest) (outcome_by rule_k guest)
 abbrev pub compared_text : ℕ → Bool → Text
 compared_text i same = codes "guest " ++ decimal i ++ (if same then codes " same\n" else codes " differs\n")
 
--- a line for each guest, and status 1 where some guest differs
-abbrev pub compare_shown : List GuestAtStart → Shown
-compare_shown guests = record {
-  text = texts_from compared_text 1 (map is_same guests);
+-- a line for each guest, and status 1 where some guest differs; under the monitor they run as hosted ones do
+abbrev pub compare_shown : SessionAtStart → Shown
+compare_shown s = record {
+  text = texts_from compared_text 1 (map is_same s.guests);
   lines = [];
-  status = if list_all is_same guests then 0 else 1;
+  status = if list_all is_same s.guests then 0 else 1;
+  counted = carried_out s;
 }
 
 abbrev pub compare_answer : SessionAtStart → Answer
-compare_answer s = if_it_fits s (compare_shown s.guests)
+compare_answer s = if_it_fits s (compare_shown s)
 
 abbrev pub compare_course : Text → Course
 compare_course name = reads_session name (λ s. ends (compare_answer s))
@@ -257,12 +276,17 @@ abbrev pub summary_text : List Seen → Text
 summary_text shown = texts_from summary_line 1 shown ++ codes "end\n"
 
 -- What all guests of a session show under the monitor, in short.
-abbrev pub gen_shown : List GuestAtStart → Shown
-gen_shown guests = plain (summary_text (map (outcome_by rule_k) guests))
+abbrev pub gen_shown : SessionAtStart → Shown
+gen_shown s = record {
+  text = summary_text (map (outcome_by rule_k) s.guests);
+  lines = [];
+  status = 0;
+  counted = carried_out s;
+}
 
 -- The session that a number makes has room for its guests.
 abbrev pub gen_answer : Workload → Answer
-gen_answer workload = shows (gen_shown (generated workload.seed workload.guests).guests)
+gen_answer workload = shows (gen_shown (generated workload.seed workload.guests))
 
 abbrev pub gen_course : Workload → Course
 gen_course workload = ends (gen_answer workload)

@@ -3,10 +3,10 @@ use Rattle.std.specs.Prelude.{◌≡◌, ◌⊎◌, ◌<◌, ⊤, ℕ, ◌==◌,
 use Rattle.std.specs.Prelude.{Option, Some, None, IfSome, is_some, MatchBool}
 use Rattle.mb_outside.specs.Counts.{Rose}
 use Rattle.mb_outside.specs.Sink.{Grows}
-use Rattle.mb_words.specs.Words.{Text, Asked}
+use Rattle.mb_words.specs.Words.{Text, Asked, bare, assembly, disassembly}
 use Rattle.mb_program.specs.Answers.{Shown, Answer, shows, refuses, oversizes, course_of, answer_of}
 use Rattle.mb_program.specs.Ends.{Around, Said, IsSaid, IsShown, IsCut, IsRefused, IsOversize, IsFileOn, IsMissing}
-use Rattle.mb_program.specs.Ends.{AnswerIs, FailsNowhere}
+use Rattle.mb_program.specs.Ends.{AnswerIs, FailsNowhere, SaysBeside}
 use Rattle.mb_program.specs.Sessions.{IsHosted, IsCompared, IsGenerated}
 use Rattle.mb_program.specs.Tidy.{IsTidyTold}
 use Rattle.mb_program.specs.Lines.{named, oversize_line, why_text}
@@ -59,13 +59,19 @@ abbrev pub IsComplete : Option Asked → Around → ℕ → Type 0
 IsComplete None a status = (status ≡ 2) ⊎ (status ≡ 7)
 IsComplete (Some asked) a status = FailsNowhere a → AnswerIs (course_of asked) a (LeadsTo a status)
 
--- the line of a status that names no file
+-- the line of a status that names no file and has no counts
 abbrev pub line_for : ℕ → Text
 line_for status =
     if status == 2 then codes "mbx: words refused\n"
     else if status == 6 then codes "mbx: output failed\n"
     else if status == 7 then codes "mbx: no memory\n"
     else []
+
+-- the lines of the answer were put
+abbrev pub SaysShown : Option Asked → Around → Said → Type 0
+SaysShown asked a s = Asks asked (λ command. (lines : Text)
+    × SaysBeside (course_of command) a lines
+    × IsSaid s lines)
 
 -- the line that refuses a file of the command, with the reason that the answer has, was put
 abbrev pub SaysRefused : Option Asked → Around → Said → Type 0
@@ -93,12 +99,21 @@ IsStatus status =
     (status ≡ 0) ⊎ (status ≡ 1) ⊎ (status ≡ 2) ⊎ (status ≡ 3) ⊎ (status ≡ 4) ⊎ (status ≡ 5) ⊎ (status ≡ 6)
     ⊎ (status ≡ 7)
 
--- the line of the status was put, or a first part of it before diag failed, and nothing more
+-- what belongs to the status was put, or a first part of it before diag failed, and nothing more
 abbrev pub Says : Option Asked → Around → Said → ℕ → Type 0
 Says asked a s status =
-    MatchBool (status == 3) (SaysRefused asked a s)
+    MatchBool (status == 0) (SaysShown asked a s)
+    (MatchBool (status == 3) (SaysRefused asked a s)
     (MatchBool (status == 4) (SaysOversize asked a s)
-    (MatchBool (status == 5) (SaysUnread asked a s) (IsSaid s (line_for status))))
+    (MatchBool (status == 5) (SaysUnread asked a s) (IsSaid s (line_for status)))))
+
+-- the words ask for nothing, or for a command without guests
+abbrev pub HostsNothing : Option Asked → Type 0
+HostsNothing None = ⊤
+HostsNothing (Some (bare run)) = ⊤
+HostsNothing (Some (assembly name)) = ⊤
+HostsNothing (Some (disassembly excerpt)) = ⊤
+HostsNothing (Some _) = ⊥
 
 -- What stands after a run of the program.
 pub record Causes (asked : Option Asked) (a : Around) (said : Said) (status : ℕ) : Type 0 where
@@ -123,22 +138,27 @@ pub record Causes (asked : Option Asked) (a : Around) (said : Said) (status : �
   pub output_only : status ≡ 6 → Rose a.out.faults a.out_after.faults
   pub output_always : a.out.faults < a.out_after.faults → status ≡ 6
   pub output_part : status ≡ 6 → AsksFor asked a (IsCut a)
-  -- All was done only where out has gained exactly the text, and no guest differs; where some do, the status is 1.
+  -- All was done only where out has gained exactly the text, the board has carried out just the retired steps of the
+  -- guests under the monitor, and no guest differs; where some do, the status is 1.
   pub done_only : status ≡ 0 → AsksFor asked a (IsShown a 0)
   pub differs_only : status ≡ 1 → AsksFor asked a (IsShown a 1)
   -- Nothing goes to out, but at the end of a run or where out fails.
   pub silent : (status ≡ 0 → ⊥) → (status ≡ 1 → ⊥) → (status ≡ 6 → ⊥) → a.out_after.taken ≡ a.out.taken
+  -- Nothing is counted there, and never for a command without guests.
+  pub unrun : (status ≡ 0 → ⊥) → (status ≡ 1 → ⊥) → (status ≡ 6 → ⊥) → a.native_after ≡ a.native
+  pub unhosted : HostsNothing asked → a.native_after ≡ a.native
   -- Where the answer is known and nothing fails, it is given, unless memory runs out.
   pub complete : IsComplete asked a status
-  -- Each guest of a session runs as if it were alone: out gains exactly the outcomes of their own runs.
-  pub hosted : IsHosted asked a status
+  -- Each guest of a session runs as if it were alone: out gains exactly the outcomes of their own runs, diag the counts
+  -- of their own steps, and the board carries out each retired one.
+  pub hosted : IsHosted asked a said status
   -- The runs of each guest on the board and under the monitor are compared.
   pub compared : IsCompared asked a status
   -- Of a guest that flushes what it changes, a comparison says that it shows the same.
   pub tidy : IsTidyTold asked a status
   -- The guests of a session that a number makes run so too, and out gains their summary.
   pub generated : IsGenerated asked a status
-  -- Diag gains exactly the line of the status, or a first part of it where diag fails.
+  -- Diag gains exactly the line of the status, at 0 those of the answer, or a first part where diag fails.
   pub says : Says asked a said status
   -- What the shelf tells, and whether it is whole, are as before.
   pub same_told : a.shelf_after.told ≡ a.shelf.told

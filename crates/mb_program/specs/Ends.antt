@@ -3,12 +3,14 @@ use Rattle.std.specs.Prelude.{◌≡◌, ◌⊎◌, ℕ, [], Bool, true, Option,
 use Rattle.mb_outside.specs.Counts.{Rose}
 use Rattle.mb_outside.specs.Prints.{Printed, PrintedPart}
 use Rattle.mb_words.specs.Words.{Text, Asked}
-use Rattle.mb_program.specs.Answers.{Answer, shows, refuses, oversizes, Told, Course, ends, Names, answer_at, course_of}
-use Rattle.mb_program.specs.Lines.{status_of, line_of}
+use Rattle.vm_meaning.specs.Native.{NativeState}
+use Rattle.mb_program.specs.Answers.{Answer, shows, refuses, oversizes, Told, Course, ends, Names, MayEnd, answer_at}
+use Rattle.mb_program.specs.Answers.{course_of}
+use Rattle.mb_program.specs.Lines.{counts_lines, line_of, status_of}
 use Rattle.mb_program.specs.declared.end.FileWhy.{FileWhy}
 use Rattle.mb_program.specs.declared.end.End.{End}
-use Rattle.mb_program.specs.declared.end.End.TheVariants.{Done, Differs, Words, Refused, Oversize, Unread, Output}
-use Rattle.mb_program.specs.declared.end.End.TheVariants.{Memory}
+use Rattle.mb_program.specs.declared.end.End.TheVariants.{Done, Hosted, Differs, Words, Refused, Oversize}
+use Rattle.mb_program.specs.declared.end.End.TheVariants.{Unread, Output, Memory}
 
 -- ---- what stands around a run
 
@@ -29,21 +31,25 @@ shelf_seen told whole faults s = record { told = told s; whole = whole s; faults
 abbrev pub sink_seen : {S : Type 0} → (S → Option Text) → (S → ℕ) → S → SinkSeen
 sink_seen taken faults s = record { taken = taken s; faults = faults s }
 
--- The shelf and out, before a run and after it.
+-- The shelf, out, and what is counted of boards in user mode, before a run and after it.
 pub record Around : Type 0 where
   pub shelf : ShelfSeen
   pub shelf_after : ShelfSeen
   pub out : SinkSeen
   pub out_after : SinkSeen
+  pub native : NativeState
+  pub native_after : NativeState
 
 -- around a call, by what a shelf and a sink show
 abbrev pub around : {S O : Type 0} → (S → Told) → (S → Bool) → (S → ℕ) → (O → Option Text) → (O → ℕ)
-    → (shelf shelf_after : S) → (out out_after : O) → Around
-around told whole faults taken failed shelf shelf_after out out_after = record {
+    → (shelf shelf_after : S) → (out out_after : O) → (native native_after : NativeState) → Around
+around told whole faults taken failed shelf shelf_after out out_after native native_after = record {
   shelf = shelf_seen told whole faults shelf;
   shelf_after = shelf_seen told whole faults shelf_after;
   out = sink_seen taken failed out;
   out_after = sink_seen taken failed out_after;
+  native = native;
+  native_after = native_after;
 }
 
 -- the count of a shelf's faults stayed
@@ -58,9 +64,10 @@ ReadsWell a = Stayed a.shelf a.shelf_after
 abbrev pub ReadsBadly : Around → Type 0
 ReadsBadly a = Rose a.shelf.faults a.shelf_after.faults
 
--- nothing was put on out
-abbrev pub PutsNothing : Around → Type 0
-PutsNothing a = (a.out_after.faults ≡ a.out.faults) × (a.out_after.taken ≡ a.out.taken)
+-- nothing was put on out, and nothing was counted
+abbrev pub DoesNothing : Around → Type 0
+DoesNothing a =
+    (a.out_after.faults ≡ a.out.faults) × (a.out_after.taken ≡ a.out.taken) × (a.native_after ≡ a.native)
 
 -- neither the shelf nor out has failed in this call
 abbrev pub FailsNowhere : Around → Type 0
@@ -68,17 +75,24 @@ FailsNowhere a = (ReadsBadly a → ⊥) × (Rose a.out.faults a.out_after.faults
 
 -- ---- what an answer is
 
--- a text, which out has gained; nothing is said beside it, and this is its status
+-- a text, which out has gained, and of which just so much is counted; this is its status
 abbrev pub IsShown : Around → ℕ → Answer → Type 0
 IsShown a status (shows shown) =
     Printed a.out.taken a.out_after.taken a.out.faults a.out_after.faults shown.text
-    × (shown.lines ≡ [])
     × (shown.status ≡ status)
+    × (a.native_after ≡ shown.counted a.native)
 IsShown a status _ = ⊥
 
--- a text, of which out has gained a first part before it failed
+-- beside a text these lines are said on diag
+abbrev pub HasLines : Text → Answer → Type 0
+HasLines lines (shows shown) = shown.lines ≡ lines
+HasLines lines _ = ⊥
+
+-- a text, of which out has gained a first part before it failed; just so much is counted of it
 abbrev pub IsCut : Around → Answer → Type 0
-IsCut a (shows shown) = PrintedPart a.out.taken a.out_after.taken a.out.faults a.out_after.faults shown.text
+IsCut a (shows shown) =
+    PrintedPart a.out.taken a.out_after.taken a.out.faults a.out_after.faults shown.text
+    × (a.native_after ≡ shown.counted a.native)
 IsCut a _ = ⊥
 
 -- that this file is refused, and why
@@ -101,6 +115,10 @@ IsFileOn course a name = Names a.shelf.told course name
 abbrev pub AnswerIs : Course → Around → (Answer → Type 0) → Type 0
 AnswerIs course a P = IfSome (answer_at a.shelf.told course) P
 
+-- beside the answer these lines are said: where it is known they are its own, and else those of one that may be
+abbrev pub SaysBeside : Course → Around → Text → Type 0
+SaysBeside course a lines = AnswerIs course a (HasLines lines) × MayEnd a.shelf.told course (HasLines lines)
+
 -- a whole shelf does not tell this file
 abbrev pub IsMissing : ShelfSeen → Text → Type 0
 IsMissing shelf name = shelf.whole ≡ true → is_some (shelf.told name) ≡ true → ⊥
@@ -109,34 +127,45 @@ IsMissing shelf name = shelf.whole ≡ true → is_some (shelf.told name) ≡ tr
 abbrev pub CourseEnds : Course → Around → End → Type 0
 CourseEnds course a Done =
     ReadsWell a × (a.out_after.faults ≡ a.out.faults) × AnswerIs course a (IsShown a 0)
+    × SaysBeside course a []
+CourseEnds course a (Hosted host) =
+    ReadsWell a × (a.out_after.faults ≡ a.out.faults) × AnswerIs course a (IsShown a 0)
+    × SaysBeside course a (counts_lines host)
 CourseEnds course a Differs =
     ReadsWell a × (a.out_after.faults ≡ a.out.faults) × AnswerIs course a (IsShown a 1)
+    × SaysBeside course a []
 CourseEnds course a Words = ⊥
 CourseEnds course a (Refused name why) =
-    IsFileOn course a (string_bytes name) × ReadsWell a × PutsNothing a
+    IsFileOn course a (string_bytes name) × ReadsWell a × DoesNothing a
     × AnswerIs course a (IsRefused (string_bytes name) why)
 CourseEnds course a (Oversize need have) =
-    ReadsWell a × PutsNothing a × AnswerIs course a (IsOversize need have)
+    ReadsWell a × DoesNothing a × AnswerIs course a (IsOversize need have)
 CourseEnds course a (Unread name) =
-    IsFileOn course a (string_bytes name) × IsMissing a.shelf (string_bytes name) × ReadsBadly a × PutsNothing a
+    IsFileOn course a (string_bytes name) × IsMissing a.shelf (string_bytes name) × ReadsBadly a × DoesNothing a
 CourseEnds course a Output =
     ReadsWell a × Rose a.out.faults a.out_after.faults × AnswerIs course a (IsCut a)
-CourseEnds course a Memory = ReadsWell a × PutsNothing a
+CourseEnds course a Memory = ReadsWell a × DoesNothing a
 
 -- behind files that were read well, an answer is given on out, or memory runs out before that
-abbrev pub GivesAnswer : Answer → SinkSeen → SinkSeen → End → Type 0
-GivesAnswer answer out out_after end = (shelf shelf_after : ShelfSeen) → Stayed shelf shelf_after
+abbrev pub GivesAnswer : Answer → SinkSeen → SinkSeen → NativeState → NativeState → End → Type 0
+GivesAnswer answer out out_after native native_after end = (shelf shelf_after : ShelfSeen) → Stayed shelf shelf_after
     → CourseEnds (ends answer) (record {
       shelf = shelf;
       shelf_after = shelf_after;
       out = out;
       out_after = out_after;
+      native = native;
+      native_after = native_after;
     }) end
+
+-- the same, and nothing is counted
+abbrev pub GivesUncounted : Answer → SinkSeen → SinkSeen → End → Type 0
+GivesUncounted answer out out_after end = (native : NativeState) → GivesAnswer answer out out_after native native end
 
 -- where the words ask for nothing, they are refused, or memory ran out before that was known
 abbrev pub WordsEnd : Around → End → Type 0
-WordsEnd a Words = ReadsWell a × PutsNothing a
-WordsEnd a Memory = ReadsWell a × PutsNothing a
+WordsEnd a Words = ReadsWell a × DoesNothing a
+WordsEnd a Memory = ReadsWell a × DoesNothing a
 WordsEnd a _ = ⊥
 
 abbrev pub Ends : Option Asked → Around → End → Type 0

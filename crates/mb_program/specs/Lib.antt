@@ -1,3 +1,4 @@
+pub mod Direct
 pub mod Answers
 pub mod Lines
 pub mod Ends

@@ -8,13 +8,17 @@ use Rattle.mb_asm.specs.declared.fault.AsmKind.{AsmKind}
 use Rattle.mb_asm.specs.declared.fault.AsmKind.TheVariants as kind
 use Rattle.mb_report.specs.Digits.{hex8}
 use Rattle.mb_words.specs.Words.{Text}
+use Rattle.vm_slices.specs.Members.{tallies_of}
+use Rattle.vm_slices.specs.Places.{HostState, members_in}
+use Rattle.mb_program.specs.Answers.{texts_from}
+use Rattle.mb_program.specs.Direct.{counts_line}
 use Rattle.mb_program.specs.declared.end.FileWhy.{FileWhy}
 use Rattle.mb_program.specs.declared.end.FileWhy.TheVariants.{TooLong, Line, Outside, NoEnd}
 use Rattle.mb_program.specs.declared.end.Reason.{Reason}
 use Rattle.mb_program.specs.declared.end.Reason.TheVariants as reason
 use Rattle.mb_program.specs.declared.end.End.{End}
-use Rattle.mb_program.specs.declared.end.End.TheVariants.{Done, Differs, Words, Refused, Oversize, Unread, Output}
-use Rattle.mb_program.specs.declared.end.End.TheVariants.{Memory}
+use Rattle.mb_program.specs.declared.end.End.TheVariants.{Done, Hosted, Differs, Words, Refused, Oversize}
+use Rattle.mb_program.specs.declared.end.End.TheVariants.{Unread, Output, Memory}
 
 -- the beginning of a line that names a file
 abbrev pub named_file : Text → Text
@@ -64,8 +68,13 @@ abbrev pub oversize_line : (need have : ℕ) → Text
 oversize_line need have =
     codes "mbx: oversize need " ++ decimal need ++ codes " have " ++ decimal have ++ codes "\n"
 
+-- the lines of a host: how many steps of each class each guest has taken
+abbrev pub counts_lines : HostState → Text
+counts_lines host = texts_from counts_line 1 (tallies_of (members_in host))
+
 abbrev pub line_of : End → Text
 line_of Done = []
+line_of (Hosted host) = counts_lines host
 line_of Differs = []
 line_of Words = codes "mbx: words refused\n"
 line_of (Refused name why) = named (string_bytes name) (why_text why)
@@ -76,6 +85,7 @@ line_of Memory = codes "mbx: no memory\n"
 
 abbrev pub status_of : End → ℕ
 status_of Done = 0
+status_of (Hosted host) = 0
 status_of Differs = 1
 status_of Words = 2
 status_of (Refused name why) = 3

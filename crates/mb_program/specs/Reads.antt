@@ -10,7 +10,7 @@ use Rattle.mb_asm.specs.declared.fault.AsmFault.{AsmFault}
 use Rattle.mb_asm.specs.declared.fault.AsmFault.TheVariants as asm_fault
 use Rattle.mb_words.specs.Words.{Text}
 use Rattle.mb_program.specs.Answers.{Told, Course, most_bytes}
-use Rattle.mb_program.specs.Ends.{Around, ShelfSeen, Stayed, CourseEnds, IsMissing, PutsNothing}
+use Rattle.mb_program.specs.Ends.{Around, ShelfSeen, Stayed, CourseEnds, IsMissing, DoesNothing}
 use Rattle.mb_program.specs.declared.end.FileWhy.{FileWhy}
 use Rattle.mb_program.specs.declared.end.FileWhy.TheVariants.{TooLong, Line, Outside, NoEnd}
 use Rattle.mb_program.specs.declared.end.Reason.TheVariants.{Record, Words, Source}
@@ -72,7 +72,7 @@ Passes {A} {X} part view before after (Ok x) = (after ≡ before)
     × ((next : A → Course) (a : Around) (end : End) → a.shelf ≡ before
     → CourseEnds (next (view x)) a end → CourseEnds (part next) a end)
 Passes {A} {X} part view before after (Err end) = (next : A → Course) (a : Around) → a.shelf ≡ before
-    → a.shelf_after ≡ after → PutsNothing a → CourseEnds (part next) a end
+    → a.shelf_after ≡ after → DoesNothing a → CourseEnds (part next) a end
 
 -- ---- what bytes hold
 

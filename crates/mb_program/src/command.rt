@@ -1,9 +1,12 @@
 //! The commands.
 
 ghost use Rattle.std.specs.Prelude.{◌≡◌, Some, map, string_bytes};
+ghost use Rattle.vm_meaning.specs.Native.{NativeState};
 ghost use Rattle.mb_words.specs.Words.{asked_by, assembly, bare, comparison, disassembly, hosting};
 ghost use Rattle.mb_words.specs.Words.{excerpt_said, run_said, session_said, source_said};
 ghost use Rattle.mb_program.specs.Answers.{course_of};
+ghost use Rattle.mb_program.specs.Causes.{HostsNothing};
+ghost use Rattle.mb_program.specs.Direct.{HasRoomToRun};
 ghost use Rattle.mb_program.specs.Ends.{CourseEnds, Ends, around};
 ghost use Rattle.mb_program.specs.Lines.{status_of};
 ghost use Rattle.mb_program.specs.Tidy.{IsTidyTold};
@@ -17,6 +20,7 @@ use crate::guest_reading::{read_guest, read_session};
 use crate::hosted::show_hosted;
 use crate::machine::show_machine;
 use crate::records::show_records;
+use mb_board::Native;
 use mb_outside::{Shelf, Sink};
 use mb_words::{Asm, Bare, Command, Dis, SessionFile, WordsFault, read_words};
 use std::alloc::Global;
@@ -24,8 +28,8 @@ use std::alloc::Global;
 /// `bare`: reads the image and then the script, runs the machine and writes its outcome.
 #[tactic(auto, unfolding(crate::specs::Answers::course_of))]
 fn run_bare<F: Shelf, O: Sink>(alloc: Global, run: &Bare, shelf: &mut F, out: &mut O) -> End
-    ensures ends { CourseEnds (course_of (bare (run_said run.now)))
-        (around F.told F.whole F.faults O.taken O.faults shelf.old shelf.new out.old out.new) result }
+    ensures ends { (native : NativeState) → CourseEnds (course_of (bare (run_said run.now)))
+        (around F.told F.whole F.faults O.taken O.faults shelf.old shelf.new out.old out.new native native) result }
     ensures told { F.told shelf.new ≡ F.told shelf.old }
     ensures whole { F.whole shelf.new ≡ F.whole shelf.old }
 {
@@ -38,8 +42,8 @@ fn run_bare<F: Shelf, O: Sink>(alloc: Global, run: &Bare, shelf: &mut F, out: &m
 /// `asm`: reads the source, assembles it and writes the image as S-records.
 #[tactic(auto, unfolding(crate::specs::Answers::course_of))]
 fn run_asm<F: Shelf, O: Sink>(alloc: Global, asm: &Asm, shelf: &mut F, out: &mut O) -> End
-    ensures ends { CourseEnds (course_of (assembly (source_said asm.now)))
-        (around F.told F.whole F.faults O.taken O.faults shelf.old shelf.new out.old out.new) result }
+    ensures ends { (native : NativeState) → CourseEnds (course_of (assembly (source_said asm.now)))
+        (around F.told F.whole F.faults O.taken O.faults shelf.old shelf.new out.old out.new native native) result }
     ensures told { F.told shelf.new ≡ F.told shelf.old }
     ensures whole { F.whole shelf.new ≡ F.whole shelf.old }
 {
@@ -52,8 +56,8 @@ fn run_asm<F: Shelf, O: Sink>(alloc: Global, asm: &Asm, shelf: &mut F, out: &mut
 /// `dis`: reads the image and writes the listing of an excerpt of the memory that it opens with.
 #[tactic(auto, unfolding(crate::specs::Answers::course_of))]
 fn run_dis<F: Shelf, O: Sink>(alloc: Global, dis: &Dis, shelf: &mut F, out: &mut O) -> End
-    ensures ends { CourseEnds (course_of (disassembly (excerpt_said dis.now)))
-        (around F.told F.whole F.faults O.taken O.faults shelf.old shelf.new out.old out.new) result }
+    ensures ends { (native : NativeState) → CourseEnds (course_of (disassembly (excerpt_said dis.now)))
+        (around F.told F.whole F.faults O.taken O.faults shelf.old shelf.new out.old out.new native native) result }
     ensures told { F.told shelf.new ≡ F.told shelf.old }
     ensures whole { F.whole shelf.new ≡ F.whole shelf.old }
 {
@@ -70,14 +74,17 @@ fn run_host<F: Shelf, O: Sink>(
     session: &SessionFile,
     shelf: &mut F,
     out: &mut O,
+    native: &mut Native,
 ) -> End
+    requires room { HasRoomToRun native.old }
     ensures ends { CourseEnds (course_of (hosting (session_said session.now)))
-        (around F.told F.whole F.faults O.taken O.faults shelf.old shelf.new out.old out.new) result }
+        (around F.told F.whole F.faults O.taken O.faults shelf.old shelf.new out.old out.new native.old native.new)
+        result }
     ensures told { F.told shelf.new ≡ F.told shelf.old }
     ensures whole { F.whole shelf.new ≡ F.whole shelf.old }
 {
     match read_session(alloc, shelf, session.name) {
-        Ok(session) => show_hosted(alloc, session, out),
+        Ok(session) => show_hosted(alloc, session, out, native),
         Err(end) => end,
     }
 }
@@ -90,17 +97,21 @@ fn run_compare<F: Shelf, O: Sink>(
     session: &SessionFile,
     shelf: &mut F,
     out: &mut O,
+    native: &mut Native,
 ) -> End
+    requires room { HasRoomToRun native.old }
     ensures ends { CourseEnds (course_of (comparison (session_said session.now)))
-        (around F.told F.whole F.faults O.taken O.faults shelf.old shelf.new out.old out.new) result }
+        (around F.told F.whole F.faults O.taken O.faults shelf.old shelf.new out.old out.new native.old native.new)
+        result }
     // Of each tidy guest it writes that it shows the same.
     ensures tidy { IsTidyTold (Some (comparison (session_said session.now)))
-        (around F.told F.whole F.faults O.taken O.faults shelf.old shelf.new out.old out.new) (status_of result) }
+        (around F.told F.whole F.faults O.taken O.faults shelf.old shelf.new out.old out.new native.old native.new)
+        (status_of result) }
     ensures told { F.told shelf.new ≡ F.told shelf.old }
     ensures whole { F.whole shelf.new ≡ F.whole shelf.old }
 {
     match read_session(alloc, shelf, session.name) {
-        Ok(session) => show_compared(alloc, session, out),
+        Ok(session) => show_compared(alloc, session, out, native),
         Err(end) => end,
     }
 }
@@ -111,9 +122,14 @@ pub fn run_words<F: Shelf, O: Sink>(
     words: &[String],
     shelf: &mut F,
     out: &mut O,
+    native: &mut Native,
 ) -> End
+    requires room { HasRoomToRun native.old }
     ensures ends { Ends (asked_by (map string_bytes words.now))
-        (around F.told F.whole F.faults O.taken O.faults shelf.old shelf.new out.old out.new) result }
+        (around F.told F.whole F.faults O.taken O.faults shelf.old shelf.new out.old out.new native.old native.new)
+        result }
+    // A command that runs no guests counts nothing.
+    ensures unhosted { HostsNothing (asked_by (map string_bytes words.now)) → native.new ≡ native.old }
     ensures told { F.told shelf.new ≡ F.told shelf.old }
     ensures whole { F.whole shelf.new ≡ F.whole shelf.old }
 {
@@ -121,9 +137,9 @@ pub fn run_words<F: Shelf, O: Sink>(
         Ok(Command::Bare(run)) => run_bare(alloc, &run, shelf, out),
         Ok(Command::Asm(asm)) => run_asm(alloc, &asm, shelf, out),
         Ok(Command::Dis(dis)) => run_dis(alloc, &dis, shelf, out),
-        Ok(Command::Host(session)) => run_host(alloc, &session, shelf, out),
-        Ok(Command::Compare(session)) => run_compare(alloc, &session, shelf, out),
-        Ok(Command::Gen(workload)) => show_generated(alloc, &workload, out),
+        Ok(Command::Host(session)) => run_host(alloc, &session, shelf, out, native),
+        Ok(Command::Compare(session)) => run_compare(alloc, &session, shelf, out, native),
+        Ok(Command::Gen(workload)) => show_generated(alloc, &workload, out, native),
         Err(WordsFault::Refused) => End::Words,
         Err(WordsFault::Memory) => End::Memory,
     }

@@ -7,6 +7,7 @@ ghost use Rattle.mb_model.specs.Keeping.{rule_a};
 ghost use Rattle.vm_guest.specs.Session.{IsGuest, IsSession};
 ghost use Rattle.vm_slices.specs.Places.{members_in};
 ghost use Rattle.mb_program.specs.Answers.{compare_answer, compared_text, outcome_by, texts_from};
+ghost use Rattle.mb_program.specs.Direct.{HasRoomToRun};
 ghost use Rattle.mb_program.specs.Ends.{GivesAnswer, sink_seen};
 ghost use Rattle.mb_program.specs.Compares.{found_of, outcome_ahead};
 
@@ -14,6 +15,7 @@ use crate::bare_machine::BareMachine;
 use crate::end::End;
 use crate::hosted::run_session;
 use itoa::Buffer;
+use mb_board::Native;
 use mb_outside::{Memory, Sink, SinkFault, put_all, put_more};
 use std::alloc::Global;
 use vm_slices::{Host, Session, SessionGuest};
@@ -73,15 +75,21 @@ fn write_comparison<O: Sink>(
 
 /// Runs each guest of a session by itself and all under the monitor, and writes of each whether it shows the same. All
 /// memory is taken before the first line is written.
-pub(crate) fn show_compared<O: Sink>(alloc: Global, session: Session, out: &mut O) -> End
-    requires { IsSession session }
+pub(crate) fn show_compared<O: Sink>(
+    alloc: Global,
+    session: Session,
+    out: &mut O,
+    native: &mut Native,
+) -> End
+    requires session { IsSession session }
+    requires room { HasRoomToRun native.old }
     ensures { GivesAnswer (compare_answer session)
-        (sink_seen O.taken O.faults out.old) (sink_seen O.taken O.faults out.new) result }
+        (sink_seen O.taken O.faults out.old) (sink_seen O.taken O.faults out.new) native.old native.new result }
 {
     let Ok(machines) = bare_machines(alloc, session.guests()) else {
         return End::Memory;
     };
-    let host = match run_session(alloc, session) {
+    let host = match run_session(alloc, session, native) {
         Ok(host) => host,
         Err(fault) => return End::from(fault),
     };

@@ -2,7 +2,9 @@
 
 ghost use Rattle.std.specs.Prelude.{◌≡◌};
 ghost use Rattle.mb_outside.specs.Prints.{Prints, PrintsMore};
-ghost use Rattle.mb_program.specs.Lines.{line_of, named, named_file, oversize_line, why_text, status_of};
+ghost use Rattle.vm_guest.specs.Counting.{tally_in};
+ghost use Rattle.mb_program.specs.Direct.{class_count, counts_line};
+ghost use Rattle.mb_program.specs.Lines.{counts_lines, line_of, named, named_file, oversize_line, why_text, status_of};
 ghost use Rattle.mb_program.specs.Lines.{line_reason, reason_of, record_reason, source_reason};
 
 use crate::end::{End, FileWhy, Reason};
@@ -12,6 +14,8 @@ use mb_outside::{Sink, SinkFault, put_all, put_more};
 use mb_report::hex8;
 use mb_script::LineWhy;
 use mb_srec::RecordWhy;
+use vm_guest::Counts;
+use vm_slices::Host;
 
 /// Begins a line that names a file.
 fn name_file<E: Sink>(diag: &mut E, name: &str) -> Result<(), SinkFault>
@@ -150,13 +154,61 @@ fn say_oversize<E: Sink>(diag: &mut E, need: u32, have: u32) -> Result<(), SinkF
     put_more(diag, told, b"\n")
 }
 
-/// Says how a run ended; nothing where all was done.
+/// Says how many steps of a class there were, behind its name, where nothing has failed so far.
+fn say_count<E: Sink>(
+    diag: &mut E,
+    so_far: Result<(), SinkFault>,
+    name: &[u8],
+    count: u64,
+) -> Result<(), SinkFault>
+    ensures { PrintsMore so_far (E.taken diag.old) (E.taken diag.new) (E.faults diag.old) (E.faults diag.new)
+        (class_count name.now count) result }
+{
+    let mut buffer = Buffer::new();
+    let named = put_more(diag, so_far, name);
+    put_more(diag, named, buffer.format(count).as_bytes())
+}
+
+/// Says of a guest how many steps of each class it took.
+fn say_guest<E: Sink>(diag: &mut E, guest: u8, counts: &Counts) -> Result<(), SinkFault>
+    ensures { Prints (E.taken diag.old) (E.taken diag.new) (E.faults diag.old) (E.faults diag.new)
+        (counts_line guest (tally_in counts.now)) result }
+{
+    let mut number = Buffer::new();
+    let begun = put_all(diag, b"guest ");
+    let numbered = put_more(diag, begun, number.format(guest).as_bytes());
+    let retired = say_count(diag, numbered, b" retired ", counts.retired);
+    let privileged = say_count(diag, retired, b" privileged ", counts.privileged);
+    let trapped = say_count(diag, privileged, b" trapped ", counts.trapped);
+    let denied = say_count(diag, trapped, b" denied ", counts.denied);
+    let traced = say_count(diag, denied, b" traced ", counts.traced);
+    let entered = say_count(diag, traced, b" entered ", counts.entered);
+    let idle = say_count(diag, entered, b" idle ", counts.idle);
+    let refilled = say_count(diag, idle, b" refilled ", counts.refilled);
+    put_more(diag, refilled, b"\n")
+}
+
+/// Says of each guest how many steps of each class it took.
+fn say_counts<E: Sink>(diag: &mut E, host: &Host) -> Result<(), SinkFault>
+    ensures { Prints (E.taken diag.old) (E.taken diag.new) (E.faults diag.old) (E.faults diag.new)
+        (counts_lines host.now) result }
+{
+    for index in 0..host.guest_count() {
+        let guest = index + 1;
+        say_guest(diag, guest, &host.counts(guest))?;
+    }
+    Ok(())
+}
+
+/// Says how a run ended: where guests were hosted, how many steps of each class they took, and else nothing where all
+/// was done.
 pub fn tell<E: Sink>(diag: &mut E, end: &End) -> Result<(), SinkFault>
     ensures { Prints (E.taken diag.old) (E.taken diag.new) (E.faults diag.old) (E.faults diag.new)
         (line_of end.now) result }
 {
     match end {
         End::Done | End::Differs => put_all(diag, b""),
+        End::Hosted(host) => say_counts(diag, host),
         End::Words => put_all(diag, b"mbx: words refused\n"),
         End::Refused(name, why) => say_refused(diag, name.as_str(), *why),
         End::Oversize { need, have } => say_oversize(diag, *need, *have),
@@ -171,7 +223,7 @@ pub fn status(end: &End) -> u8
     ensures { result ≡ status_of end.now }
 {
     match end {
-        End::Done => 0,
+        End::Done | End::Hosted(_) => 0,
         End::Differs => 1,
         End::Words => 2,
         End::Refused(_, _) => 3,

@@ -3,6 +3,7 @@
 use mb_asm::AsmKind;
 use mb_script::LineWhy;
 use mb_srec::RecordWhy;
+use vm_slices::Host;
 
 /// Why a line of a file does not stand.
 #[derive(Clone, Copy, Debug, PartialEq, Eq)]
@@ -29,10 +30,12 @@ pub enum FileWhy {
 }
 
 /// How a run ended, each way with its status and its line for diag.
-#[derive(Debug, Drop)]
+#[derive(Drop)]
 pub enum End {
     /// The text was written.
     Done,
+    /// The outcomes of all guests were written; how many steps of each class each of them took is still to be said.
+    Hosted(Host),
     /// The text was written, and it says that some guest differs.
     Differs,
     /// The words ask for nothing.

@@ -4,7 +4,7 @@ ghost use Rattle.std.specs.Prelude.{◌*◌, All};
 ghost use Rattle.mb_srec.specs.Image.{LiesBelow, contents_of};
 ghost use Rattle.mb_words.specs.Words.{excerpt_said};
 ghost use Rattle.mb_program.specs.Answers.{dis_answer};
-ghost use Rattle.mb_program.specs.Ends.{GivesAnswer, sink_seen};
+ghost use Rattle.mb_program.specs.Ends.{GivesUncounted, sink_seen};
 
 use crate::end::End;
 use crate::machine::start_board;
@@ -17,7 +17,7 @@ use std::alloc::Global;
 /// Writes the listing of an excerpt.
 pub(crate) fn show_excerpt<O: Sink>(alloc: Global, dis: &Dis, image: &Image, out: &mut O) -> End
     requires { All (LiesBelow (1024 * dis.now.ram)) (contents_of image.now) }
-    ensures { GivesAnswer (dis_answer (excerpt_said dis.now) (contents_of image.now))
+    ensures { GivesUncounted (dis_answer (excerpt_said dis.now) (contents_of image.now))
         (sink_seen O.taken O.faults out.old) (sink_seen O.taken O.faults out.new) result }
 {
     let Ok(board) = start_board(alloc, image, 1024 * dis.ram) else {

@@ -8,11 +8,13 @@ ghost use Rattle.mb_words.specs.Words.{workload_said};
 ghost use Rattle.vm_slices.specs.Places.{members_in};
 ghost use Rattle.vm_slices.specs.Members.{shown_of};
 ghost use Rattle.mb_program.specs.Answers.{gen_answer, summary_line, summary_text, texts_from};
+ghost use Rattle.mb_program.specs.Direct.{HasRoomToRun};
 ghost use Rattle.mb_program.specs.Ends.{GivesAnswer, sink_seen};
 
 use crate::end::End;
 use crate::hosted::run_session;
 use itoa::Buffer;
+use mb_board::Native;
 use mb_gen::make_session;
 use mb_model::{Outcome, RunState};
 use mb_outside::{Sink, SinkFault, put_all, put_more};
@@ -77,14 +79,20 @@ fn write_summary<O: Sink>(host: &Host, out: &mut O) -> Result<(), SinkFault>
 }
 
 /// Makes a session, runs its guests, and writes their summary.
-pub(crate) fn show_generated<O: Sink>(alloc: Global, workload: &Generate, out: &mut O) -> End
+pub(crate) fn show_generated<O: Sink>(
+    alloc: Global,
+    workload: &Generate,
+    out: &mut O,
+    native: &mut Native,
+) -> End
+    requires room { HasRoomToRun native.old }
     ensures { GivesAnswer (gen_answer (workload_said workload.now))
-        (sink_seen O.taken O.faults out.old) (sink_seen O.taken O.faults out.new) result }
+        (sink_seen O.taken O.faults out.old) (sink_seen O.taken O.faults out.new) native.old native.new result }
 {
     let Ok(session) = make_session(alloc, u64::from(workload.seed), workload.guests) else {
         return End::Memory;
     };
-    let host = match run_session(alloc, session) {
+    let host = match run_session(alloc, session, native) {
         Ok(host) => host,
         Err(fault) => return End::from(fault),
     };

@@ -7,8 +7,9 @@ ghost use Rattle.vm_guest.specs.Session.{IsSession};
 ghost use Rattle.vm_slices.specs.Places.{members_in};
 ghost use Rattle.vm_slices.specs.Members.{shown_of};
 ghost use Rattle.mb_program.specs.Answers.{host_answer, texts_from};
+ghost use Rattle.mb_program.specs.Direct.{HasRoomToRun};
 ghost use Rattle.mb_program.specs.Ends.{GivesAnswer, sink_seen};
-ghost use Rattle.mb_program.specs.Runs.{Runs, unopened};
+ghost use Rattle.mb_program.specs.Runs.{IsCarriedOut, Runs, unopened};
 
 use crate::end::End;
 use mb_board::Native;
@@ -28,13 +29,19 @@ impl From<OpenFault> for End {
     }
 }
 
-/// All guests of a session on their board, after their runs.
-pub(crate) fn run_session(alloc: Global, session: Session) -> Result<Host, OpenFault>
-    requires { IsSession session }
-    ensures { Runs session result }
+/// All guests of a session on their board, after their runs. What the board carried out is counted.
+pub(crate) fn run_session(
+    alloc: Global,
+    session: Session,
+    native: &mut Native,
+) -> Result<Host, OpenFault>
+    requires session { IsSession session }
+    requires room { HasRoomToRun native.old }
+    ensures runs { Runs session result }
+    ensures counted { IsCarriedOut session native.old native.new result }
 {
     let mut host = Host::prepare(alloc, session)?;
-    host.run(&mut Native::new());
+    host.run(native);
     Ok(host)
 }
 
@@ -51,17 +58,23 @@ fn write_outcomes<O: Sink>(host: &Host, out: &mut O) -> Result<(), SinkFault>
 }
 
 /// Runs all guests of a session, and writes their outcomes.
-pub(crate) fn show_hosted<O: Sink>(alloc: Global, session: Session, out: &mut O) -> End
-    requires { IsSession session }
+pub(crate) fn show_hosted<O: Sink>(
+    alloc: Global,
+    session: Session,
+    out: &mut O,
+    native: &mut Native,
+) -> End
+    requires session { IsSession session }
+    requires room { HasRoomToRun native.old }
     ensures { GivesAnswer (host_answer session)
-        (sink_seen O.taken O.faults out.old) (sink_seen O.taken O.faults out.new) result }
+        (sink_seen O.taken O.faults out.old) (sink_seen O.taken O.faults out.new) native.old native.new result }
 {
-    let host = match run_session(alloc, session) {
+    let host = match run_session(alloc, session, native) {
         Ok(host) => host,
         Err(fault) => return End::from(fault),
     };
     match write_outcomes(&host, out) {
-        Ok(()) => End::Done,
+        Ok(()) => End::Hosted(host),
         Err(_) => End::Output,
     }
 }

@@ -8,7 +8,7 @@ ghost use Rattle.mb_board.specs.State.{machine_in, with_machine};
 ghost use Rattle.mb_machine.specs.Machine.{seen_machine, start, with_contents, with_ram};
 ghost use Rattle.vm_guest.specs.Session.{IsGuest};
 ghost use Rattle.mb_program.specs.Answers.{bare_answer, outcome_by};
-ghost use Rattle.mb_program.specs.Ends.{GivesAnswer, sink_seen};
+ghost use Rattle.mb_program.specs.Ends.{GivesUncounted, sink_seen};
 
 use crate::end::End;
 use mb_board::Board;
@@ -73,7 +73,7 @@ fn run_board(alloc: Global, guest: &SessionGuest) -> Result<Board, Memory>
 /// Runs a machine, and writes its outcome.
 pub(crate) fn show_machine<O: Sink>(alloc: Global, guest: &SessionGuest, out: &mut O) -> End
     requires { IsGuest guest.now }
-    ensures { GivesAnswer (bare_answer guest.now)
+    ensures { GivesUncounted (bare_answer guest.now)
         (sink_seen O.taken O.faults out.old) (sink_seen O.taken O.faults out.new) result }
 {
     let Ok(board) = run_board(alloc, guest) else {

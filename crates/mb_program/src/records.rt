@@ -3,7 +3,7 @@
 ghost use Rattle.std.specs.Prelude.{All};
 ghost use Rattle.mb_srec.specs.Image.{IsAddressed, contents_of};
 ghost use Rattle.mb_program.specs.Answers.{asm_answer};
-ghost use Rattle.mb_program.specs.Ends.{GivesAnswer, sink_seen};
+ghost use Rattle.mb_program.specs.Ends.{GivesUncounted, sink_seen};
 
 use crate::end::End;
 use mb_outside::{Sink, put_all};
@@ -13,7 +13,7 @@ use std::alloc::Global;
 /// Writes an image as S-records.
 pub(crate) fn show_records<O: Sink>(alloc: Global, image: &Image, out: &mut O) -> End
     requires { All IsAddressed (contents_of image.now) }
-    ensures { GivesAnswer (asm_answer (contents_of image.now))
+    ensures { GivesUncounted (asm_answer (contents_of image.now))
         (sink_seen O.taken O.faults out.old) (sink_seen O.taken O.faults out.new) result }
 {
     let Ok(text) = write_records(alloc, image) else {

@@ -2,16 +2,19 @@
 
 ghost use Rattle.std.specs.Prelude.{map, string_bytes};
 ghost use Rattle.mb_words.specs.Words.{asked_by};
+ghost use Rattle.mb_program.specs.Direct.{HasRoomToRun};
 ghost use Rattle.mb_program.specs.Ends.{EndsWith, around, sink_seen};
 ghost use Rattle.mb_program.specs.Causes.{Causes};
 
 use crate::command::run_words;
 use crate::diagnosis::{status, tell};
+use mb_board::Native;
 use mb_outside::{Shelf, Sink};
 use std::alloc::Global;
 
 /// Reads the words, of which the first is the program's name, runs their command, and says on diag how
-/// it ended. The answer is the exit status:
+/// it ended. What boards carry out in user mode is counted by `native`: the guests' own steps, where a command runs
+/// guests. The answer is the exit status:
 ///
 /// - 0: the text of the command was written to out: the outcome of a run, the records of an image, a listing, the
 ///   outcomes of all guests of a session, that each of them shows the same on the board and under the monitor, or the
@@ -30,10 +33,12 @@ pub fn run_program<F: Shelf, O: Sink, E: Sink>(
     shelf: &mut F,
     out: &mut O,
     diag: &mut E,
+    native: &mut Native,
 ) -> u8
+    requires room { HasRoomToRun native.old }
     // The run has an end, with its cause; its status is the result, and its line is put on diag.
     ensures ends { EndsWith (asked_by (map string_bytes words.entry.now))
-        (around F.told F.whole F.faults O.taken O.faults shelf.old shelf.new out.old out.new)
+        (around F.told F.whole F.faults O.taken O.faults shelf.old shelf.new out.old out.new native.old native.new)
         (record {
           diag = sink_seen E.taken E.faults diag.old;
           diag_after = sink_seen E.taken E.faults diag.new;
@@ -41,14 +46,14 @@ pub fn run_program<F: Shelf, O: Sink, E: Sink>(
         result }
     // What each status says of its cause, a fact a field.
     ensures causes { Causes (asked_by (map string_bytes words.entry.now))
-        (around F.told F.whole F.faults O.taken O.faults shelf.old shelf.new out.old out.new)
+        (around F.told F.whole F.faults O.taken O.faults shelf.old shelf.new out.old out.new native.old native.new)
         (record {
           diag = sink_seen E.taken E.faults diag.old;
           diag_after = sink_seen E.taken E.faults diag.new;
         })
         result }
 {
-    let end = run_words(alloc, words, shelf, out);
+    let end = run_words(alloc, words, shelf, out, native);
     let _ = tell(diag, &end);
     status(&end)
 }

@@ -6,6 +6,7 @@ ghost use Rattle.mb_words.specs.Words.{asked_by};
 ghost use Rattle.mb_program.specs.Causes.{IsUnfailing};
 
 use crate::top::run_program;
+use mb_board::Native;
 use mb_outside::{NoFailShelf, NoFailSink};
 use std::alloc::Global;
 
@@ -19,5 +20,6 @@ pub fn run_unfailing(alloc: Global, words: &[String], files: Vec<(String, Vec<u8
     let mut shelf = NoFailShelf::new(files);
     let mut out = NoFailSink::new();
     let mut diag = NoFailSink::new();
-    run_program(alloc, words, &mut shelf, &mut out, &mut diag)
+    let mut native = Native::new();
+    run_program(alloc, words, &mut shelf, &mut out, &mut diag, &mut native)
 }

@@ -4,6 +4,7 @@
 //! The program's edge: it hands the real words, files and streams to the top call.
 #![tactic(auto)]
 
+use mb_board::Native;
 use mb_outside::{FileShelf, StdSink, put_all};
 use mb_program::run_program;
 use std::alloc::Global;
@@ -37,5 +38,6 @@ fn main(rt: HostRuntime) -> ExitCode {
         }
     };
     let mut shelf = FileShelf::new(rt);
-    ExitCode::from(run_program(alloc, &words, &mut shelf, &mut out, &mut diag))
+    let mut native = Native::new();
+    ExitCode::from(run_program(alloc, &words, &mut shelf, &mut out, &mut diag, &mut native))
 }

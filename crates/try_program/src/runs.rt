@@ -5,6 +5,7 @@ mod generated;
 mod sessions;
 mod sources;
 
+use mb_board::Native;
 use mb_outside::{MemShelf, MemSink};
 use mb_program::{run_program, run_unfailing};
 use std::alloc::Global;
@@ -33,12 +34,13 @@ CTRL 00000000\nSTATUS 00000002\nPERIOD 00000000\nCOUNT 00000000\nPENDING 0000000
 00000410 00200000000000000000000000000000\n\
 end\n";
 
-/// What a run left: its status, and what out and diag took.
+/// What a run left: its status, what out and diag took, and what boards counted in user mode.
 #[derive(Drop)]
 struct Ran {
     status: u8,
     out: MemSink,
     diag: MemSink,
+    native: Native,
 }
 
 /// Sinks and a shelf that fail: at which call, and 0 for never.
@@ -87,8 +89,14 @@ fn run(
     let fails = Vec::from_slice(alloc, &[failing.out]).ok()?;
     let mut out = MemSink::new(alloc, failing.room, fails).ok()?;
     let mut diag = MemSink::new(alloc, 200, Vec::new(alloc)).ok()?;
-    let status = run_program(alloc, &words, &mut shelf, &mut out, &mut diag);
-    Some(Ran { status, out, diag })
+    let mut native = Native::new();
+    let status = run_program(alloc, &words, &mut shelf, &mut out, &mut diag, &mut native);
+    Some(Ran {
+        status,
+        out,
+        diag,
+        native,
+    })
 }
 
 fn run_both(

@@ -1,6 +1,7 @@
 //! Sessions of several guests.
 
 use super::{Failing, HELLO, HELLO_TEXT, NOTHING, Ran, contains, file, split_words};
+use mb_board::Native;
 use mb_outside::{MemShelf, MemSink};
 use mb_program::{run_program, run_unfailing};
 use std::alloc::Global;
@@ -27,6 +28,11 @@ S10530001111A8\n\
 S1054000222276\n\
 S9030000FC\n";
 
+/// MOVEQ, ten times DBF to itself, and the store that switches off.
+const LOOP: &[u8] = b"S10B00000001000000000400EF\n\
+S1130400700951C8FFFE23FC00000001FFF000202A\n\
+S9030000FC\n";
+
 const ONE: &[u8] = b"session 1\nboard 192\nslice 1000\nguest 64 10 hello.s19 -\n";
 
 /// A run on these files, and what is to come of it.
@@ -43,9 +49,10 @@ struct Row<'a> {
 
 /// A shelf with all images, a script that types a line, and a session.
 fn shelf(alloc: Global, session: &[u8], fails: u64) -> Option<MemShelf> {
-    let known: [(&str, &[u8]); 7] = [
+    let known: [(&str, &[u8]); 8] = [
         ("s.txt", session),
         ("hello.s19", HELLO),
+        ("loop.s19", LOOP),
         ("fill.s19", FILL),
         ("zeros.s19", ZEROS),
         ("stale.s19", STALE),
@@ -66,9 +73,15 @@ fn run_session(alloc: Global, words: &str, session: &[u8], failing: Failing) -> 
     let mut shelf = shelf(alloc, session, failing.shelf)?;
     let fails = Vec::from_slice(alloc, &[failing.out]).ok()?;
     let mut out = MemSink::new(alloc, failing.room, fails).ok()?;
-    let mut diag = MemSink::new(alloc, 200, Vec::new(alloc)).ok()?;
-    let status = run_program(alloc, &words, &mut shelf, &mut out, &mut diag);
-    Some(Ran { status, out, diag })
+    let mut diag = MemSink::new(alloc, 2000, Vec::new(alloc)).ok()?;
+    let mut native = Native::new();
+    let status = run_program(alloc, &words, &mut shelf, &mut out, &mut diag, &mut native);
+    Some(Ran {
+        status,
+        out,
+        diag,
+        native,
+    })
 }
 
 /// Room for the outcomes of guests that fill their RAM.
@@ -95,14 +108,14 @@ fn check_rows(rt: &impl Abort, alloc: Global, rows: &[Row]) {
 
 #[test]
 fn sessions_run(rt: HostRuntime) {
-    let rows: [Row; 9] = [
+    let rows: [Row; 10] = [
         Row {
             what: "one guest shows what it shows alone",
             words: "mbx host s.txt",
             session: ONE,
             status: 0,
             parts: &[HELLO_TEXT],
-            diag: b"",
+            diag: b"guest 1 retired 0 privileged 0 trapped 0 denied 3 traced 0 entered 0 idle 0 refilled 0\n",
         },
         Row {
             what: "a guest that halts beside one that switches off",
@@ -113,7 +126,8 @@ fn sessions_run(rt: HostRuntime) {
                 b"guest 1\nstate halted\nsteps 16385\n",
                 b"guest 2\nstate off\nsteps 3\nconsole 1\n41\n",
             ],
-            diag: b"",
+            diag: b"guest 1 retired 16368 privileged 0 trapped 0 denied 17 traced 0 entered 0 idle 0 refilled 0\n\
+guest 2 retired 0 privileged 0 trapped 0 denied 3 traced 0 entered 0 idle 0 refilled 0\n",
         },
         Row {
             what: "a script is its own guest's",
@@ -124,7 +138,16 @@ fn sessions_run(rt: HostRuntime) {
                 b"guest 1\nstate running\nsteps 1\nconsole 0\nlost 0\nqueue 0\n",
                 b"guest 2\nstate running\nsteps 1\nconsole 0\nlost 0\nqueue 1\n41\n",
             ],
-            diag: b"",
+            diag: b"guest 1 retired 0 privileged 0 trapped 0 denied 1 traced 0 entered 0 idle 0 refilled 0\n\
+guest 2 retired 0 privileged 0 trapped 0 denied 1 traced 0 entered 0 idle 0 refilled 0\n",
+        },
+        Row {
+            what: "a loop of which the first step alone and the store to a device are denied",
+            words: "mbx host s.txt",
+            session: b"session 1\nboard 192\nslice 5\nguest 64 100 loop.s19 -\n",
+            status: 0,
+            parts: &[b"guest 1\nstate off\nsteps 12\n", b"D0 0000FFFF\n"],
+            diag: b"guest 1 retired 10 privileged 0 trapped 0 denied 2 traced 0 entered 0 idle 0 refilled 0\n",
         },
         Row {
             what: "a board that is too small",
@@ -140,7 +163,8 @@ fn sessions_run(rt: HostRuntime) {
             session: b"session 1\nboard 320\nslice 1000\nguest 64 10 hello.s19 -\nguest 64 10 hello.s19 -\n",
             status: 0,
             parts: &[HELLO_TEXT, b"guest 2\nstate off\nsteps 3\n"],
-            diag: b"",
+            diag: b"guest 1 retired 0 privileged 0 trapped 0 denied 3 traced 0 entered 0 idle 0 refilled 0\n\
+guest 2 retired 0 privileged 0 trapped 0 denied 3 traced 0 entered 0 idle 0 refilled 0\n",
         },
         Row {
             what: "guests that translate nothing are the same",
@@ -176,6 +200,23 @@ fn sessions_run(rt: HostRuntime) {
         },
     ];
     check_rows(&rt, rt.alloc(), &rows);
+}
+
+#[test]
+fn what_the_board_carries_out_is_counted(rt: HostRuntime) {
+    let session =
+        b"session 1\nboard 320\nslice 5\nguest 64 100 loop.s19 -\nguest 64 8 loop.s19 -\n";
+    let rows: [(&str, u64, u64); 3] = [
+        ("mbx host s.txt", 17, 3),
+        ("mbx compare s.txt", 17, 3),
+        ("mbx bare loop.s19 --ram 64 --steps 100", 0, 0),
+    ];
+    for (words, retired, exceptions) in rows {
+        let ran = run_session(rt.alloc(), words, session, ROOMY).expect(&rt, "ample memory");
+        assert!(rt; ran.status == 0, "{words}");
+        assert!(rt; ran.native.retired() == retired, "{words}");
+        assert!(rt; ran.native.exceptions() == exceptions, "{words}");
+    }
 }
 
 /// Two guests in slices of so many steps.

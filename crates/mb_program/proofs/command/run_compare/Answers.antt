@@ -9,7 +9,7 @@ pub returns-in-Ok-clause-ends : goal.returns-in-Ok-clause-ends
 unfolding course_of
 returns-in-Ok-clause-ends g c =
     let a : Around = around g.F.Shelf.told g.F.Shelf.whole g.F.Shelf.faults g.O.Sink.taken g.O.Sink.faults
-    c.args.shelf.now c.read_session.new.shelf c.args.out.now c.show_compared.new.out in
+    c.args.shelf.now c.read_session.new.shelf c.args.out.now c.show_compared.new.out c.args.native.now c.show_compared.new.native in
     c.in-Ok.ensures.passes.1 (λ (s : SessionAtStart). ends (compare_answer s)) a c.show_compared.result refl
     (c.show_compared.ensures a.shelf a.shelf_after (ap (λ (x : ShelfSeen). x.faults) c.in-Ok.ensures.passes.0))
 
@@ -17,8 +17,8 @@ pub returns-in-Err-clause-ends : goal.returns-in-Err-clause-ends
 unfolding course_of
 returns-in-Err-clause-ends g c =
     let a : Around = around g.F.Shelf.told g.F.Shelf.whole g.F.Shelf.faults g.O.Sink.taken g.O.Sink.faults
-    c.args.shelf.now c.read_session.new.shelf c.args.out.now c.args.out.now in
-    c.in-Err.ensures.passes (λ (s : SessionAtStart). ends (compare_answer s)) a refl refl (refl, refl)
+    c.args.shelf.now c.read_session.new.shelf c.args.out.now c.args.out.now c.args.native.now c.args.native.now in
+    c.in-Err.ensures.passes (λ (s : SessionAtStart). ends (compare_answer s)) a refl refl (refl, refl, refl)
 
 pub returns-in-Ok-clause-tidy : goal.returns-in-Ok-clause-tidy
 returns-in-Ok-clause-tidy g c = end_tells _ _ c.show_compared.result (returns-in-Ok-clause-ends g c)

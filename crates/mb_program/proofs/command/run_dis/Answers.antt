@@ -10,18 +10,18 @@ use Rattle.mb_program.proofs.command.run_dis.Goals as goal
 
 pub returns-in-Ok-clause-ends : goal.returns-in-Ok-clause-ends
 unfolding course_of
-returns-in-Ok-clause-ends g c =
+returns-in-Ok-clause-ends g c = λ native.
     let a : Around = around g.F.Shelf.told g.F.Shelf.whole g.F.Shelf.faults g.O.Sink.taken g.O.Sink.faults
-    c.args.shelf.now c.image_file.new.shelf c.args.out.now c.show_excerpt.new.out in
+    c.args.shelf.now c.image_file.new.shelf c.args.out.now c.show_excerpt.new.out native native in
     goes_on a (image_in (1024 * (excerpt_said c.args.dis.now).ram)) (excerpt_said c.args.dis.now).image (contents_of c.in-Ok.image)
     (λ (image : Contents). ends (dis_answer (excerpt_said c.args.dis.now) image))
-    c.show_excerpt.result c.in-Ok.ensures.reads.1 (c.show_excerpt.ensures a.shelf a.shelf_after c.in-Ok.ensures.reads.0)
+    c.show_excerpt.result c.in-Ok.ensures.reads.1 (c.show_excerpt.ensures native a.shelf a.shelf_after c.in-Ok.ensures.reads.0)
 
 pub returns-in-Err-clause-ends : goal.returns-in-Err-clause-ends
 unfolding course_of
-returns-in-Err-clause-ends g c =
+returns-in-Err-clause-ends g c = λ native.
     let a : Around = around g.F.Shelf.told g.F.Shelf.whole g.F.Shelf.faults g.O.Sink.taken g.O.Sink.faults
-    c.args.shelf.now c.image_file.new.shelf c.args.out.now c.args.out.now in
+    c.args.shelf.now c.image_file.new.shelf c.args.out.now c.args.out.now native native in
     ends_at a (image_in (1024 * (excerpt_said c.args.dis.now).ram)) (excerpt_said c.args.dis.now).image
     (λ (image : Contents). ends (dis_answer (excerpt_said c.args.dis.now) image))
-    c.in-Err.end c.in-Err.ensures.reads (refl, refl)
+    c.in-Err.end c.in-Err.ensures.reads (refl, refl, refl)

@@ -12,13 +12,13 @@ write_comparison-requires-clause-count g c =
     let guests = c.args.session.guests in
     let bare = c.in-Ok.ensures ∙ ap (λ (gs : List GuestAtStart). map (outcome_by rule_a) gs) c.guests.ensures in
     machine_for_each guests c.in-Ok.machines.items bare
-    ∙ sym (member_for_each guests c.in-Ok-run_session.host c.in-Ok-run_session.ensures.1)
+    ∙ sym (member_for_each guests c.in-Ok-run_session.host c.in-Ok-run_session.ensures.runs.1)
 
 pub write_comparison-requires-clause-few : goal.write_comparison-requires-clause-few
 write_comparison-requires-clause-few g c =
     let bare = c.in-Ok.ensures ∙ ap (λ (gs : List GuestAtStart). map (outcome_by rule_a) gs) c.guests.ensures in
     let count = machine_for_each c.args.session.guests c.in-Ok.machines.items bare in
-    omega (arith, c.requires.few)
+    omega (arith, c.requires.session.few)
 
 pub returns-in-Ok-true : goal.returns-in-Ok-true
 returns-in-Ok-true g c =
@@ -26,8 +26,9 @@ returns-in-Ok-true g c =
     let host = c.in-Ok-run_session.host in
     let bare = c.in-Ok.ensures ∙ ap (λ (gs : List GuestAtStart). map (outcome_by rule_a) gs) c.guests.ensures in
     compared_same c.args.session (found_of machines host) (sink_seen g.O.Sink.taken g.O.Sink.faults c.args.out.now)
-    (sink_seen g.O.Sink.taken g.O.Sink.faults c.write_comparison.new.out) c.in-Ok-run_session.ensures.0
-    (found_so c.args.session.guests machines host bare c.in-Ok-run_session.ensures.1) (sym c.in-Ok-true.field-0-test ∙ c.in-Ok-true.ensures.all)
+    (sink_seen g.O.Sink.taken g.O.Sink.faults c.write_comparison.new.out) _ _ c.in-Ok-run_session.ensures.runs.0
+    (found_so c.args.session.guests machines host bare c.in-Ok-run_session.ensures.runs.1)
+    c.in-Ok-run_session.ensures.counted (sym c.in-Ok-true.field-0-test ∙ c.in-Ok-true.ensures.all)
     c.in-Ok-true.ensures.printed
 
 pub returns-in-Ok-false : goal.returns-in-Ok-false
@@ -36,8 +37,9 @@ returns-in-Ok-false g c =
     let host = c.in-Ok-run_session.host in
     let bare = c.in-Ok.ensures ∙ ap (λ (gs : List GuestAtStart). map (outcome_by rule_a) gs) c.guests.ensures in
     compared_other c.args.session (found_of machines host) (sink_seen g.O.Sink.taken g.O.Sink.faults c.args.out.now)
-    (sink_seen g.O.Sink.taken g.O.Sink.faults c.write_comparison.new.out) c.in-Ok-run_session.ensures.0
-    (found_so c.args.session.guests machines host bare c.in-Ok-run_session.ensures.1) (sym c.in-Ok-false.field-0-test ∙ c.in-Ok-false.ensures.all)
+    (sink_seen g.O.Sink.taken g.O.Sink.faults c.write_comparison.new.out) _ _ c.in-Ok-run_session.ensures.runs.0
+    (found_so c.args.session.guests machines host bare c.in-Ok-run_session.ensures.runs.1)
+    c.in-Ok-run_session.ensures.counted (sym c.in-Ok-false.field-0-test ∙ c.in-Ok-false.ensures.all)
     c.in-Ok-false.ensures.printed
 
 pub returns : goal.returns
@@ -46,5 +48,6 @@ returns g c =
     let host = c.in-Ok-run_session.host in
     let bare = c.in-Ok.ensures ∙ ap (λ (gs : List GuestAtStart). map (outcome_by rule_a) gs) c.guests.ensures in
     compared_cut c.args.session (found_of machines host) (sink_seen g.O.Sink.taken g.O.Sink.faults c.args.out.now)
-    (sink_seen g.O.Sink.taken g.O.Sink.faults c.write_comparison.new.out) c.in-Ok-run_session.ensures.0
-    (found_so c.args.session.guests machines host bare c.in-Ok-run_session.ensures.1) c.in-Err-write_comparison.ensures.printed
+    (sink_seen g.O.Sink.taken g.O.Sink.faults c.write_comparison.new.out) _ _ c.in-Ok-run_session.ensures.runs.0
+    (found_so c.args.session.guests machines host bare c.in-Ok-run_session.ensures.runs.1)
+    c.in-Ok-run_session.ensures.counted c.in-Err-write_comparison.ensures.printed

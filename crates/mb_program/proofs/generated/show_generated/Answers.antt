@@ -13,8 +13,8 @@ pub returns-in-Err : goal.returns-in-Err
 returns-in-Err g c =
     let workload = workload_said c.args.workload.now in
     let out = sink_seen g.O.Sink.taken g.O.Sink.faults c.args.out.now in
-    subst (λ (end : End). GivesAnswer (gen_answer workload) out out end) (sym c.from-in-Err.ensures)
-    (not_hosted workload c.in-Ok.session out c.in-Err.fault c.in-Ok.ensures.filled c.in-Err.ensures)
+    subst (λ (end : End). GivesAnswer (gen_answer workload) out out c.args.native.now c.run_session.new.native end) (sym c.from-in-Err.ensures)
+    (not_hosted workload c.in-Ok.session out _ _ c.in-Err.fault c.in-Ok.ensures.filled c.in-Err.ensures.runs c.in-Err.ensures.counted)
 
 pub returns-in-Ok-write_summary : goal.returns-in-Ok-write_summary
 returns-in-Ok-write_summary g c =
@@ -22,7 +22,7 @@ returns-in-Ok-write_summary g c =
     let made = subst (λ (seed : ℕ). c.in-Ok.session ≡ generated seed workload.guests) c.from.ensures c.in-Ok.ensures.generated in
     summary_done workload c.in-Ok.session (shown_of (members_in c.in-Ok-run_session.host))
     (sink_seen g.O.Sink.taken g.O.Sink.faults c.args.out.now) (sink_seen g.O.Sink.taken g.O.Sink.faults c.write_summary.new.out)
-    made c.in-Ok-run_session.ensures.1 c.in-Ok-write_summary.ensures
+    _ _ made c.in-Ok-run_session.ensures.runs.1 c.in-Ok-run_session.ensures.counted c.in-Ok-write_summary.ensures
 
 pub returns : goal.returns
 returns g c =
@@ -30,4 +30,4 @@ returns g c =
     let made = subst (λ (seed : ℕ). c.in-Ok.session ≡ generated seed workload.guests) c.from.ensures c.in-Ok.ensures.generated in
     summary_cut workload c.in-Ok.session (shown_of (members_in c.in-Ok-run_session.host))
     (sink_seen g.O.Sink.taken g.O.Sink.faults c.args.out.now) (sink_seen g.O.Sink.taken g.O.Sink.faults c.write_summary.new.out)
-    made c.in-Ok-run_session.ensures.1 c.in-Err-write_summary.ensures
+    _ _ made c.in-Ok-run_session.ensures.runs.1 c.in-Ok-run_session.ensures.counted c.in-Err-write_summary.ensures

@@ -1,0 +1,58 @@
+-- What is counted of the guests of a session: their steps by class, and what the board carries out of them.
+use Rattle.std.specs.Prelude.{ℕ, ◌+◌, ◌^◌, ◌<◌, List, ◌++◌, map, sum_by, codes, decimal}
+use Rattle.mb_words.specs.Words.{Text}
+use Rattle.vm_meaning.specs.Marks.{trail}
+use Rattle.vm_meaning.specs.Native.{NativeState}
+use Rattle.vm_machine.specs.Turns.{Tally, exits, tally_of}
+use Rattle.vm_machine.specs.Rounds.{Hosted}
+use Rattle.vm_guest.specs.Session.{GuestAtStart, SessionAtStart}
+use Rattle.vm_slices.specs.Members.{after_rounds, member_at_start}
+
+-- ---- the steps of a guest
+
+-- How many of each class a guest takes alone, from its start and with nothing in its shadow.
+unfoldable pub tally_by : GuestAtStart → Tally
+tally_by guest = tally_of guest.image guest.script guest.ram guest.steps
+
+abbrev pub tallies_by : List GuestAtStart → List Tally
+tallies_by guests = map tally_by guests
+
+-- so many of a class, behind its name
+abbrev pub class_count : Text → ℕ → Text
+class_count name count = name ++ decimal count
+
+-- the line of a guest
+unfoldable pub counts_line : ℕ → Tally → Text
+counts_line i t = codes "guest " ++ decimal i
+    ++ class_count (codes " retired ") t.retired
+    ++ class_count (codes " privileged ") t.privileged
+    ++ class_count (codes " trapped ") t.trapped
+    ++ class_count (codes " denied ") t.denied
+    ++ class_count (codes " traced ") t.traced
+    ++ class_count (codes " entered ") t.entered
+    ++ class_count (codes " idle ") t.idle
+    ++ class_count (codes " refilled ") t.refilled
+    ++ codes "\n"
+
+-- ---- what the board carries out
+
+-- all guests after their rounds, with the marks of their retired steps, one turn after the other
+unfoldable pub hosted_by : SessionAtStart → Hosted
+hosted_by s = after_rounds s.slice (map member_at_start s.guests)
+
+-- What is counted once all guests have run: each retired step of each guest was carried out by the board, with its
+-- marks, and each that is privileged, trapped or denied was left by one exception. Nothing else is counted.
+unfoldable pub carried_out : SessionAtStart → NativeState → NativeState
+carried_out s native = record {
+  retired = native.retired + sum_by (λ (t : Tally). t.retired) (tallies_by s.guests);
+  exceptions = native.exceptions + sum_by exits (tallies_by s.guests);
+  trail = trail native.trail (hosted_by s).marks;
+}
+
+-- nothing is
+abbrev pub uncounted : NativeState → NativeState
+uncounted native = native
+
+-- The steps of a session can be counted beside these.
+abbrev pub HasRoomToRun : NativeState → Type 0
+HasRoomToRun native = (native.retired < 2 ^ 61) × (native.exceptions < 2 ^ 61)
