@@ -1,9 +1,9 @@
 -- How a memory management unit translates.
-use Rattle.std.specs.Prelude.{ℕ, ◌/◌, ◌%◌, ◌^◌, ◌==◌, ◌||◌, Bool, true, false}
+use Rattle.std.specs.Prelude.{ℕ, ◌/◌, ◌%◌, ◌^◌, ◌==◌, ◌||◌, ◌&&◌, Bool, true, false, not}
 use Rattle.mb_port.specs.declared.types.Mmu.{Mmu}
 use Rattle.mb_machine.specs.Access.{is_translating}
 use Rattle.mb_board.specs.declared.bus.Mode.{Mode}
-use Rattle.mb_board.specs.declared.bus.Mode.TheVariants.{Direct, Tables, Registers}
+use Rattle.mb_board.specs.declared.bus.Mode.TheVariants.{Direct, Tables, UserTables, Registers}
 
 -- E, bit 15 of a transparent register
 abbrev pub is_enabled : ℕ → Bool
@@ -13,10 +13,20 @@ is_enabled register = register / 2 ^ 15 % 2 == 1
 abbrev pub has_transparent : Mmu → Bool
 has_transparent mmu = is_enabled mmu.itt0 || is_enabled mmu.itt1 || is_enabled mmu.dtt0 || is_enabled mmu.dtt1
 
-abbrev pub mode_by : (transparent translating : Bool) → Mode
-mode_by true translating = Registers
-mode_by false true = Tables
-mode_by false false = Direct
+-- a register that is on serves user space: its S field, bits 14 and 13, is not the supervisor's alone
+abbrev pub serves_user : ℕ → Bool
+serves_user register = is_enabled register && not (register / 2 ^ 13 % 4 == 1)
+
+-- some register does
+abbrev pub has_user : Mmu → Bool
+has_user mmu = serves_user mmu.itt0 || serves_user mmu.itt1 || serves_user mmu.dtt0 || serves_user mmu.dtt1
+
+abbrev pub mode_by : (transparent user translating : Bool) → Mode
+mode_by true true translating = Registers
+mode_by true false true = UserTables
+mode_by true false false = Registers
+mode_by false user true = Tables
+mode_by false user false = Direct
 
 abbrev pub mode_of : Mmu → Mode
-mode_of mmu = mode_by (has_transparent mmu) (is_translating mmu)
+mode_of mmu = mode_by (has_transparent mmu) (has_user mmu) (is_translating mmu)

@@ -6,7 +6,8 @@ ghost use Rattle.mb_walk.specs.Memory.{overwritten};
 ghost use Rattle.mb_devices.specs.Devices.{level_of, ticked};
 ghost use Rattle.mb_machine.specs.Machine.{arrived, mmu_at_reset, world_at_reset};
 ghost use Rattle.mb_board.specs.Arrivals.{IsNext};
-ghost use Rattle.mb_board.specs.Modes.{has_transparent, is_enabled as has_enabled, mode_of as translates};
+ghost use Rattle.mb_board.specs.Modes.{has_transparent, has_user, is_enabled as has_enabled, mode_of as translates};
+ghost use Rattle.mb_board.specs.Modes.{serves_user};
 
 use crate::receiving::receive;
 use mb_atc::Atc;
@@ -37,7 +38,9 @@ pub enum Mode {
     Direct,
     /// Translation is on, and no transparent register is.
     Tables,
-    /// A transparent register is on.
+    /// Translation is on, and each transparent register that is on serves the supervisor alone.
+    UserTables,
+    /// A transparent register is on, and serves user space or translation is off.
     Registers,
 }
 
@@ -78,16 +81,30 @@ fn is_transparent(mmu: &Mmu) -> bool
     is_enabled(mmu.itt0) || is_enabled(mmu.itt1) || is_enabled(mmu.dtt0) || is_enabled(mmu.dtt1)
 }
 
+/// Whether a transparent register is on that serves user space: its S field, bits 14 and 13, is not the supervisor's
+/// alone.
+fn serves_user(register: u32) -> bool
+    ensures { result ≡ serves_user register }
+{
+    is_enabled(register) && register >> 13 & 3 != 1
+}
+
+/// Whether some transparent register does.
+fn has_user(mmu: &Mmu) -> bool
+    ensures { result ≡ has_user mmu.now }
+{
+    serves_user(mmu.itt0) || serves_user(mmu.itt1) || serves_user(mmu.dtt0) || serves_user(mmu.dtt1)
+}
+
 /// What the registers come to.
 pub fn mode_of(mmu: &Mmu) -> Mode
     ensures { result ≡ translates mmu.now }
 {
-    if is_transparent(mmu) {
-        Mode::Registers
-    } else if is_enabled(mmu.tc) {
-        Mode::Tables
-    } else {
-        Mode::Direct
+    match (is_transparent(mmu), has_user(mmu), is_enabled(mmu.tc)) {
+        (true, true, _) | (true, false, false) => Mode::Registers,
+        (true, false, true) => Mode::UserTables,
+        (false, _, true) => Mode::Tables,
+        (false, _, false) => Mode::Direct,
     }
 }
 

@@ -54,7 +54,10 @@ impl BoardBus {
         match self.mode {
             Mode::Direct => Settled::To(r.at),
             Mode::Tables => self.by_kept(r),
-            Mode::Registers => self.by_registers(r.code, r.space, r.at, r.write),
+            Mode::UserTables if matches!(r.space, Space::User) => self.by_kept(r),
+            Mode::UserTables | Mode::Registers => {
+                self.by_registers(r.code, r.space, r.at, r.write)
+            }
         }
     }
 

@@ -24,7 +24,8 @@ pub ended : (steps : ℕ) (r : Stepped × Guest) (end : StepEnd) (cpu : Cpu) (g 
     → state ≡ state_by end cpu g.world.devices
     → (let q : Guested = record { machine = record { cpu = cpu; world = g.world; steps = steps; state = state }; shadow = g.shadow } in q) ≡ ended_at steps r
 ended steps r end cpu g state means is =
-    let of : Cpu → Guest → RunState → Guested = λ c h s. record { machine = record { cpu = c; world = h.world; steps = steps; state = s }; shadow = h.shadow } in
+    let of : Cpu → Guest → RunState → Guested = λ c h s.
+    record { machine = record { cpu = c; world = h.world; steps = steps; state = s }; shadow = h.shadow } in
     let e : end ≡ step_end r.0.0 = sym (ap (λ (x : (StepEnd × Cpu) × Guest). x.0.0) means) in
     let c : cpu ≡ r.0.1 = sym (ap (λ (x : (StepEnd × Cpu) × Guest). x.0.1) means) in
     let w : g ≡ r.1 = sym (ap (λ (x : (StepEnd × Cpu) × Guest). x.1) means) in

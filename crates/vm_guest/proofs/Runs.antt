@@ -145,7 +145,8 @@ module _ (g : Seat) (ram : List ℕ) (size : ℕ) (native : NativeState) (n : �
       let after = user_run (suc n) (guest_start g ram size native) in
       subst (λ (x : Ran). IsLeft g ram native (suc n) x) (sym is)
       (exits_take g ram native_cpu (idle size) 0 Running native no_registers (suc n) v may.seated may.bytes may.small may.running may.seven
-      (is_native g may.seated.behind) (let z : monitor_bytes ≤ monitor_bytes = omega arith in z) (idle_on size) stretch (sym (ap (λ (x : Ran). x.end) is) ∙ left)
+      (is_native g may.seated.behind) (let z : monitor_bytes ≤ monitor_bytes = omega arith in z) (idle_on size) stretch
+      (sym (ap (λ (x : Ran). x.end) is) ∙ left)
       (subst (λ (x : Ran). length x.machine.cpu.regs.a ≡ 7) is wide))
 
   -- the next step begins by one tick more

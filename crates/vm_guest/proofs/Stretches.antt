@@ -17,7 +17,8 @@ pub none_due : (script : Entries) (taken next n : ℕ) → IsScript script → I
 none_due script taken next n is at before place within = elim (cases_lt place next) [
   | inl past ↦ inl (at.past place past)
   | inr behind ↦ inr (elim (cases_lt next place) [
-    | inl less ↦ let first = before (omega arith) in let later : due_at script next ≤ due_at script place = is.in_order next place (0, 0) less within in omega arith
+    | inl less ↦ let first = before (omega arith) in
+        let later : due_at script next ≤ due_at script place = is.in_order next place (0, 0) less within in omega arith
     | inr same ↦ let e : next ≡ place = omega arith in let first = before (omega arith) in let d : due_at script next ≡ due_at script place =
         ap (λ (p : ℕ). due_at script p) e in omega arith
   ])

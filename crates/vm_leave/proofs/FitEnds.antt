@@ -103,10 +103,12 @@ module _ (i : Instr) (space : Space) where
   perform_move_fits bytes (move.MovemLoad size ea mask) word_at p g s words named is fit =
       (movem_fits i space true size ea mask word_at p words (named (movem_by true size ea mask) refl) (formed_behind_word size ea mask is.are_words) fit).are g
   perform_move_fits bytes (move.MovemStore size ea mask) word_at p g s words named is fit =
-      (movem_fits i space false size ea mask word_at p words (named (movem_by false size ea mask) refl) (formed_behind_word size ea mask is.are_words) fit).are g
+      (movem_fits i space false size ea mask word_at p words (named (movem_by false size ea mask) refl)
+      (formed_behind_word size ea mask is.are_words) fit).are g
   perform_move_fits bytes (move.Movea size register source) word_at p g s words named is fit =
       (movea_fits i space size register source word_at p (formed size source is.are_words) fit).are g
-  perform_move_fits bytes (move.Lea register ea) word_at p g s words named is fit = (lea_fits i space register ea word_at p (formed Long ea is.are_words) fit).are g
+  perform_move_fits bytes (move.Lea register ea) word_at p g s words named is fit =
+      (lea_fits i space register ea word_at p (formed Long ea is.are_words) fit).are g
   perform_move_fits bytes (move.Exg m kind n) word_at p g s words named is fit = tt
   perform_move_fits bytes (move.Swap register) word_at p g s words named is fit = tt
   perform_move_fits bytes (move.ToCcr ea) word_at p g s words named is fit = (to_ccr_fits i space ea word_at p (formed Word ea is.are_words) fit).are g

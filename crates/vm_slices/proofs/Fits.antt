@@ -76,7 +76,8 @@ next_guest all rest g hosts base ram s =
 -- and is prepared
 pub next_stands : (all rest : List GuestAtStart) (g : GuestAtStart) (hosts : List HostGuest) (h : HostGuest) (base : ℕ) (x y : List ℕ)
     → Stands all (g ∷ rest) hosts base x → member_of y h ≡ member_at_start g → h.guest.base ≡ base → h.guest.size ≡ g.ram
-    → IsSeated h.guest y → IsReady (member_of y h) → OnlyBetween base (base + g.ram + area_bytes) x y → Stands all rest (hosts ++ h ∷ []) (base + g.ram + area_bytes) y
+    → IsSeated h.guest y → IsReady (member_of y h) → OnlyBetween base (base + g.ram + area_bytes) x y
+    → Stands all rest (hosts ++ h ∷ []) (base + g.ram + area_bytes) y
 next_stands all rest g hosts h base x y s start at size seated ready between =
     let end : base + g.ram + area_bytes ≡ end_of h.guest = omega arith in
     let last = s.end in

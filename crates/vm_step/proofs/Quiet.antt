@@ -101,7 +101,8 @@ tried_attempt cpu g = tried_at _
 not_above : (level mask : ℕ) → level ≤ mask → nat_lt mask level ≡ false
 not_above level mask h = grind (arith, nat_tests)
 
-pub tried_class : (level : ℕ) (cpu : Cpu) (g : Guest) → level ≤ interrupt_mask cpu → cpu.stopped ≡ false → is_traced cpu ≡ false → IsTried (class_of level cpu g)
+pub tried_class : (level : ℕ) (cpu : Cpu) (g : Guest) → level ≤ interrupt_mask cpu → cpu.stopped ≡ false → is_traced cpu ≡ false
+    → IsTried (class_of level cpu g)
 unfolding class_of
 tried_class level cpu g a b t = by_tests (nat_lt (interrupt_mask cpu) level) cpu.stopped (is_traced cpu) (class_of_attempt cpu g)
     (not_above level (interrupt_mask cpu) a) b t (tried_attempt cpu g)

@@ -31,7 +31,8 @@ take_turn-requires-clause-room c =
     (member_room c.args.guests.now ram c.args.place r c.args.native.now c.requires.place c.index-guests-place.is c.requires.room)
 
 -- the guests after the turn of that one
-turned : (c : goal.After-take_turn) → Turn c.args.slice c.args.place (members_of c.args.guests.now c.args.board.now.world.ram) c.args.native.now c.take_turn.new.native
+turned : (c : goal.After-take_turn)
+    → Turn c.args.slice c.args.place (members_of c.args.guests.now c.args.board.now.world.ram) c.args.native.now c.take_turn.new.native
 turned c =
     let gs = c.args.guests.now in
     let x = c.args.board.now.world.ram in

@@ -69,7 +69,8 @@ unreachable-requires c =
 -- ---- counted to its end
 
 -- the guest that it hands back
-handed_back : (c : After-go_on) → MayRun c.args.self.now c.args.board.now.world.ram c.args.board.now.world.devices.ram c.args.native.now c.more_steps-more.result
+handed_back : (c : After-go_on)
+    → MayRun c.args.self.now c.args.board.now.world.ram c.args.board.now.world.devices.ram c.args.native.now c.more_steps-more.result
     → ran_to c.run_board.result c.run_board.new.board c.run_board.new.native
     ≡ guest_run c.begin.new.self c.args.board.now.world.ram c.args.board.now.world.devices.ram c.args.native.now (suc c.more_steps-more.result)
     → Takes (c.more_steps-more.result + 1) (scene c.args.self.now c.args.board.now.world.ram c.args.native.now)

@@ -41,7 +41,8 @@ returns-clause-start c =
     let big = c.requires.ram.0 in
     starts c.args.base c.args.ram (contents_of c.args.image) after c.at_reset.result c.in_ok-devices.devices c.in_ok-tlb.tlb c.clear-2.new.self c.args.script
     (tally_in c.none.result) (omega (arith, big)) (is_laid c).ram_is
-    (c.at_reset.ensures ∙ ap (λ (n : ℕ). at_reset n c.long-2.result) c.long.ensures ∙ ap (λ (n : ℕ). at_reset (number_at after c.args.base 4) n) c.long-2.ensures)
+    (c.at_reset.ensures ∙ ap (λ (n : ℕ). at_reset n c.long-2.result) c.long.ensures
+    ∙ ap (λ (n : ℕ). at_reset (number_at after c.args.base 4) n) c.long-2.ensures)
     c.in_ok-devices.ensures c.in_ok-tlb.ensures c.clear-2.ensures.shadow c.none.ensures
 
 pub returns-clause-seated : goal.returns-clause-seated
@@ -50,7 +51,8 @@ returns-clause-seated c =
     let inside = c.requires.inside in
     let count = (is_laid c).within.count in
     seated c.args.base c.args.ram after c.at_reset.result c.in_ok-devices.devices c.in_ok-tlb.tlb c.clear-2.new.self c.args.script
-    (tally_in c.none.result) c.requires.base.0 c.requires.base.1 c.requires.ram.1 (omega (arith, inside, count)) (c.clear-2.ensures.area ∙ c.in_ok-shadow.ensures.0)
+    (tally_in c.none.result) c.requires.base.0 c.requires.base.1 c.requires.ram.1 (omega (arith, inside, count))
+    (c.clear-2.ensures.area ∙ c.in_ok-shadow.ensures.0)
     c.clear-2.ensures.tables c.clear-2.ensures.shadow
 
 pub returns-clause-going : goal.returns-clause-going

@@ -19,7 +19,8 @@ invariant_of-self g c =
     let frame = c.args.frame in
     let writable = c.args.writable in
     let is :
-    shadowed c.fill.new.self (g.R.Ram.bytes c.fill.new.ram) ≡ filled space page (page_of m.base + frame) writable before = rw (sym c.page_of.ensures.number) e.shadow in
+    shadowed c.fill.new.self (g.R.Ram.bytes c.fill.new.ram) ≡ filled space page (page_of m.base + frame) writable before =
+    rw (sym c.page_of.ensures.number) e.shadow in
     record {
       aligned = m.aligned;
       whole = m.whole;
@@ -43,7 +44,8 @@ returns-clause-shadow g c =
     let frame = c.args.frame in
     let writable = c.args.writable in
     let is :
-    shadowed c.fill.new.self (g.R.Ram.bytes c.fill.new.ram) ≡ filled space page (page_of m.base + frame) writable before = rw (sym c.page_of.ensures.number) e.shadow in
+    shadowed c.fill.new.self (g.R.Ram.bytes c.fill.new.ram) ≡ filled space page (page_of m.base + frame) writable before =
+    rw (sym c.page_of.ensures.number) e.shadow in
     ap (own m.base) is ∙ own_filled m.base before space page frame writable
 
 pub returns-clause-world : goal.returns-clause-world
