@@ -2,6 +2,8 @@
 
 mod excerpts;
 mod generated;
+mod hostile_guests;
+mod outsides;
 mod sessions;
 mod sources;
 
@@ -49,12 +51,20 @@ struct Failing {
     shelf: u64,
     out: u64,
     room: usize,
+    diag: u64,
 }
 
 const NOTHING: Failing = Failing {
     shelf: 0,
     out: 0,
     room: 4096,
+    diag: 0,
+};
+
+/// Room for the outcomes of guests that fill their RAM.
+const ROOMY: Failing = Failing {
+    room: 4_000_000,
+    ..NOTHING
 };
 
 fn split_words(alloc: Global, line: &str) -> Option<Vec<String>> {
@@ -77,6 +87,23 @@ fn shelf(alloc: Global, image: Vec<u8>, script: Vec<u8>, fails: u64) -> Option<M
     Some(MemShelf::new(files, Vec::from_slice(alloc, &[fails]).ok()?))
 }
 
+/// A run of the words of a line over a shelf.
+fn run_over(alloc: Global, line: &str, shelf: &mut MemShelf, failing: Failing) -> Option<Ran> {
+    let words = split_words(alloc, line)?;
+    let fails = Vec::from_slice(alloc, &[failing.out]).ok()?;
+    let mut out = MemSink::new(alloc, failing.room, fails).ok()?;
+    let fails = Vec::from_slice(alloc, &[failing.diag]).ok()?;
+    let mut diag = MemSink::new(alloc, 2000, fails).ok()?;
+    let mut native = Native::new();
+    let status = run_program(alloc, &words, shelf, &mut out, &mut diag, &mut native);
+    Some(Ran {
+        status,
+        out,
+        diag,
+        native,
+    })
+}
+
 fn run(
     alloc: Global,
     line: &str,
@@ -84,19 +111,8 @@ fn run(
     script: Vec<u8>,
     failing: Failing,
 ) -> Option<Ran> {
-    let words = split_words(alloc, line)?;
     let mut shelf = shelf(alloc, image, script, failing.shelf)?;
-    let fails = Vec::from_slice(alloc, &[failing.out]).ok()?;
-    let mut out = MemSink::new(alloc, failing.room, fails).ok()?;
-    let mut diag = MemSink::new(alloc, 200, Vec::new(alloc)).ok()?;
-    let mut native = Native::new();
-    let status = run_program(alloc, &words, &mut shelf, &mut out, &mut diag, &mut native);
-    Some(Ran {
-        status,
-        out,
-        diag,
-        native,
-    })
+    run_over(alloc, line, &mut shelf, failing)
 }
 
 fn run_both(
@@ -128,7 +144,7 @@ struct Row<'a> {
     lines: &'a [&'a [u8]],
 }
 
-const ROWS: [Row; 20] = [
+const ROWS: [Row; 21] = [
     Row {
         what: "no step is taken",
         image: HELLO,
@@ -262,6 +278,17 @@ S109040046FCA7004E407B\nS9030000FC\n",
             b"state halted\nsteps 2\n",
             b"ISP FFF00008\n",
             b"PC 00000404\nSR 00002701\n",
+        ],
+    },
+    Row {
+        what: "a trap whose frame faults, and then the access error's",
+        image: b"S10B0000FFF0000800000400F9\nS10504004E4068\nS9030000FC\n",
+        script: b"",
+        steps: "5",
+        lines: &[
+            b"state halted\nsteps 1\nconsole 0\n",
+            b"ISP FFF00008\n",
+            b"PC 00000400\nSR 00002700\n",
         ],
     },
     Row {
@@ -717,30 +744,6 @@ fn a_script_has_a_greatest_length(rt: HostRuntime) -> Result<(), Fail> {
 }
 
 #[test]
-fn a_shelf_fails_at_each_call(rt: HostRuntime) {
-    let calls: [(u64, u8, &[u8]); 5] = [
-        (1, 5, b"mbx: hello.s19 cannot be read\n"),
-        (2, 5, b"mbx: hello.s19 cannot be read\n"),
-        (3, 5, b"mbx: typed.txt cannot be read\n"),
-        (4, 5, b"mbx: typed.txt cannot be read\n"),
-        (5, 0, b""),
-    ];
-    for (fails, status, line) in calls {
-        let failing = Failing {
-            shelf: fails,
-            ..NOTHING
-        };
-        let ran = run_both(rt.alloc(), SCRIPT_WORDS, HELLO, b"at 9 text A\n", failing).expect(
-            &rt,
-            "ample memory",
-        );
-        assert!(rt; ran.status == status, "{fails}");
-        assert!(rt; ran.diag.bytes() == line, "{fails}");
-        assert!(rt; ran.out.bytes().is_empty() == (status != 0), "{fails}");
-    }
-}
-
-#[test]
 fn nothing_outside_fails(rt: HostRuntime) {
     let rows: [(&str, u8); 11] = [
         (HELLO_WORDS, 0),
@@ -768,39 +771,5 @@ fn nothing_outside_fails(rt: HostRuntime) {
             run_unfailing(rt.alloc(), &words, files) == status,
             "{line}"
         );
-    }
-}
-
-#[test]
-fn out_fails_at_each_call(rt: HostRuntime) {
-    let mut whole = false;
-    for fails in 1..1000 {
-        let failing = Failing {
-            out: fails,
-            ..NOTHING
-        };
-        let ran = run_text(rt.alloc(), HELLO_WORDS, HELLO, failing).expect(&rt, "ample memory");
-        assert!(rt; HELLO_TEXT.starts_with(ran.out.bytes()), "{fails}");
-        if ran.status == 0 {
-            assert!(rt; ran.out.bytes() == HELLO_TEXT);
-            whole = true;
-            break;
-        }
-        assert!(rt; ran.status == 6, "{fails}");
-        assert!(rt;
-            ran.diag.bytes() == b"mbx: output failed\n".as_slice(),
-            "{fails}"
-        );
-    }
-    assert!(rt; whole);
-}
-
-#[test]
-fn out_has_a_room(rt: HostRuntime) {
-    for room in [0, 1, 100, HELLO_TEXT.len() - 1] {
-        let failing = Failing { room, ..NOTHING };
-        let ran = run_text(rt.alloc(), HELLO_WORDS, HELLO, failing).expect(&rt, "ample memory");
-        assert!(rt; ran.status == 6, "{room}");
-        assert!(rt; ran.out.bytes() == &HELLO_TEXT[..room]);
     }
 }

@@ -1,6 +1,6 @@
 //! Excerpts that are listed, and words that ask for none.
 
-use super::{Failing, HELLO, NOTHING, run_text};
+use super::{HELLO, NOTHING, run_text};
 
 const LINES: &[u8] = b"00000400 7041 MOVEQ #$41,D0\n\
 00000402 13C0FFF00000 MOVE.B D0,$FFF00000.L\n\
@@ -74,19 +74,6 @@ fn excerpts_are_listed(rt: HostRuntime) {
         assert!(rt; ran.out.bytes() == text, "{line}");
         assert!(rt; ran.diag.bytes() == told, "{line}");
     }
-}
-
-#[test]
-fn out_fails_in_a_listing(rt: HostRuntime) {
-    let failing = Failing {
-        room: 30,
-        ..NOTHING
-    };
-    let line = "mbx dis hello.s19 --ram 64 --at 400 --count 3";
-    let ran = run_text(rt.alloc(), line, HELLO, failing).expect(&rt, "ample memory");
-    assert!(rt; ran.status == 6);
-    assert!(rt; Some(ran.out.bytes()) == LINES.get(..30));
-    assert!(rt; ran.diag.bytes() == b"mbx: output failed\n".as_slice());
 }
 
 #[test]

@@ -1,9 +1,11 @@
 //! Sessions of several guests.
 
-use super::{Failing, HELLO, HELLO_TEXT, NOTHING, Ran, contains, file, split_words};
-use mb_board::Native;
-use mb_outside::{MemShelf, MemSink};
-use mb_program::{run_program, run_unfailing};
+use super::sources::SOURCE;
+use super::{
+    Failing, HELLO, HELLO_TEXT, NOTHING, ROOMY, Ran, contains, file, run_over, split_words,
+};
+use mb_outside::MemShelf;
+use mb_program::run_unfailing;
 use std::alloc::Global;
 use std::process::Abort;
 
@@ -47,9 +49,9 @@ struct Row<'a> {
     diag: &'a [u8],
 }
 
-/// A shelf with all images, a script that types a line, and a session.
+/// A shelf with all images, a script that types a line, a source, and a session.
 fn shelf(alloc: Global, session: &[u8], fails: u64) -> Option<MemShelf> {
-    let known: [(&str, &[u8]); 8] = [
+    let known: [(&str, &[u8]); 9] = [
         ("s.txt", session),
         ("hello.s19", HELLO),
         ("loop.s19", LOOP),
@@ -58,6 +60,7 @@ fn shelf(alloc: Global, session: &[u8], fails: u64) -> Option<MemShelf> {
         ("stale.s19", STALE),
         ("bad.s19", b"S9030000FB\n"),
         ("typed.txt", b"at 1 text A\n"),
+        ("hello.s", SOURCE),
     ];
     let mut files = Vec::new(alloc);
     for (name, bytes) in known {
@@ -68,27 +71,15 @@ fn shelf(alloc: Global, session: &[u8], fails: u64) -> Option<MemShelf> {
     Some(MemShelf::new(files, Vec::from_slice(alloc, &[fails]).ok()?))
 }
 
-fn run_session(alloc: Global, words: &str, session: &[u8], failing: Failing) -> Option<Ran> {
-    let words = split_words(alloc, words)?;
+pub(super) fn run_session(
+    alloc: Global,
+    words: &str,
+    session: &[u8],
+    failing: Failing,
+) -> Option<Ran> {
     let mut shelf = shelf(alloc, session, failing.shelf)?;
-    let fails = Vec::from_slice(alloc, &[failing.out]).ok()?;
-    let mut out = MemSink::new(alloc, failing.room, fails).ok()?;
-    let mut diag = MemSink::new(alloc, 2000, Vec::new(alloc)).ok()?;
-    let mut native = Native::new();
-    let status = run_program(alloc, &words, &mut shelf, &mut out, &mut diag, &mut native);
-    Some(Ran {
-        status,
-        out,
-        diag,
-        native,
-    })
+    run_over(alloc, words, &mut shelf, failing)
 }
-
-/// Room for the outcomes of guests that fill their RAM.
-const ROOMY: Failing = Failing {
-    room: 4_000_000,
-    ..NOTHING
-};
 
 fn check_rows(rt: &impl Abort, alloc: Global, rows: &[Row]) {
     for row in rows {
@@ -108,7 +99,7 @@ fn check_rows(rt: &impl Abort, alloc: Global, rows: &[Row]) {
 
 #[test]
 fn sessions_run(rt: HostRuntime) {
-    let rows: [Row; 10] = [
+    let rows: [Row; 11] = [
         Row {
             what: "one guest shows what it shows alone",
             words: "mbx host s.txt",
@@ -189,6 +180,15 @@ guest 2 retired 0 privileged 0 trapped 0 denied 3 traced 0 entered 0 idle 0 refi
             status: 1,
             parts: &[b"guest 1 differs\nguest 2 same\n"],
             diag: b"",
+        },
+        Row {
+            what: "a guest forgets a stale translation where it writes a root",
+            words: "mbx host s.txt",
+            session: b"session 1\nboard 320\nslice 3\nguest 64 8 stale.s19 -\nguest 64 10 hello.s19 -\n",
+            status: 0,
+            parts: &[b"D2 00001111\nD3 00002222\n"],
+            diag: b"guest 1 retired 0 privileged 3 trapped 0 denied 5 traced 0 entered 0 idle 0 refilled 0\n\
+guest 2 retired 0 privileged 0 trapped 0 denied 3 traced 0 entered 0 idle 0 refilled 0\n",
         },
         Row {
             what: "what does not fit is not compared",
@@ -309,56 +309,6 @@ fn files_of_sessions_are_refused(rt: HostRuntime) {
             assert!(rt; ran.status == status, "{words}");
             assert!(rt; ran.out.bytes().is_empty(), "{words}");
         }
-    }
-}
-
-#[test]
-fn the_shelf_fails_at_each_file_of_a_session(rt: HostRuntime) {
-    let session =
-        b"session 1\nboard 320\nslice 9\nguest 64 10 hello.s19 typed.txt\nguest 64 9 zeros.s19 -\n";
-    let calls: [(u64, &[u8]); 8] = [
-        (1, b"mbx: s.txt cannot be read\n"),
-        (2, b"mbx: s.txt cannot be read\n"),
-        (3, b"mbx: hello.s19 cannot be read\n"),
-        (4, b"mbx: hello.s19 cannot be read\n"),
-        (5, b"mbx: typed.txt cannot be read\n"),
-        (6, b"mbx: typed.txt cannot be read\n"),
-        (7, b"mbx: zeros.s19 cannot be read\n"),
-        (8, b"mbx: zeros.s19 cannot be read\n"),
-    ];
-    for words in ["mbx host s.txt", "mbx compare s.txt"] {
-        for (fails, line) in calls {
-            let failing = Failing {
-                shelf: fails,
-                ..NOTHING
-            };
-            let ran = run_session(rt.alloc(), words, session, failing).expect(&rt, "ample memory");
-            assert!(rt; ran.status == 5, "{words} {fails}");
-            assert!(rt; ran.diag.bytes() == line, "{words} {fails}");
-            assert!(rt; ran.out.bytes().is_empty(), "{words} {fails}");
-        }
-        let failing = Failing { shelf: 9, ..ROOMY };
-        let ran = run_session(rt.alloc(), words, session, failing).expect(&rt, "ample memory");
-        assert!(rt; ran.status == 0, "{words}");
-    }
-}
-
-#[test]
-fn out_has_a_room_for_part_of_a_session(rt: HostRuntime) {
-    for (words, room) in [
-        ("mbx host s.txt", 0),
-        ("mbx host s.txt", HELLO_TEXT.len() - 1),
-        ("mbx compare s.txt", 0),
-        ("mbx compare s.txt", 12),
-    ] {
-        let failing = Failing { room, ..NOTHING };
-        let ran = run_session(rt.alloc(), words, ONE, failing).expect(&rt, "ample memory");
-        assert!(rt; ran.status == 6, "{words}");
-        assert!(rt;
-            ran.diag.bytes() == b"mbx: output failed\n".as_slice(),
-            "{words}"
-        );
-        assert!(rt; ran.out.bytes().len() == room, "{words}");
     }
 }
 

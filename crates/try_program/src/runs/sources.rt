@@ -3,7 +3,7 @@
 use super::{NOTHING, run_text};
 
 /// A source of three instructions, and the records of its image.
-const SOURCE: &[u8] = b" ORG 0\n DC.L $10000,start\n ORG $400\n\
+pub(super) const SOURCE: &[u8] = b" ORG 0\n DC.L $10000,start\n ORG $400\n\
 start MOVEQ #'A',D0\n MOVE.B D0,$FFF00000\n MOVE.L #1,$FFF00020\n";
 
 const RECORDS: &[u8] = b"S0030000FC\nS30D000000000001000000000400ED\n\

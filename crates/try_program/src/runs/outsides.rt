@@ -1,0 +1,135 @@
+//! Outsides that fail. Each command meets a shelf that fails at its first call, at its second, and so on, until a run
+//! meets none; so it meets out; and it meets an out with room for a part.
+
+use super::sessions::run_session;
+use super::{Failing, ROOMY, Ran};
+use std::alloc::Global;
+
+/// A session of two guests, with a script.
+const SESSION: &[u8] =
+    b"session 1\nboard 320\nslice 9\nguest 64 10 hello.s19 typed.txt\nguest 64 9 zeros.s19 -\n";
+
+/// Words, and the files that they read, in their order.
+struct Command<'a> {
+    words: &'a str,
+    files: &'a [&'a str],
+}
+
+#[rattlefmt::skip]
+static COMMANDS: [Command; 6] = [
+    Command {
+        words: "mbx bare hello.s19 --ram 64 --steps 10 --script typed.txt",
+        files: &["hello.s19", "typed.txt"],
+    },
+    Command { words: "mbx asm hello.s", files: &["hello.s"] },
+    Command { words: "mbx dis hello.s19 --ram 64 --at 400 --count 3", files: &["hello.s19"] },
+    Command { words: "mbx host s.txt", files: &["s.txt", "hello.s19", "typed.txt", "zeros.s19"] },
+    Command { words: "mbx compare s.txt", files: &["s.txt", "hello.s19", "typed.txt", "zeros.s19"] },
+    Command { words: "mbx gen --seed 1 --guests 1", files: &[] },
+];
+
+/// How many calls of the shelf were refused in turn, until a run met none. Nothing where a run with a refused call did
+/// not end with that file and nothing on out.
+fn refusals_of_shelf(alloc: Global, command: &Command) -> Option<usize> {
+    for refused in 0..100usize {
+        let failing = Failing {
+            shelf: refused as u64 + 1,
+            ..ROOMY
+        };
+        let ran = run_session(alloc, command.words, SESSION, failing)?;
+        if ran.status == 0 {
+            return Some(refused);
+        }
+        // Of each file one call gives all, and another one its end.
+        let name = command.files.get(refused / 2)?;
+        let line = format!(in alloc; "mbx: {name} cannot be read\n").ok()?;
+        if ran.status != 5 || ran.diag.bytes() != line.as_bytes() || !ran.out.bytes().is_empty() {
+            return None;
+        }
+    }
+    None
+}
+
+#[test]
+fn the_shelf_fails_at_each_call(rt: HostRuntime) {
+    for command in &COMMANDS {
+        assert!(rt;
+            refusals_of_shelf(rt.alloc(), command) == Some(2 * command.files.len()),
+            "{}",
+            command.words
+        );
+    }
+}
+
+/// Whether a run says that out failed, which had taken a first part of this text.
+fn is_cut(ran: &Ran, text: &[u8]) -> bool {
+    ran.status == 6
+        && ran.diag.bytes() == b"mbx: output failed\n".as_slice()
+        && text.starts_with(ran.out.bytes())
+}
+
+/// How many calls of out were refused in turn, until a run met none, which printed all of this text. Nothing where a
+/// run with a refused call did not print a first part of it.
+fn refusals_of_out(alloc: Global, command: &Command, text: &[u8]) -> Option<usize> {
+    for refused in 0..1000usize {
+        let failing = Failing {
+            out: refused as u64 + 1,
+            ..ROOMY
+        };
+        let ran = run_session(alloc, command.words, SESSION, failing)?;
+        if ran.status == 0 {
+            return (ran.out.bytes() == text).then_some(refused);
+        }
+        if !is_cut(&ran, text) {
+            return None;
+        }
+    }
+    None
+}
+
+/// Whether a run prints as much of this text as out has room for: nothing, one byte, a half, or all but one byte.
+fn fills_each_room(alloc: Global, command: &Command, text: &[u8]) -> Option<bool> {
+    for room in [0, 1, text.len() / 2, text.len().saturating_sub(1)] {
+        let failing = Failing { room, ..ROOMY };
+        let ran = run_session(alloc, command.words, SESSION, failing)?;
+        if !is_cut(&ran, text) || ran.out.bytes().len() != room {
+            return Some(false);
+        }
+    }
+    Some(true)
+}
+
+/// Whether a run whose diag fails too says nothing there, and else ends as it does.
+fn fails_in_silence(alloc: Global, command: &Command) -> Option<bool> {
+    let failing = Failing {
+        room: 0,
+        diag: 1,
+        ..ROOMY
+    };
+    let ran = run_session(alloc, command.words, SESSION, failing)?;
+    Some(ran.status == 6 && ran.diag.bytes().is_empty() && ran.out.bytes().is_empty())
+}
+
+#[test]
+fn out_fails_at_each_call(rt: HostRuntime) {
+    for command in &COMMANDS {
+        let whole = run_session(rt.alloc(), command.words, SESSION, ROOMY).expect(&rt, "memory");
+        let text = whole.out.bytes();
+        let refusals = refusals_of_out(rt.alloc(), command, text);
+        assert!(rt;
+            refusals.is_some_and(|calls| calls > 0),
+            "{}",
+            command.words
+        );
+        assert!(rt;
+            fills_each_room(rt.alloc(), command, text) == Some(true),
+            "{}",
+            command.words
+        );
+        assert!(rt;
+            fails_in_silence(rt.alloc(), command) == Some(true),
+            "{}",
+            command.words
+        );
+    }
+}
