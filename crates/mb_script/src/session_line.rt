@@ -79,10 +79,13 @@ fn argument<'a>(alloc: Global, keyword: &[u8], line: &'a [u8]) -> Result<&'a [u8
 fn first_words<'a>(alloc: Global, line: &'a [u8]) -> Result<Vec<&'a [u8]>, AllocError>
     ensures { IfOk result (λ words. map bytes_said words.items ≡ take 6 (words_of line.entry.now)) }
 {
-    line.split(|&character| is_blank(character))
-        .filter(|word| !word.is_empty())
-        .take(ENOUGH_WORDS)
-        .collect(alloc)
+    let mut words = Vec::with_capacity(alloc, ENOUGH_WORDS)?;
+    words.extend(
+        line.split(|&character| is_blank(character))
+            .filter(|word| !word.is_empty())
+            .take(ENOUGH_WORDS),
+    )?;
+    Ok(words)
 }
 
 /// A space or a tab.
