@@ -1,10 +1,10 @@
 -- Instructions of two words that were decoded before.
-use Rattle.std.specs.Prelude.{◌≡◌, [], ◌∷◌}
+use Rattle.std.specs.Prelude.{◌≡◌, [], ◌∷◌, IfSome}
 use Rattle.mb_instr.specs.Codes.{IsInstr}
 use Rattle.mb_decode.specs.declared.front.Decoded.TheVariants.{Whole}
 use Rattle.mb_decode.specs.Decodes.{decode_of}
 use Rattle.mb_table.specs.declared.longer_words.Longer.{Longer}
 
--- what is kept is what its words decode to, where anything is
+-- what is kept is what its words decode to, where it is known
 unfoldable pub IsRight : Longer → Type 0
-IsRight e = e.length ≡ 2 → (decode_of (e.first ∷ e.second ∷ []) ≡ Whole e.instruction 2) × IsInstr e.instruction
+IsRight e = IfSome e.instruction (λ i. (decode_of (e.first ∷ e.second ∷ []) ≡ Whole i 2) × IsInstr i)

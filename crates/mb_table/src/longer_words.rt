@@ -6,27 +6,25 @@ ghost use Rattle.mb_decode.specs.declared.front.Decoded.TheVariants.{Whole};
 ghost use Rattle.mb_decode.specs.Decodes.{decode_of};
 ghost use Rattle.mb_table.specs.LongerWords.{IsRight};
 
-use mb_instr::{Flow, Instr};
+use mb_instr::Instr;
 use std::alloc::{AllocError, Global};
 use std::marker::Model;
 
 /// How many are kept.
-const SLOTS: usize = 4096;
+const SLOTS: usize = 8192;
 
-/// An instruction, and its two words. The length is 0 where there is none.
+/// Two words, and the instruction that they are, where it is known.
 #[derive(Clone, Copy)]
 pub struct Longer {
     first: u16,
     second: u16,
-    length: u8,
-    instruction: Instr,
+    instruction: Option<Instr>,
 }
 
 const NOTHING: Longer = Longer {
     first: 0,
     second: 0,
-    length: 0,
-    instruction: Instr::Flow(Flow::Nop),
+    instruction: None,
 };
 
 /// Instructions of two words that were decoded lately, each where its words lead. Nothing is seen of which.
@@ -44,15 +42,15 @@ impl Model for LongerWords {
 
     ghost view = { λ _. tt };
 
-    ghost invariant = { λ t. (length t.slots.items ≡ 4096) × All IsRight t.slots.items };
+    ghost invariant = { λ t. (length t.slots.items ≡ 8192) × All IsRight t.slots.items };
 }
 
 /// Where two words lead.
 #[inline(always)]
 fn slot(first: u16, second: u16) -> usize
-    ensures { result < 4096 }
+    ensures { result < 8192 }
 {
-    ((u32::from(first).wrapping_mul(2531) ^ u32::from(second)) % 4096) as usize
+    (u32::from(first).wrapping_mul(2531) ^ u32::from(second)) as usize % SLOTS
 }
 
 /// Keeps an instruction in its place.
@@ -65,8 +63,7 @@ fn put(kept: &mut Longer, first: u16, second: u16, instruction: &Instr)
     *kept = Longer {
         first,
         second,
-        length: 2,
-        instruction: *instruction,
+        instruction: Some(*instruction),
     };
 }
 
@@ -86,8 +83,8 @@ impl LongerWords {
         ensures valid { IfSome result (λ i. IsInstr i.now) }
     {
         let kept = &self.slots[slot(first, second)];
-        if kept.length == 2 && kept.first == first && kept.second == second {
-            Some(&kept.instruction)
+        if kept.first == first && kept.second == second {
+            kept.instruction.as_ref()
         } else {
             None
         }
