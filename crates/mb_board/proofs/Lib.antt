@@ -3,3 +3,4 @@ pub mod Due
 pub mod Runs
 pub mod Spellings
 pub mod UserRuns
+pub mod AtOnce

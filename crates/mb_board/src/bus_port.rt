@@ -25,7 +25,7 @@ impl Port for BoardBus {
 
     ghost exists = { HasPlace };
 
-    #[inline(always)]
+    #[inline(never)]
     fn fetch(&mut self, space: Space, at: u32) -> Result<u16, Fault> {
         let r = Reference::fetching(space, at);
         let Some(at) = self.translated(r) else {
@@ -37,7 +37,7 @@ impl Port for BoardBus {
         }
     }
 
-    #[inline(always)]
+    #[inline(never)]
     fn read(&mut self, space: Space, piece: Piece) -> Result<u32, Fault> {
         let r = Reference::reading(space, piece.at);
         let Some(at) = self.translated(r) else {
@@ -49,7 +49,7 @@ impl Port for BoardBus {
         }
     }
 
-    #[inline(always)]
+    #[inline(never)]
     fn write(&mut self, space: Space, piece: Piece, value: u32) -> Result<(), Fault> {
         let r = Reference::writing(space, piece.at);
         let Some(at) = self.translated(r) else {
@@ -59,6 +59,27 @@ impl Port for BoardBus {
             Some(()) => Ok(()),
             None => Err(r.refused(piece.len, false)),
         }
+    }
+
+    #[inline(always)]
+    fn quick_fetch(&self, space: Space, at: u32) -> Option<u16> {
+        let at = self.found_at_once(Reference::fetching(space, at), 2)?;
+        Some(self.number(at, 2) as u16)
+    }
+
+    #[inline(always)]
+    fn quick_read(&self, space: Space, piece: Piece) -> Option<u32> {
+        let at = self.found_at_once(Reference::reading(space, piece.at), piece.len)?;
+        Some(self.number(at, piece.len))
+    }
+
+    #[inline(always)]
+    fn quick_write(&mut self, space: Space, piece: Piece, value: u32) -> bool {
+        let Some(at) = self.found_at_once(Reference::writing(space, piece.at), piece.len) else {
+            return false;
+        };
+        self.set_number(at, piece.len, value);
+        true
     }
 
     fn read_line(&mut self, space: Space, at: u32) -> Result<[u32; 4], Fault> {

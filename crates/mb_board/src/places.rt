@@ -12,14 +12,14 @@ use mb_walk::{Ram, number_at, set_number_at, size_of};
 
 impl BoardBus {
     #[inline(always)]
-    fn in_ram(&self, place: Place) -> bool
+    pub fn in_ram(&self, place: Place) -> bool
         ensures { result ≡ in_ram (length self.now.ram) place.at place.len }
     {
         u64::from(place.at) + u64::from(place.len) <= self.ram.len() as u64
     }
 
     #[inline(always)]
-    fn number(&self, at: usize, len: u8) -> u32
+    pub fn number(&self, at: usize, len: u8) -> u32
         requires size { (0 < len) × (len ≤ 4) × (len ≢ 3) }
         requires inside { at + len ≤ length self.now.ram }
         ensures value { result ≡ number_of self.now.ram at len }
@@ -30,7 +30,7 @@ impl BoardBus {
 
     #[inline(always)]
     #[tactic(auto, using(mb_walk::proofs::MemoryLemmas::lengths))]
-    fn set_number(&mut self, at: usize, len: u8, value: u32)
+    pub fn set_number(&mut self, at: usize, len: u8, value: u32)
         requires size { (0 < len) × (len ≤ 4) × (len ≢ 3) }
         requires inside { at + len ≤ length self.old.ram }
         ensures size { length self.new.ram ≡ length self.old.ram }

@@ -1,15 +1,17 @@
 //! Where a reference to memory leads: the stages of an access by the board's rule, and PTEST.
 
-ghost use Rattle.std.specs.Prelude.{◌≡◌, length};
+ghost use Rattle.std.specs.Prelude.{◌≡◌, length, IfSome, Some, true};
 ghost use Rattle.mb_model.specs.Keeping.{entry_for, rule_a};
 ghost use Rattle.mb_model.specs.Pages.{page_of as page_number};
 ghost use Rattle.mb_machine.specs.Access.{by_entry as by_kept_entry, searched, settled, translated};
 ghost use Rattle.mb_machine.specs.Bus.{tested};
+ghost use Rattle.mb_machine.specs.Places.{in_ram};
+ghost use Rattle.mb_machine.specs.declared.reference.Settled.TheVariants.{To};
 
 use crate::bus::{BoardBus, Mode};
 use mb_machine::{Reference, Settled, by_entry, root, through, untranslated};
 use mb_model::page_of;
-use mb_port::{Flush, Space};
+use mb_port::{Flush, Place, Space};
 use mb_walk::{Found, search, transparent};
 
 /// MMUSR of a page that a transparent register of the data side matches: R and T.
@@ -96,6 +98,42 @@ impl BoardBus {
             Settled::To(at) => Some(at),
             Settled::Refused => None,
             Settled::Unsettled => self.searched(r.code, r.space, r.at, r.write),
+        }
+    }
+
+    /// The physical address that a reference leads to without a search, where no transparent register may match it.
+    /// `None` says nothing.
+    #[inline(always)]
+    #[tactic(auto, using(crate::proofs::Modal::modes))]
+    fn known(&self, r: Reference) -> Option<u32>
+        ensures { IfSome result (λ at. settled rule_a self.now.mmu self.now.kept r ≡ To at) }
+    {
+        if let Mode::Direct = self.mode {
+            return Some(r.at);
+        }
+        let settled = match self.mode {
+            Mode::Tables => self.by_kept(r),
+            Mode::UserTables if matches!(r.space, Space::User) => self.by_kept(r),
+            Mode::Direct | Mode::UserTables | Mode::Registers => return None,
+        };
+        match settled {
+            Settled::To(at) => Some(at),
+            Settled::Refused | Settled::Unsettled => None,
+        }
+    }
+
+    /// Where in RAM so many bytes stand that a reference is known to lead to. `None` says nothing.
+    #[inline(always)]
+    #[tactic(auto, unfolding(mb_machine::specs::Access::translated))]
+    pub fn found_at_once(&self, r: Reference, len: u8) -> Option<usize>
+        ensures leads { IfSome result (λ at. translated rule_a r self.now ≡ (Some at, self.now)) }
+        ensures inside { IfSome result (λ at. in_ram (length self.now.ram) at len ≡ true) }
+    {
+        let at = self.known(r)?;
+        if self.in_ram(Place { at, len }) {
+            Some(at as usize)
+        } else {
+            None
         }
     }
 

@@ -1,6 +1,6 @@
 //! The bus.
 
-ghost use Rattle.std.specs.Prelude.{◌≡◌, ℕ, ◌<◌, ◌%◌, ◌^◌, IfOk};
+ghost use Rattle.std.specs.Prelude.{◌≡◌, ℕ, ◌<◌, ◌%◌, ◌^◌, IfOk, IfSome, Ok, true, false};
 ghost use Rattle.mb_port.specs.Routine.{Bus, Call};
 ghost use Rattle.mb_port.specs.Pieces.{IsPiece};
 ghost use Rattle.mb_port.specs.Flushes.{NamesPage};
@@ -49,6 +49,36 @@ pub trait Port {
         requires { IsPiece piece }
         ensures means { bus (Call.Write space piece value) (world self.old) ≡ (result, world self.new) }
         ensures rest { rest self.new ≡ rest self.old };
+
+    /// What `fetch` answers, where it is known at once and changes nothing.
+    fn quick_fetch(&self, space: Space, at: u32) -> Option<u16>
+        requires { at % 2 ≡ 0 }
+        ensures { IfSome result (λ word. bus (Call.Fetch space at) (world self.now) ≡ (Ok word, world self.now)) }
+    {
+        let _unknown = (space, at);
+        None
+    }
+
+    /// What `read` answers, where it is known at once and changes nothing.
+    fn quick_read(&self, space: Space, piece: Piece) -> Option<u32>
+        requires { IsPiece piece }
+        ensures { IfSome result (λ value. bus (Call.Read space piece) (world self.now) ≡ (Ok value, world self.now)) }
+    {
+        let _unknown = (space, piece);
+        None
+    }
+
+    /// Does what `write` does, where it is done at once; else nothing has changed.
+    fn quick_write(&mut self, space: Space, piece: Piece, value: u32) -> bool
+        requires { IsPiece piece }
+        ensures done { result ≡ true
+            → bus (Call.Write space piece value) (world self.old) ≡ (Ok tt, world self.new) }
+        ensures undone { result ≡ false → world self.new ≡ world self.old }
+        ensures rest { rest self.new ≡ rest self.old }
+    {
+        let _unknown = (space, piece, value);
+        false
+    }
 
     /// Reads the four longs of a line of 16 bytes.
     fn read_line(&mut self, space: Space, at: u32) -> Result<[u32; 4], Fault>

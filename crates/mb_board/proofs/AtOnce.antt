@@ -1,0 +1,26 @@
+-- A call whose reference is known to lead to a piece in RAM: it reads or writes that piece, and nothing else happens.
+use Rattle.std.proofs.Common.{◌≡◌, ◌∙◌, ap, sym, ℕ, true, false, length}
+use Rattle.std.specs.Prelude.{Option, Some, Ok}
+use Rattle.mb_model.specs.Keeping.{Rule}
+use Rattle.mb_walk.specs.Memory.{number_at, with_number}
+use Rattle.mb_machine.specs.declared.reference.Reference.{Reference}
+use Rattle.mb_machine.specs.World.{World}
+use Rattle.mb_machine.specs.Access.{translated}
+use Rattle.mb_machine.specs.Bus.{read_at, read_by, faulting, fault_of, place_at, written_at, written_by, wrote}
+use Rattle.mb_machine.specs.Places.{in_ram, taken, stored}
+use Rattle.mb_machine.proofs.BusLemmas.{taken_memory, stored_memory}
+
+pub read_at_once : (rule : Rule) (w : World) (q r : Reference) (at len value : ℕ) → q ≡ r → translated rule q w ≡ (Some at, w)
+    → in_ram (length w.ram) at len ≡ true → value ≡ number_at w.ram at len → read_by rule r len taken w ≡ (Ok value, w)
+read_at_once rule w q r at len value same leads inside is =
+    ap (λ (t : Option ℕ × World). read_at r len taken t.0 t.1) (ap (λ (x : Reference). translated rule x w) (sym same) ∙ leads)
+    ∙ ap (λ (t : Option ℕ × World). faulting t (fault_of r len false)) (taken_memory w (place_at at len) inside)
+    ∙ ap (λ (n : ℕ). (Ok n, w)) (sym is)
+
+pub written_at_once : (rule : Rule) (w after : World) (q r : Reference) (at len value : ℕ) → q ≡ r → translated rule q w ≡ (Some at, w)
+    → in_ram (length w.ram) at len ≡ true → after ≡ record w { ram = with_number w.ram at len value }
+    → written_by rule r len (λ place. stored place value) w ≡ (Ok tt, after)
+written_at_once rule w after q r at len value same leads inside is =
+    ap (λ (t : Option ℕ × World). written_at r len (λ place. stored place value) t.0 t.1) (ap (λ (x : Reference). translated rule x w) (sym same) ∙ leads)
+    ∙ ap (λ (o : Option World). wrote w o (fault_of r len false)) (stored_memory w (place_at at len) value inside)
+    ∙ ap (λ (x : World). (Ok tt, x)) (sym is)
