@@ -1,20 +1,21 @@
 //! Operands: what stands there, and what is put there.
 
-ghost use Rattle.std.specs.Prelude.{◌≡◌, ◌<◌, ◌≤◌, length, OnErr, IfOk, IfErr};
+ghost use Rattle.std.specs.Prelude.{◌≡◌, ◌<◌, OnErr, IfOk};
 ghost use Rattle.mb_port.specs.Routine.{run};
 ghost use Rattle.mb_instr.specs.Sizes.{values_of};
 ghost use Rattle.mb_instr.specs.Operands.{IsEa, IsInMemory, IsDestination};
 ghost use Rattle.mb_ea.specs.Addresses.{IsTarget, IsMemory, IsPlace};
-ghost use Rattle.mb_meaning.specs.Operands.{behind, named_register, with_low, load_of, store_of, operand_of, stored, address_of};
+ghost use Rattle.mb_meaning.specs.Operands.{behind, named_register, with_low, load_of, operand_of, address_of};
 ghost use Rattle.mb_meaning.specs.Operands.{place_of, storing, pushing};
 ghost use Rattle.mb_operands.specs.Fetched.{fetched, pushed, IsOperand};
 ghost use Rattle.mb_operands.specs.Endings.{IsUnfinished, carried_by};
 
-use crate::endings::{Undone, unwritten};
-use mb_ea::{ReadFault, Target, find_target, read_value, resolve};
+use crate::endings::Undone;
+use crate::memory::{read_memory, write_memory};
+use mb_ea::{ReadFault, Target, find_target, resolve};
 use mb_instr::{Ea, Plain, Size};
 use mb_port::{Port, Space};
-use mb_writes::{Ended, WriteFault, put_value};
+use mb_writes::Ended;
 
 /// An operand that was read.
 #[derive(Clone, Copy)]
@@ -59,7 +60,7 @@ fn load<P: Port>(
 {
     match target {
         Target::Reg(n) => Ok(size.low(plain.register(n))),
-        Target::Memory(at) => read_value(space, at, size, port),
+        Target::Memory(at) => read_memory(space, at, size, port),
         Target::Value(value) => Ok(value),
     }
 }
@@ -70,35 +71,6 @@ pub fn with_low(size: Size, old: u32, value: u32) -> u32
     ensures { result ≡ with_low size old value }
 {
     old - size.low(old) + size.low(value)
-}
-
-/// Puts a value at a target.
-#[inline(always)]
-#[tactic(auto, unfolding(mb_meaning::specs::Operands::store_of))]
-fn store<P: Port>(
-    target: Target,
-    size: Size,
-    value: u32,
-    space: Space,
-    plain: &mut Plain,
-    port: &mut P,
-) -> Result<(), WriteFault>
-    requires target { IsTarget size target }
-    requires place { IsPlace target }
-    ensures means { run P.bus (store_of target size value space plain.old) (P.world port.old)
-        ≡ (stored result plain.new, P.world port.new) }
-    ensures unchanged { OnErr result (plain.new ≡ plain.old) }
-    ensures left { IfErr result (λ refused. 1 ≤ length refused.rest.items) }
-    ensures rest { P.rest port.new ≡ P.rest port.old }
-{
-    match target {
-        Target::Reg(n) => {
-            plain.set_register(n, with_low(size, plain.register(n), value));
-            Ok(())
-        }
-        Target::Memory(at) => put_value(space, at, size, value, port),
-        Target::Value(_) => unreachable!(),
-    }
 }
 
 /// Reads an operand. Its first extension word is at `word_at`.
@@ -159,7 +131,7 @@ pub fn find_address<P: Port>(
 
 /// The last part of an instruction: a value goes to its target.
 #[inline(always)]
-#[tactic(auto, unfolding(mb_meaning::specs::Operands::storing))]
+#[tactic(auto, unfolding(mb_meaning::specs::Operands::storing, mb_meaning::specs::Operands::store_of))]
 pub fn finish_with<P: Port>(
     target: Target,
     size: Size,
@@ -176,9 +148,13 @@ pub fn finish_with<P: Port>(
     ensures left { OnErr result (IsUnfinished ended.new) }
     ensures rest { P.rest port.new ≡ P.rest port.old }
 {
-    match store(target, size, value, space, plain, port) {
-        Ok(()) => Ok(()),
-        Err(refused) => Err(unwritten(refused, ended)),
+    match target {
+        Target::Reg(n) => {
+            plain.set_register(n, with_low(size, plain.register(n), value));
+            Ok(())
+        }
+        Target::Memory(at) => write_memory(space, at, size, value, port, ended),
+        Target::Value(_) => unreachable!(),
     }
 }
 
@@ -197,8 +173,5 @@ pub fn push<P: Port>(
         ≡ (pushed result ended.new plain.now, P.world port.new) }
     ensures rest { P.rest port.new ≡ P.rest port.old }
 {
-    match put_value(space, top, Size::Long, value, port) {
-        Ok(()) => Ok(()),
-        Err(refused) => Err(unwritten(refused, ended)),
-    }
+    write_memory(space, top, Size::Long, value, port, ended)
 }

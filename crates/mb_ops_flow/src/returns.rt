@@ -5,9 +5,8 @@ ghost use Rattle.mb_port.specs.Routine.{run};
 ghost use Rattle.mb_meaning.specs.Returns.{rts_of, rtd_of, rtr_of};
 ghost use Rattle.mb_operands.specs.Endings.{performed_by};
 
-use mb_ea::read_value;
 use mb_instr::{Plain, Size};
-use mb_operands::{Undone, unread};
+use mb_operands::{Undone, read_memory, unread};
 use mb_port::{Port, Space};
 use mb_writes::Ended;
 
@@ -24,7 +23,7 @@ pub fn return_from_subroutine<P: Port>(
         ≡ (performed_by result ended.new plain.new, P.world port.new) }
     ensures rest { P.rest port.new ≡ P.rest port.old }
 {
-    match read_value(space, plain.a[7], Size::Long, port) {
+    match read_memory(space, plain.a[7], Size::Long, port) {
         Ok(target) => {
             plain.a[7] = plain.a[7].wrapping_add(4);
             plain.pc = target;
@@ -49,7 +48,7 @@ pub fn return_and_deallocate<P: Port>(
     ensures rest { P.rest port.new ≡ P.rest port.old }
 {
     let offset = Size::Word.sign_extend(u32::from(displacement));
-    match read_value(space, plain.a[7], Size::Long, port) {
+    match read_memory(space, plain.a[7], Size::Long, port) {
         Ok(target) => {
             plain.a[7] = plain.a[7].wrapping_add(4).wrapping_add(offset);
             plain.pc = target;
@@ -72,12 +71,12 @@ pub fn return_and_restore<P: Port>(
         ≡ (performed_by result ended.new plain.new, P.world port.new) }
     ensures rest { P.rest port.new ≡ P.rest port.old }
 {
-    let codes = match read_value(space, plain.a[7], Size::Word, port) {
+    let codes = match read_memory(space, plain.a[7], Size::Word, port) {
         Ok(codes) => codes,
         Err(refused) => return Err(unread(&refused, ended)),
     };
     let behind = plain.a[7].wrapping_add(2);
-    let target = match read_value(space, behind, Size::Long, port) {
+    let target = match read_memory(space, behind, Size::Long, port) {
         Ok(target) => target,
         Err(refused) => return Err(unread(&refused, ended)),
     };

@@ -6,9 +6,8 @@ ghost use Rattle.mb_instr.specs.Operands.{IsEa, IsInMemory};
 ghost use Rattle.mb_meaning.specs.Stack.{pea_of, link_of, unlk_of};
 ghost use Rattle.mb_operands.specs.Endings.{carried_by};
 
-use mb_ea::read_value;
 use mb_instr::{Ea, Plain, Size};
-use mb_operands::{Undone, find_address, push, unread};
+use mb_operands::{Undone, find_address, push, read_memory, unread};
 use mb_port::{Port, Space};
 use mb_writes::Ended;
 
@@ -79,7 +78,7 @@ pub fn unlink<P: Port>(
 {
     let register = register as usize;
     let frame = plain.a[register];
-    match read_value(space, frame, Size::Long, port) {
+    match read_memory(space, frame, Size::Long, port) {
         Ok(value) => {
             plain.a[7] = frame.wrapping_add(4);
             plain.a[register] = value;
