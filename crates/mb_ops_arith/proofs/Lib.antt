@@ -1,3 +1,4 @@
 pub mod FieldNumbers
 pub mod OneBit
 pub mod Spelled
+pub mod WithoutBus

@@ -5,3 +5,4 @@ pub mod Counts
 pub mod Decimals
 pub mod Locking
 pub mod Groups
+pub mod AtHand

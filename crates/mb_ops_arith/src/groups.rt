@@ -18,7 +18,10 @@ use crate::decimals::{DecimalKind, PackingKind, decimal, repack};
 use crate::locked::{cas, cas2, tas};
 use crate::modifying::modify;
 use crate::operations::{Change, Operation, Sum};
-use crate::pairs::{chain, combine_either_way, combine_immediate, compare_pair};
+use crate::pairs::{
+    chain, combine_either_way, combine_immediate, compare_immediate, compare_pair,
+    compare_with_register,
+};
 use crate::quick::combine_quick;
 use crate::shifts::shift_register;
 use crate::taking::{Effect, take};
@@ -148,9 +151,9 @@ pub(crate) fn comparison_row<P: Port>(
     let second_word = at.wrapping_add(4);
     match *instruction {
         Arith::Cmp { register, size, ref ea } =>
-            compare_pair(size, ea, &Ea::Dn(register), first_word, space, plain, port, ended),
+            compare_with_register(size, ea, register, first_word, space, plain, port, ended),
         Arith::Cmpi { size, ref ea, immediate } =>
-            compare_pair(size, &Ea::Imm(immediate), ea, first_word, space, plain, port, ended),
+            compare_immediate(size, immediate, ea, first_word, space, plain, port, ended),
         Arith::Cmpm { x, size, y } =>
             compare_pair(size, &Ea::Post(y), &Ea::Post(x), first_word, space, plain, port, ended),
         Arith::Cmp2 { size, ref ea, word } =>

@@ -7,6 +7,7 @@ mod bit_fields;
 mod bits;
 mod bounds;
 mod decimals;
+mod direct;
 mod groups;
 mod locked;
 mod locking;

@@ -8,15 +8,16 @@ ghost use Rattle.mb_ops_arith.specs.Changes.{change_of};
 ghost use Rattle.mb_operands.specs.Endings.{carried_by};
 
 use crate::operations::Change;
+use crate::unary::put_in_register;
 use mb_instr::{Ea, Plain, Size};
 use mb_operands::{Undone, fetch_operand, finish_with, unread};
 use mb_port::{Port, Space};
 use mb_writes::Ended;
 
-/// Reads an operand, changes it, and writes it back. Its first extension word is at `word_at`.
-#[inline(always)]
+/// Reads an operand, wherever it stands, changes it, and writes it back.
+#[inline(never)]
 #[tactic(auto, unfolding(mb_meaning::specs::Modifying::modifying))]
-pub(crate) fn modify<P: Port>(
+fn modify_operand<P: Port>(
     change: Change,
     size: Size,
     ea: &Ea,
@@ -47,4 +48,33 @@ pub(crate) fn modify<P: Port>(
         port,
         ended,
     )
+}
+
+/// Reads an operand, changes it, and writes it back. Its first extension word is at `word_at`. A data register is
+/// changed where it is.
+#[inline(always)]
+#[tactic(auto, using(crate::proofs::WithoutBus::without_bus))]
+pub(crate) fn modify<P: Port>(
+    change: Change,
+    size: Size,
+    ea: &Ea,
+    word_at: u32,
+    space: Space,
+    plain: &mut Plain,
+    port: &mut P,
+    ended: &mut Ended,
+) -> Result<(), Undone>
+    requires operand { IsEa size ea.now }
+    requires destination { IsDestination ea.now }
+    ensures means { run P.bus (modifying (change_of change size) size ea.now word_at space plain.old) (P.world port.old)
+        ≡ (carried_by result ended.new plain.new, P.world port.new) }
+    ensures rest { P.rest port.new ≡ P.rest port.old }
+{
+    if let Ea::Dn(register) = *ea {
+        let old = size.low(plain.d[register as usize]);
+        let changed = change.apply(size, old, plain.ccr);
+        put_in_register(register, size, changed, plain);
+        return Ok(());
+    }
+    modify_operand(change, size, ea, word_at, space, plain, port, ended)
 }

@@ -3,7 +3,7 @@
 ghost use Rattle.std.specs.Prelude.{◌≡◌, ◌<◌, IfOk, true};
 ghost use Rattle.mb_port.specs.Routine.{run};
 ghost use Rattle.mb_instr.specs.Operands.{IsEa, IsImmediate, IsDestination};
-ghost use Rattle.mb_instr.specs.declared.operand.Ea.TheVariants.{Imm};
+ghost use Rattle.mb_instr.specs.declared.operand.Ea.TheVariants.{Dn, Imm};
 ghost use Rattle.mb_operands.specs.Fetched.{IsOperand};
 ghost use Rattle.mb_meaning.specs.Arithmetic.{pair_of, combining, comparing, either_way, chaining};
 ghost use Rattle.mb_ops_arith.specs.Changes.{operation_of};
@@ -11,6 +11,7 @@ ghost use Rattle.mb_ops_arith.specs.Pairs.{paired};
 ghost use Rattle.mb_operands.specs.Endings.{carried_by};
 ghost use Rattle.mb_ea.specs.Addresses.{IsPlace};
 
+use crate::direct::{at_hand, combine_into, combine_registers, compare_with};
 use crate::operations::Operation;
 use mb_alu::compare;
 use mb_ea::ReadFault;
@@ -59,7 +60,7 @@ pub(crate) fn fetch_pair<P: Port>(
 /// What the operation makes of a source and a destination goes to the destination.
 #[inline(always)]
 #[tactic(auto, unfolding(mb_meaning::specs::Arithmetic::combining))]
-pub(crate) fn combine<P: Port>(
+fn combine<P: Port>(
     operation: Operation,
     size: Size,
     source: &Ea,
@@ -88,8 +89,8 @@ pub(crate) fn combine<P: Port>(
     finish_with(to.target, size, result.value, space, plain, port, ended)
 }
 
-/// Compares a source with a destination. Only the condition codes change.
-#[inline(always)]
+/// Compares a source with a destination, wherever they stand. Only the condition codes change.
+#[inline(never)]
 #[tactic(auto, unfolding(mb_meaning::specs::Arithmetic::comparing))]
 pub(crate) fn compare_pair<P: Port>(
     size: Size,
@@ -115,9 +116,80 @@ pub(crate) fn compare_pair<P: Port>(
     Ok(())
 }
 
-/// ADD, SUB, AND and OR: from a data register to an operand, or from the operand to the register.
+/// CMP: an operand is compared with a data register.
+#[inline(always)]
+#[tactic(auto, using(crate::proofs::WithoutBus::without_bus))]
+pub(crate) fn compare_with_register<P: Port>(
+    size: Size,
+    ea: &Ea,
+    register: u8,
+    word_at: u32,
+    space: Space,
+    plain: &mut Plain,
+    port: &mut P,
+    ended: &mut Ended,
+) -> Result<(), Undone>
+    requires operand { IsEa size ea.now }
+    requires register { register < 8 }
+    ensures means { run P.bus (comparing size ea.now (Dn register) word_at space plain.old) (P.world port.old)
+        ≡ (carried_by result ended.new plain.new, P.world port.new) }
+    ensures rest { P.rest port.new ≡ P.rest port.old }
+{
+    if let Some(value) = at_hand(size, ea, plain) {
+        compare_with(size, value, register, plain);
+        return Ok(());
+    }
+    compare_pair(
+        size,
+        ea,
+        &Ea::Dn(register),
+        word_at,
+        space,
+        plain,
+        port,
+        ended,
+    )
+}
+
+/// CMPI: an immediate is compared with an operand.
+#[inline(always)]
+#[tactic(auto, using(crate::proofs::WithoutBus::without_bus))]
+pub(crate) fn compare_immediate<P: Port>(
+    size: Size,
+    immediate: u32,
+    ea: &Ea,
+    word_at: u32,
+    space: Space,
+    plain: &mut Plain,
+    port: &mut P,
+    ended: &mut Ended,
+) -> Result<(), Undone>
+    requires immediate { IsImmediate size immediate }
+    requires operand { IsEa size ea.now }
+    ensures means { run P.bus (comparing size (Imm immediate) ea.now word_at space plain.old) (P.world port.old)
+        ≡ (carried_by result ended.new plain.new, P.world port.new) }
+    ensures rest { P.rest port.new ≡ P.rest port.old }
+{
+    if let Ea::Dn(register) = *ea {
+        compare_with(size, size.low(immediate), register, plain);
+        return Ok(());
+    }
+    compare_pair(
+        size,
+        &Ea::Imm(immediate),
+        ea,
+        word_at,
+        space,
+        plain,
+        port,
+        ended,
+    )
+}
+
+/// ADD, SUB, AND, OR and EOR of an operand that stands anywhere.
+#[inline(never)]
 #[tactic(auto, unfolding(mb_meaning::specs::Arithmetic::either_way))]
-pub(crate) fn combine_either_way<P: Port>(
+fn combine_operand<P: Port>(
     operation: Operation,
     register: u8,
     to_memory: bool,
@@ -149,8 +221,45 @@ pub(crate) fn combine_either_way<P: Port>(
     }
 }
 
+/// ADD, SUB, AND and OR: from a data register to an operand, or from the operand to the register.
+#[inline(always)]
+#[tactic(auto, using(crate::proofs::WithoutBus::without_bus), unfolding(mb_meaning::specs::Arithmetic::either_way))]
+pub(crate) fn combine_either_way<P: Port>(
+    operation: Operation,
+    register: u8,
+    to_memory: bool,
+    size: Size,
+    ea: &Ea,
+    word_at: u32,
+    space: Space,
+    plain: &mut Plain,
+    port: &mut P,
+    ended: &mut Ended,
+) -> Result<(), Undone>
+    requires operand { IsEa size ea.now }
+    requires destination { to_memory ≡ true → IsDestination ea.now }
+    requires register { register < 8 }
+    ensures means { run P.bus
+        (either_way (operation_of operation size) register to_memory size ea.now word_at space plain.old)
+        (P.world port.old) ≡ (carried_by result ended.new plain.new, P.world port.new) }
+    ensures rest { P.rest port.new ≡ P.rest port.old }
+{
+    if let Ea::Dn(other) = *ea {
+        let (source, destination) = if to_memory {
+            (register, other)
+        } else {
+            (other, register)
+        };
+        combine_registers(operation, size, source, destination, plain);
+        return Ok(());
+    }
+    combine_operand(
+        operation, register, to_memory, size, ea, word_at, space, plain, port, ended,
+    )
+}
+
 /// ADDX and SUBX: two data registers, or memory below two address registers.
-#[tactic(auto, unfolding(mb_meaning::specs::Arithmetic::chaining))]
+#[tactic(auto, using(crate::proofs::WithoutBus::without_bus), unfolding(mb_meaning::specs::Arithmetic::chaining))]
 pub(crate) fn chain<P: Port>(
     operation: Operation,
     size: Size,
@@ -183,22 +292,14 @@ pub(crate) fn chain<P: Port>(
             ended,
         )
     } else {
-        combine(
-            operation,
-            size,
-            &Ea::Dn(source),
-            &Ea::Dn(destination),
-            word_at,
-            space,
-            plain,
-            port,
-            ended,
-        )
+        combine_registers(operation, size, source, destination, plain);
+        Ok(())
     }
 }
 
-/// The operation with an immediate, whose words stand before those of the operand.
-pub(crate) fn combine_immediate<P: Port>(
+/// The operation with an immediate, of an operand that stands anywhere.
+#[inline(never)]
+fn combine_operand_immediate<P: Port>(
     operation: Operation,
     immediate: u32,
     size: Size,
@@ -227,5 +328,36 @@ pub(crate) fn combine_immediate<P: Port>(
         plain,
         port,
         ended,
+    )
+}
+
+/// The operation with an immediate, whose words stand before those of the operand.
+#[inline(always)]
+#[tactic(auto, using(crate::proofs::WithoutBus::without_bus))]
+pub(crate) fn combine_immediate<P: Port>(
+    operation: Operation,
+    immediate: u32,
+    size: Size,
+    ea: &Ea,
+    word_at: u32,
+    space: Space,
+    plain: &mut Plain,
+    port: &mut P,
+    ended: &mut Ended,
+) -> Result<(), Undone>
+    requires immediate { IsImmediate size immediate }
+    requires operand { IsEa size ea.now }
+    requires destination { IsDestination ea.now }
+    ensures means { run P.bus
+        (combining (operation_of operation size) size (Imm immediate) ea.now word_at space plain.old)
+        (P.world port.old) ≡ (carried_by result ended.new plain.new, P.world port.new) }
+    ensures rest { P.rest port.new ≡ P.rest port.old }
+{
+    if let Ea::Dn(register) = *ea {
+        combine_into(operation, size, size.low(immediate), register, plain);
+        return Ok(());
+    }
+    combine_operand_immediate(
+        operation, immediate, size, ea, word_at, space, plain, port, ended,
     )
 }

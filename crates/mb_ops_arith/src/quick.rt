@@ -15,6 +15,7 @@ use mb_port::{Port, Space};
 use mb_writes::Ended;
 
 /// Of an address register all of it counts, and no condition code changes.
+#[inline(always)]
 #[tactic(auto, unfolding(mb_meaning::specs::Arithmetic::quick_of))]
 pub(crate) fn combine_quick<P: Port>(
     sum: Sum,

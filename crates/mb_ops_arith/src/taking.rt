@@ -7,6 +7,7 @@ ghost use Rattle.mb_meaning.specs.Arithmetic.{taking};
 ghost use Rattle.mb_ops_arith.specs.Effects.{effect_of, IsEffect};
 ghost use Rattle.mb_operands.specs.Endings.{carried_by};
 
+use crate::direct::at_hand;
 use crate::operations::Sum;
 use crate::products::{divide_long, divide_word, multiply_long, multiply_word};
 use mb_alu::{LogicKind, compare, logic};
@@ -70,9 +71,10 @@ impl Effect {
     }
 }
 
-/// Reads an operand, whose first extension word is at `word_at`, and does by it what the effect says.
+/// Reads an operand, wherever it stands, and does by it what the effect says.
+#[inline(never)]
 #[tactic(auto, unfolding(mb_meaning::specs::Arithmetic::taking))]
-pub(crate) fn take<P: Port>(
+fn take_operand<P: Port>(
     effect: Effect,
     size: Size,
     ea: &Ea,
@@ -93,4 +95,29 @@ pub(crate) fn take<P: Port>(
         Err(refused) => return Err(unread(&refused, ended)),
     };
     effect.apply(size, operand.value, plain, ended)
+}
+
+/// Reads an operand, whose first extension word is at `word_at`, and does by it what the effect says.
+#[inline(always)]
+#[tactic(auto, using(crate::proofs::WithoutBus::without_bus))]
+pub(crate) fn take<P: Port>(
+    effect: Effect,
+    size: Size,
+    ea: &Ea,
+    word_at: u32,
+    space: Space,
+    plain: &mut Plain,
+    port: &mut P,
+    ended: &mut Ended,
+) -> Result<(), Undone>
+    requires operand { IsEa size ea.now }
+    requires effect { IsEffect effect }
+    ensures means { run P.bus (taking (effect_of effect size) size ea.now word_at space plain.old) (P.world port.old)
+        ≡ (carried_by result ended.new plain.new, P.world port.new) }
+    ensures rest { P.rest port.new ≡ P.rest port.old }
+{
+    if let Some(value) = at_hand(size, ea, plain) {
+        return effect.apply(size, value, plain, ended);
+    }
+    take_operand(effect, size, ea, word_at, space, plain, port, ended)
 }

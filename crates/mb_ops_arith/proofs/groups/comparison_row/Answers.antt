@@ -7,12 +7,12 @@ use Rattle.mb_instr.proofs.Ranges.{control_memory}
 use Rattle.mb_ops_arith.proofs.groups.comparison_row.Goals as goal
 use Rattle.mb_ops_arith.proofs.Spelled.{spelled}
 
-pub compare_pair-requires-clause-source : goal.compare_pair-requires-clause-source
-compare_pair-requires-clause-source g c =
+pub compare_with_register-requires-clause-operand : goal.compare_with_register-requires-clause-operand
+compare_with_register-requires-clause-operand g c =
     at_ea_range All c.in-Cmp.size 11 c.in-Cmp.register 0 (size_bits c.in-Cmp.size) c.in-Cmp.ea (spelled c.in-Cmp.is c.requires.row)
 
-pub compare_pair-requires-in-Cmpi-clause-destination : goal.compare_pair-requires-in-Cmpi-clause-destination
-compare_pair-requires-in-Cmpi-clause-destination g c =
+pub compare_immediate-requires-clause-operand : goal.compare_immediate-requires-clause-operand
+compare_immediate-requires-clause-operand g c =
     (immediate_ea_range DataAlterableOrPc 0 6 0 c.in-Cmpi.size c.in-Cmpi.immediate c.in-Cmpi.ea (spelled c.in-Cmpi.is c.requires.row)).1
 
 pub compare_with_bounds-requires-clause-place : goal.compare_with_bounds-requires-clause-place
