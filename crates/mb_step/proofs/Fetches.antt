@@ -1,7 +1,7 @@
 -- The fetch of an instruction, with one more word.
 use Rattle.std.proofs.lemmas.Bool.Decides.{nat_tests}
 use Rattle.std.proofs.Common.{◌≡◌, ◌≢◌, Bool, arith, ap, ℕ, suc, ◌+◌, ◌-◌, ◌%◌, ◌^◌, ◌==◌, true, false, List, [], ◌∷◌, ◌++◌, Result, Ok, Err, refl, sym, ◌∙◌}
-use Rattle.mb_port.specs.Routine.{Bus, Routine, Return, caught, run, Fetch}
+use Rattle.mb_port.specs.Routine.{Bus, Routine, Return, Then, caught, run, Fetch}
 use Rattle.mb_port.specs.declared.types.Space.{Space}
 use Rattle.mb_port.specs.declared.types.Fault.{Fault}
 use Rattle.mb_instr.specs.declared.instruction.Instr.{Instr}
@@ -15,7 +15,7 @@ use Rattle.mb_meaning.specs.Attempt.{NoInstruction, Unfetched, Found, illegal, f
 use Rattle.mb_meaning.specs.Raise.{Stepped, refused_of}
 use Rattle.mb_meaning.specs.Step.{unread_of, unfound_of, executed_of, instruction_of}
 use Rattle.mb_meaning.specs.declared.Finish.{Finish}
-use Rattle.mb_step.specs.Fetching.{Sought, sought_of}
+use Rattle.mb_step.specs.Fetching.{Sought, Word, sought_of, word_of}
 
 abbrev Answered : {S : Type 0} → Bus S → Space → ℕ → S → Result ℕ Fault → S → Type 0
 Answered bus space at s answer t = bus (Fetch space at) s ≡ (answer, t)
@@ -152,7 +152,7 @@ has_more bus cpu q space first second s t u answer k h found =
     ∙ sought bus cpu q (by_two cpu first second) t u answer found
 
 -- it has more words, and the second did not come
-pub no_second_word : {S : Type 0} (bus : Bus S) (cpu : Cpu) (space : Space) (first : ℕ) (fault : Fault) (s t : S)
+no_second_word : {S : Type 0} (bus : Bus S) (cpu : Cpu) (space : Space) (first : ℕ) (fault : Fault) (s t : S)
     → space ≡ space_of cpu → Answered bus space ((cpu.regs.pc + 2) % 2 ^ 32) s (Err fault) t
     → run bus (found_executed cpu (behind cpu first)) s ≡ run bus (unread_of (refused_in ((cpu.regs.pc + 2) % 2 ^ 32) fault) cpu) t
 unfolding unfound_of
@@ -192,10 +192,74 @@ first_word bus cpu space word s t d even k h e =
     ∙ ap (doing bus cpu) (fetched bus most_words (most_words - 1) (space_of cpu) cpu.regs.pc [] word s t (word ∷ []) d refl (rw (sym k) h) refl e)
 
 -- the first word did not come
-pub no_first_word : {S : Type 0} (bus : Bus S) (cpu : Cpu) (space : Space) (fault : Fault) (s t : S)
+no_first_word : {S : Type 0} (bus : Bus S) (cpu : Cpu) (space : Space) (fault : Fault) (s t : S)
     → cpu.regs.pc % 2 ≢ 1 → space ≡ space_of cpu → Answered bus space cpu.regs.pc s (Err fault) t
     → run bus (instruction_of cpu) s ≡ run bus (unread_of (refused_in cpu.regs.pc fault) cpu) t
 unfolding unfound_of
 no_first_word bus cpu space fault s t even k h =
     begun bus cpu s _ refl (unequal (cpu.regs.pc % 2) 1 even)
     ∙ ap (doing bus cpu) (unfetched bus most_words (most_words - 1) (space_of cpu) cpu.regs.pc [] fault s t refl (rw (sym k) h))
+
+-- ---- one word, which came, or did not and ended the step
+
+-- the answer where the step has ended
+abbrev ended_word : {S : Type 0} → Stepped × S → Word × S
+ended_word stepped = ((Err stepped.0.0, stepped.0.1), stepped.1)
+
+-- what is made of an answer of the bus
+abbrev worded : {S : Type 0} → Bus S → Cpu → ℕ → Result ℕ Fault × S → Word × S
+worded bus cpu at (Ok word, t) = ((Ok word, cpu), t)
+worded bus cpu at (Err fault, t) = ended_word (run bus (unread_of (refused_in at fault) cpu) t)
+
+abbrev asked : {S : Type 0} → Bus S → Cpu → ℕ → Result ℕ Fault × S → Word × S
+asked bus cpu at r = run bus (caught (Return r.0)
+    (λ fault. Then (unread_of (refused_in at fault) cpu) (λ stepped. Return (Err stepped.0, stepped.1)))
+    (λ word. Return (Ok word, cpu))) r.1
+
+asked_is : {S : Type 0} (bus : Bus S) (cpu : Cpu) (at : ℕ) (r : Result ℕ Fault × S) → asked bus cpu at r ≡ worded bus cpu at r
+asked_is bus cpu at (Ok word, t) = refl
+asked_is bus cpu at (Err fault, t) = refl
+
+abbrev known : Result ℕ Fault → Result ℕ Finish → Result ℕ Fault
+known answer (Ok word) = Ok word
+known answer (Err end) = answer
+
+came_by : {S : Type 0} (bus : Bus S) (cpu q : Cpu) (at word : ℕ) (t : S) (r : Result ℕ Fault × S) → worded bus cpu at r ≡ ((Ok word, q), t)
+    → r ≡ (Ok word, t)
+came_by bus cpu q at word t (Ok w, u) h = ap (λ (x : Word × _). (known (Ok w) x.0.0, x.1)) h
+came_by bus cpu q at word t (Err fault, u) h = absurd (let e = ap (λ (x : Word × _). x.0.0) h in let z : ⊥ = cc in z)
+
+-- it came
+pub word_came : {S : Type 0} (bus : Bus S) (cpu q : Cpu) (space : Space) (at word : ℕ) (s t : S)
+    → run bus (word_of cpu space at) s ≡ ((Ok word, q), t) → Answered bus space at s (Ok word) t
+word_came bus cpu q space at word s t h =
+    came_by bus cpu q at word t (bus (Fetch space at) s) (sym (asked_is bus cpu at (bus (Fetch space at) s)) ∙ h)
+
+abbrev finish_in : Finish → Result ℕ Finish → Finish
+finish_in other (Ok word) = other
+finish_in other (Err end) = end
+
+-- what has become of it where it did not come
+ended_by : {S : Type 0} (bus : Bus S) (cpu q : Cpu) (at : ℕ) (end : Finish) (t : S) (r : Result ℕ Fault × S) (x : Stepped × S)
+    → ((fault : Fault) (u : S) → r ≡ (Err fault, u) → x ≡ run bus (unread_of (refused_in at fault) cpu) u)
+    → worded bus cpu at r ≡ ((Err end, q), t) → x ≡ ((end, q), t)
+ended_by bus cpu q at end t (Ok w, u) x refused h = absurd (let e = ap (λ (y : Word × _). y.0.0) h in let z : ⊥ = cc in z)
+ended_by bus cpu q at end t (Err fault, u) x refused h =
+    refused fault u refl ∙ ap (λ (y : Word × _). ((finish_in end y.0.0, y.0.1), y.1)) h
+
+-- the first did not come
+pub first_ended : {S : Type 0} (bus : Bus S) (cpu q : Cpu) (space : Space) (end : Finish) (s t : S) → cpu.regs.pc % 2 ≢ 1
+    → space ≡ space_of cpu → run bus (word_of cpu space cpu.regs.pc) s ≡ ((Err end, q), t) → run bus (instruction_of cpu) s ≡ ((end, q), t)
+first_ended bus cpu q space end s t even k h =
+    let at = cpu.regs.pc in
+    ended_by bus cpu q at end t (bus (Fetch space at) s) (run bus (instruction_of cpu) s)
+    (λ (fault : Fault) (u : _) e. no_first_word bus cpu space fault s u even k e) (sym (asked_is bus cpu at (bus (Fetch space at) s)) ∙ h)
+
+-- the second did not
+pub second_ended : {S : Type 0} (bus : Bus S) (cpu q : Cpu) (space : Space) (first : ℕ) (end : Finish) (s t : S) → space ≡ space_of cpu
+    → run bus (word_of cpu space ((cpu.regs.pc + 2) % 2 ^ 32)) s ≡ ((Err end, q), t)
+    → run bus (found_executed cpu (behind cpu first)) s ≡ ((end, q), t)
+second_ended bus cpu q space first end s t k h =
+    let at = (cpu.regs.pc + 2) % 2 ^ 32 in
+    ended_by bus cpu q at end t (bus (Fetch space at) s) (run bus (found_executed cpu (behind cpu first)) s)
+    (λ (fault : Fault) (u : _) e. no_second_word bus cpu space first fault s u k e) (sym (asked_is bus cpu at (bus (Fetch space at) s)) ∙ h)

@@ -1,9 +1,10 @@
 -- The finish of an instruction whose function works on the registers in place.
-use Rattle.std.proofs.Common.{◌≡◌, ◌∙◌, ℕ, refl, ap, Bool, Result, Ok, Err}
+use Rattle.std.proofs.Common.{◌≡◌, ◌∙◌, ℕ, ◌<◌, length, refl, ap, sym, Bool, Result, Ok, Err}
 use Rattle.mb_port.specs.Routine.{Bus, run}
 use Rattle.mb_instr.specs.declared.instruction.Instr.{Instr}
 use Rattle.mb_instr.specs.declared.registers.Plain.{Plain}
-use Rattle.mb_instr.specs.Registers.{plain_of}
+use Rattle.std.specs.Prelude.{◌%◌, true, false}
+use Rattle.mb_instr.specs.Registers.{plain_of, with_plain}
 use Rattle.mb_model.specs.declared.processor.Cpu.{Cpu}
 use Rattle.mb_model.specs.Status.{space_of}
 use Rattle.mb_writes.specs.declared.ends.Ended.{Ended}
@@ -12,9 +13,13 @@ use Rattle.mb_meaning.specs.Ends.{Performed, closed}
 use Rattle.mb_meaning.specs.Rows.{perform_of}
 use Rattle.mb_meaning.specs.Attempt.{past}
 use Rattle.mb_meaning.specs.SystemEnds.{with_registers}
+use Rattle.mb_meaning.specs.Raise.{Stepped, trace_of, tracing_of, is_due}
+use Rattle.mb_meaning.specs.declared.Finish.{Finish}
+use Rattle.mb_meaning.specs.declared.Finish.TheVariants as finish
 use Rattle.mb_meaning.specs.Step.{finish_of, unprivileged_of}
 use Rattle.mb_operands.specs.declared.endings.Undone.{Undone}
 use Rattle.mb_operands.specs.Endings.{with_end, end_of, performed_in_place}
+use Rattle.mb_step.proofs.Registers.{same_space, same_due, registers_low, registers_over, registers_same, plain_again}
 
 -- after a refused read the registers are those before the instruction, whatever its function left
 finish_left : (i : Instr) (done : Result Bool Undone) (end : Ended) (cpu : Cpu) (before now : Plain)
@@ -39,3 +44,72 @@ unfolding unprivileged_of
 unprivileged_left {S} bus i n cpu s t done end now h =
     ap (λ (r : Performed × S). run bus (finish_of i (closed r.0).0 cpu (with_registers (closed r.0).1 cpu)) r.1) h
     ∙ ap (λ m. run bus m t) (finish_left i done end cpu (past n (plain_of cpu.regs)) now)
+
+-- a step that ended so
+abbrev ended : {S : Type 0} → Finish → Cpu → S → Stepped × S
+ended end cpu t = ((end, cpu), t)
+
+-- An instruction is finished with the processor put together: `set` is that before it, and `left` that with which the step ended.
+pub finish_over : {S : Type 0} (bus : Bus S) (i : Instr) (end : Ended) (cpu set left : Cpu) (before now back : Plain) (s t : S) (f : Finish)
+    → set ≡ with_registers before cpu → run bus (finish_of i end set (with_registers now set)) s ≡ ((f, left), t)
+    → back ≡ plain_of left.regs → length back.a ≡ 8
+    → run bus (finish_of i end (with_registers before cpu) (with_registers now cpu)) s ≡ ((f, with_registers back left), t)
+finish_over bus i end cpu set left before now back s t f k h e n =
+    ap (λ (c : Cpu). run bus (finish_of i end c (with_registers now cpu)) s) (sym k)
+    ∙ ap (λ (c : Cpu). run bus (finish_of i end set c) s) (sym (registers_over before now cpu) ∙ ap (with_registers now) (sym k))
+    ∙ h ∙ ap (λ (c : Cpu). ended f c t) (sym (registers_same back left e n))
+
+-- the same of a trace
+pub trace_over : {S : Type 0} (bus : Bus S) (address : ℕ) (cpu set left : Cpu) (now back : Plain) (s t : S) (f : Finish)
+    → set ≡ with_registers now cpu → run bus (trace_of address set) s ≡ ((f, left), t)
+    → back ≡ plain_of left.regs → length back.a ≡ 8
+    → run bus (trace_of address (with_registers now cpu)) s ≡ ((f, with_registers back left), t)
+trace_over bus address cpu set left now back s t f k h e n =
+    ap (λ (c : Cpu). run bus (trace_of address c) s) (sym k) ∙ h ∙ ap (λ (c : Cpu). ended f c t) (sym (registers_same back left e n))
+
+-- the registers with the five condition codes alone
+abbrev five : Plain → Plain
+five p = record p { ccr = p.ccr % 32 }
+
+-- an instruction that is done, and traced where that is due
+done_by : {S : Type 0} (bus : Bus S) (i : Instr) (done : Result Bool Undone) (end : Ended) (flow due : Bool) (cpu : Cpu) (before now : Plain) (s : S)
+    → done ≡ Ok flow → due ≡ is_due cpu.regs.sr flow
+    → run bus (finish_of i (end_of (with_end done end)) (with_registers before cpu) (with_registers now cpu)) s
+    ≡ run bus (tracing_of finish.Went due before.pc (with_registers (five now) cpu)) s
+unfolding finish_of with_plain
+done_by bus i done end flow due cpu before now s is asked =
+    ap (λ (d : Result Bool Undone). run bus (finish_of i (end_of (with_end d end)) (with_registers before cpu) (with_registers now cpu)) s) is
+    ∙ ap (λ (b : Bool). run bus (tracing_of finish.Went b before.pc (with_registers now cpu)) s) (sym (same_due before cpu flow) ∙ sym asked)
+    ∙ ap (λ (c : Cpu). run bus (tracing_of finish.Went due before.pc c) s) (sym (registers_low now cpu))
+
+pub done_traced : {S : Type 0} (bus : Bus S) (i : Instr) (done : Result Bool Undone) (end : Ended) (flow due : Bool) (cpu : Cpu) (before now : Plain) (s : S)
+    (stepped : Stepped × S) → done ≡ Ok flow → due ≡ is_due cpu.regs.sr flow → due ≡ true
+    → run bus (trace_of before.pc (with_registers (five now) cpu)) s ≡ stepped
+    → run bus (finish_of i (end_of (with_end done end)) (with_registers before cpu) (with_registers now cpu)) s ≡ stepped
+done_traced bus i done end flow due cpu before now s stepped is asked traced h =
+    done_by bus i done end flow due cpu before now s is asked
+    ∙ ap (λ (b : Bool). run bus (tracing_of finish.Went b before.pc (with_registers (five now) cpu)) s) traced ∙ h
+
+pub done_untraced : {S : Type 0} (bus : Bus S) (i : Instr) (done : Result Bool Undone) (end : Ended) (flow due : Bool) (cpu : Cpu) (before now : Plain) (s : S)
+    → done ≡ Ok flow → due ≡ is_due cpu.regs.sr flow → due ≡ false
+    → run bus (finish_of i (end_of (with_end done end)) (with_registers before cpu) (with_registers now cpu)) s
+    ≡ ((finish.Went, with_registers (five now) cpu), s)
+done_untraced bus i done end flow due cpu before now s is asked untraced =
+    done_by bus i done end flow due cpu before now s is asked
+    ∙ ap (λ (b : Bool). run bus (tracing_of finish.Went b before.pc (with_registers (five now) cpu)) s) untraced
+
+-- An instruction that works on the registers apart: `value` is the processor put together.
+pub unprivileged_apart : {S : Type 0} (bus : Bus S) (i : Instr) (n : ℕ) (cpu value : Cpu) (s t : S) (done : Result Bool Undone) (end : Ended)
+    (before now : Plain) → with_registers before cpu ≡ value → length before.a ≡ 8 → before.ccr < 32
+    → run bus (perform_of i before.pc (space_of cpu) (past n before)) s
+    ≡ (let r : Performed × S = (performed_in_place done end (past n before) now, t) in r)
+    → run bus (unprivileged_of i n value) s
+    ≡ run bus (finish_of i (end_of (with_end done end)) (with_registers before cpu) (with_registers now cpu)) t
+unprivileged_apart {S} bus i n cpu value s t done end before now k len less h =
+    let whole = with_registers before cpu in
+    ap (λ (c : Cpu). run bus (unprivileged_of i n c) s) (sym k)
+    ∙ unprivileged_left bus i n whole s t done end now
+    (ap (λ (q : Plain). run bus (perform_of i q.pc (space_of whole) (past n q)) s) (plain_again before cpu len less)
+    ∙ ap (λ space. run bus (perform_of i before.pc space (past n before)) s) (sym (same_space before cpu)) ∙ h
+    ∙ ap (λ (q : Plain). (let r : Performed × S = (performed_in_place done end (past n q) now, t) in r)) (sym (plain_again before cpu len less)))
+    ∙ ap (λ (c : Cpu). run bus (finish_of i (end_of (with_end done end)) whole c) t) (registers_over before now cpu)

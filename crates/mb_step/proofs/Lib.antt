@@ -1,3 +1,4 @@
 pub mod Fetches
 pub mod Entries
 pub mod Finishes
+pub mod Registers

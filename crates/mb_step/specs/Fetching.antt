@@ -1,11 +1,23 @@
 -- An instruction's words behind its first, and what follows where they are none.
 use Rattle.std.specs.Prelude.{ℕ, Result, Ok, Err}
-use Rattle.mb_port.specs.Routine.{Routine, Return, Then, caught}
+use Rattle.mb_port.specs.Routine.{Routine, Return, Then, caught, fetch}
+use Rattle.mb_port.specs.declared.types.Space.{Space}
 use Rattle.mb_instr.specs.declared.instruction.Instr.{Instr}
 use Rattle.mb_model.specs.declared.processor.Cpu.{Cpu}
 use Rattle.mb_meaning.specs.declared.Finish.{Finish}
+use Rattle.mb_ea.specs.Reading.{refused_in}
 use Rattle.mb_meaning.specs.Attempt.{Found}
-use Rattle.mb_meaning.specs.Step.{unfound_of}
+use Rattle.mb_meaning.specs.Step.{unfound_of, unread_of}
+
+-- a word, or how the step ended without one; and the processor then
+abbrev pub Word : Type 0
+Word = Result ℕ Finish × Cpu
+
+-- where a word does not come, the step ends
+abbrev pub word_of : Cpu → Space → ℕ → Routine Word
+word_of cpu space at = caught (fetch space at)
+    (λ fault. Then (unread_of (refused_in at fault) cpu) (λ stepped. Return (Err stepped.0, stepped.1)))
+    (λ word. Return (Ok word, cpu))
 
 -- an instruction and how many words it has, or how the step ended without one; and the processor then
 abbrev pub Sought : Type 0

@@ -1,16 +1,17 @@
 //! An instruction that was fetched is carried out, and finished.
 
-ghost use Rattle.std.specs.Prelude.{◌≡◌, ◌≢◌};
+ghost use Rattle.std.specs.Prelude.{◌≡◌, ◌≢◌, ◌<◌};
 ghost use Rattle.mb_port.specs.Routine.{run};
 ghost use Rattle.mb_instr.specs.Codes.{IsInstr};
 ghost use Rattle.mb_instr.specs.declared.instruction.Instr.TheVariants as instr;
-ghost use Rattle.mb_meaning.specs.Raise.{refused_of};
 ghost use Rattle.mb_meaning.specs.SystemEnds.{with_registers};
 ghost use Rattle.mb_operands.specs.Endings.{end_of, with_end};
 ghost use Rattle.mb_meaning.specs.Step.{finish_of, supervised_of, unprivileged_of, executed_of};
 
-use crate::finishing::{finish_instruction, finish_unfinished, finish_unread};
+use crate::apart::{finish_undone, trace_left};
+use crate::finishing::{finish_unfinished, finish_unread};
 use crate::performing::perform_in_place;
+use crate::processor::Processor;
 use crate::raising::{is_due, refuse, trace_if};
 use crate::returning::return_from_exception;
 use mb_instr::{Instr, Plain, System};
@@ -21,13 +22,15 @@ use mb_port::Port;
 use mb_system::perform_system;
 use mb_writes::Ended;
 
-/// The vector of a privilege violation.
-const PRIVILEGED: u8 = 8;
-
 /// Carries out a privileged instruction of so many words in supervisor mode.
 #[inline(never)]
 #[tactic(auto, unfolding(mb_meaning::specs::Step::supervised_of, mb_meaning::specs::Step::finish_of))]
-fn execute_supervised<P: Port>(system: &System, length: u8, cpu: &mut Cpu, port: &mut P) -> Finish
+pub(crate) fn execute_supervised<P: Port>(
+    system: &System,
+    length: u8,
+    cpu: &mut Cpu,
+    port: &mut P,
+) -> Finish
     requires { IsInstr (instr.System system.now) }
     ensures means { run P.bus (supervised_of system.now length cpu.old) (P.world port.old)
         ≡ ((result, cpu.new), P.world port.new) }
@@ -54,31 +57,37 @@ fn execute_supervised<P: Port>(system: &System, length: u8, cpu: &mut Cpu, port:
     }
 }
 
-/// Finishes an instruction that left these registers. Where it was not done, how it ended stands beside.
+/// Finishes an instruction that left these registers; those before it stand beside. Where it was not done, how it ended
+/// does too.
 #[inline(always)]
 #[tactic(auto, unfolding(mb_meaning::specs::Step::finish_of))]
 fn finish_plain<P: Port>(
     instruction: &Instr,
     done: Result<bool, Undone>,
     ended: &Ended,
+    before: &Plain,
     plain: &mut Plain,
     cpu: &mut Cpu,
     port: &mut P,
 ) -> Finish
     requires { IsInstr instruction.now }
-    ensures means { run P.bus (finish_of instruction.now (end_of (with_end done ended.now)) cpu.old
-        (with_registers plain.old cpu.old)) (P.world port.old) ≡ ((result, cpu.new), P.world port.new) }
+    ensures means { run P.bus (finish_of instruction.now (end_of (with_end done ended.now))
+        (with_registers before.now cpu.old) (with_registers plain.old cpu.old)) (P.world port.old)
+        ≡ ((result, with_registers plain.new cpu.new), P.world port.new) }
+    ensures ccr { plain.new.ccr < 32 }
     ensures busy { result ≢ Finish.Idle }
     ensures rest { P.rest port.new ≡ P.rest port.old }
 {
     match done {
         Ok(flow) => {
-            let due = is_due(cpu.regs.sr, flow);
-            let at = cpu.regs.pc;
-            cpu.regs.set_plain(plain);
-            trace_if(Finish::Went, due, at, cpu, port)
+            plain.ccr %= 32;
+            if is_due(cpu.regs.sr, flow) {
+                trace_left(before.pc, plain, cpu, port)
+            } else {
+                Finish::Went
+            }
         }
-        Err(_) => finish_instruction(instruction, ended, plain, cpu, port),
+        Err(_) => finish_undone(instruction, ended, before, plain, cpu, port),
     }
 }
 
@@ -88,21 +97,35 @@ fn finish_plain<P: Port>(
 fn execute_unprivileged<P: Port>(
     instruction: &Instr,
     length: u8,
-    cpu: &mut Cpu,
+    processor: &mut Processor,
     port: &mut P,
 ) -> Finish
     requires { IsInstr instruction.now }
-    ensures means { run P.bus (unprivileged_of instruction.now length cpu.old) (P.world port.old)
-        ≡ ((result, cpu.new), P.world port.new) }
+    ensures means { run P.bus (unprivileged_of instruction.now length processor.old) (P.world port.old)
+        ≡ ((result, processor.new), P.world port.new) }
     ensures busy { result ≢ Finish.Idle }
     ensures rest { P.rest port.new ≡ P.rest port.old }
 {
-    let mut plain = cpu.regs.plain();
-    let at = plain.pc;
-    plain.pc = at.wrapping_add(2 * u32::from(length));
-    let mut ended = Ended::Done { flow: false };
-    let done = perform_in_place(instruction, at, cpu.space(), &mut plain, port, &mut ended);
-    finish_plain(instruction, done, &ended, &mut plain, cpu, port)
+    processor.before = processor.plain;
+    let at = processor.plain.pc;
+    processor.plain.pc = at.wrapping_add(2 * u32::from(length));
+    let done = perform_in_place(
+        instruction,
+        at,
+        processor.cpu.space(),
+        &mut processor.plain,
+        port,
+        &mut processor.ended,
+    );
+    finish_plain(
+        instruction,
+        done,
+        &processor.ended,
+        &processor.before,
+        &mut processor.plain,
+        &mut processor.cpu,
+        port,
+    )
 }
 
 /// Carries out an instruction of so many words that stands at PC. A privileged one needs supervisor mode.
@@ -113,25 +136,19 @@ fn execute_unprivileged<P: Port>(
 pub(crate) fn execute<P: Port>(
     instruction: &Instr,
     length: u8,
-    cpu: &mut Cpu,
+    processor: &mut Processor,
     port: &mut P,
 ) -> Finish
     requires { IsInstr instruction.now }
-    ensures means { run P.bus (executed_of instruction.now length cpu.old) (P.world port.old)
-        ≡ ((result, cpu.new), P.world port.new) }
+    ensures means { run P.bus (executed_of instruction.now length processor.old) (P.world port.old)
+        ≡ ((result, processor.new), P.world port.new) }
     ensures busy { result ≢ Finish.Idle }
     ensures rest { P.rest port.new ≡ P.rest port.old }
 {
     match instruction {
-        Instr::System(system) => {
-            if cpu.regs.is_supervisor() {
-                execute_supervised(system, length, cpu, port)
-            } else {
-                refuse(PRIVILEGED, cpu, port)
-            }
-        }
+        Instr::System(system) => processor.execute_privileged(system, length, port),
         Instr::Move(_) | Instr::Arith(_) | Instr::Flow(_) => {
-            execute_unprivileged(instruction, length, cpu, port)
+            execute_unprivileged(instruction, length, processor, port)
         }
     }
 }

@@ -4,23 +4,19 @@ ghost use Rattle.std.specs.Prelude.{◌≡◌, ◌≢◌, ◌-◌, ◌+◌, ◌%
 ghost use Rattle.mb_port.specs.Routine.{run};
 ghost use Rattle.mb_instr.specs.Codes.{IsInstr};
 ghost use Rattle.mb_model.specs.Status.{space_of};
-ghost use Rattle.mb_ea.specs.Reading.{refused_in};
 ghost use Rattle.mb_decode.specs.Decodes.{decode_of};
 ghost use Rattle.mb_meaning.specs.Attempt.{found_of, judged, most_words};
-ghost use Rattle.mb_meaning.specs.Step.{unread_of, instruction_of};
-ghost use Rattle.mb_step.specs.Fetching.{sought_of, sought_by};
+ghost use Rattle.mb_meaning.specs.Step.{instruction_of};
+ghost use Rattle.mb_step.specs.Fetching.{sought_of, sought_by, word_of};
 
 use crate::decoder::Longer;
 use crate::executing::execute;
-use crate::finishing::finish_unread;
-use crate::raising::refuse;
+use crate::processor::Processor;
 use arrayvec::ArrayVec;
 use mb_decode::{Decoded, Decoding, decode_into};
-use mb_ea::ReadFault;
 use mb_instr::Instr;
 use mb_meaning::Finish;
-use mb_model::Cpu;
-use mb_port::{Fault, Port};
+use mb_port::{Port, Space};
 use mb_table::FirstWords;
 
 /// How many words an instruction can have behind its first.
@@ -35,15 +31,46 @@ const LINE_A: u8 = 10;
 
 const LINE_F: u8 = 11;
 
-/// After a refused fetch: that of a read whose operand is the word itself.
+/// Fetches a word, whatever the bus has to do for it, or ends the step where it does not come.
 #[inline(never)]
-fn finish_unfetched<P: Port>(fault: Fault, at: u32, cpu: &mut Cpu, port: &mut P) -> Finish
-    ensures means { run P.bus (unread_of (refused_in at fault) cpu.old) (P.world port.old)
-        ≡ ((result, cpu.new), P.world port.new) }
-    ensures busy { result ≢ Finish.Idle }
+fn fetch_slowly<P: Port>(
+    space: Space,
+    at: u32,
+    processor: &mut Processor,
+    port: &mut P,
+) -> Result<u16, Finish>
+    requires { at % 2 ≡ 0 }
+    ensures means { run P.bus (word_of processor.old space at) (P.world port.old)
+        ≡ ((result, processor.new), P.world port.new) }
+    ensures same { IfOk result (λ word. processor.new ≡ processor.old) }
+    ensures busy { IfErr result (λ end. end ≢ Finish.Idle) }
     ensures rest { P.rest port.new ≡ P.rest port.old }
 {
-    finish_unread(&ReadFault { fault, first: at }, cpu, port)
+    match port.fetch(space, at) {
+        Ok(word) => Ok(word),
+        Err(fault) => Err(processor.finish_unfetched(fault, at, port)),
+    }
+}
+
+/// Fetches a word: at once where it is known so. The step ends where it does not come.
+#[inline(always)]
+fn fetch_word<P: Port>(
+    space: Space,
+    at: u32,
+    processor: &mut Processor,
+    port: &mut P,
+) -> Result<u16, Finish>
+    requires { at % 2 ≡ 0 }
+    ensures means { run P.bus (word_of processor.old space at) (P.world port.old)
+        ≡ ((result, processor.new), P.world port.new) }
+    ensures same { IfOk result (λ word. processor.new ≡ processor.old) }
+    ensures busy { IfErr result (λ end. end ≢ Finish.Idle) }
+    ensures rest { P.rest port.new ≡ P.rest port.old }
+{
+    match port.quick_fetch(space, at) {
+        Some(word) => Ok(word),
+        None => fetch_slowly(space, at, processor, port),
+    }
 }
 
 /// Fetches the words behind the first two, from that of the second on, one at a time, until they are an instruction or
@@ -55,35 +82,35 @@ fn fetch_more<P: Port>(
     second: u16,
     second_at: u32,
     instruction: &mut Instr,
-    cpu: &mut Cpu,
+    processor: &mut Processor,
     port: &mut P,
 ) -> Result<u8, Finish>
     requires { second_at % 2 ≡ 0 }
-    ensures means { run P.bus (sought_of cpu.old (found_of (most_words - 2) (space_of cpu.old)
+    ensures means { run P.bus (sought_of processor.old (found_of (most_words - 2) (space_of processor.old)
         ((second_at + 2) % 2 ^ 32) (first ∷ second ∷ []))) (P.world port.old)
-        ≡ ((sought_by result instruction.new, cpu.new), P.world port.new) }
+        ≡ ((sought_by result instruction.new, processor.new), P.world port.new) }
     ensures valid { IfOk result (λ n. IsInstr instruction.new) }
     ensures busy { IfErr result (λ end. end ≢ Finish.Idle) }
     ensures rest { P.rest port.new ≡ P.rest port.old }
 {
     let mut behind = ArrayVec::<u16, MOST_BEHIND>::new();
     behind.push(second);
-    let space = cpu.space();
+    let space = processor.space();
     let mut at = second_at.wrapping_add(2);
     for _ in 1..MOST_BEHIND {
         match port.fetch(space, at) {
             Ok(word) => behind.push(word),
-            Err(fault) => return Err(finish_unfetched(fault, at, cpu, port)),
+            Err(fault) => return Err(processor.finish_unfetched(fault, at, port)),
         }
         match decode_into(first, behind.as_slice(), instruction) {
             Decoding::Whole(length) => return Ok(length),
             Decoding::More => at = at.wrapping_add(2),
-            Decoding::Illegal => return Err(refuse(ILLEGAL, cpu, port)),
-            Decoding::LineA => return Err(refuse(LINE_A, cpu, port)),
-            Decoding::LineF => return Err(refuse(LINE_F, cpu, port)),
+            Decoding::Illegal => return Err(processor.refuse(ILLEGAL, port)),
+            Decoding::LineA => return Err(processor.refuse(LINE_A, port)),
+            Decoding::LineF => return Err(processor.refuse(LINE_F, port)),
         }
     }
-    Err(refuse(ILLEGAL, cpu, port))
+    Err(processor.refuse(ILLEGAL, port))
 }
 
 /// Decodes the first two words, the second of which was fetched from `second_at`, and those that follow where an
@@ -95,14 +122,14 @@ fn decode_longer<P: Port>(
     second: u16,
     second_at: u32,
     longer: &mut Longer,
-    cpu: &mut Cpu,
+    processor: &mut Processor,
     port: &mut P,
 ) -> Result<u8, Finish>
     requires { second_at % 2 ≡ 0 }
-    ensures means { run P.bus (sought_of cpu.old (judged (decode_of (first ∷ second ∷ []))
-        (found_of (most_words - 2) (space_of cpu.old) ((second_at + 2) % 2 ^ 32) (first ∷ second ∷ []))))
+    ensures means { run P.bus (sought_of processor.old (judged (decode_of (first ∷ second ∷ []))
+        (found_of (most_words - 2) (space_of processor.old) ((second_at + 2) % 2 ^ 32) (first ∷ second ∷ []))))
         (P.world port.old)
-        ≡ ((sought_by result longer.new.instruction, cpu.new), P.world port.new) }
+        ≡ ((sought_by result longer.new.instruction, processor.new), P.world port.new) }
     ensures valid { IfOk result (λ n. IsInstr longer.new.instruction) }
     ensures busy { IfErr result (λ end. end ≢ Finish.Idle) }
     ensures rest { P.rest port.new ≡ P.rest port.old }
@@ -114,10 +141,17 @@ fn decode_longer<P: Port>(
             }
             Ok(length)
         }
-        Decoding::More => fetch_more(first, second, second_at, &mut longer.instruction, cpu, port),
-        Decoding::Illegal => Err(refuse(ILLEGAL, cpu, port)),
-        Decoding::LineA => Err(refuse(LINE_A, cpu, port)),
-        Decoding::LineF => Err(refuse(LINE_F, cpu, port)),
+        Decoding::More => fetch_more(
+            first,
+            second,
+            second_at,
+            &mut longer.instruction,
+            processor,
+            port,
+        ),
+        Decoding::Illegal => Err(processor.refuse(ILLEGAL, port)),
+        Decoding::LineA => Err(processor.refuse(LINE_A, port)),
+        Decoding::LineF => Err(processor.refuse(LINE_F, port)),
     }
 }
 
@@ -128,14 +162,14 @@ fn find_longer<P: Port>(
     second: u16,
     second_at: u32,
     longer: &mut Longer,
-    cpu: &mut Cpu,
+    processor: &mut Processor,
     port: &mut P,
 ) -> Result<u8, Finish>
     requires { second_at % 2 ≡ 0 }
-    ensures means { run P.bus (sought_of cpu.old (judged (decode_of (first ∷ second ∷ []))
-        (found_of (most_words - 2) (space_of cpu.old) ((second_at + 2) % 2 ^ 32) (first ∷ second ∷ []))))
+    ensures means { run P.bus (sought_of processor.old (judged (decode_of (first ∷ second ∷ []))
+        (found_of (most_words - 2) (space_of processor.old) ((second_at + 2) % 2 ^ 32) (first ∷ second ∷ []))))
         (P.world port.old)
-        ≡ ((sought_by result longer.new.instruction, cpu.new), P.world port.new) }
+        ≡ ((sought_by result longer.new.instruction, processor.new), P.world port.new) }
     ensures valid { IfOk result (λ n. IsInstr longer.new.instruction) }
     ensures busy { IfErr result (λ end. end ≢ Finish.Idle) }
     ensures rest { P.rest port.new ≡ P.rest port.old }
@@ -144,7 +178,7 @@ fn find_longer<P: Port>(
         longer.instruction = *kept;
         return Ok(2);
     }
-    decode_longer(first, second, second_at, longer, cpu, port)
+    decode_longer(first, second, second_at, longer, processor, port)
 }
 
 /// Fetches the instruction that stands at PC and carries it out. No word is fetched behind those that the instruction
@@ -157,38 +191,40 @@ fn find_longer<P: Port>(
 pub(crate) fn execute_next<P: Port>(
     first_words: &mut FirstWords,
     longer: &mut Longer,
-    cpu: &mut Cpu,
+    processor: &mut Processor,
     port: &mut P,
 ) -> Finish
-    ensures means { run P.bus (instruction_of cpu.old) (P.world port.old) ≡ ((result, cpu.new), P.world port.new) }
+    ensures means { run P.bus (instruction_of processor.old) (P.world port.old)
+        ≡ ((result, processor.new), P.world port.new) }
     ensures busy { result ≢ Finish.Idle }
     ensures rest { P.rest port.new ≡ P.rest port.old }
 {
-    let (at, space) = (cpu.regs.pc, cpu.space());
+    let (at, space) = (processor.pc(), processor.space());
     if at % 2 == 1 {
-        return refuse(ODD_COUNTER, cpu, port);
+        return processor.refuse(ODD_COUNTER, port);
     }
-    let first = match port.fetch(space, at) {
+    let first = match fetch_word(space, at, processor, port) {
         Ok(word) => word,
-        Err(fault) => return finish_unfetched(fault, at, cpu, port),
+        Err(end) => return end,
     };
+    // Borrowed once for all arms, so that an instruction can be lent out of them.
     let longer = &mut *longer;
     let (instruction, length) = match first_words.of(first) {
         Decoded::Whole(instruction, length) => (instruction, *length),
         Decoded::More => {
             let second_at = at.wrapping_add(2);
-            let second = match port.fetch(space, second_at) {
+            let second = match fetch_word(space, second_at, processor, port) {
                 Ok(word) => word,
-                Err(fault) => return finish_unfetched(fault, second_at, cpu, port),
+                Err(end) => return end,
             };
-            match find_longer(first, second, second_at, longer, cpu, port) {
+            match find_longer(first, second, second_at, longer, processor, port) {
                 Ok(length) => (&longer.instruction, length),
                 Err(end) => return end,
             }
         }
-        Decoded::Illegal => return refuse(ILLEGAL, cpu, port),
-        Decoded::LineA => return refuse(LINE_A, cpu, port),
-        Decoded::LineF => return refuse(LINE_F, cpu, port),
+        Decoded::Illegal => return processor.refuse(ILLEGAL, port),
+        Decoded::LineA => return processor.refuse(LINE_A, port),
+        Decoded::LineF => return processor.refuse(LINE_F, port),
     };
-    execute(instruction, length, cpu, port)
+    execute(instruction, length, processor, port)
 }

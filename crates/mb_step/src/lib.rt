@@ -1,17 +1,19 @@
 //! One step of the processor, over any bus: the entry of an interrupt, an idle tick, or an instruction with the
 //! exceptions that it causes.
 //!
-//! Each function here does what its routine of `mb_meaning` does, whatever the bus. An instruction is carried out where
-//! it was decoded, on a copy of the registers, the only one that a step makes: it becomes the processor's registers
-//! where the instruction is done, and until then those before it are the processor's own. Exceptions are entered, and
-//! returned from, in the processor's own registers.
+//! Each function here does what its routine of `mb_meaning` does, whatever the bus. A [`Processor`] keeps the registers
+//! that user mode sees where instructions work on them. An instruction is carried out where it was decoded, on these
+//! registers in place; those before it stand beside, the only copy that a step makes. Exceptions are entered, and
+//! returned from, with the processor put together, in functions that stand outside the way of a step that has none.
 #![tactic(auto)]
 
+mod apart;
 mod decoder;
 mod executing;
 mod fetching;
 mod finishing;
 mod performing;
+mod processor;
 mod raising;
 mod returning;
 mod stepping;
@@ -19,5 +21,6 @@ mod stepping;
 pub use decoder::Decoder;
 pub use mb_meaning::{Finish, StepEnd};
 pub use performing::perform;
+pub use processor::Processor;
 pub use raising::{access_error, unchecked};
-pub use stepping::{step, step_to_finish};
+pub use stepping::{step, step_in_place, step_to_finish};

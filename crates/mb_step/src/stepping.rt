@@ -7,18 +7,10 @@ ghost use Rattle.mb_meaning.specs.Step.{Halts, interrupt_mask, step_of};
 
 use crate::decoder::Decoder;
 use crate::fetching::execute_next;
-use crate::raising::interrupt;
+use crate::processor::Processor;
 use mb_meaning::{Finish, StepEnd};
 use mb_model::Cpu;
 use mb_port::Port;
-
-/// The interrupt mask, bits 10 to 8 of the status register.
-#[inline(always)]
-fn interrupt_mask(cpu: &Cpu) -> u8
-    ensures { result ≡ interrupt_mask cpu.now }
-{
-    (cpu.regs.sr >> 8 & 7) as u8
-}
 
 /// One step of the processor, with an interrupt of `level` asked for, or of level 0 for none.
 ///
@@ -27,6 +19,35 @@ fn interrupt_mask(cpu: &Cpu) -> u8
 /// remembers. The answer names the last exception that was entered.
 #[inline(always)]
 #[tactic(auto, unfolding(mb_meaning::specs::Step::step_of))]
+pub fn step_in_place<P: Port>(
+    decoder: &mut Decoder,
+    processor: &mut Processor,
+    port: &mut P,
+    level: u8,
+) -> Finish
+    requires { level < 8 }
+    ensures means { run P.bus (step_of level processor.old) (P.world port.old)
+        ≡ ((result, processor.new), P.world port.new) }
+    ensures idle { result ≡ Finish.Idle ↔ (level ≤ interrupt_mask processor.old) × (processor.old.stopped ≡ true) }
+    ensures halted { result ≡ Finish.Halted ↔ Halts P.bus level processor.old (P.world port.old) }
+    ensures rest { P.rest port.new ≡ P.rest port.old }
+{
+    if level > processor.interrupt_mask() {
+        return processor.interrupt(level, port);
+    }
+    if processor.is_stopped() {
+        return Finish::Idle;
+    }
+    execute_next(
+        &mut decoder.first_words,
+        &mut decoder.longer,
+        processor,
+        port,
+    )
+}
+
+/// One step as `step_in_place` takes it, of a processor in one piece.
+#[inline(always)]
 pub fn step_to_finish<P: Port>(
     decoder: &mut Decoder,
     cpu: &mut Cpu,
@@ -39,13 +60,10 @@ pub fn step_to_finish<P: Port>(
     ensures halted { result ≡ Finish.Halted ↔ Halts P.bus level cpu.old (P.world port.old) }
     ensures rest { P.rest port.new ≡ P.rest port.old }
 {
-    if level > interrupt_mask(cpu) {
-        return interrupt(level, cpu, port);
-    }
-    if cpu.stopped {
-        return Finish::Idle;
-    }
-    execute_next(&mut decoder.first_words, &mut decoder.longer, cpu, port)
+    let mut processor = Processor::new(cpu);
+    let finish = step_in_place(decoder, &mut processor, port, level);
+    *cpu = processor.cpu();
+    finish
 }
 
 /// One step as `step_to_finish` takes it, without a word of the exceptions that it entered.

@@ -6,10 +6,11 @@ use Rattle.mb_step.proofs.fetching.fetch_more.Given as goal
 
 abbrev pub invariant-loop : goal.invariant-loop
 invariant-loop g l = record {
-  means : seeking g.P.Port.bus l.fn.cpu l.space (most_words - (l.counter + 1)) l.at (l.first ∷ l.behind.items) (g.P.Port.world l.port)
-      ≡ seeking g.P.Port.bus l.fn.cpu (space_of l.fn.cpu) (most_words - 2) ((l.second_at + 2) % 2 ^ 32) (l.first ∷ l.second ∷ []) (g.P.Port.world l.fn.port);
+  means : seeking g.P.Port.bus l.fn.processor l.space (most_words - (l.counter + 1)) l.at (l.first ∷ l.behind.items) (g.P.Port.world l.port)
+      ≡ seeking g.P.Port.bus l.fn.processor (space_of l.fn.processor) (most_words - 2) ((l.second_at + 2) % 2 ^ 32)
+      (l.first ∷ l.second ∷ []) (g.P.Port.world l.fn.port);
   even : l.at % 2 ≡ 0;
   count : length l.behind.items ≡ l.counter;
-  cpu : l.cpu ≡ l.fn.cpu;
+  processor : l.processor ≡ l.fn.processor;
   rest : g.P.Port.rest l.port ≡ g.P.Port.rest l.fn.port;
 }
