@@ -14,14 +14,14 @@ ghost use Rattle.mb_board.specs.State.{board_at_reset, machine_in, with_machine}
 
 use crate::bus::BoardBus;
 use crate::receiving::place_behind;
-use crate::states::{state_after, takes_steps};
+use crate::states::{state_of, takes_steps};
 use mb_devices::Devices;
 use mb_instr::Plain;
 use mb_meaning::{Finish, StepEnd};
 use mb_model::{Cpu, Outcome, RunState};
 use mb_outside::Memory;
 use mb_script::Script;
-use mb_step::{Decoder, step_to_finish};
+use mb_step::{Decoder, Processor, step_in_place};
 use mb_walk::Ram;
 use std::alloc::Global;
 use std::marker::Model;
@@ -37,7 +37,7 @@ const NO_REGISTERS: Plain = Plain {
 /// A machine: its processor beside the bus of its memory and devices.
 #[derive(Drop)]
 pub(crate) struct Core {
-    pub(crate) cpu: Cpu,
+    pub(crate) cpu: Processor,
     pub(crate) bus: BoardBus,
     /// What steps decode with; no part of the machine.
     pub(crate) decoder: Decoder,
@@ -62,11 +62,14 @@ impl Model for Core {
 #[derive(Drop)]
 pub struct Board {
     pub(crate) core: Core,
+    /// The core's processor, to be shown.
+    pub(crate) shown: Cpu,
     /// The registers at the beginning of the last step in user mode for a monitor.
     pub(crate) before: Plain,
 }
 
 impl Model for Board {
+    ghost use Rattle.std.specs.Prelude.{◌≡◌};
     ghost use Rattle.mb_board.specs.State.{BoardState};
 
     ghost Value = { BoardState };
@@ -78,6 +81,8 @@ impl Model for Board {
       state = b.core.state;
       before = b.before;
     } };
+
+    ghost invariant = { λ b. b.shown ≡ b.core.cpu };
 }
 
 impl Core {
@@ -88,7 +93,8 @@ impl Core {
         ensures { self.new ≡ reset_with rule_a self.old.world.devices.ram self.old.world.ram }
     {
         self.bus.reset();
-        self.cpu = Cpu::at_reset(self.bus.long(0), self.bus.long(4));
+        let cpu = Cpu::at_reset(self.bus.long(0), self.bus.long(4));
+        self.cpu.set(&cpu);
         self.steps = 0;
         self.state = RunState::Running;
     }
@@ -109,8 +115,8 @@ impl Core {
     {
         self.bus.tick();
         let level = self.bus.level();
-        let finish = step_to_finish(&mut self.decoder, &mut self.cpu, &mut self.bus, level);
-        self.state = state_after(finish, &self.cpu, self.bus.devices());
+        let finish = step_in_place(&mut self.decoder, &mut self.cpu, &mut self.bus, level);
+        self.state = state_of(finish, self.cpu.is_stopped(), self.bus.devices());
         finish
     }
 
@@ -151,7 +157,7 @@ impl Core {
     fn set_cpu(&mut self, cpu: &Cpu)
         ensures { self.new ≡ with_cpu self.old cpu.now }
     {
-        self.cpu = *cpu;
+        self.cpu.set(cpu);
         if self.takes_steps() {
             self.state = if cpu.stopped {
                 RunState::Stopped
@@ -175,14 +181,16 @@ impl Board {
         let Ok(decoder) = Decoder::new(alloc) else {
             return Err(Memory);
         };
+        let shown = Cpu::at_reset(0, 0);
         let mut board = Board {
             core: Core {
-                cpu: Cpu::at_reset(0, 0),
+                cpu: Processor::new(&shown),
                 bus,
                 decoder,
                 steps: 0,
                 state: RunState::Running,
             },
+            shown,
             before: NO_REGISTERS,
         };
         board.reset();
@@ -220,6 +228,7 @@ impl Board {
         ensures unrun { self.new.steps ≡ 0 }
     {
         self.core.reset();
+        self.shown = self.core.cpu.cpu();
         self.before = NO_REGISTERS;
     }
 
@@ -233,7 +242,9 @@ impl Board {
         ensures ram { length self.new.world.ram ≡ length self.old.world.ram }
     {
         let mut next = place_behind(script, self.core.steps);
-        self.core.step_on(script, &mut next).step_end()
+        let finish = self.core.step_on(script, &mut next);
+        self.shown = self.core.cpu.cpu();
+        finish.step_end()
     }
 
     /// Takes so many steps, or fewer where the machine halts or is switched off. It takes no memory. A board whose
@@ -246,13 +257,14 @@ impl Board {
         ensures ram { length self.new.world.ram ≡ length self.old.world.ram }
     {
         self.core.run_bare(script, steps);
+        self.shown = self.core.cpu.cpu();
     }
 
     /// The processor.
     pub fn cpu(&self) -> &Cpu
         ensures { result.now ≡ self.now.cpu }
     {
-        &self.core.cpu
+        &self.shown
     }
 
     /// The processor becomes another. A machine that takes steps is stopped then exactly where STOP holds that one;
@@ -261,6 +273,7 @@ impl Board {
         ensures { self.new ≡ with_machine self.old (with_cpu (machine_in self.old) cpu.now) }
     {
         self.core.set_cpu(cpu);
+        self.shown = *cpu;
     }
 
     /// The registers at the beginning of the last step in user mode that was taken for a monitor since the last reset,
@@ -277,7 +290,7 @@ impl Board {
     {
         let devices = self.core.bus.devices();
         Outcome {
-            cpu: &self.core.cpu,
+            cpu: &self.shown,
             mmu: self.core.bus.mmu(),
             console: devices.console(),
             lost: devices.lost(),

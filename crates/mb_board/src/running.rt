@@ -41,8 +41,7 @@ impl Core {
         ensures spelled { Spell (plain_of self.now.cpu.regs) spelled.new }
     {
         let beginning = *spelled;
-        let after = self.cpu.regs.plain();
-        *spelled = spelling(&after);
+        *spelled = spelling(self.cpu.plain());
         match finish {
             Finish::Went | Finish::Idle => native.retire(beginning, *spelled),
             Finish::Entered(_) if self.takes_steps() => native.except(),
@@ -62,7 +61,7 @@ impl Core {
         ensures spelled { Spell (plain_of self.new.cpu.regs) spelled.new }
         ensures ram { length self.new.world.ram ≡ length self.old.world.ram }
     {
-        *before = self.cpu.regs.plain();
+        *before = *self.cpu.plain();
         let finish = self.step_uncounted();
         self.count(finish, before, spelled, native);
         self.ended_by(finish)
@@ -78,7 +77,7 @@ impl Core {
         ensures fit { FitsAlong limit (about_to_run self.old native.old before.old) }
         ensures ram { length self.new.world.ram ≡ length self.old.world.ram }
     {
-        let mut spelled = spelling(&self.cpu.regs.plain());
+        let mut spelled = spelling(self.cpu.plain());
         for _ in 0..limit {
             match self.run_on(native, before, &mut spelled) {
                 RunEnd::Counted => {}
@@ -104,6 +103,10 @@ impl Board {
         ensures steps { self.new.steps ≡ self.old.steps }
         ensures ram { length self.new.world.ram ≡ length self.old.world.ram }
     {
-        self.core.run(limit, native, &mut self.before)
+        let mut before = self.before;
+        let end = self.core.run(limit, native, &mut before);
+        self.before = before;
+        self.shown = self.core.cpu.cpu();
+        end
     }
 }

@@ -1,6 +1,7 @@
 //! The state of a machine between its steps.
 
 ghost use Rattle.std.specs.Prelude.{◌≡◌};
+ghost use Rattle.mb_model.specs.declared.processor.Cpu.{Cpu};
 ghost use Rattle.mb_machine.specs.Machine.{state_after, takes_steps};
 
 use mb_devices::Devices;
@@ -17,22 +18,30 @@ pub fn takes_steps(state: RunState) -> bool
     }
 }
 
-/// The state after a step that ended so, with the processor and the devices that it left.
+/// The state after a step that ended so, by whether STOP holds the processor that it left, and by the devices.
 #[inline(always)]
 #[tactic(auto, unfolding(mb_machine::specs::Machine::state_after))]
-pub fn state_after(finish: Finish, cpu: &Cpu, devices: &Devices) -> RunState
-    ensures { result ≡ state_after finish cpu.now devices.now }
+pub(crate) fn state_of(finish: Finish, stopped: bool, devices: &Devices) -> RunState
+    ensures { (cpu : Cpu) → cpu.stopped ≡ stopped → result ≡ state_after finish cpu devices.now }
 {
     match finish {
         Finish::Halted => RunState::Halted,
         Finish::Went | Finish::Entered(_) | Finish::Idle => {
             if devices.is_off() {
                 RunState::Off
-            } else if cpu.stopped {
+            } else if stopped {
                 RunState::Stopped
             } else {
                 RunState::Running
             }
         }
     }
+}
+
+/// The state after a step that ended so, with the processor and the devices that it left.
+#[inline(always)]
+pub fn state_after(finish: Finish, cpu: &Cpu, devices: &Devices) -> RunState
+    ensures { result ≡ state_after finish cpu.now devices.now }
+{
+    state_of(finish, cpu.stopped, devices)
 }

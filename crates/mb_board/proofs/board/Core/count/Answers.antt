@@ -8,8 +8,8 @@ use Rattle.mb_board.proofs.board.Core.count.Goals as goal
 
 pub returns-in-Went-clause-counted : goal.returns-in-Went-clause-counted
 returns-in-Went-clause-counted c =
-    let retired = c.retire.ensures c.args.before.now c.plain-after.result c.requires.spelled c.spelling.ensures in
-    let after = c.plain-after.ensures ∙ ap (λ (m : Machine). plain_of m.cpu.regs) c.self.view_is in
+    let retired = c.retire.ensures c.args.before.now c.plain.result.now c.requires.spelled c.spelling.ensures in
+    let after = c.plain.ensures ∙ ap (λ (m : Machine). plain_of m.cpu.regs) c.self.view_is in
     let so_far = retired ∙ ap (λ (q : Plain). with_retired c.args.before.now q c.args.native.now) after in
     elim c.in-Went.is [
       | inl went ↦ so_far ∙ sym (ap (λ (f : Finish). with_step f c.args.before.now c.args.self.now c.args.native.now) went)
