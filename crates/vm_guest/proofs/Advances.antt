@@ -1,12 +1,12 @@
 -- What the monitor knows of a guest whose step has begun, where the board is to carry it out.
-use Rattle.std.proofs.Common.{◌≡◌, ◌∙◌, ℕ, suc, ◌+◌, ◌-◌, ◌^◌, ◌≤◌, Bool, false, true, cond, nat_lt, List, [], ◌∷◌, ◌++◌, ◌==◌, length, Some, None, refl, ap, sym, subst, arith}
+use Rattle.std.proofs.Common.{◌≡◌, ◌∙◌, ℕ, suc, ◌+◌, ◌-◌, ◌^◌, ◌≤◌, Bool, false, true, cond, List, ◌==◌, length, Some, None, refl, ap, sym, subst, arith}
 use Rattle.mb_port.specs.Routine.{run}
 use Rattle.mb_instr.specs.declared.registers.Plain.{Plain}
 use Rattle.mb_instr.specs.Registers.{plain_of}
 use Rattle.mb_model.specs.declared.outcome.RunState.TheVariants.{Running, Stopped, Off}
 use Rattle.mb_walk.specs.Memory.{AreBytes}
-use Rattle.mb_devices.specs.Devices.{DeviceState, level_of, received, ticked, passed, queue_room, IsNotDue}
-use Rattle.mb_machine.specs.Machine.{Entries, arrived, going, takes_steps}
+use Rattle.mb_devices.specs.Devices.{DeviceState, level_of, ticked, passed, IsNotDue}
+use Rattle.mb_machine.specs.Machine.{arrived, takes_steps}
 use Rattle.mb_board.specs.Fits.{FitsAlong}
 use Rattle.mb_board.specs.State.{BoardState, ran_to}
 use Rattle.vm_meaning.specs.declared.RunEnd.{RunEnd}
@@ -19,18 +19,18 @@ use Rattle.vm_machine.specs.Exits.{class_of_vector}
 use Rattle.vm_machine.specs.Turns.{Tally, counted, exits, world_of}
 use Rattle.vm_machine.specs.Seats.{Seat, Scene, end_of, guested_on, IsSame, IsSeated, Takes}
 use Rattle.vm_step.specs.Taking.{IsLeft}
-use Rattle.vm_step.proofs.Retire.{off_ticked}
+use Rattle.vm_step.proofs.Retire.{off_arrived, off_ticked}
 use Rattle.vm_guest.specs.Memory.{OnlyBetween}
 use Rattle.vm_guest.specs.Counting.{assisted, with_retired, NoneDue}
 use Rattle.vm_guest.specs.declared.rest.Rest.TheVariants.{Whole}
 use Rattle.vm_guest.specs.Rests.{rest_in}
 use Rattle.vm_guest.specs.Native.{gone_on, guest_run, guest_start, left_by, HasFrame}
-use Rattle.vm_guest.specs.Turns.{begun_seat, ended_at, scene, IsGoing}
+use Rattle.vm_guest.specs.Turns.{begun_seat, ended_at, idled_on, scene, IsGoing}
 use Rattle.vm_guest.proofs.Assisted.{is_on, is_running, none_assisted}
 use Rattle.vm_guest.proofs.Runs.{MayRun, counted_takes, is_left, never_gone}
 use Rattle.vm_guest.proofs.Seated.{begun_seated}
 use Rattle.vm_guest.proofs.Stretches.{nothing_arrives}
-use Rattle.vm_guest.proofs.Takings.{assisted_takes, left_seated, left_takes}
+use Rattle.vm_guest.proofs.Takings.{assisted_takes, idle_takes, left_seated, left_takes}
 
 -- of the guest in the middle of its step
 pub record Found (b : Seat) (ram : List ℕ) (size : ℕ) (native : NativeState) (n : ℕ) : Type 0 where
@@ -102,6 +102,29 @@ assisted_by g b h ram next native c is goes has seated after =
     let same : IsSame g h = record { script = d.same.script; base = d.same.base; size = d.same.size; area = d.same.area } in
     assisted_takes g h ram next native c goes d.class d.means d.tally same seated after d.within
 
+-- ---- idle steps
+
+-- of the guest in the first of them
+pub record Idles (b : Seat) (n : ℕ) : Type 0 where
+  pub tried : assisted (level_of b.devices) b.cpu ≡ Some class.Idle
+  pub none : NoneDue b.script b.steps n
+  pub due : IsNotDue n b.devices
+
+pub idles_by : (b w : Seat) (n level : ℕ) → w ≡ b → level ≡ level_of w.devices → assisted level w.cpu ≡ Some class.Idle
+    → NoneDue w.script w.steps n → IsNotDue n w.devices → Idles b n
+idles_by b w n level view is tried none due = record {
+  tried = asked_is b w level view is ∙ tried;
+  none = subst (λ (x : Seat). NoneDue x.script x.steps n) view none;
+  due = subst (λ (x : Seat). IsNotDue n x.devices) view due;
+}
+
+pub idle_by : (g b h : Seat) (ram : List ℕ) (native : NativeState) (n : ℕ) → b ≡ begun_seat g → IsSeated g ram → IsGoing g
+    → takes_steps g.state ≡ true → Idles b n → h ≡ idled_on n b → Takes (n + 1) (scene g ram native) (scene h ram native)
+idle_by g b h ram native n is seated going takes idles goes =
+    let d = subst (λ (s : Seat). Idles s n) is idles in
+    subst (λ (s : Seat). Takes (n + 1) (scene g ram native) (scene s ram native)) (sym (goes ∙ ap (idled_on n) is))
+    (idle_takes g ram native n seated going takes d.tried (nothing_arrives g.script (g.steps + 1) n d.none) d.due)
+
 -- ---- steps that the board has carried out
 
 pub counted_by : (g b h : Seat) (ram : List ℕ) (size : ℕ) (native : NativeState) (n : ℕ) (u : Ran) (p : Plain) → b ≡ begun_seat g
@@ -114,22 +137,6 @@ counted_by g b h ram size native n u p is may ran end wide plain goes =
 
 -- ---- it goes on
 
-off_received : (byte : ℕ) (d : DeviceState) → (received byte d).off ≡ d.off
-unfolding received
-off_received byte d = off_if (nat_lt (length d.queue) queue_room) d
-  where
-    off_if : (b : Bool) (d : DeviceState) → (cond b (record d { queue = d.queue ++ byte ∷ [] }) (record d { overrun = true })).off ≡ d.off
-    off_if true d = refl
-    off_if false d = refl
-
-off_arrived : (n : ℕ) (script : Entries) (d : DeviceState) → (arrived n script d).off ≡ d.off
-off_arrived n [] d = refl
-off_arrived n (entry ∷ script) d = off_arrived n script (cond (entry.0 == n) (received entry.1 d) d) ∙ off_if (entry.0 == n)
-  where
-    off_if : (b : Bool) → (cond b (received entry.1 d) d).off ≡ d.off
-    off_if true = off_received entry.1 d
-    off_if false = refl
-
 off_passed : (n : ℕ) (d : DeviceState) → (passed n d).off ≡ d.off
 unfolding passed
 off_passed n d = off_if (d.period == 0)
@@ -138,12 +145,17 @@ off_passed n d = off_if (d.period == 0)
     off_if true = refl
     off_if false = refl
 
+-- a step's beginning and what passes behind it switch nothing off
+on_behind : (g : Seat) (n : ℕ) → (passed n (begun_seat g).devices).off ≡ g.devices.off
+on_behind g n =
+    let began = arrived (g.steps + 1) g.script g.devices in
+    off_passed n (ticked began) ∙ off_ticked began ∙ off_arrived (g.steps + 1) g.script g.devices
+
 -- behind retired steps
 goes_behind : (g : Seat) (ram : List ℕ) (size : ℕ) (native : NativeState) (n more retired : ℕ) (p : Plain) → MayRun g ram size native n
     → IsGoing (gone_on (begun_seat g) more retired p)
 goes_behind g ram size native n more retired p may takes =
-    let began = arrived (g.steps + 1) g.script g.devices in
-    let on = off_passed more (ticked began) ∙ off_ticked began ∙ off_arrived (g.steps + 1) g.script g.devices ∙ may.on in
+    let on = on_behind g more ∙ may.on in
     let awake = (none_assisted (level_of (begun_seat g).devices) g.cpu may.tried).awake in
     may.running
     ∙ sym (ap (λ (b : Bool). cond b Off (cond g.cpu.stopped Stopped Running)) on ∙ ap (λ (b : Bool). cond b Stopped Running) awake)
@@ -152,6 +164,14 @@ pub goes_by_board : (g b h : Seat) (ram : List ℕ) (size : ℕ) (native : Nativ
     → MayRun g ram size native n → h ≡ gone_on b more retired p → IsGoing h
 goes_by_board g b h ram size native n more retired p is may goes =
     subst IsGoing (sym (goes ∙ ap (λ (s : Seat). gone_on s more retired p) is)) (goes_behind g ram size native n more retired p may)
+
+-- behind idle ones
+idles_behind : (g : Seat) (n : ℕ) → IsGoing g → takes_steps g.state ≡ true → IsGoing (idled_on n (begun_seat g))
+idles_behind g n is goes takes =
+    is goes ∙ sym (ap (λ (b : Bool). cond b Off (cond g.cpu.stopped Stopped Running)) (on_behind g n))
+
+pub goes_idle : (g b h : Seat) (n : ℕ) → b ≡ begun_seat g → IsGoing g → takes_steps g.state ≡ true → h ≡ idled_on n b → IsGoing h
+goes_idle g b h n is going takes goes = subst IsGoing (sym (goes ∙ ap (idled_on n) is)) (idles_behind g n going takes)
 
 -- ---- what boards count
 

@@ -52,6 +52,22 @@ none_assisted level cpu h =
     let (a, b, t) = all_false (nat_lt (interrupt_mask cpu) level) cpu.stopped (is_traced cpu) h in
     record { masked = not_less (interrupt_mask cpu) level a; awake = b; untraced = t }
 
+-- what holds of an idle step
+pub record Stops (level : ℕ) (cpu : Cpu) : Type 0 where
+  pub masked : level ≤ interrupt_mask cpu
+  pub stopped : cpu.stopped ≡ true
+
+idle_tests : (a b t : Bool) → cond a (Some Entered) (cond b (Some Idle) (cond t (Some Traced) None)) ≡ Some Idle → (a ≡ false) × (b ≡ true)
+idle_tests true b t h = absurd (let e = inner Entered Idle h in let z : ⊥ = cc in z)
+idle_tests false true t h = (refl, refl)
+idle_tests false false true h = absurd (let e = inner Traced Idle h in let z : ⊥ = cc in z)
+idle_tests false false false h = absurd (let z : ⊥ = cc in z)
+
+pub idle_assisted : (level : ℕ) (cpu : Cpu) → assisted level cpu ≡ Some Idle → Stops level cpu
+idle_assisted level cpu h =
+    let (a, b) = idle_tests (nat_lt (interrupt_mask cpu) level) cpu.stopped (is_traced cpu) h in
+    record { masked = not_less (interrupt_mask cpu) level a; stopped = b }
+
 -- the class of a guest's step that has begun
 pub class_begun : (g : Seat) (ram : List ℕ) (c : Class) → assisted (level_of (begun_seat g).devices) g.cpu ≡ Some c
     → class_of_step g.script (guested_on g ram) ≡ c
@@ -80,3 +96,9 @@ pub is_running : (g : Seat) → IsGoing g → takes_steps g.state ≡ true → g
 is_running g is takes awake =
     is takes ∙ ap (λ (b : Bool). cond b Off (cond g.cpu.stopped Stopped Running)) (is_on g is takes)
     ∙ ap (λ (b : Bool). cond b Stopped Running) awake
+
+-- and is stopped where it does
+pub is_stopped : (g : Seat) → IsGoing g → takes_steps g.state ≡ true → g.cpu.stopped ≡ true → g.state ≡ Stopped
+is_stopped g is takes stopped =
+    is takes ∙ ap (λ (b : Bool). cond b Off (cond g.cpu.stopped Stopped Running)) (is_on g is takes)
+    ∙ ap (λ (b : Bool). cond b Stopped Running) stopped

@@ -3,9 +3,10 @@ use Rattle.std.proofs.Common.{◌≡◌, ◌∙◌, ℕ, suc, ◌+◌, Bool, tru
 use Rattle.mb_port.specs.Routine.{run}
 use Rattle.mb_instr.specs.declared.registers.Plain.{Plain}
 use Rattle.mb_model.specs.declared.processor.Cpu.{Cpu}
-use Rattle.mb_devices.specs.Devices.{DeviceState, level_of}
+use Rattle.mb_devices.specs.Devices.{DeviceState, level_of, passed, IsNotDue}
 use Rattle.mb_meaning.specs.Step.{interrupt_mask, step_of}
 use Rattle.mb_machine.specs.Machine.{Entries, begun, takes_steps}
+use Rattle.vm_meaning.specs.Batches.{NothingArrives}
 use Rattle.vm_meaning.specs.Marks.{trail}
 use Rattle.vm_meaning.specs.Native.{NativeState, Ran}
 use Rattle.vm_machine.specs.declared.class.Class.{Class}
@@ -16,12 +17,14 @@ use Rattle.vm_machine.specs.Exits.{class_of_vector, frame_access, handed_by, res
 use Rattle.vm_machine.specs.Turns.{Guested, Tally, Turned, world_of, guest_stepped, counted, exits, marks_of, by_class, advanced, turn_of}
 use Rattle.vm_machine.specs.Seats.{Seat, end_of, guested_on, turned_on, IsSame, IsSeated, Takes}
 use Rattle.vm_machine.proofs.TurnLaws.{going_turn, nothing_turned}
+use Rattle.vm_step.specs.Idle.{IsIdle, idle_seat}
 use Rattle.vm_step.specs.Taking.{IsLeft, left_seat}
+use Rattle.vm_step.proofs.Idle.{idle_steps_take}
 use Rattle.vm_guest.specs.Memory.{OnlyBetween}
 use Rattle.vm_guest.specs.Counting.{assisted}
 use Rattle.vm_guest.specs.Native.{gone_on}
-use Rattle.vm_guest.specs.Turns.{begun_seat, ended_at, scene}
-use Rattle.vm_guest.proofs.Assisted.{inner, class_begun}
+use Rattle.vm_guest.specs.Turns.{begun_seat, ended_at, idled_on, scene, IsGoing}
+use Rattle.vm_guest.proofs.Assisted.{inner, class_begun, idle_assisted, is_on, is_stopped}
 use Rattle.vm_guest.proofs.Runs.{MayRun, left_is}
 use Rattle.vm_guest.proofs.Seated.{begun_seated, only_within}
 
@@ -82,6 +85,29 @@ assisted_takes g h ram next native c goes class means tally same seated after wi
       trail = refl;
       exceptions = (let e = ap exits tally ∙ so.exits g.tally in omega arith);
     }
+
+-- ---- idle steps
+
+pub idle_takes : (g : Seat) (ram : List ℕ) (native : NativeState) (n : ℕ) → IsSeated g ram → IsGoing g → takes_steps g.state ≡ true
+    → assisted (level_of (begun_seat g).devices) g.cpu ≡ Some Idle → NothingArrives g.script (g.steps + 1) n → IsNotDue n (begun_seat g).devices
+    → Takes (n + 1) (scene g ram native) (scene (idled_on n (begun_seat g)) ram native)
+unfolding begun
+idle_takes g ram native n seated going takes tried quiet due =
+    let is = idle_assisted (level_of (begun_seat g).devices) g.cpu tried in
+    let d = passed n (begun_seat g).devices in
+    let idle : IsIdle g.script (guested_on g ram) = record {
+      state = is_stopped g going takes is.stopped;
+      stopped = is.stopped;
+      on = is_on g going takes;
+      masked = is.masked;
+    } in
+    let of : (steps idle : ℕ) → Seat = λ k i. record g { devices = d; steps = k; tally = record g.tally { idle = i } } in
+    let steps : g.steps + suc n ≡ g.steps + 1 + n = omega arith in
+    let counted : g.tally.idle + suc n ≡ g.tally.idle + (n + 1) = omega arith in
+    let same : idle_seat g (suc n) d ≡ idled_on n (begun_seat g) =
+    ap (λ (k : ℕ). of k (g.tally.idle + suc n)) steps ∙ ap (of (g.steps + 1 + n)) counted in
+    subst (λ (k : ℕ). Takes k (scene g ram native) (scene (idled_on n (begun_seat g)) ram native)) (let e : suc n ≡ n + 1 = omega arith in e)
+    (subst (λ (s : Seat). Takes (suc n) (scene g ram native) (scene s ram native)) same (idle_steps_take g ram native n seated idle quiet due))
 
 -- ---- a step that the board left
 

@@ -32,6 +32,10 @@ NoneDue script taken n =
 abbrev pub with_retired : ℕ → Tally → Tally
 with_retired n t = record t { retired = t.retired + n }
 
+-- with so many more idle steps
+abbrev pub with_idle : ℕ → Tally → Tally
+with_idle n t = record t { idle = t.idle + n }
+
 -- The class of a step that has begun in which the board has no part: an interrupt of this level is entered, STOP holds
 -- the processor, or a trace bit is set.
 abbrev pub assisted : (level : ℕ) → Cpu → Option Class

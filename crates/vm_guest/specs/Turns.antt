@@ -4,7 +4,7 @@ use Rattle.mb_model.specs.Keeping.{rule_k}
 use Rattle.mb_model.specs.declared.outcome.RunState.{RunState}
 use Rattle.mb_model.specs.declared.outcome.RunState.TheVariants as state
 use Rattle.mb_model.specs.declared.processor.Cpu.{Cpu}
-use Rattle.mb_devices.specs.Devices.{DeviceState, ticked}
+use Rattle.mb_devices.specs.Devices.{DeviceState, ticked, passed}
 use Rattle.mb_meaning.specs.declared.StepEnd.{StepEnd}
 use Rattle.mb_meaning.specs.declared.StepEnd.TheVariants as step
 use Rattle.mb_meaning.specs.Raise.{Stepped}
@@ -15,6 +15,7 @@ use Rattle.vm_meaning.specs.Native.{NativeState}
 use Rattle.vm_machine.specs.Guests.{Guest}
 use Rattle.vm_machine.specs.Turns.{Guested}
 use Rattle.vm_machine.specs.Seats.{Seat, Scene}
+use Rattle.vm_guest.specs.Counting.{with_idle}
 use Rattle.vm_guest.specs.declared.turn_end.TurnEnd.{TurnEnd}
 use Rattle.vm_guest.specs.declared.turn_end.TurnEnd.TheVariants.{Counted, Halted, Off}
 
@@ -32,6 +33,14 @@ IsGoing g = takes_steps g.state ≡ true → g.state ≡ going g.cpu g.devices
 -- A guest whose step has begun.
 abbrev pub begun_seat : Seat → Seat
 begun_seat g = record g { devices = ticked (arrived (g.steps + 1) g.script g.devices); steps = g.steps + 1 }
+
+-- A guest whose step has begun, behind that and so many more that are idle.
+abbrev pub idled_on : (more : ℕ) → Seat → Seat
+idled_on more g = record g {
+  devices = passed more g.devices;
+  steps = g.steps + more;
+  tally = with_idle (more + 1) g.tally;
+}
 
 -- A guest with what the processor's part of a step changes: its processor, and what its bus has.
 abbrev pub processed : Seat → Seat → Seat

@@ -2,7 +2,7 @@
 
 ghost use Rattle.std.specs.Prelude.{◌≡◌, ◌+◌, ◌<◌, ◌^◌};
 ghost use Rattle.vm_machine.specs.Turns.{counted, no_steps, steps_in};
-ghost use Rattle.vm_guest.specs.Counting.{tally_in, with_retired};
+ghost use Rattle.vm_guest.specs.Counting.{tally_in, with_idle, with_retired};
 
 use vm_machine::Class;
 
@@ -61,5 +61,13 @@ impl Counts {
         ensures { tally_in self.new ≡ with_retired steps (tally_in self.old) }
     {
         self.retired += u64::from(steps);
+    }
+
+    /// So many more idle ones.
+    pub(crate) fn add_idle(&mut self, steps: u32)
+        requires { steps_in (tally_in self.old) + steps < 2 ^ 64 }
+        ensures { tally_in self.new ≡ with_idle steps (tally_in self.old) }
+    {
+        self.idle += u64::from(steps);
     }
 }

@@ -1,4 +1,4 @@
-//! Runs of the board for a guest.
+//! Steps of a guest: as many at once as its board runs, or as STOP holds it for.
 
 ghost use Rattle.std.specs.Prelude.{◌≡◌, ◌+◌, ◌<◌, ◌≤◌, ◌^◌, true, length};
 ghost use Rattle.mb_instr.specs.Registers.{plain_of};
@@ -16,7 +16,7 @@ ghost use Rattle.vm_machine.specs.Seats.{end_of, guested_on, IsSame, IsSeated, T
 ghost use Rattle.vm_guest.specs.Memory.{OnlyBetween};
 ghost use Rattle.vm_guest.specs.Counting.{NoneDue};
 ghost use Rattle.vm_guest.specs.Native.{gone_on, guest_run, guest_start, left_by, HasFrame, IsFrameOf};
-ghost use Rattle.vm_guest.specs.Turns.{scene, IsGoing};
+ghost use Rattle.vm_guest.specs.Turns.{idled_on, scene, IsGoing};
 
 use crate::classes::{assisted, class_of_vector};
 use crate::guest::Guest;
@@ -28,12 +28,13 @@ use mb_frames::from_bytes;
 use mb_instr::{Plain, Regs};
 use mb_script::Script;
 use mb_walk::Ram;
+use vm_machine::Class;
 
 /// The bytes of the longest frame.
 const FRAME: u32 = 60;
 
-/// How many steps behind one that has begun may be carried out together with it, at most `limit`: nothing arrives at
-/// them, and the timer does not come to 0. `taken` counts the one that has begun, and the script's entries from `next`
+/// How many steps behind one that has begun may be taken together with it, at most `limit`: nothing arrives at them,
+/// and the timer does not come to 0. `taken` counts the one that has begun, and the script's entries from `next`
 /// on are of later steps.
 fn more_steps(script: &Script, next: u32, taken: u32, devices: &Devices, limit: u32) -> u32
     requires { IsNext script.now taken next }
@@ -134,8 +135,22 @@ impl Guest {
         self.assist(board, &rest, class_of_vector(vector));
     }
 
-    /// Takes the next step, and as many behind it as the board may carry out together with it, at most `limit` in all.
-    /// Gives how many steps were taken.
+    /// STOP holds the processor in the step that has begun, and in so many behind it: the timer counts those, and
+    /// nothing else happens.
+    fn idle_on(&mut self, more: u32)
+        requires room { self.old.steps + more < 2 ^ 32 }
+        requires counted { steps_in self.old.tally < self.old.steps }
+        requires none { NoneDue self.old.script self.old.steps more }
+        requires due { IsNotDue more self.old.devices }
+        ensures { self.new ≡ idled_on more self.old }
+    {
+        self.devices.pass(more);
+        self.steps += more;
+        self.counts.add_idle(more + 1);
+    }
+
+    /// Takes the next step, and as many behind it as the board may carry out together with it, or as are idle with it,
+    /// at most `limit` in all. Gives how many steps were taken.
     pub(crate) fn advance(&mut self, board: &mut Board, limit: u32, native: &mut Native) -> u32
         requires limit { 0 < limit }
         requires room { self.old.steps + limit < 2 ^ 32 }
@@ -152,10 +167,6 @@ impl Guest {
             × (native.new.exceptions ≤ native.old.exceptions + result) }
     {
         self.begin();
-        if let Some(class) = assisted(self.devices.level(), &self.cpu) {
-            self.assist(board, &Rest::Whole, class);
-            return 1;
-        }
         let more = more_steps(
             &self.script,
             self.next,
@@ -163,6 +174,14 @@ impl Guest {
             &self.devices,
             limit - 1,
         );
+        if let Some(class) = assisted(self.devices.level(), &self.cpu) {
+            if let Class::Idle = class {
+                self.idle_on(more);
+                return more + 1;
+            }
+            self.assist(board, &Rest::Whole, class);
+            return 1;
+        }
         let before = native.retired();
         match self.run_board(board, more + 1, native) {
             RunEnd::Counted => {

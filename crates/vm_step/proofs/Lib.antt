@@ -12,5 +12,6 @@ pub mod Lawful
 pub mod Exit
 pub mod Batch
 pub mod Quiet
+pub mod Idle
 pub mod Turn
 pub mod Taking

@@ -49,10 +49,10 @@ pub only_ticks : (script : Entries) (g : Guested) → ((d : DeviceState) → arr
 unfolding begun
 only_ticks script g h = ap ticked (h g.machine.world.devices)
 
-first_of : (script : Entries) (taken n : ℕ) → NothingArrives script taken (suc n) → (d : DeviceState) → arrived (taken + 1) script d ≡ d
+pub first_of : (script : Entries) (taken n : ℕ) → NothingArrives script taken (suc n) → (d : DeviceState) → arrived (taken + 1) script d ≡ d
 first_of script taken n h d = h (taken + 1) (omega arith) (omega arith) d
 
-rest_of : (script : Entries) (taken n : ℕ) → NothingArrives script taken (suc n) → NothingArrives script (taken + 1) n
+pub rest_of : (script : Entries) (taken n : ℕ) → NothingArrives script taken (suc n) → NothingArrives script (taken + 1) n
 rest_of script taken n h k low high d = h k (omega arith) (omega arith) d
 
 pub retired_steps_tick : RetiredStepsTick
@@ -98,7 +98,7 @@ tried_attempt : (cpu : Cpu) (g : Guest) → IsTried (class_of_attempt cpu g)
 unfolding class_of_attempt
 tried_attempt cpu g = tried_at _
 
-not_above : (level mask : ℕ) → level ≤ mask → nat_lt mask level ≡ false
+pub not_above : (level mask : ℕ) → level ≤ mask → nat_lt mask level ≡ false
 not_above level mask h = grind (arith, nat_tests)
 
 pub tried_class : (level : ℕ) (cpu : Cpu) (g : Guest) → level ≤ interrupt_mask cpu → cpu.stopped ≡ false → is_traced cpu ≡ false
@@ -110,7 +110,7 @@ tried_class level cpu g a b t = by_tests (nat_lt (interrupt_mask cpu) level) cpu
 untraced : (a b : Bool) → a ≡ false → b ≡ false → (a || b) ≡ false
 untraced a b h k = rw h (rw k refl)
 
-one_of : (n : ℕ) (d : DeviceState) → IsNotDue (suc n) d → IsNotDue 1 d
+pub one_of : (n : ℕ) (d : DeviceState) → IsNotDue (suc n) d → IsNotDue 1 d
 one_of n d (inl still) = inl still
 one_of n d (inr less) = inr (omega arith)
 

@@ -157,7 +157,7 @@ off_received byte d = off_if (nat_lt (length d.queue) queue_room) d
     off_if true d = refl
     off_if false d = refl
 
-off_arrived : (n : ℕ) (script : Entries) (d : DeviceState) → (arrived n script d).off ≡ d.off
+pub off_arrived : (n : ℕ) (script : Entries) (d : DeviceState) → (arrived n script d).off ≡ d.off
 off_arrived n [] d = refl
 off_arrived n (entry ∷ script) d = off_arrived n script (cond (entry.0 == n) (received entry.1 d) d) ∙ off_if (entry.0 == n)
   where

@@ -5,7 +5,7 @@
 //! the frame says, with the registers, gives the rest of the guest's own step. So a run of the board is so many retired
 //! steps of the guest, counted to its end or left behind them, and each is what a turn promises of a seated guest.
 //! [`specs/Retire`], [`specs/Rest`] and [`specs/Exit`] have the step, [`specs/Batch`] and [`specs/Quiet`] the run,
-//! [`specs/Turn`] and [`specs/Taking`] the turn. The code has the laws.
+//! [`specs/Idle`] what STOP holds, [`specs/Turn`] and [`specs/Taking`] the turn. The code has the laws.
 #![tactic(auto)]
 
 ghost use Rattle.vm_step.specs.Retire.{ClassesAreHeld, RetiredSteps};
@@ -13,6 +13,7 @@ ghost use Rattle.vm_step.specs.Rest.{StepsGoOn};
 ghost use Rattle.vm_step.specs.Exit.{LeftSteps};
 ghost use Rattle.vm_step.specs.Batch.{RunsAreBatches};
 ghost use Rattle.vm_step.specs.Quiet.{QuietStepsAreTried, RetiredStepsTick, RetiredStepsKeepTruth, RetiredStepsLeave};
+ghost use Rattle.vm_step.specs.Idle.{QuietStepsAreIdle, IdleStepsTake};
 ghost use Rattle.vm_step.specs.Turn.{BoardsAreReady, ExitsAdvance, CoursesAreTurns};
 ghost use Rattle.vm_step.specs.Taking.{BatchesTake, ExitsTake};
 
@@ -39,6 +40,12 @@ pub fn quiet_stretches()
     ensures ticks { RetiredStepsTick }
     ensures truth { RetiredStepsKeepTruth }
     ensures leave { RetiredStepsLeave }
+{}
+
+/// Idle steps of a guest as far as they are quiet, and that they may be taken at once.
+pub fn idle_stretches()
+    ensures idle { QuietStepsAreIdle }
+    ensures take { IdleStepsTake }
 {}
 
 /// A turn by its parts.

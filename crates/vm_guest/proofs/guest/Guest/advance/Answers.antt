@@ -1,8 +1,9 @@
-use Rattle.std.proofs.Common.{◌≡◌, ◌∙◌, ◌+◌, ◌-◌, ℕ, suc, ap, sym, subst, arith}
+use Rattle.std.proofs.Common.{◌≡◌, ◌∙◌, ◌+◌, ◌-◌, ℕ, suc, Some, ap, sym, subst, arith}
 use Rattle.mb_instr.specs.Registers.{plain_of}
 use Rattle.mb_model.specs.declared.processor.Cpu.{Cpu}
 use Rattle.mb_devices.specs.Devices.{IsNotDue}
 use Rattle.mb_board.specs.State.{ran_to}
+use Rattle.vm_machine.specs.declared.class.Class.{Class}
 use Rattle.vm_machine.specs.Exits.{class_of_vector}
 use Rattle.vm_machine.specs.Turns.{counted}
 use Rattle.vm_machine.specs.Seats.{Seat, Takes}
@@ -12,7 +13,7 @@ use Rattle.vm_guest.specs.Turns.{scene}
 use Rattle.vm_guest.specs.contracts.guest.Guest.{the_view}
 use Rattle.vm_guest.proofs.Runs.{MayRun, fewer}
 use Rattle.vm_guest.proofs.Stretches.{fewer_due}
-use Rattle.vm_guest.proofs.Advances.{Leaving, asked_is, assisted_by, counted_by, found_by, goes_by_board, leaving, may_by, native_rises, never_gone_by, rises_counted, rises_from, rises_left, stands}
+use Rattle.vm_guest.proofs.Advances.{Leaving, asked_is, assisted_by, counted_by, found_by, goes_by_board, goes_idle, idle_by, idles_by, leaving, may_by, native_rises, never_gone_by, rises_counted, rises_from, rises_left, stands}
 use Rattle.vm_guest.proofs.guest.Guest.advance.Goals as goal
 use Rattle.vm_guest.proofs.guest.Guest.advance.Goals.{After-run_board, After-retired, After-leave, After-go_on}
 
@@ -34,6 +35,23 @@ returns-in-Some-clause-takes c =
       within = c.assist.ensures.within;
     })
     c.requires.seated c.assist.ensures.seated
+
+-- ---- idle steps
+
+pub returns-in-Idle-clause-takes : goal.returns-in-Idle-clause-takes
+returns-in-Idle-clause-takes c =
+    let b = c.begin.new.self in
+    let n = c.more_steps-more.result in
+    idle_by c.args.self.now b c.idle_on.new.self c.args.board.now.world.ram c.args.native.now n c.begin.ensures.begun c.requires.seated c.requires.going
+    c.requires.takes
+    (idles_by b (the_view c.self.inside) n c.level.result c.self.view_is c.level.ensures.means
+    (sym c.assisted.ensures ∙ c.in-Some.is ∙ ap (λ (k : Class). Some k) c.in-Idle.is) c.more_steps-more.ensures.none c.more_steps-more.ensures.due)
+    c.idle_on.ensures
+
+pub returns-in-Idle-clause-going : goal.returns-in-Idle-clause-going
+returns-in-Idle-clause-going c =
+    goes_idle c.args.self.now c.begin.new.self c.idle_on.new.self c.more_steps-more.result c.begin.ensures.begun c.requires.going c.requires.takes
+    c.idle_on.ensures
 
 -- ---- the board's run
 

@@ -1,0 +1,172 @@
+-- Idle steps of a guest, one and many.
+use Rattle.std.proofs.Common.{◌≡◌, ◌∙◌, ℕ, zero, suc, ◌+◌, ◌≤◌, Bool, true, false, cond, nat_lt, List, [], refl, ap, sym, subst, arith}
+use Rattle.std.proofs.lemmas.List.{append-nil}
+use Rattle.mb_port.specs.Routine.{Routine, Return, choose, run}
+use Rattle.mb_instr.specs.declared.registers.Plain.{Plain}
+use Rattle.mb_model.specs.declared.processor.Cpu.{Cpu}
+use Rattle.mb_model.specs.declared.outcome.RunState.{RunState}
+use Rattle.mb_model.specs.declared.outcome.RunState.TheVariants.{Running, Stopped, Off}
+use Rattle.mb_devices.specs.Devices.{DeviceState, ticked, ticks, level_of, IsNotDue}
+use Rattle.mb_devices.proofs.Passing.{ticks_pass}
+use Rattle.mb_meaning.specs.declared.Finish.TheVariants as finish
+use Rattle.mb_meaning.specs.Raise.{Stepped, interrupt_of}
+use Rattle.mb_meaning.specs.Step.{interrupt_mask, instruction_of, step_of}
+use Rattle.mb_machine.specs.Machine.{Entries, arrived, begun, state_after, takes_steps}
+use Rattle.vm_meaning.specs.Batches.{NothingArrives}
+use Rattle.vm_meaning.specs.Marks.{trail}
+use Rattle.vm_meaning.proofs.Batches.{one_tick}
+use Rattle.vm_machine.specs.declared.class.Class.{Class}
+use Rattle.vm_machine.specs.declared.class.Class.TheVariants as class
+use Rattle.vm_machine.specs.Guests.{Guest}
+use Rattle.vm_machine.specs.Bus.{guest_bus}
+use Rattle.vm_machine.specs.Classes.{class_of, class_of_attempt, is_traced}
+use Rattle.vm_machine.specs.Turns.{Guested, Turned, world_of, guest_begun, guest_later, guest_stepped, class_of_step, by_class, advanced, turn_of}
+use Rattle.vm_machine.specs.Seats.{Seat, turned_on, IsSeated}
+use Rattle.vm_machine.proofs.TurnLaws.{going_turn, nothing_turned}
+use Rattle.vm_step.specs.Idle.{IsIdle, idle_guest, idle_turned, idle_seat, QuietStepsAreIdle, IdleStepsTake}
+use Rattle.vm_step.proofs.Retire.{off_arrived, off_ticked}
+use Rattle.vm_step.proofs.Quiet.{first_of, not_above, one_of, only_ticks, rest_of}
+
+-- ---- one
+
+-- the second of three by two tests
+second : {A : Type 0} (a b : Bool) (x y z : A) → a ≡ false → b ≡ true → cond a x (cond b y z) ≡ y
+second a b x y z e f = rw e (rw f refl)
+
+chosen : (a b : Bool) (x y z : Routine Stepped) → a ≡ false → b ≡ true → choose a x (choose b y z) ≡ y
+chosen a b x y z e f = rw e (rw f refl)
+
+is_idle : (level : ℕ) (cpu : Cpu) (g : Guest) → level ≤ interrupt_mask cpu → cpu.stopped ≡ true → class_of level cpu g ≡ class.Idle
+unfolding class_of
+is_idle level cpu g masked stopped =
+    second (nat_lt (interrupt_mask cpu) level) cpu.stopped class.Entered class.Idle (cond (is_traced cpu) class.Traced (class_of_attempt cpu g))
+    (not_above level (interrupt_mask cpu) masked) stopped
+
+-- the processor has nothing to do
+idles : (level : ℕ) (cpu : Cpu) → level ≤ interrupt_mask cpu → cpu.stopped ≡ true → step_of level cpu ≡ Return (finish.Idle, cpu)
+unfolding step_of
+idles level cpu masked stopped =
+    chosen (nat_lt (interrupt_mask cpu) level) cpu.stopped (interrupt_of level cpu) (Return (finish.Idle, cpu)) (instruction_of cpu)
+    (not_above level (interrupt_mask cpu) masked) stopped
+
+stays_stopped : (cpu : Cpu) (d : DeviceState) → d.off ≡ false → cpu.stopped ≡ true → state_after finish.Idle cpu d ≡ Stopped
+unfolding state_after
+stays_stopped cpu d on stopped = second d.off cpu.stopped Off Stopped Running on stopped
+
+-- a step that begins switches nothing off
+begins_on : (script : Entries) (g : Guested) → g.machine.world.devices.off ≡ false → (guest_begun script g).machine.world.devices.off ≡ false
+unfolding begun
+begins_on script g on =
+    let d = g.machine.world.devices in
+    off_ticked (arrived (g.machine.steps + 1) script d) ∙ off_arrived (g.machine.steps + 1) script d ∙ on
+
+class_is : (script : Entries) (g : Guested) → IsIdle script g → class_of_step script g ≡ class.Idle
+unfolding class_of_step begun
+class_is script g idle =
+    let b = guest_begun script g in
+    is_idle (level_of b.machine.world.devices) g.machine.cpu (world_of b) idle.masked idle.stopped
+
+stepped_is : (script : Entries) (g : Guested) → IsIdle script g
+    → guest_stepped script g ≡ idle_guest 1 (guest_begun script g).machine.world.devices g
+unfolding guest_stepped begun
+stepped_is script g idle =
+    let b = guest_begun script g in
+    let d = b.machine.world.devices in
+    let of : RunState → Guested = λ s. record {
+      machine = record { cpu = g.machine.cpu; world = b.machine.world; steps = g.machine.steps + 1; state = s };
+      shadow = g.shadow;
+    } in
+    ap (λ (m : Routine Stepped). guest_later b.machine (run guest_bus m (world_of b))) (idles (level_of d) g.machine.cpu idle.masked idle.stopped)
+    ∙ ap of (stays_stopped g.machine.cpu d (begins_on script g idle.on) idle.stopped ∙ sym idle.state)
+
+advanced_is : (script : Entries) (t : Turned) → IsIdle script t.guest
+    → advanced script t ≡ idle_turned 1 (guest_begun script t.guest).machine.world.devices t
+unfolding advanced
+advanced_is script t idle =
+    let d = (guest_begun script t.guest).machine.world.devices in
+    let of : List Plain → Turned = λ marks. record {
+      guest = idle_guest 1 d t.guest;
+      tally = record t.tally { idle = t.tally.idle + 1 };
+      marks = marks;
+    } in
+    ap (λ (c : Class). by_class c (guest_stepped script t.guest) t) (class_is script t.guest idle)
+    ∙ ap (λ (q : Guested). by_class class.Idle q t) (stepped_is script t.guest idle)
+    ∙ ap of (append-nil t.marks)
+
+-- ---- many
+
+-- the devices at the beginning of the step behind it
+begins_next : (script : Entries) (n : ℕ) (t : Turned) → NothingArrives script (t.guest.machine.steps + 1) (suc n)
+    → let d = (guest_begun script t.guest).machine.world.devices in
+    (guest_begun script (idle_guest 1 d t.guest)).machine.world.devices ≡ ticked d
+begins_next script n t quiet =
+    let d = (guest_begun script t.guest).machine.world.devices in
+    only_ticks script (idle_guest 1 d t.guest) (first_of script (t.guest.machine.steps + 1) n quiet)
+
+-- that is idle too
+idle_next : (script : Entries) (n : ℕ) (t : Turned) → IsIdle script t.guest → NothingArrives script (t.guest.machine.steps + 1) (suc n)
+    → let d = (guest_begun script t.guest).machine.world.devices in IsNotDue (suc n) d → IsIdle script (idle_guest 1 d t.guest)
+idle_next script n t idle quiet due =
+    let d = (guest_begun script t.guest).machine.world.devices in
+    let u = idle_guest 1 d t.guest in
+    let once = ticks_pass 1 d (one_of n d due) in
+    let level : level_of (guest_begun script u).machine.world.devices ≡ level_of d =
+    ap level_of (begins_next script n t quiet) ∙ ap level_of once.at_once ∙ once.level in
+    record {
+      state = idle.state;
+      stopped = idle.stopped;
+      on = begins_on script t.guest idle.on;
+      masked = subst (λ (k : ℕ). k ≤ interrupt_mask t.guest.machine.cpu) (sym level) idle.masked;
+    }
+
+idle_ticks : (script : Entries) (n : ℕ) (t : Turned) → IsIdle script t.guest → NothingArrives script (t.guest.machine.steps + 1) n
+    → let d = (guest_begun script t.guest).machine.world.devices in IsNotDue n d → turn_of script (suc n) t ≡ idle_turned (suc n) (ticks n d) t
+idle_ticks script zero t idle quiet due =
+    going_turn script 0 t (ap takes_steps idle.state) ∙ nothing_turned script (advanced script t) ∙ advanced_is script t idle
+idle_ticks script (suc n) t idle quiet due =
+    let d = (guest_begun script t.guest).machine.world.devices in
+    let s = t.guest.machine.steps in
+    let u = idle_turned 1 d t in
+    let next = begins_next script n t quiet in
+    let of : (steps idle : ℕ) → Turned = λ k i. record t {
+      guest = record t.guest { machine = record t.guest.machine { world = record t.guest.machine.world { devices = ticks (suc n) d }; steps = k } };
+      tally = record t.tally { idle = i };
+    } in
+    let more : (k : ℕ) → k + 1 + suc n ≡ k + suc (suc n) = λ k. omega arith in
+    going_turn script (suc n) t (ap takes_steps idle.state) ∙ ap (turn_of script (suc n)) (advanced_is script t idle)
+    ∙ idle_ticks script n u (idle_next script n t idle quiet due) (rest_of script (s + 1) n quiet)
+    (subst (λ (o : DeviceState). IsNotDue n o) (sym next) (one_tick d n due))
+    ∙ ap (λ (o : DeviceState). idle_turned (suc n) (ticks n o) u) next
+    ∙ ap (λ (k : ℕ). of k (t.tally.idle + 1 + suc n)) (more s) ∙ ap (of (s + suc (suc n))) (more t.tally.idle)
+
+pub quiet_steps_are_idle : QuietStepsAreIdle
+quiet_steps_are_idle script n t idle quiet due =
+    idle_ticks script n t idle quiet due
+    ∙ ap (λ (o : DeviceState). idle_turned (suc n) o t) (ticks_pass n (guest_begun script t.guest).machine.world.devices due).at_once
+
+-- ---- of a seated guest
+
+seated_still : (g : Seat) (ram : List ℕ) (k : ℕ) (d : DeviceState) → IsSeated g ram → IsSeated (idle_seat g k d) ram
+seated_still g ram k d s = record {
+  aligned = s.aligned;
+  whole = s.whole;
+  behind = s.behind;
+  inside = s.inside;
+  area = s.area;
+  maps = s.maps;
+  tables = s.tables;
+  truthful = record { reads = s.truthful.reads; writes = s.truthful.writes; inside = s.truthful.inside };
+}
+
+pub idle_steps_take : IdleStepsTake
+unfolding trail
+idle_steps_take g ram native n seated idle quiet due = record {
+  marks = [];
+  turned = sym (quiet_steps_are_idle g.script n (turned_on g ram []) idle quiet due);
+  same = record { script = refl; base = refl; size = refl; area = refl };
+  seated = seated_still g ram (suc n) _ seated;
+  within = record { count = refl; below = refl; above = refl };
+  retired = refl;
+  trail = refl;
+  exceptions = refl;
+}
