@@ -1,5 +1,5 @@
 -- What the monitor knows of a guest whose step has begun, where the board is to carry it out.
-use Rattle.std.proofs.Common.{◌≡◌, ◌∙◌, ℕ, suc, ◌+◌, ◌-◌, ◌^◌, ◌≤◌, Bool, false, true, cond, List, ◌==◌, length, Some, None, refl, ap, sym, subst, arith}
+use Rattle.std.proofs.Common.{◌≡◌, ◌∙◌, ℕ, suc, ◌+◌, ◌-◌, ◌^◌, ◌<◌, ◌≤◌, Bool, true, cond, List, length, Some, None, ap, sym, subst, arith}
 use Rattle.mb_port.specs.Routine.{run}
 use Rattle.mb_instr.specs.declared.registers.Plain.{Plain}
 use Rattle.mb_instr.specs.Registers.{plain_of}
@@ -15,22 +15,24 @@ use Rattle.vm_meaning.specs.Native.{NativeState, Ran}
 use Rattle.vm_machine.specs.declared.class.Class.{Class}
 use Rattle.vm_machine.specs.declared.class.Class.TheVariants as class
 use Rattle.vm_machine.specs.Bus.{guest_bus}
-use Rattle.vm_machine.specs.Exits.{class_of_vector}
-use Rattle.vm_machine.specs.Turns.{Tally, counted, exits, world_of}
-use Rattle.vm_machine.specs.Seats.{Seat, Scene, end_of, guested_on, IsSame, IsSeated, Takes}
+use Rattle.vm_machine.specs.Turns.{counted, world_of}
+use Rattle.vm_machine.specs.Seats.{Seat, end_of, guested_on, IsSame, IsSeated, Takes}
 use Rattle.vm_step.specs.Taking.{IsLeft}
 use Rattle.vm_step.proofs.Retire.{off_arrived, off_ticked}
 use Rattle.vm_guest.specs.Memory.{OnlyBetween}
-use Rattle.vm_guest.specs.Counting.{assisted, with_retired, NoneDue}
+use Rattle.vm_guest.specs.Counting.{assisted, NoneDue}
 use Rattle.vm_guest.specs.declared.rest.Rest.TheVariants.{Whole}
 use Rattle.vm_guest.specs.Rests.{rest_in}
-use Rattle.vm_guest.specs.Native.{gone_on, guest_run, guest_start, left_by, HasFrame}
+use Rattle.vm_guest.specs.Native.{gone_on, guest_run, guest_start, reset_for, HasFrame}
+use Rattle.vm_guest.specs.Stops.{IsStopped}
 use Rattle.vm_guest.specs.Turns.{begun_seat, ended_at, idled_on, scene, IsGoing}
 use Rattle.vm_guest.proofs.Assisted.{is_on, is_running, none_assisted}
-use Rattle.vm_guest.proofs.Runs.{MayRun, counted_takes, is_left, never_gone}
+use Rattle.vm_guest.proofs.Devices.{due_behind, off_passed}
+use Rattle.vm_guest.proofs.Runs.{MayRun, MayRunOn, counted_native, counted_takes, is_left, left_is, never_gone, reset_is_set}
 use Rattle.vm_guest.proofs.Seated.{begun_seated}
 use Rattle.vm_guest.proofs.Stretches.{nothing_arrives}
-use Rattle.vm_guest.proofs.Takings.{assisted_takes, idle_takes, left_seated, left_takes}
+use Rattle.vm_guest.proofs.Stops.{stopped_by}
+use Rattle.vm_guest.proofs.Takings.{assisted_takes, idle_takes}
 
 -- of the guest in the middle of its step
 pub record Found (b : Seat) (ram : List ℕ) (size : ℕ) (native : NativeState) (n : ℕ) : Type 0 where
@@ -46,6 +48,7 @@ pub may_run : (g : Seat) (ram : List ℕ) (size : ℕ) (native : NativeState) (n
     → Found (begun_seat g) ram size native n → MayRun g ram size native n
 may_run g ram size native n seated going takes h = record {
   seated = seated;
+  set = reset_is_set g ram size;
   bytes = h.bytes;
   small = h.small;
   running = is_running g going takes (none_assisted (level_of (begun_seat g).devices) g.cpu h.tried).awake;
@@ -133,17 +136,9 @@ pub counted_by : (g b h : Seat) (ram : List ℕ) (size : ℕ) (native : NativeSt
 counted_by g b h ram size native n u p is may ran end wide plain goes =
     subst (λ (s : Seat). Takes (suc n) (scene g ram native) (scene s u.machine.world.ram u.native))
     (sym (goes ∙ ap (λ (s : Seat). gone_on s n (suc n) p) is))
-    (counted_takes g ram size native n may u (ran ∙ ap (λ (s : Seat). guest_run s ram size native (suc n)) is) end wide p plain)
+    (counted_takes g (reset_for g ram size) native n may u (ran ∙ ap (λ (s : Seat). guest_run s ram size native (suc n)) is) end wide p plain)
 
 -- ---- it goes on
-
-off_passed : (n : ℕ) (d : DeviceState) → (passed n d).off ≡ d.off
-unfolding passed
-off_passed n d = off_if (d.period == 0)
-  where
-    off_if : (b : Bool) → (cond b d (record d { count = d.count - n })).off ≡ d.off
-    off_if true = refl
-    off_if false = refl
 
 -- a step's beginning and what passes behind it switch nothing off
 on_behind : (g : Seat) (n : ℕ) → (passed n (begun_seat g).devices).off ≡ g.devices.off
@@ -152,18 +147,18 @@ on_behind g n =
     off_passed n (ticked began) ∙ off_ticked began ∙ off_arrived (g.steps + 1) g.script g.devices
 
 -- behind retired steps
-goes_behind : (g : Seat) (ram : List ℕ) (size : ℕ) (native : NativeState) (n more retired : ℕ) (p : Plain) → MayRun g ram size native n
+goes_behind : (g : Seat) (board : BoardState) (native : NativeState) (n more retired : ℕ) (p : Plain) → MayRunOn g board native n
     → IsGoing (gone_on (begun_seat g) more retired p)
-goes_behind g ram size native n more retired p may takes =
+goes_behind g board native n more retired p may takes =
     let on = on_behind g more ∙ may.on in
     let awake = (none_assisted (level_of (begun_seat g).devices) g.cpu may.tried).awake in
     may.running
     ∙ sym (ap (λ (b : Bool). cond b Off (cond g.cpu.stopped Stopped Running)) on ∙ ap (λ (b : Bool). cond b Stopped Running) awake)
 
-pub goes_by_board : (g b h : Seat) (ram : List ℕ) (size : ℕ) (native : NativeState) (n more retired : ℕ) (p : Plain) → b ≡ begun_seat g
-    → MayRun g ram size native n → h ≡ gone_on b more retired p → IsGoing h
-goes_by_board g b h ram size native n more retired p is may goes =
-    subst IsGoing (sym (goes ∙ ap (λ (s : Seat). gone_on s more retired p) is)) (goes_behind g ram size native n more retired p may)
+pub goes_by_board : (g b h : Seat) (board : BoardState) (native : NativeState) (n more retired : ℕ) (p : Plain) → b ≡ begun_seat g
+    → MayRunOn g board native n → h ≡ gone_on b more retired p → IsGoing h
+goes_by_board g b h board native n more retired p is may goes =
+    subst IsGoing (sym (goes ∙ ap (λ (s : Seat). gone_on s more retired p) is)) (goes_behind g board native n more retired p may)
 
 -- behind idle ones
 idles_behind : (g : Seat) (n : ℕ) → IsGoing g → takes_steps g.state ≡ true → IsGoing (idled_on n (begun_seat g))
@@ -175,90 +170,73 @@ goes_idle g b h n is going takes goes = subst IsGoing (sym (goes ∙ ap (idled_o
 
 -- ---- what boards count
 
--- no more retired steps and exits than steps
-pub record Rises (n : ℕ) (x y : Tally) : Type 0 where
-  pub retired : y.retired ≤ x.retired + n
-  pub left : exits y ≤ exits x + n
-
-pub native_rises : (n : ℕ) (s t : Scene) → Takes n s t → Rises n s.guest.tally t.guest.tally
-    → (t.native.retired ≤ s.native.retired + n) × (t.native.exceptions ≤ s.native.exceptions + n)
-native_rises n s t takes rises =
-    let a = takes.retired in
-    let b = rises.retired in
-    let e = takes.exceptions in
-    let f = rises.left in
-    (omega arith, omega arith)
-
-pub rises_counted : (n : ℕ) (t : Tally) → Rises n t (with_retired n t)
-rises_counted n t = record { retired = omega arith; left = omega arith }
-
-rises_once : (c : Class) (t : Tally) → Rises 1 t (counted c t)
-rises_once class.Retired t = record { retired = omega arith; left = omega arith }
-rises_once class.Privileged t = record { retired = omega arith; left = omega arith }
-rises_once class.Trapped t = record { retired = omega arith; left = omega arith }
-rises_once class.Denied t = record { retired = omega arith; left = omega arith }
-rises_once class.Traced t = record { retired = omega arith; left = omega arith }
-rises_once class.Entered t = record { retired = omega arith; left = omega arith }
-rises_once class.Idle t = record { retired = omega arith; left = omega arith }
-
-pub rises_left : (n : ℕ) (c : Class) (t : Tally) → Rises (n + 1) t (counted c (with_retired n t))
-rises_left n c t =
-    let once = rises_once c (with_retired n t) in
-    let a = once.retired in
-    let b = once.left in
-    record { retired = omega arith; left = omega arith }
-
--- of a guest whose step has begun
-pub rises_from : (g b : Seat) (n : ℕ) (x y : Tally) → b ≡ begun_seat g → x ≡ y → Rises n b.tally y → Rises n g.tally x
-rises_from g b n x y is same rises =
-    subst (λ (t : Tally). Rises n g.tally t) (sym same) (subst (λ (s : Seat). Rises n s.tally y) is rises)
+pub counted_native_by : (g b : Seat) (ram : List ℕ) (size : ℕ) (native : NativeState) (n : ℕ) (u : Ran) → b ≡ begun_seat g → MayRun g ram size native n
+    → u ≡ guest_run b ram size native (suc n) → u.end ≡ Counted
+    → (u.native.retired ≡ native.retired + suc n) × (u.native.exceptions ≡ native.exceptions)
+counted_native_by g b ram size native n u is may ran end =
+    counted_native g (reset_for g ram size) native n may u (ran ∙ ap (λ (s : Seat). guest_run s ram size native (suc n)) is) end
 
 -- ---- a step that the board left
 
-abbrev vector_in : RunEnd → ℕ
-vector_in (Exit vector) = vector
-vector_in Counted = 0
-vector_in Gone = 0
-
--- what the monitor has then, behind so many retired steps
-pub record Leaving (g b : Seat) (ram : List ℕ) (native : NativeState) (n : ℕ) (after : BoardState) (counts : NativeState) (v r : ℕ) : Type 0 where
+-- behind so many retired steps
+pub record Leaving (native : NativeState) (n : ℕ) (after : BoardState) (counts : NativeState) (r : ℕ) : Type 0 where
   pub few : r ≤ n
   pub retired : counts.retired ≡ native.retired + r
+  pub exceptions : counts.exceptions ≡ native.exceptions + 1
   pub frame : HasFrame after
-  pub seated : IsSeated (gone_on b r r after.before) after.world.ram
-  pub takes : (seat : Seat) (next : List ℕ) → guested_on seat next ≡ left_by v frame.frame after (gone_on b r r after.before)
-      → seat.tally ≡ counted (class_of_vector v) (gone_on b r r after.before).tally → IsSame b seat → IsSeated seat next
-      → OnlyBetween b.base (end_of b) after.world.ram next → Takes (r + 1) (scene g ram native) (scene seat next counts)
 
-leaving_begun : (g : Seat) (ram : List ℕ) (size : ℕ) (native : NativeState) (n : ℕ) (may : MayRun g ram size native n) (e : RunEnd) (after : BoardState)
-    (counts : NativeState) (v : ℕ) (left : IsLeft g ram native (suc n) (ran_to e after counts)) → e ≡ Exit v
-    → Leaving g (begun_seat g) ram native n after counts v left.retired
-leaving_begun g ram size native n may e after counts v left is =
-    let u = ran_to e after counts in
-    let mid = gone_on (begun_seat g) left.retired left.retired after.before in
-    let vector : v ≡ left.vector = ap vector_in (sym is ∙ left.end) in
-    record {
-      few = (let few = left.few in omega arith);
-      retired = left.counts;
-      frame = record { room = left.room; frame = left.frame; stands = left.read_back 60 (omega arith); lawful = left.lawful };
-      seated = left_seated g ram size native n may u left;
-      takes = λ seat next means tally same seated within.
-          left_takes g ram size native n may u left seat next
-          (means ∙ ap (λ (k : ℕ). left_by k left.frame after mid) vector)
-          (tally ∙ ap (λ (k : ℕ). counted (class_of_vector k) mid.tally) vector)
-          (record { script = same.script; base = same.base; size = same.size; area = same.area }) seated within;
-    }
+left_by_run : (g b : Seat) (ram : List ℕ) (size : ℕ) (native : NativeState) (n : ℕ) (e : RunEnd) (after : BoardState) (counts : NativeState) (v : ℕ)
+    → b ≡ begun_seat g → MayRun g ram size native n → ran_to e after counts ≡ guest_run b ram size native (suc n) → e ≡ Exit v
+    → length after.cpu.regs.a ≡ 7 → IsLeft g ram native (suc n) (ran_to e after counts)
+left_by_run g b ram size native n e after counts v is may ran end wide =
+    is_left g (reset_for g ram size) native n may (ran_to e after counts) v (ran ∙ ap (λ (s : Seat). guest_run s ram size native (suc n)) is) end wide
 
 pub leaving : (g b : Seat) (ram : List ℕ) (size : ℕ) (native : NativeState) (n : ℕ) (e : RunEnd) (after : BoardState) (counts : NativeState) (v r : ℕ)
     → b ≡ begun_seat g → MayRun g ram size native n → ran_to e after counts ≡ guest_run b ram size native (suc n) → e ≡ Exit v
-    → length after.cpu.regs.a ≡ 7 → r ≡ counts.retired - native.retired → Leaving g b ram native n after counts v r
+    → length after.cpu.regs.a ≡ 7 → r ≡ counts.retired - native.retired → Leaving native n after counts r
 leaving g b ram size native n e after counts v r is may ran end wide fewer =
-    let left = is_left g ram size native n may (ran_to e after counts) v (ran ∙ ap (λ (s : Seat). guest_run s ram size native (suc n)) is) end wide in
+    let left = left_by_run g b ram size native n e after counts v is may ran end wide in
+    let few = left.few in
+    let count = left.counts in
+    record {
+      few = omega arith;
+      retired = omega arith;
+      exceptions = left.exceptions;
+      frame = record { room = left.room; frame = left.frame; stands = left.read_back 60 (omega arith); lawful = left.lawful };
+    }
+
+-- the guest in the middle of that step
+stops_begun : (g : Seat) (ram : List ℕ) (size : ℕ) (native : NativeState) (n : ℕ) (may : MayRun g ram size native n) (e : RunEnd) (after : BoardState)
+    (counts : NativeState) (v : ℕ) (left : IsLeft g ram native (suc n) (ran_to e after counts)) → e ≡ Exit v
+    → IsStopped g ram native left.retired 0 (gone_on (begun_seat g) left.retired left.retired after.before) after counts v
+stops_begun g ram size native n may e after counts v left ends =
+    let r = left.retired in
+    let few : r ≤ n = (let less = left.few in omega arith) in
+    let began = arrived (g.steps + 1) g.script g.devices in
+    let s = gone_on (begun_seat g) r r after.before in
+    let of : DeviceState → ℕ → Seat = λ d i. record s { devices = d; steps = i } in
+    let devices = left_is g (reset_for g ram size) native n may (ran_to e after counts) left in
+    let steps : g.steps + r ≡ g.steps + 1 + r - 1 = omega arith in
+    stopped_by g ram native (suc n) e after counts v left ends s (record {
+      begun = (let z : 0 < g.steps + 1 + r = omega arith in z);
+      running = may.running;
+      on = on_behind g r ∙ may.on;
+      due = due_behind n r (begun_seat g).devices few may.due;
+    }) (ap (λ (d : DeviceState). of d (g.steps + r)) devices ∙ ap (λ (i : ℕ). of s.devices i) steps)
+
+pub stops : (g b s : Seat) (ram : List ℕ) (size : ℕ) (native : NativeState) (n : ℕ) (e : RunEnd) (after : BoardState) (counts : NativeState) (v r : ℕ)
+    → b ≡ begun_seat g → MayRun g ram size native n → ran_to e after counts ≡ guest_run b ram size native (suc n) → e ≡ Exit v
+    → length after.cpu.regs.a ≡ 7 → r ≡ counts.retired - native.retired → s ≡ gone_on b r r after.before
+    → IsStopped g ram native r 0 s after counts v
+stops g b s ram size native n e after counts v r is may ran end wide fewer goes =
+    let left = left_by_run g b ram size native n e after counts v is may ran end wide in
     let same : left.retired ≡ r = (let c = left.counts in omega arith) in
-    subst (λ (s : Seat). Leaving g s ram native n after counts v r) (sym is)
-    (subst (λ (k : ℕ). Leaving g (begun_seat g) ram native n after counts v k) same (leaving_begun g ram size native n may e after counts v left end))
+    let seat : gone_on (begun_seat g) r r after.before ≡ s = ap (λ (x : Seat). gone_on x r r after.before) (sym is) ∙ sym goes in
+    subst (λ (x : Seat). IsStopped g ram native r 0 x after counts v) seat
+    (subst (λ (k : ℕ). IsStopped g ram native k 0 (gone_on (begun_seat g) k k after.before) after counts v) same
+    (stops_begun g ram size native n may e after counts v left end))
 
 pub never_gone_by : (g b : Seat) (ram : List ℕ) (size : ℕ) (native : NativeState) (n : ℕ) (u : Ran) → b ≡ begun_seat g → MayRun g ram size native n
     → u ≡ guest_run b ram size native (suc n) → u.end ≡ Gone → ⊥
 never_gone_by g b ram size native n u is may ran gone =
-    never_gone g ram size native n may u (ran ∙ ap (λ (s : Seat). guest_run s ram size native (suc n)) is) gone
+    never_gone g (reset_for g ram size) native n may u (ran ∙ ap (λ (s : Seat). guest_run s ram size native (suc n)) is) gone

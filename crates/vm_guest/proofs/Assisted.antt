@@ -1,6 +1,5 @@
 -- Classes of steps in which the board has no part, and of all others.
-use Rattle.std.proofs.Common.{◌≡◌, ◌∙◌, ℕ, ◌≤◌, List, Bool, true, false, cond, nat_lt, Option, Some, None, refl, ap, sym, arith}
-use Rattle.std.proofs.lemmas.Bool.Decides.{nat_tests}
+use Rattle.std.proofs.Common.{◌≡◌, ◌∙◌, ℕ, ◌≤◌, List, Bool, true, false, cond, nat_lt, Option, Some, None, refl, ap, sym}
 use Rattle.mb_model.specs.declared.processor.Cpu.{Cpu}
 use Rattle.mb_model.specs.declared.outcome.RunState.TheVariants.{Running, Stopped, Off}
 use Rattle.mb_devices.specs.Devices.{level_of}
@@ -9,10 +8,12 @@ use Rattle.mb_machine.specs.Machine.{begun, takes_steps}
 use Rattle.vm_machine.specs.declared.class.Class.{Class}
 use Rattle.vm_machine.specs.declared.class.Class.TheVariants.{Entered, Idle, Traced}
 use Rattle.vm_machine.specs.Guests.{Guest}
+use Rattle.vm_machine.specs.Refills.{refilled}
 use Rattle.vm_machine.specs.Classes.{class_of, class_of_attempt, is_traced}
-use Rattle.vm_machine.specs.Turns.{class_of_step}
+use Rattle.vm_machine.specs.Turns.{class_of_step, step_class_at_first}
 use Rattle.vm_machine.specs.Seats.{Seat, guested_on}
 use Rattle.vm_step.specs.Batch.{IsTried}
+use Rattle.vm_step.proofs.Retire.{not_above, not_less}
 use Rattle.vm_step.proofs.Quiet.{tried_class}
 use Rattle.vm_guest.specs.Counting.{assisted}
 use Rattle.vm_guest.specs.Turns.{begun_seat, IsGoing}
@@ -29,7 +30,8 @@ by_tests false false false r c h = absurd (let z : ⊥ = cc in z)
 
 pub assisted_class : (level : ℕ) (cpu : Cpu) (g : Guest) (c : Class) → assisted level cpu ≡ Some c → class_of level cpu g ≡ c
 unfolding class_of
-assisted_class level cpu g c h = by_tests (nat_lt (interrupt_mask cpu) level) cpu.stopped (is_traced cpu) (class_of_attempt cpu g) c h
+assisted_class level cpu g c h =
+    by_tests (nat_lt (interrupt_mask cpu) level) cpu.stopped (is_traced cpu) (class_of_attempt cpu (refilled cpu g).guest) c h
 
 -- what holds of a step that the board attempts
 pub record Attempts (level : ℕ) (cpu : Cpu) : Type 0 where
@@ -44,13 +46,18 @@ all_false false true t h = absurd (let z : ⊥ = cc in z)
 all_false false false true h = absurd (let z : ⊥ = cc in z)
 all_false false false false h = (refl, refl, refl)
 
-not_less : (mask level : ℕ) → nat_lt mask level ≡ false → level ≤ mask
-not_less mask level h = grind (arith, nat_tests)
-
 pub none_assisted : (level : ℕ) (cpu : Cpu) → assisted level cpu ≡ None → Attempts level cpu
 none_assisted level cpu h =
     let (a, b, t) = all_false (nat_lt (interrupt_mask cpu) level) cpu.stopped (is_traced cpu) h in
     record { masked = not_less (interrupt_mask cpu) level a; awake = b; untraced = t }
+
+-- and where all of it holds, the board has a part in the step
+none_of : (a b t : Bool) → a ≡ false → b ≡ false → t ≡ false → cond a (Some Entered) (cond b (Some Idle) (cond t (Some Traced) None)) ≡ None
+none_of a b t p q r = rw p (rw q (rw r refl))
+
+pub attempts_none : (level : ℕ) (cpu : Cpu) → Attempts level cpu → assisted level cpu ≡ None
+attempts_none level cpu h =
+    none_of (nat_lt (interrupt_mask cpu) level) cpu.stopped (is_traced cpu) (not_above (interrupt_mask cpu) level h.masked) h.awake h.untraced
 
 -- what holds of an idle step
 pub record Stops (level : ℕ) (cpu : Cpu) : Type 0 where
@@ -75,8 +82,8 @@ unfolding class_of_step begun
 class_begun g ram c h = assisted_class (level_of (begun_seat g).devices) g.cpu _ c h
 
 pub tried_begun : (g : Seat) (ram : List ℕ) → assisted (level_of (begun_seat g).devices) g.cpu ≡ None
-    → IsTried (class_of_step g.script (guested_on g ram))
-unfolding class_of_step begun
+    → IsTried (step_class_at_first g.script (guested_on g ram))
+unfolding step_class_at_first begun
 tried_begun g ram h =
     let a = none_assisted (level_of (begun_seat g).devices) g.cpu h in
     tried_class (level_of (begun_seat g).devices) g.cpu _ a.masked a.awake a.untraced

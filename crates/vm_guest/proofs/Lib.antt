@@ -7,8 +7,11 @@ pub mod MadeReady
 pub mod Ended
 pub mod Assisted
 pub mod Along
+pub mod Devices
+pub mod Refilled
 pub mod Stretches
 pub mod Runs
 pub mod Takings
+pub mod Stops
 pub mod Turning
 pub mod Advances

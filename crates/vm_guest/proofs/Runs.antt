@@ -10,23 +10,25 @@ use Rattle.mb_devices.proofs.Passing.{ticks_pass}
 use Rattle.mb_meaning.specs.SystemEnds.{with_registers}
 use Rattle.mb_machine.specs.Machine.{begun, takes_steps}
 use Rattle.mb_board.specs.Fits.{FitsAlong}
-use Rattle.mb_board.specs.State.{no_registers}
+use Rattle.mb_board.specs.State.{BoardState}
 use Rattle.vm_meaning.specs.declared.RunEnd.TheVariants.{Counted, Exit, Gone}
 use Rattle.vm_meaning.specs.Batches.{NothingArrives}
 use Rattle.vm_meaning.specs.Native.{NativeState, Ran, user_run}
-use Rattle.vm_machine.specs.Turns.{guest_begun}
+use Rattle.vm_machine.specs.declared.class.Class.TheVariants.{Retired}
+use Rattle.vm_machine.specs.Turns.{guest_begun, step_class_at_first, refills_of_step}
 use Rattle.vm_machine.specs.Seats.{Seat, guested_on, turned_on, monitor_bytes, IsSeated, Takes}
 use Rattle.vm_step.specs.Batch.{AllRetired, IsStretch, stepped_by}
 use Rattle.vm_step.specs.Retire.{Boarded}
 use Rattle.vm_step.specs.Exit.{Furnished}
-use Rattle.vm_step.specs.Turn.{IsNativeCpu}
+use Rattle.vm_step.specs.Turn.{IsNativeCpu, IsSetFor}
 use Rattle.vm_step.specs.Taking.{IsLeft, retired_seat, site_of}
 use Rattle.vm_step.proofs.Batch.{runs_are_batches}
+use Rattle.vm_step.proofs.Refill.{first_is_last}
 use Rattle.vm_step.proofs.Quiet.{only_ticks, quiet_steps_are_tried, retired_steps_tick}
-use Rattle.vm_step.proofs.Turn.{boards_are_ready}
+use Rattle.vm_step.proofs.Turn.{boards_are_ready, flushed_is_set}
 use Rattle.vm_step.proofs.Taking.{batches_take, exits_take, is_counted, stands_of}
 use Rattle.vm_guest.specs.Counting.{assisted}
-use Rattle.vm_guest.specs.Native.{native_cpu, gone_on, guest_run, guest_start}
+use Rattle.vm_guest.specs.Native.{native_cpu, gone_on, reset_for, run_on, start_on}
 use Rattle.vm_guest.specs.Turns.{begun_seat, scene}
 use Rattle.vm_guest.proofs.Along.{wanted_along}
 use Rattle.vm_guest.proofs.Assisted.{tried_begun}
@@ -36,22 +38,31 @@ idle_on : (size : ℕ) → (idle size).off ≡ false
 unfolding idle
 idle_on size = refl
 
+-- so a board that is reset stands for it
+pub reset_is_set : (g : Seat) (ram : List ℕ) (size : ℕ) → IsSetFor (site_of g) (reset_for g ram size).world
+reset_is_set g ram size = flushed_is_set (site_of g) ram (idle size) (idle_on size)
+
 -- the monitor's processor
 is_native : (g : Seat) → monitor_bytes ≤ g.base → IsNativeCpu (site_of g) native_cpu
 is_native g behind = record { status = refl; awake = refl; vectors = refl; stack = omega arith; below = behind }
 
 -- What is known of a guest whose step has begun, and which the board is to carry out for so many steps behind that one.
-pub record MayRun (g : Seat) (ram : List ℕ) (size : ℕ) (native : NativeState) (n : ℕ) : Type 0 where
-  pub seated : IsSeated g ram
-  pub bytes : AreBytes ram
-  pub small : length ram ≤ 2 ^ 32
+pub record MayRunOn (g : Seat) (board : BoardState) (native : NativeState) (n : ℕ) : Type 0 where
+  pub seated : IsSeated g board.world.ram
+  pub set : IsSetFor (site_of g) board.world
+  pub bytes : AreBytes board.world.ram
+  pub small : length board.world.ram ≤ 2 ^ 32
   pub running : g.state ≡ Running
   pub on : g.devices.off ≡ false
   pub seven : length g.cpu.regs.a ≡ 7
   pub tried : assisted (level_of (begun_seat g).devices) g.cpu ≡ None
   pub arrives : NothingArrives g.script (g.steps + 1) n
   pub due : IsNotDue n (begun_seat g).devices
-  pub fit : FitsAlong (suc n) (guest_start g ram size native)
+  pub fit : FitsAlong (suc n) (start_on g board native)
+
+-- of a board that is made ready for it
+abbrev pub MayRun : Seat → List ℕ → (size : ℕ) → NativeState → ℕ → Type 0
+MayRun g ram size native n = MayRunOn g (reset_for g ram size) native n
 
 -- one tick more, at either end
 ticked_behind : (n : ℕ) (d : DeviceState) → ticked (ticks n d) ≡ ticks (suc n) d
@@ -65,48 +76,50 @@ fewer n m d few (inr less) = inr (omega arith)
 none_due : (n : ℕ) (d : DeviceState) → IsNotDue n d → IsNotDue 0 d
 none_due n d due = fewer n 0 d (omega arith) due
 
-module _ (g : Seat) (ram : List ℕ) (size : ℕ) (native : NativeState) (n : ℕ) (may : MayRun g ram size native n) where
-  ready : Boarded (site_of g) (guest_start g ram size native).machine (guested_on g ram)
-      × Furnished (site_of g) (guest_start g ram size native).machine
-  ready = boards_are_ready (site_of g) native_cpu ram (idle size) 0 Running (guested_on g ram) (is_native g may.seated.behind) (idle_on size) refl may.seven
-      (stands_of g ram may.seated may.bytes may.small)
+module _ (g : Seat) (board : BoardState) (native : NativeState) (n : ℕ) (may : MayRunOn g board native n) where
+  ready : Boarded (site_of g) (start_on g board native).machine (guested_on g board.world.ram)
+      × Furnished (site_of g) (start_on g board native).machine
+  ready = boards_are_ready (site_of g) native_cpu board.world board.steps Running (guested_on g board.world.ram) (is_native g may.seated.behind) may.set
+      refl may.seven
+      (stands_of g board.world.ram may.seated may.bytes may.small)
 
-  stretch : IsStretch g.script (suc n) (guested_on g ram)
+  stretch : IsStretch g.script (suc n) (guested_on g board.world.ram)
   unfolding begun
   stretch =
-      quiet_steps_are_tried (site_of g) g.script n (guest_start g ram size native).machine (guested_on g ram) ready.0
-      (wanted_along (site_of g) g.script (suc n) (guest_start g ram size native) (guested_on g ram) ready.0 may.on may.fit) (tried_begun g ram may.tried)
+      quiet_steps_are_tried (site_of g) g.script n (start_on g board native).machine (guested_on g board.world.ram) ready.0
+      (wanted_along (site_of g) g.script (suc n) (start_on g board native) (guested_on g board.world.ram) ready.0 may.on may.fit)
+      (tried_begun g board.world.ram may.tried)
       may.arrives may.due
 
   goes : takes_steps g.state ≡ true
   goes = ap (λ (s : RunState). takes_steps s) may.running
 
   -- the devices behind retired steps
-  devices_behind : (j : ℕ) → j ≤ n → AllRetired g.script (suc j) (guested_on g ram)
-      → (stepped_by g.script (suc j) (guested_on g ram)).machine.world.devices ≡ ticks j (begun_seat g).devices
+  devices_behind : (j : ℕ) → j ≤ n → AllRetired g.script (suc j) (guested_on g board.world.ram)
+      → (stepped_by g.script (suc j) (guested_on g board.world.ram)).machine.world.devices ≡ ticks j (begun_seat g).devices
   unfolding begun
   devices_behind j few all =
-      (retired_steps_tick (site_of g) g.script j (guest_start g ram size native).machine (guested_on g ram) ready.0 all
+      (retired_steps_tick (site_of g) g.script j (start_on g board native).machine (guested_on g board.world.ram) ready.0 all
       (λ k more less d. may.arrives k more (omega arith) d)).0
 
   -- ---- counted to its end
 
-  counted_batch : (user_run (suc n) (guest_start g ram size native)).end ≡ Counted → AllRetired g.script (suc n) (guested_on g ram)
+  counted_batch : (user_run (suc n) (start_on g board native)).end ≡ Counted → AllRetired g.script (suc n) (guested_on g board.world.ram)
   counted_batch counted =
-      let r = guest_start g ram size native in
-      let t = turned_on g ram [] in
+      let r = start_on g board native in
+      let t = turned_on g board.world.ram [] in
       let b = runs_are_batches (site_of g) g.script (suc n) r t refl ready.0 ready.1 goes stretch in
-      subst (λ (k : ℕ). AllRetired g.script k (guested_on g ram)) (is_counted (site_of g) (suc n) r (user_run (suc n) r) t g counted b).0 b.all
+      subst (λ (k : ℕ). AllRetired g.script k (guested_on g board.world.ram)) (is_counted (site_of g) (suc n) r (user_run (suc n) r) t g counted b).0 b.all
 
   -- the guest as the board hands it back
-  pub counted_takes : (u : Ran) → u ≡ guest_run g ram size native (suc n) → u.end ≡ Counted → length u.machine.cpu.regs.a ≡ 7
+  pub counted_takes : (u : Ran) → u ≡ run_on g board native (suc n) → u.end ≡ Counted → length u.machine.cpu.regs.a ≡ 7
       → (p : Plain) → p ≡ plain_of u.machine.cpu.regs
-      → Takes (suc n) (scene g ram native) (scene (gone_on (begun_seat g) n (suc n) p) u.machine.world.ram u.native)
+      → Takes (suc n) (scene g board.world.ram native) (scene (gone_on (begun_seat g) n (suc n) p) u.machine.world.ram u.native)
   counted_takes u is counted wide p plain =
-      let r = guest_start g ram size native in
+      let r = start_on g board native in
       let after = user_run (suc n) r in
       let ends : after.end ≡ Counted = sym (ap (λ (x : Ran). x.end) is) ∙ counted in
-      let d = (stepped_by g.script (suc n) (guested_on g ram)).machine.world.devices in
+      let d = (stepped_by g.script (suc n) (guested_on g board.world.ram)).machine.world.devices in
       let devices : passed n (begun_seat g).devices ≡ d =
       sym (devices_behind n (omega arith) (counted_batch ends) ∙ (ticks_pass n (begun_seat g).devices may.due).at_once) in
       let steps : g.steps + 1 + n ≡ g.steps + suc n = omega arith in
@@ -120,17 +133,37 @@ module _ (g : Seat) (ram : List ℕ) (size : ℕ) (native : NativeState) (n : �
       ap (λ (q : Plain). of q (passed n (begun_seat g).devices) (g.steps + 1 + n)) plain
       ∙ ap (λ (o : DeviceState). of (plain_of u.machine.cpu.regs) o (g.steps + 1 + n)) devices
       ∙ ap (λ (k : ℕ). of (plain_of u.machine.cpu.regs) d k) steps in
-      let takes = batches_take g ram native_cpu (idle size) 0 Running native no_registers (suc n) may.seated may.bytes may.small may.running may.seven
-      (is_native g may.seated.behind) (idle_on size) stretch ends (subst (λ (x : Ran). length x.machine.cpu.regs.a ≡ 7) is wide) in
-      subst (λ (s : Seat). Takes (suc n) (scene g ram native) (scene s u.machine.world.ram u.native)) (sym same)
-      (subst (λ (x : Ran). Takes (suc n) (scene g ram native)
+      let takes = batches_take g native_cpu board.world board.steps Running native board.before (suc n) may.seated may.bytes may.small may.running may.seven
+      (is_native g may.seated.behind) may.set stretch ends (subst (λ (x : Ran). length x.machine.cpu.regs.a ≡ 7) is wide) in
+      subst (λ (s : Seat). Takes (suc n) (scene g board.world.ram native) (scene s u.machine.world.ram u.native)) (sym same)
+      (subst (λ (x : Ran). Takes (suc n) (scene g board.world.ram native)
       (scene (retired_seat g (suc n) (plain_of x.machine.cpu.regs) d) x.machine.world.ram x.native)) (sym is) takes)
 
+  -- its first step is retired, and has not begun again
+  pub counted_first : (u : Ran) → u ≡ run_on g board native (suc n) → u.end ≡ Counted
+      → (step_class_at_first g.script (guested_on g board.world.ram) ≡ Retired) × (refills_of_step g.script (guested_on g board.world.ram) ≡ 0)
+  counted_first u is counted =
+      let (want, first, rest) = counted_batch (sym (ap (λ (x : Ran). x.end) is) ∙ counted) in
+      (first, (first_is_last (site_of g) g.script (start_on g board native).machine (guested_on g board.world.ram) ready.0 want.registers first).1)
+
+  -- and so many are counted
+  pub counted_native : (u : Ran) → u ≡ run_on g board native (suc n) → u.end ≡ Counted
+      → (u.native.retired ≡ native.retired + suc n) × (u.native.exceptions ≡ native.exceptions)
+  counted_native u is counted =
+      let r = start_on g board native in
+      let after = user_run (suc n) r in
+      let t = turned_on g board.world.ram [] in
+      let b = runs_are_batches (site_of g) g.script (suc n) r t refl ready.0 ready.1 goes stretch in
+      let (all, done) = is_counted (site_of g) (suc n) r after t g (sym (ap (λ (x : Ran). x.end) is) ∙ counted) b in (
+        ap (λ (x : Ran). x.native.retired) is ∙ b.counted ∙ ap (λ (k : ℕ). native.retired + k) all,
+        ap (λ (x : Ran). x.native.exceptions) is ∙ done.exceptions,
+      )
+
   -- it is counted or left
-  pub never_gone : (u : Ran) → u ≡ guest_run g ram size native (suc n) → u.end ≡ Gone → ⊥
+  pub never_gone : (u : Ran) → u ≡ run_on g board native (suc n) → u.end ≡ Gone → ⊥
   never_gone u is gone =
-      let r = guest_start g ram size native in
-      let b = runs_are_batches (site_of g) g.script (suc n) r (turned_on g ram []) refl ready.0 ready.1 goes stretch in
+      let r = start_on g board native in
+      let b = runs_are_batches (site_of g) g.script (suc n) r (turned_on g board.world.ram []) refl ready.0 ready.1 goes stretch in
       let end : (user_run (suc n) r).end ≡ Gone = sym (ap (λ (x : Ran). x.end) is) ∙ gone in
       elim b.end [
         | inl (all, h) ↦ (let e : Counted ≡ Gone = sym h.end ∙ end in let z : ⊥ = cc in z)
@@ -139,30 +172,30 @@ module _ (g : Seat) (ram : List ℕ) (size : ℕ) (native : NativeState) (n : �
 
   -- ---- left
 
-  pub is_left : (u : Ran) (v : ℕ) → u ≡ guest_run g ram size native (suc n) → u.end ≡ Exit v → length u.machine.cpu.regs.a ≡ 7
-      → IsLeft g ram native (suc n) u
+  pub is_left : (u : Ran) (v : ℕ) → u ≡ run_on g board native (suc n) → u.end ≡ Exit v → length u.machine.cpu.regs.a ≡ 7
+      → IsLeft g board.world.ram native (suc n) u
   is_left u v is left wide =
-      let after = user_run (suc n) (guest_start g ram size native) in
-      subst (λ (x : Ran). IsLeft g ram native (suc n) x) (sym is)
-      (exits_take g ram native_cpu (idle size) 0 Running native no_registers (suc n) v may.seated may.bytes may.small may.running may.seven
-      (is_native g may.seated.behind) (let z : monitor_bytes ≤ monitor_bytes = omega arith in z) (idle_on size) stretch
+      let after = user_run (suc n) (start_on g board native) in
+      subst (λ (x : Ran). IsLeft g board.world.ram native (suc n) x) (sym is)
+      (exits_take g native_cpu board.world board.steps Running native board.before (suc n) v may.seated may.bytes may.small may.running may.seven
+      (is_native g may.seated.behind) (let z : monitor_bytes ≤ monitor_bytes = omega arith in z) may.set stretch
       (sym (ap (λ (x : Ran). x.end) is) ∙ left)
       (subst (λ (x : Ran). length x.machine.cpu.regs.a ≡ 7) is wide))
 
   -- the next step begins by one tick more
-  next_begins : (j : ℕ) → j ≤ n → AllRetired g.script j (guested_on g ram)
-      → (guest_begun g.script (stepped_by g.script j (guested_on g ram))).machine.world.devices ≡ passed j (begun_seat g).devices
+  next_begins : (j : ℕ) → j ≤ n → AllRetired g.script j (guested_on g board.world.ram)
+      → (guest_begun g.script (stepped_by g.script j (guested_on g board.world.ram))).machine.world.devices ≡ passed j (begun_seat g).devices
   unfolding begun
   next_begins zero few all = (ticks_pass zero (begun_seat g).devices (none_due n (begun_seat g).devices may.due)).at_once
   next_begins (suc j) few all =
       let d = (begun_seat g).devices in
-      let u = stepped_by g.script (suc j) (guested_on g ram) in
-      let tick = retired_steps_tick (site_of g) g.script j (guest_start g ram size native).machine (guested_on g ram) ready.0 all
+      let u = stepped_by g.script (suc j) (guested_on g board.world.ram) in
+      let tick = retired_steps_tick (site_of g) g.script j (start_on g board native).machine (guested_on g board.world.ram) ready.0 all
       (λ k more less e. may.arrives k more (omega arith) e) in
       let steps : u.machine.steps ≡ g.steps + suc j = tick.1 in
       only_ticks g.script u (λ e. may.arrives (u.machine.steps + 1) (omega arith) (omega arith) e)
       ∙ ap ticked tick.0 ∙ ticked_behind j d ∙ (ticks_pass (suc j) d (fewer n (suc j) d few may.due)).at_once
 
   -- the guest in the middle of that step
-  pub left_is : (u : Ran) (h : IsLeft g ram native (suc n) u) → h.begun ≡ passed h.retired (begun_seat g).devices
+  pub left_is : (u : Ran) (h : IsLeft g board.world.ram native (suc n) u) → h.begun ≡ passed h.retired (begun_seat g).devices
   left_is u h = h.begins ∙ next_begins h.retired (let few = h.few in omega arith) h.all

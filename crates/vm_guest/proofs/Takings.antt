@@ -3,30 +3,27 @@ use Rattle.std.proofs.Common.{◌≡◌, ◌∙◌, ℕ, suc, ◌+◌, Bool, tru
 use Rattle.mb_port.specs.Routine.{run}
 use Rattle.mb_instr.specs.declared.registers.Plain.{Plain}
 use Rattle.mb_model.specs.declared.processor.Cpu.{Cpu}
-use Rattle.mb_devices.specs.Devices.{DeviceState, level_of, passed, IsNotDue}
+use Rattle.mb_devices.specs.Devices.{level_of, passed, IsNotDue}
 use Rattle.mb_meaning.specs.Step.{interrupt_mask, step_of}
 use Rattle.mb_machine.specs.Machine.{Entries, begun, takes_steps}
 use Rattle.vm_meaning.specs.Batches.{NothingArrives}
 use Rattle.vm_meaning.specs.Marks.{trail}
-use Rattle.vm_meaning.specs.Native.{NativeState, Ran}
+use Rattle.vm_meaning.specs.Native.{NativeState}
 use Rattle.vm_machine.specs.declared.class.Class.{Class}
 use Rattle.vm_machine.specs.declared.class.Class.TheVariants.{Entered, Idle, Traced}
 use Rattle.vm_machine.specs.Bus.{guest_bus}
 use Rattle.vm_machine.specs.Classes.{is_traced}
-use Rattle.vm_machine.specs.Exits.{class_of_vector, frame_access, handed_by, rest_by_frame}
-use Rattle.vm_machine.specs.Turns.{Guested, Tally, Turned, world_of, guest_stepped, counted, exits, marks_of, by_class, advanced, turn_of}
+use Rattle.vm_machine.specs.Turns.{Guested, Tally, Turned, world_of, guest_stepped, refills_of_step, counted, with_refills, exits, marks_of, by_class, advanced}
+use Rattle.vm_machine.specs.Turns.{turn_of}
 use Rattle.vm_machine.specs.Seats.{Seat, end_of, guested_on, turned_on, IsSame, IsSeated, Takes}
 use Rattle.vm_machine.proofs.TurnLaws.{going_turn, nothing_turned}
 use Rattle.vm_step.specs.Idle.{IsIdle, idle_seat}
-use Rattle.vm_step.specs.Taking.{IsLeft, left_seat}
 use Rattle.vm_step.proofs.Idle.{idle_steps_take}
 use Rattle.vm_guest.specs.Memory.{OnlyBetween}
 use Rattle.vm_guest.specs.Counting.{assisted}
-use Rattle.vm_guest.specs.Native.{gone_on}
 use Rattle.vm_guest.specs.Turns.{begun_seat, ended_at, idled_on, scene, IsGoing}
 use Rattle.vm_guest.proofs.Assisted.{inner, class_begun, idle_assisted, is_on, is_stopped}
-use Rattle.vm_guest.proofs.Runs.{MayRun, left_is}
-use Rattle.vm_guest.proofs.Seated.{begun_seated, only_within}
+use Rattle.vm_guest.proofs.Seated.{only_within}
 
 -- ---- a step in which the board has no part
 
@@ -35,11 +32,12 @@ record Aside (c : Class) : Type 0 where
   pub marks : (before after : Cpu) → marks_of c before after ≡ []
   pub retired : (t : Tally) → (counted c t).retired ≡ t.retired
   pub exits : (t : Tally) → exits (counted c t) ≡ exits t
+  pub refills : (n : ℕ) (t : Tally) → with_refills c n t ≡ t
 
 aside_by : (a b t : Bool) (c : Class) → cond a (Some Entered) (cond b (Some Idle) (cond t (Some Traced) None)) ≡ Some c → Aside c
-aside_by true b t c h = subst Aside (inner Entered c h) (record { marks = λ x y. refl; retired = λ x. refl; exits = λ x. refl })
-aside_by false true t c h = subst Aside (inner Idle c h) (record { marks = λ x y. refl; retired = λ x. refl; exits = λ x. refl })
-aside_by false false true c h = subst Aside (inner Traced c h) (record { marks = λ x y. refl; retired = λ x. refl; exits = λ x. refl })
+aside_by true b t c h = subst Aside (inner Entered c h) (record { marks = λ x y. refl; retired = λ x. refl; exits = λ x. refl; refills = λ n x. refl })
+aside_by false true t c h = subst Aside (inner Idle c h) (record { marks = λ x y. refl; retired = λ x. refl; exits = λ x. refl; refills = λ n x. refl })
+aside_by false false true c h = subst Aside (inner Traced c h) (record { marks = λ x y. refl; retired = λ x. refl; exits = λ x. refl; refills = λ n x. refl })
 aside_by false false false c h = absurd (let z : ⊥ = cc in z)
 
 aside : (level : ℕ) (cpu : Cpu) (c : Class) → assisted level cpu ≡ Some c → Aside c
@@ -50,14 +48,16 @@ stepped_is : (g : Seat) (ram : List ℕ) → let b = begun_seat g in
 unfolding guest_stepped begun
 stepped_is g ram = refl
 
-one_step : (script : Entries) (t : Turned) (c : Class) (after : Guested) → takes_steps t.guest.machine.state ≡ true
-    → by_class c after t ≡ advanced script t → by_class c after t ≡ turn_of script 1 t
-one_step script t c after goes is = is ∙ sym (nothing_turned script (advanced script t)) ∙ sym (going_turn script 0 t goes)
+one_step : (script : Entries) (t : Turned) (c : Class) (n : ℕ) (after : Guested) → takes_steps t.guest.machine.state ≡ true
+    → by_class c n after t ≡ advanced script t → by_class c n after t ≡ turn_of script 1 t
+one_step script t c n after goes is = is ∙ sym (nothing_turned script (advanced script t)) ∙ sym (going_turn script 0 t goes)
 
 advanced_is : (g : Seat) (ram : List ℕ) (c : Class) → assisted (level_of (begun_seat g).devices) g.cpu ≡ Some c → let t = turned_on g ram [] in
-    by_class c (guest_stepped g.script (guested_on g ram)) t ≡ advanced g.script t
+    by_class c (refills_of_step g.script (guested_on g ram)) (guest_stepped g.script (guested_on g ram)) t ≡ advanced g.script t
 unfolding advanced
-advanced_is g ram c h = ap (λ (k : Class). by_class k (guest_stepped g.script (guested_on g ram)) (turned_on g ram [])) (sym (class_begun g ram c h))
+advanced_is g ram c h =
+    ap (λ (k : Class). by_class k (refills_of_step g.script (guested_on g ram)) (guest_stepped g.script (guested_on g ram)) (turned_on g ram []))
+    (sym (class_begun g ram c h))
 
 pub assisted_takes : (g h : Seat) (ram next : List ℕ) (native : NativeState) (c : Class) → takes_steps g.state ≡ true → let b = begun_seat g in
     assisted (level_of b.devices) g.cpu ≡ Some c
@@ -68,6 +68,7 @@ unfolding trail
 assisted_takes g h ram next native c goes class means tally same seated after within =
     let t = turned_on g ram [] in
     let so = aside (level_of (begun_seat g).devices) g.cpu c class in
+    let refills = refills_of_step g.script (guested_on g ram) in
     let guest : guested_on h next ≡ guest_stepped g.script (guested_on g ram) = means ∙ stepped_is g ram in
     let of : Guested → Tally → List Plain → Turned = λ q n marks. record { guest = q; tally = n; marks = marks } in
     record {
@@ -75,9 +76,10 @@ assisted_takes g h ram next native c goes class means tally same seated after wi
       turned =
           ap (λ (q : Guested). of q h.tally []) guest
           ∙ ap (λ (n : Tally). of (guest_stepped g.script (guested_on g ram)) n []) tally
-          ∙ ap (λ (marks : List Plain). of (guest_stepped g.script (guested_on g ram)) (counted c g.tally) marks)
+          ∙ ap (λ (n : Tally). of (guest_stepped g.script (guested_on g ram)) n []) (sym (so.refills refills (counted c g.tally)))
+          ∙ ap (λ (marks : List Plain). of (guest_stepped g.script (guested_on g ram)) (with_refills c refills (counted c g.tally)) marks)
           (sym (so.marks g.cpu (guest_stepped g.script (guested_on g ram)).machine.cpu))
-          ∙ one_step g.script t c (guest_stepped g.script (guested_on g ram)) goes (advanced_is g ram c class);
+          ∙ one_step g.script t c refills (guest_stepped g.script (guested_on g ram)) goes (advanced_is g ram c class);
       same = same;
       seated = after;
       within = only_within g ram next seated.behind within;
@@ -108,32 +110,3 @@ idle_takes g ram native n seated going takes tried quiet due =
     ap (λ (k : ℕ). of k (g.tally.idle + suc n)) steps ∙ ap (of (g.steps + 1 + n)) counted in
     subst (λ (k : ℕ). Takes k (scene g ram native) (scene (idled_on n (begun_seat g)) ram native)) (let e : suc n ≡ n + 1 = omega arith in e)
     (subst (λ (s : Seat). Takes (suc n) (scene g ram native) (scene s ram native)) same (idle_steps_take g ram native n seated idle quiet due))
-
--- ---- a step that the board left
-
-module _ (g : Seat) (ram : List ℕ) (size : ℕ) (native : NativeState) (n : ℕ) (may : MayRun g ram size native n) (u : Ran)
-    (h : IsLeft g ram native (suc n) u) where
-  abbrev pub middle : Seat
-  middle = gone_on (begun_seat g) h.retired h.retired u.before
-
-  -- it stands
-  pub left_seated : IsSeated (gone_on (begun_seat g) h.retired h.retired u.before) u.machine.world.ram
-  left_seated = begun_seated (left_seat g h.retired u.before h.begun) u.machine.world.ram middle.devices middle.steps h.seated
-
-  pub left_takes : (seat : Seat) (next : List ℕ)
-      → guested_on seat next ≡ ended_at middle.steps (run guest_bus (rest_by_frame h.vector (frame_access h.frame) (level_of middle.devices) middle.cpu
-      (handed_by u.machine.cpu.regs h.frame)) (world_of (guested_on middle u.machine.world.ram)))
-      → seat.tally ≡ counted (class_of_vector h.vector) middle.tally → IsSame middle seat → IsSeated seat next
-      → OnlyBetween g.base (end_of g) u.machine.world.ram next
-      → Takes (h.retired + 1) (scene g ram native) (scene seat next u.native)
-  left_takes seat next means tally same seated within =
-      let mid = left_seat g h.retired u.before h.begun in
-      let of : DeviceState → ℕ → Guested = λ d k. let m : Seat = record mid { devices = d } in
-      ended_at k (run guest_bus (rest_by_frame h.vector (frame_access h.frame) (level_of d) m.cpu (handed_by u.machine.cpu.regs h.frame))
-      (world_of (guested_on m u.machine.world.ram))) in
-      let steps : middle.steps ≡ mid.steps + 1 = omega arith in
-      h.turn seat next
-      (means ∙ ap (λ (k : ℕ). of middle.devices k) steps
-      ∙ ap (λ (d : DeviceState). of d (mid.steps + 1)) (sym (left_is g ram size native n may u h)))
-      tally (record { script = same.script; base = same.base; size = same.size; area = same.area }) seated
-      (only_within mid u.machine.world.ram next h.seated.behind within)

@@ -4,3 +4,4 @@ pub mod Turns
 pub mod Counting
 pub mod Rests
 pub mod Native
+pub mod Stops

@@ -18,7 +18,7 @@ use Rattle.vm_machine.specs.Exits.{frame_access, handed_by, rest_by_frame}
 use Rattle.vm_machine.specs.Turns.{Guested, world_of}
 use Rattle.vm_machine.specs.Seats.{Seat, monitor_bytes, guested_on}
 use Rattle.vm_step.specs.Lawful.{LeavesLawful}
-use Rattle.vm_step.specs.Turn.{ready_for}
+use Rattle.vm_step.specs.Turn.{flushed, ready_for}
 use Rattle.vm_step.specs.Taking.{site_of}
 use Rattle.vm_guest.specs.Counting.{with_retired}
 use Rattle.vm_guest.specs.Turns.{ended_at}
@@ -52,14 +52,31 @@ ready root size ram plain = record {
   state = Running;
 }
 
--- the board as it is made ready for a guest, with what was counted before, on a board that shows so many bytes
-abbrev pub guest_start : Seat → List ℕ → (size : ℕ) → NativeState → Ran
-guest_start g ram size native =
-    about_to_run (ready_for (site_of g) native_cpu ram (idle size) 0 Running (guested_on g ram)) native no_registers
+-- this board with a guest's registers, and with what was counted before
+abbrev pub start_on : Seat → BoardState → NativeState → Ran
+start_on g b native =
+    about_to_run (ready_for native_cpu b.world b.steps Running (guested_on g b.world.ram)) native b.before
 
 -- its run of so many steps
+abbrev pub run_on : Seat → BoardState → NativeState → ℕ → Ran
+run_on g b native k = user_run k (start_on g b native)
+
+-- the board for a guest as after a reset, which shows so many bytes
+abbrev pub reset_for : Seat → List ℕ → (size : ℕ) → BoardState
+reset_for g ram size = record {
+  cpu = native_cpu;
+  world = flushed (site_of g) ram (idle size);
+  steps = 0;
+  state = Running;
+  before = no_registers;
+}
+
+-- made ready so, and its run
+abbrev pub guest_start : Seat → List ℕ → (size : ℕ) → NativeState → Ran
+guest_start g ram size native = start_on g (reset_for g ram size) native
+
 abbrev pub guest_run : Seat → List ℕ → (size : ℕ) → NativeState → ℕ → Ran
-guest_run g ram size native k = user_run k (guest_start g ram size native)
+guest_run g ram size native k = run_on g (reset_for g ram size) native k
 
 -- A guest as the board has carried it out: with these registers, behind so many more steps, and so many more that are
 -- retired.

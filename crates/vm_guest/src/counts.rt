@@ -55,6 +55,14 @@ impl Counts {
         }
     }
 
+    /// The step that was counted last began again after a fill.
+    pub(crate) fn refill(&mut self)
+        requires { (tally_in self.old).refilled + 1 < 2 ^ 64 }
+        ensures { tally_in self.new ≡ record (tally_in self.old) { refilled = (tally_in self.old).refilled + 1 } }
+    {
+        self.refilled += 1;
+    }
+
     /// So many more retired ones.
     pub(crate) fn retire(&mut self, steps: u32)
         requires { steps_in (tally_in self.old) + steps < 2 ^ 64 }

@@ -1,6 +1,6 @@
 //! Steps of a guest: as many at once as its board runs, or as STOP holds it for.
 
-ghost use Rattle.std.specs.Prelude.{◌≡◌, ◌+◌, ◌<◌, ◌≤◌, ◌^◌, true, length};
+ghost use Rattle.std.specs.Prelude.{◌≡◌, ◌+◌, ◌*◌, ◌<◌, ◌≤◌, ◌^◌, suc, true, length, None, IfSome};
 ghost use Rattle.mb_instr.specs.Registers.{plain_of};
 ghost use Rattle.mb_walk.specs.Memory.{AreBytes};
 ghost use Rattle.mb_devices.specs.Devices.{IsNotDue};
@@ -10,21 +10,24 @@ ghost use Rattle.mb_board.specs.Arrivals.{IsNext};
 ghost use Rattle.mb_board.specs.Beside.{but_ram};
 ghost use Rattle.mb_board.specs.Fits.{FitsAlong};
 ghost use Rattle.mb_board.specs.State.{ran_to};
-ghost use Rattle.vm_machine.specs.Exits.{class_of_vector as class_of};
+ghost use Rattle.vm_machine.specs.Exits.{class_of_vector as class_of, frame_access};
 ghost use Rattle.vm_machine.specs.Turns.{counted, steps_in};
 ghost use Rattle.vm_machine.specs.Seats.{end_of, guested_on, IsSame, IsSeated, Takes};
+ghost use Rattle.vm_step.specs.Lawful.{LeavesLawful};
 ghost use Rattle.vm_guest.specs.Memory.{OnlyBetween};
 ghost use Rattle.vm_guest.specs.Counting.{NoneDue};
-ghost use Rattle.vm_guest.specs.Native.{gone_on, guest_run, guest_start, left_by, HasFrame, IsFrameOf};
+ghost use Rattle.vm_guest.specs.Native.{gone_on, guest_run, guest_start, left_by, run_on, start_on};
+ghost use Rattle.vm_guest.specs.Native.{HasFrame, IsFrameOf};
+ghost use Rattle.vm_guest.specs.Stops.{BeginsAgain, IsReady, IsStopped, Stopped};
 ghost use Rattle.vm_guest.specs.Turns.{idled_on, scene, IsGoing};
 
 use crate::classes::{assisted, class_of_vector};
 use crate::guest::Guest;
-use crate::readying::make_ready;
+use crate::readying::{make_ready, set_registers};
 use crate::rest::Rest;
 use mb_board::{Board, Native, RunEnd};
 use mb_devices::Devices;
-use mb_frames::from_bytes;
+use mb_frames::{Frame, from_bytes};
 use mb_instr::{Plain, Regs};
 use mb_script::Script;
 use mb_walk::Ram;
@@ -32,6 +35,21 @@ use vm_machine::Class;
 
 /// The bytes of the longest frame.
 const FRAME: u32 = 60;
+
+/// How often a step is begun again at most.
+const MOST_REFILLS: u32 = 31;
+
+/// The frame that the board stacked when it left a step.
+fn frame_on(board: &Board) -> Frame
+    requires frame { HasFrame board.now }
+    ensures { IsFrameOf board.now result }
+{
+    let isp = board.cpu().regs.isp;
+    let Some(frame) = from_bytes(board.memory(isp, FRAME)) else {
+        unreachable!()
+    };
+    frame
+}
 
 /// How many steps behind one that has begun may be taken together with it, at most `limit`: nothing arrives at them,
 /// and the timer does not come to 0. `taken` counts the one that has begun, and the script's entries from `next`
@@ -91,6 +109,25 @@ impl Guest {
         end
     }
 
+    /// The board, as it was when it left the guest, carries out one step that has begun, or leaves it. What it keeps of
+    /// translations holds, so it keeps it.
+    fn resume_board(&self, board: &mut Board, native: &mut Native) -> RunEnd
+        requires seated { IsSeated self.now board.old.world.ram }
+        requires ready { IsReady self.now board.old }
+        requires native { (native.old.retired < 2 ^ 63) × (native.old.exceptions < 2 ^ 63) }
+        ensures means { ran_to result board.new native.new ≡ run_on self.now board.old native.old 1 }
+        ensures fit { FitsAlong 1 (start_on self.now board.old native.old) }
+        ensures seven { length self.now.cpu.regs.a ≡ 7 }
+        ensures wide { length board.new.cpu.regs.a ≡ 7 }
+        ensures bytes { AreBytes board.old.world.ram × (length board.old.world.ram ≤ 2 ^ 32) }
+    {
+        let _ = board.size();
+        set_registers(board, &plain(&self.cpu.regs));
+        let end = board.run(1, native);
+        seven(&board.cpu().regs);
+        end
+    }
+
     /// Goes on as the board has carried it out: with these registers, behind so many more steps, and so many more that
     /// are retired.
     fn go_on(&mut self, plain: &Plain, more: u32, retired: u32)
@@ -106,33 +143,90 @@ impl Guest {
         self.counts.retire(retired);
     }
 
-    /// The board left a step by this vector, behind so many that it carried out. What is left of that one is carried
-    /// out over the guest's bus.
-    fn leave(&mut self, board: &mut Board, vector: u8, steps: u32)
-        requires room { self.old.steps + steps < 2 ^ 32 }
+    /// What is left of a step that the board left by this vector is carried out over the guest's bus.
+    fn leave(&mut self, board: &mut Board, vector: u8, frame: &Frame)
         requires counted { steps_in self.old.tally < self.old.steps }
-        requires none { NoneDue self.old.script self.old.steps steps }
-        requires due { IsNotDue steps self.old.devices }
-        requires frame { HasFrame board.old }
-        requires seated { IsSeated (gone_on self.old steps steps board.old.before) board.old.world.ram }
-        ensures means { (frame : FrameValue) → IsFrameOf board.old frame → guested_on self.new board.new.world.ram
-            ≡ left_by vector frame board.old (gone_on self.old steps steps board.old.before) }
-        ensures tally { self.new.tally
-            ≡ counted (class_of vector) (gone_on self.old steps steps board.old.before).tally }
-        ensures steps { self.new.steps ≡ self.old.steps + steps }
+        requires lawful { LeavesLawful (frame_access frame.now) }
+        requires seated { IsSeated self.old board.old.world.ram }
+        ensures means { guested_on self.new board.new.world.ram
+            ≡ left_by vector frame.now board.old self.old }
+        ensures tally { self.new.tally ≡ counted (class_of vector) self.old.tally }
+        ensures steps { self.new.steps ≡ self.old.steps }
         ensures going { IsGoing self.new }
         ensures same { IsSame self.old self.new }
         ensures seated { IsSeated self.new board.new.world.ram }
         ensures within { OnlyBetween self.old.base (end_of self.old) board.old.world.ram board.new.world.ram }
         ensures others { but_ram board.new ≡ but_ram board.old }
     {
-        let regs = board.cpu().regs;
-        let Some(frame) = from_bytes(board.memory(regs.isp, FRAME)) else {
-            unreachable!()
-        };
-        self.go_on(board.before(), steps, steps);
-        let rest = Rest::left(vector, &frame, &regs);
+        let rest = Rest::left(vector, frame, &board.cpu().regs);
         self.assist(board, &rest, class_of_vector(vector));
+    }
+
+    /// The step that was carried out last had begun again.
+    fn count_refilled(&mut self)
+        requires { self.old.tally.refilled < self.old.tally.retired }
+        ensures { self.new
+            ≡ record self.old { tally = record self.old.tally { refilled = self.old.tally.refilled + 1 } } }
+    {
+        self.counts.refill();
+    }
+
+    /// The board carries out a step that begins again, or leaves it once more: by the vector that is given then.
+    fn run_again(&mut self, board: &mut Board, native: &mut Native) -> Option<u8>
+        requires again { BeginsAgain self.old board.old native.old }
+        requires counted { steps_in self.old.tally < self.old.steps }
+        requires refilled { self.old.tally.refilled ≤ self.old.tally.retired }
+        requires room { self.old.steps < 2 ^ 32 }
+        requires native { (native.old.retired < 2 ^ 63) × (native.old.exceptions < 2 ^ 63) }
+        ensures takes { result ≡ None → (w : BeginsAgain self.old board.old native.old)
+            → Takes (w.taken + 1) (scene w.guest w.ram w.native) (scene self.new board.new.world.ram native.new) }
+        ensures left { IfSome result (λ vector. (w : BeginsAgain self.old board.old native.old)
+            → IsStopped w.guest w.ram w.native w.taken (suc w.refills) self.new board.new native.new vector) }
+        ensures still { IfSome result (λ vector. self.new ≡ self.old) }
+        ensures steps { self.new.steps ≡ self.old.steps }
+        ensures going { result ≡ None → IsGoing self.new }
+        ensures native { (native.new.retired ≤ native.old.retired + 1)
+            × (native.new.exceptions ≤ native.old.exceptions + 1) }
+        ensures retired { IfSome result (λ vector. native.new.retired ≡ native.old.retired) }
+    {
+        match self.resume_board(board, native) {
+            RunEnd::Counted => {
+                self.go_on(&plain(&board.cpu().regs), 0, 1);
+                self.count_refilled();
+                None
+            }
+            RunEnd::Exit(vector) => Some(vector),
+            RunEnd::Gone => unreachable!(),
+        }
+    }
+
+    /// Ends a step that the board left by this vector. As long as it was denied a read that is refilled, it begins
+    /// again, at most so often; then what is left of it is carried out.
+    fn end_step(&mut self, board: &mut Board, first: u8, native: &mut Native)
+        requires stopped { Stopped self.old board.old native.old first }
+        requires counted { steps_in self.old.tally < self.old.steps }
+        requires refilled { self.old.tally.refilled ≤ self.old.tally.retired }
+        requires room { self.old.steps < 2 ^ 32 }
+        requires native { (native.old.retired < 2 ^ 63) × (native.old.exceptions + 31 ≤ 2 ^ 63) }
+        ensures takes { (w : Stopped self.old board.old native.old first)
+            → Takes (w.taken + 1) (scene w.guest w.ram w.native) (scene self.new board.new.world.ram native.new) }
+        ensures steps { self.new.steps ≡ self.old.steps }
+        ensures going { IsGoing self.new }
+        ensures native { (native.new.retired ≤ native.old.retired + 1)
+            × (native.new.exceptions ≤ native.old.exceptions + 31) }
+    {
+        let mut vector = first;
+        let mut frame = frame_on(board);
+        let mut refills = 0;
+        while refills < MOST_REFILLS && self.refill(board, &frame) {
+            let Some(next) = self.run_again(board, native) else {
+                return;
+            };
+            vector = next;
+            frame = frame_on(board);
+            refills += 1;
+        }
+        self.leave(board, vector, &frame);
     }
 
     /// STOP holds the processor in the step that has begun, and in so many behind it: the timer counts those, and
@@ -157,14 +251,14 @@ impl Guest {
         requires seated { IsSeated self.old board.old.world.ram }
         requires going { IsGoing self.old }
         requires takes { takes_steps self.old.state ≡ true }
-        requires native { (native.old.retired < 2 ^ 63) × (native.old.exceptions < 2 ^ 63) }
+        requires native { (native.old.retired + limit < 2 ^ 63) × (native.old.exceptions + 32 * limit < 2 ^ 63) }
         ensures some { (0 < result) × (result ≤ limit) }
         ensures takes { Takes result (scene self.old board.old.world.ram native.old)
             (scene self.new board.new.world.ram native.new) }
         ensures steps { self.new.steps ≡ self.old.steps + result }
         ensures going { IsGoing self.new }
         ensures native { (native.new.retired ≤ native.old.retired + result)
-            × (native.new.exceptions ≤ native.old.exceptions + result) }
+            × (native.new.exceptions ≤ native.old.exceptions + 32 * result) }
     {
         self.begin();
         let more = more_steps(
@@ -190,7 +284,8 @@ impl Guest {
             }
             RunEnd::Exit(vector) => {
                 let retired = (native.retired() - before) as u32;
-                self.leave(board, vector, retired);
+                self.go_on(board.before(), retired, retired);
+                self.end_step(board, vector, native);
                 retired + 1
             }
             RunEnd::Gone => unreachable!(),

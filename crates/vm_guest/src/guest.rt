@@ -85,7 +85,8 @@ impl Model for Guest {
       size = g.size;
     } };
 
-    ghost invariant = { λ g. IsNext g.script g.steps g.next × (steps_in (tally_in g.counts) ≤ g.steps) };
+    ghost invariant = { λ g. IsNext g.script g.steps g.next × (steps_in (tally_in g.counts) ≤ g.steps)
+        × ((tally_in g.counts).refilled ≤ (tally_in g.counts).retired) };
 }
 
 impl Guest {

@@ -13,6 +13,7 @@ mod guest;
 mod lending;
 mod loading;
 mod readying;
+mod refilling;
 mod rest;
 mod session;
 mod stepping;

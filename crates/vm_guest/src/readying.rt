@@ -1,7 +1,9 @@
 //! The board is made ready to carry out a guest's instructions.
 
-ghost use Rattle.std.specs.Prelude.{◌≡◌, ◌≤◌, ◌%◌, length};
+ghost use Rattle.std.specs.Prelude.{◌≡◌, ◌≤◌, ◌%◌, true, length};
+ghost use Rattle.mb_model.specs.declared.outcome.RunState.TheVariants.{Running};
 ghost use Rattle.mb_meaning.specs.SystemEnds.{with_registers};
+ghost use Rattle.mb_machine.specs.Machine.{takes_steps};
 ghost use Rattle.mb_board.specs.State.{board_at_reset};
 ghost use Rattle.vm_guest.specs.Native.{native_cpu, ready};
 
@@ -36,6 +38,15 @@ fn native_cpu(plain: &Plain) -> Cpu
         cacr: 0,
         stopped: false,
     }
+}
+
+/// Gives a board that takes steps the registers with which it carries out a guest. All else stays.
+pub(crate) fn set_registers(board: &mut Board, plain: &Plain)
+    requires goes { takes_steps board.old.state ≡ true }
+    ensures { board.new
+        ≡ record board.old { cpu = with_registers plain.now native_cpu; state = Running } }
+{
+    board.set_cpu(&native_cpu(plain));
 }
 
 /// Makes the board ready for the instruction at PC of these registers, in the space whose tables have this root, a

@@ -1,6 +1,6 @@
 //! One step of a guest, carried out by the monitor.
 
-ghost use Rattle.std.specs.Prelude.{◌≡◌, ◌+◌, ◌^◌, ◌<◌};
+ghost use Rattle.std.specs.Prelude.{◌≡◌, ◌+◌, ◌^◌, ◌<◌, ◌≤◌};
 ghost use Rattle.mb_port.specs.Routine.{run};
 ghost use Rattle.mb_meaning.specs.Raise.{by_its_end};
 ghost use Rattle.mb_devices.specs.Devices.{level_of};
@@ -46,6 +46,7 @@ impl Guest {
         requires { self.old.steps + 1 < 2 ^ 32 }
         ensures begun { self.new ≡ begun_seat self.old }
         ensures counted { steps_in self.new.tally < self.new.steps }
+        ensures refilled { self.new.tally.refilled ≤ self.new.tally.retired }
     {
         self.next = receive(&mut self.devices, &self.script, self.steps, self.next);
         self.steps += 1;

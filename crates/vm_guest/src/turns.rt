@@ -1,6 +1,6 @@
 //! A guest's turns.
 
-ghost use Rattle.std.specs.Prelude.{◌≡◌, ◌+◌, ◌^◌, ◌<◌, ◌≤◌, [], true, false};
+ghost use Rattle.std.specs.Prelude.{◌≡◌, ◌+◌, ◌*◌, ◌^◌, ◌<◌, ◌≤◌, [], true, false};
 ghost use Rattle.mb_model.specs.Keeping.{rule_k};
 ghost use Rattle.mb_machine.specs.Machine.{run_of, takes_steps};
 ghost use Rattle.vm_machine.specs.Turns.{turn_of};
@@ -24,7 +24,7 @@ impl Guest {
         ensures steps { takes_steps self.new.state ≡ true → self.new.steps ≡ self.old.steps + limit }
         ensures going { IsGoing self.new }
         ensures native { (native.new.retired ≤ native.old.retired + limit)
-            × (native.new.exceptions ≤ native.old.exceptions + limit) }
+            × (native.new.exceptions ≤ native.old.exceptions + 32 * limit) }
         ensures stays { takes_steps self.old.state ≡ false → (self.new ≡ self.old)
             × (board.new.world.ram ≡ board.old.world.ram) × (native.new ≡ native.old) }
     {
@@ -57,7 +57,7 @@ impl Guest {
         ensures end { result ≡ end_by self.new.state }
         ensures counted { result ≡ TurnEnd.Counted → self.new.steps ≡ self.old.steps + limit }
         ensures native { (native.new.retired ≤ native.old.retired + limit)
-            × (native.new.exceptions ≤ native.old.exceptions + limit) }
+            × (native.new.exceptions ≤ native.old.exceptions + 32 * limit) }
         ensures stays { takes_steps self.old.state ≡ false → (self.new ≡ self.old)
             × (board.new.world.ram ≡ board.old.world.ram) × (native.new ≡ native.old) }
         ensures going { IsGoing self.new }

@@ -13,3 +13,5 @@ pub mod Own
 pub mod Rows
 pub mod Attempts
 pub mod Keeps
+pub mod Ahead
+pub mod Refills

@@ -150,6 +150,19 @@ by_settled_fine size g r is fine (To p) e =
 by_settled_fine size g r is fine Refused e = putting_fine size g r None fine (λ q h. absurd (let y : ⊥ = cc in y))
 by_settled_fine size g r is fine Unsettled e = by_search_fine size g r is fine e
 
+-- how an access came to its place
+pub access_carried : (size : ℕ) (g : Guest) (r : Reference) → Fine size g → (s : Settled) → settled rule_k g.world.mmu g.world.kept r ≡ s
+    → (p : ℕ) → (by_settled rule_k g.world r s).0 ≡ Some p → Carried (by_settled rule_k g.world r s).1 r p
+unfolding searched
+access_carried size g r fine (To q) e p h =
+    subst (Carried g.world r) (same_Some q p h)
+    (carried_by g.world r q (untranslated g.world.mmu r) (entry_at_page g.world.kept r.space (page_of r.at)) refl refl
+    (sym (settled_at g.world.mmu g.world.kept r (untranslated g.world.mmu r) (entry_at_page g.world.kept r.space (page_of r.at)) refl refl) ∙ e))
+access_carried size g r fine Refused e p h = absurd (let z : None ≡ Some p = h in let y : ⊥ = cc in y)
+access_carried size g r fine Unsettled e p h =
+    let s = search_of g.world.ram (root_of g.world.mmu r.space) r.space (page_of r.at) r.write in
+    searched_carried size g r s.ram s.found fine e (search_names r.space (page_of r.at) g.world.ram (root_of g.world.mmu r.space) r.write) p h
+
 pub accesses_keep_truth : AccessesKeepTruth
 accesses_keep_truth size r g is fine =
     let s = settled rule_k g.world.mmu g.world.kept r in

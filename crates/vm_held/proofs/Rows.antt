@@ -54,7 +54,7 @@ Allowed c g = allows_call c g.shadow
 abbrev Calls : Space → ℕ → Call → Guest → Type 0
 Calls space size c g = IsLawful space 0 size c
 
-abbrev Alone : {A : Type 0} → (A → A → Type 0) → Until Guest A → Type 0
+abbrev pub Alone : {A : Type 0} → (A → A → Type 0) → Until Guest A → Type 0
 Alone Rel (Ended a s) = Rel a a
 Alone Rel (Stopped rest s) = Unit {0}
 
@@ -64,8 +64,8 @@ alone_by free space size Rel (Ended a s) e = e.0
 alone_by free space size Rel (Stopped rest s) e = tt
 
 -- what is never denied, is its own twin with no fault
-stands_alone : {A : Type 0} (free : Bool) (space : Space) (size : ℕ) (Rel : A → A → Type 0) (m : Routine A) → Twin (between (faultless free space)) A A Rel m m
-    → (g : Guest) → Sound size g
+pub stands_alone : {A : Type 0} (free : Bool) (space : Space) (size : ℕ) (Rel : A → A → Type 0) (m : Routine A)
+    → Twin (between (faultless free space)) A A Rel m m → (g : Guest) → Sound size g
     → AlongUntil (Calls space size) Allowed held_bus m g → Alone Rel (run_until Allowed held_bus m g)
 stands_alone {A = A} free space size Rel m twins g s along =
     let k = between (faultless free space) in

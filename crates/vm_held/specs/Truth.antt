@@ -1,11 +1,11 @@
 -- What keeps a guest's shadow truthful.
 use Rattle.std.specs.Prelude.{◌≡◌, ℕ, ◌^◌, ◌<◌, [], ◌∷◌, length}
 use Rattle.mb_port.specs.Routine.{Call, Fetch, Read, Write, ReadLine, WriteLine, Probe}
-use Rattle.mb_model.specs.Keeping.{Apart, list_of, rule_k}
+use Rattle.mb_model.specs.Keeping.{Apart, list_of}
 use Rattle.mb_machine.specs.declared.reference.Reference.{Reference}
-use Rattle.mb_machine.specs.Access.{translated}
 use Rattle.vm_machine.specs.Guests.{Guest, IsReference}
-use Rattle.vm_machine.specs.Bus.{accessed, guest_bus}
+use Rattle.vm_machine.specs.Bus.{guest_bus}
+use Rattle.vm_machine.specs.Refills.{after_access}
 use Rattle.vm_held.specs.Sound.{Sound}
 
 -- One list is kept, with at most one entry a page, and the shadow says what it gives.
@@ -14,13 +14,9 @@ pub record Fine (size : ℕ) (g : Guest) : Type 0 where
   pub one : g.world.kept ≡ list_of 0 g.world.kept ∷ []
   pub apart : Apart (list_of 0 g.world.kept)
 
--- the guest after a translation
-abbrev pub translating : Reference → Guest → Guest
-translating r g = record { world = (translated rule_k r g.world).1; shadow = accessed r g.world g.shadow }
-
 -- Each access keeps it, whatever is searched, filled, dropped and put.
 abbrev pub AccessesKeepTruth : Type 0
-AccessesKeepTruth = (size : ℕ) (r : Reference) (g : Guest) → IsReference r → Fine size g → Fine size (translating r g)
+AccessesKeepTruth = (size : ℕ) (r : Reference) (g : Guest) → IsReference r → Fine size g → Fine size (after_access r g)
 
 abbrev pub HasAddress : Call → Type 0
 HasAddress (Fetch space at) = at < 2 ^ 32

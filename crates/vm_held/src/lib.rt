@@ -10,6 +10,7 @@
 ghost use Rattle.vm_held.specs.Truth.{AccessesKeepTruth, CallsKeepTruth};
 ghost use Rattle.vm_held.specs.Sound.{HeldGuards, HeldKeeps, GuestIsHeld};
 ghost use Rattle.vm_held.specs.Denied.{FetchesGoOn, RowsGoOn, AttemptsGoOn};
+ghost use Rattle.vm_held.specs.Refills.{AttemptsBeginAgain};
 ghost use Rattle.vm_held.specs.Names.{WordsName};
 
 /// Each access, and each other call of the guest, keeps its shadow truthful, and one list of kept translations with at
@@ -32,6 +33,11 @@ pub fn held_guest_goes_on()
     ensures fetched { FetchesGoOn }
     ensures carried { RowsGoOn }
     ensures attempted { AttemptsGoOn }
+{}
+
+/// An attempt that was denied a read which is refilled comes to the same once it is.
+pub fn held_guest_begins_again()
+    ensures { AttemptsBeginAgain }
 {}
 
 /// The words of a MOVEM name it.

@@ -48,6 +48,24 @@ both_count of count s u t a b c same e f =
     let p = ap (λ (k : ℕ). in_all of k u.guests) same in
     let q = ap (λ (k : ℕ). in_all of k t.guests) same in omega arith
 
+-- the same of a counter that rises by at least as much
+turn_exceeds : (of : Tally → ℕ) (i n : ℕ) (s u : Stage) (before after : ℕ) → TakesTurn i n s u
+    → before + of (u.guests i).tally ≤ after + of (s.guests i).tally
+    → before + in_all of s.count u.guests ≤ after + in_all of s.count s.guests
+turn_exceeds of i n s u before after turn e =
+    let all = of_all of i s.count s.guests u.guests turn.others turn.number in omega arith
+
+both_exceed : (of : Tally → ℕ) (count : ℕ) (s u t : Stage) (a b c : ℕ) → u.count ≡ s.count
+    → a + in_all of s.count u.guests ≤ b + in_all of s.count s.guests
+    → b + in_all of u.count t.guests ≤ c + in_all of u.count u.guests
+    → a + in_all of s.count t.guests ≤ c + in_all of s.count s.guests
+both_exceed of count s u t a b c same e f =
+    let p = ap (λ (k : ℕ). in_all of k u.guests) same in
+    let q = ap (λ (k : ℕ). in_all of k t.guests) same in omega arith
+
+same_is_least : (a b : ℕ) → a ≡ b → b ≤ a
+same_is_least a b e = omega arith
+
 abbrev retired_in : Tally → ℕ
 retired_in t = t.retired
 
@@ -56,16 +74,16 @@ unfolding trail
 counters_rise_by_turns [] s t same = record {
   retired = ap (λ (x : Stage). x.native.retired + in_all retired_in s.count s.guests) (sym same)
       ∙ ap (λ (x : Stage). s.native.retired + in_all retired_in s.count x.guests) same;
-  exceptions = ap (λ (x : Stage). x.native.exceptions + in_all exits s.count s.guests) (sym same)
-      ∙ ap (λ (x : Stage). s.native.exceptions + in_all exits s.count x.guests) same;
+  exceptions = same_is_least _ _ (ap (λ (x : Stage). x.native.exceptions + in_all exits s.count s.guests) (sym same)
+      ∙ ap (λ (x : Stage). s.native.exceptions + in_all exits s.count x.guests) same);
   trail_is = ap (λ (x : Stage). x.native.trail) (sym same);
 }
 counters_rise_by_turns (turn ∷ turns) s t (u, taken, rest) =
     let later = counters_rise_by_turns turns u t rest in record {
       retired = both_count retired_in s.count s u t s.native.retired u.native.retired t.native.retired taken.count
           (turn_counts retired_in turn.0 turn.1 s u s.native.retired u.native.retired taken taken.turn.retired) later.retired;
-      exceptions = both_count exits s.count s u t s.native.exceptions u.native.exceptions t.native.exceptions taken.count
-          (turn_counts exits turn.0 turn.1 s u s.native.exceptions u.native.exceptions taken taken.turn.exceptions) later.exceptions;
+      exceptions = both_exceed exits s.count s u t s.native.exceptions u.native.exceptions t.native.exceptions taken.count
+          (turn_exceeds exits turn.0 turn.1 s u s.native.exceptions u.native.exceptions taken taken.turn.exceptions) later.exceptions;
       trail_is = later.trail_is ∙ ap (λ (k : ℕ). trail k (marks_of_turns turns u t rest)) taken.turn.trail
           ∙ sym (trail_append s.native.trail taken.turn.marks (marks_of_turns turns u t rest));
     }

@@ -7,7 +7,8 @@ use Rattle.mb_model.specs.declared.processor.Cpu.{Cpu}
 use Rattle.mb_machine.specs.Machine.{Entries, begun, takes_steps, reset_with}
 use Rattle.vm_machine.specs.declared.class.Class.{Class}
 use Rattle.vm_machine.specs.declared.class.Class.TheVariants.{Entered, Idle, Traced, Privileged, Denied, Trapped, Retired}
-use Rattle.vm_machine.specs.Turns.{Tally, Turned, counted, steps_in, marks_of, class_of_step, guest_stepped, advanced, turn_of, prepared, unmarked}
+use Rattle.vm_machine.specs.Turns.{Tally, Turned, counted, with_refills, steps_in, marks_of, class_of_step, refills_of_step, guest_stepped, advanced, turn_of}
+use Rattle.vm_machine.specs.Turns.{prepared, unmarked, exits}
 use Rattle.vm_machine.specs.Laws.{CountsAreSteps, MarksAreOfRetired, MarksAppend}
 use Rattle.vm_machine.proofs.TurnLaws.{halted_turn, going_turn, nothing_turned, turns_add, turn_front}
 
@@ -21,6 +22,18 @@ one_more Privileged t = omega arith
 one_more Denied t = omega arith
 one_more Trapped t = omega arith
 one_more Retired t = omega arith
+
+-- a refilled step is counted once, among the retired ones
+pub refills_aside : (class : Class) (n : ℕ) (t : Tally)
+    → (steps_in (with_refills class n t) ≡ steps_in t) × ((with_refills class n t).retired ≡ t.retired) × (exits (with_refills class n t) ≡ exits t)
+refills_aside Retired zero t = (refl, refl, refl)
+refills_aside Retired (suc n) t = (refl, refl, refl)
+refills_aside Entered n t = (refl, refl, refl)
+refills_aside Idle n t = (refl, refl, refl)
+refills_aside Traced n t = (refl, refl, refl)
+refills_aside Privileged n t = (refl, refl, refl)
+refills_aside Denied n t = (refl, refl, refl)
+refills_aside Trapped n t = (refl, refl, refl)
 
 -- what a class adds to the retired ones and to the marks
 both_more : (class : Class) (t : Tally) (before after : Cpu) → (counted class t).retired * 2 ≡ t.retired * 2 + length (marks_of class before after)
@@ -40,7 +53,10 @@ AsMany t u = steps_in u.tally + t.guest.machine.steps ≡ steps_in t.tally + u.g
 
 step_counts : (script : Entries) (t : Turned) → AsMany t (advanced script t)
 unfolding advanced guest_stepped begun
-step_counts script t = let e = one_more (class_of_step script t.guest) t.tally in omega arith
+step_counts script t =
+    let class = class_of_step script t.guest in
+    let e = one_more class t.tally in
+    let f = (refills_aside class (refills_of_step script t.guest) (counted class t.tally)).0 in omega arith
 
 abbrev Doubled : Turned → Turned → Type 0
 Doubled t u = u.tally.retired * 2 + length t.marks ≡ t.tally.retired * 2 + length u.marks
@@ -51,6 +67,7 @@ step_doubles script t =
     let class = class_of_step script t.guest in
     let more = marks_of class t.guest.machine.cpu (guest_stepped script t.guest).machine.cpu in
     let e = both_more class t.tally t.guest.machine.cpu (guest_stepped script t.guest).machine.cpu in
+    let r = (refills_aside class (refills_of_step script t.guest) (counted class t.tally)).1 in
     let f : length (t.marks ++ more) ≡ length t.marks + length more = length-append t.marks more in omega arith
 
 turn_counts : (script : Entries) (n : ℕ) (t : Turned) → AsMany t (turn_of script n t)

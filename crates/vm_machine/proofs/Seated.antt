@@ -139,5 +139,5 @@ nothing_is_taken s seated = record {
   within = record { count = refl; below = refl; above = refl };
   retired = refl;
   trail = refl;
-  exceptions = refl;
+  exceptions = omega arith;
 }

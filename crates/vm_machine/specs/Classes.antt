@@ -16,6 +16,7 @@ use Rattle.vm_machine.specs.declared.class.Class.TheVariants.{Entered, Idle, Tra
 use Rattle.vm_machine.specs.declared.class.Class.TheVariants.{Retired}
 use Rattle.vm_machine.specs.Guests.{Guest, may}
 use Rattle.vm_machine.specs.Bus.{guest_bus}
+use Rattle.vm_machine.specs.Refills.{refilled}
 
 -- ---- an attempt
 
@@ -51,12 +52,20 @@ class_of_attempt cpu g =
 abbrev pub is_traced : Cpu → Bool
 is_traced cpu = traces_all cpu.regs.sr || traces_flow cpu.regs.sr
 
--- The class of a step that has begun, with an interrupt of this level asked for: the first that holds.
-unfoldable pub class_of : ℕ → Cpu → Guest → Class
-class_of level cpu g =
+-- the first that holds, with an interrupt of this level asked for; else the class of its attempt
+abbrev pub unless_aside : ℕ → Cpu → Class → Class
+unless_aside level cpu attempted =
     if nat_lt (interrupt_mask cpu) level then Entered else
     if cpu.stopped then Idle else
-    if is_traced cpu then Traced else class_of_attempt cpu g
+    if is_traced cpu then Traced else attempted
+
+-- The class of a step that has begun. Its attempt is judged once each read that is refilled has been.
+unfoldable pub class_of : ℕ → Cpu → Guest → Class
+class_of level cpu g = unless_aside level cpu (class_of_attempt cpu (refilled cpu g).guest)
+
+-- by its first attempt alone, as the board meets it
+unfoldable pub class_at_first : ℕ → Cpu → Guest → Class
+class_at_first level cpu g = unless_aside level cpu (class_of_attempt cpu g)
 
 -- does a board in user mode leave such an attempt by an exception
 abbrev pub is_exit : Class → Bool

@@ -1,6 +1,7 @@
 pub mod Guests
 pub mod Bus
 pub mod Held
+pub mod Refills
 pub mod Classes
 pub mod Turns
 pub mod Seats

@@ -70,6 +70,6 @@ in_all of (suc n) guests = of (guests n).tally + in_all of n guests
 pub record CountersRise (turns : Turns) (s t : Stage) (taken : TakeTurns turns s t) : Type 0 where
   pub retired : t.native.retired + in_all (λ c. c.retired) s.count s.guests
       ≡ s.native.retired + in_all (λ c. c.retired) s.count t.guests
-  pub exceptions : t.native.exceptions + in_all exits s.count s.guests
-      ≡ s.native.exceptions + in_all exits s.count t.guests
+  pub exceptions : s.native.exceptions + in_all exits s.count t.guests
+      ≤ t.native.exceptions + in_all exits s.count s.guests
   pub trail_is : t.native.trail ≡ trail s.native.trail (marks_of_turns turns s t taken)

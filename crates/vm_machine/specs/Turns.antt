@@ -15,7 +15,8 @@ use Rattle.vm_machine.specs.declared.class.Class.TheVariants.{Entered, Idle, Tra
 use Rattle.vm_machine.specs.declared.class.Class.TheVariants.{Retired}
 use Rattle.vm_machine.specs.Guests.{Guest}
 use Rattle.vm_machine.specs.Bus.{guest_bus}
-use Rattle.vm_machine.specs.Classes.{class_of}
+use Rattle.vm_machine.specs.Refills.{refilled}
+use Rattle.vm_machine.specs.Classes.{class_of, class_at_first}
 
 -- ---- the machine with its shadow
 
@@ -52,6 +53,16 @@ unfoldable pub class_of_step : Entries → Guested → Class
 class_of_step script g =
     let b = guest_begun script g in class_of (level_of b.machine.world.devices) b.machine.cpu (world_of b)
 
+-- by its first attempt alone
+unfoldable pub step_class_at_first : Entries → Guested → Class
+step_class_at_first script g =
+    let b = guest_begun script g in class_at_first (level_of b.machine.world.devices) b.machine.cpu (world_of b)
+
+-- How often its attempt is begun again, if it makes one.
+unfoldable pub refills_of_step : Entries → Guested → ℕ
+refills_of_step script g =
+    let b = guest_begun script g in (refilled b.machine.cpu (world_of b)).refills
+
 -- ---- counts and marks
 
 -- how many steps of each class there were
@@ -63,7 +74,7 @@ pub record Tally : Type 0 where
   pub traced : ℕ
   pub entered : ℕ
   pub idle : ℕ
-  -- retired ones that the board began again after a fill
+  -- retired ones that the board began again after a fill, once or more often
   pub refilled : ℕ
 
 -- before any step
@@ -89,6 +100,11 @@ counted Traced t = record t { traced = t.traced + 1 }
 counted Entered t = record t { entered = t.entered + 1 }
 counted Idle t = record t { idle = t.idle + 1 }
 
+-- a retired step that began again so often is a refilled one too
+abbrev pub with_refills : Class → ℕ → Tally → Tally
+with_refills Retired (suc n) t = record t { refilled = t.refilled + 1 }
+with_refills _ _ t = t
+
 -- all steps
 abbrev pub steps_in : Tally → ℕ
 steps_in t = t.retired + t.privileged + t.trapped + t.denied + t.traced + t.entered + t.idle
@@ -110,17 +126,18 @@ pub record Turned : Type 0 where
   pub tally : Tally
   pub marks : List Plain
 
--- with a step of this class, which leaves this guest
-abbrev pub by_class : Class → Guested → Turned → Turned
-by_class class after t = record {
+-- with a step of this class, which began again so often and leaves this guest
+abbrev pub by_class : Class → (refills : ℕ) → Guested → Turned → Turned
+by_class class refills after t = record {
   guest = after;
-  tally = counted class t.tally;
+  tally = with_refills class refills (counted class t.tally);
   marks = t.marks ++ marks_of class t.guest.machine.cpu after.machine.cpu;
 }
 
 -- One step.
 unfoldable pub advanced : Entries → Turned → Turned
-advanced script t = by_class (class_of_step script t.guest) (guest_stepped script t.guest) t
+advanced script t =
+    by_class (class_of_step script t.guest) (refills_of_step script t.guest) (guest_stepped script t.guest) t
 
 -- A turn: so many steps, or fewer where the machine is halted or off.
 unfoldable pub turn_of : Entries → ℕ → Turned → Turned

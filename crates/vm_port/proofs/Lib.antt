@@ -2,3 +2,5 @@ pub mod Frames
 pub mod Owns
 pub mod Truth
 pub mod Covered
+pub mod QuietSearches
+pub mod SeenReads

@@ -8,6 +8,8 @@ mod bus_port;
 mod flushing;
 mod places;
 mod port;
+mod quiet;
+mod refilling;
 mod tables;
 mod translating;
 

@@ -83,14 +83,14 @@ impl<R: Ram> GuestPort<'_, R> {
 
     /// Whether the page of a place is one of RAM.
     #[tactic(auto, using(crate::proofs::Frames::lengths))]
-    fn is_in_ram(&self, at: u32) -> bool
+    pub(crate) fn is_in_ram(&self, at: u32) -> bool
         ensures { result ≡ is_in_ram (length (world_of self.now).ram) at }
     {
         page_of(at) < page_of(self.size)
     }
 
     /// Whether exactly one of the two sides has a transparent register that matches the page.
-    fn is_split(&self, space: Space, at: u32) -> bool
+    pub(crate) fn is_split(&self, space: Space, at: u32) -> bool
         ensures { result ≡ is_split (world_of self.now).mmu space (page_number at) }
     {
         let code = transparent(self.registers.itt0, self.registers.itt1, space, at).is_some();

@@ -1,5 +1,5 @@
 -- Guests that stand one after the other: a turn of one, and a further one behind them.
-use Rattle.std.proofs.Common.{◌≡◌, ◌≢◌, ◌∙◌, ℕ, zero, suc, ◌+◌, ◌≤◌, ◌<◌, List, [], ◌∷◌, ◌++◌, length, get_or, set, drop, map}
+use Rattle.std.proofs.Common.{◌≡◌, ◌≢◌, ◌∙◌, ℕ, zero, suc, ◌+◌, ◌*◌, ◌≤◌, ◌<◌, List, [], ◌∷◌, ◌++◌, length, get_or, set, drop, map}
 use Rattle.std.proofs.Common.{true, refl, ap, sym, subst, inl, inr, arith, Some}
 use Rattle.std.specs.Prelude.{slice_get, ◌&&◌, All}
 use Rattle.std.proofs.Common.{append_assoc}
@@ -166,7 +166,7 @@ all_marks slice (m ∷ ms) = ap (λ (marks : List Plain). (turn_in slice m).mark
 
 pub nothing_counted : (ms : List Member) (native : NativeState) → AreCounted ms ms [] native native
 unfolding trail
-nothing_counted ms native = record { retired = refl; trail = refl; exceptions = refl }
+nothing_counted ms native = record { retired = refl; trail = refl; exceptions = omega arith }
 
 pub counted_on : (a b c : List Member) (first more : List Plain) (o p q : NativeState) → AreCounted a b first o p → AreCounted b c more p q
     → AreCounted a c (first ++ more) o q
@@ -186,22 +186,22 @@ pub record Turn (slice place : ℕ) (ms : List Member) (old new : NativeState) :
   pub counts : AreCounted ms (with_turn slice place ms) (marks_at slice place ms) old new
   pub ready : All IsReady (with_turn slice place ms)
   pub retired : new.retired + left_of_all (with_turn slice place ms) ≤ old.retired + left_of_all ms
-  pub exceptions : new.exceptions + left_of_all (with_turn slice place ms) ≤ old.exceptions + left_of_all ms
+  pub exceptions : new.exceptions + 32 * left_of_all (with_turn slice place ms) ≤ old.exceptions + 32 * left_of_all ms
 
 -- what is known of the one that takes it
 pub record Own (slice : ℕ) (m : Member) (old new : NativeState) : Type 0 where
   pub counts : AreCounted (m ∷ []) (after_turn slice m ∷ []) (turn_in slice m).marks old new
   pub ready : IsReady (after_turn slice m)
   pub retired : new.retired + left (after_turn slice m) ≤ old.retired + left m
-  pub exceptions : new.exceptions + left (after_turn slice m) ≤ old.exceptions + left m
+  pub exceptions : new.exceptions + 32 * left (after_turn slice m) ≤ old.exceptions + 32 * left m
 
 pub own_by : (slice : ℕ) (m k : Member) (old new : NativeState) → k ≡ after_turn slice m → AreCounted (m ∷ []) (k ∷ []) (turn_in slice m).marks old new
-    → IsReady k → (new.retired + left k ≤ old.retired + left m) × (new.exceptions + left k ≤ old.exceptions + left m) → Own slice m old new
+    → IsReady k → (new.retired + left k ≤ old.retired + left m) × (new.exceptions + 32 * left k ≤ old.exceptions + 32 * left m) → Own slice m old new
 own_by slice m k old new is counts ready room = record {
   counts = subst (λ (a : Member). AreCounted (m ∷ []) (a ∷ []) (turn_in slice m).marks old new) is counts;
   ready = subst IsReady is ready;
   retired = subst (λ (a : Member). new.retired + left a ≤ old.retired + left m) is room.0;
-  exceptions = subst (λ (a : Member). new.exceptions + left a ≤ old.exceptions + left m) is room.1;
+  exceptions = subst (λ (a : Member). new.exceptions + 32 * left a ≤ old.exceptions + 32 * left m) is room.1;
 }
 
 all_behind : (m : Member) (ms : List Member) → All IsReady (m ∷ ms) → All IsReady ms

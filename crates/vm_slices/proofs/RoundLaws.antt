@@ -1,6 +1,6 @@
 -- Rounds of a session.
-use Rattle.std.proofs.Common.{◌≡◌, ◌∙◌, ℕ, zero, suc, ◌+◌, ◌*◌, ◌≤◌, ◌<◌, ◌^◌, List, [], ◌∷◌, ◌++◌, length, map, refl, ap, sym, subst, Bool, true, false, inl, inr, arith}
-use Rattle.std.specs.Prelude.{nat_le, ◌&&◌, All}
+use Rattle.std.proofs.Common.{◌≡◌, ◌∙◌, ℕ, zero, suc, ◌*◌, ◌≤◌, ◌<◌, List, [], ◌∷◌, ◌++◌, length, map, refl, ap, sym, subst, true, false, inl, inr, arith}
+use Rattle.std.specs.Prelude.{nat_le, All}
 use Rattle.std.proofs.lemmas.Bool.{cases_Bool, cases_lt}
 use Rattle.std.proofs.lemmas.Bool.Decides.{nat_tests}
 use Rattle.mb_instr.specs.declared.registers.Plain.{Plain}
@@ -11,7 +11,7 @@ use Rattle.vm_machine.specs.Rounds.{Member, left, is_done, opened, Hosted, membe
 use Rattle.vm_machine.specs.Rounds.{rounds, host_run, WholeTurns}
 use Rattle.vm_machine.proofs.ByRule.{turns_by_rule}
 use Rattle.vm_machine.proofs.Rounds.{rounds_end_all}
-use Rattle.vm_slices.specs.Counting.{AreCounted, HasRoom}
+use Rattle.vm_slices.specs.Counting.{AreCounted}
 use Rattle.vm_slices.specs.Members.{machine_at_end, tally_at_end, after_rounds, machines_of, tallies_of, IsReady}
 use Rattle.vm_slices.proofs.Places.{counted_on, nothing_counted}
 use Rattle.vm_slices.proofs.Turns.{turn_left}

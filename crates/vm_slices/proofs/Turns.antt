@@ -1,11 +1,10 @@
 -- A guest's turn of a round, on its board.
 use Rattle.std.proofs.Common.{◌≡◌, ◌∙◌, ℕ, zero, suc, ◌+◌, ◌-◌, ◌≤◌, min, List, [], ◌∷◌, refl, ap, sym, true, false, inl, inr, arith}
 use Rattle.std.proofs.lemmas.Bool.{cases_Bool}
-use Rattle.mb_instr.specs.declared.registers.Plain.{Plain}
 use Rattle.mb_machine.specs.Machine.{Entries, begun, takes_steps}
 use Rattle.vm_meaning.specs.Marks.{trail}
 use Rattle.vm_meaning.specs.Native.{NativeState}
-use Rattle.vm_machine.specs.Turns.{Turned, exits, guest_stepped, advanced, turn_of}
+use Rattle.vm_machine.specs.Turns.{Turned, guest_stepped, advanced, turn_of}
 use Rattle.vm_machine.specs.Seats.{Seat, turned_on, Takes}
 use Rattle.vm_machine.specs.Rounds.{Member, left, opened, closed_by, turn_in}
 use Rattle.vm_machine.proofs.TurnLaws.{halted_turn, going_turn, nothing_turned}

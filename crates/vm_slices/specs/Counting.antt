@@ -1,5 +1,5 @@
 -- What boards count of the steps of a session's guests.
-use Rattle.std.specs.Prelude.{◌≡◌, ℕ, ◌+◌, ◌^◌, ◌<◌, ◌≤◌, List, [], ◌∷◌}
+use Rattle.std.specs.Prelude.{◌≡◌, ℕ, ◌+◌, ◌*◌, ◌^◌, ◌<◌, ◌≤◌, List, [], ◌∷◌}
 use Rattle.mb_instr.specs.declared.registers.Plain.{Plain}
 use Rattle.vm_meaning.specs.Marks.{trail}
 use Rattle.vm_meaning.specs.Native.{NativeState}
@@ -21,9 +21,9 @@ pub record AreCounted (before after : List Member) (marks : List Plain) (old new
   -- boards have carried out the retired steps
   pub retired : new.retired + retired_by before ≡ old.retired + retired_by after
   pub trail : new.trail ≡ trail old.trail marks
-  -- and left the privileged, trapped and denied ones, each by one exception
-  pub exceptions : new.exceptions + exits_by before ≡ old.exceptions + exits_by after
+  -- and left the privileged, trapped and denied ones, each by one exception or more
+  pub exceptions : old.exceptions + exits_by after ≤ new.exceptions + exits_by before
 
--- So many steps more can be counted.
+-- So many steps more can be counted, each with as many exceptions as it may begin again by, and one more.
 abbrev pub HasRoom : ℕ → NativeState → Type 0
-HasRoom steps native = (native.retired + steps < 2 ^ 62) × (native.exceptions + steps < 2 ^ 62)
+HasRoom steps native = (native.retired + steps < 2 ^ 62) × (native.exceptions + 32 * steps < 2 ^ 62)

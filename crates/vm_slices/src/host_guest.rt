@@ -1,6 +1,6 @@
 //! One guest of a session on its board.
 
-ghost use Rattle.std.specs.Prelude.{◌≡◌, ◌+◌, ◌%◌, ◌^◌, ◌<◌, ◌≤◌, [], ◌∷◌, length, IfOk};
+ghost use Rattle.std.specs.Prelude.{◌≡◌, ◌+◌, ◌*◌, ◌%◌, ◌^◌, ◌<◌, ◌≤◌, [], ◌∷◌, length, IfOk};
 ghost use Rattle.vm_shadow.specs.Mapped.{area_bytes};
 ghost use Rattle.vm_machine.specs.Seats.{end_of, monitor_bytes, IsSame, IsSeated, OnlyWithin};
 ghost use Rattle.vm_machine.specs.Rounds.{left, is_done, turn_in};
@@ -81,8 +81,8 @@ impl HostGuest {
         ensures ready { IsReady (member_of board.new.world.ram self.new) }
         ensures room { (native.new.retired + left (member_of board.new.world.ram self.new)
             ≤ native.old.retired + left (member_of board.old.world.ram self.old))
-            × (native.new.exceptions + left (member_of board.new.world.ram self.new)
-            ≤ native.old.exceptions + left (member_of board.old.world.ram self.old)) }
+            × (native.new.exceptions + 32 * left (member_of board.new.world.ram self.new)
+            ≤ native.old.exceptions + 32 * left (member_of board.old.world.ram self.old)) }
         ensures same { IsSame self.old.guest self.new.guest }
         ensures seated { IsSeated self.new.guest board.new.world.ram }
         ensures within { OnlyWithin self.old.guest board.old.world.ram board.new.world.ram }

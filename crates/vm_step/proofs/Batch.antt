@@ -10,7 +10,7 @@ use Rattle.vm_machine.specs.declared.class.Class.TheVariants.{Retired}
 use Rattle.vm_meaning.specs.declared.RunEnd.TheVariants.{Counted, Exit, Gone}
 use Rattle.mb_meaning.specs.declared.Finish.{Finish}
 use Rattle.mb_meaning.specs.declared.Finish.TheVariants as finish
-use Rattle.vm_machine.specs.Turns.{Guested, Turned, Tally, guest_stepped, class_of_step, by_class, advanced, turn_of}
+use Rattle.vm_machine.specs.Turns.{Guested, Turned, Tally, guest_stepped, class_of_step, step_class_at_first, refills_of_step, by_class, advanced, turn_of}
 use Rattle.vm_meaning.specs.Marks.{trail}
 use Rattle.vm_meaning.specs.Native.{end_of, with_exception, NativeState, Ran, user_step, user_run, ran_by, ended_by, with_step, with_retired}
 use Rattle.vm_step.specs.Retire.{Retires}
@@ -19,6 +19,7 @@ use Rattle.vm_step.proofs.Registers.{same_word}
 use Rattle.vm_step.specs.Batch.{Wanted, IsTried, stepped_by, AllRetired, IsInside, IsCounted, IsExit, Batch, RunsAreBatches}
 use Rattle.vm_step.proofs.Retire.{retired_steps}
 use Rattle.vm_step.proofs.Exit.{left_steps}
+use Rattle.vm_step.proofs.Refill.{first_is_last}
 use Rattle.vm_machine.proofs.Trails.{trail_append}
 
 -- ---- one step of the board's run
@@ -65,9 +66,12 @@ retiring t after = record {
   marks = t.marks ++ plain_of t.guest.machine.cpu.regs ∷ plain_of after.machine.cpu.regs ∷ [];
 }
 
-advanced_is : (script : Entries) (t : Turned) → class_of_step script t.guest ≡ Retired → advanced script t ≡ retiring t (guest_stepped script t.guest)
+advanced_is : (script : Entries) (t : Turned) → (class_of_step script t.guest ≡ Retired) × (refills_of_step script t.guest ≡ 0)
+    → advanced script t ≡ retiring t (guest_stepped script t.guest)
 unfolding advanced
-advanced_is script t h = ap (λ (c : Class). by_class c (guest_stepped script t.guest) t) h
+advanced_is script t (h, none) =
+    ap (λ (c : Class). by_class c (refills_of_step script t.guest) (guest_stepped script t.guest) t) h
+    ∙ ap (λ (n : ℕ). by_class Retired n (guest_stepped script t.guest) t) none
 
 -- what the monitor has set stays
 stays_furnished : (x : Site) (script : Entries) (m : Machine) (g : Guested) (s : Finish × Machine) (t : Guested) → Retires x script m g s t → Furnished x m
@@ -141,8 +145,8 @@ inside_by x script m g s t h = record { count = h.outside.count; below = h.outsi
 -- one more before a batch
 one_more : (x : Site) (script : Entries) (n : ℕ) (r one after : Ran) (t u : Turned) → takes_steps t.guest.machine.state ≡ true → advanced script t ≡ u
     → (p q : Plain) → u.tally ≡ record t.tally { retired = t.tally.retired + 1 } → u.marks ≡ t.marks ++ p ∷ q ∷ []
-    → Wanted t.guest → class_of_step script t.guest ≡ Retired → u.guest ≡ guest_stepped script t.guest → IsInside x r.machine.world.ram one.machine.world.ram
-    → one.machine.cpu.regs.isp ≡ r.machine.cpu.regs.isp
+    → Wanted t.guest → step_class_at_first script t.guest ≡ Retired → u.guest ≡ guest_stepped script t.guest
+    → IsInside x r.machine.world.ram one.machine.world.ram → one.machine.cpu.regs.isp ≡ r.machine.cpu.regs.isp
     → one.native ≡ with_retired p q r.native → Batch x script n one u after → Batch x script (suc n) r t after
 one_more x script n r one after t u on is p q tally marks want retired here inside isp native b =
     let k = b.retired in
@@ -186,6 +190,7 @@ one_more x script n r one after t u on is p q tally marks want retired here insi
                 inside = inside_both x r.machine.world.ram one.machine.world.ram c.last.world.ram inside c.inside;
                 left = c.left;
                 seven = c.seven;
+                fit = c.fit;
                 before = c.before;
                 exceptions = c.exceptions ∙ ap (λ (m : ℕ). m + 1) exceptions;
               },
@@ -201,7 +206,7 @@ runs_are_batches x script (suc n) r t end b f on (want, tried, more) =
     let g = t.guest in
     let s = user_step r.machine in
     let one = ran_by s r in
-    elim (left_or (class_of_step script g) tried) [
+    elim (left_or (step_class_at_first script g) tried) [
       | inl retired ↦
           let h = retired_steps x script r.machine g b want.registers retired want.on in
           let goes : one.end ≡ Counted = ends s.0 s.1 h.running ∙ ap end_of h.step in
@@ -211,9 +216,9 @@ runs_are_batches x script (suc n) r t end b f on (want, tried, more) =
           ∙ ap (λ (p : Plain). with_retired p (plain_of s.1.cpu.regs) r.native) b.plain
           ∙ ap (λ (p : Plain). with_retired (plain_of g.machine.cpu.regs) p r.native) h.boarded.plain in
           subst (Batch x script (suc n) r t) (sym (run_on n r goes))
-          (one_more x script n r one (user_run n one) t u on (advanced_is script t retired) (plain_of g.machine.cpu.regs)
-          (plain_of (guest_stepped script g).machine.cpu.regs) refl refl want retired refl (inside_by x script r.machine g s (guest_stepped script g) h)
-          h.from.isp native
+          (one_more x script n r one (user_run n one) t u on (advanced_is script t (first_is_last x script r.machine g b want.registers retired))
+          (plain_of g.machine.cpu.regs) (plain_of (guest_stepped script g).machine.cpu.regs) refl refl want retired refl
+          (inside_by x script r.machine g s (guest_stepped script g) h) h.from.isp native
           (runs_are_batches x script n one u goes h.boarded (stays_furnished x script r.machine g s (guest_stepped script g) h f) h.alone (more retired)))
       | inr left ↦
           let h = left_steps x script r.machine g b f want.registers want.seven left in
@@ -232,6 +237,7 @@ runs_are_batches x script (suc n) r t end b f on (want, tried, more) =
               inside = record { count = refl; below = refl; above = refl };
               left = subst (λ (v : Finish). Leaves x script r.machine g (v, s.1)) h.entered h;
               seven = want.seven;
+              fit = want.registers;
               before = b.plain;
               exceptions = ap (λ (v : NativeState). v.exceptions) native;
             },

@@ -1,6 +1,6 @@
 -- A step that the board leaves by an exception.
 use Rattle.std.proofs.Common.{◌≡◌, ◌∙◌, ℕ, ◌+◌, ◌-◌, ◌*◌, ◌^◌, ◌<◌, ◌≤◌, Bool, true, false, cond, List, [], ◌∷◌, ◌++◌, length, take, drop, Option, Some, None}
-use Rattle.std.proofs.Common.{arith, refl, ap, sym, subst}
+use Rattle.std.proofs.Common.{◌⊎◌, arith, refl, ap, sym, subst, inl, inr, Ok, Err}
 use Rattle.std.proofs.lemmas.List.{length-take}
 use Rattle.mb_port.specs.Routine.{run}
 use Rattle.mb_port.specs.declared.types.Space.{Space}
@@ -22,13 +22,15 @@ use Rattle.mb_writes.specs.declared.ends.Ended.TheVariants as ended
 use Rattle.mb_meaning.specs.declared.entering.Cause.{Cause}
 use Rattle.mb_meaning.specs.declared.Finish.{Finish}
 use Rattle.mb_meaning.specs.declared.Finish.TheVariants as finish
-use Rattle.mb_meaning.specs.Ends.{closed}
+use Rattle.mb_writes.specs.declared.transfers.Movem.{Movem}
+use Rattle.mb_meaning.specs.Ends.{Performed, closed}
 use Rattle.mb_meaning.specs.Attempt.{fetched_of}
 use Rattle.mb_meaning.specs.SystemEnds.{with_registers}
 use Rattle.mb_meaning.specs.Entry.{frames_of, frame_of, frame_with, has_address, settled}
 use Rattle.mb_meaning.specs.Step.{interrupt_mask, step_of}
 use Rattle.mb_devices.specs.Devices.{DeviceState, ticked, level_of}
 use Rattle.mb_machine.specs.World.{World}
+use Rattle.mb_machine.specs.declared.reference.Reference.{Reference}
 use Rattle.mb_machine.specs.Access.{untranslated}
 use Rattle.mb_machine.specs.Machine.{Machine, begun, arrived, state_after, takes_steps}
 use Rattle.mb_machine.specs.Enters.{IsOpen, HasRoom, supervising}
@@ -44,7 +46,10 @@ use Rattle.vm_machine.specs.Bus.{guest_bus}
 use Rattle.vm_mirror.specs.Related.{Site, Related}
 use Rattle.vm_mirror.specs.Laws.{board_bus}
 use Rattle.vm_mirror.specs.Ready.{native_mmu}
-use Rattle.vm_held.specs.Denied.{by_held, by_guest}
+use Rattle.vm_held.specs.Denied.{HasNone, IsFaultless, GoesOn, IsAllowed, IsDenied, by_held, by_guest}
+use Rattle.vm_machine.specs.Refills.{read_in, denied_read, can_refill, after_access, refilled_at, begun_again}
+use Rattle.vm_step.specs.Reads.{read_of_access}
+use Rattle.vm_step.proofs.ToldReads.{unlocked}
 use Rattle.vm_held.specs.Sound.{Sound, OnlyRam}
 use Rattle.vm_mirror.proofs.Ready.{native_translation}
 use Rattle.vm_leave.proofs.Exits.{frames_leave_ready}
@@ -52,7 +57,7 @@ use Rattle.vm_machine.specs.declared.class.Class.{Class}
 use Rattle.vm_machine.specs.declared.class.Class.TheVariants as class
 use Rattle.vm_machine.specs.declared.class.Class.TheVariants.{Retired}
 use Rattle.vm_machine.specs.Classes.{class_of_end}
-use Rattle.vm_machine.specs.Turns.{class_of_step, world_of}
+use Rattle.vm_machine.specs.Turns.{step_class_at_first, world_of}
 use Rattle.vm_meaning.specs.Native.{user_step}
 use Rattle.vm_step.specs.Retire.{HasRegisters}
 use Rattle.vm_machine.specs.Rests.{rest_of}
@@ -147,7 +152,7 @@ pub record BoardLeft (x : Site) (level own_level : ℕ) (i : Instr) (cpu : Cpu) 
   pub world : World
   pub stays : Stays x w g world (by_held x.space (plain_of guest.regs) g).1
   pub native : run board_bus (step_of level cpu) w ≡ left e world
-  pub is : ExitIs i own_level guest cpu (end_of_held x guest g).0 (end_of_held x guest g).1 e
+  pub is : ExitIs x.space i own_level guest cpu (end_of_held x guest g).0 (end_of_held x guest g).1 e
   pub stack : OnStack e.cause e.cpu e.cpu.regs.isp
   pub room : HasRoom world e.cause e.cpu
   pub fits : IsFrame (frame_of e.cpu.regs.sr e.cause)
@@ -236,8 +241,67 @@ is_tried class.Retired h = absurd h
 left_is : (x : Site) (ram : List ℕ) (g k : Guest) → OnlyRam g k → part ram x.base x.size ≡ k.world.ram → left_guest x ram g ≡ k
 left_is x ram g k only e = ap (λ (r : List ℕ). (let o : Guest = record g { world = record g.world { ram = r } } in o)) e ∙ sym only
 
+-- ---- the read that is refilled
+
+read_in_closed : (q : Performed) → read_in (closed q).0 ≡ denied_read q
+read_in_closed (Ok done) = refl
+read_in_closed (Err stop) = refl
+
+locked_not : (g : Guest) (r : Reference) → r.write ≡ true → can_refill g r ≡ false
+unfolding can_refill
+locked_not g r e = rw e refl
+
+-- a locked check is none
+unlocked_same : (g : Guest) (o : Option Reference) → refilled_at g (unlocked o) ≡ refilled_at g o
+unlocked_same g None = refl
+unlocked_same g (Some r) = by_write r.write refl
+  where
+    by_write : (b : Bool) → r.write ≡ b → refilled_at g (unlocked (Some r)) ≡ refilled_at g (Some r)
+    by_write true e =
+        ap (λ (b : Bool). refilled_at g (cond b None (Some r))) e
+        ∙ sym (ap (λ (b : Bool). cond b (Some (after_access r g)) None) (locked_not g r e))
+    by_write false e = ap (λ (b : Bool). refilled_at g (cond b None (Some r))) e
+
+refilled_there : (g now : Guest) (o : Option Reference) → ((r : Reference) → o ≡ Some r → now ≡ g) → refilled_at now o ≡ refilled_at g o
+refilled_there g now None same = refl
+refilled_there g now (Some r) same = ap (λ (h : Guest). refilled_at h (Some r)) (same r refl)
+
+-- where a read was denied, nothing has changed
+still_by : (space : Space) (moves : Movem → Type 0) (g now : Guest) (end : Ended) (after : Plain) (whole : Performed × Guest) (r : Reference)
+    → GoesOn space moves g now end after whole → read_in end ≡ Some r → now ≡ g
+still_by space moves g now (ended.ReadFault refused) after whole r goes e = goes
+still_by space moves g now (ended.Done flow) after whole r goes e = absurd goes
+still_by space moves g now (ended.Trap vector) after whole r goes e = absurd goes
+still_by space moves g now (ended.Refused vector) after whole r goes e = absurd goes
+still_by space moves g now (ended.WriteFault refused) after whole r goes e = absurd (let z : ⊥ = cc in z)
+still_by space moves g now (ended.LineFault fault line) after whole r goes e = absurd (let z : ⊥ = cc in z)
+still_by space moves g now (ended.Movem refused) after whole r goes e = absurd (let z : ⊥ = cc in z)
+
+none_reads : (end : Ended) (r : Reference) → HasNone end → read_in end ≡ Some r → ⊥
+none_reads (ended.Done flow) r h e = let z : ⊥ = cc in z
+none_reads (ended.Trap vector) r h e = let z : ⊥ = cc in z
+none_reads (ended.Refused vector) r h e = let z : ⊥ = cc in z
+none_reads (ended.ReadFault refused) r h e = h
+none_reads (ended.WriteFault refused) r h e = h
+none_reads (ended.LineFault fault line) r h e = h
+none_reads (ended.Movem refused) r h e = h
+
+faultless_reads : (q : Performed) (r : Reference) → IsFaultless q → denied_read q ≡ Some r → ⊥
+faultless_reads (Ok done) r h e = let z : ⊥ = cc in z
+faultless_reads (Err stop) r h e = none_reads stop.ended r h e
+
+denied_still : (space : Space) (moves : Movem → Type 0) (g : Guest) (held own : Performed × Guest) (r : Reference)
+    → IsAllowed g held own ⊎ IsDenied space moves g held own → denied_read held.0 ≡ Some r → held.1 ≡ g
+denied_still space moves g held own r (inl (same, none, leaves)) e = absurd (faultless_reads held.0 r none e)
+denied_still space moves g held own r (inr (stop, is, goes)) e =
+    still_by space moves g held.1 stop.ended stop.plain own r goes (sym (ap denied_read is) ∙ e)
+
+unlocked_some : (o : Option Reference) (r : Reference) → unlocked o ≡ Some r → (q : Reference) × (o ≡ Some q)
+unlocked_some None r e = absurd (let z : None ≡ Some r = e in let y : ⊥ = cc in y)
+unlocked_some (Some q) r e = (q, refl)
+
 pub left_steps : LeftSteps
-unfolding begun class_of_step
+unfolding begun step_class_at_first begun_again
 left_steps x script m g b fur regs seven is_left =
     let d = ticked m.world.devices in
     let dev = arrived (g.machine.steps + 1) script g.machine.world.devices in
@@ -247,10 +311,11 @@ left_steps x script m g b fur regs seven is_left =
     let related = related_devices x m.world (world_of g) d (ticked dev) b.related in
     let sound = sound_of x w h related in
     let k = by_held x.space (plain_of guest.regs) h in
+    let goes = (attempts_go_on x.space x.size (plain_of guest.regs) h regs.longs regs.counter sound).0 in
     let found = (fetched_by held_bus guest h).0 in
     let i = instr_in found in
     let level = level_of (ticked dev) in
-    let c = class_of_step script g in
+    let c = step_class_at_first script g in
     let attempt = is_attempt level guest h c refl (is_tried c is_left) in
     let held : class_of_end (closed k.0).0 ≡ c = class_held x guest h c b.present regs sound attempt.of in
     let never : class_of_end (closed k.0).0 ≡ Retired → ⊥ = λ z. subst IsLeft (sym held ∙ z) is_left in
@@ -295,7 +360,17 @@ left_steps x script m g b fur regs seven is_left =
           ∙ sym (bl.is.rest (ap (λ (a : List ℕ). length a) (sym entered.a) ∙ wide) (handed_by l.0.1.regs f) given k.1)
           ∙ ap (λ (a : Option Access). run guest_bus (rest_by_frame e.cause.vector a level guest (handed_by l.0.1.regs f)) k.1) (sym access)
           ∙ ap (λ (n : Guest). run guest_bus (rest_by_frame e.cause.vector (frame_access f) level guest (handed_by l.0.1.regs f)) n) (sym same);
+      still = λ r e. let (q, read) = unlocked_some (denied_read k.0) r
+          (sym (ap (read_of_access x.space) access ∙ bl.is.read ∙ ap unlocked (read_in_closed k.0)) ∙ e) in
+          same ∙ denied_still x.space (moves_fetched held_bus x.space (plain_of guest.regs).pc h) h k (by_guest x.space (plain_of guest.regs) h) q goes read;
+      again = ap (refilled_at (left_guest x l.1.ram h)) (ap (read_of_access x.space) access ∙ bl.is.read ∙ ap unlocked (read_in_closed k.0))
+          ∙ ap (λ (n : Guest). refilled_at n (unlocked (denied_read k.0))) same ∙ unlocked_same k.1 (denied_read k.0)
+          ∙ refilled_there h k.1 (denied_read k.0) (λ r e.
+          denied_still x.space (moves_fetched held_bus x.space (plain_of guest.regs).pc h) h k (by_guest x.space (plain_of guest.regs) h) r goes e)
+          ∙ ap (λ (s : Space). refilled_at h (denied_read (by_held s (plain_of guest.regs) h).0)) (sym b.present);
       related = subst (λ (n : Guest). Related x l.1 n) (sym same) bl.related;
+      mmu = stays.outside.mmu;
+      on = off;
       count = length-overwritten q.ram at bytes fits ∙ stays.outside.count;
       between = λ n low high.
           ap (λ (r : List ℕ). take (x.base - n) r) (drop-over q.ram bytes n at (let z = top in omega arith) (let z = room in omega arith))

@@ -1,5 +1,5 @@
 -- The exception of an end: what its cause and its frame say.
-use Rattle.std.proofs.Common.{◌≡◌, ◌∙◌, ℕ, ◌<◌, ◌≤◌, ◌==◌, Bool, true, false, cond, List, [], ◌∷◌, length, take, not, ◌&&◌, arith, refl, ap, sym, subst}
+use Rattle.std.proofs.Common.{◌≡◌, ◌∙◌, ℕ, ◌<◌, ◌≤◌, ◌==◌, Bool, true, false, cond, List, [], ◌∷◌, length, take, not, ◌&&◌, Some, arith, refl, ap, sym, subst}
 use Rattle.mb_port.specs.Routine.{Routine, run}
 use Rattle.mb_instr.specs.declared.instruction.Instr.{Instr}
 use Rattle.mb_instr.specs.declared.registers.Plain.{Plain}
@@ -8,8 +8,9 @@ use Rattle.mb_frames.specs.declared.frame.Access.{Access}
 use Rattle.mb_frames.specs.declared.pend.Pend.{Pend}
 use Rattle.mb_frames.specs.AccessFields as fields
 use Rattle.mb_frames.specs.AccessFields.{write_fields, line_fields, access_fields}
-use Rattle.mb_writes.specs.Transfers.{movem_in, refused_transfer}
+use Rattle.mb_writes.specs.Transfers.{movem_in, transfer_at, refused_transfer}
 use Rattle.mb_port.specs.declared.types.Fault.{Fault}
+use Rattle.mb_port.specs.declared.types.Space.{Space}
 use Rattle.mb_model.specs.declared.processor.Cpu.{Cpu}
 use Rattle.mb_ea.specs.declared.reading.ReadFault.{ReadFault}
 use Rattle.mb_writes.specs.declared.ends.WriteFault.{WriteFault}
@@ -32,6 +33,9 @@ use Rattle.vm_meaning.specs.Finishes.{finish_trap_of, finish_writes_of, finish_l
 use Rattle.vm_meaning.specs.Frames.{left_in}
 use Rattle.vm_meaning.specs.declared.left.LeftOver.{LeftOver}
 use Rattle.vm_meaning.specs.declared.left.LeftOver.TheVariants.{Again, Writes, Line, Movem}
+use Rattle.vm_machine.specs.Refills.{read_in}
+use Rattle.vm_step.specs.Reads.{read_of_access}
+use Rattle.vm_step.proofs.ToldReads.{unlocked, read_is_told, write_reads_none, line_reads_none, movem_reads_none}
 use Rattle.vm_step.proofs.Rest.{with_counter}
 use Rattle.vm_step.proofs.Usual.{IsUsual}
 use Rattle.vm_meaning.specs.Telling.{AreOwn}
@@ -47,11 +51,12 @@ is_itself cpu user = record { isp = refl; master = refl; vbr = refl; user = user
 over : (m n : Routine Stepped) (h : Guest) → m ≡ n → run guest_bus m h ≡ run guest_bus n h
 over m n h e = ap (λ (r : Routine Stepped). run guest_bus r h) e
 
-pub record ExitIs (i : Instr) (level : ℕ) (guest cpu : Cpu) (end : Ended) (p : Plain) (e : Exit) : Type 0 where
+pub record ExitIs (space : Space) (i : Instr) (level : ℕ) (guest cpu : Cpu) (end : Ended) (p : Plain) (e : Exit) : Type 0 where
   pub alone : e.cause.level ≡ 0
   pub small : e.cause.vector < 256
   pub class : class_of_vector e.cause.vector ≡ class_of_end end
   pub from : IsFrom cpu e.cpu
+  pub read : read_of_access space e.cause.access ≡ unlocked (read_in end)
   -- a processor has seven address registers beside its stacks
   pub rest : length e.cpu.regs.a ≡ 7 → (q : Plain) → q ≡ record (plain_of e.cpu.regs) { pc = e.cause.pc }
       → (h : Guest) → run guest_bus (rest_by_frame e.cause.vector e.cause.access level guest q) h ≡ run guest_bus (rest_of level guest i end p) h
@@ -88,7 +93,7 @@ never_due cpu flow h = rw h.all (rw h.flow refl)
 module _ (x : Site) (i : Instr) (level : ℕ) (guest cpu : Cpu) (p : Plain) (plain : IsUntraced cpu) (user : is_supervisor cpu.regs.sr ≡ false)
     (counter : cpu.regs.pc ≡ (plain_of guest.regs).pc) where
   abbrev Is : Ended → Exit → Type 0
-  Is end e = ExitIs i level guest cpu end p e
+  Is end e = ExitIs x.space i level guest cpu end p e
 
   abbrev after : Cpu
   after = with_registers p cpu
@@ -100,6 +105,7 @@ module _ (x : Site) (i : Instr) (level : ℕ) (guest cpu : Cpu) (p : Plain) (pla
     small = u.0;
     class = class_by v false u.1 u.2;
     from = is_set p cpu user;
+    read = refl;
     rest = λ seven q e now. over _ _ now (
         ap (λ (b : Bool). rest_without b v level guest q) u.2
         ∙ ap (λ (r : Plain). finish_trap_of (cause_at v r.pc guest.regs.pc) (plain_of guest.regs) (with_registers r guest)) (set_behind p cpu q e)
@@ -113,16 +119,18 @@ module _ (x : Site) (i : Instr) (level : ℕ) (guest cpu : Cpu) (p : Plain) (pla
     small = u.0;
     class = class_by v true u.1 u.2;
     from = is_itself cpu user;
+    read = refl;
     rest = λ _ q e now. over _ _ now (ap (λ (b : Bool). rest_without b v level guest q) u.2);
   }
 
-  read_is : (f g : ReadFault) → Is (ended.ReadFault g) (exit_of i (ended.ReadFault f) cpu after)
+  read_is : (f g : ReadFault) → g.fault ≡ record f.fault { space = x.space } → Is (ended.ReadFault g) (exit_of i (ended.ReadFault f) cpu after)
   unfolding rest_of rest_by
-  read_is f g = record {
+  read_is f g same = record {
     alone = refl;
     small = omega arith;
     class = refl;
     from = is_itself cpu user;
+    read = read_is_told x.space f.fault g.fault f.first page_size same;
     rest = λ _ q e now. over _ _ now (ap (λ (o : LeftOver). rest_by o level guest q) (frames_tell (fields.Read f.fault f.first) page_size tt));
   }
 
@@ -135,6 +143,7 @@ module _ (x : Site) (i : Instr) (level : ℕ) (guest cpu : Cpu) (p : Plain) (pla
     small = omega arith;
     class = refl;
     from = is_itself cpu user;
+    read = write_reads_none x.space f.fault f.first page_size [];
     rest = λ _ q e now. over _ _ now (
         ap (λ (o : LeftOver). rest_by o level guest q) (frames_tell (fields.Write f.fault f.first []) page_size (omega arith, tt))
         ∙ ap (λ (ps : List Pend). rest_by (left_pieces ps g.first) level guest p) (sym h));
@@ -144,6 +153,8 @@ module _ (x : Site) (i : Instr) (level : ℕ) (guest cpu : Cpu) (p : Plain) (pla
     small = omega arith;
     class = refl;
     from = is_set p cpu user;
+    read = ap (λ (a : Access). read_of_access x.space (Some a)) (no_trace due (write_fields f.fault f.first f.rest.items page_size) none)
+        ∙ write_reads_none x.space f.fault f.first page_size f.rest.items;
     rest = λ seven q k now. over _ _ now (
         let own = subst (λ (ps : List Pend). (length ps ≤ 3) × AreOwn ps) h u in
         ap (λ (a : Access). rest_by (left_in a) level guest q) (no_trace due (write_fields f.fault f.first f.rest.items page_size) none)
@@ -162,6 +173,8 @@ module _ (x : Site) (i : Instr) (level : ℕ) (guest cpu : Cpu) (p : Plain) (pla
     small = omega arith;
     class = refl;
     from = is_set p cpu user;
+    read = ap (λ (a : Access). read_of_access x.space (Some a)) (no_trace (traces_all cpu.regs.sr) (line_fields f longs page_size) plain.all)
+        ∙ line_reads_none x.space f longs page_size;
     rest = λ seven q k now. over _ _ now (
         ap (λ (a : Access). rest_by (left_in a) level guest q) (no_trace (traces_all cpu.regs.sr) (line_fields f longs page_size) plain.all)
         ∙ ap (λ (o : LeftOver). rest_by o level guest q) (frames_tell (fields.Line f longs) page_size four)
@@ -177,6 +190,11 @@ module _ (x : Site) (i : Instr) (level : ℕ) (guest cpu : Cpu) (p : Plain) (pla
     small = omega arith;
     class = refl;
     from = is_set p cpu user;
+    read =
+        let moved = refused_transfer f (movem_words i) after.regs.pc in
+        ap (λ (b : Bool). read_of_access x.space (Some (with_ct (b && not (movem_in (movem_words i)).is_load) (access_fields moved page_size)))) plain.all
+        ∙ (let m = movem_in (movem_words i) in
+        movem_reads_none x.space f.fault f.first (transfer_at m f.first f.done) f.done (movem_words i) after.regs.pc m.is_load page_size);
     rest = λ seven q k now. over _ _ now (
         let words = movem_words i in
         let own : Plain = record p { pc = (plain_of guest.regs).pc } in
@@ -197,7 +215,7 @@ module _ (x : Site) (i : Instr) (level : ℕ) (guest cpu : Cpu) (p : Plain) (pla
       subst (λ (n : ℕ). Is (ended.Trap w) (exit_of i (ended.Trap n) cpu after)) (sym same.0) (trap_is w u)
   exit_is (ended.Refused v) (ended.Refused w) same u never =
       subst (λ (n : ℕ). Is (ended.Refused w) (exit_of i (ended.Refused n) cpu after)) (sym same.1) (refused_is w u)
-  exit_is (ended.ReadFault f) (ended.ReadFault g) same u never = read_is f g
+  exit_is (ended.ReadFault f) (ended.ReadFault g) same u never = read_is f g same.fault.1
   exit_is (ended.WriteFault f) (ended.WriteFault g) same u never =
       write_is (is_due cpu.regs.sr (is_flow i)) f g f.rest.items (never_due cpu (is_flow i) plain) refl (sym (ap (λ r. r.items) same.rest)) same.first u
   exit_is (ended.LineFault f l) (ended.LineFault g o) same u never =

@@ -20,12 +20,14 @@ use Rattle.vm_machine.specs.declared.class.Class.TheVariants as class
 use Rattle.vm_machine.specs.Guests.{Guest}
 use Rattle.vm_machine.specs.Bus.{guest_bus}
 use Rattle.vm_machine.specs.Classes.{class_of, class_of_attempt, is_traced}
-use Rattle.vm_machine.specs.Turns.{Guested, Turned, world_of, guest_begun, guest_later, guest_stepped, class_of_step, by_class, advanced, turn_of}
+use Rattle.vm_machine.specs.Refills.{refilled}
+use Rattle.vm_machine.specs.Turns.{Guested, Turned, world_of, guest_begun, guest_later, guest_stepped, class_of_step, refills_of_step}
+use Rattle.vm_machine.specs.Turns.{by_class, advanced, turn_of}
 use Rattle.vm_machine.specs.Seats.{Seat, turned_on, IsSeated}
 use Rattle.vm_machine.proofs.TurnLaws.{going_turn, nothing_turned}
 use Rattle.vm_step.specs.Idle.{IsIdle, idle_guest, idle_turned, idle_seat, QuietStepsAreIdle, IdleStepsTake}
-use Rattle.vm_step.proofs.Retire.{off_arrived, off_ticked}
-use Rattle.vm_step.proofs.Quiet.{first_of, not_above, one_of, only_ticks, rest_of}
+use Rattle.vm_step.proofs.Retire.{not_above, off_arrived, off_ticked}
+use Rattle.vm_step.proofs.Quiet.{first_of, one_of, only_ticks, rest_of}
 
 -- ---- one
 
@@ -39,15 +41,16 @@ chosen a b x y z e f = rw e (rw f refl)
 is_idle : (level : ℕ) (cpu : Cpu) (g : Guest) → level ≤ interrupt_mask cpu → cpu.stopped ≡ true → class_of level cpu g ≡ class.Idle
 unfolding class_of
 is_idle level cpu g masked stopped =
-    second (nat_lt (interrupt_mask cpu) level) cpu.stopped class.Entered class.Idle (cond (is_traced cpu) class.Traced (class_of_attempt cpu g))
-    (not_above level (interrupt_mask cpu) masked) stopped
+    second (nat_lt (interrupt_mask cpu) level) cpu.stopped class.Entered class.Idle
+    (cond (is_traced cpu) class.Traced (class_of_attempt cpu (refilled cpu g).guest))
+    (not_above (interrupt_mask cpu) level masked) stopped
 
 -- the processor has nothing to do
 idles : (level : ℕ) (cpu : Cpu) → level ≤ interrupt_mask cpu → cpu.stopped ≡ true → step_of level cpu ≡ Return (finish.Idle, cpu)
 unfolding step_of
 idles level cpu masked stopped =
     chosen (nat_lt (interrupt_mask cpu) level) cpu.stopped (interrupt_of level cpu) (Return (finish.Idle, cpu)) (instruction_of cpu)
-    (not_above level (interrupt_mask cpu) masked) stopped
+    (not_above (interrupt_mask cpu) level masked) stopped
 
 stays_stopped : (cpu : Cpu) (d : DeviceState) → d.off ≡ false → cpu.stopped ≡ true → state_after finish.Idle cpu d ≡ Stopped
 unfolding state_after
@@ -89,8 +92,9 @@ advanced_is script t idle =
       tally = record t.tally { idle = t.tally.idle + 1 };
       marks = marks;
     } in
-    ap (λ (c : Class). by_class c (guest_stepped script t.guest) t) (class_is script t.guest idle)
-    ∙ ap (λ (q : Guested). by_class class.Idle q t) (stepped_is script t.guest idle)
+    let refills = refills_of_step script t.guest in
+    ap (λ (c : Class). by_class c refills (guest_stepped script t.guest) t) (class_is script t.guest idle)
+    ∙ ap (λ (q : Guested). by_class class.Idle refills q t) (stepped_is script t.guest idle)
     ∙ ap of (append-nil t.marks)
 
 -- ---- many
@@ -168,5 +172,5 @@ idle_steps_take g ram native n seated idle quiet due = record {
   within = record { count = refl; below = refl; above = refl };
   retired = refl;
   trail = refl;
-  exceptions = refl;
+  exceptions = omega arith;
 }

@@ -6,12 +6,15 @@ pub mod Tidy
 pub mod Rest
 pub mod Usual
 pub mod Room
+pub mod ToldReads
 pub mod ExitIs
 pub mod FrameFits
 pub mod Lawful
 pub mod Exit
+pub mod Refill
 pub mod Batch
 pub mod Quiet
 pub mod Idle
 pub mod Turn
 pub mod Taking
+pub mod Again

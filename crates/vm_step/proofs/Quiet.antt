@@ -1,6 +1,5 @@
 -- Stretches in which nothing arrives and nothing falls due.
 use Rattle.std.proofs.Common.{◌≡◌, ◌∙◌, ℕ, zero, suc, ◌+◌, Bool, false, cond, nat_lt, [], ◌∷◌, ◌||◌, Ok, Err, arith, refl, ap, sym, subst, inl, inr, ◌≤◌}
-use Rattle.std.proofs.lemmas.Bool.Decides.{nat_tests}
 use Rattle.mb_instr.specs.Registers.{plain_of}
 use Rattle.mb_model.specs.declared.processor.Cpu.{Cpu}
 use Rattle.mb_devices.specs.Devices.{DeviceState, ticked, level_of, ticks, IsNotDue}
@@ -24,14 +23,14 @@ use Rattle.vm_mirror.specs.Related.{Site}
 use Rattle.vm_machine.specs.declared.class.Class.{Class}
 use Rattle.vm_machine.specs.declared.class.Class.TheVariants as class
 use Rattle.vm_machine.specs.declared.class.Class.TheVariants.{Retired}
-use Rattle.vm_machine.specs.Classes.{class_of, class_of_attempt, class_at, class_by, class_of_end, is_traced}
-use Rattle.vm_machine.specs.Turns.{Guested, world_of, guest_begun, guest_stepped, class_of_step}
+use Rattle.vm_machine.specs.Classes.{class_at_first, class_of_attempt, class_at, class_by, class_of_end, is_traced}
+use Rattle.vm_machine.specs.Turns.{Guested, world_of, guest_begun, guest_stepped, step_class_at_first}
 use Rattle.vm_meaning.specs.Native.{user_step}
 use Rattle.vm_step.specs.Retire.{Retires}
 use Rattle.vm_step.specs.Batch.{IsTried, stepped_by}
 use Rattle.vm_step.specs.Quiet.{QuietStepsAreTried, RetiredStepsTick, RetiredStepsKeepTruth, RetiredStepsLeave}
 use Rattle.vm_step.proofs.Registers.{plain_same, registers_over}
-use Rattle.vm_step.proofs.Retire.{retired_steps, is_attempt}
+use Rattle.vm_step.proofs.Retire.{retired_steps, is_attempt, not_above}
 use Rattle.vm_meaning.specs.Batches.{NothingArrives}
 use Rattle.vm_meaning.proofs.Batches.{one_tick}
 use Rattle.vm_mirror.proofs.Mirrors.{sound_of}
@@ -98,14 +97,11 @@ tried_attempt : (cpu : Cpu) (g : Guest) → IsTried (class_of_attempt cpu g)
 unfolding class_of_attempt
 tried_attempt cpu g = tried_at _
 
-pub not_above : (level mask : ℕ) → level ≤ mask → nat_lt mask level ≡ false
-not_above level mask h = grind (arith, nat_tests)
-
 pub tried_class : (level : ℕ) (cpu : Cpu) (g : Guest) → level ≤ interrupt_mask cpu → cpu.stopped ≡ false → is_traced cpu ≡ false
-    → IsTried (class_of level cpu g)
-unfolding class_of
+    → IsTried (class_at_first level cpu g)
+unfolding class_at_first
 tried_class level cpu g a b t = by_tests (nat_lt (interrupt_mask cpu) level) cpu.stopped (is_traced cpu) (class_of_attempt cpu g)
-    (not_above level (interrupt_mask cpu) a) b t (tried_attempt cpu g)
+    (not_above (interrupt_mask cpu) level a) b t (tried_attempt cpu g)
 
 untraced : (a b : Bool) → a ≡ false → b ≡ false → (a || b) ≡ false
 untraced a b h k = rw h (rw k refl)
@@ -116,10 +112,10 @@ one_of n d (inr less) = inr (omega arith)
 
 -- the step behind a retired one, where nothing arrives and the timer does not come to 0
 next_tried : (x : Site) (script : Entries) (n : ℕ) (m : Machine) (g : Guested) → Retires x script m g (user_step m) (guest_stepped script g)
-    → class_of_step script g ≡ Retired
+    → step_class_at_first script g ≡ Retired
     → NothingArrives script (g.machine.steps + 1) (suc n) → IsNotDue (suc n) (guest_begun script g).machine.world.devices
-    → IsTried (class_of_step script (guest_stepped script g))
-unfolding class_of_step begun
+    → IsTried (step_class_at_first script (guest_stepped script g))
+unfolding step_class_at_first begun
 next_tried x script n m g h retired quiet due =
     let t = guest_stepped script g in
     let d = (guest_begun script g).machine.world.devices in

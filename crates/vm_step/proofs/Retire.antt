@@ -29,8 +29,8 @@ use Rattle.vm_machine.specs.declared.class.Class.TheVariants as class
 use Rattle.vm_machine.specs.declared.class.Class.TheVariants.{Retired}
 use Rattle.vm_machine.specs.Guests.{Guest, may}
 use Rattle.vm_machine.specs.Bus.{guest_bus}
-use Rattle.vm_machine.specs.Classes.{class_of_end, class_at, class_of_attempt, class_of, is_traced}
-use Rattle.vm_machine.specs.Turns.{Guested, world_of, guest_begun, guest_later, guest_stepped, class_of_step}
+use Rattle.vm_machine.specs.Classes.{class_of_end, class_at, class_of_attempt, class_at_first, is_traced}
+use Rattle.vm_machine.specs.Turns.{Guested, world_of, guest_begun, guest_later, guest_stepped, step_class_at_first}
 use Rattle.vm_held.specs.Sound.{Sound}
 use Rattle.vm_held.specs.Denied.{held_end}
 use Rattle.vm_mirror.specs.Related.{Site, Related}
@@ -82,19 +82,22 @@ neither : (a b : Bool) → (a || b) ≡ false → (a ≡ false) × (b ≡ false)
 neither false b e = (refl, e)
 neither true b e = absurd (let z : true ≡ false = e in let y : ⊥ = cc in y)
 
-not_above : (level mask : ℕ) → nat_lt mask level ≡ false → level ≤ mask
-not_above level mask h = grind (arith, nat_tests)
+pub not_less : (mask level : ℕ) → nat_lt mask level ≡ false → level ≤ mask
+not_less mask level h = grind (arith, nat_tests)
 
-pub is_attempt : (level : ℕ) (cpu : Cpu) (g : Guest) (c : Class) → class_of level cpu g ≡ c → IsTried c → IsAttemptOf level cpu g c
-unfolding class_of
+pub not_above : (mask level : ℕ) → level ≤ mask → nat_lt mask level ≡ false
+not_above mask level h = grind (arith, nat_tests)
+
+pub is_attempt : (level : ℕ) (cpu : Cpu) (g : Guest) (c : Class) → class_at_first level cpu g ≡ c → IsTried c → IsAttemptOf level cpu g c
+unfolding class_at_first
 is_attempt level cpu g c e h =
     let (a, b, t, k) = by_tests (nat_lt (interrupt_mask cpu) level) cpu.stopped (is_traced cpu) (class_of_attempt cpu g) c e h in
     let (all, flow) = neither (traces_all cpu.regs.sr) (traces_flow cpu.regs.sr) t in
-    record { masked = not_above level (interrupt_mask cpu) a; plain = record { going = b; all = all; flow = flow }; of = k }
+    record { masked = not_less (interrupt_mask cpu) level a; plain = record { going = b; all = all; flow = flow }; of = k }
 
 -- ---- board and guest, once the step has begun
 
-retired_end : (e : Ended) → class_of_end e ≡ Retired → (f : Bool) × (e ≡ ended.Done f)
+pub retired_end : (e : Ended) → class_of_end e ≡ Retired → (f : Bool) × (e ≡ ended.Done f)
 retired_end (ended.Done f) h = (f, refl)
 retired_end (ended.Trap v) h = absurd (let z : class.Trapped ≡ Retired = h in let y : ⊥ = cc in y)
 retired_end (ended.Refused v) h = absurd (let z : class.Privileged ≡ Retired = h in let y : ⊥ = cc in y)
@@ -183,7 +186,7 @@ unfolding user_step stepping
 user_step_is m = refl
 
 pub retired_steps : RetiredSteps
-unfolding begun guest_stepped class_of_step
+unfolding begun guest_stepped step_class_at_first
 retired_steps x script m g b regs c on =
     let d = ticked m.world.devices in
     let e = ticked (arrived (g.machine.steps + 1) script g.machine.world.devices) in

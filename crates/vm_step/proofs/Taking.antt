@@ -1,6 +1,9 @@
 -- A turn of a seated guest.
-use Rattle.std.proofs.Common.{◌≡◌, ◌∙◌, ℕ, ◌+◌, ◌^◌, ◌<◌, ◌≤◌, List, [], ◌∷◌, ◌++◌, length, Bool, cond, ◌==◌, true, false, arith, refl, ap, sym, subst, inl, inr}
+use Rattle.std.proofs.Common.{◌≡◌, ◌∙◌, ℕ, ◌+◌, ◌^◌, ◌<◌, ◌≤◌, List, [], ◌∷◌, ◌++◌, length, Bool, cond, ◌==◌, true, false, arith, refl, ap, sym}
+use Rattle.std.proofs.Common.{subst, inl, inr, Option, Some, None}
 use Rattle.std.proofs.lemmas.List.{length-append}
+use Rattle.mb_port.specs.declared.types.Space.{Space}
+use Rattle.mb_model.specs.Status.{space_of}
 use Rattle.mb_instr.specs.declared.registers.Plain.{Plain}
 use Rattle.mb_instr.specs.declared.registers.Regs.{Regs}
 use Rattle.mb_instr.specs.Registers.{plain_of, active_stack, is_supervisor}
@@ -15,13 +18,27 @@ use Rattle.mb_meaning.specs.SystemEnds.{with_registers}
 use Rattle.mb_machine.specs.Machine.{begun, takes_steps}
 use Rattle.mb_port.specs.Routine.{run}
 use Rattle.mb_meaning.specs.Return.{low}
-use Rattle.vm_machine.specs.Seats.{end_of, on_board, Seat, own, shadow_on, guested_on, turned_on, monitor_bytes, IsSeated, OnlyWithin}
+use Rattle.vm_machine.specs.Seats.{end_of, on_board, Seat, own, shadow_on, machine_on, guested_on, turned_on, monitor_bytes, IsSeated, OnlyWithin}
 use Rattle.vm_shadow.specs.Shadows.{Shadowed}
-use Rattle.vm_shadow.specs.Mapped.{area_bytes, shadowed}
+use Rattle.vm_shadow.specs.Mapped.{area_bytes, root_of, shadowed}
 use Rattle.vm_machine.specs.Guests.{Guest, Truthful}
-use Rattle.vm_mirror.specs.Related.{Site}
+use Rattle.vm_mirror.specs.Related.{Site, AllAgree, mapping}
+use Rattle.vm_mirror.specs.Ready.{native_mmu}
 use Rattle.vm_meaning.specs.declared.RunEnd.TheVariants.{Counted, Exit}
-use Rattle.vm_machine.specs.Turns.{Guested, Turned, Tally, world_of, guest_begun, guest_later, counted, exits, marks_of, by_class, advanced, turn_of}
+use Rattle.vm_machine.specs.Turns.{Guested, Turned, Tally, world_of, guest_begun, guest_later, counted, with_refills, exits, marks_of, by_class, advanced}
+use Rattle.vm_machine.specs.Turns.{turn_of, step_class_at_first}
+use Rattle.mb_machine.specs.declared.reference.Reference.{Reference}
+use Rattle.mb_machine.specs.World.{World}
+use Rattle.mb_machine.specs.Machine.{Entries}
+use Rattle.vm_meaning.specs.Marks.{trail}
+use Rattle.vm_held.specs.Truth.{Fine}
+use Rattle.vm_machine.specs.Classes.{class_at_first}
+use Rattle.mb_meaning.specs.Step.{step_of}
+use Rattle.mb_meaning.specs.declared.Finish.TheVariants as finish
+use Rattle.vm_step.specs.Batch.{IsTried}
+use Rattle.vm_step.proofs.Retire.{IsAttemptOf, is_attempt}
+use Rattle.vm_machine.specs.Refills.{refilled_at, begun_again}
+use Rattle.vm_machine.specs.declared.class.Class.{Class}
 use Rattle.vm_meaning.specs.Native.{Ran, about_to_run, user_run}
 use Rattle.vm_step.specs.Batch.{stepped_by, IsInside, IsCounted, IsExit, Batch}
 use Rattle.vm_step.specs.Quiet.{IsAfter}
@@ -29,6 +46,7 @@ use Rattle.vm_step.specs.Turn.{ready_for, Stands}
 use Rattle.vm_step.specs.Taking.{site_of, retired_seat, left_seat, BatchesTake, ExitsTake}
 use Rattle.vm_machine.specs.Exits.{is_refusal, class_of_vector, frame_access, handed_by, rest_by_frame}
 use Rattle.vm_step.specs.Exit.{left_guest}
+use Rattle.vm_step.specs.Reads.{read_by_frame}
 use Rattle.vm_machine.specs.declared.class.Class.TheVariants as class
 use Rattle.vm_machine.specs.Bus.{guest_bus}
 use Rattle.vm_machine.proofs.TurnLaws.{going_turn, nothing_turned, turns_add}
@@ -105,13 +123,14 @@ is_counted x k r after t g e b = elim b.end [
 ]
 
 pub batches_take : BatchesTake
-batches_take g ram c d steps state native before k s bytes small running seven cpu off stretch counted has =
+batches_take g c world steps state native before k s bytes small running seven cpu set stretch counted has =
+    let ram = world.ram in
     let x = site_of g in
     let guest = guested_on g ram in
-    let r = about_to_run (ready_for x c ram d steps state guest) native before in
+    let r = about_to_run (ready_for c world steps state guest) native before in
     let after = user_run k r in
     let t = turned_on g ram [] in
-    let ready = boards_are_ready x c ram d steps state guest cpu off refl seven (stands_of g ram s bytes small) in
+    let ready = boards_are_ready x c world steps state guest cpu set refl seven (stands_of g ram s bytes small) in
     let b = runs_are_batches x g.script k r t refl ready.0 ready.1 (goes g.state running) stretch in
     let (all, done) = is_counted x k r after t g counted b in
     let u = turn_of g.script b.retired t in
@@ -194,15 +213,52 @@ nothing_more : (xs : List Plain) → xs ++ [] ≡ xs
 nothing_more [] = refl
 nothing_more (x ∷ xs) = ap (λ (l : List Plain). x ∷ l) (nothing_more xs)
 
+left_tried : (v : ℕ) → IsTried (class_of_vector v)
+left_tried v = by_tests (v == 2) (is_refusal v)
+  where
+    by_tests : (a b : Bool) → IsTried (cond a class.Denied (cond b class.Privileged class.Trapped))
+    by_tests true b = tt
+    by_tests false true = tt
+    by_tests false false = tt
+
+pub some_read : (g h : Guest) (o : Option Reference) → refilled_at g o ≡ Some h → (r : Reference) × (o ≡ Some r)
+some_read g h None e = absurd (let z : None ≡ Some h = e in let y : ⊥ = cc in y)
+some_read g h (Some r) e = (r, refl)
+
+-- the first attempt of a step that the board left
+attempted : (script : Entries) (g : Guested) (v : ℕ) → class_of_vector v ≡ step_class_at_first script g → let b = guest_begun script g in
+    IsAttemptOf (level_of b.machine.world.devices) b.machine.cpu (world_of b) (class_of_vector v)
+unfolding step_class_at_first
+attempted script g v e = let b = guest_begun script g in
+    is_attempt (level_of b.machine.world.devices) b.machine.cpu (world_of b) (class_of_vector v) (sym e) (left_tried v)
+
+no_refills : (c : Class) (t : Tally) → with_refills c 0 t ≡ t
+no_refills class.Retired t = refl
+no_refills class.Entered t = refl
+no_refills class.Idle t = refl
+no_refills class.Traced t = refl
+no_refills class.Privileged t = refl
+no_refills class.Denied t = refl
+no_refills class.Trapped t = refl
+
+same_vector : (v n : ℕ) → finish.Entered v ≡ finish.Entered n → v ≡ n
+same_vector v n e = cc
+
+first_is : (script : Entries) (g : Guested) → let b = guest_begun script g in
+    step_class_at_first script g ≡ class_at_first (level_of b.machine.world.devices) b.machine.cpu (world_of b)
+unfolding step_class_at_first
+first_is script g = refl
+
 pub exits_take : ExitsTake
 unfolding begun
-exits_take g ram c d steps state native before k v s bytes small running seven cpu low off stretch exits_at wide =
+exits_take g c world steps state native before k v s bytes small running seven cpu low set stretch exits_at wide =
+    let ram = world.ram in
     let x = site_of g in
     let guest = guested_on g ram in
-    let r = about_to_run (ready_for x c ram d steps state guest) native before in
+    let r = about_to_run (ready_for c world steps state guest) native before in
     let after = user_run k r in
     let t = turned_on g ram [] in
-    let ready = boards_are_ready x c ram d steps state guest cpu off refl seven (stands_of g ram s bytes small) in
+    let ready = boards_are_ready x c world steps state guest cpu set refl seven (stands_of g ram s bytes small) in
     let b = runs_are_batches x g.script k r t refl ready.0 ready.1 (goes g.state running) stretch in
     let (few, h) = is_exit x k v r after t g exits_at b in
     let j = b.retired in
@@ -244,10 +300,30 @@ exits_take g ram c d steps state native before k v s bytes small running seven c
     (run guest_bus (rest_by_frame h.vector (frame_access frame) n q.machine.cpu handed) (world_of q)) in
     let rest_at : Guested → Guested = λ q. let o = guest_begun g.script q in guest_later o.machine
     (run guest_bus (rest_by_frame h.vector (frame_access frame) (level_of o.machine.world.devices) o.machine.cpu handed) (of q)) in
-    let later : Turned = by_class (class_of_vector h.vector) (rest_at u.guest) u in
-    let turn_is : turn_of g.script (j + 1) t ≡ later =
+    let later : Turned = by_class (class_of_vector h.vector) 0 (rest_at u.guest) u in
+    let o = guest_begun g.script u.guest in
+    let turn_is : begun_again o.machine.cpu (world_of o) ≡ None → turn_of g.script (j + 1) t ≡ later = λ last.
     turns_add g.script j 1 t ∙ going_turn g.script 0 u b.goes ∙ nothing_turned g.script (advanced g.script u)
-    ∙ exits_advance x g.script u h.vector h.last after.machine h.left wide in
+    ∙ exits_advance x g.script u h.vector h.last after.machine h.left wide last in
+    let present : space_of mid.cpu ≡ x.space =
+    ap space_of (cpu_is ∙ ap (λ (q : Guested). q.machine.cpu) (sym is_w)) ∙ h.boarded.present in
+    let again_is : refilled_at (world_of (guested_on mid ram')) (read_by_frame (space_of mid.cpu) frame) ≡ begun_again o.machine.cpu (world_of o) =
+    ap (λ (s : Space). refilled_at (world_of (guested_on mid ram')) (read_by_frame s frame)) present
+    ∙ ap (λ (q : Guest). refilled_at q (read_by_frame x.space frame)) world_is ∙ h.left.again in
+    let seated : IsSeated mid ram' = record {
+      aligned = s.aligned;
+      whole = s.whole;
+      behind = s.behind;
+      inside = subst (λ (n : ℕ). end_of g ≤ n) (sym (h.left.count ∙ h.inside.count)) s.inside;
+      area = s.area;
+      maps = related.maps;
+      tables = related.shadow ∙ ap (λ (q : Guest). on_board g.base q.shadow) (sym world_is);
+      truthful = subst (λ (q : Guest). Truthful g.size q) (sym world_is) related.truthful;
+    } in
+    let now = world_of (guested_on mid ram') in
+    let stays_by : (r : Reference) → read_by_frame (space_of mid.cpu) frame ≡ Some r → now ≡ world_of o = λ r told.
+    world_is ∙ h.left.still r (ap (λ (p : Space). read_by_frame p frame) (sym present) ∙ told) in
+    let cpu_there : mid.cpu ≡ o.machine.cpu = cpu_is ∙ ap (λ (q : Guested). q.machine.cpu) (sym is_w) in
     record {
       retired = j;
       few = few;
@@ -263,24 +339,67 @@ exits_take g ram c d steps state native before k v s bytes small running seven c
       begun = begun;
       begins = refl;
       counts = b.counted;
-      seated = record {
-        aligned = s.aligned;
-        whole = s.whole;
-        behind = s.behind;
-        inside = subst (λ (n : ℕ). end_of g ≤ n) (sym (h.left.count ∙ h.inside.count)) s.inside;
-        area = s.area;
-        maps = related.maps;
-        tables = related.shadow ∙ ap (λ (q : Guest). on_board g.base q.shadow) (sym world_is);
-        truthful = subst (λ (q : Guest). Truthful g.size q) (sym world_is) related.truthful;
-      };
+      exceptions = h.exceptions;
+      cpu = cpu_is;
+      class = ap class_of_vector (same_vector h.vector h.left.vector h.left.entered) ∙ h.left.class ∙ ap (λ (q : Guested). step_class_at_first g.script q) is_w;
+      read = again_is ∙ ap (λ (q : Guested). (let p = guest_begun g.script q in begun_again p.machine.cpu (world_of p))) is_w;
+      still = λ r told. stays_by r told ∙ ap (λ (q : Guested). world_of (guest_begun g.script q)) is_w;
+      seated = seated;
       within = within_left;
-      turn = λ seat next e tally is seated within. record {
+      goes = h.left.running;
+      set = record {
+        mmu = h.left.mmu ∙ h.furnished.mmu ∙ ap (λ (p : Space). native_mmu (root_of x.slots.area p)) (sym present);
+        on = h.left.on;
+        kept = subst (λ (p : Space). AllAgree (mapping (record x { space = p }) ram') after.machine.world.kept) (sym present) related.kept;
+      };
+      again = λ fine q e.
+          let (read, told) = some_read now q (read_by_frame (space_of mid.cpu) frame) e in
+          let stays : now ≡ world_of o = stays_by read told in
+          let vector_is : h.vector ≡ h.left.vector = same_vector h.vector h.left.vector h.left.entered in
+          let lo = level_of o.machine.world.devices in
+          let level_there : level_of begun ≡ lo = ap (λ (p : Guested). level_of (guest_begun g.script p).machine.world.devices) (sym is_w) in
+          let rests = λ (l : ℕ) (c : Cpu) (p : Guest). run guest_bus (rest_by_frame h.vector (frame_access frame) l c handed) p in
+          let steps_on = λ (l : ℕ) (c : Cpu) (p : Guest). run guest_bus (step_of l c) p in
+          let attempt = attempted g.script u.guest h.left.vector h.left.class in (
+            record {
+              turn = u;
+              taken = refl;
+              goes = b.goes;
+              masked = attempt.masked;
+              untraced = attempt.plain;
+              registers = h.fit;
+              fine = subst (Fine g.size) stays fine;
+              opened = ap (λ (p : Guested). p.machine) same
+                  ∙ ap (λ (v : World). record (guest_begun g.script w).machine { world = v }) (ap (λ (p : Guested). p.machine.world) (sym same))
+                  ∙ ap (λ (p : Guested). record (guest_begun g.script p).machine { world = (machine_on mid ram').world }) (sym is_w);
+              begun = stays;
+              few = omega arith;
+              tally = sym b.tally;
+              same = record { script = refl; base = refl; size = refl; area = refl };
+              seated = seated;
+              within = within_left;
+              retired = (let n = b.counted in omega arith);
+              trail_is = b.sum ∙ ap (λ (l : List Plain). trail native.trail l) (sym b.marked);
+              exceptions = (let n = h.exceptions in omega arith);
+            },
+            ap (λ (c : Cpu). begun_again c now) cpu_there ∙ ap (begun_again o.machine.cpu) stays ∙ sym again_is ∙ e,
+            ap class_of_vector vector_is ∙ h.left.class ∙ first_is g.script u.guest
+                ∙ ap (λ (l : ℕ). class_at_first l o.machine.cpu (world_of o)) (sym level_there)
+                ∙ ap (λ (c : Cpu). class_at_first (level_of begun) c (world_of o)) (sym cpu_there)
+                ∙ ap (class_at_first (level_of begun) mid.cpu) (sym stays),
+            ap (λ (l : ℕ). rests l mid.cpu now) level_there ∙ ap (λ (c : Cpu). rests lo c now) cpu_there ∙ ap (rests lo o.machine.cpu) world_is
+                ∙ ap (λ (i : ℕ). run guest_bus (rest_by_frame i (frame_access frame) lo o.machine.cpu handed) (of u.guest)) vector_is
+                ∙ sym (h.left.rest wide) ∙ ap (steps_on lo o.machine.cpu) (sym stays) ∙ ap (λ (c : Cpu). steps_on lo c now) (sym cpu_there)
+                ∙ ap (λ (l : ℕ). steps_on l mid.cpu now) (sym level_there),
+          );
+      turn = λ seat next last e tally is seated within. record {
         marks = b.marks;
         turned = same_turned (turned_on seat next b.marks) later (e ∙ ap (λ (q : Guested). with_rest q (level_of begun)) same ∙ ap rest_at (sym is_w))
-            (tally ∙ ap (λ (q : Tally). counted (class_of_vector h.vector) q) (sym b.tally))
+            (tally ∙ ap (λ (q : Tally). counted (class_of_vector h.vector) q) (sym b.tally)
+            ∙ sym (no_refills (class_of_vector h.vector) (counted (class_of_vector h.vector) u.tally)))
             (sym (ap (λ (l : List Plain). u.marks ++ l) (no_marks h.vector u.guest.machine.cpu (rest_at u.guest).machine.cpu) ∙ nothing_more u.marks
             ∙ b.marked))
-            ∙ sym turn_is;
+            ∙ sym (turn_is (sym again_is ∙ last));
         same = record { script = is.script; base = is.base; size = is.size; area = is.area };
         seated = seated;
         within = record { count = within.count ∙ within_left.count; below = within.below ∙ within_left.below; above = within.above ∙ within_left.above };

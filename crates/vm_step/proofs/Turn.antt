@@ -1,5 +1,5 @@
 -- A turn by its parts.
-use Rattle.std.proofs.Common.{◌≡◌, ◌∙◌, ℕ, ◌/◌, ◌%◌, ◌^◌, ◌<◌, ◌≤◌, false, List, [], ◌∷◌, ◌++◌, length, arith, refl, ap, sym, subst}
+use Rattle.std.proofs.Common.{◌≡◌, ◌∙◌, ℕ, ◌/◌, ◌%◌, ◌^◌, ◌<◌, ◌≤◌, not, false, List, [], ◌∷◌, ◌++◌, length, arith, refl, ap, sym, subst}
 use Rattle.std.specs.Prelude.{slice_index}
 use Rattle.mb_port.specs.Routine.{Return, Ask, Then, run}
 use Rattle.mb_instr.specs.declared.registers.Plain.{Plain}
@@ -7,20 +7,27 @@ use Rattle.mb_instr.specs.declared.registers.Regs.{Regs}
 use Rattle.mb_instr.specs.Registers.{is_supervisor, is_master, active_stack, plain_of}
 use Rattle.mb_meaning.specs.Raise.{Stepped, traces_all, traces_flow}
 use Rattle.mb_devices.specs.Devices.{level_of}
-use Rattle.mb_machine.specs.World.{World}
+use Rattle.mb_port.specs.declared.types.Mmu.{Mmu}
+use Rattle.mb_port.specs.declared.types.Space.{Space}
+use Rattle.mb_port.specs.declared.types.Space.TheVariants.{User}
+use Rattle.mb_machine.specs.Access.{untranslated}
+use Rattle.vm_shadow.specs.Mapped.{root_of}
+use Rattle.vm_meaning.proofs.KeptLemmas.{none-kept}
 use Rattle.mb_attempts.specs.Attempts.{IsUntraced}
 use Rattle.mb_meaning.specs.declared.Finish.TheVariants as finish
-use Rattle.vm_machine.specs.Guests.{Guest}
+use Rattle.vm_machine.specs.Guests.{Guest, ref}
 use Rattle.vm_machine.specs.Bus.{guest_bus}
 use Rattle.vm_mirror.specs.Ready.{native_mmu}
 use Rattle.vm_mirror.proofs.Ready.{starts_flushed}
 use Rattle.vm_held.proofs.Truths.{calls_keep_truth}
 use Rattle.vm_machine.specs.declared.class.Class.{Class}
-use Rattle.vm_machine.specs.Turns.{Turned, world_of, guest_begun, guest_processed, guest_later, guest_stepped, class_of_step, by_class, advanced, turn_of}
+use Rattle.vm_machine.specs.Turns.{Turned, world_of, guest_begun, guest_processed, guest_later, guest_stepped, class_of_step}
+use Rattle.vm_machine.specs.Turns.{refills_of_step, by_class, advanced, turn_of}
+use Rattle.vm_step.proofs.Refill.{none_is_refilled}
 use Rattle.vm_step.specs.Registers.{IsTidy}
 use Rattle.vm_machine.specs.Exits.{class_of_vector, handed_by, frame_access, rest_by_frame}
 use Rattle.vm_step.specs.Exit.{left_guest}
-use Rattle.vm_step.specs.Turn.{BoardsAreReady, RunsKeepTruth, ExitsAdvance, done, stepping, running, still, CoursesAreTurns}
+use Rattle.vm_step.specs.Turn.{FlushedIsSet, MoreStaysSet, BoardsAreReady, RunsKeepTruth, ExitsAdvance, done, stepping, running, still, CoursesAreTurns}
 use Rattle.vm_step.proofs.Registers.{same_word, seven, plain_again, same_user, same_mask, stays_plain, is_set}
 use Rattle.vm_machine.proofs.TurnLaws.{halted_turn, going_turn, nothing_turned, turns_add}
 
@@ -36,29 +43,51 @@ plain_tidy r h =
     ∙ ap (λ (c : ℕ). (let p : Plain = record { d = r.d; a = r.a ++ top ∷ []; pc = r.pc; ccr = c } in p)) (let e : r.sr % 2 ^ 5 % 2 ^ 5 ≡ r.sr % 2 ^ 5 =
     omega arith in e)
 
+pub flushed_is_set : FlushedIsSet
+flushed_is_set x ram d off = record { mmu = refl; on = off; kept = λ k is. absurd (none-kept 32 k is) }
+
+pub more_stays_set : MoreStaysSet
+more_stays_set x y world ram area space more set = record {
+  mmu = set.mmu ∙ ap (λ (at : ℕ). native_mmu (root_of at x.space)) (sym area) ∙ ap (λ (s : Space). native_mmu (root_of y.slots.area s)) (sym space);
+  on = set.on;
+  kept = λ k is user. let (there, alone) = set.kept k is user in (more k.page (k.frame, not k.w) there, alone);
+}
+
 pub boards_are_ready : BoardsAreReady
-boards_are_ready x c ram d steps state g n off present has s =
+boards_are_ready x c world steps state g n set present has s =
     let p = plain_of g.machine.cpu.regs in
     let user : is_supervisor c.regs.sr ≡ false = ap is_supervisor n.status in
     let plain : IsUntraced c = record { going = n.awake; all = ap traces_all n.status; flow = ap traces_flow n.status } in
-    let set = is_set p c user in
-    let b : World = record { ram = ram; mmu = native_mmu 0; devices = d; kept = [] } in (
+    let same = is_set p c user in
+    let b = record world { kept = [] } in
+    let tables = starts_flushed x b (world_of g) s.bytes s.maps s.under s.whole s.ram_is s.shadow s.truthful in (
       record {
-        on = off;
+        on = set.on;
         user = same_user p c ∙ user;
         goes = stays_plain p c plain;
         mask = same_mask p c ∙ ap (λ (k : ℕ). k / 2 ^ 8 % 2 ^ 3) n.status;
         plain = plain_again c.regs p ∙ plain_tidy g.machine.cpu.regs has;
         present = present;
-        related = starts_flushed x b (world_of g) s.bytes s.maps s.under s.whole s.ram_is s.shadow s.truthful;
+        related = record {
+          bytes = s.bytes;
+          maps = s.maps;
+          under = s.under;
+          whole = s.whole;
+          ram = s.ram_is;
+          root = ap (λ (m : Mmu). m.urp) set.mmu;
+          shadow = s.shadow;
+          kept = set.kept;
+          no_match = λ code at write. ap (λ (m : Mmu). untranslated m (ref code User at write)) set.mmu ∙ tables.no_match code at write;
+          truthful = s.truthful;
+        };
       },
       record {
-        mmu = refl;
-        status = same_word _ c.regs.sr set.upper (subst (λ (k : ℕ). k < 2 ^ 16) (sym n.status) (omega arith));
-        master = set.master ∙ ap is_master n.status;
+        mmu = set.mmu;
+        status = same_word _ c.regs.sr same.upper (subst (λ (k : ℕ). k < 2 ^ 16) (sym n.status) (omega arith));
+        master = same.master ∙ ap is_master n.status;
         vectors = n.vectors;
-        stack = subst (λ (k : ℕ). 60 ≤ k) (sym set.isp) n.stack;
-        below = subst (λ (k : ℕ). k ≤ x.base) (sym set.isp) n.below;
+        stack = subst (λ (k : ℕ). 60 ≤ k) (sym same.isp) n.stack;
+        below = subst (λ (k : ℕ). k ≤ x.base) (sym same.isp) n.below;
         table = s.table;
         small = s.small;
       },
@@ -79,15 +108,17 @@ same_number v n e = cc
 
 pub exits_advance : ExitsAdvance
 unfolding advanced guest_stepped
-exits_advance x script u v m after l wide =
+exits_advance x script u v m after l wide last =
     let b = guest_begun script u.guest in
     let h = left_guest x after.world.ram (world_of b) in
     let is : v ≡ l.vector = same_number v l.vector l.entered in
     let of : ℕ → Stepped × Guest =
     λ n. run guest_bus (rest_by_frame n (frame_access l.frame) (level_of b.machine.world.devices) b.machine.cpu (handed_by after.cpu.regs l.frame)) h in
     let rest : guest_processed b ≡ of v = l.rest wide ∙ ap of (sym is) in
-    ap (λ (r : Stepped × Guest). by_class (class_of_step script u.guest) (guest_later b.machine r) u) rest
-    ∙ ap (λ (c : Class). by_class c (guest_later b.machine (of v)) u) (sym (ap class_of_vector is ∙ l.class))
+    let (class, none) = none_is_refilled script u.guest last in
+    ap (λ (r : Stepped × Guest). by_class (class_of_step script u.guest) (refills_of_step script u.guest) (guest_later b.machine r) u) rest
+    ∙ ap (λ (n : ℕ). by_class (class_of_step script u.guest) n (guest_later b.machine (of v)) u) none
+    ∙ ap (λ (c : Class). by_class c 0 (guest_later b.machine (of v)) u) (class ∙ sym (ap class_of_vector is ∙ l.class))
 
 pub courses_are_turns : CoursesAreTurns
 courses_are_turns script n t u done = sym (nothing_turned script t)

@@ -8,7 +8,7 @@ use Rattle.vm_mirror.specs.Related.{Site}
 use Rattle.vm_machine.specs.declared.class.Class.{Class}
 use Rattle.vm_machine.specs.declared.class.Class.TheVariants.{Privileged, Denied, Trapped, Retired}
 use Rattle.vm_meaning.specs.declared.RunEnd.TheVariants.{Counted, Exit}
-use Rattle.vm_machine.specs.Turns.{Guested, Turned, guest_stepped, class_of_step, turn_of}
+use Rattle.vm_machine.specs.Turns.{Guested, Turned, guest_stepped, step_class_at_first, turn_of}
 use Rattle.vm_meaning.specs.Marks.{trail}
 use Rattle.vm_meaning.specs.Native.{Ran, user_run}
 use Rattle.vm_step.specs.Retire.{Boarded, HasRegisters}
@@ -31,8 +31,8 @@ IsTried _ = ⊥
 -- Each of so many steps, as far as they are retired, is one that the board attempts.
 abbrev pub IsStretch : Entries → ℕ → Guested → Type 0
 IsStretch script zero g = Unit {0}
-IsStretch script (suc n) g = Wanted g × IsTried (class_of_step script g)
-    × (class_of_step script g ≡ Retired → IsStretch script n (guest_stepped script g))
+IsStretch script (suc n) g = Wanted g × IsTried (step_class_at_first script g)
+    × (step_class_at_first script g ≡ Retired → IsStretch script n (guest_stepped script g))
 
 -- the guest after so many steps
 abbrev pub stepped_by : Entries → ℕ → Guested → Guested
@@ -42,7 +42,7 @@ stepped_by script (suc n) g = stepped_by script n (guest_stepped script g)
 -- Each of so many steps is retired.
 abbrev pub AllRetired : Entries → ℕ → Guested → Type 0
 AllRetired script zero g = Unit {0}
-AllRetired script (suc n) g = Wanted g × (class_of_step script g ≡ Retired)
+AllRetired script (suc n) g = Wanted g × (step_class_at_first script g ≡ Retired)
     × AllRetired script n (guest_stepped script g)
 
 -- Of the board's memory nothing has changed outside the guest's RAM.
@@ -71,6 +71,7 @@ pub record IsExit (x : Site) (script : Entries) (u : Turned) (r after : Ran) : T
   pub inside : IsInside x r.machine.world.ram last.world.ram
   pub left : Leaves x script last u.guest (finish.Entered vector, after.machine)
   pub seven : length u.guest.machine.cpu.regs.a ≡ 7
+  pub fit : HasRegisters (plain_of u.guest.machine.cpu.regs)
   -- the registers at its beginning are the guest's
   pub before : after.before ≡ plain_of u.guest.machine.cpu.regs
   pub exceptions : after.native.exceptions ≡ r.native.exceptions + 1

@@ -10,17 +10,20 @@ use Rattle.mb_meaning.specs.declared.Finish.{Finish}
 use Rattle.mb_meaning.specs.declared.Finish.TheVariants as finish
 use Rattle.mb_machine.specs.Machine.{Machine, Entries, takes_steps}
 use Rattle.mb_walk.specs.Memory.{part}
+use Rattle.mb_machine.specs.declared.reference.Reference.{Reference}
 use Rattle.vm_machine.specs.Exits.{class_of_vector, handed_by, frame_access, rest_by_frame}
 use Rattle.vm_shadow.specs.Mapped.{root_of}
 use Rattle.vm_machine.specs.Guests.{Guest}
 use Rattle.vm_machine.specs.Bus.{guest_bus}
+use Rattle.vm_machine.specs.Refills.{refilled_at, begun_again}
 use Rattle.vm_mirror.specs.Related.{Site, Related}
 use Rattle.vm_mirror.specs.Ready.{native_mmu}
 use Rattle.vm_machine.specs.declared.class.Class.{Class}
 use Rattle.vm_machine.specs.declared.class.Class.TheVariants.{Privileged, Denied, Trapped}
-use Rattle.vm_machine.specs.Turns.{Guested, world_of, guest_begun, guest_processed, class_of_step}
+use Rattle.vm_machine.specs.Turns.{Guested, world_of, guest_begun, guest_processed, step_class_at_first}
 use Rattle.vm_meaning.specs.Native.{user_step}
 use Rattle.vm_step.specs.Retire.{Boarded, HasRegisters}
+use Rattle.vm_step.specs.Reads.{read_by_frame}
 use Rattle.vm_step.specs.Lawful.{LeavesLawful}
 
 -- What the monitor sets besides: the translation for the guest's space, vectors at 0, and a stack below the guest that
@@ -45,7 +48,7 @@ left_guest x ram g = record g { world = record g.world { ram = part ram x.base x
 pub record Leaves (x : Site) (script : Entries) (m : Machine) (g : Guested) (s : Finish × Machine) : Type 0 where
   pub vector : ℕ
   pub entered : s.0 ≡ finish.Entered vector
-  pub class : class_of_vector vector ≡ class_of_step script g
+  pub class : class_of_vector vector ≡ step_class_at_first script g
   pub running : takes_steps s.1.state ≡ true
   pub frame : Frame
   pub stands : BeginsWith (drop s.1.cpu.regs.isp s.1.world.ram) frame
@@ -61,7 +64,16 @@ pub record Leaves (x : Site) (script : Entries) (m : Machine) (g : Guested) (s :
       left_guest x s.1.world.ram (world_of b) in
       guest_processed b ≡ run guest_bus (rest_by_frame vector (frame_access frame) (level_of b.machine.world.devices)
       b.machine.cpu (handed_by s.1.cpu.regs frame)) h
+  -- where the frame tells a read, nothing of the guest has changed, and it begins again where that read is refilled
+  pub still : (r : Reference) → read_by_frame x.space frame ≡ Some r
+      → left_guest x s.1.world.ram (world_of (guest_begun script g)) ≡ world_of (guest_begun script g)
+  pub again : let b = guest_begun script g in
+      refilled_at (left_guest x s.1.world.ram (world_of b)) (read_by_frame x.space frame)
+      ≡ begun_again b.machine.cpu (world_of b)
   pub related : Related x s.1.world (left_guest x s.1.world.ram (world_of (guest_begun script g)))
+  -- it translates as before, and its devices are on
+  pub mmu : s.1.world.mmu ≡ m.world.mmu
+  pub on : s.1.world.devices.off ≡ false
   -- of the board's memory nothing has changed but the guest's RAM and what is below the top of the stack
   pub count : length s.1.world.ram ≡ length m.world.ram
   pub between : (n : ℕ) → m.cpu.regs.isp ≤ n → n ≤ x.base
@@ -78,4 +90,4 @@ IsLeft _ = ⊥
 abbrev pub LeftSteps : Type 0
 LeftSteps = (x : Site) (script : Entries) (m : Machine) (g : Guested) → Boarded x m g → Furnished x m
     → HasRegisters (plain_of g.machine.cpu.regs) → length g.machine.cpu.regs.a ≡ 7
-    → IsLeft (class_of_step script g) → Leaves x script m g (user_step m)
+    → IsLeft (step_class_at_first script g) → Leaves x script m g (user_step m)

@@ -2,9 +2,12 @@ pub mod Registers
 pub mod Retire
 pub mod Rest
 pub mod Lawful
+pub mod Reads
 pub mod Exit
+pub mod Refill
 pub mod Batch
 pub mod Quiet
 pub mod Idle
 pub mod Turn
 pub mod Taking
+pub mod Again

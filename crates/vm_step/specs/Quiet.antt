@@ -9,7 +9,7 @@ use Rattle.vm_meaning.specs.Batches.{NothingArrives}
 use Rattle.vm_mirror.specs.Related.{Site}
 use Rattle.vm_held.specs.Truth.{Fine}
 use Rattle.vm_machine.specs.declared.class.Class.TheVariants.{Retired}
-use Rattle.vm_machine.specs.Turns.{Guested, world_of, guest_begun, guest_stepped, class_of_step}
+use Rattle.vm_machine.specs.Turns.{Guested, world_of, guest_begun, guest_stepped, step_class_at_first}
 use Rattle.vm_step.specs.Retire.{Boarded, Retires}
 use Rattle.vm_meaning.specs.Native.{user_step}
 use Rattle.vm_step.specs.Batch.{Wanted, IsTried, IsStretch, stepped_by, AllRetired}
@@ -17,14 +17,15 @@ use Rattle.vm_step.specs.Batch.{Wanted, IsTried, IsStretch, stepped_by, AllRetir
 -- what each of so many steps wants, as far as they are retired
 abbrev pub AreWanted : Entries → ℕ → Guested → Type 0
 AreWanted script zero g = Unit {0}
-AreWanted script (suc n) g = Wanted g × (class_of_step script g ≡ Retired → AreWanted script n (guest_stepped script g))
+AreWanted script (suc n) g =
+    Wanted g × (step_class_at_first script g ≡ Retired → AreWanted script n (guest_stepped script g))
 
 -- Where the first step is one that the board attempts, and behind its beginning so many steps are quiet, the board
 -- attempts them all.
 abbrev pub QuietStepsAreTried : Type 0
 QuietStepsAreTried = (x : Site) (script : Entries) (n : ℕ) (m : Machine) (g : Guested) → Boarded x m g
     → AreWanted script (suc n) g
-    → IsTried (class_of_step script g) → NothingArrives script (g.machine.steps + 1) n
+    → IsTried (step_class_at_first script g) → NothingArrives script (g.machine.steps + 1) n
     → IsNotDue n (guest_begun script g).machine.world.devices
     → IsStretch script (suc n) g
 

@@ -22,7 +22,7 @@ use Rattle.vm_mirror.specs.Laws.{Outside}
 use Rattle.vm_held.specs.Sound.{Sound, OnlyRam}
 use Rattle.vm_machine.specs.declared.class.Class.TheVariants.{Retired}
 use Rattle.vm_machine.specs.Classes.{class_of_end, class_at}
-use Rattle.vm_machine.specs.Turns.{Guested, world_of, guest_begun, guest_stepped, class_of_step}
+use Rattle.vm_machine.specs.Turns.{Guested, world_of, guest_begun, guest_stepped, step_class_at_first}
 use Rattle.vm_meaning.specs.Native.{user_step}
 use Rattle.vm_step.specs.Registers.{IsFrom}
 
@@ -67,6 +67,6 @@ pub record Retires (x : Site) (script : Entries) (m : Machine) (g : Guested) (s 
 
 abbrev pub RetiredSteps : Type 0
 RetiredSteps = (x : Site) (script : Entries) (m : Machine) (g : Guested) → Boarded x m g
-    → HasRegisters (plain_of g.machine.cpu.regs) → class_of_step script g ≡ Retired
+    → HasRegisters (plain_of g.machine.cpu.regs) → step_class_at_first script g ≡ Retired
     → g.machine.world.devices.off ≡ false
     → Retires x script m g (user_step m) (guest_stepped script g)

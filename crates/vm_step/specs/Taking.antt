@@ -1,5 +1,5 @@
 -- A turn of a guest that is seated on a board, by a run of the board.
-use Rattle.std.specs.Prelude.{◌≡◌, ℕ, ◌+◌, ◌^◌, ◌<◌, ◌≤◌, false, Some, List, length, drop, slice_range}
+use Rattle.std.specs.Prelude.{◌≡◌, ℕ, ◌+◌, ◌^◌, ◌<◌, ◌≤◌, true, Some, None, List, length, drop, slice_range}
 use Rattle.mb_instr.specs.declared.registers.Plain.{Plain}
 use Rattle.mb_instr.specs.Registers.{plain_of}
 use Rattle.mb_model.specs.declared.processor.Cpu.{Cpu}
@@ -8,21 +8,31 @@ use Rattle.mb_model.specs.declared.outcome.RunState.TheVariants.{Running}
 use Rattle.mb_model.specs.Status.{space_of}
 use Rattle.mb_walk.specs.Memory.{AreBytes}
 use Rattle.mb_devices.specs.Devices.{DeviceState, level_of}
+use Rattle.mb_machine.specs.World.{World}
+use Rattle.mb_machine.specs.Machine.{takes_steps}
 use Rattle.mb_meaning.specs.SystemEnds.{with_registers}
+use Rattle.mb_meaning.specs.Step.{step_of}
 use Rattle.mb_port.specs.Routine.{run}
 use Rattle.mb_frames.specs.declared.frame.Frame.{Frame}
 use Rattle.mb_frames.specs.Layout.{IsFrame, BeginsWith}
 use Rattle.mb_frames.specs.Reading.{frame_in}
 use Rattle.vm_machine.specs.Bus.{guest_bus}
+use Rattle.mb_machine.specs.declared.reference.Reference.{Reference}
+use Rattle.vm_machine.specs.Guests.{Guest}
+use Rattle.vm_machine.specs.Refills.{refilled_at, begun_again}
+use Rattle.vm_held.specs.Truth.{Fine}
+use Rattle.vm_machine.specs.Classes.{class_at_first}
 use Rattle.vm_mirror.specs.Related.{Site}
-use Rattle.vm_machine.specs.Turns.{world_of, guest_begun, guest_later, counted}
+use Rattle.vm_machine.specs.Turns.{world_of, guest_begun, guest_later, counted, step_class_at_first}
 use Rattle.vm_machine.specs.Exits.{class_of_vector, frame_access, handed_by, rest_by_frame}
 use Rattle.vm_meaning.specs.declared.RunEnd.TheVariants.{Counted, Exit}
 use Rattle.vm_meaning.specs.Native.{NativeState, Ran, about_to_run, user_run}
 use Rattle.vm_machine.specs.Seats.{Seat, guested_on, monitor_bytes, IsSeated, IsSame, OnlyWithin, Takes}
+use Rattle.vm_step.specs.Reads.{read_by_frame}
+use Rattle.vm_step.specs.Again.{Midway}
 use Rattle.vm_step.specs.Lawful.{LeavesLawful}
 use Rattle.vm_step.specs.Batch.{AllRetired, IsStretch, stepped_by}
-use Rattle.vm_step.specs.Turn.{IsNativeCpu, ready_for}
+use Rattle.vm_step.specs.Turn.{IsNativeCpu, IsSetFor, ready_for}
 
 abbrev pub site_of : Seat → Site
 site_of g = record { base = g.base; size = g.size; slots = g.slots; space = space_of g.cpu }
@@ -37,17 +47,17 @@ retired_seat g k p d = record g {
 }
 
 -- the run of the board that is made ready for it
-abbrev pub run_for : Seat → List ℕ → Cpu → DeviceState → ℕ → RunState → NativeState → Plain → ℕ → Ran
-run_for g ram c d steps state native before k =
-    user_run k (about_to_run (ready_for (site_of g) c ram d steps state (guested_on g ram)) native before)
+abbrev pub run_for : Seat → Cpu → World → ℕ → RunState → NativeState → Plain → ℕ → Ran
+run_for g c world steps state native before k =
+    user_run k (about_to_run (ready_for c world steps state (guested_on g world.ram)) native before)
 
 -- What the monitor has then is a turn of so many steps.
 abbrev pub BatchesTake : Type 0
-BatchesTake = (g : Seat) (ram : List ℕ) (c : Cpu) (d : DeviceState) (steps : ℕ) (state : RunState)
-    (native : NativeState) (before : Plain) (k : ℕ)
-    → IsSeated g ram → AreBytes ram → length ram ≤ 2 ^ 32 → g.state ≡ Running → length g.cpu.regs.a ≡ 7
-    → IsNativeCpu (site_of g) c → d.off ≡ false → IsStretch g.script k (guested_on g ram)
-    → let after = run_for g ram c d steps state native before k in after.end ≡ Counted
+BatchesTake = (g : Seat) (c : Cpu) (world : World) (steps : ℕ) (state : RunState) (native : NativeState)
+    (before : Plain) (k : ℕ) → let ram = world.ram in
+    IsSeated g ram → AreBytes ram → length ram ≤ 2 ^ 32 → g.state ≡ Running → length g.cpu.regs.a ≡ 7
+    → IsNativeCpu (site_of g) c → IsSetFor (site_of g) world → IsStretch g.script k (guested_on g ram)
+    → let after = run_for g c world steps state native before k in after.end ≡ Counted
     → length after.machine.cpu.regs.a ≡ 7
     → Takes k (record { guest = g; ram = ram; native = native })
     (record {
@@ -65,8 +75,8 @@ abbrev pub left_seat : Seat → ℕ → Plain → DeviceState → Seat
 left_seat g k p d = retired_seat g k p d
 
 -- What the monitor has when the board left the guest's step behind `retired` others: a seated guest in the middle of
--- its step, and what is to be carried out of it. Done over the guest's own bus, with the class by the vector, that is a
--- turn.
+-- its step, and what is to be carried out of it. Where no read is refilled, that is a turn once it is done over the
+-- guest's own bus, with the class by the vector.
 pub record IsLeft (g : Seat) (ram : List ℕ) (native : NativeState) (k : ℕ) (after : Ran) : Type 0 where
   pub retired : ℕ
   pub few : retired < k
@@ -86,11 +96,38 @@ pub record IsLeft (g : Seat) (ram : List ℕ) (native : NativeState) (k : ℕ) (
   -- the guest's begin of this step
   pub begins : begun ≡ (guest_begun g.script (stepped_by g.script retired (guested_on g ram))).machine.world.devices
   pub counts : after.native.retired ≡ native.retired + retired
+  pub exceptions : after.native.exceptions ≡ native.exceptions + 1
+  -- its registers, and the class of its first attempt
+  pub cpu : (left_seat g retired after.before begun).cpu ≡ (stepped_by g.script retired (guested_on g ram)).machine.cpu
+  pub class : class_of_vector vector ≡ step_class_at_first g.script (stepped_by g.script retired (guested_on g ram))
+  -- the read that is refilled, where there is one, is that of this attempt
+  pub read : let mid = left_seat g retired after.before begun in
+      let b = guest_begun g.script (stepped_by g.script retired (guested_on g ram)) in
+      refilled_at (world_of (guested_on mid after.machine.world.ram)) (read_by_frame (space_of mid.cpu) frame)
+      ≡ begun_again b.machine.cpu (world_of b)
+  -- where the frame tells a read, nothing of the guest has changed
+  pub still : let mid = left_seat g retired after.before begun in (r : Reference)
+      → read_by_frame (space_of mid.cpu) frame ≡ Some r
+      → world_of (guested_on mid after.machine.world.ram)
+      ≡ world_of (guest_begun g.script (stepped_by g.script retired (guested_on g ram)))
   pub seated : IsSeated (left_seat g retired after.before begun) after.machine.world.ram
   pub within : OnlyWithin g ram after.machine.world.ram
+  -- the board stands for a run of it
+  pub goes : takes_steps after.machine.state ≡ true
+  pub set : IsSetFor (site_of (left_seat g retired after.before begun)) after.machine.world
+  -- where the read that it was denied is refilled, that is the middle of a step that begins again; else what the frame
+  -- leaves is the whole step once more
+  pub again : let mid = left_seat g retired after.before begun in
+      let w = world_of (guested_on mid after.machine.world.ram) in
+      Fine g.size w → (h : Guest) → refilled_at w (read_by_frame (space_of mid.cpu) frame) ≡ Some h
+      → Midway g ram native retired 0 mid after.machine.world.ram after.native × (begun_again mid.cpu w ≡ Some h)
+      × (class_of_vector vector ≡ class_at_first (level_of begun) mid.cpu w)
+      × (run guest_bus (rest_by_frame vector (frame_access frame) (level_of begun) mid.cpu
+      (handed_by after.machine.cpu.regs frame)) w ≡ run guest_bus (step_of (level_of begun) mid.cpu) w)
   pub turn : (seat : Seat) (next : List ℕ) → let mid = left_seat g retired after.before begun in
       let b = guested_on mid after.machine.world.ram in
-      guested_on seat next ≡ guest_later b.machine
+      refilled_at (world_of b) (read_by_frame (space_of mid.cpu) frame) ≡ None
+      → guested_on seat next ≡ guest_later b.machine
       (run guest_bus (rest_by_frame vector (frame_access frame) (level_of begun) mid.cpu
       (handed_by after.machine.cpu.regs frame)) (world_of b))
       → seat.tally ≡ counted (class_of_vector vector) mid.tally → IsSame mid seat → IsSeated seat next
@@ -99,9 +136,10 @@ pub record IsLeft (g : Seat) (ram : List ℕ) (native : NativeState) (k : ℕ) (
       (record { guest = seat; ram = next; native = after.native })
 
 abbrev pub ExitsTake : Type 0
-ExitsTake = (g : Seat) (ram : List ℕ) (c : Cpu) (d : DeviceState) (steps : ℕ) (state : RunState) (native : NativeState)
-    (before : Plain) (k v : ℕ)
-    → IsSeated g ram → AreBytes ram → length ram ≤ 2 ^ 32 → g.state ≡ Running → length g.cpu.regs.a ≡ 7
-    → IsNativeCpu (site_of g) c → c.regs.isp ≤ monitor_bytes → d.off ≡ false → IsStretch g.script k (guested_on g ram)
-    → let after = run_for g ram c d steps state native before k in after.end ≡ Exit v
+ExitsTake = (g : Seat) (c : Cpu) (world : World) (steps : ℕ) (state : RunState) (native : NativeState) (before : Plain)
+    (k v : ℕ) → let ram = world.ram in
+    IsSeated g ram → AreBytes ram → length ram ≤ 2 ^ 32 → g.state ≡ Running → length g.cpu.regs.a ≡ 7
+    → IsNativeCpu (site_of g) c → c.regs.isp ≤ monitor_bytes → IsSetFor (site_of g) world
+    → IsStretch g.script k (guested_on g ram)
+    → let after = run_for g c world steps state native before k in after.end ≡ Exit v
     → length after.machine.cpu.regs.a ≡ 7 → IsLeft g ram native k after

@@ -1,5 +1,5 @@
 -- A turn of a guest by parts: steps over its own bus, runs of the board, and what the board left.
-use Rattle.std.specs.Prelude.{◌≡◌, ℕ, suc, ◌+◌, ◌%◌, ◌^◌, ◌≤◌, false, true, List, length}
+use Rattle.std.specs.Prelude.{◌≡◌, ℕ, suc, ◌+◌, ◌%◌, ◌^◌, ◌≤◌, Bool, false, true, List, length, Some, None}
 use Rattle.mb_port.specs.Routine.{Routine, run}
 use Rattle.mb_laws.specs.Relations.{Along}
 use Rattle.mb_instr.specs.Registers.{plain_of}
@@ -11,12 +11,14 @@ use Rattle.mb_walk.specs.Memory.{AreBytes, part}
 use Rattle.mb_devices.specs.Devices.{DeviceState, level_of}
 use Rattle.mb_meaning.specs.declared.Finish.TheVariants as finish
 use Rattle.mb_meaning.specs.SystemEnds.{with_registers}
+use Rattle.mb_machine.specs.World.{World}
 use Rattle.mb_machine.specs.Machine.{Machine, Entries, takes_steps}
 use Rattle.vm_shadow.specs.Mapped.{root_of, shadowed}
 use Rattle.vm_shadow.specs.Area.{Maps}
 use Rattle.vm_machine.specs.Guests.{Guest, Truthful}
 use Rattle.vm_machine.specs.Bus.{guest_bus}
-use Rattle.vm_mirror.specs.Related.{Site}
+use Rattle.vm_machine.specs.Refills.{begun_again}
+use Rattle.vm_mirror.specs.Related.{Site, AllAgree, mapping}
 use Rattle.vm_machine.specs.Seats.{on_board}
 use Rattle.vm_mirror.specs.Ready.{native_mmu}
 use Rattle.vm_held.specs.Truth.{Fine, HasAddress}
@@ -35,19 +37,39 @@ pub record IsNativeCpu (x : Site) (c : Cpu) : Type 0 where
   pub stack : 60 ≤ c.regs.isp
   pub below : c.regs.isp ≤ x.base
 
--- the board as the monitor makes it ready for the guest's next step: its registers, the root of its space, nothing kept
-abbrev pub ready_for : Site → Cpu → List ℕ → DeviceState → ℕ → RunState → Guested → Machine
-ready_for x c ram devices steps state g = record {
+-- the board as the monitor makes it ready for the guest's next step: with its registers
+abbrev pub ready_for : Cpu → World → ℕ → RunState → Guested → Machine
+ready_for c world steps state g = record {
   cpu = with_registers (plain_of g.machine.cpu.regs) c;
-  world = record {
-    ram = ram;
-    mmu = native_mmu (root_of x.slots.area x.space);
-    devices = devices;
-    kept = nothing_kept rule_a;
-  };
+  world = world;
   steps = steps;
   state = state;
 }
+
+-- All but memory stands as a run of this guest wants it: it translates by the guest's tables, and nothing that is kept
+-- says anything else. The devices are on.
+pub record IsSetFor (x : Site) (world : World) : Type 0 where
+  pub mmu : world.mmu ≡ native_mmu (root_of x.slots.area x.space)
+  pub on : world.devices.off ≡ false
+  pub kept : AllAgree (mapping x world.ram) world.kept
+
+-- with nothing kept
+abbrev pub flushed : Site → List ℕ → DeviceState → World
+flushed x ram devices = record {
+  ram = ram;
+  mmu = native_mmu (root_of x.slots.area x.space);
+  devices = devices;
+  kept = nothing_kept rule_a;
+}
+
+abbrev pub FlushedIsSet : Type 0
+FlushedIsSet = (x : Site) (ram : List ℕ) (d : DeviceState) → d.off ≡ false → IsSetFor x (flushed x ram d)
+
+-- It stays so in a memory whose tables map all that they mapped.
+abbrev pub MoreStaysSet : Type 0
+MoreStaysSet = (x y : Site) (world : World) (ram : List ℕ) → y.slots.area ≡ x.slots.area → y.space ≡ x.space
+    → ((page : ℕ) (entry : ℕ × Bool) → mapping x world.ram page ≡ Some entry → mapping y ram page ≡ Some entry)
+    → IsSetFor x world → IsSetFor y (record world { ram = ram })
 
 -- what stands in the board's memory for a guest
 pub record Stands (x : Site) (ram : List ℕ) (g : Guest) : Type 0 where
@@ -61,12 +83,12 @@ pub record Stands (x : Site) (ram : List ℕ) (g : Guest) : Type 0 where
   pub table : 1024 ≤ x.base
   pub small : length ram ≤ 2 ^ 32
 
--- With the caches flushed and the registers set, the board is ready, whatever it did before.
+-- Once its registers are set, the board is ready.
 abbrev pub BoardsAreReady : Type 0
-BoardsAreReady = (x : Site) (c : Cpu) (ram : List ℕ) (d : DeviceState) (steps : ℕ) (state : RunState) (g : Guested)
-    → IsNativeCpu x c → d.off ≡ false → space_of g.machine.cpu ≡ x.space → length g.machine.cpu.regs.a ≡ 7
-    → Stands x ram (world_of g)
-    → Boarded x (ready_for x c ram d steps state g) g × Furnished x (ready_for x c ram d steps state g)
+BoardsAreReady = (x : Site) (c : Cpu) (world : World) (steps : ℕ) (state : RunState) (g : Guested)
+    → IsNativeCpu x c → IsSetFor x world → space_of g.machine.cpu ≡ x.space → length g.machine.cpu.regs.a ≡ 7
+    → Stands x world.ram (world_of g)
+    → Boarded x (ready_for c world steps state g) g × Furnished x (ready_for c world steps state g)
 
 -- ---- the guest's own bus keeps the shadow's truth
 
@@ -77,12 +99,14 @@ RunsKeepTruth A = (size : ℕ) (m : Routine A) (g : Guest) → Along (λ c (h : 
 
 -- ---- a turn
 
--- A step that the board left is one step of the turn: its class by the vector, and machine and shadow by the rest.
+-- A step that the board left, and that does not begin again, is one step of the turn: its class by the vector, and
+-- machine and shadow by the rest.
 abbrev pub ExitsAdvance : Type 0
 ExitsAdvance = (x : Site) (script : Entries) (u : Turned) (v : ℕ) (m after : Machine)
     → (l : Leaves x script m u.guest (finish.Entered v, after))
     → length after.cpu.regs.a ≡ 7 → let b = guest_begun script u.guest in
-    advanced script u ≡ by_class (class_of_vector v) (guest_later b.machine
+    begun_again b.machine.cpu (world_of b) ≡ None
+    → advanced script u ≡ by_class (class_of_vector v) 0 (guest_later b.machine
     (run guest_bus (rest_by_frame v (frame_access l.frame) (level_of b.machine.world.devices) b.machine.cpu
     (handed_by after.cpu.regs l.frame))
     (left_guest x after.world.ram (world_of b)))) u

@@ -11,11 +11,14 @@
 ghost use Rattle.vm_step.specs.Retire.{ClassesAreHeld, RetiredSteps};
 ghost use Rattle.vm_step.specs.Rest.{StepsGoOn};
 ghost use Rattle.vm_step.specs.Exit.{LeftSteps};
+ghost use Rattle.vm_step.specs.Refill.{FirstIsLast, NoneIsRefilled, StepsBeginAgain, LastIsJudged};
+ghost use Rattle.vm_step.specs.Refill.{AgainComesToTheSame, AgainAdvances};
 ghost use Rattle.vm_step.specs.Batch.{RunsAreBatches};
 ghost use Rattle.vm_step.specs.Quiet.{QuietStepsAreTried, RetiredStepsTick, RetiredStepsKeepTruth, RetiredStepsLeave};
 ghost use Rattle.vm_step.specs.Idle.{QuietStepsAreIdle, IdleStepsTake};
-ghost use Rattle.vm_step.specs.Turn.{BoardsAreReady, ExitsAdvance, CoursesAreTurns};
+ghost use Rattle.vm_step.specs.Turn.{FlushedIsSet, MoreStaysSet, BoardsAreReady, ExitsAdvance, CoursesAreTurns};
 ghost use Rattle.vm_step.specs.Taking.{BatchesTake, ExitsTake};
+ghost use Rattle.vm_step.specs.Again.{MidwayAgain, MidwayAhead, MidwayEnds, MidwayBegins, MidwayTakes, MidwayWithin};
 
 /// One step of a guest that the board begins: its class, and where it is retired.
 pub fn guest_steps_retire()
@@ -27,6 +30,16 @@ pub fn guest_steps_retire()
 pub fn guest_steps_are_left()
     ensures goes_on { StepsGoOn }
     ensures left { LeftSteps }
+{}
+
+/// One that begins again behind a read that was filled and put: when it does, what it comes to, and how it is judged.
+pub fn guest_steps_begin_again()
+    ensures first { FirstIsLast }
+    ensures none { NoneIsRefilled }
+    ensures again { StepsBeginAgain }
+    ensures last { LastIsJudged }
+    ensures same { AgainComesToTheSame }
+    ensures advances { AgainAdvances }
 {}
 
 /// A run of the board is so many retired steps of the guest, and an exit or none.
@@ -50,6 +63,8 @@ pub fn idle_stretches()
 
 /// A turn by its parts.
 pub fn turns_have_parts()
+    ensures flushed { FlushedIsSet }
+    ensures more { MoreStaysSet }
     ensures ready { BoardsAreReady }
     ensures advance { ExitsAdvance }
     ensures courses { CoursesAreTurns }
@@ -59,4 +74,14 @@ pub fn turns_have_parts()
 pub fn runs_take_turns()
     ensures batches { BatchesTake }
     ensures exits { ExitsTake }
+{}
+
+/// What a step that begins again has taken of a seated guest's turn.
+pub fn refills_take_turns()
+    ensures again { MidwayAgain }
+    ensures ahead { MidwayAhead }
+    ensures ends { MidwayEnds }
+    ensures begins { MidwayBegins }
+    ensures takes { MidwayTakes }
+    ensures within { MidwayWithin }
 {}

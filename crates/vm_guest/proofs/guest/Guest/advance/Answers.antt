@@ -1,21 +1,22 @@
 use Rattle.std.proofs.Common.{◌≡◌, ◌∙◌, ◌+◌, ◌-◌, ℕ, suc, Some, ap, sym, subst, arith}
+use Rattle.mb_instr.specs.declared.registers.Plain.{Plain}
 use Rattle.mb_instr.specs.Registers.{plain_of}
 use Rattle.mb_model.specs.declared.processor.Cpu.{Cpu}
 use Rattle.mb_devices.specs.Devices.{IsNotDue}
 use Rattle.mb_board.specs.State.{ran_to}
 use Rattle.vm_machine.specs.declared.class.Class.{Class}
-use Rattle.vm_machine.specs.Exits.{class_of_vector}
-use Rattle.vm_machine.specs.Turns.{counted}
 use Rattle.vm_machine.specs.Seats.{Seat, Takes}
-use Rattle.vm_guest.specs.Counting.{with_retired, NoneDue}
-use Rattle.vm_guest.specs.Native.{gone_on, guest_run}
+use Rattle.vm_guest.specs.Counting.{NoneDue}
+use Rattle.vm_guest.specs.Native.{gone_on, guest_run, reset_for}
+use Rattle.vm_guest.specs.Stops.{IsStopped}
 use Rattle.vm_guest.specs.Turns.{scene}
 use Rattle.vm_guest.specs.contracts.guest.Guest.{the_view}
 use Rattle.vm_guest.proofs.Runs.{MayRun, fewer}
 use Rattle.vm_guest.proofs.Stretches.{fewer_due}
-use Rattle.vm_guest.proofs.Advances.{Leaving, asked_is, assisted_by, counted_by, found_by, goes_by_board, goes_idle, idle_by, idles_by, leaving, may_by, native_rises, never_gone_by, rises_counted, rises_from, rises_left, stands}
+use Rattle.vm_guest.proofs.Advances.{Leaving, asked_is, assisted_by, counted_by, counted_native_by, found_by, goes_by_board, goes_idle, idle_by, idles_by}
+use Rattle.vm_guest.proofs.Advances.{leaving, may_by, never_gone_by, stands, stops}
 use Rattle.vm_guest.proofs.guest.Guest.advance.Goals as goal
-use Rattle.vm_guest.proofs.guest.Guest.advance.Goals.{After-run_board, After-retired, After-leave, After-go_on}
+use Rattle.vm_guest.proofs.guest.Guest.advance.Goals.{After-run_board, After-retired, After-go_on, After-go_on-in-Exit}
 
 -- ---- a step in which the board has no part
 
@@ -113,26 +114,26 @@ pub returns-in-Counted-clause-going : goal.returns-in-Counted-clause-going
 returns-in-Counted-clause-going c =
     let r = (goal.at.returns-in-Counted-clause-going c).After-run_board in
     let n = c.more_steps-more.result in
-    goes_by_board c.args.self.now c.begin.new.self c.go_on.new.self c.args.board.now.world.ram c.args.board.now.world.devices.ram c.args.native.now n
-    n (n + 1) c.plain.result c.begin.ensures.begun (may r) c.go_on.ensures
+    goes_by_board c.args.self.now c.begin.new.self c.go_on.new.self
+    (reset_for c.args.self.now c.args.board.now.world.ram c.args.board.now.world.devices.ram) c.args.native.now n n (n + 1)
+    c.plain.result c.begin.ensures.begun (may r) c.go_on.ensures
 
 pub returns-in-Counted-clause-native : goal.returns-in-Counted-clause-native
 returns-in-Counted-clause-native c =
     let r = (goal.at.returns-in-Counted-clause-native c).After-run_board in
     let n = c.more_steps-more.result in
-    let b = c.begin.new.self in
-    native_rises (n + 1) (scene c.args.self.now c.args.board.now.world.ram c.args.native.now)
-    (scene c.go_on.new.self c.run_board.new.board.world.ram c.run_board.new.native) (handed_back c (may r) (ran r))
-    (rises_from c.args.self.now b (n + 1) c.go_on.new.self.tally (with_retired (n + 1) b.tally) c.begin.ensures.begun
-    (ap (λ (s : Seat). s.tally) c.go_on.ensures) (rises_counted (n + 1) b.tally))
+    let counts = counted_native_by c.args.self.now c.begin.new.self c.args.board.now.world.ram c.args.board.now.world.devices.ram c.args.native.now n
+    (ran_to c.run_board.result c.run_board.new.board c.run_board.new.native) c.begin.ensures.begun (may r) (ran r) c.in-Counted.is in
+    let retired : c.run_board.new.native.retired ≡ c.args.native.now.retired + suc n = counts.0 in
+    let exceptions : c.run_board.new.native.exceptions ≡ c.args.native.now.exceptions = counts.1 in
+    (omega (arith, retired), omega (arith, exceptions))
 
 -- ---- left
 
 left : (c : After-retired) → MayRun c.args.self.now c.args.board.now.world.ram c.args.board.now.world.devices.ram c.args.native.now c.more_steps-more.result
     → ran_to c.run_board.result c.run_board.new.board c.run_board.new.native
     ≡ guest_run c.begin.new.self c.args.board.now.world.ram c.args.board.now.world.devices.ram c.args.native.now (suc c.more_steps-more.result)
-    → Leaving c.args.self.now c.begin.new.self c.args.board.now.world.ram c.args.native.now c.more_steps-more.result c.run_board.new.board
-    c.run_board.new.native c.in-Exit.vector (c.retired.result - c.retired-before.result)
+    → Leaving c.args.native.now c.more_steps-more.result c.run_board.new.board c.run_board.new.native (c.retired.result - c.retired-before.result)
 left c may ran =
     leaving c.args.self.now c.begin.new.self c.args.board.now.world.ram c.args.board.now.world.devices.ram c.args.native.now c.more_steps-more.result
     c.run_board.result c.run_board.new.board c.run_board.new.native c.in-Exit.vector (c.retired.result - c.retired-before.result)
@@ -154,9 +155,9 @@ overflow_cast-retired c =
     let fits = c.more_steps-more.type_inv in
     omega (arith, few, fits)
 
-pub leave-requires-clause-room : goal.leave-requires-clause-room
-leave-requires-clause-room c =
-    let r = goal.at.leave-requires-clause-room c in
+pub go_on-requires-in-Exit-clause-room : goal.go_on-requires-in-Exit-clause-room
+go_on-requires-in-Exit-clause-room c =
+    let r = goal.at.go_on-requires-in-Exit-clause-room c in
     let few = (left r.After-retired (may r.After-run_board) (ran r.After-run_board)).few in
     let within = c.more_steps-more.ensures.within in
     let steps = ap (λ (s : Seat). s.steps) c.begin.ensures.begun in
@@ -164,30 +165,70 @@ leave-requires-clause-room c =
     let room = c.requires.room in
     omega (arith, few, within, steps, some, room)
 
-pub leave-requires-clause-none : goal.leave-requires-clause-none
-leave-requires-clause-none c =
-    let r = goal.at.leave-requires-clause-none c in
+pub go_on-requires-in-Exit-clause-none : goal.go_on-requires-in-Exit-clause-none
+go_on-requires-in-Exit-clause-none c =
+    let r = goal.at.go_on-requires-in-Exit-clause-none c in
     let b = c.begin.new.self in
     let n = c.more_steps-more.result in
     fewer_due b.script b.steps n (c.retired.result - c.retired-before.result) (left r.After-retired (may r.After-run_board) (ran r.After-run_board)).few
     (subst (λ (s : Seat). NoneDue s.script s.steps n) c.self.view_is c.more_steps-more.ensures.none)
 
-pub leave-requires-clause-due : goal.leave-requires-clause-due
-leave-requires-clause-due c =
-    let r = goal.at.leave-requires-clause-due c in
+pub go_on-requires-in-Exit-clause-due : goal.go_on-requires-in-Exit-clause-due
+go_on-requires-in-Exit-clause-due c =
+    let r = goal.at.go_on-requires-in-Exit-clause-due c in
     let n = c.more_steps-more.result in
     fewer n (c.retired.result - c.retired-before.result) c.begin.new.self.devices (left r.After-retired (may r.After-run_board) (ran r.After-run_board)).few
     (subst (λ (s : Seat). IsNotDue n s.devices) c.self.view_is c.more_steps-more.ensures.due)
 
-pub leave-requires-clause-frame : goal.leave-requires-clause-frame
-leave-requires-clause-frame c =
-    let r = goal.at.leave-requires-clause-frame c in
-    (left r.After-retired (may r.After-run_board) (ran r.After-run_board)).frame
+-- the guest in the middle of that step
+stopped : (c : After-go_on-in-Exit)
+    → MayRun c.args.self.now c.args.board.now.world.ram c.args.board.now.world.devices.ram c.args.native.now c.more_steps-more.result
+    → ran_to c.run_board.result c.run_board.new.board c.run_board.new.native
+    ≡ guest_run c.begin.new.self c.args.board.now.world.ram c.args.board.now.world.devices.ram c.args.native.now (suc c.more_steps-more.result)
+    → IsStopped c.args.self.now c.args.board.now.world.ram c.args.native.now (c.retired.result - c.retired-before.result) 0 c.go_on-in-Exit.new.self
+    c.run_board.new.board c.run_board.new.native c.in-Exit.vector
+stopped c could went =
+    let n = c.retired.result - c.retired-before.result in
+    stops c.args.self.now c.begin.new.self c.go_on-in-Exit.new.self c.args.board.now.world.ram c.args.board.now.world.devices.ram c.args.native.now
+    c.more_steps-more.result c.run_board.result c.run_board.new.board c.run_board.new.native c.in-Exit.vector n c.begin.ensures.begun could went c.in-Exit.is
+    c.run_board.ensures.wide
+    (ap (λ (k : ℕ). k - c.retired-before.result) c.retired.ensures ∙ ap (λ (k : ℕ). c.run_board.new.native.retired - k) c.retired-before.ensures)
+    (c.go_on-in-Exit.ensures ∙ ap (λ (p : Plain). gone_on c.begin.new.self n n p) c.before-in-Exit.ensures)
 
-pub leave-requires-clause-seated : goal.leave-requires-clause-seated
-leave-requires-clause-seated c =
-    let r = goal.at.leave-requires-clause-seated c in
-    (left r.After-retired (may r.After-run_board) (ran r.After-run_board)).seated
+pub end_step-requires-clause-stopped : goal.end_step-requires-clause-stopped
+end_step-requires-clause-stopped c =
+    let r = goal.at.end_step-requires-clause-stopped c in
+    record {
+      guest = c.args.self.now;
+      ram = c.args.board.now.world.ram;
+      native = c.args.native.now;
+      taken = c.retired.result - c.retired-before.result;
+      is = stopped r.After-go_on-in-Exit (may r.After-run_board) (ran r.After-run_board);
+    }
+
+pub end_step-requires-clause-room : goal.end_step-requires-clause-room
+end_step-requires-clause-room c =
+    let r = goal.at.end_step-requires-clause-room c in
+    let few = (left r.After-retired (may r.After-run_board) (ran r.After-run_board)).few in
+    let within = c.more_steps-more.ensures.within in
+    let steps = ap (λ (s : Seat). s.steps) c.begin.ensures.begun in
+    let on = ap (λ (s : Seat). s.steps) c.go_on-in-Exit.ensures in
+    let some = c.requires.limit in
+    let room = c.requires.room in
+    omega (arith, few, within, steps, on, some, room)
+
+pub end_step-requires-clause-native : goal.end_step-requires-clause-native
+end_step-requires-clause-native c =
+    let r = goal.at.end_step-requires-clause-native c in
+    let gone = left r.After-retired (may r.After-run_board) (ran r.After-run_board) in
+    let few = gone.few in
+    let within = c.more_steps-more.ensures.within in
+    let some = c.requires.limit in
+    let retired = gone.retired in
+    let exceptions = gone.exceptions in
+    let count = c.requires.native.0 in
+    let left = c.requires.native.1 in
+    (omega (arith, few, within, some, retired, count), omega (arith, some, exceptions, left))
 
 pub overflow_add-result-in-Exit : goal.overflow_add-result-in-Exit
 overflow_add-result-in-Exit c =
@@ -206,28 +247,23 @@ returns-in-Exit-clause-some c =
     let some = c.requires.limit in
     (omega arith, omega (arith, few, within, some))
 
--- the guest behind the rest of that step
-goes_behind : (c : After-leave) → Leaving c.args.self.now c.begin.new.self c.args.board.now.world.ram c.args.native.now c.more_steps-more.result
-    c.run_board.new.board c.run_board.new.native c.in-Exit.vector (c.retired.result - c.retired-before.result)
-    → Takes (c.retired.result - c.retired-before.result + 1) (scene c.args.self.now c.args.board.now.world.ram c.args.native.now)
-    (scene c.leave.new.self c.leave.new.board.world.ram c.run_board.new.native)
-goes_behind c left =
-    let after = c.leave.ensures in
-    left.takes c.leave.new.self c.leave.new.board.world.ram (after.means left.frame.frame left.frame.stands) after.tally after.same after.seated after.within
-
 pub returns-in-Exit-clause-takes : goal.returns-in-Exit-clause-takes
 returns-in-Exit-clause-takes c =
     let r = goal.at.returns-in-Exit-clause-takes c in
-    goes_behind c (left r.After-retired (may r.After-run_board) (ran r.After-run_board))
+    c.end_step.ensures.takes (record {
+      guest = c.args.self.now;
+      ram = c.args.board.now.world.ram;
+      native = c.args.native.now;
+      taken = c.retired.result - c.retired-before.result;
+      is = stopped r.After-go_on-in-Exit (may r.After-run_board) (ran r.After-run_board);
+    })
 
 pub returns-in-Exit-clause-native : goal.returns-in-Exit-clause-native
 returns-in-Exit-clause-native c =
     let r = goal.at.returns-in-Exit-clause-native c in
-    let n = c.retired.result - c.retired-before.result in
-    let b = c.begin.new.self in
-    let class = class_of_vector c.in-Exit.vector in
-    native_rises (n + 1) (scene c.args.self.now c.args.board.now.world.ram c.args.native.now)
-    (scene c.leave.new.self c.leave.new.board.world.ram c.run_board.new.native)
-    (goes_behind c (left r.After-retired (may r.After-run_board) (ran r.After-run_board)))
-    (rises_from c.args.self.now b (n + 1) c.leave.new.self.tally (counted class (with_retired n b.tally)) c.begin.ensures.begun c.leave.ensures.tally
-    (rises_left n class b.tally))
+    let gone = left r.After-retired (may r.After-run_board) (ran r.After-run_board) in
+    let retired = gone.retired in
+    let exceptions = gone.exceptions in
+    let more = c.end_step.ensures.native.0 in
+    let again = c.end_step.ensures.native.1 in
+    (omega (arith, retired, more), omega (arith, exceptions, again))

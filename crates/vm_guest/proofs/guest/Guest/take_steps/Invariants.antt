@@ -1,4 +1,4 @@
-use Rattle.std.proofs.Common.{◌≡◌, ◌+◌, ◌-◌, ◌≤◌, false}
+use Rattle.std.proofs.Common.{◌≡◌, ◌+◌, ◌*◌, ◌-◌, ◌≤◌, false}
 use Rattle.mb_machine.specs.Machine.{takes_steps}
 use Rattle.vm_machine.specs.Seats.{Takes}
 use Rattle.vm_guest.specs.Turns.{scene, IsGoing}
@@ -11,7 +11,7 @@ invariant-loop-left l = record {
   steps : l.self.steps ≡ l.initial.self.steps + (l.limit - l.left);
   going : IsGoing l.self;
   retired : l.native.retired ≤ l.initial.native.retired + (l.limit - l.left);
-  exceptions : l.native.exceptions ≤ l.initial.native.exceptions + (l.limit - l.left);
+  exceptions : l.native.exceptions ≤ l.initial.native.exceptions + 32 * (l.limit - l.left);
   stays : takes_steps l.initial.self.state ≡ false
       → (l.self ≡ l.initial.self) × (l.board.world.ram ≡ l.initial.board.world.ram) × (l.native ≡ l.initial.native);
 }

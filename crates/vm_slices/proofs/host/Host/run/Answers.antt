@@ -1,9 +1,8 @@
-use Rattle.std.proofs.Common.{◌≡◌, ◌∙◌, ℕ, ◌<◌, ◌≤◌, List, true, false, refl, ap, sym, subst, arith, rules}
-use Rattle.vm_meaning.specs.Native.{NativeState}
+use Rattle.std.proofs.Common.{◌≡◌, ◌∙◌, ℕ, ◌<◌, List, true, false, refl, ap, sym, subst, arith}
 use Rattle.vm_machine.specs.Rounds.{Member, all_done, left_of_all, marks_after, members_after}
 use Rattle.vm_slices.specs.Counting.{AreCounted}
 use Rattle.vm_slices.specs.Places.{HostState, members_in}
-use Rattle.vm_slices.specs.Members.{after_rounds, machines_of, tallies_of}
+use Rattle.vm_slices.specs.Members.{machines_of, tallies_of}
 use Rattle.vm_slices.proofs.RoundLaws.{all_left_few, machines_end, none_so_far, one_round, round_left, run_ends, tallies_end}
 use Rattle.vm_slices.proofs.host.Host.run.Goals as goal
 
