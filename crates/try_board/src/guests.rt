@@ -5,6 +5,8 @@ ghost use Rattle.std.specs.Prelude.{◌≡◌, ◌<◌, ◌^◌, length, IfSome}
 ghost use Rattle.vm_machine.specs.Seats.{IsSeated};
 ghost use Rattle.vm_guest.specs.Turns.{IsGoing};
 
+mod timed;
+
 use crate::images::{SIZE, image_of};
 use crate::machines::{board_with, steps_of};
 use crate::shown::{Chunk, RESET, Shown, VECTOR, first_missing};
@@ -15,6 +17,7 @@ use mb_port::Place;
 use mb_report::same;
 use mb_script::{Script, read_script};
 use std::alloc::Global;
+use std::process::Abort;
 use vm_guest::{Counts, Guest, TurnEnd};
 
 /// Where the guest begins on the host, and how many bytes the host has.
@@ -41,15 +44,14 @@ const POINTERS: Chunk = (0xC200, &[0, 0, 0xC4, 2]);
 
 const PAGES: u32 = 0xC400;
 
-/// Sixteen pages, each of which leads to itself.
-const SELVES: Chunk = (
-    PAGES,
-    &[
-        0, 0, 0, 1, 0, 0, 0x10, 1, 0, 0, 0x20, 1, 0, 0, 0x30, 1, 0, 0, 0x40, 1, 0, 0, 0x50, 1, 0,
-        0, 0x60, 1, 0, 0, 0x70, 1, 0, 0, 0x80, 1, 0, 0, 0x90, 1, 0, 0, 0xA0, 1, 0, 0, 0xB0, 1, 0,
-        0, 0xC0, 1, 0, 0, 0xD0, 1, 0, 0, 0xE0, 1, 0, 0, 0xF0, 1,
-    ],
-);
+/// The descriptors of sixteen pages, each of which leads to itself.
+const SELF_PAGES: &[u8] = &[
+    0, 0, 0, 1, 0, 0, 0x10, 1, 0, 0, 0x20, 1, 0, 0, 0x30, 1, 0, 0, 0x40, 1, 0, 0, 0x50, 1, 0, 0,
+    0x60, 1, 0, 0, 0x70, 1, 0, 0, 0x80, 1, 0, 0, 0x90, 1, 0, 0, 0xA0, 1, 0, 0, 0xB0, 1, 0, 0, 0xC0,
+    1, 0, 0, 0xD0, 1, 0, 0, 0xE0, 1, 0, 0, 0xF0, 1,
+];
+
+const SELVES: Chunk = (PAGES, SELF_PAGES);
 
 /// `MOVE.B #1,CTRL`, and `MOVE.B DATA,DATA` in a loop: what arrives at which step shows on the console.
 const ECHO: Chunk = (
@@ -81,6 +83,8 @@ struct Case {
     script: &'static [u8],
     turns: &'static [(u32, TurnEnd)],
     counts: Counts,
+    /// How many reads were filled, each before its step began again.
+    fills: u64,
     shows: &'static [Shown],
     /// How many steps the bare board takes at most.
     steps: u32,
@@ -96,6 +100,7 @@ static CASES: [Case; 19] = [
         script: TYPED,
         turns: &[(99, Counted)],
         counts: Counts { retired: 49, denied: 50, ..NONE },
+        fills: 1,
         shows: &[Shown::Sent(49)],
         steps: 99,
         differs: &[],
@@ -106,6 +111,7 @@ static CASES: [Case; 19] = [
         script: TYPED,
         turns: &[(3, Counted), (0, Counted), (1, Counted), (35, Counted), (60, Counted)],
         counts: Counts { retired: 49, denied: 50, ..NONE },
+        fills: 1,
         shows: &[Shown::Sent(49)],
         steps: 99,
         differs: &[],
@@ -115,7 +121,8 @@ static CASES: [Case; 19] = [
         chunks: &[],
         script: b"",
         turns: &[(16_384, Counted), (100, Halted), (100, Halted)],
-        counts: Counts { retired: 16_368, denied: 17, ..NONE },
+        counts: Counts { retired: 16_384, denied: 1, refilled: 16, ..NONE },
+        fills: 16,
         shows: &[Shown::Steps(16_385), Shown::State(RunState::Halted)],
         steps: 20_000,
         differs: &[],
@@ -131,7 +138,8 @@ static CASES: [Case; 19] = [
         ],
         script: b"",
         turns: &[(3, Off), (3, Off)],
-        counts: Counts { denied: 3, ..NONE },
+        counts: Counts { retired: 1, denied: 2, refilled: 1, ..NONE },
+        fills: 1,
         shows: &[Shown::Steps(3), Shown::Console(&[0x41])],
         steps: 10,
         differs: &[],
@@ -152,7 +160,8 @@ static CASES: [Case; 19] = [
         ],
         script: b"",
         turns: &[(13, Counted)],
-        counts: Counts { retired: 3, privileged: 4, denied: 6, ..NONE },
+        counts: Counts { retired: 5, privileged: 5, denied: 3, refilled: 2, ..NONE },
+        fills: 3,
         shows: &[Shown::D(1, 0x5555), Shown::D(2, 0x5555), Shown::D(3, 0x6666)],
         steps: 13,
         differs: &[],
@@ -171,7 +180,8 @@ static CASES: [Case; 19] = [
         ],
         script: b"",
         turns: &[(10, Counted)],
-        counts: Counts { retired: 1, privileged: 3, denied: 6, ..NONE },
+        counts: Counts { retired: 3, privileged: 4, denied: 3, refilled: 2, ..NONE },
+        fills: 4,
         shows: &[Shown::D(1, 0x5555), Shown::D(2, 0x6666)],
         steps: 10,
         differs: &[Shown::D(2, 0x5555)],
@@ -188,7 +198,8 @@ static CASES: [Case; 19] = [
         ],
         script: b"",
         turns: &[(8, Counted)],
-        counts: Counts { retired: 1, privileged: 2, denied: 5, ..NONE },
+        counts: Counts { retired: 3, privileged: 3, denied: 2, refilled: 2, ..NONE },
+        fills: 3,
         shows: &[Shown::Ram(PAGES + 16, &[0, 0, 0x40, 9]), Shown::Sr(0x2704)],
         steps: 8,
         differs: &[],
@@ -205,7 +216,8 @@ static CASES: [Case; 19] = [
         ],
         script: b"",
         turns: &[(11, Counted)],
-        counts: Counts { retired: 4, privileged: 2, denied: 5, ..NONE },
+        counts: Counts { retired: 6, privileged: 3, denied: 2, refilled: 2, ..NONE },
+        fills: 3,
         shows: &[
             Shown::Pc(0x1FFC),
             Shown::Ram(
@@ -228,7 +240,8 @@ static CASES: [Case; 19] = [
         ],
         script: b"",
         turns: &[(8, Counted)],
-        counts: Counts { retired: 1, privileged: 2, denied: 5, ..NONE },
+        counts: Counts { retired: 3, privileged: 3, denied: 2, refilled: 2, ..NONE },
+        fills: 3,
         shows: &[
             Shown::Pc(0x500),
             Shown::Ram(0x5FF8, &[0, 0, 0x80, 0, 0xFF, 0xFF, 0xFF, 0xD1]),
@@ -244,13 +257,14 @@ static CASES: [Case; 19] = [
         chunks: &[RESET, TRANSLATES, (0x402, &[0, 1, 0, 0]), ROOT, POINTERS, SELVES],
         script: b"",
         turns: &[(100, Halted)],
-        counts: Counts { privileged: 2, denied: 4, ..NONE },
+        counts: Counts { retired: 2, privileged: 3, denied: 1, refilled: 2, ..NONE },
+        fills: 3,
         shows: &[Shown::Steps(6)],
         steps: 100,
         differs: &[],
     },
     Case {
-        name: "ten turns of DBF, and off: the first fetch and the switch are denied",
+        name: "ten turns of DBF, and off: the first fetch is filled, and the switch denied",
         chunks: &[
             RESET,
             (0x400, &[
@@ -260,7 +274,8 @@ static CASES: [Case; 19] = [
         ],
         script: b"",
         turns: &[(100, Off)],
-        counts: Counts { retired: 10, denied: 2, ..NONE },
+        counts: Counts { retired: 11, denied: 1, refilled: 1, ..NONE },
+        fills: 1,
         shows: &[Shown::Steps(12), Shown::D(0, 0xFFFF), Shown::Pc(0x410)],
         steps: 100,
         differs: &[],
@@ -279,7 +294,8 @@ static CASES: [Case; 19] = [
         ],
         script: b"",
         turns: &[(8, Counted)],
-        counts: Counts { retired: 1, privileged: 2, denied: 5, ..NONE },
+        counts: Counts { retired: 3, privileged: 3, denied: 2, refilled: 2, ..NONE },
+        fills: 3,
         shows: &[
             Shown::Ram(0x1FFF, &[0x11, 0x22, 0x33, 0x44, 0, 0, 0, 0x80, 0]),
             Shown::Ram(PAGES + 8, &[0, 0, 0x20, 0x19]),
@@ -302,7 +318,8 @@ static CASES: [Case; 19] = [
         ],
         script: b"",
         turns: &[(12, Counted)],
-        counts: Counts { retired: 4, privileged: 2, denied: 6, ..NONE },
+        counts: Counts { retired: 6, privileged: 3, denied: 3, refilled: 2, ..NONE },
+        fills: 3,
         shows: &[
             Shown::Pc(0x1FFC),
             Shown::Ram(
@@ -321,7 +338,8 @@ static CASES: [Case; 19] = [
         ],
         script: b"",
         turns: &[(5, Halted)],
-        counts: Counts { trapped: 1, denied: 1, ..NONE },
+        counts: Counts { retired: 1, trapped: 1, refilled: 1, ..NONE },
+        fills: 1,
         shows: &[
             Shown::Steps(2),
             Shown::State(RunState::Halted),
@@ -347,7 +365,8 @@ static CASES: [Case; 19] = [
         ],
         script: b"",
         turns: &[(11, Counted)],
-        counts: Counts { retired: 3, privileged: 3, denied: 5, ..NONE },
+        counts: Counts { retired: 5, privileged: 4, denied: 2, refilled: 2, ..NONE },
+        fills: 3,
         shows: &[
             Shown::D(2, 1), Shown::D(3, 1), Shown::D(4, 0), Shown::Pc(0x42E), Shown::Ram(PAGES, &[0, 0, 0x70, 9]),
         ],
@@ -364,7 +383,8 @@ static CASES: [Case; 19] = [
         ],
         script: b"",
         turns: &[(31, Counted)],
-        counts: Counts { retired: 10, privileged: 10, denied: 1, traced: 10, ..NONE },
+        counts: Counts { retired: 10, privileged: 11, traced: 10, ..NONE },
+        fills: 1,
         shows: &[Shown::D(2, 5), Shown::D(3, 10)],
         steps: 31,
         differs: &[],
@@ -379,7 +399,8 @@ static CASES: [Case; 19] = [
         ],
         script: b"",
         turns: &[(9, Counted)],
-        counts: Counts { retired: 4, privileged: 2, trapped: 2, denied: 1, ..NONE },
+        counts: Counts { retired: 5, privileged: 2, trapped: 2, refilled: 1, ..NONE },
+        fills: 1,
         shows: &[Shown::D(3, 2), Shown::Pc(0x402)],
         steps: 9,
         differs: &[],
@@ -393,7 +414,8 @@ static CASES: [Case; 19] = [
         ],
         script: b"",
         turns: &[(3, Counted)],
-        counts: Counts { privileged: 1, denied: 2, ..NONE },
+        counts: Counts { retired: 1, privileged: 2, refilled: 1, ..NONE },
+        fills: 2,
         shows: &[
             Shown::Pc(0x420),
             Shown::Sr(0x2000),
@@ -417,8 +439,105 @@ static CASES: [Case; 19] = [
         script: b"",
         turns: &[(11, Counted)],
         counts: Counts { retired: 1, privileged: 3, denied: 2, entered: 2, idle: 3, ..NONE },
+        fills: 1,
         shows: &[Shown::Pc(0x500), Shown::Sr(0x2600)],
         steps: 11,
+        differs: &[],
+    },
+];
+
+/// Reads that are filled, and some that are not.
+#[rattlefmt::skip]
+static FILLS: [Case; 5] = [
+    Case {
+        name: "an instruction that fetches and reads in new pages, and one that reads there again",
+        chunks: &[
+            RESET,
+            (0x400, &[
+                0x20, 0x38, 0x20, 0, 0x20, 0x38, 0x20, 4, // MOVE.L $2000,D0; MOVE.L $2004,D0
+                0x23, 0xFC, 0, 0, 0, 1, 0xFF, 0xF0, 0, 0x20, // MOVE.L #1,POWER
+            ]),
+        ],
+        script: b"",
+        turns: &[(100, Off)],
+        counts: Counts { retired: 2, denied: 1, refilled: 1, ..NONE },
+        fills: 2,
+        shows: &[Shown::Steps(3)],
+        steps: 100,
+        differs: &[],
+    },
+    Case {
+        name: "a transfer of a MOVEM is not filled",
+        chunks: &[
+            RESET,
+            (0x400, &[
+                0x4C, 0xF8, 0, 3, 0x20, 0, // MOVEM.L $2000,D0-D1
+                0x23, 0xFC, 0, 0, 0, 1, 0xFF, 0xF0, 0, 0x20, // MOVE.L #1,POWER
+            ]),
+            (0x2000, &[0, 0, 0, 1, 0, 0, 0, 2]),
+        ],
+        script: b"",
+        turns: &[(100, Off)],
+        counts: Counts { denied: 2, ..NONE },
+        fills: 1,
+        shows: &[Shown::Steps(2), Shown::D(0, 1), Shown::D(1, 2)],
+        steps: 100,
+        differs: &[],
+    },
+    Case {
+        name: "a locked read is not filled",
+        chunks: &[
+            RESET,
+            (0x400, &[
+                0x4A, 0xF8, 0x20, 0, // TAS $2000
+                0x23, 0xFC, 0, 0, 0, 1, 0xFF, 0xF0, 0, 0x20, // MOVE.L #1,POWER
+            ]),
+        ],
+        script: b"",
+        turns: &[(100, Off)],
+        counts: Counts { denied: 2, ..NONE },
+        fills: 1,
+        shows: &[Shown::Steps(2), Shown::Ram(0x2000, &[0x80])],
+        steps: 100,
+        differs: &[],
+    },
+    Case {
+        name: "CMPM.L of two longs on four new pages begins again four times",
+        chunks: &[
+            RESET,
+            (0x400, &[
+                0x41, 0xF8, 0x2F, 0xFE, 0x43, 0xF8, 0x4F, 0xFE, 0xB3, 0x88, // LEA $2FFE,A0; LEA $4FFE,A1; CMPM.L
+                0x23, 0xFC, 0, 0, 0, 1, 0xFF, 0xF0, 0, 0x20, // MOVE.L #1,POWER
+            ]),
+        ],
+        script: b"",
+        turns: &[(100, Off)],
+        counts: Counts { retired: 3, denied: 1, refilled: 2, ..NONE },
+        fills: 5,
+        shows: &[Shown::Steps(4), Shown::A(0, 0x3002), Shown::A(1, 0x5002)],
+        steps: 100,
+        differs: &[],
+    },
+    Case {
+        name: "CMPM.L reads a descriptor in a page that is kept, and the search for its second read would mark it used",
+        chunks: &[
+            RESET,
+            (0x400, &[
+                0x41, 0xF8, 0x60, 0, 0x4E, 0x7B, 0x88, 7, // LEA $6000,A0; MOVEC A0,SRP
+                0x20, 0x3C, 0xFF, 0, 0xC0, 0, 0x4E, 0x7B, 0, 6, // MOVE.L #$FF00C000,D0; MOVEC D0,DTT0
+                0x20, 0x3C, 0, 0, 0x80, 0, 0x4E, 0x7B, 0, 3, // MOVE.L #$8000,D0; MOVEC D0,TC
+                0x4A, 0xB8, 0x70, 0, 0x41, 0xF8, 0x70, 0x10, // TST.L $7000; LEA $7010,A0
+                0x43, 0xF8, 0x40, 0, 0xB3, 0x88, 0x57, 0xC2, // LEA $4000,A1; CMPM.L (A0)+,(A1)+; SEQ D2
+                0x23, 0xFC, 0, 0, 0, 1, 0xFF, 0xF0, 0, 0x20, // MOVE.L #1,POWER
+            ]),
+            (0x6000, &[0, 0, 0x62, 2]), (0x6200, &[0, 0, 0x70, 2]), (0x7000, SELF_PAGES), (0x4000, &[0, 0, 0x40, 1]),
+        ],
+        script: b"",
+        turns: &[(100, Off)],
+        counts: Counts { retired: 6, privileged: 3, denied: 3, refilled: 3, ..NONE },
+        fills: 3,
+        shows: &[Shown::Steps(12), Shown::D(2, 0xFF), Shown::Ram(0x7010, &[0, 0, 0x40, 9])],
+        steps: 100,
         differs: &[],
     },
 ];
@@ -519,14 +638,15 @@ impl Pair {
         }
     }
 
-    /// Whether all steps are counted, and the board has counted those that it carried out and left.
-    fn is_counted(&self) -> bool {
+    /// Whether all steps are counted, and the board has counted those that it carried out and left, and each time that
+    /// one began again.
+    fn is_counted(&self, fills: u64) -> bool {
         let c = self.guest.counts();
         let exits = c.privileged.wrapping_add(c.trapped).wrapping_add(c.denied);
         let others = c.traced.wrapping_add(c.entered).wrapping_add(c.idle);
         u64::from(self.outcome().steps) == c.retired.wrapping_add(exits).wrapping_add(others)
             && self.native.retired() == c.retired
-            && self.native.exceptions() == exits
+            && self.native.exceptions() == exits.wrapping_add(fills)
     }
 
     /// Whether the guest's turns end so.
@@ -547,10 +667,9 @@ impl Pair {
     }
 }
 
-#[test]
-fn a_guest_beside_a_bare_board(rt: HostRuntime) {
-    for case in &CASES {
-        let mut pair = Pair::new(rt.alloc(), case.chunks, case.script).expect(&rt, "ample memory");
+fn check_cases(rt: &impl Abort, alloc: Global, cases: &[Case]) {
+    for case in cases {
+        let mut pair = Pair::new(alloc, case.chunks, case.script).expect(rt, "ample memory");
         assert!(rt; pair.takes(case.turns), "{}", case.name);
         assert!(rt;
             first_missing(&pair.outcome(), case.shows) == None,
@@ -558,7 +677,7 @@ fn a_guest_beside_a_bare_board(rt: HostRuntime) {
             case.name
         );
         assert!(rt; pair.guest.counts() == case.counts, "{}", case.name);
-        assert!(rt; pair.is_counted(), "{}", case.name);
+        assert!(rt; pair.is_counted(case.fills), "{}", case.name);
         pair.run_bare(case.steps);
         let is_same = same(&pair.outcome(), &pair.bare.outcome());
         assert!(rt; is_same == case.differs.is_empty(), "{}", case.name);
@@ -570,107 +689,8 @@ fn a_guest_beside_a_bare_board(rt: HostRuntime) {
     }
 }
 
-/// What a guest counts of a number of steps, and the trail of those that the board carried out.
-fn counts_of(alloc: Global, chunks: &[Chunk], turns: &[u32]) -> Option<(Counts, u64)> {
-    let mut pair = Pair::new(alloc, chunks, b"")?;
-    for steps in turns {
-        if pair.turn(*steps) != Some(Counted) {
-            return None;
-        }
-        pair.run_bare(*steps);
-    }
-    (pair.is_counted() && same(&pair.outcome(), &pair.bare.outcome())).then_some((
-        pair.guest.counts(),
-        pair.native.trail(),
-    ))
-}
-
-/// The timer asks at every eleventh step, and each entry acknowledges it and goes back.
-const EVERY_ELEVENTH: [Chunk; 4] = [
-    RESET,
-    (0x78, &[0, 0, 5, 0]),
-    (
-        0x400,
-        &[
-            0x23, 0xFC, 0, 0, 0, 11, 0xFF, 0xF0, 0, 0x10, // MOVE.L #11,PERIOD
-            0x46, 0xFC, 0x20, 0, // MOVE #$2000,SR
-            0x52, 0x82, 0x54, 0x83, 0x4E, 0x71, 0x60, 0xF8, // ADDQ.L #1,D2; ADDQ.L #2,D3; NOP; BRA
-        ],
-    ),
-    (
-        0x500,
-        &[0x52, 0x84, 0x23, 0xC4, 0xFF, 0xF0, 0, 0x18, 0x4E, 0x73], // ADDQ.L #1,D4; MOVE.L D4,ACK; RTE
-    ),
-];
-
-/// The timer asks at the third step behind that which sets its period. The entry stops it and goes back, and the loop
-/// sets it again.
-const AT_THE_THIRD: [Chunk; 4] = [
-    RESET,
-    (0x78, &[0, 0, 5, 0]),
-    (
-        0x400,
-        &[
-            0x46, 0xFC, 0x20, 0, // MOVE #$2000,SR
-            0x23, 0xFC, 0, 0, 0, 3, 0xFF, 0xF0, 0, 0x10, // MOVE.L #3,PERIOD
-            0x52, 0x82, 0x54, 0x83, 0x4E, 0x71, 0x60, 0xEE, // ADDQ.L #1,D2; ADDQ.L #2,D3; NOP; BRA
-        ],
-    ),
-    (
-        0x500,
-        &[
-            0x52, 0x84, 0x23, 0xC5, 0xFF, 0xF0, 0, 0x10, // ADDQ.L #1,D4; MOVE.L D5,PERIOD
-            0x23, 0xC4, 0xFF, 0xF0, 0, 0x18, 0x4E, 0x73, // MOVE.L D4,ACK; RTE
-        ],
-    ),
-];
-
-/// A machine that the timer interrupts, the turns that it takes its steps in, and what it counts of each of them.
-struct Timed {
-    chunks: &'static [Chunk],
-    turns: &'static [&'static [u32]],
-    counts: Counts,
-}
-
-static TIMED: [Timed; 2] = [
-    Timed {
-        chunks: &EVERY_ELEVENTH,
-        turns: &[&[84], &[1; 84], &[2; 42], &[7; 12]],
-        counts: Counts {
-            retired: 61,
-            privileged: 8,
-            denied: 8,
-            entered: 7,
-            ..NONE
-        },
-    },
-    Timed {
-        chunks: &AT_THE_THIRD,
-        turns: &[&[60], &[1; 60], &[2; 30], &[3; 20], &[4; 15], &[5; 12]],
-        counts: Counts {
-            retired: 29,
-            privileged: 6,
-            denied: 19,
-            entered: 6,
-            ..NONE
-        },
-    },
-];
-
-/// An interrupt in each position of a batch: turns of whatever length show the same, count the same and have the same
-/// trail.
 #[test]
-fn turns_of_any_length_count_the_same(rt: HostRuntime) {
-    for case in &TIMED {
-        let mut trail = None;
-        for turns in case.turns {
-            let (counts, after) = counts_of(rt.alloc(), case.chunks, turns).expect(
-                &rt,
-                "ample memory",
-            );
-            assert!(rt; counts == case.counts);
-            assert!(rt; trail == None || trail == Some(after));
-            trail = Some(after);
-        }
-    }
+fn a_guest_beside_a_bare_board(rt: HostRuntime) {
+    check_cases(&rt, rt.alloc(), &CASES);
+    check_cases(&rt, rt.alloc(), &FILLS);
 }
