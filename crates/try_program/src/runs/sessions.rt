@@ -35,6 +35,11 @@ const LOOP: &[u8] = b"S10B00000001000000000400EF\n\
 S1130400700951C8FFFE23FC00000001FFF000202A\n\
 S9030000FC\n";
 
+/// Two reads in one page, and the store that switches off.
+const READS: &[u8] = b"S10B00000001000000000400EF\n\
+S1150400203820002038200423FC00000001FFF00020C3\n\
+S9030000FC\n";
+
 const ONE: &[u8] = b"session 1\nboard 192\nslice 1000\nguest 64 10 hello.s19 -\n";
 
 /// A run on these files, and what is to come of it.
@@ -51,10 +56,11 @@ struct Row<'a> {
 
 /// A shelf with all images, a script that types a line, a source, and a session.
 fn shelf(alloc: Global, session: &[u8], fails: u64) -> Option<MemShelf> {
-    let known: [(&str, &[u8]); 9] = [
+    let known: [(&str, &[u8]); 10] = [
         ("s.txt", session),
         ("hello.s19", HELLO),
         ("loop.s19", LOOP),
+        ("reads.s19", READS),
         ("fill.s19", FILL),
         ("zeros.s19", ZEROS),
         ("stale.s19", STALE),
@@ -97,109 +103,119 @@ fn check_rows(rt: &impl Abort, alloc: Global, rows: &[Row]) {
     }
 }
 
+/// Sessions that are hosted and compared.
+static SESSIONS: [Row<'static>; 12] = [
+    Row {
+        what: "one guest shows what it shows alone",
+        words: "mbx host s.txt",
+        session: ONE,
+        status: 0,
+        parts: &[HELLO_TEXT],
+        diag: b"guest 1 retired 1 privileged 0 trapped 0 denied 2 traced 0 entered 0 idle 0 refilled 1\n",
+    },
+    Row {
+        what: "a guest that halts beside one that switches off",
+        words: "mbx host -- s.txt",
+        session: b"session 1\nboard 320\nslice 7\nguest 64 20000 zeros.s19 -\nguest 64 10 hello.s19 -\n",
+        status: 0,
+        parts: &[
+            b"guest 1\nstate halted\nsteps 16385\n",
+            b"guest 2\nstate off\nsteps 3\nconsole 1\n41\n",
+        ],
+        diag: b"guest 1 retired 16384 privileged 0 trapped 0 denied 1 traced 0 entered 0 idle 0 refilled 16\n\
+guest 2 retired 1 privileged 0 trapped 0 denied 2 traced 0 entered 0 idle 0 refilled 1\n",
+    },
+    Row {
+        what: "a script is its own guest's",
+        words: "mbx host s.txt",
+        session: b"session 1\nboard 320\nslice 1\nguest 64 1 zeros.s19 -\nguest 64 1 zeros.s19 typed.txt\n",
+        status: 0,
+        parts: &[
+            b"guest 1\nstate running\nsteps 1\nconsole 0\nlost 0\nqueue 0\n",
+            b"guest 2\nstate running\nsteps 1\nconsole 0\nlost 0\nqueue 1\n41\n",
+        ],
+        diag: b"guest 1 retired 1 privileged 0 trapped 0 denied 0 traced 0 entered 0 idle 0 refilled 1\n\
+guest 2 retired 1 privileged 0 trapped 0 denied 0 traced 0 entered 0 idle 0 refilled 1\n",
+    },
+    Row {
+        what: "a loop of which the first fetch alone is filled, and the store to a device alone denied",
+        words: "mbx host s.txt",
+        session: b"session 1\nboard 192\nslice 5\nguest 64 100 loop.s19 -\n",
+        status: 0,
+        parts: &[b"guest 1\nstate off\nsteps 12\n", b"D0 0000FFFF\n"],
+        diag: b"guest 1 retired 11 privileged 0 trapped 0 denied 1 traced 0 entered 0 idle 0 refilled 1\n",
+    },
+    Row {
+        what: "an instruction that is fetched and reads in new pages is retired, and counted as refilled once",
+        words: "mbx host s.txt",
+        session: b"session 1\nboard 192\nslice 1000\nguest 64 100 reads.s19 -\n",
+        status: 0,
+        parts: &[b"guest 1\nstate off\nsteps 3\n", b"PC 00000412\n"],
+        diag: b"guest 1 retired 2 privileged 0 trapped 0 denied 1 traced 0 entered 0 idle 0 refilled 1\n",
+    },
+    Row {
+        what: "a board that is too small",
+        words: "mbx host s.txt",
+        session: b"session 1\nboard 256\nslice 1000\nguest 64 10 hello.s19 -\nguest 64 10 hello.s19 -\n",
+        status: 4,
+        parts: &[],
+        diag: b"mbx: oversize need 327680 have 262144\n",
+    },
+    Row {
+        what: "the board on which they fit",
+        words: "mbx host s.txt",
+        session: b"session 1\nboard 320\nslice 1000\nguest 64 10 hello.s19 -\nguest 64 10 hello.s19 -\n",
+        status: 0,
+        parts: &[HELLO_TEXT, b"guest 2\nstate off\nsteps 3\n"],
+        diag: b"guest 1 retired 1 privileged 0 trapped 0 denied 2 traced 0 entered 0 idle 0 refilled 1\n\
+guest 2 retired 1 privileged 0 trapped 0 denied 2 traced 0 entered 0 idle 0 refilled 1\n",
+    },
+    Row {
+        what: "guests that translate nothing are the same",
+        words: "mbx compare s.txt",
+        session: b"session 1\nboard 320\nslice 1000\nguest 64 10 hello.s19 -\nguest 64 50000 fill.s19 -\n",
+        status: 0,
+        parts: &[b"guest 1 same\nguest 2 same\n"],
+        diag: b"",
+    },
+    Row {
+        what: "a script is its own guest's on both boards",
+        words: "mbx compare s.txt",
+        session: b"session 1\nboard 320\nslice 1\nguest 64 1 zeros.s19 -\nguest 64 1 zeros.s19 typed.txt\n",
+        status: 0,
+        parts: &[b"guest 1 same\nguest 2 same\n"],
+        diag: b"",
+    },
+    Row {
+        what: "a stale translation that a guest forgets and the board does not",
+        words: "mbx compare s.txt",
+        session: b"session 1\nboard 320\nslice 3\nguest 64 8 stale.s19 -\nguest 64 10 hello.s19 -\n",
+        status: 1,
+        parts: &[b"guest 1 differs\nguest 2 same\n"],
+        diag: b"",
+    },
+    Row {
+        what: "a guest forgets a stale translation where it writes a root",
+        words: "mbx host s.txt",
+        session: b"session 1\nboard 320\nslice 3\nguest 64 8 stale.s19 -\nguest 64 10 hello.s19 -\n",
+        status: 0,
+        parts: &[b"D2 00001111\nD3 00002222\n"],
+        diag: b"guest 1 retired 2 privileged 3 trapped 0 denied 3 traced 0 entered 0 idle 0 refilled 2\n\
+guest 2 retired 1 privileged 0 trapped 0 denied 2 traced 0 entered 0 idle 0 refilled 1\n",
+    },
+    Row {
+        what: "what does not fit is not compared",
+        words: "mbx compare s.txt",
+        session: b"session 1\nboard 128\nslice 3\nguest 64 8 stale.s19 -\n",
+        status: 4,
+        parts: &[],
+        diag: b"mbx: oversize need 196608 have 131072\n",
+    },
+];
+
 #[test]
 fn sessions_run(rt: HostRuntime) {
-    let rows: [Row; 11] = [
-        Row {
-            what: "one guest shows what it shows alone",
-            words: "mbx host s.txt",
-            session: ONE,
-            status: 0,
-            parts: &[HELLO_TEXT],
-            diag: b"guest 1 retired 0 privileged 0 trapped 0 denied 3 traced 0 entered 0 idle 0 refilled 0\n",
-        },
-        Row {
-            what: "a guest that halts beside one that switches off",
-            words: "mbx host -- s.txt",
-            session: b"session 1\nboard 320\nslice 7\nguest 64 20000 zeros.s19 -\nguest 64 10 hello.s19 -\n",
-            status: 0,
-            parts: &[
-                b"guest 1\nstate halted\nsteps 16385\n",
-                b"guest 2\nstate off\nsteps 3\nconsole 1\n41\n",
-            ],
-            diag: b"guest 1 retired 16368 privileged 0 trapped 0 denied 17 traced 0 entered 0 idle 0 refilled 0\n\
-guest 2 retired 0 privileged 0 trapped 0 denied 3 traced 0 entered 0 idle 0 refilled 0\n",
-        },
-        Row {
-            what: "a script is its own guest's",
-            words: "mbx host s.txt",
-            session: b"session 1\nboard 320\nslice 1\nguest 64 1 zeros.s19 -\nguest 64 1 zeros.s19 typed.txt\n",
-            status: 0,
-            parts: &[
-                b"guest 1\nstate running\nsteps 1\nconsole 0\nlost 0\nqueue 0\n",
-                b"guest 2\nstate running\nsteps 1\nconsole 0\nlost 0\nqueue 1\n41\n",
-            ],
-            diag: b"guest 1 retired 0 privileged 0 trapped 0 denied 1 traced 0 entered 0 idle 0 refilled 0\n\
-guest 2 retired 0 privileged 0 trapped 0 denied 1 traced 0 entered 0 idle 0 refilled 0\n",
-        },
-        Row {
-            what: "a loop of which the first step alone and the store to a device are denied",
-            words: "mbx host s.txt",
-            session: b"session 1\nboard 192\nslice 5\nguest 64 100 loop.s19 -\n",
-            status: 0,
-            parts: &[b"guest 1\nstate off\nsteps 12\n", b"D0 0000FFFF\n"],
-            diag: b"guest 1 retired 10 privileged 0 trapped 0 denied 2 traced 0 entered 0 idle 0 refilled 0\n",
-        },
-        Row {
-            what: "a board that is too small",
-            words: "mbx host s.txt",
-            session: b"session 1\nboard 256\nslice 1000\nguest 64 10 hello.s19 -\nguest 64 10 hello.s19 -\n",
-            status: 4,
-            parts: &[],
-            diag: b"mbx: oversize need 327680 have 262144\n",
-        },
-        Row {
-            what: "the board on which they fit",
-            words: "mbx host s.txt",
-            session: b"session 1\nboard 320\nslice 1000\nguest 64 10 hello.s19 -\nguest 64 10 hello.s19 -\n",
-            status: 0,
-            parts: &[HELLO_TEXT, b"guest 2\nstate off\nsteps 3\n"],
-            diag: b"guest 1 retired 0 privileged 0 trapped 0 denied 3 traced 0 entered 0 idle 0 refilled 0\n\
-guest 2 retired 0 privileged 0 trapped 0 denied 3 traced 0 entered 0 idle 0 refilled 0\n",
-        },
-        Row {
-            what: "guests that translate nothing are the same",
-            words: "mbx compare s.txt",
-            session: b"session 1\nboard 320\nslice 1000\nguest 64 10 hello.s19 -\nguest 64 50000 fill.s19 -\n",
-            status: 0,
-            parts: &[b"guest 1 same\nguest 2 same\n"],
-            diag: b"",
-        },
-        Row {
-            what: "a script is its own guest's on both boards",
-            words: "mbx compare s.txt",
-            session: b"session 1\nboard 320\nslice 1\nguest 64 1 zeros.s19 -\nguest 64 1 zeros.s19 typed.txt\n",
-            status: 0,
-            parts: &[b"guest 1 same\nguest 2 same\n"],
-            diag: b"",
-        },
-        Row {
-            what: "a stale translation that a guest forgets and the board does not",
-            words: "mbx compare s.txt",
-            session: b"session 1\nboard 320\nslice 3\nguest 64 8 stale.s19 -\nguest 64 10 hello.s19 -\n",
-            status: 1,
-            parts: &[b"guest 1 differs\nguest 2 same\n"],
-            diag: b"",
-        },
-        Row {
-            what: "a guest forgets a stale translation where it writes a root",
-            words: "mbx host s.txt",
-            session: b"session 1\nboard 320\nslice 3\nguest 64 8 stale.s19 -\nguest 64 10 hello.s19 -\n",
-            status: 0,
-            parts: &[b"D2 00001111\nD3 00002222\n"],
-            diag: b"guest 1 retired 0 privileged 3 trapped 0 denied 5 traced 0 entered 0 idle 0 refilled 0\n\
-guest 2 retired 0 privileged 0 trapped 0 denied 3 traced 0 entered 0 idle 0 refilled 0\n",
-        },
-        Row {
-            what: "what does not fit is not compared",
-            words: "mbx compare s.txt",
-            session: b"session 1\nboard 128\nslice 3\nguest 64 8 stale.s19 -\n",
-            status: 4,
-            parts: &[],
-            diag: b"mbx: oversize need 196608 have 131072\n",
-        },
-    ];
-    check_rows(&rt, rt.alloc(), &rows);
+    check_rows(&rt, rt.alloc(), &SESSIONS);
 }
 
 #[test]
@@ -207,8 +223,8 @@ fn what_the_board_carries_out_is_counted(rt: HostRuntime) {
     let session =
         b"session 1\nboard 320\nslice 5\nguest 64 100 loop.s19 -\nguest 64 8 loop.s19 -\n";
     let rows: [(&str, u64, u64); 3] = [
-        ("mbx host s.txt", 17, 3),
-        ("mbx compare s.txt", 17, 3),
+        ("mbx host s.txt", 19, 3),
+        ("mbx compare s.txt", 19, 3),
         ("mbx bare loop.s19 --ram 64 --steps 100", 0, 0),
     ];
     for (words, retired, exceptions) in rows {
