@@ -16,7 +16,7 @@ use Rattle.vm_slices.specs.Fit.{Fits}
 use Rattle.vm_slices.specs.Members.{numbered, shown_of}
 use Rattle.vm_slices.specs.Places.{HostState, members_in}
 use Rattle.mb_program.specs.Answers.{compare_answer, compare_shown, compared_text, is_same, outcome_by, texts_from}
-use Rattle.mb_program.specs.Direct.{carried_out}
+use Rattle.mb_program.specs.Direct.{CarriedOut}
 use Rattle.mb_program.specs.Compares.{found_of, outcome_ahead, same_each}
 use Rattle.mb_program.specs.Ends.{SinkSeen, GivesAnswer}
 use Rattle.mb_program.proofs.ShowLemmas.{fitting}
@@ -141,7 +141,7 @@ status_so guests all found same is =
     ap (λ (b : Bool). let n : ℕ = cond b 0 1 in n) (sym (is ∙ ap (λ bs. list_all (λ (same : Bool). same) bs) same ∙ all_said guests))
 
 pub compared_same : (s : SessionAtStart) (found : List Bool) (out out_after : SinkSeen) (native native_after : NativeState) → Fits s
-    → found ≡ map is_same s.guests → native_after ≡ carried_out s native → true ≡ list_all (λ (same : Bool). same) found
+    → found ≡ map is_same s.guests → CarriedOut s native native_after → true ≡ list_all (λ (same : Bool). same) found
     → Printed out.taken out_after.taken out.faults out_after.faults (texts_from compared_text 1 found)
     → GivesAnswer (compare_answer s) out out_after native native_after Done
 compared_same s found out out_after native native_after fits same counted all printed =
@@ -151,7 +151,7 @@ compared_same s found out out_after native native_after fits same counted all pr
     (λ shelf shelf_after stayed. (stayed, printed.same, (text, status_so s.guests true found same all, counted), (refl, refl)))
 
 pub compared_other : (s : SessionAtStart) (found : List Bool) (out out_after : SinkSeen) (native native_after : NativeState) → Fits s
-    → found ≡ map is_same s.guests → native_after ≡ carried_out s native → false ≡ list_all (λ (same : Bool). same) found
+    → found ≡ map is_same s.guests → CarriedOut s native native_after → false ≡ list_all (λ (same : Bool). same) found
     → Printed out.taken out_after.taken out.faults out_after.faults (texts_from compared_text 1 found)
     → GivesAnswer (compare_answer s) out out_after native native_after Differs
 compared_other s found out out_after native native_after fits same counted all printed =
@@ -161,7 +161,7 @@ compared_other s found out out_after native native_after fits same counted all p
     (λ shelf shelf_after stayed. (stayed, printed.same, (text, status_so s.guests false found same all, counted), (refl, refl)))
 
 pub compared_cut : (s : SessionAtStart) (found : List Bool) (out out_after : SinkSeen) (native native_after : NativeState) → Fits s
-    → found ≡ map is_same s.guests → native_after ≡ carried_out s native
+    → found ≡ map is_same s.guests → CarriedOut s native native_after
     → PrintedPart out.taken out_after.taken out.faults out_after.faults (texts_from compared_text 1 found)
     → GivesAnswer (compare_answer s) out out_after native native_after Output
 compared_cut s found out out_after native native_after fits same counted printed =

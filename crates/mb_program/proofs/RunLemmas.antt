@@ -18,7 +18,7 @@ use Rattle.vm_slices.specs.declared.open_fault.OpenFault.TheVariants as open_fau
 use Rattle.mb_program.specs.Runs.{Runs}
 use Rattle.vm_slices.specs.Members.{after_rounds, machine_at_end, machines_of, member_at_start, shown_of, tallies_of, tally_at_end}
 use Rattle.mb_program.specs.Answers.{outcome_by}
-use Rattle.mb_program.specs.Direct.{carried_out, hosted_by, tallies_by, tally_by}
+use Rattle.mb_program.specs.Direct.{CarriedOut, hosted_by, tallies_by, tally_by}
 
 -- a guest has all its steps left at its start
 all_left : (g : GuestAtStart) → left (member_at_start g) ≡ g.steps
@@ -82,8 +82,8 @@ exits_sum (m ∷ members) = ap (λ (n : ℕ). exits m.tally + n) (exits_sum memb
 -- from the start of all guests to their end
 pub carried_so : (s : SessionAtStart) (slice : ℕ) (before after : List Member) (native native_after : NativeState)
     → before ≡ map member_at_start s.guests → slice ≡ s.slice → tallies_of after ≡ map tally_at_end before
-    → AreCounted before after (after_rounds slice before).marks native native_after → native_after ≡ carried_out s native
-unfolding carried_out hosted_by
+    → AreCounted before after (after_rounds slice before).marks native native_after → CarriedOut s native native_after
+unfolding hosted_by
 carried_so s slice before after native native_after begun same ended counted =
     let tallies = tallied_so s.guests before after begun ended in
     let none : retired_by before ≡ 0 = ap (λ ms. retired_by ms) begun ∙ none_retired s.guests in
@@ -93,20 +93,12 @@ carried_so s slice before after native native_after begun same ended counted =
     let left : exits_by after ≡ sum_by exits (tallies_by s.guests) = exits_sum after ∙ ap (λ ts. sum_by exits ts) tallies in
     let steps = counted.retired in
     let faults = counted.exceptions in
-    let retired : native_after.retired ≡ native.retired + sum_by (λ (t : Tally). t.retired) (tallies_by s.guests) =
-    omega (arith, steps, none, sum) in
-    let exceptions : native_after.exceptions ≡ native.exceptions + sum_by exits (tallies_by s.guests) =
-    omega (arith, faults, stayed, left) in
-    let marks : native_after.trail ≡ trail native.trail (after_rounds s.slice (map member_at_start s.guests)).marks =
-    counted.trail ∙ ap (λ (n : ℕ). trail native.trail (after_rounds n before).marks) same
-    ∙ ap (λ ms. trail native.trail (after_rounds s.slice ms).marks) begun in
-    let x : NativeState = record { retired = native_after.retired; exceptions = native_after.exceptions; trail = native_after.trail } in
-    let y : NativeState = record {
-      retired = native.retired + sum_by (λ (t : Tally). t.retired) (tallies_by s.guests);
-      exceptions = native.exceptions + sum_by exits (tallies_by s.guests);
-      trail = trail native.trail (after_rounds s.slice (map member_at_start s.guests)).marks;
-    } in
-    let e : x ≡ y = cc (retired, exceptions, marks) in e
+    record {
+      retired = omega (arith, steps, none, sum);
+      trail = counted.trail ∙ ap (λ (n : ℕ). trail native.trail (after_rounds n before).marks) same
+          ∙ ap (λ ms. trail native.trail (after_rounds s.slice ms).marks) begun;
+      exceptions = omega (arith, faults, stayed, left);
+    }
 
 -- ---- what preparing a session tells of its size
 

@@ -1,7 +1,7 @@
 -- How a session's answer is given.
 use Rattle.std.proofs.Common.{◌≡◌, List, map, refl, sym, ap, subst, Ok, Err}
 use Rattle.std.proofs.lemmas.Bool.{lt-ltb}
-use Rattle.mb_outside.specs.Prints.{Printed, PrintedPart}
+use Rattle.mb_outside.specs.Prints.{Printed}
 use Rattle.mb_report.specs.Text.{outcome_text}
 use Rattle.mb_model.specs.Keeping.{rule_k}
 use Rattle.mb_model.specs.Seen.{Seen}
@@ -20,7 +20,7 @@ use Rattle.mb_program.specs.Lines.{counts_lines}
 use Rattle.mb_program.specs.Runs.{IsCarriedOut, Runs, unopened}
 use Rattle.mb_program.proofs.SessionLemmas.{it_fits}
 use Rattle.mb_program.specs.declared.end.End.{End}
-use Rattle.mb_program.specs.declared.end.End.TheVariants.{Hosted, Output}
+use Rattle.mb_program.specs.declared.end.End.TheVariants.{Hosted}
 
 -- a session that fits gives what is shown
 pub fitting : (s : SessionAtStart) (shown : Shown) (out out_after : SinkSeen) (native native_after : NativeState) (end : End) → Fits s
@@ -41,15 +41,6 @@ hosted_done s host out out_after native native_after runs counted printed =
     subst (λ (seen : List Seen). Printed out.taken out_after.taken out.faults out_after.faults (texts_from outcome_text 1 seen)) runs.1 printed in
     fitting s (host_shown s) out out_after native native_after (Hosted host) runs.0
     (λ shelf shelf_after stayed. (stayed, printed.same, (all, refl, counted), (lines_so s host runs.2, lines_so s host runs.2)))
-
-pub hosted_cut : (s : SessionAtStart) (host : HostState) (out out_after : SinkSeen) (native native_after : NativeState) → Runs s (Ok host)
-    → IsCarriedOut s native native_after (Ok host)
-    → PrintedPart out.taken out_after.taken out.faults out_after.faults (texts_from outcome_text 1 (shown_of (members_in host)))
-    → GivesAnswer (host_answer s) out out_after native native_after Output
-hosted_cut s host out out_after native native_after runs counted printed =
-    let part : PrintedPart out.taken out_after.taken out.faults out_after.faults (texts_from outcome_text 1 (map (outcome_by rule_k) s.guests)) =
-    subst (λ (seen : List Seen). PrintedPart out.taken out_after.taken out.faults out_after.faults (texts_from outcome_text 1 seen)) runs.1 printed in
-    fitting s (host_shown s) out out_after native native_after Output runs.0 (λ shelf shelf_after stayed. (stayed, printed.rose, (part, counted)))
 
 -- a session without a host: it does not fit, or memory ran out
 pub not_opened : (s : SessionAtStart) (shown : Shown) (out : SinkSeen) (native native_after : NativeState) (fault : OpenFault) → Runs s (Err fault)

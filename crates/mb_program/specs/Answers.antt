@@ -19,26 +19,25 @@ use Rattle.mb_report.specs.Digits.{hex8}
 use Rattle.mb_report.specs.Text.{outcome_text, state_word}
 use Rattle.mb_report.specs.Same.{same_seen}
 use Rattle.mb_listing.specs.Listing.{listing}
-use Rattle.vm_meaning.specs.Native.{NativeState}
 use Rattle.vm_guest.specs.Session.{GuestAtStart, SessionAtStart}
 use Rattle.vm_slices.specs.Fit.{need_of}
 use Rattle.mb_gen.specs.Sessions.{generated}
 use Rattle.mb_words.specs.Words.{Text, Run, Excerpt, Workload}
 use Rattle.mb_words.specs.Words.{Asked, bare, assembly, disassembly, hosting, comparison, generation}
-use Rattle.mb_program.specs.Direct.{carried_out, counts_line, tallies_by, uncounted}
+use Rattle.mb_program.specs.Direct.{counts_line, tallies_by}
 use Rattle.mb_program.specs.declared.end.FileWhy.{FileWhy}
 use Rattle.mb_program.specs.declared.end.FileWhy.TheVariants.{TooLong, Line, Outside, NoEnd}
 use Rattle.mb_program.specs.declared.end.Reason.TheVariants.{Record, Words, Source}
 
 -- ---- answers
 
--- A text for out, with what is said on diag beside it, and the status; and what is counted of boards in user mode once
--- it is shown, by what was counted before.
+-- A text for out, with what is said on diag beside it, and the status; and the session whose guests have run under the
+-- monitor when it is shown, where there is one.
 pub record Shown : Type 0 where
   pub text : Text
   pub lines : Text
   pub status : ℕ
-  pub counted : NativeState → NativeState
+  pub hosted : Option SessionAtStart
 
 -- A command shows something, or refuses a file, with its name and why, or its guests need more bytes than their board
 -- has.
@@ -49,7 +48,7 @@ pub data Answer : Type 0 where
 
 -- a text, and nothing on diag; no board runs in user mode
 abbrev pub plain : Text → Shown
-plain text = record { text = text; lines = []; status = 0; counted = uncounted }
+plain text = record { text = text; lines = []; status = 0; hosted = None }
 
 -- ---- the files of a command
 
@@ -227,7 +226,7 @@ host_shown s = record {
   text = texts_from outcome_text 1 (map (outcome_by rule_k) s.guests);
   lines = texts_from counts_line 1 (tallies_by s.guests);
   status = 0;
-  counted = carried_out s;
+  hosted = Some s;
 }
 
 abbrev pub host_answer : SessionAtStart → Answer
@@ -251,7 +250,7 @@ compare_shown s = record {
   text = texts_from compared_text 1 (map is_same s.guests);
   lines = [];
   status = if list_all is_same s.guests then 0 else 1;
-  counted = carried_out s;
+  hosted = Some s;
 }
 
 abbrev pub compare_answer : SessionAtStart → Answer
@@ -281,7 +280,7 @@ gen_shown s = record {
   text = summary_text (map (outcome_by rule_k) s.guests);
   lines = [];
   status = 0;
-  counted = carried_out s;
+  hosted = Some s;
 }
 
 -- The session that a number makes has room for its guests.

@@ -1,5 +1,5 @@
 -- What is counted of the guests of a session: their steps by class, and what the board carries out of them.
-use Rattle.std.specs.Prelude.{ℕ, ◌+◌, ◌^◌, ◌<◌, List, ◌++◌, map, sum_by, codes, decimal}
+use Rattle.std.specs.Prelude.{◌≡◌, ℕ, ◌+◌, ◌^◌, ◌<◌, ◌≤◌, List, ◌++◌, map, Option, Some, None, sum_by, codes, decimal}
 use Rattle.mb_words.specs.Words.{Text}
 use Rattle.vm_meaning.specs.Marks.{trail}
 use Rattle.vm_meaning.specs.Native.{NativeState}
@@ -40,18 +40,18 @@ counts_line i t = codes "guest " ++ decimal i
 unfoldable pub hosted_by : SessionAtStart → Hosted
 hosted_by s = after_rounds s.slice (map member_at_start s.guests)
 
--- What is counted once all guests have run: each retired step of each guest was carried out by the board, with its
--- marks, and each that is privileged, trapped or denied was left by one exception. Nothing else is counted.
-unfoldable pub carried_out : SessionAtStart → NativeState → NativeState
-carried_out s native = record {
-  retired = native.retired + sum_by (λ (t : Tally). t.retired) (tallies_by s.guests);
-  exceptions = native.exceptions + sum_by exits (tallies_by s.guests);
-  trail = trail native.trail (hosted_by s).marks;
-}
+-- What is counted once all guests have run.
+pub record CarriedOut (s : SessionAtStart) (native native_after : NativeState) : Type 0 where
+  -- The board has carried out each retired step of each guest, with its marks, and no other,
+  pub retired : native_after.retired ≡ native.retired + sum_by (λ (t : Tally). t.retired) (tallies_by s.guests)
+  pub trail : native_after.trail ≡ trail native.trail (hosted_by s).marks
+  -- and has left each that is privileged, trapped or denied by one exception or more.
+  pub exceptions : native.exceptions + sum_by exits (tallies_by s.guests) ≤ native_after.exceptions
 
--- nothing is
-abbrev pub uncounted : NativeState → NativeState
-uncounted native = native
+-- The guests of a session have run, where there is one; else nothing is counted.
+abbrev pub IsCounted : Option SessionAtStart → NativeState → NativeState → Type 0
+IsCounted None native native_after = native_after ≡ native
+IsCounted (Some s) native native_after = CarriedOut s native native_after
 
 -- The steps of a session can be counted beside these.
 abbrev pub HasRoomToRun : NativeState → Type 0

@@ -6,6 +6,7 @@ use Rattle.mb_words.specs.Words.{Text, Asked}
 use Rattle.vm_meaning.specs.Native.{NativeState}
 use Rattle.mb_program.specs.Answers.{Answer, shows, refuses, oversizes, Told, Course, ends, Names, MayEnd, answer_at}
 use Rattle.mb_program.specs.Answers.{course_of}
+use Rattle.mb_program.specs.Direct.{IsCounted}
 use Rattle.mb_program.specs.Lines.{counts_lines, line_of, status_of}
 use Rattle.mb_program.specs.declared.end.FileWhy.{FileWhy}
 use Rattle.mb_program.specs.declared.end.End.{End}
@@ -75,12 +76,12 @@ FailsNowhere a = (ReadsBadly a → ⊥) × (Rose a.out.faults a.out_after.faults
 
 -- ---- what an answer is
 
--- a text, which out has gained, and of which just so much is counted; this is its status
+-- a text, which out has gained, with what is counted of its guests; this is its status
 abbrev pub IsShown : Around → ℕ → Answer → Type 0
 IsShown a status (shows shown) =
     Printed a.out.taken a.out_after.taken a.out.faults a.out_after.faults shown.text
     × (shown.status ≡ status)
-    × (a.native_after ≡ shown.counted a.native)
+    × IsCounted shown.hosted a.native a.native_after
 IsShown a status _ = ⊥
 
 -- beside a text these lines are said on diag
@@ -88,11 +89,11 @@ abbrev pub HasLines : Text → Answer → Type 0
 HasLines lines (shows shown) = shown.lines ≡ lines
 HasLines lines _ = ⊥
 
--- a text, of which out has gained a first part before it failed; just so much is counted of it
+-- a text, of which out has gained a first part before it failed, with what is counted of its guests
 abbrev pub IsCut : Around → Answer → Type 0
 IsCut a (shows shown) =
     PrintedPart a.out.taken a.out_after.taken a.out.faults a.out_after.faults shown.text
-    × (a.native_after ≡ shown.counted a.native)
+    × IsCounted shown.hosted a.native a.native_after
 IsCut a _ = ⊥
 
 -- that this file is refused, and why

@@ -11,7 +11,7 @@ use Rattle.mb_gen.specs.Sessions.{generated}
 use Rattle.mb_words.specs.Words.{Text, Workload, Asked, hosting, comparison, generation}
 use Rattle.vm_guest.specs.Session.{GuestAtStart, SessionAtStart}
 use Rattle.vm_slices.specs.Fit.{Fits}
-use Rattle.mb_program.specs.Direct.{carried_out, counts_line, tallies_by}
+use Rattle.mb_program.specs.Direct.{CarriedOut, counts_line, tallies_by}
 use Rattle.mb_program.specs.Answers.{Told, most_bytes, image_in, script_in, session_in, texts_from}
 use Rattle.mb_program.specs.Answers.{compared_text, is_same, outcome_by, summary_text}
 use Rattle.mb_program.specs.Ends.{Around, FailsNowhere, IsSaid, Said}
@@ -54,8 +54,8 @@ pub record TellsSession (told : Told) (name : Text) (s : SessionAtStart) : Type 
 
 -- ---- host
 
--- Out gains exactly the outcomes of the guests in their order: of each that of its own run by the rule of guests, of its
--- own image, script, RAM and steps, and of nothing else. Where nothing fails, this is done, unless memory runs out.
+-- Out gains exactly the outcomes of the guests in their order: of each that of its own run by the rule of guests, of
+-- its own image, script, RAM and steps, and of nothing else. Where nothing fails, this is done, unless memory runs out.
 pub record Hosts (a : Around) (said : Said) (s : SessionAtStart) (status : ℕ) : Type 0 where
   pub printed : status ≡ 0
       → Grows a.out.taken a.out_after.taken (texts_from outcome_text 1 (map (outcome_by rule_k) s.guests))
@@ -63,8 +63,8 @@ pub record Hosts (a : Around) (said : Said) (s : SessionAtStart) (status : ℕ) 
   -- Diag gains a line for each guest with the counts of its own steps, or a first part where diag fails.
   pub tallied : status ≡ 0 → IsSaid said (texts_from counts_line 1 (tallies_by s.guests))
   -- Directness: the board carries out each retired step, from the guest's own registers to the guest's own registers,
-  -- and each step that is privileged, trapped or denied is left by one exception. Nothing else is counted.
-  pub direct : status ≡ 0 → a.native_after ≡ carried_out s a.native
+  -- and no other; it leaves each step that is privileged, trapped or denied by one exception or more.
+  pub direct : status ≡ 0 → CarriedOut s a.native a.native_after
 
 -- So it is where the words ask to host a session that is told and fits.
 abbrev pub IsHosted : Option Asked → Around → Said → ℕ → Type 0
@@ -81,7 +81,7 @@ pub record Compares (a : Around) (s : SessionAtStart) (status : ℕ) : Type 0 wh
   pub differs : status ≡ 1 → list_all is_same s.guests ≡ false
   pub ended : FailsNowhere a → (status ≡ 0) ⊎ (status ≡ 1) ⊎ (status ≡ 7)
   -- The runs under the monitor are carried out by the board as those of hosted guests are.
-  pub direct : (status ≡ 0) ⊎ (status ≡ 1) → a.native_after ≡ carried_out s a.native
+  pub direct : (status ≡ 0) ⊎ (status ≡ 1) → CarriedOut s a.native a.native_after
 
 -- So it is where the words ask to compare the guests of a session that is told and fits.
 abbrev pub IsCompared : Option Asked → Around → ℕ → Type 0
@@ -95,7 +95,7 @@ IsCompared asked a status = (name : Text) (s : SessionAtStart) → asked ≡ Som
 pub record Generates (a : Around) (s : SessionAtStart) (status : ℕ) : Type 0 where
   pub printed : status ≡ 0 → Grows a.out.taken a.out_after.taken (summary_text (map (outcome_by rule_k) s.guests))
   pub ended : FailsNowhere a → (status ≡ 0) ⊎ (status ≡ 7)
-  pub direct : status ≡ 0 → a.native_after ≡ carried_out s a.native
+  pub direct : status ≡ 0 → CarriedOut s a.native a.native_after
 
 -- So it is where the words ask for a session that a number makes.
 abbrev pub IsGenerated : Option Asked → Around → ℕ → Type 0
