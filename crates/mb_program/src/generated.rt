@@ -1,9 +1,7 @@
 //! The guests of a session that a number makes, under the monitor.
 
-ghost use Rattle.std.specs.Prelude.{◌≡◌, ◌^◌, ◌<◌, ◌≤◌, length};
 ghost use Rattle.mb_model.specs.Seen.{seen_of};
 ghost use Rattle.mb_outside.specs.Prints.{Prints};
-ghost use Rattle.mb_report.specs.Text.{state_word};
 ghost use Rattle.mb_words.specs.Words.{workload_said};
 ghost use Rattle.vm_slices.specs.Places.{members_in};
 ghost use Rattle.vm_slices.specs.Members.{shown_of};
@@ -16,24 +14,12 @@ use crate::hosted::run_session;
 use itoa::Buffer;
 use mb_board::Native;
 use mb_gen::make_session;
-use mb_model::{Outcome, RunState};
+use mb_model::Outcome;
 use mb_outside::{Sink, SinkFault, put_all, put_more};
-use mb_report::hex8;
+use mb_report::{hex8, state_word};
 use mb_words::Generate;
 use std::alloc::Global;
 use vm_slices::Host;
-
-/// The word for what a machine does at its next step.
-fn state_word(state: RunState) -> &'static [u8]
-    ensures { result.now ≡ state_word state }
-{
-    match state {
-        RunState::Running => b"running",
-        RunState::Stopped => b"stopped",
-        RunState::Halted => b"halted",
-        RunState::Off => b"off",
-    }
-}
 
 /// Writes a guest's line of the summary.
 #[tactic(auto, unfolding(crate::specs::Answers::summary_line))]

@@ -12,4 +12,4 @@ mod outcome;
 
 pub use comparison::same;
 pub use digits::{hex2, hex8};
-pub use outcome::write_outcome;
+pub use outcome::{state_word, write_outcome};

@@ -37,7 +37,8 @@ fn write_count<O: Sink>(text: &mut Buffered, out: &mut O, name: &[u8], n: u64)
     write_word(text, out, name, digits);
 }
 
-fn state_word(state: RunState) -> &'static [u8]
+/// The word for what a machine does at its next step.
+pub fn state_word(state: RunState) -> &'static [u8]
     ensures { result.now ≡ state_word state }
 {
     match state {
