@@ -1,7 +1,7 @@
 //! Where a reference to memory leads: the stages of an access by the board's rule, and PTEST.
 
-ghost use Rattle.std.specs.Prelude.{◌≡◌, length, IfSome, Some, true};
-ghost use Rattle.mb_model.specs.Keeping.{entry_for, rule_a};
+ghost use Rattle.std.specs.Prelude.{◌≡◌, ◌<◌, ◌^◌, length, IfSome, Some, true};
+ghost use Rattle.mb_model.specs.Keeping.{dropped, entry_for, rule_a};
 ghost use Rattle.mb_model.specs.Pages.{page_of as page_number};
 ghost use Rattle.mb_machine.specs.Access.{by_entry as by_kept_entry, searched, settled, translated};
 ghost use Rattle.mb_machine.specs.Bus.{tested};
@@ -10,7 +10,7 @@ ghost use Rattle.mb_machine.specs.declared.reference.Settled.TheVariants.{To};
 
 use crate::bus::{BoardBus, Mode};
 use mb_machine::{Reference, Settled, by_entry, root, through, untranslated};
-use mb_model::page_of;
+use mb_model::{has_big_pages, other_half, page_of};
 use mb_port::{Flush, Place, Space};
 use mb_walk::{Found, search, transparent};
 
@@ -78,7 +78,8 @@ impl BoardBus {
             write,
         };
         let root = root(&self.mmu, r.space);
-        match search(self, root, r.space, r.at, r.write) {
+        let big = has_big_pages(&self.mmu);
+        match search(self, root, r.space, r.at, r.write, big) {
             Found::Entry(k, _) => {
                 self.kept.fill(r.code, k);
                 through(&k, r)
@@ -137,6 +138,17 @@ impl BoardBus {
         }
     }
 
+    /// What PTEST drops of a page, and of the other half of it where pages have 8 KiB.
+    fn drop_halves(&mut self, space: Space, page: u32, big: bool)
+        requires { page < 2 ^ 20 }
+        ensures { self.new ≡ record self.old { kept = dropped big space page self.old.kept } }
+    {
+        self.kept.flush(Flush::Page(space, page));
+        if big {
+            self.kept.flush(Flush::Page(space, other_half(page)));
+        }
+    }
+
     /// PTEST of the page of an address: MMUSR then.
     #[tactic(auto, unfolding(mb_machine::specs::Bus::tested))]
     pub fn tested(&mut self, space: Space, at: u32, write: bool) -> u32
@@ -146,8 +158,9 @@ impl BoardBus {
         if transparent(self.mmu.dtt0, self.mmu.dtt1, space, at).is_some() {
             return MATCHED;
         }
-        self.kept.flush(Flush::Page(space, page_of(at)));
+        let big = has_big_pages(&self.mmu);
+        self.drop_halves(space, page_of(at), big);
         let root = root(&self.mmu, space);
-        search(self, root, space, at, write).status()
+        search(self, root, space, at, write, big).status()
     }
 }

@@ -43,7 +43,7 @@ abbrev pub kept_bits : ControlRegister → ℕ
 kept_bits Sfc = 0x7
 kept_bits Dfc = 0x7
 kept_bits Cacr = 0x80008000
-kept_bits (Mmu Tc) = 0x8000
+kept_bits (Mmu Tc) = 0xC000
 kept_bits (Mmu Itt0) = 0xFFFFE364
 kept_bits (Mmu Itt1) = 0xFFFFE364
 kept_bits (Mmu Dtt0) = 0xFFFFE364

@@ -95,7 +95,7 @@ impl ControlRegister {
             | ControlRegister::Vbr
             | ControlRegister::Msp
             | ControlRegister::Isp => 0xffff_ffff,
-            ControlRegister::Mmu(MmuReg::Tc) => 0x8000,
+            ControlRegister::Mmu(MmuReg::Tc) => 0xc000,
             ControlRegister::Mmu(MmuReg::Itt0 | MmuReg::Itt1 | MmuReg::Dtt0 | MmuReg::Dtt1) => {
                 0xffff_e364
             }

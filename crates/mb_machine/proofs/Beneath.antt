@@ -10,12 +10,11 @@ use Rattle.mb_port.specs.declared.types.Fault.{Fault}
 use Rattle.mb_port.specs.declared.types.MmuReg.{MmuReg}
 use Rattle.mb_devices.specs.Devices.{DeviceState}
 use Rattle.mb_devices.specs.Registers.{write_of}
-use Rattle.mb_model.specs.Pages.{page_of}
+use Rattle.mb_model.specs.Pages.{page_of, has_big_pages}
 use Rattle.mb_model.specs.Keeping.{Rule}
 use Rattle.mb_walk.specs.Memory.{with_number}
 use Rattle.mb_walk.specs.declared.found.Found.{Found}
 use Rattle.mb_walk.specs.declared.found.Found.TheVariants.{Entry, Invalid, BusError}
-use Rattle.mb_walk.specs.Search.{search_of}
 use Rattle.mb_walk.proofs.MemoryLemmas.{length-with_number}
 use Rattle.mb_walk.proofs.Again.{searches_mark}
 use Rattle.mb_machine.specs.declared.reference.Reference.{Reference}
@@ -23,7 +22,7 @@ use Rattle.mb_machine.specs.declared.reference.Settled.{Settled}
 use Rattle.mb_machine.specs.declared.reference.Settled.TheVariants.{To, Refused, Unsettled}
 use Rattle.mb_machine.specs.World.{World, HasBytes}
 use Rattle.mb_machine.specs.Places.{Stand, memory, register, nowhere, in_ram, taken, taken_at, stored, checked, with_longs, taken_line, stored_line}
-use Rattle.mb_machine.specs.Access.{matched, root_of, searched, settled, translated, by_settled, by_found}
+use Rattle.mb_machine.specs.Access.{matched, root_of, search_for, searched, settled, translated, by_settled, by_found}
 use Rattle.mb_machine.specs.Bus.{bus_of, fetching, reading, writing, fault_of, place_at, Take, Store, read_at, read_by, wrote, written_at, written_by, with_register, tested, tested_by}
 use Rattle.mb_machine.specs.Laws.{IsBeneath, CallsStandBeneath, PlacesStandBeneath, SizesStay}
 use Rattle.mb_machine.proofs.BusLemmas.{stored_memory, stored_register, wrote_devices}
@@ -161,8 +160,9 @@ found_count rule w r BusError = refl
 searched_count : (rule : Rule) (w : World) (r : Reference) → HasBytes w → length (searched rule w r).1.ram ≡ length w.ram
 unfolding searched
 searched_count rule w r h =
-    let s = search_of w.ram (root_of w.mmu r.space) r.space (page_of r.at) r.write in
-    found_count rule (record w { ram = s.ram }) r s.found ∙ (searches_mark w.ram (root_of w.mmu r.space) r.space (page_of r.at) r.write h.bytes).size
+    let s = search_for w r in
+    found_count rule (record w { ram = s.ram }) r s.found
+    ∙ (searches_mark w.ram (root_of w.mmu r.space) r.space (page_of r.at) r.write (has_big_pages w.mmu) h.bytes).size
 
 settled_count : (rule : Rule) (w : World) (r : Reference) (s : Settled) → HasBytes w → length (by_settled rule w r s).1.ram ≡ length w.ram
 settled_count rule w r (To at) h = refl
@@ -176,7 +176,7 @@ translated_count rule r w h = settled_count rule w r (settled rule w.mmu w.kept 
 tested_count : (w : World) (space : Space) (page : ℕ) (write : Bool) (o : Option Bool) → HasBytes w
     → length (tested_by w space page write o).1.ram ≡ length w.ram
 tested_count w space page write (Some protected) h = refl
-tested_count w space page write None h = (searches_mark w.ram (root_of w.mmu space) space page write h.bytes).size
+tested_count w space page write None h = (searches_mark w.ram (root_of w.mmu space) space page write (has_big_pages w.mmu) h.bytes).size
 
 register_count : (rule : Rule) (which : MmuReg) (value : ℕ) (w : World) → length (with_register rule which value w).ram ≡ length w.ram
 unfolding with_register

@@ -18,8 +18,7 @@ use Rattle.mb_machine.specs.declared.reference.Settled.{Settled}
 use Rattle.mb_machine.specs.declared.reference.Settled.TheVariants.{To, Refused, Unsettled}
 use Rattle.mb_machine.specs.World.{World, HasBytes}
 use Rattle.mb_machine.specs.Places.{Stand, memory, register, nowhere, taken, taken_at, stored, stored_at, checked, taken_line, stored_line, with_longs}
-use Rattle.mb_model.specs.Pages.{page_of}
-use Rattle.mb_machine.specs.Access.{root_of, searched, translated, by_settled, by_found}
+use Rattle.mb_machine.specs.Access.{search_for, searched, translated, by_settled, by_found}
 use Rattle.mb_machine.specs.Bus.{bus_of, read_at, read_by, written_at, written_by, wrote, tested, tested_by, with_register}
 
 abbrev pub AreBytes : List ℕ → Type 0
@@ -72,24 +71,24 @@ unfolding descended
 bytes-descended ram place h =
     either_level _ _ _ (either_level _ _ _ (record { bytes = bytes-with_number ram place 4 _ h }) (record { bytes = h })) (record { bytes = h })
 
-bytes-paged : (ram : List ℕ) (place : ℕ) (space : Space) (page : ℕ) (protected write : Bool) → AreBytes ram
-    → Marked (paged ram place space page protected write)
+bytes-paged : (ram : List ℕ) (place : ℕ) (space : Space) (page : ℕ) (protected write big : Bool) → AreBytes ram
+    → Marked (paged ram place space page protected write big)
 unfolding paged
-bytes-paged ram place space page protected write h = record { bytes = bytes-with_number ram place 4 _ h }
+bytes-paged ram place space page protected write big h = record { bytes = bytes-with_number ram place 4 _ h }
 
-bytes-pointed : (ram : List ℕ) (place : ℕ) (space : Space) (page : ℕ) (protected write : Bool) → AreBytes ram
-    → Marked (pointed ram place space page protected write)
+bytes-pointed : (ram : List ℕ) (place : ℕ) (space : Space) (page : ℕ) (protected write big : Bool) → AreBytes ram
+    → Marked (pointed ram place space page protected write big)
 unfolding pointed
-bytes-pointed ram place space page protected write h =
-    either_way _ _ _ (either_way _ _ _ (bytes-paged ram place space page protected write h) (record { bytes = h })) (record { bytes = h })
+bytes-pointed ram place space page protected write big h =
+    either_way _ _ _ (either_way _ _ _ (bytes-paged ram place space page protected write big h) (record { bytes = h })) (record { bytes = h })
 
-bytes-ended : (ram : List ℕ) (place : ℕ) (space : Space) (page : ℕ) (protected write : Bool) → AreBytes ram
-    → Marked (ended ram place space page protected write)
+bytes-ended : (ram : List ℕ) (place : ℕ) (space : Space) (page : ℕ) (protected write big : Bool) → AreBytes ram
+    → Marked (ended ram place space page protected write big)
 unfolding ended
-bytes-ended ram place space page protected write h =
+bytes-ended ram place space page protected write big h =
     either_way _ _ _
-    (either_way _ _ _ (bytes-paged ram place space page protected write h)
-    (either_way _ _ _ (bytes-pointed ram _ space page protected write h) (record { bytes = h })))
+    (either_way _ _ _ (bytes-paged ram place space page protected write big h)
+    (either_way _ _ _ (bytes-pointed ram _ space page protected write big h) (record { bytes = h })))
     (record { bytes = h })
 
 bytes-below : (ram : List ℕ) (d : Result ℕ Found) (next : List ℕ → ℕ → Searched) → AreBytes ram
@@ -101,16 +100,16 @@ bytes-and_below : (level : Level) (next : List ℕ → ℕ → Searched) → Mar
     → ((ram : List ℕ) (descriptor : ℕ) → AreBytes ram → Marked (next ram descriptor)) → Marked (and_below level next)
 bytes-and_below level next h rest = bytes-below level.ram level.descriptor next h.bytes (λ descriptor. rest level.ram descriptor h.bytes)
 
-marked-searched : (ram : List ℕ) (root : ℕ) (space : Space) (page : ℕ) (write : Bool) → AreBytes ram
-    → Marked (search_of ram root space page write)
+marked-searched : (ram : List ℕ) (root : ℕ) (space : Space) (page : ℕ) (write big : Bool) → AreBytes ram
+    → Marked (search_of ram root space page write big)
 unfolding search_of
-marked-searched ram root space page write h =
+marked-searched ram root space page write big h =
     bytes-and_below _ _ (bytes-descended ram _ h) (λ ram pointer h.
-    bytes-and_below _ _ (bytes-descended ram _ h) (λ ram leaf h. bytes-ended ram _ space page _ write h))
+    bytes-and_below _ _ (bytes-descended ram _ h) (λ ram leaf h. bytes-ended ram _ space page _ write big h))
 
-pub bytes-searched : (ram : List ℕ) (root : ℕ) (space : Space) (page : ℕ) (write : Bool) → AreBytes ram
-    → AreBytes (search_of ram root space page write).ram
-bytes-searched ram root space page write h = (marked-searched ram root space page write h).bytes
+pub bytes-searched : (ram : List ℕ) (root : ℕ) (space : Space) (page : ℕ) (write big : Bool) → AreBytes ram
+    → AreBytes (search_of ram root space page write big).ram
+bytes-searched ram root space page write big h = (marked-searched ram root space page write big h).bytes
 
 -- ---- an access
 
@@ -122,8 +121,8 @@ by_found-bytes rule w r BusError h = h
 searched-bytes : (rule : Rule) (w : World) (r : Reference) → HasBytes w → HasBytes (searched rule w r).1
 unfolding searched
 searched-bytes rule w r h =
-    let s = search_of w.ram (root_of w.mmu r.space) r.space (page_of r.at) r.write in
-    by_found-bytes rule (record w { ram = s.ram }) r s.found (record { bytes = bytes-searched w.ram _ _ _ _ h.bytes })
+    let s = search_for w r in
+    by_found-bytes rule (record w { ram = s.ram }) r s.found (record { bytes = bytes-searched w.ram _ _ _ _ _ h.bytes })
 
 by_settled-bytes : (rule : Rule) (w : World) (r : Reference) (s : Settled) → HasBytes w → HasBytes (by_settled rule w r s).1
 by_settled-bytes rule w r (To at) h = h
@@ -203,7 +202,7 @@ or_stay-bytes None w h g = h
 tested_by-bytes : (w : World) (space : Space) (page : ℕ) (write : Bool) (o : Option Bool) → HasBytes w
     → HasBytes (tested_by w space page write o).1
 tested_by-bytes w space page write (Some protected) h = h
-tested_by-bytes w space page write None h = record { bytes = bytes-searched w.ram _ space page write h.bytes }
+tested_by-bytes w space page write None h = record { bytes = bytes-searched w.ram _ space page write _ h.bytes }
 
 tested-bytes : (space : Space) (page : ℕ) (write : Bool) (w : World) → HasBytes w → HasBytes (tested space page write w).1
 unfolding tested

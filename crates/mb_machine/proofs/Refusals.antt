@@ -7,15 +7,13 @@ use Rattle.mb_port.specs.Routine.{Call, Fetch, Read, Write, ReadLine, WriteLine,
 use Rattle.mb_model.specs.Keeping.{Rule}
 use Rattle.mb_walk.specs.declared.found.Found.{Found}
 use Rattle.mb_walk.specs.declared.found.Found.TheVariants.{Entry, Invalid, BusError}
-use Rattle.mb_walk.specs.Search.{search_of}
 use Rattle.mb_laws.specs.Refusal.{IsFault}
 use Rattle.mb_machine.specs.declared.reference.Reference.{Reference}
 use Rattle.mb_machine.specs.declared.reference.Settled.{Settled}
 use Rattle.mb_machine.specs.declared.reference.Settled.TheVariants.{To, Refused, Unsettled}
 use Rattle.mb_machine.specs.World.{World}
 use Rattle.mb_machine.specs.Places.{Stand, memory, register, nowhere, taken, taken_at, stored, stored_line, checked, taken_line}
-use Rattle.mb_model.specs.Pages.{page_of}
-use Rattle.mb_machine.specs.Access.{root_of, searched, translated, by_settled, by_found}
+use Rattle.mb_machine.specs.Access.{search_for, searched, translated, by_settled, by_found}
 use Rattle.mb_machine.specs.Bus.{bus_of, answered, read_at, written_at, wrote, fault_of}
 use Rattle.mb_machine.specs.Laws.{WasRefused, CallWasRefused, IsBeside}
 
@@ -107,7 +105,7 @@ found_beside rule w u r BusError h = h
 searched_beside : (rule : Rule) (w : World) (r : Reference) → IsBeside w (searched rule w r).1
 unfolding searched
 searched_beside rule w r =
-    let s = search_of w.ram (root_of w.mmu r.space) r.space (page_of r.at) r.write in
+    let s = search_for w r in
     found_beside rule w (record w { ram = s.ram }) r s.found (record { mmu = refl; devices = refl })
 
 settled_beside : (rule : Rule) (w : World) (r : Reference) (s : Settled) → IsBeside w (by_settled rule w r s).1

@@ -5,7 +5,7 @@ use Rattle.mb_port.specs.declared.types.Space.{Space}
 use Rattle.mb_port.specs.declared.types.Space.TheVariants.{User, Super}
 use Rattle.mb_port.specs.declared.types.Mmu.{Mmu}
 use Rattle.mb_model.specs.declared.kept.Kept.{Kept}
-use Rattle.mb_model.specs.Pages.{page_size, page_of, offset_of}
+use Rattle.mb_model.specs.Pages.{page_size, page_of, offset_of, has_big_pages}
 use Rattle.mb_model.specs.Keeping.{KeptLists, Rule, entry_for, filled}
 use Rattle.mb_walk.specs.Transparent.{transparent_of}
 use Rattle.mb_walk.specs.declared.found.Found.{Found}
@@ -86,6 +86,14 @@ abbrev pub root_of : Mmu → Space → ℕ
 root_of mmu User = mmu.urp
 root_of mmu Super = mmu.srp
 
+-- the search for a page of 4 KiB of a space, by the registers
+abbrev pub page_search : World → Space → ℕ → Bool → Searched
+page_search w space page write = search_of w.ram (root_of w.mmu space) space page write (has_big_pages w.mmu)
+
+-- the search for a reference
+abbrev pub search_for : World → Reference → Searched
+search_for w r = page_search w r.space (page_of r.at) r.write
+
 -- 4 and 5: the entry that was found is kept, also where it refuses; a failed search is not
 abbrev pub by_found : Rule → World → Reference → Found → Option ℕ × World
 by_found rule w r (Entry k mmusr) = (through k r, record w { kept = filled rule r.code k w.kept })
@@ -96,8 +104,7 @@ abbrev pub by_search : Rule → World → Reference → Searched → Option ℕ 
 by_search rule w r s = by_found rule (record w { ram = s.ram }) r s.found
 
 unfoldable pub searched : Rule → World → Reference → Option ℕ × World
-searched rule w r =
-    by_search rule w r (search_of w.ram (root_of w.mmu r.space) r.space (page_of r.at) r.write)
+searched rule w r = by_search rule w r (search_for w r)
 
 -- ---- the whole
 

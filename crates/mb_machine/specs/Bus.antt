@@ -11,13 +11,13 @@ use Rattle.mb_port.specs.Registers.{with_mmu_register}
 use Rattle.mb_instr.specs.declared.control.ControlRegister.TheVariants as control
 use Rattle.mb_instr.specs.Control.{kept_bits}
 use Rattle.mb_model.specs.Keeping.{KeptLists, Rule, flushed, dropped, after_movec}
-use Rattle.mb_walk.specs.Search.{Searched, search_of, status_of}
+use Rattle.mb_walk.specs.Search.{Searched, status_of}
 use Rattle.mb_devices.specs.Devices.{reset_of}
 use Rattle.mb_machine.specs.declared.reference.Reference.{Reference}
 use Rattle.mb_machine.specs.World.{World}
 use Rattle.mb_machine.specs.Places.{taken, stored, checked, taken_line, stored_line}
-use Rattle.mb_model.specs.Pages.{page_of}
-use Rattle.mb_machine.specs.Access.{matched, root_of, translated}
+use Rattle.mb_model.specs.Pages.{page_of, has_big_pages}
+use Rattle.mb_machine.specs.Access.{matched, page_search, translated}
 
 -- ---- references
 
@@ -104,10 +104,10 @@ after_test w kept s = (status_of s.found, record w { ram = s.ram; kept = kept })
 abbrev pub tested_by : World → Space → ℕ → Bool → Option Bool → ℕ × World
 tested_by w space page write (Some protected) = (mmusr_matched, w)
 tested_by w space page write None =
-    after_test w (dropped space page w.kept) (search_of w.ram (root_of w.mmu space) space page write)
+    after_test w (dropped (has_big_pages w.mmu) space page w.kept) (page_search w space page write)
 
--- PTEST: unless a transparent register matches, the kept entries of the page are dropped and the tables are searched,
--- whether translation is on or not. Nothing is kept.
+-- PTEST: unless a transparent register matches, the kept entries of the page are dropped, where pages have 8 KiB of
+-- both halves, and the tables are searched, whether translation is on or not. Nothing is kept.
 unfoldable pub tested : Space → ℕ → Bool → World → ℕ × World
 tested space page write w = tested_by w space page write (matched false w.mmu space page)
 

@@ -1,6 +1,6 @@
 -- What goes by the function codes SFC and DFC: MOVES, PFLUSH and PTEST.
-use Rattle.std.specs.Prelude.{ℕ, ◌-◌, ◌/◌, ◌%◌, ◌^◌, ◌==◌, Bool, not, nat_lt, if◌then◌else◌}
-use Rattle.mb_port.specs.Routine.{Routine, Return, Then, ◌>>=◌, choose, flush, test, set_mmu}
+use Rattle.std.specs.Prelude.{ℕ, ◌-◌, ◌/◌, ◌%◌, ◌^◌, ◌==◌, ◌&&◌, Bool, true, false, not, nat_lt, if◌then◌else◌}
+use Rattle.mb_port.specs.Routine.{Routine, Return, Then, ◌>>=◌, choose, flush, mmu, test, set_mmu}
 use Rattle.mb_port.specs.declared.types.Space.{Space}
 use Rattle.mb_port.specs.declared.types.Space.TheVariants.{User, Super}
 use Rattle.mb_port.specs.declared.types.Flush.{Flush}
@@ -18,7 +18,7 @@ use Rattle.mb_ea.specs.declared.addresses.Target.{Target}
 use Rattle.mb_ea.specs.Reading.{read_of}
 use Rattle.mb_ea.specs.Resolve.{resolve_of}
 use Rattle.mb_model.specs.declared.processor.Cpu.{Cpu}
-use Rattle.mb_model.specs.Pages.{page_of}
+use Rattle.mb_model.specs.Pages.{page_of, has_big_pages, other_half}
 use Rattle.mb_meaning.specs.Operands.{named_register, with_low, place_of, storing}
 use Rattle.mb_meaning.specs.Ends.{reading}
 use Rattle.mb_meaning.specs.SystemEnds.{SystemRowed, completed, with_registers, finishing}
@@ -59,17 +59,31 @@ moves_of size ea word word_at cpu = do
 
 -- ---- pages
 
--- what PFLUSH drops: of a page in DFC's space, or of all; with the global translations or without them
+-- what PFLUSH drops: of a page of 4 KiB in DFC's space, or of all; with the global translations or without them
 abbrev pub flushed_by : FlushKind → ℕ → Cpu → Flush
-flushed_by kind.LocalPage address cpu = dropped.PageLocal (function_space cpu.dfc) (page_of address)
-flushed_by kind.Page address cpu = dropped.Page (function_space cpu.dfc) (page_of address)
-flushed_by kind.AllLocal address cpu = dropped.AllLocal
-flushed_by kind.All address cpu = dropped.All
+flushed_by kind.LocalPage page cpu = dropped.PageLocal (function_space cpu.dfc) page
+flushed_by kind.Page page cpu = dropped.Page (function_space cpu.dfc) page
+flushed_by kind.AllLocal page cpu = dropped.AllLocal
+flushed_by kind.All page cpu = dropped.All
+
+abbrev pub is_of_a_page : FlushKind → Bool
+is_of_a_page kind.LocalPage = true
+is_of_a_page kind.Page = true
+is_of_a_page kind.AllLocal = false
+is_of_a_page kind.All = false
+
+-- of the other half of a page of 8 KiB too, where the tables are of such pages
+unfoldable pub flushed_beside : FlushKind → ℕ → Cpu → Routine Cpu
+flushed_beside kind page cpu =
+    Then mmu (λ registers.
+    let both = has_big_pages registers && is_of_a_page kind in
+    Then (choose both (flush (flushed_by kind (other_half page) cpu)) (Return tt)) (λ done. Return cpu))
 
 -- PFLUSH
 unfoldable pub pflush_of : FlushKind → ℕ → Cpu → Routine Cpu
 pflush_of kind n cpu =
-    Then (flush (flushed_by kind (address_register (plain_of cpu.regs) n) cpu)) (λ done. Return cpu)
+    let page = page_of (address_register (plain_of cpu.regs) n) in
+    Then (flush (flushed_by kind page cpu)) (λ done. flushed_beside kind page cpu)
 
 -- PTEST: the page is tested in DFC's space, for a read or a write, and the answer becomes MMUSR
 unfoldable pub ptest_of : Bool → ℕ → Cpu → Routine Cpu

@@ -2,7 +2,7 @@
 -- causes.
 use Rattle.std.specs.Prelude.{◌≡◌, ℕ, ◌+◌, ◌*◌, ◌/◌, ◌%◌, ◌^◌, ◌||◌, ◌&&◌, not, nat_lt, Bool, true, false, List, [], ◌∷◌}
 use Rattle.std.specs.Prelude.{if◌then◌else◌}
-use Rattle.mb_port.specs.Routine.{Bus, Routine, Return, Then, caught, choose, run}
+use Rattle.mb_port.specs.Routine.{Bus, Routine, Return, Then, caught, choose, mmu, run}
 use Rattle.mb_instr.specs.declared.instruction.Instr.{Instr}
 use Rattle.mb_instr.specs.declared.instruction.Instr.TheVariants as instr
 use Rattle.mb_instr.specs.declared.instruction.System.{System}
@@ -16,7 +16,7 @@ use Rattle.mb_port.specs.declared.types.Fault.{Fault}
 use Rattle.mb_frames.specs.AccessFields.{no_fields, read_fields, write_fields, line_fields, access_fields}
 use Rattle.mb_model.specs.declared.processor.Cpu.{Cpu}
 use Rattle.mb_model.specs.Status.{space_of}
-use Rattle.mb_model.specs.Pages.{page_size}
+use Rattle.mb_model.specs.Pages.{page_size_by}
 use Rattle.mb_ea.specs.declared.reading.ReadFault.{ReadFault}
 use Rattle.mb_writes.specs.declared.ends.WriteFault.{WriteFault}
 use Rattle.mb_writes.specs.declared.ends.MovemFault.{MovemFault}
@@ -35,22 +35,28 @@ use Rattle.mb_meaning.specs.Raise.{tracing_of, trap_of, refused_of}
 
 -- ---- the finish of an instruction
 
+-- by the bytes of a page of the tables: by them the frame of an access error says whether the refused piece lies in
+-- another page than the first byte (MA)
+abbrev pub by_page_size : (ℕ → Routine Stepped) → Routine Stepped
+by_page_size finish = Then mmu (λ registers. finish (page_size_by registers))
+
 -- a fetch, a read or a locked check was refused: all registers are as before
 unfoldable pub unread_of : ReadFault → Cpu → Routine Stepped
 unread_of refused before =
-    access_error_of before.regs.pc (read_fields refused.fault refused.first page_size) before
+    by_page_size (λ page. access_error_of before.regs.pc (read_fields refused.fault refused.first page) before)
 
 -- a write was refused of an operand that has pieces left: the instruction is otherwise complete, and CT says that a
 -- trace is due
 unfoldable pub unfinished_of : Bool → WriteFault → Cpu → Routine Stepped
 unfinished_of due refused cpu =
-    let fields = write_fields refused.fault refused.first refused.rest.items page_size in
-    access_error_of cpu.regs.pc (with_ct due fields) cpu
+    by_page_size (λ page.
+    let fields = write_fields refused.fault refused.first refused.rest.items page in
+    access_error_of cpu.regs.pc (with_ct due fields) cpu)
 
 -- a write was refused of which nothing is left: all registers are as before
 unfoldable pub unbegun_of : WriteFault → Cpu → Routine Stepped
 unbegun_of refused before =
-    access_error_of before.regs.pc (write_fields refused.fault refused.first [] page_size) before
+    by_page_size (λ page. access_error_of before.regs.pc (write_fields refused.fault refused.first [] page) before)
 
 abbrev pub unwritten_of : Bool → WriteFault → List Pend → Cpu → Cpu → Routine Stepped
 unwritten_of due refused [] before cpu = unbegun_of refused before
@@ -59,7 +65,7 @@ unwritten_of due refused (piece ∷ pieces) before cpu = unfinished_of due refus
 -- the write of a line was refused: the instruction is otherwise complete, and CT says that a trace is due
 unfoldable pub line_unwritten_of : Bool → Fault → List ℕ → Cpu → Routine Stepped
 line_unwritten_of due fault line cpu =
-    access_error_of cpu.regs.pc (with_ct due (line_fields fault line page_size)) cpu
+    by_page_size (λ page. access_error_of cpu.regs.pc (with_ct due (line_fields fault line page)) cpu)
 
 -- two words as a long
 abbrev pub long_of : List ℕ → ℕ
@@ -74,8 +80,9 @@ movem_words i = long_of (words_of (row i))
 -- one. CT says that a trace is due, of a MOVEM that stores alone.
 unfoldable pub untransferred_of : Bool → MovemFault → ℕ → Cpu → Cpu → Routine Stepped
 untransferred_of due refused words before cpu =
-    let fields = access_fields (refused_transfer refused words cpu.regs.pc) page_size in
-    access_error_of before.regs.pc (with_ct (due && not (movem_in words).is_load) fields) cpu
+    by_page_size (λ page.
+    let fields = access_fields (refused_transfer refused words cpu.regs.pc) page in
+    access_error_of before.regs.pc (with_ct (due && not (movem_in words).is_load) fields) cpu)
 
 -- BSR and JSR change the flow, and are the only ones of their family that write.
 abbrev pub is_flow : Instr → Bool
@@ -109,8 +116,9 @@ is_due_by held cpu = has_ct held.access || (continues held.access && traces_all 
 unfoldable pub untransferred_again_of : Bool → MovemFault → Held → Cpu → Routine Stepped
 untransferred_again_of due refused held cpu =
     let old = held.access in
-    let fields = access_fields (refused_transfer refused old.pd2 old.pd1) page_size in
-    access_error_of held.pc (with_ct (due || has_ct old) fields) cpu
+    by_page_size (λ page.
+    let fields = access_fields (refused_transfer refused old.pd2 old.pd1) page in
+    access_error_of held.pc (with_ct (due || has_ct old) fields) cpu)
 
 -- The finish of RTE. A trace has the address of RTE where the bits before it asked for it, and else the frame's PC.
 abbrev pub finish_return_of : Ended → Held → Cpu → Cpu → Routine Stepped

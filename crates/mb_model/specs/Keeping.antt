@@ -1,5 +1,5 @@
 -- Kept translations: a list a class, each in order of filling, by a rule.
-use Rattle.std.specs.Prelude.{◌≡◌, ℕ, ◌+◌, ◌%◌, ◌^◌, ◌<◌, ◌==◌, ◌&&◌, Bool, true, false, not, nat_le}
+use Rattle.std.specs.Prelude.{◌≡◌, ℕ, ◌+◌, ◌%◌, ◌^◌, ◌<◌, ◌==◌, ◌&&◌, ◌||◌, Bool, true, false, not, nat_le}
 use Rattle.std.specs.Prelude.{if◌then◌else◌}
 use Rattle.std.specs.Prelude.{List, [], ◌∷◌, ◌++◌, length, map, drop, replicate, slice_index_or, slice_set, Option}
 use Rattle.std.specs.Prelude.{Some, None}
@@ -11,6 +11,7 @@ use Rattle.mb_port.specs.declared.types.MmuReg.TheVariants.{Mmusr}
 use Rattle.mb_port.specs.declared.types.Flush.{Flush}
 use Rattle.mb_port.specs.declared.types.Flush.TheVariants.{All, AllLocal, Page, PageLocal}
 use Rattle.mb_model.specs.declared.kept.Kept.{Kept}
+use Rattle.mb_model.specs.Pages.{other_half}
 
 -- A rule of keeping.
 pub record Rule : Type 0 where
@@ -113,9 +114,15 @@ filled rule code k kept =
 abbrev pub flushed : Flush → KeptLists → KeptLists
 flushed what kept = map (flushed_in what) kept
 
--- what is kept once PTEST has dropped the entries of a space and page, on both sides
-abbrev pub dropped : Space → ℕ → KeptLists → KeptLists
-dropped space page kept = flushed (Page space page) kept
+-- an entry of a space and of a page of the tables: of 4 KiB, or a half of one of 8 KiB
+abbrev pub is_half_of : Bool → Space → ℕ → Kept → Bool
+is_half_of big space page k = is_of space page k || (big && is_of space (other_half page) k)
+
+-- what is kept once PTEST has dropped the entries of a page of a space, on both sides: where pages have 8 KiB, of both
+-- halves
+abbrev pub dropped : Bool → Space → ℕ → KeptLists → KeptLists
+dropped false space page kept = flushed (Page space page) kept
+dropped true space page kept = flushed (Page space (other_half page)) (flushed (Page space page) kept)
 
 -- what is kept after a MOVEC to a register
 abbrev pub after_movec : Rule → MmuReg → KeptLists → KeptLists

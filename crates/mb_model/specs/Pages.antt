@@ -1,5 +1,6 @@
 -- Pages of memory.
-use Rattle.std.specs.Prelude.{ℕ, ◌/◌, ◌%◌}
+use Rattle.std.specs.Prelude.{ℕ, ◌+◌, ◌-◌, ◌/◌, ◌%◌, ◌^◌, ◌==◌, Bool, if◌then◌else◌}
+use Rattle.mb_port.specs.declared.types.Mmu.{Mmu}
 
 -- the bytes of a page, and of a frame
 abbrev pub page_size : ℕ
@@ -12,3 +13,17 @@ page_of at = at / page_size
 -- the place of an address within its page
 abbrev pub offset_of : ℕ → ℕ
 offset_of at = at % page_size
+
+-- ---- pages of 8 KiB
+
+-- P, bit 14 of TC: the tables are those of pages of 8 KiB
+abbrev pub has_big_pages : Mmu → Bool
+has_big_pages mmu = mmu.tc / 2 ^ 14 % 2 == 1
+
+-- the bytes of a page of the tables
+abbrev pub page_size_by : Mmu → ℕ
+page_size_by mmu = if has_big_pages mmu then 8192 else page_size
+
+-- the page of 4 KiB that is the other half of the page of 8 KiB
+abbrev pub other_half : ℕ → ℕ
+other_half page = if page % 2 == 0 then page + 1 else page - 1

@@ -15,6 +15,6 @@ pub use keeping::{entry_in, place_in};
 pub use kept::Kept;
 pub use laws::{found_after_a_fill, found_after_a_flush};
 pub use outcome::{Outcome, RunState};
-pub use pages::{PAGE_SIZE, page_of};
+pub use pages::{PAGE_SIZE, has_big_pages, other_half, page_of, page_size_by};
 pub use processor::Cpu;
 pub use status::kept_status;

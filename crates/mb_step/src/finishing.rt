@@ -13,7 +13,7 @@ use mb_encode::encode;
 use mb_entry::{line_fields, movem_fields, read_fields, write_fields};
 use mb_instr::{Instr, Plain};
 use mb_meaning::Finish;
-use mb_model::{Cpu, PAGE_SIZE};
+use mb_model::{Cpu, page_size_by};
 use mb_port::{Fault, Port};
 use mb_writes::{Ended, Movem, MovemFault, WriteFault};
 
@@ -26,7 +26,7 @@ pub(crate) fn finish_unread<P: Port>(refused: &ReadFault, cpu: &mut Cpu, port: &
     ensures busy { result ≢ Finish.Idle }
     ensures rest { P.rest port.new ≡ P.rest port.old }
 {
-    let fields = read_fields(&refused.fault, refused.first, PAGE_SIZE);
+    let fields = read_fields(&refused.fault, refused.first, page_size_by(&port.mmu()));
     access_error(cpu.regs.pc, fields, cpu, port)
 }
 
@@ -44,7 +44,7 @@ pub(crate) fn finish_unfinished<P: Port>(
     ensures busy { result ≢ Finish.Idle }
     ensures rest { P.rest port.new ≡ P.rest port.old }
 {
-    let fields = with_ct(due, write_fields(refused, PAGE_SIZE));
+    let fields = with_ct(due, write_fields(refused, page_size_by(&port.mmu())));
     access_error(cpu.regs.pc, fields, cpu, port)
 }
 
@@ -64,7 +64,12 @@ fn finish_unwritten<P: Port>(
     ensures rest { P.rest port.new ≡ P.rest port.old }
 {
     if refused.rest.is_empty() {
-        access_error(cpu.regs.pc, write_fields(refused, PAGE_SIZE), cpu, port)
+        access_error(
+            cpu.regs.pc,
+            write_fields(refused, page_size_by(&port.mmu())),
+            cpu,
+            port,
+        )
     } else {
         cpu.regs.set_plain(plain);
         finish_unfinished(due, refused, cpu, port)
@@ -88,7 +93,7 @@ fn finish_line<P: Port>(
     ensures rest { P.rest port.new ≡ P.rest port.old }
 {
     cpu.regs.set_plain(plain);
-    let fields = with_ct(due, line_fields(fault, line, PAGE_SIZE));
+    let fields = with_ct(due, line_fields(fault, line, page_size_by(&port.mmu())));
     access_error(cpu.regs.pc, fields, cpu, port)
 }
 
@@ -124,7 +129,7 @@ fn finish_movem<P: Port>(
 {
     let at = cpu.regs.pc;
     cpu.regs.set_plain(plain);
-    let fields = movem_fields(refused, words, cpu.regs.pc, PAGE_SIZE);
+    let fields = movem_fields(refused, words, cpu.regs.pc, page_size_by(&port.mmu()));
     let is_load = Movem::of(words).is_load;
     access_error(at, with_ct(due && !is_load, fields), cpu, port)
 }

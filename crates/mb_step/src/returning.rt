@@ -9,7 +9,7 @@ use crate::raising::{access_error, has_ct, is_due, refuse, trace_if, traces_all,
 use mb_entry::{continues, movem_fields, return_held};
 use mb_frames::Access;
 use mb_meaning::Finish;
-use mb_model::{Cpu, PAGE_SIZE};
+use mb_model::{Cpu, page_size_by};
 use mb_port::Port;
 use mb_writes::{Ended, MovemFault};
 
@@ -44,7 +44,7 @@ fn finish_movem_again<P: Port>(
     ensures rest { P.rest port.new ≡ P.rest port.old }
 {
     let old = &held.access;
-    let fields = movem_fields(refused, old.pd2, old.pd1, PAGE_SIZE);
+    let fields = movem_fields(refused, old.pd2, old.pd1, page_size_by(&port.mmu()));
     access_error(held.pc, with_ct(due || has_ct(old), fields), cpu, port)
 }
 

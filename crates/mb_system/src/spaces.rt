@@ -9,12 +9,12 @@ ghost use Rattle.mb_ea.specs.Addresses.{IsTarget, IsMemory, IsPlace};
 ghost use Rattle.mb_meaning.specs.SystemEnds.{system_carried_by};
 ghost use Rattle.mb_system.specs.Ends.{SystemEnds};
 ghost use Rattle.mb_meaning.specs.Spaces.{function_space, taken, out_of_register, into_register, is_store, moves_of};
-ghost use Rattle.mb_meaning.specs.Spaces.{flushed_by, pflush_of, ptest_of};
+ghost use Rattle.mb_meaning.specs.Spaces.{flushed_by, is_of_a_page as of_page, flushed_beside, pflush_of, ptest_of};
 
 use crate::finishing::finish_row;
 use mb_ea::{Target, read_value, resolve};
 use mb_instr::{Ea, FlushKind, Plain, Size};
-use mb_model::{Cpu, page_of};
+use mb_model::{Cpu, has_big_pages, other_half, page_of};
 use mb_operands::{named_register, place, with_low};
 use mb_port::{Flush, MmuReg, Port, Space};
 use mb_writes::Ended;
@@ -145,17 +145,39 @@ pub(crate) fn move_by_function_code<P: Port>(
     }
 }
 
-/// What PFLUSH drops.
+/// What PFLUSH drops, of a page of 4 KiB or of all.
 #[inline(always)]
-fn flushed_by(kind: FlushKind, address: u32, cpu: &Cpu) -> Flush
-    ensures value { result ≡ flushed_by kind address cpu.now }
+fn flushed_by(kind: FlushKind, page: u32, cpu: &Cpu) -> Flush
+    requires { page < 2 ^ 20 }
+    ensures value { result ≡ flushed_by kind page cpu.now }
     ensures page { NamesPage result }
 {
     match kind {
-        FlushKind::LocalPage => Flush::PageLocal(function_space(cpu.dfc), page_of(address)),
-        FlushKind::Page => Flush::Page(function_space(cpu.dfc), page_of(address)),
+        FlushKind::LocalPage => Flush::PageLocal(function_space(cpu.dfc), page),
+        FlushKind::Page => Flush::Page(function_space(cpu.dfc), page),
         FlushKind::AllLocal => Flush::AllLocal,
         FlushKind::All => Flush::All,
+    }
+}
+
+/// Whether PFLUSH is of a page.
+#[inline(always)]
+fn is_of_a_page(kind: FlushKind) -> bool
+    ensures { result ≡ of_page kind }
+{
+    matches!(kind, FlushKind::LocalPage | FlushKind::Page)
+}
+
+/// PFLUSH of the other half of a page of 8 KiB, where the tables are of such pages.
+#[inline(always)]
+#[tactic(auto, unfolding(mb_meaning::specs::Spaces::flushed_beside))]
+fn flush_beside<P: Port>(kind: FlushKind, page: u32, cpu: &Cpu, port: &mut P)
+    requires { page < 2 ^ 20 }
+    ensures means { run P.bus (flushed_beside kind page cpu.now) (P.world port.old) ≡ (cpu.now, P.world port.new) }
+    ensures rest { P.rest port.new ≡ P.rest port.old }
+{
+    if has_big_pages(&port.mmu()) && is_of_a_page(kind) {
+        port.flush(flushed_by(kind, other_half(page), cpu));
     }
 }
 
@@ -167,8 +189,9 @@ pub(crate) fn flush<P: Port>(kind: FlushKind, register: u8, cpu: &Cpu, port: &mu
     ensures means { run P.bus (pflush_of kind register cpu.now) (P.world port.old) ≡ (cpu.now, P.world port.new) }
     ensures rest { P.rest port.new ≡ P.rest port.old }
 {
-    let address = cpu.regs.plain().a[register as usize];
-    port.flush(flushed_by(kind, address, cpu));
+    let page = page_of(cpu.regs.plain().a[register as usize]);
+    port.flush(flushed_by(kind, page, cpu));
+    flush_beside(kind, page, cpu, port);
 }
 
 /// PTEST: the page is tested in DFC's space, and the answer becomes MMUSR.

@@ -9,7 +9,7 @@ use Rattle.mb_port.specs.declared.types.Space.{Space}
 use Rattle.mb_walk.specs.declared.found.Found.TheVariants.{BusError}
 use Rattle.mb_walk.specs.Memory.{number_at, with_number}
 use Rattle.mb_walk.specs.Descriptors.{table_descriptor, page_descriptor, with_used, marked, entry_at, indirection}
-use Rattle.mb_walk.specs.Descriptors.{root_index, pointer_index, page_index}
+use Rattle.mb_walk.specs.Descriptors.{root_index, pointer_index, page_index, page_table_bytes}
 use Rattle.mb_walk.specs.Search.{Searched, Level, and_below, is_inside, descended, paged, pointed, ended, search_of}
 use Rattle.mb_walk.specs.Laws.{followed_by, SearchesStayInside}
 use Rattle.mb_walk.proofs.LongLemmas.{same_from}
@@ -60,33 +60,33 @@ module _ (more : List ℕ) where
         ]
   ]
 
-  reached : (q : ℕ) (space : Space) (n : ℕ) (protected write : Bool) (ram : List ℕ) → q + 4 ≤ length ram
-      → paged (ram ++ more) q space n protected write ≡ followed_by more (paged ram q space n protected write)
-  reached q space n protected write ram h =
-      paged_left (ram ++ more) q space n protected write
-      ∙ ap (λ (m : ℕ). left (ram ++ more) q space n protected (marked m protected space write)) (long_inside ram q h)
-      ∙ ap (λ (r : List ℕ). record (left ram q space n protected (marked (number_at ram q 4) protected space write)) { ram = r })
+  reached : (q : ℕ) (space : Space) (n : ℕ) (protected write big : Bool) (ram : List ℕ) → q + 4 ≤ length ram
+      → paged (ram ++ more) q space n protected write big ≡ followed_by more (paged ram q space n protected write big)
+  reached q space n protected write big ram h =
+      paged_left (ram ++ more) q space n protected write big
+      ∙ ap (λ (m : ℕ). left (ram ++ more) q space n protected big (marked m protected space write)) (long_inside ram q h)
+      ∙ ap (λ (r : List ℕ). record (left ram q space n protected big (marked (number_at ram q 4) protected space write)) { ram = r })
       (written_inside ram q (marked (number_at ram q 4) protected space write) h)
-      ∙ ap (followed_by more) (sym (paged_left ram q space n protected write))
+      ∙ ap (followed_by more) (sym (paged_left ram q space n protected write big))
 
-  point : (q : ℕ) (space : Space) (page : ℕ) (protected write : Bool) (ram : List ℕ) → Same (λ r. pointed r q space page protected write) ram
-  point q space n protected write ram o = elim (cases_Bool (is_inside ram q)) [
-    | inr h ↦ absurd (o (ap (λ (s : Searched). s.found) (pointed_outside ram q space n protected write h)))
+  point : (q : ℕ) (space : Space) (page : ℕ) (protected write big : Bool) (ram : List ℕ) → Same (λ r. pointed r q space page protected write big) ram
+  point q space n protected write big ram o = elim (cases_Bool (is_inside ram q)) [
+    | inr h ↦ absurd (o (ap (λ (s : Searched). s.found) (pointed_outside ram q space n protected write big h)))
     | inl h ↦
         let there = still_inside ram q h in
         let room = inside_so ram q h in
         let long = ap (λ (m : ℕ). (page_descriptor m).resident) (long_inside ram q room) in
         elim (cases_Bool (page_descriptor (number_at ram q 4)).resident) [
-          | inr k ↦ pointed_invalid (ram ++ more) q space n protected write there (long ∙ k)
-              ∙ ap (followed_by more) (sym (pointed_invalid ram q space n protected write h k))
-          | inl k ↦ pointed_page (ram ++ more) q space n protected write there (long ∙ k) ∙ reached q space n protected write ram room
-              ∙ ap (followed_by more) (sym (pointed_page ram q space n protected write h k))
+          | inr k ↦ pointed_invalid (ram ++ more) q space n protected write big there (long ∙ k)
+              ∙ ap (followed_by more) (sym (pointed_invalid ram q space n protected write big h k))
+          | inl k ↦ pointed_page (ram ++ more) q space n protected write big there (long ∙ k) ∙ reached q space n protected write big ram room
+              ∙ ap (followed_by more) (sym (pointed_page ram q space n protected write big h k))
         ]
   ]
 
-  end : (q : ℕ) (space : Space) (page : ℕ) (protected write : Bool) (ram : List ℕ) → Same (λ r. ended r q space page protected write) ram
-  end q space n protected write ram o = elim (cases_Bool (is_inside ram q)) [
-    | inr h ↦ absurd (o (ap (λ (s : Searched). s.found) (ended_outside ram q space n protected write h)))
+  end : (q : ℕ) (space : Space) (page : ℕ) (protected write big : Bool) (ram : List ℕ) → Same (λ r. ended r q space page protected write big) ram
+  end q space n protected write big ram o = elim (cases_Bool (is_inside ram q)) [
+    | inr h ↦ absurd (o (ap (λ (s : Searched). s.found) (ended_outside ram q space n protected write big h)))
     | inl h ↦
         let there = still_inside ram q h in
         let room = inside_so ram q h in
@@ -94,29 +94,29 @@ module _ (more : List ℕ) where
         let resident = ap (λ (m : ℕ). (page_descriptor m).resident) long in
         let indirect = ap (λ (m : ℕ). (page_descriptor m).indirect) long in
         elim (cases_Bool (page_descriptor (number_at ram q 4)).resident) [
-          | inl k ↦ ended_page (ram ++ more) q space n protected write there (resident ∙ k) ∙ reached q space n protected write ram room
-              ∙ ap (followed_by more) (sym (ended_page ram q space n protected write h k))
+          | inl k ↦ ended_page (ram ++ more) q space n protected write big there (resident ∙ k) ∙ reached q space n protected write big ram room
+              ∙ ap (followed_by more) (sym (ended_page ram q space n protected write big h k))
           | inr k ↦ elim (cases_Bool (page_descriptor (number_at ram q 4)).indirect) [
-            | inr l ↦ ended_invalid (ram ++ more) q space n protected write there (resident ∙ k) (indirect ∙ l)
-                ∙ ap (followed_by more) (sym (ended_invalid ram q space n protected write h k l))
+            | inr l ↦ ended_invalid (ram ++ more) q space n protected write big there (resident ∙ k) (indirect ∙ l)
+                ∙ ap (followed_by more) (sym (ended_invalid ram q space n protected write big h k l))
             | inl l ↦
-                let e = ended_indirect ram q space n protected write h k l in
+                let e = ended_indirect ram q space n protected write big h k l in
                 let p = indirection (number_at ram q 4) in
-                ended_indirect (ram ++ more) q space n protected write there (resident ∙ k) (indirect ∙ l)
-                ∙ ap (λ (m : ℕ). pointed (ram ++ more) (indirection m) space n protected write) long
-                ∙ point p space n protected write ram (λ b. o (ap (λ (s : Searched). s.found) e ∙ b))
+                ended_indirect (ram ++ more) q space n protected write big there (resident ∙ k) (indirect ∙ l)
+                ∙ ap (λ (m : ℕ). pointed (ram ++ more) (indirection m) space n protected write big) long
+                ∙ point p space n protected write big ram (λ b. o (ap (λ (s : Searched). s.found) e ∙ b))
                 ∙ ap (followed_by more) (sym e)
           ]
         ]
   ]
 
-  whole : (ram : List ℕ) (root : ℕ) (space : Space) (page : ℕ) (write : Bool) → Same (λ r. search_of r root space page write) ram
+  whole : (ram : List ℕ) (root : ℕ) (space : Space) (page : ℕ) (write big : Bool) → Same (λ r. search_of r root space page write big) ram
   unfolding search_of
-  whole ram root space n write =
-      level (entry_at root 512 (root_index n)) (pointers space n write)
-      (λ ram pointer. level (entry_at pointer 512 (pointer_index n)) (leaves space n (table_descriptor pointer).protected write)
-      (λ ram leaf. end (entry_at leaf 256 (page_index n)) space n ((table_descriptor pointer).protected || (table_descriptor leaf).protected) write
-      ram) ram) ram
+  whole ram root space n write big =
+      level (entry_at root 512 (root_index n)) (pointers space n write big)
+      (λ ram pointer. level (entry_at pointer 512 (pointer_index n)) (leaves space n (table_descriptor pointer).protected write big)
+      (λ ram leaf. end (entry_at leaf (page_table_bytes big) (page_index big n)) space n
+      ((table_descriptor pointer).protected || (table_descriptor leaf).protected) write big ram) ram) ram
 
 pub searches_stay_inside : SearchesStayInside
-searches_stay_inside ram more root space page write = whole more ram root space page write
+searches_stay_inside ram more root space page write big = whole more ram root space page write big

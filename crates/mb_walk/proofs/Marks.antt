@@ -4,7 +4,7 @@ use Rattle.std.proofs.Common.{inl, inr}
 use Rattle.std.specs.Prelude.{◌⊎◌}
 use Rattle.std.proofs.lemmas.Bool.{cases_Bool, cases_eq, false≢true}
 use Rattle.mb_port.specs.declared.types.Space.{Space}
-use Rattle.mb_walk.specs.Descriptors.{with_used, with_modified, marked, takes_writes, page_descriptor, entry_at}
+use Rattle.mb_walk.specs.Descriptors.{with_used, with_modified, marked, takes_writes, page_descriptor, entry_at, page_table_bytes}
 use Rattle.mb_walk.specs.Laws.{unmarked}
 
 -- a bit that is set stays, and one that is not set is added
@@ -58,8 +58,15 @@ bit_7 d m e = ap (λ (n : ℕ). n == 1) (omega arith)
 pub table_512 : (d m index : ℕ) → unmarked m ≡ unmarked d → entry_at m 512 index ≡ entry_at d 512 index
 table_512 d m index e = omega arith
 
-pub table_256 : (d m index : ℕ) → unmarked m ≡ unmarked d → entry_at m 256 index ≡ entry_at d 256 index
-table_256 d m index e = omega arith
+pub page_table_same : (big : Bool) (d m index : ℕ) → unmarked m ≡ unmarked d
+    → entry_at m (page_table_bytes big) index ≡ entry_at d (page_table_bytes big) index
+page_table_same true d m index e = omega arith
+page_table_same false d m index e = omega arith
+
+-- an entry of a page table stands at a multiple of 4
+pub page_entry_aligned : (big : Bool) (d index : ℕ) → entry_at d (page_table_bytes big) index % 4 ≡ 0
+page_entry_aligned true d index = omega arith
+page_entry_aligned false d index = omega arith
 
 takes_same : (d m : ℕ) (protected : Bool) (space : Space) → unmarked m ≡ unmarked d
     → takes_writes (page_descriptor m) protected space ≡ takes_writes (page_descriptor d) protected space

@@ -6,10 +6,11 @@ use Rattle.std.proofs.lemmas.Bool.{cases_Bool}
 use Rattle.mb_port.specs.declared.types.Space.{Space}
 use Rattle.mb_walk.specs.Memory.{number_at, with_number}
 use Rattle.mb_walk.specs.Descriptors.{table_descriptor, page_descriptor, with_used, marked, entry_at, indirection}
-use Rattle.mb_walk.specs.Descriptors.{root_index, pointer_index, page_index}
+use Rattle.mb_walk.specs.Descriptors.{root_index, pointer_index, page_index, page_table_bytes}
 use Rattle.mb_walk.specs.Search.{Searched, Level, and_below, is_inside, descended, paged, pointed, ended, search_of}
 use Rattle.mb_walk.specs.Laws.{met_and_below, met_last, met, SearchesChangeWhatTheyMeet}
 use Rattle.mb_walk.proofs.LongLemmas.{long_other}
+use Rattle.mb_walk.proofs.Marks.{page_entry_aligned}
 use Rattle.mb_walk.proofs.Again.{inside_so, outside, stops, goes, paged_left, pointed_outside, pointed_invalid, pointed_page}
 use Rattle.mb_walk.proofs.Again.{ended_outside, ended_page, ended_indirect, ended_invalid, leaves, pointers}
 
@@ -46,20 +47,20 @@ module _ (at : ℕ) (aligned : at % 4 ≡ 0) where
     ]
   ]
 
-  reached : (q : ℕ) (space : Space) (page : ℕ) (protected write : Bool) (ram : List ℕ) → q % 4 ≡ 0 → q + 4 ≤ length ram → at ≢ q
-      → Stays ram (paged ram q space page protected write)
-  reached q space page protected write ram a h differ =
-      ap (λ (s : Searched). number_at s.ram at 4) (paged_left ram q space page protected write)
+  reached : (q : ℕ) (space : Space) (page : ℕ) (protected write big : Bool) (ram : List ℕ) → q % 4 ≡ 0 → q + 4 ≤ length ram → at ≢ q
+      → Stays ram (paged ram q space page protected write big)
+  reached q space page protected write big ram a h differ =
+      ap (λ (s : Searched). number_at s.ram at 4) (paged_left ram q space page protected write big)
       ∙ long_other ram q (marked (number_at ram q 4) protected space write) at h a aligned differ
 
-  point : (q : ℕ) (space : Space) (page : ℕ) (protected write : Bool) (ram : List ℕ) → q % 4 ≡ 0 → at ≢ q
-      → Stays ram (pointed ram q space page protected write)
-  point q space page protected write ram a differ = elim (cases_Bool (is_inside ram q)) [
-    | inr h ↦ subst (λ s. Stays ram s) (sym (pointed_outside ram q space page protected write h)) refl
+  point : (q : ℕ) (space : Space) (page : ℕ) (protected write big : Bool) (ram : List ℕ) → q % 4 ≡ 0 → at ≢ q
+      → Stays ram (pointed ram q space page protected write big)
+  point q space page protected write big ram a differ = elim (cases_Bool (is_inside ram q)) [
+    | inr h ↦ subst (λ s. Stays ram s) (sym (pointed_outside ram q space page protected write big h)) refl
     | inl h ↦ elim (cases_Bool (page_descriptor (number_at ram q 4)).resident) [
-      | inr k ↦ subst (λ s. Stays ram s) (sym (pointed_invalid ram q space page protected write h k)) refl
-      | inl k ↦ subst (λ s. Stays ram s) (sym (pointed_page ram q space page protected write h k))
-          (reached q space page protected write ram a (inside_so ram q h) differ)
+      | inr k ↦ subst (λ s. Stays ram s) (sym (pointed_invalid ram q space page protected write big h k)) refl
+      | inl k ↦ subst (λ s. Stays ram s) (sym (pointed_page ram q space page protected write big h k))
+          (reached q space page protected write big ram a (inside_so ram q h) differ)
     ]
   ]
 
@@ -70,38 +71,39 @@ module _ (at : ℕ) (aligned : at % 4 ≡ 0) where
   one_met : (ram : List ℕ) (q : ℕ) → (page_descriptor (number_at ram q 4)).resident ≡ true → met_last ram q ≡ q ∷ []
   one_met ram q k = rw k refl
 
-  end : (q : ℕ) (space : Space) (page : ℕ) (protected write : Bool) (ram : List ℕ) → q % 4 ≡ 0 → Out (met_last ram q)
-      → Stays ram (ended ram q space page protected write)
-  end q space page protected write ram a out = elim (cases_Bool (is_inside ram q)) [
-    | inr h ↦ subst (λ s. Stays ram s) (sym (ended_outside ram q space page protected write h)) refl
+  end : (q : ℕ) (space : Space) (page : ℕ) (protected write big : Bool) (ram : List ℕ) → q % 4 ≡ 0 → Out (met_last ram q)
+      → Stays ram (ended ram q space page protected write big)
+  end q space page protected write big ram a out = elim (cases_Bool (is_inside ram q)) [
+    | inr h ↦ subst (λ s. Stays ram s) (sym (ended_outside ram q space page protected write big h)) refl
     | inl h ↦ elim (cases_Bool (page_descriptor (number_at ram q 4)).resident) [
       | inl k ↦
           let o : Out (q ∷ []) = subst Out (one_met ram q k) out in
-          subst (λ s. Stays ram s) (sym (ended_page ram q space page protected write h k))
-          (reached q space page protected write ram a (inside_so ram q h) (first_out q [] o))
+          subst (λ s. Stays ram s) (sym (ended_page ram q space page protected write big h k))
+          (reached q space page protected write big ram a (inside_so ram q h) (first_out q [] o))
       | inr k ↦ elim (cases_Bool (page_descriptor (number_at ram q 4)).indirect) [
-        | inr l ↦ subst (λ s. Stays ram s) (sym (ended_invalid ram q space page protected write h k l)) refl
+        | inr l ↦ subst (λ s. Stays ram s) (sym (ended_invalid ram q space page protected write big h k l)) refl
         | inl l ↦
             let p = indirection (number_at ram q 4) in
             let o : Out (q ∷ p ∷ []) = subst Out (both_met ram q k l) out in
-            subst (λ s. Stays ram s) (sym (ended_indirect ram q space page protected write h k l))
-            (point p space page protected write ram (omega arith) (first_out p [] (rest_out q (p ∷ []) o)))
+            subst (λ s. Stays ram s) (sym (ended_indirect ram q space page protected write big h k l))
+            (point p space page protected write big ram (omega arith) (first_out p [] (rest_out q (p ∷ []) o)))
       ]
     ]
   ]
 
-  whole : (ram : List ℕ) (root : ℕ) (space : Space) (page : ℕ) (write : Bool) → Out (met ram root page)
-      → Stays ram (search_of ram root space page write)
+  whole : (ram : List ℕ) (root : ℕ) (space : Space) (page : ℕ) (write big : Bool) → Out (met ram root page big)
+      → Stays ram (search_of ram root space page write big)
   unfolding met search_of
-  whole ram root space page write out =
-      level (entry_at root 512 (root_index page)) (pointers space page write)
+  whole ram root space page write big out =
+      level (entry_at root 512 (root_index page)) (pointers space page write big)
       (λ ram pointer. let second = entry_at pointer 512 (pointer_index page) in
-      met_and_below second (descended ram second) (λ ram leaf. met_last ram (entry_at leaf 256 (page_index page))))
+      met_and_below second (descended ram second) (λ ram leaf. met_last ram (entry_at leaf (page_table_bytes big) (page_index big page))))
       (omega arith)
-      (λ ram pointer. level (entry_at pointer 512 (pointer_index page)) (leaves space page (table_descriptor pointer).protected write)
-      (λ ram leaf. met_last ram (entry_at leaf 256 (page_index page))) (omega arith)
-      (λ ram leaf. end (entry_at leaf 256 (page_index page)) space page ((table_descriptor pointer).protected || (table_descriptor leaf).protected)
-      write ram (omega arith)) ram) ram out
+      (λ ram pointer. level (entry_at pointer 512 (pointer_index page)) (leaves space page (table_descriptor pointer).protected write big)
+      (λ ram leaf. met_last ram (entry_at leaf (page_table_bytes big) (page_index big page))) (omega arith)
+      (λ ram leaf. end (entry_at leaf (page_table_bytes big) (page_index big page)) space page
+      ((table_descriptor pointer).protected || (table_descriptor leaf).protected) write big ram
+      (page_entry_aligned big leaf (page_index big page))) ram) ram out
 
 pub searches_change_what_they_meet : SearchesChangeWhatTheyMeet
-searches_change_what_they_meet ram root space page write at a out = whole at a ram root space page write out
+searches_change_what_they_meet ram root space page write big at a out = whole at a ram root space page write big out

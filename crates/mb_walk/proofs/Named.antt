@@ -45,18 +45,19 @@ module _ (space : Space) (page : ℕ) where
   either_level true s t h k = h
   either_level false s t h k = k
 
-  paged_names : (ram : List ℕ) (place : ℕ) (protected write : Bool) → Named space page (paged ram place space page protected write)
+  paged_names : (ram : List ℕ) (place : ℕ) (protected write big : Bool) → Named space page (paged ram place space page protected write big)
   unfolding paged
-  paged_names ram place protected write = record { is = (refl, refl) }
+  paged_names ram place protected write big = record { is = (refl, refl) }
 
-  pointed_names : (ram : List ℕ) (place : ℕ) (protected write : Bool) → Named space page (pointed ram place space page protected write)
+  pointed_names : (ram : List ℕ) (place : ℕ) (protected write big : Bool) → Named space page (pointed ram place space page protected write big)
   unfolding pointed
-  pointed_names ram place protected write = either _ _ _ (either _ _ _ (paged_names ram place protected write) (nothing ram)) (outside ram)
+  pointed_names ram place protected write big = either _ _ _ (either _ _ _ (paged_names ram place protected write big) (nothing ram)) (outside ram)
 
-  ended_names : (ram : List ℕ) (place : ℕ) (protected write : Bool) → Named space page (ended ram place space page protected write)
+  ended_names : (ram : List ℕ) (place : ℕ) (protected write big : Bool) → Named space page (ended ram place space page protected write big)
   unfolding ended
-  ended_names ram place protected write =
-      either _ _ _ (either _ _ _ (paged_names ram place protected write) (either _ _ _ (pointed_names ram _ protected write) (nothing ram))) (outside ram)
+  ended_names ram place protected write big =
+      either _ _ _ (either _ _ _ (paged_names ram place protected write big)
+      (either _ _ _ (pointed_names ram _ protected write big) (nothing ram))) (outside ram)
 
   descended_ends : (ram : List ℕ) (place : ℕ) → Ended space page (descended ram place)
   unfolding descended
@@ -79,10 +80,10 @@ module _ (space : Space) (page : ℕ) where
       → Named space page (and_below level next)
   and_below_names level next e h = below_names level.ram level.descriptor next e.is (λ d. h level.ram d)
 
-  named : (ram : List ℕ) (root : ℕ) (write : Bool) → Named space page (search_of ram root space page write)
+  named : (ram : List ℕ) (root : ℕ) (write big : Bool) → Named space page (search_of ram root space page write big)
   unfolding search_of
-  named ram root write =
-      and_below_names _ _ (descended_ends ram _) (λ ram pointer. and_below_names _ _ (descended_ends ram _) (λ ram leaf. ended_names ram _ _ write))
+  named ram root write big =
+      and_below_names _ _ (descended_ends ram _) (λ ram pointer. and_below_names _ _ (descended_ends ram _) (λ ram leaf. ended_names ram _ _ write big))
 
-  pub search_names : (ram : List ℕ) (root : ℕ) (write : Bool) → Names space page (search_of ram root space page write).found
-  search_names ram root write = (named ram root write).is
+  pub search_names : (ram : List ℕ) (root : ℕ) (write big : Bool) → Names space page (search_of ram root space page write big).found
+  search_names ram root write big = (named ram root write big).is

@@ -44,22 +44,23 @@ with_modified long = with_bit long 4
 abbrev pub indirection : ℕ → ℕ
 indirection long = long / 4 * 4
 
--- the bytes of a root or pointer table, and of a page table
+-- the bytes of a root or pointer table
 abbrev pub table_bytes : ℕ
 table_bytes = 512
 
-abbrev pub page_table_bytes : ℕ
-page_table_bytes = 256
+-- the bytes of a page table, of pages of 4 KiB or of 8 KiB
+abbrev pub page_table_bytes : Bool → ℕ
+page_table_bytes big = if big then 128 else 256
 
--- a page's indices: bits 31 to 25, 24 to 18 and 17 to 12 of its address
+-- a page's indices: bits 31 to 25 and 24 to 18 of its address, and 17 to 12, or 17 to 13 where pages have 8 KiB
 abbrev pub root_index : ℕ → ℕ
 root_index page = page / 2 ^ 13
 
 abbrev pub pointer_index : ℕ → ℕ
 pointer_index page = page / 2 ^ 6 % 2 ^ 7
 
-abbrev pub page_index : ℕ → ℕ
-page_index page = page % 2 ^ 6
+abbrev pub page_index : Bool → ℕ → ℕ
+page_index big page = if big then page / 2 % 2 ^ 5 else page % 2 ^ 6
 
 -- the place of the entry of this index in the table of so many bytes that a root or a descriptor names
 abbrev pub entry_at : ℕ → ℕ → ℕ → ℕ
@@ -79,18 +80,27 @@ marked long protected space write =
     if write && takes_writes (page_descriptor long) protected space then with_modified (with_used long)
     else with_used long
 
--- what is kept of a page's descriptor
-abbrev pub kept_of : PageDescriptor → Bool → Space → ℕ → Kept
-kept_of d protected space page = record {
+-- the frame of a page of 4 KiB: that of its descriptor, or where pages have 8 KiB the half of it that bit 12 of the
+-- address names
+abbrev pub frame_for : Bool → ℕ → ℕ → ℕ
+frame_for big frame page = if big then frame / 2 * 2 + page % 2 else frame
+
+-- what is kept of a page's descriptor, for a page of 4 KiB
+abbrev pub kept_of : PageDescriptor → Bool → Space → ℕ → Bool → Kept
+kept_of d protected space page big = record {
   space = space;
   page = page;
-  frame = d.frame;
+  frame = frame_for big d.frame page;
   w = protected || d.protected;
   s = d.supervisor;
   g = d.global;
   m = d.modified;
 }
 
--- MMUSR for a page's descriptor: its bits 31 to 12 and 10 to 4, in bit 2 W of it or of a table above it, and R in bit 0
-abbrev pub resident_status : ℕ → Bool → ℕ
-resident_status long w = bit_and long 0xFFFFF7F0 + (if w then 5 else 1)
+-- the bits of a page's descriptor that MMUSR shows: 31 to 12, or where pages have 8 KiB 31 to 13, and 10 to 4
+abbrev pub shown_of : ℕ → Bool → ℕ
+shown_of long big = if big then bit_and long 0xFFFFE7F0 else bit_and long 0xFFFFF7F0
+
+-- MMUSR for a page's descriptor: those bits, in bit 2 W of it or of a table above it, and R in bit 0
+abbrev pub resident_status : ℕ → Bool → Bool → ℕ
+resident_status long w big = shown_of long big + (if w then 5 else 1)

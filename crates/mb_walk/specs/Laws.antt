@@ -23,19 +23,20 @@ pub record OnlyMarks (ram after : List ℕ) : Type 0 where
 
 -- A search changes U and M alone.
 abbrev pub SearchesMark : Type 0
-SearchesMark = (ram : List ℕ) (root : ℕ) (space : Space) (page : ℕ) (write : Bool) → AreBytes ram
-    → OnlyMarks ram (search_of ram root space page write).ram
+SearchesMark = (ram : List ℕ) (root : ℕ) (space : Space) (page : ℕ) (write big : Bool) → AreBytes ram
+    → OnlyMarks ram (search_of ram root space page write big).ram
 
 -- The same search again, or one for no write, finds the same and changes nothing.
 abbrev pub SearchesRepeat : Type 0
-SearchesRepeat = (ram : List ℕ) (root : ℕ) (space : Space) (page : ℕ) (write again : Bool) → AreBytes ram
+SearchesRepeat = (ram : List ℕ) (root : ℕ) (space : Space) (page : ℕ) (write again big : Bool) → AreBytes ram
     → (again ≡ false) ⊎ (again ≡ write)
-    → search_of (search_of ram root space page write).ram root space page again ≡ search_of ram root space page write
+    → search_of (search_of ram root space page write big).ram root space page again big
+    ≡ search_of ram root space page write big
 
 -- What a search finds is of the space and the page that it was for.
 abbrev pub SearchesNameTheirPage : Type 0
-SearchesNameTheirPage = (ram : List ℕ) (root : ℕ) (space : Space) (page : ℕ) (write : Bool)
-    → OnEntry (search_of ram root space page write).found (λ k. (k.space ≡ space) × (k.page ≡ page))
+SearchesNameTheirPage = (ram : List ℕ) (root : ℕ) (space : Space) (page : ℕ) (write big : Bool)
+    → OnEntry (search_of ram root space page write big).found (λ k. (k.space ≡ space) × (k.page ≡ page))
 
 -- the end of a search in a memory that goes on with more bytes
 abbrev pub followed_by : List ℕ → Searched → Searched
@@ -44,9 +45,9 @@ followed_by more s = record { ram = s.ram ++ more; found = s.found }
 -- A search reads and writes below the size of memory alone, or a bus error ends it: more bytes behind make no
 -- difference.
 abbrev pub SearchesStayInside : Type 0
-SearchesStayInside = (ram more : List ℕ) (root : ℕ) (space : Space) (page : ℕ) (write : Bool)
-    → (search_of ram root space page write).found ≢ BusError
-    → search_of (ram ++ more) root space page write ≡ followed_by more (search_of ram root space page write)
+SearchesStayInside = (ram more : List ℕ) (root : ℕ) (space : Space) (page : ℕ) (write big : Bool)
+    → (search_of ram root space page write big).found ≢ BusError
+    → search_of (ram ++ more) root space page write big ≡ followed_by more (search_of ram root space page write big)
 
 -- the places of the descriptors that a search meets in its next levels, where it has not ended
 abbrev pub met_below : List ℕ → Result ℕ Found → (List ℕ → ℕ → List ℕ) → List ℕ
@@ -63,16 +64,16 @@ met_last ram place =
     if not d.resident && d.indirect then place ∷ indirection (number_at ram place 4) ∷ [] else place ∷ []
 
 -- of all
-unfoldable pub met : List ℕ → ℕ → ℕ → List ℕ
-met ram root page =
+unfoldable pub met : List ℕ → ℕ → ℕ → Bool → List ℕ
+met ram root page big =
     let first = entry_at root table_bytes (root_index page) in
     met_and_below first (descended ram first) (λ ram pointer.
     let second = entry_at pointer table_bytes (pointer_index page) in
     met_and_below second (descended ram second) (λ ram leaf.
-    met_last ram (entry_at leaf page_table_bytes (page_index page))))
+    met_last ram (entry_at leaf (page_table_bytes big) (page_index big page))))
 
 -- A search changes the descriptors that it meets, and no other long.
 abbrev pub SearchesChangeWhatTheyMeet : Type 0
-SearchesChangeWhatTheyMeet = (ram : List ℕ) (root : ℕ) (space : Space) (page : ℕ) (write : Bool) (at : ℕ)
-    → at % 4 ≡ 0 → All (λ place. place ≢ at) (met ram root page)
-    → number_at (search_of ram root space page write).ram at 4 ≡ number_at ram at 4
+SearchesChangeWhatTheyMeet = (ram : List ℕ) (root : ℕ) (space : Space) (page : ℕ) (write big : Bool) (at : ℕ)
+    → at % 4 ≡ 0 → All (λ place. place ≢ at) (met ram root page big)
+    → number_at (search_of ram root space page write big).ram at 4 ≡ number_at ram at 4

@@ -42,37 +42,38 @@ descended ram place =
     else record { ram = ram; descriptor = Err BusError }
 
 -- the resident descriptor of the page at a place, which is marked
-unfoldable pub paged : List ℕ → ℕ → Space → ℕ → Bool → Bool → Searched
-paged ram place space page protected write =
+unfoldable pub paged : List ℕ → ℕ → Space → ℕ → Bool → Bool → Bool → Searched
+paged ram place space page protected write big =
     let long = marked (number_at ram place 4) protected space write in
-    let kept = kept_of (page_descriptor long) protected space page in
-    record { ram = with_number ram place 4 long; found = Entry kept (resident_status long kept.w) }
+    let kept = kept_of (page_descriptor long) protected space page big in
+    record { ram = with_number ram place 4 long; found = Entry kept (resident_status long kept.w big) }
 
 -- the descriptor to which an indirect one leads
-unfoldable pub pointed : List ℕ → ℕ → Space → ℕ → Bool → Bool → Searched
-pointed ram place space page protected write =
+unfoldable pub pointed : List ℕ → ℕ → Space → ℕ → Bool → Bool → Bool → Searched
+pointed ram place space page protected write big =
     if is_inside ram place
-    then (if (page_descriptor (number_at ram place 4)).resident then paged ram place space page protected write
+    then (if (page_descriptor (number_at ram place 4)).resident then paged ram place space page protected write big
     else record { ram = ram; found = Invalid })
     else record { ram = ram; found = BusError }
 
 -- the entry of the page's table at a place
-unfoldable pub ended : List ℕ → ℕ → Space → ℕ → Bool → Bool → Searched
-ended ram place space page protected write =
+unfoldable pub ended : List ℕ → ℕ → Space → ℕ → Bool → Bool → Bool → Searched
+ended ram place space page protected write big =
     let long = number_at ram place 4 in
     if is_inside ram place
-    then (if (page_descriptor long).resident then paged ram place space page protected write
-    else if (page_descriptor long).indirect then pointed ram (indirection long) space page protected write
+    then (if (page_descriptor long).resident then paged ram place space page protected write big
+    else if (page_descriptor long).indirect then pointed ram (indirection long) space page protected write big
     else record { ram = ram; found = Invalid })
     else record { ram = ram; found = BusError }
 
--- The search for a page of a space from a root: memory once each descriptor that it met is marked, and what it found.
-unfoldable pub search_of : List ℕ → ℕ → Space → ℕ → Bool → Searched
-search_of ram root space page write =
+-- The search for a page of 4 KiB of a space from a root, for a write or not, through tables of big pages or not: memory
+-- once each descriptor that it met is marked, and what it found.
+unfoldable pub search_of : List ℕ → ℕ → Space → ℕ → Bool → Bool → Searched
+search_of ram root space page write big =
     and_below (descended ram (entry_at root table_bytes (root_index page))) (λ ram pointer.
     and_below (descended ram (entry_at pointer table_bytes (pointer_index page))) (λ ram leaf.
-    ended ram (entry_at leaf page_table_bytes (page_index page)) space page
-    ((table_descriptor pointer).protected || (table_descriptor leaf).protected) write))
+    ended ram (entry_at leaf (page_table_bytes big) (page_index big page)) space page
+    ((table_descriptor pointer).protected || (table_descriptor leaf).protected) write big))
 
 -- MMUSR after a test that ended so
 abbrev pub status_of : Found → ℕ

@@ -21,5 +21,5 @@ pub use laws::{
 pub use longs::{long_at, set_long_at, size_of};
 pub use numbers::{number_at, number_in, overwrite, set_number_at, set_number_in};
 pub use ram::Ram;
-pub use searching::search;
+pub use searching::{frame_for, page_place, search};
 pub use transparency::transparent;

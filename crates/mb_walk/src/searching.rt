@@ -2,7 +2,8 @@
 
 ghost use Rattle.std.specs.Prelude.{◌≡◌, ℕ, ◌+◌, ◌*◌, ◌/◌, ◌%◌, ◌<◌, ◌≤◌, ◌^◌, ◌⊎◌, length, IfErr};
 ghost use Rattle.mb_walk.specs.Memory.{number_at, with_number};
-ghost use Rattle.mb_walk.specs.Descriptors.{entry_at, marked, resident_status, with_used as used, is_user};
+ghost use Rattle.mb_walk.specs.Descriptors.{entry_at, marked, resident_status, shown_of, with_used as used};
+ghost use Rattle.mb_walk.specs.Descriptors.{is_user, frame_for as in_half, page_table_bytes, page_index};
 ghost use Rattle.mb_model.specs.Keeping.{NamesPages};
 ghost use Rattle.mb_model.specs.Pages.{page_of as page_number};
 ghost use Rattle.mb_walk.specs.Search.{OnEntry};
@@ -20,24 +21,42 @@ const TABLE_BYTES: u32 = 512;
 /// The bytes of a page table.
 const PAGE_TABLE_BYTES: u32 = 256;
 
+/// Its bytes where pages have 8 KiB.
+const BIG_PAGE_TABLE_BYTES: u32 = 128;
+
 /// A search, but for the root.
 #[derive(Clone, Copy)]
 struct Sought {
     space: Space,
-    /// The number of the page.
+    /// The number of the page of 4 KiB.
     page: u32,
     write: bool,
+    /// The tables are those of pages of 8 KiB.
+    big: bool,
 }
 
 /// The place of an entry of the table of so many bytes that a root or a descriptor names.
 #[inline(always)]
 fn entry_place(table: u32, bytes: u32, index: u32) -> u32
-    requires bytes { (bytes ≡ TABLE_BYTES) ⊎ (bytes ≡ PAGE_TABLE_BYTES) }
+    requires bytes { (bytes ≡ TABLE_BYTES) ⊎ (bytes ≡ PAGE_TABLE_BYTES) ⊎ (bytes ≡ BIG_PAGE_TABLE_BYTES) }
     requires inside { 4 * index < bytes }
     ensures place { result ≡ entry_at table bytes index }
     ensures aligned { result % 4 ≡ 0 }
 {
     table / bytes * bytes + 4 * index
+}
+
+/// The place of the entry of a page of 4 KiB in the page table that a descriptor names, of pages of 8 KiB or not.
+#[inline(always)]
+pub fn page_place(table: u32, page: u32, big: bool) -> u32
+    ensures place { result ≡ entry_at table (page_table_bytes big) (page_index big page) }
+    ensures aligned { result % 4 ≡ 0 }
+{
+    if big {
+        entry_place(table, BIG_PAGE_TABLE_BYTES, page >> 1 & 0x1F)
+    } else {
+        entry_place(table, PAGE_TABLE_BYTES, page & 0x3F)
+    }
 }
 
 /// Whether the descriptor at a place stands in memory.
@@ -69,12 +88,35 @@ fn mark(long: u32, protected: bool, sought: Sought) -> u32
     }
 }
 
+/// The frame of a page of 4 KiB: that of its descriptor, or of one of 8 KiB the half that bit 12 of the address names.
+#[inline(always)]
+pub fn frame_for(frame: u32, page: u32, big: bool) -> u32
+    requires { frame < 2 ^ 20 }
+    ensures value { result ≡ in_half big frame page }
+    ensures range { result < 2 ^ 20 }
+{
+    if big { frame / 2 * 2 + page % 2 } else { frame }
+}
+
+/// The bits of a page's descriptor that MMUSR shows.
+#[inline(always)]
+fn shown(long: u32, big: bool) -> u32
+    ensures value { result ≡ shown_of long big }
+    ensures room { result + 5 < 2 ^ 32 }
+{
+    if big {
+        long & 0xFFFF_E7F0
+    } else {
+        long & 0xFFFF_F7F0
+    }
+}
+
 /// MMUSR for a page's descriptor, write-protected by it or above it or not.
 #[inline(always)]
-fn status(long: u32, w: bool) -> u32
-    ensures { result ≡ resident_status long w }
+fn status(long: u32, w: bool, big: bool) -> u32
+    ensures { result ≡ resident_status long w big }
 {
-    (long & 0xFFFF_F7F0) + if w { 5 } else { 1 }
+    shown(long, big) + if w { 5 } else { 1 }
 }
 
 /// Reads a table's descriptor, and marks it used where its table is resident.
@@ -105,7 +147,7 @@ fn descend<R: Ram>(ram: &mut R, place: u32) -> Result<u32, Found>
 fn reach<R: Ram>(ram: &mut R, place: u32, sought: Sought, protected: bool) -> Found
     requires aligned { place % 4 ≡ 0 }
     requires inside { place + 4 ≤ length (R.bytes ram.old) }
-    ensures end { paged (R.bytes ram.old) place sought.space sought.page protected sought.write
+    ensures end { paged (R.bytes ram.old) place sought.space sought.page protected sought.write sought.big
         ≡ record { ram = R.bytes ram.new; found = result } }
     ensures entry { OnEntry result (λ k. (k.space ≡ sought.space) × (k.page ≡ sought.page) × (k.frame < 2 ^ 20)) }
     ensures size { length (R.bytes ram.new) ≡ length (R.bytes ram.old) }
@@ -117,13 +159,13 @@ fn reach<R: Ram>(ram: &mut R, place: u32, sought: Sought, protected: bool) -> Fo
     let kept = Kept {
         space: sought.space,
         page: sought.page,
-        frame: page.frame,
+        frame: frame_for(page.frame, sought.page, sought.big),
         w: protected || page.protected,
         s: page.supervisor,
         g: page.global,
         m: page.modified,
     };
-    Found::Entry(kept, status(long, kept.w))
+    Found::Entry(kept, status(long, kept.w, sought.big))
 }
 
 /// Reads the descriptor that an indirect one names.
@@ -131,7 +173,7 @@ fn reach<R: Ram>(ram: &mut R, place: u32, sought: Sought, protected: bool) -> Fo
 #[tactic(auto, unfolding(crate::specs::Search::pointed))]
 fn follow<R: Ram>(ram: &mut R, place: u32, sought: Sought, protected: bool) -> Found
     requires { place % 4 ≡ 0 }
-    ensures end { pointed (R.bytes ram.old) place sought.space sought.page protected sought.write
+    ensures end { pointed (R.bytes ram.old) place sought.space sought.page protected sought.write sought.big
         ≡ record { ram = R.bytes ram.new; found = result } }
     ensures entry { OnEntry result (λ k. (k.space ≡ sought.space) × (k.page ≡ sought.page) × (k.frame < 2 ^ 20)) }
     ensures size { length (R.bytes ram.new) ≡ length (R.bytes ram.old) }
@@ -151,7 +193,7 @@ fn follow<R: Ram>(ram: &mut R, place: u32, sought: Sought, protected: bool) -> F
 #[tactic(auto, unfolding(crate::specs::Search::ended))]
 fn end<R: Ram>(ram: &mut R, place: u32, sought: Sought, protected: bool) -> Found
     requires { place % 4 ≡ 0 }
-    ensures end { ended (R.bytes ram.old) place sought.space sought.page protected sought.write
+    ensures end { ended (R.bytes ram.old) place sought.space sought.page protected sought.write sought.big
         ≡ record { ram = R.bytes ram.new; found = result } }
     ensures entry { OnEntry result (λ k. (k.space ≡ sought.space) × (k.page ≡ sought.page) × (k.frame < 2 ^ 20)) }
     ensures size { length (R.bytes ram.new) ≡ length (R.bytes ram.old) }
@@ -171,13 +213,21 @@ fn end<R: Ram>(ram: &mut R, place: u32, sought: Sought, protected: bool) -> Foun
     }
 }
 
-/// Searches for the page of an address of a space, through the tables below a root, for a write or not.
+/// Searches for the page of 4 KiB of an address of a space, through the tables below a root, for a write or not. Where
+/// `big` is set the tables are those of pages of 8 KiB, and what is found is of the half that the address lies in.
 ///
 /// Each descriptor on the way is marked used, and the page's is marked modified where a write is made that it takes.
 /// The root's bits 8 to 0 are ignored.
 #[tactic(auto, unfolding(crate::specs::Search::search_of))]
-pub fn search<R: Ram>(ram: &mut R, root: u32, space: Space, at: u32, write: bool) -> Found
-    ensures means { search_of (R.bytes ram.old) root space (page_number at) write
+pub fn search<R: Ram>(
+    ram: &mut R,
+    root: u32,
+    space: Space,
+    at: u32,
+    write: bool,
+    big: bool,
+) -> Found
+    ensures means { search_of (R.bytes ram.old) root space (page_number at) write big
         ≡ record { ram = R.bytes ram.new; found = result } }
     ensures entry { OnEntry result (λ k. (k.space ≡ space) × (k.page ≡ page_number at) × NamesPages k) }
     ensures size { length (R.bytes ram.new) ≡ length (R.bytes ram.old) }
@@ -187,6 +237,7 @@ pub fn search<R: Ram>(ram: &mut R, root: u32, space: Space, at: u32, write: bool
         space,
         page: page_of(at),
         write,
+        big,
     };
     let pointer = match descend(ram, entry_place(root, TABLE_BYTES, at >> 25)) {
         Ok(pointer) => pointer,
@@ -197,10 +248,5 @@ pub fn search<R: Ram>(ram: &mut R, root: u32, space: Space, at: u32, write: bool
         Err(found) => return found,
     };
     let protected = TableDescriptor::of(pointer).protected || TableDescriptor::of(leaf).protected;
-    end(
-        ram,
-        entry_place(leaf, PAGE_TABLE_BYTES, page_of(at) & 0x3F),
-        sought,
-        protected,
-    )
+    end(ram, page_place(leaf, sought.page, big), sought, protected)
 }

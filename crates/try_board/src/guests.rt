@@ -5,6 +5,7 @@ ghost use Rattle.std.specs.Prelude.{◌≡◌, ◌<◌, ◌^◌, length, IfSome}
 ghost use Rattle.vm_machine.specs.Seats.{IsSeated};
 ghost use Rattle.vm_guest.specs.Turns.{IsGoing};
 
+mod big_pages;
 mod timed;
 
 use crate::images::{SIZE, image_of};

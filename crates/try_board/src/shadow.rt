@@ -192,7 +192,14 @@ fn a_search_finds_the_entries(rt: HostRuntime) {
     }
     for (space, page, frame, writable) in entries {
         assert!(rt; page < 0x10_0000);
-        let kept = match search(&mut ram, shadow.root(space), User, PAGE_SIZE * page, true) {
+        let kept = match search(
+            &mut ram,
+            shadow.root(space),
+            User,
+            PAGE_SIZE * page,
+            true,
+            false,
+        ) {
             Found::Entry(kept, _) => Some(kept),
             _ => None,
         };
@@ -207,5 +214,14 @@ fn a_search_finds_the_entries(rt: HostRuntime) {
         };
         assert!(rt; kept == Some(wanted));
     }
-    assert!(rt; search(&mut ram, shadow.root(Super), Super, 0x204_3000, false) == Found::Invalid);
+    assert!(rt;
+        search(
+            &mut ram,
+            shadow.root(Super),
+            Super,
+            0x204_3000,
+            false,
+            false
+        ) == Found::Invalid
+    );
 }

@@ -88,10 +88,10 @@ fn entry(space: Space, flags: [bool; 4], status: u32) -> Found {
 #[test]
 fn a_root_that_is_its_own_table(rt: HostRuntime) {
     let mut bytes = memory(rt.alloc(), &[(0x8000, 0x0000_8002)]).expect(&rt, "memory");
-    assert!(rt; search(&mut bytes, 0x8000, Super, 0, false) == Found::Invalid);
+    assert!(rt; search(&mut bytes, 0x8000, Super, 0, false, false) == Found::Invalid);
     let wanted = memory(rt.alloc(), &[(0x8000, 0x0000_800A)]).expect(&rt, "memory");
     assert!(rt; bytes.memory == wanted.memory);
-    assert!(rt; search(&mut bytes, 0x10_0000, Super, 0, false) == Found::BusError);
+    assert!(rt; search(&mut bytes, 0x10_0000, Super, 0, false, false) == Found::BusError);
 }
 
 #[test]
@@ -145,7 +145,38 @@ fn walks_by_hand(rt: HostRuntime) {
         set(&mut after, longs);
         set(&mut after, &[(0x8004, 0x0000_820A), (0x8204, 0x0000_840B)]);
         set(&mut after, left);
-        assert!(rt; search(&mut bytes, 0x8000, space, AT, write) == wanted);
+        assert!(rt; search(&mut bytes, 0x8000, space, AT, write, false) == wanted);
+        assert!(rt; bytes.memory == after.memory, "after {wanted:?}");
+    }
+}
+
+#[test]
+#[rattlefmt::skip]
+fn walks_through_pages_of_8_kib(rt: HostRuntime) {
+    // An address, whether pages have 8 KiB, the page's descriptor, the page, its frame and MMUSR, where one is found,
+    // and the descriptor afterwards.
+    let walks: [(u32, bool, u32, Option<(u32, u32, u32)>, u32); 5] = [
+        (0x3456, true, 0x0000_A001, Some((3, 0xB, 0x0000_A001)), 0x0000_A009),
+        (0x2456, true, 0x0000_A001, Some((2, 0xA, 0x0000_A001)), 0x0000_A009),
+        // bit 12 of the descriptor is none of the frame's, and MMUSR's is 0
+        (0x2FFC, true, 0x0000_B001, Some((2, 0xA, 0x0000_A001)), 0x0000_B009),
+        (0x3456, false, 0x0000_A001, None, 0x0000_A001),
+        (0x1456, false, 0x0000_A001, Some((1, 0xA, 0x0000_A001)), 0x0000_A009),
+    ];
+    for (at, big, long, found, left) in walks {
+        let tables = [(0x8000, 0x0000_8202), (0x8200, 0x0000_8402)];
+        let mut bytes = memory(rt.alloc(), &tables).expect(&rt, "memory");
+        set(&mut bytes, &[(0x8404, long)]);
+        let after = [(0x8000, 0x0000_820A), (0x8200, 0x0000_840A), (0x8404, left)];
+        let after = memory(rt.alloc(), &after).expect(&rt, "memory");
+        let wanted = match found {
+            Some((page, frame, status)) => {
+                let kept = Kept { space: Super, page, frame, w: false, s: false, g: false, m: false };
+                Found::Entry(kept, status)
+            }
+            None => Found::Invalid,
+        };
+        assert!(rt; search(&mut bytes, 0x8000, Super, at, false, big) == wanted);
         assert!(rt; bytes.memory == after.memory, "after {wanted:?}");
     }
 }

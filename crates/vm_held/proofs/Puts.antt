@@ -9,14 +9,14 @@ use Rattle.mb_model.specs.declared.kept.Kept.{Kept}
 use Rattle.mb_model.specs.Keeping.{KeptLists, rule_k, same_space, filled_in, list_of}
 use Rattle.mb_walk.specs.declared.found.Found.{Found}
 use Rattle.mb_walk.specs.declared.found.Found.TheVariants.{Entry, Invalid, BusError}
-use Rattle.mb_walk.specs.Search.{search_of, OnEntry}
+use Rattle.mb_walk.specs.Search.{OnEntry}
 use Rattle.mb_walk.proofs.Again.{searches_mark}
 use Rattle.mb_machine.specs.declared.reference.Reference.{Reference}
 use Rattle.mb_machine.specs.declared.reference.Settled.{Settled}
 use Rattle.mb_machine.specs.declared.reference.Settled.TheVariants.{To, Refused, Unsettled}
 use Rattle.mb_machine.specs.World.{World}
-use Rattle.mb_model.specs.Pages.{page_of}
-use Rattle.mb_machine.specs.Access.{untranslated, settled, root_of, by_found, searched, by_settled}
+use Rattle.mb_model.specs.Pages.{page_of, has_big_pages}
+use Rattle.mb_machine.specs.Access.{untranslated, settled, root_of, search_for, by_found, searched, by_settled}
 use Rattle.mb_model.proofs.ApartLemmas.{both, same_space-is}
 use Rattle.mb_walk.proofs.Named.{search_names}
 use Rattle.mb_model.proofs.Found.{filled_same}
@@ -135,9 +135,10 @@ by_search_fine : (size : ℕ) (g : Guest) (r : Reference) → IsReference r → 
     → Whole size r g Unsettled (searched rule_k g.world r)
 unfolding searched
 by_search_fine size g r is fine n =
-    let s = search_of g.world.ram (root_of g.world.mmu r.space) r.space (page_of r.at) r.write in
-    let names = search_names r.space (page_of r.at) g.world.ram (root_of g.world.mmu r.space) r.write in
-    let only = searches_mark g.world.ram (root_of g.world.mmu r.space) r.space (page_of r.at) r.write fine.sound.bytes in
+    let s = search_for g.world r in
+    let big = has_big_pages g.world.mmu in
+    let names = search_names r.space (page_of r.at) g.world.ram (root_of g.world.mmu r.space) r.write big in
+    let only = searches_mark g.world.ram (root_of g.world.mmu r.space) r.space (page_of r.at) r.write big fine.sound.bytes in
     putting_fine size (after_found g r s.ram s.found) r ((by_found rule_k (record g.world { ram = s.ram }) r s.found).0)
     (found_fine size g r s.ram s.found is fine n names only.size only.bytes) (searched_carried size g r s.ram s.found fine n names)
 
@@ -160,8 +161,9 @@ access_carried size g r fine (To q) e p h =
     (sym (settled_at g.world.mmu g.world.kept r (untranslated g.world.mmu r) (entry_at_page g.world.kept r.space (page_of r.at)) refl refl) ∙ e))
 access_carried size g r fine Refused e p h = absurd (let z : None ≡ Some p = h in let y : ⊥ = cc in y)
 access_carried size g r fine Unsettled e p h =
-    let s = search_of g.world.ram (root_of g.world.mmu r.space) r.space (page_of r.at) r.write in
-    searched_carried size g r s.ram s.found fine e (search_names r.space (page_of r.at) g.world.ram (root_of g.world.mmu r.space) r.write) p h
+    let s = search_for g.world r in
+    let names = search_names r.space (page_of r.at) g.world.ram (root_of g.world.mmu r.space) r.write (has_big_pages g.world.mmu) in
+    searched_carried size g r s.ram s.found fine e names p h
 
 pub accesses_keep_truth : AccessesKeepTruth
 accesses_keep_truth size r g is fine =

@@ -39,13 +39,12 @@ use Rattle.mb_model.specs.declared.kept.Kept.{Kept}
 use Rattle.mb_model.proofs.ApartLemmas.{both}
 use Rattle.mb_walk.specs.declared.found.Found.{Found as Sought}
 use Rattle.mb_walk.specs.declared.found.Found.TheVariants.{Entry, Invalid, BusError}
-use Rattle.mb_walk.specs.Search.{search_of}
 use Rattle.mb_machine.specs.declared.reference.Reference.{Reference}
 use Rattle.mb_machine.specs.declared.reference.Settled.{Settled}
 use Rattle.mb_machine.specs.declared.reference.Settled.TheVariants.{To, Refused, Unsettled}
 use Rattle.mb_machine.specs.World.{World}
 use Rattle.mb_machine.specs.Places.{taken, taken_line}
-use Rattle.mb_machine.specs.Access.{root_of, settled, by_found, searched, by_settled, translated}
+use Rattle.mb_machine.specs.Access.{search_for, settled, by_found, searched, by_settled, translated}
 use Rattle.mb_machine.specs.Bus.{bus_of, fetching, reading, writing, reference_of, fault_of, read_at}
 use Rattle.vm_shadow.specs.Shadows.{Shadowed, is_at, nothing, room_for, filled}
 use Rattle.vm_shadow.specs.Slots.{is_full_for}
@@ -168,7 +167,7 @@ unfolding searched
 settled_only w r (To at) = refl
 settled_only w r Refused = refl
 settled_only w r Unsettled =
-    let s = search_of w.ram (root_of w.mmu r.space) r.space (page_of r.at) r.write in found_only w r s.ram s.found
+    let s = search_for w r in found_only w r s.ram s.found
 
 access_only : (w : World) (r : Reference) → OnlyKept w (translated rule_k r w).1
 access_only w r = subst (λ (t : Option ℕ × World). OnlyKept w t.1) (sym (translated_by rule_k w r (settled rule_k w.mmu w.kept r) refl))

@@ -1,7 +1,7 @@
 -- Each call of the guest keeps its shadow truthful.
 use Rattle.std.proofs.Common.{length, subst, sym, ◌≡◌, ℕ, ◌^◌, ◌<◌, Bool, true, false, [], ◌∷◌, refl, ap, ◌∙◌, Option, Some, None}
 use Rattle.mb_port.specs.Routine.{Call, Fetch, Read, Write, ReadLine, WriteLine, Probe, Get, Put, ReadMmu, FlushKept, Test, ResetDevices, SetMmu}
-use Rattle.mb_model.specs.Keeping.{list_of, Apart, KeptLists, rule_k, flushed}
+use Rattle.mb_model.specs.Keeping.{list_of, Apart, KeptLists, rule_k, flushed, dropped}
 use Rattle.mb_walk.specs.Memory.{AreBytes}
 use Rattle.mb_machine.specs.World.{World, HasBytes}
 use Rattle.mb_machine.specs.Access.{translated, matched, or_off, untranslated, by_match, settled, root_of}
@@ -16,11 +16,10 @@ use Rattle.mb_port.specs.declared.types.MmuReg.{MmuReg}
 use Rattle.mb_port.specs.declared.types.MmuReg.TheVariants.{Tc, Itt0, Itt1, Dtt0, Dtt1, Mmusr, Urp, Srp}
 use Rattle.mb_port.specs.declared.types.Flush.TheVariants.{All, Page}
 use Rattle.mb_walk.proofs.Again.{searches_mark}
-use Rattle.mb_walk.specs.Search.{search_of}
 use Rattle.mb_machine.specs.declared.reference.Reference.{Reference}
-use Rattle.mb_model.specs.Pages.{page_of}
+use Rattle.mb_model.specs.Pages.{page_of, has_big_pages, other_half}
 use Rattle.vm_shadow.specs.Shadows.{Shadowed, nothing}
-use Rattle.vm_machine.specs.Bus.{accessed, after_flush, after_test, shadow_after}
+use Rattle.vm_machine.specs.Bus.{accessed, after_flush, after_drop, after_test, shadow_after}
 use Rattle.vm_held.specs.Truth.{CallsKeepTruth, Fine}
 use Rattle.vm_held.proofs.Puts.{accesses_keep_truth}
 use Rattle.vm_held.proofs.Flushes.{flush_truthful, IsOneList, flushed_kept, dropped_truthful, nothing_truthful}
@@ -96,19 +95,6 @@ register_fine size g Mmusr value fine = unseen size g _ fine
 register_fine size g Urp value fine = forgotten size g _ fine
 register_fine size g Srp value fine = forgotten size g _ fine
 
-test_fine : (size : ℕ) (g : Guest) (space : Space) (page : ℕ) (write : Bool) (o : Option Bool) → Fine size g
-    → Fine size (record { world = (tested_by g.world space page write o).1; shadow = after_test o space page g.world.kept g.shadow })
-test_fine size g space page write (Some protected) fine = fine
-test_fine size g space page write None fine =
-    let s = search_of g.world.ram (root_of g.world.mmu space) space page write in
-    let only = searches_mark g.world.ram (root_of g.world.mmu space) space page write fine.sound.bytes in
-    let k = flushed_kept (Page space page) g.world.kept (kept_of size g fine) in
-    record {
-      sound = record { truthful = dropped_truthful size (Page space page) g s.ram fine; count = only.size ∙ fine.sound.count; bytes = only.bytes };
-      one = k.one;
-      apart = k.apart;
-    }
-
 -- ---- what stands behind an access
 
 -- Memory and devices may differ, as far as memory has as many bytes.
@@ -176,10 +162,9 @@ set_fine : (size : ℕ) (g : Guest) (which : MmuReg) (value : ℕ) → Fine size
 unfolding bus_of
 set_fine size g which value fine = register_fine size g which value fine
 
-flushed_fine : (size : ℕ) (g : Guest) (what : Flush) → Fine size g
-    → Fine size (record { world = (bus_of rule_k (FlushKept what) g.world).1; shadow = after_flush what g.world.kept g.shadow })
-unfolding bus_of
-flushed_fine size g what fine =
+flush_fine : (size : ℕ) (g : Guest) (what : Flush) → Fine size g
+    → Fine size (record { world = record g.world { kept = flushed what g.world.kept }; shadow = after_flush what g.world.kept g.shadow })
+flush_fine size g what fine =
     let k = flushed_kept what g.world.kept (kept_of size g fine) in
     record {
       sound = record { truthful = flush_truthful size what g fine; count = fine.sound.count; bytes = fine.sound.bytes };
@@ -187,10 +172,40 @@ flushed_fine size g what fine =
       apart = k.apart;
     }
 
+flushed_fine : (size : ℕ) (g : Guest) (what : Flush) → Fine size g
+    → Fine size (record { world = (bus_of rule_k (FlushKept what) g.world).1; shadow = after_flush what g.world.kept g.shadow })
+unfolding bus_of
+flushed_fine size g what fine = flush_fine size g what fine
+
+-- PTEST drops a page, or both halves of one
+drop_fine : (size : ℕ) (g : Guest) (big : Bool) (space : Space) (page : ℕ) → Fine size g → Fine size (record {
+  world = record g.world { kept = dropped big space page g.world.kept };
+  shadow = after_drop big space page g.world.kept g.shadow;
+})
+drop_fine size g false space page fine = flush_fine size g (Page space page) fine
+drop_fine size g true space page fine =
+    let one : Guest = record {
+      world = record g.world { kept = flushed (Page space page) g.world.kept };
+      shadow = after_flush (Page space page) g.world.kept g.shadow;
+    } in
+    flush_fine size one (Page space (other_half page)) (flush_fine size g (Page space page) fine)
+
+test_fine : (size : ℕ) (g : Guest) (space : Space) (page : ℕ) (write : Bool) (o : Option Bool) → Fine size g → Fine size (record {
+  world = (tested_by g.world space page write o).1;
+  shadow = after_test (has_big_pages g.world.mmu) o space page g.world.kept g.shadow;
+})
+test_fine size g space page write (Some protected) fine = fine
+test_fine size g space page write None fine =
+    let big = has_big_pages g.world.mmu in
+    let only = searches_mark g.world.ram (root_of g.world.mmu space) space page write big fine.sound.bytes in
+    let without : World = record g.world { kept = dropped big space page g.world.kept } in
+    fine_behind size without (tested_by g.world space page write None).1 (after_drop big space page g.world.kept g.shadow)
+    (drop_fine size g big space page fine) (record { mmu = refl; kept = refl }) (only.size ∙ fine.sound.count) only.bytes
+
 tested_fine : (size : ℕ) (g : Guest) (space : Space) (at : ℕ) (write : Bool) → Fine size g
     → Fine size (record {
       world = (bus_of rule_k (Test space at write) g.world).1;
-      shadow = after_test (matched false g.world.mmu space (page_of at)) space (page_of at) g.world.kept g.shadow;
+      shadow = after_test (has_big_pages g.world.mmu) (matched false g.world.mmu space (page_of at)) space (page_of at) g.world.kept g.shadow;
     })
 unfolding bus_of tested
 tested_fine size g space at write fine = test_fine size g space (page_of at) write (matched false g.world.mmu space (page_of at)) fine

@@ -13,7 +13,7 @@ ghost use Rattle.vm_meaning.specs.Finishes.{finish_trap_of, finish_writes_of, fi
 use mb_entry::{Cause, Entered, enter, line_fields, movem_fields, write_fields};
 use mb_frames::Pend;
 use mb_instr::Plain;
-use mb_model::{Cpu, PAGE_SIZE};
+use mb_model::{Cpu, page_size_by};
 use mb_port::Port;
 use mb_step::{StepEnd, access_error, unchecked};
 use mb_writes::{continue_movem, write_pieces};
@@ -58,7 +58,7 @@ pub fn finish_writes<P: Port>(pending: &[Pend], first: u32, cpu: &mut Cpu, port:
     match write_pieces(pending, first, cpu.space(), port) {
         Ok(()) => StepEnd::Went,
         Err(refused) => {
-            let fields = write_fields(&refused, PAGE_SIZE);
+            let fields = write_fields(&refused, page_size_by(&port.mmu()));
             access_error(cpu.regs.pc, fields, cpu, port).step_end()
         }
     }
@@ -79,7 +79,7 @@ pub fn finish_line<P: Port>(at: u32, line: [u32; 4], cpu: &mut Cpu, port: &mut P
     match port.write_line(cpu.space(), at, line) {
         Ok(()) => StepEnd::Went,
         Err(fault) => {
-            let fields = line_fields(&fault, line, PAGE_SIZE);
+            let fields = line_fields(&fault, line, page_size_by(&port.mmu()));
             access_error(cpu.regs.pc, fields, cpu, port).step_end()
         }
     }
@@ -114,7 +114,7 @@ pub fn finish_movem<P: Port>(
     match moved {
         Ok(()) => StepEnd::Went,
         Err(refused) => {
-            let fields = movem_fields(&refused, words, cpu.regs.pc, PAGE_SIZE);
+            let fields = movem_fields(&refused, words, cpu.regs.pc, page_size_by(&port.mmu()));
             access_error(at, fields, cpu, port).step_end()
         }
     }

@@ -1,22 +1,26 @@
 -- The board enters the exception of an end.
-use Rattle.std.proofs.Common.{◌≡◌, ℕ, ◌+◌, ◌-◌, ◌%◌, ◌≤◌, Bool, false, List, [], ◌∷◌, length, take, refl, ap, ◌∙◌, arith, Ok}
+use Rattle.std.proofs.Common.{◌≡◌, ℕ, ◌+◌, ◌-◌, ◌%◌, ◌≤◌, ◌&&◌, not, Bool, false, List, [], ◌∷◌, length, take, refl, ap, ◌∙◌, arith, Ok}
 use Rattle.mb_port.specs.Routine.{Return, run, either}
 use Rattle.mb_frames.specs.declared.frame.Access.{Access}
 use Rattle.mb_frames.specs.declared.pend.Pend.{Pend}
+use Rattle.mb_frames.specs.AccessFields.{read_fields, write_fields, line_fields, access_fields}
 use Rattle.mb_model.specs.declared.processor.Cpu.{Cpu}
 use Rattle.mb_model.specs.Keeping.{rule_a}
+use Rattle.mb_model.specs.Pages.{page_size, page_size_by, has_big_pages}
 use Rattle.mb_walk.proofs.MemoryLemmas.{length-overwritten}
 use Rattle.mb_walk.proofs.Parts.{drop-over}
 use Rattle.mb_writes.specs.declared.ends.WriteFault.{WriteFault}
 use Rattle.mb_writes.specs.declared.ends.Ended.TheVariants as ended
+use Rattle.mb_writes.specs.Transfers.{movem_in, refused_transfer}
 use Rattle.mb_meaning.specs.declared.entering.Cause.{Cause}
 use Rattle.mb_meaning.specs.declared.Finish.TheVariants as finish
 use Rattle.mb_meaning.specs.Entry.{Entrance, frames_of}
 use Rattle.mb_meaning.specs.Raise.{Stepped, Raised, traces_all, is_due, ends_step, access_cause, access_error_of, cause_at, raised, raise_of, tracing_of}
-use Rattle.mb_meaning.specs.Raise.{trap_of, refused_of}
-use Rattle.mb_meaning.specs.Step.{unread_of, unfinished_of, unbegun_of, unwritten_of, line_unwritten_of, untransferred_of, is_flow, finish_of}
+use Rattle.mb_meaning.specs.Raise.{trap_of, refused_of, with_ct}
+use Rattle.mb_meaning.specs.Step.{by_page_size, movem_words, unread_of, unfinished_of, unbegun_of, unwritten_of, line_unwritten_of, untransferred_of, is_flow, finish_of}
 use Rattle.mb_attempts.specs.Attempts.{IsUntraced}
 use Rattle.mb_machine.specs.World.{World}
+use Rattle.mb_machine.specs.Bus.{bus_of}
 use Rattle.mb_machine.specs.Enters.{IsOpen, HasRoom}
 use Rattle.mb_machine.proofs.Bytes.{bytes-overwritten}
 use Rattle.mb_machine.proofs.Enters.{enters_stacked, frames_are_bytes}
@@ -25,13 +29,23 @@ use Rattle.vm_mirror.specs.Laws.{board_bus}
 use Rattle.vm_mirror.proofs.Ready.{stays_ready}
 use Rattle.vm_leave.specs.Exits.{writing_exit, left, BoardLeaves, FramesLeaveReady}
 
-module _ (b : World) (o : IsOpen b.mmu) where
+module _ (b : World) (small : has_big_pages b.mmu ≡ false) (o : IsOpen b.mmu) where
   access_entered : (pc : ℕ) (access : Access) (cpu : Cpu) → HasRoom b (access_cause pc access) cpu
       → run board_bus (access_error_of pc access cpu) b ≡ left (record { cause = access_cause pc access; cpu = cpu }) b
   unfolding access_error_of
   access_entered pc access cpu room =
       ap (λ (q : Entrance × World). (let s : Stepped × World = ((ends_step q.0.0, q.0.1), q.1) in s))
       (enters_stacked rule_a b (access_cause pc access) cpu o room)
+
+  by_page : page_size_by b.mmu ≡ page_size
+  by_page = rw small refl
+
+  sized_entered : (pc : ℕ) (access : ℕ → Access) (cpu : Cpu) → HasRoom b (access_cause pc (access page_size)) cpu
+      → run board_bus (by_page_size (λ page. access_error_of pc (access page) cpu)) b
+      ≡ left (record { cause = access_cause pc (access page_size); cpu = cpu }) b
+  unfolding bus_of
+  sized_entered pc access cpu room =
+      ap (λ (page : ℕ). run board_bus (access_error_of pc (access page) cpu) b) by_page ∙ access_entered pc (access page_size) cpu room
 
   raise_entered : (is_trace : Bool) (c : Cause) (kept cpu : Cpu) → HasRoom b c cpu
       → let e = left (record { cause = c; cpu = cpu }) b in run board_bus (raise_of is_trace c kept cpu) b ≡ (Ok (e.0.1), e.1)
@@ -62,18 +76,26 @@ module _ (b : World) (o : IsOpen b.mmu) where
       HasRoom b e.cause e.cpu
       → run board_bus (unwritten_of due refused rest before after) b ≡ left e b
   unfolding unbegun_of unfinished_of
-  write_entered due refused [] before after room = access_entered _ _ before room
-  write_entered due refused (piece ∷ pieces) before after room = access_entered _ _ after room
+  write_entered due refused [] before after room =
+      sized_entered before.regs.pc (λ page. write_fields refused.fault refused.first [] page) before room
+  write_entered due refused (piece ∷ pieces) before after room =
+      sized_entered after.regs.pc (λ page. with_ct due (write_fields refused.fault refused.first refused.rest.items page)) after room
 
 pub board_leaves : BoardLeaves
 unfolding finish_of unread_of line_unwritten_of untransferred_of
-board_leaves b i (ended.Done flow) before after plain end o room = absurd end
-board_leaves b i (ended.Trap vector) before after plain end o room = trap_entered b o vector before after plain room
-board_leaves b i (ended.Refused vector) before after plain end o room = refused_entered b o vector before room
-board_leaves b i (ended.ReadFault f) before after plain end o room = access_entered b o _ _ before room
-board_leaves b i (ended.WriteFault f) before after plain end o room = write_entered b o (is_due before.regs.sr (is_flow i)) f f.rest.items before after room
-board_leaves b i (ended.LineFault fault line) before after plain end o room = access_entered b o _ _ after room
-board_leaves b i (ended.Movem f) before after plain end o room = access_entered b o _ _ after room
+board_leaves b i (ended.Done flow) before after plain end small o room = absurd end
+board_leaves b i (ended.Trap vector) before after plain end small o room = trap_entered b small o vector before after plain room
+board_leaves b i (ended.Refused vector) before after plain end small o room = refused_entered b small o vector before room
+board_leaves b i (ended.ReadFault f) before after plain end small o room =
+    sized_entered b small o before.regs.pc (λ page. read_fields f.fault f.first page) before room
+board_leaves b i (ended.WriteFault f) before after plain end small o room =
+    write_entered b small o (is_due before.regs.sr (is_flow i)) f f.rest.items before after room
+board_leaves b i (ended.LineFault fault line) before after plain end small o room =
+    sized_entered b small o after.regs.pc (λ page. with_ct (traces_all before.regs.sr) (line_fields fault line page)) after room
+board_leaves b i (ended.Movem f) before after plain end small o room =
+    let words = movem_words i in
+    sized_entered b small o before.regs.pc (λ page.
+    with_ct (traces_all before.regs.sr && not (movem_in words).is_load) (access_fields (refused_transfer f words after.regs.pc) page)) after room
 
 pub frames_leave_ready : FramesLeaveReady
 frames_leave_ready x b g e r room below =

@@ -244,6 +244,6 @@ steps_leave x level board guest b g i m r masked other is_end =
       stays = law.1;
       by = λ opened room.
           native x board guest b g m r level i masked other ∙ finished_there x board guest b g m r i end
-          ∙ board_leaves there.1 i end board (with_registers (closed held.0).1 board) m.board_untraced (same_is_end x end (closed held.0).0 same is_end) opened
-          room;
+          ∙ board_leaves there.1 i end board (with_registers (closed held.0).1 board) m.board_untraced (same_is_end x end (closed held.0).0 same is_end)
+          law.1.related.small opened room;
     }

@@ -1,11 +1,11 @@
 -- How a board leaves a guest: the exception that the end of an instruction causes, and what its entry leaves.
-use Rattle.std.specs.Prelude.{◌≡◌, ◌+◌, ◌-◌, ◌%◌, ◌≤◌, ◌&&◌, not, length, Bool, List, [], ◌∷◌}
+use Rattle.std.specs.Prelude.{◌≡◌, ◌+◌, ◌-◌, ◌%◌, ◌≤◌, ◌&&◌, not, length, Bool, false, List, [], ◌∷◌}
 use Rattle.mb_port.specs.Routine.{run}
 use Rattle.mb_instr.specs.declared.instruction.Instr.{Instr}
 use Rattle.mb_frames.specs.declared.pend.Pend.{Pend}
 use Rattle.mb_frames.specs.AccessFields.{read_fields, write_fields, line_fields, access_fields}
 use Rattle.mb_model.specs.declared.processor.Cpu.{Cpu}
-use Rattle.mb_model.specs.Pages.{page_size}
+use Rattle.mb_model.specs.Pages.{page_size, has_big_pages}
 use Rattle.mb_writes.specs.declared.ends.WriteFault.{WriteFault}
 use Rattle.mb_writes.specs.declared.ends.Ended.{Ended}
 use Rattle.mb_writes.specs.declared.ends.Ended.TheVariants as ended
@@ -80,11 +80,11 @@ abbrev pub IsEnd : Ended → Type 0
 IsEnd (ended.Done flow) = ⊥
 IsEnd _ = Unit {0}
 
--- The board's finish of an instruction that was not carried out enters one exception: its frame is written, and nothing
--- else of the board changes.
+-- The board's finish of an instruction that was not carried out enters one exception: its frame is written, by pages of
+-- 4 KiB, and nothing else of the board changes.
 abbrev pub BoardLeaves : Type 0
-BoardLeaves = (b : World) (i : Instr) (end : Ended) (before after : Cpu) → IsUntraced before → IsEnd end → IsOpen b.mmu
-    → let e = exit_of i end before after in HasRoom b e.cause e.cpu
+BoardLeaves = (b : World) (i : Instr) (end : Ended) (before after : Cpu) → IsUntraced before → IsEnd end
+    → has_big_pages b.mmu ≡ false → IsOpen b.mmu → let e = exit_of i end before after in HasRoom b e.cause e.cpu
     → run board_bus (finish_of i end before after) b ≡ left e b
 
 -- the frame of an exit lies below the guest

@@ -1,6 +1,6 @@
 -- In user mode an exception is entered exactly where the attempt is not carried out.
 use Rattle.std.proofs.Common.{◌≡◌, ◌∙◌, ℕ, Bool, true, false, not, List, [], ◌∷◌, Ok, Err, refl, ap}
-use Rattle.mb_port.specs.Routine.{Bus, Return, run, either}
+use Rattle.mb_port.specs.Routine.{Bus, Return, ReadMmu, run, either}
 use Rattle.mb_instr.specs.declared.instruction.Instr.{Instr}
 use Rattle.mb_instr.specs.declared.instruction.Instr.TheVariants as instr
 use Rattle.mb_instr.specs.declared.instruction.Flow.TheVariants as flow
@@ -78,8 +78,8 @@ trap_ends bus vector before cpu s h =
 unwritten_ends : {S : Type 0} (bus : Bus S) (due : Bool) (refused : WriteFault) (items : List Pend) (before cpu : Cpu) (s : S)
     → is_going (run bus (unwritten_of due refused items before cpu) s).0.0 ≡ false
 unfolding unbegun_of unfinished_of
-unwritten_ends bus due refused [] before cpu s = error_ends bus before.regs.pc _ before s
-unwritten_ends bus due refused (piece ∷ pieces) before cpu s = error_ends bus cpu.regs.pc _ cpu s
+unwritten_ends bus due refused [] before cpu s = error_ends bus before.regs.pc _ before (bus ReadMmu s).1
+unwritten_ends bus due refused (piece ∷ pieces) before cpu s = error_ends bus cpu.regs.pc _ cpu (bus ReadMmu s).1
 
 -- ---- the finish of an instruction
 
@@ -93,11 +93,11 @@ finish_tells bus i (ended.Done flow) before cpu s h =
     ap (λ (due : Bool). is_going (run bus (tracing_of finish.Went due before.regs.pc cpu) s).0.0) (none_due before flow h)
 finish_tells bus i (ended.Trap vector) before cpu s h = trap_ends bus vector before cpu s h
 finish_tells bus i (ended.Refused vector) before cpu s h = refused_ends bus vector before s
-finish_tells bus i (ended.ReadFault refused) before cpu s h = error_ends bus before.regs.pc _ before s
+finish_tells bus i (ended.ReadFault refused) before cpu s h = error_ends bus before.regs.pc _ before (bus ReadMmu s).1
 finish_tells bus i (ended.WriteFault refused) before cpu s h =
     unwritten_ends bus (is_due before.regs.sr (is_flow i)) refused refused.rest.items before cpu s
-finish_tells bus i (ended.LineFault fault line) before cpu s h = error_ends bus cpu.regs.pc _ cpu s
-finish_tells bus i (ended.Movem refused) before cpu s h = error_ends bus before.regs.pc _ cpu s
+finish_tells bus i (ended.LineFault fault line) before cpu s h = error_ends bus cpu.regs.pc _ cpu (bus ReadMmu s).1
+finish_tells bus i (ended.Movem refused) before cpu s h = error_ends bus before.regs.pc _ cpu (bus ReadMmu s).1
 
 finished_tells : {S : Type 0} (bus : Bus S) (i : Instr) (cpu : Cpu) (q : Performed × S) → IsUntraced cpu
     → is_going (finished_by bus i cpu q).0.0 ≡ not (is_exit (class_by q.0))

@@ -1,7 +1,7 @@
 -- A step that was left in the middle goes on as its finish.
 use Rattle.std.proofs.Common.{◌≡◌, ◌∙◌, ℕ, ◌-◌, ◌+◌, ◌/◌, ◌%◌, ◌^◌, ◌==◌, List, [], ◌∷◌, Result, Ok, Err, refl, ap, sym, Bool, false, arith}
 use Rattle.std.specs.Prelude.{if◌then◌else◌, not, ◌&&◌}
-use Rattle.mb_port.specs.Routine.{Bus, Routine, Return, Then, Write, WriteLine, run, either, caught, tried, other_fault, write_line}
+use Rattle.mb_port.specs.Routine.{Bus, Routine, Return, Then, ReadMmu, Write, WriteLine, run, either, caught, tried, other_fault, write_line}
 use Rattle.mb_port.specs.declared.types.Space.{Space}
 use Rattle.mb_port.specs.declared.types.Space.TheVariants.{User, Super}
 use Rattle.mb_port.specs.declared.types.Fault.{Fault}
@@ -12,7 +12,7 @@ use Rattle.mb_frames.specs.declared.pend.Pend.{Pend}
 use Rattle.mb_frames.specs.AccessFields.{piece_of, access_fields}
 use Rattle.mb_model.specs.declared.processor.Cpu.{Cpu}
 use Rattle.mb_model.specs.Status.{space_of}
-use Rattle.mb_model.specs.Pages.{page_size}
+use Rattle.mb_model.specs.Pages.{page_size_by}
 use Rattle.mb_writes.specs.declared.ends.WriteFault.{WriteFault}
 use Rattle.mb_writes.specs.declared.ends.Ended.TheVariants as ended
 use Rattle.mb_writes.specs.Transfers.{movem_in, refused_transfer}
@@ -176,8 +176,10 @@ moved_finish bus i before now h on (Err half) t =
     let words = movem_words i in
     ap (λ (due : Bool). run bus (untransferred_of due half.fault words before (with_registers half.plain before)) t) h.all
     ∙ ap (λ (c : Cpu). run bus (untransferred_of false half.fault words before c) t) (sym (on.others half.plain))
-    ∙ ap (λ (at : ℕ). run bus (access_error_of at (with_ct (false && not (movem_in words).is_load)
-    (access_fields (refused_transfer half.fault words (with_registers half.plain now).regs.pc) page_size)) (with_registers half.plain now)) t) (sym on.pc)
+    ∙ (let page = page_size_by (bus ReadMmu t).0 in
+    ap (λ (at : ℕ). run bus (access_error_of at (with_ct (false && not (movem_in words).is_load)
+    (access_fields (refused_transfer half.fault words (with_registers half.plain now).regs.pc) page)) (with_registers half.plain now)) (bus ReadMmu t).1)
+    (sym on.pc))
 
 pub movems_are_finished : {S : Type 0} (bus : Bus S) (i : Instr) (before now : Cpu) (ea done next : ℕ) (s : S) → IsUntraced before → HandsOn before now
     → finished_by bus i before (run bus (moving (movem_in (movem_words i)) ea done (space_of before) (at_next next now)) s)

@@ -7,16 +7,15 @@ use Rattle.mb_port.specs.declared.types.Mmu.{Mmu}
 use Rattle.mb_port.specs.declared.types.Flush.{Flush}
 use Rattle.mb_port.specs.declared.types.Flush.TheVariants.{All, Page}
 use Rattle.mb_model.specs.declared.kept.Kept.{Kept}
-use Rattle.mb_model.specs.Keeping.{KeptLists, rule_k, covers, displaced, list_of}
-use Rattle.mb_model.specs.Pages.{page_size, page_of}
+use Rattle.mb_model.specs.Keeping.{KeptLists, rule_k, covers, displaced, flushed, list_of}
+use Rattle.mb_model.specs.Pages.{page_size, page_of, has_big_pages, other_half}
 use Rattle.mb_walk.specs.declared.found.Found.{Found}
 use Rattle.mb_walk.specs.declared.found.Found.TheVariants.{Entry, Invalid, BusError}
-use Rattle.mb_walk.specs.Search.{search_of}
 use Rattle.mb_machine.specs.declared.reference.Reference.{Reference}
 use Rattle.mb_machine.specs.declared.reference.Settled.{Settled}
 use Rattle.mb_machine.specs.declared.reference.Settled.TheVariants.{To, Refused, Unsettled}
 use Rattle.mb_machine.specs.World.{World}
-use Rattle.mb_machine.specs.Access.{matched, root_of, settled, translated}
+use Rattle.mb_machine.specs.Access.{matched, search_for, settled, translated}
 use Rattle.mb_machine.specs.Bus.{bus_of, reference_of, writing}
 use Rattle.vm_shadow.specs.Shadows.{Shadowed, nothing, filled, dropped}
 use Rattle.vm_machine.specs.Guests.{Guest, allows}
@@ -34,7 +33,7 @@ abbrev pub gone_settled : World → Reference → Settled → Option Kept
 gone_settled w r (To at) = None
 gone_settled w r Refused = None
 gone_settled w r Unsettled =
-    gone_found w (search_of w.ram (root_of w.mmu r.space) r.space (page_of r.at) r.write).found
+    gone_found w (search_for w r).found
 
 -- the kept entry that goes at an access
 abbrev pub gone : World → Reference → Option Kept
@@ -56,10 +55,17 @@ abbrev pub after_flush : Flush → KeptLists → Shadowed → Shadowed
 after_flush All kept shadow = nothing
 after_flush what kept shadow = dropped_all what (list_of 0 kept) shadow
 
--- PTEST drops the kept entries of its page, where no transparent register matches.
-abbrev pub after_test : Option Bool → Space → ℕ → KeptLists → Shadowed → Shadowed
-after_test (Some protected) space page kept shadow = shadow
-after_test None space page kept shadow = dropped_all (Page space page) (list_of 0 kept) shadow
+-- PTEST drops the kept entries of its page, and of the other half of it where pages have 8 KiB,
+abbrev pub after_drop : Bool → Space → ℕ → KeptLists → Shadowed → Shadowed
+after_drop false space page kept shadow = after_flush (Page space page) kept shadow
+after_drop true space page kept shadow =
+    after_flush (Page space (other_half page)) (flushed (Page space page) kept)
+    (after_flush (Page space page) kept shadow)
+
+-- where no transparent register matches.
+abbrev pub after_test : Bool → Option Bool → Space → ℕ → KeptLists → Shadowed → Shadowed
+after_test big (Some protected) space page kept shadow = shadow
+after_test big None space page kept shadow = after_drop big space page kept shadow
 
 -- ---- Put: the shadow gains the entry of an access
 
@@ -116,7 +122,8 @@ unfoldable pub shadow_after : Call → World → Shadowed → Shadowed
 shadow_after (SetMmu which value) w shadow = if rule_k.forgets which then nothing else shadow
 shadow_after (FlushKept what) w shadow = after_flush what w.kept shadow
 shadow_after (Test space at write) w shadow =
-    after_test (matched false w.mmu space (page_of at)) space (page_of at) w.kept shadow
+    let page = page_of at in
+    after_test (has_big_pages w.mmu) (matched false w.mmu space page) space page w.kept shadow
 shadow_after c w shadow = shadow_by (reference_of c) w shadow
 
 -- The bus of a guest: what it answers, and what it makes of the world, is its machine's by the rule of guests.

@@ -6,12 +6,10 @@ use Rattle.mb_port.specs.declared.types.Space.{Space}
 use Rattle.mb_port.specs.declared.types.Place.{Place}
 use Rattle.mb_port.specs.declared.types.Mmu.{Mmu}
 use Rattle.mb_port.specs.declared.types.MmuReg.{MmuReg}
-use Rattle.mb_port.specs.declared.types.Flush.TheVariants.{Page}
 use Rattle.mb_model.specs.declared.kept.Kept.{Kept}
 use Rattle.mb_model.specs.Keeping.{Rule, KeptLists, entry_for, filled, list_of, is_of}
 use Rattle.mb_walk.specs.declared.found.Found.{Found}
 use Rattle.mb_walk.specs.declared.found.Found.TheVariants.{Entry, Invalid, BusError}
-use Rattle.mb_walk.specs.Search.{search_of}
 use Rattle.mb_laws.specs.Relations.{MayFollow}
 use Rattle.mb_laws.specs.Refusal.{any_call}
 use Rattle.mb_machine.specs.declared.reference.Reference.{Reference}
@@ -19,13 +17,13 @@ use Rattle.mb_machine.specs.declared.reference.Settled.{Settled}
 use Rattle.mb_machine.specs.declared.reference.Settled.TheVariants.{To, Refused, Unsettled}
 use Rattle.mb_machine.specs.World.{World}
 use Rattle.mb_machine.specs.Places.{taken, stored, checked, taken_line, stored_line}
-use Rattle.mb_model.specs.Pages.{page_of}
-use Rattle.mb_machine.specs.Access.{matched, root_of, settled, by_match, by_entry, untranslated, searched, translated, by_settled, by_found}
+use Rattle.mb_model.specs.Pages.{page_of, has_big_pages}
+use Rattle.mb_machine.specs.Access.{matched, search_for, settled, by_match, by_entry, untranslated, searched, translated, by_settled, by_found}
 use Rattle.mb_machine.specs.Bus.{bus_of, reading, writing, fetching, read_at, read_by, written_at, written_by, tested, tested_by, with_register}
 use Rattle.vm_meaning.specs.Free.{IsKept, StandIn, rule_free, holding, FreeCall, WorldWithin}
 use Rattle.vm_meaning.proofs.Blind.{IsBlind, IsBlindStore, taken-blind, taken_line-blind, checked-blind, stored-blind, stored_line-blind}
 use Rattle.vm_meaning.proofs.Blind.{read-blind, write-blind, get-blind, put-blind, blind-kept}
-use Rattle.vm_meaning.proofs.KeptLemmas.{kept-behind, flushed-follows, movec-adds_none, filled-is, filled-first, filled-behind, found-again, found-is_kept}
+use Rattle.vm_meaning.proofs.KeptLemmas.{kept-behind, flushed-follows, dropped-follows, movec-adds_none, filled-is, filled-first, filled-behind, found-again, found-is_kept}
 
 -- the same answer, in a world that keeps more
 record Met {A : Type 0} (x y : A × World) : Type 0 where
@@ -69,7 +67,7 @@ searched_met : (rule : Rule) (w : World) (xs : List Kept) (held : KeptLists) (r 
     → Met (searched rule w r) (searched rule_free (record w { kept = xs ∷ held }) r)
 unfolding searched
 searched_met rule w xs held r stand =
-    let s = search_of w.ram (root_of w.mmu r.space) r.space (page_of r.at) r.write in
+    let s = search_for w r in
     found_met rule (record w { ram = s.ram }) xs held r s.found stand
 
 settled_met : (rule : Rule) (w : World) (xs : List Kept) (held : KeptLists) (r : Reference) (s : Settled) → StandIn w.kept held
@@ -137,7 +135,7 @@ tested_by_met w held space page write None stand = record {
   answer = refl;
   world = record {
     same = refl;
-    kept = flushed-follows (Page space page) w.kept ([] ∷ held) (λ k h. kept-behind [] held k (stand k h));
+    kept = dropped-follows (has_big_pages w.mmu) space page w.kept ([] ∷ held) (λ k h. kept-behind [] held k (stand k h));
   };
 }
 

@@ -5,15 +5,13 @@ use Rattle.mb_port.specs.Routine.{Fetch, Read, Write, ReadLine, WriteLine, Probe
 use Rattle.mb_port.specs.declared.types.Place.{Place}
 use Rattle.mb_model.specs.declared.kept.Kept.{Kept}
 use Rattle.mb_model.specs.Keeping.{KeptLists}
-use Rattle.mb_model.specs.Pages.{page_of}
 use Rattle.mb_walk.specs.declared.found.Found.{Found}
 use Rattle.mb_walk.specs.declared.found.Found.TheVariants.{Entry}
-use Rattle.mb_walk.specs.Search.{search_of}
 use Rattle.mb_machine.specs.declared.reference.Reference.{Reference}
 use Rattle.mb_machine.specs.declared.reference.Settled.{Settled}
 use Rattle.mb_machine.specs.World.{World}
 use Rattle.mb_machine.specs.Places.{taken, stored, checked, taken_line, stored_line}
-use Rattle.mb_machine.specs.Access.{root_of, searched, translated, by_settled, by_found}
+use Rattle.mb_machine.specs.Access.{search_for, searched, translated, by_settled, by_found}
 use Rattle.mb_machine.specs.Bus.{bus_of, reading, writing, fetching, read_at, read_by, written_at, written_by}
 use Rattle.vm_meaning.specs.Free.{IsKept, rule_free, holding}
 use Rattle.vm_meaning.specs.Laws.{IsFound, Searches, FreeBoardsFill}
@@ -31,7 +29,7 @@ module _ (entry : Option Kept) (w : World) (k : Kept) (r : Reference) where
   searched_fills : IsFound w k r → IsKept k (searched rule_free (holding entry w) r).1.kept
   unfolding searched
   searched_fills (status, e) =
-      let s = search_of w.ram (root_of w.mmu r.space) r.space (page_of r.at) r.write in found_fills s.ram status s.found e
+      let s = search_for w r in found_fills s.ram status s.found e
 
   translated_fills : Searches entry w r → IsFound w k r → IsKept k (translated rule_free r (holding entry w)).1.kept
   unfolding translated

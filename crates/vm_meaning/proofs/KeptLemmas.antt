@@ -1,14 +1,17 @@
 -- Entries that are kept, before and after fills and flushes.
-use Rattle.std.proofs.Common.{◌≡◌, ℕ, zero, suc, Bool, true, false, not, List, [], ◌∷◌, length, map, drop, refl, sym, ◌∙◌, ap, arith, inl, inr}
+use Rattle.std.proofs.Common.{◌≡◌, ℕ, zero, suc, Bool, true, false, not, ◌||◌, ◌&&◌, List, [], ◌∷◌, length, map, drop, refl, sym, ◌∙◌, ap, arith, inl, inr}
 use Rattle.std.specs.Prelude.{◌⊎◌, Contains, Option, Some, None, IfSome, nat_le, slice_set, replicate, option_to_list, if◌then◌else◌}
 use Rattle.std.specs.List.{filter, find, list_any}
-use Rattle.std.proofs.lemmas.Bool.{cases_Bool}
+use Rattle.std.proofs.lemmas.Bool.{cases_Bool, false≢true}
 use Rattle.std.proofs.lemmas.List.Elements.{Contains-push, Contains-push_cases, All-contains, All-filter, All-contains_itself, filter_passes}
+use Rattle.mb_port.specs.declared.types.Space.{Space}
 use Rattle.mb_port.specs.declared.types.Flush.{Flush}
-use Rattle.mb_port.specs.declared.types.Flush.TheVariants.{All}
+use Rattle.mb_port.specs.declared.types.Flush.TheVariants.{All, Page}
 use Rattle.mb_port.specs.declared.types.MmuReg.{MmuReg}
 use Rattle.mb_model.specs.declared.kept.Kept.{Kept}
 use Rattle.mb_model.specs.Keeping.{Rule, KeptLists, list_of, is_of, without, room_for, filled_in, flushed_in, covers, filled, flushed, after_movec}
+use Rattle.mb_model.specs.Keeping.{is_half_of, dropped}
+use Rattle.mb_model.specs.Pages.{other_half}
 use Rattle.vm_meaning.specs.Free.{IsKept, StandIn}
 
 -- ---- elements of a list
@@ -101,6 +104,45 @@ pub flushed-follows : (what : Flush) (kept held : KeptLists) → StandIn kept he
 flushed-follows what kept held stand k h =
     let parts = flushed-is what kept k h in
     flushed-keeps what held k (stand k parts.0) parts.1
+
+-- PTEST leaves what is not of its page
+no_half : (a b : Bool) → a ≡ false → b ≡ false → (a || (true && b)) ≡ false
+no_half a b h k = rw (h, k) refl
+
+no_page : (a b : Bool) → a ≡ false → (a || (false && b)) ≡ false
+no_page a b h = rw h refl
+
+neither_half : (a b : Bool) → (a || (true && b)) ≡ false → (a ≡ false) × (b ≡ false)
+neither_half false b h = (refl, h)
+neither_half true b h = absurd (false≢true (sym h))
+
+not_page : (a b : Bool) → (a || (false && b)) ≡ false → a ≡ false
+not_page false b h = refl
+not_page true b h = absurd (false≢true (sym h))
+
+pub dropped-is : (big : Bool) (space : Space) (page : ℕ) (kept : KeptLists) (k : Kept) → IsKept k (dropped big space page kept)
+    → IsKept k kept × (is_half_of big space page k ≡ false)
+dropped-is false space page kept k h =
+    let one = flushed-is (Page space page) kept k h in
+    (one.0, no_page (is_of space page k) (is_of space (other_half page) k) one.1)
+dropped-is true space page kept k h =
+    let two = flushed-is (Page space (other_half page)) (flushed (Page space page) kept) k h in
+    let one = flushed-is (Page space page) kept k two.0 in
+    (one.0, no_half (is_of space page k) (is_of space (other_half page) k) one.1 two.1)
+
+pub dropped-keeps : (big : Bool) (space : Space) (page : ℕ) (kept : KeptLists) (k : Kept) → IsKept k kept → is_half_of big space page k ≡ false
+    → IsKept k (dropped big space page kept)
+dropped-keeps false space page kept k there h =
+    flushed-keeps (Page space page) kept k there (not_page (is_of space page k) (is_of space (other_half page) k) h)
+dropped-keeps true space page kept k there h =
+    let both = neither_half (is_of space page k) (is_of space (other_half page) k) h in
+    flushed-keeps (Page space (other_half page)) (flushed (Page space page) kept) k (flushed-keeps (Page space page) kept k there both.0) both.1
+
+pub dropped-follows : (big : Bool) (space : Space) (page : ℕ) (kept held : KeptLists) → StandIn kept held
+    → StandIn (dropped big space page kept) (dropped big space page held)
+dropped-follows big space page kept held stand k h =
+    let parts = dropped-is big space page kept k h in
+    dropped-keeps big space page held k (stand k parts.0) parts.1
 
 -- a MOVEC adds nothing
 movec_by : (b : Bool) (kept : KeptLists) → StandIn (if b then flushed All kept else kept) kept

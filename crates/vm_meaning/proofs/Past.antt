@@ -5,24 +5,22 @@ use Rattle.mb_port.specs.Routine.{Fetch, Read, Write, ReadLine, WriteLine, Probe
 use Rattle.mb_port.specs.declared.types.Space.{Space}
 use Rattle.mb_port.specs.declared.types.Place.{Place}
 use Rattle.mb_port.specs.declared.types.Flush.{Flush}
-use Rattle.mb_port.specs.declared.types.Flush.TheVariants.{Page}
 use Rattle.mb_model.specs.declared.kept.Kept.{Kept}
-use Rattle.mb_model.specs.Keeping.{KeptLists, covers, filled, flushed, is_of}
+use Rattle.mb_model.specs.Keeping.{KeptLists, covers, filled, flushed, dropped, is_half_of}
 use Rattle.mb_walk.specs.declared.found.Found.{Found}
 use Rattle.mb_walk.specs.declared.found.Found.TheVariants.{Entry, Invalid, BusError}
-use Rattle.mb_walk.specs.Search.{search_of}
 use Rattle.mb_machine.specs.declared.reference.Reference.{Reference}
 use Rattle.mb_machine.specs.declared.reference.Settled.TheVariants.{To, Refused}
 use Rattle.mb_machine.specs.World.{World}
 use Rattle.mb_machine.specs.Places.{taken, stored, checked, taken_line, stored_line}
-use Rattle.mb_model.specs.Pages.{page_of}
-use Rattle.mb_machine.specs.Access.{matched, root_of, untranslated, settled, searched, translated, by_match, by_settled, by_found}
+use Rattle.mb_model.specs.Pages.{page_of, has_big_pages}
+use Rattle.mb_machine.specs.Access.{matched, search_for, untranslated, settled, searched, translated, by_match, by_settled, by_found}
 use Rattle.mb_machine.specs.Bus.{bus_of, reading, writing, fetching, read_at, read_by, written_at, written_by, tested, tested_by, with_register}
 use Rattle.vm_meaning.specs.Free.{IsKept, rule_free, holding}
 use Rattle.vm_meaning.proofs.Blind.{IsBlind, IsBlindStore, taken-blind, taken_line-blind, checked-blind, stored-blind, stored_line-blind}
 use Rattle.vm_meaning.proofs.Blind.{read-blind, write-blind, get-blind, put-blind, blind-kept}
 use Rattle.vm_meaning.proofs.Accesses.{accesses-use_or_search}
-use Rattle.vm_meaning.proofs.KeptLemmas.{empty, kept-behind, flushed-is, flushed-keeps, filled-is, filled-first, filled-behind}
+use Rattle.vm_meaning.proofs.KeptLemmas.{empty, kept-behind, flushed-is, flushed-keeps, dropped-is, dropped-keeps, filled-is, filled-first, filled-behind}
 use Rattle.vm_meaning.specs.Tidy.{searching_bus, EachAccessSearches, SearchesOut, PastIsWhatWasSearchedOut}
 
 by_match_of : (r : Reference) (w : World) (o : Option Bool) → untranslated w.mmu r ≡ o
@@ -44,7 +42,7 @@ not_in_front kept k (zero, h) = absurd (empty k h)
 not_in_front kept k (suc class, h) = (class, h)
 
 filled_past : (r : Reference) (w : World) (e k : Kept) (status : ℕ) → untranslated w.mmu r ≡ None
-    → (search_of w.ram (root_of w.mmu r.space) r.space (page_of r.at) r.write).found ≡ Entry e status
+    → (search_for w r).found ≡ Entry e status
     → IsPast r w (filled rule_free r.code e ([] ∷ w.kept)) k
 filled_past r w e k status free found = (
   λ h. elim (filled-is rule_free r.code e ([] ∷ w.kept) k h) [
@@ -61,7 +59,7 @@ filled_past r w e k status free found = (
 )
 
 -- nothing is found
-none_past : (r : Reference) (w : World) (k : Kept) (f : Found) → (search_of w.ram (root_of w.mmu r.space) r.space (page_of r.at) r.write).found ≡ f
+none_past : (r : Reference) (w : World) (k : Kept) (f : Found) → (search_for w r).found ≡ f
     → ((status : ℕ) → f ≡ Entry k status → ⊥) → IsPast r w ([] ∷ w.kept) k
 none_past r w k f found never = (
   λ h. inl (not_in_front w.kept k h),
@@ -69,7 +67,7 @@ none_past r w k f found never = (
 )
 
 found_past : (r : Reference) (w : World) (ram : List ℕ) (k : Kept) (f : Found) → untranslated w.mmu r ≡ None
-    → (search_of w.ram (root_of w.mmu r.space) r.space (page_of r.at) r.write).found ≡ f
+    → (search_for w r).found ≡ f
     → IsPast r w (by_found rule_free (record w { ram = ram; kept = [] ∷ w.kept }) r f).1.kept k
 found_past r w ram k (Entry e status) free found = filled_past r w e k status free found
 found_past r w ram k Invalid free found = none_past r w k Invalid found (λ status e. absurd (cc))
@@ -79,7 +77,7 @@ searched_past : (r : Reference) (w : World) (k : Kept) → untranslated w.mmu r 
     → IsPast r w (searched rule_free (holding None w) r).1.kept k
 unfolding searched
 searched_past r w k free =
-    let s = search_of w.ram (root_of w.mmu r.space) r.space (page_of r.at) r.write in found_past r w s.ram k s.found free refl
+    let s = search_for w r in found_past r w s.ram k s.found free refl
 
 settled_kept : (b : Bool) (r : Reference) (w : World) → (by_settled rule_free w r (if b then Refused else To r.at)).1.kept ≡ w.kept
 settled_kept true r w = refl
@@ -153,13 +151,24 @@ flushed_past what w k = (
   ],
 )
 
+dropped_past : (big : Bool) (space : Space) (page : ℕ) (w : World) (k : Kept)
+    → OtherPast (is_half_of big space page k) w (dropped big space page ([] ∷ w.kept)) k
+dropped_past big space page w k = (
+  λ h. let there = dropped-is big space page ([] ∷ w.kept) k h in inl (not_in_front w.kept k there.0, there.1),
+  λ h. elim h [
+    | inl there ↦ dropped-keeps big space page ([] ∷ w.kept) k (kept-behind [] w.kept k there.0) there.1
+    | inr none ↦ absurd none
+  ],
+)
+
 tested_by_past : (w : World) (space : Space) (page : ℕ) (write : Bool) (o : Option Bool) (k : Kept)
-    → OtherPast (is_none o && is_of space page k) w (tested_by (holding None w) space page write o).1.kept k
+    → OtherPast (is_none o && is_half_of (has_big_pages w.mmu) space page k) w (tested_by (holding None w) space page write o).1.kept k
 tested_by_past w space page write (Some protected) k = still_past w ([] ∷ w.kept) k refl
-tested_by_past w space page write None k = flushed_past (Page space page) w k
+tested_by_past w space page write None k = dropped_past (has_big_pages w.mmu) space page w k
 
 tested_past : (w : World) (space : Space) (page : ℕ) (write : Bool) (k : Kept)
-    → OtherPast (is_none (matched false w.mmu space page) && is_of space page k) w (tested space page write (holding None w)).1.kept k
+    → OtherPast (is_none (matched false w.mmu space page) && is_half_of (has_big_pages w.mmu) space page k) w
+    (tested space page write (holding None w)).1.kept k
 unfolding tested
 tested_past w space page write k = tested_by_past w space page write (matched false w.mmu space page) k
 

@@ -6,23 +6,21 @@ use Rattle.mb_port.specs.declared.types.Space.{Space}
 use Rattle.mb_port.specs.declared.types.Place.{Place}
 use Rattle.mb_port.specs.declared.types.MmuReg.{MmuReg}
 use Rattle.mb_port.specs.declared.types.Flush.{Flush}
-use Rattle.mb_port.specs.declared.types.Flush.TheVariants.{Page}
 use Rattle.mb_model.specs.declared.kept.Kept.{Kept}
-use Rattle.mb_model.specs.Keeping.{KeptLists, covers, flushed, is_of}
+use Rattle.mb_model.specs.Keeping.{KeptLists, covers, flushed, dropped, is_half_of}
 use Rattle.mb_walk.specs.declared.found.Found.{Found}
 use Rattle.mb_walk.specs.declared.found.Found.TheVariants.{Entry, Invalid, BusError}
-use Rattle.mb_walk.specs.Search.{search_of}
 use Rattle.mb_machine.specs.declared.reference.Reference.{Reference}
 use Rattle.mb_machine.specs.declared.reference.Settled.{Settled}
 use Rattle.mb_machine.specs.declared.reference.Settled.TheVariants.{To, Refused, Unsettled}
 use Rattle.mb_machine.specs.World.{World}
 use Rattle.mb_machine.specs.Places.{taken, stored, checked, taken_line, stored_line}
-use Rattle.mb_model.specs.Pages.{page_of}
-use Rattle.mb_machine.specs.Access.{matched, root_of, settled, searched, translated, by_settled, by_found}
+use Rattle.mb_model.specs.Pages.{page_of, has_big_pages}
+use Rattle.mb_machine.specs.Access.{matched, search_for, settled, searched, translated, by_settled, by_found}
 use Rattle.mb_machine.specs.Bus.{bus_of, reading, writing, fetching, read_at, read_by, written_at, written_by, tested, tested_by, with_register}
 use Rattle.vm_meaning.specs.Free.{IsKept, rule_free}
 use Rattle.vm_meaning.specs.Laws.{IsFound, KeepsFound, FreeBoardsKeep}
-use Rattle.vm_meaning.proofs.KeptLemmas.{empty, head_or_tail, kept-behind, flushed-is, flushed-keeps, filled-is, filled-behind}
+use Rattle.vm_meaning.proofs.KeptLemmas.{empty, head_or_tail, kept-behind, flushed-is, flushed-keeps, dropped-is, dropped-keeps, filled-is, filled-behind}
 use Rattle.vm_meaning.proofs.Blind.{IsBlind, IsBlindStore, taken-blind, taken_line-blind, checked-blind, stored-blind, stored_line-blind}
 use Rattle.vm_meaning.proofs.Blind.{read-blind, write-blind, get-blind, put-blind, blind-kept}
 
@@ -49,7 +47,7 @@ filled_only r w xs found k are f (inl h) = inl (behind_or_in_front xs w.kept are
 filled_only r w xs found k are f (inr e) = inr (subst (λ (x : Kept). IsFound w x r) e f)
 
 found_keeps : (r : Reference) (w : World) (ram : List ℕ) (xs : List Kept) (f : Found) → AreKept xs w.kept
-    → (search_of w.ram (root_of w.mmu r.space) r.space (page_of r.at) r.write).found ≡ f
+    → (search_for w r).found ≡ f
     → Keeps r w (by_found rule_free (record w { ram = ram; kept = xs ∷ w.kept }) r f).1
 found_keeps r w ram xs (Entry found mmusr) are e = record {
   stays = filled-behind rule_free r.code found xs w.kept refl;
@@ -62,7 +60,7 @@ searched_keeps : (r : Reference) (w : World) (xs : List Kept) → AreKept xs w.k
     → Keeps r w (searched rule_free (record w { kept = xs ∷ w.kept }) r).1
 unfolding searched
 searched_keeps r w xs are =
-    let s = search_of w.ram (root_of w.mmu r.space) r.space (page_of r.at) r.write in found_keeps r w s.ram xs s.found are refl
+    let s = search_for w r in found_keeps r w s.ram xs s.found are refl
 
 settled_keeps : (r : Reference) (w : World) (xs : List Kept) (s : Settled) → AreKept xs w.kept
     → Keeps r w (by_settled rule_free (record w { kept = xs ∷ w.kept }) r s).1
@@ -122,14 +120,23 @@ after_flush what k w after xs are same = record {
       (behind_or_in_front xs w.kept are k there.0, there.1);
 }
 
+after_drop : (big : Bool) (space : Space) (page : ℕ) (k : Kept) (w after : World) (xs : List Kept) → AreKept xs w.kept
+    → after.kept ≡ dropped big space page (xs ∷ w.kept) → Stays (is_half_of big space page k) k w after
+after_drop big space page k w after xs are same = record {
+  stays = λ h d. subst (λ (kept : KeptLists). IsKept k kept) (sym same) (dropped-keeps big space page (xs ∷ w.kept) k (kept-behind xs w.kept k h) d);
+  only = λ h.
+      let there = dropped-is big space page (xs ∷ w.kept) k (subst (λ (kept : KeptLists). IsKept k kept) same h) in
+      (behind_or_in_front xs w.kept are k there.0, there.1);
+}
+
 tested_by_stays : (k : Kept) (w : World) (xs : List Kept) (space : Space) (page : ℕ) (write : Bool) (o : Option Bool) → AreKept xs w.kept
-    → Stays (is_none o && is_of space page k) k w (tested_by (record w { kept = xs ∷ w.kept }) space page write o).1
+    → Stays (is_none o && is_half_of (has_big_pages w.mmu) space page k) k w (tested_by (record w { kept = xs ∷ w.kept }) space page write o).1
 tested_by_stays k w xs space page write (Some protected) are = unchanged k w (record w { kept = xs ∷ w.kept }) xs are refl
 tested_by_stays k w xs space page write None are =
-    after_flush (Page space page) k w (tested_by (record w { kept = xs ∷ w.kept }) space page write None).1 xs are refl
+    after_drop (has_big_pages w.mmu) space page k w (tested_by (record w { kept = xs ∷ w.kept }) space page write None).1 xs are refl
 
 tested_stays : (k : Kept) (w : World) (xs : List Kept) (space : Space) (page : ℕ) (write : Bool) → AreKept xs w.kept
-    → Stays (is_none (matched false w.mmu space page) && is_of space page k) k w
+    → Stays (is_none (matched false w.mmu space page) && is_half_of (has_big_pages w.mmu) space page k) k w
     (tested space page write (record w { kept = xs ∷ w.kept })).1
 unfolding tested
 tested_stays k w xs space page write are = tested_by_stays k w xs space page write (matched false w.mmu space page) are

@@ -1,6 +1,6 @@
 -- A step in user mode that enters no exception stays there.
 use Rattle.std.proofs.Common.{◌≡◌, ◌∙◌, ℕ, ◌+◌, ◌-◌, ◌/◌, ◌%◌, ◌^◌, ◌==◌, ◌&&◌, Bool, true, false, not, nat_lt, Ok, Err, List, [], ◌∷◌, ap, arith}
-use Rattle.mb_port.specs.Routine.{Bus, Return, run, either, choose}
+use Rattle.mb_port.specs.Routine.{Bus, Return, ReadMmu, run, either, choose}
 use Rattle.mb_instr.specs.declared.instruction.Instr.{Instr}
 use Rattle.mb_instr.specs.declared.instruction.Instr.TheVariants as instr
 use Rattle.mb_instr.specs.declared.instruction.System.{System}
@@ -11,7 +11,7 @@ use Rattle.mb_frames.specs.declared.pend.Pend.{Pend}
 use Rattle.mb_frames.specs.AccessFields.{check_fields, read_fields, write_fields, line_fields, access_fields}
 use Rattle.mb_model.specs.declared.processor.Cpu.{Cpu}
 use Rattle.mb_model.specs.Keeping.{rule_a}
-use Rattle.mb_model.specs.Pages.{page_size}
+use Rattle.mb_model.specs.Pages.{page_size_by}
 use Rattle.mb_model.specs.Status.{space_of}
 use Rattle.mb_devices.specs.Devices.{level_of}
 use Rattle.mb_writes.specs.declared.ends.Ended.{Ended}
@@ -120,16 +120,19 @@ unwritten_stays : {S : Type 0} (bus : Bus S) (due : Bool) (refused : WriteFault)
     → Stays (run bus (unwritten_of due refused pieces before cpu) s).0
 unfolding unbegun_of unfinished_of
 unwritten_stays bus due refused [] before cpu s =
-    access_error_stays bus before.regs.pc (write_fields refused.fault refused.first [] page_size) before s
+    let page = page_size_by (bus ReadMmu s).0 in
+    access_error_stays bus before.regs.pc (write_fields refused.fault refused.first [] page) before (bus ReadMmu s).1
 unwritten_stays bus due refused (piece ∷ pieces) before cpu s =
-    access_error_stays bus cpu.regs.pc (with_ct due (write_fields refused.fault refused.first refused.rest.items page_size)) cpu s
+    let page = page_size_by (bus ReadMmu s).0 in
+    access_error_stays bus cpu.regs.pc (with_ct due (write_fields refused.fault refused.first refused.rest.items page)) cpu (bus ReadMmu s).1
 
 untransferred_stays : {S : Type 0} (bus : Bus S) (due : Bool) (refused : MovemFault) (words : ℕ) (before cpu : Cpu) (s : S)
     → Stays (run bus (untransferred_of due refused words before cpu) s).0
 unfolding untransferred_of
 untransferred_stays bus due refused words before cpu s =
-    let fields = access_fields (refused_transfer refused words cpu.regs.pc) page_size in
-    access_error_stays bus before.regs.pc (with_ct (due && not (movem_in words).is_load) fields) cpu s
+    let page = page_size_by (bus ReadMmu s).0 in
+    let fields = access_fields (refused_transfer refused words cpu.regs.pc) page in
+    access_error_stays bus before.regs.pc (with_ct (due && not (movem_in words).is_load) fields) cpu (bus ReadMmu s).1
 
 finish_stays : {S : Type 0} (bus : Bus S) (i : Instr) (end : Ended) (before cpu : Cpu) (s : S) → is_supervisor cpu.regs.sr ≡ false
     → Stays (run bus (finish_of i end before cpu) s).0
@@ -139,11 +142,13 @@ finish_stays bus i (ended.Done flow) before cpu s h =
 finish_stays bus i (ended.Trap vector) before cpu s h = trap_stays bus vector before cpu s
 finish_stays bus i (ended.Refused vector) before cpu s h = refused_stays bus vector before s
 finish_stays bus i (ended.ReadFault refused) before cpu s h =
-    access_error_stays bus before.regs.pc (read_fields refused.fault refused.first page_size) before s
+    let page = page_size_by (bus ReadMmu s).0 in
+    access_error_stays bus before.regs.pc (read_fields refused.fault refused.first page) before (bus ReadMmu s).1
 finish_stays bus i (ended.WriteFault refused) before cpu s h =
     unwritten_stays bus (is_due before.regs.sr (is_flow i)) refused refused.rest.items before cpu s
 finish_stays bus i (ended.LineFault fault line) before cpu s h =
-    access_error_stays bus cpu.regs.pc (with_ct (traces_all before.regs.sr) (line_fields fault line page_size)) cpu s
+    let page = page_size_by (bus ReadMmu s).0 in
+    access_error_stays bus cpu.regs.pc (with_ct (traces_all before.regs.sr) (line_fields fault line page)) cpu (bus ReadMmu s).1
 finish_stays bus i (ended.Movem refused) before cpu s h =
     untransferred_stays bus (traces_all before.regs.sr) refused (movem_words i) before cpu s
 
@@ -182,7 +187,8 @@ unfolding unfound_of unread_of
 found_stays bus cpu (Ok found) s h = executed_stays bus found.0 found.1 cpu s h
 found_stays bus cpu (Err (NoInstruction vector)) s h = refused_stays bus vector cpu s
 found_stays bus cpu (Err (Unfetched refused)) s h =
-    access_error_stays bus cpu.regs.pc (read_fields refused.fault refused.first page_size) cpu s
+    let page = page_size_by (bus ReadMmu s).0 in
+    access_error_stays bus cpu.regs.pc (read_fields refused.fault refused.first page) cpu (bus ReadMmu s).1
 
 -- ---- a step
 

@@ -2,16 +2,15 @@
 use Rattle.std.specs.Prelude.{◌≡◌, ◌⊎◌, ℕ, Bool, true, false, ◌&&◌, List, Option, Some, None, IfSome, IsSomeAnd, is_none}
 use Rattle.mb_port.specs.Routine.{Call, Answer, FlushKept, Test}
 use Rattle.mb_model.specs.declared.kept.Kept.{Kept}
-use Rattle.mb_model.specs.Keeping.{Rule, covers, is_of}
+use Rattle.mb_model.specs.Keeping.{Rule, covers, is_of, is_half_of}
 use Rattle.mb_walk.specs.declared.found.Found.TheVariants.{Entry}
-use Rattle.mb_walk.specs.Search.{search_of}
 use Rattle.mb_laws.specs.Relations.{MayFollow}
 use Rattle.mb_laws.specs.Refusal.{any_call}
 use Rattle.mb_machine.specs.declared.reference.Reference.{Reference}
 use Rattle.mb_machine.specs.declared.reference.Settled.TheVariants.{Unsettled}
 use Rattle.mb_machine.specs.World.{World}
-use Rattle.mb_model.specs.Pages.{page_of}
-use Rattle.mb_machine.specs.Access.{matched, marks, root_of, searched, settled, through, translated, untranslated}
+use Rattle.mb_model.specs.Pages.{page_of, has_big_pages}
+use Rattle.mb_machine.specs.Access.{matched, marks, search_for, searched, settled, through, translated, untranslated}
 use Rattle.mb_machine.specs.Bus.{bus_of, reference_of}
 use Rattle.mb_machine.specs.Machine.{Entries, Machine, reset_with, run_of}
 use Rattle.vm_meaning.specs.Free.{IsKept, rule_free, holding, FreeCall, FreeRun, WorldWithin, Within, IsFreeRun}
@@ -51,16 +50,18 @@ AccessesUseOrSearch = (r : Reference) (w : World) → untranslated w.mmu r ≡ N
 
 -- ---- what is kept
 
--- does a call drop an entry: a flush that covers it, or a PTEST of its page where no transparent register matches
+-- does a call drop an entry: a flush that covers it, or a PTEST of its page where no transparent register matches, or
+-- of the other half of it where pages have 8 KiB
 abbrev pub drops : Call → World → Kept → Bool
 drops (FlushKept what) w k = covers what k
-drops (Test space at write) w k = is_none (matched false w.mmu space (page_of at)) && is_of space (page_of at) k
+drops (Test space at write) w k =
+    let page = page_of at in
+    is_none (matched false w.mmu space page) && is_half_of (has_big_pages w.mmu) space page k
 drops other w k = false
 
 -- A search for the reference finds the entry.
 abbrev pub IsFound : World → Kept → Reference → Type 0
-IsFound w k r =
-    (status : ℕ) × ((search_of w.ram (root_of w.mmu r.space) r.space (page_of r.at) r.write).found ≡ Entry k status)
+IsFound w k r = (status : ℕ) × ((search_for w r).found ≡ Entry k status)
 
 -- An entry that was kept stays, where the call does not drop it. Only such entries are kept then, and one that the call
 -- searched out.

@@ -5,13 +5,12 @@ use Rattle.mb_model.specs.declared.kept.Kept.{Kept}
 use Rattle.mb_model.specs.Keeping.{is_of}
 use Rattle.mb_model.specs.Pages.{page_of}
 use Rattle.mb_walk.specs.declared.found.Found.TheVariants.{Entry}
-use Rattle.mb_walk.specs.Search.{Searched, search_of}
 use Rattle.mb_devices.specs.Devices.{level_of}
 use Rattle.mb_laws.specs.Relations.{Along}
 use Rattle.mb_meaning.specs.Step.{step_of}
 use Rattle.mb_machine.specs.declared.reference.Reference.{Reference}
 use Rattle.mb_machine.specs.World.{World}
-use Rattle.mb_machine.specs.Access.{untranslated, marks, root_of, searched, translated}
+use Rattle.mb_machine.specs.Access.{untranslated, marks, search_for, searched, translated}
 use Rattle.mb_machine.specs.Bus.{bus_of, reference_of}
 use Rattle.mb_machine.specs.Machine.{Machine, Contents, Entries, begun, one_later, takes_steps, start}
 use Rattle.vm_meaning.specs.Free.{IsKept, rule_free, holding}
@@ -37,10 +36,6 @@ searching_run script (suc n) m =
     if takes_steps m.state then searching_run script n (searching_step script m) else m
 
 -- ---- a tidy access
-
--- the search for a reference
-abbrev pub search_for : World → Reference → Searched
-search_for w r = search_of w.ram (root_of w.mmu r.space) r.space (page_of r.at) r.write
 
 -- An entry of the page and space counts, unless the reference is a write that marks its page.
 pub record Counts (r : Reference) (w : World) (k : Kept) : Type 0 where

@@ -34,6 +34,7 @@ related_after x b after g r q = subst (λ (w : World). Related x w g) (sym q.sam
   whole = r.whole;
   ram = r.ram;
   root = r.root;
+  small = r.small;
   shadow = r.shadow;
   kept = q.kept;
   no_match = r.no_match;
@@ -155,6 +156,7 @@ written x b g p len v r h =
       whole = r.whole;
       ram = part-over b.ram bytes x.base x.size p (omega arith) fits ∙ ap (λ (m : List ℕ). with_number m p len v) r.ram;
       root = r.root;
+      small = r.small;
       shadow = tables.1 ∙ r.shadow;
       kept = λ k is user. let a = r.kept k is user in (same k.page ∙ a.0, a.1);
       no_match = r.no_match;

@@ -7,6 +7,7 @@ use Rattle.mb_port.specs.declared.types.Space.{Space}
 use Rattle.mb_port.specs.declared.types.Space.TheVariants.{User, Super}
 use Rattle.mb_port.specs.declared.types.Mmu.{Mmu}
 use Rattle.mb_model.specs.Keeping.{rule_a}
+use Rattle.mb_model.specs.Pages.{has_big_pages}
 use Rattle.mb_walk.specs.Transparent.{transparent_of}
 use Rattle.mb_machine.specs.declared.reference.Settled.TheVariants.{To}
 use Rattle.mb_machine.specs.World.{World}
@@ -60,6 +61,7 @@ starts_flushed x b g bytes maps under whole ram shadow truthful = record {
   whole = whole;
   ram = ram;
   root = refl;
+  small = refl;
   shadow = shadow;
   kept = λ k is. absurd (none-kept 32 k is);
   no_match = λ code at write. user_translated (root_of x.slots.area x.space) at code write;
@@ -78,6 +80,7 @@ stays_ready x b after g r bytes size same area mmu kept =
       whole = r.whole;
       ram = same ∙ r.ram;
       root = ap (λ (m : Mmu). m.urp) mmu ∙ r.root;
+      small = ap has_big_pages mmu ∙ r.small;
       shadow = tables.1 ∙ r.shadow;
       kept = λ k is user.
           let a = r.kept k (subst (IsKept k) kept is) user in (map k.page ∙ a.0, a.1);

@@ -11,10 +11,11 @@ use Rattle.mb_walk.specs.Search.{Searched, search_of}
 use Rattle.mb_machine.specs.declared.reference.Reference.{Reference}
 use Rattle.mb_machine.specs.declared.reference.Settled.TheVariants.{Unsettled}
 use Rattle.mb_machine.specs.World.{World}
-use Rattle.mb_model.specs.Pages.{page_of}
-use Rattle.mb_machine.specs.Access.{marks, through, known, settled, by_found, by_search, searched, translated}
+use Rattle.mb_model.specs.Pages.{page_of, has_big_pages}
+use Rattle.mb_machine.specs.Access.{marks, through, known, settled, by_found, by_search, page_search, searched, translated}
 use Rattle.vm_meaning.proofs.KeptLemmas.{found, filled-is}
 use Rattle.vm_shadow.specs.Laws.{found_of}
+use Rattle.vm_shadow.specs.Mapped.{root_of}
 use Rattle.vm_shadow.proofs.Searches.{searches_find_entries}
 use Rattle.vm_machine.specs.Guests.{Guest, ref}
 use Rattle.vm_mirror.specs.Related.{Site, Related, Agrees, AllAgree, mapping}
@@ -68,9 +69,10 @@ search_translates : (x : Site) (rule : Rule) (b : World) (g : Guest) (code : Boo
     → Translates x b (wanted (mapping x b.ram (page_of at)) at write) (searched rule b (ref code User at write))
 unfolding searched
 search_translates x rule b g code at write r l =
-    let s : search_of b.ram b.mmu.urp User (page_of at) write
+    let s : page_search b User (page_of at) write
     ≡ record { ram = b.ram; found = found_of User (page_of at) (mapping x b.ram (page_of at)) } =
-    ap (λ (root : ℕ). search_of b.ram root User (page_of at) write) r.root
+    ap (λ (root : ℕ). search_of b.ram root User (page_of at) write (has_big_pages b.mmu)) r.root
+    ∙ ap (search_of b.ram (root_of x.slots.area x.space) User (page_of at) write) r.small
     ∙ searches_find_entries x.slots b.ram x.space User (page_of at) write r.maps r.bytes (omega arith) in
     subst (λ (s : Searched). Translates x b (wanted (mapping x b.ram (page_of at)) at write) (by_search rule b (ref code User at write) s))
     (sym s) (found_translates x rule b code at write (mapping x b.ram (page_of at)) refl r.kept)

@@ -5,6 +5,7 @@ use Rattle.mb_port.specs.declared.types.Space.TheVariants.{User}
 use Rattle.mb_laws.specs.Between as between
 use Rattle.mb_model.specs.declared.kept.Kept.{Kept}
 use Rattle.mb_model.specs.Keeping.{KeptLists}
+use Rattle.mb_model.specs.Pages.{has_big_pages}
 use Rattle.mb_walk.specs.Memory.{AreBytes, part}
 use Rattle.mb_machine.specs.World.{World}
 use Rattle.mb_machine.specs.Access.{untranslated}
@@ -38,7 +39,7 @@ abbrev pub mapping : Site → List ℕ → ℕ → Option (ℕ × Bool)
 mapping x ram page = (shadowed x.slots ram).entries x.space page
 
 -- The board stands ready to run the guest in user mode: the guest's bytes are a part of its bytes, the tables map
--- exactly the shadow, and no kept entry says anything else. All else of the board is free.
+-- exactly the shadow, of pages of 4 KiB, and no kept entry says anything else. All else of the board is free.
 pub record Related (x : Site) (b : World) (g : Guest) : Type 0 where
   pub bytes : AreBytes b.ram
   pub maps : Maps x.slots b.ram
@@ -46,6 +47,7 @@ pub record Related (x : Site) (b : World) (g : Guest) : Type 0 where
   pub whole : x.base % 4096 ≡ 0
   pub ram : part b.ram x.base x.size ≡ g.world.ram
   pub root : b.mmu.urp ≡ root_of x.slots.area x.space
+  pub small : has_big_pages b.mmu ≡ false
   pub shadow : shadowed x.slots b.ram ≡ on_board x.base g.shadow
   pub kept : AllAgree (mapping x b.ram) b.kept
   pub no_match : (code : Bool) (at : ℕ) (write : Bool) → untranslated b.mmu (ref code User at write) ≡ None

@@ -11,11 +11,11 @@ use Rattle.mb_walk.specs.declared.found.Found.{Found}
 use Rattle.mb_walk.specs.declared.found.Found.TheVariants.{Entry, Invalid, BusError}
 use Rattle.mb_walk.specs.Memory.{number_at, with_number, AreBytes}
 use Rattle.mb_walk.specs.Descriptors.{table_descriptor, page_descriptor, with_used, marked, entry_at, indirection, kept_of, resident_status}
-use Rattle.mb_walk.specs.Descriptors.{root_index, pointer_index, page_index}
+use Rattle.mb_walk.specs.Descriptors.{root_index, pointer_index, page_index, page_table_bytes}
 use Rattle.mb_walk.specs.Search.{Searched, and_below, is_inside, descended, paged, ended, search_of}
 use Rattle.mb_walk.proofs.MemoryLemmas.{length-with_number}
 use Rattle.mb_walk.proofs.LongLemmas.{long_same, long_other, long_back, long_small, written_bytes}
-use Rattle.mb_walk.proofs.Marks.{Marks, used_marks, used_before, marked_marks}
+use Rattle.mb_walk.proofs.Marks.{Marks, used_marks, used_before, marked_marks, page_entry_aligned}
 use Rattle.mb_walk.proofs.Again.{inside_so, outside, stops, goes, left, paged_left, pointed_outside, pointed_invalid, pointed_page, ended_outside, ended_page}
 use Rattle.mb_walk.proofs.Again.{ended_indirect, ended_invalid, leaves, pointers}
 use Rattle.vm_port.specs.Quiet.{used_table, below_used, used_page, used_behind, used_entry, found_used}
@@ -111,36 +111,36 @@ used_table_is ram p d e =
 
 -- ---- a page
 
-abbrev Leaf : List ℕ → ℕ → Space → ℕ → Bool → Searched
-Leaf ram q space page protected = ended ram q space page protected false
+abbrev Leaf : List ℕ → ℕ → Space → ℕ → Bool → Bool → Searched
+Leaf ram q space page protected big = ended ram q space page protected false big
 
-paged_used : (ram : List ℕ) (q : ℕ) (space : Space) (page : ℕ) (protected : Bool) → q + 4 ≤ length ram → q % 4 ≡ 0 → AreBytes ram
-    → StaysUsed ram (paged ram q space page protected false).ram × IsUsed (paged ram q space page protected false).ram q
-paged_used ram q space page protected h a b =
-    subst (λ (s : Searched). StaysUsed ram s.ram × IsUsed s.ram q) (sym (paged_left ram q space page protected false))
+paged_used : (ram : List ℕ) (q : ℕ) (space : Space) (page : ℕ) (protected big : Bool) → q + 4 ≤ length ram → q % 4 ≡ 0 → AreBytes ram
+    → StaysUsed ram (paged ram q space page protected false big).ram × IsUsed (paged ram q space page protected false big).ram q
+paged_used ram q space page protected big h a b =
+    subst (λ (s : Searched). StaysUsed ram s.ram × IsUsed s.ram q) (sym (paged_left ram q space page protected false big))
     (written_used ram q (marked (number_at ram q 4) protected space false) h a b (marked_marks (number_at ram q 4) protected space false))
 
 -- a page's long that is marked already
-page_is_used : (ram : List ℕ) (q : ℕ) (space : Space) (page : ℕ) (protected : Bool) → q + 4 ≤ length ram → AreBytes ram → IsUsed ram q
-    → paged ram q space page protected false
+page_is_used : (ram : List ℕ) (q : ℕ) (space : Space) (page : ℕ) (protected big : Bool) → q + 4 ≤ length ram → AreBytes ram → IsUsed ram q
+    → paged ram q space page protected false big
     ≡ record {
       ram = ram;
       found =
           let long = number_at ram q 4 in
-          let kept = kept_of (page_descriptor long) protected space page in Entry kept (resident_status long kept.w);
+          let kept = kept_of (page_descriptor long) protected space page big in Entry kept (resident_status long kept.w big);
     }
-page_is_used ram q space page protected h b u =
-    paged_left ram q space page protected false ∙ ap (left ram q space page protected) (used_before (number_at ram q 4) u)
+page_is_used ram q space page protected big h b u =
+    paged_left ram q space page protected false big ∙ ap (left ram q space page protected big) (used_before (number_at ram q 4) u)
     ∙ ap (λ (r : List ℕ). (let s : Searched = record {
       ram = r;
       found =
           let long = number_at ram q 4 in
-          let kept = kept_of (page_descriptor long) protected space page in Entry kept (resident_status long kept.w);
+          let kept = kept_of (page_descriptor long) protected space page big in Entry kept (resident_status long kept.w big);
     } in s)) (long_back ram q h b)
 
-page_resident : (ram : List ℕ) (q : ℕ) (space : Space) (page : ℕ) (protected : Bool) → (page_descriptor (number_at ram q 4)).resident ≡ true → IsUsed ram q
-    → used_page (number_at ram q 4) space page protected ≡ Some (kept_of (page_descriptor (number_at ram q 4)) protected space page)
-page_resident ram q space page protected h u = rw (h, u) refl
+page_resident : (ram : List ℕ) (q : ℕ) (space : Space) (page : ℕ) (protected big : Bool) → (page_descriptor (number_at ram q 4)).resident ≡ true → IsUsed ram q
+    → used_page (number_at ram q 4) space page protected big ≡ Some (kept_of (page_descriptor (number_at ram q 4)) protected space page big)
+page_resident ram q space page protected big h u = rw (h, u) refl
 
 -- a resident page is not indirect
 direct : (n : ℕ) → (n % 2 == 1) ≡ true → (n % 4 == 2) ≡ false
@@ -156,44 +156,44 @@ invalid : IsNoEntry Invalid
 invalid k status e = let z : ⊥ = cc in z
 
 -- how the entry of a page's table ends a search for a read: with no page, or at the page's descriptor
-data Ends_ (ram : List ℕ) (q : ℕ) (space : Space) (page : ℕ) (protected : Bool) : Type 0 where
-  nowhere : (f : Found) → IsNoEntry f → Leaf ram q space page protected ≡ record { ram = ram; found = f } → used_entry ram q space page protected ≡ None
-      → Ends_ ram q space page protected
+data Ends_ (ram : List ℕ) (q : ℕ) (space : Space) (page : ℕ) (protected big : Bool) : Type 0 where
+  nowhere : (f : Found) → IsNoEntry f → Leaf ram q space page protected big ≡ record { ram = ram; found = f } → used_entry ram q space page protected big ≡ None
+      → Ends_ ram q space page protected big
   at : (p : ℕ) → is_inside ram p ≡ true → p % 4 ≡ 0 → (page_descriptor (number_at ram p 4)).resident ≡ true
-      → Leaf ram q space page protected ≡ paged ram p space page protected false
-      → used_entry ram q space page protected ≡ used_page (number_at ram p 4) space page protected → Ends_ ram q space page protected
+      → Leaf ram q space page protected big ≡ paged ram p space page protected false big
+      → used_entry ram q space page protected big ≡ used_page (number_at ram p 4) space page protected big → Ends_ ram q space page protected big
 
-leaf_ends : (ram : List ℕ) (q : ℕ) (space : Space) (page : ℕ) (protected : Bool) → q % 4 ≡ 0 → Ends_ ram q space page protected
+leaf_ends : (ram : List ℕ) (q : ℕ) (space : Space) (page : ℕ) (protected big : Bool) → q % 4 ≡ 0 → Ends_ ram q space page protected big
 unfolding used_entry used_behind
-leaf_ends ram q space page protected a = elim (cases_Bool (is_inside ram q)) [
-  | inr h ↦ nowhere BusError bus_error (ended_outside ram q space page protected false h) (rw h refl)
+leaf_ends ram q space page protected big a = elim (cases_Bool (is_inside ram q)) [
+  | inr h ↦ nowhere BusError bus_error (ended_outside ram q space page protected false big h) (rw h refl)
   | inl h ↦ elim (cases_Bool (page_descriptor (number_at ram q 4)).resident) [
-    | inl k ↦ at q h a k (ended_page ram q space page protected false h k) (rw (h, direct (number_at ram q 4) k) refl)
+    | inl k ↦ at q h a k (ended_page ram q space page protected false big h k) (rw (h, direct (number_at ram q 4) k) refl)
     | inr k ↦ elim (cases_Bool (page_descriptor (number_at ram q 4)).indirect) [
-      | inr l ↦ nowhere Invalid invalid (ended_invalid ram q space page protected false h k l) (rw (h, l, k) refl)
+      | inr l ↦ nowhere Invalid invalid (ended_invalid ram q space page protected false big h k l) (rw (h, l, k) refl)
       | inl l ↦
           let p = indirection (number_at ram q 4) in
-          let e = ended_indirect ram q space page protected false h k l in
+          let e = ended_indirect ram q space page protected false big h k l in
           let aligned : p % 4 ≡ 0 = omega arith in
           elim (cases_Bool (is_inside ram p)) [
-            | inr o ↦ nowhere BusError bus_error (e ∙ pointed_outside ram p space page protected false o) (rw (h, l, o) refl)
+            | inr o ↦ nowhere BusError bus_error (e ∙ pointed_outside ram p space page protected false big o) (rw (h, l, o) refl)
             | inl i ↦ elim (cases_Bool (page_descriptor (number_at ram p 4)).resident) [
-              | inr n ↦ nowhere Invalid invalid (e ∙ pointed_invalid ram p space page protected false i n) (rw (h, l, i, n) refl)
-              | inl y ↦ at p i aligned y (e ∙ pointed_page ram p space page protected false i y) (rw (h, l, i) refl)
+              | inr n ↦ nowhere Invalid invalid (e ∙ pointed_invalid ram p space page protected false big i n) (rw (h, l, i, n) refl)
+              | inl y ↦ at p i aligned y (e ∙ pointed_page ram p space page protected false big i y) (rw (h, l, i) refl)
             ]
           ]
     ]
   ]
 ]
 
-leaf_used : (ram : List ℕ) (q : ℕ) (space : Space) (page : ℕ) (protected : Bool) → q % 4 ≡ 0 → AreBytes ram
-    → StaysUsed ram (Leaf ram q space page protected).ram
-leaf_used ram q space page protected a b = by_end (leaf_ends ram q space page protected a)
+leaf_used : (ram : List ℕ) (q : ℕ) (space : Space) (page : ℕ) (protected big : Bool) → q % 4 ≡ 0 → AreBytes ram
+    → StaysUsed ram (Leaf ram q space page protected big).ram
+leaf_used ram q space page protected big a b = by_end (leaf_ends ram q space page protected big a)
   where
-    by_end : Ends_ ram q space page protected → StaysUsed ram (Leaf ram q space page protected).ram
+    by_end : Ends_ ram q space page protected big → StaysUsed ram (Leaf ram q space page protected big).ram
     by_end (nowhere f none e other) = subst (λ (s : Searched). StaysUsed ram s.ram) (sym e) (same_used ram b)
     by_end (at p i c y e other) =
-        subst (λ (s : Searched). StaysUsed ram s.ram) (sym e) (paged_used ram p space page protected (inside_so ram p i) c b).0
+        subst (λ (s : Searched). StaysUsed ram s.ram) (sym e) (paged_used ram p space page protected big (inside_so ram p i) c b).0
 
 -- a level with what is below it
 level_used : (ram : List ℕ) (p : ℕ) (next : List ℕ → ℕ → Searched) → p % 4 ≡ 0 → AreBytes ram
@@ -236,85 +236,91 @@ level_quiet ram p d next b e =
 
 -- ---- the page
 
-leaf_met : (ram : List ℕ) (q : ℕ) (space : Space) (page : ℕ) (protected : Bool) (k : Kept) (status : ℕ) → q % 4 ≡ 0 → AreBytes ram
-    → (Leaf ram q space page protected).found ≡ Entry k status → (Leaf ram q space page protected).ram ≡ ram
-    → used_entry ram q space page protected ≡ Some k
-leaf_met ram q space page protected k status a b found still = by_end (leaf_ends ram q space page protected a)
+leaf_met : (ram : List ℕ) (q : ℕ) (space : Space) (page : ℕ) (protected big : Bool) (k : Kept) (status : ℕ) → q % 4 ≡ 0 → AreBytes ram
+    → (Leaf ram q space page protected big).found ≡ Entry k status → (Leaf ram q space page protected big).ram ≡ ram
+    → used_entry ram q space page protected big ≡ Some k
+leaf_met ram q space page protected big k status a b found still = by_end (leaf_ends ram q space page protected big a)
   where
     same_kept : (x y : Kept) (s t : ℕ) → Entry x s ≡ Entry y t → x ≡ y
     same_kept x y s t e = cc
 
-    by_end : Ends_ ram q space page protected → used_entry ram q space page protected ≡ Some k
+    by_end : Ends_ ram q space page protected big → used_entry ram q space page protected big ≡ Some k
     by_end (nowhere f none e other) = absurd (none k status (sym (ap (λ (s : Searched). s.found) e) ∙ found))
     by_end (at p i c y e other) =
         let u : IsUsed ram p = subst (λ (m : List ℕ). IsUsed m p) (sym (ap (λ (s : Searched). s.ram) e) ∙ still)
-        (paged_used ram p space page protected (inside_so ram p i) c b).1 in
-        let kept = kept_of (page_descriptor (number_at ram p 4)) protected space page in
+        (paged_used ram p space page protected big (inside_so ram p i) c b).1 in
+        let kept = kept_of (page_descriptor (number_at ram p 4)) protected space page big in
         let same : kept ≡ k = same_kept kept k _ status
-        (sym (ap (λ (s : Searched). s.found) (page_is_used ram p space page protected (inside_so ram p i) b u))
+        (sym (ap (λ (s : Searched). s.found) (page_is_used ram p space page protected big (inside_so ram p i) b u))
         ∙ sym (ap (λ (s : Searched). s.found) e) ∙ found) in
-        other ∙ page_resident ram p space page protected y u ∙ ap (λ (x : Kept). (let o : Option Kept = Some x in o)) same
+        other ∙ page_resident ram p space page protected big y u ∙ ap (λ (x : Kept). (let o : Option Kept = Some x in o)) same
 
-leaf_quiet : (ram : List ℕ) (q : ℕ) (space : Space) (page : ℕ) (protected : Bool) (k : Kept) → q % 4 ≡ 0 → AreBytes ram
-    → used_entry ram q space page protected ≡ Some k
-    → (status : ℕ) × (Leaf ram q space page protected ≡ record { ram = ram; found = Entry k status })
-leaf_quiet ram q space page protected k a b used = by_end (leaf_ends ram q space page protected a)
+leaf_quiet : (ram : List ℕ) (q : ℕ) (space : Space) (page : ℕ) (protected big : Bool) (k : Kept) → q % 4 ≡ 0 → AreBytes ram
+    → used_entry ram q space page protected big ≡ Some k
+    → (status : ℕ) × (Leaf ram q space page protected big ≡ record { ram = ram; found = Entry k status })
+leaf_quiet ram q space page protected big k a b used = by_end (leaf_ends ram q space page protected big a)
   where
-    by_end : Ends_ ram q space page protected → (status : ℕ) × (Leaf ram q space page protected ≡ record { ram = ram; found = Entry k status })
+    by_end : Ends_ ram q space page protected big → (status : ℕ) × (Leaf ram q space page protected big ≡ record { ram = ram; found = Entry k status })
     by_end (nowhere f none e other) = absurd (let z : None ≡ Some k = sym other ∙ used in let y : ⊥ = cc in y)
     by_end (at p i c y e other) =
         let long = number_at ram p 4 in
-        let kept = kept_of (page_descriptor long) protected space page in
+        let kept = kept_of (page_descriptor long) protected space page big in
         let resident = (page_descriptor long).resident in
         let marked_ = (page_descriptor long).used in
-        let here : used_page long space page protected ≡ Some k = sym other ∙ used in
+        let here : used_page long space page protected big ≡ Some k = sym other ∙ used in
         elim (cases_Bool (resident && marked_)) [
           | inr h ↦ absurd (let z : None ≡ Some k = sym (ap (λ (x : Bool). cond x (let o : Option Kept = Some kept in o) None) h) ∙ here in let w : ⊥ = cc in w)
           | inl h ↦
               let u : IsUsed ram p = used_is long (both resident marked_ h).1 in
               let same : kept ≡ k = same_Some kept k (sym (ap (λ (x : Bool). cond x (let o : Option Kept = Some kept in o) None) h) ∙ here) in (
-                resident_status long kept.w,
-                e ∙ page_is_used ram p space page protected (inside_so ram p i) b u
-                    ∙ ap (λ (x : Kept). (let s : Searched = record { ram = ram; found = Entry x (resident_status long kept.w) } in s)) same,
+                resident_status long kept.w big,
+                e ∙ page_is_used ram p space page protected big (inside_so ram p i) b u
+                    ∙ ap (λ (x : Kept). (let s : Searched = record { ram = ram; found = Entry x (resident_status long kept.w big) } in s)) same,
               )
         ]
 
 -- ---- the whole search
 
-abbrev Leaves : Space → ℕ → Bool → List ℕ → ℕ → Searched
-Leaves space page protected = leaves space page protected false
+-- the place of a page's entry
+abbrev of_page : ℕ → Bool → ℕ → ℕ
+of_page leaf big page = entry_at leaf (page_table_bytes big) (page_index big page)
 
-leaves_used : (space : Space) (page : ℕ) (protected : Bool) (r : List ℕ) (d : ℕ) → AreBytes r → StaysUsed r (Leaves space page protected r d).ram
-leaves_used space page protected r d b =
-    leaf_used r (entry_at d 256 (page_index page)) space page (protected || (table_descriptor d).protected) (omega arith) b
+abbrev Leaves : Space → ℕ → Bool → Bool → List ℕ → ℕ → Searched
+Leaves space page protected big = leaves space page protected false big
 
-pointers_used : (space : Space) (page : ℕ) (r : List ℕ) (d : ℕ) → AreBytes r → StaysUsed r (pointers space page false r d).ram
-pointers_used space page r d b =
-    level_used r (entry_at d 512 (pointer_index page)) (Leaves space page (table_descriptor d).protected) (omega arith) b
-    (leaves_used space page (table_descriptor d).protected)
+leaves_used : (space : Space) (page : ℕ) (protected big : Bool) (r : List ℕ) (d : ℕ) → AreBytes r → StaysUsed r (Leaves space page protected big r d).ram
+leaves_used space page protected big r d b =
+    leaf_used r (of_page d big page) space page (protected || (table_descriptor d).protected) big
+    (page_entry_aligned big d (page_index big page)) b
+
+pointers_used : (space : Space) (page : ℕ) (big : Bool) (r : List ℕ) (d : ℕ) → AreBytes r → StaysUsed r (pointers space page false big r d).ram
+pointers_used space page big r d b =
+    level_used r (entry_at d 512 (pointer_index page)) (Leaves space page (table_descriptor d).protected big) (omega arith) b
+    (leaves_used space page (table_descriptor d).protected big)
 
 -- Where a search for a read found a page and changed no byte, all on its way was marked.
-pub met_is_used : (ram : List ℕ) (root : ℕ) (space : Space) (page : ℕ) (k : Kept) (status : ℕ) → AreBytes ram
-    → (search_of ram root space page false).found ≡ Entry k status → (search_of ram root space page false).ram ≡ ram
-    → found_used ram root space page ≡ Some k
+pub met_is_used : (ram : List ℕ) (root : ℕ) (space : Space) (page : ℕ) (big : Bool) (k : Kept) (status : ℕ) → AreBytes ram
+    → (search_of ram root space page false big).found ≡ Entry k status → (search_of ram root space page false big).ram ≡ ram
+    → found_used ram root space page big ≡ Some k
 unfolding search_of found_used
-met_is_used ram root space page k status b found still =
+met_is_used ram root space page big k status b found still =
     let p = entry_at root 512 (root_index page) in
-    let (first, e) = level_met ram p (pointers space page false) k status (omega arith) b (pointers_used space page) found still in
+    let (first, e) = level_met ram p (pointers space page false big) k status (omega arith) b (pointers_used space page big) found still in
     let d = number_at ram p 4 in
     let q = entry_at d 512 (pointer_index page) in
-    let next = Leaves space page (table_descriptor d).protected in
-    let (second, f) = level_met ram q next k status (omega arith) b (leaves_used space page (table_descriptor d).protected)
+    let next = Leaves space page (table_descriptor d).protected big in
+    let (second, f) = level_met ram q next k status (omega arith) b (leaves_used space page (table_descriptor d).protected big)
     (sym (ap (λ (s : Searched). s.found) e) ∙ found) (sym (ap (λ (s : Searched). s.ram) e) ∙ still) in
     let l = number_at ram q 4 in
     let whole = e ∙ f in
-    let last = leaf_met ram (entry_at l 256 (page_index page)) space page ((table_descriptor d).protected || (table_descriptor l).protected) k status
-    (omega arith) b (sym (ap (λ (s : Searched). s.found) whole) ∙ found) (sym (ap (λ (s : Searched). s.ram) whole) ∙ still) in
+    let last = leaf_met ram (of_page l big page) space page ((table_descriptor d).protected || (table_descriptor l).protected) big k
+    status (page_entry_aligned big l (page_index big page)) b (sym (ap (λ (s : Searched). s.found) whole) ∙ found)
+    (sym (ap (λ (s : Searched). s.ram) whole) ∙ still) in
     ap (λ (o : Option ℕ). below_used o (λ pointer.
     below_used (used_table ram (entry_at pointer 512 (pointer_index page))) (λ leaf.
-    used_entry ram (entry_at leaf 256 (page_index page)) space page ((table_descriptor pointer).protected || (table_descriptor leaf).protected)))) first
+    used_entry ram (of_page leaf big page) space page ((table_descriptor pointer).protected || (table_descriptor leaf).protected) big))) first
     ∙ ap (λ (o : Option ℕ). below_used o (λ leaf.
-    used_entry ram (entry_at leaf 256 (page_index page)) space page ((table_descriptor d).protected || (table_descriptor leaf).protected))) second
+    used_entry ram (of_page leaf big page) space page ((table_descriptor d).protected || (table_descriptor leaf).protected) big)) second
     ∙ last
 
 below_some : (o : Option ℕ) (next : ℕ → Option Kept) (k : Kept) → below_used o next ≡ Some k → (d : ℕ) × (o ≡ Some d) × (next d ≡ Some k)
@@ -322,19 +328,19 @@ below_some None next k e = absurd (let z : ⊥ = cc in z)
 below_some (Some d) next k e = (d, refl, e)
 
 -- And where all on the way is marked, the search finds that and changes no byte.
-pub used_is_quiet : (ram : List ℕ) (root : ℕ) (space : Space) (page : ℕ) (k : Kept) → AreBytes ram → found_used ram root space page ≡ Some k
-    → (status : ℕ) × (search_of ram root space page false ≡ record { ram = ram; found = Entry k status })
+pub used_is_quiet : (ram : List ℕ) (root : ℕ) (space : Space) (page : ℕ) (big : Bool) (k : Kept) → AreBytes ram → found_used ram root space page big ≡ Some k
+    → (status : ℕ) × (search_of ram root space page false big ≡ record { ram = ram; found = Entry k status })
 unfolding search_of found_used
-used_is_quiet ram root space page k b e =
+used_is_quiet ram root space page big k b e =
     let p = entry_at root 512 (root_index page) in
     let (d, first, e1) = below_some (used_table ram p) (λ pointer.
     below_used (used_table ram (entry_at pointer 512 (pointer_index page))) (λ leaf.
-    used_entry ram (entry_at leaf 256 (page_index page)) space page ((table_descriptor pointer).protected || (table_descriptor leaf).protected))) k e in
+    used_entry ram (of_page leaf big page) space page ((table_descriptor pointer).protected || (table_descriptor leaf).protected) big)) k e in
     let q = entry_at d 512 (pointer_index page) in
     let (l, second, e2) = below_some (used_table ram q) (λ leaf.
-    used_entry ram (entry_at leaf 256 (page_index page)) space page ((table_descriptor d).protected || (table_descriptor leaf).protected)) k e1 in
-    let (status, last) = leaf_quiet ram (entry_at l 256 (page_index page)) space page ((table_descriptor d).protected || (table_descriptor l).protected) k
-    (omega arith) b e2 in (
+    used_entry ram (of_page leaf big page) space page ((table_descriptor d).protected || (table_descriptor leaf).protected) big) k e1 in
+    let (status, last) = leaf_quiet ram (of_page l big page) space page ((table_descriptor d).protected || (table_descriptor l).protected) big k
+    (page_entry_aligned big l (page_index big page)) b e2 in (
       status,
-      level_quiet ram p d (pointers space page false) b first ∙ level_quiet ram q l (Leaves space page (table_descriptor d).protected) b second ∙ last,
+      level_quiet ram p d (pointers space page false big) b first ∙ level_quiet ram q l (Leaves space page (table_descriptor d).protected big) b second ∙ last,
     )

@@ -10,7 +10,7 @@ use Rattle.std.proofs.lemmas.Slice.Eq.{bytes_eq-Decides}
 use Rattle.mb_port.specs.declared.types.Space.{Space}
 use Rattle.mb_model.specs.declared.kept.Kept.{Kept}
 use Rattle.mb_model.specs.Keeping.{KeptLists, rule_k, list_of, is_of, entry_in, oldest, displaced}
-use Rattle.mb_model.specs.Pages.{page_of}
+use Rattle.mb_model.specs.Pages.{page_of, has_big_pages}
 use Rattle.mb_model.proofs.Found.{find_yes, find_no}
 use Rattle.mb_walk.specs.declared.found.Found.{Found}
 use Rattle.mb_walk.specs.declared.found.Found.TheVariants.{Entry, Invalid, BusError}
@@ -140,11 +140,14 @@ module _ (g : Guest) (r : Reference) (reads : r.write ≡ false) (bytes : AreByt
   abbrev root : ℕ
   root = root_of g.world.mmu r.space
 
+  abbrev big : Bool
+  big = has_big_pages g.world.mmu
+
   abbrev s : Searched
-  s = search_of g.world.ram root r.space page false
+  s = search_of g.world.ram root r.space page false big
 
   abbrev used : Option Kept
-  used = found_used g.world.ram root r.space page
+  used = found_used g.world.ram root r.space page big
 
   abbrev full : Bool
   full = length kept == 256
@@ -169,7 +172,7 @@ module _ (g : Guest) (r : Reference) (reads : r.write ≡ false) (bytes : AreByt
       by_used : (o : Option Kept) → used ≡ o → o ≡ None
       by_used None e = refl
       by_used (Some k) e =
-          let (status, is) = used_is_quiet g.world.ram root r.space page k bytes e in
+          let (status, is) = used_is_quiet g.world.ram root r.space page big k bytes e in
           absurd (none k status (ap (λ (q : Searched). q.found) is))
 
   by_entry_found : (k : Kept) (status : ℕ) → s.found ≡ Entry k status → (k.space ≡ r.space) × (k.page ≡ page) → entry_in r.space page kept ≡ None
@@ -182,11 +185,11 @@ module _ (g : Guest) (r : Reference) (reads : r.write ≡ false) (bytes : AreByt
       by_used : (o : Option Kept) → used ≡ o → Shows (record { ram = s.ram; found = Entry k status }) ≡ Seen
       by_used None e =
           changed_shows g r (through k r) (by_found rule_k (record g.world { ram = s.ram }) r (Entry k status)).1 (is_none (displaced 256 k kept))
-          (λ same. let z : (let o : Option Kept = Some k in o) ≡ None = sym (met_is_used g.world.ram root r.space page k status bytes found same) ∙ e in
+          (λ same. let z : (let o : Option Kept = Some k in o) ≡ None = sym (met_is_used g.world.ram root r.space page big k status bytes found same) ∙ e in
           let y : ⊥ = cc in y)
           ∙ sym (none_seen e)
       by_used (Some j) e =
-          let (other, is) = used_is_quiet g.world.ram root r.space page j bytes e in
+          let (other, is) = used_is_quiet g.world.ram root r.space page big j bytes e in
           let same : k ≡ j = same_entry k j status other (sym found ∙ ap (λ (q : Searched). q.found) is) in
           ap (shows_by g r (by_found rule_k (record g.world { ram = s.ram }) r (Entry k status))) (displaced_is k kept here few)
           ∙ still_shows g r (through k r) (by_found rule_k (record g.world { ram = s.ram }) r (Entry k status)).1 full
@@ -210,8 +213,8 @@ module _ (g : Guest) (r : Reference) (reads : r.write ≡ false) (bytes : AreByt
   by_state (To at) e = still_shows g r (Some at) g.world false refl refl
   by_state Refused e = refl
   by_state Unsettled e =
-      ap (λ (w : Bool). Shows (search_of g.world.ram root r.space page w)) reads
-      ∙ by_search_found s.found refl (search_names r.space page g.world.ram root false) (needs_none g.world.mmu g.world.kept r reads e)
+      ap (λ (w : Bool). Shows (search_of g.world.ram root r.space page w big)) reads
+      ∙ by_search_found s.found refl (search_names r.space page g.world.ram root false big) (needs_none g.world.mmu g.world.kept r reads e)
 
   pub seen_is : can_refill g r ≡ refills_seen g r (seen g.world r)
   unfolding can_refill seen

@@ -1,18 +1,18 @@
 //! Registers of translation, flushes and tests: what is kept is dropped, and with each kept entry that goes its entry
 //! in the shadow.
 
-ghost use Rattle.std.specs.Prelude.{◌≡◌, false, if◌then◌else◌};
+ghost use Rattle.std.specs.Prelude.{◌≡◌, ◌<◌, ◌^◌, false, if◌then◌else◌};
 ghost use Rattle.vm_shadow.specs.Shadows.{nothing, dropped};
-ghost use Rattle.mb_model.specs.Keeping.{rule_k, flushed, after_movec, covers, NamesPages};
-ghost use Rattle.mb_model.specs.Pages.{page_of as page_number};
+ghost use Rattle.mb_model.specs.Keeping.{rule_k, flushed, dropped as dropped_halves, after_movec, covers, NamesPages};
+ghost use Rattle.mb_model.specs.Pages.{page_of as page_number, has_big_pages as has_big};
 ghost use Rattle.mb_machine.specs.Access.{matched};
 ghost use Rattle.mb_machine.specs.Bus.{tested, with_register};
-ghost use Rattle.vm_machine.specs.Bus.{dropped_all, after_flush, after_test};
+ghost use Rattle.vm_machine.specs.Bus.{dropped_all, after_flush, after_drop, after_test};
 
 use crate::port::GuestPort;
 use mb_instr::ControlRegister;
 use mb_machine::root;
-use mb_model::{Kept, page_of};
+use mb_model::{Kept, has_big_pages, other_half, page_of};
 use mb_port::{Flush, MmuReg, Space};
 use mb_walk::{Ram, search, transparent};
 
@@ -72,6 +72,21 @@ impl<R: Ram> GuestPort<'_, R> {
         self.tlb.flush(what);
     }
 
+    /// What PTEST drops of a page, and of the other half of it where pages have 8 KiB.
+    fn drop_halves(&mut self, space: Space, page: u32, big: bool)
+        requires { page < 2 ^ 20 }
+        ensures world { world_of self.new
+            ≡ record (world_of self.old) { kept = dropped_halves big space page (world_of self.old).kept } }
+        ensures shadow { tables_of self.new
+            ≡ after_drop big space page (world_of self.old).kept (tables_of self.old) }
+        ensures beyond { beyond_of self.new ≡ beyond_of self.old }
+    {
+        self.flushed(Flush::Page(space, page));
+        if big {
+            self.flushed(Flush::Page(space, other_half(page)));
+        }
+    }
+
     /// All is forgotten where the rule says so of a register that is written.
     fn forget(&mut self, which: MmuReg)
         ensures world { world_of self.new
@@ -109,15 +124,17 @@ impl<R: Ram> GuestPort<'_, R> {
     pub(crate) fn tested(&mut self, space: Space, at: u32, write: bool) -> u32
         ensures means { (result, world_of self.new) ≡ tested space (page_number at) write (world_of self.old) }
         ensures shadow { tables_of self.new
-            ≡ after_test (matched false (world_of self.old).mmu space (page_number at)) space (page_number at)
+            ≡ after_test (has_big (world_of self.old).mmu)
+            (matched false (world_of self.old).mmu space (page_number at)) space (page_number at)
             (world_of self.old).kept (tables_of self.old) }
         ensures beyond { beyond_of self.new ≡ beyond_of self.old }
     {
         if transparent(self.registers.dtt0, self.registers.dtt1, space, at).is_some() {
             return MATCHED;
         }
-        self.flushed(Flush::Page(space, page_of(at)));
+        let big = has_big_pages(self.registers);
+        self.drop_halves(space, page_of(at), big);
         let root = root(self.registers, space);
-        search(self, root, space, at, write).status()
+        search(self, root, space, at, write, big).status()
     }
 }

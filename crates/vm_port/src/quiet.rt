@@ -1,6 +1,6 @@
 //! A search that changes no byte.
 
-ghost use Rattle.std.specs.Prelude.{◌≡◌, ◌*◌, ◌<◌, ◌%◌, ◌⊎◌, IfSome};
+ghost use Rattle.std.specs.Prelude.{◌≡◌, ◌*◌, ◌<◌, ◌%◌, ◌^◌, IfSome};
 ghost use Rattle.mb_model.specs.Keeping.{NamesPages};
 ghost use Rattle.mb_model.specs.Pages.{page_of as page_number};
 ghost use Rattle.mb_walk.specs.Descriptors.{entry_at};
@@ -9,22 +9,18 @@ ghost use Rattle.vm_port.specs.Quiet.{used_table, used_page, used_behind, used_e
 
 use mb_model::{Kept, page_of};
 use mb_port::Space;
-use mb_walk::{PageDescriptor, Ram, TableDescriptor};
+use mb_walk::{PageDescriptor, Ram, TableDescriptor, frame_for, page_place};
 
 /// The bytes of a root or pointer table.
 const TABLE_BYTES: u32 = 512;
 
-/// The bytes of a page table.
-const PAGE_TABLE_BYTES: u32 = 256;
-
-/// The place of an entry of the table of so many bytes that a root or a descriptor names.
-fn entry_place(table: u32, bytes: u32, index: u32) -> u32
-    requires bytes { (bytes ≡ TABLE_BYTES) ⊎ (bytes ≡ PAGE_TABLE_BYTES) }
-    requires inside { 4 * index < bytes }
-    ensures place { result ≡ entry_at table bytes index }
+/// The place of an entry of the root or pointer table that a root or a descriptor names.
+fn table_place(table: u32, index: u32) -> u32
+    requires { index < 2 ^ 7 }
+    ensures place { result ≡ entry_at table TABLE_BYTES index }
     ensures aligned { result % 4 ≡ 0 }
 {
-    table / bytes * bytes + 4 * index
+    table / TABLE_BYTES * TABLE_BYTES + 4 * index
 }
 
 /// Whether the descriptor at a place stands in memory.
@@ -53,8 +49,8 @@ fn used_table<R: Ram>(ram: &R, place: u32) -> Option<u32>
 }
 
 /// What is kept of a resident page, where its descriptor is marked as used.
-fn used_page(long: u32, space: Space, page: u32, protected: bool) -> Option<Kept>
-    ensures means { result ≡ used_page long space page protected }
+fn used_page(long: u32, space: Space, page: u32, protected: bool, big: bool) -> Option<Kept>
+    ensures means { result ≡ used_page long space page protected big }
     ensures names { IfSome result (λ k. (k.space ≡ space) × (k.page ≡ page) × (k.frame < 1048576)) }
 {
     let d = PageDescriptor::of(long);
@@ -64,7 +60,7 @@ fn used_page(long: u32, space: Space, page: u32, protected: bool) -> Option<Kept
     Some(Kept {
         space,
         page,
-        frame: d.frame,
+        frame: frame_for(d.frame, page, big),
         w: protected || d.protected,
         s: d.supervisor,
         g: d.global,
@@ -80,13 +76,14 @@ fn used_behind<R: Ram>(
     space: Space,
     page: u32,
     protected: bool,
+    big: bool,
 ) -> Option<Kept>
     requires { place % 4 ≡ 0 }
-    ensures means { result ≡ used_behind (R.bytes ram.now) place space page protected }
+    ensures means { result ≡ used_behind (R.bytes ram.now) place space page protected big }
     ensures names { IfSome result (λ k. (k.space ≡ space) × (k.page ≡ page) × (k.frame < 1048576)) }
 {
     if is_inside(ram, place) {
-        used_page(ram.long(place), space, page, protected)
+        used_page(ram.long(place), space, page, protected, big)
     } else {
         None
     }
@@ -94,9 +91,16 @@ fn used_behind<R: Ram>(
 
 /// The same, by the entry of the page's table.
 #[tactic(auto, unfolding(crate::specs::Quiet::used_entry))]
-fn used_entry<R: Ram>(ram: &R, place: u32, space: Space, page: u32, protected: bool) -> Option<Kept>
+fn used_entry<R: Ram>(
+    ram: &R,
+    place: u32,
+    space: Space,
+    page: u32,
+    protected: bool,
+    big: bool,
+) -> Option<Kept>
     requires { place % 4 ≡ 0 }
-    ensures means { result ≡ used_entry (R.bytes ram.now) place space page protected }
+    ensures means { result ≡ used_entry (R.bytes ram.now) place space page protected big }
     ensures names { IfSome result (λ k. (k.space ≡ space) × (k.page ≡ page) × (k.frame < 1048576)) }
 {
     if !is_inside(ram, place) {
@@ -104,27 +108,35 @@ fn used_entry<R: Ram>(ram: &R, place: u32, space: Space, page: u32, protected: b
     }
     let long = ram.long(place);
     if PageDescriptor::of(long).indirect {
-        used_behind(ram, long / 4 * 4, space, page, protected)
+        used_behind(ram, long / 4 * 4, space, page, protected, big)
     } else {
-        used_page(long, space, page, protected)
+        used_page(long, space, page, protected, big)
     }
 }
 
 /// What a search for a read of this address finds, where each descriptor on the way is marked as used: so it changes no
 /// byte. `None` where it finds no page, or would mark a descriptor.
 #[tactic(auto, unfolding(crate::specs::Quiet::found_used))]
-pub(crate) fn quiet_search<R: Ram>(ram: &R, root: u32, space: Space, at: u32) -> Option<Kept>
-    ensures means { result ≡ found_used (R.bytes ram.now) root space (page_number at) }
+pub(crate) fn quiet_search<R: Ram>(
+    ram: &R,
+    root: u32,
+    space: Space,
+    at: u32,
+    big: bool,
+) -> Option<Kept>
+    ensures means { result ≡ found_used (R.bytes ram.now) root space (page_number at) big }
     ensures names { IfSome result (λ k. (k.space ≡ space) × (k.page ≡ page_number at) × NamesPages k) }
 {
-    let pointer = used_table(ram, entry_place(root, TABLE_BYTES, at >> 25))?;
-    let leaf = used_table(ram, entry_place(pointer, TABLE_BYTES, at >> 18 & 0x7F))?;
+    let pointer = used_table(ram, table_place(root, at >> 25))?;
+    let leaf = used_table(ram, table_place(pointer, at >> 18 & 0x7F))?;
     let protected = TableDescriptor::of(pointer).protected || TableDescriptor::of(leaf).protected;
+    let page = page_of(at);
     used_entry(
         ram,
-        entry_place(leaf, PAGE_TABLE_BYTES, page_of(at) & 0x3F),
+        page_place(leaf, page, big),
         space,
-        page_of(at),
+        page,
         protected,
+        big,
     )
 }

@@ -9,7 +9,7 @@ ghost use Rattle.vm_port.specs.Quiet.{seen, refills_seen};
 use crate::port::GuestPort;
 use crate::quiet::quiet_search;
 use mb_machine::{Reference, Settled, root, through};
-use mb_model::page_of;
+use mb_model::{has_big_pages, page_of};
 use mb_walk::Ram;
 
 impl<R: Ram> GuestPort<'_, R> {
@@ -28,7 +28,8 @@ impl<R: Ram> GuestPort<'_, R> {
                 if self.tlb.is_full() {
                     return None;
                 }
-                let k = quiet_search(self, root(self.registers, r.space), r.space, r.at)?;
+                let root = root(self.registers, r.space);
+                let k = quiet_search(self, root, r.space, r.at, has_big_pages(self.registers))?;
                 through(&k, r)
             }
         }

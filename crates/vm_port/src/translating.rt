@@ -11,7 +11,7 @@ ghost use Rattle.vm_port.specs.Stands.{IsTruthful};
 
 use crate::port::GuestPort;
 use mb_machine::{Reference, Settled, by_entry, root, through, untranslated};
-use mb_model::{PAGE_SIZE, page_of};
+use mb_model::{PAGE_SIZE, has_big_pages, page_of};
 use mb_port::Space;
 use mb_walk::{Found, Ram, search, transparent};
 
@@ -55,7 +55,8 @@ impl<R: Ram> GuestPort<'_, R> {
         ensures offset { IfSome result (λ at. offset_of at ≡ offset_of r.at) }
     {
         let root = root(self.registers, r.space);
-        match search(self, root, r.space, r.at, r.write) {
+        let big = has_big_pages(self.registers);
+        match search(self, root, r.space, r.at, r.write, big) {
             Found::Entry(k, _) => {
                 self.keep(r, k);
                 through(&k, r)

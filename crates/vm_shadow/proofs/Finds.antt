@@ -45,7 +45,7 @@ module _ (s : Placed) (ram : List ℕ) (space : Space) (page : ℕ) (m : Laid s 
       let has =
       has_pages s ram m space page h (sym (ap (λ (d : ℕ). (table_descriptor d).resident) e) ∙ r)
       (sym (ap (λ (d : ℕ). (table_descriptor d).resident) f) ∙ q) in
-      let at = ap (λ (d : ℕ). entry_at d 256 (page_index page)) f ∙ third_at s ram m space page h has in
+      let at = ap (λ (d : ℕ). entry_at d 256 (page_index false page)) f ∙ third_at s ram m space page h has in
       let low = m.tables.inside (pages_of space page) has in
       let inside : s.area + 65536 ≤ length ram = m.inside in
       let at' : b / 256 * 256 + 4 * (page % 64) ≡ s.area + 4 * in_slot (s.slot (pages_of space page)) (page % 64) = at in
@@ -66,7 +66,7 @@ module _ (s : Placed) (ram : List ℕ) (space : Space) (page : ℕ) (m : Laid s 
       let has =
       has_pages s ram m space page h (sym (ap (λ (d : ℕ). (table_descriptor d).resident) e) ∙ r)
       (sym (ap (λ (d : ℕ). (table_descriptor d).resident) f) ∙ q) in
-      ap entry_of (l ∙ ap (λ (d : ℕ). number_at ram (entry_at d 256 (page_index page)) 4) f ∙ third_is s ram m space page h has)
+      ap entry_of (l ∙ ap (λ (d : ℕ). number_at ram (entry_at d 256 (page_index false page)) 4) f ∙ third_is s ram m space page h has)
       ∙ sym (mapped_is s ram m space page h ∙ held_yes s.tables s.slot (longs ram s.area) space page has)
 
   pub entry_is : (r : Option (ℕ × Bool)) → r ≡ mapped ram root page → r ≡ entries_in ram s.area space page

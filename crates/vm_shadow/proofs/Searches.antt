@@ -67,7 +67,7 @@ abbrev kept_entry : Space → ℕ → ℕ → Bool → Kept
 kept_entry space page frame writable = record { space = space; page = page; frame = frame; w = not writable; s = false; g = false; m = true }
 
 kept_long : (space : Space) (page frame : ℕ) (writable : Bool)
-    → kept_of (page_descriptor (page_long frame writable)) false space page ≡ kept_entry space page frame writable
+    → kept_of (page_descriptor (page_long frame writable)) false space page false ≡ kept_entry space page frame writable
 kept_long space page frame true =
     let f : (4096 * frame + 25) / 4096 ≡ frame = omega arith in
     let w : (4096 * frame + 25) / 4 % 2 ≡ 0 = omega arith in
@@ -99,30 +99,30 @@ long_modified frame false = omega arith
 module _ (ram : List ℕ) (bytes : AreBytes ram) (q : ℕ) (room : q + 4 ≤ length ram) (space : Space) (page : ℕ) (write : Bool) where
   -- what is found by an entry's descriptor
   abbrev as_found : ℕ → Found
-  as_found d = let k = kept_of (page_descriptor d) false space page in Entry k (resident_status d k.w)
+  as_found d = let k = kept_of (page_descriptor d) false space page false in Entry k (resident_status d k.w false)
 
   -- an entry's descriptor, as a search leaves it
   entry_left : (frame : ℕ) (writable : Bool) → number_at ram q 4 ≡ page_long frame writable
-      → ended ram q space page false write ≡ record { ram = ram; found = found_of space page (Some (frame, writable)) }
+      → ended ram q space page false write false ≡ record { ram = ram; found = found_of space page (Some (frame, writable)) }
   entry_left frame writable e =
       let d = number_at ram q 4 in
       let resident : (page_descriptor d).resident ≡ true = ap (λ (n : ℕ). n == 1) (ap (λ (n : ℕ). n % 2) e ∙ long_resident frame writable) in
       let used : d / 2 ^ 3 % 2 ≡ 1 = ap (λ (n : ℕ). n / 2 ^ 3 % 2) e ∙ long_used frame writable in
       let modified : d / 2 ^ 4 % 2 ≡ 1 = ap (λ (n : ℕ). n / 2 ^ 4 % 2) e ∙ long_modified frame writable in
-      ended_page ram q space page false write (inside ram bytes q room) resident
-      ∙ paged_left ram q space page false write
-      ∙ ap (left ram q space page false) (marked_before d false space write used modified)
+      ended_page ram q space page false write false (inside ram bytes q room) resident
+      ∙ paged_left ram q space page false write false
+      ∙ ap (left ram q space page false false) (marked_before d false space write used modified)
       ∙ ap (λ (ram' : List ℕ). record { ram = ram'; found = as_found d })
       (long_back ram q room bytes)
       ∙ ap (λ (d : ℕ). record { ram = ram; found = as_found d }) e
-      ∙ ap (λ (k : Kept). record { ram = ram; found = Entry k (resident_status (page_long frame writable) k.w) }) (kept_long space page frame writable)
+      ∙ ap (λ (k : Kept). record { ram = ram; found = Entry k (resident_status (page_long frame writable) k.w false) }) (kept_long space page frame writable)
 
   found_by : PageCases (number_at ram q 4)
-      → ended ram q space page false write ≡ record { ram = ram; found = found_of space page (entry_of (number_at ram q 4)) }
+      → ended ram q space page false write false ≡ record { ram = ram; found = found_of space page (entry_of (number_at ram q 4)) }
   found_by (inl e) =
       let resident : (page_descriptor (number_at ram q 4)).resident ≡ false = ap (λ (n : ℕ). n % 2 == 1) e in
       let indirect : (page_descriptor (number_at ram q 4)).indirect ≡ false = ap (λ (n : ℕ). n % 4 == 2) e in
-      ended_invalid ram q space page false write (inside ram bytes q room) resident indirect
+      ended_invalid ram q space page false write false (inside ram bytes q room) resident indirect
       ∙ sym (ap (λ (n : ℕ). record { ram = ram; found = found_of space page (entry_of n) }) e)
   found_by (inr (inl e)) =
       let is : number_at ram q 4 ≡ page_long (number_at ram q 4 / 4096) true = omega arith in
@@ -134,19 +134,20 @@ module _ (ram : List ℕ) (bytes : AreBytes ram) (q : ℕ) (room : q + 4 ≤ len
       ∙ ap (λ (o : Option (ℕ × Bool)). record { ram = ram; found = found_of space page o }) (sym (ap entry_of is ∙ entry_long (number_at ram q 4 / 4096) false))
 
   pub page_found : IsPageLong (number_at ram q 4)
-      → ended ram q space page false write ≡ record { ram = ram; found = found_of space page (entry_of (number_at ram q 4)) }
+      → ended ram q space page false write false ≡ record { ram = ram; found = found_of space page (entry_of (number_at ram q 4)) }
   page_found h = found_by (page_cases (number_at ram q 4) h)
 
 -- ---- the levels of a search
 abbrev last : Space → ℕ → Bool → Bool → List ℕ → ℕ → Searched
-last space page write protected ram leaf = ended ram (entry_at leaf 256 (page_index page)) space page (protected || (table_descriptor leaf).protected) write
+last space page write protected ram leaf =
+    ended ram (entry_at leaf 256 (page_index false page)) space page (protected || (table_descriptor leaf).protected) write false
 
 abbrev lower : Space → ℕ → Bool → List ℕ → ℕ → Searched
 lower space page write ram pointer =
     and_below (descended ram (entry_at pointer 512 (pointer_index page))) (last space page write (table_descriptor pointer).protected)
 
 searched : (ram : List ℕ) (root : ℕ) (space : Space) (page : ℕ) (write : Bool)
-    → search_of ram root space page write ≡ and_below (descended ram (entry_at root 512 (root_index page))) (lower space page write)
+    → search_of ram root space page write false ≡ and_below (descended ram (entry_at root 512 (root_index page))) (lower space page write)
 unfolding search_of
 searched ram root space page write = refl
 
@@ -178,11 +179,11 @@ module _ (s : Placed) (ram : List ℕ) (of space : Space) (page : ℕ) (write : 
       let above = has_above s ram m of page h has in
       let open_first = first_open s ram m of page h above in
       let open_second = second_open s ram m of page h has in
-      let q = entry_at (second ram root page) 256 (page_index page) in
+      let q = entry_at (second ram root page) 256 (page_index false page) in
       let e = third_at s ram m of page h has in
       let inside : q + 4 ≤ length ram = let f = m.tables.inside (pages_of of page) has in let r = room in omega arith in
-      ap (λ (b : Bool). ended ram q space page (b || (table_descriptor (second ram root page)).protected) write) open_first
-      ∙ ap (λ (b : Bool). ended ram q space page b write) open_second
+      ap (λ (b : Bool). ended ram q space page (b || (table_descriptor (second ram root page)).protected) write false) open_first
+      ∙ ap (λ (b : Bool). ended ram q space page b write false) open_second
       ∙ page_found ram bytes q inside space page write (third_long s ram m of page h has)
       ∙ ap (λ (o : Option (ℕ × Bool)). record { ram = ram; found = found_of space page o })
       (ap entry_of (third_is s ram m of page h has)
@@ -206,7 +207,7 @@ module _ (s : Placed) (ram : List ℕ) (of space : Space) (page : ℕ) (write : 
             ∙ invalid k
       ]
 
-  pub search_finds : Finds (search_of ram root space page write)
+  pub search_finds : Finds (search_of ram root space page write false)
   search_finds = searched ram root space page write ∙ elim (cases_lt (number_of (pointers_of of page) s.tables) (length s.tables)) [
     | inl above ↦
         let used : first ram root page / 2 ^ 3 % 2 ≡ 1 =

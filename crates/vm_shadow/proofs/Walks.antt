@@ -121,10 +121,10 @@ module _ (s : Placed) (ram : List ℕ) (m : Laid s ram) (space : Space) (page : 
   second_none has k = second_is has ∙ link_no s.area s.slot pages s.tables k
 
   pub third_at : Has s.tables pages
-      → entry_at (second ram root page) 256 (page_index page) ≡ s.area + 4 * in_slot (s.slot pages) (page_index page)
-  third_at has = ap (λ (d : ℕ). entry_at d 256 (page_index page)) (second_link has) ∙ page_at s.area (s.slot pages) (page_index page) aligned
+      → entry_at (second ram root page) 256 (page_index false page) ≡ s.area + 4 * in_slot (s.slot pages) (page_index false page)
+  third_at has = ap (λ (d : ℕ). entry_at d 256 (page_index false page)) (second_link has) ∙ page_at s.area (s.slot pages) (page_index false page) aligned
 
-  pub third_is : Has s.tables pages → third ram root page ≡ longs ram s.area (in_slot (s.slot pages) (page_index page))
+  pub third_is : Has s.tables pages → third ram root page ≡ longs ram s.area (in_slot (s.slot pages) (page_index false page))
   third_is has = ap (λ (n : ℕ). number_at ram n 4) (third_at has)
 
   pub third_long : Has s.tables pages → IsPageLong (third ram root page)

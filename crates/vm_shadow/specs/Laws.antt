@@ -23,13 +23,14 @@ found_of space page (Some (frame, writable)) = Entry (record {
   s = false;
   g = false;
   m = true;
-}) (resident_status (page_long frame writable) (not writable))
+}) (resident_status (page_long frame writable) (not writable) false)
 
--- A search from a root, for either space, finds exactly the entries of the root's space and changes nothing.
+-- A search from a root, for either space and pages of 4 KiB, finds exactly the entries of the root's space and changes
+-- nothing.
 abbrev pub SearchesFindEntries : Type 0
 SearchesFindEntries = (s : Slots) (ram : List ℕ) (of space : Space) (page : ℕ) (write : Bool)
     → Maps s ram → AreBytes ram → page < 2 ^ 20
-    → search_of ram (root_of s.area of) space page write
+    → search_of ram (root_of s.area of) space page write false
     ≡ record { ram = ram; found = found_of space page ((shadowed s ram).entries of page) }
 
 -- The tables and what they hold are of the area's bytes alone.

@@ -17,7 +17,7 @@ abbrev pub second : List ℕ → ℕ → ℕ → ℕ
 second ram root page = number_at ram (entry_at (first ram root page) table_bytes (pointer_index page)) 4
 
 abbrev pub third : List ℕ → ℕ → ℕ → ℕ
-third ram root page = number_at ram (entry_at (second ram root page) page_table_bytes (page_index page)) 4
+third ram root page = number_at ram (entry_at (second ram root page) (page_table_bytes false) (page_index false page)) 4
 
 abbrev pub is_protected : List ℕ → ℕ → ℕ → Bool
 is_protected ram root page =

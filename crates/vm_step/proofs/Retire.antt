@@ -132,6 +132,7 @@ related_devices x w g d e r = record {
   whole = r.whole;
   ram = r.ram;
   root = r.root;
+  small = r.small;
   shadow = r.shadow;
   kept = r.kept;
   no_match = r.no_match;

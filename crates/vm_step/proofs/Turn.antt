@@ -10,6 +10,7 @@ use Rattle.mb_devices.specs.Devices.{level_of}
 use Rattle.mb_port.specs.declared.types.Mmu.{Mmu}
 use Rattle.mb_port.specs.declared.types.Space.{Space}
 use Rattle.mb_port.specs.declared.types.Space.TheVariants.{User}
+use Rattle.mb_model.specs.Pages.{has_big_pages}
 use Rattle.mb_machine.specs.Access.{untranslated}
 use Rattle.vm_shadow.specs.Mapped.{root_of}
 use Rattle.vm_meaning.proofs.KeptLemmas.{none-kept}
@@ -75,6 +76,7 @@ boards_are_ready x c world steps state g n set present has s =
           whole = s.whole;
           ram = s.ram_is;
           root = ap (λ (m : Mmu). m.urp) set.mmu;
+          small = ap has_big_pages set.mmu;
           shadow = s.shadow;
           kept = set.kept;
           no_match = λ code at write. ap (λ (m : Mmu). untranslated m (ref code User at write)) set.mmu ∙ tables.no_match code at write;

@@ -6,25 +6,23 @@ use Rattle.mb_port.specs.Routine.{Call, Answer, Fetch, Read, Write, ReadLine, Wr
 use Rattle.mb_port.specs.declared.types.Space.{Space}
 use Rattle.mb_port.specs.declared.types.Place.{Place}
 use Rattle.mb_port.specs.declared.types.MmuReg.{MmuReg}
-use Rattle.mb_port.specs.declared.types.Flush.TheVariants.{Page}
 use Rattle.mb_model.specs.declared.kept.Kept.{Kept}
 use Rattle.mb_model.specs.Keeping.{KeptLists, filled, is_of}
-use Rattle.mb_model.specs.Pages.{page_of}
+use Rattle.mb_model.specs.Pages.{page_of, has_big_pages}
 use Rattle.mb_walk.specs.declared.found.Found.{Found}
 use Rattle.mb_walk.specs.declared.found.Found.TheVariants.{Entry, Invalid, BusError}
-use Rattle.mb_walk.specs.Search.{search_of}
 use Rattle.mb_machine.specs.declared.reference.Reference.{Reference}
 use Rattle.mb_machine.specs.declared.reference.Settled.TheVariants.{To, Refused}
 use Rattle.mb_machine.specs.World.{World}
 use Rattle.mb_machine.specs.Places.{taken, stored, checked, taken_line, stored_line}
-use Rattle.mb_machine.specs.Access.{matched, root_of, settled, by_match, untranslated, searched, translated, by_settled, by_found}
+use Rattle.mb_machine.specs.Access.{matched, search_for, settled, by_match, untranslated, searched, translated, by_settled, by_found}
 use Rattle.mb_machine.specs.Access.{marks, through}
 use Rattle.mb_machine.specs.Bus.{bus_of, reading, writing, fetching, read_at, read_by, written_at, written_by, tested, tested_by, with_register}
 use Rattle.vm_meaning.specs.Free.{IsKept, StandIn, rule_free, holding, WorldWithin}
 use Rattle.vm_meaning.proofs.Blind.{IsBlind, IsBlindStore, taken-blind, taken_line-blind, checked-blind, stored-blind, stored_line-blind}
 use Rattle.vm_meaning.proofs.Blind.{read-blind, write-blind, get-blind, put-blind, blind-kept}
 use Rattle.vm_meaning.proofs.Accesses.{accesses-use_or_search}
-use Rattle.vm_meaning.proofs.KeptLemmas.{empty, head_or_tail, kept-behind, flushed-follows, filled-is, filled-first, filled-behind}
+use Rattle.vm_meaning.proofs.KeptLemmas.{empty, head_or_tail, kept-behind, flushed-follows, dropped-follows, filled-is, filled-first, filled-behind}
 use Rattle.vm_meaning.specs.Tidy.{searching_bus}
 use Rattle.vm_tidy.specs.Least.{LeadsThere, OneWayReference, IsOneWayCall, OneWayCallsHaveNoChoice}
 
@@ -58,7 +56,7 @@ searched_met : (w : World) (held : KeptLists) (r : Reference) → StandIn w.kept
     → Met (searched rule_free w r) (searched rule_free (record w { kept = [] ∷ held }) r)
 unfolding searched
 searched_met w held r stand =
-    let s = search_of w.ram (root_of w.mmu r.space) r.space (page_of r.at) r.write in
+    let s = search_for w r in
     found_met (record w { ram = s.ram }) held r s.found stand
 
 -- ---- one uses an entry, and the other searches
@@ -103,7 +101,7 @@ led_met : (t : World) (held : KeptLists) (r : Reference) (k : Kept) → IsKept k
     → Met (through k r, holding (Some k) t) (searched rule_free (record t { kept = [] ∷ held }) r)
 unfolding searched
 led_met t held r k there stand a =
-    let s = search_of t.ram (root_of t.mmu r.space) r.space (page_of r.at) r.write in
+    let s = search_for t r in
     led_in t held r k s.ram s.found (sym a.still) there stand a.place
 
 -- ---- a translation
@@ -211,7 +209,7 @@ tested_by_met w held space page write None stand = record {
   answer = refl;
   world = record {
     same = refl;
-    kept = flushed-follows (Page space page) w.kept ([] ∷ held) (λ k h. kept-behind [] held k (stand k h));
+    kept = dropped-follows (has_big_pages w.mmu) space page w.kept ([] ∷ held) (λ k h. kept-behind [] held k (stand k h));
   };
 }
 

@@ -24,7 +24,7 @@ use Rattle.mb_meaning.specs.Control.{setting_control, to_control_of, movec_of}
 use Rattle.mb_meaning.specs.Moves.{moveq_of, move_of, lea_of}
 use Rattle.mb_meaning.specs.Operands.{load_of, store_of, operand_of, address_of, storing}
 use Rattle.mb_meaning.specs.Rows.{perform_move_of, row_of, perform_of}
-use Rattle.mb_meaning.specs.Spaces.{pflush_of}
+use Rattle.mb_meaning.specs.Spaces.{flushed_beside, pflush_of}
 use Rattle.mb_meaning.specs.Step.{finish_of, supervised_of, unprivileged_of, executed_of, instruction_of, step_of}
 use Rattle.mb_meaning.specs.System.{perform_system_of}
 use Rattle.mb_machine.specs.Access.{untranslated, through, by_entry, settled, searched, translated}
@@ -62,7 +62,7 @@ operands_on_images = tt
 
 -- what they do
 unfoldable pub instructions_on_images : ⊤
-unfolding setting_control to_control_of movec_of moveq_of move_of lea_of perform_move_of row_of perform_of pflush_of perform_system_of
+unfolding setting_control to_control_of movec_of moveq_of move_of lea_of perform_move_of row_of perform_of flushed_beside pflush_of perform_system_of
 instructions_on_images = tt
 
 -- what a step unfolds

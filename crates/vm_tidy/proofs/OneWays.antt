@@ -9,19 +9,18 @@ use Rattle.mb_model.specs.Pages.{page_of}
 use Rattle.mb_walk.specs.Descriptors.{is_user}
 use Rattle.mb_walk.specs.declared.found.Found.{Found}
 use Rattle.mb_walk.specs.declared.found.Found.TheVariants.{Entry, Invalid, BusError}
-use Rattle.mb_walk.specs.Search.{search_of}
 use Rattle.mb_devices.specs.Devices.{level_of}
 use Rattle.mb_laws.specs.Relations.{Along}
 use Rattle.mb_meaning.specs.Step.{step_of}
 use Rattle.mb_machine.specs.declared.reference.Reference.{Reference}
 use Rattle.mb_machine.specs.declared.reference.Settled.TheVariants.{To, Refused}
 use Rattle.mb_machine.specs.World.{World}
-use Rattle.mb_machine.specs.Access.{root_of, untranslated, searched, translated, by_settled, by_found, admits, marks, through}
+use Rattle.mb_machine.specs.Access.{search_for, untranslated, searched, translated, by_settled, by_found, admits, marks, through}
 use Rattle.mb_machine.specs.Bus.{reference_of}
 use Rattle.mb_machine.specs.Machine.{begun}
 use Rattle.vm_meaning.specs.Free.{IsKept, rule_free, holding}
 use Rattle.vm_meaning.proofs.Accesses.{accesses-use_or_search}
-use Rattle.vm_meaning.specs.Tidy.{searching_bus, searching_step, search_for, Counts, Agrees, IsTidyReference}
+use Rattle.vm_meaning.specs.Tidy.{searching_bus, searching_step, Counts, Agrees, IsTidyReference}
 use Rattle.vm_tidy.specs.Least.{LeadsThere, OneWayReference, SameByAny, OneWayIsLeast, TidyCallsAreOneWay, TidyRunsAreOneWay}
 use Rattle.vm_tidy.specs.Laws.{TidyCallsHaveNoChoice}
 use Rattle.vm_tidy.proofs.NoChoices.{by_match_of, one_way_calls-have_no_choice}
@@ -44,7 +43,7 @@ place_of r w k f e status found same = sym same ∙ ap (λ (g : Found). (by_foun
 agreeing_leads : (r : Reference) (w : World) (k : Kept) → Agrees r w k → LeadsThere r w k
 unfolding searched
 agreeing_leads r w k a =
-    let s = search_of w.ram (root_of w.mmu r.space) r.space (page_of r.at) r.write in
+    let s = search_for w r in
     record {
       place = place_of r (record (holding None w) { ram = s.ram }) k s.found a.entry a.status a.found (through_same a.entry k r a.frame a.same_w a.same_s);
       still = a.still;
@@ -88,7 +87,7 @@ found_ram w r BusError = refl
 searched_ram : (r : Reference) (w : World) (entry : Option Kept) → (searched rule_free (holding entry w) r).1.ram ≡ (search_for w r).ram
 unfolding searched
 searched_ram r w entry =
-    let s = search_of w.ram (root_of w.mmu r.space) r.space (page_of r.at) r.write in
+    let s = search_for w r in
     found_ram (record (holding entry w) { ram = s.ram }) r s.found
 
 found_place : (v w : World) (r : Reference) (f : Found) → (by_found rule_free v r f).0 ≡ (by_found rule_free w r f).0
@@ -100,7 +99,7 @@ searched_place : (r : Reference) (w : World) (entry : Option Kept)
     → (searched rule_free (holding entry w) r).0 ≡ (searched rule_free (holding None w) r).0
 unfolding searched
 searched_place r w entry =
-    let s = search_of w.ram (root_of w.mmu r.space) r.space (page_of r.at) r.write in
+    let s = search_for w r in
     found_place (record (holding entry w) { ram = s.ram }) (record (holding None w) { ram = s.ram }) r s.found
 
 -- where both search

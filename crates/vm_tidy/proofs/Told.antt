@@ -16,11 +16,11 @@ use Rattle.mb_meaning.specs.Step.{step_of}
 use Rattle.mb_laws.specs.Relations.{Along}
 use Rattle.mb_machine.specs.declared.reference.Reference.{Reference}
 use Rattle.mb_machine.specs.World.{World}
-use Rattle.mb_machine.specs.Access.{untranslated, marks}
+use Rattle.mb_machine.specs.Access.{untranslated, marks, search_for}
 use Rattle.mb_machine.specs.Bus.{reference_of}
 use Rattle.mb_machine.specs.Machine.{Machine, Entries, begun, takes_steps, start}
 use Rattle.vm_meaning.specs.Free.{IsKept, rule_free}
-use Rattle.vm_meaning.specs.Tidy.{searching_bus, searching_step, search_for, Counts, Agrees, IsTidyReference, IsTidyCall, IsTidyStep, IsTidyRun}
+use Rattle.vm_meaning.specs.Tidy.{searching_bus, searching_step, Counts, Agrees, IsTidyReference, IsTidyCall, IsTidyStep, IsTidyRun}
 use Rattle.vm_meaning.proofs.KeptLemmas.{empty, head_or_tail}
 use Rattle.vm_tidy.specs.Deciding.{same_bit, counts, is_found_as, agrees, is_tidy_entry, is_tidy_reference, is_tidy_call}
 use Rattle.vm_tidy.specs.Deciding.{passes_along, is_tidy_step, is_tidy_run, TidyRunsAreTold, TidyIsTold}

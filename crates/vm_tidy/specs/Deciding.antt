@@ -13,11 +13,11 @@ use Rattle.mb_devices.specs.Devices.{level_of}
 use Rattle.mb_meaning.specs.Step.{step_of}
 use Rattle.mb_machine.specs.declared.reference.Reference.{Reference}
 use Rattle.mb_machine.specs.World.{World}
-use Rattle.mb_machine.specs.Access.{untranslated, marks}
+use Rattle.mb_machine.specs.Access.{untranslated, marks, search_for}
 use Rattle.mb_machine.specs.Bus.{reference_of}
 use Rattle.mb_machine.specs.Machine.{Machine, Contents, Entries, begun, takes_steps, start}
 use Rattle.vm_meaning.specs.Free.{rule_free}
-use Rattle.vm_meaning.specs.Tidy.{searching_bus, searching_step, search_for, IsTidyRun, Tidy}
+use Rattle.vm_meaning.specs.Tidy.{searching_bus, searching_step, IsTidyRun, Tidy}
 
 -- ---- an access
 

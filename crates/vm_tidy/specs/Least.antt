@@ -5,11 +5,11 @@ use Rattle.mb_model.specs.declared.kept.Kept.{Kept}
 use Rattle.mb_laws.specs.Relations.{NoChoice}
 use Rattle.mb_machine.specs.declared.reference.Reference.{Reference}
 use Rattle.mb_machine.specs.World.{World}
-use Rattle.mb_machine.specs.Access.{untranslated, searched, through, translated}
+use Rattle.mb_machine.specs.Access.{untranslated, search_for, searched, through, translated}
 use Rattle.mb_machine.specs.Bus.{reference_of}
 use Rattle.mb_machine.specs.Machine.{Entries, Machine}
 use Rattle.vm_meaning.specs.Free.{IsKept, rule_free, holding, FreeCall, FreeRun, WorldWithin, Within}
-use Rattle.vm_meaning.specs.Tidy.{searching_bus, searching_run, search_for, Counts, IsTidyCall, IsTidyRun}
+use Rattle.vm_meaning.specs.Tidy.{searching_bus, searching_run, Counts, IsTidyCall, IsTidyRun}
 use Rattle.vm_tidy.specs.Runs.{AlongRun}
 
 -- ---- an access
