@@ -10,3 +10,4 @@ pub mod Again
 pub mod Inside
 pub mod MetPlaces
 pub mod Named
+pub mod QuietSearches

@@ -2,5 +2,6 @@ pub mod Memory
 pub mod Descriptors
 pub mod Transparent
 pub mod Search
+pub mod Quiet
 pub mod Laws
 pub mod Parts

@@ -8,6 +8,7 @@ mod found;
 mod laws;
 mod longs;
 mod numbers;
+mod quiet;
 mod ram;
 mod searching;
 mod transparency;
@@ -20,6 +21,7 @@ pub use laws::{
 };
 pub use longs::{long_at, set_long_at, size_of};
 pub use numbers::{number_at, number_in, overwrite, set_number_at, set_number_in};
+pub use quiet::quiet_search;
 pub use ram::Ram;
-pub use searching::{frame_for, page_place, search};
+pub use searching::search;
 pub use transparency::transparent;

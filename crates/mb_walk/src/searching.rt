@@ -16,7 +16,7 @@ use mb_model::{Kept, page_of};
 use mb_port::Space;
 
 /// The bytes of a root or pointer table.
-const TABLE_BYTES: u32 = 512;
+pub(crate) const TABLE_BYTES: u32 = 512;
 
 /// The bytes of a page table.
 const PAGE_TABLE_BYTES: u32 = 256;
@@ -37,7 +37,7 @@ struct Sought {
 
 /// The place of an entry of the table of so many bytes that a root or a descriptor names.
 #[inline(always)]
-fn entry_place(table: u32, bytes: u32, index: u32) -> u32
+pub(crate) fn entry_place(table: u32, bytes: u32, index: u32) -> u32
     requires bytes { (bytes ≡ TABLE_BYTES) ⊎ (bytes ≡ PAGE_TABLE_BYTES) ⊎ (bytes ≡ BIG_PAGE_TABLE_BYTES) }
     requires inside { 4 * index < bytes }
     ensures place { result ≡ entry_at table bytes index }
@@ -48,7 +48,7 @@ fn entry_place(table: u32, bytes: u32, index: u32) -> u32
 
 /// The place of the entry of a page of 4 KiB in the page table that a descriptor names, of pages of 8 KiB or not.
 #[inline(always)]
-pub fn page_place(table: u32, page: u32, big: bool) -> u32
+pub(crate) fn page_place(table: u32, page: u32, big: bool) -> u32
     ensures place { result ≡ entry_at table (page_table_bytes big) (page_index big page) }
     ensures aligned { result % 4 ≡ 0 }
 {
@@ -61,7 +61,7 @@ pub fn page_place(table: u32, page: u32, big: bool) -> u32
 
 /// Whether the descriptor at a place stands in memory.
 #[inline(always)]
-fn is_inside<R: Ram>(ram: &R, place: u32) -> bool
+pub(crate) fn is_inside<R: Ram>(ram: &R, place: u32) -> bool
     ensures { result ≡ stands_inside (R.bytes ram.now) place }
 {
     u64::from(place) + 4 <= u64::from(ram.size())
@@ -90,7 +90,7 @@ fn mark(long: u32, protected: bool, sought: Sought) -> u32
 
 /// The frame of a page of 4 KiB: that of its descriptor, or of one of 8 KiB the half that bit 12 of the address names.
 #[inline(always)]
-pub fn frame_for(frame: u32, page: u32, big: bool) -> u32
+pub(crate) fn frame_for(frame: u32, page: u32, big: bool) -> u32
     requires { frame < 2 ^ 20 }
     ensures value { result ≡ in_half big frame page }
     ensures range { result < 2 ^ 20 }

@@ -2,5 +2,4 @@ pub mod Frames
 pub mod Owns
 pub mod Truth
 pub mod Covered
-pub mod QuietSearches
 pub mod SeenReads

@@ -29,8 +29,9 @@ use Rattle.vm_machine.specs.Bus.{gone_found, gone_settled, gone, is_split, is_in
 use Rattle.vm_machine.specs.Refills.{shows_nothing, can_refill}
 use Rattle.vm_held.proofs.Stages.{entry_used, translated_by}
 use Rattle.vm_held.proofs.Accesses.{entry_at_page, settled_at, search_needed}
-use Rattle.vm_port.specs.Quiet.{found_used, seen_found, seen_by, seen, refills_seen}
-use Rattle.vm_port.proofs.QuietSearches.{met_is_used, used_is_quiet}
+use Rattle.mb_walk.specs.Quiet.{found_used}
+use Rattle.vm_port.specs.Quiet.{seen_found, seen_by, seen, refills_seen}
+use Rattle.mb_walk.proofs.QuietSearches.{met_is_used, used_is_quiet}
 
 none_passes : (a b c : Bool) → (a && (b && false)) ≡ false
 none_passes true true c = refl

@@ -8,7 +8,6 @@ mod bus_port;
 mod flushing;
 mod places;
 mod port;
-mod quiet;
 mod refilling;
 mod tables;
 mod translating;

@@ -7,10 +7,9 @@ ghost use Rattle.vm_machine.specs.Refills.{after_access, can_refill};
 ghost use Rattle.vm_port.specs.Quiet.{seen, refills_seen};
 
 use crate::port::GuestPort;
-use crate::quiet::quiet_search;
 use mb_machine::{Reference, Settled, root, through};
 use mb_model::{has_big_pages, page_of};
-use mb_walk::Ram;
+use mb_walk::{Ram, quiet_search};
 
 impl<R: Ram> GuestPort<'_, R> {
     ghost use Rattle.vm_port.specs.Parts.{guest_of, beyond_of, world_of};

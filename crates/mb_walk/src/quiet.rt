@@ -1,34 +1,15 @@
 //! A search that changes no byte.
 
-ghost use Rattle.std.specs.Prelude.{◌≡◌, ◌*◌, ◌<◌, ◌%◌, ◌^◌, IfSome};
+ghost use Rattle.std.specs.Prelude.{◌≡◌, ◌*◌, ◌<◌, ◌%◌, IfSome};
 ghost use Rattle.mb_model.specs.Keeping.{NamesPages};
 ghost use Rattle.mb_model.specs.Pages.{page_of as page_number};
-ghost use Rattle.mb_walk.specs.Descriptors.{entry_at};
-ghost use Rattle.mb_walk.specs.Search.{is_inside as stands_inside};
-ghost use Rattle.vm_port.specs.Quiet.{used_table, used_page, used_behind, used_entry, found_used};
+ghost use Rattle.mb_walk.specs.Quiet.{used_table, used_page, used_behind, used_entry, found_used};
 
+use crate::descriptors::{PageDescriptor, TableDescriptor};
+use crate::ram::Ram;
+use crate::searching::{TABLE_BYTES, entry_place, frame_for, is_inside, page_place};
 use mb_model::{Kept, page_of};
 use mb_port::Space;
-use mb_walk::{PageDescriptor, Ram, TableDescriptor, frame_for, page_place};
-
-/// The bytes of a root or pointer table.
-const TABLE_BYTES: u32 = 512;
-
-/// The place of an entry of the root or pointer table that a root or a descriptor names.
-fn table_place(table: u32, index: u32) -> u32
-    requires { index < 2 ^ 7 }
-    ensures place { result ≡ entry_at table TABLE_BYTES index }
-    ensures aligned { result % 4 ≡ 0 }
-{
-    table / TABLE_BYTES * TABLE_BYTES + 4 * index
-}
-
-/// Whether the descriptor at a place stands in memory.
-fn is_inside<R: Ram>(ram: &R, place: u32) -> bool
-    ensures { result ≡ stands_inside (R.bytes ram.now) place }
-{
-    u64::from(place) + 4 <= u64::from(ram.size())
-}
 
 /// The descriptor of a resident table, where it is marked as used.
 #[tactic(auto, unfolding(crate::specs::Quiet::used_table))]
@@ -117,18 +98,12 @@ fn used_entry<R: Ram>(
 /// What a search for a read of this address finds, where each descriptor on the way is marked as used: so it changes no
 /// byte. `None` where it finds no page, or would mark a descriptor.
 #[tactic(auto, unfolding(crate::specs::Quiet::found_used))]
-pub(crate) fn quiet_search<R: Ram>(
-    ram: &R,
-    root: u32,
-    space: Space,
-    at: u32,
-    big: bool,
-) -> Option<Kept>
+pub fn quiet_search<R: Ram>(ram: &R, root: u32, space: Space, at: u32, big: bool) -> Option<Kept>
     ensures means { result ≡ found_used (R.bytes ram.now) root space (page_number at) big }
     ensures names { IfSome result (λ k. (k.space ≡ space) × (k.page ≡ page_number at) × NamesPages k) }
 {
-    let pointer = used_table(ram, table_place(root, at >> 25))?;
-    let leaf = used_table(ram, table_place(pointer, at >> 18 & 0x7F))?;
+    let pointer = used_table(ram, entry_place(root, TABLE_BYTES, at >> 25))?;
+    let leaf = used_table(ram, entry_place(pointer, TABLE_BYTES, at >> 18 & 0x7F))?;
     let protected = TableDescriptor::of(pointer).protected || TableDescriptor::of(leaf).protected;
     let page = page_of(at);
     used_entry(

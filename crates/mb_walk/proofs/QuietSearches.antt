@@ -18,7 +18,7 @@ use Rattle.mb_walk.proofs.LongLemmas.{long_same, long_other, long_back, long_sma
 use Rattle.mb_walk.proofs.Marks.{Marks, used_marks, used_before, marked_marks, page_entry_aligned}
 use Rattle.mb_walk.proofs.Again.{inside_so, outside, stops, goes, left, paged_left, pointed_outside, pointed_invalid, pointed_page, ended_outside, ended_page}
 use Rattle.mb_walk.proofs.Again.{ended_indirect, ended_invalid, leaves, pointers}
-use Rattle.vm_port.specs.Quiet.{used_table, below_used, used_page, used_behind, used_entry, found_used}
+use Rattle.mb_walk.specs.Quiet.{used_table, below_used, used_page, used_behind, used_entry, found_used}
 
 -- ---- what a search leaves is marked
 
