@@ -11,12 +11,12 @@ use Rattle.mb_model.specs.Keeping.{rule_a, rule_k}
 use Rattle.mb_model.specs.Seen.{Seen}
 use Rattle.mb_report.specs.Same.{same_seen}
 use Rattle.vm_meaning.specs.Native.{NativeState}
-use Rattle.vm_guest.specs.Session.{GuestAtStart, SessionAtStart}
+use Rattle.vm_guest.specs.Session.{GuestAtStart}
 use Rattle.vm_slices.specs.Fit.{Fits}
 use Rattle.vm_slices.specs.Members.{numbered, shown_of}
 use Rattle.vm_slices.specs.Places.{HostState, members_in}
 use Rattle.mb_program.specs.Answers.{compare_answer, compare_shown, compared_text, is_same, outcome_by, texts_from}
-use Rattle.mb_program.specs.Direct.{CarriedOut}
+use Rattle.mb_program.specs.Direct.{CarriedOut, Ordered}
 use Rattle.mb_program.specs.Compares.{found_of, outcome_ahead, same_each}
 use Rattle.mb_program.specs.Ends.{SinkSeen, GivesAnswer}
 use Rattle.mb_program.proofs.ShowLemmas.{fitting}
@@ -140,31 +140,31 @@ status_so : (guests : List GuestAtStart) (all : Bool) (found : List Bool) → fo
 status_so guests all found same is =
     ap (λ (b : Bool). let n : ℕ = cond b 0 1 in n) (sym (is ∙ ap (λ bs. list_all (λ (same : Bool). same) bs) same ∙ all_said guests))
 
-pub compared_same : (s : SessionAtStart) (found : List Bool) (out out_after : SinkSeen) (native native_after : NativeState) → Fits s
-    → found ≡ map is_same s.guests → CarriedOut s native native_after → true ≡ list_all (λ (same : Bool). same) found
+pub compared_same : (s : Ordered) (found : List Bool) (out out_after : SinkSeen) (native native_after : NativeState) → Fits s.session
+    → found ≡ map is_same s.session.guests → CarriedOut s native native_after → true ≡ list_all (λ (same : Bool). same) found
     → Printed out.taken out_after.taken out.faults out_after.faults (texts_from compared_text 1 found)
     → GivesAnswer (compare_answer s) out out_after native native_after Done
 compared_same s found out out_after native native_after fits same counted all printed =
-    let text : Printed out.taken out_after.taken out.faults out_after.faults (texts_from compared_text 1 (map is_same s.guests)) =
+    let text : Printed out.taken out_after.taken out.faults out_after.faults (texts_from compared_text 1 (map is_same s.session.guests)) =
     subst (λ (bs : List Bool). Printed out.taken out_after.taken out.faults out_after.faults (texts_from compared_text 1 bs)) same printed in
-    fitting s (compare_shown s) out out_after native native_after Done fits
-    (λ shelf shelf_after stayed. (stayed, printed.same, (text, status_so s.guests true found same all, counted), (refl, refl)))
+    fitting s.session (compare_shown s) out out_after native native_after Done fits
+    (λ shelf shelf_after stayed. (stayed, printed.same, (text, status_so s.session.guests true found same all, counted), (refl, refl)))
 
-pub compared_other : (s : SessionAtStart) (found : List Bool) (out out_after : SinkSeen) (native native_after : NativeState) → Fits s
-    → found ≡ map is_same s.guests → CarriedOut s native native_after → false ≡ list_all (λ (same : Bool). same) found
+pub compared_other : (s : Ordered) (found : List Bool) (out out_after : SinkSeen) (native native_after : NativeState) → Fits s.session
+    → found ≡ map is_same s.session.guests → CarriedOut s native native_after → false ≡ list_all (λ (same : Bool). same) found
     → Printed out.taken out_after.taken out.faults out_after.faults (texts_from compared_text 1 found)
     → GivesAnswer (compare_answer s) out out_after native native_after Differs
 compared_other s found out out_after native native_after fits same counted all printed =
-    let text : Printed out.taken out_after.taken out.faults out_after.faults (texts_from compared_text 1 (map is_same s.guests)) =
+    let text : Printed out.taken out_after.taken out.faults out_after.faults (texts_from compared_text 1 (map is_same s.session.guests)) =
     subst (λ (bs : List Bool). Printed out.taken out_after.taken out.faults out_after.faults (texts_from compared_text 1 bs)) same printed in
-    fitting s (compare_shown s) out out_after native native_after Differs fits
-    (λ shelf shelf_after stayed. (stayed, printed.same, (text, status_so s.guests false found same all, counted), (refl, refl)))
+    fitting s.session (compare_shown s) out out_after native native_after Differs fits
+    (λ shelf shelf_after stayed. (stayed, printed.same, (text, status_so s.session.guests false found same all, counted), (refl, refl)))
 
-pub compared_cut : (s : SessionAtStart) (found : List Bool) (out out_after : SinkSeen) (native native_after : NativeState) → Fits s
-    → found ≡ map is_same s.guests → CarriedOut s native native_after
+pub compared_cut : (s : Ordered) (found : List Bool) (out out_after : SinkSeen) (native native_after : NativeState) → Fits s.session
+    → found ≡ map is_same s.session.guests → CarriedOut s native native_after
     → PrintedPart out.taken out_after.taken out.faults out_after.faults (texts_from compared_text 1 found)
     → GivesAnswer (compare_answer s) out out_after native native_after Output
 compared_cut s found out out_after native native_after fits same counted printed =
-    let part : PrintedPart out.taken out_after.taken out.faults out_after.faults (texts_from compared_text 1 (map is_same s.guests)) =
+    let part : PrintedPart out.taken out_after.taken out.faults out_after.faults (texts_from compared_text 1 (map is_same s.session.guests)) =
     subst (λ (bs : List Bool). PrintedPart out.taken out_after.taken out.faults out_after.faults (texts_from compared_text 1 bs)) same printed in
-    fitting s (compare_shown s) out out_after native native_after Output fits (λ shelf shelf_after stayed. (stayed, printed.rose, (part, counted)))
+    fitting s.session (compare_shown s) out out_after native native_after Output fits (λ shelf shelf_after stayed. (stayed, printed.rose, (part, counted)))

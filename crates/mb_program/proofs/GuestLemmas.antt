@@ -4,8 +4,9 @@ use Rattle.std.proofs.lemmas.List.{drop-map}
 use Rattle.mb_script.specs.Plan.{Guest, Plan}
 use Rattle.mb_machine.specs.Machine.{Contents, Entries}
 use Rattle.mb_words.specs.Words.{Text, Run}
-use Rattle.vm_guest.specs.Session.{GuestAtStart, SessionAtStart}
+use Rattle.vm_guest.specs.Session.{GuestAtStart}
 use Rattle.mb_program.specs.Answers.{Course, image_in, script_in, session_in, guest_by, session_by, run_of_guest, reads_as, reads_if_named, reads_guest, reads_guests, reads_session}
+use Rattle.mb_program.specs.Direct.{Ordered}
 use Rattle.mb_program.specs.Ends.{Around, ShelfSeen, CourseEnds}
 use Rattle.mb_program.specs.Reads.{Passes}
 use Rattle.mb_program.specs.declared.end.End.{End}
@@ -112,21 +113,22 @@ next_ends shown f plans i plan run read end s t u within is same h p =
 
 -- ---- sessions
 
-behind_plan : (SessionAtStart → Course) → Plan → Course
+behind_plan : (Ordered → Course) → Plan → Course
 behind_plan next plan = reads_guests plan.guests [] (λ guests. next (session_by plan guests))
 
-pub session_read : {X Y : Type 0} (name : Text) (seen : X → Plan) (view : Y → List GuestAtStart) (s t u : ShelfSeen) (x : X) (y : Y) (session : SessionAtStart)
-    → session ≡ session_by (seen x) (view y)
+pub session_read : {X Y Z : Type 0} (name : Text) (seen : X → Plan) (view : Y → List GuestAtStart) (shown : Z → Ordered)
+    (s t u : ShelfSeen) (x : X) (y : Y) (session : Z)
+    → shown session ≡ session_by (seen x) (view y)
     → Passes (reads_as session_in name) seen s t (Ok x) → Passes (reads_guests (seen x).guests []) view t u (Ok y)
-    → Passes (reads_session name) (λ (r : SessionAtStart). r) s u (Ok session)
+    → Passes (reads_session name) shown s u (Ok session)
 unfolding behind_plan
-session_read name seen view s t u x y session is p q = (
+session_read name seen view shown s t u x y session is p q = (
   q.0 ∙ p.0,
   λ next a end same e. p.1 (behind_plan next) a end same (q.1 (λ guests. next (session_by (seen x) guests)) a end (same ∙ sym p.0)
-      (subst (λ (r : SessionAtStart). CourseEnds (next r) a end) is e)),
+      (subst (λ (r : Ordered). CourseEnds (next r) a end) is e)),
 )
 
-pub guests_end : {X Y Z : Type 0} (name : Text) (seen : X → Plan) (view : Y → List GuestAtStart) (shown : Z → SessionAtStart)
+pub guests_end : {X Y Z : Type 0} (name : Text) (seen : X → Plan) (view : Y → List GuestAtStart) (shown : Z → Ordered)
     (s t u : ShelfSeen) (x : X) (end : End)
     → Passes (reads_as session_in name) seen s t (Ok x) → Passes (reads_guests (seen x).guests []) view t u (Err end)
     → Passes (reads_session name) shown s u (Err end)
@@ -134,7 +136,7 @@ unfolding behind_plan
 guests_end name seen view shown s t u x end p q = λ next a same same_after nothing.
     p.1 (behind_plan next) a end same (q (λ guests. next (session_by (seen x) guests)) a (same ∙ sym p.0) same_after nothing)
 
-pub plan_ends : {X Z : Type 0} (name : Text) (seen : X → Plan) (shown : Z → SessionAtStart) (s t : ShelfSeen) (end : End)
+pub plan_ends : {X Z : Type 0} (name : Text) (seen : X → Plan) (shown : Z → Ordered) (s t : ShelfSeen) (end : End)
     → Passes (reads_as session_in name) seen s t (Err end) → Passes (reads_session name) shown s t (Err end)
 unfolding behind_plan
 plan_ends name seen shown s t end p = λ next a same same_after nothing. p (behind_plan next) a same same_after nothing

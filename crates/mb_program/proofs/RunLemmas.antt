@@ -1,5 +1,5 @@
 -- The guests of a session after their rounds show the outcomes of their own runs.
-use Rattle.std.proofs.Common.{◌≡◌, ◌∙◌, ◌<◌, ℕ, ◌+◌, inl, inr, List, [], ◌∷◌, map, refl, sym, ap, arith, Result, Ok, Err, sum_by}
+use Rattle.std.proofs.Common.{◌≡◌, ◌∙◌, ◌<◌, ℕ, ◌+◌, inl, inr, List, [], ◌∷◌, ◌++◌, map, refl, sym, ap, subst, arith, Result, Ok, Err, sum_by}
 use Rattle.std.specs.Prelude.{◌-◌}
 use Rattle.std.proofs.lemmas.List.Sums.{sum_by-cons}
 use Rattle.std.proofs.lemmas.Bool.Decides.{leb_tells}
@@ -13,12 +13,15 @@ use Rattle.vm_guest.specs.Session.{GuestAtStart, SessionAtStart}
 use Rattle.vm_slices.specs.Counting.{AreCounted, exits_by, retired_by}
 use Rattle.vm_slices.specs.Fit.{Fits, need_of}
 use Rattle.vm_slices.specs.Places.{HostState}
+use Rattle.vm_slices.proofs.Places.{counted_on}
+use Rattle.mb_script.specs.declared.turn.Turn.{Turn}
 use Rattle.vm_slices.specs.declared.open_fault.OpenFault.{OpenFault}
 use Rattle.vm_slices.specs.declared.open_fault.OpenFault.TheVariants as open_fault
 use Rattle.mb_program.specs.Runs.{Runs}
 use Rattle.vm_slices.specs.Members.{after_rounds, machine_at_end, machines_of, member_at_start, shown_of, tallies_of, tally_at_end}
 use Rattle.mb_program.specs.Answers.{outcome_by}
-use Rattle.mb_program.specs.Direct.{CarriedOut, hosted_by, tallies_by, tally_by}
+use Rattle.mb_program.specs.Direct.{CarriedOut, Ordered, hosted_by, tallies_by, tally_by}
+use Rattle.vm_slices.specs.Orders.{after_order}
 
 -- a guest has all its steps left at its start
 all_left : (g : GuestAtStart) → left (member_at_start g) ≡ g.steps
@@ -79,26 +82,42 @@ exits_sum : (members : List Member) → exits_by members ≡ sum_by exits (talli
 exits_sum [] = refl
 exits_sum (m ∷ members) = ap (λ (n : ℕ). exits m.tally + n) (exits_sum members) ∙ sym (sum_by-cons exits m.tally (tallies_of members))
 
--- from the start of all guests to their end
-pub carried_so : (s : SessionAtStart) (slice : ℕ) (before after : List Member) (native native_after : NativeState)
-    → before ≡ map member_at_start s.guests → slice ≡ s.slice → tallies_of after ≡ map tally_at_end before
-    → AreCounted before after (after_rounds slice before).marks native native_after → CarriedOut s native native_after
+-- the turns that are named, and then the rounds
+marked_so : (s : Ordered) (slice : ℕ) (before turned : List Member) → before ≡ map member_at_start s.session.guests → slice ≡ s.session.slice
+    → turned ≡ (after_order s.order before).members → (after_order s.order before).marks ++ (after_rounds slice turned).marks ≡ (hosted_by s).marks
 unfolding hosted_by
-carried_so s slice before after native native_after begun same ended counted =
-    let tallies = tallied_so s.guests before after begun ended in
-    let none : retired_by before ≡ 0 = ap (λ ms. retired_by ms) begun ∙ none_retired s.guests in
-    let stayed : exits_by before ≡ 0 = ap (λ ms. exits_by ms) begun ∙ none_left s.guests in
-    let sum : retired_by after ≡ sum_by (λ (t : Tally). t.retired) (tallies_by s.guests) =
+marked_so s slice before turned begun same is =
+    ap (λ ms. (after_order s.order before).marks ++ (after_rounds slice ms).marks) is
+    ∙ ap (λ (n : ℕ). (after_order s.order before).marks ++ (after_rounds n (after_order s.order before).members).marks) same
+    ∙ ap (λ ms. (after_order s.order ms).marks ++ (after_rounds s.session.slice (after_order s.order ms).members).marks) begun
+
+-- from the start of all guests to their end
+pub carried_so : (s : Ordered) (slice : ℕ) (before turned after : List Member) (native native_turned native_after : NativeState)
+    → before ≡ map member_at_start s.session.guests → slice ≡ s.session.slice → tallies_of after ≡ map tally_at_end before
+    → turned ≡ (after_order s.order before).members → AreCounted before turned (after_order s.order before).marks native native_turned
+    → AreCounted turned after (after_rounds slice turned).marks native_turned native_after → CarriedOut s native native_after
+carried_so s slice before turned after native native_turned native_after begun same ended is first counted =
+    let guests = s.session.guests in
+    let both = counted_on before turned after _ _ native native_turned native_after first counted in
+    let tallies = tallied_so guests before after begun ended in
+    let none : retired_by before ≡ 0 = ap (λ ms. retired_by ms) begun ∙ none_retired guests in
+    let stayed : exits_by before ≡ 0 = ap (λ ms. exits_by ms) begun ∙ none_left guests in
+    let sum : retired_by after ≡ sum_by (λ (t : Tally). t.retired) (tallies_by guests) =
     retired_sum after ∙ ap (λ ts. sum_by (λ (t : Tally). t.retired) ts) tallies in
-    let left : exits_by after ≡ sum_by exits (tallies_by s.guests) = exits_sum after ∙ ap (λ ts. sum_by exits ts) tallies in
-    let steps = counted.retired in
-    let faults = counted.exceptions in
+    let left : exits_by after ≡ sum_by exits (tallies_by guests) = exits_sum after ∙ ap (λ ts. sum_by exits ts) tallies in
+    let steps = both.retired in
+    let faults = both.exceptions in
     record {
       retired = omega (arith, steps, none, sum);
-      trail = counted.trail ∙ ap (λ (n : ℕ). trail native.trail (after_rounds n before).marks) same
-          ∙ ap (λ ms. trail native.trail (after_rounds s.slice ms).marks) begun;
+      trail = both.trail ∙ ap (λ marks. trail native.trail marks) (marked_so s slice before turned begun same is);
       exceptions = omega (arith, faults, stayed, left);
     }
+
+-- the turns that were handed on are the session's
+pub ordered_so : (s : Ordered) (order : List Turn) (native native_after : NativeState) → order ≡ s.order
+    → CarriedOut (record { session = s.session; order = order }) native native_after → CarriedOut s native native_after
+ordered_so s order native native_after same counted =
+    subst (λ (turns : List Turn). CarriedOut (record { session = s.session; order = turns }) native native_after) same counted
 
 -- ---- what preparing a session tells of its size
 

@@ -4,12 +4,14 @@ use Rattle.std.specs.List.{list_all}
 use Rattle.std.proofs.lemmas.Bool.{le-ltb}
 use Rattle.std.proofs.lemmas.List.{append-nil}
 use Rattle.mb_script.specs.Plan.{Guest}
+use Rattle.mb_script.specs.declared.turn.Turn.{Turn}
 use Rattle.mb_machine.specs.Machine.{Entries}
 use Rattle.mb_gen.specs.Sessions.{generated}
 use Rattle.mb_words.specs.Words.{Text, Workload, Asked, hosting, comparison, generation}
 use Rattle.vm_guest.specs.Session.{GuestAtStart, SessionAtStart}
 use Rattle.vm_slices.specs.Fit.{Fits, need_of}
 use Rattle.mb_program.specs.Answers.{Answer, shows, Shown, Told, Course, ends, most_bytes, answer_at, course_of, reads_as, reads_if_named, reads_guest, reads_guests, reads_session, guest_by, run_of_guest, session_by, script_in, image_in, session_in, if_it_fits, host_answer, host_shown, compare_answer, compare_shown, is_same, gen_shown}
+use Rattle.mb_program.specs.Direct.{Ordered}
 use Rattle.mb_program.specs.Ends.{Around, FailsNowhere, IsSaid, IsShown, Said}
 use Rattle.mb_program.specs.Sessions.{Tells, TellsScript, TellsGuest, TellsGuests, TellsSession, IsHosted, IsCompared, IsGenerated}
 use Rattle.mb_program.specs.Causes.{AsksFor, IsComplete, LeadsTo, SaysShown}
@@ -50,33 +52,36 @@ at_guests told (guest ∷ guests) (start ∷ starts) so_far next t =
 at_guests told [] (start ∷ starts) so_far next t = absurd t
 at_guests told (guest ∷ guests) [] so_far next t = absurd t
 
-planned_so : (told : Told) (name : Text) (s : SessionAtStart) (t : TellsSession told name s) → session_by t.plan s.guests ≡ s
+planned_so : (told : Told) (name : Text) (s : Ordered) (t : TellsSession told name s) → session_by t.plan s.session.guests ≡ s
 planned_so told name s t =
-    let x : SessionAtStart = record { board = 1024 * t.plan.board; slice = t.plan.slice; guests = s.guests } in
-    let y : SessionAtStart = record { board = s.board; slice = s.slice; guests = s.guests } in
-    let e : x ≡ y = cc (t.board, t.slice) in e
+    let guests = s.session.guests in
+    let x : SessionAtStart = record { board = 1024 * t.plan.board; slice = t.plan.slice; guests = guests } in
+    let y : SessionAtStart = record { board = s.session.board; slice = s.session.slice; guests = guests } in
+    let e : x ≡ y = cc (t.board, t.slice) in
+    ap (λ (session : SessionAtStart). (let r : Ordered = record { session = session; order = t.plan.order } in r)) e
+    ∙ ap (λ (order : List Turn). (let r : Ordered = record { session = s.session; order = order } in r)) (sym t.order)
 
-at_session : (told : Told) (name : Text) (s : SessionAtStart) (next : SessionAtStart → Course) → TellsSession told name s
+at_session : (told : Told) (name : Text) (s : Ordered) (next : Ordered → Course) → TellsSession told name s
     → answer_at told (reads_session name next) ≡ answer_at told (next s)
 at_session told name s next t =
     at_file told session_in name t.plan (λ plan. reads_guests plan.guests [] (λ guests. next (session_by plan guests))) t.session
-    ∙ at_guests told t.plan.guests s.guests [] (λ guests. next (session_by t.plan guests)) t.guests
-    ∙ ap (λ (r : SessionAtStart). answer_at told (next r)) (planned_so told name s t)
+    ∙ at_guests told t.plan.guests s.session.guests [] (λ guests. next (session_by t.plan guests)) t.guests
+    ∙ ap (λ (r : Ordered). answer_at told (next r)) (planned_so told name s t)
 
 -- ---- sessions that fit, and those that do not
 
 pub it_fits : (s : SessionAtStart) (shown : Shown) → Fits s → if_it_fits s shown ≡ shows shown
 it_fits s shown fits = rw (le-ltb s.board (need_of s.guests) fits) refl
 
-host_known : (told : Told) (name : Text) (s : SessionAtStart) → TellsSession told name s → Fits s
+host_known : (told : Told) (name : Text) (s : Ordered) → TellsSession told name s → Fits s.session
     → answer_at told (course_of (hosting name)) ≡ Some (shows (host_shown s))
 unfolding course_of
-host_known told name s t fits = at_session told name s (λ r. ends (host_answer r)) t ∙ ap (λ (answer : Answer). Some answer) (it_fits s _ fits)
+host_known told name s t fits = at_session told name s (λ r. ends (host_answer r)) t ∙ ap (λ (answer : Answer). Some answer) (it_fits s.session _ fits)
 
-pub compare_known : (told : Told) (name : Text) (s : SessionAtStart) → TellsSession told name s → Fits s
+pub compare_known : (told : Told) (name : Text) (s : Ordered) → TellsSession told name s → Fits s.session
     → answer_at told (course_of (comparison name)) ≡ Some (shows (compare_shown s))
 unfolding course_of
-compare_known told name s t fits = at_session told name s (λ r. ends (compare_answer r)) t ∙ ap (λ (answer : Answer). Some answer) (it_fits s _ fits)
+compare_known told name s t fits = at_session told name s (λ r. ends (compare_answer r)) t ∙ ap (λ (answer : Answer). Some answer) (it_fits s.session _ fits)
 
 -- ---- host
 
@@ -133,10 +138,10 @@ compares asked a status done differs complete name s is tells fits =
     let ones = λ (one : status ≡ 1). asked_so asked (comparison name) a shown (IsShown a 1) is known (differs one) in
     record {
       printed = λ told. elim told [ inl zero ↦ (zeros zero).0.grows | inr one ↦ (ones one).0.grows ];
-      same = λ zero. all_same (list_all is_same s.guests) (zeros zero).1;
-      differs = λ one. some_differ (list_all is_same s.guests) (ones one).1;
+      same = λ zero. all_same (list_all is_same s.session.guests) (zeros zero).1;
+      differs = λ one. some_differ (list_all is_same s.session.guests) (ones one).1;
       ended = λ fine. elim (led_so asked (comparison name) a shown status is known complete fine)
-          [ inl written ↦ either (list_all is_same s.guests) status written.0 | inr gone ↦ inr (inr gone.0) ];
+          [ inl written ↦ either (list_all is_same s.session.guests) status written.0 | inr gone ↦ inr (inr gone.0) ];
       direct = λ told. elim told [ inl zero ↦ (zeros zero).2 | inr one ↦ (ones one).2 ];
     }
 

@@ -14,7 +14,7 @@ use Rattle.vm_slices.specs.Places.{HostState, members_in}
 use Rattle.vm_slices.specs.declared.open_fault.OpenFault.{OpenFault}
 use Rattle.vm_slices.specs.declared.open_fault.OpenFault.TheVariants as open_fault
 use Rattle.mb_program.specs.Answers.{Answer, shows, Shown, host_answer, host_shown, if_it_fits, outcome_by, texts_from}
-use Rattle.mb_program.specs.Direct.{counts_line, tallies_by}
+use Rattle.mb_program.specs.Direct.{Ordered, counts_line, tallies_by}
 use Rattle.mb_program.specs.Ends.{SinkSeen, GivesAnswer}
 use Rattle.mb_program.specs.Lines.{counts_lines}
 use Rattle.mb_program.specs.Runs.{IsCarriedOut, Runs, unopened}
@@ -29,17 +29,17 @@ fitting s shown out out_after native native_after end fits gives =
     subst (λ (answer : Answer). GivesAnswer answer out out_after native native_after end) (sym (it_fits s shown fits)) gives
 
 -- the lines of a host are those of its guests
-lines_so : (s : SessionAtStart) (host : HostState) → tallies_of (members_in host) ≡ tallies_by s.guests → (host_shown s).lines ≡ counts_lines host
+lines_so : (s : Ordered) (host : HostState) → tallies_of (members_in host) ≡ tallies_by s.session.guests → (host_shown s).lines ≡ counts_lines host
 lines_so s host tallied = ap (λ (tallies : List Tally). texts_from counts_line 1 tallies) (sym tallied)
 
-pub hosted_done : (s : SessionAtStart) (host : HostState) (out out_after : SinkSeen) (native native_after : NativeState) → Runs s (Ok host)
+pub hosted_done : (s : Ordered) (host : HostState) (out out_after : SinkSeen) (native native_after : NativeState) → Runs s.session (Ok host)
     → IsCarriedOut s native native_after (Ok host)
     → Printed out.taken out_after.taken out.faults out_after.faults (texts_from outcome_text 1 (shown_of (members_in host)))
     → GivesAnswer (host_answer s) out out_after native native_after (Hosted host)
 hosted_done s host out out_after native native_after runs counted printed =
-    let all : Printed out.taken out_after.taken out.faults out_after.faults (texts_from outcome_text 1 (map (outcome_by rule_k) s.guests)) =
+    let all : Printed out.taken out_after.taken out.faults out_after.faults (texts_from outcome_text 1 (map (outcome_by rule_k) s.session.guests)) =
     subst (λ (seen : List Seen). Printed out.taken out_after.taken out.faults out_after.faults (texts_from outcome_text 1 seen)) runs.1 printed in
-    fitting s (host_shown s) out out_after native native_after (Hosted host) runs.0
+    fitting s.session (host_shown s) out out_after native native_after (Hosted host) runs.0
     (λ shelf shelf_after stayed. (stayed, printed.same, (all, refl, counted), (lines_so s host runs.2, lines_so s host runs.2)))
 
 -- a session without a host: it does not fit, or memory ran out

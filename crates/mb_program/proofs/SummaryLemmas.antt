@@ -11,7 +11,7 @@ use Rattle.vm_slices.specs.Fit.{need_of}
 use Rattle.vm_slices.specs.declared.open_fault.OpenFault.{OpenFault}
 use Rattle.vm_slices.specs.declared.open_fault.OpenFault.TheVariants as open_fault
 use Rattle.mb_program.specs.Answers.{gen_answer, outcome_by, summary_text}
-use Rattle.mb_program.specs.Direct.{CarriedOut}
+use Rattle.mb_program.specs.Direct.{CarriedOut, unordered}
 use Rattle.mb_program.specs.Ends.{SinkSeen, GivesAnswer}
 use Rattle.mb_program.specs.Runs.{Runs, unopened}
 use Rattle.mb_program.specs.declared.end.End.TheVariants.{Done, Output}
@@ -23,11 +23,11 @@ made_so workload s shown is same = same ∙ ap (λ (r : SessionAtStart). map (ou
 
 -- and what is counted of them is what it gives
 counted_so : (workload : Workload) (s : SessionAtStart) (native native_after : NativeState) → s ≡ generated workload.seed workload.guests
-    → CarriedOut s native native_after → CarriedOut (generated workload.seed workload.guests) native native_after
-counted_so workload s native native_after is counted = subst (λ (r : SessionAtStart). CarriedOut r native native_after) is counted
+    → CarriedOut (unordered s) native native_after → CarriedOut (unordered (generated workload.seed workload.guests)) native native_after
+counted_so workload s native native_after is counted = subst (λ (r : SessionAtStart). CarriedOut (unordered r) native native_after) is counted
 
 pub summary_done : (workload : Workload) (s : SessionAtStart) (shown : List Seen) (out out_after : SinkSeen) (native native_after : NativeState)
-    → s ≡ generated workload.seed workload.guests → shown ≡ map (outcome_by rule_k) s.guests → CarriedOut s native native_after
+    → s ≡ generated workload.seed workload.guests → shown ≡ map (outcome_by rule_k) s.guests → CarriedOut (unordered s) native native_after
     → Printed out.taken out_after.taken out.faults out_after.faults (summary_text shown)
     → GivesAnswer (gen_answer workload) out out_after native native_after Done
 summary_done workload s shown out out_after native native_after is same counted printed =
@@ -38,7 +38,7 @@ summary_done workload s shown out out_after native native_after is same counted 
     λ shelf shelf_after stayed. (stayed, printed.same, (all, refl, counted_so workload s native native_after is counted), (refl, refl))
 
 pub summary_cut : (workload : Workload) (s : SessionAtStart) (shown : List Seen) (out out_after : SinkSeen) (native native_after : NativeState)
-    → s ≡ generated workload.seed workload.guests → shown ≡ map (outcome_by rule_k) s.guests → CarriedOut s native native_after
+    → s ≡ generated workload.seed workload.guests → shown ≡ map (outcome_by rule_k) s.guests → CarriedOut (unordered s) native native_after
     → PrintedPart out.taken out_after.taken out.faults out_after.faults (summary_text shown)
     → GivesAnswer (gen_answer workload) out out_after native native_after Output
 summary_cut workload s shown out out_after native native_after is same counted printed =

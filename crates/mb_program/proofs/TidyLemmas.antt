@@ -75,7 +75,7 @@ told_same a guests status printed differs = record {
 pub tidy_told : (asked : Option Asked) (a : Around) (status : ℕ) → IsCompared asked a status → IsTidyTold asked a status
 tidy_told asked a status compared name s is tells fits =
     let c = compared name s is tells fits in
-    told_same a s.guests status c.printed c.differs
+    told_same a s.session.guests status c.printed c.differs
 
 -- ---- at the end of a course
 
@@ -90,6 +90,6 @@ end_tells name a end h other s is tells fits =
     asked_so (Some (comparison name)) (comparison other) a shown (IsShown a 0) is known (done_shown course a end h zero) in
     let ones = λ (one : status_of end ≡ 1).
     asked_so (Some (comparison name)) (comparison other) a shown (IsShown a 1) is known (differing_shown course a end h one) in
-    told_same a s.guests (status_of end)
+    told_same a s.session.guests (status_of end)
     (λ told. elim told [ inl zero ↦ (zeros zero).0.grows | inr one ↦ (ones one).0.grows ])
-    (λ one. some_differ (list_all is_same s.guests) (ones one).1)
+    (λ one. some_differ (list_all is_same s.session.guests) (ones one).1)

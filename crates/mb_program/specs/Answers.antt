@@ -24,7 +24,7 @@ use Rattle.vm_slices.specs.Fit.{need_of}
 use Rattle.mb_gen.specs.Sessions.{generated}
 use Rattle.mb_words.specs.Words.{Text, Run, Excerpt, Workload}
 use Rattle.mb_words.specs.Words.{Asked, bare, assembly, disassembly, hosting, comparison, generation}
-use Rattle.mb_program.specs.Direct.{counts_line, tallies_by}
+use Rattle.mb_program.specs.Direct.{Ordered, counts_line, tallies_by, unordered}
 use Rattle.mb_program.specs.declared.end.FileWhy.{FileWhy}
 use Rattle.mb_program.specs.declared.end.FileWhy.TheVariants.{TooLong, Line, Outside, NoEnd}
 use Rattle.mb_program.specs.declared.end.Reason.TheVariants.{Record, Words, Source}
@@ -37,7 +37,7 @@ pub record Shown : Type 0 where
   pub text : Text
   pub lines : Text
   pub status : ℕ
-  pub hosted : Option SessionAtStart
+  pub hosted : Option Ordered
 
 -- A command shows something, or refuses a file, with its name and why, or its guests need more bytes than their board
 -- has.
@@ -199,11 +199,14 @@ reads_guests [] so_far next = next so_far
 reads_guests (guest ∷ guests) so_far next =
     reads_guest (run_of_guest guest) (λ read. reads_guests guests (so_far ++ read ∷ []) next)
 
-abbrev pub session_by : Plan → List GuestAtStart → SessionAtStart
-session_by plan guests = record { board = 1024 * plan.board; slice = plan.slice; guests = guests }
+abbrev pub session_by : Plan → List GuestAtStart → Ordered
+session_by plan guests = record {
+  session = record { board = 1024 * plan.board; slice = plan.slice; guests = guests };
+  order = plan.order;
+}
 
 -- A session file is read, and then the files of its guests, and the course goes on by the session.
-abbrev pub reads_session : Text → (SessionAtStart → Course) → Course
+abbrev pub reads_session : Text → (Ordered → Course) → Course
 reads_session name next =
     reads_as session_in name (λ plan. reads_guests plan.guests [] (λ guests. next (session_by plan guests)))
 
@@ -221,16 +224,16 @@ texts_from text i (x ∷ xs) = text i x ++ texts_from text (i + 1) xs
 
 -- The outcomes of all guests under the monitor, in their order. On diag a line for each says how many steps of each
 -- class it took, and the board carries out the retired ones.
-abbrev pub host_shown : SessionAtStart → Shown
+abbrev pub host_shown : Ordered → Shown
 host_shown s = record {
-  text = texts_from outcome_text 1 (map (outcome_by rule_k) s.guests);
-  lines = texts_from counts_line 1 (tallies_by s.guests);
+  text = texts_from outcome_text 1 (map (outcome_by rule_k) s.session.guests);
+  lines = texts_from counts_line 1 (tallies_by s.session.guests);
   status = 0;
   hosted = Some s;
 }
 
-abbrev pub host_answer : SessionAtStart → Answer
-host_answer s = if_it_fits s (host_shown s)
+abbrev pub host_answer : Ordered → Answer
+host_answer s = if_it_fits s.session (host_shown s)
 
 abbrev pub host_course : Text → Course
 host_course name = reads_session name (λ s. ends (host_answer s))
@@ -245,16 +248,16 @@ abbrev pub compared_text : ℕ → Bool → Text
 compared_text i same = codes "guest " ++ decimal i ++ (if same then codes " same\n" else codes " differs\n")
 
 -- a line for each guest, and status 1 where some guest differs; under the monitor they run as hosted ones do
-abbrev pub compare_shown : SessionAtStart → Shown
+abbrev pub compare_shown : Ordered → Shown
 compare_shown s = record {
-  text = texts_from compared_text 1 (map is_same s.guests);
+  text = texts_from compared_text 1 (map is_same s.session.guests);
   lines = [];
-  status = if list_all is_same s.guests then 0 else 1;
+  status = if list_all is_same s.session.guests then 0 else 1;
   hosted = Some s;
 }
 
-abbrev pub compare_answer : SessionAtStart → Answer
-compare_answer s = if_it_fits s (compare_shown s)
+abbrev pub compare_answer : Ordered → Answer
+compare_answer s = if_it_fits s.session (compare_shown s)
 
 abbrev pub compare_course : Text → Course
 compare_course name = reads_session name (λ s. ends (compare_answer s))
@@ -280,7 +283,7 @@ gen_shown s = record {
   text = summary_text (map (outcome_by rule_k) s.guests);
   lines = [];
   status = 0;
-  hosted = Some s;
+  hosted = Some (unordered s);
 }
 
 -- The session that a number makes has room for its guests.

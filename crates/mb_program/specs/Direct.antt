@@ -1,12 +1,23 @@
 -- What is counted of the guests of a session: their steps by class, and what the board carries out of them.
-use Rattle.std.specs.Prelude.{◌≡◌, ℕ, ◌+◌, ◌^◌, ◌<◌, ◌≤◌, List, ◌++◌, map, Option, Some, None, sum_by, codes, decimal}
+use Rattle.std.specs.Prelude.{◌≡◌, ℕ, ◌+◌, ◌^◌, ◌<◌, ◌≤◌, List, [], ◌++◌, map, Option, Some, None, sum_by, codes, decimal}
+use Rattle.mb_script.specs.declared.turn.Turn.{Turn}
 use Rattle.mb_words.specs.Words.{Text}
 use Rattle.vm_meaning.specs.Marks.{trail}
 use Rattle.vm_meaning.specs.Native.{NativeState}
 use Rattle.vm_machine.specs.Turns.{Tally, exits, tally_of}
 use Rattle.vm_machine.specs.Rounds.{Hosted}
 use Rattle.vm_guest.specs.Session.{GuestAtStart, SessionAtStart}
-use Rattle.vm_slices.specs.Members.{after_rounds, member_at_start}
+use Rattle.vm_slices.specs.Members.{member_at_start}
+use Rattle.vm_slices.specs.Orders.{after_session}
+
+-- A session, and the turns that come before its rounds.
+pub record Ordered : Type 0 where
+  pub session : SessionAtStart
+  pub order : List Turn
+
+-- a session without such turns
+abbrev pub unordered : SessionAtStart → Ordered
+unordered session = record { session = session; order = [] }
 
 -- ---- the steps of a guest
 
@@ -36,23 +47,24 @@ counts_line i t = codes "guest " ++ decimal i
 
 -- ---- what the board carries out
 
--- all guests after their rounds, with the marks of their retired steps, one turn after the other
-unfoldable pub hosted_by : SessionAtStart → Hosted
-hosted_by s = after_rounds s.slice (map member_at_start s.guests)
+-- all guests after the turns that are named and then their rounds, with the marks of their retired steps, one turn
+-- after the other
+unfoldable pub hosted_by : Ordered → Hosted
+hosted_by s = after_session s.order s.session.slice (map member_at_start s.session.guests)
 
 -- What is counted once all guests have run.
-pub record CarriedOut (s : SessionAtStart) (native native_after : NativeState) : Type 0 where
+pub record CarriedOut (s : Ordered) (native native_after : NativeState) : Type 0 where
   -- The board has carried out each retired step of each guest, with its marks, and no other,
-  pub retired : native_after.retired ≡ native.retired + sum_by (λ (t : Tally). t.retired) (tallies_by s.guests)
+  pub retired : native_after.retired ≡ native.retired + sum_by (λ (t : Tally). t.retired) (tallies_by s.session.guests)
   pub trail : native_after.trail ≡ trail native.trail (hosted_by s).marks
   -- and has left each that is privileged, trapped or denied by one exception or more.
-  pub exceptions : native.exceptions + sum_by exits (tallies_by s.guests) ≤ native_after.exceptions
+  pub exceptions : native.exceptions + sum_by exits (tallies_by s.session.guests) ≤ native_after.exceptions
 
 -- The guests of a session have run, where there is one; else nothing is counted.
-abbrev pub IsCounted : Option SessionAtStart → NativeState → NativeState → Type 0
+abbrev pub IsCounted : Option Ordered → NativeState → NativeState → Type 0
 IsCounted None native native_after = native_after ≡ native
 IsCounted (Some s) native native_after = CarriedOut s native native_after
 
 -- The steps of a session can be counted beside these.
 abbrev pub HasRoomToRun : NativeState → Type 0
-HasRoomToRun native = (native.retired < 2 ^ 61) × (native.exceptions < 2 ^ 61)
+HasRoomToRun native = (native.retired < 2 ^ 60) × (native.exceptions < 2 ^ 60)

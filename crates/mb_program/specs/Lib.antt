@@ -1,4 +1,5 @@
 pub mod Direct
+pub mod Said
 pub mod Answers
 pub mod Lines
 pub mod Ends

@@ -9,7 +9,7 @@ use Rattle.vm_slices.specs.Members.{shown_of, tallies_of}
 use Rattle.vm_slices.specs.declared.open_fault.OpenFault.{OpenFault}
 use Rattle.vm_slices.specs.declared.open_fault.OpenFault.TheVariants as open_fault
 use Rattle.mb_program.specs.Answers.{outcome_by}
-use Rattle.mb_program.specs.Direct.{CarriedOut, tallies_by}
+use Rattle.mb_program.specs.Direct.{CarriedOut, Ordered, tallies_by}
 use Rattle.mb_program.specs.declared.end.End.{End}
 use Rattle.mb_program.specs.declared.end.End.TheVariants.{Oversize, Memory}
 
@@ -23,7 +23,7 @@ Runs s (Err (open_fault.Oversize need have)) =
 Runs s (Err open_fault.Memory) = ⊤
 
 -- The board has carried out the guests' retired steps; without a host nothing is counted.
-abbrev pub IsCarriedOut : SessionAtStart → NativeState → NativeState → Result HostState OpenFault → Type 0
+abbrev pub IsCarriedOut : Ordered → NativeState → NativeState → Result HostState OpenFault → Type 0
 IsCarriedOut s native native_after (Ok host) = CarriedOut s native native_after
 IsCarriedOut s native native_after (Err fault) = native_after ≡ native
 

@@ -11,7 +11,7 @@ use Rattle.mb_gen.specs.Sessions.{generated}
 use Rattle.mb_words.specs.Words.{Text, Workload, Asked, hosting, comparison, generation}
 use Rattle.vm_guest.specs.Session.{GuestAtStart, SessionAtStart}
 use Rattle.vm_slices.specs.Fit.{Fits}
-use Rattle.mb_program.specs.Direct.{CarriedOut, counts_line, tallies_by}
+use Rattle.mb_program.specs.Direct.{CarriedOut, Ordered, counts_line, tallies_by, unordered}
 use Rattle.mb_program.specs.Answers.{Told, most_bytes, image_in, script_in, session_in, texts_from}
 use Rattle.mb_program.specs.Answers.{compared_text, is_same, outcome_by, summary_text}
 use Rattle.mb_program.specs.Ends.{Around, FailsNowhere, IsSaid, Said}
@@ -45,48 +45,49 @@ TellsGuests told [] (start ∷ starts) = ⊥
 TellsGuests told (guest ∷ guests) [] = ⊥
 
 -- The shelf tells a session file and the files of its guests, and the session begins so.
-pub record TellsSession (told : Told) (name : Text) (s : SessionAtStart) : Type 0 where
+pub record TellsSession (told : Told) (name : Text) (s : Ordered) : Type 0 where
   pub plan : Plan
   pub session : Tells told session_in name plan
-  pub board : s.board ≡ 1024 * plan.board
-  pub slice : s.slice ≡ plan.slice
-  pub guests : TellsGuests told plan.guests s.guests
+  pub board : s.session.board ≡ 1024 * plan.board
+  pub slice : s.session.slice ≡ plan.slice
+  pub guests : TellsGuests told plan.guests s.session.guests
+  pub order : s.order ≡ plan.order
 
 -- ---- host
 
 -- Out gains exactly the outcomes of the guests in their order: of each that of its own run by the rule of guests, of
 -- its own image, script, RAM and steps, and of nothing else. Where nothing fails, this is done, unless memory runs out.
-pub record Hosts (a : Around) (said : Said) (s : SessionAtStart) (status : ℕ) : Type 0 where
+pub record Hosts (a : Around) (said : Said) (s : Ordered) (status : ℕ) : Type 0 where
   pub printed : status ≡ 0
-      → Grows a.out.taken a.out_after.taken (texts_from outcome_text 1 (map (outcome_by rule_k) s.guests))
+      → Grows a.out.taken a.out_after.taken (texts_from outcome_text 1 (map (outcome_by rule_k) s.session.guests))
   pub ended : FailsNowhere a → (status ≡ 0) ⊎ (status ≡ 7)
   -- Diag gains a line for each guest with the counts of its own steps, or a first part where diag fails.
-  pub tallied : status ≡ 0 → IsSaid said (texts_from counts_line 1 (tallies_by s.guests))
+  pub tallied : status ≡ 0 → IsSaid said (texts_from counts_line 1 (tallies_by s.session.guests))
   -- Directness: the board carries out each retired step, from the guest's own registers to the guest's own registers,
   -- and no other; it leaves each step that is privileged, trapped or denied by one exception or more.
   pub direct : status ≡ 0 → CarriedOut s a.native a.native_after
 
 -- So it is where the words ask to host a session that is told and fits.
 abbrev pub IsHosted : Option Asked → Around → Said → ℕ → Type 0
-IsHosted asked a said status = (name : Text) (s : SessionAtStart) → asked ≡ Some (hosting name)
-    → TellsSession a.shelf.told name s → Fits s → Hosts a said s status
+IsHosted asked a said status = (name : Text) (s : Ordered) → asked ≡ Some (hosting name)
+    → TellsSession a.shelf.told name s → Fits s.session → Hosts a said s status
 
 -- ---- compare
 
 -- Out gains exactly a line for each guest, and the status tells whether all are the same.
-pub record Compares (a : Around) (s : SessionAtStart) (status : ℕ) : Type 0 where
+pub record Compares (a : Around) (s : Ordered) (status : ℕ) : Type 0 where
   pub printed : (status ≡ 0) ⊎ (status ≡ 1)
-      → Grows a.out.taken a.out_after.taken (texts_from compared_text 1 (map is_same s.guests))
-  pub same : status ≡ 0 → list_all is_same s.guests ≡ true
-  pub differs : status ≡ 1 → list_all is_same s.guests ≡ false
+      → Grows a.out.taken a.out_after.taken (texts_from compared_text 1 (map is_same s.session.guests))
+  pub same : status ≡ 0 → list_all is_same s.session.guests ≡ true
+  pub differs : status ≡ 1 → list_all is_same s.session.guests ≡ false
   pub ended : FailsNowhere a → (status ≡ 0) ⊎ (status ≡ 1) ⊎ (status ≡ 7)
   -- The runs under the monitor are carried out by the board as those of hosted guests are.
   pub direct : (status ≡ 0) ⊎ (status ≡ 1) → CarriedOut s a.native a.native_after
 
 -- So it is where the words ask to compare the guests of a session that is told and fits.
 abbrev pub IsCompared : Option Asked → Around → ℕ → Type 0
-IsCompared asked a status = (name : Text) (s : SessionAtStart) → asked ≡ Some (comparison name)
-    → TellsSession a.shelf.told name s → Fits s → Compares a s status
+IsCompared asked a status = (name : Text) (s : Ordered) → asked ≡ Some (comparison name)
+    → TellsSession a.shelf.told name s → Fits s.session → Compares a s status
 
 -- ---- gen
 
@@ -95,7 +96,7 @@ IsCompared asked a status = (name : Text) (s : SessionAtStart) → asked ≡ Som
 pub record Generates (a : Around) (s : SessionAtStart) (status : ℕ) : Type 0 where
   pub printed : status ≡ 0 → Grows a.out.taken a.out_after.taken (summary_text (map (outcome_by rule_k) s.guests))
   pub ended : FailsNowhere a → (status ≡ 0) ⊎ (status ≡ 7)
-  pub direct : status ≡ 0 → CarriedOut s a.native a.native_after
+  pub direct : status ≡ 0 → CarriedOut (unordered s) a.native a.native_after
 
 -- So it is where the words ask for a session that a number makes.
 abbrev pub IsGenerated : Option Asked → Around → ℕ → Type 0

@@ -3,9 +3,10 @@ use Rattle.std.specs.Prelude.{◌≡◌, ◌⊎◌, ℕ, ◌+◌, true, List, �
 use Rattle.mb_outside.specs.Sink.{Grows}
 use Rattle.mb_words.specs.Words.{Text, Asked, comparison}
 use Rattle.vm_meaning.specs.Tidy.{Tidy}
-use Rattle.vm_guest.specs.Session.{GuestAtStart, SessionAtStart}
+use Rattle.vm_guest.specs.Session.{GuestAtStart}
 use Rattle.vm_slices.specs.Fit.{Fits}
 use Rattle.mb_program.specs.Answers.{compared_text, is_same, texts_from}
+use Rattle.mb_program.specs.Direct.{Ordered}
 use Rattle.mb_program.specs.Ends.{Around}
 use Rattle.mb_program.specs.Sessions.{TellsSession}
 
@@ -28,5 +29,5 @@ pub record TidyAreToldSame (a : Around) (guests : List GuestAtStart) (status : �
 
 -- So it is where the words ask to compare the guests of a session that is told and fits.
 abbrev pub IsTidyTold : Option Asked → Around → ℕ → Type 0
-IsTidyTold asked a status = (name : Text) (s : SessionAtStart) → asked ≡ Some (comparison name)
-    → TellsSession a.shelf.told name s → Fits s → TidyAreToldSame a s.guests status
+IsTidyTold asked a status = (name : Text) (s : Ordered) → asked ≡ Some (comparison name)
+    → TellsSession a.shelf.told name s → Fits s.session → TidyAreToldSame a s.session.guests status

@@ -10,15 +10,18 @@ ghost use Rattle.mb_program.specs.Answers.{compare_answer, compared_text, outcom
 ghost use Rattle.mb_program.specs.Direct.{HasRoomToRun};
 ghost use Rattle.mb_program.specs.Ends.{GivesAnswer, sink_seen};
 ghost use Rattle.mb_program.specs.Compares.{found_of, outcome_ahead};
+ghost use Rattle.mb_program.specs.Said.{ordered_said};
+ghost use Rattle.mb_script.specs.Plan.{IsTurnOf};
 
 use crate::bare_machine::BareMachine;
 use crate::end::End;
 use crate::hosted::run_session;
+use crate::ordered::OrderedSession;
 use itoa::Buffer;
 use mb_board::Native;
 use mb_outside::{Memory, Sink, SinkFault, put_all, put_more};
 use std::alloc::Global;
-use vm_slices::{Host, Session, SessionGuest};
+use vm_slices::{Host, SessionGuest};
 
 /// The guests of a session, each by itself.
 fn bare_machines(alloc: Global, guests: &[SessionGuest]) -> Result<Vec<BareMachine>, Memory>
@@ -77,19 +80,20 @@ fn write_comparison<O: Sink>(
 /// memory is taken before the first line is written.
 pub(crate) fn show_compared<O: Sink>(
     alloc: Global,
-    session: Session,
+    ordered: OrderedSession,
     out: &mut O,
     native: &mut Native,
 ) -> End
-    requires session { IsSession session }
+    requires session { IsSession ordered.session }
+    requires turns { All (IsTurnOf (length ordered.session.guests)) ordered.order.items }
     requires room { HasRoomToRun native.old }
-    ensures { GivesAnswer (compare_answer session)
+    ensures { GivesAnswer (compare_answer (ordered_said ordered))
         (sink_seen O.taken O.faults out.old) (sink_seen O.taken O.faults out.new) native.old native.new result }
 {
-    let Ok(machines) = bare_machines(alloc, session.guests()) else {
+    let Ok(machines) = bare_machines(alloc, ordered.session.guests()) else {
         return End::Memory;
     };
-    let host = match run_session(alloc, session, native) {
+    let host = match run_session(alloc, ordered.session, &ordered.order, native) {
         Ok(host) => host,
         Err(fault) => return End::from(fault),
     };

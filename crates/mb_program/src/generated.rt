@@ -78,7 +78,7 @@ pub(crate) fn show_generated<O: Sink>(
     let Ok(session) = make_session(alloc, u64::from(workload.seed), workload.guests) else {
         return End::Memory;
     };
-    let host = match run_session(alloc, session, native) {
+    let host = match run_session(alloc, session, &[], native) {
         Ok(host) => host,
         Err(fault) => return End::from(fault),
     };

@@ -2,15 +2,17 @@
 
 ghost use Rattle.std.specs.Prelude.{◌≡◌, ◌<◌, ◌≤◌, ◌*◌, ◌%◌, [], All, IfOk, length, map};
 ghost use Rattle.mb_script.specs.Answers.{guest_said};
-ghost use Rattle.mb_script.specs.Plan.{AreRams, IsRam};
+ghost use Rattle.mb_script.specs.Plan.{AreRams, IsRam, IsTurnOf};
 ghost use Rattle.mb_words.specs.Words.{run_said};
 ghost use Rattle.vm_guest.specs.Session.{IsGuest, IsSession};
 ghost use Rattle.mb_program.specs.Answers.{reads_guest, reads_guests, reads_session, run_of_guest};
 ghost use Rattle.mb_program.specs.Ends.{shelf_seen};
 ghost use Rattle.mb_program.specs.Reads.{Passes};
+ghost use Rattle.mb_program.specs.Said.{ordered_said};
 
 use crate::end::End;
 use crate::files::{image_file, script_if_named, session_file};
+use crate::ordered::OrderedSession;
 use mb_outside::Shelf;
 use mb_script::GuestPlan;
 use mb_words::Bare;
@@ -76,14 +78,17 @@ pub(crate) fn read_session<F: Shelf>(
     alloc: Global,
     shelf: &mut F,
     name: &str,
-) -> Result<Session, End>
-    ensures passes { Passes (reads_session name.now) (λ session. session)
+) -> Result<OrderedSession, End>
+    ensures passes { Passes (reads_session name.now) ordered_said
         (shelf_seen F.told F.whole F.faults shelf.old) (shelf_seen F.told F.whole F.faults shelf.new) result }
-    ensures in_range { IfOk result IsSession }
+    ensures in_range { IfOk result (λ ordered. IsSession ordered.session) }
+    ensures turns { IfOk result (λ ordered. All (IsTurnOf (length ordered.session.guests)) ordered.order.items) }
     ensures told { F.told shelf.new ≡ F.told shelf.old }
     ensures whole { F.whole shelf.new ≡ F.whole shelf.old }
 {
     let plan = session_file(alloc, shelf, name)?;
     let guests = read_guests(alloc, shelf, plan.guests())?;
-    Ok(Session::new(1024 * plan.board(), plan.slice(), guests))
+    let session = Session::new(1024 * plan.board(), plan.slice(), guests);
+    let order = plan.into_order();
+    Ok(OrderedSession { session, order })
 }

@@ -1,6 +1,7 @@
 //! The guests of a session under the monitor.
 
-ghost use Rattle.std.specs.Prelude.{◌≡◌, ◌^◌, ◌<◌, ◌≤◌, length};
+ghost use Rattle.std.specs.Prelude.{◌≡◌, ◌^◌, ◌<◌, ◌≤◌, All, length};
+ghost use Rattle.mb_script.specs.Plan.{IsTurnOf};
 ghost use Rattle.mb_outside.specs.Prints.{Prints};
 ghost use Rattle.mb_report.specs.Text.{outcome_text};
 ghost use Rattle.vm_guest.specs.Session.{IsSession};
@@ -10,11 +11,14 @@ ghost use Rattle.mb_program.specs.Answers.{host_answer, texts_from};
 ghost use Rattle.mb_program.specs.Direct.{HasRoomToRun};
 ghost use Rattle.mb_program.specs.Ends.{GivesAnswer, sink_seen};
 ghost use Rattle.mb_program.specs.Runs.{IsCarriedOut, Runs, unopened};
+ghost use Rattle.mb_program.specs.Said.{ordered_said};
 
 use crate::end::End;
+use crate::ordered::OrderedSession;
 use mb_board::Native;
 use mb_outside::{Sink, SinkFault};
 use mb_report::write_outcome;
+use mb_script::Turn;
 use std::alloc::Global;
 use vm_slices::{Host, OpenFault, Session};
 
@@ -29,18 +33,22 @@ impl From<OpenFault> for End {
     }
 }
 
-/// All guests of a session on their board, after their runs. What the board carried out is counted.
+/// All guests of a session on their board, after their runs: first these turns, and then rounds. What the board
+/// carried out is counted.
 pub(crate) fn run_session(
     alloc: Global,
     session: Session,
+    order: &[Turn],
     native: &mut Native,
 ) -> Result<Host, OpenFault>
     requires session { IsSession session }
+    requires turns { All (IsTurnOf (length session.guests)) order.now }
     requires room { HasRoomToRun native.old }
     ensures runs { Runs session result }
-    ensures counted { IsCarriedOut session native.old native.new result }
+    ensures counted { IsCarriedOut (record { session = session; order = order.now }) native.old native.new result }
 {
     let mut host = Host::prepare(alloc, session)?;
+    host.run_order(order, native);
     host.run(native);
     Ok(host)
 }
@@ -60,16 +68,17 @@ fn write_outcomes<O: Sink>(host: &Host, out: &mut O) -> Result<(), SinkFault>
 /// Runs all guests of a session, and writes their outcomes.
 pub(crate) fn show_hosted<O: Sink>(
     alloc: Global,
-    session: Session,
+    ordered: OrderedSession,
     out: &mut O,
     native: &mut Native,
 ) -> End
-    requires session { IsSession session }
+    requires session { IsSession ordered.session }
+    requires turns { All (IsTurnOf (length ordered.session.guests)) ordered.order.items }
     requires room { HasRoomToRun native.old }
-    ensures { GivesAnswer (host_answer session)
+    ensures { GivesAnswer (host_answer (ordered_said ordered))
         (sink_seen O.taken O.faults out.old) (sink_seen O.taken O.faults out.new) native.old native.new result }
 {
-    let host = match run_session(alloc, session, native) {
+    let host = match run_session(alloc, ordered.session, &ordered.order, native) {
         Ok(host) => host,
         Err(fault) => return End::from(fault),
     };

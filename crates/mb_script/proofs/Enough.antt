@@ -1,6 +1,6 @@
 -- Six words of a line say as much as all of them.
 use Rattle.std.proofs.Common.{◌≡◌, List, [], ◌∷◌, ℕ, take, refl}
-use Rattle.mb_script.specs.Sessions.{argument_of, fields_of, guest_of}
+use Rattle.mb_script.specs.Sessions.{argument_of, begins_turn, fields_of, guest_of, turn_of, turn_words_of}
 
 pub argument_by_six : (keyword : List ℕ) (words : List (List ℕ)) → argument_of keyword (take 6 words) ≡ argument_of keyword words
 argument_by_six keyword [] = refl
@@ -21,3 +21,19 @@ fields_by_six (a ∷ b ∷ c ∷ d ∷ e ∷ f ∷ words) = refl
 pub guest_by_six : (words : List (List ℕ)) → guest_of (take 6 words) ≡ guest_of words
 unfolding guest_of
 guest_by_six words = rw (fields_by_six words) refl
+
+pub begins_by_six : (words : List (List ℕ)) → begins_turn (take 6 words) ≡ begins_turn words
+begins_by_six [] = refl
+begins_by_six (a ∷ words) = refl
+
+turn_words_by_six : (words : List (List ℕ)) → turn_words_of (take 6 words) ≡ turn_words_of words
+unfolding turn_words_of
+turn_words_by_six [] = refl
+turn_words_by_six (a ∷ []) = refl
+turn_words_by_six (a ∷ b ∷ []) = refl
+turn_words_by_six (a ∷ b ∷ c ∷ []) = refl
+turn_words_by_six (a ∷ b ∷ c ∷ d ∷ words) = refl
+
+pub turn_by_six : (count : ℕ) (words : List (List ℕ)) → turn_of count (take 6 words) ≡ turn_of count words
+unfolding turn_of
+turn_by_six count words = rw (turn_words_by_six words) refl

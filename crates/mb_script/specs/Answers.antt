@@ -86,4 +86,5 @@ plan_said plan = record {
   board = plan.board;
   slice = plan.slice;
   guests = map guest_said plan.guests.items;
+  order = plan.order.items;
 }

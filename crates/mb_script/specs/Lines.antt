@@ -1,5 +1,5 @@
 -- The lines of a text that say something, and the first fault among them.
-use Rattle.std.specs.Prelude.{ℕ, ◌==◌, not, Bool, false, List, [], ◌∷◌, Result, Ok, Err}
+use Rattle.std.specs.Prelude.{ℕ, ◌==◌, not, Bool, false, List, [], ◌∷◌, Option, Some, None, Result, Ok, Err}
 use Rattle.std.specs.List.{filter}
 use Rattle.mb_lines.specs.Lines.{Line, numbered}
 use Rattle.mb_script.specs.declared.fault.LineWhy.{LineWhy}
@@ -25,3 +25,8 @@ at_line number (Err why) = Err (record { number = number; why = why })
 -- what a rule reads from a line
 abbrev pub read_by : {A : Type 0} → (List ℕ → Result A LineWhy) → Line → Result A Fault
 read_by rule line = at_line line.number (rule line.characters)
+
+-- the lines from one on that was read, where there was one
+abbrev pub ahead : Option Line → List Line → List Line
+ahead None later = []
+ahead (Some line) later = line ∷ later

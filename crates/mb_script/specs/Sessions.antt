@@ -1,11 +1,12 @@
 -- The grammar of session files: what a line says, and what a list of lines says.
-use Rattle.std.specs.Prelude.{ℕ, ◌+◌, ◌==◌, nat_le, not, Bool, ◌&&◌, ◌||◌, if◌then◌else◌, List, [], ◌∷◌, length, codes}
+use Rattle.std.specs.Prelude.{ℕ, ◌+◌, ◌==◌, nat_le, not, Bool, false, ◌&&◌, ◌||◌, if◌then◌else◌, List, [], ◌∷◌, length, codes}
 use Rattle.std.specs.Prelude.{Option, Some, None, option_and_then, Result, Ok, Err}
 use Rattle.std.specs.List.{filter, list_all, slice_split}
 use Rattle.std.specs.Str.{bytes_eq}
 use Rattle.std.specs.Option.{ok_or}
 use Rattle.mb_script.specs.declared.fault.LineWhy.{LineWhy}
 use Rattle.mb_script.specs.declared.fault.LineWhy.TheVariants as why
+use Rattle.mb_script.specs.declared.turn.Turn.{Turn}
 use Rattle.mb_script.specs.Faults.{Fault}
 use Rattle.mb_lines.specs.Lines.{lines_in, Line}
 use Rattle.mb_lines.specs.Results.{◌>>=◌}
@@ -32,9 +33,9 @@ is_graphic character = nat_le 33 character && nat_le character 126
 abbrev pub is_name : List ℕ → Bool
 is_name word = is_some_word word && list_all is_graphic word
 
--- session files are of version 1
+-- session files are of version 1 or 2
 abbrev pub version_of : List ℕ → Option ℕ
-version_of word = option_and_then (tested (λ n. n == 1)) (number_of word)
+version_of word = option_and_then (tested (λ n. nat_le 1 n && nat_le n 2)) (number_of word)
 
 abbrev pub board_of : List ℕ → Option ℕ
 board_of word = option_and_then (tested is_board) (number_of word)
@@ -81,7 +82,7 @@ guest_of words = do
 abbrev pub argument_in : List ℕ → List ℕ → Result (List ℕ) LineWhy
 argument_in keyword line = ok_or (argument_of keyword (words_of line)) why.Word
 
--- `session 1`
+-- `session 1` or `session 2`
 unfoldable pub session_line : List ℕ → Result ℕ LineWhy
 session_line line = argument_in (codes "session") line >>= λ word. ok_or (version_of word) why.Number
 
@@ -101,35 +102,82 @@ unless_sixteen count guest = if count == 16 then Err why.Many else Ok guest
 unfoldable pub guest_line : ℕ → List ℕ → Result Guest LineWhy
 guest_line count line = guest_of (words_of line) >>= unless_sixteen count
 
+-- ---- turns
+
+-- the first word is `turn`
+abbrev pub begins_turn : List (List ℕ) → Bool
+begins_turn [] = false
+begins_turn (first ∷ words) = bytes_eq first (codes "turn")
+
+-- in version 2 the guests end before a line that begins so
+abbrev pub ends_guests : (version : ℕ) → List ℕ → Bool
+ends_guests version line = (version == 2) && begins_turn (words_of line)
+
+-- `turn I N`
+unfoldable pub turn_words_of : List (List ℕ) → Option (List ℕ × List ℕ)
+turn_words_of (first ∷ guest ∷ steps ∷ []) = if bytes_eq first (codes "turn") then Some (guest, steps) else None
+turn_words_of _ = None
+
+-- 1 to the number of guests
+abbrev pub guest_number_of : (count : ℕ) → List ℕ → Option ℕ
+guest_number_of count word = option_and_then (tested (λ n. nat_le 1 n && nat_le n count)) (number_of word)
+
+-- the turn that a line's words name, of one of so many guests
+unfoldable pub turn_of : (count : ℕ) → List (List ℕ) → Result Turn LineWhy
+turn_of count words = do
+  named ← ok_or (turn_words_of words) why.Word
+  guest ← ok_or (guest_number_of count named.0) why.Number
+  steps ← ok_or (number_of named.1) why.Number
+  Ok (record { guest = guest; steps = steps })
+
+-- the turn in a line
+unfoldable pub turn_line : (count : ℕ) → List ℕ → Result Turn LineWhy
+turn_line count line = turn_of count (words_of line)
+
+-- ---- all lines
+
 -- what the next line says, and the lines behind it; where there is none, a word is missing in the line after
 -- the last
 abbrev pub due : {A : Type 0} → ℕ → (List ℕ → Result A LineWhy) → List Line → Result (A × List Line) Fault
 due past rule [] = Err (record { number = past; why = why.Word })
 due past rule (line ∷ later) = read_by rule line >>= λ said. Ok (said, later)
 
--- the guests of all lines, behind so many others
-abbrev pub guests_after : ℕ → List Line → Result (List Guest) Fault
-guests_after count [] = Ok []
-guests_after count (line ∷ lines) = do
-  guest ← read_by (guest_line count) line
-  later ← guests_after (count + 1) lines
-  Ok (guest ∷ later)
+-- a guest before others, behind which these lines stand
+abbrev pub guest_before : Guest → List Guest × List Line → List Guest × List Line
+guest_before guest others = (guest ∷ others.0, others.1)
+
+-- the guests up to the first turn, behind so many others, and the lines from that turn on
+abbrev pub guests_after : (version count : ℕ) → List Line → Result (List Guest × List Line) Fault
+guests_after version count [] = Ok ([], [])
+guests_after version count (line ∷ lines) =
+    if ends_guests version line.characters then Ok ([], line ∷ lines)
+    else (read_by (guest_line count) line >>= λ guest.
+    guests_after version (count + 1) lines >>= λ others. Ok (guest_before guest others))
 
 -- one guest or more
-unfoldable pub guests_of : ℕ → List Line → Result (List Guest) Fault
-guests_of past lines = do
+unfoldable pub guests_of : (version past : ℕ) → List Line → Result (List Guest × List Line) Fault
+guests_of version past lines = do
   guest ← due past (guest_line 0) lines
-  others ← guests_after 1 guest.1
-  Ok (guest.0 ∷ others)
+  others ← guests_after version 1 guest.1
+  Ok (guest_before guest.0 others)
 
--- a session, its board, its slice, and its guests; past is the number of the line after the last
+-- the turns of all lines, each of one of so many guests
+abbrev pub turns_of : (count : ℕ) → List Line → Result (List Turn) Fault
+turns_of count [] = Ok []
+turns_of count (line ∷ lines) = do
+  turn ← read_by (turn_line count) line
+  later ← turns_of count lines
+  Ok (turn ∷ later)
+
+-- a session, its board, its slice, its guests, and its turns; past is the number of the line after the last
 unfoldable pub plan_of : ℕ → List Line → Result Plan Fault
 plan_of past lines = do
   session ← due past session_line lines
   board ← due past board_line session.1
   slice ← due past slice_line board.1
-  guests ← guests_of past slice.1
-  Ok (record { board = board.0; slice = slice.0; guests = guests })
+  guests ← guests_of session.0 past slice.1
+  order ← turns_of (length guests.0) guests.1
+  Ok (record { board = board.0; slice = slice.0; guests = guests.0; order = order })
 
 -- The plan of a session file, or the first fault in order of lines.
 unfoldable pub session_of : List ℕ → Result Plan Fault

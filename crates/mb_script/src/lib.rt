@@ -16,9 +16,11 @@ mod script_reading;
 mod session_line;
 mod session_reading;
 mod statement;
+mod turn;
 
 pub use fault::{LineFault, LineWhy};
 pub use plan::{GuestPlan, SessionPlan};
 pub use script::Script;
 pub use script_reading::read_script;
 pub use session_reading::read_session;
+pub use turn::Turn;

@@ -1,5 +1,7 @@
 //! The plan of a session.
 
+use crate::turn::Turn;
+
 /// A guest: the size of its RAM, a bound on its steps, and the names of its files.
 #[derive(Debug, Drop)]
 pub struct GuestPlan {
@@ -9,12 +11,13 @@ pub struct GuestPlan {
     script: Option<String>,
 }
 
-/// A board and the guests that share it.
+/// A board, the guests that share it, and the turns that come before all rounds.
 #[derive(Debug, Drop)]
 pub struct SessionPlan {
     board: u32,
     slice: u32,
     guests: Vec<GuestPlan>,
+    order: Vec<Turn>,
 }
 
 impl GuestPlan {
@@ -73,15 +76,17 @@ impl SessionPlan {
     ghost use Rattle.mb_script.specs.Answers.{guest_said, plan_said};
 
     /// `board` is in KiB, `slice` in steps.
-    pub fn new(board: u32, slice: u32, guests: Vec<GuestPlan>) -> SessionPlan
+    pub fn new(board: u32, slice: u32, guests: Vec<GuestPlan>, order: Vec<Turn>) -> SessionPlan
         ensures board { (plan_said result).board ≡ board }
         ensures slice { (plan_said result).slice ≡ slice }
         ensures guests { (plan_said result).guests ≡ map guest_said guests.items }
+        ensures order { (plan_said result).order ≡ order.items }
     {
         SessionPlan {
             board,
             slice,
             guests,
+            order,
         }
     }
 
@@ -104,5 +109,19 @@ impl SessionPlan {
         ensures { map guest_said result.now ≡ (plan_said self.now).guests }
     {
         &self.guests
+    }
+
+    /// The turns that come before all rounds, in their order; of a session that was read, each of one of its guests.
+    pub fn order(&self) -> &[Turn]
+        ensures { result.now ≡ (plan_said self.now).order }
+    {
+        &self.order
+    }
+
+    /// The turns that come before all rounds, in their order.
+    pub fn into_order(self) -> Vec<Turn>
+        ensures { result.items ≡ (plan_said self).order }
+    {
+        self.order
     }
 }

@@ -1,13 +1,15 @@
 //! What one line of a session file says by itself.
 
 ghost use Rattle.std.specs.Prelude.{◌≡◌, ◌≢◌, ◌≤◌, IfOk, IfSome, IsTrue, OnOk, map, option_map, string_bytes, take};
-ghost use Rattle.mb_script.specs.Plan.{IsBoard, IsRam};
+ghost use Rattle.mb_script.specs.Plan.{IsBoard, IsRam, IsTurnOf};
 ghost use Rattle.mb_script.specs.Sessions.{argument_in, argument_of, board_line, board_of, fields_of, guest_line, guest_of, is_blank, is_graphic, is_name, ram_of, script_named, session_line, slice_line, slice_of, version_of, words_of};
-ghost use Rattle.mb_script.specs.Answers.{GivesAlone, bytes_said, fields_said, guest_said};
+ghost use Rattle.mb_script.specs.Sessions.{begins_turn, ends_guests, guest_number_of, turn_line, turn_of, turn_words_of};
+ghost use Rattle.mb_script.specs.Answers.{GivesAlone, bytes_said, cut_said, fields_said, guest_said};
 
 use crate::fault::{LineWhy, Refusal};
 use crate::number::number_of;
 use crate::plan::GuestPlan;
+use crate::turn::Turn;
 use std::alloc::{AllocError, Global};
 
 /// No line has so many words.
@@ -22,7 +24,7 @@ struct Fields<'a> {
     script: &'a [u8],
 }
 
-/// The number in a line `session 1`.
+/// The number in a line `session 1` or `session 2`.
 #[tactic(auto, unfolding(crate::specs::Sessions::session_line))]
 pub(crate) fn version(alloc: Global, line: &[u8]) -> Result<u32, Refusal>
     ensures { GivesAlone (λ version. version) result (session_line line.now) }
@@ -66,6 +68,28 @@ pub(crate) fn guest(alloc: Global, count: usize, line: &[u8]) -> Result<GuestPla
     Ok(guest)
 }
 
+/// Whether a line is that of a turn, before which the guests end; version 1 has none.
+#[tactic(auto, using(crate::proofs::Enough::begins_by_six))]
+pub(crate) fn ends_guests(alloc: Global, version: u32, line: &[u8]) -> Result<bool, AllocError>
+    ensures { IfOk result (λ ends. ends ≡ ends_guests version line.now) }
+{
+    if version != 2 {
+        return Ok(false);
+    }
+    let words = first_words(alloc, line)?;
+    Ok(begins_turn(&words))
+}
+
+/// The turn in a line, of one of so many guests.
+#[tactic(auto, using(crate::proofs::Enough::turn_by_six), unfolding(crate::specs::Sessions::turn_line))]
+pub(crate) fn turn(alloc: Global, count: u8, line: &[u8]) -> Result<Turn, Refusal>
+    ensures given { GivesAlone (λ turn. turn) result (turn_line count line.now) }
+    ensures number { IfOk result (IsTurnOf count) }
+{
+    let words = first_words(alloc, line)?;
+    turn_of(count, &words)
+}
+
 /// The second of the two words of a line, of which the first is the keyword.
 #[tactic(auto, using(crate::proofs::Enough::argument_by_six))]
 fn argument<'a>(alloc: Global, keyword: &[u8], line: &'a [u8]) -> Result<&'a [u8], Refusal>
@@ -105,12 +129,12 @@ fn argument_of<'a>(keyword: &[u8], words: &[&'a [u8]]) -> Option<&'a [u8]>
     }
 }
 
-/// The version of a session file, which is 1.
+/// The version of a session file, which is 1 or 2.
 fn version_of(word: &[u8]) -> Option<u32>
     ensures { result ≡ version_of word.now }
 {
     let version = number_of(word)?;
-    if version != 1 {
+    if version < 1 || version > 2 {
         return None;
     }
     Some(version)
@@ -226,4 +250,55 @@ fn guest_of(alloc: Global, words: &[&[u8]]) -> Result<GuestPlan, Refusal>
     let image = text_of(alloc, fields.image)?;
     let script = script_named(alloc, fields.script)?;
     Ok(GuestPlan::new(ram, steps, image, script))
+}
+
+/// Whether the first word is `turn`.
+fn begins_turn(words: &[&[u8]]) -> bool
+    ensures { result ≡ begins_turn (map bytes_said words.now) }
+{
+    match words {
+        [first, ..] => *first == b"turn".as_slice(),
+        [] => false,
+    }
+}
+
+/// `turn I N`.
+#[tactic(auto, unfolding(crate::specs::Sessions::turn_words_of))]
+fn turn_words_of<'a>(words: &[&'a [u8]]) -> Option<(&'a [u8], &'a [u8])>
+    ensures { option_map cut_said result ≡ turn_words_of (map bytes_said words.now) }
+{
+    match words {
+        [first, guest, steps] if *first == b"turn".as_slice() => Some((*guest, *steps)),
+        _ => None,
+    }
+}
+
+/// 1 to the number of guests.
+fn guest_number_of(count: u8, word: &[u8]) -> Option<u8>
+    ensures given { result ≡ guest_number_of count word.now }
+    ensures number { IfSome result (λ guest. (1 ≤ guest) × (guest ≤ count)) }
+{
+    let number = number_of(word)?;
+    if number < 1 || number > u32::from(count) {
+        return None;
+    }
+    Some(number as u8)
+}
+
+/// The turn that a line's words name, of one of so many guests.
+#[tactic(auto, unfolding(crate::specs::Sessions::turn_of))]
+fn turn_of(count: u8, words: &[&[u8]]) -> Result<Turn, Refusal>
+    ensures given { GivesAlone (λ turn. turn) result (turn_of count (map bytes_said words.now)) }
+    ensures number { IfOk result (IsTurnOf count) }
+{
+    let Some((guest, steps)) = turn_words_of(words) else {
+        return Err(Refusal::Why(LineWhy::Word));
+    };
+    let Some(guest) = guest_number_of(count, guest) else {
+        return Err(Refusal::Why(LineWhy::Number));
+    };
+    let Some(steps) = number_of(steps) else {
+        return Err(Refusal::Why(LineWhy::Number));
+    };
+    Ok(Turn { guest, steps })
 }

@@ -1,11 +1,11 @@
 //! A text as the plan of a session.
 
-ghost use Rattle.std.specs.Prelude.{◌≡◌, ◌≢◌, ◌<◌, ◌≤◌, ◌^◌, IfErr, IfOk, Ok, OnOk, length, map};
+ghost use Rattle.std.specs.Prelude.{◌≡◌, ◌≢◌, ◌<◌, ◌≤◌, ◌^◌, All, IfErr, IfOk, Ok, OnOk, length, map, option_map};
 ghost use Rattle.mb_lines.specs.Lines.{left, past};
 ghost use Rattle.mb_lines.specs.Answers.{line_said};
-ghost use Rattle.mb_script.specs.Lines.{read_by, statements};
-ghost use Rattle.mb_script.specs.Plan.{AreRams, IsBoard, IsInRange, IsRam};
-ghost use Rattle.mb_script.specs.Sessions.{guest_line, guests_after, guests_of, plan_of, session_of};
+ghost use Rattle.mb_script.specs.Lines.{ahead, read_by, statements};
+ghost use Rattle.mb_script.specs.Plan.{AreRams, IsBoard, IsInRange, IsRam, IsTurnOf};
+ghost use Rattle.mb_script.specs.Sessions.{guest_line, guests_after, guests_of, plan_of, session_of, turn_line, turns_of};
 ghost use Rattle.mb_script.specs.Sessions.{board_line, due, session_line, slice_line};
 ghost use Rattle.mb_script.specs.Answers.{Faults, Gives, guest_said, plan_said};
 
@@ -13,14 +13,17 @@ use crate::fault::LineFault;
 use crate::plan::{GuestPlan, SessionPlan};
 use crate::session_line;
 use crate::statement::{due_statement, next_statement};
+use crate::turn::Turn;
 use mb_lines::{Line, Lines};
 use std::alloc::Global;
 
-/// Reads a session file: the lines `session 1`, `board KIB`, `slice N` and then one to sixteen
-/// `guest RAM STEPS IMAGE SCRIPT`, with words that are parted by spaces and tabs.
+/// Reads a session file: the lines `session 1` or `session 2`, `board KIB`, `slice N` and then one to sixteen
+/// `guest RAM STEPS IMAGE SCRIPT`, with words that are parted by spaces and tabs; behind them, in version 2, lines
+/// `turn I N`.
 ///
-/// KIB and RAM are sizes in KiB, N is the steps of a slice, STEPS a bound on a guest's steps. IMAGE and
-/// SCRIPT are names of files, of the bytes from $21 to $7E; the script `-` is none. Empty lines and
+/// KIB and RAM are sizes in KiB, N of a slice is its steps, STEPS a bound on a guest's steps. IMAGE and
+/// SCRIPT are names of files, of the bytes from $21 to $7E; the script `-` is none. A turn is one of guest I, numbered
+/// from 1, of at most N steps. Empty lines and
 /// lines that begin with `#` are passed over, but counted. Of the faults only the first in order of
 /// lines is told, and of one line the first in the order of [`LineWhy`](crate::LineWhy); in a text that
 /// ends too early the line after the last one lacks a word.
@@ -40,11 +43,12 @@ fn plan_of(alloc: Global, lines: &mut Lines) -> Result<SessionPlan, LineFault>
     ensures given { Gives plan_said result (plan_of (past lines.old) (statements (left lines.old))) }
     ensures in_range { IfOk result (λ plan. IsInRange (plan_said plan)) }
 {
-    version(alloc, lines)?;
+    let version = version(alloc, lines)?;
     let board = board(alloc, lines)?;
     let slice = slice(alloc, lines)?;
-    let guests = guests(alloc, lines)?;
-    Ok(SessionPlan::new(board, slice, guests))
+    let (guests, first_turn) = guests(alloc, version, lines)?;
+    let order = order(alloc, guests.len() as u8, first_turn, lines)?;
+    Ok(SessionPlan::new(board, slice, guests, order))
 }
 
 fn version(alloc: Global, lines: &mut Lines) -> Result<u32, LineFault>
@@ -79,23 +83,33 @@ fn slice(alloc: Global, lines: &mut Lines) -> Result<u32, LineFault>
     slice.map_err(|refusal| refusal.at(line.number))
 }
 
-/// One guest or more.
+/// One guest or more, and the line of the first turn, if there is one.
 #[tactic(auto, unfolding(crate::specs::Sessions::guests_of))]
-fn guests(alloc: Global, lines: &mut Lines) -> Result<Vec<GuestPlan>, LineFault>
-    ensures given { Gives (λ guests. map guest_said guests.items) result
-        (guests_of (past lines.old) (statements (left lines.old))) }
-    ensures some { IfOk result (λ guests. 1 ≤ length guests.items) }
-    ensures few { IfOk result (λ guests. length guests.items ≤ 16) }
-    ensures rams { IfOk result (λ guests. AreRams (map guest_said guests.items)) }
+fn guests<'a>(
+    alloc: Global,
+    version: u32,
+    lines: &mut Lines<'a>,
+) -> Result<(Vec<GuestPlan>, Option<Line<'a>>), LineFault>
+    ensures given { Gives (λ read. (
+      map guest_said read.0.items,
+      ahead (option_map line_said read.1) (statements (left lines.new)),
+    )) result
+        (guests_of version (past lines.old) (statements (left lines.old))) }
+    ensures some { IfOk result (λ read. 1 ≤ length read.0.items) }
+    ensures few { IfOk result (λ read. length read.0.items ≤ 16) }
+    ensures rams { IfOk result (λ read. AreRams (map guest_said read.0.items)) }
 {
     let mut guests = Vec::new(alloc);
     let first = due_statement(lines)?;
     guests.push(guest_in(alloc, 0, first)?)?;
     while let Some(line) = next_statement(lines) {
+        if session_line::ends_guests(alloc, version, line.characters)? {
+            return Ok((guests, Some(line)));
+        }
         let guest = guest_in(alloc, guests.len(), line)?;
         guests.push(guest)?;
     }
-    Ok(guests)
+    Ok((guests, None))
 }
 
 /// The guest in a line, behind so many others.
@@ -106,4 +120,34 @@ fn guest_in(alloc: Global, count: usize, line: Line) -> Result<GuestPlan, LineFa
 {
     let guest = session_line::guest(alloc, count, line.characters);
     guest.map_err(|refusal| refusal.at(line.number))
+}
+
+/// The turns in all lines that are left, each of one of so many guests; the line of the first one was read.
+fn order(
+    alloc: Global,
+    count: u8,
+    first: Option<Line>,
+    lines: &mut Lines,
+) -> Result<Vec<Turn>, LineFault>
+    ensures given { Gives (λ order. order.items) result
+        (turns_of count (ahead (option_map line_said first.entry) (statements (left lines.old)))) }
+    ensures turns { IfOk result (λ order. All (IsTurnOf count) order.items) }
+{
+    let mut order = Vec::new(alloc);
+    let mut next = first;
+    while let Some(line) = next {
+        let turn = turn_in(alloc, count, line)?;
+        order.push(turn)?;
+        next = next_statement(lines);
+    }
+    Ok(order)
+}
+
+/// The turn in a line, of one of so many guests.
+fn turn_in(alloc: Global, count: u8, line: Line) -> Result<Turn, LineFault>
+    ensures given { Gives (λ turn. turn) result (read_by (turn_line count) (line_said line.entry)) }
+    ensures number { IfOk result (IsTurnOf count) }
+{
+    let turn = session_line::turn(alloc, count, line.characters);
+    turn.map_err(|refusal| refusal.at(line.number))
 }

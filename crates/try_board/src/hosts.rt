@@ -10,7 +10,7 @@ use crate::shown::{Chunk, RESET};
 use mb_board::Native;
 use mb_model::{Outcome, RunState};
 use mb_report::same;
-use mb_script::{Script, read_script};
+use mb_script::{Script, Turn, read_script};
 use std::alloc::Global;
 use vm_slices::{Host, OpenFault, Session, SessionGuest};
 
@@ -139,6 +139,38 @@ fn each_guest_shows_what_its_own_board_shows(rt: HostRuntime) {
                 "{number} in {slice}"
             );
         }
+    }
+}
+
+/// Turns of any guest in any order, and then rounds: none goes past what its guest has left.
+#[test]
+fn turns_come_before_rounds(rt: HostRuntime) {
+    let session = session_of(rt.alloc(), FITS, 1000, &[&ECHO, &HALTS, &FILL]).expect(
+        &rt,
+        "ample memory",
+    );
+    let mut host = Host::prepare(rt.alloc(), session).expect(&rt, "it fits");
+    let order = [
+        (2, 7),
+        (1, 98),
+        (3, 0),
+        (2, 100),
+        (1, 100),
+        (1, 100),
+        (2, 4_294_967_295),
+    ];
+    let order = order.map(|(guest, steps)| Turn { guest, steps });
+    assert!(rt; host.guest_count() == 3);
+    host.run_order(&order, &mut Native::new());
+    assert!(rt; stands(&host, 1) == Some((RunState::Running, 99)));
+    assert!(rt; stands(&host, 2) == Some((RunState::Halted, 16_385)));
+    assert!(rt; stands(&host, 3) == Some((RunState::Running, 0)));
+    host.run(&mut Native::new());
+    for (number, begins) in [(1, &ECHO), (2, &HALTS), (3, &FILL)] {
+        assert!(rt;
+            is_as_bare(rt.alloc(), &host, number, begins) == Some(true),
+            "{number}"
+        );
     }
 }
 

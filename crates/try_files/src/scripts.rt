@@ -1,6 +1,6 @@
 //! Scripts and session files, and what is wrong with others.
 
-use mb_script::{LineFault, LineWhy, Script, SessionPlan, read_script, read_session};
+use mb_script::{LineFault, LineWhy, Script, SessionPlan, Turn, read_script, read_session};
 use std::alloc::{AllocError, Global};
 use std::test::Fail;
 
@@ -267,6 +267,38 @@ fn reads_every_byte_of_a_name(rt: HostRuntime) -> Result<(), Fail> {
     Ok(())
 }
 
+/// A turn of so many steps.
+const fn turn(guest: u8, steps: u32) -> Turn {
+    Turn { guest, steps }
+}
+
+/// Two guests behind these lines.
+const TWO: &[u8] = b"session 2\nboard 320\nslice 1\nguest 64 1 a -\nguest 64 1 b -\n";
+
+#[test]
+fn reads_turns(rt: HostRuntime) -> Result<(), Fail> {
+    let table: [(&[u8], &[Turn]); 4] = [
+        (b"", &[]),
+        (
+            b"turn 2 7\nturn 1 3\nturn 2 100\n",
+            &[turn(2, 7), turn(1, 3), turn(2, 100)],
+        ),
+        (
+            b"# none\n\n \tturn\t 1  4294967295 \r\nturn 02 0",
+            &[turn(1, 4_294_967_295), turn(2, 0)],
+        ),
+        (b"guest 64 1 turn turn\nturn 3 1\n", &[turn(3, 1)]),
+    ];
+    for (more, want) in table {
+        let mut text = Vec::from_slice(rt.alloc(), TWO)?;
+        text.extend_from_slice(more)?;
+        assert!(rt; text.len() < 1000);
+        let plan = read_session(rt.alloc(), &text)?;
+        assert!(rt; plan.order() == want, "{more:?}");
+    }
+    Ok(())
+}
+
 type Faulty<'a> = (&'a [u8], u32, LineWhy);
 
 /// Whether a session file of these lines, behind others, has the fault.
@@ -285,7 +317,7 @@ fn tells(
 
 #[test]
 fn tells_faults_of_heads(rt: HostRuntime) -> Result<(), Fail> {
-    let table: [Faulty; 31] = [
+    let table: [Faulty; 32] = [
         // Too early an end.
         (b"", 1, LineWhy::Word),
         (b"\n", 2, LineWhy::Word),
@@ -306,7 +338,7 @@ fn tells_faults_of_heads(rt: HostRuntime) -> Result<(), Fail> {
         (b"session 1\nslice 1\n", 2, LineWhy::Word),
         (b"session 1\nboard 128\nboard 128\n", 3, LineWhy::Word),
         // No numbers, or others than there may be.
-        (b"session 2\n", 1, LineWhy::Number),
+        (b"session 3\n", 1, LineWhy::Number),
         (b"session 0\n", 1, LineWhy::Number),
         (b"session one\n", 1, LineWhy::Number),
         (b"session 4294967297\n", 1, LineWhy::Number),
@@ -322,7 +354,8 @@ fn tells_faults_of_heads(rt: HostRuntime) -> Result<(), Fail> {
         ),
         // Two faults in one line, and faults in two lines.
         (b"session x y\n", 1, LineWhy::Word),
-        (b"session 2\nboard 1\n", 1, LineWhy::Number),
+        (b"session 3\nboard 1\n", 1, LineWhy::Number),
+        (b"session 2\nboard 1\n", 2, LineWhy::Number),
         (b"session 1\nboard 129\nslice\n", 2, LineWhy::Number),
         (b"session 1\nboards 129\n", 2, LineWhy::Word),
     ];
@@ -375,6 +408,39 @@ fn tells_a_seventeenth_guest(rt: HostRuntime) -> Result<(), Fail> {
     ];
     for row in table {
         assert!(rt; tells(&rt, SIXTEEN, row)?, "{row:?}");
+    }
+    Ok(())
+}
+
+#[test]
+fn tells_faults_of_turns(rt: HostRuntime) -> Result<(), Fail> {
+    let table: [Faulty; 12] = [
+        (b"turn 3 1\n", 6, LineWhy::Number),
+        (b"turn 0 1\n", 6, LineWhy::Number),
+        (b"turn 1 4294967296\n", 6, LineWhy::Number),
+        (b"turn one 1\n", 6, LineWhy::Number),
+        (b"turn 1\n", 6, LineWhy::Word),
+        (b"turn 1 1 1\n", 6, LineWhy::Word),
+        (b"turns 1 1\n", 6, LineWhy::Word),
+        (b"turn 1 1\n\nturn 3\n", 8, LineWhy::Word),
+        (b"turn 1 1\nguest 64 1 a -\n", 7, LineWhy::Word),
+        (b"turn 1 1\n \n", 7, LineWhy::Word),
+        (b"guest 64 1 a\nturn 4 1\n", 6, LineWhy::Word),
+        (b"turn 3 1\nturn 1\n", 6, LineWhy::Number),
+    ];
+    for row in table {
+        assert!(rt; tells(&rt, TWO, row)?, "{row:?}");
+    }
+    let early: [Faulty; 2] = [
+        (
+            b"session 2\nboard 128\nslice 1\nturn 1 1\n",
+            4,
+            LineWhy::Word,
+        ),
+        (b"session 2\nboard 128\nslice 1\n", 4, LineWhy::Word),
+    ];
+    for row in early {
+        assert!(rt; tells(&rt, b"", row)?, "{row:?}");
     }
     Ok(())
 }

@@ -1,5 +1,6 @@
 pub mod Fits
 pub mod Lent
+pub mod Orders
 pub mod Places
 pub mod RoundLaws
 pub mod Turns

@@ -49,7 +49,7 @@ unfolding advanced guest_stepped begun
 advanced_steps script t = refl
 
 -- a machine that still goes has taken all steps of its turn
-turn_steps : (script : Entries) (n : ℕ) (t : Turned) → takes_steps (turn_of script n t).guest.machine.state ≡ true
+pub turn_steps : (script : Entries) (n : ℕ) (t : Turned) → takes_steps (turn_of script n t).guest.machine.state ≡ true
     → (turn_of script n t).guest.machine.steps ≡ t.guest.machine.steps + n
 turn_steps script zero t h =
     ap (λ (x : Turned). x.guest.machine.steps) (nothing_turned script t)
@@ -64,16 +64,17 @@ turn_steps script (suc n) t h = elim (cases_Bool (takes_steps t.guest.machine.st
       absurd (cc (sym still ∙ ap (λ (x : Turned). takes_steps x.guest.machine.state) (sym (halted_turn script (suc n) t still)) ∙ h))
 ]
 
-left_going : (m : Member) → takes_steps m.guest.machine.state ≡ true → left m ≡ m.bound - m.guest.machine.steps
+pub left_going : (m : Member) → takes_steps m.guest.machine.state ≡ true → left m ≡ m.bound - m.guest.machine.steps
 left_going m h = rw h refl
 
-left_still : (m : Member) → takes_steps m.guest.machine.state ≡ false → left m ≡ 0
+pub left_still : (m : Member) → takes_steps m.guest.machine.state ≡ false → left m ≡ 0
 left_still m h = rw h refl
 
-abbrev after_steps : Member → ℕ → Member
+-- after a turn of so many steps
+abbrev pub after_steps : Member → ℕ → Member
 after_steps m n = closed_by (turn_of m.script n (opened m)) m
 
-steps_left : (m : Member) (n : ℕ) → n ≤ left m → left (after_steps m n) + n ≤ left m
+pub steps_left : (m : Member) (n : ℕ) → n ≤ left m → left (after_steps m n) + n ≤ left m
 steps_left m n few = elim (cases_Bool (takes_steps m.guest.machine.state)) [
   | inl going ↦ elim (cases_Bool (takes_steps (after_steps m n).guest.machine.state)) [
     | inl on ↦

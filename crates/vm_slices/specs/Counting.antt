@@ -27,3 +27,8 @@ pub record AreCounted (before after : List Member) (marks : List Plain) (old new
 -- So many steps more can be counted, each with as many exceptions as it may begin again by, and one more.
 abbrev pub HasRoom : ℕ → NativeState → Type 0
 HasRoom steps native = (native.retired + steps < 2 ^ 62) × (native.exceptions + 32 * steps < 2 ^ 62)
+
+-- Counted are no more steps than are fewer left, each with as many exceptions as it may begin again by, and one more.
+abbrev pub RisesBy : (left left_after : ℕ) → NativeState → NativeState → Type 0
+RisesBy left left_after old new = (new.retired + left_after ≤ old.retired + left)
+    × (new.exceptions + 32 * left_after ≤ old.exceptions + 32 * left)

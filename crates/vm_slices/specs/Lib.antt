@@ -2,4 +2,5 @@ pub mod Counting
 pub mod Fit
 pub mod Lending
 pub mod Members
+pub mod Orders
 pub mod Places

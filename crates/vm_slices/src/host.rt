@@ -1,6 +1,6 @@
 //! A board with all guests of a session.
 
-ghost use Rattle.std.specs.Prelude.{◌≡◌, ◌+◌, ◌^◌, ◌<◌, ◌≤◌, length, map, true, Some, IfOk, IfErr, All};
+ghost use Rattle.std.specs.Prelude.{◌≡◌, ◌+◌, ◌-◌, ◌^◌, ◌<◌, ◌≤◌, length, map, true, Some, IfOk, IfErr, All};
 ghost use Rattle.mb_model.specs.Seen.{seen_of};
 ghost use Rattle.vm_machine.specs.Seats.{monitor_bytes};
 ghost use Rattle.vm_machine.specs.Rounds.{all_done, left_of_all, members_after, marks_after};
@@ -8,19 +8,22 @@ ghost use Rattle.vm_guest.specs.Session.{IsGuest, IsSession};
 ghost use Rattle.vm_slices.specs.declared.open_fault.OpenFault.TheVariants as open_fault;
 ghost use Rattle.vm_slices.specs.Fit.{need_of, Fits};
 ghost use Rattle.vm_guest.specs.Counting.{tally_in};
-ghost use Rattle.vm_slices.specs.Counting.{AreCounted, HasRoom};
+ghost use Rattle.mb_script.specs.Plan.{IsTurnOf};
+ghost use Rattle.vm_slices.specs.Counting.{AreCounted, HasRoom, RisesBy};
 ghost use Rattle.vm_slices.specs.Members.{member_at_start, machine_at_end, tally_at_end, after_rounds, IsReady};
 ghost use Rattle.vm_slices.specs.Members.{machines_of, tallies_of, devices_of, shown_of, numbered};
-ghost use Rattle.vm_slices.specs.Places.{members_in, members_of, StandFrom};
+ghost use Rattle.vm_slices.specs.Orders.{after_order, each_given, machines_given};
+ghost use Rattle.vm_slices.specs.Places.{marks_at, members_in, members_of, with_turn, StandFrom};
 
 use crate::fit::{AREA_BYTES, MONITOR_BYTES, bytes_needed};
 use crate::host_guest::HostGuest;
 use crate::open_fault::OpenFault;
-use crate::rounds::{are_done, take_round};
+use crate::rounds::{are_done, take_round, take_turn};
 use mb_board::{Board, Native};
 use mb_devices::Devices;
 use mb_model::Outcome;
 use mb_outside::Memory;
+use mb_script::Turn;
 use mb_walk::Ram;
 use std::alloc::Global;
 use std::marker::Model;
@@ -123,6 +126,50 @@ impl Host {
         ensures room { HasRoom (left_of_all (members_in self.new)) native.new }
     {
         take_round(&mut self.board, &mut self.guests, self.slice, native);
+    }
+
+    /// The turn of one guest, of no more steps than it has left.
+    fn take_turn(&mut self, turn: Turn, native: &mut Native)
+        requires number { IsTurnOf (length (members_in self.old)) turn }
+        requires ready { All IsReady (members_in self.old) }
+        requires room { HasRoom (left_of_all (members_in self.old)) native.old }
+        ensures turn { members_in self.new ≡ with_turn turn.steps (turn.guest - 1) (members_in self.old) }
+        ensures counts { AreCounted (members_in self.old) (members_in self.new)
+            (marks_at turn.steps (turn.guest - 1) (members_in self.old)) native.old native.new }
+        ensures slice { self.new.slice ≡ self.old.slice }
+        ensures ready { All IsReady (members_in self.new) }
+        ensures room { HasRoom (left_of_all (members_in self.new)) native.new }
+        ensures rises { RisesBy (left_of_all (members_in self.old)) (left_of_all (members_in self.new))
+            native.old native.new }
+    {
+        let place = turn.guest as usize - 1;
+        take_turn(&mut self.board, &mut self.guests, place, turn.steps, native);
+    }
+
+    /// Turns, one after the other: in each a guest takes so many steps, but no more than it has left. It refuses
+    /// nothing and takes no memory. The board carries out the retired steps, and `native` counts them.
+    pub fn run_order(&mut self, turns: &[Turn], native: &mut Native)
+        requires turns { All (IsTurnOf (length (members_in self.old))) turns.now }
+        requires ready { All IsReady (members_in self.old) }
+        requires native { (native.old.retired < 2 ^ 61) × (native.old.exceptions < 2 ^ 61) }
+        ensures order { members_in self.new ≡ (after_order turns.now (members_in self.old)).members }
+        ensures slice { self.new.slice ≡ self.old.slice }
+        ensures each { members_in self.new ≡ each_given turns.now 1 (members_in self.old) }
+        ensures machines { machines_of (members_in self.new) ≡ machines_given turns.now 1 (members_in self.old) }
+        ensures counts { AreCounted (members_in self.old) (members_in self.new)
+            (after_order turns.now (members_in self.old)).marks native.old native.new }
+        ensures ready { All IsReady (members_in self.new) }
+        ensures machine_ends { map machine_at_end (members_in self.new) ≡ map machine_at_end (members_in self.old) }
+        ensures tally_ends { map tally_at_end (members_in self.new) ≡ map tally_at_end (members_in self.old) }
+        ensures rises { RisesBy (left_of_all (members_in self.old)) (left_of_all (members_in self.new))
+            native.old native.new }
+        ensures few { (native.new.retired ≤ native.old.retired + 2 ^ 36)
+            × (native.new.exceptions ≤ native.old.exceptions + 2 ^ 41) }
+    {
+        let _ = self.guest_count();
+        for &turn in turns {
+            self.take_turn(turn, native);
+        }
     }
 
     /// Rounds, in each of which every guest in turn takes up to a slice of steps, until each has done its steps or is

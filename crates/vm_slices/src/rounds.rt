@@ -3,7 +3,7 @@
 ghost use Rattle.std.specs.Prelude.{◌≡◌, ◌≢◌, ℕ, ◌<◌, length, slice_get, All};
 ghost use Rattle.vm_machine.specs.Seats.{monitor_bytes};
 ghost use Rattle.vm_machine.specs.Rounds.{all_done, left_of_all, members_after, marks_after};
-ghost use Rattle.vm_slices.specs.Counting.{AreCounted, HasRoom};
+ghost use Rattle.vm_slices.specs.Counting.{AreCounted, HasRoom, RisesBy};
 ghost use Rattle.vm_slices.specs.Members.{IsReady};
 ghost use Rattle.vm_slices.specs.Places.{members_of, with_turn, marks_at, StandFrom};
 
@@ -11,7 +11,7 @@ use crate::host_guest::HostGuest;
 use mb_board::{Board, Native};
 
 /// The turn of one guest. Every other guest stays as it is.
-fn take_turn(
+pub(crate) fn take_turn(
     board: &mut Board,
     guests: &mut [HostGuest],
     place: usize,
@@ -31,6 +31,8 @@ fn take_turn(
     ensures stand { StandFrom monitor_bytes guests.new board.new.world.ram }
     ensures ready { All IsReady (members_of guests.new board.new.world.ram) }
     ensures room { HasRoom (left_of_all (members_of guests.new board.new.world.ram)) native.new }
+    ensures rises { RisesBy (left_of_all (members_of guests.old board.old.world.ram))
+        (left_of_all (members_of guests.new board.new.world.ram)) native.old native.new }
 {
     guests[place].take_turn(board, slice, native);
 }

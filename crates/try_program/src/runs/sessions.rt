@@ -251,6 +251,32 @@ fn slices_do_not_show(rt: HostRuntime) {
     assert!(rt; one.out.bytes() == thousand.out.bytes());
 }
 
+/// What two guests show and count, with these turns before their rounds of 1,000 steps.
+fn run_in_turns(alloc: Global, words: &str, version: &str, turns: &str) -> Option<Ran> {
+    let session = format!(in alloc;
+        "session {version}\nboard 320\nslice 1000\nguest 64 10 hello.s19 -\nguest 64 50000 fill.s19 -\n{turns}"
+    ).ok()?;
+    run_session(alloc, words, session.as_bytes(), ROOMY)
+}
+
+#[test]
+fn turns_do_not_show(rt: HostRuntime) {
+    for words in ["mbx host s.txt", "mbx compare s.txt"] {
+        let rounds = run_in_turns(rt.alloc(), words, "1", "").expect(&rt, "ample memory");
+        let turns = run_in_turns(rt.alloc(), words, "2", "turn 2 7\nturn 1 3\nturn 2 100\n").expect(
+            &rt,
+            "ample memory",
+        );
+        assert!(rt; rounds.status == 0 && turns.status == 0);
+        assert!(rt; rounds.out.bytes() == turns.out.bytes(), "{words}");
+        assert!(rt; rounds.diag.bytes() == turns.diag.bytes(), "{words}");
+        assert!(rt;
+            rounds.native.retired() == turns.native.retired(),
+            "{words}"
+        );
+    }
+}
+
 #[test]
 fn sixteen_guests_run(rt: HostRuntime) {
     let mut session = String::from_str(rt.alloc(), "session 1\nboard 2112\nslice 2\n").expect(
@@ -274,9 +300,14 @@ fn sixteen_guests_run(rt: HostRuntime) {
 
 #[test]
 fn files_of_sessions_are_refused(rt: HostRuntime) {
-    let rows: [(&[u8], u8, &[u8]); 10] = [
+    let rows: [(&[u8], u8, &[u8]); 11] = [
         (b"", 3, b"mbx: s.txt line 1: word\n"),
-        (b"session 2\n", 3, b"mbx: s.txt line 1: number\n"),
+        (b"session 3\n", 3, b"mbx: s.txt line 1: number\n"),
+        (
+            b"session 2\nboard 320\nslice 1\nguest 64 1 hello.s19 -\nguest 64 1 fill.s19 -\nturn 3 1\n",
+            3,
+            b"mbx: s.txt line 6: number\n",
+        ),
         (
             b"session 1\nboard 320\nslice 1\n",
             3,

@@ -1,6 +1,6 @@
 use Rattle.std.proofs.Common.{ap, refl}
-use Rattle.vm_guest.specs.Session.{SessionAtStart}
 use Rattle.mb_program.specs.Answers.{compare_answer, course_of, ends}
+use Rattle.mb_program.specs.Direct.{Ordered}
 use Rattle.mb_program.specs.Ends.{Around, ShelfSeen, around}
 use Rattle.mb_program.proofs.TidyLemmas.{end_tells}
 use Rattle.mb_program.proofs.command.run_compare.Goals as goal
@@ -10,7 +10,7 @@ unfolding course_of
 returns-in-Ok-clause-ends g c =
     let a : Around = around g.F.Shelf.told g.F.Shelf.whole g.F.Shelf.faults g.O.Sink.taken g.O.Sink.faults
     c.args.shelf.now c.read_session.new.shelf c.args.out.now c.show_compared.new.out c.args.native.now c.show_compared.new.native in
-    c.in-Ok.ensures.passes.1 (λ (s : SessionAtStart). ends (compare_answer s)) a c.show_compared.result refl
+    c.in-Ok.ensures.passes.1 (λ (s : Ordered). ends (compare_answer s)) a c.show_compared.result refl
     (c.show_compared.ensures a.shelf a.shelf_after (ap (λ (x : ShelfSeen). x.faults) c.in-Ok.ensures.passes.0))
 
 pub returns-in-Err-clause-ends : goal.returns-in-Err-clause-ends
@@ -18,7 +18,7 @@ unfolding course_of
 returns-in-Err-clause-ends g c =
     let a : Around = around g.F.Shelf.told g.F.Shelf.whole g.F.Shelf.faults g.O.Sink.taken g.O.Sink.faults
     c.args.shelf.now c.read_session.new.shelf c.args.out.now c.args.out.now c.args.native.now c.args.native.now in
-    c.in-Err.ensures.passes (λ (s : SessionAtStart). ends (compare_answer s)) a refl refl (refl, refl, refl)
+    c.in-Err.ensures.passes (λ (s : Ordered). ends (compare_answer s)) a refl refl (refl, refl, refl)
 
 pub returns-in-Ok-clause-tidy : goal.returns-in-Ok-clause-tidy
 returns-in-Ok-clause-tidy g c = end_tells _ _ c.show_compared.result (returns-in-Ok-clause-ends g c)

@@ -4,12 +4,14 @@ use Rattle.vm_guest.specs.Session.{GuestAtStart}
 use Rattle.mb_program.specs.Answers.{outcome_by}
 use Rattle.mb_program.specs.Compares.{found_of}
 use Rattle.mb_program.specs.Ends.{sink_seen}
+use Rattle.mb_program.specs.Said.{ordered_said}
 use Rattle.mb_program.proofs.CompareLemmas.{compared_cut, compared_other, compared_same, found_so, machine_for_each, member_for_each}
+use Rattle.mb_program.proofs.RunLemmas.{ordered_so}
 use Rattle.mb_program.proofs.compared.show_compared.Goals as goal
 
 pub write_comparison-requires-clause-count : goal.write_comparison-requires-clause-count
 write_comparison-requires-clause-count g c =
-    let guests = c.args.session.guests in
+    let guests = c.args.ordered.session.guests in
     let bare = c.in-Ok.ensures ∙ ap (λ (gs : List GuestAtStart). map (outcome_by rule_a) gs) c.guests.ensures in
     machine_for_each guests c.in-Ok.machines.items bare
     ∙ sym (member_for_each guests c.in-Ok-run_session.host c.in-Ok-run_session.ensures.runs.1)
@@ -17,7 +19,7 @@ write_comparison-requires-clause-count g c =
 pub write_comparison-requires-clause-few : goal.write_comparison-requires-clause-few
 write_comparison-requires-clause-few g c =
     let bare = c.in-Ok.ensures ∙ ap (λ (gs : List GuestAtStart). map (outcome_by rule_a) gs) c.guests.ensures in
-    let count = machine_for_each c.args.session.guests c.in-Ok.machines.items bare in
+    let count = machine_for_each c.args.ordered.session.guests c.in-Ok.machines.items bare in
     omega (arith, c.requires.session.few)
 
 pub returns-in-Ok-true : goal.returns-in-Ok-true
@@ -25,10 +27,11 @@ returns-in-Ok-true g c =
     let machines = c.in-Ok.machines.items in
     let host = c.in-Ok-run_session.host in
     let bare = c.in-Ok.ensures ∙ ap (λ (gs : List GuestAtStart). map (outcome_by rule_a) gs) c.guests.ensures in
-    compared_same c.args.session (found_of machines host) (sink_seen g.O.Sink.taken g.O.Sink.faults c.args.out.now)
+    compared_same (ordered_said c.args.ordered) (found_of machines host) (sink_seen g.O.Sink.taken g.O.Sink.faults c.args.out.now)
     (sink_seen g.O.Sink.taken g.O.Sink.faults c.write_comparison.new.out) _ _ c.in-Ok-run_session.ensures.runs.0
-    (found_so c.args.session.guests machines host bare c.in-Ok-run_session.ensures.runs.1)
-    c.in-Ok-run_session.ensures.counted (sym c.in-Ok-true.field-0-test ∙ c.in-Ok-true.ensures.all)
+    (found_so c.args.ordered.session.guests machines host bare c.in-Ok-run_session.ensures.runs.1)
+    (ordered_so (ordered_said c.args.ordered) _ _ _ c.deref.ensures.value c.in-Ok-run_session.ensures.counted)
+    (sym c.in-Ok-true.field-0-test ∙ c.in-Ok-true.ensures.all)
     c.in-Ok-true.ensures.printed
 
 pub returns-in-Ok-false : goal.returns-in-Ok-false
@@ -36,10 +39,11 @@ returns-in-Ok-false g c =
     let machines = c.in-Ok.machines.items in
     let host = c.in-Ok-run_session.host in
     let bare = c.in-Ok.ensures ∙ ap (λ (gs : List GuestAtStart). map (outcome_by rule_a) gs) c.guests.ensures in
-    compared_other c.args.session (found_of machines host) (sink_seen g.O.Sink.taken g.O.Sink.faults c.args.out.now)
+    compared_other (ordered_said c.args.ordered) (found_of machines host) (sink_seen g.O.Sink.taken g.O.Sink.faults c.args.out.now)
     (sink_seen g.O.Sink.taken g.O.Sink.faults c.write_comparison.new.out) _ _ c.in-Ok-run_session.ensures.runs.0
-    (found_so c.args.session.guests machines host bare c.in-Ok-run_session.ensures.runs.1)
-    c.in-Ok-run_session.ensures.counted (sym c.in-Ok-false.field-0-test ∙ c.in-Ok-false.ensures.all)
+    (found_so c.args.ordered.session.guests machines host bare c.in-Ok-run_session.ensures.runs.1)
+    (ordered_so (ordered_said c.args.ordered) _ _ _ c.deref.ensures.value c.in-Ok-run_session.ensures.counted)
+    (sym c.in-Ok-false.field-0-test ∙ c.in-Ok-false.ensures.all)
     c.in-Ok-false.ensures.printed
 
 pub returns : goal.returns
@@ -47,7 +51,7 @@ returns g c =
     let machines = c.in-Ok.machines.items in
     let host = c.in-Ok-run_session.host in
     let bare = c.in-Ok.ensures ∙ ap (λ (gs : List GuestAtStart). map (outcome_by rule_a) gs) c.guests.ensures in
-    compared_cut c.args.session (found_of machines host) (sink_seen g.O.Sink.taken g.O.Sink.faults c.args.out.now)
+    compared_cut (ordered_said c.args.ordered) (found_of machines host) (sink_seen g.O.Sink.taken g.O.Sink.faults c.args.out.now)
     (sink_seen g.O.Sink.taken g.O.Sink.faults c.write_comparison.new.out) _ _ c.in-Ok-run_session.ensures.runs.0
-    (found_so c.args.session.guests machines host bare c.in-Ok-run_session.ensures.runs.1)
-    c.in-Ok-run_session.ensures.counted c.in-Err-write_comparison.ensures.printed
+    (found_so c.args.ordered.session.guests machines host bare c.in-Ok-run_session.ensures.runs.1)
+    (ordered_so (ordered_said c.args.ordered) _ _ _ c.deref.ensures.value c.in-Ok-run_session.ensures.counted) c.in-Err-write_comparison.ensures.printed

@@ -5,13 +5,13 @@ use Rattle.mb_script.specs.Answers.{guest_said}
 use Rattle.mb_script.specs.Lines.{statements}
 use Rattle.mb_script.specs.Plan.{AreRams}
 use Rattle.mb_script.specs.Sessions.{guests_after, guests_of}
-use Rattle.mb_script.proofs.Entries.{with_front}
+use Rattle.mb_script.proofs.Entries.{with_guests}
 use Rattle.mb_script.proofs.session_reading.guests.Given as goal
 
 abbrev pub invariant-loop-line : goal.invariant-loop-line
 invariant-loop-line l = record {
-  guests : with_front (map guest_said l.guests.items) (guests_after (length l.guests.items) (statements (left l.lines)))
-      ≡ guests_of (past l.fn.lines) (statements (left l.fn.lines));
+  guests : with_guests (map guest_said l.guests.items) (guests_after l.version (length l.guests.items) (statements (left l.lines)))
+      ≡ guests_of l.version (past l.fn.lines) (statements (left l.fn.lines));
   past : past l.lines ≡ past l.fn.lines;
   some : 1 ≤ length l.guests.items;
   few : length l.guests.items ≤ 16;

@@ -3,7 +3,7 @@ use Rattle.std.specs.Prelude.{slice_get, All}
 use Rattle.vm_machine.specs.Seats.{monitor_bytes, IsSeated}
 use Rattle.vm_machine.specs.Rounds.{Member, left, left_of_all}
 use Rattle.vm_slices.specs.declared.host_guest.HostGuest.{HostGuest}
-use Rattle.vm_slices.specs.Counting.{AreCounted, HasRoom}
+use Rattle.vm_slices.specs.Counting.{AreCounted, HasRoom, RisesBy}
 use Rattle.vm_slices.specs.Members.{IsReady}
 use Rattle.vm_slices.specs.Places.{member_of, members_of, marks_at, with_turn, StandFrom}
 use Rattle.vm_slices.proofs.Places.{Turn, own_by, seated_at, member_ready, member_room, turn_of_one, turned_at, other_stays}
@@ -79,3 +79,9 @@ returns-clause-room c =
     let a = c.requires.room.0 in
     let b = c.requires.room.1 in
     subst (λ (ks : List Member). HasRoom (left_of_all ks) c.take_turn.new.native) (sym (stands c).1) (omega arith, omega arith)
+
+pub returns-clause-rises : goal.returns-clause-rises
+returns-clause-rises c =
+    let ms = members_of c.args.guests.now c.args.board.now.world.ram in
+    subst (λ (ks : List Member). RisesBy (left_of_all ms) (left_of_all ks) c.args.native.now c.take_turn.new.native) (sym (stands c).1)
+    ((turned c).retired, (turned c).exceptions)
