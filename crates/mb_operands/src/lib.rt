@@ -13,7 +13,7 @@ mod operands;
 pub use bounds::compare_bounds;
 pub use conditions::is_met;
 pub use endings::{Undone, left_undone, put_back, refused, trapped, unread, unwritten};
-pub use memory::read_memory;
+pub use memory::{read_at_once, read_memory, write_at_once};
 pub use operands::{
     Operand, behind, fetch_operand, find_address, finish_with, named_register, place, push,
     with_low,

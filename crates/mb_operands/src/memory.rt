@@ -35,7 +35,7 @@ fn whole_piece(at: u32, size: Size) -> Option<Piece>
 /// Reads an operand, where its number is known at once. A quick read tells no range, so a number that the size cannot
 /// have is left to the slow way.
 #[inline(always)]
-fn read_at_once<P: Port>(space: Space, at: u32, size: Size, port: &P) -> Option<u32>
+pub fn read_at_once<P: Port>(space: Space, at: u32, size: Size, port: &P) -> Option<u32>
     ensures means { IfSome result (λ value. run P.bus (read_of space at (bytes_of size)) (P.world port.now)
         ≡ (Ok value, P.world port.now)) }
     ensures range { IfSome result (λ value. value < values_of size) }
@@ -79,7 +79,7 @@ pub fn read_memory<P: Port>(
 
 /// Writes an operand, where that is done at once; else nothing has changed.
 #[inline(always)]
-fn write_at_once<P: Port>(space: Space, at: u32, size: Size, value: u32, port: &mut P) -> bool
+pub fn write_at_once<P: Port>(space: Space, at: u32, size: Size, value: u32, port: &mut P) -> bool
     ensures done { result ≡ true → run P.bus (put_of space at (bytes_of size) value) (P.world port.old)
         ≡ (Ok tt, P.world port.new) }
     ensures undone { result ≡ false → P.world port.new ≡ P.world port.old }

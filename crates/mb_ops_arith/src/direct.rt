@@ -29,13 +29,7 @@ pub(crate) fn at_hand(size: Size, ea: &Ea, plain: &Plain) -> Option<u32>
 
 /// What the operation makes of a value and a data register goes to the register.
 #[inline(always)]
-pub(crate) fn combine_into(
-    operation: Operation,
-    size: Size,
-    source: u32,
-    register: u8,
-    plain: &mut Plain,
-)
+pub fn combine_into(operation: Operation, size: Size, source: u32, register: u8, plain: &mut Plain)
     requires { register < 8 }
     ensures { plain.new ≡ in_register register size
         (operation_of operation size source (low_of size (data_register plain.old register)) plain.old.ccr)
@@ -48,7 +42,7 @@ pub(crate) fn combine_into(
 
 /// What the operation makes of two data registers goes to the second.
 #[inline(always)]
-pub(crate) fn combine_registers(
+pub fn combine_registers(
     operation: Operation,
     size: Size,
     source: u8,
@@ -72,7 +66,7 @@ pub(crate) fn combine_registers(
 
 /// A value is compared with a data register.
 #[inline(always)]
-pub(crate) fn compare_with(size: Size, source: u32, register: u8, plain: &mut Plain)
+pub fn compare_with(size: Size, source: u32, register: u8, plain: &mut Plain)
     requires { register < 8 }
     ensures { plain.new ≡ record plain.old {
       ccr = compare_of size source (low_of size (data_register plain.old register)) plain.old.ccr;

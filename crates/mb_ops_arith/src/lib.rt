@@ -21,4 +21,8 @@ mod shifts;
 mod taking;
 mod unary;
 
+pub use direct::{combine_into, combine_registers, compare_with};
+pub use operations::{Operation, Sum};
 pub use performing::{perform_arith, perform_arith_in_place};
+pub use products::multiply_word;
+pub use unary::put_in_register;

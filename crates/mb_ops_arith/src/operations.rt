@@ -12,7 +12,7 @@ use mb_instr::{BitKind, ShiftKind, Size};
 
 /// A sum or a difference.
 #[derive(Clone, Copy)]
-pub(crate) enum Sum {
+pub enum Sum {
     Add,
     /// The destination less the source.
     Subtract,
@@ -55,7 +55,7 @@ impl Sum {
 
 /// An operation of a source and a destination.
 #[derive(Clone, Copy)]
-pub(crate) enum Operation {
+pub enum Operation {
     Sum(Sum),
     /// With X, as a part of a longer sum or difference.
     Extended(Sum),

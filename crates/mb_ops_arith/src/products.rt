@@ -20,7 +20,7 @@ const ZERO_DIVIDE: u8 = 5;
 
 /// MULU.W and MULS.W: the product is the whole register.
 #[inline(always)]
-pub(crate) fn multiply_word(signed: bool, register: u8, value: u32, plain: &mut Plain)
+pub fn multiply_word(signed: bool, register: u8, value: u32, plain: &mut Plain)
     requires { register < 8 }
     ensures { carried plain.new ≡ multiplied_by_word signed register value plain.old }
 {

@@ -43,7 +43,7 @@ pub(crate) fn clear<P: Port>(
 
 /// Makes these the low bytes of a data register, and the condition codes.
 #[inline(always)]
-pub(crate) fn put_in_register(register: u8, size: Size, flagged: Flagged, plain: &mut Plain)
+pub fn put_in_register(register: u8, size: Size, flagged: Flagged, plain: &mut Plain)
     requires { register < 8 }
     ensures { plain.new ≡ in_register register size flagged plain.old }
 {

@@ -25,7 +25,7 @@ fn displacement(branch: Branch) -> u32
 
 /// Where a branch at `at` goes.
 #[inline(always)]
-pub(crate) fn target(word_at: u32, branch: Branch) -> u32
+pub fn target(word_at: u32, branch: Branch) -> u32
     ensures { result ≡ target_of word_at branch }
 {
     word_at.wrapping_add(displacement(branch))
@@ -33,7 +33,7 @@ pub(crate) fn target(word_at: u32, branch: Branch) -> u32
 
 /// Whether it is the condition F, which BSR has in a branch.
 #[inline(always)]
-fn is_call(condition: Condition) -> bool
+pub fn is_call(condition: Condition) -> bool
     ensures { result ≡ is_call condition }
 {
     match condition {
@@ -80,7 +80,7 @@ pub(crate) fn call<P: Port>(
 /// Goes to the target where the condition is met. The answer is whether it does.
 #[inline(always)]
 #[tactic(auto, unfolding(mb_meaning::specs::Flow::branched))]
-fn go_if_met(condition: Condition, target: u32, plain: &mut Plain) -> bool
+pub fn go_if_met(condition: Condition, target: u32, plain: &mut Plain) -> bool
     ensures { went result plain.new ≡ branched condition target plain.old }
 {
     let met = is_met(condition, plain.ccr);

@@ -11,4 +11,6 @@ mod performing;
 mod returns;
 mod traps;
 
+pub use branches::{go_if_met, is_call, target};
+pub use loops::loop_unless;
 pub use performing::{perform_flow, perform_flow_in_place};

@@ -12,4 +12,5 @@ mod peripheral;
 mod registers;
 mod stack;
 
+pub use moves::moveq;
 pub use performing::{perform_move, perform_move_in_place};

@@ -15,7 +15,7 @@ use Rattle.mb_meaning.specs.Attempt.{NoInstruction, Unfetched, Found, illegal, f
 use Rattle.mb_meaning.specs.Raise.{Stepped, refused_of}
 use Rattle.mb_meaning.specs.Step.{unread_of, unfound_of, executed_of, instruction_of}
 use Rattle.mb_meaning.specs.declared.Finish.{Finish}
-use Rattle.mb_step.specs.Fetching.{Sought, Word, sought_of, word_of}
+use Rattle.mb_step.specs.Fetching.{Sought, Word, sought_of, word_of, found_executed, behind}
 
 abbrev Answered : {S : Type 0} → Bus S → Space → ℕ → S → Result ℕ Fault → S → Type 0
 Answered bus space at s answer t = bus (Fetch space at) s ≡ (answer, t)
@@ -94,17 +94,14 @@ seeking_judged bus cpu more t now d h = rw (sym h) refl
 
 -- ---- all words, which are carried out once they are an instruction
 
--- it is carried out once it is found
-abbrev pub found_executed : Cpu → Routine Found → Routine Stepped
-found_executed cpu found = caught found (λ unfound. unfound_of unfound cpu) (λ found. executed_of found.0 found.1 cpu)
-
 -- what is done with an answer of the fetch
 abbrev pub doing : {S : Type 0} → Bus S → Cpu → Found × S → Stepped × S
 doing bus cpu found = run bus (found_executed cpu (Return found.0)) found.1
 
--- the words behind the first
-abbrev pub behind : Cpu → ℕ → Routine Found
-behind cpu word = found_of (most_words - 1) (space_of cpu) ((cpu.regs.pc + 2) % 2 ^ 32) (word ∷ [])
+-- what follows the first word, by what it is found to begin with
+pub begun_as : {S : Type 0} (bus : Bus S) (cpu : Cpu) (first : ℕ) (s : S) (found d : Decoded) → found ≡ decode_of (first ∷ []) → found ≡ d
+    → run bus (found_executed cpu (judged (decode_of (first ∷ [])) (behind cpu first))) s ≡ run bus (found_executed cpu (judged d (behind cpu first))) s
+begun_as bus cpu first s found d e h = ap (λ (x : Decoded). run bus (found_executed cpu (judged x (behind cpu first))) s) (sym e ∙ h)
 
 -- it begins no instruction
 pub begins_none : {S : Type 0} (bus : Bus S) (cpu : Cpu) (vector : ℕ) (t : S)
@@ -150,6 +147,15 @@ has_more bus cpu q space first second s t u answer k h found =
     (fetched bus (most_words - 1) (most_words - 2) (space_of cpu) ((cpu.regs.pc + 2) % 2 ^ 32) (first ∷ []) second s t (first ∷ second ∷ [])
     (decode_of (first ∷ second ∷ [])) refl (rw (sym k) h) refl refl)
     ∙ sought bus cpu q (by_two cpu first second) t u answer found
+
+-- it has more words: the second came, and the two are an instruction
+pub two_words : {S : Type 0} (bus : Bus S) (cpu : Cpu) (space : Space) (first second : ℕ) (s t : S) (i : Instr)
+    → space ≡ space_of cpu → Answered bus space ((cpu.regs.pc + 2) % 2 ^ 32) s (Ok second) t → decode_of (first ∷ second ∷ []) ≡ Whole i 2
+    → run bus (found_executed cpu (behind cpu first)) s ≡ run bus (executed_of i 2 cpu) t
+two_words bus cpu space first second s t i k h e =
+    ap (doing bus cpu)
+    (fetched bus (most_words - 1) (most_words - 2) (space_of cpu) ((cpu.regs.pc + 2) % 2 ^ 32) (first ∷ []) second s t (first ∷ second ∷ [])
+    (Whole i 2) refl (rw (sym k) h) refl (sym e))
 
 -- it has more words, and the second did not come
 no_second_word : {S : Type 0} (bus : Bus S) (cpu : Cpu) (space : Space) (first : ℕ) (fault : Fault) (s t : S)

@@ -71,32 +71,30 @@ trace_over bus address cpu set left now back s t f k h e n =
 abbrev five : Plain → Plain
 five p = record p { ccr = p.ccr % 32 }
 
--- an instruction that is done, and traced where that is due
-done_by : {S : Type 0} (bus : Bus S) (i : Instr) (done : Result Bool Undone) (end : Ended) (flow due : Bool) (cpu : Cpu) (before now : Plain) (s : S)
-    → done ≡ Ok flow → due ≡ is_due cpu.regs.sr flow
-    → run bus (finish_of i (end_of (with_end done end)) (with_registers before cpu) (with_registers now cpu)) s
-    ≡ run bus (tracing_of finish.Went due before.pc (with_registers (five now) cpu)) s
-unfolding finish_of with_plain
-done_by bus i done end flow due cpu before now s is asked =
-    ap (λ (d : Result Bool Undone). run bus (finish_of i (end_of (with_end d end)) (with_registers before cpu) (with_registers now cpu)) s) is
-    ∙ ap (λ (b : Bool). run bus (tracing_of finish.Went b before.pc (with_registers now cpu)) s) (sym (same_due before cpu flow) ∙ sym asked)
-    ∙ ap (λ (c : Cpu). run bus (tracing_of finish.Went due before.pc c) s) (sym (registers_low now cpu))
+-- what is traced has the five condition codes alone
+pub left_traced : {S : Type 0} (bus : Bus S) (flow due : Bool) (at : ℕ) (cpu : Cpu) (now : Plain) (s : S) (stepped : Stepped × S)
+    → due ≡ is_due cpu.regs.sr flow → due ≡ true → run bus (trace_of at (with_registers (five now) cpu)) s ≡ stepped
+    → run bus (tracing_of finish.Went (is_due cpu.regs.sr flow) at (with_registers now cpu)) s ≡ stepped
+left_traced bus flow due at cpu now s stepped asked traced h =
+    ap (λ (b : Bool). run bus (tracing_of finish.Went b at (with_registers now cpu)) s) (sym asked ∙ traced)
+    ∙ ap (λ (c : Cpu). run bus (trace_of at c) s) (sym (registers_low now cpu)) ∙ h
 
-pub done_traced : {S : Type 0} (bus : Bus S) (i : Instr) (done : Result Bool Undone) (end : Ended) (flow due : Bool) (cpu : Cpu) (before now : Plain) (s : S)
-    (stepped : Stepped × S) → done ≡ Ok flow → due ≡ is_due cpu.regs.sr flow → due ≡ true
-    → run bus (trace_of before.pc (with_registers (five now) cpu)) s ≡ stepped
+pub left_untraced : {S : Type 0} (bus : Bus S) (flow due : Bool) (at : ℕ) (cpu : Cpu) (now : Plain) (s : S)
+    → due ≡ is_due cpu.regs.sr flow → due ≡ false
+    → run bus (tracing_of finish.Went (is_due cpu.regs.sr flow) at (with_registers now cpu)) s ≡ ((finish.Went, with_registers (five now) cpu), s)
+left_untraced bus flow due at cpu now s asked untraced =
+    ap (λ (b : Bool). run bus (tracing_of finish.Went b at (with_registers now cpu)) s) (sym asked ∙ untraced)
+    ∙ ap (λ (c : Cpu). ((finish.Went, c), s)) (sym (registers_low now cpu))
+
+-- an instruction that was carried out is finished so
+pub done_left : {S : Type 0} (bus : Bus S) (i : Instr) (done : Result Bool Undone) (end : Ended) (flow : Bool) (cpu : Cpu) (before now : Plain) (s : S)
+    (stepped : Stepped × S) → done ≡ Ok flow
+    → run bus (tracing_of finish.Went (is_due cpu.regs.sr flow) before.pc (with_registers now cpu)) s ≡ stepped
     → run bus (finish_of i (end_of (with_end done end)) (with_registers before cpu) (with_registers now cpu)) s ≡ stepped
-done_traced bus i done end flow due cpu before now s stepped is asked traced h =
-    done_by bus i done end flow due cpu before now s is asked
-    ∙ ap (λ (b : Bool). run bus (tracing_of finish.Went b before.pc (with_registers (five now) cpu)) s) traced ∙ h
-
-pub done_untraced : {S : Type 0} (bus : Bus S) (i : Instr) (done : Result Bool Undone) (end : Ended) (flow due : Bool) (cpu : Cpu) (before now : Plain) (s : S)
-    → done ≡ Ok flow → due ≡ is_due cpu.regs.sr flow → due ≡ false
-    → run bus (finish_of i (end_of (with_end done end)) (with_registers before cpu) (with_registers now cpu)) s
-    ≡ ((finish.Went, with_registers (five now) cpu), s)
-done_untraced bus i done end flow due cpu before now s is asked untraced =
-    done_by bus i done end flow due cpu before now s is asked
-    ∙ ap (λ (b : Bool). run bus (tracing_of finish.Went b before.pc (with_registers (five now) cpu)) s) untraced
+unfolding finish_of with_plain
+done_left bus i done end flow cpu before now s stepped is h =
+    ap (λ (d : Result Bool Undone). run bus (finish_of i (end_of (with_end d end)) (with_registers before cpu) (with_registers now cpu)) s) is
+    ∙ ap (λ (b : Bool). run bus (tracing_of finish.Went b before.pc (with_registers now cpu)) s) (sym (same_due before cpu flow)) ∙ h
 
 -- An instruction that works on the registers apart: `value` is the processor put together.
 pub unprivileged_apart : {S : Type 0} (bus : Bus S) (i : Instr) (n : ℕ) (cpu value : Cpu) (s t : S) (done : Result Bool Undone) (end : Ended)

@@ -1,4 +1,5 @@
 pub mod Fetches
 pub mod Entries
 pub mod Finishes
+pub mod InShort
 pub mod Registers

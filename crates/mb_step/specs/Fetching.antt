@@ -1,13 +1,15 @@
 -- An instruction's words behind its first, and what follows where they are none.
-use Rattle.std.specs.Prelude.{ℕ, Result, Ok, Err}
+use Rattle.std.specs.Prelude.{ℕ, ◌+◌, ◌-◌, ◌%◌, ◌^◌, [], ◌∷◌, Result, Ok, Err}
 use Rattle.mb_port.specs.Routine.{Routine, Return, Then, caught, fetch}
 use Rattle.mb_port.specs.declared.types.Space.{Space}
 use Rattle.mb_instr.specs.declared.instruction.Instr.{Instr}
 use Rattle.mb_model.specs.declared.processor.Cpu.{Cpu}
+use Rattle.mb_model.specs.Status.{space_of}
 use Rattle.mb_meaning.specs.declared.Finish.{Finish}
 use Rattle.mb_ea.specs.Reading.{refused_in}
-use Rattle.mb_meaning.specs.Attempt.{Found}
-use Rattle.mb_meaning.specs.Step.{unfound_of, unread_of}
+use Rattle.mb_meaning.specs.Attempt.{Found, found_of, most_words}
+use Rattle.mb_meaning.specs.Raise.{Stepped}
+use Rattle.mb_meaning.specs.Step.{executed_of, unfound_of, unread_of}
 
 -- a word, or how the step ended without one; and the processor then
 abbrev pub Word : Type 0
@@ -33,3 +35,11 @@ sought_of cpu found = caught found
 abbrev pub sought_by : Result ℕ Finish → Instr → Result (Instr × ℕ) Finish
 sought_by (Ok n) i = Ok (i, n)
 sought_by (Err end) i = Err end
+
+-- the words behind the first
+abbrev pub behind : Cpu → ℕ → Routine Found
+behind cpu word = found_of (most_words - 1) (space_of cpu) ((cpu.regs.pc + 2) % 2 ^ 32) (word ∷ [])
+
+-- an instruction is carried out once it is found
+abbrev pub found_executed : Cpu → Routine Found → Routine Stepped
+found_executed cpu found = caught found (λ unfound. unfound_of unfound cpu) (λ found. executed_of found.0 found.1 cpu)

@@ -1,7 +1,7 @@
 //! What a processor decodes with.
 
 use mb_instr::{Exchange, Instr, Move};
-use mb_table::{FirstWords, LongerWords};
+use mb_table::{FirstWords, LongerWords, Shorts};
 use std::alloc::{AllocError, Global};
 
 /// Instructions of several words: those of two that are remembered, and a place for one that is decoded.
@@ -16,6 +16,7 @@ pub(crate) struct Longer {
 #[derive(Drop)]
 pub struct Decoder {
     pub(crate) first_words: FirstWords,
+    pub(crate) shorts: Shorts,
     pub(crate) longer: Longer,
 }
 
@@ -24,6 +25,7 @@ impl Decoder {
     pub fn new(alloc: Global) -> Result<Decoder, AllocError> {
         Ok(Decoder {
             first_words: FirstWords::new(alloc)?,
+            shorts: Shorts::new(alloc)?,
             longer: Longer {
                 words: LongerWords::new(alloc)?,
                 instruction: Instr::Move(Move::Exg {

@@ -4,6 +4,7 @@ ghost use Rattle.std.specs.Prelude.{◌≡◌, ◌≢◌, ◌<◌};
 ghost use Rattle.mb_port.specs.Routine.{run};
 ghost use Rattle.mb_instr.specs.Codes.{IsInstr};
 ghost use Rattle.mb_instr.specs.declared.instruction.Instr.TheVariants as instr;
+ghost use Rattle.mb_meaning.specs.Raise.{is_due, tracing_of};
 ghost use Rattle.mb_meaning.specs.SystemEnds.{with_registers};
 ghost use Rattle.mb_operands.specs.Endings.{end_of, with_end};
 ghost use Rattle.mb_meaning.specs.Step.{finish_of, supervised_of, unprivileged_of, executed_of};
@@ -57,6 +58,30 @@ pub(crate) fn execute_supervised<P: Port>(
     }
 }
 
+/// Finishes an instruction at `at` that was carried out and left these registers.
+#[inline(always)]
+pub(crate) fn finish_done<P: Port>(
+    flow: bool,
+    at: u32,
+    plain: &mut Plain,
+    cpu: &mut Cpu,
+    port: &mut P,
+) -> Finish
+    ensures means { run P.bus
+        (tracing_of Finish.Went (is_due cpu.old.regs.sr flow) at (with_registers plain.old cpu.old)) (P.world port.old)
+        ≡ ((result, with_registers plain.new cpu.new), P.world port.new) }
+    ensures ccr { plain.new.ccr < 32 }
+    ensures busy { result ≢ Finish.Idle }
+    ensures rest { P.rest port.new ≡ P.rest port.old }
+{
+    plain.ccr %= 32;
+    if is_due(cpu.regs.sr, flow) {
+        trace_left(at, plain, cpu, port)
+    } else {
+        Finish::Went
+    }
+}
+
 /// Finishes an instruction that left these registers; those before it stand beside. Where it was not done, how it ended
 /// does too.
 #[inline(always)]
@@ -79,14 +104,7 @@ fn finish_plain<P: Port>(
     ensures rest { P.rest port.new ≡ P.rest port.old }
 {
     match done {
-        Ok(flow) => {
-            plain.ccr %= 32;
-            if is_due(cpu.regs.sr, flow) {
-                trace_left(before.pc, plain, cpu, port)
-            } else {
-                Finish::Went
-            }
-        }
+        Ok(flow) => finish_done(flow, before.pc, plain, cpu, port),
         Err(_) => finish_undone(instruction, ended, before, plain, cpu, port),
     }
 }

@@ -1,23 +1,27 @@
 //! The instruction that stands at PC is fetched and decoded.
 
-ghost use Rattle.std.specs.Prelude.{◌≡◌, ◌≢◌, ◌-◌, ◌+◌, ◌%◌, ◌^◌, [], ◌∷◌, IfOk, IfErr};
+ghost use Rattle.std.specs.Prelude.{◌≡◌, ◌≢◌, ◌-◌, ◌+◌, ◌%◌, ◌^◌, [], ◌∷◌, IfOk, IfErr, IfSome, IfNone};
 ghost use Rattle.mb_port.specs.Routine.{run};
 ghost use Rattle.mb_instr.specs.Codes.{IsInstr};
 ghost use Rattle.mb_model.specs.Status.{space_of};
+ghost use Rattle.mb_decode.specs.declared.front.Decoded.TheVariants.{More};
 ghost use Rattle.mb_decode.specs.Decodes.{decode_of};
 ghost use Rattle.mb_meaning.specs.Attempt.{found_of, judged, most_words};
 ghost use Rattle.mb_meaning.specs.Step.{instruction_of};
-ghost use Rattle.mb_step.specs.Fetching.{sought_of, sought_by, word_of};
+ghost use Rattle.mb_table.specs.FirstWords.{alone};
+ghost use Rattle.mb_table.specs.Short.{IsShort};
+ghost use Rattle.mb_step.specs.Fetching.{sought_of, sought_by, word_of, behind, found_executed};
 
 use crate::decoder::Longer;
-use crate::executing::execute;
+use crate::executing::{execute, finish_done};
 use crate::processor::Processor;
 use arrayvec::ArrayVec;
 use mb_decode::{Decoded, Decoding, decode_into};
 use mb_instr::Instr;
 use mb_meaning::Finish;
 use mb_port::{Port, Space};
-use mb_table::FirstWords;
+use mb_short::perform_short;
+use mb_table::{FirstWords, Short, Shorts};
 
 /// How many words an instruction can have behind its first.
 const MOST_BEHIND: usize = 10;
@@ -122,10 +126,12 @@ fn decode_longer<P: Port>(
     second: u16,
     second_at: u32,
     longer: &mut Longer,
+    shorts: &mut Shorts,
     processor: &mut Processor,
     port: &mut P,
 ) -> Result<u8, Finish>
-    requires { second_at % 2 ≡ 0 }
+    requires even { second_at % 2 ≡ 0 }
+    requires more { alone first ≡ More }
     ensures means { run P.bus (sought_of processor.old (judged (decode_of (first ∷ second ∷ []))
         (found_of (most_words - 2) (space_of processor.old) ((second_at + 2) % 2 ^ 32) (first ∷ second ∷ []))))
         (P.world port.old)
@@ -138,6 +144,7 @@ fn decode_longer<P: Port>(
         Decoding::Whole(length) => {
             if length == 2 {
                 longer.words.keep(first, second, &longer.instruction);
+                shorts.learn_with(first, second, &longer.instruction);
             }
             Ok(length)
         }
@@ -162,10 +169,12 @@ fn find_longer<P: Port>(
     second: u16,
     second_at: u32,
     longer: &mut Longer,
+    shorts: &mut Shorts,
     processor: &mut Processor,
     port: &mut P,
 ) -> Result<u8, Finish>
-    requires { second_at % 2 ≡ 0 }
+    requires even { second_at % 2 ≡ 0 }
+    requires more { alone first ≡ More }
     ensures means { run P.bus (sought_of processor.old (judged (decode_of (first ∷ second ∷ []))
         (found_of (most_words - 2) (space_of processor.old) ((second_at + 2) % 2 ^ 32) (first ∷ second ∷ []))))
         (P.world port.old)
@@ -178,18 +187,88 @@ fn find_longer<P: Port>(
         longer.instruction = *kept;
         return Ok(2);
     }
-    decode_longer(first, second, second_at, longer, processor, port)
+    decode_longer(first, second, second_at, longer, shorts, processor, port)
 }
 
-/// Fetches the instruction that stands at PC and carries it out. No word is fetched behind those that the instruction
-/// needs, and none at an odd PC.
+/// A first word came that had not come before.
+#[inline(never)]
+fn learn(first: u16, first_words: &mut FirstWords, shorts: &mut Shorts) {
+    shorts.learn(first, first_words.of(first));
+}
+
+/// Carries out the instruction of a first word's short form that stands at PC, where that is done at once. Else nothing
+/// has changed.
+#[inline(always)]
+fn execute_short<P: Port>(
+    first: u16,
+    short: Short,
+    processor: &mut Processor,
+    port: &mut P,
+) -> Option<Finish>
+    requires even { processor.old.regs.pc % 2 ≡ 0 }
+    requires short { IsShort first short }
+    ensures done { IfSome result (λ end.
+        run P.bus (found_executed processor.old (judged (alone first) (behind processor.old first))) (P.world port.old)
+        ≡ ((end, processor.new), P.world port.new)) }
+    ensures undone { IfNone result (processor.new ≡ processor.old) }
+    ensures same { IfNone result (P.world port.new ≡ P.world port.old) }
+    ensures busy { IfSome result (λ end. end ≢ Finish.Idle) }
+    ensures rest { P.rest port.new ≡ P.rest port.old }
+{
+    let at = processor.plain.pc;
+    let flow = perform_short(short, processor.cpu.space(), &mut processor.plain, port)?;
+    Some(finish_done(flow, at, &mut processor.plain, &mut processor.cpu, port))
+}
+
+/// Carries out the instruction at PC whose first word this is, and fetches and decodes the words behind it.
 ///
 /// An instruction of one word stays where it is remembered, and a longer one in its place, from which all are carried
 /// out by one call.
 #[inline(always)]
+fn execute_first<P: Port>(
+    first: u16,
+    first_words: &mut FirstWords,
+    shorts: &mut Shorts,
+    longer: &mut Longer,
+    processor: &mut Processor,
+    port: &mut P,
+) -> Finish
+    requires { processor.old.regs.pc % 2 ≡ 0 }
+    ensures means { run P.bus (found_executed processor.old (judged (alone first) (behind processor.old first)))
+        (P.world port.old) ≡ ((result, processor.new), P.world port.new) }
+    ensures busy { result ≢ Finish.Idle }
+    ensures rest { P.rest port.new ≡ P.rest port.old }
+{
+    let (at, space) = (processor.pc(), processor.space());
+    // Borrowed once for all arms, so that an instruction can be lent out of them.
+    let longer = &mut *longer;
+    let (instruction, length) = match first_words.of(first) {
+        Decoded::Whole(instruction, length) => (instruction, *length),
+        Decoded::More => {
+            let second_at = at.wrapping_add(2);
+            let second = match fetch_word(space, second_at, processor, port) {
+                Ok(word) => word,
+                Err(end) => return end,
+            };
+            match find_longer(first, second, second_at, longer, shorts, processor, port) {
+                Ok(length) => (&longer.instruction, length),
+                Err(end) => return end,
+            }
+        }
+        Decoded::Illegal => return processor.refuse(ILLEGAL, port),
+        Decoded::LineA => return processor.refuse(LINE_A, port),
+        Decoded::LineF => return processor.refuse(LINE_F, port),
+    };
+    execute(instruction, length, processor, port)
+}
+
+/// Fetches the instruction that stands at PC and carries it out: by its short form, where that is done at once. No word
+/// is fetched behind those that the instruction needs, and none at an odd PC.
+#[inline(always)]
 #[tactic(auto, unfolding(mb_meaning::specs::Step::instruction_of))]
 pub(crate) fn execute_next<P: Port>(
     first_words: &mut FirstWords,
+    shorts: &mut Shorts,
     longer: &mut Longer,
     processor: &mut Processor,
     port: &mut P,
@@ -207,24 +286,14 @@ pub(crate) fn execute_next<P: Port>(
         Ok(word) => word,
         Err(end) => return end,
     };
-    // Borrowed once for all arms, so that an instruction can be lent out of them.
-    let longer = &mut *longer;
-    let (instruction, length) = match first_words.of(first) {
-        Decoded::Whole(instruction, length) => (instruction, *length),
-        Decoded::More => {
-            let second_at = at.wrapping_add(2);
-            let second = match fetch_word(space, second_at, processor, port) {
-                Ok(word) => word,
-                Err(end) => return end,
-            };
-            match find_longer(first, second, second_at, longer, processor, port) {
-                Ok(length) => (&longer.instruction, length),
-                Err(end) => return end,
+    let short = shorts.of(first);
+    match execute_short(first, short, processor, port) {
+        Some(end) => end,
+        None => {
+            if let Short::Unknown = short {
+                learn(first, first_words, shorts);
             }
+            execute_first(first, first_words, shorts, longer, processor, port)
         }
-        Decoded::Illegal => return processor.refuse(ILLEGAL, port),
-        Decoded::LineA => return processor.refuse(LINE_A, port),
-        Decoded::LineF => return processor.refuse(LINE_F, port),
-    };
-    execute(instruction, length, processor, port)
+    }
 }

@@ -40,6 +40,7 @@ pub fn step_in_place<P: Port>(
     }
     execute_next(
         &mut decoder.first_words,
+        &mut decoder.shorts,
         &mut decoder.longer,
         processor,
         port,

@@ -8,6 +8,10 @@
 
 mod first_words;
 mod longer_words;
+mod short;
+mod shorts;
 
 pub use first_words::FirstWords;
 pub use longer_words::LongerWords;
+pub use short::Short;
+pub use shorts::Shorts;

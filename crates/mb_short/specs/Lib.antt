@@ -1,0 +1,3 @@
+pub mod Forms
+pub mod Moved
+pub mod Taken

@@ -1,0 +1,14 @@
+//! Instructions in short, carried out at once.
+//!
+//! Each form of [`mb_table::Short`] has an arm here, which does what the row of its instruction does, where that asks
+//! nothing of the bus but what is known at once. Where it is not, nothing has changed, and the row is carried out as
+//! any other. So this is no second meaning of instructions: every arm has the equation of a row, and whoever leaves
+//! all arms out has the same machine.
+#![tactic(auto)]
+
+mod branches;
+mod memory;
+mod performing;
+mod registers;
+
+pub use performing::perform_short;

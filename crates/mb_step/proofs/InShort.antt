@@ -1,0 +1,107 @@
+-- An instruction that was carried out by its short form is the step's.
+use Rattle.std.proofs.Common.{◌≡◌, ◌∙◌, ℕ, ◌<◌, ◌+◌, ◌%◌, ◌^◌, length, refl, ap, sym, subst, Bool, Option, Some, None, IfSome, Ok, inl, inr}
+use Rattle.mb_port.specs.Routine.{Bus, Call, run}
+use Rattle.mb_port.specs.declared.types.Space.{Space}
+use Rattle.mb_instr.specs.declared.instruction.Instr.{Instr}
+use Rattle.mb_instr.specs.declared.instruction.Instr.TheVariants as instr
+use Rattle.mb_instr.specs.declared.registers.Plain.{Plain}
+use Rattle.mb_instr.specs.Codes.{IsInstr}
+use Rattle.mb_instr.specs.Registers.{plain_of, with_plain}
+use Rattle.mb_model.specs.declared.processor.Cpu.{Cpu}
+use Rattle.mb_model.specs.Status.{space_of}
+use Rattle.mb_decode.specs.declared.front.Decoded.{Decoded}
+use Rattle.mb_meaning.specs.Attempt.{judged}
+use Rattle.mb_meaning.specs.Ends.{Performed, closed}
+use Rattle.mb_meaning.specs.Rows.{row_of, perform_of}
+use Rattle.mb_meaning.specs.SystemEnds.{with_registers}
+use Rattle.mb_meaning.specs.Raise.{Stepped, is_due, tracing_of}
+use Rattle.mb_meaning.specs.declared.Finish.TheVariants as finish
+use Rattle.mb_meaning.specs.Step.{executed_of, unprivileged_of, finish_of}
+use Rattle.mb_table.specs.declared.short.Short.{Short}
+use Rattle.mb_table.specs.FirstWords.{alone}
+use Rattle.mb_table.specs.Short.{meaning, meaning_with, IsAlone, IsWith, IsShort}
+use Rattle.mb_short.specs.Taken.{Goes, GoesBy, IsDone}
+use Rattle.mb_step.specs.Fetching.{behind, found_executed}
+use Rattle.mb_step.proofs.Fetches.{is_whole, two_words}
+use Rattle.mb_step.proofs.Registers.{same_space, same_due, same_counter, registers_over, plain_again}
+
+-- what follows an instruction that went
+abbrev pub after : {S : Type 0} → Bus S → Cpu → Bool → Plain → S → Stepped × S
+after bus cpu flow q t = run bus (tracing_of finish.Went (is_due cpu.regs.sr flow) cpu.regs.pc (with_registers q cpu)) t
+
+abbrev finished : {S : Type 0} → Bus S → Cpu → Instr → Performed × S → Stepped × S
+finished bus cpu i r = run bus (finish_of i (closed r.0).0 cpu (with_registers (closed r.0).1 cpu)) r.1
+
+executed : {S : Type 0} (bus : Bus S) (cpu : Cpu) (i : Instr) (n : ℕ) (flow : Bool) (q : Plain) (s t : S)
+    → Goes bus i n (space_of cpu) (plain_of cpu.regs) s flow q t → run bus (executed_of i n cpu) s ≡ after bus cpu flow q t
+unfolding executed_of unprivileged_of finish_of perform_of row_of
+executed bus cpu (instr.Move i) n flow q s t h = ap (finished bus cpu (instr.Move i)) h
+executed bus cpu (instr.Arith i) n flow q s t h = ap (finished bus cpu (instr.Arith i)) h
+executed bus cpu (instr.Flow i) n flow q s t h = ap (finished bus cpu (instr.Flow i)) h
+executed bus cpu (instr.System i) n flow q s t h = absurd (let e = ap (λ (r : Performed × _). r.0) h in let z : ⊥ = cc in z)
+
+-- by itself
+alone_went : {S : Type 0} (bus : Bus S) (cpu : Cpu) (first : ℕ) (m : Option Instr) (flow : Bool) (q : Plain) (s t : S)
+    → IfSome m (IsAlone first) → GoesBy bus m 1 (space_of cpu) (plain_of cpu.regs) s flow q t
+    → run bus (found_executed cpu (judged (alone first) (behind cpu first))) s ≡ after bus cpu flow q t
+alone_went bus cpu first None flow q s t right h = absurd h
+alone_went bus cpu first (Some i) flow q s t right h =
+    is_whole bus cpu (behind cpu first) s (alone first) i 1 right.0 ∙ executed bus cpu i 1 flow q s t h
+
+-- with the second word
+with_went : {S : Type 0} (bus : Bus S) (cpu : Cpu) (first word : ℕ) (m : Option Instr) (flow : Bool) (q : Plain) (s t : S)
+    → IfSome m (IsWith first word) → bus (Call.Fetch (space_of cpu) ((cpu.regs.pc + 2) % 2 ^ 32)) s ≡ (Ok word, s)
+    → GoesBy bus m 2 (space_of cpu) (plain_of cpu.regs) s flow q t
+    → run bus (found_executed cpu (judged (alone first) (behind cpu first))) s ≡ after bus cpu flow q t
+with_went bus cpu first word None flow q s t right came h = absurd h
+with_went bus cpu first word (Some i) flow q s t right came h =
+    ap (λ (d : Decoded). run bus (found_executed cpu (judged d (behind cpu first))) s) right.0
+    ∙ two_words bus cpu (space_of cpu) first word s s i refl came right.1
+    ∙ executed bus cpu i 2 flow q s t h
+
+pub went : {S : Type 0} (bus : Bus S) (cpu : Cpu) (first : ℕ) (short : Short) (flow : Bool) (q : Plain) (s t : S)
+    → IsShort first short → IsDone bus short (space_of cpu) (plain_of cpu.regs) s flow q t
+    → run bus (found_executed cpu (judged (alone first) (behind cpu first))) s ≡ after bus cpu flow q t
+unfolding IsShort plain_of
+went bus cpu first short flow q s t right (inl h) = alone_went bus cpu first (meaning short) flow q s t right.0 h
+went bus cpu first short flow q s t right (inr (word, range, came, h)) =
+    with_went bus cpu first word (meaning_with word short) flow q s t (right.1 word range) came h
+
+-- a processor that works on the registers apart: `value` is the processor put together
+pub went_apart : {S : Type 0} (bus : Bus S) (cpu value : Cpu) (before now : Plain) (first : ℕ) (short : Short) (flow : Bool) (s t : S)
+    (stepped : Stepped × S) → with_registers before cpu ≡ value → length before.a ≡ 8 → before.ccr < 32 → IsShort first short
+    → IsDone bus short (space_of cpu) before s flow now t
+    → run bus (tracing_of finish.Went (is_due cpu.regs.sr flow) before.pc (with_registers now cpu)) t ≡ stepped
+    → run bus (found_executed value (judged (alone first) (behind value first))) s ≡ stepped
+unfolding with_plain
+went_apart bus cpu value before now first short flow s t stepped k len less right done h =
+    let whole = with_registers before cpu in
+    let by_space = subst (λ (space : Space). IsDone bus short space before s flow now t) (same_space before cpu) done in
+    let by_plain = subst (λ (p : Plain). IsDone bus short (space_of whole) p s flow now t) (sym (plain_again before cpu len less)) by_space in
+    ap (λ (c : Cpu). run bus (found_executed c (judged (alone first) (behind c first))) s) (sym k)
+    ∙ went bus whole first short flow now s t right by_plain
+    ∙ ap (λ (b : Bool). run bus (tracing_of finish.Went b before.pc (with_registers now whole)) t) (sym (same_due before cpu flow))
+    ∙ ap (λ (c : Cpu). run bus (tracing_of finish.Went (is_due cpu.regs.sr flow) before.pc c) t) (registers_over before now cpu)
+    ∙ h
+
+-- ---- what a right form is, is in the table of instructions
+
+alone_valid : (first : ℕ) (m : Option Instr) → IfSome m (IsAlone first) → IfSome m IsInstr
+alone_valid first None h = h
+alone_valid first (Some i) h = h.1
+
+with_valid : (first word : ℕ) (m : Option Instr) → IfSome m (IsWith first word) → IfSome m IsInstr
+with_valid first word None h = h
+with_valid first word (Some i) h = h.2
+
+pub valid : (first : ℕ) (short : Short) → IsShort first short → IfSome (meaning short) IsInstr
+unfolding IsShort
+valid first short right = alone_valid first (meaning short) right.0
+
+pub valid_with : (first : ℕ) (short : Short) → IsShort first short → (word : ℕ) → word < 2 ^ 16 → IfSome (meaning_with word short) IsInstr
+unfolding IsShort
+valid_with first short right word range = with_valid first word (meaning_with word short) (right.1 word range)
+
+-- the counter of a processor that works on the registers apart
+pub even_apart : (before : Plain) (cpu value : Cpu) → with_registers before cpu ≡ value → value.regs.pc % 2 ≡ 0 → before.pc % 2 ≡ 0
+even_apart before cpu value k e = ap (λ (n : ℕ). n % 2) (same_counter before cpu ∙ ap (λ (c : Cpu). c.regs.pc) k) ∙ e

@@ -1,0 +1,71 @@
+//! The short form of each first word.
+
+ghost use Rattle.std.specs.Prelude.{◌≡◌, ◌<◌, [], ◌∷◌};
+ghost use Rattle.mb_instr.specs.Codes.{IsInstr};
+ghost use Rattle.mb_decode.specs.declared.front.Decoded.TheVariants.{Whole, More};
+ghost use Rattle.mb_decode.specs.Decodes.{decode_of, IfWhole};
+ghost use Rattle.mb_table.specs.FirstWords.{alone};
+ghost use Rattle.mb_table.specs.Short.{IsShort};
+
+use crate::short::{Short, short_of, short_with};
+use mb_decode::{Decoded, spellings};
+use mb_instr::Instr;
+use std::alloc::{AllocError, Global};
+use std::marker::Model;
+
+/// How many first words there are.
+const FIRST_WORDS: usize = 65_536;
+
+/// The short forms of the first words that came. Which they are does not count, so nothing is seen of it.
+#[derive(Drop)]
+pub struct Shorts {
+    forms: Vec<Short>,
+}
+
+impl Model for Shorts {
+    ghost use Rattle.std.specs.Prelude.{◌≡◌, ⊤, ℕ, ◌<◌, length, slice_index_or};
+    ghost use Rattle.mb_table.specs.declared.short.Short.TheVariants.{Unknown};
+    ghost use Rattle.mb_table.specs.Short.{IsShort};
+
+    ghost Value = { ⊤ };
+
+    ghost view = { λ _. tt };
+
+    ghost invariant = { λ t. (length t.forms.items ≡ 65536)
+        × ((first : ℕ) → IsShort first (slice_index_or t.forms.items first Unknown)) };
+}
+
+impl Shorts {
+    /// No word has come. It takes all the memory that it will need.
+    pub fn new(alloc: Global) -> Result<Shorts, AllocError> {
+        let forms = vec![in alloc; Short::Unknown; FIRST_WORDS]?;
+        Ok(Shorts { forms })
+    }
+
+    /// The short form of a first word.
+    #[inline(always)]
+    pub fn of(&self, first: u16) -> Short
+        ensures { IsShort first result }
+    {
+        self.forms[usize::from(first)]
+    }
+
+    /// A first word came, and this is what it begins with by itself.
+    #[inline(never)]
+    pub fn learn(&mut self, first: u16, decoded: &Decoded)
+        requires means { decoded.now ≡ alone first }
+        requires valid { IfWhole decoded.now (λ i n. IsInstr i) }
+    {
+        self.forms[usize::from(first)] = short_of(decoded);
+    }
+
+    /// A first word that wants more came with this second one, and the two are this instruction.
+    pub fn learn_with(&mut self, first: u16, second: u16, instruction: &Instr)
+        requires more { alone first ≡ More }
+        requires means { decode_of (first ∷ second ∷ []) ≡ Whole instruction.now 2 }
+        requires valid { IsInstr instruction.now }
+    {
+        spellings();
+        self.forms[usize::from(first)] = short_with(second, instruction);
+    }
+}
