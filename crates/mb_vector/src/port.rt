@@ -16,6 +16,8 @@ pub struct VectorPort {
     pub longs: Vec<u32>,
     pub hole: u32,
     pub mmu: Mmu,
+    /// Whether quick calls answer what they can. At first they answer nothing.
+    pub is_quick: bool,
 }
 
 impl VectorPort {
@@ -37,6 +39,7 @@ impl VectorPort {
             longs: vec![in alloc; 0; longs]?,
             hole,
             mmu,
+            is_quick: false,
         })
     }
 
@@ -126,6 +129,28 @@ impl Port for VectorPort {
         }
         self.set_value(piece, value);
         Ok(())
+    }
+
+    fn quick_fetch(&self, _space: Space, at: u32) -> Option<u16> {
+        if !self.is_quick || self.refuses(at, 2) {
+            return None;
+        }
+        Some(self.value(Piece { at, len: 2 }) as u16)
+    }
+
+    fn quick_read(&self, _space: Space, piece: Piece) -> Option<u32> {
+        if !self.is_quick || self.refuses(piece.at, piece.len) {
+            return None;
+        }
+        Some(self.value(piece))
+    }
+
+    fn quick_write(&mut self, _space: Space, piece: Piece, value: u32) -> bool {
+        if !self.is_quick || self.refuses(piece.at, piece.len) {
+            return false;
+        }
+        self.set_value(piece, value);
+        true
     }
 
     fn read_line(&mut self, space: Space, at: u32) -> Result<[u32; 4], Fault> {

@@ -19,6 +19,7 @@ fn port_of(alloc: Global) -> Result<VectorPort, AllocError> {
             urp: 0,
             srp: 0,
         },
+        is_quick: false,
     })
 }
 

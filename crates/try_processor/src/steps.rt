@@ -2,6 +2,7 @@
 
 mod exceptions;
 mod returns;
+mod shorts;
 mod turns;
 
 ghost use Rattle.std.specs.Prelude.{◌<◌};

@@ -1,0 +1,127 @@
+//! Instructions in short beside the general way.
+
+use super::{CODE, NO_HOLE, memory, processor, put};
+use mb_model::Cpu;
+use mb_step::{Decoder, StepEnd, step};
+use mb_vector::VectorPort;
+use std::alloc::{AllocError, Global};
+
+/// A byte of the operands, for steps in which it is refused.
+const HOLE: u32 = 0x1109;
+
+/// Instructions of one word that have a short form, one of each.
+const ALONE: [u16; 16] = [
+    0x70F9, // MOVEQ #-7,D0
+    0x2401, // MOVE.L D1,D2
+    0xD481, // ADD.L D1,D2
+    0x9481, // SUB.L D1,D2
+    0xC481, // AND.L D1,D2
+    0x8481, // OR.L D1,D2
+    0xB382, // EOR.L D1,D2
+    0xB481, // CMP.L D1,D2
+    0xC4C1, // MULU.W D1,D2
+    0xC5C1, // MULS.W D1,D2
+    0xE68A, // LSR.L #3,D2
+    0x5A82, // ADDQ.L #5,D2
+    0x5B82, // SUBQ.L #5,D2
+    0x4A82, // TST.L D2
+    0x6606, // BNE.B
+    0x6706, // BEQ.B
+];
+
+/// First words that have a short form with any second one.
+const WITH_ANOTHER: [u16; 4] = [
+    0x2429, // MOVE.L (d16,A1),D2
+    0x2342, // MOVE.L D2,(d16,A1)
+    0x6600, // BNE.W
+    0x51C9, // DBF D1
+];
+
+/// What a step is taken from: the status register, the byte that is refused, and whether the bus answers quick calls.
+#[derive(Clone, Copy)]
+struct Setting {
+    sr: u16,
+    hole: u32,
+    is_quick: bool,
+}
+
+/// In user mode and traced, and with a refused operand; with a bus that knows all at once, and with one that does not.
+const SETTINGS: [Setting; 4] = [
+    Setting {
+        sr: 0x0015,
+        hole: NO_HOLE,
+        is_quick: true,
+    },
+    Setting {
+        sr: 0x8004,
+        hole: NO_HOLE,
+        is_quick: true,
+    },
+    Setting {
+        sr: 0x0000,
+        hole: HOLE,
+        is_quick: true,
+    },
+    Setting {
+        sr: 0x0015,
+        hole: NO_HOLE,
+        is_quick: false,
+    },
+];
+
+/// How a step ended, with the processor then.
+#[derive(Drop)]
+struct Stepped {
+    end: StepEnd,
+    cpu: Cpu,
+}
+
+/// A memory with operands that are numbers of their own.
+fn operands(alloc: Global, setting: Setting) -> Result<VectorPort, AllocError> {
+    let mut port = memory(alloc, setting.hole, &[])?;
+    port.is_quick = setting.is_quick;
+    let mut operand = 0x8123_4567_u32;
+    for place in 0..16 {
+        put(&mut port, 0x1100 + 4 * place, 4, operand);
+        operand = operand.wrapping_mul(5);
+    }
+    Ok(port)
+}
+
+/// One step of these words.
+fn take_step(
+    setting: Setting,
+    words: [u16; 2],
+    decoder: &mut Decoder,
+    port: &mut VectorPort,
+) -> Stepped {
+    put(port, CODE, 2, u32::from(words[0]));
+    put(port, CODE + 2, 2, u32::from(words[1]));
+    let mut cpu = processor(setting.sr);
+    cpu.regs.a[1] = 0x1108;
+    cpu.regs.usp = 0x1110;
+    cpu.regs.pc = CODE;
+    let end = step(decoder, &mut cpu, port, 0);
+    Stepped { end, cpu }
+}
+
+/// The first step of a first word goes the general way, and the next one of the same words in short.
+#[test]
+fn in_short_as_in_general(rt: HostRuntime) -> Result<(), AllocError> {
+    for setting in SETTINGS {
+        let mut decoder = Decoder::new(rt.alloc())?;
+        let mut memory = operands(rt.alloc(), setting)?;
+        let mut other = operands(rt.alloc(), setting)?;
+        let alone = ALONE.iter().map(|first| [*first, 0x4E71]);
+        let with_another = WITH_ANOTHER.iter().map(|first| [*first, 0x0002]);
+        for words in alone.chain(with_another) {
+            let general = take_step(setting, words, &mut decoder, &mut memory);
+            let short = take_step(setting, words, &mut decoder, &mut other);
+            let first = words[0];
+            assert!(rt; short.end == general.end, "{first:x}");
+            assert!(rt; short.cpu == general.cpu, "{first:x}");
+        }
+        assert!(rt; other.longs == memory.longs);
+    }
+    Ok(())
+}
