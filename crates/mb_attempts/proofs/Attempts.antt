@@ -10,13 +10,13 @@ use Rattle.mb_instr.specs.declared.registers.Plain.{Plain}
 use Rattle.mb_instr.specs.Registers.{is_supervisor, plain_of}
 use Rattle.mb_model.specs.declared.processor.Cpu.{Cpu}
 use Rattle.mb_model.specs.Status.{space_of}
-use Rattle.mb_meaning.specs.declared.Finish.TheVariants as finish
+use Rattle.mb_processor.specs.declared.Finish.TheVariants as finish
 use Rattle.mb_meaning.specs.Ends.{Carried, Stopped, Performed}
-use Rattle.mb_meaning.specs.SystemEnds.{with_registers}
+use Rattle.mb_processor.specs.SystemEnds.{with_registers}
 use Rattle.mb_meaning.specs.Rows.{row_of, perform_of}
 use Rattle.mb_meaning.specs.Attempt.{Unfound, NoInstruction, Unfetched, found_none, Found, fetched_of, past, attempt_of}
-use Rattle.mb_meaning.specs.Raise.{is_due, tracing_of, interrupt_of, refused_of}
-use Rattle.mb_meaning.specs.Step.{finish_of, supervised_of, unprivileged_of, executed_of, unfound_of, instruction_of, interrupt_mask, step_of}
+use Rattle.mb_processor.specs.Raise.{is_due, tracing_of, interrupt_of, refused_of}
+use Rattle.mb_processor.specs.Step.{finish_of, supervised_of, unprivileged_of, executed_of, unfound_of, instruction_of, interrupt_mask, step_of}
 use Rattle.mb_attempts.specs.Attempts.{AttemptsPerform, AttemptsFindNone, is_attempted, NoOther, finished_by, AttemptThenFinish, IsUntraced, UntracedStepsGo}
 
 -- ---- an attempt

@@ -8,13 +8,13 @@ use Rattle.mb_instr.specs.declared.registers.Plain.{Plain}
 use Rattle.mb_instr.specs.Registers.{is_supervisor, plain_of}
 use Rattle.mb_model.specs.declared.processor.Cpu.{Cpu}
 use Rattle.mb_model.specs.Status.{space_of}
-use Rattle.mb_meaning.specs.declared.Finish.TheVariants as finish
+use Rattle.mb_processor.specs.declared.Finish.TheVariants as finish
 use Rattle.mb_meaning.specs.Ends.{Carried, Performed, closed}
-use Rattle.mb_meaning.specs.SystemEnds.{with_registers}
+use Rattle.mb_processor.specs.SystemEnds.{with_registers}
 use Rattle.mb_meaning.specs.Rows.{perform_of}
 use Rattle.mb_meaning.specs.Attempt.{Unfound, found_none, Found, fetched_of, past, attempt_of}
-use Rattle.mb_meaning.specs.Raise.{Stepped, traces_all, traces_flow}
-use Rattle.mb_meaning.specs.Step.{finish_of, interrupt_mask, step_of}
+use Rattle.mb_processor.specs.Raise.{Stepped, traces_all, traces_flow}
+use Rattle.mb_processor.specs.Step.{finish_of, interrupt_mask, step_of}
 
 -- ---- an attempt
 

@@ -1,7 +1,7 @@
 -- A run by its first step.
 use Rattle.std.proofs.Common.{◌≡◌, ℕ, zero, suc, true, false, refl, ap}
 use Rattle.mb_model.specs.Keeping.{Rule}
-use Rattle.mb_meaning.specs.declared.Finish.{Finish}
+use Rattle.mb_processor.specs.declared.Finish.{Finish}
 use Rattle.mb_machine.specs.Machine.{Entries, Machine, stepping, stepped, takes_steps, run_of}
 
 -- a step is taken, and the rest of the run follows

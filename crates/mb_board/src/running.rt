@@ -11,8 +11,8 @@ use crate::board::{Board, Core};
 use crate::native::Native;
 use crate::spelling::spelling;
 use mb_instr::Plain;
-use mb_meaning::Finish;
 use mb_model::RunState;
+use mb_processor::Finish;
 use vm_meaning::RunEnd;
 
 impl Core {

@@ -5,8 +5,8 @@ ghost use Rattle.mb_model.specs.declared.processor.Cpu.{Cpu};
 ghost use Rattle.mb_machine.specs.Machine.{state_after, takes_steps};
 
 use mb_devices::Devices;
-use mb_meaning::Finish;
 use mb_model::{Cpu, RunState};
+use mb_processor::Finish;
 
 /// Whether a machine in this state takes a step: one that is halted or switched off takes none.
 pub fn takes_steps(state: RunState) -> bool

@@ -7,7 +7,7 @@ use Rattle.mb_instr.specs.Sizes.{bytes_of}
 use Rattle.mb_ea.specs.declared.reading.ReadFault.{ReadFault}
 use Rattle.mb_ea.specs.Addresses.{sum}
 use Rattle.mb_ea.specs.Reading.{read_of}
-use Rattle.mb_meaning.specs.Return.{longs_of}
+use Rattle.mb_processor.specs.Return.{longs_of}
 
 abbrev pub LongRead : {S : Type 0} → Bus S → ℕ → S → Result ℕ ReadFault → S → Type 0
 LongRead bus at s answer t = run bus (read_of Super at (bytes_of Long)) s ≡ (answer, t)

@@ -4,7 +4,7 @@ use Rattle.std.specs.Prelude.{Option, Some, None, Result, Ok, Err}
 use Rattle.arrayvec.specs.ArrayVec.{ArrayVec}
 use Rattle.mb_port.specs.declared.types.Place.{Place}
 use Rattle.mb_port.specs.declared.types.Fault.{Fault}
-use Rattle.mb_meaning.specs.Entry as entry
+use Rattle.mb_processor.specs.Entry as entry
 use Rattle.mb_entry.specs.declared.stacking.Stacked.{Stacked}
 use Rattle.mb_entry.specs.declared.places.Places.{Places}
 

@@ -2,16 +2,16 @@
 
 ghost use Rattle.std.specs.Prelude.{◌≡◌, ◌<◌, false, IsSome};
 ghost use Rattle.mb_port.specs.Routine.{run};
-ghost use Rattle.mb_meaning.specs.Entry.{frames_of, check_frames, vectored, unstacked, enter_of};
+ghost use Rattle.mb_processor.specs.Entry.{frames_of, check_frames, vectored, unstacked, enter_of};
 ghost use Rattle.mb_entry.specs.Clauses.{RegsAfter, GoesOn, IfFaulted, IfHalted, IsUnread, IsDoubleFault};
 
 use crate::places::{check_frames, put_frames};
 use crate::stacking::{frames_for, offset, settle};
 use mb_ea::read_value;
 use mb_instr::Size;
-use mb_meaning::{Cause, Entered};
 use mb_model::Cpu;
 use mb_port::{Fault, Port, Space};
+use mb_processor::{Cause, Entered};
 
 /// What follows where a check of the frame was refused.
 fn unstacked(fault: Fault, cause: &Cause, cpu: &mut Cpu) -> Entered
@@ -29,7 +29,7 @@ fn unstacked(fault: Fault, cause: &Cause, cpu: &mut Cpu) -> Entered
 }
 
 /// Goes where the table of vectors says.
-#[tactic(auto, unfolding(mb_meaning::specs::Entry::vectored))]
+#[tactic(auto, unfolding(mb_processor::specs::Entry::vectored))]
 fn go_to_handler<P: Port>(cause: &Cause, cpu: &mut Cpu, port: &mut P) -> Entered
     ensures means { run P.bus (vectored cause.now cpu.old) (P.world port.old)
         ≡ ((result, cpu.new), P.world port.new) }
@@ -52,7 +52,7 @@ fn go_to_handler<P: Port>(cause: &Cause, cpu: &mut Cpu, port: &mut P) -> Entered
 ///
 /// The registers are changed in place, once the frames are written, so where a check is refused they need not be put
 /// back.
-#[tactic(auto, unfolding(mb_meaning::specs::Entry::enter_of))]
+#[tactic(auto, unfolding(mb_processor::specs::Entry::enter_of))]
 pub fn enter<P: Port>(cpu: &mut Cpu, port: &mut P, cause: &Cause) -> Entered
     requires { cause.now.level < 8 }
     ensures means { run P.bus (enter_of cause.now cpu.old) (P.world port.old)

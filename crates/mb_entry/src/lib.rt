@@ -1,6 +1,6 @@
 //! Exceptions: their entry, the return from them, and what the frame of an access error holds.
 //!
-//! Each function does what its routine of `mb_meaning` or its definition of `mb_frames` says, whatever the bus.
+//! Each function does what its routine of `mb_processor` or its definition of `mb_frames` says, whatever the bus.
 #![tactic(auto)]
 
 mod entering;
@@ -13,6 +13,6 @@ mod taking;
 
 pub use entering::enter;
 pub use fields::{check_fields, line_fields, movem_fields, read_fields, write_fields};
-pub use mb_meaning::{Cause, Entered};
+pub use mb_processor::{Cause, Entered};
 pub use returning::{return_from, return_held};
 pub use taking::continues;

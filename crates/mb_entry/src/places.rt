@@ -4,7 +4,7 @@ ghost use Rattle.std.specs.Prelude.{◌≡◌, ◌≤◌, ◌+◌, length, All, 
 ghost use Rattle.mb_port.specs.Routine.{run};
 ghost use Rattle.mb_port.specs.Pieces.{cut};
 ghost use Rattle.mb_meaning.specs.Locked.{probe_pieces};
-ghost use Rattle.mb_meaning.specs.Entry.{probe_frame, probe_second, put_bytes, put_second, check_frames, put_frames};
+ghost use Rattle.mb_processor.specs.Entry.{probe_frame, probe_second, put_bytes, put_second, check_frames, put_frames};
 ghost use Rattle.mb_entry.specs.Stacks.{seen, seen_second, frames_seen};
 ghost use Rattle.byteorder.specs.Endian.{big_number};
 ghost use Rattle.mb_entry.specs.Places.{bytes_at, probed, located, places_seen, placed};
@@ -55,7 +55,7 @@ fn probe_bytes<P: Port>(
 }
 
 /// Checks a frame for writing. The answer is where its pieces stand.
-#[tactic(auto, unfolding(mb_meaning::specs::Entry::probe_frame), using(crate::proofs::Few::at_most_seventeen))]
+#[tactic(auto, unfolding(mb_processor::specs::Entry::probe_frame), using(crate::proofs::Few::at_most_seventeen))]
 fn probe_frame<P: Port>(
     frame: &Stacked,
     port: &mut P,
@@ -86,7 +86,7 @@ fn probe_second<P: Port>(
 }
 
 /// Checks every piece of every frame for writing.
-#[tactic(auto, unfolding(mb_meaning::specs::Entry::check_frames))]
+#[tactic(auto, unfolding(mb_processor::specs::Entry::check_frames))]
 pub(crate) fn check_frames<P: Port>(frames: &Frames, port: &mut P) -> Result<Places, Fault>
     ensures means { run P.bus (check_frames (frames_seen frames.now)) (P.world port.old)
         ≡ (placed result, P.world port.new) }
@@ -140,7 +140,7 @@ fn put_second<P: Port>(second: &Option<Stacked>, places: &[Place], port: &mut P)
 }
 
 /// Writes the frames at their places.
-#[tactic(auto, unfolding(mb_meaning::specs::Entry::put_frames))]
+#[tactic(auto, unfolding(mb_processor::specs::Entry::put_frames))]
 pub(crate) fn put_frames<P: Port>(frames: &Frames, places: &Places, port: &mut P)
     requires first { AreOpen (P.exists (P.rest port.old)) frames.now.first.bytes.items places.now.first.items }
     requires second { Covers (P.exists (P.rest port.old)) frames.now.second places.now.second.items }

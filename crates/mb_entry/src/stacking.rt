@@ -2,15 +2,15 @@
 
 ghost use Rattle.std.specs.Prelude.{◌≡◌, ◌*◌, ◌<◌};
 ghost use Rattle.mb_frames.specs.Layout.{offset_of};
-ghost use Rattle.mb_meaning.specs.Entry.{frame_of, throwaway_of, stacked, handler_stack, with_handler_stack};
-ghost use Rattle.mb_meaning.specs.Entry.{frames_of, settled};
+ghost use Rattle.mb_processor.specs.Entry.{frame_of, throwaway_of, stacked, handler_stack, with_handler_stack};
+ghost use Rattle.mb_processor.specs.Entry.{frames_of, settled};
 ghost use Rattle.mb_entry.specs.Stacks.{seen, frames_seen};
 
 use crate::status::{handler_status, thrown_status, without_master};
 use arrayvec::ArrayVec;
 use mb_frames::{Frame, to_bytes};
 use mb_instr::Regs;
-use mb_meaning::Cause;
+use mb_processor::Cause;
 
 /// The vectors of the exceptions whose frame has an address.
 const ODD_COUNTER: u8 = 3;
@@ -82,7 +82,7 @@ fn throwaway(sr: u16, cause: &Cause) -> Frame
 }
 
 /// A frame below the top of a stack.
-#[tactic(auto, unfolding(mb_meaning::specs::Entry::stacked))]
+#[tactic(auto, unfolding(mb_processor::specs::Entry::stacked))]
 fn stack(frame: &Frame, top: u32) -> Stacked
     requires { offset_of frame.now < 0x1000 }
     ensures { seen result ≡ stacked frame.now top }
@@ -113,7 +113,7 @@ fn set_handler_stack(regs: &mut Regs, top: u32)
 }
 
 /// The frames of a cause. PC is the one that is stacked.
-#[tactic(auto, unfolding(mb_meaning::specs::Entry::frames_of))]
+#[tactic(auto, unfolding(mb_processor::specs::Entry::frames_of))]
 pub(crate) fn frames_for(cause: &Cause, regs: &Regs) -> Frames
     ensures { frames_seen result ≡ frames_of cause.now regs.now }
 {
@@ -127,7 +127,7 @@ pub(crate) fn frames_for(cause: &Cause, regs: &Regs) -> Frames
 }
 
 /// Makes the registers those of the handler, once the frames are written. PC is still the one that was stacked.
-#[tactic(auto, unfolding(mb_meaning::specs::Entry::settled))]
+#[tactic(auto, unfolding(mb_processor::specs::Entry::settled))]
 pub(crate) fn settle(cause: &Cause, frames: &Frames, regs: &mut Regs)
     requires { cause.now.level < 8 }
     ensures { regs.new ≡ settled cause.now (frames_seen frames.now) regs.old }

@@ -1,9 +1,9 @@
 //! The status register in an entry.
 
 ghost use Rattle.std.specs.Prelude.{◌≡◌, ◌<◌};
-ghost use Rattle.mb_meaning.specs.Entry.{supervised, without_master, with_mask, handler_sr, thrown_sr};
+ghost use Rattle.mb_processor.specs.Entry.{supervised, without_master, with_mask, handler_sr, thrown_sr};
 
-use mb_meaning::Cause;
+use mb_processor::Cause;
 
 /// Supervisor mode.
 const SUPERVISOR: u16 = 1 << 13;

@@ -3,9 +3,9 @@
 ghost use Rattle.std.specs.Prelude.{◌≡◌, [], length, IfOk, IfErr};
 ghost use Rattle.mb_port.specs.Routine.{run};
 ghost use Rattle.mb_frames.specs.Layout.{frame_length};
-ghost use Rattle.mb_meaning.specs.Return.{head_of, longs_of, access_longs, access_of_longs, continues, is_movem};
-ghost use Rattle.mb_meaning.specs.Return.{are_movem_words, can_continue, high, low, dropped, restored, access_taken, frame_taken};
-ghost use Rattle.mb_meaning.specs.Return.{second_taken, throwaway_taken, taken_of};
+ghost use Rattle.mb_processor.specs.Return.{head_of, longs_of, access_longs, access_of_longs, continues, is_movem};
+ghost use Rattle.mb_processor.specs.Return.{are_movem_words, can_continue, high, low, dropped, restored, access_taken, frame_taken};
+ghost use Rattle.mb_processor.specs.Return.{second_taken, throwaway_taken, taken_of};
 ghost use Rattle.mb_entry.specs.Takes.{head_seen, headed, longs_read, took, CanGoOn};
 ghost use Rattle.mb_entry.specs.Clauses.{NotTaken};
 
@@ -51,7 +51,7 @@ struct Head {
 }
 
 /// Reads what a frame begins with.
-#[tactic(auto, unfolding(mb_meaning::specs::Return::head_of))]
+#[tactic(auto, unfolding(mb_processor::specs::Return::head_of))]
 fn read_head<P: Port>(at: u32, port: &mut P) -> Result<Head, ReadFault>
     ensures means { run P.bus (head_of at) (P.world port.old) ≡ (headed result, P.world port.new) }
     ensures rest { P.rest port.new ≡ P.rest port.old }
@@ -104,7 +104,7 @@ fn low(long: u32) -> u16
 }
 
 /// The fields of an access error in their longs.
-#[tactic(auto, unfolding(mb_meaning::specs::Return::access_of_longs))]
+#[tactic(auto, unfolding(mb_processor::specs::Return::access_of_longs))]
 fn access_from(longs: &[u32]) -> Access
     requires { length longs.now ≡ 13 }
     ensures { result ≡ access_of_longs longs.now }
@@ -191,7 +191,7 @@ fn restore(format: u8, head: &Head, regs: &mut Regs)
 }
 
 /// Takes the frame of an access error, all of which is read before it is judged.
-#[tactic(auto, unfolding(mb_meaning::specs::Return::access_taken))]
+#[tactic(auto, unfolding(mb_processor::specs::Return::access_taken))]
 fn take_access<P: Port>(head: &Head, regs: &mut Regs, port: &mut P) -> Result<Option<Access>, Ended>
     ensures means { run P.bus (access_taken (head_seen head.now) regs.old) (P.world port.old)
         ≡ (took result regs.new, P.world port.new) }
@@ -214,7 +214,7 @@ fn take_access<P: Port>(head: &Head, regs: &mut Regs, port: &mut P) -> Result<Op
 }
 
 /// Takes the frame that is returned by. The fields are those of an access error, where it is one's.
-#[tactic(auto, unfolding(mb_meaning::specs::Return::frame_taken))]
+#[tactic(auto, unfolding(mb_processor::specs::Return::frame_taken))]
 fn take_frame<P: Port>(head: &Head, regs: &mut Regs, port: &mut P) -> Result<Option<Access>, Ended>
     ensures means { run P.bus (frame_taken (head_seen head.now) regs.old) (P.world port.old)
         ≡ (took result regs.new, P.world port.new) }
@@ -238,7 +238,7 @@ fn take_frame<P: Port>(head: &Head, regs: &mut Regs, port: &mut P) -> Result<Opt
 }
 
 /// Takes the frame on the active stack, below a throwaway frame.
-#[tactic(auto, unfolding(mb_meaning::specs::Return::second_taken))]
+#[tactic(auto, unfolding(mb_processor::specs::Return::second_taken))]
 fn take_second<P: Port>(regs: &mut Regs, port: &mut P) -> Result<Option<Access>, Ended>
     ensures means { run P.bus (second_taken regs.old) (P.world port.old)
         ≡ (took result regs.new, P.world port.new) }
@@ -255,7 +255,7 @@ fn take_second<P: Port>(regs: &mut Regs, port: &mut P) -> Result<Option<Access>,
 
 /// Takes a throwaway frame, and the one on the stack that it leads to. Where that is not taken, the throwaway frame and
 /// SR come back.
-#[tactic(auto, unfolding(mb_meaning::specs::Return::throwaway_taken))]
+#[tactic(auto, unfolding(mb_processor::specs::Return::throwaway_taken))]
 fn take_throwaway<P: Port>(
     head: &Head,
     regs: &mut Regs,
@@ -285,7 +285,7 @@ fn take_throwaway<P: Port>(
 
 /// Takes the frame on the active stack, and below a throwaway frame another one. The registers are then as they were
 /// saved; where no frame is taken, as before. The fields are those of an access error, where the frame is one's.
-#[tactic(auto, unfolding(mb_meaning::specs::Return::taken_of))]
+#[tactic(auto, unfolding(mb_processor::specs::Return::taken_of))]
 pub(crate) fn take<P: Port>(regs: &mut Regs, port: &mut P) -> Result<Option<Access>, Ended>
     ensures means { run P.bus (taken_of regs.old) (P.world port.old) ≡ (took result regs.new, P.world port.new) }
     ensures lawful { IfOk result CanGoOn }

@@ -6,7 +6,7 @@ use Rattle.std.proofs.lemmas.Bool.Decides.{nat_tests}
 use Rattle.std.proofs.lemmas.List.Elements.{All-drop}
 use Rattle.byteorder.specs.Endian.{big_number}
 use Rattle.std.proofs.lemmas.List.Elements.{All-nil, All-append}
-use Rattle.mb_meaning.specs.declared.entering.Cause.{Cause}
+use Rattle.mb_processor.specs.declared.entering.Cause.{Cause}
 use Rattle.mb_frames.specs.Layout.{Field, bytes_of_fields, fields_of, frame_bytes}
 use Rattle.byteorder.specs.Endian.{big_bytes}
 use Rattle.mb_port.specs.Routine.{Routine, run, Probe, Put, Read, tried, Return, Then, either, other_fault, ◌>>=◌}
@@ -24,9 +24,9 @@ use Rattle.mb_walk.specs.Memory.{AreBytes, number_at, overwritten, with_number}
 use Rattle.mb_walk.proofs.MemoryLemmas.{length-overwritten, overwritten-nothing}
 use Rattle.mb_walk.proofs.LongLemmas.{number_bytes}
 use Rattle.mb_meaning.specs.Locked.{probe_pieces}
-use Rattle.mb_meaning.specs.declared.entering.Entered.TheVariants as entered
-use Rattle.mb_meaning.specs.Entry as entry
-use Rattle.mb_meaning.specs.Entry.{Stacked, Frames, frames_of, settled, awake, put_bytes, probe_frame, probe_second, put_second, check_frames, put_frames, vectored, enter_of, unstacked}
+use Rattle.mb_processor.specs.declared.entering.Entered.TheVariants as entered
+use Rattle.mb_processor.specs.Entry as entry
+use Rattle.mb_processor.specs.Entry.{Stacked, Frames, frames_of, settled, awake, put_bytes, probe_frame, probe_second, put_second, check_frames, put_frames, vectored, enter_of, unstacked}
 use Rattle.mb_machine.specs.World.{World}
 use Rattle.mb_machine.specs.Places.{in_ram, taken, checked}
 use Rattle.mb_machine.specs.Bus.{bus_of, place_at, fault_of, Take, faulting, read_at, read_by}

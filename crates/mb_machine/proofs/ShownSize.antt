@@ -12,7 +12,7 @@ use Rattle.mb_devices.specs.declared.register.Register.TheVariants.{Data, Status
 use Rattle.mb_devices.specs.Devices.{DeviceState, console_room, level_of, queue_room, received, sent}
 use Rattle.mb_devices.specs.Registers.{powered, row}
 use Rattle.mb_devices.proofs.Sizes.{size-idle, size-reset, size-ticked}
-use Rattle.mb_meaning.specs.Step.{step_of}
+use Rattle.mb_processor.specs.Step.{step_of}
 use Rattle.mb_machine.specs.declared.reference.Reference.{Reference}
 use Rattle.mb_machine.specs.World.{World}
 use Rattle.mb_machine.specs.Places.{Stand, memory, register, nowhere, taken, taken_at, stored, stored_at, checked, taken_line, stored_line}

@@ -7,9 +7,9 @@ use Rattle.mb_model.specs.declared.processor.Cpu.{Cpu}
 use Rattle.mb_model.specs.Keeping.{Rule}
 use Rattle.mb_ea.specs.Addresses.{sum}
 use Rattle.mb_walk.specs.Memory.{number_at, overwritten}
-use Rattle.mb_meaning.specs.declared.entering.Cause.{Cause}
-use Rattle.mb_meaning.specs.declared.entering.Entered.TheVariants as entered
-use Rattle.mb_meaning.specs.Entry.{Frames, frames_of, settled, awake, enter_of}
+use Rattle.mb_processor.specs.declared.entering.Cause.{Cause}
+use Rattle.mb_processor.specs.declared.entering.Entered.TheVariants as entered
+use Rattle.mb_processor.specs.Entry.{Frames, frames_of, settled, awake, enter_of}
 use Rattle.mb_machine.specs.declared.reference.Reference.{Reference}
 use Rattle.mb_machine.specs.World.{World}
 use Rattle.mb_machine.specs.Access.{untranslated}

@@ -8,10 +8,10 @@ use Rattle.mb_model.specs.declared.outcome.RunState.TheVariants.{Running, Stoppe
 use Rattle.mb_model.specs.Keeping.{Rule, nothing_kept}
 use Rattle.mb_model.specs.Reset.{at_reset}
 use Rattle.mb_model.specs.Seen.{Seen}
-use Rattle.mb_meaning.specs.declared.Finish.{Finish}
-use Rattle.mb_meaning.specs.declared.Finish.TheVariants as finish
-use Rattle.mb_meaning.specs.Raise.{Stepped}
-use Rattle.mb_meaning.specs.Step.{step_of}
+use Rattle.mb_processor.specs.declared.Finish.{Finish}
+use Rattle.mb_processor.specs.declared.Finish.TheVariants as finish
+use Rattle.mb_processor.specs.Raise.{Stepped}
+use Rattle.mb_processor.specs.Step.{step_of}
 use Rattle.mb_devices.specs.Devices.{DeviceState, idle, level_of, received, ticked}
 use Rattle.mb_devices.specs.Registers.{bit, status_of}
 use Rattle.mb_walk.specs.Memory.{number_at, overwritten}

@@ -18,14 +18,5 @@ pub mod Flow
 pub mod Returns
 pub mod Traps
 pub mod Bounds
-pub mod SystemEnds
-pub mod Status
-pub mod Control
-pub mod Spaces
-pub mod System
 pub mod Rows
 pub mod Attempt
-pub mod Entry
-pub mod Return
-pub mod Raise
-pub mod Step

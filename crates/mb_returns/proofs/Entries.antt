@@ -16,10 +16,10 @@ use Rattle.mb_ea.specs.Addresses.{sum}
 use Rattle.mb_ea.specs.Reading.{read_of}
 use Rattle.mb_ea.specs.declared.reading.ReadFault.{ReadFault}
 use Rattle.mb_meaning.specs.Locked.{probe_pieces}
-use Rattle.mb_meaning.specs.declared.entering.Cause.{Cause}
-use Rattle.mb_meaning.specs.declared.entering.Entered.TheVariants as entered
-use Rattle.mb_meaning.specs.Entry as entry
-use Rattle.mb_meaning.specs.Entry.{Stacked, Frames, Entrance, stacked, is_interrupt, frame_of, throwaway_of, handler_stack, frames_of, settled, awake, unstacked, put_bytes, probe_frame, probe_second, put_second, check_frames, put_frames, vectored, enter_of}
+use Rattle.mb_processor.specs.declared.entering.Cause.{Cause}
+use Rattle.mb_processor.specs.declared.entering.Entered.TheVariants as entered
+use Rattle.mb_processor.specs.Entry as entry
+use Rattle.mb_processor.specs.Entry.{Stacked, Frames, Entrance, stacked, is_interrupt, frame_of, throwaway_of, handler_stack, frames_of, settled, awake, unstacked, put_bytes, probe_frame, probe_second, put_second, check_frames, put_frames, vectored, enter_of}
 use Rattle.mb_returns.specs.Keeping.{Placing, Viewing, IsKept, Keeps}
 use Rattle.mb_returns.specs.Returns.{AreApart, IsSeen, SecondIsSeen, AreSeen, EntryIsSeen}
 use Rattle.mb_returns.proofs.Bytes.{frame_is_bytes}

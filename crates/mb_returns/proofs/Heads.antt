@@ -17,7 +17,7 @@ use Rattle.mb_model.specs.Status.{kept_status}
 use Rattle.mb_ea.specs.Addresses.{sum}
 use Rattle.mb_ea.specs.Reading.{read_of}
 use Rattle.mb_ea.specs.declared.reading.ReadFault.{ReadFault}
-use Rattle.mb_meaning.specs.Return.{Head, head_of}
+use Rattle.mb_processor.specs.Return.{Head, head_of}
 use Rattle.mb_returns.specs.Keeping.{Placing, Viewing, Shows, Keeps}
 use Rattle.mb_returns.proofs.Readings.{Gives, followed, at_once, shown_still, shown_behind, reads}
 

@@ -9,7 +9,7 @@ use Rattle.mb_frames.specs.Reading.{word_at, long_at, access_in}
 use Rattle.mb_ea.specs.Addresses.{sum}
 use Rattle.mb_ea.specs.Reading.{read_of}
 use Rattle.mb_ea.specs.declared.reading.ReadFault.{ReadFault}
-use Rattle.mb_meaning.specs.Return.{longs_of, access_of_longs, high, low}
+use Rattle.mb_processor.specs.Return.{longs_of, access_of_longs, high, low}
 use Rattle.mb_returns.specs.Keeping.{Placing, Viewing, Shows, Keeps}
 use Rattle.mb_returns.proofs.Numbers.{two_parts, from_place}
 use Rattle.mb_returns.proofs.Readings.{Gives, followed, at_once, shown_still, shown_behind, reads}

@@ -21,8 +21,8 @@ use Rattle.mb_decode.proofs.Table.{read_again}
 use Rattle.mb_writes.specs.declared.transfers.Movem.{Movem}
 use Rattle.mb_writes.specs.Transfers.{mode_of, operation_in, mask_in, movem_in}
 use Rattle.mb_meaning.specs.Moves.{movem_mode, movem_by}
-use Rattle.mb_meaning.specs.Return.{begins_movem, are_movem_words}
-use Rattle.mb_meaning.specs.Step.{movem_words}
+use Rattle.mb_processor.specs.Return.{begins_movem, are_movem_words}
+use Rattle.mb_processor.specs.Step.{movem_words}
 use Rattle.mb_returns.specs.Movems.{movem, WordsSayMovem, WordsAreMovem}
 
 mode_by : (first : ℕ) (ea : Ea) → first / 8 % 8 ≡ mode ea → first % 8 ≡ lower ea → mode_of first ≡ movem_mode ea

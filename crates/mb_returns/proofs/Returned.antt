@@ -4,7 +4,7 @@ use Rattle.mb_port.specs.Routine.{Bus, Return, Then, run, choose, either}
 use Rattle.mb_frames.specs.declared.frame.Access.{Access}
 use Rattle.mb_model.specs.declared.processor.Cpu.{Cpu}
 use Rattle.mb_writes.specs.declared.ends.Ended.{Ended}
-use Rattle.mb_meaning.specs.Return.{Taken, Held, continued_of, taken_of, resumed_of, return_of, went}
+use Rattle.mb_processor.specs.Return.{Taken, Held, continued_of, taken_of, resumed_of, return_of, went}
 use Rattle.mb_returns.specs.Returns.{IsPlain, CanReturn, given_back, held_of, EntryIsReturned}
 use Rattle.mb_returns.proofs.Entries.{entry_is_seen}
 use Rattle.mb_returns.proofs.Taken.{frames_are_taken}

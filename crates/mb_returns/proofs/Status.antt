@@ -5,7 +5,7 @@ use Rattle.std.proofs.lemmas.Nat.Bits.{bit_at_and, bit_at_or}
 use Rattle.std.specs.Int.{bit_at}
 use Rattle.mb_instr.specs.Registers.{is_supervisor, is_master}
 use Rattle.mb_model.specs.Status.{kept_status, status_bits}
-use Rattle.mb_meaning.specs.Entry.{supervised, without_master, with_mask, thrown_sr}
+use Rattle.mb_processor.specs.Entry.{supervised, without_master, with_mask, thrown_sr}
 
 pub master_supervised : (sr : ℕ) → is_master (supervised sr) ≡ is_master sr
 master_supervised sr =

@@ -14,9 +14,9 @@ use Rattle.mb_ea.specs.Addresses.{sum, difference}
 use Rattle.mb_ea.specs.declared.reading.ReadFault.{ReadFault}
 use Rattle.mb_writes.specs.declared.ends.Ended.{Ended}
 use Rattle.mb_writes.specs.declared.ends.Ended.TheVariants as ended
-use Rattle.mb_meaning.specs.declared.entering.Cause.{Cause}
-use Rattle.mb_meaning.specs.Entry.{has_address, is_interrupt, supervised, with_mask, frame_with, frame_of, throwaway_of, thrown_sr, stacked, with_second, settled, frames_of, Frames}
-use Rattle.mb_meaning.specs.Return.{Head, Taken, head_of, longs_of, access_of_longs, continues, can_continue, restored, dropped, read_or_end, judged, access_taken, frame_taken, second_taken, throwaway_taken, taken_of}
+use Rattle.mb_processor.specs.declared.entering.Cause.{Cause}
+use Rattle.mb_processor.specs.Entry.{has_address, is_interrupt, supervised, with_mask, frame_with, frame_of, throwaway_of, thrown_sr, stacked, with_second, settled, frames_of, Frames}
+use Rattle.mb_processor.specs.Return.{Head, Taken, head_of, longs_of, access_of_longs, continues, can_continue, restored, dropped, read_or_end, judged, access_taken, frame_taken, second_taken, throwaway_taken, taken_of}
 use Rattle.mb_returns.specs.Keeping.{Placing, Viewing, Shows, Keeps}
 use Rattle.mb_returns.specs.Returns.{IsLawful, AreSeen, taken_back, CanReturn, FramesAreTaken}
 use Rattle.mb_returns.proofs.Readings.{Gives, followed, at_once, shown_still, shown_behind}

@@ -8,8 +8,8 @@ use Rattle.mb_instr.specs.declared.instruction.Move.TheVariants as move
 use Rattle.mb_instr.specs.Codes.{IsInstr}
 use Rattle.mb_writes.specs.Transfers.{movem_in}
 use Rattle.mb_meaning.specs.Moves.{movem_by}
-use Rattle.mb_meaning.specs.Return.{are_movem_words}
-use Rattle.mb_meaning.specs.Step.{movem_words}
+use Rattle.mb_processor.specs.Return.{are_movem_words}
+use Rattle.mb_processor.specs.Step.{movem_words}
 
 -- the two rows of MOVEM
 abbrev pub movem : (is_load : Bool) → Size → Ea → ℕ → Instr

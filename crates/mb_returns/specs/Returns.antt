@@ -8,10 +8,10 @@ use Rattle.mb_frames.specs.Layout.{IsFrame}
 use Rattle.mb_model.specs.declared.processor.Cpu.{Cpu}
 use Rattle.mb_model.specs.Status.{kept_status}
 use Rattle.mb_ea.specs.Addresses.{sum}
-use Rattle.mb_meaning.specs.declared.entering.Cause.{Cause}
-use Rattle.mb_meaning.specs.declared.entering.Entered.TheVariants as entered
-use Rattle.mb_meaning.specs.Entry.{Stacked, Frames, frame_of, throwaway_of, frames_of, settled, enter_of}
-use Rattle.mb_meaning.specs.Return.{Held, Taken, Returned, continues, can_continue, taken_of, return_of, went}
+use Rattle.mb_processor.specs.declared.entering.Cause.{Cause}
+use Rattle.mb_processor.specs.declared.entering.Entered.TheVariants as entered
+use Rattle.mb_processor.specs.Entry.{Stacked, Frames, frame_of, throwaway_of, frames_of, settled, enter_of}
+use Rattle.mb_processor.specs.Return.{Held, Taken, Returned, continues, can_continue, taken_of, return_of, went}
 use Rattle.mb_returns.specs.Keeping.{Placing, Viewing, Keeps, Shows}
 
 -- ---- what is entered

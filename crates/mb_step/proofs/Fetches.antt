@@ -12,9 +12,9 @@ use Rattle.mb_decode.specs.declared.front.Decoded.TheVariants.{Whole}
 use Rattle.mb_decode.specs.Decodes.{decode_of}
 use Rattle.mb_ea.specs.Reading.{refused_in}
 use Rattle.mb_meaning.specs.Attempt.{NoInstruction, Unfetched, Found, illegal, found_of, fetched_of, judged, most_words}
-use Rattle.mb_meaning.specs.Raise.{Stepped, refused_of}
-use Rattle.mb_meaning.specs.Step.{unread_of, unfound_of, executed_of, instruction_of}
-use Rattle.mb_meaning.specs.declared.Finish.{Finish}
+use Rattle.mb_processor.specs.Raise.{Stepped, refused_of}
+use Rattle.mb_processor.specs.Step.{unread_of, unfound_of, executed_of, instruction_of}
+use Rattle.mb_processor.specs.declared.Finish.{Finish}
 use Rattle.mb_step.specs.Fetching.{Sought, Word, sought_of, word_of, found_executed, behind}
 
 abbrev Answered : {S : Type 0} → Bus S → Space → ℕ → S → Result ℕ Fault → S → Type 0

@@ -5,11 +5,11 @@ use Rattle.mb_port.specs.declared.types.Space.{Space}
 use Rattle.mb_instr.specs.declared.instruction.Instr.{Instr}
 use Rattle.mb_model.specs.declared.processor.Cpu.{Cpu}
 use Rattle.mb_model.specs.Status.{space_of}
-use Rattle.mb_meaning.specs.declared.Finish.{Finish}
+use Rattle.mb_processor.specs.declared.Finish.{Finish}
 use Rattle.mb_ea.specs.Reading.{refused_in}
 use Rattle.mb_meaning.specs.Attempt.{Found, found_of, most_words}
-use Rattle.mb_meaning.specs.Raise.{Stepped}
-use Rattle.mb_meaning.specs.Step.{executed_of, unfound_of, unread_of}
+use Rattle.mb_processor.specs.Raise.{Stepped}
+use Rattle.mb_processor.specs.Step.{executed_of, unfound_of, unread_of}
 
 -- a word, or how the step ended without one; and the processor then
 abbrev pub Word : Type 0

@@ -5,9 +5,9 @@ ghost use Rattle.mb_port.specs.Routine.{run};
 ghost use Rattle.mb_instr.specs.Codes.{IsInstr};
 ghost use Rattle.mb_instr.specs.declared.instruction.Instr.TheVariants as instr;
 ghost use Rattle.mb_ea.specs.Reading.{refused_in};
-ghost use Rattle.mb_meaning.specs.Raise.{interrupt_of, refused_of, trace_of};
-ghost use Rattle.mb_meaning.specs.SystemEnds.{with_registers};
-ghost use Rattle.mb_meaning.specs.Step.{executed_of, finish_of, unread_of};
+ghost use Rattle.mb_processor.specs.Raise.{interrupt_of, refused_of, trace_of};
+ghost use Rattle.mb_processor.specs.SystemEnds.{with_registers};
+ghost use Rattle.mb_processor.specs.Step.{executed_of, finish_of, unread_of};
 
 use crate::executing::execute_supervised;
 use crate::finishing::{finish_instruction, finish_unread};
@@ -15,9 +15,9 @@ use crate::processor::Processor;
 use crate::raising::{interrupt, refuse, trace};
 use mb_ea::ReadFault;
 use mb_instr::{Instr, Plain, System};
-use mb_meaning::Finish;
 use mb_model::Cpu;
 use mb_port::{Fault, Port};
+use mb_processor::Finish;
 use mb_writes::Ended;
 
 /// The vector of a privilege violation.
@@ -74,7 +74,7 @@ impl Processor {
 
     /// Carries out a privileged instruction of so many words. It needs supervisor mode.
     #[inline(never)]
-    #[tactic(auto, unfolding(mb_meaning::specs::Step::executed_of))]
+    #[tactic(auto, unfolding(mb_processor::specs::Step::executed_of))]
     pub(crate) fn execute_privileged<P: Port>(
         &mut self,
         system: &System,

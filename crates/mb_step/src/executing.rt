@@ -4,10 +4,10 @@ ghost use Rattle.std.specs.Prelude.{◌≡◌, ◌≢◌, ◌<◌};
 ghost use Rattle.mb_port.specs.Routine.{run};
 ghost use Rattle.mb_instr.specs.Codes.{IsInstr};
 ghost use Rattle.mb_instr.specs.declared.instruction.Instr.TheVariants as instr;
-ghost use Rattle.mb_meaning.specs.Raise.{is_due, tracing_of};
-ghost use Rattle.mb_meaning.specs.SystemEnds.{with_registers};
+ghost use Rattle.mb_processor.specs.Raise.{is_due, tracing_of};
+ghost use Rattle.mb_processor.specs.SystemEnds.{with_registers};
 ghost use Rattle.mb_operands.specs.Endings.{end_of, with_end};
-ghost use Rattle.mb_meaning.specs.Step.{finish_of, supervised_of, unprivileged_of, executed_of};
+ghost use Rattle.mb_processor.specs.Step.{finish_of, supervised_of, unprivileged_of, executed_of};
 
 use crate::apart::{finish_undone, trace_left};
 use crate::finishing::{finish_unfinished, finish_unread};
@@ -16,16 +16,16 @@ use crate::processor::Processor;
 use crate::raising::{is_due, refuse, trace_if};
 use crate::returning::return_from_exception;
 use mb_instr::{Instr, Plain, System};
-use mb_meaning::Finish;
 use mb_model::Cpu;
 use mb_operands::Undone;
 use mb_port::Port;
+use mb_processor::Finish;
 use mb_system::perform_system;
 use mb_writes::Ended;
 
 /// Carries out a privileged instruction of so many words in supervisor mode.
 #[inline(never)]
-#[tactic(auto, unfolding(mb_meaning::specs::Step::supervised_of, mb_meaning::specs::Step::finish_of))]
+#[tactic(auto, unfolding(mb_processor::specs::Step::supervised_of, mb_processor::specs::Step::finish_of))]
 pub(crate) fn execute_supervised<P: Port>(
     system: &System,
     length: u8,
@@ -85,7 +85,7 @@ pub(crate) fn finish_done<P: Port>(
 /// Finishes an instruction that left these registers; those before it stand beside. Where it was not done, how it ended
 /// does too.
 #[inline(always)]
-#[tactic(auto, unfolding(mb_meaning::specs::Step::finish_of))]
+#[tactic(auto, unfolding(mb_processor::specs::Step::finish_of))]
 fn finish_plain<P: Port>(
     instruction: &Instr,
     done: Result<bool, Undone>,
@@ -111,7 +111,7 @@ fn finish_plain<P: Port>(
 
 /// Carries out an instruction of so many words that is not privileged.
 #[inline(always)]
-#[tactic(auto, unfolding(mb_meaning::specs::Step::unprivileged_of))]
+#[tactic(auto, unfolding(mb_processor::specs::Step::unprivileged_of))]
 fn execute_unprivileged<P: Port>(
     instruction: &Instr,
     length: u8,
@@ -150,7 +150,7 @@ fn execute_unprivileged<P: Port>(
 ///
 /// All families are inlined here, and it has one caller, so a step has them once.
 #[inline(always)]
-#[tactic(auto, unfolding(mb_meaning::specs::Step::executed_of))]
+#[tactic(auto, unfolding(mb_processor::specs::Step::executed_of))]
 pub(crate) fn execute<P: Port>(
     instruction: &Instr,
     length: u8,

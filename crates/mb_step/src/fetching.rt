@@ -7,7 +7,7 @@ ghost use Rattle.mb_model.specs.Status.{space_of};
 ghost use Rattle.mb_decode.specs.declared.front.Decoded.TheVariants.{More};
 ghost use Rattle.mb_decode.specs.Decodes.{decode_of};
 ghost use Rattle.mb_meaning.specs.Attempt.{found_of, judged, most_words};
-ghost use Rattle.mb_meaning.specs.Step.{instruction_of};
+ghost use Rattle.mb_processor.specs.Step.{instruction_of};
 ghost use Rattle.mb_table.specs.FirstWords.{alone};
 ghost use Rattle.mb_table.specs.Short.{IsShort};
 ghost use Rattle.mb_step.specs.Fetching.{sought_of, sought_by, word_of, behind, found_executed};
@@ -18,8 +18,8 @@ use crate::processor::Processor;
 use arrayvec::ArrayVec;
 use mb_decode::{Decoded, Decoding, decode_into};
 use mb_instr::Instr;
-use mb_meaning::Finish;
 use mb_port::{Port, Space};
+use mb_processor::Finish;
 use mb_short::perform_short;
 use mb_table::{FirstWords, Short, Shorts};
 
@@ -265,7 +265,7 @@ fn execute_first<P: Port>(
 /// Fetches the instruction that stands at PC and carries it out: by its short form, where that is done at once. No word
 /// is fetched behind those that the instruction needs, and none at an odd PC.
 #[inline(always)]
-#[tactic(auto, unfolding(mb_meaning::specs::Step::instruction_of))]
+#[tactic(auto, unfolding(mb_processor::specs::Step::instruction_of))]
 pub(crate) fn execute_next<P: Port>(
     first_words: &mut FirstWords,
     shorts: &mut Shorts,

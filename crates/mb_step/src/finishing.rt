@@ -3,23 +3,23 @@
 ghost use Rattle.std.specs.Prelude.{◌≡◌, ◌≢◌};
 ghost use Rattle.mb_port.specs.Routine.{run};
 ghost use Rattle.mb_instr.specs.Codes.{IsInstr};
-ghost use Rattle.mb_meaning.specs.SystemEnds.{with_registers};
-ghost use Rattle.mb_meaning.specs.Step.{unread_of, unfinished_of, unwritten_of, line_unwritten_of, movem_words};
-ghost use Rattle.mb_meaning.specs.Step.{untransferred_of, is_flow, finish_of};
+ghost use Rattle.mb_processor.specs.SystemEnds.{with_registers};
+ghost use Rattle.mb_processor.specs.Step.{unread_of, unfinished_of, unwritten_of, line_unwritten_of, movem_words};
+ghost use Rattle.mb_processor.specs.Step.{untransferred_of, is_flow, finish_of};
 
 use crate::raising::{access_error, is_due, refuse, trace_if, traces_all, trap, with_ct};
 use mb_ea::ReadFault;
 use mb_encode::encode;
 use mb_entry::{line_fields, movem_fields, read_fields, write_fields};
 use mb_instr::{Instr, Plain};
-use mb_meaning::Finish;
 use mb_model::{Cpu, page_size_by};
 use mb_port::{Fault, Port};
+use mb_processor::Finish;
 use mb_writes::{Ended, Movem, MovemFault, WriteFault};
 
 /// After a refused fetch, read or locked check. The processor is as before the instruction.
 #[inline(never)]
-#[tactic(auto, unfolding(mb_meaning::specs::Step::unread_of))]
+#[tactic(auto, unfolding(mb_processor::specs::Step::unread_of))]
 pub(crate) fn finish_unread<P: Port>(refused: &ReadFault, cpu: &mut Cpu, port: &mut P) -> Finish
     ensures means { run P.bus (unread_of refused.now cpu.old) (P.world port.old)
         ≡ ((result, cpu.new), P.world port.new) }
@@ -32,7 +32,7 @@ pub(crate) fn finish_unread<P: Port>(refused: &ReadFault, cpu: &mut Cpu, port: &
 
 /// After a refused write of which something is left. The instruction is otherwise complete.
 #[inline(never)]
-#[tactic(auto, unfolding(mb_meaning::specs::Step::unfinished_of))]
+#[tactic(auto, unfolding(mb_processor::specs::Step::unfinished_of))]
 pub(crate) fn finish_unfinished<P: Port>(
     due: bool,
     refused: &WriteFault,
@@ -50,7 +50,7 @@ pub(crate) fn finish_unfinished<P: Port>(
 
 /// After a refused write. Where nothing is left the instruction was not begun.
 #[inline(never)]
-#[tactic(auto, unfolding(mb_meaning::specs::Step::unbegun_of))]
+#[tactic(auto, unfolding(mb_processor::specs::Step::unbegun_of))]
 fn finish_unwritten<P: Port>(
     due: bool,
     refused: &WriteFault,
@@ -78,7 +78,7 @@ fn finish_unwritten<P: Port>(
 
 /// After a refused write of a line. The instruction is otherwise complete.
 #[inline(never)]
-#[tactic(auto, unfolding(mb_meaning::specs::Step::line_unwritten_of))]
+#[tactic(auto, unfolding(mb_processor::specs::Step::line_unwritten_of))]
 fn finish_line<P: Port>(
     due: bool,
     fault: &Fault,
@@ -113,7 +113,7 @@ fn movem_words(instruction: &Instr) -> u32
 
 /// After a refused transfer of a MOVEM. What was loaded stays.
 #[inline(never)]
-#[tactic(auto, unfolding(mb_meaning::specs::Step::untransferred_of))]
+#[tactic(auto, unfolding(mb_processor::specs::Step::untransferred_of))]
 fn finish_movem<P: Port>(
     due: bool,
     refused: &MovemFault,
@@ -143,7 +143,7 @@ fn is_flow(instruction: &Instr) -> bool
 
 /// Finishes an instruction that is not privileged, ended so and left these registers. The processor is as before it.
 #[inline(never)]
-#[tactic(auto, unfolding(mb_meaning::specs::Step::finish_of))]
+#[tactic(auto, unfolding(mb_processor::specs::Step::finish_of))]
 pub(crate) fn finish_instruction<P: Port>(
     instruction: &Instr,
     ended: &Ended,

@@ -3,17 +3,17 @@
 ghost use Rattle.std.specs.Prelude.{◌≡◌, ◌≢◌, ◌<◌};
 ghost use Rattle.mb_port.specs.Routine.{run};
 ghost use Rattle.mb_instr.specs.Registers.{with_plain};
-ghost use Rattle.mb_meaning.specs.SystemEnds.{with_registers};
-ghost use Rattle.mb_meaning.specs.Raise.{traces_all, traces_flow, is_due, has_ct, with_ct, cause_at};
-ghost use Rattle.mb_meaning.specs.Raise.{access_error_of, unchecked_of, raise_of, last, interrupt_of, trace_of};
-ghost use Rattle.mb_meaning.specs.Raise.{tracing_of, trap_of, refused_of};
+ghost use Rattle.mb_processor.specs.SystemEnds.{with_registers};
+ghost use Rattle.mb_processor.specs.Raise.{traces_all, traces_flow, is_due, has_ct, with_ct, cause_at};
+ghost use Rattle.mb_processor.specs.Raise.{access_error_of, unchecked_of, raise_of, last, interrupt_of, trace_of};
+ghost use Rattle.mb_processor.specs.Raise.{tracing_of, trap_of, refused_of};
 
 use mb_entry::{Cause, Entered, check_fields, enter};
 use mb_frames::Access;
 use mb_instr::{Plain, Regs};
-use mb_meaning::Finish;
 use mb_model::Cpu;
 use mb_port::{Fault, Port};
+use mb_processor::Finish;
 use std::mem::{replace, swap};
 
 /// The vector of an access error.
@@ -86,7 +86,7 @@ fn cause_at(vector: u8, pc: u32, address: u32) -> Cause
 /// Enters an access error, vector 2: its frame of format $7 has this PC and these fields. Where the frame has no place,
 /// or the vector cannot be read, the processor halts.
 #[inline(never)]
-#[tactic(auto, unfolding(mb_meaning::specs::Raise::access_error_of))]
+#[tactic(auto, unfolding(mb_processor::specs::Raise::access_error_of))]
 pub fn access_error<P: Port>(pc: u32, access: Access, cpu: &mut Cpu, port: &mut P) -> Finish
     ensures means { run P.bus (access_error_of pc access cpu.old) (P.world port.old)
         ≡ ((result, cpu.new), P.world port.new) }
@@ -109,7 +109,7 @@ pub fn access_error<P: Port>(pc: u32, access: Access, cpu: &mut Cpu, port: &mut 
 /// Enters the access error of a frame that has no place: `fault` is the one that its check was refused with. CT is set
 /// where it was a trace's. The processor is as an access error in its place finds it.
 #[inline(never)]
-#[tactic(auto, unfolding(mb_meaning::specs::Raise::unchecked_of))]
+#[tactic(auto, unfolding(mb_processor::specs::Raise::unchecked_of))]
 pub fn unchecked<P: Port>(is_trace: bool, fault: &Fault, cpu: &mut Cpu, port: &mut P) -> Finish
     ensures means { run P.bus (unchecked_of is_trace fault.now cpu.old) (P.world port.old)
         ≡ ((result, cpu.new), P.world port.new) }
@@ -122,7 +122,7 @@ pub fn unchecked<P: Port>(is_trace: bool, fault: &Fault, cpu: &mut Cpu, port: &m
 
 /// Enters an exception that is the last of its step, from the processor as it stands.
 #[inline(never)]
-#[tactic(auto, unfolding(mb_meaning::specs::Raise::raise_of), using(crate::proofs::Entries::unchecked_awake))]
+#[tactic(auto, unfolding(mb_processor::specs::Raise::raise_of), using(crate::proofs::Entries::unchecked_awake))]
 fn raise_last<P: Port>(is_trace: bool, cause: &Cause, cpu: &mut Cpu, port: &mut P) -> Finish
     requires { cause.now.level < 8 }
     ensures means { run P.bus (last cause.now.vector (raise_of is_trace cause.now cpu.old cpu.old)) (P.world port.old)
@@ -139,7 +139,7 @@ fn raise_last<P: Port>(is_trace: bool, cause: &Cause, cpu: &mut Cpu, port: &mut 
 
 /// Enters an interrupt.
 #[inline(never)]
-#[tactic(auto, unfolding(mb_meaning::specs::Raise::interrupt_of))]
+#[tactic(auto, unfolding(mb_processor::specs::Raise::interrupt_of))]
 pub(crate) fn interrupt<P: Port>(level: u8, cpu: &mut Cpu, port: &mut P) -> Finish
     requires { level < 8 }
     ensures means { run P.bus (interrupt_of level cpu.old) (P.world port.old)
@@ -159,7 +159,7 @@ pub(crate) fn interrupt<P: Port>(level: u8, cpu: &mut Cpu, port: &mut P) -> Fini
 
 /// Enters the trace of the instruction at `address`.
 #[inline(never)]
-#[tactic(auto, unfolding(mb_meaning::specs::Raise::trace_of))]
+#[tactic(auto, unfolding(mb_processor::specs::Raise::trace_of))]
 pub(crate) fn trace<P: Port>(address: u32, cpu: &mut Cpu, port: &mut P) -> Finish
     ensures means { run P.bus (trace_of address cpu.old) (P.world port.old)
         ≡ ((result, cpu.new), P.world port.new) }
@@ -212,7 +212,7 @@ fn exchange(plain: &mut Plain, regs: &mut Regs)
 /// Enters the exception of an instruction that traps and left these registers, and behind it a trace, where T1 asks for
 /// one. Where the frame has no place, the registers before the instruction come back.
 #[inline(never)]
-#[tactic(auto, unfolding(mb_meaning::specs::Raise::trap_of, mb_meaning::specs::Raise::raise_of))]
+#[tactic(auto, unfolding(mb_processor::specs::Raise::trap_of, mb_processor::specs::Raise::raise_of))]
 pub(crate) fn trap<P: Port>(vector: u8, plain: &mut Plain, cpu: &mut Cpu, port: &mut P) -> Finish
     ensures means { run P.bus (trap_of vector cpu.old (with_registers plain.old cpu.old)) (P.world port.old)
         ≡ ((result, cpu.new), P.world port.new) }
@@ -233,7 +233,7 @@ pub(crate) fn trap<P: Port>(vector: u8, plain: &mut Plain, cpu: &mut Cpu, port: 
 
 /// Enters the exception of an instruction at PC that is not carried out.
 #[inline(never)]
-#[tactic(auto, unfolding(mb_meaning::specs::Raise::refused_of))]
+#[tactic(auto, unfolding(mb_processor::specs::Raise::refused_of))]
 pub(crate) fn refuse<P: Port>(vector: u8, cpu: &mut Cpu, port: &mut P) -> Finish
     ensures means { run P.bus (refused_of vector cpu.old) (P.world port.old)
         ≡ ((result, cpu.new), P.world port.new) }

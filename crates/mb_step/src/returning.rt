@@ -2,15 +2,15 @@
 
 ghost use Rattle.std.specs.Prelude.{◌≡◌, ◌≢◌};
 ghost use Rattle.mb_port.specs.Routine.{run};
-ghost use Rattle.mb_meaning.specs.Step.{is_due_by, untransferred_again_of, rte_of};
+ghost use Rattle.mb_processor.specs.Step.{is_due_by, untransferred_again_of, rte_of};
 
 use crate::finishing::finish_unread;
 use crate::raising::{access_error, has_ct, is_due, refuse, trace_if, traces_all, with_ct};
 use mb_entry::{continues, movem_fields, return_held};
 use mb_frames::Access;
-use mb_meaning::Finish;
 use mb_model::{Cpu, page_size_by};
 use mb_port::Port;
+use mb_processor::Finish;
 use mb_writes::{Ended, MovemFault};
 
 /// The frame of an access error that RTE took: its fields and its PC. Without one all are 0.
@@ -29,7 +29,7 @@ fn is_due_by(held: &Held, cpu: &Cpu) -> bool
 
 /// After a transfer that was refused again: the frame is as the one that was taken.
 #[inline(never)]
-#[tactic(auto, unfolding(mb_meaning::specs::Step::untransferred_again_of))]
+#[tactic(auto, unfolding(mb_processor::specs::Step::untransferred_again_of))]
 fn finish_movem_again<P: Port>(
     due: bool,
     refused: &MovemFault,
@@ -50,7 +50,7 @@ fn finish_movem_again<P: Port>(
 
 /// RTE, in supervisor mode. Where it took no frame the processor is as it was.
 #[inline(never)]
-#[tactic(auto, unfolding(mb_meaning::specs::Step::rte_of, mb_meaning::specs::Step::finish_of))]
+#[tactic(auto, unfolding(mb_processor::specs::Step::rte_of, mb_processor::specs::Step::finish_of))]
 pub(crate) fn return_from_exception<P: Port>(cpu: &mut Cpu, port: &mut P) -> Finish
     ensures means { run P.bus (rte_of cpu.old) (P.world port.old) ≡ ((result, cpu.new), P.world port.new) }
     ensures busy { result ≢ Finish.Idle }

@@ -2,15 +2,15 @@
 
 ghost use Rattle.std.specs.Prelude.{◌≡◌, ◌↔◌, ◌<◌, ◌≤◌, true};
 ghost use Rattle.mb_port.specs.Routine.{run};
-ghost use Rattle.mb_meaning.specs.Raise.{by_its_end};
-ghost use Rattle.mb_meaning.specs.Step.{Halts, interrupt_mask, step_of};
+ghost use Rattle.mb_processor.specs.Raise.{by_its_end};
+ghost use Rattle.mb_processor.specs.Step.{Halts, interrupt_mask, step_of};
 
 use crate::decoder::Decoder;
 use crate::fetching::execute_next;
 use crate::processor::Processor;
-use mb_meaning::{Finish, StepEnd};
 use mb_model::Cpu;
 use mb_port::Port;
+use mb_processor::{Finish, StepEnd};
 
 /// One step of the processor, with an interrupt of `level` asked for, or of level 0 for none.
 ///
@@ -18,7 +18,7 @@ use mb_port::Port;
 /// instruction at PC is carried out, with the exceptions that it causes. The decoder is the caller's, whatever it
 /// remembers. The answer names the last exception that was entered.
 #[inline(always)]
-#[tactic(auto, unfolding(mb_meaning::specs::Step::step_of))]
+#[tactic(auto, unfolding(mb_processor::specs::Step::step_of))]
 pub fn step_in_place<P: Port>(
     decoder: &mut Decoder,
     processor: &mut Processor,

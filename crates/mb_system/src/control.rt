@@ -3,9 +3,9 @@
 ghost use Rattle.std.specs.Prelude.{◌≡◌, ◌<◌, bit_and, IfErr};
 ghost use Rattle.mb_port.specs.Routine.{run};
 ghost use Rattle.mb_instr.specs.Control.{kept_bits};
-ghost use Rattle.mb_meaning.specs.SystemEnds.{system_carried_by};
-ghost use Rattle.mb_meaning.specs.Control.{named_control};
-ghost use Rattle.mb_meaning.specs.Control.{control_value, setting_control, to_control_of, from_control_of, movec_of};
+ghost use Rattle.mb_processor.specs.SystemEnds.{system_carried_by};
+ghost use Rattle.mb_processor.specs.Control.{named_control};
+ghost use Rattle.mb_processor.specs.Control.{control_value, setting_control, to_control_of, from_control_of, movec_of};
 ghost use Rattle.mb_system.specs.Ends.{SystemEnds};
 
 use mb_instr::ControlRegister;
@@ -27,7 +27,7 @@ fn named_control(word: u16) -> Option<ControlRegister>
 
 /// What a control register holds; those of the memory management unit stand at the bus.
 #[inline(always)]
-#[tactic(auto, unfolding(mb_meaning::specs::Control::control_value))]
+#[tactic(auto, unfolding(mb_processor::specs::Control::control_value))]
 fn control_value<P: Port>(register: ControlRegister, cpu: &Cpu, port: &P) -> u32
     ensures { run P.bus (control_value register cpu.now) (P.world port.now) ≡ (result, P.world port.now) }
 {
@@ -45,7 +45,7 @@ fn control_value<P: Port>(register: ControlRegister, cpu: &Cpu, port: &P) -> u32
 
 /// Makes a control register hold what it keeps of a value.
 #[inline(always)]
-#[tactic(auto, unfolding(mb_meaning::specs::Control::setting_control))]
+#[tactic(auto, unfolding(mb_processor::specs::Control::setting_control))]
 fn set_control<P: Port>(register: ControlRegister, value: u32, cpu: &mut Cpu, port: &mut P)
     ensures means { run P.bus (setting_control register (bit_and value (kept_bits register)) cpu.old)
         (P.world port.old) ≡ (cpu.new, P.world port.new) }
@@ -66,7 +66,7 @@ fn set_control<P: Port>(register: ControlRegister, value: u32, cpu: &mut Cpu, po
 
 /// MOVEC to a control register.
 #[inline(always)]
-#[tactic(auto, unfolding(mb_meaning::specs::Control::to_control_of))]
+#[tactic(auto, unfolding(mb_processor::specs::Control::to_control_of))]
 fn move_to_control<P: Port>(control: ControlRegister, register: u8, cpu: &mut Cpu, port: &mut P)
     requires { register < 16 }
     ensures means { run P.bus (to_control_of control register cpu.old) (P.world port.old)
@@ -79,7 +79,7 @@ fn move_to_control<P: Port>(control: ControlRegister, register: u8, cpu: &mut Cp
 
 /// MOVEC from a control register: to all of the other one.
 #[inline(always)]
-#[tactic(auto, unfolding(mb_meaning::specs::Control::from_control_of))]
+#[tactic(auto, unfolding(mb_processor::specs::Control::from_control_of))]
 fn move_from_control<P: Port>(control: ControlRegister, register: u8, cpu: &mut Cpu, port: &P)
     requires { register < 16 }
     ensures { run P.bus (from_control_of control register cpu.old) (P.world port.now) ≡ (cpu.new, P.world port.now) }
@@ -92,7 +92,7 @@ fn move_from_control<P: Port>(control: ControlRegister, register: u8, cpu: &mut 
 
 /// MOVEC. A code that no control register has makes no instruction.
 #[inline(always)]
-#[tactic(auto, unfolding(mb_meaning::specs::Control::movec_of))]
+#[tactic(auto, unfolding(mb_processor::specs::Control::movec_of))]
 pub(crate) fn move_control<P: Port>(
     to_control: bool,
     word: u16,

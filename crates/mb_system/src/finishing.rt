@@ -4,7 +4,7 @@ ghost use Rattle.std.specs.Prelude.{◌≡◌, IfErr};
 ghost use Rattle.mb_port.specs.Routine.{run};
 ghost use Rattle.mb_ea.specs.Addresses.{IsTarget, IsPlace};
 ghost use Rattle.mb_meaning.specs.Operands.{storing};
-ghost use Rattle.mb_meaning.specs.SystemEnds.{finishing, system_carried_by};
+ghost use Rattle.mb_processor.specs.SystemEnds.{finishing, system_carried_by};
 ghost use Rattle.mb_system.specs.Ends.{SystemEnds};
 
 use mb_ea::Target;

@@ -6,8 +6,8 @@ ghost use Rattle.mb_instr.specs.Codes.{IsInstr};
 ghost use Rattle.mb_instr.specs.Shapes.{operands_at};
 ghost use Rattle.mb_instr.specs.Rows.{system_row};
 ghost use Rattle.mb_instr.specs.declared.instruction.Instr.TheVariants as instr;
-ghost use Rattle.mb_meaning.specs.SystemEnds.{system_closing, system_performed_by};
-ghost use Rattle.mb_meaning.specs.System.{perform_system_of};
+ghost use Rattle.mb_processor.specs.SystemEnds.{system_closing, system_performed_by};
+ghost use Rattle.mb_processor.specs.System.{perform_system_of};
 ghost use Rattle.mb_system.specs.Ends.{SystemEnds};
 
 use crate::control::move_control;
@@ -22,7 +22,7 @@ use mb_writes::Ended;
 /// Carries out the instruction by its row. The answer is whether T0 asks for a trace after it, or how it ended
 /// otherwise.
 #[inline(always)]
-#[tactic(auto, unfolding(mb_meaning::specs::System::perform_system_of))]
+#[tactic(auto, unfolding(mb_processor::specs::System::perform_system_of))]
 fn carry_out<P: Port>(
     instruction: &System,
     at: u32,

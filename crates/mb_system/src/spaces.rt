@@ -6,10 +6,10 @@ ghost use Rattle.mb_port.specs.Flushes.{NamesPage};
 ghost use Rattle.mb_instr.specs.Sizes.{values_of};
 ghost use Rattle.mb_instr.specs.Operands.{IsEa, IsInMemory, IsDestination};
 ghost use Rattle.mb_ea.specs.Addresses.{IsTarget, IsMemory, IsPlace};
-ghost use Rattle.mb_meaning.specs.SystemEnds.{system_carried_by};
+ghost use Rattle.mb_processor.specs.SystemEnds.{system_carried_by};
 ghost use Rattle.mb_system.specs.Ends.{SystemEnds};
-ghost use Rattle.mb_meaning.specs.Spaces.{function_space, taken, out_of_register, into_register, is_store, moves_of};
-ghost use Rattle.mb_meaning.specs.Spaces.{flushed_by, is_of_a_page as of_page, flushed_beside, pflush_of, ptest_of};
+ghost use Rattle.mb_processor.specs.Spaces.{function_space, taken, out_of_register, into_register, is_store, moves_of};
+ghost use Rattle.mb_processor.specs.Spaces.{flushed_by, is_of_a_page as of_page, flushed_beside, pflush_of, ptest_of};
 
 use crate::finishing::finish_row;
 use mb_ea::{Target, read_value, resolve};
@@ -48,7 +48,7 @@ fn take(size: Size, register: u8, value: u32, plain: &mut Plain)
 
 /// MOVES to memory, in DFC's space. The registers are those after the address was formed.
 #[inline(always)]
-#[tactic(auto, unfolding(mb_meaning::specs::Spaces::out_of_register))]
+#[tactic(auto, unfolding(mb_processor::specs::Spaces::out_of_register))]
 fn move_out<P: Port>(
     size: Size,
     target: Target,
@@ -79,7 +79,7 @@ fn move_out<P: Port>(
 
 /// MOVES from memory, in SFC's space. The registers are those after the address was formed.
 #[inline(always)]
-#[tactic(auto, unfolding(mb_meaning::specs::Spaces::into_register))]
+#[tactic(auto, unfolding(mb_processor::specs::Spaces::into_register))]
 fn move_in<P: Port>(
     size: Size,
     target: Target,
@@ -115,7 +115,7 @@ fn is_store(word: u16) -> bool
 
 /// MOVES. A memory indirection of its address is read in supervisor space; only the operand itself goes by SFC or DFC.
 #[inline(always)]
-#[tactic(auto, unfolding(mb_meaning::specs::Spaces::moves_of))]
+#[tactic(auto, unfolding(mb_processor::specs::Spaces::moves_of))]
 pub(crate) fn move_by_function_code<P: Port>(
     size: Size,
     ea: &Ea,
@@ -170,7 +170,7 @@ fn is_of_a_page(kind: FlushKind) -> bool
 
 /// PFLUSH of the other half of a page of 8 KiB, where the tables are of such pages.
 #[inline(always)]
-#[tactic(auto, unfolding(mb_meaning::specs::Spaces::flushed_beside))]
+#[tactic(auto, unfolding(mb_processor::specs::Spaces::flushed_beside))]
 fn flush_beside<P: Port>(kind: FlushKind, page: u32, cpu: &Cpu, port: &mut P)
     requires { page < 2 ^ 20 }
     ensures means { run P.bus (flushed_beside kind page cpu.now) (P.world port.old) ≡ (cpu.now, P.world port.new) }
@@ -183,7 +183,7 @@ fn flush_beside<P: Port>(kind: FlushKind, page: u32, cpu: &Cpu, port: &mut P)
 
 /// PFLUSH.
 #[inline(always)]
-#[tactic(auto, unfolding(mb_meaning::specs::Spaces::pflush_of))]
+#[tactic(auto, unfolding(mb_processor::specs::Spaces::pflush_of))]
 pub(crate) fn flush<P: Port>(kind: FlushKind, register: u8, cpu: &Cpu, port: &mut P)
     requires { register < 8 }
     ensures means { run P.bus (pflush_of kind register cpu.now) (P.world port.old) ≡ (cpu.now, P.world port.new) }
@@ -196,7 +196,7 @@ pub(crate) fn flush<P: Port>(kind: FlushKind, register: u8, cpu: &Cpu, port: &mu
 
 /// PTEST: the page is tested in DFC's space, and the answer becomes MMUSR.
 #[inline(always)]
-#[tactic(auto, unfolding(mb_meaning::specs::Spaces::ptest_of))]
+#[tactic(auto, unfolding(mb_processor::specs::Spaces::ptest_of))]
 pub(crate) fn test<P: Port>(is_read: bool, register: u8, cpu: &Cpu, port: &mut P)
     requires { register < 8 }
     ensures means { run P.bus (ptest_of is_read register cpu.now) (P.world port.old) ≡ (cpu.now, P.world port.new) }

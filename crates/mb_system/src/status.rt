@@ -3,10 +3,10 @@
 ghost use Rattle.std.specs.Prelude.{◌≡◌, ◌<◌, IfErr};
 ghost use Rattle.mb_port.specs.Routine.{run};
 ghost use Rattle.mb_instr.specs.Operands.{IsEa, IsDestination};
-ghost use Rattle.mb_meaning.specs.SystemEnds.{system_performed_by, system_carried_by, with_registers};
+ghost use Rattle.mb_processor.specs.SystemEnds.{system_performed_by, system_carried_by, with_registers};
 ghost use Rattle.mb_system.specs.Ends.{SystemEnds};
-ghost use Rattle.mb_meaning.specs.Status.{with_status, status_by, to_status_of, from_status_of, stop_of};
-ghost use Rattle.mb_meaning.specs.Status.{to_usp_of, from_usp_of, move_usp_of};
+ghost use Rattle.mb_processor.specs.Status.{with_status, status_by, to_status_of, from_status_of, stop_of};
+ghost use Rattle.mb_processor.specs.Status.{to_usp_of, from_usp_of, move_usp_of};
 
 use crate::finishing::finish_row;
 use mb_alu::{LogicKind, logic};
@@ -27,7 +27,7 @@ fn set_status(value: u32, cpu: &mut Cpu)
 
 /// ANDI, ORI and EORI to SR.
 #[inline(always)]
-#[tactic(auto, unfolding(mb_meaning::specs::Status::status_by))]
+#[tactic(auto, unfolding(mb_processor::specs::Status::status_by))]
 pub(crate) fn change_status(kind: LogicKind, word: u16, cpu: &mut Cpu)
     ensures { cpu.new ≡ status_by kind word cpu.old }
 {
@@ -40,7 +40,7 @@ pub(crate) fn change_status(kind: LogicKind, word: u16, cpu: &mut Cpu)
 
 /// MOVE to SR: a word is read, by the registers as the old S and M give them.
 #[inline(always)]
-#[tactic(auto, unfolding(mb_meaning::specs::Status::to_status_of))]
+#[tactic(auto, unfolding(mb_processor::specs::Status::to_status_of))]
 pub(crate) fn move_to_status<P: Port>(
     ea: &Ea,
     word_at: u32,
@@ -66,7 +66,7 @@ pub(crate) fn move_to_status<P: Port>(
 
 /// MOVE from SR. The destination is not read.
 #[inline(always)]
-#[tactic(auto, unfolding(mb_meaning::specs::Status::from_status_of))]
+#[tactic(auto, unfolding(mb_processor::specs::Status::from_status_of))]
 pub(crate) fn move_from_status<P: Port>(
     ea: &Ea,
     word_at: u32,
@@ -99,7 +99,7 @@ pub(crate) fn move_from_status<P: Port>(
 
 /// STOP: SR is loaded, and the processor stops.
 #[inline(always)]
-#[tactic(auto, unfolding(mb_meaning::specs::Status::stop_of))]
+#[tactic(auto, unfolding(mb_processor::specs::Status::stop_of))]
 pub(crate) fn stop(word: u16, cpu: &mut Cpu)
     ensures { cpu.new ≡ stop_of word cpu.old }
 {
@@ -109,7 +109,7 @@ pub(crate) fn stop(word: u16, cpu: &mut Cpu)
 
 /// MOVE An to USP.
 #[inline(always)]
-#[tactic(auto, unfolding(mb_meaning::specs::Status::to_usp_of))]
+#[tactic(auto, unfolding(mb_processor::specs::Status::to_usp_of))]
 fn move_to_usp(register: u8, cpu: &mut Cpu)
     requires { register < 8 }
     ensures { cpu.new ≡ to_usp_of register cpu.old }
@@ -119,7 +119,7 @@ fn move_to_usp(register: u8, cpu: &mut Cpu)
 
 /// MOVE USP to An.
 #[inline(always)]
-#[tactic(auto, unfolding(mb_meaning::specs::Status::from_usp_of))]
+#[tactic(auto, unfolding(mb_processor::specs::Status::from_usp_of))]
 fn move_from_usp(register: u8, cpu: &mut Cpu)
     requires { register < 8 }
     ensures { cpu.new ≡ from_usp_of register cpu.old }

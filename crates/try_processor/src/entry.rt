@@ -8,9 +8,9 @@ ghost use Rattle.std.specs.Prelude.{◌<◌};
 
 use mb_frames::Access;
 use mb_instr::Regs;
-use mb_meaning::Cause;
 use mb_model::Cpu;
 use mb_port::{Piece, Port, Space};
+use mb_processor::Cause;
 use mb_vector::VectorPort;
 use std::alloc::{AllocError, Global};
 

@@ -7,8 +7,8 @@ use Rattle.mb_instr.specs.Registers.{active_stack, plain_of}
 use Rattle.mb_model.specs.declared.processor.Cpu.{Cpu}
 use Rattle.mb_model.specs.declared.outcome.RunState.TheVariants.{Running, Stopped, Off}
 use Rattle.mb_devices.specs.Devices.{DeviceState}
-use Rattle.mb_meaning.specs.declared.Finish.{Finish}
-use Rattle.mb_meaning.specs.declared.Finish.TheVariants as finish
+use Rattle.mb_processor.specs.declared.Finish.{Finish}
+use Rattle.mb_processor.specs.declared.Finish.TheVariants as finish
 use Rattle.mb_machine.specs.Machine.{Machine, Entries, state_after}
 use Rattle.vm_meaning.specs.declared.RunEnd.TheVariants.{Gone}
 use Rattle.vm_meaning.specs.Native.{Ran, user_step, ran_by, goes_on, end_of}

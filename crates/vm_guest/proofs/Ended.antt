@@ -3,11 +3,11 @@ use Rattle.std.proofs.Common.{◌≡◌, ◌∙◌, ℕ, true, false, refl, ap, 
 use Rattle.mb_model.specs.declared.processor.Cpu.{Cpu}
 use Rattle.mb_model.specs.declared.outcome.RunState.{RunState}
 use Rattle.mb_devices.specs.Devices.{DeviceState}
-use Rattle.mb_meaning.specs.declared.Finish.{Finish}
-use Rattle.mb_meaning.specs.declared.Finish.TheVariants as finish
-use Rattle.mb_meaning.specs.declared.StepEnd.{StepEnd}
-use Rattle.mb_meaning.specs.declared.StepEnd.TheVariants as step
-use Rattle.mb_meaning.specs.Raise.{Stepped, by_its_end, step_end}
+use Rattle.mb_processor.specs.declared.Finish.{Finish}
+use Rattle.mb_processor.specs.declared.Finish.TheVariants as finish
+use Rattle.mb_processor.specs.declared.StepEnd.{StepEnd}
+use Rattle.mb_processor.specs.declared.StepEnd.TheVariants as step
+use Rattle.mb_processor.specs.Raise.{Stepped, by_its_end, step_end}
 use Rattle.mb_machine.specs.Machine.{going, state_after, takes_steps}
 use Rattle.vm_machine.specs.Guests.{Guest}
 use Rattle.vm_machine.specs.Turns.{Guested}

@@ -1,7 +1,7 @@
 -- What the fields of an access error leave of a MOVEM.
 use Rattle.std.proofs.Common.{◌≡◌, ◌≤◌, Bool, true, false, cond}
 use Rattle.mb_frames.specs.declared.frame.Access.{Access}
-use Rattle.mb_meaning.specs.Return.{continues}
+use Rattle.mb_processor.specs.Return.{continues}
 use Rattle.mb_writes.specs.Transfers.{count_of, mask_in}
 use Rattle.vm_meaning.specs.declared.left.LeftOver.{LeftOver}
 use Rattle.vm_meaning.specs.declared.left.LeftOver.TheVariants.{Movem}

@@ -9,8 +9,8 @@ use Rattle.mb_model.specs.declared.processor.Cpu.{Cpu}
 use Rattle.mb_model.specs.Status.{space_of}
 use Rattle.mb_walk.specs.Memory.{AreBytes}
 use Rattle.mb_devices.specs.Devices.{DeviceState, level_of, ticked, IsNotDue}
-use Rattle.mb_meaning.specs.Raise.{Stepped}
-use Rattle.mb_meaning.specs.Step.{step_of}
+use Rattle.mb_processor.specs.Raise.{Stepped}
+use Rattle.mb_processor.specs.Step.{step_of}
 use Rattle.mb_machine.specs.Machine.{Entries, Machine, arrived, begun, takes_steps}
 use Rattle.mb_machine.specs.World.{World}
 use Rattle.mb_board.specs.Beside.{but_ram}

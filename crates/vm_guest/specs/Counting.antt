@@ -1,7 +1,7 @@
 -- Steps of a guest, and how they are counted.
 use Rattle.std.specs.Prelude.{ℕ, ◌+◌, ◌<◌, ◌≤◌, ◌⊎◌, nat_lt, if◌then◌else◌, length, Option, Some, None}
 use Rattle.mb_model.specs.declared.processor.Cpu.{Cpu}
-use Rattle.mb_meaning.specs.Step.{interrupt_mask}
+use Rattle.mb_processor.specs.Step.{interrupt_mask}
 use Rattle.mb_machine.specs.Machine.{Entries}
 use Rattle.mb_board.specs.Arrivals.{due_at}
 use Rattle.vm_machine.specs.declared.class.Class.{Class}

@@ -8,7 +8,7 @@ use Rattle.mb_model.specs.declared.processor.Cpu.{Cpu}
 use Rattle.mb_model.specs.declared.outcome.RunState.TheVariants.{Running}
 use Rattle.mb_model.specs.Keeping.{rule_a, nothing_kept}
 use Rattle.mb_devices.specs.Devices.{idle, level_of, passed}
-use Rattle.mb_meaning.specs.SystemEnds.{with_registers}
+use Rattle.mb_processor.specs.SystemEnds.{with_registers}
 use Rattle.mb_machine.specs.Machine.{Machine}
 use Rattle.mb_board.specs.State.{BoardState, no_registers}
 use Rattle.vm_meaning.specs.Native.{NativeState, Ran, about_to_run, user_run}

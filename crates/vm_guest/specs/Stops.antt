@@ -4,7 +4,7 @@ use Rattle.mb_port.specs.Routine.{run}
 use Rattle.mb_model.specs.declared.outcome.RunState.TheVariants.{Running}
 use Rattle.mb_model.specs.Status.{space_of}
 use Rattle.mb_devices.specs.Devices.{level_of, IsNotDue}
-use Rattle.mb_meaning.specs.Step.{step_of}
+use Rattle.mb_processor.specs.Step.{step_of}
 use Rattle.mb_frames.specs.declared.frame.Frame.{Frame}
 use Rattle.mb_machine.specs.Machine.{takes_steps}
 use Rattle.mb_board.specs.State.{BoardState}

@@ -5,9 +5,9 @@ use Rattle.mb_model.specs.declared.outcome.RunState.{RunState}
 use Rattle.mb_model.specs.declared.outcome.RunState.TheVariants as state
 use Rattle.mb_model.specs.declared.processor.Cpu.{Cpu}
 use Rattle.mb_devices.specs.Devices.{DeviceState, ticked, passed}
-use Rattle.mb_meaning.specs.declared.StepEnd.{StepEnd}
-use Rattle.mb_meaning.specs.declared.StepEnd.TheVariants as step
-use Rattle.mb_meaning.specs.Raise.{Stepped}
+use Rattle.mb_processor.specs.declared.StepEnd.{StepEnd}
+use Rattle.mb_processor.specs.declared.StepEnd.TheVariants as step
+use Rattle.mb_processor.specs.Raise.{Stepped}
 use Rattle.mb_machine.specs.Machine.{Contents, Entries, Machine, arrived, going, run_of, start}
 use Rattle.mb_machine.specs.Machine.{state_after, takes_steps}
 use Rattle.vm_meaning.specs.Free.{rule_free, FreeRun, Within}

@@ -2,7 +2,7 @@
 
 ghost use Rattle.std.specs.Prelude.{◌≡◌, ◌≤◌, ◌%◌, true, length};
 ghost use Rattle.mb_model.specs.declared.outcome.RunState.TheVariants.{Running};
-ghost use Rattle.mb_meaning.specs.SystemEnds.{with_registers};
+ghost use Rattle.mb_processor.specs.SystemEnds.{with_registers};
 ghost use Rattle.mb_machine.specs.Machine.{takes_steps};
 ghost use Rattle.mb_board.specs.State.{board_at_reset};
 ghost use Rattle.vm_guest.specs.Native.{native_cpu, ready};

@@ -2,7 +2,7 @@
 
 ghost use Rattle.std.specs.Prelude.{◌≡◌, ◌<◌, ℕ};
 ghost use Rattle.mb_port.specs.Routine.{run};
-ghost use Rattle.mb_meaning.specs.Raise.{by_its_end};
+ghost use Rattle.mb_processor.specs.Raise.{by_its_end};
 ghost use Rattle.mb_model.specs.declared.processor.Cpu.{Cpu as CpuValue};
 ghost use Rattle.vm_machine.specs.Exits.{handed_by};
 ghost use Rattle.vm_machine.specs.Guests.{Guest};
@@ -16,9 +16,9 @@ use arrayvec::ArrayVec;
 use mb_entry::Cause;
 use mb_frames::{Frame, Pend};
 use mb_instr::{Plain, Regs};
-use mb_meaning::StepEnd;
 use mb_model::Cpu;
 use mb_port::Port;
+use mb_processor::StepEnd;
 use mb_step::{Decoder, step_to_finish};
 use vm_inject::{LeftOver, finish_line, finish_movem, finish_trap, finish_writes, left_in};
 

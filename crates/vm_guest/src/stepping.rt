@@ -2,7 +2,7 @@
 
 ghost use Rattle.std.specs.Prelude.{◌≡◌, ◌+◌, ◌^◌, ◌<◌, ◌≤◌};
 ghost use Rattle.mb_port.specs.Routine.{run};
-ghost use Rattle.mb_meaning.specs.Raise.{by_its_end};
+ghost use Rattle.mb_processor.specs.Raise.{by_its_end};
 ghost use Rattle.mb_devices.specs.Devices.{level_of};
 ghost use Rattle.mb_board.specs.Beside.{but_ram};
 ghost use Rattle.vm_machine.specs.Bus.{guest_bus};
@@ -16,8 +16,8 @@ use crate::guest::Guest;
 use crate::rest::Rest;
 use mb_board::{Board, receive};
 use mb_devices::Devices;
-use mb_meaning::StepEnd;
 use mb_model::{Cpu, RunState};
+use mb_processor::StepEnd;
 use mb_walk::Ram;
 use vm_machine::Class;
 use vm_port::GuestPort;

@@ -1,7 +1,7 @@
 //! What an access error left to do, from its frame.
 
 ghost use Rattle.std.specs.Prelude.{◌≡◌, ◌≢◌, ◌≤◌, true};
-ghost use Rattle.mb_meaning.specs.Return.{continues};
+ghost use Rattle.mb_processor.specs.Return.{continues};
 ghost use Rattle.mb_writes.specs.Transfers.{count_of, mask_in};
 ghost use Rattle.vm_meaning.specs.Frames.{is_valid, length_in, first_pend, pending_in, left_in};
 

@@ -12,12 +12,12 @@ use Rattle.mb_walk.proofs.Parts.{drop-over}
 use Rattle.mb_writes.specs.declared.ends.WriteFault.{WriteFault}
 use Rattle.mb_writes.specs.declared.ends.Ended.TheVariants as ended
 use Rattle.mb_writes.specs.Transfers.{movem_in, refused_transfer}
-use Rattle.mb_meaning.specs.declared.entering.Cause.{Cause}
-use Rattle.mb_meaning.specs.declared.Finish.TheVariants as finish
-use Rattle.mb_meaning.specs.Entry.{Entrance, frames_of}
-use Rattle.mb_meaning.specs.Raise.{Stepped, Raised, traces_all, is_due, ends_step, access_cause, access_error_of, cause_at, raised, raise_of, tracing_of}
-use Rattle.mb_meaning.specs.Raise.{trap_of, refused_of, with_ct}
-use Rattle.mb_meaning.specs.Step.{by_page_size, movem_words, unread_of, unfinished_of, unbegun_of, unwritten_of, line_unwritten_of, untransferred_of, is_flow, finish_of}
+use Rattle.mb_processor.specs.declared.entering.Cause.{Cause}
+use Rattle.mb_processor.specs.declared.Finish.TheVariants as finish
+use Rattle.mb_processor.specs.Entry.{Entrance, frames_of}
+use Rattle.mb_processor.specs.Raise.{Stepped, Raised, traces_all, is_due, ends_step, access_cause, access_error_of, cause_at, raised, raise_of, tracing_of}
+use Rattle.mb_processor.specs.Raise.{trap_of, refused_of, with_ct}
+use Rattle.mb_processor.specs.Step.{by_page_size, movem_words, unread_of, unfinished_of, unbegun_of, unwritten_of, line_unwritten_of, untransferred_of, is_flow, finish_of}
 use Rattle.mb_attempts.specs.Attempts.{IsUntraced}
 use Rattle.mb_machine.specs.World.{World}
 use Rattle.mb_machine.specs.Bus.{bus_of}

@@ -48,7 +48,7 @@ use Rattle.mb_meaning.specs.Ends.{Stopped, Cut, Unread, Stop, Performed, restore
 use Rattle.mb_writes.specs.declared.transfers.Movem.{Movem}
 use Rattle.mb_writes.specs.Transfers.{movem_in}
 use Rattle.mb_meaning.specs.Moves.{movem_by}
-use Rattle.mb_meaning.specs.Step.{long_of, movem_words}
+use Rattle.mb_processor.specs.Step.{long_of, movem_words}
 use Rattle.mb_meaning.specs.Rows.{perform_move_of, perform_arith_of, perform_flow_of, row_of, perform_of}
 use Rattle.mb_meaning.specs.Attempt.{Unfound, NoInstruction, Unfetched, found_none, Found, judged, found_of, fetched_of, past, most_words, attempt_of}
 use Rattle.mb_attempts.specs.Attempts.{NoOther}

@@ -54,7 +54,7 @@ use Rattle.mb_meaning.specs.Flow.{target_of, is_call, call_of, branched, branch_
 use Rattle.mb_meaning.specs.Returns.{rts_of, rtd_of, word_raised, rtr_of}
 use Rattle.mb_meaning.specs.Traps.{out_of_bounds, trap_of, trapcc_of, trapv_of}
 use Rattle.mb_meaning.specs.Bounds.{is_below, is_above, checked, chk_of, bounds_of, checked_carry, cmp2_of, chk2_of}
-use Rattle.mb_meaning.specs.Step.{movem_words}
+use Rattle.mb_processor.specs.Step.{movem_words}
 use Rattle.mb_tells.specs.Guarded.{IsLine}
 use Rattle.mb_tells.specs.Laws.{AreLongs}
 use Rattle.mb_tells.proofs.Ranges.{IsFormed}

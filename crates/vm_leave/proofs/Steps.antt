@@ -12,13 +12,13 @@ use Rattle.mb_model.specs.declared.processor.Cpu.{Cpu}
 use Rattle.mb_model.specs.Status.{space_of}
 use Rattle.mb_writes.specs.declared.ends.Ended.{Ended}
 use Rattle.mb_writes.specs.declared.ends.Ended.TheVariants as ended
-use Rattle.mb_meaning.specs.declared.Finish.TheVariants as finish
+use Rattle.mb_processor.specs.declared.Finish.TheVariants as finish
 use Rattle.mb_meaning.specs.Ends.{Carried, Performed, closed}
-use Rattle.mb_meaning.specs.SystemEnds.{with_registers}
+use Rattle.mb_processor.specs.SystemEnds.{with_registers}
 use Rattle.mb_meaning.specs.Rows.{perform_of, row_of}
 use Rattle.mb_meaning.specs.Attempt.{Found, found_none, fetched_of, past, attempt_of}
-use Rattle.mb_meaning.specs.Raise.{Stepped, is_due}
-use Rattle.mb_meaning.specs.Step.{finish_of, interrupt_mask, step_of}
+use Rattle.mb_processor.specs.Raise.{Stepped, is_due}
+use Rattle.mb_processor.specs.Step.{finish_of, interrupt_mask, step_of}
 use Rattle.mb_attempts.specs.Attempts.{is_attempted, IsUntraced, NoOther, fetched_by, attempted_by, finished_by}
 use Rattle.mb_attempts.proofs.Attempts.{attempt_then_finish}
 use Rattle.mb_twins.specs.Twins.{SameEnd, SamePerformed}

@@ -10,11 +10,11 @@ use Rattle.mb_writes.specs.declared.ends.WriteFault.{WriteFault}
 use Rattle.mb_writes.specs.declared.ends.Ended.{Ended}
 use Rattle.mb_writes.specs.declared.ends.Ended.TheVariants as ended
 use Rattle.mb_writes.specs.Transfers.{movem_in, refused_transfer}
-use Rattle.mb_meaning.specs.declared.entering.Cause.{Cause}
-use Rattle.mb_meaning.specs.declared.Finish.TheVariants as finish
-use Rattle.mb_meaning.specs.Entry.{frames_of}
-use Rattle.mb_meaning.specs.Raise.{Stepped, traces_all, is_due, with_ct, access_cause, cause_at}
-use Rattle.mb_meaning.specs.Step.{finish_of, movem_words, is_flow}
+use Rattle.mb_processor.specs.declared.entering.Cause.{Cause}
+use Rattle.mb_processor.specs.declared.Finish.TheVariants as finish
+use Rattle.mb_processor.specs.Entry.{frames_of}
+use Rattle.mb_processor.specs.Raise.{Stepped, traces_all, is_due, with_ct, access_cause, cause_at}
+use Rattle.mb_processor.specs.Step.{finish_of, movem_words, is_flow}
 use Rattle.mb_attempts.specs.Attempts.{IsUntraced}
 use Rattle.mb_machine.specs.World.{World}
 use Rattle.mb_machine.specs.Enters.{IsOpen, HasRoom, stacked_on, at_handler}

@@ -9,7 +9,7 @@ use Rattle.mb_writes.specs.declared.ends.Ended.{Ended}
 use Rattle.mb_writes.specs.declared.ends.Ended.TheVariants as ended
 use Rattle.mb_writes.specs.Transfers.{count_of, mask_in}
 use Rattle.mb_meaning.specs.Attempt.{fetched_of}
-use Rattle.mb_meaning.specs.Step.{movem_words}
+use Rattle.mb_processor.specs.Step.{movem_words}
 use Rattle.mb_attempts.specs.Attempts.{NoOther}
 use Rattle.mb_tells.specs.Guarded.{IsLine}
 use Rattle.mb_tells.specs.Laws.{AreLongs, HasLongs}

@@ -7,10 +7,10 @@ use Rattle.mb_model.specs.declared.processor.Cpu.{Cpu}
 use Rattle.mb_model.specs.Status.{space_of}
 use Rattle.mb_writes.specs.declared.ends.Ended.{Ended}
 use Rattle.mb_writes.specs.declared.ends.Ended.TheVariants as ended
-use Rattle.mb_meaning.specs.declared.Finish.TheVariants as finish
+use Rattle.mb_processor.specs.declared.Finish.TheVariants as finish
 use Rattle.mb_meaning.specs.Ends.{End}
-use Rattle.mb_meaning.specs.SystemEnds.{with_registers}
-use Rattle.mb_meaning.specs.Step.{interrupt_mask, step_of}
+use Rattle.mb_processor.specs.SystemEnds.{with_registers}
+use Rattle.mb_processor.specs.Step.{interrupt_mask, step_of}
 use Rattle.mb_attempts.specs.Attempts.{IsUntraced, NoOther, fetched_by}
 use Rattle.mb_twins.specs.Twins.{SameEnd}
 use Rattle.mb_tells.specs.Laws.{HasLongs}

@@ -4,8 +4,8 @@ use Rattle.std.proofs.lemmas.Bool.{cases_Bool}
 use Rattle.mb_port.specs.Routine.{Routine, run}
 use Rattle.mb_model.specs.Keeping.{rule_k}
 use Rattle.mb_devices.specs.Devices.{level_of}
-use Rattle.mb_meaning.specs.Step.{step_of}
-use Rattle.mb_meaning.specs.Raise.{Stepped}
+use Rattle.mb_processor.specs.Step.{step_of}
+use Rattle.mb_processor.specs.Raise.{Stepped}
 use Rattle.mb_laws.specs.Alike.{Mirrors}
 use Rattle.mb_laws.specs.Tree.{routine_of}
 use Rattle.mb_laws.specs.Refusal.{any_call}

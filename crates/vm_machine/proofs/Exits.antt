@@ -11,17 +11,17 @@ use Rattle.mb_model.specs.declared.processor.Cpu.{Cpu}
 use Rattle.mb_writes.specs.declared.ends.Ended.{Ended}
 use Rattle.mb_writes.specs.declared.ends.Ended.TheVariants as ended
 use Rattle.mb_writes.specs.declared.ends.WriteFault.{WriteFault}
-use Rattle.mb_meaning.specs.declared.entering.Cause.{Cause}
-use Rattle.mb_meaning.specs.declared.entering.Entered.{Entered}
-use Rattle.mb_meaning.specs.declared.entering.Entered.TheVariants as entered
-use Rattle.mb_meaning.specs.declared.Finish.TheVariants as finish
+use Rattle.mb_processor.specs.declared.entering.Cause.{Cause}
+use Rattle.mb_processor.specs.declared.entering.Entered.{Entered}
+use Rattle.mb_processor.specs.declared.entering.Entered.TheVariants as entered
+use Rattle.mb_processor.specs.declared.Finish.TheVariants as finish
 use Rattle.mb_meaning.specs.Ends.{Performed}
-use Rattle.mb_meaning.specs.SystemEnds.{with_registers}
-use Rattle.mb_meaning.specs.Entry.{enter_of}
+use Rattle.mb_processor.specs.SystemEnds.{with_registers}
+use Rattle.mb_processor.specs.Entry.{enter_of}
 use Rattle.mb_meaning.specs.Attempt.{Found}
-use Rattle.mb_meaning.specs.Raise.{Stepped, Raised, is_due, traces_all, access_cause, ends_step, access_error_of, unchecked_of, raised, raise_of}
-use Rattle.mb_meaning.specs.Raise.{tracing_of, trap_of, refused_of}
-use Rattle.mb_meaning.specs.Step.{unread_of, unfinished_of, unbegun_of, unwritten_of, line_unwritten_of, untransferred_of, finish_of, is_flow}
+use Rattle.mb_processor.specs.Raise.{Stepped, Raised, is_due, traces_all, access_cause, ends_step, access_error_of, unchecked_of, raised, raise_of}
+use Rattle.mb_processor.specs.Raise.{tracing_of, trap_of, refused_of}
+use Rattle.mb_processor.specs.Step.{unread_of, unfinished_of, unbegun_of, unwritten_of, line_unwritten_of, untransferred_of, finish_of, is_flow}
 use Rattle.mb_attempts.specs.Attempts.{IsUntraced, NoOther, is_attempted, fetched_by, attempted_by, finished_by}
 use Rattle.mb_attempts.proofs.Attempts.{attempt_then_finish}
 use Rattle.vm_machine.specs.Classes.{class_of_end, class_by, is_exit}

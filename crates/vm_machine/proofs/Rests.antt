@@ -18,12 +18,12 @@ use Rattle.mb_writes.specs.declared.ends.Ended.TheVariants as ended
 use Rattle.mb_writes.specs.Transfers.{movem_in, refused_transfer}
 use Rattle.mb_writes.specs.Moving.{Halfway, transfer_of}
 use Rattle.mb_writes.specs.Writing.{left_by, write_all}
-use Rattle.mb_meaning.specs.declared.Finish.{Finish}
-use Rattle.mb_meaning.specs.declared.Finish.TheVariants as finish
+use Rattle.mb_processor.specs.declared.Finish.{Finish}
+use Rattle.mb_processor.specs.declared.Finish.TheVariants as finish
 use Rattle.mb_meaning.specs.Ends.{Carried, Stopped, Performed}
-use Rattle.mb_meaning.specs.SystemEnds.{with_registers}
-use Rattle.mb_meaning.specs.Raise.{Stepped, traces_all, is_due, cause_at, raise_of, trap_of, tracing_of, access_error_of, with_ct}
-use Rattle.mb_meaning.specs.Step.{unfinished_of, unwritten_of, line_unwritten_of, untransferred_of, movem_words, finish_of, is_flow, step_of}
+use Rattle.mb_processor.specs.SystemEnds.{with_registers}
+use Rattle.mb_processor.specs.Raise.{Stepped, traces_all, is_due, cause_at, raise_of, trap_of, tracing_of, access_error_of, with_ct}
+use Rattle.mb_processor.specs.Step.{unfinished_of, unwritten_of, line_unwritten_of, untransferred_of, movem_words, finish_of, is_flow, step_of}
 use Rattle.mb_tells.specs.Left.{completing, line_completing, moving}
 use Rattle.mb_attempts.specs.Attempts.{IsUntraced, attempted_by, finished_by}
 use Rattle.mb_attempts.proofs.Attempts.{attempt_then_finish}

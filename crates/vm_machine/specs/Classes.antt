@@ -9,8 +9,8 @@ use Rattle.mb_writes.specs.declared.ends.Ended.{Ended}
 use Rattle.mb_writes.specs.declared.ends.Ended.TheVariants as ended
 use Rattle.mb_meaning.specs.Ends.{Performed}
 use Rattle.mb_meaning.specs.Attempt.{attempt_of}
-use Rattle.mb_meaning.specs.Raise.{traces_all, traces_flow}
-use Rattle.mb_meaning.specs.Step.{interrupt_mask}
+use Rattle.mb_processor.specs.Raise.{traces_all, traces_flow}
+use Rattle.mb_processor.specs.Step.{interrupt_mask}
 use Rattle.vm_machine.specs.declared.class.Class.{Class}
 use Rattle.vm_machine.specs.declared.class.Class.TheVariants.{Entered, Idle, Traced, Privileged, Denied, Trapped}
 use Rattle.vm_machine.specs.declared.class.Class.TheVariants.{Retired}

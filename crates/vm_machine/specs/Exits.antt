@@ -9,11 +9,11 @@ use Rattle.mb_frames.specs.declared.frame.Access.{Access}
 use Rattle.mb_frames.specs.declared.frame.Frame.{Frame}
 use Rattle.mb_frames.specs.declared.frame.Frame.TheVariants as frame
 use Rattle.mb_model.specs.declared.processor.Cpu.{Cpu}
-use Rattle.mb_meaning.specs.declared.Finish.{Finish}
-use Rattle.mb_meaning.specs.declared.Finish.TheVariants as finish
-use Rattle.mb_meaning.specs.SystemEnds.{with_registers}
-use Rattle.mb_meaning.specs.Raise.{Stepped, cause_at}
-use Rattle.mb_meaning.specs.Step.{interrupt_mask, step_of}
+use Rattle.mb_processor.specs.declared.Finish.{Finish}
+use Rattle.mb_processor.specs.declared.Finish.TheVariants as finish
+use Rattle.mb_processor.specs.SystemEnds.{with_registers}
+use Rattle.mb_processor.specs.Raise.{Stepped, cause_at}
+use Rattle.mb_processor.specs.Step.{interrupt_mask, step_of}
 use Rattle.mb_attempts.specs.Attempts.{IsUntraced, attempted_by}
 use Rattle.vm_meaning.specs.Finishes.{finish_trap_of}
 use Rattle.vm_meaning.specs.Frames.{pc_of, left_in}

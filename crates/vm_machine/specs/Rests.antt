@@ -11,9 +11,9 @@ use Rattle.mb_writes.specs.declared.ends.Ended.{Ended}
 use Rattle.mb_writes.specs.declared.ends.Ended.TheVariants as ended
 use Rattle.mb_writes.specs.Transfers.{movem_in}
 use Rattle.mb_meaning.specs.Ends.{Carried}
-use Rattle.mb_meaning.specs.SystemEnds.{with_registers}
-use Rattle.mb_meaning.specs.Raise.{Stepped, cause_at}
-use Rattle.mb_meaning.specs.Step.{movem_words, finish_of, interrupt_mask, step_of}
+use Rattle.mb_processor.specs.SystemEnds.{with_registers}
+use Rattle.mb_processor.specs.Raise.{Stepped, cause_at}
+use Rattle.mb_processor.specs.Step.{movem_words, finish_of, interrupt_mask, step_of}
 use Rattle.mb_tells.specs.Left.{completing, line_completing, moving}
 use Rattle.mb_attempts.specs.Attempts.{IsUntraced, NoOther, is_attempted, fetched_by, attempted_by}
 use Rattle.vm_meaning.specs.declared.left.LeftOver.{LeftOver}

@@ -6,8 +6,8 @@ use Rattle.mb_instr.specs.Registers.{plain_of}
 use Rattle.mb_model.specs.declared.processor.Cpu.{Cpu}
 use Rattle.mb_model.specs.Keeping.{rule_k}
 use Rattle.mb_devices.specs.Devices.{level_of}
-use Rattle.mb_meaning.specs.Raise.{Stepped}
-use Rattle.mb_meaning.specs.Step.{step_of}
+use Rattle.mb_processor.specs.Raise.{Stepped}
+use Rattle.mb_processor.specs.Step.{step_of}
 use Rattle.mb_machine.specs.Machine.{Machine, Contents, Entries, start, begun, one_later, takes_steps}
 use Rattle.vm_shadow.specs.Shadows.{Shadowed, nothing}
 use Rattle.vm_machine.specs.declared.class.Class.{Class}

@@ -1,8 +1,8 @@
 -- The frame of an instruction that is not carried out, and that of a trap, tells the cause.
 use Rattle.std.proofs.Common.{◌≡◌, ◌∙◌, ℕ, ◌+◌, ◌-◌, ◌%◌, ◌^◌, ◌<◌, ◌≤◌, refl, ap, true, false, inl, inr, arith}
 use Rattle.std.proofs.lemmas.Bool.Decides.{nat_tests}
-use Rattle.mb_meaning.specs.Entry.{has_address, frame_of}
-use Rattle.mb_meaning.specs.Raise.{cause_at}
+use Rattle.mb_processor.specs.Entry.{has_address, frame_of}
+use Rattle.mb_processor.specs.Raise.{cause_at}
 use Rattle.vm_meaning.specs.Frames.{is_trap_instruction, address_by, cause_in}
 use Rattle.vm_meaning.specs.Telling.{RefusalsTell, TrapsTell}
 

@@ -3,8 +3,8 @@ use Rattle.std.proofs.Common.{◌≡◌, ◌∙◌, ℕ, zero, suc, ◌+◌, [],
 use Rattle.std.proofs.lemmas.Bool.{cases_Bool}
 use Rattle.mb_instr.specs.Registers.{is_supervisor}
 use Rattle.mb_model.specs.Keeping.{rule_a}
-use Rattle.mb_meaning.specs.declared.Finish.{Finish}
-use Rattle.mb_meaning.specs.declared.Finish.TheVariants as finish
+use Rattle.mb_processor.specs.declared.Finish.{Finish}
+use Rattle.mb_processor.specs.declared.Finish.TheVariants as finish
 use Rattle.mb_machine.specs.Machine.{Machine, stepping, processed, begun, takes_steps, state_after}
 use Rattle.vm_meaning.specs.declared.RunEnd.{RunEnd}
 use Rattle.vm_meaning.specs.declared.RunEnd.TheVariants.{Counted, Exit, Gone}

@@ -19,20 +19,20 @@ use Rattle.mb_writes.specs.declared.ends.Ended.TheVariants as ended
 use Rattle.mb_writes.specs.declared.ends.MovemFault.{MovemFault}
 use Rattle.mb_writes.specs.declared.ends.WriteFault.{WriteFault}
 use Rattle.mb_writes.specs.Transfers.{movem_in, refused_transfer}
-use Rattle.mb_meaning.specs.declared.entering.Cause.{Cause}
-use Rattle.mb_meaning.specs.declared.entering.Entered.{Entered}
-use Rattle.mb_meaning.specs.declared.entering.Entered.TheVariants as entered
-use Rattle.mb_meaning.specs.declared.Finish.{Finish}
-use Rattle.mb_meaning.specs.declared.Finish.TheVariants as finish
+use Rattle.mb_processor.specs.declared.entering.Cause.{Cause}
+use Rattle.mb_processor.specs.declared.entering.Entered.{Entered}
+use Rattle.mb_processor.specs.declared.entering.Entered.TheVariants as entered
+use Rattle.mb_processor.specs.declared.Finish.{Finish}
+use Rattle.mb_processor.specs.declared.Finish.TheVariants as finish
 use Rattle.mb_meaning.specs.Attempt.{NoInstruction, Unfetched, Found, fetched_of, past}
 use Rattle.mb_meaning.specs.Ends.{closing}
-use Rattle.mb_meaning.specs.Entry.{enter_of}
-use Rattle.mb_meaning.specs.Raise.{Stepped, Raised, access_cause, access_error_of, ends_step, unchecked_of, raised, raise_of, last, with_ct}
-use Rattle.mb_meaning.specs.Raise.{cause_at, interrupt_cause, interrupt_of, trace_of, tracing_of, trap_of, refused_of, traces_all, is_due}
+use Rattle.mb_processor.specs.Entry.{enter_of}
+use Rattle.mb_processor.specs.Raise.{Stepped, Raised, access_cause, access_error_of, ends_step, unchecked_of, raised, raise_of, last, with_ct}
+use Rattle.mb_processor.specs.Raise.{cause_at, interrupt_cause, interrupt_of, trace_of, tracing_of, trap_of, refused_of, traces_all, is_due}
 use Rattle.mb_meaning.specs.Rows.{perform_of}
-use Rattle.mb_meaning.specs.Step.{unread_of, unfinished_of, unbegun_of, unwritten_of, line_unwritten_of, untransferred_of, is_flow, movem_words, finish_of}
-use Rattle.mb_meaning.specs.Step.{supervised_of, unprivileged_of, executed_of, unfound_of, instruction_of, interrupt_mask, step_of}
-use Rattle.mb_meaning.specs.SystemEnds.{with_registers}
+use Rattle.mb_processor.specs.Step.{unread_of, unfinished_of, unbegun_of, unwritten_of, line_unwritten_of, untransferred_of, is_flow, movem_words, finish_of}
+use Rattle.mb_processor.specs.Step.{supervised_of, unprivileged_of, executed_of, unfound_of, instruction_of, interrupt_mask, step_of}
+use Rattle.mb_processor.specs.SystemEnds.{with_registers}
 use Rattle.mb_machine.specs.Bus.{bus_of}
 use Rattle.mb_machine.specs.Machine.{Machine, begun, stepping}
 use Rattle.vm_meaning.specs.Native.{user_step}

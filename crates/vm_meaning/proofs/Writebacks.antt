@@ -14,7 +14,7 @@ use Rattle.mb_frames.specs.declared.pend.Pend.{Pend}
 use Rattle.mb_frames.specs.AccessFields.{piece_of, Read, Write, Line, Movem, Check, read_fields, write_fields, line_fields, movem_fields, check_fields}
 use Rattle.mb_frames.specs.AccessFields.{size_code, transfer_type, transfer_modifier, access_bits, bit_if, status, writeback_status}
 use Rattle.mb_frames.specs.AccessFields.{register_aligned, memory_aligned, cm_bit, lk_bit, rw_bit, atc_bit, ma_bit}
-use Rattle.mb_meaning.specs.Return.{continues}
+use Rattle.mb_processor.specs.Return.{continues}
 use Rattle.vm_meaning.specs.Frames.{is_valid, length_in, if_valid, pending_in, left_in}
 use Rattle.vm_meaning.specs.declared.left.LeftOver.{LeftOver}
 use Rattle.vm_meaning.specs.declared.left.LeftOver.TheVariants as left

@@ -12,11 +12,11 @@ use Rattle.mb_model.specs.Status.{space_of}
 use Rattle.mb_writes.specs.Transfers.{movem_in}
 use Rattle.mb_writes.specs.Writing.{write_all}
 use Rattle.mb_writes.specs.Moving.{Halfway, transfer_of}
-use Rattle.mb_meaning.specs.declared.entering.Cause.{Cause}
-use Rattle.mb_meaning.specs.declared.Finish.TheVariants as finish
-use Rattle.mb_meaning.specs.SystemEnds.{with_registers}
-use Rattle.mb_meaning.specs.Raise.{Stepped, raise_of, last}
-use Rattle.mb_meaning.specs.Step.{unfinished_of, line_unwritten_of, untransferred_of}
+use Rattle.mb_processor.specs.declared.entering.Cause.{Cause}
+use Rattle.mb_processor.specs.declared.Finish.TheVariants as finish
+use Rattle.mb_processor.specs.SystemEnds.{with_registers}
+use Rattle.mb_processor.specs.Raise.{Stepped, raise_of, last}
+use Rattle.mb_processor.specs.Step.{unfinished_of, line_unwritten_of, untransferred_of}
 
 -- A cause is entered. Where its frame has no place the registers become those before, and an access error is entered.
 unfoldable pub finish_trap_of : Cause → (before : Plain) → Cpu → Routine Stepped

@@ -7,9 +7,9 @@ use Rattle.mb_frames.specs.declared.frame.Access.{Access}
 use Rattle.mb_frames.specs.declared.frame.Frame.{Frame}
 use Rattle.mb_frames.specs.declared.frame.Frame.TheVariants as frame
 use Rattle.mb_frames.specs.declared.pend.Pend.{Pend}
-use Rattle.mb_meaning.specs.declared.entering.Cause.{Cause}
-use Rattle.mb_meaning.specs.Raise.{cause_at}
-use Rattle.mb_meaning.specs.Return.{continues}
+use Rattle.mb_processor.specs.declared.entering.Cause.{Cause}
+use Rattle.mb_processor.specs.Raise.{cause_at}
+use Rattle.mb_processor.specs.Return.{continues}
 use Rattle.vm_meaning.specs.declared.left.LeftOver.{LeftOver}
 use Rattle.vm_meaning.specs.declared.left.LeftOver.TheVariants.{Again, Writes, Line, Movem}
 

@@ -5,8 +5,8 @@ use Rattle.mb_model.specs.declared.kept.Kept.{Kept}
 use Rattle.mb_model.specs.Keeping.{KeptLists, Rule, list_of, rule_k}
 use Rattle.mb_laws.specs.Relations.{Steps, Runs}
 use Rattle.mb_devices.specs.Devices.{level_of}
-use Rattle.mb_meaning.specs.Raise.{Stepped}
-use Rattle.mb_meaning.specs.Step.{step_of}
+use Rattle.mb_processor.specs.Raise.{Stepped}
+use Rattle.mb_processor.specs.Step.{step_of}
 use Rattle.mb_machine.specs.World.{World}
 use Rattle.mb_machine.specs.Bus.{bus_of}
 use Rattle.mb_machine.specs.Machine.{Entries, Machine, begun, one_later, takes_steps}

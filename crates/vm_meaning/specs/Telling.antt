@@ -4,8 +4,8 @@ use Rattle.mb_port.specs.Pieces.{span_of, IsPiece}
 use Rattle.mb_frames.specs.declared.pend.Pend.{Pend}
 use Rattle.mb_frames.specs.AccessFields.{piece_of, AccessCase, access_fields}
 use Rattle.mb_frames.specs.AccessFields as access
-use Rattle.mb_meaning.specs.Entry.{frame_of}
-use Rattle.mb_meaning.specs.Raise.{cause_at}
+use Rattle.mb_processor.specs.Entry.{frame_of}
+use Rattle.mb_processor.specs.Raise.{cause_at}
 use Rattle.vm_meaning.specs.declared.left.LeftOver.{LeftOver}
 use Rattle.vm_meaning.specs.declared.left.LeftOver.TheVariants.{Again, Writes, Line, Movem}
 use Rattle.vm_meaning.specs.Frames.{cause_in, left_in}

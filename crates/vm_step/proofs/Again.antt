@@ -5,7 +5,7 @@ use Rattle.mb_instr.specs.declared.registers.Plain.{Plain}
 use Rattle.mb_model.specs.declared.processor.Cpu.{Cpu}
 use Rattle.mb_walk.specs.Memory.{part}
 use Rattle.mb_devices.specs.Devices.{DeviceState, ticked, level_of}
-use Rattle.mb_meaning.specs.Step.{step_of}
+use Rattle.mb_processor.specs.Step.{step_of}
 use Rattle.mb_machine.specs.Machine.{Machine, Entries, arrived, begun, takes_steps}
 use Rattle.mb_machine.specs.World.{World}
 use Rattle.vm_meaning.specs.Marks.{trail}

@@ -19,15 +19,15 @@ use Rattle.mb_walk.specs.Memory.{overwritten, part}
 use Rattle.mb_walk.proofs.MemoryLemmas.{length-overwritten}
 use Rattle.mb_writes.specs.declared.ends.Ended.{Ended}
 use Rattle.mb_writes.specs.declared.ends.Ended.TheVariants as ended
-use Rattle.mb_meaning.specs.declared.entering.Cause.{Cause}
-use Rattle.mb_meaning.specs.declared.Finish.{Finish}
-use Rattle.mb_meaning.specs.declared.Finish.TheVariants as finish
+use Rattle.mb_processor.specs.declared.entering.Cause.{Cause}
+use Rattle.mb_processor.specs.declared.Finish.{Finish}
+use Rattle.mb_processor.specs.declared.Finish.TheVariants as finish
 use Rattle.mb_writes.specs.declared.transfers.Movem.{Movem}
 use Rattle.mb_meaning.specs.Ends.{Performed, closed}
 use Rattle.mb_meaning.specs.Attempt.{fetched_of}
-use Rattle.mb_meaning.specs.SystemEnds.{with_registers}
-use Rattle.mb_meaning.specs.Entry.{frames_of, frame_of, frame_with, has_address, settled}
-use Rattle.mb_meaning.specs.Step.{interrupt_mask, step_of}
+use Rattle.mb_processor.specs.SystemEnds.{with_registers}
+use Rattle.mb_processor.specs.Entry.{frames_of, frame_of, frame_with, has_address, settled}
+use Rattle.mb_processor.specs.Step.{interrupt_mask, step_of}
 use Rattle.mb_devices.specs.Devices.{DeviceState, ticked, level_of}
 use Rattle.mb_machine.specs.World.{World}
 use Rattle.mb_machine.specs.declared.reference.Reference.{Reference}
@@ -36,7 +36,7 @@ use Rattle.mb_machine.specs.Machine.{Machine, begun, arrived, state_after, takes
 use Rattle.mb_machine.specs.Enters.{IsOpen, HasRoom, supervising}
 use Rattle.mb_attempts.specs.Attempts.{IsUntraced, NoOther, fetched_by}
 use Rattle.mb_walk.proofs.Parts.{drop-over}
-use Rattle.mb_meaning.specs.Raise.{Stepped}
+use Rattle.mb_processor.specs.Raise.{Stepped}
 use Rattle.mb_tells.specs.Laws.{moves_fetched}
 use Rattle.vm_leave.specs.Exits.{left, Exit, exit_of, IsEnd, IsBelow}
 use Rattle.vm_shadow.specs.Mapped.{area_bytes, root_of}

@@ -17,10 +17,10 @@ use Rattle.mb_writes.specs.declared.ends.WriteFault.{WriteFault}
 use Rattle.mb_writes.specs.declared.ends.MovemFault.{MovemFault}
 use Rattle.mb_writes.specs.declared.ends.Ended.{Ended}
 use Rattle.mb_writes.specs.declared.ends.Ended.TheVariants as ended
-use Rattle.mb_meaning.specs.SystemEnds.{with_registers}
-use Rattle.mb_meaning.specs.Raise.{Stepped, traces_all, is_due, with_ct, cause_at}
+use Rattle.mb_processor.specs.SystemEnds.{with_registers}
+use Rattle.mb_processor.specs.Raise.{Stepped, traces_all, is_due, with_ct, cause_at}
 use Rattle.mb_model.specs.Pages.{page_size}
-use Rattle.mb_meaning.specs.Step.{movem_words, is_flow}
+use Rattle.mb_processor.specs.Step.{movem_words, is_flow}
 use Rattle.mb_twins.specs.Twins.{SameEnd}
 use Rattle.mb_attempts.specs.Attempts.{IsUntraced}
 use Rattle.vm_machine.specs.Guests.{Guest}

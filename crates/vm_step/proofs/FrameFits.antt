@@ -27,10 +27,10 @@ use Rattle.mb_writes.specs.declared.ends.WriteFault.{WriteFault}
 use Rattle.mb_writes.specs.declared.ends.Ended.{Ended}
 use Rattle.mb_writes.specs.declared.ends.Ended.TheVariants as ended
 use Rattle.mb_writes.specs.Transfers.{movem_in, refused_transfer}
-use Rattle.mb_meaning.specs.SystemEnds.{with_registers}
-use Rattle.mb_meaning.specs.Entry.{has_address, frame_of}
-use Rattle.mb_meaning.specs.Raise.{traces_all, is_due, with_ct, access_cause, cause_at}
-use Rattle.mb_meaning.specs.Step.{movem_words, is_flow}
+use Rattle.mb_processor.specs.SystemEnds.{with_registers}
+use Rattle.mb_processor.specs.Entry.{has_address, frame_of}
+use Rattle.mb_processor.specs.Raise.{traces_all, is_due, with_ct, access_cause, cause_at}
+use Rattle.mb_processor.specs.Step.{movem_words, is_flow}
 use Rattle.mb_attempts.specs.Attempts.{IsUntraced}
 use Rattle.mb_laws.specs.Between.{SameFault}
 use Rattle.mb_twins.specs.Twins.{SameEnd}

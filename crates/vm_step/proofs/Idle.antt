@@ -8,9 +8,9 @@ use Rattle.mb_model.specs.declared.outcome.RunState.{RunState}
 use Rattle.mb_model.specs.declared.outcome.RunState.TheVariants.{Running, Stopped, Off}
 use Rattle.mb_devices.specs.Devices.{DeviceState, ticked, ticks, level_of, IsNotDue}
 use Rattle.mb_devices.proofs.Passing.{ticks_pass}
-use Rattle.mb_meaning.specs.declared.Finish.TheVariants as finish
-use Rattle.mb_meaning.specs.Raise.{Stepped, interrupt_of}
-use Rattle.mb_meaning.specs.Step.{interrupt_mask, instruction_of, step_of}
+use Rattle.mb_processor.specs.declared.Finish.TheVariants as finish
+use Rattle.mb_processor.specs.Raise.{Stepped, interrupt_of}
+use Rattle.mb_processor.specs.Step.{interrupt_mask, instruction_of, step_of}
 use Rattle.mb_machine.specs.Machine.{Entries, arrived, begun, state_after, takes_steps}
 use Rattle.vm_meaning.specs.Batches.{NothingArrives}
 use Rattle.vm_meaning.specs.Marks.{trail}

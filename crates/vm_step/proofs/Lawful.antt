@@ -14,9 +14,9 @@ use Rattle.mb_writes.specs.Transfers.{count_of, mask_in, movem_in, refused_trans
 use Rattle.mb_writes.specs.declared.ends.WriteFault.{WriteFault}
 use Rattle.mb_writes.specs.declared.ends.Ended.{Ended}
 use Rattle.mb_writes.specs.declared.ends.Ended.TheVariants as ended
-use Rattle.mb_meaning.specs.SystemEnds.{with_registers}
-use Rattle.mb_meaning.specs.Raise.{traces_all, is_due, with_ct}
-use Rattle.mb_meaning.specs.Step.{movem_words, is_flow}
+use Rattle.mb_processor.specs.SystemEnds.{with_registers}
+use Rattle.mb_processor.specs.Raise.{traces_all, is_due, with_ct}
+use Rattle.mb_processor.specs.Step.{movem_words, is_flow}
 use Rattle.mb_twins.specs.Twins.{SameEnd}
 use Rattle.mb_attempts.specs.Attempts.{IsUntraced}
 use Rattle.vm_meaning.specs.Telling.{AreOwn}

@@ -3,8 +3,8 @@ use Rattle.std.proofs.Common.{◌≡◌, ◌∙◌, ℕ, zero, suc, ◌+◌, Boo
 use Rattle.mb_instr.specs.Registers.{plain_of}
 use Rattle.mb_model.specs.declared.processor.Cpu.{Cpu}
 use Rattle.mb_devices.specs.Devices.{DeviceState, ticked, level_of, ticks, IsNotDue}
-use Rattle.mb_meaning.specs.Raise.{traces_all, traces_flow}
-use Rattle.mb_meaning.specs.Step.{interrupt_mask}
+use Rattle.mb_processor.specs.Raise.{traces_all, traces_flow}
+use Rattle.mb_processor.specs.Step.{interrupt_mask}
 use Rattle.mb_meaning.specs.Ends.{Performed}
 use Rattle.mb_writes.specs.declared.ends.Ended.{Ended as End}
 use Rattle.mb_writes.specs.declared.ends.Ended.TheVariants as ended
@@ -13,8 +13,8 @@ use Rattle.mb_laws.specs.Until.{Until}
 use Rattle.mb_machine.specs.Machine.{Machine, Entries, begun, arrived}
 use Rattle.mb_model.specs.Keeping.{KeptLists, Apart, list_of}
 use Rattle.mb_instr.specs.declared.registers.Regs.{Regs}
-use Rattle.mb_meaning.specs.SystemEnds.{with_registers}
-use Rattle.mb_meaning.specs.Return.{high, low}
+use Rattle.mb_processor.specs.SystemEnds.{with_registers}
+use Rattle.mb_processor.specs.Return.{high, low}
 use Rattle.mb_instr.specs.Operands.{more}
 use Rattle.mb_tells.specs.Guarded.{quiet}
 use Rattle.mb_devices.proofs.Passing.{ticks_pass}

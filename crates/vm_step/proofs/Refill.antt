@@ -12,9 +12,9 @@ use Rattle.mb_writes.specs.declared.ends.Ended.{Ended}
 use Rattle.mb_writes.specs.declared.ends.Ended.TheVariants as ended
 use Rattle.mb_meaning.specs.Ends.{Performed, closed}
 use Rattle.mb_meaning.specs.Attempt.{Found}
-use Rattle.mb_meaning.specs.Raise.{Stepped, interrupt_of}
-use Rattle.mb_meaning.specs.declared.Finish.TheVariants as finish
-use Rattle.mb_meaning.specs.Step.{interrupt_mask, unfound_of, executed_of, instruction_of, step_of}
+use Rattle.mb_processor.specs.Raise.{Stepped, interrupt_of}
+use Rattle.mb_processor.specs.declared.Finish.TheVariants as finish
+use Rattle.mb_processor.specs.Step.{interrupt_mask, unfound_of, executed_of, instruction_of, step_of}
 use Rattle.mb_attempts.specs.Attempts.{NoOther, is_attempted, fetched_by, finished_by}
 use Rattle.mb_attempts.proofs.Attempts.{attempt_then_finish}
 use Rattle.mb_model.specs.Keeping.{KeptLists}

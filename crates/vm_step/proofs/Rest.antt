@@ -15,10 +15,10 @@ use Rattle.mb_writes.specs.declared.ends.Ended.{Ended}
 use Rattle.mb_writes.specs.declared.ends.Ended.TheVariants as ended
 use Rattle.mb_writes.specs.Transfers.{movem_in}
 use Rattle.mb_meaning.specs.Ends.{Carried, Stopped, Performed, closed}
-use Rattle.mb_meaning.specs.SystemEnds.{with_registers}
+use Rattle.mb_processor.specs.SystemEnds.{with_registers}
 use Rattle.mb_meaning.specs.Attempt.{Unfound, NoInstruction, Unfetched, end_without, Found, found_none}
-use Rattle.mb_meaning.specs.Raise.{Stepped, cause_at}
-use Rattle.mb_meaning.specs.Step.{finish_of, interrupt_mask, movem_words, step_of}
+use Rattle.mb_processor.specs.Raise.{Stepped, cause_at}
+use Rattle.mb_processor.specs.Step.{finish_of, interrupt_mask, movem_words, step_of}
 use Rattle.mb_attempts.specs.Attempts.{IsUntraced, NoOther, is_attempted, fetched_by, finished_by}
 use Rattle.mb_attempts.proofs.Attempts.{attempts_find_none, attempt_then_finish}
 use Rattle.mb_tells.specs.Left.{IsRest, completing, moving}

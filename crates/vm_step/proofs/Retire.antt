@@ -11,13 +11,13 @@ use Rattle.mb_model.specs.Keeping.{rule_a}
 use Rattle.mb_model.specs.Status.{space_of}
 use Rattle.mb_writes.specs.declared.ends.Ended.{Ended}
 use Rattle.mb_writes.specs.declared.ends.Ended.TheVariants as ended
-use Rattle.mb_meaning.specs.declared.Finish.{Finish}
-use Rattle.mb_meaning.specs.declared.Finish.TheVariants as finish
+use Rattle.mb_processor.specs.declared.Finish.{Finish}
+use Rattle.mb_processor.specs.declared.Finish.TheVariants as finish
 use Rattle.mb_meaning.specs.Ends.{End}
-use Rattle.mb_meaning.specs.SystemEnds.{with_registers}
+use Rattle.mb_processor.specs.SystemEnds.{with_registers}
 use Rattle.mb_meaning.specs.Attempt.{attempt_of}
-use Rattle.mb_meaning.specs.Raise.{Stepped, traces_all, traces_flow}
-use Rattle.mb_meaning.specs.Step.{interrupt_mask, step_of}
+use Rattle.mb_processor.specs.Raise.{Stepped, traces_all, traces_flow}
+use Rattle.mb_processor.specs.Step.{interrupt_mask, step_of}
 use Rattle.mb_devices.specs.Devices.{DeviceState, ticked, level_of, has_received, received, queue_room}
 use Rattle.mb_laws.specs.Until.{run_until}
 use Rattle.mb_attempts.specs.Attempts.{IsUntraced}

@@ -7,11 +7,11 @@ use Rattle.mb_frames.specs.Layout.{frame_bytes}
 use Rattle.mb_frames.proofs.RoundTrip.{length-frame_bytes}
 use Rattle.mb_model.specs.declared.processor.Cpu.{Cpu}
 use Rattle.mb_ea.specs.Addresses.{difference, sum}
-use Rattle.mb_meaning.specs.declared.entering.Cause.{Cause}
-use Rattle.mb_meaning.specs.Entry.{frames_of, frame_of, stacked}
+use Rattle.mb_processor.specs.declared.entering.Cause.{Cause}
+use Rattle.mb_processor.specs.Entry.{frames_of, frame_of, stacked}
 use Rattle.mb_machine.specs.World.{World}
 use Rattle.mb_machine.specs.Enters.{HasRoom}
-use Rattle.mb_meaning.specs.Return.{low}
+use Rattle.mb_processor.specs.Return.{low}
 
 pub by_format : (f : Frame) → length (frame_bytes f) ≤ 60
 by_format (frame.Short sr pc offset) = let h = length-frame_bytes (frame.Short sr pc offset) in omega arith

@@ -14,10 +14,10 @@ use Rattle.mb_model.specs.declared.outcome.RunState.{RunState}
 use Rattle.mb_model.specs.declared.outcome.RunState.TheVariants.{Running}
 use Rattle.mb_walk.specs.Memory.{AreBytes, part}
 use Rattle.mb_devices.specs.Devices.{DeviceState, level_of}
-use Rattle.mb_meaning.specs.SystemEnds.{with_registers}
+use Rattle.mb_processor.specs.SystemEnds.{with_registers}
 use Rattle.mb_machine.specs.Machine.{begun, takes_steps}
 use Rattle.mb_port.specs.Routine.{run}
-use Rattle.mb_meaning.specs.Return.{low}
+use Rattle.mb_processor.specs.Return.{low}
 use Rattle.vm_machine.specs.Seats.{end_of, on_board, Seat, own, shadow_on, machine_on, guested_on, turned_on, monitor_bytes, IsSeated, OnlyWithin}
 use Rattle.vm_shadow.specs.Shadows.{Shadowed}
 use Rattle.vm_shadow.specs.Mapped.{area_bytes, root_of, shadowed}
@@ -33,8 +33,8 @@ use Rattle.mb_machine.specs.Machine.{Entries}
 use Rattle.vm_meaning.specs.Marks.{trail}
 use Rattle.vm_held.specs.Truth.{Fine}
 use Rattle.vm_machine.specs.Classes.{class_at_first}
-use Rattle.mb_meaning.specs.Step.{step_of}
-use Rattle.mb_meaning.specs.declared.Finish.TheVariants as finish
+use Rattle.mb_processor.specs.Step.{step_of}
+use Rattle.mb_processor.specs.declared.Finish.TheVariants as finish
 use Rattle.vm_step.specs.Batch.{IsTried}
 use Rattle.vm_step.proofs.Retire.{IsAttemptOf, is_attempt}
 use Rattle.vm_machine.specs.Refills.{refilled_at, begun_again}

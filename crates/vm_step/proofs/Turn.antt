@@ -5,7 +5,7 @@ use Rattle.mb_port.specs.Routine.{Return, Ask, Then, run}
 use Rattle.mb_instr.specs.declared.registers.Plain.{Plain}
 use Rattle.mb_instr.specs.declared.registers.Regs.{Regs}
 use Rattle.mb_instr.specs.Registers.{is_supervisor, is_master, active_stack, plain_of}
-use Rattle.mb_meaning.specs.Raise.{Stepped, traces_all, traces_flow}
+use Rattle.mb_processor.specs.Raise.{Stepped, traces_all, traces_flow}
 use Rattle.mb_devices.specs.Devices.{level_of}
 use Rattle.mb_port.specs.declared.types.Mmu.{Mmu}
 use Rattle.mb_port.specs.declared.types.Space.{Space}
@@ -15,7 +15,7 @@ use Rattle.mb_machine.specs.Access.{untranslated}
 use Rattle.vm_shadow.specs.Mapped.{root_of}
 use Rattle.vm_meaning.proofs.KeptLemmas.{none-kept}
 use Rattle.mb_attempts.specs.Attempts.{IsUntraced}
-use Rattle.mb_meaning.specs.declared.Finish.TheVariants as finish
+use Rattle.mb_processor.specs.declared.Finish.TheVariants as finish
 use Rattle.vm_machine.specs.Guests.{Guest, ref}
 use Rattle.vm_machine.specs.Bus.{guest_bus}
 use Rattle.vm_mirror.specs.Ready.{native_mmu}

@@ -3,7 +3,7 @@ use Rattle.std.specs.Prelude.{◌≡◌, ◌⊎◌, ℕ, suc, ◌+◌, ◌≤◌
 use Rattle.mb_port.specs.Routine.{run}
 use Rattle.mb_instr.specs.Registers.{plain_of}
 use Rattle.mb_devices.specs.Devices.{level_of}
-use Rattle.mb_meaning.specs.Step.{interrupt_mask, step_of}
+use Rattle.mb_processor.specs.Step.{interrupt_mask, step_of}
 use Rattle.mb_attempts.specs.Attempts.{IsUntraced}
 use Rattle.mb_machine.specs.Machine.{takes_steps}
 use Rattle.vm_meaning.specs.Marks.{trail}

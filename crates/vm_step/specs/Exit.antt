@@ -6,8 +6,8 @@ use Rattle.mb_frames.specs.declared.frame.Frame.{Frame}
 use Rattle.mb_frames.specs.Layout.{IsFrame, BeginsWith}
 use Rattle.mb_frames.specs.Reading.{frame_in}
 use Rattle.mb_devices.specs.Devices.{level_of}
-use Rattle.mb_meaning.specs.declared.Finish.{Finish}
-use Rattle.mb_meaning.specs.declared.Finish.TheVariants as finish
+use Rattle.mb_processor.specs.declared.Finish.{Finish}
+use Rattle.mb_processor.specs.declared.Finish.TheVariants as finish
 use Rattle.mb_machine.specs.Machine.{Machine, Entries, takes_steps}
 use Rattle.mb_walk.specs.Memory.{part}
 use Rattle.mb_machine.specs.declared.reference.Reference.{Reference}

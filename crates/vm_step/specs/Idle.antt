@@ -3,7 +3,7 @@
 use Rattle.std.specs.Prelude.{◌≡◌, ℕ, suc, ◌+◌, ◌≤◌, false, true, List}
 use Rattle.mb_model.specs.declared.outcome.RunState.TheVariants.{Stopped}
 use Rattle.mb_devices.specs.Devices.{DeviceState, level_of, passed, IsNotDue}
-use Rattle.mb_meaning.specs.Step.{interrupt_mask}
+use Rattle.mb_processor.specs.Step.{interrupt_mask}
 use Rattle.mb_machine.specs.Machine.{Entries}
 use Rattle.vm_meaning.specs.Batches.{NothingArrives}
 use Rattle.vm_meaning.specs.Native.{NativeState}

@@ -3,7 +3,7 @@ use Rattle.std.specs.Prelude.{◌/◌, ◌%◌, ◌^◌, ◌==◌, ◌&&◌, not
 use Rattle.mb_port.specs.declared.types.Space.{Space}
 use Rattle.mb_frames.specs.declared.frame.Access.{Access}
 use Rattle.mb_frames.specs.declared.frame.Frame.{Frame}
-use Rattle.mb_meaning.specs.Return.{continues}
+use Rattle.mb_processor.specs.Return.{continues}
 use Rattle.mb_machine.specs.declared.reference.Reference.{Reference}
 use Rattle.vm_machine.specs.Exits.{frame_access}
 

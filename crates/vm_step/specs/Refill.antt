@@ -4,7 +4,7 @@ use Rattle.mb_port.specs.Routine.{run}
 use Rattle.mb_instr.specs.Registers.{plain_of}
 use Rattle.mb_model.specs.declared.processor.Cpu.{Cpu}
 use Rattle.mb_devices.specs.Devices.{level_of}
-use Rattle.mb_meaning.specs.Step.{interrupt_mask, step_of}
+use Rattle.mb_processor.specs.Step.{interrupt_mask, step_of}
 use Rattle.mb_attempts.specs.Attempts.{IsUntraced}
 use Rattle.mb_machine.specs.Machine.{Machine, Entries}
 use Rattle.vm_machine.specs.declared.class.Class.TheVariants.{Retired}

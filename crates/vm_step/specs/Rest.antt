@@ -5,7 +5,7 @@ use Rattle.mb_instr.specs.declared.instruction.Instr.{Instr}
 use Rattle.mb_instr.specs.Registers.{plain_of}
 use Rattle.mb_model.specs.declared.processor.Cpu.{Cpu}
 use Rattle.mb_model.specs.Status.{space_of}
-use Rattle.mb_meaning.specs.Step.{interrupt_mask, step_of}
+use Rattle.mb_processor.specs.Step.{interrupt_mask, step_of}
 use Rattle.mb_attempts.specs.Attempts.{IsUntraced, NoOther, fetched_by}
 use Rattle.vm_machine.specs.Guests.{Guest}
 use Rattle.vm_machine.specs.Held.{held_bus}

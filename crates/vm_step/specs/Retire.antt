@@ -1,14 +1,14 @@
 -- A step of a guest that is retired, on the board and alone.
 use Rattle.std.specs.Prelude.{◌≡◌, ℕ, ◌+◌, ◌^◌, ◌<◌, true, false, []}
 use Rattle.mb_port.specs.declared.types.Space.{Space}
-use Rattle.mb_meaning.specs.declared.Finish.{Finish}
-use Rattle.mb_meaning.specs.declared.Finish.TheVariants as finish
+use Rattle.mb_processor.specs.declared.Finish.{Finish}
+use Rattle.mb_processor.specs.declared.Finish.TheVariants as finish
 use Rattle.mb_instr.specs.declared.registers.Plain.{Plain}
 use Rattle.mb_instr.specs.Registers.{is_supervisor, plain_of}
 use Rattle.mb_model.specs.Status.{space_of}
-use Rattle.mb_meaning.specs.SystemEnds.{with_registers}
+use Rattle.mb_processor.specs.SystemEnds.{with_registers}
 use Rattle.mb_meaning.specs.Attempt.{attempt_of}
-use Rattle.mb_meaning.specs.Step.{interrupt_mask}
+use Rattle.mb_processor.specs.Step.{interrupt_mask}
 use Rattle.mb_tells.specs.Laws.{HasLongs}
 use Rattle.mb_machine.specs.Machine.{Machine, Entries, begun, takes_steps}
 use Rattle.mb_laws.specs.Until.{run_until}

@@ -10,8 +10,8 @@ use Rattle.mb_walk.specs.Memory.{AreBytes}
 use Rattle.mb_devices.specs.Devices.{DeviceState, level_of}
 use Rattle.mb_machine.specs.World.{World}
 use Rattle.mb_machine.specs.Machine.{takes_steps}
-use Rattle.mb_meaning.specs.SystemEnds.{with_registers}
-use Rattle.mb_meaning.specs.Step.{step_of}
+use Rattle.mb_processor.specs.SystemEnds.{with_registers}
+use Rattle.mb_processor.specs.Step.{step_of}
 use Rattle.mb_port.specs.Routine.{run}
 use Rattle.mb_frames.specs.declared.frame.Frame.{Frame}
 use Rattle.mb_frames.specs.Layout.{IsFrame, BeginsWith}

@@ -9,8 +9,8 @@ use Rattle.mb_model.specs.Status.{space_of}
 use Rattle.mb_model.specs.Keeping.{rule_a, nothing_kept}
 use Rattle.mb_walk.specs.Memory.{AreBytes, part}
 use Rattle.mb_devices.specs.Devices.{DeviceState, level_of}
-use Rattle.mb_meaning.specs.declared.Finish.TheVariants as finish
-use Rattle.mb_meaning.specs.SystemEnds.{with_registers}
+use Rattle.mb_processor.specs.declared.Finish.TheVariants as finish
+use Rattle.mb_processor.specs.SystemEnds.{with_registers}
 use Rattle.mb_machine.specs.World.{World}
 use Rattle.mb_machine.specs.Machine.{Machine, Entries, takes_steps}
 use Rattle.vm_shadow.specs.Mapped.{root_of, shadowed}

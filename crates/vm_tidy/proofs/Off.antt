@@ -10,7 +10,7 @@ use Rattle.mb_port.specs.declared.types.MmuReg.TheVariants.{Tc, Itt0, Itt1, Dtt0
 use Rattle.mb_model.specs.Pages.{page_of}
 use Rattle.mb_devices.specs.Devices.{level_of}
 use Rattle.mb_laws.specs.Relations.{Along}
-use Rattle.mb_meaning.specs.Step.{step_of}
+use Rattle.mb_processor.specs.Step.{step_of}
 use Rattle.mb_machine.specs.declared.reference.Reference.{Reference}
 use Rattle.mb_machine.specs.World.{World}
 use Rattle.mb_machine.specs.Access.{matched, is_translating, or_off, untranslated, translated}

@@ -20,13 +20,13 @@ use Rattle.mb_ea.specs.Reading.{read_cut, read_of}
 use Rattle.mb_ea.specs.Resolve.{resolve_of}
 use Rattle.mb_writes.specs.Writing.{part_of, pending_of, put_of}
 use Rattle.mb_meaning.specs.Attempt.{found_of, fetched_of, attempt_of}
-use Rattle.mb_meaning.specs.Control.{setting_control, to_control_of, movec_of}
+use Rattle.mb_processor.specs.Control.{setting_control, to_control_of, movec_of}
 use Rattle.mb_meaning.specs.Moves.{moveq_of, move_of, lea_of}
 use Rattle.mb_meaning.specs.Operands.{load_of, store_of, operand_of, address_of, storing}
 use Rattle.mb_meaning.specs.Rows.{perform_move_of, row_of, perform_of}
-use Rattle.mb_meaning.specs.Spaces.{flushed_beside, pflush_of}
-use Rattle.mb_meaning.specs.Step.{finish_of, supervised_of, unprivileged_of, executed_of, instruction_of, step_of}
-use Rattle.mb_meaning.specs.System.{perform_system_of}
+use Rattle.mb_processor.specs.Spaces.{flushed_beside, pflush_of}
+use Rattle.mb_processor.specs.Step.{finish_of, supervised_of, unprivileged_of, executed_of, instruction_of, step_of}
+use Rattle.mb_processor.specs.System.{perform_system_of}
 use Rattle.mb_machine.specs.Access.{untranslated, through, by_entry, settled, searched, translated}
 use Rattle.mb_machine.specs.Bus.{with_register, bus_of}
 use Rattle.mb_machine.specs.Machine.{reset_with, begun, state_after, stepping, run_of}

@@ -6,8 +6,8 @@ use Rattle.mb_port.specs.Routine.{run}
 use Rattle.mb_model.specs.declared.processor.Cpu.{Cpu}
 use Rattle.mb_model.specs.Keeping.{Rule, KeptLists, rule_a, rule_k}
 use Rattle.mb_devices.specs.Devices.{level_of}
-use Rattle.mb_meaning.specs.declared.Finish.{Finish}
-use Rattle.mb_meaning.specs.Step.{step_of}
+use Rattle.mb_processor.specs.declared.Finish.{Finish}
+use Rattle.mb_processor.specs.Step.{step_of}
 use Rattle.mb_laws.specs.Relations.{Admits}
 use Rattle.mb_laws.proofs.Related.{runs_agree, runs_of_run}
 use Rattle.mb_machine.specs.World.{World}

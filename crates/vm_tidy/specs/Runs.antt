@@ -3,7 +3,7 @@ use Rattle.std.specs.Prelude.{◌≡◌, ℕ, zero, suc, true}
 use Rattle.mb_port.specs.Routine.{Call}
 use Rattle.mb_devices.specs.Devices.{level_of}
 use Rattle.mb_laws.specs.Relations.{Along}
-use Rattle.mb_meaning.specs.Step.{step_of}
+use Rattle.mb_processor.specs.Step.{step_of}
 use Rattle.mb_machine.specs.World.{World}
 use Rattle.mb_machine.specs.Machine.{Entries, Machine, begun, takes_steps}
 use Rattle.vm_meaning.specs.Tidy.{searching_bus, searching_step}

@@ -2,7 +2,7 @@ use Rattle.std.proofs.Common.{◌∙◌, ap, sym, inl, inr}
 use Rattle.mb_instr.specs.declared.registers.Plain.{Plain}
 use Rattle.mb_instr.specs.Registers.{plain_of}
 use Rattle.mb_machine.specs.Machine.{Machine}
-use Rattle.mb_meaning.specs.declared.Finish.{Finish}
+use Rattle.mb_processor.specs.declared.Finish.{Finish}
 use Rattle.vm_meaning.specs.Native.{with_retired, with_step}
 use Rattle.mb_board.proofs.board.Core.count.Goals as goal
 

@@ -4,7 +4,7 @@ use Rattle.mb_instr.specs.declared.registers.Plain.{Plain}
 use Rattle.mb_instr.specs.declared.registers.Regs.{Regs}
 use Rattle.mb_instr.specs.Registers.{plain_of, with_plain}
 use Rattle.mb_model.specs.declared.processor.Cpu.{Cpu}
-use Rattle.mb_meaning.specs.Raise.{by_its_end, cause_at}
+use Rattle.mb_processor.specs.Raise.{by_its_end, cause_at}
 use Rattle.vm_meaning.specs.Finishes.{finish_trap_of}
 use Rattle.vm_guest.specs.declared.rest.Rest.{Rest}
 use Rattle.vm_guest.specs.Rests.{rest_in}

@@ -7,11 +7,11 @@ use Rattle.mb_alu.specs.declared.bitwise.LogicKind.TheVariants as logic
 use Rattle.mb_writes.specs.declared.ends.Ended.{Ended}
 use Rattle.mb_writes.specs.declared.ends.Ended.TheVariants as ended
 use Rattle.mb_model.specs.declared.processor.Cpu.{Cpu}
-use Rattle.mb_meaning.specs.SystemEnds.{SystemRowed, completed, redirected, ended_by, completing}
-use Rattle.mb_meaning.specs.Status.{status_by, to_status_of, from_status_of, stop_of, move_usp_of}
-use Rattle.mb_meaning.specs.Control.{movec_of}
-use Rattle.mb_meaning.specs.Spaces.{moves_of, pflush_of, ptest_of}
-use Rattle.mb_meaning.specs.Return.{Returned, return_of}
+use Rattle.mb_processor.specs.SystemEnds.{SystemRowed, completed, redirected, ended_by, completing}
+use Rattle.mb_processor.specs.Status.{status_by, to_status_of, from_status_of, stop_of, move_usp_of}
+use Rattle.mb_processor.specs.Control.{movec_of}
+use Rattle.mb_processor.specs.Spaces.{moves_of, pflush_of, ptest_of}
+use Rattle.mb_processor.specs.Return.{Returned, return_of}
 
 -- RESET: the devices are reset, and the processor goes on
 abbrev pub reset_of : Cpu → Routine Cpu

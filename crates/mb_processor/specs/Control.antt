@@ -10,7 +10,7 @@ use Rattle.mb_instr.specs.declared.control.ControlRegister.{ControlRegister}
 use Rattle.mb_instr.specs.declared.control.ControlRegister.TheVariants as control
 use Rattle.mb_instr.specs.Control.{control_of, kept_bits}
 use Rattle.mb_meaning.specs.Operands.{named_register}
-use Rattle.mb_meaning.specs.SystemEnds.{SystemRowed, with_registers, completing, ended_by}
+use Rattle.mb_processor.specs.SystemEnds.{SystemRowed, with_registers, completing, ended_by}
 
 -- the control register that a word names in its other bits
 abbrev pub named_control : ℕ → Option ControlRegister

@@ -21,7 +21,7 @@ use Rattle.mb_model.specs.declared.processor.Cpu.{Cpu}
 use Rattle.mb_model.specs.Pages.{page_of, has_big_pages, other_half}
 use Rattle.mb_meaning.specs.Operands.{named_register, with_low, place_of, storing}
 use Rattle.mb_meaning.specs.Ends.{reading}
-use Rattle.mb_meaning.specs.SystemEnds.{SystemRowed, completed, with_registers, finishing}
+use Rattle.mb_processor.specs.SystemEnds.{SystemRowed, completed, with_registers, finishing}
 
 -- the space of a function code, by its bit 2
 abbrev pub function_space : ℕ → Space

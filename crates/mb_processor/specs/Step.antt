@@ -23,15 +23,15 @@ use Rattle.mb_writes.specs.declared.ends.MovemFault.{MovemFault}
 use Rattle.mb_writes.specs.declared.ends.Ended.{Ended}
 use Rattle.mb_writes.specs.declared.ends.Ended.TheVariants as ended
 use Rattle.mb_writes.specs.Transfers.{movem_in, refused_transfer}
-use Rattle.mb_meaning.specs.declared.Finish.TheVariants as finish
+use Rattle.mb_processor.specs.declared.Finish.TheVariants as finish
 use Rattle.mb_meaning.specs.Ends.{closing}
-use Rattle.mb_meaning.specs.SystemEnds.{with_registers, system_closing}
-use Rattle.mb_meaning.specs.System.{perform_system_of}
-use Rattle.mb_meaning.specs.Return.{Held, continues, return_of, holding}
+use Rattle.mb_processor.specs.SystemEnds.{with_registers, system_closing}
+use Rattle.mb_processor.specs.System.{perform_system_of}
+use Rattle.mb_processor.specs.Return.{Held, continues, return_of, holding}
 use Rattle.mb_meaning.specs.Rows.{perform_of}
 use Rattle.mb_meaning.specs.Attempt.{Unfound, NoInstruction, Unfetched, past, fetched_of}
-use Rattle.mb_meaning.specs.Raise.{Stepped, traces_all, is_due, has_ct, with_ct, access_error_of, interrupt_of}
-use Rattle.mb_meaning.specs.Raise.{tracing_of, trap_of, refused_of}
+use Rattle.mb_processor.specs.Raise.{Stepped, traces_all, is_due, has_ct, with_ct, access_error_of, interrupt_of}
+use Rattle.mb_processor.specs.Raise.{tracing_of, trap_of, refused_of}
 
 -- ---- the finish of an instruction
 

@@ -6,14 +6,14 @@ use Rattle.mb_port.specs.declared.types.Fault.{Fault}
 use Rattle.mb_frames.specs.declared.frame.Access.{Access}
 use Rattle.mb_frames.specs.AccessFields.{check_fields}
 use Rattle.mb_model.specs.declared.processor.Cpu.{Cpu}
-use Rattle.mb_meaning.specs.declared.entering.Cause.{Cause}
-use Rattle.mb_meaning.specs.declared.entering.Entered.{Entered}
-use Rattle.mb_meaning.specs.declared.entering.Entered.TheVariants as entered
-use Rattle.mb_meaning.specs.declared.StepEnd.{StepEnd}
-use Rattle.mb_meaning.specs.declared.StepEnd.TheVariants as step
-use Rattle.mb_meaning.specs.declared.Finish.{Finish}
-use Rattle.mb_meaning.specs.declared.Finish.TheVariants as finish
-use Rattle.mb_meaning.specs.Entry.{enter_of}
+use Rattle.mb_processor.specs.declared.entering.Cause.{Cause}
+use Rattle.mb_processor.specs.declared.entering.Entered.{Entered}
+use Rattle.mb_processor.specs.declared.entering.Entered.TheVariants as entered
+use Rattle.mb_processor.specs.declared.StepEnd.{StepEnd}
+use Rattle.mb_processor.specs.declared.StepEnd.TheVariants as step
+use Rattle.mb_processor.specs.declared.Finish.{Finish}
+use Rattle.mb_processor.specs.declared.Finish.TheVariants as finish
+use Rattle.mb_processor.specs.Entry.{enter_of}
 
 -- how a step ended, and the processor then
 abbrev pub Stepped : Type 0

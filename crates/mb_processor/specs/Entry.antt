@@ -17,9 +17,9 @@ use Rattle.mb_frames.specs.Layout.{frame_bytes}
 use Rattle.mb_model.specs.declared.processor.Cpu.{Cpu}
 use Rattle.mb_ea.specs.Addresses.{sum, difference}
 use Rattle.mb_ea.specs.Reading.{read_of}
-use Rattle.mb_meaning.specs.declared.entering.Cause.{Cause}
-use Rattle.mb_meaning.specs.declared.entering.Entered.{Entered}
-use Rattle.mb_meaning.specs.declared.entering.Entered.TheVariants as entered
+use Rattle.mb_processor.specs.declared.entering.Cause.{Cause}
+use Rattle.mb_processor.specs.declared.entering.Entered.{Entered}
+use Rattle.mb_processor.specs.declared.entering.Entered.TheVariants as entered
 use Rattle.mb_meaning.specs.Locked.{probe_pieces}
 
 -- ---- causes

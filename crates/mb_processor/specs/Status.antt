@@ -12,7 +12,7 @@ use Rattle.mb_model.specs.declared.processor.Cpu.{Cpu}
 use Rattle.mb_model.specs.Status.{kept_status}
 use Rattle.mb_meaning.specs.Operands.{operand_of, storing}
 use Rattle.mb_meaning.specs.Ends.{reading}
-use Rattle.mb_meaning.specs.SystemEnds.{SystemRowed, redirected, with_registers, finishing}
+use Rattle.mb_processor.specs.SystemEnds.{SystemRowed, redirected, with_registers, finishing}
 
 -- SR becomes this. What A7 was stays in its stack pointer, and A7 is now the one that the new S and M choose.
 abbrev pub with_status : ℕ → Cpu → Cpu

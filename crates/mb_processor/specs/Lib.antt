@@ -1,0 +1,9 @@
+pub mod SystemEnds
+pub mod Status
+pub mod Control
+pub mod Spaces
+pub mod System
+pub mod Entry
+pub mod Return
+pub mod Raise
+pub mod Step
