@@ -7,6 +7,7 @@ use Rattle.mb_instr.specs.declared.instruction.Instr.{Instr}
 use Rattle.mb_instr.specs.declared.instruction.Instr.TheVariants as instr
 use Rattle.mb_instr.specs.declared.instruction.System.{System}
 use Rattle.mb_instr.specs.declared.registers.Plain.{Plain}
+use Rattle.mb_instr.specs.declared.vectors.TheConstants.{PRIVILEGED}
 use Rattle.mb_instr.specs.Registers.{is_supervisor, plain_of}
 use Rattle.mb_model.specs.declared.processor.Cpu.{Cpu}
 use Rattle.mb_model.specs.Status.{space_of}
@@ -44,7 +45,7 @@ not_above level mask h = grind (arith, nat_tests)
 
 -- a privileged instruction is refused in user mode
 in_user_mode : {S : Type 0} (bus : Bus S) (cpu : Cpu) (t : S) (i : System) (n : ℕ) (supervisor : Bool) → not supervisor ≡ true
-    → run bus (choose supervisor (supervised_of i n cpu) (refused_of 8 cpu)) t ≡ run bus (refused_of 8 cpu) t
+    → run bus (choose supervisor (supervised_of i n cpu) (refused_of PRIVILEGED cpu)) t ≡ run bus (refused_of PRIVILEGED cpu) t
 in_user_mode bus cpu t i n false h = refl
 in_user_mode bus cpu t i n true h = absurd (cc h)
 

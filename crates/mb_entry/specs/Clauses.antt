@@ -4,6 +4,7 @@ use Rattle.mb_port.specs.Routine.{Bus, run}
 use Rattle.mb_port.specs.declared.types.Space.TheVariants.{Super}
 use Rattle.mb_port.specs.declared.types.Fault.{Fault}
 use Rattle.mb_instr.specs.declared.registers.Regs.{Regs}
+use Rattle.mb_instr.specs.declared.vectors.TheConstants.{FORMAT_ERROR}
 use Rattle.mb_model.specs.declared.processor.Cpu.{Cpu}
 use Rattle.mb_ea.specs.declared.reading.ReadFault.{ReadFault}
 use Rattle.mb_ea.specs.Addresses.{sum}
@@ -69,7 +70,7 @@ IfFaulted entered.DoubleFault P = ⊤
 abbrev pub NotTaken : Ended → Type 0
 NotTaken (ended.Done flow) = ⊥
 NotTaken (ended.Trap vector) = ⊥
-NotTaken (ended.Refused vector) = vector ≡ 14
+NotTaken (ended.Refused vector) = vector ≡ FORMAT_ERROR
 NotTaken (ended.ReadFault refused) = Unit {0}
 NotTaken (ended.WriteFault refused) = ⊥
 NotTaken (ended.LineFault fault line) = ⊥
@@ -90,7 +91,7 @@ WentOn (ended.Movem refused) = Unit {0}
 abbrev pub ReturnEnds : Ended → Cpu → Cpu → Type 0
 ReturnEnds (ended.Done flow) old new = flow ≡ true
 ReturnEnds (ended.Trap vector) old new = ⊥
-ReturnEnds (ended.Refused vector) old new = (vector ≡ 14) × (new ≡ old)
+ReturnEnds (ended.Refused vector) old new = (vector ≡ FORMAT_ERROR) × (new ≡ old)
 ReturnEnds (ended.ReadFault refused) old new = new ≡ old
 ReturnEnds (ended.WriteFault refused) old new = ⊥
 ReturnEnds (ended.LineFault fault line) old new = ⊥

@@ -10,18 +10,8 @@ use crate::status::{handler_status, thrown_status, without_master};
 use arrayvec::ArrayVec;
 use mb_frames::{Frame, to_bytes};
 use mb_instr::Regs;
+use mb_instr::vectors::{CONDITION_MET, ODD_COUNTER, OUT_OF_BOUNDS, TRACE, ZERO_DIVIDE};
 use mb_processor::Cause;
-
-/// The vectors of the exceptions whose frame has an address.
-const ODD_COUNTER: u8 = 3;
-
-const ZERO_DIVIDE: u8 = 5;
-
-const BOUNDS: u8 = 6;
-
-const CONDITION_MET: u8 = 7;
-
-const TRACE: u8 = 9;
 
 /// The bytes of a frame, and the logical address of the lowest.
 #[derive(Drop)]
@@ -59,12 +49,13 @@ fn frame(sr: u16, cause: &Cause) -> Frame
             offset,
             access,
         },
-        (None, ODD_COUNTER | ZERO_DIVIDE | BOUNDS | CONDITION_MET | TRACE) => Frame::Address {
-            sr,
-            pc,
-            offset,
-            address: cause.address,
-        },
+        (None, ODD_COUNTER | ZERO_DIVIDE | OUT_OF_BOUNDS | CONDITION_MET | TRACE) =>
+            Frame::Address {
+                sr,
+                pc,
+                offset,
+                address: cause.address,
+            },
         (None, _) => Frame::Short { sr, pc, offset },
     }
 }

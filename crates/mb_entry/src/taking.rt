@@ -13,13 +13,11 @@ use arrayvec::ArrayVec;
 use mb_decode::{Decoded, decode};
 use mb_ea::{ReadFault, read_value};
 use mb_frames::Access;
+use mb_instr::vectors::FORMAT_ERROR;
 use mb_instr::{Instr, Move, Regs, Size};
 use mb_model::kept_status;
 use mb_port::{Port, Space};
 use mb_writes::{Ended, count};
-
-/// The vector of a format error.
-pub(crate) const FORMAT_ERROR: u8 = 14;
 
 /// Where the parts of every frame stand, and behind them the fields of its format.
 const SR_PLACE: u32 = 0x00;

@@ -13,6 +13,7 @@ mod operand;
 mod registers;
 mod rule;
 mod size;
+pub mod vectors;
 
 pub use control::ControlRegister;
 pub use instruction::{Arith, Family, Flow, Instr, Move, System, family_of, is_privileged};

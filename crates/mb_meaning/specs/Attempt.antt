@@ -4,6 +4,7 @@ use Rattle.mb_port.specs.Routine.{Routine, Return, ◌>>=◌, failing, caught, c
 use Rattle.mb_port.specs.declared.types.Space.{Space}
 use Rattle.mb_instr.specs.declared.instruction.Instr.{Instr}
 use Rattle.mb_instr.specs.declared.registers.Plain.{Plain}
+use Rattle.mb_instr.specs.declared.vectors.TheConstants.{ODD_COUNTER, ILLEGAL, LINE_A, LINE_F}
 use Rattle.mb_decode.specs.declared.front.Decoded.{Decoded}
 use Rattle.mb_decode.specs.declared.front.Decoded.TheVariants.{Whole, More, Illegal, LineA, LineF}
 use Rattle.mb_decode.specs.Decodes.{decode_of}
@@ -21,16 +22,16 @@ pub data Unfound : Type 0 where
 
 -- the vectors of what is no instruction
 abbrev pub odd_counter : Unfound
-odd_counter = NoInstruction 3
+odd_counter = NoInstruction ODD_COUNTER
 
 abbrev pub illegal : Unfound
-illegal = NoInstruction 4
+illegal = NoInstruction ILLEGAL
 
 abbrev pub line_a : Unfound
-line_a = NoInstruction 10
+line_a = NoInstruction LINE_A
 
 abbrev pub line_f : Unfound
-line_f = NoInstruction 11
+line_f = NoInstruction LINE_F
 
 -- how an attempt ends without one
 abbrev pub end_without : Unfound → Ended

@@ -1,6 +1,7 @@
 -- Multiplication and division.
 use Rattle.std.specs.Prelude.{ℕ, ◌+◌, ◌*◌, ◌/◌, ◌%◌, ◌^◌, ◌==◌, Bool, if◌then◌else◌}
 use Rattle.mb_instr.specs.declared.registers.Plain.{Plain}
+use Rattle.mb_instr.specs.declared.vectors.TheConstants.{ZERO_DIVIDE}
 use Rattle.mb_instr.specs.Registers.{data_register, with_data_register}
 use Rattle.mb_alu.specs.declared.width.Width.{Width}
 use Rattle.mb_alu.specs.declared.width.Width.TheVariants.{Word, Long, Wide}
@@ -20,7 +21,7 @@ multiplied_by_word signed n value p =
 
 -- a zero divide is a trap of this vector, and changes only condition codes
 abbrev pub zero_divided : ℕ → Plain → Rowed
-zero_divided ccr p = stopped (ended.Trap 5) (record p { ccr = ccr })
+zero_divided ccr p = stopped (ended.Trap ZERO_DIVIDE) (record p { ccr = ccr })
 
 -- the quotient is the low word of the register, and the remainder the high one
 abbrev pub divided_by_word : ℕ → Divided → Plain → Rowed

@@ -14,6 +14,7 @@ use Rattle.mb_instr.specs.declared.instruction.Flow.TheVariants as flow
 use Rattle.mb_instr.specs.declared.registers.Plain.{Plain}
 use Rattle.mb_instr.specs.Registers.{data_register}
 use Rattle.mb_instr.specs.declared.operand.Ea.TheVariants.{Dn, Post, Imm}
+use Rattle.mb_instr.specs.declared.vectors.TheConstants.{PRIVILEGED}
 use Rattle.mb_alu.specs.declared.bitwise.LogicKind.TheVariants as logic
 use Rattle.mb_alu.specs.Logic.{logic_of}
 use Rattle.mb_ea.specs.Addresses.{sum, difference}
@@ -47,7 +48,7 @@ use Rattle.mb_meaning.specs.Bounds.{chk_of, chk2_of, cmp2_of}
 
 -- the vector of a privilege violation
 abbrev pub privileged : Ended
-privileged = ended.Refused 8
+privileged = ended.Refused PRIVILEGED
 
 -- What moves.
 unfoldable pub perform_move_of : Move → ℕ → Space → Plain → Routine Rowed

@@ -3,6 +3,7 @@ use Rattle.std.specs.Prelude.{ℕ, ◌+◌, if◌then◌else◌}
 use Rattle.mb_instr.specs.declared.kinds.Condition.{Condition}
 use Rattle.mb_instr.specs.declared.kinds.Condition.TheVariants.{OverflowSet}
 use Rattle.mb_instr.specs.declared.registers.Plain.{Plain}
+use Rattle.mb_instr.specs.declared.vectors.TheConstants.{OUT_OF_BOUNDS, CONDITION_MET, FIRST_TRAP}
 use Rattle.mb_writes.specs.declared.ends.Ended.{Ended}
 use Rattle.mb_writes.specs.declared.ends.Ended.TheVariants as ended
 use Rattle.mb_meaning.specs.Ends.{Rowed, carried, stopped}
@@ -10,13 +11,13 @@ use Rattle.mb_meaning.specs.Conditions.{is_met}
 
 -- the vectors of traps
 abbrev pub out_of_bounds : Ended
-out_of_bounds = ended.Trap 6
+out_of_bounds = ended.Trap OUT_OF_BOUNDS
 
 abbrev pub conditional_trap : Ended
-conditional_trap = ended.Trap 7
+conditional_trap = ended.Trap CONDITION_MET
 
 abbrev pub numbered_trap : ℕ → Ended
-numbered_trap number = ended.Trap (32 + number)
+numbered_trap number = ended.Trap (FIRST_TRAP + number)
 
 -- TRAP
 unfoldable pub trap_of : ℕ → Plain → Rowed

@@ -12,11 +12,9 @@ ghost use Rattle.mb_operands.specs.Endings.{carried_by};
 
 use mb_alu::{Divided, Width, div, mul};
 use mb_instr::Plain;
+use mb_instr::vectors::ZERO_DIVIDE;
 use mb_operands::{Undone, trapped};
 use mb_writes::Ended;
-
-/// The vector of a division by zero.
-const ZERO_DIVIDE: u8 = 5;
 
 /// MULU.W and MULS.W: the product is the whole register.
 #[inline(always)]

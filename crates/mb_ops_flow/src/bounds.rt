@@ -8,13 +8,11 @@ ghost use Rattle.mb_meaning.specs.Bounds.{checked, chk_of, checked_carry, chk2_o
 ghost use Rattle.mb_operands.specs.Endings.{performed_by};
 
 use mb_alu::Conditions;
+use mb_instr::vectors::OUT_OF_BOUNDS;
 use mb_instr::{Ea, Plain, Size};
 use mb_operands::{Undone, compare_bounds, fetch_operand, trapped, unread};
 use mb_port::{Port, Space};
 use mb_writes::Ended;
-
-/// The vector of a value out of bounds.
-const OUT_OF_BOUNDS: u8 = 6;
 
 /// The signed value of the low bytes that count.
 #[inline(always)]

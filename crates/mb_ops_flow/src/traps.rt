@@ -4,15 +4,10 @@ ghost use Rattle.std.specs.Prelude.{◌≡◌, ◌<◌};
 ghost use Rattle.mb_meaning.specs.Traps.{trap_of, trapcc_of, trapv_of};
 ghost use Rattle.mb_operands.specs.Endings.{performed_by};
 
+use mb_instr::vectors::{CONDITION_MET, FIRST_TRAP};
 use mb_instr::{Condition, Plain};
 use mb_operands::{Undone, is_met, trapped};
 use mb_writes::Ended;
-
-/// The vector of TRAPcc and TRAPV.
-const CONDITION_MET: u8 = 7;
-
-/// The vector of `TRAP #0`, which those of the other numbers follow.
-const FIRST_TRAP: u8 = 32;
 
 /// TRAP.
 #[inline(always)]

@@ -8,6 +8,7 @@ use Rattle.mb_writes.specs.declared.ends.Ended.TheVariants as ended
 use Rattle.mb_model.specs.declared.processor.Cpu.{Cpu}
 use Rattle.mb_instr.specs.declared.control.ControlRegister.{ControlRegister}
 use Rattle.mb_instr.specs.declared.control.ControlRegister.TheVariants as control
+use Rattle.mb_instr.specs.declared.vectors.TheConstants.{ILLEGAL}
 use Rattle.mb_instr.specs.Control.{control_of, kept_bits}
 use Rattle.mb_meaning.specs.Operands.{named_register}
 use Rattle.mb_processor.specs.SystemEnds.{SystemRowed, with_registers, completing, ended_by}
@@ -51,7 +52,7 @@ from_control_of register n cpu =
 
 -- what is no instruction has the vector of an illegal one
 abbrev pub not_carried_out : Ended
-not_carried_out = ended.Refused 4
+not_carried_out = ended.Refused ILLEGAL
 
 -- A code that no control register has makes no instruction.
 abbrev pub moving_control : Option ControlRegister → Bool → ℕ → Cpu → Routine SystemRowed

@@ -9,6 +9,7 @@ use Rattle.mb_port.specs.declared.types.Space.TheVariants.{Super}
 use Rattle.mb_port.specs.declared.types.Place.{Place}
 use Rattle.mb_port.specs.declared.types.Fault.{Fault}
 use Rattle.mb_instr.specs.declared.registers.Regs.{Regs}
+use Rattle.mb_instr.specs.declared.vectors.TheConstants.{ODD_COUNTER, ZERO_DIVIDE, OUT_OF_BOUNDS, CONDITION_MET, TRACE}
 use Rattle.mb_instr.specs.Registers.{is_master}
 use Rattle.mb_frames.specs.declared.frame.Access.{Access}
 use Rattle.mb_frames.specs.declared.frame.Frame.{Frame}
@@ -24,13 +25,15 @@ use Rattle.mb_meaning.specs.Locked.{probe_pieces}
 
 -- ---- causes
 
--- an interrupt, whose vector is 24 and its level
+-- an interrupt, which has a level
 abbrev pub is_interrupt : Cause → Bool
 is_interrupt c = nat_lt 0 c.level
 
 -- odd PC, zero divide, CHK and CHK2, TRAPcc and TRAPV, and trace: their frame has an address
 abbrev pub has_address : ℕ → Bool
-has_address vector = (vector == 3) || (vector == 5) || (vector == 6) || (vector == 7) || (vector == 9)
+has_address vector =
+    (vector == ODD_COUNTER) || (vector == ZERO_DIVIDE) || (vector == OUT_OF_BOUNDS) || (vector == CONDITION_MET)
+    || (vector == TRACE)
 
 -- ---- the status register
 

@@ -3,6 +3,7 @@ use Rattle.std.specs.Prelude.{ℕ, ◌+◌, ◌-◌, ◌/◌, ◌%◌, ◌^◌, 
 use Rattle.std.specs.Prelude.{Some, None, Result, Ok, Err}
 use Rattle.mb_port.specs.Routine.{Routine, Return, Then, caught, choose}
 use Rattle.mb_port.specs.declared.types.Fault.{Fault}
+use Rattle.mb_instr.specs.declared.vectors.TheConstants.{ACCESS_ERROR, TRACE, INTERRUPT}
 use Rattle.mb_frames.specs.declared.frame.Access.{Access}
 use Rattle.mb_frames.specs.AccessFields.{check_fields}
 use Rattle.mb_model.specs.declared.processor.Cpu.{Cpu}
@@ -53,11 +54,11 @@ abbrev pub with_ct : Bool → Access → Access
 with_ct due access = if due then record access { ssw = bit_or access.ssw (2 ^ 13) } else access
 
 abbrev pub access_cause : ℕ → Access → Cause
-access_cause pc access = record { vector = 2; pc = pc; address = 0; access = Some access; level = 0 }
+access_cause pc access = record { vector = ACCESS_ERROR; pc = pc; address = 0; access = Some access; level = 0 }
 
 -- the entry of an access error, which ends the step
 abbrev pub ends_step : Entered → Finish
-ends_step entered.Done = finish.Entered 2
+ends_step entered.Done = finish.Entered ACCESS_ERROR
 ends_step _ = finish.Halted
 
 -- An access error is entered with this PC and these fields. Where its own frame has no place the processor halts.
@@ -95,11 +96,11 @@ last vector m = caught m (λ stepped. Return stepped) (λ cpu. Return (finish.En
 -- ---- interrupts
 
 abbrev pub interrupt_cause : ℕ → ℕ → Cause
-interrupt_cause level pc = record { vector = 24 + level; pc = pc; address = 0; access = None; level = level }
+interrupt_cause level pc = record { vector = INTERRUPT + level; pc = pc; address = 0; access = None; level = level }
 
 -- The entry of an interrupt. Where its frames have no place no register has changed.
 unfoldable pub interrupt_of : ℕ → Cpu → Routine Stepped
-interrupt_of level cpu = last (24 + level) (raise_of false (interrupt_cause level cpu.regs.pc) cpu cpu)
+interrupt_of level cpu = last (INTERRUPT + level) (raise_of false (interrupt_cause level cpu.regs.pc) cpu cpu)
 
 -- ---- exceptions of instructions
 
@@ -108,7 +109,7 @@ cause_at vector pc address = record { vector = vector; pc = pc; address = addres
 
 -- Trace: the frame has the PC now, and the address of the instruction. It is the last exception of a step.
 unfoldable pub trace_of : ℕ → Cpu → Routine Stepped
-trace_of address cpu = last 9 (raise_of true (cause_at 9 cpu.regs.pc address) cpu cpu)
+trace_of address cpu = last TRACE (raise_of true (cause_at TRACE cpu.regs.pc address) cpu cpu)
 
 -- a trace of the instruction at an address, where it is due; else the step ends so
 abbrev pub tracing_of : Finish → Bool → ℕ → Cpu → Routine Stepped

@@ -10,6 +10,7 @@ use Rattle.mb_instr.specs.declared.instruction.Move.TheVariants as move
 use Rattle.mb_instr.specs.declared.instruction.Instr.TheVariants as instr
 use Rattle.mb_instr.specs.declared.registers.Plain.{Plain}
 use Rattle.mb_instr.specs.declared.registers.Regs.{Regs}
+use Rattle.mb_instr.specs.declared.vectors.TheConstants.{FORMAT_ERROR}
 use Rattle.mb_instr.specs.Sizes.{bytes_of}
 use Rattle.mb_instr.specs.Registers.{is_supervisor, active_stack, with_stack, plain_of, with_plain}
 use Rattle.mb_frames.specs.declared.frame.Access.{Access}
@@ -102,7 +103,7 @@ can_continue a = are_movem_words a.pd2 && nat_le a.pd3 (count_of (mask_in a.pd2)
 -- ---- the return
 
 abbrev pub format_error : Ended
-format_error = ended.Refused 14
+format_error = ended.Refused FORMAT_ERROR
 
 -- the registers with so many bytes fewer on the active stack
 abbrev pub dropped : ℕ → Regs → Regs

@@ -7,6 +7,7 @@ use Rattle.mb_instr.specs.declared.instruction.Instr.{Instr}
 use Rattle.mb_instr.specs.declared.instruction.Instr.TheVariants as instr
 use Rattle.mb_instr.specs.declared.instruction.System.{System}
 use Rattle.mb_instr.specs.declared.instruction.System.TheVariants as system
+use Rattle.mb_instr.specs.declared.vectors.TheConstants.{PRIVILEGED}
 use Rattle.mb_instr.specs.Codes.{words_of}
 use Rattle.mb_instr.specs.Shapes.{operands_at}
 use Rattle.mb_instr.specs.Rows.{row, system_row}
@@ -157,7 +158,7 @@ unprivileged_of i n cpu =
 -- An instruction is carried out, and finished. A privileged one needs supervisor mode.
 unfoldable pub executed_of : Instr → ℕ → Cpu → Routine Stepped
 executed_of (instr.System i) n cpu =
-    choose (is_supervisor cpu.regs.sr) (supervised_of i n cpu) (refused_of 8 cpu)
+    choose (is_supervisor cpu.regs.sr) (supervised_of i n cpu) (refused_of PRIVILEGED cpu)
 executed_of i n cpu = unprivileged_of i n cpu
 
 -- no instruction was found

@@ -16,7 +16,7 @@ use Rattle.mb_writes.specs.declared.ends.Ended.{Ended}
 use Rattle.mb_writes.specs.declared.ends.Ended.TheVariants as ended
 use Rattle.mb_processor.specs.declared.entering.Cause.{Cause}
 use Rattle.mb_processor.specs.Entry.{has_address, is_interrupt, supervised, with_mask, frame_with, frame_of, throwaway_of, thrown_sr, stacked, with_second, settled, frames_of, Frames}
-use Rattle.mb_processor.specs.Return.{Head, Taken, head_of, longs_of, access_of_longs, continues, can_continue, restored, dropped, read_or_end, judged, access_taken, frame_taken, second_taken, throwaway_taken, taken_of}
+use Rattle.mb_processor.specs.Return.{Head, Taken, head_of, longs_of, access_of_longs, continues, can_continue, restored, dropped, format_error, read_or_end, judged, access_taken, frame_taken, second_taken, throwaway_taken, taken_of}
 use Rattle.mb_returns.specs.Keeping.{Placing, Viewing, Shows, Keeps}
 use Rattle.mb_returns.specs.Returns.{IsLawful, AreSeen, taken_back, CanReturn, FramesAreTaken}
 use Rattle.mb_returns.proofs.Readings.{Gives, followed, at_once, shown_still, shown_behind}
@@ -138,7 +138,7 @@ module _ (S : Type 0) (bus : Bus S) (place : Placing S) (view : Viewing S) (keep
       let then_taken : Result Head Ended → Routine (Result Taken Ended) = λ q. tried q (λ head. frame_taken head low) in
       let both = followed bus place view (read_or_end k) then_taken t (Ok (head_from f)) _ second last in
       followed bus place view (read_or_end m) next s (Ok (head_from above)) _ head
-      (subst (λ (b : Bool). Gives bus place view (choose b (second_taken low) (Return (Err (ended.Refused 14)))) t (Ok (taken_by f low))) (sym super) both)
+      (subst (λ (b : Bool). Gives bus place view (choose b (second_taken low) (Return (Err format_error))) t (Ok (taken_by f low))) (sym super) both)
 
 -- ---- the registers
 

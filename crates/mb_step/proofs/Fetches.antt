@@ -5,6 +5,7 @@ use Rattle.mb_port.specs.Routine.{Bus, Routine, Return, Then, caught, run, Fetch
 use Rattle.mb_port.specs.declared.types.Space.{Space}
 use Rattle.mb_port.specs.declared.types.Fault.{Fault}
 use Rattle.mb_instr.specs.declared.instruction.Instr.{Instr}
+use Rattle.mb_instr.specs.declared.vectors.TheConstants.{ODD_COUNTER, ILLEGAL}
 use Rattle.mb_model.specs.declared.processor.Cpu.{Cpu}
 use Rattle.mb_model.specs.Status.{space_of}
 use Rattle.mb_decode.specs.declared.front.Decoded.{Decoded}
@@ -69,7 +70,7 @@ seeking_without bus cpu q m n space at words fault s t stepped e h k r =
     ap (seek bus cpu) (unfetched bus m n space at words fault s t e h) ∙ ap ending (rw (sym k) r)
 
 pub seeking_no_more : {S : Type 0} (bus : Bus S) (cpu q : Cpu) (m : ℕ) (space : Space) (at : ℕ) (words : List ℕ) (s : S) (stepped : Stepped × S)
-    → m ≡ 0 → q ≡ cpu → run bus (refused_of 4 q) s ≡ stepped → seeking bus cpu space m at words s ≡ ending stepped
+    → m ≡ 0 → q ≡ cpu → run bus (refused_of ILLEGAL q) s ≡ stepped → seeking bus cpu space m at words s ≡ ending stepped
 unfolding unfound_of
 seeking_no_more bus cpu q m space at words s stepped e k r =
     ap (seek bus cpu) (exhausted bus m space at words s e) ∙ ap ending (rw (sym k) r)
@@ -168,7 +169,7 @@ no_second_word bus cpu space first fault s t k h =
 
 -- at an odd PC nothing is fetched
 at_odd : {S : Type 0} (bus : Bus S) (cpu : Cpu) (s : S) (odd : Bool) → (cpu.regs.pc % 2 == 1) ≡ odd → odd ≡ true
-    → run bus (instruction_of cpu) s ≡ run bus (refused_of 3 cpu) s
+    → run bus (instruction_of cpu) s ≡ run bus (refused_of ODD_COUNTER cpu) s
 unfolding instruction_of fetched_of unfound_of
 at_odd bus cpu s odd e h = rw (e, h) refl
 
@@ -176,7 +177,7 @@ equal : (a b : ℕ) → a ≡ b → (a == b) ≡ true
 equal a b h = grind (arith, nat_tests)
 
 pub instruction_at_odd : {S : Type 0} (bus : Bus S) (cpu : Cpu) (s : S) → cpu.regs.pc % 2 ≡ 1
-    → run bus (instruction_of cpu) s ≡ run bus (refused_of 3 cpu) s
+    → run bus (instruction_of cpu) s ≡ run bus (refused_of ODD_COUNTER cpu) s
 instruction_at_odd bus cpu s h = at_odd bus cpu s _ refl (equal (cpu.regs.pc % 2) 1 h)
 
 -- at an even PC it begins without a word

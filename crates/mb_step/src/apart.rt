@@ -14,14 +14,12 @@ use crate::finishing::{finish_instruction, finish_unread};
 use crate::processor::Processor;
 use crate::raising::{interrupt, refuse, trace};
 use mb_ea::ReadFault;
+use mb_instr::vectors::PRIVILEGED;
 use mb_instr::{Instr, Plain, System};
 use mb_model::Cpu;
 use mb_port::{Fault, Port};
 use mb_processor::Finish;
 use mb_writes::Ended;
-
-/// The vector of a privilege violation.
-const PRIVILEGED: u8 = 8;
 
 impl Processor {
     /// Enters an interrupt.

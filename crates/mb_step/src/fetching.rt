@@ -18,6 +18,7 @@ use crate::processor::Processor;
 use arrayvec::ArrayVec;
 use mb_decode::{Decoded, Decoding, decode_into};
 use mb_instr::Instr;
+use mb_instr::vectors::{ILLEGAL, LINE_A, LINE_F, ODD_COUNTER};
 use mb_port::{Port, Space};
 use mb_processor::Finish;
 use mb_short::perform_short;
@@ -25,15 +26,6 @@ use mb_table::{FirstWords, Short, Shorts};
 
 /// How many words an instruction can have behind its first.
 const MOST_BEHIND: usize = 10;
-
-/// The vectors of what is no instruction.
-const ODD_COUNTER: u8 = 3;
-
-const ILLEGAL: u8 = 4;
-
-const LINE_A: u8 = 10;
-
-const LINE_F: u8 = 11;
 
 /// Fetches a word, whatever the bus has to do for it, or ends the step where it does not come.
 #[inline(never)]

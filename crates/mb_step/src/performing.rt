@@ -7,6 +7,7 @@ ghost use Rattle.mb_meaning.specs.Rows.{perform_of};
 ghost use Rattle.mb_meaning.specs.Ends.{closing};
 ghost use Rattle.mb_operands.specs.Endings.{is_unread, performed_in_place};
 
+use mb_instr::vectors::PRIVILEGED;
 use mb_instr::{Instr, Plain};
 use mb_operands::{Undone, put_back, refused};
 use mb_ops_arith::perform_arith_in_place;
@@ -14,9 +15,6 @@ use mb_ops_flow::perform_flow_in_place;
 use mb_ops_move::perform_move_in_place;
 use mb_port::{Port, Space};
 use mb_writes::Ended;
-
-/// The vector of a privilege violation.
-const PRIVILEGED: u8 = 8;
 
 /// Carries out the instruction that stands at `at`, on the registers in place. PC is past its words already. All
 /// accesses are made in `space`. Where it is not done, how it ended goes to `ended`; after a refused read the

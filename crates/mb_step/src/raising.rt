@@ -10,20 +10,12 @@ ghost use Rattle.mb_processor.specs.Raise.{tracing_of, trap_of, refused_of};
 
 use mb_entry::{Cause, Entered, check_fields, enter};
 use mb_frames::Access;
+use mb_instr::vectors::{ACCESS_ERROR, INTERRUPT, TRACE};
 use mb_instr::{Plain, Regs};
 use mb_model::Cpu;
 use mb_port::{Fault, Port};
 use mb_processor::Finish;
 use std::mem::{replace, swap};
-
-/// The vector of an access error.
-const ACCESS_ERROR: u8 = 2;
-
-/// The vector of a trace.
-const TRACE: u8 = 9;
-
-/// The vector of an interrupt, less its level.
-const INTERRUPT: u8 = 24;
 
 /// CT of the special status word: a trace was due.
 const CT: u16 = 1 << 13;
@@ -83,7 +75,7 @@ fn cause_at(vector: u8, pc: u32, address: u32) -> Cause
     }
 }
 
-/// Enters an access error, vector 2: its frame of format $7 has this PC and these fields. Where the frame has no place,
+/// Enters an access error: its frame of format $7 has this PC and these fields. Where the frame has no place,
 /// or the vector cannot be read, the processor halts.
 #[inline(never)]
 #[tactic(auto, unfolding(mb_processor::specs::Raise::access_error_of))]

@@ -9,13 +9,11 @@ ghost use Rattle.mb_processor.specs.Control.{control_value, setting_control, to_
 ghost use Rattle.mb_system.specs.Ends.{SystemEnds};
 
 use mb_instr::ControlRegister;
+use mb_instr::vectors::ILLEGAL;
 use mb_model::Cpu;
 use mb_operands::named_register;
 use mb_port::Port;
 use mb_writes::Ended;
-
-/// The vector of an illegal instruction.
-const ILLEGAL: u8 = 4;
 
 /// The control register that a word names in its other bits.
 #[inline(always)]

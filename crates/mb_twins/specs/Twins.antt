@@ -1,11 +1,13 @@
 -- Instructions in two spaces.
-use Rattle.std.specs.Prelude.{◌≡◌, ◌⊎◌, ℕ, ◌<◌, ◌≤◌, true}
+use Rattle.std.specs.Prelude.{◌≡◌, ◌⊎◌, ℕ, ◌+◌, ◌<◌, ◌≤◌, true}
 use Rattle.mb_laws.specs.Tree.{tree_of}
 use Rattle.mb_laws.specs.Twin.{TwinTrees, Results}
 use Rattle.mb_laws.specs.Between.{Setting, Equal, SameFault, between}
 use Rattle.mb_instr.specs.declared.instruction.Instr.{Instr}
 use Rattle.mb_instr.specs.declared.instruction.Instr.TheVariants as instr
 use Rattle.mb_instr.specs.declared.registers.Plain.{Plain}
+use Rattle.mb_instr.specs.declared.vectors.TheConstants.{ODD_COUNTER, ILLEGAL, ZERO_DIVIDE, OUT_OF_BOUNDS}
+use Rattle.mb_instr.specs.declared.vectors.TheConstants.{CONDITION_MET, PRIVILEGED, LINE_A, LINE_F, FIRST_TRAP}
 use Rattle.mb_instr.specs.Codes.{IsInstr}
 use Rattle.mb_ea.specs.declared.reading.ReadFault.{ReadFault}
 use Rattle.mb_writes.specs.declared.ends.WriteFault.{WriteFault}
@@ -35,11 +37,14 @@ pub record SameTransfer (x : Setting) (f g : MovemFault) : Type 0 where
 
 -- the vectors of traps: a division by 0, a value out of bounds, a condition that is met, and the sixteen of TRAP
 abbrev pub IsTrap : ℕ → Type 0
-IsTrap vector = (vector ≡ 5) ⊎ (vector ≡ 6) ⊎ (vector ≡ 7) ⊎ ((32 ≤ vector) × (vector < 48))
+IsTrap vector =
+    (vector ≡ ZERO_DIVIDE) ⊎ (vector ≡ OUT_OF_BOUNDS) ⊎ (vector ≡ CONDITION_MET)
+    ⊎ ((FIRST_TRAP ≤ vector) × (vector < FIRST_TRAP + 16))
 
 -- the vectors of what is not carried out: at an odd PC, no instruction, a privileged one, and words of lines A and F
 abbrev pub IsRefusal : ℕ → Type 0
-IsRefusal vector = (vector ≡ 3) ⊎ (vector ≡ 4) ⊎ (vector ≡ 8) ⊎ (vector ≡ 10) ⊎ (vector ≡ 11)
+IsRefusal vector =
+    (vector ≡ ODD_COUNTER) ⊎ (vector ≡ ILLEGAL) ⊎ (vector ≡ PRIVILEGED) ⊎ (vector ≡ LINE_A) ⊎ (vector ≡ LINE_F)
 
 -- Ends that say the same: a fault in one would be the same fault in the other's space. A trap has the vector of one,
 -- and so has what is not carried out.

@@ -3,6 +3,7 @@ use Rattle.std.proofs.Common.{◌≡◌, ◌∙◌, ◌⊎◌, ℕ, suc, ◌+◌
 use Rattle.std.proofs.Common.{List, [], length, Option, Some, None, refl, ap, sym, subst, inl, inr, arith}
 use Rattle.mb_port.specs.Routine.{run}
 use Rattle.mb_instr.specs.declared.registers.Plain.{Plain}
+use Rattle.mb_instr.specs.declared.vectors.TheConstants.{ACCESS_ERROR}
 use Rattle.mb_instr.specs.Registers.{plain_of}
 use Rattle.mb_frames.specs.declared.frame.Frame.{Frame}
 use Rattle.mb_model.specs.declared.processor.Cpu.{Cpu}
@@ -70,7 +71,7 @@ leaves_by false true = record { retired = λ t. refl; exits = λ t. omega arith;
 leaves_by false false = record { retired = λ t. refl; exits = λ t. omega arith; refills = λ n t. refl; marks = λ x y. refl }
 
 leaves : (v : ℕ) → Leaves (class_of_vector v)
-leaves v = leaves_by (v == 2) (is_refusal v)
+leaves v = leaves_by (v == ACCESS_ERROR) (is_refusal v)
 
 -- ---- a run that the board left
 

@@ -4,6 +4,7 @@ ghost use Rattle.std.specs.Prelude.{◌≡◌, ◌<◌};
 ghost use Rattle.vm_machine.specs.Exits.{class_of_vector, is_refusal};
 ghost use Rattle.vm_guest.specs.Counting.{assisted};
 
+use mb_instr::vectors::{ACCESS_ERROR, ILLEGAL, LINE_A, LINE_F, ODD_COUNTER, PRIVILEGED};
 use mb_model::Cpu;
 use vm_machine::Class;
 
@@ -29,14 +30,14 @@ pub(crate) fn assisted(level: u8, cpu: &Cpu) -> Option<Class>
 pub(crate) fn is_refusal(vector: u8) -> bool
     ensures { result ≡ is_refusal vector }
 {
-    matches!(vector, 3 | 4 | 8 | 10 | 11)
+    matches!(vector, ODD_COUNTER | ILLEGAL | PRIVILEGED | LINE_A | LINE_F)
 }
 
 /// The class of a step that the board left by this vector.
 pub(crate) fn class_of_vector(vector: u8) -> Class
     ensures { result ≡ class_of_vector vector }
 {
-    if vector == 2 {
+    if vector == ACCESS_ERROR {
         Class::Denied
     } else if is_refusal(vector) {
         Class::Privileged

@@ -15,7 +15,7 @@ use Rattle.mb_writes.specs.declared.ends.Ended.TheVariants as ended
 use Rattle.mb_processor.specs.declared.Finish.TheVariants as finish
 use Rattle.mb_meaning.specs.Ends.{Carried, Performed, closed}
 use Rattle.mb_processor.specs.SystemEnds.{with_registers}
-use Rattle.mb_meaning.specs.Rows.{perform_of, row_of}
+use Rattle.mb_meaning.specs.Rows.{privileged, perform_of, row_of}
 use Rattle.mb_meaning.specs.Attempt.{Found, found_none, fetched_of, past, attempt_of}
 use Rattle.mb_processor.specs.Raise.{Stepped, is_due}
 use Rattle.mb_processor.specs.Step.{finish_of, interrupt_mask, step_of}
@@ -103,7 +103,7 @@ found_attempted : {S : Type 0} (bus : Bus S) (cpu : Cpu) (r : Found × S) → le
     (is_attempted (instr_in r.0) cpu ≡ true)
     ⊎ ((closed (run bus (either r.0 (λ unfound. Return (found_none unfound p)) (λ found. perform_of found.0 p.pc (space_of cpu) (past found.1 p)))
     r.1).0).0
-    ≡ ended.Refused 8)
+    ≡ privileged)
 unfolding perform_of row_of
 found_attempted bus cpu (Ok (instr.Move i, n), t) = inl refl
 found_attempted bus cpu (Ok (instr.Arith i, n), t) = inl refl
@@ -112,7 +112,7 @@ found_attempted bus cpu (Ok (instr.System i, n), t) = inr refl
 found_attempted bus cpu (Err unfound, t) = inl refl
 
 pub attempted_or : {S : Type 0} (bus : Bus S) (cpu : Cpu) (s : S)
-    → (is_attempted (instr_in (fetched_by bus cpu s).0) cpu ≡ true) ⊎ ((closed (attempted_by bus cpu s).0).0 ≡ ended.Refused 8)
+    → (is_attempted (instr_in (fetched_by bus cpu s).0) cpu ≡ true) ⊎ ((closed (attempted_by bus cpu s).0).0 ≡ privileged)
 unfolding attempt_of plain_of
 attempted_or bus cpu s = found_attempted bus cpu (run bus (fetched_of (space_of cpu) cpu.regs.pc) s)
 
@@ -196,7 +196,7 @@ module _ (x : Site) (board guest : Cpu) (b : World) (g : Guest) (m : Mirrored x 
       let is = own_is_held f done in
       let attempted : is_attempted i guest ≡ true = elim (attempted_or guest_bus guest g) [
         | inl h ↦ h
-        | inr h ↦ absurd (let z : ended.Refused 8 ≡ ended.Done f = sym h ∙ ap (λ (q : Performed × Guest). (closed q.0).0) is ∙ done in let y : ⊥ = cc in y)
+        | inr h ↦ absurd (let z : privileged ≡ ended.Done f = sym h ∙ ap (λ (q : Performed × Guest). (closed q.0).0) is ∙ done in let y : ⊥ = cc in y)
       ] in
       attempt_then_finish guest_bus level guest g i masked m.guest_untraced.going (in_it found) attempted
       ∙ ap (λ (q : Performed × Guest). finished_by guest_bus i guest q) is

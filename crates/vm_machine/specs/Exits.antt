@@ -4,6 +4,7 @@ use Rattle.std.specs.Prelude.{◌≤◌, Option, Some, None}
 use Rattle.mb_port.specs.Routine.{Bus, Routine, run}
 use Rattle.mb_instr.specs.declared.registers.Plain.{Plain}
 use Rattle.mb_instr.specs.declared.registers.Regs.{Regs}
+use Rattle.mb_instr.specs.declared.vectors.TheConstants.{ACCESS_ERROR, ODD_COUNTER, ILLEGAL, PRIVILEGED, LINE_A, LINE_F}
 use Rattle.mb_instr.specs.Registers.{is_supervisor, plain_of}
 use Rattle.mb_frames.specs.declared.frame.Access.{Access}
 use Rattle.mb_frames.specs.declared.frame.Frame.{Frame}
@@ -46,11 +47,12 @@ ExitsTell S = (bus : Bus S) (level : ℕ) (cpu : Cpu) (s : S) → IsNative level
 
 -- the vectors of what is no instruction that user mode carries out
 abbrev pub is_refusal : ℕ → Bool
-is_refusal vector = (vector == 3) || (vector == 4) || (vector == 8) || (vector == 10) || (vector == 11)
+is_refusal vector =
+    (vector == ODD_COUNTER) || (vector == ILLEGAL) || (vector == PRIVILEGED) || (vector == LINE_A) || (vector == LINE_F)
 
 -- the class of a step by the vector that the board entered
 abbrev pub class_of_vector : ℕ → Class
-class_of_vector vector = if vector == 2 then Denied else if is_refusal vector then Privileged else Trapped
+class_of_vector vector = if vector == ACCESS_ERROR then Denied else if is_refusal vector then Privileged else Trapped
 
 -- ---- what the board hands back
 

@@ -5,6 +5,7 @@ use Rattle.mb_instr.specs.declared.instruction.Instr.{Instr}
 use Rattle.mb_instr.specs.declared.instruction.Instr.TheVariants as instr
 use Rattle.mb_instr.specs.declared.instruction.System.{System}
 use Rattle.mb_instr.specs.declared.registers.Plain.{Plain}
+use Rattle.mb_instr.specs.declared.vectors.TheConstants.{PRIVILEGED, TRACE}
 use Rattle.mb_instr.specs.Registers.{is_supervisor, plain_of, with_ccr, with_plain}
 use Rattle.mb_frames.specs.declared.frame.Access.{Access}
 use Rattle.mb_frames.specs.declared.pend.Pend.{Pend}
@@ -89,7 +90,7 @@ interrupt_stays bus level cpu s = last_stays bus (24 + level) false (interrupt_c
 
 trace_stays : {S : Type 0} (bus : Bus S) (address : ℕ) (cpu : Cpu) (s : S) → Stays (run bus (trace_of address cpu) s).0
 unfolding trace_of
-trace_stays bus address cpu s = last_stays bus 9 true (cause_at 9 cpu.regs.pc address) cpu cpu s
+trace_stays bus address cpu s = last_stays bus TRACE true (cause_at TRACE cpu.regs.pc address) cpu cpu s
 
 refused_stays : {S : Type 0} (bus : Bus S) (vector : ℕ) (cpu : Cpu) (s : S) → Stays (run bus (refused_of vector cpu) s).0
 unfolding refused_of
@@ -161,7 +162,7 @@ supervisor_stays p cpu =
     let e : with_ccr cpu.regs.sr p.ccr / 2 ^ 13 ≡ cpu.regs.sr / 2 ^ 13 = omega arith in ap (λ (x : ℕ). x % 2 == 1) e
 
 in_user_mode : {S : Type 0} (bus : Bus S) (i : System) (n : ℕ) (cpu : Cpu) (supervisor : Bool) (s : S) → supervisor ≡ false
-    → Stays (run bus (choose supervisor (supervised_of i n cpu) (refused_of 8 cpu)) s).0
+    → Stays (run bus (choose supervisor (supervised_of i n cpu) (refused_of PRIVILEGED cpu)) s).0
 in_user_mode bus i n cpu true s h = absurd (cc h)
 in_user_mode bus i n cpu false s h = refused_stays bus 8 cpu s
 

@@ -3,6 +3,7 @@ use Rattle.std.specs.Prelude.{ℕ, ◌+◌, ◌-◌, ◌/◌, ◌%◌, ◌^◌, 
 use Rattle.std.specs.Prelude.{List, [], ◌∷◌, ◌++◌}
 use Rattle.mb_port.specs.declared.types.Piece.{Piece}
 use Rattle.mb_port.specs.Pieces.{unlaid}
+use Rattle.mb_instr.specs.declared.vectors.TheConstants.{FIRST_TRAP}
 use Rattle.mb_frames.specs.declared.frame.Access.{Access}
 use Rattle.mb_frames.specs.declared.frame.Frame.{Frame}
 use Rattle.mb_frames.specs.declared.frame.Frame.TheVariants as frame
@@ -24,7 +25,7 @@ pc_of (frame.Access sr pc offset access) = pc
 
 -- the vectors of TRAP #0 to TRAP #15
 abbrev pub is_trap_instruction : ℕ → Bool
-is_trap_instruction vector = nat_le 32 vector && nat_lt vector 48
+is_trap_instruction vector = nat_le FIRST_TRAP vector && nat_lt vector (FIRST_TRAP + 16)
 
 -- The address of an instruction that was not carried out is the PC; TRAP is one word, and the PC is the next one's.
 abbrev pub address_by : (vector pc : ℕ) → ℕ

@@ -1,6 +1,8 @@
 -- The frame of a board's exception tells the cause, and what was left to do.
 use Rattle.std.specs.Prelude.{◌≡◌, ◌⊎◌, ℕ, ◌+◌, ◌-◌, ◌%◌, ◌^◌, ◌<◌, ◌≤◌, List, [], ◌∷◌, length}
 use Rattle.mb_port.specs.Pieces.{span_of, IsPiece}
+use Rattle.mb_instr.specs.declared.vectors.TheConstants.{ODD_COUNTER, ILLEGAL, ZERO_DIVIDE, OUT_OF_BOUNDS}
+use Rattle.mb_instr.specs.declared.vectors.TheConstants.{CONDITION_MET, PRIVILEGED, LINE_A, LINE_F, FIRST_TRAP}
 use Rattle.mb_frames.specs.declared.pend.Pend.{Pend}
 use Rattle.mb_frames.specs.AccessFields.{piece_of, AccessCase, access_fields}
 use Rattle.mb_frames.specs.AccessFields as access
@@ -16,13 +18,14 @@ use Rattle.vm_meaning.specs.Frames.{cause_in, left_in}
 -- of line A or F.
 abbrev pub IsRefusedAt : (vector at : ℕ) → Type 0
 IsRefusedAt vector at =
-    (vector ≡ 3) ⊎ (((vector ≡ 4) ⊎ (vector ≡ 8) ⊎ (vector ≡ 10) ⊎ (vector ≡ 11)) × (at % 2 ≡ 0))
+    (vector ≡ ODD_COUNTER)
+    ⊎ (((vector ≡ ILLEGAL) ⊎ (vector ≡ PRIVILEGED) ⊎ (vector ≡ LINE_A) ⊎ (vector ≡ LINE_F)) × (at % 2 ≡ 0))
 
 -- An instruction traps: a zero divide, CHK or CHK2, TRAPcc or TRAPV, whose frames have its address; or TRAP #n.
 abbrev pub HasTrapped : (vector at next : ℕ) → Type 0
 HasTrapped vector at next =
-    (vector ≡ 5) ⊎ (vector ≡ 6) ⊎ (vector ≡ 7)
-    ⊎ ((32 ≤ vector) × (vector < 48) × (at < 2 ^ 32) × (next ≡ (at + 2) % 2 ^ 32))
+    (vector ≡ ZERO_DIVIDE) ⊎ (vector ≡ OUT_OF_BOUNDS) ⊎ (vector ≡ CONDITION_MET)
+    ⊎ ((FIRST_TRAP ≤ vector) × (vector < FIRST_TRAP + 16) × (at < 2 ^ 32) × (next ≡ (at + 2) % 2 ^ 32))
 
 -- The frame of each tells the very cause that a step enters.
 abbrev pub RefusalsTell : Type 0

@@ -3,6 +3,7 @@ use Rattle.std.proofs.Common.{◌≡◌, ◌∙◌, ℕ, ◌<◌, ◌≤◌, ◌
 use Rattle.mb_port.specs.Routine.{Routine, run}
 use Rattle.mb_instr.specs.declared.instruction.Instr.{Instr}
 use Rattle.mb_instr.specs.declared.registers.Plain.{Plain}
+use Rattle.mb_instr.specs.declared.vectors.TheConstants.{ACCESS_ERROR}
 use Rattle.mb_instr.specs.Registers.{is_supervisor, plain_of}
 use Rattle.mb_frames.specs.declared.frame.Access.{Access}
 use Rattle.mb_frames.specs.declared.pend.Pend.{Pend}
@@ -78,7 +79,7 @@ rest_tidy (Writes pending first) level guest p h = ap (finish_writes_of pending.
 rest_tidy (Line at line) level guest p h = ap (finish_line_of at line) (registers_tidy p guest h)
 rest_tidy (Movem words ea done next) level guest p h = ap (finish_movem_of words ea done next) (registers_tidy p guest h)
 
-class_by : (v : ℕ) (r : Bool) → (v == 2) ≡ false → is_refusal v ≡ r → class_of_vector v ≡ cond r Privileged Trapped
+class_by : (v : ℕ) (r : Bool) → (v == ACCESS_ERROR) ≡ false → is_refusal v ≡ r → class_of_vector v ≡ cond r Privileged Trapped
 class_by v r h k = rw h (rw k refl)
 
 left_by : (level : ℕ) (guest : Cpu) (q : Plain) (a : Access) (l : LeftOver) → left_in a ≡ l → rest_by (left_in a) level guest q ≡ rest_by l level guest q

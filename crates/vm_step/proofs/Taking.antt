@@ -6,6 +6,7 @@ use Rattle.mb_port.specs.declared.types.Space.{Space}
 use Rattle.mb_model.specs.Status.{space_of}
 use Rattle.mb_instr.specs.declared.registers.Plain.{Plain}
 use Rattle.mb_instr.specs.declared.registers.Regs.{Regs}
+use Rattle.mb_instr.specs.declared.vectors.TheConstants.{ACCESS_ERROR}
 use Rattle.mb_instr.specs.Registers.{plain_of, active_stack, is_supervisor}
 use Rattle.mb_model.specs.Keeping.{KeptLists}
 use Rattle.mb_port.specs.declared.types.Mmu.{Mmu}
@@ -191,7 +192,7 @@ by_vector false true t = omega arith
 by_vector false false t = omega arith
 
 exit_counts : (v : ℕ) (t : Tally) → exits (counted (class_of_vector v) t) ≡ exits t + 1
-exit_counts v t = by_vector (v == 2) (is_refusal v) t
+exit_counts v t = by_vector (v == ACCESS_ERROR) (is_refusal v) t
 
 exit_keeps_by : (a b : Bool) (t : Tally) → (counted (cond a class.Denied (cond b class.Privileged class.Trapped)) t).retired ≡ t.retired
 exit_keeps_by true b t = refl
@@ -199,7 +200,7 @@ exit_keeps_by false true t = refl
 exit_keeps_by false false t = refl
 
 exit_keeps : (v : ℕ) (t : Tally) → (counted (class_of_vector v) t).retired ≡ t.retired
-exit_keeps v t = exit_keeps_by (v == 2) (is_refusal v) t
+exit_keeps v t = exit_keeps_by (v == ACCESS_ERROR) (is_refusal v) t
 
 no_marks_by : (a b : Bool) (before after : Cpu) → marks_of (cond a class.Denied (cond b class.Privileged class.Trapped)) before after ≡ []
 no_marks_by true b before after = refl
@@ -207,14 +208,14 @@ no_marks_by false true before after = refl
 no_marks_by false false before after = refl
 
 no_marks : (v : ℕ) (before after : Cpu) → marks_of (class_of_vector v) before after ≡ []
-no_marks v before after = no_marks_by (v == 2) (is_refusal v) before after
+no_marks v before after = no_marks_by (v == ACCESS_ERROR) (is_refusal v) before after
 
 nothing_more : (xs : List Plain) → xs ++ [] ≡ xs
 nothing_more [] = refl
 nothing_more (x ∷ xs) = ap (λ (l : List Plain). x ∷ l) (nothing_more xs)
 
 left_tried : (v : ℕ) → IsTried (class_of_vector v)
-left_tried v = by_tests (v == 2) (is_refusal v)
+left_tried v = by_tests (v == ACCESS_ERROR) (is_refusal v)
   where
     by_tests : (a b : Bool) → IsTried (cond a class.Denied (cond b class.Privileged class.Trapped))
     by_tests true b = tt

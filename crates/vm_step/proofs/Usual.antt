@@ -3,6 +3,7 @@ use Rattle.std.proofs.Common.{◌≡◌, ◌⊎◌, ℕ, ◌<◌, ◌≤◌, ◌
 use Rattle.std.proofs.lemmas.Bool.Decides.{nat_tests}
 use Rattle.mb_port.specs.declared.types.Space.{Space}
 use Rattle.mb_instr.specs.declared.registers.Plain.{Plain}
+use Rattle.mb_instr.specs.declared.vectors.TheConstants.{ACCESS_ERROR}
 use Rattle.mb_frames.specs.declared.pend.Pend.{Pend}
 use Rattle.mb_writes.specs.declared.transfers.Movem.{Movem}
 use Rattle.mb_writes.specs.declared.ends.Ended.{Ended}
@@ -19,8 +20,8 @@ use Rattle.vm_mirror.specs.Related.{Site, setting}
 
 -- the pieces that a refused write names, at most three, and the longs of a refused line
 abbrev pub IsUsual : Ended → Type 0
-IsUsual (ended.Trap vector) = (vector < 256) × ((vector == 2) ≡ false) × (is_refusal vector ≡ false)
-IsUsual (ended.Refused vector) = (vector < 256) × ((vector == 2) ≡ false) × (is_refusal vector ≡ true)
+IsUsual (ended.Trap vector) = (vector < 256) × ((vector == ACCESS_ERROR) ≡ false) × (is_refusal vector ≡ false)
+IsUsual (ended.Refused vector) = (vector < 256) × ((vector == ACCESS_ERROR) ≡ false) × (is_refusal vector ≡ true)
 IsUsual (ended.WriteFault f) = (length f.rest.items ≤ 3) × AreOwn f.rest.items
 IsUsual (ended.LineFault fault longs) = length longs ≡ 4
 IsUsual _ = Unit {0}
@@ -28,7 +29,7 @@ IsUsual _ = Unit {0}
 -- ---- vectors
 
 abbrev IsUsualTrap : ℕ → Type 0
-IsUsualTrap vector = (vector < 256) × ((vector == 2) ≡ false) × (is_refusal vector ≡ false)
+IsUsualTrap vector = (vector < 256) × ((vector == ACCESS_ERROR) ≡ false) × (is_refusal vector ≡ false)
 
 above : (vector : ℕ) → 32 ≤ vector → vector < 48 → IsUsualTrap vector
 above vector h k = (
@@ -66,7 +67,7 @@ usual_trap vector (inr (inr (inl e))) = subst IsUsualTrap (sym e) (omega arith, 
 usual_trap vector (inr (inr (inr (h, k)))) = above vector h k
 
 abbrev IsUsualRefusal : ℕ → Type 0
-IsUsualRefusal vector = (vector < 256) × ((vector == 2) ≡ false) × (is_refusal vector ≡ true)
+IsUsualRefusal vector = (vector < 256) × ((vector == ACCESS_ERROR) ≡ false) × (is_refusal vector ≡ true)
 
 usual_refusal : (vector : ℕ) → IsRefusal vector → IsUsualRefusal vector
 usual_refusal vector (inl e) = subst IsUsualRefusal (sym e) (omega arith, refl, refl)
