@@ -3,10 +3,10 @@ use Rattle.std.proofs.Common.{ℕ, ◌≡◌, ◌+◌, ◌-◌, ◌/◌, ◌≤�
 use Rattle.std.proofs.lemmas.Int.{ints}
 use Rattle.std.proofs.lemmas.Bool.Decides.{nat_tests}
 use Rattle.std.proofs.Math.Bool.{beq}
+use Rattle.std.specs.Int.{from_bool}
 use Rattle.mb_instr.specs.declared.size.Size.{Size}
 use Rattle.mb_instr.specs.declared.size.Size.TheVariants.{Byte, Word, Long}
 use Rattle.mb_instr.specs.Sizes.{values_of, low_of}
-use Rattle.mb_alu.specs.Conditions.{bit}
 use Rattle.mb_alu.specs.Signs.{is_negative, signed_of, fits}
 
 -- a number that is cut differs from itself exactly where it reaches the number of values
@@ -17,8 +17,8 @@ carries Long s = grind (arith, nat_tests)
 
 -- a sum overflows where its terms have one sign and it has the other
 pub sum_overflows : (size : Size) (x y : ℕ) (e : Bool) →
-    (beq (is_negative size x) (is_negative size y) && not (beq (is_negative size x) (is_negative size (low_of size y + low_of size x + bit e))))
-    ≡ not (fits true (values_of size) (signed_of size y +ℤ signed_of size x +ℤ pos (bit e)))
+    (beq (is_negative size x) (is_negative size y) && not (beq (is_negative size x) (is_negative size (low_of size y + low_of size x + from_bool e))))
+    ≡ not (fits true (values_of size) (signed_of size y +ℤ signed_of size x +ℤ pos (from_bool e)))
 sum_overflows Byte x y true = grind (arith, ints, nat_tests)
 sum_overflows Byte x y false = grind (arith, ints, nat_tests)
 sum_overflows Word x y true = grind (arith, ints, nat_tests)
@@ -41,7 +41,7 @@ low_of-wrap Byte y t h = omega arith
 low_of-wrap Word y t h = omega arith
 low_of-wrap Long y t h = omega arith
 
-pub low_of-add_bit : (size : Size) (x : ℕ) (e : Bool) → low_of size x + bit e ≤ values_of size
+pub low_of-add_bit : (size : Size) (x : ℕ) (e : Bool) → low_of size x + from_bool e ≤ values_of size
 low_of-add_bit Byte x true = omega arith
 low_of-add_bit Byte x false = omega arith
 low_of-add_bit Word x true = omega arith
@@ -52,8 +52,8 @@ low_of-add_bit Long x false = omega arith
 -- a difference overflows where its terms have two signs and it has not that of the first
 pub difference_overflows : (size : Size) (x y : ℕ) (e : Bool) →
     (not (beq (is_negative size x) (is_negative size y))
-    && not (beq (is_negative size y) (is_negative size (low_of size y + values_of size - (low_of size x + bit e)))))
-    ≡ not (fits true (values_of size) (signed_of size y -ℤ signed_of size x -ℤ pos (bit e)))
+    && not (beq (is_negative size y) (is_negative size (low_of size y + values_of size - (low_of size x + from_bool e)))))
+    ≡ not (fits true (values_of size) (signed_of size y -ℤ signed_of size x -ℤ pos (from_bool e)))
 difference_overflows Byte x y true = grind (arith, ints, nat_tests)
 difference_overflows Byte x y false = grind (arith, ints, nat_tests)
 difference_overflows Word x y true = grind (arith, ints, nat_tests)

@@ -7,8 +7,8 @@ use Rattle.std.specs.Bool.{beq}
 use Rattle.mb_instr.specs.declared.size.Size.{Size}
 use Rattle.mb_instr.specs.declared.size.Size.TheVariants.{Byte, Word, Long}
 use Rattle.mb_instr.specs.Sizes.{values_of, low_of}
-use Rattle.mb_alu.specs.declared.shifts.ShiftKind.{ShiftKind}
-use Rattle.mb_alu.specs.declared.shifts.ShiftKind.TheVariants.{As, Ls, Rox, Ro}
+use Rattle.mb_instr.specs.declared.kinds.ShiftKind.{ShiftKind}
+use Rattle.mb_instr.specs.declared.kinds.ShiftKind.TheVariants.{Arithmetic, Logical, RotateExtended, Rotate}
 use Rattle.mb_alu.specs.Signs.{is_negative}
 use Rattle.mb_alu.specs.declared.shifts.Shifting.{Shifting}
 use Rattle.mb_alu.specs.AtOnce.{halved, has_room, rotates}
@@ -49,30 +49,30 @@ left_next size v n w h =
     next Long w p q e h = omega arith
 
 pub left_values : (size : Size) (s : Shifting) → s.value < values_of size →
-    (n : ℕ) → (repeated n (shifted_by_one Ls true size) s).value ≡ low_of size (s.value * 2 ^ n)
+    (n : ℕ) → (repeated n (shifted_by_one Logical true size) s).value ≡ low_of size (s.value * 2 ^ n)
 unfolding repeated
 left_values Byte s h zero = omega arith
 left_values Word s h zero = omega arith
 left_values Long s h zero = omega arith
 left_values size s h (suc n) =
-    left_next size s.value n (repeated n (shifted_by_one Ls true size) s).value (left_values size s h n)
+    left_next size s.value n (repeated n (shifted_by_one Logical true size) s).value (left_values size s h n)
 
 pub left_values_signed : (size : Size) (s : Shifting) → s.value < values_of size →
-    (n : ℕ) → (repeated n (shifted_by_one As true size) s).value ≡ low_of size (s.value * 2 ^ n)
+    (n : ℕ) → (repeated n (shifted_by_one Arithmetic true size) s).value ≡ low_of size (s.value * 2 ^ n)
 unfolding repeated
 left_values_signed Byte s h zero = omega arith
 left_values_signed Word s h zero = omega arith
 left_values_signed Long s h zero = omega arith
 left_values_signed size s h (suc n) =
-    left_next size s.value n (repeated n (shifted_by_one As true size) s).value (left_values_signed size s h n)
+    left_next size s.value n (repeated n (shifted_by_one Arithmetic true size) s).value (left_values_signed size s h n)
 
 -- to the right with 0 entering, the bits are those of the quotient by a power of two
 pub right_values : (size : Size) (s : Shifting) →
-    (n : ℕ) → (repeated n (shifted_by_one Ls false size) s).value ≡ s.value / 2 ^ n
+    (n : ℕ) → (repeated n (shifted_by_one Logical false size) s).value ≡ s.value / 2 ^ n
 unfolding repeated
 right_values size s zero = omega arith
 right_values size s (suc n) =
-    let before : (repeated n (shifted_by_one Ls false size) s).value ≡ s.value / 2 ^ n = right_values size s n in
+    let before : (repeated n (shifted_by_one Logical false size) s).value ≡ s.value / 2 ^ n = right_values size s n in
     let halved : s.value / 2 ^ n / 2 ^ 1 ≡ s.value / 2 ^ suc n = shr-shr s.value n 1 ∙ ap (λ k. s.value / 2 ^ k) (omega arith) in
     rw before (rw (← halved) (omega arith))
 
@@ -95,13 +95,13 @@ right_next size v n w h e =
     next Long v w p p' q q' h a b c d e = grind (arith, nat_tests)
 
 pub right_values_signed : (size : Size) (s : Shifting) → s.value < values_of size → (n : ℕ) →
-    (repeated n (shifted_by_one As false size) s).value ≡ halved size n s.value
+    (repeated n (shifted_by_one Arithmetic false size) s).value ≡ halved size n s.value
 unfolding repeated
 right_values_signed Byte s h zero = grind (arith, nat_tests)
 right_values_signed Word s h zero = grind (arith, nat_tests)
 right_values_signed Long s h zero = grind (arith, nat_tests)
 right_values_signed size s h (suc n) =
-    right_next size s.value n (repeated n (shifted_by_one As false size) s).value h (right_values_signed size s h n)
+    right_next size s.value n (repeated n (shifted_by_one Arithmetic false size) s).value h (right_values_signed size s h n)
 
 -- the sign changes at the shift after n where the product leaves the signed range with the next factor 2
 roomy_next : (size : Size) (v n w : ℕ) → v < values_of size → w ≡ low_of size (v * 2 ^ n) →
@@ -125,13 +125,13 @@ roomy_next size v n w h e =
 
 -- V of an arithmetic shift to the left: the signed operand times the power of two leaves the range
 pub left_overflows : (size : Size) (s : Shifting) → s.value < values_of size → s.v ≡ false →
-    (n : ℕ) → (repeated n (shifted_by_one As true size) s).v ≡ not (has_room size n s.value)
+    (n : ℕ) → (repeated n (shifted_by_one Arithmetic true size) s).v ≡ not (has_room size n s.value)
 unfolding repeated
 left_overflows Byte s h e zero = grind (arith, nat_tests)
 left_overflows Word s h e zero = grind (arith, nat_tests)
 left_overflows Long s h e zero = grind (arith, nat_tests)
 left_overflows size s h e (suc n) =
-    let before : Shifting = repeated n (shifted_by_one As true size) s in
+    let before : Shifting = repeated n (shifted_by_one Arithmetic true size) s in
     let same : before.v ≡ not (has_room size n s.value) = left_overflows size s h e n in
     ap (λ v. v || not (beq (is_negative size before.value) (is_negative size (by_one true size false before.value)))) same
     ∙ roomy_next size s.value n before.value h (left_values_signed size s h n)
@@ -143,14 +143,14 @@ sign_stays Word w h = grind (arith, nat_tests)
 sign_stays Long w h = grind (arith, nat_tests)
 
 pub right_overflows : (size : Size) (s : Shifting) → s.value < values_of size → s.v ≡ false →
-    (n : ℕ) → (repeated n (shifted_by_one As false size) s).v ≡ false
+    (n : ℕ) → (repeated n (shifted_by_one Arithmetic false size) s).v ≡ false
 unfolding repeated
 right_overflows size s h e zero = e
 right_overflows size s h e (suc n) =
-    let before : Shifting = repeated n (shifted_by_one As false size) s in
+    let before : Shifting = repeated n (shifted_by_one Arithmetic false size) s in
     let same : before.v ≡ false = right_overflows size s h e n in
     let stays : not (beq (is_negative size before.value) (is_negative size (by_one false size (is_negative size before.value) before.value))) ≡ false =
-    sign_stays size before.value (repeated-below As false size s h n) in
+    sign_stays size before.value (repeated-below Arithmetic false size s h n) in
     rw (same, stays) refl
 
 -- only arithmetic shifts set V
@@ -161,7 +161,7 @@ others_overflow kind left size s k e zero = e
 others_overflow kind left size s k e (suc n) = rw (others_overflow kind left size s k e n, k) refl
 
 -- a rotate without X keeps it
-pub rotated_keeps : (left : Bool) (size : Size) (s : Shifting) → (n : ℕ) → (repeated n (shifted_by_one Ro left size) s).x ≡ s.x
+pub rotated_keeps : (left : Bool) (size : Size) (s : Shifting) → (n : ℕ) → (repeated n (shifted_by_one Rotate left size) s).x ≡ s.x
 unfolding repeated
 rotated_keeps left size s zero = refl
 rotated_keeps left size s (suc n) = rotated_keeps left size s n
@@ -177,11 +177,11 @@ pub last_is : (kind : ShiftKind) (left : Bool) (size : Size) (s : Shifting) (val
       v = overflow;
     })
     (shifted_by_one kind left size s)
-last_is As true size s value x overflow e f o = rw (e, o) refl
-last_is As false size s value x overflow e f o = rw (e, o) refl
-last_is Ls left size s value x overflow e f o = rw (e, o) refl
-last_is Rox left size s value x overflow e f o = rw (e, o, f refl) refl
-last_is Ro left size s value x overflow e f o = rw (e, o, f refl) refl
+last_is Arithmetic true size s value x overflow e f o = rw (e, o) refl
+last_is Arithmetic false size s value x overflow e f o = rw (e, o) refl
+last_is Logical left size s value x overflow e f o = rw (e, o) refl
+last_is RotateExtended left size s value x overflow e f o = rw (e, o, f refl) refl
+last_is Rotate left size s value x overflow e f o = rw (e, o, f refl) refl
 
 pub repeated_last : (step : Shifting → Shifting) (s : Shifting) (count : ℕ) → 0 < count → repeated count step s ≡ step (repeated (count - 1) step s)
 unfolding repeated

@@ -3,11 +3,11 @@ use Rattle.std.proofs.Common.{ℕ, zero, suc, ◌≡◌, ◌+◌, ◌-◌, ◌*�
 use Rattle.std.proofs.Math.Nat.{two-pow-succ}
 use Rattle.std.proofs.lemmas.Nat.{pow-add, pow_pos, mul-add-lt, shr_split, shr_below, mod_below, div-add-mod', or_shifted}
 use Rattle.std.proofs.lemmas.Bool.Decides.{nat_tests}
+use Rattle.std.specs.Int.{from_bool}
 use Rattle.mb_instr.specs.declared.size.Size.{Size}
 use Rattle.mb_instr.specs.declared.size.Size.TheVariants.{Byte, Word, Long}
 use Rattle.mb_instr.specs.Sizes.{values_of, low_of, bits_of}
-use Rattle.mb_alu.specs.declared.shifts.ShiftKind.TheVariants.{Rox, Ro}
-use Rattle.mb_alu.specs.Conditions.{bit}
+use Rattle.mb_instr.specs.declared.kinds.ShiftKind.TheVariants.{RotateExtended, Rotate}
 use Rattle.mb_alu.specs.Signs.{is_negative}
 use Rattle.mb_alu.specs.declared.shifts.Shifting.{Shifting}
 use Rattle.mb_alu.specs.Shifts.{shifted_by_one, by_one, entering, repeated}
@@ -145,8 +145,8 @@ module _ (step : Shifting → Shifting) (view : Shifting → ℕ) (Good : Shifti
 
 -- ---- rotates of the operand alone
 
-stays-below : (left : Bool) (size : Size) (s : Shifting) → s.value < values_of size → (shifted_by_one Ro left size s).value < values_of size
-stays-below left size s g = by_one-below left size (entering Ro left size s.x s.value) s.value g
+stays-below : (left : Bool) (size : Size) (s : Shifting) → s.value < values_of size → (shifted_by_one Rotate left size s).value < values_of size
+stays-below left size s g = by_one-below left size (entering Rotate left size s.x s.value) s.value g
 
 byte_left : (v t c : ℕ) → t < 2 → c < 128 → v ≡ t * 128 + c → by_one true Byte (is_negative Byte v) v ≡ 2 * c + t
 byte_left v t c p q e = grind (arith, nat_tests)
@@ -167,32 +167,33 @@ long_right : (v t c : ℕ) → t < 2 → c < 2147483648 → v ≡ 2 * c + t → 
 long_right v t c p q e = grind (arith, nat_tests)
 
 pub rotated_values : (left : Bool) (size : Size) (s : Shifting) → s.value < values_of size →
-    (n : ℕ) → (repeated n (shifted_by_one Ro left size) s).value ≡ turned left (bits_of size) n s.value
+    (n : ℕ) → (repeated n (shifted_by_one Rotate left size) s).value ≡ turned left (bits_of size) n s.value
 rotated_values true Byte s g n =
-    left_turned (shifted_by_one Ro true Byte) (λ r. r.value) (λ r. r.value < values_of Byte) 7 (stays-below true Byte)
+    left_turned (shifted_by_one Rotate true Byte) (λ r. r.value) (λ r. r.value < values_of Byte) 7 (stays-below true Byte)
     (λ r t c b p q e. byte_left r.value t c p q e) s g g n
 rotated_values true Word s g n =
-    left_turned (shifted_by_one Ro true Word) (λ r. r.value) (λ r. r.value < values_of Word) 15 (stays-below true Word)
+    left_turned (shifted_by_one Rotate true Word) (λ r. r.value) (λ r. r.value < values_of Word) 15 (stays-below true Word)
     (λ r t c b p q e. word_left r.value t c p q e) s g g n
 rotated_values true Long s g n =
-    left_turned (shifted_by_one Ro true Long) (λ r. r.value) (λ r. r.value < values_of Long) 31 (stays-below true Long)
+    left_turned (shifted_by_one Rotate true Long) (λ r. r.value) (λ r. r.value < values_of Long) 31 (stays-below true Long)
     (λ r t c b p q e. long_left r.value t c p q e) s g g n
 rotated_values false Byte s g n =
-    right_turned (shifted_by_one Ro false Byte) (λ r. r.value) (λ r. r.value < values_of Byte) 7 (stays-below false Byte)
+    right_turned (shifted_by_one Rotate false Byte) (λ r. r.value) (λ r. r.value < values_of Byte) 7 (stays-below false Byte)
     (λ r t c b p q e. byte_right r.value t c p q e) s g g n
 rotated_values false Word s g n =
-    right_turned (shifted_by_one Ro false Word) (λ r. r.value) (λ r. r.value < values_of Word) 15 (stays-below false Word)
+    right_turned (shifted_by_one Rotate false Word) (λ r. r.value) (λ r. r.value < values_of Word) 15 (stays-below false Word)
     (λ r t c b p q e. word_right r.value t c p q e) s g g n
 rotated_values false Long s g n =
-    right_turned (shifted_by_one Ro false Long) (λ r. r.value) (λ r. r.value < values_of Long) 31 (stays-below false Long)
+    right_turned (shifted_by_one Rotate false Long) (λ r. r.value) (λ r. r.value < values_of Long) 31 (stays-below false Long)
     (λ r t c b p q e. long_right r.value t c p q e) s g g n
 
 -- ---- rotates of X and the operand: one word, with X on top
 
 abbrev pub extended_word : Size → Bool → ℕ → ℕ
-extended_word size x value = bit x * values_of size + value
+extended_word size x value = from_bool x * values_of size + value
 
-stays-below_extended : (left : Bool) (size : Size) (s : Shifting) → s.value < values_of size → (shifted_by_one Rox left size s).value < values_of size
+stays-below_extended : (left : Bool) (size : Size) (s : Shifting) → s.value < values_of size →
+    (shifted_by_one RotateExtended left size s).value < values_of size
 stays-below_extended left size s g = by_one-below left size s.x s.value g
 
 extended_word-below : (size : Size) (x : Bool) (v : ℕ) → v < values_of size → extended_word size x v < 2 * values_of size
@@ -230,26 +231,26 @@ long_right_extended true v t c b p q e = grind (arith, nat_tests)
 long_right_extended false v t c b p q e = grind (arith, nat_tests)
 
 pub extended_words : (left : Bool) (size : Size) (s : Shifting) → s.value < values_of size → (n : ℕ) →
-    extended_word size (repeated n (shifted_by_one Rox left size) s).x (repeated n (shifted_by_one Rox left size) s).value
+    extended_word size (repeated n (shifted_by_one RotateExtended left size) s).x (repeated n (shifted_by_one RotateExtended left size) s).value
     ≡ turned left (bits_of size + 1) n (extended_word size s.x s.value)
 extended_words true Byte s g n =
-    left_turned (shifted_by_one Rox true Byte) (λ r. extended_word Byte r.x r.value) (λ r. r.value < values_of Byte) 8 (stays-below_extended true Byte)
-    (λ r t c b p q e. byte_left_extended r.x r.value t c b p q e) s g (extended_word-below Byte s.x s.value g) n
+    left_turned (shifted_by_one RotateExtended true Byte) (λ r. extended_word Byte r.x r.value) (λ r. r.value < values_of Byte) 8
+    (stays-below_extended true Byte) (λ r t c b p q e. byte_left_extended r.x r.value t c b p q e) s g (extended_word-below Byte s.x s.value g) n
 extended_words true Word s g n =
-    left_turned (shifted_by_one Rox true Word) (λ r. extended_word Word r.x r.value) (λ r. r.value < values_of Word) 16 (stays-below_extended true Word)
-    (λ r t c b p q e. word_left_extended r.x r.value t c b p q e) s g (extended_word-below Word s.x s.value g) n
+    left_turned (shifted_by_one RotateExtended true Word) (λ r. extended_word Word r.x r.value) (λ r. r.value < values_of Word) 16
+    (stays-below_extended true Word) (λ r t c b p q e. word_left_extended r.x r.value t c b p q e) s g (extended_word-below Word s.x s.value g) n
 extended_words true Long s g n =
-    left_turned (shifted_by_one Rox true Long) (λ r. extended_word Long r.x r.value) (λ r. r.value < values_of Long) 32 (stays-below_extended true Long)
-    (λ r t c b p q e. long_left_extended r.x r.value t c b p q e) s g (extended_word-below Long s.x s.value g) n
+    left_turned (shifted_by_one RotateExtended true Long) (λ r. extended_word Long r.x r.value) (λ r. r.value < values_of Long) 32
+    (stays-below_extended true Long) (λ r t c b p q e. long_left_extended r.x r.value t c b p q e) s g (extended_word-below Long s.x s.value g) n
 extended_words false Byte s g n =
-    right_turned (shifted_by_one Rox false Byte) (λ r. extended_word Byte r.x r.value) (λ r. r.value < values_of Byte) 8 (stays-below_extended false Byte)
-    (λ r t c b p q e. byte_right_extended r.x r.value t c b p q e) s g (extended_word-below Byte s.x s.value g) n
+    right_turned (shifted_by_one RotateExtended false Byte) (λ r. extended_word Byte r.x r.value) (λ r. r.value < values_of Byte) 8
+    (stays-below_extended false Byte) (λ r t c b p q e. byte_right_extended r.x r.value t c b p q e) s g (extended_word-below Byte s.x s.value g) n
 extended_words false Word s g n =
-    right_turned (shifted_by_one Rox false Word) (λ r. extended_word Word r.x r.value) (λ r. r.value < values_of Word) 16 (stays-below_extended false Word)
-    (λ r t c b p q e. word_right_extended r.x r.value t c b p q e) s g (extended_word-below Word s.x s.value g) n
+    right_turned (shifted_by_one RotateExtended false Word) (λ r. extended_word Word r.x r.value) (λ r. r.value < values_of Word) 16
+    (stays-below_extended false Word) (λ r t c b p q e. word_right_extended r.x r.value t c b p q e) s g (extended_word-below Word s.x s.value g) n
 extended_words false Long s g n =
-    right_turned (shifted_by_one Rox false Long) (λ r. extended_word Long r.x r.value) (λ r. r.value < values_of Long) 32 (stays-below_extended false Long)
-    (λ r t c b p q e. long_right_extended r.x r.value t c b p q e) s g (extended_word-below Long s.x s.value g) n
+    right_turned (shifted_by_one RotateExtended false Long) (λ r. extended_word Long r.x r.value) (λ r. r.value < values_of Long) 32
+    (stays-below_extended false Long) (λ r t c b p q e. long_right_extended r.x r.value t c b p q e) s g (extended_word-below Long s.x s.value g) n
 
 -- the operand is the low part of that word, and X its highest bit
 pub extended_low : (size : Size) (x : Bool) (v : ℕ) → v < values_of size → low_of size (extended_word size x v) ≡ v
@@ -270,7 +271,7 @@ extended_high Long false v h = grind (arith, nat_tests)
 
 -- X is put above the operand
 pub extended_bits : (size : Size) (x : Bool) (v : ℕ) → v < values_of size →
-    bit_or (bit x * 2 ^ bits_of size % 18446744073709551616) v ≡ extended_word size x v
+    bit_or (from_bool x * 2 ^ bits_of size % 18446744073709551616) v ≡ extended_word size x v
 extended_bits Byte true v h = or_shifted 1 8 v h
 extended_bits Byte false v h = omega arith
 extended_bits Word true v h = or_shifted 1 16 v h

@@ -2,8 +2,8 @@
 use Rattle.std.specs.Prelude.{ℕ, ◌+◌, ◌-◌, ◌*◌, ◌/◌, ◌%◌, ◌^◌, Bool, true, false, nat_le, nat_lt, if◌then◌else◌}
 use Rattle.mb_instr.specs.declared.size.Size.{Size}
 use Rattle.mb_instr.specs.Sizes.{values_of}
-use Rattle.mb_alu.specs.declared.shifts.ShiftKind.{ShiftKind}
-use Rattle.mb_alu.specs.declared.shifts.ShiftKind.TheVariants.{As, Ls, Rox, Ro}
+use Rattle.mb_instr.specs.declared.kinds.ShiftKind.{ShiftKind}
+use Rattle.mb_instr.specs.declared.kinds.ShiftKind.TheVariants.{Arithmetic, Logical, RotateExtended, Rotate}
 use Rattle.mb_alu.specs.Signs.{is_negative}
 
 -- the lowest bits of a word change places with the others
@@ -29,7 +29,7 @@ has_room size count value = if is_negative size value
 
 -- the kinds that keep X, or turn it with the operand
 abbrev pub rotates : ShiftKind → Bool
-rotates As = false
-rotates Ls = false
-rotates Rox = true
-rotates Ro = true
+rotates Arithmetic = false
+rotates Logical = false
+rotates RotateExtended = true
+rotates Rotate = true

@@ -1,13 +1,14 @@
 -- Shifts and rotates: so many shifts by one bit.
 use Rattle.std.specs.Prelude.{ℕ, zero, suc, ◌+◌, ◌*◌, ◌/◌, ◌%◌, ◌==◌, Bool, true, false, ◌&&◌, ◌||◌, not, if◌then◌else◌}
 use Rattle.std.specs.Bool.{beq}
+use Rattle.std.specs.Int.{from_bool}
 use Rattle.mb_instr.specs.declared.size.Size.{Size}
 use Rattle.mb_instr.specs.Sizes.{values_of, low_of}
 use Rattle.mb_alu.specs.declared.conditions.Flagged.{Flagged}
 use Rattle.mb_alu.specs.declared.shifts.Shifting.{Shifting}
-use Rattle.mb_alu.specs.declared.shifts.ShiftKind.{ShiftKind}
-use Rattle.mb_alu.specs.declared.shifts.ShiftKind.TheVariants.{As, Ls, Rox, Ro}
-use Rattle.mb_alu.specs.Conditions.{bit, conditions_of, ccr_of}
+use Rattle.mb_instr.specs.declared.kinds.ShiftKind.{ShiftKind}
+use Rattle.mb_instr.specs.declared.kinds.ShiftKind.TheVariants.{Arithmetic, Logical, RotateExtended, Rotate}
+use Rattle.mb_alu.specs.Conditions.{conditions_of, ccr_of}
 use Rattle.mb_alu.specs.Signs.{is_negative, is_zero}
 
 -- the bit that leaves: the highest to the left, the lowest to the right
@@ -16,30 +17,30 @@ leaving left size value = if left then is_negative size value else value % 2 == 
 
 -- the bit that enters: 0, the sign, X, or the bit that leaves
 abbrev pub entering : ShiftKind → Bool → Size → Bool → ℕ → Bool
-entering As true size x value = false
-entering As false size x value = is_negative size value
-entering Ls left size x value = false
-entering Rox left size x value = x
-entering Ro left size x value = leaving left size value
+entering Arithmetic true size x value = false
+entering Arithmetic false size x value = is_negative size value
+entering Logical left size x value = false
+entering RotateExtended left size x value = x
+entering Rotate left size x value = leaving left size value
 
 -- the bits, with one that enters
 abbrev pub by_one : Bool → Size → Bool → ℕ → ℕ
 by_one left size enters value = if left
-    then low_of size (2 * value + bit enters)
-    else bit enters * (values_of size / 2) + value / 2
+    then low_of size (2 * value + from_bool enters)
+    else from_bool enters * (values_of size / 2) + value / 2
 
 -- X takes the bit that leaves, but not from a rotate without X
 abbrev pub extend_after : ShiftKind → Bool → Bool → Bool
-extend_after Ro x leaves = x
+extend_after Rotate x leaves = x
 extend_after kind x leaves = leaves
 
 abbrev pub is_arithmetic : ShiftKind → Bool
-is_arithmetic As = true
+is_arithmetic Arithmetic = true
 is_arithmetic kind = false
 
 -- C before a bit has left: X where it is rotated too
 abbrev pub carry_before : ShiftKind → Bool → Bool
-carry_before Rox x = x
+carry_before RotateExtended x = x
 carry_before kind x = false
 
 abbrev pub shifted_by_one : ShiftKind → Bool → Size → Shifting → Shifting

@@ -1,15 +1,16 @@
 -- Sums and differences.
 use Rattle.std.specs.Prelude.{ℕ, ◌+◌, ◌-◌, pos, ◌+ℤ◌, ◌-ℤ◌, Bool, true, false, ◌&&◌, ◌||◌, not, nat_le, nat_lt}
+use Rattle.std.specs.Int.{from_bool}
 use Rattle.mb_instr.specs.declared.size.Size.{Size}
 use Rattle.mb_instr.specs.Sizes.{values_of, low_of}
 use Rattle.mb_alu.specs.declared.conditions.Flagged.{Flagged}
 use Rattle.mb_alu.specs.declared.conditions.Conditions.{Conditions}
-use Rattle.mb_alu.specs.Conditions.{bit, conditions_of, ccr_of}
+use Rattle.mb_alu.specs.Conditions.{conditions_of, ccr_of}
 use Rattle.mb_alu.specs.Signs.{is_negative, is_zero, signed_of, fits}
 
 -- X, where the sum or the difference is extended
 abbrev pub carry_in : Bool → ℕ → ℕ
-carry_in extended ccr = bit (extended && (conditions_of ccr).x)
+carry_in extended ccr = from_bool (extended && (conditions_of ccr).x)
 
 -- Z of a sum or a difference: an extended one that is zero leaves it
 abbrev pub zero_of : Size → ℕ → ℕ → Bool → Bool

@@ -10,20 +10,7 @@ ghost use Rattle.mb_alu.specs.Shifts.{leaving, entering, by_one, extend_after, u
 
 use crate::bits::{cut, half, low, sign};
 use crate::conditions::{Conditions, Flagged};
-use mb_instr::Size;
-
-/// What enters an operand that is shifted.
-#[derive(Clone, Copy, Debug, PartialEq, Eq)]
-pub enum ShiftKind {
-    /// 0 to the left, the sign to the right.
-    As,
-    /// 0.
-    Ls,
-    /// X, which takes the bit that leaves.
-    Rox,
-    /// The bit that leaves.
-    Ro,
-}
+use mb_instr::{ShiftKind, Size};
 
 /// An operand under way.
 #[derive(Clone, Copy)]
@@ -124,8 +111,8 @@ fn rotated(left: bool, size: Size, value: u32, count: u8) -> u32
 #[inline(always)]
 fn rotated_with_extend(left: bool, size: Size, value: u32, x: bool, count: u8) -> (u32, bool)
     requires { value < values_of size }
-    ensures value { result.0 ≡ (shifted ShiftKind.Rox left size count value x).value }
-    ensures extend { result.1 ≡ (shifted ShiftKind.Rox left size count value x).x }
+    ensures value { result.0 ≡ (shifted ShiftKind.RotateExtended left size count value x).value }
+    ensures extend { result.1 ≡ (shifted ShiftKind.RotateExtended left size count value x).x }
 {
     let word = u64::from(x) << bits(size) | u64::from(value);
     let turned = turn(left, word, bits(size) + 1, count);
@@ -148,12 +135,12 @@ fn shifted_far(
     ensures extend { IsTrue (rotates kind) → result.1 ≡ (shifted kind left size count value x).x }
 {
     match kind {
-        ShiftKind::As if left => (shifted_left(size, value, count), x),
-        ShiftKind::As => (shifted_right_signed(size, value, count), x),
-        ShiftKind::Ls if left => (shifted_left(size, value, count), x),
-        ShiftKind::Ls => (shifted_right(value, count), x),
-        ShiftKind::Rox => rotated_with_extend(left, size, value, x, count),
-        ShiftKind::Ro => (rotated(left, size, value, count), x),
+        ShiftKind::Arithmetic if left => (shifted_left(size, value, count), x),
+        ShiftKind::Arithmetic => (shifted_right_signed(size, value, count), x),
+        ShiftKind::Logical if left => (shifted_left(size, value, count), x),
+        ShiftKind::Logical => (shifted_right(value, count), x),
+        ShiftKind::RotateExtended => rotated_with_extend(left, size, value, x, count),
+        ShiftKind::Rotate => (rotated(left, size, value, count), x),
     }
 }
 
@@ -181,8 +168,8 @@ fn overflow(kind: ShiftKind, left: bool, size: Size, value: u32, count: u8) -> b
     ensures { (x : Bool) → result ≡ (shifted kind left size count value x).v }
 {
     match kind {
-        ShiftKind::As => left && !has_room(size, value, count),
-        ShiftKind::Ls | ShiftKind::Rox | ShiftKind::Ro => false,
+        ShiftKind::Arithmetic => left && !has_room(size, value, count),
+        ShiftKind::Logical | ShiftKind::RotateExtended | ShiftKind::Rotate => false,
     }
 }
 
@@ -202,10 +189,10 @@ fn enters(kind: ShiftKind, left: bool, size: Size, x: bool, value: u32) -> bool
     ensures { result ≡ entering kind left size x value }
 {
     match kind {
-        ShiftKind::As => !left && sign(size, value),
-        ShiftKind::Ls => false,
-        ShiftKind::Rox => x,
-        ShiftKind::Ro => leaves(left, size, value),
+        ShiftKind::Arithmetic => !left && sign(size, value),
+        ShiftKind::Logical => false,
+        ShiftKind::RotateExtended => x,
+        ShiftKind::Rotate => leaves(left, size, value),
     }
 }
 
@@ -214,8 +201,8 @@ fn extend_after(kind: ShiftKind, x: bool, leaves: bool) -> bool
     ensures { result ≡ extend_after kind x leaves }
 {
     match kind {
-        ShiftKind::Ro => x,
-        ShiftKind::As | ShiftKind::Ls | ShiftKind::Rox => leaves,
+        ShiftKind::Rotate => x,
+        ShiftKind::Arithmetic | ShiftKind::Logical | ShiftKind::RotateExtended => leaves,
     }
 }
 
@@ -242,7 +229,7 @@ impl Shifting {
             value,
             x,
             c: match kind {
-                ShiftKind::Rox => x,
+                ShiftKind::RotateExtended => x,
                 _ => false,
             },
             v: false,

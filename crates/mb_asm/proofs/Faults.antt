@@ -1,11 +1,11 @@
 -- The first faulty line.
 use Rattle.std.proofs.Common.{◌≡◌, [], ◌∷◌, ◌++◌}
 use Rattle.std.specs.Prelude.{Result, Ok, Err}
+use Rattle.mb_lines.specs.Results.{◌>>=◌}
 use Rattle.mb_syntax.specs.Lines.{statement_in}
 use Rattle.mb_asm.specs.Layouts.{after_line}
 use Rattle.mb_asm.specs.Judged.{judged, place}
 use Rattle.mb_asm.specs.Texts.{Fault, at_line, chunks_from, with_laid}
-use Rattle.mb_asm.specs.Results.{◌>>=◌}
 use Rattle.mb_asm.specs.Laws.{FirstFaultStays}
 
 -- a step and what stands behind it: a fault of the step is that of both, and a fault behind it stays where it stays there

@@ -6,6 +6,7 @@ use Rattle.std.specs.List.{list_any}
 use Rattle.std.specs.Str.{bytes_eq}
 use Rattle.std.proofs.lemmas.List.Elements.{All-append, All-cons, All-head, All-nil, All-tail}
 use Rattle.mb_lines.specs.Lines.{Line, numbered}
+use Rattle.mb_lines.specs.Results.{◌>>=◌}
 use Rattle.mb_syntax.specs.declared.word.Name.{Name}
 use Rattle.mb_syntax.specs.declared.expression.Term.{Term}
 use Rattle.mb_syntax.specs.declared.expression.Term.TheVariants as term
@@ -34,7 +35,7 @@ use Rattle.mb_asm.specs.Judged.{reaches_past, reads_earlier, scope_of, wants_lab
 use Rattle.mb_asm.specs.Kinds.{meant}
 use Rattle.mb_asm.specs.Laws.{ImageLeavesNothingUnknown, IsKnown}
 use Rattle.mb_asm.specs.Layouts.{Layout, after_line, after_lines, after_statement, beginning, earlier, label_value, next_at, operation_value, with_label}
-use Rattle.mb_asm.specs.Results.{◌>>=◌, refuse}
+use Rattle.mb_asm.specs.Results.{refuse}
 use Rattle.mb_asm.specs.Symbols.{Symbol, value_in, with_symbol}
 use Rattle.mb_asm.proofs.Parts.{judged_parts}
 use Rattle.mb_asm.specs.Texts.{Chunks, Fault, assembled, at_line, chunks_from, finished, no_chunks, symbols_of, with_laid}

@@ -1,6 +1,7 @@
 -- What is judged of an operation, by the parts of the code.
 use Rattle.std.proofs.Common.{◌≡◌, ℕ, Bool, true, false, List, Option, refl}
 use Rattle.std.specs.Prelude.{◌||◌, Result}
+use Rattle.mb_lines.specs.Results.{◌>>=◌}
 use Rattle.mb_syntax.specs.declared.word.Name.{Name}
 use Rattle.mb_syntax.specs.Statements.{Operation}
 use Rattle.mb_asm.specs.declared.directive.Directive.{Directive}
@@ -10,7 +11,7 @@ use Rattle.mb_asm.specs.declared.value.Flaw.TheVariants as flaw
 use Rattle.mb_asm.specs.Code.{admitted, laid_to}
 use Rattle.mb_asm.specs.Judged.{has_no_name, is_again, judged_by, wants_label}
 use Rattle.mb_asm.specs.Layouts.{Layout}
-use Rattle.mb_asm.specs.Results.{◌>>=◌, refuse}
+use Rattle.mb_asm.specs.Results.{refuse}
 use Rattle.mb_asm.specs.Values.{Scope, have_flaw}
 
 three : {B : Type 0} (a b c : Bool) (k l m : AsmKind) (f : Unit {0} → Result B AsmKind)

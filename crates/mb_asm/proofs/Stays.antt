@@ -9,6 +9,7 @@ use Rattle.std.specs.Option.{ok_or, unwrap_or}
 use Rattle.std.specs.List.{list_any}
 use Rattle.byteorder.specs.Endian.{big_bytes}
 use Rattle.byteorder.specs.Numbers.{length-bytes_high_first}
+use Rattle.mb_lines.specs.Results.{◌>>=◌}
 use Rattle.mb_syntax.specs.declared.word.Name.{Name}
 use Rattle.mb_syntax.specs.declared.expression.Term.{Term}
 use Rattle.mb_syntax.specs.declared.expression.Term.TheVariants as term
@@ -49,7 +50,7 @@ use Rattle.mb_asm.specs.Judged.{judged_operation, judged_statement, place, reach
 use Rattle.mb_asm.specs.Kinds.{meant}
 use Rattle.mb_asm.specs.Laws.{FaultyStaysFaulty, FoundStays, LayoutStays, Stays, SymbolsStay}
 use Rattle.mb_asm.specs.Layouts.{Layout, earlier}
-use Rattle.mb_asm.specs.Results.{◌>>=◌, refuse}
+use Rattle.mb_asm.specs.Results.{refuse}
 use Rattle.mb_asm.specs.Symbols.{Symbol, value_in}
 use Rattle.mb_asm.specs.Values.{Scope, counted, near, target, has_flaw, have_flaw, in_displacement, in_mode, in_number, in_operand, in_option, is_long}
 use Rattle.mb_asm.specs.Values.{is_nameless}

@@ -4,6 +4,7 @@ use Rattle.std.specs.Prelude.{Option, Some, None, Result, Ok, Err, slice_range}
 use Rattle.std.specs.Option.{ok_or, unwrap_or}
 use Rattle.std.specs.List.{flat_map}
 use Rattle.byteorder.specs.Endian.{big_bytes}
+use Rattle.mb_lines.specs.Results.{◌>>=◌}
 use Rattle.mb_instr.specs.declared.instruction.Instr.{Instr}
 use Rattle.mb_instr.specs.Rows.{row}
 use Rattle.mb_instr.specs.Codes.{words_of}
@@ -25,7 +26,7 @@ use Rattle.mb_asm.specs.declared.value.Flaw.TheVariants as flaw
 use Rattle.mb_asm.specs.declared.directive.Directive.{Directive}
 use Rattle.mb_asm.specs.declared.directive.Directive.TheVariants as directive
 use Rattle.mb_asm.specs.Kinds.{meant}
-use Rattle.mb_asm.specs.Results.{◌>>=◌, refuse}
+use Rattle.mb_asm.specs.Results.{refuse}
 use Rattle.mb_asm.specs.Values.{Scope, filled, have_flaw, values_of}
 use Rattle.mb_asm.specs.Directives.{plain_of, unit_of}
 use Rattle.mb_asm.specs.Extents.{directive_in, narrow_value, ranged}

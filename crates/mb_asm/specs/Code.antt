@@ -1,11 +1,12 @@
 -- What parts of the code give. No definition that a promise speaks of stands on these.
 use Rattle.std.specs.Prelude.{ℕ, ◌||◌, Bool, List, ◌++◌, Option, Result, Ok}
+use Rattle.mb_lines.specs.Results.{◌>>=◌}
 use Rattle.mb_syntax.specs.declared.word.Name.{Name}
 use Rattle.mb_syntax.specs.Statements.{Operation}
 use Rattle.mb_asm.specs.declared.fault.AsmKind.{AsmKind}
 use Rattle.mb_asm.specs.declared.fault.AsmKind.TheVariants as kind
 use Rattle.mb_asm.specs.declared.directive.Directive.{Directive}
-use Rattle.mb_asm.specs.Results.{◌>>=◌, refuse}
+use Rattle.mb_asm.specs.Results.{refuse}
 use Rattle.mb_asm.specs.Values.{Scope}
 use Rattle.mb_asm.specs.Bytes.{bytes}
 use Rattle.mb_asm.specs.Layouts.{Layout}

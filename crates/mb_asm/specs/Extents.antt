@@ -3,6 +3,7 @@ use Rattle.std.specs.Prelude.{ℕ, ◌+◌, ◌-◌, ◌*◌, ◌%◌, ◌==◌,
 use Rattle.std.specs.Prelude.{min, if◌then◌else◌, List, [], ◌∷◌, Option, Some, None, option_map, option_and_then}
 use Rattle.std.specs.Prelude.{Result, Ok, Err}
 use Rattle.std.specs.Option.{ok_or, is_some}
+use Rattle.mb_lines.specs.Results.{◌>>=◌}
 use Rattle.mb_syntax.specs.declared.word.Name.{Name}
 use Rattle.mb_syntax.specs.declared.statement.SizeLetter.{SizeLetter}
 use Rattle.mb_syntax.specs.declared.operand.Operand.{Operand}
@@ -20,7 +21,7 @@ use Rattle.mb_asm.specs.declared.value.Flaw.TheVariants as flaw
 use Rattle.mb_asm.specs.declared.directive.Directive.{Directive}
 use Rattle.mb_asm.specs.declared.directive.Directive.TheVariants as directive
 use Rattle.mb_asm.specs.Kinds.{meant}
-use Rattle.mb_asm.specs.Results.{◌>>=◌, refuse}
+use Rattle.mb_asm.specs.Results.{refuse}
 use Rattle.mb_asm.specs.Values.{Scope, has_flaw, value_of, values_of}
 use Rattle.mb_asm.specs.Directives.{directives, only_of, plain_of, unit_of}
 

@@ -2,6 +2,7 @@
 use Rattle.std.specs.Prelude.{ℕ, ◌+◌, ◌%◌, ◌==◌, nat_lt, Bool, true, false, ◌&&◌, ◌||◌, if◌then◌else◌, List, []}
 use Rattle.std.specs.Prelude.{length, Option, Some, None, Result, Ok, Err}
 use Rattle.std.specs.Option.{is_some, unwrap_or}
+use Rattle.mb_lines.specs.Results.{◌>>=◌}
 use Rattle.mb_syntax.specs.declared.word.Name.{Name}
 use Rattle.mb_syntax.specs.Statements.{Operation, Statement}
 use Rattle.mb_syntax.specs.Spans.{bytes_at}
@@ -10,7 +11,7 @@ use Rattle.mb_asm.specs.declared.fault.AsmKind.TheVariants as kind
 use Rattle.mb_asm.specs.declared.value.Flaw.TheVariants as flaw
 use Rattle.mb_asm.specs.declared.directive.Directive.{Directive}
 use Rattle.mb_asm.specs.declared.directive.Directive.TheVariants as directive
-use Rattle.mb_asm.specs.Results.{◌>>=◌, refuse}
+use Rattle.mb_asm.specs.Results.{refuse}
 use Rattle.mb_asm.specs.Symbols.{Symbol, value_in}
 use Rattle.mb_asm.specs.Values.{Scope, have_flaw}
 use Rattle.mb_asm.specs.Extents.{behind, directive_in, equ_value}

@@ -2,9 +2,9 @@
 use Rattle.std.specs.Prelude.{ℕ, ◌+◌, ◌==◌, if◌then◌else◌, List, [], ◌∷◌, ◌++◌, length, Result, Ok}
 use Rattle.std.specs.Prelude.{Err}
 use Rattle.mb_lines.specs.Lines.{Line, numbered}
+use Rattle.mb_lines.specs.Results.{◌>>=◌}
 use Rattle.mb_syntax.specs.Lines.{statement_in}
 use Rattle.mb_asm.specs.declared.fault.AsmKind.{AsmKind}
-use Rattle.mb_asm.specs.Results.{◌>>=◌}
 use Rattle.mb_asm.specs.Symbols.{Symbol}
 use Rattle.mb_asm.specs.Layouts.{Layout, after_line, after_lines, beginning}
 use Rattle.mb_asm.specs.Judged.{Laid, judged, place}

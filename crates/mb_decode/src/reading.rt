@@ -1,12 +1,12 @@
 //! Readers of what stands behind the first word.
 
 ghost use Rattle.std.specs.Prelude.{◌≡◌};
-ghost use Rattle.mb_instr.specs.Operands.{is_full, allows};
+ghost use Rattle.mb_instr.specs.Operands.{allows};
 ghost use Rattle.mb_decode.specs.Reading.{Gives, word_at, long_at, wide_at, full_at, ext_at, immediate_at, operand_at};
 ghost use Rattle.mb_decode.specs.Reading.{ruled_at, ea_at, sized_at, word_ea_at, immediate_ea_at};
 ghost use Rattle.mb_decode.specs.Reading.{branch_at, trap_operand_at};
 
-use mb_instr::{Branch, Ea, Ext, Opcode, OperandClass, Size, TrapOperand, WordRule};
+use mb_instr::{Branch, Ea, Ext, Opcode, OperandClass, Size, TrapOperand, WordRule, is_full};
 
 /// Why no instruction was read.
 #[derive(Clone, Copy, Debug, PartialEq, Eq)]
@@ -61,19 +61,6 @@ fn wide(width: u16, words: &[u16]) -> Reading<'_, u32>
         3 => long(words),
         _ => Ok((0, words)),
     }
-}
-
-/// Whether the table has the word as a full extension word.
-pub fn is_full(word: u16) -> bool
-    ensures { result ≡ is_full word }
-{
-    let indirect = word & 7;
-    let known = if (word >> 6) & 1 == 0 {
-        indirect != 4
-    } else {
-        indirect < 4
-    };
-    (word >> 3) & 1 == 0 && (word >> 4) & 3 != 0 && known
 }
 
 /// The displacements behind a full extension word.

@@ -1,6 +1,7 @@
 -- The registers of the devices: where each stands, what reading it gives and what writing it does.
 use Rattle.std.specs.Prelude.{ℕ, ◌+◌, ◌*◌, ◌%◌, ◌^◌, ◌==◌, ◌&&◌, Bool, true, false, List, [], ◌∷◌, Option, Some, None, if◌then◌else◌}
 use Rattle.std.specs.List.{find}
+use Rattle.std.specs.Int.{from_bool}
 use Rattle.mb_port.specs.declared.types.Place.{Place}
 use Rattle.mb_devices.specs.declared.register.Register.{Register}
 use Rattle.mb_devices.specs.declared.register.Register.TheVariants.{Data, Status, Ctrl, Period, Count, Ack, Power, Size}
@@ -20,13 +21,9 @@ pub record Row : Type 0 where
   -- what writing a value leaves
   pub written : ℕ → DeviceState → DeviceState
 
-abbrev pub bit : Bool → ℕ
-bit false = 0
-bit true = 1
-
 -- STATUS: bit 0 a byte is received, bit 1 always set, bit 2 overrun
 abbrev pub status_of : DeviceState → ℕ
-status_of d = bit (has_received d) + 2 + 4 * bit d.overrun
+status_of d = from_bool (has_received d) + 2 + 4 * from_bool d.overrun
 
 -- the value 1 switches off, every other is ignored
 abbrev pub powered : ℕ → DeviceState → DeviceState
@@ -47,10 +44,10 @@ register offset size value after_read written =
 abbrev pub row : Register → Row
 row Data = register 0x00 1 oldest without_oldest (λ value. sent (value % 2 ^ 8))
 row Status = register 0x01 1 status_of unchanged (λ value d. record d { overrun = false })
-row Ctrl = register 0x02 1 (λ d. bit d.enabled) unchanged (λ value d. record d { enabled = value % 2 == 1 })
+row Ctrl = register 0x02 1 (λ d. from_bool d.enabled) unchanged (λ value d. record d { enabled = value % 2 == 1 })
 row Period = register 0x10 4 (λ d. d.period) unchanged started
 row Count = register 0x14 4 (λ d. d.count) unchanged ignored
-row Ack = register 0x18 4 (λ d. bit d.pending) unchanged (λ value d. record d { pending = false })
+row Ack = register 0x18 4 (λ d. from_bool d.pending) unchanged (λ value d. record d { pending = false })
 row Power = register 0x20 4 (λ d. 0) unchanged powered
 row Size = register 0x24 4 (λ d. d.ram) unchanged ignored
 

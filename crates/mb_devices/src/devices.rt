@@ -1,9 +1,10 @@
 //! The devices.
 
 ghost use Rattle.std.specs.Prelude.{◌≡◌, ◌<◌, ◌≤◌, ◌^◌, ◌↔◌, length, is_some, IfOk, IfSome, IsNone, None};
+ghost use Rattle.std.specs.Int.{from_bool};
 ghost use Rattle.mb_devices.specs.Devices.{passed, IsNotDue};
 ghost use Rattle.mb_devices.specs.Devices.{counted, has_received, idle, level_of, oldest, received, reset_of, sent, started, ticked, without_oldest};
-ghost use Rattle.mb_devices.specs.Registers.{bit, powered, read_of, register_at, status_of, write_of};
+ghost use Rattle.mb_devices.specs.Registers.{powered, read_of, register_at, status_of, write_of};
 
 use crate::register::Register;
 use arrayvec::ArrayVec;
@@ -271,7 +272,7 @@ impl Devices {
 
     /// CTRL: bit 0 is set where a received byte asks for an interrupt.
     pub fn ctrl(&self) -> u32
-        ensures { result ≡ bit self.now.enabled }
+        ensures { result ≡ from_bool self.now.enabled }
     {
         u32::from(self.enabled)
     }
@@ -301,7 +302,7 @@ impl Devices {
 
     /// 1 where the timer asks for an interrupt, else 0.
     pub fn pending(&self) -> u32
-        ensures { result ≡ bit self.now.pending }
+        ensures { result ≡ from_bool self.now.pending }
     {
         u32::from(self.pending)
     }

@@ -4,14 +4,14 @@ ghost use Rattle.std.specs.Prelude.{◌≡◌, ◌+◌, ◌≤◌, ◌++◌, [],
 ghost use Rattle.arrayvec.specs.ArrayVec.{array_vec_len};
 ghost use Rattle.mb_instr.specs.Opcodes.{word_of, IsOpcode};
 ghost use Rattle.mb_instr.specs.Operands.{mode, lower, long, ext, immediate, more, wide};
-ghost use Rattle.mb_instr.specs.Operands.{is_spelled, is_immediate, fits, is_ext, is_full};
+ghost use Rattle.mb_instr.specs.Operands.{is_spelled, is_immediate, fits, is_ext};
 ghost use Rattle.mb_instr.specs.declared.operand.Ext.TheVariants.{Full};
 ghost use Rattle.mb_encode.specs.Spellings.{row_of, has_words, further_words};
 ghost use Rattle.mb_encode.specs.Encodes.{Gives, written};
 
 use crate::spelling::{Further, Spelling};
 use arrayvec::ArrayVec;
-use mb_instr::{Ea, Ext, Opcode, Size};
+use mb_instr::{Ea, Ext, Opcode, Size, is_full};
 
 /// The words of an instruction, 11 at most.
 pub type Words = ArrayVec<u16, 11>;
@@ -54,19 +54,6 @@ pub fn lower(ea: &Ea) -> u8
         Ea::PcIndex(_) => 3,
         Ea::Imm(_) => 4,
     }
-}
-
-/// Whether the table has the word as a full extension word.
-fn is_full(word: u16) -> bool
-    ensures { result ≡ is_full word }
-{
-    let indirect = word & 7;
-    let known = if (word >> 6) & 1 == 0 {
-        indirect != 4
-    } else {
-        indirect < 4
-    };
-    (word >> 3) & 1 == 0 && (word >> 4) & 3 != 0 && known
 }
 
 fn fits(width: u16, value: u32) -> bool

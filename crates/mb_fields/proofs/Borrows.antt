@@ -2,10 +2,11 @@
 use Rattle.std.proofs.Common.{ℕ, ◌≡◌, ◌+◌, ◌-◌, ◌*◌, ◌/◌, ◌%◌, ◌<◌, arith, refl, ℤ, Bool, true, false, pos, negsuc, ◌+ℤ◌, ◌-ℤ◌, nat_lt, int_lt, if◌then◌else◌}
 use Rattle.std.proofs.lemmas.Int.{ints}
 use Rattle.std.proofs.lemmas.Bool.Decides.{nat_tests}
-use Rattle.mb_alu.specs.Conditions.{bit, conditions_of}
+use Rattle.std.specs.Int.{from_bool}
+use Rattle.mb_alu.specs.Conditions.{conditions_of}
 use Rattle.mb_fields.specs.Decimals.{decimal_flagged, modulo_256, extend_bit, decimal_difference, borrows}
 
-bit_low : (b : Bool) → bit b < 2
+bit_low : (b : Bool) → from_bool b < 2
 bit_low true = omega arith
 bit_low false = omega arith
 
@@ -24,7 +25,7 @@ below_zero a b e = grind (arith, ints, nat_tests)
 raised : (x y e : ℕ) (u v : Bool) → x < 256 → y < 256 → e < 2 →
     pos (y / 16 * 16) -ℤ pos (x / 16 * 16) +ℤ (pos (y % 16) -ℤ pos (x % 16) -ℤ pos e)
     -ℤ (if u then pos 6 else pos 0) -ℤ (if v then pos 96 else pos 0) +ℤ pos 512
-    ≡ pos (512 + y - (x + e + 6 * bit u + 96 * bit v))
+    ≡ pos (512 + y - (x + e + 6 * from_bool u + 96 * from_bool v))
 raised x y e true true p q r = omega (arith, ints)
 raised x y e true false p q r = omega (arith, ints)
 raised x y e false true p q r = omega (arith, ints)
@@ -36,7 +37,7 @@ borrows_is x y ccr = below_zero y x (extend_bit ccr)
 -- the formula of the difference in whole numbers that stay above 0
 pub difference_is : (x y ccr : ℕ) → x < 256 → y < 256 →
     modulo_256 (decimal_difference x y ccr -ℤ (if borrows x y ccr then pos 96 else pos 0))
-    ≡ (512 + y - (x + extend_bit ccr + 6 * bit (nat_lt (y % 16) (x % 16 + extend_bit ccr)) + 96 * bit (nat_lt y (x + extend_bit ccr)))) % 256
+    ≡ (512 + y - (x + extend_bit ccr + 6 * from_bool (nat_lt (y % 16) (x % 16 + extend_bit ccr)) + 96 * from_bool (nat_lt y (x + extend_bit ccr)))) % 256
 difference_is x y ccr p q =
     rw (below_zero (y % 16) (x % 16) (extend_bit ccr), below_zero y x (extend_bit ccr))
     (modulo_256-up _ _

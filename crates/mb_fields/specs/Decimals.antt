@@ -1,9 +1,10 @@
 -- Decimal arithmetic on bytes of two digits. The formulas say what comes of digits above 9 too.
 use Rattle.std.specs.Prelude.{ℕ, ◌+◌, ◌-◌, ◌*◌, ◌/◌, ◌%◌, ◌≡◌, ◌≤◌, nat_lt, ℤ, pos, negsuc, ◌+ℤ◌, ◌-ℤ◌, int_lt}
 use Rattle.std.specs.Prelude.{Bool, false, ◌&&◌, if◌then◌else◌}
+use Rattle.std.specs.Int.{from_bool}
 use Rattle.mb_instr.specs.declared.size.Size.TheVariants.{Byte}
 use Rattle.mb_alu.specs.declared.conditions.Flagged.{Flagged}
-use Rattle.mb_alu.specs.Conditions.{bit, conditions_of, ccr_of}
+use Rattle.mb_alu.specs.Conditions.{conditions_of, ccr_of}
 use Rattle.mb_alu.specs.Signs.{is_negative, is_zero}
 
 -- the units, and the tens as the byte holds them, 16 times their digit
@@ -15,7 +16,7 @@ tens_of x = x / 16 * 16
 
 -- X, as it counts in a sum
 abbrev pub extend_bit : ℕ → ℕ
-extend_bit ccr = bit (conditions_of ccr).x
+extend_bit ccr = from_bool (conditions_of ccr).x
 
 -- X and C take the carry or borrow, N is the highest bit of the result, V is cleared; a result that is 0 leaves Z as it
 -- was
@@ -83,7 +84,7 @@ decimal_value x = x / 16 * 10 + x % 16
 
 -- C, as it counts in a number
 abbrev pub carry_bit : ℕ → ℕ
-carry_bit ccr = bit (conditions_of ccr).c
+carry_bit ccr = from_bool (conditions_of ccr).c
 
 -- the decimal sum, with a hundred for the carry
 pub record IsDecimalSum (x y ccr : ℕ) (sum : Flagged) : Type 0 where

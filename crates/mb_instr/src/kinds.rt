@@ -47,12 +47,16 @@ impl BitKind {
     }
 }
 
-/// How a shift fills the bits that become free.
+/// What enters an operand that is shifted.
 #[derive(Clone, Copy, Debug, PartialEq, Eq)]
 pub enum ShiftKind {
+    /// 0 to the left, the sign to the right.
     Arithmetic,
+    /// 0.
     Logical,
+    /// X, which takes the bit that leaves.
     RotateExtended,
+    /// The bit that leaves.
     Rotate,
 }
 

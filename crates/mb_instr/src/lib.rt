@@ -23,7 +23,7 @@ pub use kinds::{
 };
 pub use laws::operands_stand;
 pub use opcode::Opcode;
-pub use operand::{Ea, Ext, OperandClass};
+pub use operand::{Ea, Ext, OperandClass, is_full};
 pub use registers::{Plain, Regs};
 pub use rule::WordRule;
 pub use size::Size;

@@ -1,7 +1,7 @@
 //! Operands.
 
 ghost use Rattle.std.specs.Prelude.{◌≡◌, ℕ, ◌≤◌, length};
-ghost use Rattle.mb_instr.specs.Operands.{ext, wide, more, address_number};
+ghost use Rattle.mb_instr.specs.Operands.{is_full, ext, wide, more, address_number};
 ghost use Rattle.mb_instr.specs.Operands.{allows, is_control, is_control_alterable, has_size};
 
 use crate::size::Size;
@@ -141,6 +141,19 @@ pub enum OperandClass {
     FieldSource,
     /// `ControlAlterable`, and `Dn`.
     FieldTarget,
+}
+
+/// Whether the table has the word as a full extension word.
+pub fn is_full(word: u16) -> bool
+    ensures { result ≡ is_full word }
+{
+    let indirect = word & 7;
+    let known = if (word >> 6) & 1 == 0 {
+        indirect != 4
+    } else {
+        indirect < 4
+    };
+    (word >> 3) & 1 == 0 && (word >> 4) & 3 != 0 && known
 }
 
 fn is_control(mode: u8, lower: u8) -> bool

@@ -1,5 +1,6 @@
 -- The machine, its start, its steps and its runs, by a rule of keeping.
 use Rattle.std.specs.Prelude.{ℕ, zero, suc, ◌+◌, ◌==◌, Bool, true, false, if◌then◌else◌, List, [], ◌∷◌, replicate}
+use Rattle.std.specs.Int.{from_bool}
 use Rattle.mb_port.specs.Routine.{run}
 use Rattle.mb_port.specs.declared.types.Mmu.{Mmu}
 use Rattle.mb_model.specs.declared.processor.Cpu.{Cpu}
@@ -13,7 +14,7 @@ use Rattle.mb_processor.specs.declared.Finish.TheVariants as finish
 use Rattle.mb_processor.specs.Raise.{Stepped}
 use Rattle.mb_processor.specs.Step.{step_of}
 use Rattle.mb_devices.specs.Devices.{DeviceState, idle, level_of, received, ticked}
-use Rattle.mb_devices.specs.Registers.{bit, status_of}
+use Rattle.mb_devices.specs.Registers.{status_of}
 use Rattle.mb_walk.specs.Memory.{number_at, overwritten}
 use Rattle.mb_machine.specs.World.{World}
 use Rattle.mb_machine.specs.Bus.{bus_of}
@@ -135,11 +136,11 @@ seen_machine m = record {
   console = m.world.devices.console;
   lost = m.world.devices.lost;
   queue = m.world.devices.queue;
-  ctrl = bit m.world.devices.enabled;
+  ctrl = from_bool m.world.devices.enabled;
   status = status_of m.world.devices;
   period = m.world.devices.period;
   count = m.world.devices.count;
-  pending = bit m.world.devices.pending;
+  pending = from_bool m.world.devices.pending;
   steps = m.steps;
   state = m.state;
   ram = m.world.ram;

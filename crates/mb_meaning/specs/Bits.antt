@@ -1,5 +1,6 @@
 -- BTST, BCHG, BCLR and BSET.
 use Rattle.std.specs.Prelude.{ℕ, ◌+◌, ◌*◌, ◌/◌, ◌%◌, ◌^◌, Bool, true, false, not}
+use Rattle.std.specs.Int.{from_bool}
 use Rattle.mb_port.specs.Routine.{Routine, Return, ◌>>=◌}
 use Rattle.mb_port.specs.declared.types.Space.{Space}
 use Rattle.mb_instr.specs.declared.size.Size.{Size}
@@ -11,7 +12,7 @@ use Rattle.mb_instr.specs.declared.kinds.BitKind.TheVariants.{Test, Change, Clea
 use Rattle.mb_instr.specs.declared.registers.Plain.{Plain}
 use Rattle.mb_instr.specs.Sizes.{bits_of}
 use Rattle.mb_alu.specs.declared.conditions.Flagged.{Flagged}
-use Rattle.mb_alu.specs.Conditions.{bit, is_set, conditions_of, ccr_of}
+use Rattle.mb_alu.specs.Conditions.{is_set, conditions_of, ccr_of}
 use Rattle.mb_meaning.specs.Ends.{Rowed, carried, reading}
 use Rattle.mb_meaning.specs.Operands.{operand_of}
 use Rattle.mb_meaning.specs.Modifying.{modifying}
@@ -23,7 +24,7 @@ bit_size _ = Byte
 
 -- The value with that bit: what stands above it, the bit, and what stands below it.
 abbrev pub with_bit : ℕ → ℕ → Bool → ℕ
-with_bit place value b = (value / 2 ^ place / 2 * 2 + bit b) * 2 ^ place + value % 2 ^ place
+with_bit place value b = (value / 2 ^ place / 2 * 2 + from_bool b) * 2 ^ place + value % 2 ^ place
 
 -- the value with that bit inverted, cleared or set
 abbrev pub bit_after : BitKind → ℕ → ℕ → ℕ

@@ -3,21 +3,11 @@ use Rattle.std.specs.Prelude.{ℕ, ◌%◌, Bool, if◌then◌else◌}
 use Rattle.mb_instr.specs.declared.size.Size.{Size}
 use Rattle.mb_instr.specs.declared.size.Size.TheVariants.{Word}
 use Rattle.mb_instr.specs.declared.kinds.ShiftKind.{ShiftKind}
-use Rattle.mb_instr.specs.declared.kinds.ShiftKind.TheVariants.{Arithmetic, Logical, RotateExtended, Rotate}
 use Rattle.mb_instr.specs.declared.registers.Plain.{Plain}
 use Rattle.mb_instr.specs.Registers.{data_register}
 use Rattle.mb_alu.specs.declared.conditions.Flagged.{Flagged}
-use Rattle.mb_alu.specs.declared.shifts.ShiftKind.{ShiftKind as AluShift}
-use Rattle.mb_alu.specs.declared.shifts.ShiftKind.TheVariants.{As, Ls, Rox, Ro}
 use Rattle.mb_alu.specs.Shifts.{shift_of}
 use Rattle.mb_meaning.specs.Unary.{in_register}
-
--- what the instruction's kind is to the arithmetic
-abbrev pub shift_by : ShiftKind → AluShift
-shift_by Arithmetic = As
-shift_by Logical = Ls
-shift_by RotateExtended = Rox
-shift_by Rotate = Ro
 
 -- a register of counts counts modulo 64
 abbrev pub count_of : Bool → ℕ → Plain → ℕ
@@ -26,8 +16,8 @@ count_of by_register count p = if by_register then data_register p count % 64 el
 -- a shift or rotate of a data register
 unfoldable pub shift_register_of : ShiftKind → Bool → Size → ℕ → ℕ → Plain → Plain
 shift_register_of kind is_left size count register p =
-    in_register register size (shift_of (shift_by kind) is_left size count (data_register p register) p.ccr) p
+    in_register register size (shift_of kind is_left size count (data_register p register) p.ccr) p
 
 -- a shift or rotate of a word in memory, by one bit
 abbrev pub shifted_by_one : ShiftKind → Bool → ℕ → ℕ → Flagged
-shifted_by_one kind is_left value ccr = shift_of (shift_by kind) is_left Word 1 value ccr
+shifted_by_one kind is_left value ccr = shift_of kind is_left Word 1 value ccr

@@ -7,7 +7,8 @@ use Rattle.std.proofs.lemmas.Nat.{and_mask, and_block, or_block, xor_block, pow_
 use Rattle.std.proofs.lemmas.Nat.Bits.{and_high_mask}
 use Rattle.std.proofs.Math.Nat.{mod-eq_of_lt, add-mul}
 use Rattle.std.proofs.Math.Pow.{pow_mono}
-use Rattle.mb_alu.specs.Conditions.{bit, is_set}
+use Rattle.std.specs.Int.{from_bool}
+use Rattle.mb_alu.specs.Conditions.{is_set}
 use Rattle.mb_meaning.specs.Bits.{with_bit}
 
 low_or : (r : ℕ) → r < 2 → bit_or r 1 ≡ 1
@@ -15,7 +16,7 @@ low_or zero h = refl
 low_or (suc zero) h = refl
 low_or (suc (suc r)) h = absurd (omega arith)
 
-low_xor : (r : ℕ) → r < 2 → bit_xor r 1 ≡ bit (not (r == 1))
+low_xor : (r : ℕ) → r < 2 → bit_xor r 1 ≡ from_bool (not (r == 1))
 low_xor zero h = refl
 low_xor (suc zero) h = refl
 low_xor (suc (suc r)) h = absurd (omega arith)
@@ -26,7 +27,7 @@ or_one q =
     ap (λ (n : ℕ). bit_or n 1) split ∙ or_block 1 (q / 2) 0 (q % 2) 1 (omega arith) (omega arith)
     ∙ rw (or_zero_r (q / 2), low_or (q % 2) (omega arith)) refl
 
-xor_one : (q : ℕ) → bit_xor q 1 ≡ q / 2 * 2 + bit (not (q % 2 == 1))
+xor_one : (q : ℕ) → bit_xor q 1 ≡ q / 2 * 2 + from_bool (not (q % 2 == 1))
 xor_one q =
     let split : q ≡ q / 2 * 2 ^ 1 + q % 2 = omega arith in
     ap (λ (n : ℕ). bit_xor n 1) split ∙ xor_block 1 (q / 2) 0 (q % 2) 1 (omega arith) (omega arith)

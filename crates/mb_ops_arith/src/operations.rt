@@ -6,7 +6,6 @@ ghost use Rattle.mb_ops_arith.specs.Changes.{moved_of, sum_of, extended_of, oper
 use crate::bits::change_bit;
 use crate::decimals::negate_decimal;
 use crate::locked::test_and_set;
-use crate::shifts::shift_by;
 use mb_alu::{Flagged, LogicKind, add, logic, shift, sub};
 use mb_instr::{BitKind, ShiftKind, Size};
 
@@ -107,9 +106,7 @@ impl Change {
             Change::Negate => sub(size, value, 0, ccr, false),
             Change::NegateExtended => sub(size, value, 0, ccr, true),
             Change::Complement => logic(LogicKind::Not, size, value, 0, ccr),
-            Change::ShiftWord { kind, is_left } => {
-                shift(shift_by(kind), is_left, Size::Word, 1, value, ccr)
-            }
+            Change::ShiftWord { kind, is_left } => shift(kind, is_left, Size::Word, 1, value, ccr),
             Change::NegateDecimal => negate_decimal(value, ccr),
             Change::TestAndSet => test_and_set(value, ccr),
             Change::Bit(kind, number) => change_bit(kind, number, size, value, ccr),

@@ -1,28 +1,15 @@
 //! Shifts and rotates.
 
 ghost use Rattle.std.specs.Prelude.{◌≡◌, ◌<◌};
-ghost use Rattle.mb_meaning.specs.Shifts.{shift_by, count_of, shift_register_of};
+ghost use Rattle.mb_meaning.specs.Shifts.{count_of, shift_register_of};
 ghost use Rattle.mb_ops_arith.specs.Counts.{IsCount};
 
 use crate::unary::put_in_register;
-use mb_alu::{ShiftKind as AluShift, shift};
+use mb_alu::shift;
 use mb_instr::{Plain, ShiftKind, Size};
 
 /// A count in a register is less than this: of the register it is taken modulo this.
 const COUNTS: u32 = 64;
-
-/// What the instruction's kind is to the arithmetic.
-#[inline(always)]
-pub(crate) fn shift_by(kind: ShiftKind) -> AluShift
-    ensures { result ≡ shift_by kind }
-{
-    match kind {
-        ShiftKind::Arithmetic => AluShift::As,
-        ShiftKind::Logical => AluShift::Ls,
-        ShiftKind::RotateExtended => AluShift::Rox,
-        ShiftKind::Rotate => AluShift::Ro,
-    }
-}
 
 /// By how many bits: the number, or what is in the data register of that number.
 #[inline(always)]
@@ -56,6 +43,6 @@ pub(crate) fn shift_register(
 {
     let count = count(by_register, number, plain);
     let value = plain.d[register as usize];
-    let shifted = shift(shift_by(kind), is_left, size, count, value, plain.ccr);
+    let shifted = shift(kind, is_left, size, count, value, plain.ccr);
     put_in_register(register, size, shifted, plain);
 }

@@ -14,8 +14,8 @@ ghost use Rattle.mb_short.specs.Forms.{is_in_registers};
 ghost use Rattle.mb_short.specs.Moved.{moved_to};
 ghost use Rattle.mb_short.specs.Taken.{GoesBy};
 
-use mb_alu::{LogicKind, ShiftKind, logic, shift};
-use mb_instr::{Plain, Size};
+use mb_alu::{LogicKind, logic, shift};
+use mb_instr::{Plain, ShiftKind, Size};
 use mb_operands::with_low;
 use mb_ops_arith::{
     Operation, Sum, combine_into, combine_registers, compare_with, multiply_word, put_in_register,
@@ -54,7 +54,14 @@ fn shift_right(register: u8, count: u8, plain: &mut Plain)
     ensures { plain.new ≡ shift_register_of Logical false Long count register plain.old }
 {
     let value = plain.d[register as usize];
-    let shifted = shift(ShiftKind::Ls, false, Size::Long, count, value, plain.ccr);
+    let shifted = shift(
+        ShiftKind::Logical,
+        false,
+        Size::Long,
+        count,
+        value,
+        plain.ccr,
+    );
     put_in_register(register, Size::Long, shifted, plain);
 }
 

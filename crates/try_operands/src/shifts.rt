@@ -1,6 +1,7 @@
 //! Shifts and rotates, counts past the size among them.
 
-use mb_alu::{Flagged, ShiftKind, shift};
+use mb_alu::{Flagged, shift};
+use mb_instr::ShiftKind;
 use mb_instr::Size::{self, Byte, Long, Word};
 
 #[test]
@@ -42,7 +43,7 @@ fn arithmetic_shifts(rt: HostRuntime) {
     ];
     for (left, size, count, x, ccr, value, codes) in rows {
         assert!(rt; count < 64);
-        let after = shift(ShiftKind::As, left, size, count, x, ccr);
+        let after = shift(ShiftKind::Arithmetic, left, size, count, x, ccr);
         assert!(rt; after == Flagged { value, ccr: codes }, "{x:x} by {count}");
     }
 }
@@ -78,7 +79,7 @@ fn logical_shifts(rt: HostRuntime) {
     ];
     for (left, size, count, x, ccr, value, codes) in rows {
         assert!(rt; count < 64);
-        let after = shift(ShiftKind::Ls, left, size, count, x, ccr);
+        let after = shift(ShiftKind::Logical, left, size, count, x, ccr);
         assert!(rt; after == Flagged { value, ccr: codes }, "{x:x} by {count}");
     }
 }
@@ -118,7 +119,7 @@ fn rotates_with_extend(rt: HostRuntime) {
     ];
     for (left, size, count, x, ccr, value, codes) in rows {
         assert!(rt; count < 64);
-        let after = shift(ShiftKind::Rox, left, size, count, x, ccr);
+        let after = shift(ShiftKind::RotateExtended, left, size, count, x, ccr);
         assert!(rt; after == Flagged { value, ccr: codes }, "{x:x} by {count}");
     }
 }
@@ -154,7 +155,7 @@ fn rotates(rt: HostRuntime) {
     ];
     for (left, size, count, x, ccr, value, codes) in rows {
         assert!(rt; count < 64);
-        let after = shift(ShiftKind::Ro, left, size, count, x, ccr);
+        let after = shift(ShiftKind::Rotate, left, size, count, x, ccr);
         assert!(rt; after == Flagged { value, ccr: codes }, "{x:x} by {count}");
     }
 }
