@@ -1,5 +1,5 @@
 -- The condition codes, as the condition code register holds them.
-use Rattle.std.specs.Prelude.{ℕ, ◌+◌, ◌*◌, ◌/◌, ◌%◌, ◌^◌, ◌==◌, Bool, true, false}
+use Rattle.std.specs.Prelude.{ℕ, ◌+◌, ◌*◌, ◌/◌, ◌%◌, ◌^◌, ◌==◌, Bool}
 use Rattle.std.specs.Int.{from_bool}
 use Rattle.mb_alu.specs.declared.conditions.Conditions.{Conditions}
 

@@ -3,12 +3,11 @@
 ghost use Rattle.std.specs.Prelude.{◌≡◌, ◌≤◌, ◌+◌, length, All, IfOk, OnOk};
 ghost use Rattle.mb_port.specs.Routine.{run};
 ghost use Rattle.mb_port.specs.Pieces.{cut};
-ghost use Rattle.mb_meaning.specs.Locked.{probe_pieces};
+ghost use Rattle.mb_writes.specs.Checked.{probe_pieces, bytes_at, probed, located, IsLength, IsOpen, AreOpen};
 ghost use Rattle.mb_processor.specs.Entry.{probe_frame, probe_second, put_bytes, put_second, check_frames, put_frames};
 ghost use Rattle.mb_entry.specs.Stacks.{seen, seen_second, frames_seen};
 ghost use Rattle.byteorder.specs.Endian.{big_number};
-ghost use Rattle.mb_entry.specs.Places.{bytes_at, probed, located, places_seen, placed};
-ghost use Rattle.mb_entry.specs.Places.{IsLength, IsOpen, AreOpen, Covers};
+ghost use Rattle.mb_entry.specs.Places.{places_seen, placed, Covers};
 
 use crate::stacking::{Frames, Stacked};
 use arrayvec::ArrayVec;
@@ -61,7 +60,8 @@ fn probe_frame<P: Port>(
     port: &mut P,
 ) -> Result<ArrayVec<Place, MOST_PIECES>, Fault>
     ensures means { run P.bus (probe_frame (seen frame.now)) (P.world port.old) ≡ (located result, P.world port.new) }
-    ensures open { IfOk result (λ places. AreOpen (P.exists (P.rest port.new)) frame.now.bytes.items places.items) }
+    ensures open { IfOk result (λ places.
+        AreOpen (P.exists (P.rest port.new)) (length frame.now.bytes.items) places.items) }
     ensures rest { P.rest port.new ≡ P.rest port.old }
 {
     let mut places = ArrayVec::new();
@@ -91,7 +91,7 @@ pub(crate) fn check_frames<P: Port>(frames: &Frames, port: &mut P) -> Result<Pla
     ensures means { run P.bus (check_frames (frames_seen frames.now)) (P.world port.old)
         ≡ (placed result, P.world port.new) }
     ensures first { IfOk result (λ places.
-        AreOpen (P.exists (P.rest port.new)) frames.now.first.bytes.items places.first.items) }
+        AreOpen (P.exists (P.rest port.new)) (length frames.now.first.bytes.items) places.first.items) }
     ensures second { IfOk result (λ places.
         Covers (P.exists (P.rest port.new)) frames.now.second places.second.items) }
     ensures rest { P.rest port.new ≡ P.rest port.old }
@@ -142,7 +142,7 @@ fn put_second<P: Port>(second: &Option<Stacked>, places: &[Place], port: &mut P)
 /// Writes the frames at their places.
 #[tactic(auto, unfolding(mb_processor::specs::Entry::put_frames))]
 pub(crate) fn put_frames<P: Port>(frames: &Frames, places: &Places, port: &mut P)
-    requires first { AreOpen (P.exists (P.rest port.old)) frames.now.first.bytes.items places.now.first.items }
+    requires first { AreOpen (P.exists (P.rest port.old)) (length frames.now.first.bytes.items) places.now.first.items }
     requires second { Covers (P.exists (P.rest port.old)) frames.now.second places.now.second.items }
     ensures means { run P.bus (put_frames (frames_seen frames.now) (places_seen places.now)) (P.world port.old)
         ≡ (result, P.world port.new) }

@@ -23,7 +23,7 @@ use Rattle.mb_ea.specs.declared.reading.ReadFault.{ReadFault}
 use Rattle.mb_walk.specs.Memory.{AreBytes, number_at, overwritten, with_number}
 use Rattle.mb_walk.proofs.MemoryLemmas.{length-overwritten, overwritten-nothing}
 use Rattle.mb_walk.proofs.LongLemmas.{number_bytes}
-use Rattle.mb_meaning.specs.Locked.{probe_pieces}
+use Rattle.mb_writes.specs.Checked.{probe_pieces}
 use Rattle.mb_processor.specs.declared.entering.Entered.TheVariants as entered
 use Rattle.mb_processor.specs.Entry as entry
 use Rattle.mb_processor.specs.Entry.{Stacked, Frames, frames_of, settled, awake, put_bytes, probe_frame, probe_second, put_second, check_frames, put_frames, vectored, enter_of, unstacked}

@@ -1,12 +1,8 @@
 -- TAS, CAS and CAS2: operands that are checked for writing before they are read.
-use Rattle.std.specs.Prelude.{ℕ, ◌+◌, ◌-◌, ◌*◌, ◌/◌, ◌%◌, ◌^◌, ◌==◌, ◌&&◌, bit_or, if◌then◌else◌, List, [], ◌∷◌, ◌++◌}
-use Rattle.std.specs.Prelude.{Bool, Result, Ok}
-use Rattle.mb_port.specs.Routine.{Routine, Return, Then, ◌>>=◌, ◌>>◌, choose, failing, sure, probe, get, put}
-use Rattle.mb_port.specs.Pieces.{split_of}
+use Rattle.std.specs.Prelude.{ℕ, ◌/◌, ◌%◌, ◌^◌, ◌==◌, ◌&&◌, bit_or, if◌then◌else◌}
+use Rattle.std.specs.Prelude.{Bool}
+use Rattle.mb_port.specs.Routine.{Routine, Return, ◌>>=◌, ◌>>◌, choose, sure}
 use Rattle.mb_port.specs.declared.types.Space.{Space}
-use Rattle.mb_port.specs.declared.types.Piece.{Piece}
-use Rattle.mb_port.specs.declared.types.Place.{Place}
-use Rattle.mb_port.specs.declared.types.Fault.{Fault}
 use Rattle.mb_instr.specs.declared.size.Size.{Size}
 use Rattle.mb_instr.specs.declared.size.Size.TheVariants.{Byte}
 use Rattle.mb_instr.specs.declared.operand.Ea.{Ea}
@@ -18,45 +14,11 @@ use Rattle.mb_alu.specs.declared.conditions.Flagged.{Flagged}
 use Rattle.mb_alu.specs.declared.bitwise.LogicKind.TheVariants.{Pass}
 use Rattle.mb_alu.specs.Logic.{logic_of}
 use Rattle.mb_alu.specs.Sums.{compare_of}
-use Rattle.mb_ea.specs.declared.reading.ReadFault.{ReadFault}
-use Rattle.mb_ea.specs.Reading.{refused_in}
 use Rattle.mb_ea.specs.Resolve.{resolve_of}
-use Rattle.mb_writes.specs.Writing.{part_of}
+use Rattle.mb_writes.specs.Checked.{probe_of, get_of, put_at}
 use Rattle.mb_meaning.specs.Ends.{Rowed, carried, reading}
 use Rattle.mb_meaning.specs.Operands.{with_low, place_of}
 use Rattle.mb_meaning.specs.Modifying.{modifying}
-
--- ---- locked operands
-
--- Pieces are checked for writing in their order. Where each stands comes behind the places so far.
-abbrev pub probe_pieces : Space → List Piece → List Place → Routine (Result (List Place) Fault)
-probe_pieces space [] places = Return (Ok places)
-probe_pieces space (p ∷ ps) places = do
-  place ← probe space p
-  probe_pieces space ps (places ++ place ∷ [])
-
--- The places of an operand, which are checked for writing. A refused check is told with the operand's first byte.
-unfoldable pub probe_of : Space → ℕ → ℕ → Routine (Result (List Place) ReadFault)
-probe_of space at len = failing (refused_in at) (probe_pieces space (split_of at len) [])
-
--- Checked places are read in their order: the big-endian number that they spell, behind the value so far.
-abbrev pub get_places : List Place → ℕ → Routine ℕ
-get_places [] value = Return value
-get_places (p ∷ ps) value = Then (get p) (λ x. get_places ps (value * 256 ^ p.len + x))
-
--- what stands at an operand's places
-unfoldable pub get_of : List Place → Routine ℕ
-get_of places = get_places places 0
-
--- Checked places are written in their order, each with its part of the number.
-abbrev pub put_places : List Place → ℕ → ℕ → Routine (Unit {0})
-put_places [] before_end value = Return tt
-put_places (p ∷ ps) before_end value =
-    Then (put p (part_of value before_end p.len)) (λ done. put_places ps (before_end - p.len) value)
-
--- an operand of so many bytes goes to its places
-unfoldable pub put_at : List Place → ℕ → ℕ → Routine (Unit {0})
-put_at places len value = put_places places len value
 
 -- ---- TAS
 

@@ -3,6 +3,5 @@ pub mod Effects
 pub mod Pairs
 pub mod Counts
 pub mod Decimals
-pub mod Locking
 pub mod Groups
 pub mod AtHand

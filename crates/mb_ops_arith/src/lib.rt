@@ -10,7 +10,6 @@ mod decimals;
 mod direct;
 mod groups;
 mod locked;
-mod locking;
 mod modifying;
 mod operations;
 mod pairs;

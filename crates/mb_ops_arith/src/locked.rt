@@ -10,7 +10,6 @@ ghost use Rattle.mb_meaning.specs.Locked.{cas_codes, cas_loaded, cas_equal, cas_
 ghost use Rattle.mb_meaning.specs.Locked.{cas2_codes, cas2_equal, cas2_of};
 ghost use Rattle.mb_operands.specs.Endings.{carried_by};
 
-use crate::locking::{get_operand, probe_operand, put_operand};
 use crate::modifying::modify;
 use crate::operations::Change;
 use mb_alu::{Flagged, LogicKind, compare, logic};
@@ -18,7 +17,7 @@ use mb_ea::resolve;
 use mb_instr::{Ea, Plain, Size};
 use mb_operands::{Undone, place, unread, with_low};
 use mb_port::{Port, Space};
-use mb_writes::Ended;
+use mb_writes::{Ended, get_operand, probe_operand, put_operand};
 
 /// The byte with bit 7 set, and the condition codes by the byte as it was.
 #[inline(always)]

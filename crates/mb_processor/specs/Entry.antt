@@ -21,7 +21,7 @@ use Rattle.mb_ea.specs.Reading.{read_of}
 use Rattle.mb_processor.specs.declared.entering.Cause.{Cause}
 use Rattle.mb_processor.specs.declared.entering.Entered.{Entered}
 use Rattle.mb_processor.specs.declared.entering.Entered.TheVariants as entered
-use Rattle.mb_meaning.specs.Locked.{probe_pieces}
+use Rattle.mb_writes.specs.Checked.{probe_pieces}
 
 -- ---- causes
 

@@ -12,7 +12,7 @@ use Rattle.mb_port.specs.declared.types.Fault.{Fault}
 use Rattle.mb_port.proofs.Cuts.{cut_are}
 use Rattle.mb_ea.specs.Addresses.{sum}
 use Rattle.mb_ea.specs.Reading.{read_pieces, read_cut, read_of}
-use Rattle.mb_meaning.specs.Locked.{probe_pieces}
+use Rattle.mb_writes.specs.Checked.{probe_pieces}
 use Rattle.mb_processor.specs.Entry.{put_bytes}
 use Rattle.mb_returns.specs.Keeping.{Placing, Viewing, IsAddressed, Shows, IsKept, Keeps}
 use Rattle.mb_returns.proofs.Readings.{kept_still, piece_fits}

@@ -23,7 +23,8 @@ use Rattle.mb_instr.specs.Registers.{register_of, data_register}
 use Rattle.mb_ea.specs.Reading.{refused_in}
 use Rattle.mb_writes.specs.Writing.{part_of}
 use Rattle.mb_meaning.specs.Operands.{place_of}
-use Rattle.mb_meaning.specs.Locked.{probe_pieces, probe_of, get_places, get_of, put_places, put_at, test_and_set, tas_in_memory, tas_of}
+use Rattle.mb_writes.specs.Checked.{probe_pieces, probe_of, get_places, get_of, put_places, put_at}
+use Rattle.mb_meaning.specs.Locked.{test_and_set, tas_in_memory, tas_of}
 use Rattle.mb_meaning.specs.Locked.{update_by, pointer_by, cas_equal, cas_at, cas_of, cas2_equal, cas2_of}
 use Rattle.mb_tells.specs.Guarded.{Goes, quiet}
 use Rattle.mb_tells.specs.Left.{Answered, Telling}

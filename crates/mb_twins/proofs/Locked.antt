@@ -21,7 +21,8 @@ use Rattle.mb_instr.specs.Registers.{register_of, data_register}
 use Rattle.mb_writes.specs.Writing.{part_of}
 use Rattle.mb_meaning.specs.Ends.{Rowed, Cut, Stopped, reading}
 use Rattle.mb_meaning.specs.Operands.{place_of}
-use Rattle.mb_meaning.specs.Locked.{probe_pieces, probe_of, get_places, get_of, put_places, put_at, test_and_set, tas_in_memory, tas_of}
+use Rattle.mb_writes.specs.Checked.{probe_pieces, probe_of, get_places, get_of, put_places, put_at}
+use Rattle.mb_meaning.specs.Locked.{test_and_set, tas_in_memory, tas_of}
 use Rattle.mb_meaning.specs.Locked.{update_by, pointer_by, cas_equal, cas_at, cas_of, cas2_equal, cas2_of}
 use Rattle.mb_twins.specs.Twins.{SameRead}
 use Rattle.mb_twins.proofs.Parts.{SameCut, SameRowed, Rows, Stages, then_twins, reading_twins}

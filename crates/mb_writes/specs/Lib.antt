@@ -1,4 +1,5 @@
 pub mod Writing
+pub mod Checked
 pub mod Transfers
 pub mod Moving
 pub mod Laws

@@ -28,7 +28,7 @@ use Rattle.mb_writes.specs.Writing as writes
 use Rattle.mb_writes.specs.Writing.{part_of, pending_of, left_by, write_all, put_of, apart, put_apart_of}
 use Rattle.mb_meaning.specs.Ends.{Carried, Stopped, Cut, Unread, Stop, Rowed, reading, writing}
 use Rattle.mb_meaning.specs.Operands.{load_of, store_of, Fetched, operand_of, address_of, storing, pushing}
-use Rattle.mb_meaning.specs.Locked.{probe_pieces, probe_of}
+use Rattle.mb_writes.specs.Checked.{probe_pieces, probe_of}
 use Rattle.mb_meaning.specs.Peripheral.{read_apart_of}
 use Rattle.mb_tells.specs.Laws.{AreLongs}
 use Rattle.mb_tells.proofs.Ranges.{IsFormed}

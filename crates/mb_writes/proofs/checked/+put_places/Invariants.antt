@@ -1,5 +1,5 @@
 use Rattle.std.proofs.Common.{length}
-use Rattle.mb_ops_arith.proofs.locking.+put_places.Given as goal
+use Rattle.mb_writes.proofs.checked.+put_places.Given as goal
 
 abbrev pub decreases-put_places : goal.decreases-put_places
 decreases-put_places g l = length l.places.now

@@ -1,17 +1,17 @@
-//! Operands that are checked for writing before they are read.
+//! Places that are checked for writing before anything is read or written there.
 
 ghost use Rattle.std.specs.Prelude.{◌≡◌, ◌<◌, ◌≤◌, ◌+◌, ◌^◌, length, All, IfOk, OnOk};
 ghost use Rattle.mb_port.specs.Routine.{run};
 ghost use Rattle.mb_port.specs.Pieces.{ArePieces, total};
 ghost use Rattle.mb_instr.specs.Sizes.{bytes_of, values_of};
-ghost use Rattle.mb_meaning.specs.Locked.{probe_pieces, probe_of, get_places, get_of, put_places, put_at};
-ghost use Rattle.mb_ops_arith.specs.Locking.{bytes_at, probed, located, AreOpen};
+ghost use Rattle.mb_writes.specs.Checked.{probe_pieces, probe_of, get_places, get_of, put_places, put_at};
+ghost use Rattle.mb_writes.specs.Checked.{bytes_at, probed, located, IsOpen, AreOpen};
 
+use crate::writing::part;
 use arrayvec::ArrayVec;
 use mb_ea::{ReadFault, join};
 use mb_instr::Size;
 use mb_port::{Fault, Piece, Place, Port, Space, split};
-use mb_writes::part;
 
 /// Checks pieces for writing in their order. Where each stands comes behind the places so far.
 fn probe_pieces<P: Port>(
@@ -22,10 +22,10 @@ fn probe_pieces<P: Port>(
 ) -> Result<(), Fault>
     requires aligned { ArePieces pieces.now }
     requires room { length places.old.items + length pieces.now ≤ 3 }
-    requires open { All (P.exists (P.rest port.old)) places.old.items }
+    requires open { All (IsOpen (P.exists (P.rest port.old))) places.old.items }
     ensures means { run P.bus (probe_pieces space pieces.now places.old.items) (P.world port.old)
         ≡ (probed result places.new.items, P.world port.new) }
-    ensures open { OnOk result (All (P.exists (P.rest port.new)) places.new.items) }
+    ensures open { OnOk result (All (IsOpen (P.exists (P.rest port.new))) places.new.items) }
     ensures bytes { OnOk result (bytes_at places.new.items ≡ bytes_at places.old.items + total pieces.now) }
     ensures rest { P.rest port.new ≡ P.rest port.old }
 {
@@ -40,8 +40,8 @@ fn probe_pieces<P: Port>(
 }
 
 /// Checks an operand for writing. The answer is where its pieces stand.
-#[tactic(auto, unfolding(mb_meaning::specs::Locked::probe_of))]
-pub(crate) fn probe_operand<P: Port>(
+#[tactic(auto, unfolding(crate::specs::Checked::probe_of))]
+pub fn probe_operand<P: Port>(
     space: Space,
     at: u32,
     size: Size,
@@ -49,7 +49,7 @@ pub(crate) fn probe_operand<P: Port>(
 ) -> Result<ArrayVec<Place, 3>, ReadFault>
     ensures means { run P.bus (probe_of space at (bytes_of size)) (P.world port.old)
         ≡ (located result, P.world port.new) }
-    ensures open { IfOk result (λ places. AreOpen (P.exists (P.rest port.new)) size places.items) }
+    ensures open { IfOk result (λ places. AreOpen (P.exists (P.rest port.new)) (bytes_of size) places.items) }
     ensures rest { P.rest port.new ≡ P.rest port.old }
 {
     let pieces = split(at, size.bytes());
@@ -62,7 +62,7 @@ pub(crate) fn probe_operand<P: Port>(
 
 /// Reads checked places in their order, behind the `len` bytes of `value`.
 fn get_places<P: Port>(places: &[Place], value: u64, len: u8, port: &mut P) -> u64
-    requires open { All (P.exists (P.rest port.old)) places.now }
+    requires open { All (IsOpen (P.exists (P.rest port.old))) places.now }
     requires fits { len + bytes_at places.now ≤ 4 }
     requires in_range { value < 256 ^ len }
     ensures means { run P.bus (get_places places.now value) (P.world port.old) ≡ (result, P.world port.new) }
@@ -80,9 +80,9 @@ fn get_places<P: Port>(places: &[Place], value: u64, len: u8, port: &mut P) -> u
 }
 
 /// Reads a checked operand.
-#[tactic(auto, unfolding(mb_meaning::specs::Locked::get_of))]
-pub(crate) fn get_operand<P: Port>(places: &ArrayVec<Place, 3>, size: Size, port: &mut P) -> u32
-    requires { AreOpen (P.exists (P.rest port.old)) size places.now.items }
+#[tactic(auto, unfolding(crate::specs::Checked::get_of))]
+pub fn get_operand<P: Port>(places: &ArrayVec<Place, 3>, size: Size, port: &mut P) -> u32
+    requires { AreOpen (P.exists (P.rest port.old)) (bytes_of size) places.now.items }
     ensures means { run P.bus (get_of places.now.items) (P.world port.old) ≡ (result, P.world port.new) }
     ensures range { result < values_of size }
     ensures rest { P.rest port.new ≡ P.rest port.old }
@@ -92,7 +92,7 @@ pub(crate) fn get_operand<P: Port>(places: &ArrayVec<Place, 3>, size: Size, port
 
 /// Writes checked places in their order, each with its part of the number.
 fn put_places<P: Port>(places: &[Place], before_end: u8, value: u32, port: &mut P)
-    requires open { All (P.exists (P.rest port.old)) places.now }
+    requires open { All (IsOpen (P.exists (P.rest port.old))) places.now }
     requires fits { bytes_at places.now ≤ 4 }
     requires few { before_end ≤ 4 }
     ensures means { run P.bus (put_places places.now before_end value) (P.world port.old)
@@ -106,14 +106,9 @@ fn put_places<P: Port>(places: &[Place], before_end: u8, value: u32, port: &mut 
 }
 
 /// Writes a checked operand.
-#[tactic(auto, unfolding(mb_meaning::specs::Locked::put_at))]
-pub(crate) fn put_operand<P: Port>(
-    places: &ArrayVec<Place, 3>,
-    size: Size,
-    value: u32,
-    port: &mut P,
-)
-    requires { AreOpen (P.exists (P.rest port.old)) size places.now.items }
+#[tactic(auto, unfolding(crate::specs::Checked::put_at))]
+pub fn put_operand<P: Port>(places: &ArrayVec<Place, 3>, size: Size, value: u32, port: &mut P)
+    requires { AreOpen (P.exists (P.rest port.old)) (bytes_of size) places.now.items }
     ensures means { run P.bus (put_at places.now.items (bytes_of size) value) (P.world port.old)
         ≡ (result, P.world port.new) }
     ensures rest { P.rest port.new ≡ P.rest port.old }
