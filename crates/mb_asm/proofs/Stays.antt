@@ -69,10 +69,6 @@ stays_by : {A : Type 0} (x y : Option A) → ((v : A) → x ≡ Some v → y ≡
 stays_by None y h = tt
 stays_by (Some v) y h = h v refl
 
-by_stays : {A : Type 0} (x y : Option A) (v : A) → Stays x y → x ≡ Some v → y ≡ Some v
-by_stays None y v p h = absurd cc
-by_stays (Some u) y v p h = p ∙ h
-
 pub map_stays : {A B : Type 0} (f : A → B) (x y : Option A) → Stays x y → Stays (option_map f x) (option_map f y)
 map_stays f None y p = tt
 map_stays f (Some v) y p = rw p refl
@@ -824,10 +820,6 @@ judged_by_stays before after line ss ts label found operation next later s p q =
     (admitted_stays before after line label found b c p m)
     (λ one two i j. bound_stays next later f g (err_by next later q)
     (λ x y is there. laid_stays line ss ts before.at after.at x y label found operation s p.at (given_by next later x y q is there))))
-
--- what an operation reads its symbols in
-abbrev pub symbols_by : Bool → List Symbol → Layout → List Symbol
-symbols_by reads symbols layout = if reads then layout.symbols else symbols
 
 operation_stays : (symbols more : List Symbol) (before after : Layout) (line : List ℕ) (label : Option Name) (operation : Operation)
     → SymbolsStay symbols more → LayoutStays before after

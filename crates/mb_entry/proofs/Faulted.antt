@@ -11,11 +11,6 @@ of_the_fault entered.Done fault P same h = tt
 of_the_fault (entered.Faulted other) fault P same h = rw (same) h
 of_the_fault entered.DoubleFault fault P same h = tt
 
-pub where_halted : (e : Entered) (P Q : Type 0) → IfHalted e P → (P → Q) → IfHalted e Q
-where_halted entered.Done P Q h f = tt
-where_halted (entered.Faulted fault) P Q h f = tt
-where_halted entered.DoubleFault P Q h f = f h
-
 pub both_halted : (e : Entered) (P Q R : Type 0) → IfHalted e P → IfHalted e Q → (P → Q → R) → IfHalted e R
 both_halted entered.Done P Q R h k f = tt
 both_halted (entered.Faulted fault) P Q R h k f = tt

@@ -1,5 +1,5 @@
 -- What rows of the table have in common.
-use Rattle.std.specs.Prelude.{ℕ, ◌+◌, ◌*◌, ◌/◌, ◌%◌, ◌^◌, ◌<◌, ◌==◌, Bool, true, ◌&&◌, not, nat_lt}
+use Rattle.std.specs.Prelude.{ℕ, ◌+◌, ◌*◌, ◌/◌, ◌%◌, ◌^◌, ◌==◌, Bool, true, ◌&&◌, not, nat_lt}
 use Rattle.std.specs.Prelude.{List, [], ◌∷◌, ◌++◌, length}
 use Rattle.mb_instr.specs.declared.size.Size.{Size}
 use Rattle.mb_instr.specs.declared.operand.Ea.{Ea}
@@ -102,12 +102,6 @@ abbrev pub is_branch : Branch → Bool
 is_branch (branch.Byte b) = not (b == 0) && not (b == 255)
 is_branch (branch.Word w) = true
 is_branch (branch.Long l) = true
-
--- a displacement byte of 0 or $FF says that words follow
-abbrev pub IsBranch : Branch → Type 0
-IsBranch (branch.Byte b) = (0 < b) × (b < 255)
-IsBranch (branch.Word w) = w < 2 ^ 16
-IsBranch (branch.Long l) = l < 2 ^ 32
 
 -- 1 to 8, where 8 is spelled 0
 abbrev pub is_quick : ℕ → Bool

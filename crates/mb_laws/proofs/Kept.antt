@@ -1,6 +1,6 @@
 -- What each call of a bus keeps, every routine keeps.
 use Rattle.std.specs.Prelude.{◌≡◌, refl, Bool, true, false}
-use Rattle.std.proofs.Common.{ap, ◌∙◌, sym}
+use Rattle.std.proofs.Common.{ap, ◌∙◌}
 use Rattle.mb_port.specs.Routine.{Call, Routine, Return, Ask, Then, Bus, run}
 use Rattle.mb_laws.specs.Until.{Until, Ended, Stopped, then_until, ask_until, run_until, state_of, GoesOn, AlongUntil}
 use Rattle.mb_laws.specs.Keeps.{Keeps, KeepsAllowed, LeavesAlone, lifted}
@@ -44,11 +44,3 @@ run_lifted bus (Return a) s n = refl
 run_lifted bus (Ask c) s n = refl
 run_lifted {S = S} {N = N} bus (Then {A = A} m f) s n =
     ap (λ (r : A × (S × N)). run (lifted bus) (f (r.0)) (r.1)) (run_lifted bus m s n) ∙ run_lifted bus (f ((run bus m s).0)) ((run bus m s).1) n
-
-pub lifted_run : {S N A : Type 0} (bus : Bus S) (m : Routine A) (s t : S) (n k : N) (a : A)
-    → run (lifted bus) m (s, n) ≡ (a, (t, k)) → run bus m s ≡ (a, t)
-lifted_run {S = S} {N = N} {A = A} bus m s t n k a e = ap (λ (r : A × (S × N)). (r.0, (r.1).0)) (sym (run_lifted bus m s n) ∙ e)
-
-pub lifted_beside : {S N A : Type 0} (bus : Bus S) (m : Routine A) (s t : S) (n k : N) (a : A)
-    → run (lifted bus) m (s, n) ≡ (a, (t, k)) → k ≡ n
-lifted_beside {S = S} {N = N} {A = A} bus m s t n k a e = sym (ap (λ (r : A × (S × N)). (r.1).1) (sym (run_lifted bus m s n) ∙ e))

@@ -44,12 +44,6 @@ abbrev pub through : {S A B E F : Type 0} → (Routine (Result A E) → Routine 
 through onto value fact rest t e = fact (onto rest) t (value e)
 
 -- says nothing
-abbrev pub any_state : {S : Type 0} → S → Type 0
-any_state s = Unit {0}
-
-abbrev pub any_end : {S A : Type 0} → A → S → Type 0
-any_end a s = Unit {0}
-
 abbrev pub any_call : {S : Type 0} → Call → S → Type 0
 any_call c s = Unit {0}
 

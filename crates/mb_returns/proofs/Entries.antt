@@ -63,9 +63,6 @@ module _ (S : Type 0) (bus : Bus S) (place : Placing S) (view : Viewing S) (keep
   made : List Place → List Place → entry.Places
   made first second = record { first = first; second = second }
 
-  next_check : Option Stacked → List Place → Routine (Result entry.Places Fault)
-  next_check second first = Then (probe_second second) (λ r. tried r (λ second. Return (Ok (record { first = first; second = second }))))
-
   after_second : (f : Frames) (s : Stacked) (first : List Place) (places : entry.Places) (t : S) (r : Result (List Place) Fault)
       → (run bus (probe_pieces Super (pieces_of s) []) t).0 ≡ r → IsFrameOn s → f.second ≡ Some s → AreAt (place t) (pieces_of f.first) first
       → (let rest : Result (List Place) Fault → Routine (Result entry.Places Fault) =

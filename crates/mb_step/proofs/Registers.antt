@@ -53,9 +53,6 @@ same_due p cpu flow =
     ap (λ (n : ℕ). (n % 2 == 1) || ((cpu.regs.sr / 2 ^ 14 % 2 == 1) && flow)) (sym (high15 cpu.regs.sr p.ccr))
     ∙ ap (λ (n : ℕ). (with_ccr cpu.regs.sr p.ccr / 2 ^ 15 % 2 == 1) || ((n % 2 == 1) && flow)) (sym (high14 cpu.regs.sr p.ccr))
 
-pub same_stopped : (p : Plain) (cpu : Cpu) → cpu.stopped ≡ (with_registers p cpu).stopped
-same_stopped p cpu = refl
-
 pub same_counter : (p : Plain) (cpu : Cpu) → p.pc ≡ (with_registers p cpu).regs.pc
 unfolding with_plain
 same_counter p cpu = refl

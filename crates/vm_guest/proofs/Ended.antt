@@ -1,14 +1,13 @@
 -- A guest's step, from what the processor's part of it leaves.
-use Rattle.std.proofs.Common.{◌≡◌, ◌∙◌, ℕ, true, false, refl, ap, sym}
+use Rattle.std.proofs.Common.{◌≡◌, ◌∙◌, ℕ, refl, ap, sym}
 use Rattle.mb_model.specs.declared.processor.Cpu.{Cpu}
 use Rattle.mb_model.specs.declared.outcome.RunState.{RunState}
 use Rattle.mb_devices.specs.Devices.{DeviceState}
 use Rattle.mb_processor.specs.declared.Finish.{Finish}
 use Rattle.mb_processor.specs.declared.Finish.TheVariants as finish
 use Rattle.mb_processor.specs.declared.StepEnd.{StepEnd}
-use Rattle.mb_processor.specs.declared.StepEnd.TheVariants as step
 use Rattle.mb_processor.specs.Raise.{Stepped, by_its_end, step_end}
-use Rattle.mb_machine.specs.Machine.{going, state_after, takes_steps}
+use Rattle.mb_machine.specs.Machine.{state_after}
 use Rattle.vm_machine.specs.Guests.{Guest}
 use Rattle.vm_machine.specs.Turns.{Guested}
 use Rattle.vm_guest.specs.Turns.{ended_at, state_by}
@@ -34,9 +33,3 @@ ended steps r end cpu g state means is =
     ∙ ap (λ (x : Cpu). of x g (state_by (step_end r.0.0) x g.world.devices)) c
     ∙ ap (λ (x : Guest). of r.0.1 x (state_by (step_end r.0.0) r.0.1 x.world.devices)) w
     ∙ ap (λ (s : RunState). of r.0.1 r.1 s) (sym (state_is r.0.0 r.0.1 r.1.world.devices))
-
--- a guest that goes on behind it is on
-pub goes_by : (end : StepEnd) (cpu : Cpu) (d : DeviceState) (state : RunState) → state ≡ state_by end cpu d → takes_steps state ≡ true → state ≡ going cpu d
-goes_by step.Went cpu d state is takes = is
-goes_by step.Idle cpu d state is takes = is
-goes_by step.Halted cpu d state is takes = absurd (let e : false ≡ true = sym (ap takes_steps is) ∙ takes in let z : ⊥ = cc in z)

@@ -18,7 +18,7 @@ use Rattle.mb_board.specs.Beside.{but_ram}
 use Rattle.mb_board.specs.Fits.{FitsAlong}
 use Rattle.mb_board.specs.State.{BoardState, ran_to}
 use Rattle.vm_meaning.specs.declared.RunEnd.{RunEnd}
-use Rattle.vm_meaning.specs.declared.RunEnd.TheVariants.{Counted, Exit, Gone}
+use Rattle.vm_meaning.specs.declared.RunEnd.TheVariants.{Counted, Exit}
 use Rattle.vm_meaning.specs.Marks.{trail}
 use Rattle.vm_meaning.specs.Native.{NativeState, Ran}
 use Rattle.vm_shadow.specs.Shadows.{Shadowed}
@@ -74,11 +74,6 @@ leaves : (v : ℕ) → Leaves (class_of_vector v)
 leaves v = leaves_by (v == ACCESS_ERROR) (is_refusal v)
 
 -- ---- a run that the board left
-
-vector_in : RunEnd → ℕ
-vector_in (Exit vector) = vector
-vector_in Counted = 0
-vector_in Gone = 0
 
 same_vector : (v n : ℕ) → Exit v ≡ Exit n → v ≡ n
 same_vector v n e = cc

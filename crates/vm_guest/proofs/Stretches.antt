@@ -47,17 +47,6 @@ nothing_arrives script taken n none k more less d =
     ]))
     ∙ ap (λ (s : Entries). arrived k s d) (drop_all (length script) script (omega arith))
 
--- and the next entry stays the next one
-pub next_stays : (script : Entries) (taken next n : ℕ) → IsNext script taken next → NoneDue script taken n → IsNext script (taken + n) next
-next_stays script taken next n at none = record {
-  within = at.within;
-  past = λ place less. let h = at.past place less in omega arith;
-  later = λ place behind within. elim (none place within) [
-    | inl past ↦ absurd (let h = at.later place behind within in let z : ⊥ = omega arith in z)
-    | inr later ↦ later
-  ];
-}
-
 -- of fewer steps too
 pub fewer_due : (script : Entries) (taken n m : ℕ) → m ≤ n → NoneDue script taken n → NoneDue script taken m
 fewer_due script taken n m few none place within = elim (none place within) [

@@ -136,9 +136,6 @@ pub line_sound : (size : ℕ) (g : Guest) (p : ℕ) (line : List ℕ) → Sound 
 line_sound size g p [] s h = s
 line_sound size g p (v ∷ vs) s h = line_sound size (wrote_guest g p 4 v) (p + 4) vs (wrote_sound size g p 4 v s (omega arith)) (omega arith)
 
-abbrev pub WritesAt : ℕ → Guest → ℕ → Store → (ℕ → Guest) → Type 0
-WritesAt size g len store after = (p : ℕ) → p + len ≤ size → (store (place_at p len) g.world ≡ Some (after p).world) × ((after p).shadow ≡ g.shadow)
-
 abbrev pub held_write : Guest → Reference → ℕ → Store → Result (Unit {0}) Fault × Guest
 held_write g r len store = or_refused (allows g.shadow r) (of_guest g (written_by rule_k r len store g.world)) r len g
 
