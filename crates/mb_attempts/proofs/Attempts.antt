@@ -17,7 +17,7 @@ use Rattle.mb_processor.specs.SystemEnds.{with_registers}
 use Rattle.mb_meaning.specs.Rows.{row_of, perform_of}
 use Rattle.mb_meaning.specs.Attempt.{Unfound, NoInstruction, Unfetched, found_none, Found, fetched_of, past, attempt_of}
 use Rattle.mb_processor.specs.Raise.{is_due, tracing_of, interrupt_of, refused_of}
-use Rattle.mb_processor.specs.Step.{finish_of, supervised_of, unprivileged_of, executed_of, unfound_of, instruction_of, interrupt_mask, step_of}
+use Rattle.mb_processor.specs.Step.{finish_of, supervised_of, unprivileged_of, executed_of, unfound_of, instruction_of, interrupt_mask, rank, step_of}
 use Rattle.mb_attempts.specs.Attempts.{AttemptsPerform, AttemptsFindNone, is_attempted, NoOther, finished_by, AttemptThenFinish, IsUntraced, UntracedStepsGo}
 
 -- ---- an attempt
@@ -80,8 +80,8 @@ by_found bus cpu i (Err unfound, t) h k = none_found bus i unfound cpu (plain_of
 pub attempt_then_finish : {S : Type 0} → AttemptThenFinish S
 unfolding step_of instruction_of attempt_of plain_of
 attempt_then_finish bus level cpu s i masked going other k =
-    chosen bus (nat_lt (interrupt_mask cpu) level) (interrupt_of level cpu) (choose cpu.stopped (Return (finish.Idle, cpu)) (instruction_of cpu)) s
-    (not_above level (interrupt_mask cpu) masked)
+    chosen bus (nat_lt (interrupt_mask cpu) (rank level)) (interrupt_of level cpu) (choose cpu.stopped (Return (finish.Idle, cpu)) (instruction_of cpu)) s
+    (not_above (rank level) (interrupt_mask cpu) masked)
     ∙ chosen bus cpu.stopped (Return (finish.Idle, cpu)) (instruction_of cpu) s going
     ∙ by_found bus cpu i (run bus (fetched_of (space_of cpu) cpu.regs.pc) s) other k
 
@@ -119,7 +119,7 @@ goes_on bus cpu done t (Err unfound, u) untraced e = absurd (not_done _ done u t
 pub untraced_steps_go : {S : Type 0} → UntracedStepsGo S
 unfolding step_of instruction_of attempt_of plain_of
 untraced_steps_go bus level cpu s t done masked untraced e =
-    chosen bus (nat_lt (interrupt_mask cpu) level) (interrupt_of level cpu) (choose cpu.stopped (Return (finish.Idle, cpu)) (instruction_of cpu)) s
-    (not_above level (interrupt_mask cpu) masked)
+    chosen bus (nat_lt (interrupt_mask cpu) (rank level)) (interrupt_of level cpu) (choose cpu.stopped (Return (finish.Idle, cpu)) (instruction_of cpu)) s
+    (not_above (rank level) (interrupt_mask cpu) masked)
     ∙ chosen bus cpu.stopped (Return (finish.Idle, cpu)) (instruction_of cpu) s untraced.going
     ∙ goes_on bus cpu done t (run bus (fetched_of (space_of cpu) cpu.regs.pc) s) untraced e

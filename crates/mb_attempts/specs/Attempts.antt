@@ -14,7 +14,7 @@ use Rattle.mb_processor.specs.SystemEnds.{with_registers}
 use Rattle.mb_meaning.specs.Rows.{perform_of}
 use Rattle.mb_meaning.specs.Attempt.{Unfound, found_none, Found, fetched_of, past, attempt_of}
 use Rattle.mb_processor.specs.Raise.{Stepped, traces_all, traces_flow}
-use Rattle.mb_processor.specs.Step.{finish_of, interrupt_mask, step_of}
+use Rattle.mb_processor.specs.Step.{finish_of, interrupt_mask, rank, step_of}
 
 -- ---- an attempt
 
@@ -58,7 +58,8 @@ finished_by bus i cpu attempted =
 -- end. Where no instruction was found that end says all, and the finish is that of any instruction.
 abbrev pub AttemptThenFinish : Type 0 → Type 0
 AttemptThenFinish S = (bus : Bus S) (level : ℕ) (cpu : Cpu) (s : S) (i : Instr)
-    → level ≤ interrupt_mask cpu → cpu.stopped ≡ false → NoOther i (fetched_by bus cpu s).0 → is_attempted i cpu ≡ true
+    → rank level ≤ interrupt_mask cpu → cpu.stopped ≡ false → NoOther i (fetched_by bus cpu s).0
+    → is_attempted i cpu ≡ true
     → run bus (step_of level cpu) s ≡ finished_by bus i cpu (attempted_by bus cpu s)
 
 -- neither stopped nor traced
@@ -70,5 +71,5 @@ pub record IsUntraced (cpu : Cpu) : Type 0 where
 -- Such a step whose attempt is carried out enters no exception, and has the attempt's registers.
 abbrev pub UntracedStepsGo : Type 0 → Type 0
 UntracedStepsGo S = (bus : Bus S) (level : ℕ) (cpu : Cpu) (s t : S) (done : Carried)
-    → level ≤ interrupt_mask cpu → IsUntraced cpu → attempted_by bus cpu s ≡ (Ok done, t)
+    → rank level ≤ interrupt_mask cpu → IsUntraced cpu → attempted_by bus cpu s ≡ (Ok done, t)
     → run bus (step_of level cpu) s ≡ ((finish.Went, with_registers done.plain cpu), t)

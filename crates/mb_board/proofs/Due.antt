@@ -1,29 +1,32 @@
 -- Places in a script, and what arrives by its entries.
 use Rattle.std.proofs.Common.{◌≡◌, ◌∙◌, ℕ, zero, suc, ◌+◌, ◌<◌, ◌≤◌, ◌≢◌, List, [], ◌∷◌, length, drop, refl, sym, ap, arith}
-use Rattle.std.proofs.Common.{◌⊎◌, inl, inr, add-one}
+use Rattle.std.proofs.Common.{◌⊎◌, inl, inr, add-one, Bool, true, false, ◌&&◌, ◌||◌}
 use Rattle.std.specs.Prelude.{Some, None, slice_get, ◌==◌, if◌then◌else◌}
 use Rattle.std.proofs.lemmas.Option.{get_or_from_slice_get, slice_get_within, slice_get-get_or}
 use Rattle.std.proofs.lemmas.List.{drop_all, get_or-drop, length-drop}
 use Rattle.std.proofs.Math.Seq.{drop-cons}
 use Rattle.std.proofs.lemmas.Bool.Decides.{nat_tests}
+use Rattle.mb_script.specs.declared.input.Input.{Input}
+use Rattle.mb_script.specs.declared.input.Input.TheVariants.{Abort}
 use Rattle.mb_script.specs.Script.{IsScript}
-use Rattle.mb_devices.specs.Devices.{DeviceState, received}
-use Rattle.mb_machine.specs.Machine.{Entries, arrived}
-use Rattle.mb_board.specs.Arrivals.{due_at}
+use Rattle.mb_devices.specs.Devices.{DeviceState}
+use Rattle.mb_machine.specs.Machine.{Entries, aborts, arrived, is_abort, taken_in}
+use Rattle.vm_meaning.specs.Batches.{IsQuietAt}
+use Rattle.mb_board.specs.Arrivals.{due_at, IsNext}
 
 -- ---- order
 
-step_of_entry : (script : Entries) (place : ℕ) (entry : ℕ × ℕ) → slice_get script place ≡ Some entry → due_at script place ≡ entry.0
-step_of_entry script place entry h = ap (λ (e : ℕ × ℕ). e.0) (get_or_from_slice_get script place entry (0, 0) h)
+step_of_entry : (script : Entries) (place : ℕ) (entry : ℕ × Input) → slice_get script place ≡ Some entry → due_at script place ≡ entry.0
+step_of_entry script place entry h = ap (λ (e : ℕ × Input). e.0) (get_or_from_slice_get script place entry (0, Abort) h)
 
 in_order : (script : Entries) (i j : ℕ) → IsScript script → i < j → j < length script → due_at script i ≤ due_at script j
-in_order script i j is lt within = is.in_order i j (0, 0) lt within
+in_order script i j is lt within = is.in_order i j (0, Abort) lt within
 
 cases : (i j : ℕ) → i ≤ j → (i < j) ⊎ (i ≡ j)
 cases i j le = grind arith
 
 -- the entries up to one of a step
-pub past-through : (script : Entries) (place step : ℕ) (entry : ℕ × ℕ) → IsScript script → slice_get script place ≡ Some entry → entry.0 ≤ step
+pub past-through : (script : Entries) (place step : ℕ) (entry : ℕ × Input) → IsScript script → slice_get script place ≡ Some entry → entry.0 ≤ step
     → (k : ℕ) → k < place + 1 → due_at script k ≤ step
 past-through script place step entry is got le k lt =
     let here = step_of_entry script place entry got in
@@ -34,7 +37,7 @@ past-through script place step entry is got le k lt =
     ]
 
 -- the entries from one of a later step on
-pub later-from : (script : Entries) (place step : ℕ) (entry : ℕ × ℕ) → IsScript script → slice_get script place ≡ Some entry → step < entry.0
+pub later-from : (script : Entries) (place step : ℕ) (entry : ℕ × Input) → IsScript script → slice_get script place ≡ Some entry → step < entry.0
     → (k : ℕ) → place ≤ k → k < length script → step < due_at script k
 later-from script place step entry is got lt k le within =
     let here = step_of_entry script place entry got in
@@ -45,10 +48,10 @@ later-from script place step entry is got lt k le within =
 
 -- ---- arrivals
 
-not_now : (step : ℕ) (entry : ℕ × ℕ) (d : DeviceState) → entry.0 ≢ step → (if entry.0 == step then received entry.1 d else d) ≡ d
+not_now : (step : ℕ) (entry : ℕ × Input) (d : DeviceState) → entry.0 ≢ step → (if entry.0 == step then taken_in entry.1 d else d) ≡ d
 not_now step entry d ne = grind (arith, nat_tests)
 
-now : (step : ℕ) (entry : ℕ × ℕ) (d : DeviceState) → entry.0 ≡ step → (if entry.0 == step then received entry.1 d else d) ≡ received entry.1 d
+now : (step : ℕ) (entry : ℕ × Input) (d : DeviceState) → entry.0 ≡ step → (if entry.0 == step then taken_in entry.1 d else d) ≡ taken_in entry.1 d
 now step entry d e = grind (arith, nat_tests)
 
 -- entries of other steps bring nothing
@@ -62,43 +65,124 @@ arrived-past (suc n) step (entry ∷ script) d ne =
     rest ∙ ap (λ (u : DeviceState). arrived step script u) (sym (not_now step entry d first))
 
 -- what arrives from the entry of this step on
-arrived-here : (step : ℕ) (entry : ℕ × ℕ) (script : Entries) (d : DeviceState) → entry.0 ≡ step
-    → arrived step (entry ∷ script) d ≡ arrived step script (received entry.1 d)
+arrived-here : (step : ℕ) (entry : ℕ × Input) (script : Entries) (d : DeviceState) → entry.0 ≡ step
+    → arrived step (entry ∷ script) d ≡ arrived step script (taken_in entry.1 d)
 arrived-here step entry script d e = ap (λ (u : DeviceState). arrived step script u) (now step entry d e)
 
--- an entry of this step brings its byte
-pub arrived-next : (script : Entries) (place step : ℕ) (entry : ℕ × ℕ) (d : DeviceState) → slice_get script place ≡ Some entry → entry.0 ≡ step
-    → arrived step (drop place script) d ≡ arrived step (drop (place + 1) script) (received entry.1 d)
-arrived-next script place step entry d got e =
+-- an entry of this step brings what it has
+cut_at : (script : Entries) (place : ℕ) (entry : ℕ × Input) → slice_get script place ≡ Some entry → drop place script ≡ entry ∷ drop (place + 1) script
+cut_at script place entry got =
     let within = slice_get_within script place entry got in
-    let here = get_or_from_slice_get script place entry (0, 0) got in
-    let cut : drop place script ≡ entry ∷ drop (place + 1) script =
-    rw (add-one, ← here) (drop-cons script place (0, 0) within) in
-    rw cut (arrived-here step entry (drop (place + 1) script) d e)
+    let here = get_or_from_slice_get script place entry (0, Abort) got in
+    rw (add-one, ← here) (drop-cons script place (0, Abort) within)
+
+pub arrived-next : (script : Entries) (place step : ℕ) (entry : ℕ × Input) (d : DeviceState) → slice_get script place ≡ Some entry → entry.0 ≡ step
+    → arrived step (drop place script) d ≡ arrived step (drop (place + 1) script) (taken_in entry.1 d)
+arrived-next script place step entry d got e =
+    rw (cut_at script place entry got) (arrived-here step entry (drop (place + 1) script) d e)
 
 -- no entry is left of this step
+none_there : (script : Entries) (place step : ℕ) → ((k : ℕ) → place ≤ k → k < length script → step < due_at script k)
+    → (k : ℕ) → k < length (drop place script) → due_at (drop place script) k ≢ step
+none_there script place step later k lt e =
+    let there : due_at (drop place script) k ≡ due_at script (place + k) =
+    ap (λ (e : ℕ × Input). e.0) (get_or-drop place script k (0, Abort)) in
+    let within : place + k < length script = omega (arith, length-drop place script, lt) in
+    let after = later (place + k) (omega arith) within in absurd (omega (arith, there, after, e))
+
 pub arrived-none : (script : Entries) (place step : ℕ) (d : DeviceState) → ((k : ℕ) → place ≤ k → k < length script → step < due_at script k)
     → arrived step (drop place script) d ≡ d
 arrived-none script place step d later =
     let rest = drop place script in
-    let none = arrived-past (length rest) step rest d (λ k lt.
-    let there : due_at rest k ≡ due_at script (place + k) = ap (λ (e : ℕ × ℕ). e.0) (get_or-drop place script k (0, 0)) in
-    let within : place + k < length script = omega (arith, length-drop place script, lt) in
-    let after = later (place + k) (omega arith) within in
-    λ e. absurd (omega (arith, there, after, e))) in
-    let empty = drop_all (length rest) rest (omega arith) in
-    sym none ∙ ap (λ (xs : Entries). arrived step xs d) empty
+    sym (arrived-past (length rest) step rest d (none_there script place step later))
+    ∙ ap (λ (xs : Entries). arrived step xs d) (drop_all (length rest) rest (omega arith))
+
+-- ---- aborts
+
+not_same : (step due : ℕ) → due ≢ step → (due == step) ≡ false
+not_same step due ne = grind (arith, nat_tests)
+
+is_same : (step due : ℕ) → due ≡ step → (due == step) ≡ true
+is_same step due e = grind (arith, nat_tests)
+
+-- entries of other steps bring none
+pub aborts-past : (n step : ℕ) (script : Entries) → ((k : ℕ) → k < n → due_at script k ≢ step) → aborts step (drop n script) ≡ aborts step script
+aborts-past zero step script ne = refl
+aborts-past (suc n) step [] ne = refl
+aborts-past (suc n) step (entry ∷ script) ne =
+    let first : entry.0 ≢ step = ne 0 (omega arith) in
+    aborts-past n step script (λ k lt. ne (suc k) (omega arith))
+    ∙ sym (ap (λ (b : Bool). (b && is_abort entry.1) || aborts step script) (not_same step entry.0 first))
+
+-- an entry of this step brings one, or those behind it do
+aborts-here : (step : ℕ) (entry : ℕ × Input) (script : Entries) → entry.0 ≡ step → aborts step (entry ∷ script) ≡ (is_abort entry.1 || aborts step script)
+aborts-here step entry script e = ap (λ (b : Bool). (b && is_abort entry.1) || aborts step script) (is_same step entry.0 e)
+
+pub aborts-next : (script : Entries) (place step : ℕ) (entry : ℕ × Input) → slice_get script place ≡ Some entry → entry.0 ≡ step
+    → aborts step (drop place script) ≡ (is_abort entry.1 || aborts step (drop (place + 1) script))
+aborts-next script place step entry got e =
+    ap (aborts step) (cut_at script place entry got) ∙ aborts-here step entry (drop (place + 1) script) e
+
+pub aborts-none : (script : Entries) (place step : ℕ) → ((k : ℕ) → place ≤ k → k < length script → step < due_at script k)
+    → aborts step (drop place script) ≡ false
+aborts-none script place step later =
+    let rest = drop place script in
+    sym (aborts-past (length rest) step rest (none_there script place step later))
+    ∙ ap (aborts step) (drop_all (length rest) rest (omega arith))
+
+-- so far, with one more and those that are left
+so_far : (before here left : Bool) → (before || (here || left)) ≡ ((here || before) || left)
+so_far true true left = refl
+so_far true false left = refl
+so_far false true left = refl
+so_far false false left = refl
+
+pub so_far-next : (script : Entries) (place step : ℕ) (entry : ℕ × Input) (before now : Bool) → slice_get script place ≡ Some entry → entry.0 ≡ step
+    → now ≡ (is_abort entry.1 || before) → (now || aborts step (drop (place + 1) script)) ≡ (before || aborts step (drop place script))
+so_far-next script place step entry before now got e is =
+    let left = aborts step (drop (place + 1) script) in
+    ap (λ (b : Bool). b || left) is ∙ sym (so_far before (is_abort entry.1) left)
+    ∙ sym (ap (λ (b : Bool). before || b) (aborts-next script place step entry got e))
+
+pub so_far-none : (before left : Bool) → left ≡ false → (before || left) ≡ before
+so_far-none true left e = refl
+so_far-none false left e = e
+
+-- ---- places
 
 -- there is an entry at each place inside
 pub none-outside : (script : Entries) (place : ℕ) → slice_get script place ≡ None → place < length script → ⊥
 none-outside script place none within =
-    let some = slice_get-get_or script place (0, 0) within in (cc)
+    let some = slice_get-get_or script place (0, Abort) within in (cc)
 
 -- the entry at a place is of no step so far, and not of the next one: then all from there on are of later ones
-pub later-behind : (script : Entries) (place taken : ℕ) (entry : ℕ × ℕ) → IsScript script → slice_get script place ≡ Some entry → entry.0 ≢ taken + 1
+pub later-behind : (script : Entries) (place taken : ℕ) (entry : ℕ × Input) → IsScript script → slice_get script place ≡ Some entry → entry.0 ≢ taken + 1
     → ((k : ℕ) → place ≤ k → k < length script → taken < due_at script k)
     → (k : ℕ) → place ≤ k → k < length script → taken + 1 < due_at script k
 later-behind script place taken entry is got ne later =
     let here = step_of_entry script place entry got in
     let open_yet = later place (omega arith) (slice_get_within script place entry got) in
     later-from script place (taken + 1) entry is got (omega arith)
+
+-- there is none at a place that is not inside
+pub later-outside : (script : Entries) (place taken : ℕ) → slice_get script place ≡ None
+    → (k : ℕ) → place ≤ k → k < length script → taken + 1 < due_at script k
+later-outside script place taken none k le lt = absurd (none-outside script place none (omega arith))
+
+-- where no entry from the place on is of the next step, nothing arrives at it
+pub quiet-at : (script : Entries) (place taken : ℕ) → IsNext script taken place → ((k : ℕ) → place ≤ k → k < length script → taken + 1 < due_at script k)
+    → IsQuietAt script (taken + 1)
+quiet-at script place taken at later =
+    let past : (k : ℕ) → k < place → due_at script k ≢ taken + 1 = λ k lt e. let h = at.past k lt in absurd (omega (arith, h, e)) in
+    record {
+      devices = λ d. sym (arrived-past place (taken + 1) script d past) ∙ arrived-none script place (taken + 1) d later;
+      unaborted = sym (aborts-past place (taken + 1) script past) ∙ aborts-none script place (taken + 1) later;
+    }
+
+pub stays-next : (script : Entries) (place taken : ℕ) → IsNext script taken place → ((k : ℕ) → place ≤ k → k < length script → taken + 1 < due_at script k)
+    → IsNext script (taken + 1) place
+stays-next script place taken at later = record {
+  within = at.within;
+  past = λ k lt. let h = at.past k lt in omega (arith, h);
+  later = later;
+}

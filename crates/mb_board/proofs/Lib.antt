@@ -4,3 +4,4 @@ pub mod Runs
 pub mod Spellings
 pub mod UserRuns
 pub mod AtOnce
+pub mod Steps

@@ -132,9 +132,14 @@ impl Core {
         ensures counted { self.new.steps ≡ self.old.steps + 1 }
         ensures ram { length self.new.world.ram ≡ length self.old.world.ram }
     {
-        *next = self.bus.receive(script, self.steps, *next);
+        let arrival = self.bus.receive(script, self.steps, *next);
+        *next = arrival.next;
         self.steps += 1;
-        self.step_uncounted()
+        if arrival.aborted {
+            self.step_aborted()
+        } else {
+            self.step_uncounted()
+        }
     }
 
     /// Takes so many steps, or fewer where the machine halts or is switched off.

@@ -4,12 +4,12 @@ ghost use Rattle.std.specs.Prelude.{◌≡◌, ◌+◌, ◌^◌, ◌<◌, ◌≤
 ghost use Rattle.mb_model.specs.Keeping.{rule_a};
 ghost use Rattle.mb_walk.specs.Memory.{overwritten};
 ghost use Rattle.mb_devices.specs.Devices.{level_of, ticked};
-ghost use Rattle.mb_machine.specs.Machine.{arrived, mmu_at_reset, world_at_reset};
+ghost use Rattle.mb_machine.specs.Machine.{aborts, arrived, mmu_at_reset, world_at_reset};
 ghost use Rattle.mb_board.specs.Arrivals.{IsNext};
 ghost use Rattle.mb_board.specs.Modes.{has_transparent, has_user, is_enabled as has_enabled, mode_of as translates};
 ghost use Rattle.mb_board.specs.Modes.{serves_user};
 
-use crate::receiving::receive;
+use crate::receiving::{Arrival, receive};
 use mb_atc::Atc;
 use mb_devices::Devices;
 use mb_outside::Memory;
@@ -136,13 +136,14 @@ impl BoardBus {
         self.kept.clear();
     }
 
-    /// Receives what arrives at the step after so many, and gives the place behind it in the script.
+    /// Receives what arrives at the step after so many.
     #[inline(always)]
-    pub fn receive(&mut self, script: &Script, taken: u32, next: u32) -> u32
+    pub fn receive(&mut self, script: &Script, taken: u32, next: u32) -> Arrival
         requires room { taken + 1 < 2 ^ 32 }
         requires next { IsNext script.now taken next }
         ensures means { self.new ≡ record self.old { devices = arrived (taken + 1) script.now self.old.devices } }
-        ensures next { IsNext script.now (taken + 1) result }
+        ensures next { IsNext script.now (taken + 1) result.next }
+        ensures aborted { result.aborted ≡ aborts (taken + 1) script.now }
     {
         receive(&mut self.devices, script, taken, next)
     }

@@ -5,6 +5,7 @@
 //! unit, the devices and the kept translations; one small function there is one stage of the definition of an access.
 #![tactic(auto)]
 
+mod aborting;
 mod board;
 mod board_port;
 mod bus;
@@ -20,6 +21,6 @@ mod translating;
 
 pub use board::Board;
 pub use native::Native;
-pub use receiving::{place_behind, receive};
+pub use receiving::{Arrival, place_behind, receive};
 pub use states::{state_after, takes_steps};
 pub use vm_meaning::RunEnd;

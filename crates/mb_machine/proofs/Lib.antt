@@ -5,3 +5,4 @@ pub mod Beneath
 pub mod Pieces
 pub mod Enters
 pub mod ShownSize
+pub mod Asked

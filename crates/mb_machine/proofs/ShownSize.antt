@@ -9,7 +9,7 @@ use Rattle.mb_laws.proofs.Kept.{run_leaves}
 use Rattle.mb_model.specs.Keeping.{Rule}
 use Rattle.mb_devices.specs.declared.register.Register.{Register}
 use Rattle.mb_devices.specs.declared.register.Register.TheVariants.{Data, Status, Ctrl, Period, Count, Ack, Power, Size}
-use Rattle.mb_devices.specs.Devices.{DeviceState, console_room, level_of, queue_room, received, sent}
+use Rattle.mb_devices.specs.Devices.{DeviceState, console_room, queue_room, received, sent}
 use Rattle.mb_devices.specs.Registers.{powered, row}
 use Rattle.mb_devices.proofs.Sizes.{size-idle, size-reset, size-ticked}
 use Rattle.mb_processor.specs.Step.{step_of}
@@ -20,7 +20,9 @@ use Rattle.mb_machine.specs.Access.{translated}
 use Rattle.mb_machine.specs.Bus.{bus_of, read_at, read_by, written_at, written_by, wrote, tested, tested_by, with_register}
 use Rattle.mb_machine.proofs.Refusals.{translated-beside}
 use Rattle.mb_machine.specs.Laws.{ResetsShowTheSize, CallsLeaveTheSize, RunsLeaveTheSize}
-use Rattle.mb_machine.specs.Machine.{Entries, Machine, arrived, begun, reset_with, run_of, stepped, stepping, takes_steps}
+use Rattle.mb_script.specs.declared.input.Input.{Input}
+use Rattle.mb_script.specs.declared.input.Input.TheVariants.{Byte, Abort}
+use Rattle.mb_machine.specs.Machine.{Entries, Machine, arrived, begun, reset_with, run_of, stepped, stepping, takes_steps, asked_of, taken_in}
 
 abbrev size_of : World → ℕ
 size_of w = w.devices.ram
@@ -162,10 +164,14 @@ shown-received : (byte : ℕ) (d : DeviceState) → (received byte d).ram ≡ d.
 unfolding received
 shown-received byte d = shown-either (nat_lt (length d.queue) queue_room) _ _ d.ram refl refl
 
+shown-taken_in : (one : Input) (d : DeviceState) → (taken_in one d).ram ≡ d.ram
+shown-taken_in (Byte byte) d = shown-received byte d
+shown-taken_in Abort d = refl
+
 shown-arrived : (step : ℕ) (script : Entries) (d : DeviceState) → (arrived step script d).ram ≡ d.ram
 shown-arrived step [] d = refl
 shown-arrived step (entry ∷ script) d =
-    shown-arrived step script _ ∙ shown-either (entry.0 == step) _ _ d.ram (shown-received entry.1 d) refl
+    shown-arrived step script _ ∙ shown-either (entry.0 == step) _ _ d.ram (shown-taken_in entry.1 d) refl
 
 shown-begun : (script : Entries) (m : Machine) → size_of (begun script m).world ≡ size_of m.world
 unfolding begun
@@ -175,7 +181,7 @@ shown-stepped : (rule : Rule) (script : Entries) (m : Machine) → size_of (step
 unfolding stepping
 shown-stepped rule script m =
     let b = begun script m in
-    run_leaves (leaves rule) (step_of (level_of b.world.devices) b.cpu) b.world ∙ shown-begun script m
+    run_leaves (leaves rule) (step_of (asked_of script b) b.cpu) b.world ∙ shown-begun script m
 
 either_machine : (b : Bool) (s t : Machine) (n : ℕ) → size_of s.world ≡ n → size_of t.world ≡ n
     → size_of (if b then s else t).world ≡ n

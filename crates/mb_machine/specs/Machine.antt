@@ -1,5 +1,5 @@
 -- The machine, its start, its steps and its runs, by a rule of keeping.
-use Rattle.std.specs.Prelude.{ℕ, zero, suc, ◌+◌, ◌==◌, Bool, true, false, if◌then◌else◌, List, [], ◌∷◌, replicate}
+use Rattle.std.specs.Prelude.{ℕ, zero, suc, ◌+◌, ◌==◌, ◌&&◌, ◌||◌, Bool, true, false, if◌then◌else◌, List, [], ◌∷◌, replicate}
 use Rattle.std.specs.Int.{from_bool}
 use Rattle.mb_port.specs.Routine.{run}
 use Rattle.mb_port.specs.declared.types.Mmu.{Mmu}
@@ -15,6 +15,9 @@ use Rattle.mb_processor.specs.Raise.{Stepped}
 use Rattle.mb_processor.specs.Step.{step_of}
 use Rattle.mb_devices.specs.Devices.{DeviceState, idle, level_of, received, ticked}
 use Rattle.mb_devices.specs.Registers.{status_of}
+use Rattle.mb_script.specs.declared.input.Input.{Input}
+use Rattle.mb_script.specs.declared.input.Input.TheVariants as input
+use Rattle.mb_script.specs.Script as scripts
 use Rattle.mb_walk.specs.Memory.{number_at, overwritten}
 use Rattle.mb_machine.specs.World.{World}
 use Rattle.mb_machine.specs.Bus.{bus_of}
@@ -66,22 +69,45 @@ with_devices m devices = record m { world = record m.world { devices = devices }
 
 -- ---- a step
 
--- the entries of a script: steps, each with a byte that arrives at it
+-- the entries of a script: steps, each with what arrives at it
 abbrev pub Entries : Type 0
-Entries = List (ℕ × ℕ)
+Entries = scripts.Entries
 
--- the devices once they have received, in order, the bytes that arrive at a step
+-- the devices once they have received this: an abort is none of theirs
+abbrev pub taken_in : Input → DeviceState → DeviceState
+taken_in (input.Byte byte) d = received byte d
+taken_in input.Abort d = d
+
+-- the devices once they have received, in order, what arrives at a step
 abbrev pub arrived : ℕ → Entries → DeviceState → DeviceState
 arrived step [] d = d
-arrived step (entry ∷ script) d = arrived step script (if entry.0 == step then received entry.1 d else d)
+arrived step (entry ∷ script) d = arrived step script (if entry.0 == step then taken_in entry.1 d else d)
+
+abbrev pub is_abort : Input → Bool
+is_abort (input.Byte byte) = false
+is_abort input.Abort = true
+
+-- an abort arrives at a step
+abbrev pub aborts : ℕ → Entries → Bool
+aborts step [] = false
+aborts step (entry ∷ script) = ((entry.0 == step) && is_abort entry.1) || aborts step script
+
+-- the interrupt level that the step of this number is asked for, with such devices once it has begun: an abort asks for
+-- level 7, in that step alone
+abbrev pub asked : Entries → (step : ℕ) → DeviceState → ℕ
+asked script step d = if aborts step script then 7 else level_of d
 
 -- a step begins: what is due at its number is received, and the timer ticks. The first step has number 1
 unfoldable pub begun : Entries → Machine → Machine
 begun script m = with_devices m (ticked (arrived (m.steps + 1) script m.world.devices))
 
--- the processor's part of it, at the interrupt level that the devices ask for
-abbrev pub processed : Rule → Machine → Stepped × World
-processed rule m = run (bus_of rule) (step_of (level_of m.world.devices) m.cpu) m.world
+-- the interrupt level that a step is asked for that has begun so
+abbrev pub asked_of : Entries → Machine → ℕ
+asked_of script m = asked script (m.steps + 1) m.world.devices
+
+-- the processor's part of it, at the interrupt level that it is asked for
+abbrev pub processed : Rule → Entries → Machine → Stepped × World
+processed rule script m = run (bus_of rule) (step_of (asked_of script m) m.cpu) m.world
 
 -- off, stopped or running
 abbrev pub going : Cpu → DeviceState → RunState
@@ -102,7 +128,7 @@ with_finish m r = (r.0.0, one_later m r.0.0 r.0.1 r.1)
 
 -- one step: how it ended, and the machine after it
 unfoldable pub stepping : Rule → Entries → Machine → Finish × Machine
-stepping rule script m = with_finish m (processed rule (begun script m))
+stepping rule script m = with_finish m (processed rule script (begun script m))
 
 -- the machine after one step
 abbrev pub stepped : Rule → Entries → Machine → Machine

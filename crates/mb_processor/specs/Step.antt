@@ -1,6 +1,6 @@
 -- One step of the processor: the entry of an interrupt, an idle tick, or an instruction with the exceptions that it
 -- causes.
-use Rattle.std.specs.Prelude.{◌≡◌, ℕ, ◌+◌, ◌*◌, ◌/◌, ◌%◌, ◌^◌, ◌||◌, ◌&&◌, not, nat_lt, Bool, true, false, List, [], ◌∷◌}
+use Rattle.std.specs.Prelude.{◌≡◌, ℕ, ◌+◌, ◌*◌, ◌/◌, ◌%◌, ◌^◌, ◌||◌, ◌&&◌, ◌==◌, not, nat_lt, Bool, true, false, List, [], ◌∷◌}
 use Rattle.std.specs.Prelude.{if◌then◌else◌}
 use Rattle.mb_port.specs.Routine.{Bus, Routine, Return, Then, caught, choose, mmu, run}
 use Rattle.mb_instr.specs.declared.instruction.Instr.{Instr}
@@ -179,11 +179,15 @@ instruction_of cpu =
 abbrev pub interrupt_mask : Cpu → ℕ
 interrupt_mask cpu = cpu.regs.sr / 2 ^ 8 % 2 ^ 3
 
--- One step, with an interrupt of this level asked for, or of level 0 for none. Above the mask it is entered, and the
--- step has nothing else; a processor that is stopped idles.
+-- how high an interrupt of a level stands beside a mask: one of level 7 is above every mask
+abbrev pub rank : ℕ → ℕ
+rank level = if level == 7 then 8 else level
+
+-- One step, with an interrupt of this level asked for, or of level 0 for none. Above the mask, or at level 7, it is
+-- entered, and the step has nothing else; a processor that is stopped idles.
 unfoldable pub step_of : ℕ → Cpu → Routine Stepped
 step_of level cpu =
-    choose (nat_lt (interrupt_mask cpu) level) (interrupt_of level cpu)
+    choose (nat_lt (interrupt_mask cpu) (rank level)) (interrupt_of level cpu)
     (choose cpu.stopped (Return (finish.Idle, cpu)) (instruction_of cpu))
 
 -- The processor halts at the step: the frame of an access error has no place, or a vector can't be read.

@@ -1,12 +1,16 @@
 -- How an answer of the code stands to what a definition gives.
-use Rattle.std.specs.Prelude.{◌≡◌, ℕ, List, length, map, option_map, string_bytes, Result, Ok, Err}
+use Rattle.std.specs.Prelude.{◌≡◌, ℕ, List, [], ◌∷◌, length, map, option_map, string_bytes, Result, Ok, Err}
 use denote.Ref.{Bor}
 use Rattle.mb_script.specs.declared.fault.LineFault.{LineFault}
 use Rattle.mb_script.specs.declared.fault.LineFault.TheVariants.{Memory, Line}
 use Rattle.mb_script.specs.declared.fault.LineWhy.{LineWhy}
 use Rattle.mb_script.specs.declared.fault.Refusal.{Refusal}
 use Rattle.mb_script.specs.declared.fault.Refusal.TheVariants as refusal
+use Rattle.mb_script.specs.declared.entry.Due.{Due}
+use Rattle.mb_script.specs.declared.entry.Due.TheVariants as due
 use Rattle.mb_script.specs.declared.entry.Entry.{Entry}
+use Rattle.mb_script.specs.declared.input.Input.{Input}
+use Rattle.mb_script.specs.declared.input.Input.TheVariants as input
 use Rattle.mb_script.specs.declared.script_line.Parts.{Parts}
 use Rattle.mb_script.specs.declared.script_line.Written.{Written}
 use Rattle.mb_script.specs.declared.script_line.Written.TheVariants as written
@@ -49,18 +53,25 @@ abbrev pub written_said : Written → scripts.Written
 written_said (written.Hex digits) = scripts.Hex digits.now
 written_said (written.Text text) = scripts.Text text.now
 written_said (written.WithLineFeed text) = scripts.WithLineFeed text.now
+written_said written.Abort = scripts.Abort
 
 -- how many characters write the bytes
 abbrev pub written_len : Written → ℕ
 written_len (written.Hex digits) = length digits.now
 written_len (written.Text text) = length text.now
 written_len (written.WithLineFeed text) = length text.now
+written_len written.Abort = 0
 
 abbrev pub parts_said : Parts → scripts.Parts
 parts_said parts = record { step = parts.step.now; written = written_said parts.written }
 
+-- what is due, as inputs
+abbrev pub due_said : Due → List Input
+due_said (due.Bytes bytes) = scripts.typed bytes.items
+due_said due.Abort = input.Abort ∷ []
+
 abbrev pub entry_said : Entry → scripts.Entry
-entry_said entry = record { step = entry.step; bytes = entry.bytes.items }
+entry_said entry = record { step = entry.step; inputs = due_said entry.due }
 
 abbrev pub bytes_said : Bor (List ℕ) → List ℕ
 bytes_said word = word.now

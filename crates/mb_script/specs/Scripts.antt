@@ -8,16 +8,20 @@ use Rattle.hex.specs.Hex.{decode_of}
 use Rattle.mb_lines.specs.Lines.{Line}
 use Rattle.mb_script.specs.declared.fault.LineWhy.{LineWhy}
 use Rattle.mb_script.specs.declared.fault.LineWhy.TheVariants as why
+use Rattle.mb_script.specs.declared.input.Input.{Input}
+use Rattle.mb_script.specs.declared.input.Input.TheVariants as input
 use Rattle.mb_script.specs.Faults.{Fault}
 use Rattle.mb_lines.specs.Results.{◌>>=◌}
+use Rattle.mb_script.specs.Script.{Entries}
 use Rattle.mb_script.specs.Lines.{read_by, statements_of}
 use Rattle.mb_script.specs.Words.{cut_at_space, is_word, number_of, tested}
 
--- How a line writes the bytes of its entry.
+-- How a line writes what arrives: bytes in three forms, or the abort key.
 pub data Written : Type 0 where
   Hex : List ℕ → Written
   Text : List ℕ → Written
   WithLineFeed : List ℕ → Written
+  Abort : Written
 
 -- The words of a line.
 pub record Parts : Type 0 where
@@ -32,9 +36,10 @@ written_by (form, rest) =
     else if bytes_eq form (codes "line") then Some (WithLineFeed rest)
     else None
 
--- what stands behind `at STEP`
+-- what stands behind `at STEP`: `abort`, or one of the others
 unfoldable pub written_as : List ℕ → Option Written
-written_as words = option_and_then written_by (cut_at_space words)
+written_as words =
+    if bytes_eq words (codes "abort") then Some Abort else option_and_then written_by (cut_at_space words)
 
 abbrev pub with_step : List ℕ × List ℕ → Option Parts
 with_step (step, words) =
@@ -43,7 +48,7 @@ with_step (step, words) =
 abbrev pub behind_at : List ℕ × List ℕ → Option Parts
 behind_at (first, words) = if bytes_eq first (codes "at") then option_and_then with_step (cut_at_space words) else None
 
--- a line `at STEP` and the bytes that are due, with single spaces between the words
+-- a line `at STEP` and what is due, with single spaces between the words
 unfoldable pub parts_of : List ℕ → Option Parts
 parts_of line = option_and_then behind_at (cut_at_space line)
 
@@ -57,24 +62,29 @@ is_printable character = nat_le 32 character && nat_le character 126
 abbrev pub printable : List ℕ → Option (List ℕ)
 printable text = tested (list_all is_printable) text
 
--- hexadecimal digits of either case in pairs, or printable characters; a line has a LF at its end
-unfoldable pub bytes_of : Written → Option (List ℕ)
-bytes_of (Hex digits) = result_ok (decode_of digits)
-bytes_of (Text characters) = printable characters
-bytes_of (WithLineFeed characters) = option_map (λ text. text ++ 10 ∷ []) (printable characters)
+-- these bytes arrive
+abbrev pub typed : List ℕ → List Input
+typed bytes = map input.Byte bytes
 
--- Bytes that arrive at a step.
+-- hexadecimal digits of either case in pairs, or printable characters; a line has a LF at its end
+unfoldable pub inputs_of : Written → Option (List Input)
+inputs_of (Hex digits) = option_map typed (result_ok (decode_of digits))
+inputs_of (Text characters) = option_map typed (printable characters)
+inputs_of (WithLineFeed characters) = option_map (λ text. typed (text ++ 10 ∷ [])) (printable characters)
+inputs_of Abort = Some (input.Abort ∷ [])
+
+-- What arrives at a step.
 pub record Entry : Type 0 where
   pub step : ℕ
-  pub bytes : List ℕ
+  pub inputs : List Input
 
 -- what a line says by itself
 unfoldable pub entry_of : List ℕ → Result Entry LineWhy
 entry_of line = do
   parts ← ok_or (parts_of line) why.Word
   step ← ok_or (step_of parts.step) why.Number
-  bytes ← ok_or (bytes_of parts.written) why.Digits
-  Ok (record { step = step; bytes = bytes })
+  inputs ← ok_or (inputs_of parts.written) why.Digits
+  Ok (record { step = step; inputs = inputs })
 
 -- a step is not smaller than that of the line before
 abbrev pub not_before : ℕ → Entry → Result Entry LineWhy
@@ -84,18 +94,18 @@ not_before last entry = if nat_lt entry.step last then Err why.Order else Ok ent
 unfoldable pub entry_after : ℕ → List ℕ → Result Entry LineWhy
 entry_after last line = entry_of line >>= not_before last
 
--- each byte with the step
-abbrev pub at_step : ℕ → List ℕ → List (ℕ × ℕ)
-at_step step bytes = map (λ byte. (step, byte)) bytes
+-- each input with the step
+abbrev pub at_step : ℕ → List Input → Entries
+at_step step inputs = map (λ one. (step, one)) inputs
 
--- the steps and bytes of all lines behind a line of the step `last`
-abbrev pub entries_after : ℕ → List Line → Result (List (ℕ × ℕ)) Fault
+-- the entries of all lines behind a line of the step `last`
+abbrev pub entries_after : ℕ → List Line → Result Entries Fault
 entries_after last [] = Ok []
 entries_after last (line ∷ lines) = do
   entry ← read_by (entry_after last) line
   later ← entries_after entry.step lines
-  Ok (at_step entry.step entry.bytes ++ later)
+  Ok (at_step entry.step entry.inputs ++ later)
 
--- The steps and bytes of a script's text, or the first fault in order of lines.
-unfoldable pub script_of : List ℕ → Result (List (ℕ × ℕ)) Fault
+-- The entries of a script's text, or the first fault in order of lines.
+unfoldable pub script_of : List ℕ → Result Entries Fault
 script_of text = entries_after 0 (statements_of text)

@@ -1,11 +1,18 @@
-//! Bytes that are due at a step.
+//! What is due at a step.
 
 ghost use Rattle.std.specs.Prelude.{◌≤◌};
 
-/// Bytes that arrive at a step.
+/// What a line lets arrive.
+#[derive(Drop)]
+pub(crate) enum Due {
+    Bytes(Vec<u8>),
+    Abort,
+}
+
+/// What arrives at a step.
 #[derive(Drop)]
 pub(crate) struct Entry {
     pub(crate) step: u32,
-    pub(crate) bytes: Vec<u8>,
+    pub(crate) due: Due,
     ghost from_one: { 1 ≤ step },
 }

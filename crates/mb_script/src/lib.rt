@@ -1,4 +1,4 @@
-//! The texts that a user writes for a run: scripts of terminal input and session files.
+//! The texts that a user writes for a run: scripts of input and session files.
 //!
 //! Both readers stand between a file and the machines and know neither. Each grammar is a definition,
 //! by lines and words: `script_of` of `specs/Scripts` gives what arrives at which step, and
@@ -8,6 +8,7 @@
 
 mod entry;
 mod fault;
+mod input;
 mod number;
 mod plan;
 mod script;
@@ -19,6 +20,7 @@ mod statement;
 mod turn;
 
 pub use fault::{LineFault, LineWhy};
+pub use input::Input;
 pub use plan::{GuestPlan, SessionPlan};
 pub use script::Script;
 pub use script_reading::read_script;

@@ -1,22 +1,22 @@
-//! Terminal input by steps.
+//! Input by steps.
 
 ghost use Rattle.std.specs.Prelude.{◌≡◌, slice_get};
 
+use crate::input::Input;
 use std::marker::Model;
 
-/// What arrives at the terminal, and before which step: a list of steps with bytes.
+/// What arrives, and before which step: a list of steps with inputs.
 ///
 /// Steps count from 1 and never fall, and there are fewer than 2^32 entries.
 #[derive(Debug, Drop)]
 pub struct Script {
-    entries: Vec<(u32, u8)>,
+    entries: Vec<(u32, Input)>,
 }
 
 impl Model for Script {
-    ghost use Rattle.std.specs.Prelude.{ℕ, List};
-    ghost use Rattle.mb_script.specs.Script.{IsScript};
+    ghost use Rattle.mb_script.specs.Script.{Entries, IsScript};
 
-    ghost Value = { List (ℕ × ℕ) };
+    ghost Value = { Entries };
 
     ghost view = { λ script. script.entries.items };
 
@@ -27,7 +27,7 @@ impl Script {
     ghost use Rattle.std.specs.Prelude.{length};
     ghost use Rattle.mb_script.specs.Script.{IsScript};
 
-    pub fn new(entries: Vec<(u32, u8)>) -> Script
+    pub fn new(entries: Vec<(u32, Input)>) -> Script
         requires { IsScript entries.items }
         ensures { result ≡ entries.items }
     {
@@ -42,8 +42,8 @@ impl Script {
         self.entries.len() as u32
     }
 
-    /// The step and the byte of the entry at a place. Places count from 0.
-    pub fn entry(&self, place: u32) -> Option<(u32, u8)>
+    /// The step and the input of the entry at a place. Places count from 0.
+    pub fn entry(&self, place: u32) -> Option<(u32, Input)>
         ensures { result ≡ slice_get self.now place }
     {
         self.entries.get(place as usize).copied()

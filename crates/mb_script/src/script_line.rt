@@ -7,24 +7,26 @@ ghost use Rattle.std.specs.Result.{result_ok};
 ghost use Rattle.hex.specs.Hex.{decode_of};
 ghost use Rattle.mb_script.specs.declared.fault.LineWhy.TheVariants as why;
 ghost use Rattle.mb_script.specs.Words.{cut_at_space, is_space, is_word};
-ghost use Rattle.mb_script.specs.Scripts.{bytes_of, entry_of, is_printable, parts_of, printable, step_of, written_as};
-ghost use Rattle.mb_script.specs.Answers.{GivesAlone, cut_said, entry_said, parts_said, written_len, written_said};
+ghost use Rattle.mb_script.specs.Scripts.{entry_of, inputs_of, is_printable, parts_of, printable, step_of, written_as};
+ghost use Rattle.mb_script.specs.Answers.{GivesAlone, cut_said, due_said, entry_said, parts_said, written_len, written_said};
 
-use crate::entry::Entry;
+use crate::entry::{Due, Entry};
 use crate::fault::{LineWhy, Refusal};
 use crate::number::number_of;
 use hex::FromHexError;
 use std::alloc::Global;
 
-/// How a line writes the bytes of its entry.
+/// How a line writes what arrives.
 #[derive(Clone, Copy)]
 enum Written<'a> {
-    /// As pairs of hexadecimal digits.
+    /// Bytes as pairs of hexadecimal digits.
     Hex(&'a [u8]),
-    /// As they are.
+    /// Bytes as they are.
     Text(&'a [u8]),
     /// As they are, with a LF behind them.
     WithLineFeed(&'a [u8]),
+    /// The abort key, which writes no byte.
+    Abort,
 }
 
 /// The words of a line.
@@ -38,7 +40,7 @@ struct Parts<'a> {
 #[tactic(auto, unfolding(crate::specs::Scripts::entry_of))]
 pub(crate) fn entry_of(alloc: Global, line: &[u8]) -> Result<Entry, Refusal>
     ensures given { GivesAlone entry_said result (entry_of line.now) }
-    ensures short { IfOk result (λ entry. length entry.bytes.items ≤ length line.now) }
+    ensures short { IfOk result (λ entry. length (due_said entry.due) ≤ length line.now) }
 {
     let Some(parts) = parts_of(line) else {
         return Err(Refusal::Why(LineWhy::Word));
@@ -46,8 +48,8 @@ pub(crate) fn entry_of(alloc: Global, line: &[u8]) -> Result<Entry, Refusal>
     let Some(step) = step_of(parts.step) else {
         return Err(Refusal::Why(LineWhy::Number));
     };
-    let bytes = bytes_of(alloc, parts.written)?;
-    Ok(Entry { step, bytes })
+    let due = due_of(alloc, parts.written)?;
+    Ok(Entry { step, due })
 }
 
 /// What comes before the first space, and what comes after it.
@@ -100,6 +102,9 @@ fn written_as(words: &[u8]) -> Option<Written<'_>>
     ensures given { option_map written_said result ≡ written_as words.now }
     ensures short { IfSome result (λ written. written_len written ≤ length words.now) }
 {
+    if words == b"abort".as_slice() {
+        return Some(Written::Abort);
+    }
     let (form, rest) = cut_at_space(words)?;
     if form == b"hex".as_slice() {
         if !is_word(rest) {
@@ -127,21 +132,21 @@ fn step_of(word: &[u8]) -> Option<u32>
     Some(step)
 }
 
-/// The bytes that are written.
-#[tactic(auto, unfolding(crate::specs::Scripts::bytes_of))]
-fn bytes_of(alloc: Global, written: Written) -> Result<Vec<u8>, Refusal>
-    ensures given { GivesAlone (λ bytes. bytes.items) result
-        (ok_or (bytes_of (written_said written.entry)) why.Digits) }
-    ensures short { IfOk result (λ bytes. length bytes.items ≤ written_len written.entry + 1) }
+/// What the line lets arrive.
+#[tactic(auto, unfolding(crate::specs::Scripts::inputs_of))]
+fn due_of(alloc: Global, written: Written) -> Result<Due, Refusal>
+    ensures given { GivesAlone due_said result (ok_or (inputs_of (written_said written.entry)) why.Digits) }
+    ensures short { IfOk result (λ due. length (due_said due) ≤ written_len written.entry + 1) }
 {
     match written {
-        Written::Hex(digits) => bytes_of_pairs(alloc, digits),
-        Written::Text(text) => printable(alloc, text),
+        Written::Hex(digits) => Ok(Due::Bytes(bytes_of_pairs(alloc, digits)?)),
+        Written::Text(text) => Ok(Due::Bytes(printable(alloc, text)?)),
         Written::WithLineFeed(text) => {
             let mut bytes = printable(alloc, text)?;
             bytes.push(b'\n')?;
-            Ok(bytes)
+            Ok(Due::Bytes(bytes))
         }
+        Written::Abort => Ok(Due::Abort),
     }
 }
 

@@ -4,25 +4,26 @@ ghost use Rattle.std.specs.Prelude.{◌≡◌, ◌<◌, ◌≤◌, ◌^◌, ◌+
 ghost use Rattle.mb_lines.specs.Answers.{line_said};
 ghost use Rattle.mb_script.specs.Lines.{read_by};
 ghost use Rattle.mb_script.specs.Script.{IsInOrder, IsScript};
-ghost use Rattle.mb_script.specs.Scripts.{at_step, entry_after, script_of};
-ghost use Rattle.mb_script.specs.Answers.{Faults, Gives, entry_said};
+ghost use Rattle.mb_script.specs.Scripts.{at_step, entry_after, script_of, typed};
+ghost use Rattle.mb_script.specs.Answers.{Faults, Gives, due_said, entry_said};
 
-use crate::entry::Entry;
+use crate::entry::{Due, Entry};
 use crate::fault::{LineFault, LineWhy, Refusal};
+use crate::input::Input;
 use crate::script::Script;
 use crate::script_line::entry_of;
 use crate::statement::next_statement;
 use mb_lines::{Line, Lines};
 use std::alloc::{AllocError, Global};
 
-/// Reads a script of terminal input: lines `at STEP hex PAIRS`, `at STEP text REST` and
-/// `at STEP line REST`, with single spaces between the words.
+/// Reads a script of input: lines `at STEP hex PAIRS`, `at STEP text REST`, `at STEP line REST` and
+/// `at STEP abort`, with single spaces between the words.
 ///
-/// The bytes arrive at the beginning of the step STEP, which is 1 to 4,294,967,295 and not smaller than
-/// that of the line before. They are PAIRS, pairs of hexadecimal digits, or REST, all that is left of the
-/// line, of bytes from $20 to $7E; `line` adds a LF. Empty lines and lines that begin with `#` are
-/// passed over, but counted. Of the faults only the first in order of lines is told, and of one line the
-/// first in the order of [`LineWhy`].
+/// What a line says arrives at the beginning of the step STEP, which is 1 to 4,294,967,295 and not smaller
+/// than that of the line before: bytes at the terminal, or the abort key. The bytes are PAIRS, pairs of
+/// hexadecimal digits, or REST, all that is left of the line, of bytes from $20 to $7E; `line` adds a LF.
+/// Empty lines and lines that begin with `#` are passed over, but counted. Of the faults only the first in
+/// order of lines is told, and of one line the first in the order of [`LineWhy`].
 pub fn read_script(alloc: Global, text: &[u8]) -> Result<Script, LineFault>
     requires { length text.now < 2 ^ 31 }
     ensures script { IfOk result (λ script. script_of text.now ≡ Ok script) }
@@ -33,7 +34,7 @@ pub fn read_script(alloc: Global, text: &[u8]) -> Result<Script, LineFault>
 
 /// The entries of all lines.
 #[tactic(auto, unfolding(crate::specs::Scripts::script_of))]
-fn entries_of(alloc: Global, text: &[u8]) -> Result<Vec<(u32, u8)>, LineFault>
+fn entries_of(alloc: Global, text: &[u8]) -> Result<Vec<(u32, Input)>, LineFault>
     requires { length text.now < 2 ^ 31 }
     ensures given { Gives (λ entries. entries.items) result (script_of text.now) }
     ensures lawful { IfOk result (λ entries. IsScript entries.items) }
@@ -44,7 +45,7 @@ fn entries_of(alloc: Global, text: &[u8]) -> Result<Vec<(u32, u8)>, LineFault>
     while let Some(line) = next_statement(&mut lines) {
         let entry = entry_after(alloc, last, line)?;
         last = entry.step;
-        push_all(&mut entries, entry.step, &entry.bytes)?;
+        push_due(&mut entries, entry.step, &entry.due)?;
     }
     Ok(entries)
 }
@@ -54,7 +55,7 @@ fn entries_of(alloc: Global, text: &[u8]) -> Result<Vec<(u32, u8)>, LineFault>
 fn entry_after(alloc: Global, last: u32, line: Line) -> Result<Entry, LineFault>
     ensures given { Gives entry_said result (read_by (entry_after last) (line_said line.entry)) }
     ensures later { IfOk result (λ entry. last ≤ entry.step) }
-    ensures short { IfOk result (λ entry. length entry.bytes.items ≤ length line.entry.characters.now) }
+    ensures short { IfOk result (λ entry. length (due_said entry.due) ≤ length line.entry.characters.now) }
 {
     match entry_of(alloc, line.characters) {
         Ok(entry) if entry.step < last => Err(Refusal::Why(LineWhy::Order).at(line.number)),
@@ -63,16 +64,33 @@ fn entry_after(alloc: Global, last: u32, line: Line) -> Result<Entry, LineFault>
     }
 }
 
-/// Adds each byte with the step.
-#[tactic(auto, using(crate::proofs::Order::pushed, crate::proofs::Order::entry_pushed))]
-fn push_all(entries: &mut Vec<(u32, u8)>, step: u32, bytes: &[u8]) -> Result<(), AllocError>
+/// Adds what is due at a step.
+#[tactic(auto, using(crate::proofs::Order::pushed))]
+fn push_due(entries: &mut Vec<(u32, Input)>, step: u32, due: &Due) -> Result<(), AllocError>
     requires from_one { 1 ≤ step }
     requires in_order { IsInOrder step entries.old.items }
-    ensures entries { OnOk result (entries.new.items ≡ entries.old.items ++ at_step step bytes.now) }
+    ensures entries { OnOk result (entries.new.items ≡ entries.old.items ++ at_step step (due_said due.now)) }
+    ensures in_order { IsInOrder step entries.new.items }
+{
+    match due {
+        Due::Bytes(bytes) => push_all(entries, step, bytes),
+        Due::Abort => {
+            entries.push((step, Input::Abort))?;
+            Ok(())
+        }
+    }
+}
+
+/// Adds each byte with the step.
+#[tactic(auto, using(crate::proofs::Order::pushed, crate::proofs::Order::entry_pushed))]
+fn push_all(entries: &mut Vec<(u32, Input)>, step: u32, bytes: &[u8]) -> Result<(), AllocError>
+    requires from_one { 1 ≤ step }
+    requires in_order { IsInOrder step entries.old.items }
+    ensures entries { OnOk result (entries.new.items ≡ entries.old.items ++ at_step step (typed bytes.now)) }
     ensures in_order { IsInOrder step entries.new.items }
 {
     for &byte in bytes {
-        entries.push((step, byte))?;
+        entries.push((step, Input::Byte(byte)))?;
     }
     Ok(())
 }

@@ -23,4 +23,4 @@ pub use mb_processor::{Finish, StepEnd};
 pub use performing::perform;
 pub use processor::Processor;
 pub use raising::{access_error, unchecked};
-pub use stepping::{step, step_in_place, step_to_finish};
+pub use stepping::{rank, step, step_in_place, step_to_finish};

@@ -3,7 +3,7 @@
 ghost use Rattle.std.specs.Prelude.{◌≡◌, ◌↔◌, ◌<◌, ◌≤◌, true};
 ghost use Rattle.mb_port.specs.Routine.{run};
 ghost use Rattle.mb_processor.specs.Raise.{by_its_end};
-ghost use Rattle.mb_processor.specs.Step.{Halts, interrupt_mask, step_of};
+ghost use Rattle.mb_processor.specs.Step.{Halts, interrupt_mask, rank, step_of};
 
 use crate::decoder::Decoder;
 use crate::fetching::execute_next;
@@ -12,11 +12,19 @@ use mb_model::Cpu;
 use mb_port::Port;
 use mb_processor::{Finish, StepEnd};
 
+/// How high an interrupt of a level stands beside a mask: one of level 7 is above every mask.
+#[inline(always)]
+pub fn rank(level: u8) -> u8
+    ensures { result ≡ rank level }
+{
+    if level == 7 { 8 } else { level }
+}
+
 /// One step of the processor, with an interrupt of `level` asked for, or of level 0 for none.
 ///
-/// An interrupt above the mask is entered, and the step has nothing else. A processor that STOP holds idles. Else the
-/// instruction at PC is carried out, with the exceptions that it causes. The decoder is the caller's, whatever it
-/// remembers. The answer names the last exception that was entered.
+/// An interrupt above the mask is entered, and one of level 7 whatever the mask, and the step has nothing else. A
+/// processor that STOP holds idles. Else the instruction at PC is carried out, with the exceptions that it causes. The
+/// decoder is the caller's, whatever it remembers. The answer names the last exception that was entered.
 #[inline(always)]
 #[tactic(auto, unfolding(mb_processor::specs::Step::step_of))]
 pub fn step_in_place<P: Port>(
@@ -28,11 +36,11 @@ pub fn step_in_place<P: Port>(
     requires { level < 8 }
     ensures means { run P.bus (step_of level processor.old) (P.world port.old)
         ≡ ((result, processor.new), P.world port.new) }
-    ensures idle { result ≡ Finish.Idle ↔ (level ≤ interrupt_mask processor.old) × (processor.old.stopped ≡ true) }
+    ensures idle { result ≡ Finish.Idle ↔ (rank level ≤ interrupt_mask processor.old) × (processor.old.stopped ≡ true) }
     ensures halted { result ≡ Finish.Halted ↔ Halts P.bus level processor.old (P.world port.old) }
     ensures rest { P.rest port.new ≡ P.rest port.old }
 {
-    if level > processor.interrupt_mask() {
+    if rank(level) > processor.interrupt_mask() {
         return processor.interrupt(level, port);
     }
     if processor.is_stopped() {
@@ -57,7 +65,7 @@ pub fn step_to_finish<P: Port>(
 ) -> Finish
     requires { level < 8 }
     ensures means { run P.bus (step_of level cpu.old) (P.world port.old) ≡ ((result, cpu.new), P.world port.new) }
-    ensures idle { result ≡ Finish.Idle ↔ (level ≤ interrupt_mask cpu.old) × (cpu.old.stopped ≡ true) }
+    ensures idle { result ≡ Finish.Idle ↔ (rank level ≤ interrupt_mask cpu.old) × (cpu.old.stopped ≡ true) }
     ensures halted { result ≡ Finish.Halted ↔ Halts P.bus level cpu.old (P.world port.old) }
     ensures rest { P.rest port.new ≡ P.rest port.old }
 {
@@ -73,7 +81,7 @@ pub fn step<P: Port>(decoder: &mut Decoder, cpu: &mut Cpu, port: &mut P, level: 
     requires { level < 8 }
     ensures means { by_its_end (run P.bus (step_of level cpu.old) (P.world port.old))
         ≡ ((result, cpu.new), P.world port.new) }
-    ensures idle { result ≡ StepEnd.Idle ↔ (level ≤ interrupt_mask cpu.old) × (cpu.old.stopped ≡ true) }
+    ensures idle { result ≡ StepEnd.Idle ↔ (rank level ≤ interrupt_mask cpu.old) × (cpu.old.stopped ≡ true) }
     ensures halted { result ≡ StepEnd.Halted ↔ Halts P.bus level cpu.old (P.world port.old) }
     ensures rest { P.rest port.new ≡ P.rest port.old }
 {

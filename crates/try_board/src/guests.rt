@@ -447,6 +447,78 @@ static CASES: [Case; 19] = [
     },
 ];
 
+/// The abort key.
+#[rattlefmt::skip]
+static ABORTS: [Case; 4] = [
+    Case {
+        name: "an abort at the first step",
+        chunks: &[(0, &[0, 1, 0, 0, 0, 0, 4, 0]), (0x7C, &[0, 0, 5, 0]), (0x400, &[0x4E, 0x71])],
+        script: b"at 1 abort",
+        turns: &[(1, Counted)],
+        counts: Counts { entered: 1, ..NONE },
+        fills: 0,
+        shows: &[
+            Shown::Isp(0xFFF8),
+            Shown::Pc(0x500),
+            Shown::Sr(0x2700),
+            Shown::Ram(0xFFF0, &[0, 0, 0, 0, 0, 0, 0, 0, 0x27, 0, 0, 0, 4, 0, 0, 0x7C]),
+        ],
+        steps: 1,
+        differs: &[],
+    },
+    Case {
+        name: "two aborts and a byte at one step, in STOP under a mask of 7: one entry, which ends the stopped state",
+        chunks: &[
+            RESET,
+            (0x7C, &[0, 0, 5, 0]),
+            (0x400, &[0x4E, 0x72, 0x27, 0]), // STOP #$2700
+            (0x500, &[0x52, 0x83, 0x60, 0xFE]), // ADDQ.L #1,D3; BRA to itself
+        ],
+        script: b"at 5 abort\nat 5 hex 41\nat 5 abort",
+        turns: &[(99, Counted)],
+        counts: Counts { retired: 94, privileged: 1, entered: 1, idle: 3, ..NONE },
+        fills: 1,
+        shows: &[Shown::D(3, 1), Shown::Queue(&[0x41]), Shown::Ram(0x7FF8, &[0x27, 0, 0, 0, 4, 4, 0, 0x7C])],
+        steps: 99,
+        differs: &[],
+    },
+    Case {
+        name: "aborts under a mask of 7, among steps that the board carries out",
+        chunks: &[
+            RESET,
+            (0x7C, &[0, 0, 5, 0]),
+            (0x400, &[0x60, 0xFE]), // BRA to itself
+            (0x500, &[0x4E, 0x73]), // RTE
+        ],
+        script: b"at 3 abort\nat 5 abort\n",
+        turns: &[(2, Counted), (1, Counted), (5, Counted)],
+        counts: Counts { retired: 4, privileged: 2, entered: 2, refilled: 1, ..NONE },
+        fills: 1,
+        shows: &[Shown::Isp(0x8000), Shown::Pc(0x400), Shown::Sr(0x2700)],
+        steps: 8,
+        differs: &[],
+    },
+    Case {
+        name: "no frame can be stacked on the interrupt stack: the access error is entered, and the abort is over",
+        chunks: &[
+            (0, &[0xFF, 0xF0, 0, 8, 0, 0, 4, 0]),
+            VECTOR,
+            (0x400, &[
+                0x41, 0xF8, 0x70, 0, 0x4E, 0x7B, 0x88, 3, // LEA $7000,A0; MOVEC A0,MSP
+                0x46, 0xFC, 0x37, 0, 0x60, 0xFE, // MOVE #$3700,SR; BRA to itself
+            ]),
+            (0x500, &[0x52, 0x83, 0x60, 0xFE]), // ADDQ.L #1,D3; BRA to itself
+        ],
+        script: b"at 6 abort",
+        turns: &[(9, Counted)],
+        counts: Counts { retired: 6, privileged: 2, entered: 1, refilled: 1, ..NONE },
+        fills: 1,
+        shows: &[Shown::D(3, 1), Shown::Pc(0x502), Shown::Msp(0x6FC4), Shown::Sr(0x3700), Shown::Isp(0xFFF0_0008)],
+        steps: 9,
+        differs: &[],
+    },
+];
+
 /// Reads that are filled, and some that are not.
 #[rattlefmt::skip]
 static FILLS: [Case; 5] = [
@@ -694,4 +766,5 @@ fn check_cases(rt: &impl Abort, alloc: Global, cases: &[Case]) {
 fn a_guest_beside_a_bare_board(rt: HostRuntime) {
     check_cases(&rt, rt.alloc(), &CASES);
     check_cases(&rt, rt.alloc(), &FILLS);
+    check_cases(&rt, rt.alloc(), &ABORTS);
 }

@@ -1,10 +1,11 @@
 //! Scripts and session files, and what is wrong with others.
 
-use mb_script::{LineFault, LineWhy, Script, SessionPlan, Turn, read_script, read_session};
+use mb_script::Input::{Abort, Byte};
+use mb_script::{Input, LineFault, LineWhy, Script, SessionPlan, Turn, read_script, read_session};
 use std::alloc::{AllocError, Global};
 use std::test::Fail;
 
-type Entries<'a> = &'a [(u32, u8)];
+type Entries<'a> = &'a [(u32, Input)];
 
 fn has_entries(script: &Script, want: Entries) -> bool {
     let count = script.count();
@@ -24,53 +25,87 @@ const ALL_PRINTABLE: &[u8] =
 
 #[test]
 fn reads_scripts(rt: HostRuntime) -> Result<(), Fail> {
-    let table: [(&[u8], Entries); 16] = [
+    let table: [(&[u8], Entries); 18] = [
         (b"", &[]),
         (b"\n\r\n# at x\n#\n", &[]),
         (
             b"at 1 hex 000102030405060708090A0B0C0D0E0F10",
             &[
-                (1, 0),
-                (1, 1),
-                (1, 2),
-                (1, 3),
-                (1, 4),
-                (1, 5),
-                (1, 6),
-                (1, 7),
-                (1, 8),
-                (1, 9),
-                (1, 10),
-                (1, 11),
-                (1, 12),
-                (1, 13),
-                (1, 14),
-                (1, 15),
-                (1, 16),
+                (1, Byte(0)),
+                (1, Byte(1)),
+                (1, Byte(2)),
+                (1, Byte(3)),
+                (1, Byte(4)),
+                (1, Byte(5)),
+                (1, Byte(6)),
+                (1, Byte(7)),
+                (1, Byte(8)),
+                (1, Byte(9)),
+                (1, Byte(10)),
+                (1, Byte(11)),
+                (1, Byte(12)),
+                (1, Byte(13)),
+                (1, Byte(14)),
+                (1, Byte(15)),
+                (1, Byte(16)),
             ],
         ),
-        (b"at 7 hex aAfF0d\n", &[(7, 0xAA), (7, 0xFF), (7, 0x0D)]),
-        (b"at 5 text ls\n", &[(5, b'l'), (5, b's')]),
-        (b"at 5 line ls\r\n", &[(5, b'l'), (5, b's'), (5, 10)]),
-        (b"at 5 line \n", &[(5, 10)]),
+        (
+            b"at 7 hex aAfF0d\n",
+            &[(7, Byte(0xAA)), (7, Byte(0xFF)), (7, Byte(0x0D))],
+        ),
+        (b"at 5 text ls\n", &[(5, Byte(b'l')), (5, Byte(b's'))]),
+        (
+            b"at 5 line ls\r\n",
+            &[(5, Byte(b'l')), (5, Byte(b's')), (5, Byte(10))],
+        ),
+        (b"at 5 line \n", &[(5, Byte(10))]),
         (b"at 5 text ", &[]),
-        (b"at 5 text  a \n", &[(5, b' '), (5, b'a'), (5, b' ')]),
+        (
+            b"at 5 text  a \n",
+            &[(5, Byte(b' ')), (5, Byte(b'a')), (5, Byte(b' '))],
+        ),
         (
             b"at 5 text # hex\n",
-            &[(5, b'#'), (5, b' '), (5, b'h'), (5, b'e'), (5, b'x')],
+            &[
+                (5, Byte(b'#')),
+                (5, Byte(b' ')),
+                (5, Byte(b'h')),
+                (5, Byte(b'e')),
+                (5, Byte(b'x')),
+            ],
         ),
         (
             b"at 9 hex 41\n# between\n\nat 9 line \nat 10 text B",
-            &[(9, 0x41), (9, 10), (10, 0x42)],
+            &[(9, Byte(0x41)), (9, Byte(10)), (10, Byte(0x42))],
         ),
-        (b"at 0000000000000000000005 hex 41\n", &[(5, 0x41)]),
-        (b"at 4294967295 hex 41\n", &[(4_294_967_295, 0x41)]),
+        (b"at 0000000000000000000005 hex 41\n", &[(5, Byte(0x41))]),
+        (b"at 4294967295 hex 41\n", &[(4_294_967_295, Byte(0x41))]),
         (
             b"at 1 text at\r\nat 1 text at",
-            &[(1, b'a'), (1, b't'), (1, b'a'), (1, b't')],
+            &[
+                (1, Byte(b'a')),
+                (1, Byte(b't')),
+                (1, Byte(b'a')),
+                (1, Byte(b't')),
+            ],
         ),
-        (b"at 1 text \r\nat 2 line \r\n", &[(2, 10)]),
-        (b"at 3 text \nat 3 text ~\n", &[(3, b'~')]),
+        (b"at 1 text \r\nat 2 line \r\n", &[(2, Byte(10))]),
+        (b"at 3 text \nat 3 text ~\n", &[(3, Byte(b'~'))]),
+        (b"at 1 abort", &[(1, Abort)]),
+        (
+            b"at 9 hex 41\nat 9 abort\r\nat 9 abort\n\nat 9 text abort",
+            &[
+                (9, Byte(0x41)),
+                (9, Abort),
+                (9, Abort),
+                (9, Byte(b'a')),
+                (9, Byte(b'b')),
+                (9, Byte(b'o')),
+                (9, Byte(b'r')),
+                (9, Byte(b't')),
+            ],
+        ),
     ];
     for (text, want) in table {
         assert!(rt; text.len() < 1000);
@@ -88,7 +123,7 @@ fn reads_every_printable_byte(rt: HostRuntime) -> Result<(), Fail> {
     let script = read_script(rt.alloc(), &text)?;
     assert!(rt; script.count() == 95);
     for byte in 0x20..=0x7E {
-        assert!(rt; script.entry(u32::from(byte - 0x20)) == Some((1, byte)));
+        assert!(rt; script.entry(u32::from(byte - 0x20)) == Some((1, Byte(byte))));
     }
     assert!(rt; script.entry(95) == None);
     Ok(())
@@ -100,7 +135,7 @@ const fn line(number: u32, why: LineWhy) -> LineFault {
 
 #[test]
 fn tells_faults_of_scripts(rt: HostRuntime) {
-    let table: [(&[u8], u32, LineWhy); 49] = [
+    let table: [(&[u8], u32, LineWhy); 54] = [
         (b"At 5 hex 41\n", 1, LineWhy::Word),
         (b"at\n", 1, LineWhy::Word),
         (b"at 5\n", 1, LineWhy::Word),
@@ -121,7 +156,10 @@ fn tells_faults_of_scripts(rt: HostRuntime) {
         (b"at\t5 hex 41\n", 1, LineWhy::Word),
         (b"\n\r\n# three lines\n \n", 4, LineWhy::Word),
         (b"\r", 1, LineWhy::Word),
-        (b"at 1 abort\n", 1, LineWhy::Word),
+        (b"at 1 abort \n", 1, LineWhy::Word),
+        (b"at 1 aborts\n", 1, LineWhy::Word),
+        (b"at 1 abort 41\n", 1, LineWhy::Word),
+        (b"at abort\n", 1, LineWhy::Word),
         (b"at 1 text a\nat 1 tex a\n", 2, LineWhy::Word),
         (b"at 0 hex 41\n", 1, LineWhy::Number),
         (b"at 4294967296 hex 41\n", 1, LineWhy::Number),
@@ -135,6 +173,7 @@ fn tells_faults_of_scripts(rt: HostRuntime) {
         (b"at -1 hex 41\n", 1, LineWhy::Number),
         (b"at $5 hex 41\n", 1, LineWhy::Number),
         (b"at : hex 41\n", 1, LineWhy::Number),
+        (b"at 0 abort\n", 1, LineWhy::Number),
         (b"at / hex 41\n", 1, LineWhy::Number),
         (b"# one\nat 0 line \n", 2, LineWhy::Number),
         (b"at 5 hex 4\n", 1, LineWhy::Digits),
@@ -148,6 +187,7 @@ fn tells_faults_of_scripts(rt: HostRuntime) {
         (b"at 5 hex 41\n\nat 5 text \t\n", 3, LineWhy::Digits),
         (b"at 6 hex 41\nat 5 hex 41\n", 2, LineWhy::Order),
         (b"at 6 text \n#\nat 5 hex 41\n", 3, LineWhy::Order),
+        (b"at 6 abort\nat 5 abort\n", 2, LineWhy::Order),
         // Two faults in one line.
         (b"at x hex\n", 1, LineWhy::Word),
         (b"at 0 hex 4\n", 1, LineWhy::Number),

@@ -5,7 +5,7 @@ use Rattle.mb_instr.specs.declared.registers.Plain.{Plain}
 use Rattle.mb_instr.specs.Registers.{plain_of}
 use Rattle.mb_model.specs.declared.outcome.RunState.TheVariants.{Running, Stopped, Off}
 use Rattle.mb_walk.specs.Memory.{AreBytes}
-use Rattle.mb_devices.specs.Devices.{DeviceState, level_of, ticked, passed, IsNotDue}
+use Rattle.mb_devices.specs.Devices.{DeviceState, ticked, passed, IsNotDue}
 use Rattle.mb_machine.specs.Machine.{arrived, takes_steps}
 use Rattle.mb_board.specs.Fits.{FitsAlong}
 use Rattle.mb_board.specs.State.{BoardState, ran_to}
@@ -25,7 +25,7 @@ use Rattle.vm_guest.specs.declared.rest.Rest.TheVariants.{Whole}
 use Rattle.vm_guest.specs.Rests.{rest_in}
 use Rattle.vm_guest.specs.Native.{gone_on, guest_run, guest_start, reset_for, HasFrame}
 use Rattle.vm_guest.specs.Stops.{IsStopped}
-use Rattle.vm_guest.specs.Turns.{begun_seat, ended_at, idled_on, scene, IsGoing}
+use Rattle.vm_guest.specs.Turns.{begun_seat, ended_at, idled_on, scene, IsGoing, level_on}
 use Rattle.vm_guest.proofs.Assisted.{is_on, is_running, none_assisted}
 use Rattle.vm_guest.proofs.Devices.{due_behind, off_passed}
 use Rattle.vm_guest.proofs.Runs.{MayRun, MayRunOn, counted_native, counted_takes, is_left, left_is, never_gone, reset_is_set}
@@ -36,7 +36,7 @@ use Rattle.vm_guest.proofs.Takings.{assisted_takes, idle_takes}
 
 -- of the guest in the middle of its step
 pub record Found (b : Seat) (ram : List ℕ) (size : ℕ) (native : NativeState) (n : ℕ) : Type 0 where
-  pub tried : assisted (level_of b.devices) b.cpu ≡ None
+  pub tried : assisted (level_on b) b.cpu ≡ None
   pub none : NoneDue b.script b.steps n
   pub due : IsNotDue n b.devices
   pub seven : length b.cpu.regs.a ≡ 7
@@ -51,7 +51,7 @@ may_run g ram size native n seated going takes h = record {
   set = reset_is_set g ram size;
   bytes = h.bytes;
   small = h.small;
-  running = is_running g going takes (none_assisted (level_of (begun_seat g).devices) g.cpu h.tried).awake;
+  running = is_running g going takes (none_assisted (level_on (begun_seat g)) g.cpu h.tried).awake;
   on = is_on g going takes;
   seven = h.seven;
   tried = h.tried;
@@ -61,11 +61,11 @@ may_run g ram size native n seated going takes h = record {
 }
 
 -- as code asks for it: `w` is that guest, too
-pub asked_is : (b w : Seat) (level : ℕ) → w ≡ b → level ≡ level_of w.devices → assisted (level_of b.devices) b.cpu ≡ assisted level w.cpu
+pub asked_is : (b w : Seat) (level : ℕ) → w ≡ b → level ≡ level_on b → assisted (level_on b) b.cpu ≡ assisted level w.cpu
 asked_is b w level view is =
-    sym (ap (λ (x : Seat). assisted (level_of x.devices) x.cpu) view) ∙ ap (λ (k : ℕ). assisted k w.cpu) (sym is)
+    ap (λ (k : ℕ). assisted k b.cpu) (sym is) ∙ sym (ap (λ (x : Seat). assisted level x.cpu) view)
 
-pub found_by : (b w : Seat) (ram : List ℕ) (size : ℕ) (native : NativeState) (n level : ℕ) → w ≡ b → level ≡ level_of w.devices
+pub found_by : (b w : Seat) (ram : List ℕ) (size : ℕ) (native : NativeState) (n level : ℕ) → w ≡ b → level ≡ level_on b
     → assisted level w.cpu ≡ None → NoneDue w.script w.steps n → IsNotDue n w.devices → length b.cpu.regs.a ≡ 7 → AreBytes ram
     → length ram ≤ 2 ^ 32 → FitsAlong (n + 1) (guest_start b ram size native) → Found b ram size native n
 found_by b w ram size native n level view is tried none due seven bytes small fit = record {
@@ -92,8 +92,8 @@ stands g b ram is seated =
 
 -- what the monitor has done of it
 pub record Assists (b h : Seat) (ram next : List ℕ) (c : Class) : Type 0 where
-  pub class : assisted (level_of b.devices) b.cpu ≡ Some c
-  pub means : guested_on h next ≡ ended_at b.steps (run guest_bus (rest_in Whole (level_of b.devices) b.cpu) (world_of (guested_on b ram)))
+  pub class : assisted (level_on b) b.cpu ≡ Some c
+  pub means : guested_on h next ≡ ended_at b.steps (run guest_bus (rest_in Whole (level_on b) b.cpu) (world_of (guested_on b ram)))
   pub tally : h.tally ≡ counted c b.tally
   pub same : IsSame b h
   pub within : OnlyBetween b.base (end_of b) ram next
@@ -109,11 +109,11 @@ assisted_by g b h ram next native c is goes has seated after =
 
 -- of the guest in the first of them
 pub record Idles (b : Seat) (n : ℕ) : Type 0 where
-  pub tried : assisted (level_of b.devices) b.cpu ≡ Some class.Idle
+  pub tried : assisted (level_on b) b.cpu ≡ Some class.Idle
   pub none : NoneDue b.script b.steps n
   pub due : IsNotDue n b.devices
 
-pub idles_by : (b w : Seat) (n level : ℕ) → w ≡ b → level ≡ level_of w.devices → assisted level w.cpu ≡ Some class.Idle
+pub idles_by : (b w : Seat) (n level : ℕ) → w ≡ b → level ≡ level_on b → assisted level w.cpu ≡ Some class.Idle
     → NoneDue w.script w.steps n → IsNotDue n w.devices → Idles b n
 idles_by b w n level view is tried none due = record {
   tried = asked_is b w level view is ∙ tried;
@@ -151,7 +151,7 @@ goes_behind : (g : Seat) (board : BoardState) (native : NativeState) (n more ret
     → IsGoing (gone_on (begun_seat g) more retired p)
 goes_behind g board native n more retired p may takes =
     let on = on_behind g more ∙ may.on in
-    let awake = (none_assisted (level_of (begun_seat g).devices) g.cpu may.tried).awake in
+    let awake = (none_assisted (level_on (begun_seat g)) g.cpu may.tried).awake in
     may.running
     ∙ sym (ap (λ (b : Bool). cond b Off (cond g.cpu.stopped Stopped Running)) on ∙ ap (λ (b : Bool). cond b Stopped Running) awake)
 

@@ -47,7 +47,7 @@ running_on (finish.Entered v) cpu d h = going_on d.off cpu.stopped h
 stepped_on : (script : Entries) (g : Guested) → (guest_stepped script g).machine.state ≡ Running → (guest_stepped script g).machine.world.devices.off ≡ false
 unfolding guest_stepped
 stepped_on script g h =
-    let r = guest_processed (guest_begun script g) in running_on r.0.0 r.0.1 r.1.world.devices h
+    let r = guest_processed script (guest_begun script g) in running_on r.0.0 r.0.1 r.1.world.devices h
 
 -- a retired step lets the board's run go on
 retired_goes : (x : Site) (script : Entries) (r : Ran) (g : Guested) → Retires x script r.machine g (user_step r.machine) (guest_stepped script g)

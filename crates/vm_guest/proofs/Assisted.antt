@@ -2,8 +2,7 @@
 use Rattle.std.proofs.Common.{◌≡◌, ◌∙◌, ℕ, ◌≤◌, List, Bool, true, false, cond, nat_lt, Option, Some, None, refl, ap, sym}
 use Rattle.mb_model.specs.declared.processor.Cpu.{Cpu}
 use Rattle.mb_model.specs.declared.outcome.RunState.TheVariants.{Running, Stopped, Off}
-use Rattle.mb_devices.specs.Devices.{level_of}
-use Rattle.mb_processor.specs.Step.{interrupt_mask}
+use Rattle.mb_processor.specs.Step.{interrupt_mask, rank}
 use Rattle.mb_machine.specs.Machine.{begun, takes_steps}
 use Rattle.vm_machine.specs.declared.class.Class.{Class}
 use Rattle.vm_machine.specs.declared.class.Class.TheVariants.{Entered, Idle, Traced}
@@ -16,7 +15,7 @@ use Rattle.vm_step.specs.Batch.{IsTried}
 use Rattle.vm_step.proofs.Retire.{not_above, not_less}
 use Rattle.vm_step.proofs.Quiet.{tried_class}
 use Rattle.vm_guest.specs.Counting.{assisted}
-use Rattle.vm_guest.specs.Turns.{begun_seat, IsGoing}
+use Rattle.vm_guest.specs.Turns.{begun_seat, IsGoing, level_on}
 
 pub inner : (b c : Class) → (let o : Option Class = Some b in o) ≡ Some c → b ≡ c
 inner b c h = cc
@@ -31,11 +30,11 @@ by_tests false false false r c h = absurd (let z : ⊥ = cc in z)
 pub assisted_class : (level : ℕ) (cpu : Cpu) (g : Guest) (c : Class) → assisted level cpu ≡ Some c → class_of level cpu g ≡ c
 unfolding class_of
 assisted_class level cpu g c h =
-    by_tests (nat_lt (interrupt_mask cpu) level) cpu.stopped (is_traced cpu) (class_of_attempt cpu (refilled cpu g).guest) c h
+    by_tests (nat_lt (interrupt_mask cpu) (rank level)) cpu.stopped (is_traced cpu) (class_of_attempt cpu (refilled cpu g).guest) c h
 
 -- what holds of a step that the board attempts
 pub record Attempts (level : ℕ) (cpu : Cpu) : Type 0 where
-  pub masked : level ≤ interrupt_mask cpu
+  pub masked : rank level ≤ interrupt_mask cpu
   pub awake : cpu.stopped ≡ false
   pub untraced : is_traced cpu ≡ false
 
@@ -48,8 +47,8 @@ all_false false false false h = (refl, refl, refl)
 
 pub none_assisted : (level : ℕ) (cpu : Cpu) → assisted level cpu ≡ None → Attempts level cpu
 none_assisted level cpu h =
-    let (a, b, t) = all_false (nat_lt (interrupt_mask cpu) level) cpu.stopped (is_traced cpu) h in
-    record { masked = not_less (interrupt_mask cpu) level a; awake = b; untraced = t }
+    let (a, b, t) = all_false (nat_lt (interrupt_mask cpu) (rank level)) cpu.stopped (is_traced cpu) h in
+    record { masked = not_less (interrupt_mask cpu) (rank level) a; awake = b; untraced = t }
 
 -- and where all of it holds, the board has a part in the step
 none_of : (a b t : Bool) → a ≡ false → b ≡ false → t ≡ false → cond a (Some Entered) (cond b (Some Idle) (cond t (Some Traced) None)) ≡ None
@@ -57,11 +56,11 @@ none_of a b t p q r = rw p (rw q (rw r refl))
 
 pub attempts_none : (level : ℕ) (cpu : Cpu) → Attempts level cpu → assisted level cpu ≡ None
 attempts_none level cpu h =
-    none_of (nat_lt (interrupt_mask cpu) level) cpu.stopped (is_traced cpu) (not_above (interrupt_mask cpu) level h.masked) h.awake h.untraced
+    none_of (nat_lt (interrupt_mask cpu) (rank level)) cpu.stopped (is_traced cpu) (not_above (interrupt_mask cpu) (rank level) h.masked) h.awake h.untraced
 
 -- what holds of an idle step
 pub record Stops (level : ℕ) (cpu : Cpu) : Type 0 where
-  pub masked : level ≤ interrupt_mask cpu
+  pub masked : rank level ≤ interrupt_mask cpu
   pub stopped : cpu.stopped ≡ true
 
 idle_tests : (a b t : Bool) → cond a (Some Entered) (cond b (Some Idle) (cond t (Some Traced) None)) ≡ Some Idle → (a ≡ false) × (b ≡ true)
@@ -72,21 +71,21 @@ idle_tests false false false h = absurd (let z : ⊥ = cc in z)
 
 pub idle_assisted : (level : ℕ) (cpu : Cpu) → assisted level cpu ≡ Some Idle → Stops level cpu
 idle_assisted level cpu h =
-    let (a, b) = idle_tests (nat_lt (interrupt_mask cpu) level) cpu.stopped (is_traced cpu) h in
-    record { masked = not_less (interrupt_mask cpu) level a; stopped = b }
+    let (a, b) = idle_tests (nat_lt (interrupt_mask cpu) (rank level)) cpu.stopped (is_traced cpu) h in
+    record { masked = not_less (interrupt_mask cpu) (rank level) a; stopped = b }
 
 -- the class of a guest's step that has begun
-pub class_begun : (g : Seat) (ram : List ℕ) (c : Class) → assisted (level_of (begun_seat g).devices) g.cpu ≡ Some c
+pub class_begun : (g : Seat) (ram : List ℕ) (c : Class) → assisted (level_on (begun_seat g)) g.cpu ≡ Some c
     → class_of_step g.script (guested_on g ram) ≡ c
 unfolding class_of_step begun
-class_begun g ram c h = assisted_class (level_of (begun_seat g).devices) g.cpu _ c h
+class_begun g ram c h = assisted_class (level_on (begun_seat g)) g.cpu _ c h
 
-pub tried_begun : (g : Seat) (ram : List ℕ) → assisted (level_of (begun_seat g).devices) g.cpu ≡ None
+pub tried_begun : (g : Seat) (ram : List ℕ) → assisted (level_on (begun_seat g)) g.cpu ≡ None
     → IsTried (step_class_at_first g.script (guested_on g ram))
 unfolding step_class_at_first begun
 tried_begun g ram h =
-    let a = none_assisted (level_of (begun_seat g).devices) g.cpu h in
-    tried_class (level_of (begun_seat g).devices) g.cpu _ a.masked a.awake a.untraced
+    let a = none_assisted (level_on (begun_seat g)) g.cpu h in
+    tried_class (level_on (begun_seat g)) g.cpu _ a.masked a.awake a.untraced
 
 -- ---- a guest that takes steps
 

@@ -5,7 +5,7 @@ use Rattle.mb_instr.specs.Registers.{plain_of}
 use Rattle.mb_model.specs.declared.outcome.RunState.{RunState}
 use Rattle.mb_model.specs.declared.outcome.RunState.TheVariants.{Running}
 use Rattle.mb_walk.specs.Memory.{AreBytes}
-use Rattle.mb_devices.specs.Devices.{DeviceState, idle, level_of, ticked, ticks, passed, IsNotDue}
+use Rattle.mb_devices.specs.Devices.{DeviceState, idle, ticked, ticks, passed, IsNotDue}
 use Rattle.mb_devices.proofs.Passing.{ticks_pass}
 use Rattle.mb_processor.specs.SystemEnds.{with_registers}
 use Rattle.mb_machine.specs.Machine.{begun, takes_steps}
@@ -29,7 +29,7 @@ use Rattle.vm_step.proofs.Turn.{boards_are_ready, flushed_is_set}
 use Rattle.vm_step.proofs.Taking.{batches_take, exits_take, is_counted, stands_of}
 use Rattle.vm_guest.specs.Counting.{assisted}
 use Rattle.vm_guest.specs.Native.{native_cpu, gone_on, reset_for, run_on, start_on}
-use Rattle.vm_guest.specs.Turns.{begun_seat, scene}
+use Rattle.vm_guest.specs.Turns.{begun_seat, scene, level_on}
 use Rattle.vm_guest.proofs.Along.{wanted_along}
 use Rattle.vm_guest.proofs.Assisted.{tried_begun}
 
@@ -55,7 +55,7 @@ pub record MayRunOn (g : Seat) (board : BoardState) (native : NativeState) (n : 
   pub running : g.state ≡ Running
   pub on : g.devices.off ≡ false
   pub seven : length g.cpu.regs.a ≡ 7
-  pub tried : assisted (level_of (begun_seat g).devices) g.cpu ≡ None
+  pub tried : assisted (level_on (begun_seat g)) g.cpu ≡ None
   pub arrives : NothingArrives g.script (g.steps + 1) n
   pub due : IsNotDue n (begun_seat g).devices
   pub fit : FitsAlong (suc n) (start_on g board native)
@@ -100,7 +100,7 @@ module _ (g : Seat) (board : BoardState) (native : NativeState) (n : ℕ) (may :
   unfolding begun
   devices_behind j few all =
       (retired_steps_tick (site_of g) g.script j (start_on g board native).machine (guested_on g board.world.ram) ready.0 all
-      (λ k more less d. may.arrives k more (omega arith) d)).0
+      (λ k more less. may.arrives k more (omega arith))).0
 
   -- ---- counted to its end
 
@@ -191,9 +191,9 @@ module _ (g : Seat) (board : BoardState) (native : NativeState) (n : ℕ) (may :
       let d = (begun_seat g).devices in
       let u = stepped_by g.script (suc j) (guested_on g board.world.ram) in
       let tick = retired_steps_tick (site_of g) g.script j (start_on g board native).machine (guested_on g board.world.ram) ready.0 all
-      (λ k more less e. may.arrives k more (omega arith) e) in
+      (λ k more less. may.arrives k more (omega arith)) in
       let steps : u.machine.steps ≡ g.steps + suc j = tick.1 in
-      only_ticks g.script u (λ e. may.arrives (u.machine.steps + 1) (omega arith) (omega arith) e)
+      only_ticks g.script u (may.arrives (u.machine.steps + 1) (omega arith) (omega arith)).devices
       ∙ ap ticked tick.0 ∙ ticked_behind j d ∙ (ticks_pass (suc j) d (fewer n (suc j) d few may.due)).at_once
 
   -- the guest in the middle of that step

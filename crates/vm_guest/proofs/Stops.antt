@@ -11,9 +11,10 @@ use Rattle.mb_model.specs.Status.{space_of}
 use Rattle.mb_walk.specs.Memory.{AreBytes}
 use Rattle.mb_devices.specs.Devices.{DeviceState, level_of, ticked, IsNotDue}
 use Rattle.mb_processor.specs.Raise.{Stepped}
-use Rattle.mb_processor.specs.Step.{step_of}
-use Rattle.mb_machine.specs.Machine.{Entries, Machine, arrived, begun, takes_steps}
+use Rattle.mb_processor.specs.Step.{interrupt_mask, rank, step_of}
+use Rattle.mb_machine.specs.Machine.{Entries, Machine, arrived, begun, takes_steps, asked, asked_of}
 use Rattle.mb_machine.specs.World.{World}
+use Rattle.mb_machine.proofs.Asked.{asked_masked}
 use Rattle.mb_board.specs.Beside.{but_ram}
 use Rattle.mb_board.specs.Fits.{FitsAlong}
 use Rattle.mb_board.specs.State.{BoardState, ran_to}
@@ -46,11 +47,11 @@ use Rattle.vm_step.proofs.Refill.{again_comes_to_the_same}
 use Rattle.vm_step.proofs.Retire.{off_arrived, off_ticked}
 use Rattle.vm_step.proofs.Turn.{more_stays_set}
 use Rattle.vm_step.proofs.Taking.{some_read}
-use Rattle.vm_step.proofs.Again.{midway_again, midway_ahead, midway_begins, midway_ends, midway_takes, midway_within}
+use Rattle.vm_step.proofs.Again.{midway_again, midway_ahead, midway_begins, midway_ends, midway_level, midway_takes, midway_within}
 use Rattle.vm_guest.specs.Memory.{OnlyBetween}
 use Rattle.vm_guest.specs.Counting.{assisted}
 use Rattle.vm_guest.specs.Native.{gone_on, left_by, run_on, start_on, HasFrame, IsFrameOf}
-use Rattle.vm_guest.specs.Turns.{begun_seat, ended_at, scene}
+use Rattle.vm_guest.specs.Turns.{begun_seat, ended_at, scene, level_on}
 use Rattle.vm_guest.specs.Stops.{filled, uncounted, BeginsAgain, IsReady, IsStopped, IsUnderway}
 use Rattle.vm_guest.proofs.Assisted.{Attempts, attempts_none}
 use Rattle.vm_guest.proofs.Runs.{MayRunOn, counted_first, counted_takes, is_left}
@@ -145,9 +146,9 @@ unfolding refills_of_step
 never_again script g e = let b = guest_begun script g in none_again 30 b.machine.cpu (world_of b) e
 
 class_begins : (script : Entries) (start q : Guested) → guest_begun script start ≡ q
-    → step_class_at_first script start ≡ class_at_first (level_of q.machine.world.devices) q.machine.cpu (world_of q)
+    → step_class_at_first script start ≡ class_at_first (asked_of script q.machine) q.machine.cpu (world_of q)
 unfolding step_class_at_first
-class_begins script start q e = ap (λ (p : Guested). class_at_first (level_of p.machine.world.devices) p.machine.cpu (world_of p)) e
+class_begins script start q e = ap (λ (p : Guested). class_at_first (asked_of script p.machine) p.machine.cpu (world_of p)) e
 
 untraced : (a b : Bool) → a ≡ false → b ≡ false → (a || b) ≡ false
 untraced a b h k = rw h (rw k refl)
@@ -161,7 +162,7 @@ devices_there : (g : Seat) (ram : List ℕ) (native : NativeState) (k n : ℕ) (
     (m : Midway g ram native k n mid now counts) → mid.devices ≡ (guest_begun g.script m.turn.guest).machine.world.devices
 devices_there g ram native k n mid now counts m =
     let b = guest_begun g.script m.turn.guest in
-    let (fine, world, comes) = again_comes_to_the_same g.size (level_of b.machine.world.devices) b.machine.cpu n (world_of b) (world_of (guested_on mid now))
+    let (fine, world, comes) = again_comes_to_the_same g.size (asked_of g.script b.machine) b.machine.cpu n (world_of b) (world_of (guested_on mid now))
     m.masked m.untraced m.registers m.fine m.begun in
     ap (λ (x : World). x.devices) world
 
@@ -169,7 +170,7 @@ fine_there : (g : Seat) (ram : List ℕ) (native : NativeState) (k n : ℕ) (mid
     (m : Midway g ram native k n mid now counts) → Fine mid.size (world_of (guested_on mid now))
 fine_there g ram native k n mid now counts m =
     let b = guest_begun g.script m.turn.guest in
-    let (fine, world, comes) = again_comes_to_the_same g.size (level_of b.machine.world.devices) b.machine.cpu n (world_of b) (world_of (guested_on mid now))
+    let (fine, world, comes) = again_comes_to_the_same g.size (asked_of g.script b.machine) b.machine.cpu n (world_of b) (world_of (guested_on mid now))
     m.masked m.untraced m.registers m.fine m.begun in
     subst (λ (size : ℕ). Fine size (world_of (guested_on mid now))) (sym m.same.size) fine
 
@@ -200,17 +201,25 @@ module _ (g s : Seat) (ram : List ℕ) (board : BoardState) (native counts : Nat
       let cpu : s.cpu ≡ b.machine.cpu = ap (λ (x : Machine). x.cpu) m.opened in
       let devices = devices_there g ram native k n mid board.world.ram counts m in
       let there : Attempts (level_of b.machine.world.devices) b.machine.cpu = record {
-        masked = m.masked;
+        masked = subst (λ (l : ℕ). rank l ≤ interrupt_mask b.machine.cpu)
+            (asked_masked g.script (b.machine.steps + 1) b.machine.world.devices b.machine.cpu m.masked) m.masked;
         awake = m.untraced.going;
         untraced = untraced _ _ m.untraced.all m.untraced.flow;
       } in
       subst (λ (c : Cpu). Attempts (level_of s.devices) c) (sym cpu) (subst (λ (d : DeviceState). Attempts (level_of d) b.machine.cpu) (sym devices) there)
 
+  -- no abort arrives at it
+  asked_level : asked_of s.script (machine_on mid board.world.ram) ≡ level_of s.devices
+  asked_level = ap (λ (script : Entries). asked_of script (machine_on mid board.world.ram)) m.same.script
+      ∙ midway_level g ram native k n mid board.world.ram counts m
+
   -- the board may run it
   pub resumes : IsSeated s board.world.ram → IsReady s board → AreBytes board.world.ram → length board.world.ram ≤ 2 ^ 32 → length s.cpu.regs.a ≡ 7
       → FitsAlong 1 (start_on s board counts) → MayRunOn from board counts 0
   resumes seated ready bytes small seven fit =
-      let level : level_of (begun_seat from).devices ≡ level_of s.devices = ap (λ (x : Seat). level_of x.devices) begun_is in
+      let steps : s.steps ≡ s.steps - 1 + 1 = (let some = underway.begun in omega arith) in
+      let level : level_on (begun_seat from) ≡ level_of s.devices =
+      ap level_on begun_is ∙ ap (λ (i : ℕ). asked s.script i s.devices) steps ∙ asked_level in
       record {
         seated = begun_seated s board.world.ram from.devices from.steps seated;
         set = ready.set;
@@ -221,7 +230,7 @@ module _ (g s : Seat) (ram : List ℕ) (board : BoardState) (native counts : Nat
             ∙ ap (λ (x : Seat). x.devices.off) begun_is ∙ underway.on;
         seven = seven;
         tried = ap (λ (l : ℕ). assisted l s.cpu) level ∙ attempts_none (level_of s.devices) s.cpu attempts;
-        arrives = λ j more less d. absurd (let z : ⊥ = omega arith in z);
+        arrives = λ j more less. absurd (let z : ⊥ = omega arith in z);
         due = subst (λ (x : Seat). IsNotDue 0 x.devices) (sym begun_is) underway.due;
         fit = fit;
       }
@@ -241,7 +250,8 @@ module _ (g s : Seat) (ram : List ℕ) (board : BoardState) (native counts : Nat
         (counted_takes from board counts 0 may u ran end wide p plain) in
         let (first, refills) = counted_first from board counts 0 may u ran end in
         let class_is : class_at_first (level_of mid.devices) mid.cpu w ≡ class.Retired =
-        sym (class_begins s.script (guested_on from board.world.ram) (guested_on mid board.world.ram) begins) ∙ first in
+        sym (ap (λ (l : ℕ). class_at_first l mid.cpu w) asked_level)
+        ∙ sym (class_begins s.script (guested_on from board.world.ram) (guested_on mid board.world.ram) begins) ∙ first in
         let none : begun_again mid.cpu w ≡ None =
         ap (λ (q : Guested). begun_again q.machine.cpu (world_of q)) (sym begins) ∙ never_again s.script (guested_on from board.world.ram) refills in
         let taken = midway_takes g ram native k n mid board.world.ram counts m none h u.machine.world.ram u.native one in
@@ -324,7 +334,8 @@ module _ (g s : Seat) (ram : List ℕ) (board : BoardState) (native counts : Nat
             let class_is : class_of_vector v ≡ class_at_first (level_of mid.devices) mid.cpu w =
             ap class_of_vector (sym (same_vector left.vector v (sym left.end ∙ ends))) ∙ left.class
             ∙ ap (λ (q : Guested). step_class_at_first s.script q) stays
-            ∙ class_begins s.script (guested_on from board.world.ram) (guested_on mid board.world.ram) begins in
+            ∙ class_begins s.script (guested_on from board.world.ram) (guested_on mid board.world.ram) begins
+            ∙ ap (λ (l : ℕ). class_at_first l mid.cpu w) asked_level in
             let tally_is : with_refills (class_at_first (level_of mid.devices) mid.cpu w) n seat.tally ≡ seat.tally =
             ap (λ (c : Class). with_refills c n seat.tally) (sym class_is) ∙ (leaves v).refills n seat.tally in
             subst (λ (t : Tally). Takes (k + 1) (scene g ram native) (scene (record seat { tally = t }) next later)) tally_is

@@ -3,8 +3,8 @@ use Rattle.std.proofs.Common.{◌≡◌, ◌∙◌, ℕ, suc, ◌+◌, Bool, tru
 use Rattle.mb_port.specs.Routine.{run}
 use Rattle.mb_instr.specs.declared.registers.Plain.{Plain}
 use Rattle.mb_model.specs.declared.processor.Cpu.{Cpu}
-use Rattle.mb_devices.specs.Devices.{level_of, passed, IsNotDue}
-use Rattle.mb_processor.specs.Step.{interrupt_mask, step_of}
+use Rattle.mb_devices.specs.Devices.{passed, IsNotDue}
+use Rattle.mb_processor.specs.Step.{interrupt_mask, step_of, rank}
 use Rattle.mb_machine.specs.Machine.{Entries, begun, takes_steps}
 use Rattle.vm_meaning.specs.Batches.{NothingArrives}
 use Rattle.vm_meaning.specs.Marks.{trail}
@@ -21,7 +21,7 @@ use Rattle.vm_step.specs.Idle.{IsIdle, idle_seat}
 use Rattle.vm_step.proofs.Idle.{idle_steps_take}
 use Rattle.vm_guest.specs.Memory.{OnlyBetween}
 use Rattle.vm_guest.specs.Counting.{assisted}
-use Rattle.vm_guest.specs.Turns.{begun_seat, ended_at, idled_on, scene, IsGoing}
+use Rattle.vm_guest.specs.Turns.{begun_seat, ended_at, idled_on, scene, IsGoing, level_on}
 use Rattle.vm_guest.proofs.Assisted.{inner, class_begun, idle_assisted, is_on, is_stopped}
 use Rattle.vm_guest.proofs.Seated.{only_within}
 
@@ -41,10 +41,10 @@ aside_by false false true c h = subst Aside (inner Traced c h) (record { marks =
 aside_by false false false c h = absurd (let z : ⊥ = cc in z)
 
 aside : (level : ℕ) (cpu : Cpu) (c : Class) → assisted level cpu ≡ Some c → Aside c
-aside level cpu c h = aside_by (nat_lt (interrupt_mask cpu) level) cpu.stopped (is_traced cpu) c h
+aside level cpu c h = aside_by (nat_lt (interrupt_mask cpu) (rank level)) cpu.stopped (is_traced cpu) c h
 
 stepped_is : (g : Seat) (ram : List ℕ) → let b = begun_seat g in
-    ended_at b.steps (run guest_bus (step_of (level_of b.devices) b.cpu) (world_of (guested_on b ram))) ≡ guest_stepped g.script (guested_on g ram)
+    ended_at b.steps (run guest_bus (step_of (level_on b) b.cpu) (world_of (guested_on b ram))) ≡ guest_stepped g.script (guested_on g ram)
 unfolding guest_stepped begun
 stepped_is g ram = refl
 
@@ -52,7 +52,7 @@ one_step : (script : Entries) (t : Turned) (c : Class) (n : ℕ) (after : Gueste
     → by_class c n after t ≡ advanced script t → by_class c n after t ≡ turn_of script 1 t
 one_step script t c n after goes is = is ∙ sym (nothing_turned script (advanced script t)) ∙ sym (going_turn script 0 t goes)
 
-advanced_is : (g : Seat) (ram : List ℕ) (c : Class) → assisted (level_of (begun_seat g).devices) g.cpu ≡ Some c → let t = turned_on g ram [] in
+advanced_is : (g : Seat) (ram : List ℕ) (c : Class) → assisted (level_on (begun_seat g)) g.cpu ≡ Some c → let t = turned_on g ram [] in
     by_class c (refills_of_step g.script (guested_on g ram)) (guest_stepped g.script (guested_on g ram)) t ≡ advanced g.script t
 unfolding advanced
 advanced_is g ram c h =
@@ -60,14 +60,14 @@ advanced_is g ram c h =
     (sym (class_begun g ram c h))
 
 pub assisted_takes : (g h : Seat) (ram next : List ℕ) (native : NativeState) (c : Class) → takes_steps g.state ≡ true → let b = begun_seat g in
-    assisted (level_of b.devices) g.cpu ≡ Some c
-    → guested_on h next ≡ ended_at b.steps (run guest_bus (step_of (level_of b.devices) b.cpu) (world_of (guested_on b ram)))
+    assisted (level_on b) g.cpu ≡ Some c
+    → guested_on h next ≡ ended_at b.steps (run guest_bus (step_of (level_on b) b.cpu) (world_of (guested_on b ram)))
     → h.tally ≡ counted c g.tally → IsSame g h → IsSeated g ram → IsSeated h next → OnlyBetween g.base (end_of g) ram next
     → Takes 1 (scene g ram native) (scene h next native)
 unfolding trail
 assisted_takes g h ram next native c goes class means tally same seated after within =
     let t = turned_on g ram [] in
-    let so = aside (level_of (begun_seat g).devices) g.cpu c class in
+    let so = aside (level_on (begun_seat g)) g.cpu c class in
     let refills = refills_of_step g.script (guested_on g ram) in
     let guest : guested_on h next ≡ guest_stepped g.script (guested_on g ram) = means ∙ stepped_is g ram in
     let of : Guested → Tally → List Plain → Turned = λ q n marks. record { guest = q; tally = n; marks = marks } in
@@ -91,11 +91,11 @@ assisted_takes g h ram next native c goes class means tally same seated after wi
 -- ---- idle steps
 
 pub idle_takes : (g : Seat) (ram : List ℕ) (native : NativeState) (n : ℕ) → IsSeated g ram → IsGoing g → takes_steps g.state ≡ true
-    → assisted (level_of (begun_seat g).devices) g.cpu ≡ Some Idle → NothingArrives g.script (g.steps + 1) n → IsNotDue n (begun_seat g).devices
+    → assisted (level_on (begun_seat g)) g.cpu ≡ Some Idle → NothingArrives g.script (g.steps + 1) n → IsNotDue n (begun_seat g).devices
     → Takes (n + 1) (scene g ram native) (scene (idled_on n (begun_seat g)) ram native)
 unfolding begun
 idle_takes g ram native n seated going takes tried quiet due =
-    let is = idle_assisted (level_of (begun_seat g).devices) g.cpu tried in
+    let is = idle_assisted (level_on (begun_seat g)) g.cpu tried in
     let d = passed n (begun_seat g).devices in
     let idle : IsIdle g.script (guested_on g ram) = record {
       state = is_stopped g going takes is.stopped;

@@ -1,7 +1,7 @@
 -- Steps of a guest, and how they are counted.
 use Rattle.std.specs.Prelude.{ℕ, ◌+◌, ◌<◌, ◌≤◌, ◌⊎◌, nat_lt, if◌then◌else◌, length, Option, Some, None}
 use Rattle.mb_model.specs.declared.processor.Cpu.{Cpu}
-use Rattle.mb_processor.specs.Step.{interrupt_mask}
+use Rattle.mb_processor.specs.Step.{interrupt_mask, rank}
 use Rattle.mb_machine.specs.Machine.{Entries}
 use Rattle.mb_board.specs.Arrivals.{due_at}
 use Rattle.vm_machine.specs.declared.class.Class.{Class}
@@ -40,6 +40,6 @@ with_idle n t = record t { idle = t.idle + n }
 -- the processor, or a trace bit is set.
 abbrev pub assisted : (level : ℕ) → Cpu → Option Class
 assisted level cpu =
-    if nat_lt (interrupt_mask cpu) level then Some Entered else
+    if nat_lt (interrupt_mask cpu) (rank level) then Some Entered else
     if cpu.stopped then Some Idle else
     if is_traced cpu then Some Traced else None

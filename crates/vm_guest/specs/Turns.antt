@@ -8,7 +8,7 @@ use Rattle.mb_devices.specs.Devices.{DeviceState, ticked, passed}
 use Rattle.mb_processor.specs.declared.StepEnd.{StepEnd}
 use Rattle.mb_processor.specs.declared.StepEnd.TheVariants as step
 use Rattle.mb_processor.specs.Raise.{Stepped}
-use Rattle.mb_machine.specs.Machine.{Contents, Entries, Machine, arrived, going, run_of, start}
+use Rattle.mb_machine.specs.Machine.{Contents, Entries, Machine, arrived, going, run_of, start, asked}
 use Rattle.mb_machine.specs.Machine.{state_after, takes_steps}
 use Rattle.vm_meaning.specs.Free.{rule_free, FreeRun, Within}
 use Rattle.vm_meaning.specs.Native.{NativeState}
@@ -33,6 +33,10 @@ IsGoing g = takes_steps g.state ≡ true → g.state ≡ going g.cpu g.devices
 -- A guest whose step has begun.
 abbrev pub begun_seat : Seat → Seat
 begun_seat g = record g { devices = ticked (arrived (g.steps + 1) g.script g.devices); steps = g.steps + 1 }
+
+-- The interrupt level that a step is asked for that has begun so.
+abbrev pub level_on : Seat → ℕ
+level_on b = asked b.script b.steps b.devices
 
 -- A guest whose step has begun, behind that and so many more that are idle.
 abbrev pub idled_on : (more : ℕ) → Seat → Seat

@@ -6,6 +6,7 @@ ghost use Rattle.vm_guest.specs.Counting.{assisted};
 
 use mb_instr::vectors::{ACCESS_ERROR, ILLEGAL, LINE_A, LINE_F, ODD_COUNTER, PRIVILEGED};
 use mb_model::Cpu;
+use mb_step::rank;
 use vm_machine::Class;
 
 /// The class of a step that has begun, with an interrupt of this level asked for, where the board has no part in it: an
@@ -14,7 +15,7 @@ pub(crate) fn assisted(level: u8, cpu: &Cpu) -> Option<Class>
     ensures { result ≡ assisted level cpu.now }
 {
     let mask = (cpu.regs.sr >> 8 & 7) as u8;
-    if level > mask {
+    if rank(level) > mask {
         Some(Class::Entered)
     } else if cpu.stopped {
         Some(Class::Idle)

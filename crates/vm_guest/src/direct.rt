@@ -159,7 +159,8 @@ impl Guest {
         ensures others { but_ram board.new ≡ but_ram board.old }
     {
         let rest = Rest::left(vector, frame, &board.cpu().regs);
-        self.assist(board, &rest, class_of_vector(vector));
+        let level = self.devices.level();
+        self.assist(board, &rest, level, class_of_vector(vector));
     }
 
     /// The step that was carried out last had begun again.
@@ -260,7 +261,7 @@ impl Guest {
         ensures native { (native.new.retired ≤ native.old.retired + result)
             × (native.new.exceptions ≤ native.old.exceptions + 32 * result) }
     {
-        self.begin();
+        let level = self.begin();
         let more = more_steps(
             &self.script,
             self.next,
@@ -268,12 +269,12 @@ impl Guest {
             &self.devices,
             limit - 1,
         );
-        if let Some(class) = assisted(self.devices.level(), &self.cpu) {
+        if let Some(class) = assisted(level, &self.cpu) {
             if let Class::Idle = class {
                 self.idle_on(more);
                 return more + 1;
             }
-            self.assist(board, &Rest::Whole, class);
+            self.assist(board, &Rest::Whole, level, class);
             return 1;
         }
         let before = native.retired();

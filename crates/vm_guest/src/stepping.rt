@@ -3,14 +3,13 @@
 ghost use Rattle.std.specs.Prelude.{◌≡◌, ◌+◌, ◌^◌, ◌<◌, ◌≤◌};
 ghost use Rattle.mb_port.specs.Routine.{run};
 ghost use Rattle.mb_processor.specs.Raise.{by_its_end};
-ghost use Rattle.mb_devices.specs.Devices.{level_of};
 ghost use Rattle.mb_board.specs.Beside.{but_ram};
 ghost use Rattle.vm_machine.specs.Bus.{guest_bus};
 ghost use Rattle.vm_machine.specs.Turns.{counted, steps_in, world_of};
 ghost use Rattle.vm_machine.specs.Seats.{end_of, guested_on, IsSame, IsSeated};
 ghost use Rattle.vm_guest.specs.Memory.{OnlyBetween};
 ghost use Rattle.vm_guest.specs.Rests.{rest_in, IsLawfulRest};
-ghost use Rattle.vm_guest.specs.Turns.{begun_seat, ended_at, processed, state_by, IsGoing};
+ghost use Rattle.vm_guest.specs.Turns.{begun_seat, ended_at, level_on, processed, state_by, IsGoing};
 
 use crate::guest::Guest;
 use crate::rest::Rest;
@@ -41,16 +40,24 @@ fn state_by(end: StepEnd, cpu: &Cpu, devices: &Devices) -> RunState
 }
 
 impl Guest {
-    /// A step begins: what is due at it arrives, and the timer ticks.
-    pub(crate) fn begin(&mut self)
+    /// A step begins: what is due at it arrives, and the timer ticks. Gives the interrupt level that it is asked for.
+    pub(crate) fn begin(&mut self) -> u8
         requires { self.old.steps + 1 < 2 ^ 32 }
         ensures begun { self.new ≡ begun_seat self.old }
+        ensures level { result ≡ level_on self.new }
+        ensures lawful { result < 8 }
         ensures counted { steps_in self.new.tally < self.new.steps }
         ensures refilled { self.new.tally.refilled ≤ self.new.tally.retired }
     {
-        self.next = receive(&mut self.devices, &self.script, self.steps, self.next);
+        let arrival = receive(&mut self.devices, &self.script, self.steps, self.next);
+        self.next = arrival.next;
         self.steps += 1;
         self.devices.tick();
+        if arrival.aborted {
+            7
+        } else {
+            self.devices.level()
+        }
     }
 
     /// What is left of the processor's part of a step, over the guest's bus.
@@ -78,13 +85,15 @@ impl Guest {
         rest.carry_out(&mut self.decoder, &mut self.cpu, &mut port, level)
     }
 
-    /// Carries out what is left of a step that has begun, and counts it by its class.
-    pub(crate) fn assist(&mut self, board: &mut Board, rest: &Rest, class: Class)
+    /// Carries out what is left of a step that has begun, with an interrupt of this level asked for, and counts it by
+    /// its class.
+    pub(crate) fn assist(&mut self, board: &mut Board, rest: &Rest, level: u8, class: Class)
+        requires level { level < 8 }
         requires counted { steps_in self.old.tally < self.old.steps }
         requires lawful { IsLawfulRest rest.now }
         requires seated { IsSeated self.old board.old.world.ram }
         ensures means { guested_on self.new board.new.world.ram ≡ ended_at self.old.steps
-            (run guest_bus (rest_in rest.now (level_of self.old.devices) self.old.cpu)
+            (run guest_bus (rest_in rest.now level self.old.cpu)
             (world_of (guested_on self.old board.old.world.ram))) }
         ensures tally { self.new.tally ≡ counted class self.old.tally }
         ensures steps { self.new.steps ≡ self.old.steps }
@@ -94,7 +103,6 @@ impl Guest {
         ensures within { OnlyBetween self.old.base (end_of self.old) board.old.world.ram board.new.world.ram }
         ensures others { but_ram board.new ≡ but_ram board.old }
     {
-        let level = self.devices.level();
         let end = self.process(board, rest, level);
         self.state = state_by(end, &self.cpu, &self.devices);
         self.counts.add(class);

@@ -18,7 +18,7 @@ use Rattle.mb_processor.specs.SystemEnds.{with_registers}
 use Rattle.mb_meaning.specs.Rows.{privileged, perform_of, row_of}
 use Rattle.mb_meaning.specs.Attempt.{Found, found_none, fetched_of, past, attempt_of}
 use Rattle.mb_processor.specs.Raise.{Stepped, is_due}
-use Rattle.mb_processor.specs.Step.{finish_of, interrupt_mask, step_of}
+use Rattle.mb_processor.specs.Step.{finish_of, interrupt_mask, step_of, rank}
 use Rattle.mb_attempts.specs.Attempts.{is_attempted, IsUntraced, NoOther, fetched_by, attempted_by, finished_by}
 use Rattle.mb_attempts.proofs.Attempts.{attempt_then_finish}
 use Rattle.mb_twins.specs.Twins.{SameEnd, SamePerformed}
@@ -164,7 +164,7 @@ module _ (x : Site) (board guest : Cpu) (b : World) (g : Guest) (m : Mirrored x 
       (fetches_stay x guest.regs.pc b g m.counter r).0 (subst (λ (f : Found × Guest). NoOther i f.0) here h))
 
   -- the board's step is the finish of its attempt's end
-  native : (level : ℕ) (i : Instr) → level ≤ interrupt_mask board → NoOther i (fetched_by held_bus guest g).0
+  native : (level : ℕ) (i : Instr) → rank level ≤ interrupt_mask board → NoOther i (fetched_by held_bus guest g).0
       → run board_bus (step_of level board) b ≡ finished_by board_bus i board there
   native level i masked h =
       attempt_then_finish board_bus level board b i masked m.board_untraced.going (no_other_there i h) (all_attempted i board m.user)
@@ -188,7 +188,7 @@ module _ (x : Site) (board guest : Cpu) (b : World) (g : Guest) (m : Mirrored x 
             (sym (ap (λ (q : Performed). (closed q).0) is) ∙ done) goes)
       ]
 
-  own : (level : ℕ) (f : Bool) → level ≤ interrupt_mask guest → (closed held.0).0 ≡ ended.Done f
+  own : (level : ℕ) (f : Bool) → rank level ≤ interrupt_mask guest → (closed held.0).0 ≡ ended.Done f
       → run guest_bus (step_of level guest) g ≡ ((finish.Went, with_registers (closed held.0).1 guest), held.1)
   own level f masked done =
       let found = (fetched_by guest_bus guest g).0 in
@@ -203,7 +203,7 @@ module _ (x : Site) (board guest : Cpu) (b : World) (g : Guest) (m : Mirrored x 
       ∙ ap (λ (e : Ended). run guest_bus (finish_of i e guest (with_registers (closed held.0).1 guest)) held.1) done
       ∙ done_finish guest_bus i f guest (with_registers (closed held.0).1 guest) held.1 m.guest_untraced
 
-  retires : (level : ℕ) (f : Bool) → level ≤ interrupt_mask board → (closed held.0).0 ≡ ended.Done f
+  retires : (level : ℕ) (f : Bool) → rank level ≤ interrupt_mask board → (closed held.0).0 ≡ ended.Done f
       → run board_bus (step_of level board) b ≡ ((finish.Went, with_registers (closed held.0).1 board), there.1)
   retires level f masked done =
       let found = (fetched_by held_bus guest g).0 in

@@ -10,7 +10,7 @@ use Rattle.mb_writes.specs.declared.ends.Ended.TheVariants as ended
 use Rattle.mb_processor.specs.declared.Finish.TheVariants as finish
 use Rattle.mb_meaning.specs.Ends.{End}
 use Rattle.mb_processor.specs.SystemEnds.{with_registers}
-use Rattle.mb_processor.specs.Step.{interrupt_mask, step_of}
+use Rattle.mb_processor.specs.Step.{interrupt_mask, step_of, rank}
 use Rattle.mb_attempts.specs.Attempts.{IsUntraced, NoOther, fetched_by}
 use Rattle.mb_twins.specs.Twins.{SameEnd}
 use Rattle.mb_tells.specs.Laws.{HasLongs}
@@ -40,7 +40,7 @@ pub record Mirrored (x : Site) (board guest : Cpu) : Type 0 where
 -- the guest its RAM alone changes, and nothing of the board outside it.
 abbrev pub StepsRetire : Type 0
 StepsRetire = (x : Site) (level own_level : ℕ) (board guest : Cpu) (b : World) (g : Guest) (flow : Bool)
-    → Mirrored x board guest → Related x b g → level ≤ interrupt_mask board → own_level ≤ interrupt_mask guest
+    → Mirrored x board guest → Related x b g → rank level ≤ interrupt_mask board → rank own_level ≤ interrupt_mask guest
     → let end = held_end x.space (plain_of guest.regs) g in end.0 ≡ ended.Done flow
     → let native = run board_bus (step_of level board) b in let own = run guest_bus (step_of own_level guest) g in
     (native.0 ≡ (finish.Went, with_registers end.1 board)) × (own.0 ≡ (finish.Went, with_registers end.1 guest))
@@ -63,6 +63,7 @@ pub record LeavesBy (x : Site) (level : ℕ) (i : Instr) (board : Cpu) (b : Worl
 -- fetched the end says all, and any instruction will do.)
 abbrev pub StepsLeave : Type 0
 StepsLeave = (x : Site) (level : ℕ) (board guest : Cpu) (b : World) (g : Guest) (i : Instr)
-    → Mirrored x board guest → Related x b g → level ≤ interrupt_mask board → NoOther i (fetched_by held_bus guest g).0
+    → Mirrored x board guest → Related x b g → rank level ≤ interrupt_mask board
+    → NoOther i (fetched_by held_bus guest g).0
     → let end = held_end x.space (plain_of guest.regs) g in IsEnd end.0
     → LeavesBy x level i board b g end (by_held x.space (plain_of guest.regs) g).1

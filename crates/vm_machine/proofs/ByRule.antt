@@ -3,7 +3,6 @@ use Rattle.std.proofs.Common.{◌≡◌, ◌∙◌, zero, suc, refl, ap, inl, in
 use Rattle.std.proofs.lemmas.Bool.{cases_Bool}
 use Rattle.mb_port.specs.Routine.{Routine, run}
 use Rattle.mb_model.specs.Keeping.{rule_k}
-use Rattle.mb_devices.specs.Devices.{level_of}
 use Rattle.mb_processor.specs.Step.{step_of}
 use Rattle.mb_processor.specs.Raise.{Stepped}
 use Rattle.mb_laws.specs.Alike.{Mirrors}
@@ -13,7 +12,7 @@ use Rattle.mb_laws.proofs.Related.{along}
 use Rattle.mb_laws.proofs.Simulated.{run_mirrors}
 use Rattle.mb_machine.specs.World.{World}
 use Rattle.mb_machine.specs.Bus.{bus_of}
-use Rattle.mb_machine.specs.Machine.{Machine, begun, one_later, stepping, takes_steps, run_of}
+use Rattle.mb_machine.specs.Machine.{Machine, begun, one_later, stepping, takes_steps, run_of, asked_of}
 use Rattle.vm_machine.specs.Guests.{Guest}
 use Rattle.vm_machine.specs.Bus.{guest_bus}
 use Rattle.vm_machine.specs.Turns.{world_of, guest_begun, guest_stepped, advanced, turn_of, prepared}
@@ -43,7 +42,7 @@ pub steps_by_rule : StepsAreByRule
 unfolding guest_stepped stepping begun
 steps_by_rule script g =
     let b = guest_begun script g in
-    let r = runs_by_rule (step_of (level_of b.machine.world.devices) b.machine.cpu) (world_of b) in
+    let r = runs_by_rule (step_of (asked_of script b.machine) b.machine.cpu) (world_of b) in
     later_machine b.machine _ _ _ _ r.0 r.1
 
 pub turns_by_rule : TurnsAreByRule

@@ -10,7 +10,7 @@ use Rattle.mb_writes.specs.declared.ends.Ended.TheVariants as ended
 use Rattle.mb_meaning.specs.Ends.{Performed}
 use Rattle.mb_meaning.specs.Attempt.{attempt_of}
 use Rattle.mb_processor.specs.Raise.{traces_all, traces_flow}
-use Rattle.mb_processor.specs.Step.{interrupt_mask}
+use Rattle.mb_processor.specs.Step.{interrupt_mask, rank}
 use Rattle.vm_machine.specs.declared.class.Class.{Class}
 use Rattle.vm_machine.specs.declared.class.Class.TheVariants.{Entered, Idle, Traced, Privileged, Denied, Trapped}
 use Rattle.vm_machine.specs.declared.class.Class.TheVariants.{Retired}
@@ -55,7 +55,7 @@ is_traced cpu = traces_all cpu.regs.sr || traces_flow cpu.regs.sr
 -- the first that holds, with an interrupt of this level asked for; else the class of its attempt
 abbrev pub unless_aside : ℕ → Cpu → Class → Class
 unless_aside level cpu attempted =
-    if nat_lt (interrupt_mask cpu) level then Entered else
+    if nat_lt (interrupt_mask cpu) (rank level) then Entered else
     if cpu.stopped then Idle else
     if is_traced cpu then Traced else attempted
 

@@ -14,7 +14,7 @@ use Rattle.mb_processor.specs.declared.Finish.{Finish}
 use Rattle.mb_processor.specs.declared.Finish.TheVariants as finish
 use Rattle.mb_processor.specs.SystemEnds.{with_registers}
 use Rattle.mb_processor.specs.Raise.{Stepped, cause_at}
-use Rattle.mb_processor.specs.Step.{interrupt_mask, step_of}
+use Rattle.mb_processor.specs.Step.{interrupt_mask, step_of, rank}
 use Rattle.mb_attempts.specs.Attempts.{IsUntraced, attempted_by}
 use Rattle.vm_meaning.specs.Finishes.{finish_trap_of}
 use Rattle.vm_meaning.specs.Frames.{pc_of, left_in}
@@ -29,7 +29,7 @@ use Rattle.vm_machine.specs.Rests.{rest_by}
 pub record IsNative (level : ℕ) (cpu : Cpu) : Type 0 where
   pub user : is_supervisor cpu.regs.sr ≡ false
   pub untraced : IsUntraced cpu
-  pub masked : level ≤ interrupt_mask cpu
+  pub masked : rank level ≤ interrupt_mask cpu
 
 -- no exception was entered, and the processor goes on
 abbrev pub is_going : Finish → Bool

@@ -13,7 +13,7 @@ use Rattle.mb_writes.specs.Transfers.{movem_in}
 use Rattle.mb_meaning.specs.Ends.{Carried}
 use Rattle.mb_processor.specs.SystemEnds.{with_registers}
 use Rattle.mb_processor.specs.Raise.{Stepped, cause_at}
-use Rattle.mb_processor.specs.Step.{movem_words, finish_of, interrupt_mask, step_of}
+use Rattle.mb_processor.specs.Step.{movem_words, finish_of, interrupt_mask, step_of, rank}
 use Rattle.mb_tells.specs.Left.{completing, line_completing, moving}
 use Rattle.mb_attempts.specs.Attempts.{IsUntraced, NoOther, is_attempted, fetched_by, attempted_by}
 use Rattle.vm_meaning.specs.declared.left.LeftOver.{LeftOver}
@@ -68,7 +68,7 @@ TrapsAreFinished S = (i : Instr) (vector : ℕ) (before : Plain) (cpu : Cpu) →
 
 -- An untraced step begins an instruction: no interrupt is taken.
 pub record Begins {S : Type 0} (bus : Bus S) (level : ℕ) (cpu : Cpu) (s : S) (i : Instr) : Type 0 where
-  pub masked : level ≤ interrupt_mask cpu
+  pub masked : rank level ≤ interrupt_mask cpu
   pub untraced : IsUntraced cpu
   pub found : NoOther i (fetched_by bus cpu s).0
   pub attempted : is_attempted i cpu ≡ true

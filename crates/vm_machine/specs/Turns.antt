@@ -5,10 +5,9 @@ use Rattle.mb_instr.specs.declared.registers.Plain.{Plain}
 use Rattle.mb_instr.specs.Registers.{plain_of}
 use Rattle.mb_model.specs.declared.processor.Cpu.{Cpu}
 use Rattle.mb_model.specs.Keeping.{rule_k}
-use Rattle.mb_devices.specs.Devices.{level_of}
 use Rattle.mb_processor.specs.Raise.{Stepped}
 use Rattle.mb_processor.specs.Step.{step_of}
-use Rattle.mb_machine.specs.Machine.{Machine, Contents, Entries, start, begun, one_later, takes_steps}
+use Rattle.mb_machine.specs.Machine.{Machine, Contents, Entries, start, begun, one_later, takes_steps, asked_of}
 use Rattle.vm_shadow.specs.Shadows.{Shadowed, nothing}
 use Rattle.vm_machine.specs.declared.class.Class.{Class}
 use Rattle.vm_machine.specs.declared.class.Class.TheVariants.{Entered, Idle, Traced, Privileged, Denied, Trapped}
@@ -36,8 +35,8 @@ abbrev pub guest_begun : Entries → Guested → Guested
 guest_begun script g = record g { machine = begun script g.machine }
 
 -- the processor's part of it, over the guest's bus
-abbrev pub guest_processed : Guested → Stepped × Guest
-guest_processed b = run guest_bus (step_of (level_of b.machine.world.devices) b.machine.cpu) (world_of b)
+abbrev pub guest_processed : Entries → Guested → Stepped × Guest
+guest_processed script b = run guest_bus (step_of (asked_of script b.machine) b.machine.cpu) (world_of b)
 
 -- one step later, with what that part left
 abbrev pub guest_later : Machine → Stepped × Guest → Guested
@@ -46,17 +45,17 @@ guest_later b r = record { machine = one_later b r.0.0 r.0.1 r.1.world; shadow =
 -- Machine and shadow one step later.
 unfoldable pub guest_stepped : Entries → Guested → Guested
 guest_stepped script g =
-    let b = guest_begun script g in guest_later b.machine (guest_processed b)
+    let b = guest_begun script g in guest_later b.machine (guest_processed script b)
 
 -- The class of that step, judged once it has begun.
 unfoldable pub class_of_step : Entries → Guested → Class
 class_of_step script g =
-    let b = guest_begun script g in class_of (level_of b.machine.world.devices) b.machine.cpu (world_of b)
+    let b = guest_begun script g in class_of (asked_of script b.machine) b.machine.cpu (world_of b)
 
 -- by its first attempt alone
 unfoldable pub step_class_at_first : Entries → Guested → Class
 step_class_at_first script g =
-    let b = guest_begun script g in class_at_first (level_of b.machine.world.devices) b.machine.cpu (world_of b)
+    let b = guest_begun script g in class_at_first (asked_of script b.machine) b.machine.cpu (world_of b)
 
 -- How often its attempt is begun again, if it makes one.
 unfoldable pub refills_of_step : Entries → Guested → ℕ

@@ -1,10 +1,10 @@
 -- Quiet stretches of a script, and how long they are.
-use Rattle.std.proofs.Common.{◌≡◌, ◌∙◌, ◌⊎◌, ℕ, suc, ◌+◌, ◌-◌, ◌<◌, ◌≤◌, ◌==◌, min, [], ◌∷◌, Bool, true, false, cond, refl, ap, sym, subst, inl, inr, arith}
+use Rattle.std.proofs.Common.{◌≡◌, ◌∙◌, ◌⊎◌, ℕ, suc, ◌+◌, ◌-◌, ◌<◌, ◌≤◌, ◌==◌, ◌&&◌, ◌||◌, min, [], ◌∷◌, Bool, true, false, cond, refl, ap, sym, subst, inl, inr, arith}
 use Rattle.std.specs.Prelude.{Option, Some, None}
 use Rattle.std.proofs.lemmas.Bool.{cases_Bool}
 use Rattle.std.proofs.lemmas.Bool.Decides.{nat_tests}
-use Rattle.mb_devices.specs.Devices.{DeviceState, received, ticked, IsNotDue}
-use Rattle.mb_machine.specs.Machine.{Entries, arrived, begun}
+use Rattle.mb_devices.specs.Devices.{DeviceState, ticked, IsNotDue}
+use Rattle.mb_machine.specs.Machine.{Entries, aborts, arrived, begun, is_abort, taken_in}
 use Rattle.vm_meaning.specs.Batches.{QuietStretches, before_entry, before_due, more_steps, IsFrom, NoneBetween, BatchesAreQuiet}
 
 is_yes : (a b : ℕ) → a ≡ b → (a == b) ≡ true
@@ -37,9 +37,9 @@ one_tick d n (inr less) = elim (cases_Bool (d.period == 0)) [
 pub quiet_stretches : QuietStretches
 unfolding begun
 quiet_stretches script m after n quiet count devices = record {
-  ticks = ap ticked (quiet.arrives (m.steps + 1) (omega arith) (omega arith) m.world.devices);
+  ticks = ap ticked ((quiet.arrives (m.steps + 1) (omega arith) (omega arith)).devices m.world.devices);
   rest = record {
-    arrives = λ k more few d. quiet.arrives k (omega arith) (omega arith) d;
+    arrives = λ k more few. quiet.arrives k (omega arith) (omega arith);
     due = subst (λ (d : DeviceState). IsNotDue n d) (sym devices) (one_tick m.world.devices n quiet.due);
   };
 }
@@ -67,8 +67,15 @@ none_arrives : (script : Entries) (taken : ℕ) (next : Option ℕ) (n : ℕ) (d
     → arrived n script d ≡ d
 none_arrives [] taken next n d h a b = refl
 none_arrives (e ∷ script) taken next n d h a b =
-    ap (λ (test : Bool). arrived n script (cond test (received e.1 d) d)) (other_step taken next e.0 n h.0 a b)
+    ap (λ (test : Bool). arrived n script (cond test (taken_in e.1 d) d)) (other_step taken next e.0 n h.0 a b)
     ∙ none_arrives script taken next n d h.1 a b
+
+none_aborts : (script : Entries) (taken : ℕ) (next : Option ℕ) (n : ℕ) → NoneBetween script taken next → taken < n → IsEarlier n next
+    → aborts n script ≡ false
+none_aborts [] taken next n h a b = refl
+none_aborts (e ∷ script) taken next n h a b =
+    ap (λ (test : Bool). (test && is_abort e.1) || aborts n script) (other_step taken next e.0 n h.0 a b)
+    ∙ none_aborts script taken next n h.1 a b
 
 -- no step of the stretch is that of the next entry
 earlier : (next : Option ℕ) (taken limit k : ℕ) → taken < k → k ≤ taken + before_entry next taken limit → IsEarlier k next
@@ -98,6 +105,10 @@ unfolding more_steps
 batches_are_quiet script m next limit none count =
     let bound = before_entry next m.steps limit in
     let due = stays_due m.world.devices bound count in record {
-      arrives = λ k more less d. none_arrives script m.steps next k d none more (earlier next m.steps limit k more (let u = due.0 in omega arith));
+      arrives = λ k more less.
+          let first : IsEarlier k next = earlier next m.steps limit k more (let u = due.0 in omega arith) in record {
+            devices = λ d. none_arrives script m.steps next k d none more first;
+            unaborted = none_aborts script m.steps next k none more first;
+          };
       due = due.1;
     }

@@ -32,7 +32,7 @@ run-off n r h = rw h refl
 halted_by : (m after : Machine) (f : Finish) → user_step m ≡ (f, after) → f ≡ finish.Halted → takes_steps after.state ≡ false
 unfolding user_step stepping state_after
 halted_by m after f s h =
-    let r = processed rule_a (begun [] m) in
+    let r = processed rule_a [] (begun [] m) in
     let of_step : r.0.0 ≡ finish.Halted = ap (λ (x : Finish × Machine). x.0) s ∙ h in
     ap (λ (x : Finish × Machine). takes_steps x.1.state) (sym s)
     ∙ ap (λ (x : Finish). takes_steps (state_after x r.0.1 r.1.devices)) of_step

@@ -4,13 +4,12 @@ use Rattle.std.proofs.lemmas.Bool.{cases_Bool}
 use Rattle.mb_port.specs.Routine.{run}
 use Rattle.mb_model.specs.declared.processor.Cpu.{Cpu}
 use Rattle.mb_model.specs.Keeping.{Rule, KeptLists}
-use Rattle.mb_devices.specs.Devices.{level_of}
 use Rattle.mb_processor.specs.declared.Finish.{Finish}
 use Rattle.mb_processor.specs.Step.{step_of}
 use Rattle.mb_laws.proofs.Related.{runs_may_follow, along}
 use Rattle.mb_machine.specs.World.{World}
 use Rattle.mb_machine.specs.Bus.{bus_of}
-use Rattle.mb_machine.specs.Machine.{Entries, Machine, begun, one_later, stepping, stepped, takes_steps, run_of, reset_with}
+use Rattle.mb_machine.specs.Machine.{Entries, Machine, begun, one_later, stepping, stepped, takes_steps, run_of, reset_with, asked_of}
 use Rattle.vm_meaning.specs.Free.{StandIn, rule_free, FreeStep, FreeRun, WorldWithin, Within, IsFreeRun}
 use Rattle.vm_meaning.proofs.Calls.{calls-are_free}
 use Rattle.vm_meaning.proofs.KeptLemmas.{none-kept}
@@ -28,7 +27,7 @@ step_from : (rule : Rule) (script : Entries) (m : Machine) (held : KeptLists) â†
 unfolding begun stepping
 step_from rule script m held stand =
     let b = begun script m in
-    let routine = step_of (level_of b.world.devices) b.cpu in
+    let routine = step_of (asked_of script b) b.cpu in
     let here = record b.world { kept = held } in
     let within : WorldWithin b.world here = record { same = refl; kept = stand } in
     let f = runs_may_follow (calls-are_free rule) routine b.world here within (along (bus_of rule) (Î» c s. tt) routine b.world) in

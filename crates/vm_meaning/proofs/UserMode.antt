@@ -14,7 +14,6 @@ use Rattle.mb_model.specs.declared.processor.Cpu.{Cpu}
 use Rattle.mb_model.specs.Keeping.{rule_a}
 use Rattle.mb_model.specs.Pages.{page_size_by}
 use Rattle.mb_model.specs.Status.{space_of}
-use Rattle.mb_devices.specs.Devices.{level_of}
 use Rattle.mb_writes.specs.declared.ends.Ended.{Ended}
 use Rattle.mb_writes.specs.declared.ends.Ended.TheVariants as ended
 use Rattle.mb_writes.specs.declared.ends.MovemFault.{MovemFault}
@@ -31,11 +30,11 @@ use Rattle.mb_processor.specs.Entry.{enter_of}
 use Rattle.mb_processor.specs.Raise.{Stepped, Raised, access_cause, access_error_of, ends_step, unchecked_of, raised, raise_of, last, with_ct}
 use Rattle.mb_processor.specs.Raise.{cause_at, interrupt_cause, interrupt_of, trace_of, tracing_of, trap_of, refused_of, traces_all, is_due}
 use Rattle.mb_meaning.specs.Rows.{perform_of}
-use Rattle.mb_processor.specs.Step.{unread_of, unfinished_of, unbegun_of, unwritten_of, line_unwritten_of, untransferred_of, is_flow, movem_words, finish_of}
+use Rattle.mb_processor.specs.Step.{unread_of, unfinished_of, unbegun_of, unwritten_of, line_unwritten_of, untransferred_of, is_flow, movem_words, finish_of, rank}
 use Rattle.mb_processor.specs.Step.{supervised_of, unprivileged_of, executed_of, unfound_of, instruction_of, interrupt_mask, step_of}
 use Rattle.mb_processor.specs.SystemEnds.{with_registers}
 use Rattle.mb_machine.specs.Bus.{bus_of}
-use Rattle.mb_machine.specs.Machine.{Machine, begun, stepping}
+use Rattle.mb_machine.specs.Machine.{Machine, begun, stepping, asked_of}
 use Rattle.vm_meaning.specs.Native.{user_step}
 
 -- A step that enters no exception and does not halt leaves user mode.
@@ -208,8 +207,8 @@ chosen_stays bus level cpu false false s h = instruction_stays bus cpu s h
 step_stays : {S : Type 0} (bus : Bus S) (level : ℕ) (cpu : Cpu) (s : S) → is_supervisor cpu.regs.sr ≡ false
     → Stays (run bus (step_of level cpu) s).0
 unfolding step_of
-step_stays bus level cpu s h = chosen_stays bus level cpu (nat_lt (interrupt_mask cpu) level) cpu.stopped s h
+step_stays bus level cpu s h = chosen_stays bus level cpu (nat_lt (interrupt_mask cpu) (rank level)) cpu.stopped s h
 
 pub user-stays : (m : Machine) → is_supervisor m.cpu.regs.sr ≡ false → Stays ((user_step m).0, (user_step m).1.cpu)
 unfolding user_step stepping begun
-user-stays m h = let b = begun [] m in step_stays (bus_of rule_a) (level_of b.world.devices) m.cpu b.world h
+user-stays m h = let b = begun [] m in step_stays (bus_of rule_a) (asked_of [] b) m.cpu b.world h

@@ -1,15 +1,19 @@
 -- Steps of a guest that a board may carry out in one run: nothing arrives at them, and the timer does not come to 0.
-use Rattle.std.specs.Prelude.{◌≡◌, ◌⊎◌, ℕ, suc, ◌+◌, ◌-◌, ◌<◌, ◌≤◌, ◌==◌, min, if◌then◌else◌}
+use Rattle.std.specs.Prelude.{◌≡◌, ◌⊎◌, ℕ, suc, ◌+◌, ◌-◌, ◌<◌, ◌≤◌, ◌==◌, min, false, if◌then◌else◌}
 use Rattle.std.specs.Prelude.{[], ◌∷◌, Option, Some, None}
 use Rattle.mb_devices.specs.Devices.{DeviceState, ticked, IsNotDue}
-use Rattle.mb_machine.specs.Machine.{Machine, Entries, arrived, begun}
+use Rattle.mb_machine.specs.Machine.{Machine, Entries, arrived, begun, aborts}
 
 -- ---- a quiet stretch
 
--- At none of so many steps behind the first `taken` does a byte arrive.
+-- Nothing arrives at a step: no byte, and no abort.
+pub record IsQuietAt (script : Entries) (step : ℕ) : Type 0 where
+  pub devices : (d : DeviceState) → arrived step script d ≡ d
+  pub unaborted : aborts step script ≡ false
+
+-- At none of so many steps behind the first `taken` does anything arrive.
 abbrev pub NothingArrives : Entries → (taken n : ℕ) → Type 0
-NothingArrives script taken n =
-    (k : ℕ) → taken < k → k ≤ taken + n → (d : DeviceState) → arrived k script d ≡ d
+NothingArrives script taken n = (k : ℕ) → taken < k → k ≤ taken + n → IsQuietAt script k
 
 -- At so many steps behind this machine nothing happens to the devices but ticks that are not due.
 pub record IsQuiet (script : Entries) (m : Machine) (n : ℕ) : Type 0 where

@@ -4,12 +4,11 @@ use Rattle.std.specs.Prelude.{◌≡◌, ◌⊎◌, ℕ, zero, suc, true, false,
 use Rattle.mb_model.specs.declared.kept.Kept.{Kept}
 use Rattle.mb_model.specs.Keeping.{KeptLists, Rule, list_of, rule_k}
 use Rattle.mb_laws.specs.Relations.{Steps, Runs}
-use Rattle.mb_devices.specs.Devices.{level_of}
 use Rattle.mb_processor.specs.Raise.{Stepped}
 use Rattle.mb_processor.specs.Step.{step_of}
 use Rattle.mb_machine.specs.World.{World}
 use Rattle.mb_machine.specs.Bus.{bus_of}
-use Rattle.mb_machine.specs.Machine.{Entries, Machine, begun, one_later, takes_steps}
+use Rattle.mb_machine.specs.Machine.{Entries, Machine, begun, one_later, takes_steps, asked_of}
 
 -- ---- what is kept
 
@@ -45,7 +44,7 @@ FreeCall c w answer after =
 abbrev pub FreeStep : Entries → Machine → Machine → Type 0
 FreeStep script m after =
     let b = begun script m in
-    (r : Stepped) × (w : World) × Runs FreeCall (step_of (level_of b.world.devices) b.cpu) b.world r w
+    (r : Stepped) × (w : World) × Runs FreeCall (step_of (asked_of script b) b.cpu) b.world r w
     × (after ≡ one_later b r.0 r.1 w)
 
 -- so many steps, or fewer where the machine is halted or off

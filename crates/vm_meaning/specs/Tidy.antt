@@ -5,14 +5,13 @@ use Rattle.mb_model.specs.declared.kept.Kept.{Kept}
 use Rattle.mb_model.specs.Keeping.{is_of}
 use Rattle.mb_model.specs.Pages.{page_of}
 use Rattle.mb_walk.specs.declared.found.Found.TheVariants.{Entry}
-use Rattle.mb_devices.specs.Devices.{level_of}
 use Rattle.mb_laws.specs.Relations.{Along}
 use Rattle.mb_processor.specs.Step.{step_of}
 use Rattle.mb_machine.specs.declared.reference.Reference.{Reference}
 use Rattle.mb_machine.specs.World.{World}
 use Rattle.mb_machine.specs.Access.{untranslated, marks, search_for, searched, translated}
 use Rattle.mb_machine.specs.Bus.{bus_of, reference_of}
-use Rattle.mb_machine.specs.Machine.{Machine, Contents, Entries, begun, one_later, takes_steps, start}
+use Rattle.mb_machine.specs.Machine.{Machine, Contents, Entries, begun, one_later, takes_steps, start, asked_of}
 use Rattle.vm_meaning.specs.Free.{IsKept, rule_free, holding}
 use Rattle.vm_meaning.specs.Laws.{drops, IsFound}
 
@@ -27,7 +26,7 @@ searching_bus c w = bus_of rule_free c (holding None w)
 abbrev pub searching_step : Entries → Machine → Machine
 searching_step script m =
     let b = begun script m in
-    let r = run searching_bus (step_of (level_of b.world.devices) b.cpu) b.world in one_later b r.0.0 r.0.1 r.1
+    let r = run searching_bus (step_of (asked_of script b) b.cpu) b.world in one_later b r.0.0 r.0.1 r.1
 
 -- The machine after so many steps, or fewer where it is halted or off.
 unfoldable pub searching_run : Entries → ℕ → Machine → Machine
@@ -66,7 +65,7 @@ IsTidyCall c w = IsTidyReference (reference_of c) w
 -- each access of a step is tidy
 abbrev pub IsTidyStep : Entries → Machine → Type 0
 IsTidyStep script m =
-    let b = begun script m in Along IsTidyCall searching_bus (step_of (level_of b.world.devices) b.cpu) b.world
+    let b = begun script m in Along IsTidyCall searching_bus (step_of (asked_of script b) b.cpu) b.world
 
 -- and each of so many steps
 abbrev pub IsTidyRun : Entries → ℕ → Machine → Type 0

@@ -6,16 +6,18 @@ use Rattle.mb_model.specs.declared.processor.Cpu.{Cpu}
 use Rattle.mb_walk.specs.Memory.{part}
 use Rattle.mb_devices.specs.Devices.{DeviceState, ticked, level_of}
 use Rattle.mb_processor.specs.Step.{step_of}
-use Rattle.mb_machine.specs.Machine.{Machine, Entries, arrived, begun, takes_steps}
+use Rattle.mb_machine.specs.Machine.{Machine, Entries, arrived, begun, takes_steps, asked_of, aborts}
 use Rattle.mb_machine.specs.World.{World}
+use Rattle.mb_machine.proofs.Asked.{asked_devices, asked_masked, unaborted}
 use Rattle.vm_meaning.specs.Marks.{trail}
+use Rattle.vm_meaning.specs.Native.{NativeState}
 use Rattle.vm_machine.specs.declared.class.Class.{Class}
 use Rattle.vm_machine.specs.Guests.{Guest}
 use Rattle.vm_machine.specs.Bus.{guest_bus}
 use Rattle.vm_machine.specs.Refills.{begun_again}
 use Rattle.vm_machine.specs.Classes.{class_at_first}
 use Rattle.vm_machine.specs.Turns.{Guested, Turned, Tally, world_of, guest_begun, guest_later, counted, with_refills, exits, by_class, marks_of, advanced}
-use Rattle.vm_machine.specs.Turns.{guest_stepped, class_of_step, step_class_at_first, refills_of_step, turn_of}
+use Rattle.vm_machine.specs.Turns.{guest_processed, guest_stepped, class_of_step, step_class_at_first, refills_of_step, turn_of}
 use Rattle.vm_machine.specs.declared.class.Class.TheVariants as class
 use Rattle.vm_machine.proofs.Counts.{refills_aside}
 use Rattle.vm_shadow.specs.Shadows.{Shadowed}
@@ -23,7 +25,7 @@ use Rattle.vm_machine.specs.Seats.{Seat, end_of, machine_on, guested_on, turned_
 use Rattle.vm_machine.proofs.Trails.{trail_append}
 use Rattle.vm_machine.proofs.TurnLaws.{going_turn, nothing_turned, turns_add}
 use Rattle.vm_step.specs.Refill.{HasBegunAgain}
-use Rattle.vm_step.specs.Again.{unbegun, refilled_seat, MidwayAgain, MidwayAhead, MidwayEnds, MidwayBegins, MidwayTakes, MidwayWithin}
+use Rattle.vm_step.specs.Again.{Midway, unbegun, refilled_seat, MidwayAgain, MidwayAhead, MidwayEnds, MidwayBegins, MidwayTakes, MidwayWithin}
 use Rattle.vm_step.proofs.Refill.{none_is_refilled, steps_begin_again, again_comes_to_the_same, again_advances}
 
 same_both : (g mid seat : Seat) → IsSame g mid → IsSame mid seat → IsSame g seat
@@ -75,7 +77,7 @@ pub midway_ahead : MidwayAhead
 midway_ahead g ram native k n mid now counts m h again =
     let b = guest_begun g.script m.turn.guest in
     let w = world_of (guested_on mid now) in
-    let level = level_of b.machine.world.devices in
+    let level = asked_of g.script b.machine in
     let cpu : mid.cpu ≡ b.machine.cpu = ap (λ (x : Machine). x.cpu) m.opened in
     let (fine, world, comes) = again_comes_to_the_same g.size level b.machine.cpu n (world_of b) w m.masked m.untraced m.registers m.fine m.begun in
     (steps_begin_again g.size level b.machine.cpu w h m.masked m.untraced m.registers fine (ap (λ (c : Cpu). begun_again c w) (sym cpu) ∙ again)).0
@@ -92,20 +94,21 @@ midway_ends g ram native k n mid now counts m end seat next later means tally sa
     let w = world_of (guested_on mid now) in
     let b = guest_begun g.script m.turn.guest in
     let cpu : mid.cpu ≡ b.machine.cpu = ap (λ (x : Machine). x.cpu) m.opened in
-    let (fine, world, comes) = again_comes_to_the_same g.size (level_of b.machine.world.devices) b.machine.cpu n (world_of b) w m.masked m.untraced
+    let (fine, world, comes) = again_comes_to_the_same g.size (asked_of g.script b.machine) b.machine.cpu n (world_of b) w m.masked m.untraced
     m.registers m.fine m.begun in
-    let level : level_of mid.devices ≡ level_of b.machine.world.devices = ap (λ (x : World). level_of x.devices) world in
+    let level : level_of mid.devices ≡ asked_of g.script b.machine = ap (λ (x : World). level_of x.devices) world
+    ∙ sym (asked_masked g.script (b.machine.steps + 1) b.machine.world.devices b.machine.cpu m.masked) in
     let class = class_at_first (level_of mid.devices) mid.cpu w in
-    let class_there = class_at_first (level_of b.machine.world.devices) b.machine.cpu w in
+    let class_there = class_at_first (asked_of g.script b.machine) b.machine.cpu w in
     let class_is : class_there ≡ class =
     ap (λ (l : ℕ). class_at_first l b.machine.cpu w) (sym level) ∙ ap (λ (c : Cpu). class_at_first (level_of mid.devices) c w) (sym cpu) in
     let ends : begun_again b.machine.cpu w ≡ begun_again mid.cpu w = ap (λ (c : Cpu). begun_again c w) (sym cpu) in
     let runs = λ (l : ℕ) (c : Cpu). run guest_bus (step_of l c) w in
-    let later_there = guest_later b.machine (runs (level_of b.machine.world.devices) b.machine.cpu) in
+    let later_there = guest_later b.machine (runs (asked_of g.script b.machine) b.machine.cpu) in
     let guest : guested_on seat next ≡ later_there =
     means ∙ ap (λ (x : Machine). guest_later x (runs (level_of mid.devices) mid.cpu)) m.opened
     ∙ ap (λ (l : ℕ). guest_later b.machine (runs l mid.cpu)) level
-    ∙ ap (λ (c : Cpu). guest_later b.machine (runs (level_of b.machine.world.devices) c)) cpu in
+    ∙ ap (λ (c : Cpu). guest_later b.machine (runs (asked_of g.script b.machine) c)) cpu in
     let marks = marks_of class mid.cpu seat.cpu in
     let marks_is : marks ≡ marks_of class_there m.turn.guest.machine.cpu later_there.machine.cpu =
     ap (λ (x : Class). marks_of x mid.cpu seat.cpu) (sym class_is) ∙ ap (λ (c : Cpu). marks_of class_there c seat.cpu) cpu
@@ -145,9 +148,9 @@ no_refills class.Denied t = refl
 no_refills class.Trapped t = refl
 
 class_begins : (script : Entries) (start q : Guested) → guest_begun script start ≡ q
-    → step_class_at_first script start ≡ class_at_first (level_of q.machine.world.devices) q.machine.cpu (world_of q)
+    → step_class_at_first script start ≡ class_at_first (asked_of script q.machine) q.machine.cpu (world_of q)
 unfolding step_class_at_first
-class_begins script start q e = ap (λ (p : Guested). class_at_first (level_of p.machine.world.devices) p.machine.cpu (world_of p)) e
+class_begins script start q e = ap (λ (p : Guested). class_at_first (asked_of script p.machine) p.machine.cpu (world_of p)) e
 
 same_guested : (p q : Guested) → p.machine ≡ q.machine → p.shadow ≡ q.shadow → p ≡ q
 same_guested p q e f =
@@ -159,7 +162,7 @@ unfolding begun
 midway_begins g ram native k n mid now counts m =
     let b = guest_begun g.script m.turn.guest in
     let w = world_of (guested_on mid now) in
-    let (fine, world, comes) = again_comes_to_the_same g.size (level_of b.machine.world.devices) b.machine.cpu n (world_of b) w m.masked m.untraced
+    let (fine, world, comes) = again_comes_to_the_same g.size (asked_of g.script b.machine) b.machine.cpu n (world_of b) w m.masked m.untraced
     m.registers m.fine m.begun in
     let steps : mid.steps ≡ m.turn.guest.machine.steps = ap (λ (x : Machine). x.steps) m.opened in
     let devices : (machine_on mid now).world.devices ≡ b.machine.world.devices = ap (λ (x : World). x.devices) world in
@@ -182,6 +185,14 @@ seated_still class n seat next s = record {
   truthful = s.truthful;
 }
 
+-- no abort arrives at it
+pub midway_level : (g : Seat) (ram : List ℕ) (native : NativeState) (k n : ℕ) (mid : Seat) (now : List ℕ) (counts : NativeState)
+    → Midway g ram native k n mid now counts → asked_of g.script (machine_on mid now) ≡ level_of mid.devices
+midway_level g ram native k n mid now counts m =
+    let b = guest_begun g.script m.turn.guest in
+    asked_devices g.script (mid.steps + 1) mid.devices (ap (λ (x : Machine). aborts (x.steps + 1) g.script) m.opened
+    ∙ unaborted g.script (b.machine.steps + 1) b.machine.world.devices b.machine.cpu m.masked)
+
 pub midway_takes : MidwayTakes
 unfolding advanced guest_stepped begun
 midway_takes g ram native k n mid now counts m none seat next later takes =
@@ -190,16 +201,19 @@ midway_takes g ram native k n mid now counts m none seat next later takes =
     let t = turned_on from now [] in
     let start = guested_on from now in
     let begins : guest_begun g.script start ≡ guested_on mid now = midway_begins g ram native k n mid now counts m in
+    let level = midway_level g ram native k n mid now counts m in
     let class = class_at_first (level_of mid.devices) mid.cpu w in
     let state : mid.state ≡ m.turn.guest.machine.state = ap (λ (x : Machine). x.state) m.opened in
     let goes : takes_steps mid.state ≡ true = ap takes_steps state ∙ m.goes in
     let none_there : begun_again (guest_begun g.script start).machine.cpu (world_of (guest_begun g.script start)) ≡ None =
     ap (λ (q : Guested). begun_again q.machine.cpu (world_of q)) begins ∙ none in
     let (first, refills) = none_is_refilled g.script start none_there in
-    let class_is : class_of_step g.script start ≡ class = first ∙ class_begins g.script start (guested_on mid now) begins in
+    let class_is : class_of_step g.script start ≡ class = first ∙ class_begins g.script start (guested_on mid now) begins
+    ∙ ap (λ (l : ℕ). class_at_first l mid.cpu w) level in
     let stepped : Guested = guest_later (machine_on mid now) (run guest_bus (step_of (level_of mid.devices) mid.cpu) w) in
     let stepped_is : guest_stepped g.script start ≡ stepped =
-    ap (λ (q : Guested). guest_later q.machine (run guest_bus (step_of (level_of q.machine.world.devices) q.machine.cpu) (world_of q))) begins in
+    ap (λ (q : Guested). guest_later q.machine (guest_processed g.script q)) begins
+    ∙ ap (λ (l : ℕ). guest_later (machine_on mid now) (run guest_bus (step_of l mid.cpu) w)) level in
     let one : turned_on seat next takes.marks ≡ by_class class 0 stepped t =
     takes.turned ∙ ap (λ (script : Entries). turn_of script 1 t) m.same.script ∙ going_turn g.script 0 t goes ∙ nothing_turned g.script (advanced g.script t)
     ∙ ap (λ (c : Class). by_class c (refills_of_step g.script start) (guest_stepped g.script start) t) class_is

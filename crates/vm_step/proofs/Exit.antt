@@ -27,12 +27,12 @@ use Rattle.mb_meaning.specs.Ends.{Performed, closed}
 use Rattle.mb_meaning.specs.Attempt.{fetched_of}
 use Rattle.mb_processor.specs.SystemEnds.{with_registers}
 use Rattle.mb_processor.specs.Entry.{frames_of, frame_of, frame_with, has_address, settled}
-use Rattle.mb_processor.specs.Step.{interrupt_mask, step_of}
+use Rattle.mb_processor.specs.Step.{interrupt_mask, step_of, rank}
 use Rattle.mb_devices.specs.Devices.{DeviceState, ticked, level_of}
 use Rattle.mb_machine.specs.World.{World}
 use Rattle.mb_machine.specs.declared.reference.Reference.{Reference}
 use Rattle.mb_machine.specs.Access.{untranslated}
-use Rattle.mb_machine.specs.Machine.{Machine, begun, arrived, state_after, takes_steps}
+use Rattle.mb_machine.specs.Machine.{Machine, begun, arrived, state_after, takes_steps, asked}
 use Rattle.mb_machine.specs.Enters.{IsOpen, HasRoom, supervising}
 use Rattle.mb_attempts.specs.Attempts.{IsUntraced, NoOther, fetched_by}
 use Rattle.mb_walk.proofs.Parts.{drop-over}
@@ -170,7 +170,7 @@ is_end (ended.Movem f) never = tt
 
 board_left : (x : Site) (root level own_level : ℕ) (i : Instr) (cpu : Cpu) (w : World) (guest : Cpu) (g : Guest) → Mirrored x cpu guest → Related x w g
     → w.mmu ≡ native_mmu root → cpu.regs.sr < 2 ^ 16 → is_master cpu.regs.sr ≡ false → cpu.vbr ≡ 0 → 60 ≤ cpu.regs.isp → cpu.regs.isp ≤ x.base
-    → 1024 ≤ x.base → length w.ram ≤ 2 ^ 32 → level ≤ interrupt_mask cpu → NoOther i (fetched_by held_bus guest g).0
+    → 1024 ≤ x.base → length w.ram ≤ 2 ^ 32 → rank level ≤ interrupt_mask cpu → NoOther i (fetched_by held_bus guest g).0
     → (class_of_end (end_of_held x guest g).0 ≡ Retired → ⊥) → BoardLeft x level own_level i cpu w guest g
 unfolding plain_of
 board_left x root level own_level i cpu w guest g m related mmu status master vbr low below table small masked other never =
@@ -212,7 +212,7 @@ board_left x root level own_level i cpu w guest g m related mmu status master vb
 -- the guest's own step, in the space of the site
 goes_on_in : (x : Site) (level : ℕ) (i : Instr) (guest : Cpu) (g : Guest) → IsUntraced guest → length guest.regs.a ≡ 7 → HasRegisters (plain_of guest.regs)
     → Sound x.size g
-    → level ≤ interrupt_mask guest → NoOther i (fetched_by held_bus guest g).0 → (space : Space) → space_of guest ≡ space → let k =
+    → rank level ≤ interrupt_mask guest → NoOther i (fetched_by held_bus guest g).0 → (space : Space) → space_of guest ≡ space → let k =
     by_held space (plain_of guest.regs) g in
     (class_of_end (closed k.0).0 ≡ Retired → ⊥)
     → run guest_bus (step_of level guest) g ≡ run guest_bus (rest_of level guest i (closed k.0).0 (closed k.0).1) k.1
@@ -314,7 +314,7 @@ left_steps x script m g b fur regs seven is_left =
     let goes = (attempts_go_on x.space x.size (plain_of guest.regs) h regs.longs regs.counter sound).0 in
     let found = (fetched_by held_bus guest h).0 in
     let i = instr_in found in
-    let level = level_of (ticked dev) in
+    let level = asked script (g.machine.steps + 1) (ticked dev) in
     let c = step_class_at_first script g in
     let attempt = is_attempt level guest h c refl (is_tried c is_left) in
     let held : class_of_end (closed k.0).0 ≡ c = class_held x guest h c b.present regs sound attempt.of in

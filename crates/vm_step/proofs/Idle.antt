@@ -10,8 +10,9 @@ use Rattle.mb_devices.specs.Devices.{DeviceState, ticked, ticks, level_of, IsNot
 use Rattle.mb_devices.proofs.Passing.{ticks_pass}
 use Rattle.mb_processor.specs.declared.Finish.TheVariants as finish
 use Rattle.mb_processor.specs.Raise.{Stepped, interrupt_of}
-use Rattle.mb_processor.specs.Step.{interrupt_mask, instruction_of, step_of}
-use Rattle.mb_machine.specs.Machine.{Entries, arrived, begun, state_after, takes_steps}
+use Rattle.mb_processor.specs.Step.{interrupt_mask, instruction_of, step_of, rank}
+use Rattle.mb_machine.specs.Machine.{Entries, arrived, begun, state_after, takes_steps, asked, asked_of}
+use Rattle.mb_machine.proofs.Asked.{asked_devices, asked_masked}
 use Rattle.vm_meaning.specs.Batches.{NothingArrives}
 use Rattle.vm_meaning.specs.Marks.{trail}
 use Rattle.vm_meaning.proofs.Batches.{one_tick}
@@ -38,19 +39,19 @@ second a b x y z e f = rw e (rw f refl)
 chosen : (a b : Bool) (x y z : Routine Stepped) → a ≡ false → b ≡ true → choose a x (choose b y z) ≡ y
 chosen a b x y z e f = rw e (rw f refl)
 
-is_idle : (level : ℕ) (cpu : Cpu) (g : Guest) → level ≤ interrupt_mask cpu → cpu.stopped ≡ true → class_of level cpu g ≡ class.Idle
+is_idle : (level : ℕ) (cpu : Cpu) (g : Guest) → rank level ≤ interrupt_mask cpu → cpu.stopped ≡ true → class_of level cpu g ≡ class.Idle
 unfolding class_of
 is_idle level cpu g masked stopped =
-    second (nat_lt (interrupt_mask cpu) level) cpu.stopped class.Entered class.Idle
+    second (nat_lt (interrupt_mask cpu) (rank level)) cpu.stopped class.Entered class.Idle
     (cond (is_traced cpu) class.Traced (class_of_attempt cpu (refilled cpu g).guest))
-    (not_above (interrupt_mask cpu) level masked) stopped
+    (not_above (interrupt_mask cpu) (rank level) masked) stopped
 
 -- the processor has nothing to do
-idles : (level : ℕ) (cpu : Cpu) → level ≤ interrupt_mask cpu → cpu.stopped ≡ true → step_of level cpu ≡ Return (finish.Idle, cpu)
+idles : (level : ℕ) (cpu : Cpu) → rank level ≤ interrupt_mask cpu → cpu.stopped ≡ true → step_of level cpu ≡ Return (finish.Idle, cpu)
 unfolding step_of
 idles level cpu masked stopped =
-    chosen (nat_lt (interrupt_mask cpu) level) cpu.stopped (interrupt_of level cpu) (Return (finish.Idle, cpu)) (instruction_of cpu)
-    (not_above (interrupt_mask cpu) level masked) stopped
+    chosen (nat_lt (interrupt_mask cpu) (rank level)) cpu.stopped (interrupt_of level cpu) (Return (finish.Idle, cpu)) (instruction_of cpu)
+    (not_above (interrupt_mask cpu) (rank level) masked) stopped
 
 stays_stopped : (cpu : Cpu) (d : DeviceState) → d.off ≡ false → cpu.stopped ≡ true → state_after finish.Idle cpu d ≡ Stopped
 unfolding state_after
@@ -67,7 +68,7 @@ class_is : (script : Entries) (g : Guested) → IsIdle script g → class_of_ste
 unfolding class_of_step begun
 class_is script g idle =
     let b = guest_begun script g in
-    is_idle (level_of b.machine.world.devices) g.machine.cpu (world_of b) idle.masked idle.stopped
+    is_idle (asked_of script b.machine) g.machine.cpu (world_of b) idle.masked idle.stopped
 
 stepped_is : (script : Entries) (g : Guested) → IsIdle script g
     → guest_stepped script g ≡ idle_guest 1 (guest_begun script g).machine.world.devices g
@@ -79,7 +80,8 @@ stepped_is script g idle =
       machine = record { cpu = g.machine.cpu; world = b.machine.world; steps = g.machine.steps + 1; state = s };
       shadow = g.shadow;
     } in
-    ap (λ (m : Routine Stepped). guest_later b.machine (run guest_bus m (world_of b))) (idles (level_of d) g.machine.cpu idle.masked idle.stopped)
+    ap (λ (m : Routine Stepped). guest_later b.machine (run guest_bus m (world_of b)))
+    (idles (asked_of script b.machine) g.machine.cpu idle.masked idle.stopped)
     ∙ ap of (stays_stopped g.machine.cpu d (begins_on script g idle.on) idle.stopped ∙ sym idle.state)
 
 advanced_is : (script : Entries) (t : Turned) → IsIdle script t.guest
@@ -105,22 +107,27 @@ begins_next : (script : Entries) (n : ℕ) (t : Turned) → NothingArrives scrip
     (guest_begun script (idle_guest 1 d t.guest)).machine.world.devices ≡ ticked d
 begins_next script n t quiet =
     let d = (guest_begun script t.guest).machine.world.devices in
-    only_ticks script (idle_guest 1 d t.guest) (first_of script (t.guest.machine.steps + 1) n quiet)
+    only_ticks script (idle_guest 1 d t.guest) (first_of script (t.guest.machine.steps + 1) n quiet).devices
 
 -- that is idle too
 idle_next : (script : Entries) (n : ℕ) (t : Turned) → IsIdle script t.guest → NothingArrives script (t.guest.machine.steps + 1) (suc n)
     → let d = (guest_begun script t.guest).machine.world.devices in IsNotDue (suc n) d → IsIdle script (idle_guest 1 d t.guest)
+unfolding begun
 idle_next script n t idle quiet due =
     let d = (guest_begun script t.guest).machine.world.devices in
     let u = idle_guest 1 d t.guest in
     let once = ticks_pass 1 d (one_of n d due) in
-    let level : level_of (guest_begun script u).machine.world.devices ≡ level_of d =
-    ap level_of (begins_next script n t quiet) ∙ ap level_of once.at_once ∙ once.level in
+    let s = t.guest.machine.steps in
+    let next = (guest_begun script u).machine.world.devices in
+    let level : asked script (s + 1 + 1) next ≡ asked script (s + 1) d =
+    asked_devices script (s + 1 + 1) next (first_of script (s + 1) n quiet).unaborted
+    ∙ ap level_of (begins_next script n t quiet) ∙ ap level_of once.at_once ∙ once.level
+    ∙ sym (asked_masked script (s + 1) d t.guest.machine.cpu idle.masked) in
     record {
       state = idle.state;
       stopped = idle.stopped;
       on = begins_on script t.guest idle.on;
-      masked = subst (λ (k : ℕ). k ≤ interrupt_mask t.guest.machine.cpu) (sym level) idle.masked;
+      masked = subst (λ (k : ℕ). rank k ≤ interrupt_mask t.guest.machine.cpu) (sym level) idle.masked;
     }
 
 idle_ticks : (script : Entries) (n : ℕ) (t : Turned) → IsIdle script t.guest → NothingArrives script (t.guest.machine.steps + 1) n

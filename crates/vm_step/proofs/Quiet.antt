@@ -4,13 +4,13 @@ use Rattle.mb_instr.specs.Registers.{plain_of}
 use Rattle.mb_model.specs.declared.processor.Cpu.{Cpu}
 use Rattle.mb_devices.specs.Devices.{DeviceState, ticked, level_of, ticks, IsNotDue}
 use Rattle.mb_processor.specs.Raise.{traces_all, traces_flow}
-use Rattle.mb_processor.specs.Step.{interrupt_mask}
+use Rattle.mb_processor.specs.Step.{interrupt_mask, rank}
 use Rattle.mb_meaning.specs.Ends.{Performed}
 use Rattle.mb_writes.specs.declared.ends.Ended.{Ended as End}
 use Rattle.mb_writes.specs.declared.ends.Ended.TheVariants as ended
 use Rattle.mb_laws.specs.Until as until
 use Rattle.mb_laws.specs.Until.{Until}
-use Rattle.mb_machine.specs.Machine.{Machine, Entries, begun, arrived}
+use Rattle.mb_machine.specs.Machine.{Machine, Entries, begun, arrived, asked}
 use Rattle.mb_model.specs.Keeping.{KeptLists, Apart, list_of}
 use Rattle.mb_instr.specs.declared.registers.Regs.{Regs}
 use Rattle.mb_processor.specs.SystemEnds.{with_registers}
@@ -18,6 +18,7 @@ use Rattle.mb_processor.specs.Return.{high, low}
 use Rattle.mb_instr.specs.Operands.{more}
 use Rattle.mb_tells.specs.Guarded.{quiet}
 use Rattle.mb_devices.proofs.Passing.{ticks_pass}
+use Rattle.mb_machine.proofs.Asked.{asked_devices, asked_masked}
 use Rattle.vm_machine.specs.Guests.{Guest}
 use Rattle.vm_mirror.specs.Related.{Site}
 use Rattle.vm_machine.specs.declared.class.Class.{Class}
@@ -31,7 +32,7 @@ use Rattle.vm_step.specs.Batch.{IsTried, stepped_by}
 use Rattle.vm_step.specs.Quiet.{QuietStepsAreTried, RetiredStepsTick, RetiredStepsKeepTruth, RetiredStepsLeave}
 use Rattle.vm_step.proofs.Registers.{plain_same, registers_over}
 use Rattle.vm_step.proofs.Retire.{retired_steps, is_attempt, not_above}
-use Rattle.vm_meaning.specs.Batches.{NothingArrives}
+use Rattle.vm_meaning.specs.Batches.{IsQuietAt, NothingArrives}
 use Rattle.vm_meaning.proofs.Batches.{one_tick}
 use Rattle.vm_mirror.proofs.Mirrors.{sound_of}
 
@@ -48,11 +49,11 @@ pub only_ticks : (script : Entries) (g : Guested) → ((d : DeviceState) → arr
 unfolding begun
 only_ticks script g h = ap ticked (h g.machine.world.devices)
 
-pub first_of : (script : Entries) (taken n : ℕ) → NothingArrives script taken (suc n) → (d : DeviceState) → arrived (taken + 1) script d ≡ d
-first_of script taken n h d = h (taken + 1) (omega arith) (omega arith) d
+pub first_of : (script : Entries) (taken n : ℕ) → NothingArrives script taken (suc n) → IsQuietAt script (taken + 1)
+first_of script taken n h = h (taken + 1) (omega arith) (omega arith)
 
 pub rest_of : (script : Entries) (taken n : ℕ) → NothingArrives script taken (suc n) → NothingArrives script (taken + 1) n
-rest_of script taken n h k low high d = h k (omega arith) (omega arith) d
+rest_of script taken n h k low high = h k (omega arith) (omega arith)
 
 pub retired_steps_tick : RetiredStepsTick
 retired_steps_tick x script zero m g b (want, retired, more) quiet =
@@ -63,7 +64,7 @@ retired_steps_tick x script (suc n) m g b (want, retired, more) quiet =
     let t = guest_stepped script g in
     let quiet' : NothingArrives script t.machine.steps (suc n) = subst (λ (k : ℕ). NothingArrives script k (suc n)) (sym h.steps) quiet in
     let next = retired_steps_tick x script n (user_step m).1 t h.boarded more (rest_of script t.machine.steps n quiet') in
-    let ticked_once = only_ticks script t (first_of script t.machine.steps n quiet') in
+    let ticked_once = only_ticks script t (first_of script t.machine.steps n quiet').devices in
     let kept = kept_devices x script m g h in (
       next.0 ∙ ap (λ (d : DeviceState). ticks n d) (ticked_once ∙ ap ticked kept),
       next.1 ∙ ap (λ (k : ℕ). k + suc n) h.steps ∙ (let e : g.machine.steps + 1 + suc n ≡ g.machine.steps + suc (suc n) = omega arith in e),
@@ -97,11 +98,11 @@ tried_attempt : (cpu : Cpu) (g : Guest) → IsTried (class_of_attempt cpu g)
 unfolding class_of_attempt
 tried_attempt cpu g = tried_at _
 
-pub tried_class : (level : ℕ) (cpu : Cpu) (g : Guest) → level ≤ interrupt_mask cpu → cpu.stopped ≡ false → is_traced cpu ≡ false
+pub tried_class : (level : ℕ) (cpu : Cpu) (g : Guest) → rank level ≤ interrupt_mask cpu → cpu.stopped ≡ false → is_traced cpu ≡ false
     → IsTried (class_at_first level cpu g)
 unfolding class_at_first
-tried_class level cpu g a b t = by_tests (nat_lt (interrupt_mask cpu) level) cpu.stopped (is_traced cpu) (class_of_attempt cpu g)
-    (not_above (interrupt_mask cpu) level a) b t (tried_attempt cpu g)
+tried_class level cpu g a b t = by_tests (nat_lt (interrupt_mask cpu) (rank level)) cpu.stopped (is_traced cpu) (class_of_attempt cpu g)
+    (not_above (interrupt_mask cpu) (rank level) a) b t (tried_attempt cpu g)
 
 untraced : (a b : Bool) → a ≡ false → b ≡ false → (a || b) ≡ false
 untraced a b h k = rw h (rw k refl)
@@ -119,14 +120,18 @@ unfolding step_class_at_first begun
 next_tried x script n m g h retired quiet due =
     let t = guest_stepped script g in
     let d = (guest_begun script g).machine.world.devices in
-    let was = is_attempt (level_of d) g.machine.cpu (world_of (guest_begun script g)) Retired retired tt in
+    let was = is_attempt (asked script (g.machine.steps + 1) d) g.machine.cpu (world_of (guest_begun script g)) Retired retired tt in
     let quiet' : NothingArrives script t.machine.steps (suc n) = subst (λ (k : ℕ). NothingArrives script k (suc n)) (sym h.steps) quiet in
-    let same : (guest_begun script t).machine.world.devices ≡ ticked d = only_ticks script t (first_of script t.machine.steps n quiet')
+    let same : (guest_begun script t).machine.world.devices ≡ ticked d = only_ticks script t (first_of script t.machine.steps n quiet').devices
     ∙ ap ticked (kept_devices x script m g h) in
-    let level : level_of (guest_begun script t).machine.world.devices ≡ level_of d = ap level_of same ∙ ap level_of (ticks_pass 1 d (one_of n d due)).at_once
-    ∙ (ticks_pass 1 d (one_of n d due)).level in
-    tried_class (level_of (guest_begun script t).machine.world.devices) t.machine.cpu (world_of (guest_begun script t))
-    (let a = was.masked in let b = h.mask in omega (arith, level))
+    let next = (guest_begun script t).machine.world.devices in
+    let level : asked script (t.machine.steps + 1) next ≡ asked script (g.machine.steps + 1) d =
+    asked_devices script (t.machine.steps + 1) next (first_of script t.machine.steps n quiet').unaborted
+    ∙ ap level_of same ∙ ap level_of (ticks_pass 1 d (one_of n d due)).at_once ∙ (ticks_pass 1 d (one_of n d due)).level
+    ∙ sym (asked_masked script (g.machine.steps + 1) d g.machine.cpu was.masked) in
+    tried_class (asked script (t.machine.steps + 1) next) t.machine.cpu (world_of (guest_begun script t))
+    (subst (λ (k : ℕ). rank k ≤ interrupt_mask t.machine.cpu) (sym level)
+    (subst (λ (k : ℕ). rank (asked script (g.machine.steps + 1) d) ≤ k) (sym h.mask) was.masked))
     h.goes.going (untraced (traces_all t.machine.cpu.regs.sr) (traces_flow t.machine.cpu.regs.sr) h.goes.all h.goes.flow)
 
 pub quiet_steps_are_tried : QuietStepsAreTried
@@ -139,7 +144,7 @@ quiet_steps_are_tried x script (suc n) m g b wanted tried quiet due = (
       let t = guest_stepped script g in
       let d = (guest_begun script g).machine.world.devices in
       let quiet' : NothingArrives script t.machine.steps (suc n) = subst (λ (k : ℕ). NothingArrives script k (suc n)) (sym h.steps) quiet in
-      let same : (guest_begun script t).machine.world.devices ≡ ticked d = only_ticks script t (first_of script t.machine.steps n quiet')
+      let same : (guest_begun script t).machine.world.devices ≡ ticked d = only_ticks script t (first_of script t.machine.steps n quiet').devices
       ∙ ap ticked (kept_devices x script m g h) in
       quiet_steps_are_tried x script n (user_step m).1 t h.boarded (wanted.1 retired) (next_tried x script n m g h retired quiet due)
       (rest_of script t.machine.steps n quiet') (subst (λ (o : DeviceState). IsNotDue n o) (sym same) (one_tick d n due)),

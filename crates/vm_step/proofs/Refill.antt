@@ -6,7 +6,6 @@ use Rattle.mb_instr.specs.declared.instruction.Instr.TheVariants as instr
 use Rattle.mb_instr.specs.Registers.{plain_of}
 use Rattle.mb_model.specs.declared.processor.Cpu.{Cpu}
 use Rattle.mb_model.specs.Status.{space_of}
-use Rattle.mb_devices.specs.Devices.{level_of}
 use Rattle.mb_port.specs.declared.types.Space.{Space}
 use Rattle.mb_writes.specs.declared.ends.Ended.{Ended}
 use Rattle.mb_writes.specs.declared.ends.Ended.TheVariants as ended
@@ -14,12 +13,12 @@ use Rattle.mb_meaning.specs.Ends.{Performed, closed}
 use Rattle.mb_meaning.specs.Attempt.{Found}
 use Rattle.mb_processor.specs.Raise.{Stepped, interrupt_of}
 use Rattle.mb_processor.specs.declared.Finish.TheVariants as finish
-use Rattle.mb_processor.specs.Step.{interrupt_mask, unfound_of, executed_of, instruction_of, step_of}
+use Rattle.mb_processor.specs.Step.{interrupt_mask, unfound_of, executed_of, instruction_of, step_of, rank}
 use Rattle.mb_attempts.specs.Attempts.{NoOther, is_attempted, fetched_by, finished_by}
 use Rattle.mb_attempts.proofs.Attempts.{attempt_then_finish}
 use Rattle.mb_model.specs.Keeping.{KeptLists}
 use Rattle.mb_machine.specs.World.{World}
-use Rattle.mb_machine.specs.Machine.{begun}
+use Rattle.mb_machine.specs.Machine.{begun, asked_of}
 use Rattle.vm_machine.specs.declared.class.Class.{Class}
 use Rattle.vm_machine.specs.declared.class.Class.TheVariants.{Retired}
 use Rattle.vm_machine.specs.Guests.{Guest}
@@ -84,7 +83,7 @@ none_is_refilled script g none =
     let b = guest_begun script g in
     let cpu = b.machine.cpu in
     let last = none_again most_refills cpu (world_of b) none in (
-      ap (λ (r : Refilled). unless_aside (level_of b.machine.world.devices) cpu (class_of_attempt cpu r.guest)) last,
+      ap (λ (r : Refilled). unless_aside (asked_of script b.machine) cpu (class_of_attempt cpu r.guest)) last,
       ap (λ (r : Refilled). r.refills) last,
     )
 
@@ -110,7 +109,7 @@ first_is_last x script m g b regs first =
     let cpu = o.machine.cpu in
     let related = related_devices x m.world (world_of g) m.world.devices h.world.devices b.related in
     let sound = sound_of x (record m.world { devices = m.world.devices }) h related in
-    let attempt = is_attempt (level_of h.world.devices) cpu h Retired first tt in
+    let attempt = is_attempt (asked_of script o.machine) cpu h Retired first tt in
     let held = class_held x cpu h Retired b.present regs sound attempt.of in
     let (f, done) = retired_end (closed (by_held x.space (plain_of cpu.regs) h).0).0 held in
     let none : denied_read (by_held (space_of cpu) (plain_of cpu.regs) h).0 ≡ None =
@@ -125,16 +124,17 @@ chosen : {S A : Type 0} (bus : Bus S) (b : Bool) (m n : Routine A) (s : S) → b
 chosen bus b m n s h = rw h refl
 
 -- a step is by its fetch
-step_by_fetch : (level : ℕ) (cpu : Cpu) (g h : Guest) → level ≤ interrupt_mask cpu → cpu.stopped ≡ false
+step_by_fetch : (level : ℕ) (cpu : Cpu) (g h : Guest) → rank level ≤ interrupt_mask cpu → cpu.stopped ≡ false
     → fetched_by guest_bus cpu h ≡ fetched_by guest_bus cpu g → run guest_bus (step_of level cpu) h ≡ run guest_bus (step_of level cpu) g
 unfolding step_of instruction_of
 step_by_fetch level cpu g h masked going same =
-    chosen guest_bus (nat_lt (interrupt_mask cpu) level) (interrupt_of level cpu) (choose cpu.stopped (Return (finish.Idle, cpu)) (instruction_of cpu)) h
-    (not_above (interrupt_mask cpu) level masked)
+    chosen guest_bus (nat_lt (interrupt_mask cpu) (rank level)) (interrupt_of level cpu) (choose cpu.stopped (Return (finish.Idle, cpu)) (instruction_of cpu)) h
+    (not_above (interrupt_mask cpu) (rank level) masked)
     ∙ chosen guest_bus cpu.stopped (Return (finish.Idle, cpu)) (instruction_of cpu) h going
     ∙ ap (λ (r : Found × Guest). run guest_bus (either r.0 (λ unfound. unfound_of unfound cpu) (λ found. executed_of found.0 found.1 cpu)) r.1) same
-    ∙ sym (chosen guest_bus (nat_lt (interrupt_mask cpu) level) (interrupt_of level cpu) (choose cpu.stopped (Return (finish.Idle, cpu)) (instruction_of cpu)) g
-    (not_above (interrupt_mask cpu) level masked)
+    ∙ sym (chosen guest_bus (nat_lt (interrupt_mask cpu) (rank level)) (interrupt_of level cpu)
+    (choose cpu.stopped (Return (finish.Idle, cpu)) (instruction_of cpu)) g
+    (not_above (interrupt_mask cpu) (rank level) masked)
     ∙ chosen guest_bus cpu.stopped (Return (finish.Idle, cpu)) (instruction_of cpu) g going)
 
 always_attempted : (i : Instr) (cpu : Cpu) → IsUnprivileged i → is_attempted i cpu ≡ true
@@ -149,7 +149,7 @@ Comes level cpu g h = run guest_bus (step_of level cpu) h ≡ run guest_bus (ste
 found_is : (f : Found) (i : Instr) (n : ℕ) → f ≡ Ok (i, n) → NoOther i f
 found_is f i n e = subst (NoOther i) (sym e) refl
 
-comes_by : (level : ℕ) (cpu : Cpu) (g h : Guest) → level ≤ interrupt_mask cpu → cpu.stopped ≡ false → BeginsAgain (space_of cpu) (plain_of cpu.regs) g h
+comes_by : (level : ℕ) (cpu : Cpu) (g h : Guest) → rank level ≤ interrupt_mask cpu → cpu.stopped ≡ false → BeginsAgain (space_of cpu) (plain_of cpu.regs) g h
     → Comes level cpu g h
 unfolding plain_of
 comes_by level cpu g h masked going same = elim same.fetch [
@@ -187,8 +187,8 @@ unfolding advanced guest_stepped class_of_step refills_of_step class_of class_at
 again_advances script t n h begun few end comes =
     let b = guest_begun script t.guest in
     let cpu = b.machine.cpu in
-    let level = level_of b.machine.world.devices in
+    let level = asked_of script b.machine in
     let last = last_is_judged cpu n (world_of b) h begun few end in
     let class_by : Refilled → Class = λ r. unless_aside level cpu (class_of_attempt cpu r.guest) in
-    ap (λ (r : Refilled). by_class (class_by r) r.refills (guest_later b.machine (guest_processed b)) t) last
+    ap (λ (r : Refilled). by_class (class_by r) r.refills (guest_later b.machine (guest_processed script b)) t) last
     ∙ ap (λ (q : Stepped × Guest). by_class (class_by (record { guest = h; refills = n })) n (guest_later b.machine q) t) (sym comes)

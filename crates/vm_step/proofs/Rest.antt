@@ -18,7 +18,7 @@ use Rattle.mb_meaning.specs.Ends.{Carried, Stopped, Performed, closed}
 use Rattle.mb_processor.specs.SystemEnds.{with_registers}
 use Rattle.mb_meaning.specs.Attempt.{Unfound, NoInstruction, Unfetched, end_without, Found, found_none}
 use Rattle.mb_processor.specs.Raise.{Stepped, cause_at}
-use Rattle.mb_processor.specs.Step.{finish_of, interrupt_mask, movem_words, step_of}
+use Rattle.mb_processor.specs.Step.{finish_of, interrupt_mask, movem_words, step_of, rank}
 use Rattle.mb_attempts.specs.Attempts.{IsUntraced, NoOther, is_attempted, fetched_by, finished_by}
 use Rattle.mb_attempts.proofs.Attempts.{attempts_find_none, attempt_then_finish}
 use Rattle.mb_tells.specs.Left.{IsRest, completing, moving}
@@ -88,7 +88,7 @@ unbegun (Unfetched refused) h = h
 
 module _ (size level : ℕ) (guest : Cpu) (g : Guest) (i : Instr) (plain : IsUntraced guest) (seven : length guest.regs.a ≡ 7)
     (regs : HasRegisters (plain_of guest.regs))
-    (sound : Sound size g) (masked : level ≤ interrupt_mask guest) (other : NoOther i (fetched_by held_bus guest g).0) where
+    (sound : Sound size g) (masked : rank level ≤ interrupt_mask guest) (other : NoOther i (fetched_by held_bus guest g).0) where
   abbrev space : Space
   space = space_of guest
 

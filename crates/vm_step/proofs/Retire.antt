@@ -17,12 +17,14 @@ use Rattle.mb_meaning.specs.Ends.{End}
 use Rattle.mb_processor.specs.SystemEnds.{with_registers}
 use Rattle.mb_meaning.specs.Attempt.{attempt_of}
 use Rattle.mb_processor.specs.Raise.{Stepped, traces_all, traces_flow}
-use Rattle.mb_processor.specs.Step.{interrupt_mask, step_of}
+use Rattle.mb_processor.specs.Step.{interrupt_mask, step_of, rank}
 use Rattle.mb_devices.specs.Devices.{DeviceState, ticked, level_of, has_received, received, queue_room}
 use Rattle.mb_laws.specs.Until.{run_until}
 use Rattle.mb_attempts.specs.Attempts.{IsUntraced}
+use Rattle.mb_script.specs.declared.input.Input.{Input}
+use Rattle.mb_script.specs.declared.input.Input.TheVariants.{Byte, Abort}
 use Rattle.mb_machine.specs.World.{World}
-use Rattle.mb_machine.specs.Machine.{Machine, Entries, begun, arrived, processed, one_later, stepping, takes_steps, state_after}
+use Rattle.mb_machine.specs.Machine.{Machine, Entries, begun, arrived, processed, one_later, stepping, takes_steps, state_after, asked, taken_in}
 use Rattle.vm_meaning.specs.Native.{user_step}
 use Rattle.vm_machine.specs.declared.class.Class.{Class}
 use Rattle.vm_machine.specs.declared.class.Class.TheVariants as class
@@ -54,11 +56,12 @@ pub off_ticked : (d : DeviceState) → (ticked d).off ≡ d.off
 unfolding ticked
 off_ticked d = off_by (d.period == 0) (d.count - 1 == 0) d (record d { pending = true; count = d.period }) (record d { count = d.count - 1 }) refl refl
 
-pub level_small : (d : DeviceState) → level_of d ≤ 6
+-- the devices ask for no level that is above every mask
+pub level_small : (d : DeviceState) → rank (level_of d) ≤ 6
 unfolding level_of
 level_small d = by_level d.pending (d.enabled && has_received d)
   where
-    by_level : (a b : Bool) → cond a 6 (cond b 4 0) ≤ 6
+    by_level : (a b : Bool) → rank (cond a 6 (cond b 4 0)) ≤ 6
     by_level true b = omega arith
     by_level false true = omega arith
     by_level false false = omega arith
@@ -67,7 +70,7 @@ level_small d = by_level d.pending (d.enabled && has_received d)
 
 -- the class of a step that the board attempts
 pub record IsAttemptOf (level : ℕ) (cpu : Cpu) (g : Guest) (c : Class) : Type 0 where
-  pub masked : level ≤ interrupt_mask cpu
+  pub masked : rank level ≤ interrupt_mask cpu
   pub plain : IsUntraced cpu
   pub of : class_of_attempt cpu g ≡ c
 
@@ -91,9 +94,9 @@ not_above mask level h = grind (arith, nat_tests)
 pub is_attempt : (level : ℕ) (cpu : Cpu) (g : Guest) (c : Class) → class_at_first level cpu g ≡ c → IsTried c → IsAttemptOf level cpu g c
 unfolding class_at_first
 is_attempt level cpu g c e h =
-    let (a, b, t, k) = by_tests (nat_lt (interrupt_mask cpu) level) cpu.stopped (is_traced cpu) (class_of_attempt cpu g) c e h in
+    let (a, b, t, k) = by_tests (nat_lt (interrupt_mask cpu) (rank level)) cpu.stopped (is_traced cpu) (class_of_attempt cpu g) c e h in
     let (all, flow) = neither (traces_all cpu.regs.sr) (traces_flow cpu.regs.sr) t in
-    record { masked = not_less (interrupt_mask cpu) level a; plain = record { going = b; all = all; flow = flow }; of = k }
+    record { masked = not_less (interrupt_mask cpu) (rank level) a; plain = record { going = b; all = all; flow = flow }; of = k }
 
 -- ---- board and guest, once the step has begun
 
@@ -110,7 +113,7 @@ retired_end (ended.Movem v) h = absurd (let z : class.Denied ≡ Retired = h in 
 abbrev pub end_of_held : Site → Cpu → Guest → End
 end_of_held x guest g = held_end x.space (plain_of guest.regs) g
 
-pub masked_by : (cpu : Cpu) (d : DeviceState) → interrupt_mask cpu ≡ 7 → level_of d ≤ interrupt_mask cpu
+pub masked_by : (cpu : Cpu) (d : DeviceState) → interrupt_mask cpu ≡ 7 → rank (level_of d) ≤ interrupt_mask cpu
 masked_by cpu d h = let l = level_small d in omega arith
 
 pub class_held : (x : Site) (guest : Cpu) (g : Guest) (c : Class) → space_of guest ≡ x.space → HasRegisters (plain_of guest.regs) → Sound x.size g
@@ -161,12 +164,16 @@ off_received byte d = off_if (nat_lt (length d.queue) queue_room) d
     off_if true d = refl
     off_if false d = refl
 
+off_taken : (one : Input) (d : DeviceState) → (taken_in one d).off ≡ d.off
+off_taken (Byte byte) d = off_received byte d
+off_taken Abort d = refl
+
 pub off_arrived : (n : ℕ) (script : Entries) (d : DeviceState) → (arrived n script d).off ≡ d.off
 off_arrived n [] d = refl
-off_arrived n (entry ∷ script) d = off_arrived n script (cond (entry.0 == n) (received entry.1 d) d) ∙ off_if (entry.0 == n)
+off_arrived n (entry ∷ script) d = off_arrived n script (cond (entry.0 == n) (taken_in entry.1 d) d) ∙ off_if (entry.0 == n)
   where
-    off_if : (b : Bool) → (cond b (received entry.1 d) d).off ≡ d.off
-    off_if true = off_received entry.1 d
+    off_if : (b : Bool) → (cond b (taken_in entry.1 d) d).off ≡ d.off
+    off_if true = off_taken entry.1 d
     off_if false = refl
 
 -- on and awake, it goes on
@@ -182,7 +189,7 @@ running_after cpu d h k = rw h (rw k refl)
 abbrev pub user_later : Machine → Stepped × World → Finish × Machine
 user_later m r = (r.0.0, record (one_later m r.0.0 r.0.1 r.1) { steps = m.steps })
 
-pub user_step_is : (m : Machine) → user_step m ≡ user_later m (processed rule_a (begun [] m))
+pub user_step_is : (m : Machine) → user_step m ≡ user_later m (processed rule_a [] (begun [] m))
 unfolding user_step stepping
 user_step_is m = refl
 
@@ -195,13 +202,14 @@ retired_steps x script m g b regs c on =
     let guest = g.machine.cpu in
     let h : Guest = record { world = record g.machine.world { devices = e }; shadow = g.shadow } in
     let related = related_devices x m.world (world_of g) d e b.related in
-    let attempt = is_attempt (level_of e) guest h Retired c tt in
+    let own_level = asked script (g.machine.steps + 1) e in
+    let attempt = is_attempt own_level guest h Retired c tt in
     let (flow, done) = retired_end (end_of_held x guest h).0 (class_held x guest h Retired b.present regs (sound_of x w h related) attempt.of) in
     let p = (end_of_held x guest h).1 in
-    let both = steps_retire x (level_of d) (level_of e) m.cpu guest w h flow (mirrored_by x m g b regs attempt.plain) related (masked_by m.cpu d b.mask)
+    let both = steps_retire x (level_of d) own_level m.cpu guest w h flow (mirrored_by x m g b regs attempt.plain) related (masked_by m.cpu d b.mask)
     attempt.masked done in
     let native : Stepped × World = run board_bus (step_of (level_of d) m.cpu) w in
-    let own : Stepped × Guest = run guest_bus (step_of (level_of e) guest) h in
+    let own : Stepped × Guest = run guest_bus (step_of own_level guest) h in
     let stays = both.2 in
     let off : native.1.devices.off ≡ false = ap (λ (d : DeviceState). d.off) stays.outside.devices ∙ off_ticked m.world.devices ∙ b.on in
     let off_alone : own.1.world.devices.off ≡ false = ap (λ (q : Guest). q.world.devices.off) stays.only

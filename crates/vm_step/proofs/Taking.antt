@@ -16,7 +16,7 @@ use Rattle.mb_model.specs.declared.outcome.RunState.TheVariants.{Running}
 use Rattle.mb_walk.specs.Memory.{AreBytes, part}
 use Rattle.mb_devices.specs.Devices.{DeviceState, level_of}
 use Rattle.mb_processor.specs.SystemEnds.{with_registers}
-use Rattle.mb_machine.specs.Machine.{begun, takes_steps}
+use Rattle.mb_machine.specs.Machine.{begun, takes_steps, asked_of}
 use Rattle.mb_port.specs.Routine.{run}
 use Rattle.mb_processor.specs.Return.{low}
 use Rattle.vm_machine.specs.Seats.{end_of, on_board, Seat, own, shadow_on, machine_on, guested_on, turned_on, monitor_bytes, IsSeated, OnlyWithin}
@@ -30,6 +30,7 @@ use Rattle.vm_machine.specs.Turns.{Guested, Turned, Tally, world_of, guest_begun
 use Rattle.vm_machine.specs.Turns.{turn_of, step_class_at_first}
 use Rattle.mb_machine.specs.declared.reference.Reference.{Reference}
 use Rattle.mb_machine.specs.World.{World}
+use Rattle.mb_machine.proofs.Asked.{asked_masked}
 use Rattle.mb_machine.specs.Machine.{Entries}
 use Rattle.vm_meaning.specs.Marks.{trail}
 use Rattle.vm_held.specs.Truth.{Fine}
@@ -228,10 +229,10 @@ some_read g h (Some r) e = (r, refl)
 
 -- the first attempt of a step that the board left
 attempted : (script : Entries) (g : Guested) (v : ℕ) → class_of_vector v ≡ step_class_at_first script g → let b = guest_begun script g in
-    IsAttemptOf (level_of b.machine.world.devices) b.machine.cpu (world_of b) (class_of_vector v)
+    IsAttemptOf (asked_of script b.machine) b.machine.cpu (world_of b) (class_of_vector v)
 unfolding step_class_at_first
 attempted script g v e = let b = guest_begun script g in
-    is_attempt (level_of b.machine.world.devices) b.machine.cpu (world_of b) (class_of_vector v) (sym e) (left_tried v)
+    is_attempt (asked_of script b.machine) b.machine.cpu (world_of b) (class_of_vector v) (sym e) (left_tried v)
 
 no_refills : (c : Class) (t : Tally) → with_refills c 0 t ≡ t
 no_refills class.Retired t = refl
@@ -246,7 +247,7 @@ same_vector : (v n : ℕ) → finish.Entered v ≡ finish.Entered n → v ≡ n
 same_vector v n e = cc
 
 first_is : (script : Entries) (g : Guested) → let b = guest_begun script g in
-    step_class_at_first script g ≡ class_at_first (level_of b.machine.world.devices) b.machine.cpu (world_of b)
+    step_class_at_first script g ≡ class_at_first (asked_of script b.machine) b.machine.cpu (world_of b)
 unfolding step_class_at_first
 first_is script g = refl
 
@@ -300,7 +301,7 @@ exits_take g c world steps state native before k v s bytes small running seven c
     let with_rest : Guested → ℕ → Guested = λ q n. guest_later q.machine
     (run guest_bus (rest_by_frame h.vector (frame_access frame) n q.machine.cpu handed) (world_of q)) in
     let rest_at : Guested → Guested = λ q. let o = guest_begun g.script q in guest_later o.machine
-    (run guest_bus (rest_by_frame h.vector (frame_access frame) (level_of o.machine.world.devices) o.machine.cpu handed) (of q)) in
+    (run guest_bus (rest_by_frame h.vector (frame_access frame) (asked_of g.script o.machine) o.machine.cpu handed) (of q)) in
     let later : Turned = by_class (class_of_vector h.vector) 0 (rest_at u.guest) u in
     let o = guest_begun g.script u.guest in
     let turn_is : begun_again o.machine.cpu (world_of o) ≡ None → turn_of g.script (j + 1) t ≡ later = λ last.
@@ -325,6 +326,12 @@ exits_take g c world steps state native before k v s bytes small running seven c
     let stays_by : (r : Reference) → read_by_frame (space_of mid.cpu) frame ≡ Some r → now ≡ world_of o = λ r told.
     world_is ∙ h.left.still r (ap (λ (p : Space). read_by_frame p frame) (sym present) ∙ told) in
     let cpu_there : mid.cpu ≡ o.machine.cpu = cpu_is ∙ ap (λ (q : Guested). q.machine.cpu) (sym is_w) in
+    let attempt = attempted g.script u.guest h.left.vector h.left.class in
+    let lo = asked_of g.script o.machine in
+    let level_there : level_of begun ≡ lo = ap (λ (p : Guested). level_of (guest_begun g.script p).machine.world.devices) (sym is_w)
+    ∙ sym (asked_masked g.script (o.machine.steps + 1) o.machine.world.devices o.machine.cpu attempt.masked) in
+    let level_w : level_of begun ≡ asked_of g.script (guest_begun g.script w).machine =
+    level_there ∙ ap (λ (p : Guested). asked_of g.script (guest_begun g.script p).machine) is_w in
     record {
       retired = j;
       few = few;
@@ -357,11 +364,8 @@ exits_take g c world steps state native before k v s bytes small running seven c
           let (read, told) = some_read now q (read_by_frame (space_of mid.cpu) frame) e in
           let stays : now ≡ world_of o = stays_by read told in
           let vector_is : h.vector ≡ h.left.vector = same_vector h.vector h.left.vector h.left.entered in
-          let lo = level_of o.machine.world.devices in
-          let level_there : level_of begun ≡ lo = ap (λ (p : Guested). level_of (guest_begun g.script p).machine.world.devices) (sym is_w) in
           let rests = λ (l : ℕ) (c : Cpu) (p : Guest). run guest_bus (rest_by_frame h.vector (frame_access frame) l c handed) p in
-          let steps_on = λ (l : ℕ) (c : Cpu) (p : Guest). run guest_bus (step_of l c) p in
-          let attempt = attempted g.script u.guest h.left.vector h.left.class in (
+          let steps_on = λ (l : ℕ) (c : Cpu) (p : Guest). run guest_bus (step_of l c) p in (
             record {
               turn = u;
               taken = refl;
@@ -395,7 +399,8 @@ exits_take g c world steps state native before k v s bytes small running seven c
           );
       turn = λ seat next last e tally is seated within. record {
         marks = b.marks;
-        turned = same_turned (turned_on seat next b.marks) later (e ∙ ap (λ (q : Guested). with_rest q (level_of begun)) same ∙ ap rest_at (sym is_w))
+        turned = same_turned (turned_on seat next b.marks) later (e ∙ ap (λ (q : Guested). with_rest q (level_of begun)) same
+            ∙ ap (λ (l : ℕ). with_rest opened l) level_w ∙ ap rest_at (sym is_w))
             (tally ∙ ap (λ (q : Tally). counted (class_of_vector h.vector) q) (sym b.tally)
             ∙ sym (no_refills (class_of_vector h.vector) (counted (class_of_vector h.vector) u.tally)))
             (sym (ap (λ (l : List Plain). u.marks ++ l) (no_marks h.vector u.guest.machine.cpu (rest_at u.guest).machine.cpu) ∙ nothing_more u.marks

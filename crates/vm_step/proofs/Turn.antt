@@ -6,12 +6,12 @@ use Rattle.mb_instr.specs.declared.registers.Plain.{Plain}
 use Rattle.mb_instr.specs.declared.registers.Regs.{Regs}
 use Rattle.mb_instr.specs.Registers.{is_supervisor, is_master, active_stack, plain_of}
 use Rattle.mb_processor.specs.Raise.{Stepped, traces_all, traces_flow}
-use Rattle.mb_devices.specs.Devices.{level_of}
 use Rattle.mb_port.specs.declared.types.Mmu.{Mmu}
 use Rattle.mb_port.specs.declared.types.Space.{Space}
 use Rattle.mb_port.specs.declared.types.Space.TheVariants.{User}
 use Rattle.mb_model.specs.Pages.{has_big_pages}
 use Rattle.mb_machine.specs.Access.{untranslated}
+use Rattle.mb_machine.specs.Machine.{asked_of}
 use Rattle.vm_shadow.specs.Mapped.{root_of}
 use Rattle.vm_meaning.proofs.KeptLemmas.{none-kept}
 use Rattle.mb_attempts.specs.Attempts.{IsUntraced}
@@ -115,8 +115,8 @@ exits_advance x script u v m after l wide last =
     let h = left_guest x after.world.ram (world_of b) in
     let is : v ≡ l.vector = same_number v l.vector l.entered in
     let of : ℕ → Stepped × Guest =
-    λ n. run guest_bus (rest_by_frame n (frame_access l.frame) (level_of b.machine.world.devices) b.machine.cpu (handed_by after.cpu.regs l.frame)) h in
-    let rest : guest_processed b ≡ of v = l.rest wide ∙ ap of (sym is) in
+    λ n. run guest_bus (rest_by_frame n (frame_access l.frame) (asked_of script b.machine) b.machine.cpu (handed_by after.cpu.regs l.frame)) h in
+    let rest : guest_processed script b ≡ of v = l.rest wide ∙ ap of (sym is) in
     let (class, none) = none_is_refilled script u.guest last in
     ap (λ (r : Stepped × Guest). by_class (class_of_step script u.guest) (refills_of_step script u.guest) (guest_later b.machine r) u) rest
     ∙ ap (λ (n : ℕ). by_class (class_of_step script u.guest) n (guest_later b.machine (of v)) u) none

@@ -3,9 +3,9 @@ use Rattle.std.specs.Prelude.{◌≡◌, ◌⊎◌, ℕ, suc, ◌+◌, ◌≤◌
 use Rattle.mb_port.specs.Routine.{run}
 use Rattle.mb_instr.specs.Registers.{plain_of}
 use Rattle.mb_devices.specs.Devices.{level_of}
-use Rattle.mb_processor.specs.Step.{interrupt_mask, step_of}
+use Rattle.mb_processor.specs.Step.{interrupt_mask, step_of, rank}
 use Rattle.mb_attempts.specs.Attempts.{IsUntraced}
-use Rattle.mb_machine.specs.Machine.{takes_steps}
+use Rattle.mb_machine.specs.Machine.{takes_steps, asked_of}
 use Rattle.vm_meaning.specs.Marks.{trail}
 use Rattle.vm_meaning.specs.Native.{NativeState}
 use Rattle.vm_machine.specs.declared.class.Class.{Class}
@@ -31,7 +31,7 @@ pub record Midway (g : Seat) (ram : List ℕ) (native : NativeState) (k n : ℕ)
   pub goes : takes_steps turn.guest.machine.state ≡ true
   -- an untraced instruction
   pub masked : let b = guest_begun g.script turn.guest in
-      level_of b.machine.world.devices ≤ interrupt_mask b.machine.cpu
+      rank (asked_of g.script b.machine) ≤ interrupt_mask b.machine.cpu
   pub untraced : IsUntraced (guest_begun g.script turn.guest).machine.cpu
   pub registers : HasRegisters (plain_of (guest_begun g.script turn.guest).machine.cpu.regs)
   pub fine : Fine g.size (world_of (guest_begun g.script turn.guest))

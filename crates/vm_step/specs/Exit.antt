@@ -5,10 +5,9 @@ use Rattle.mb_instr.specs.Registers.{is_master, plain_of}
 use Rattle.mb_frames.specs.declared.frame.Frame.{Frame}
 use Rattle.mb_frames.specs.Layout.{IsFrame, BeginsWith}
 use Rattle.mb_frames.specs.Reading.{frame_in}
-use Rattle.mb_devices.specs.Devices.{level_of}
 use Rattle.mb_processor.specs.declared.Finish.{Finish}
 use Rattle.mb_processor.specs.declared.Finish.TheVariants as finish
-use Rattle.mb_machine.specs.Machine.{Machine, Entries, takes_steps}
+use Rattle.mb_machine.specs.Machine.{Machine, Entries, takes_steps, asked_of}
 use Rattle.mb_walk.specs.Memory.{part}
 use Rattle.mb_machine.specs.declared.reference.Reference.{Reference}
 use Rattle.vm_machine.specs.Exits.{class_of_vector, handed_by, frame_access, rest_by_frame}
@@ -62,7 +61,7 @@ pub record Leaves (x : Site) (script : Entries) (m : Machine) (g : Guested) (s :
   -- a processor has seven address registers beside its stacks
   pub rest : length s.1.cpu.regs.a ≡ 7 → let b = guest_begun script g in let h =
       left_guest x s.1.world.ram (world_of b) in
-      guest_processed b ≡ run guest_bus (rest_by_frame vector (frame_access frame) (level_of b.machine.world.devices)
+      guest_processed script b ≡ run guest_bus (rest_by_frame vector (frame_access frame) (asked_of script b.machine)
       b.machine.cpu (handed_by s.1.cpu.regs frame)) h
   -- where the frame tells a read, nothing of the guest has changed, and it begins again where that read is refilled
   pub still : (r : Reference) → read_by_frame x.space frame ≡ Some r

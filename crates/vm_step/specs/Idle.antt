@@ -2,9 +2,9 @@
 -- quiet may be taken at once.
 use Rattle.std.specs.Prelude.{◌≡◌, ℕ, suc, ◌+◌, ◌≤◌, false, true, List}
 use Rattle.mb_model.specs.declared.outcome.RunState.TheVariants.{Stopped}
-use Rattle.mb_devices.specs.Devices.{DeviceState, level_of, passed, IsNotDue}
-use Rattle.mb_processor.specs.Step.{interrupt_mask}
-use Rattle.mb_machine.specs.Machine.{Entries}
+use Rattle.mb_devices.specs.Devices.{DeviceState, passed, IsNotDue}
+use Rattle.mb_processor.specs.Step.{interrupt_mask, rank}
+use Rattle.mb_machine.specs.Machine.{Entries, asked_of}
 use Rattle.vm_meaning.specs.Batches.{NothingArrives}
 use Rattle.vm_meaning.specs.Native.{NativeState}
 use Rattle.vm_machine.specs.Turns.{Guested, Turned, guest_begun, turn_of}
@@ -15,7 +15,7 @@ pub record IsIdle (script : Entries) (g : Guested) : Type 0 where
   pub state : g.machine.state ≡ Stopped
   pub stopped : g.machine.cpu.stopped ≡ true
   pub on : g.machine.world.devices.off ≡ false
-  pub masked : level_of (guest_begun script g).machine.world.devices ≤ interrupt_mask g.machine.cpu
+  pub masked : rank (asked_of script (guest_begun script g).machine) ≤ interrupt_mask g.machine.cpu
 
 -- ---- of a guest by itself
 

@@ -3,10 +3,9 @@ use Rattle.std.specs.Prelude.{◌≡◌, ◌⊎◌, ℕ, zero, suc, ◌≤◌, N
 use Rattle.mb_port.specs.Routine.{run}
 use Rattle.mb_instr.specs.Registers.{plain_of}
 use Rattle.mb_model.specs.declared.processor.Cpu.{Cpu}
-use Rattle.mb_devices.specs.Devices.{level_of}
-use Rattle.mb_processor.specs.Step.{interrupt_mask, step_of}
+use Rattle.mb_processor.specs.Step.{interrupt_mask, step_of, rank}
 use Rattle.mb_attempts.specs.Attempts.{IsUntraced}
-use Rattle.mb_machine.specs.Machine.{Machine, Entries}
+use Rattle.mb_machine.specs.Machine.{Machine, Entries, asked_of}
 use Rattle.vm_machine.specs.declared.class.Class.TheVariants.{Retired}
 use Rattle.vm_machine.specs.Guests.{Guest}
 use Rattle.vm_machine.specs.Bus.{guest_bus}
@@ -33,7 +32,7 @@ NoneIsRefilled = (script : Entries) (g : Guested) → let b = guest_begun script
 
 -- The guest's own step comes to the same from the guest that begins again, of which nothing else has changed.
 abbrev pub StepsBeginAgain : Type 0
-StepsBeginAgain = (size level : ℕ) (cpu : Cpu) (g h : Guest) → level ≤ interrupt_mask cpu → IsUntraced cpu
+StepsBeginAgain = (size level : ℕ) (cpu : Cpu) (g h : Guest) → rank level ≤ interrupt_mask cpu → IsUntraced cpu
     → HasRegisters (plain_of cpu.regs) → Fine size g → begun_again cpu g ≡ Some h
     → IsAhead size g h × (run guest_bus (step_of level cpu) h ≡ run guest_bus (step_of level cpu) g)
 
@@ -50,7 +49,8 @@ LastIsJudged = (cpu : Cpu) (n : ℕ) (g h : Guest) → HasBegunAgain cpu n g h �
 
 -- So often it comes to the same, and of the guest nothing else has changed than what is kept and the shadow.
 abbrev pub AgainComesToTheSame : Type 0
-AgainComesToTheSame = (size level : ℕ) (cpu : Cpu) (n : ℕ) (g h : Guest) → level ≤ interrupt_mask cpu → IsUntraced cpu
+AgainComesToTheSame = (size level : ℕ) (cpu : Cpu) (n : ℕ) (g h : Guest) → rank level ≤ interrupt_mask cpu
+    → IsUntraced cpu
     → HasRegisters (plain_of cpu.regs) → Fine size g → HasBegunAgain cpu n g h
     → Fine size h × (h.world ≡ record g.world { kept = h.world.kept })
     × (run guest_bus (step_of level cpu) h ≡ run guest_bus (step_of level cpu) g)
@@ -59,8 +59,8 @@ AgainComesToTheSame = (size level : ℕ) (cpu : Cpu) (n : ℕ) (g h : Guest) →
 -- it is counted as refilled where it began again, and machine and shadow are what comes of it from there.
 abbrev pub AgainAdvances : Type 0
 AgainAdvances = (script : Entries) (t : Turned) (n : ℕ) (h : Guest) → let b = guest_begun script t.guest in
-    let cpu = b.machine.cpu in let level = level_of b.machine.world.devices in
+    let cpu = b.machine.cpu in let level = asked_of script b.machine in
     HasBegunAgain cpu n (world_of b) h → n ≤ most_refills → (n ≡ most_refills) ⊎ (begun_again cpu h ≡ None)
-    → run guest_bus (step_of level cpu) h ≡ guest_processed b
+    → run guest_bus (step_of level cpu) h ≡ guest_processed script b
     → advanced script t
     ≡ by_class (class_at_first level cpu h) n (guest_later b.machine (run guest_bus (step_of level cpu) h)) t

@@ -5,7 +5,7 @@ use Rattle.mb_instr.specs.declared.instruction.Instr.{Instr}
 use Rattle.mb_instr.specs.Registers.{plain_of}
 use Rattle.mb_model.specs.declared.processor.Cpu.{Cpu}
 use Rattle.mb_model.specs.Status.{space_of}
-use Rattle.mb_processor.specs.Step.{interrupt_mask, step_of}
+use Rattle.mb_processor.specs.Step.{interrupt_mask, step_of, rank}
 use Rattle.mb_attempts.specs.Attempts.{IsUntraced, NoOther, fetched_by}
 use Rattle.vm_machine.specs.Guests.{Guest}
 use Rattle.vm_machine.specs.Held.{held_bus}
@@ -21,7 +21,7 @@ use Rattle.vm_step.specs.Retire.{HasRegisters}
 -- (Where none was, any will do.)
 abbrev pub StepsGoOn : Type 0
 StepsGoOn = (size level : ℕ) (guest : Cpu) (g : Guest) (i : Instr) → IsUntraced guest → length guest.regs.a ≡ 7
-    → HasRegisters (plain_of guest.regs) → Sound size g → level ≤ interrupt_mask guest
+    → HasRegisters (plain_of guest.regs) → Sound size g → rank level ≤ interrupt_mask guest
     → NoOther i (fetched_by held_bus guest g).0
     → let k = held_end (space_of guest) (plain_of guest.regs) g in (class_of_end k.0 ≡ Retired → ⊥)
     → run guest_bus (step_of level guest) g

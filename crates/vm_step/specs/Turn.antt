@@ -8,11 +8,11 @@ use Rattle.mb_model.specs.declared.outcome.RunState.{RunState}
 use Rattle.mb_model.specs.Status.{space_of}
 use Rattle.mb_model.specs.Keeping.{rule_a, nothing_kept}
 use Rattle.mb_walk.specs.Memory.{AreBytes, part}
-use Rattle.mb_devices.specs.Devices.{DeviceState, level_of}
+use Rattle.mb_devices.specs.Devices.{DeviceState}
 use Rattle.mb_processor.specs.declared.Finish.TheVariants as finish
 use Rattle.mb_processor.specs.SystemEnds.{with_registers}
 use Rattle.mb_machine.specs.World.{World}
-use Rattle.mb_machine.specs.Machine.{Machine, Entries, takes_steps}
+use Rattle.mb_machine.specs.Machine.{Machine, Entries, takes_steps, asked_of}
 use Rattle.vm_shadow.specs.Mapped.{root_of, shadowed}
 use Rattle.vm_shadow.specs.Area.{Maps}
 use Rattle.vm_machine.specs.Guests.{Guest, Truthful}
@@ -107,7 +107,7 @@ ExitsAdvance = (x : Site) (script : Entries) (u : Turned) (v : ℕ) (m after : M
     → length after.cpu.regs.a ≡ 7 → let b = guest_begun script u.guest in
     begun_again b.machine.cpu (world_of b) ≡ None
     → advanced script u ≡ by_class (class_of_vector v) 0 (guest_later b.machine
-    (run guest_bus (rest_by_frame v (frame_access l.frame) (level_of b.machine.world.devices) b.machine.cpu
+    (run guest_bus (rest_by_frame v (frame_access l.frame) (asked_of script b.machine) b.machine.cpu
     (handed_by after.cpu.regs l.frame))
     (left_guest x after.world.ram (world_of b)))) u
 

@@ -8,14 +8,13 @@ use Rattle.mb_port.specs.declared.types.Mmu.{Mmu}
 use Rattle.mb_port.specs.declared.types.MmuReg.{MmuReg}
 use Rattle.mb_port.specs.declared.types.MmuReg.TheVariants.{Tc, Itt0, Itt1, Dtt0, Dtt1, Mmusr, Urp, Srp}
 use Rattle.mb_model.specs.Pages.{page_of}
-use Rattle.mb_devices.specs.Devices.{level_of}
 use Rattle.mb_laws.specs.Relations.{Along}
 use Rattle.mb_processor.specs.Step.{step_of}
 use Rattle.mb_machine.specs.declared.reference.Reference.{Reference}
 use Rattle.mb_machine.specs.World.{World}
 use Rattle.mb_machine.specs.Access.{matched, is_translating, or_off, untranslated, translated}
 use Rattle.mb_machine.specs.Bus.{bus_of, reference_of, fetching, reading, writing, tested, tested_by, with_register}
-use Rattle.mb_machine.specs.Machine.{Entries, Machine, begun, start, reset_with}
+use Rattle.mb_machine.specs.Machine.{Entries, Machine, begun, start, reset_with, asked_of}
 use Rattle.mb_machine.specs.Laws.{IsBeneath}
 use Rattle.mb_machine.proofs.Refusals.{translated-beside}
 use Rattle.mb_machine.proofs.Beneath.{calls_stand_beneath, places_stand_beneath}
@@ -112,7 +111,7 @@ off-runs_are_tidy script zero m off h = tt
 off-runs_are_tidy script (suc n) m off h = λ going.
     let b = begun script m in
     let parts = h going in
-    let s = stays_off (step_of (level_of b.world.devices) b.cpu) b.world (begun_off script m off) parts.0 in
+    let s = stays_off (step_of (asked_of script b) b.cpu) b.world (begun_off script m off) parts.0 in
     (s.tidy, off-runs_are_tidy script n (searching_step script m) s.off parts.1)
 
 pub off-is_tidy : OffIsTidy

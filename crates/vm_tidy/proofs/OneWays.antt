@@ -9,7 +9,6 @@ use Rattle.mb_model.specs.Pages.{page_of}
 use Rattle.mb_walk.specs.Descriptors.{is_user}
 use Rattle.mb_walk.specs.declared.found.Found.{Found}
 use Rattle.mb_walk.specs.declared.found.Found.TheVariants.{Entry, Invalid, BusError}
-use Rattle.mb_devices.specs.Devices.{level_of}
 use Rattle.mb_laws.specs.Relations.{Along}
 use Rattle.mb_processor.specs.Step.{step_of}
 use Rattle.mb_machine.specs.declared.reference.Reference.{Reference}
@@ -17,7 +16,7 @@ use Rattle.mb_machine.specs.declared.reference.Settled.TheVariants.{To, Refused}
 use Rattle.mb_machine.specs.World.{World}
 use Rattle.mb_machine.specs.Access.{search_for, untranslated, searched, translated, by_settled, by_found, admits, marks, through}
 use Rattle.mb_machine.specs.Bus.{reference_of}
-use Rattle.mb_machine.specs.Machine.{begun}
+use Rattle.mb_machine.specs.Machine.{begun, asked_of}
 use Rattle.vm_meaning.specs.Free.{IsKept, rule_free, holding}
 use Rattle.vm_meaning.proofs.Accesses.{accesses-use_or_search}
 use Rattle.vm_meaning.specs.Tidy.{searching_bus, searching_step, Counts, Agrees, IsTidyReference}
@@ -73,7 +72,7 @@ tidy_runs-are_one_way script zero m h = tt
 tidy_runs-are_one_way script (suc n) m h = λ going.
     let b = begun script m in
     let parts = h going in (
-      along_one_way searching_bus tidy_calls-are_one_way (step_of (level_of b.world.devices) b.cpu) b.world parts.0,
+      along_one_way searching_bus tidy_calls-are_one_way (step_of (asked_of script b) b.cpu) b.world parts.0,
       tidy_runs-are_one_way script n (searching_step script m) parts.1,
     )
 

@@ -5,13 +5,12 @@ use Rattle.std.proofs.lemmas.Bool.{cases_Bool}
 use Rattle.mb_port.specs.Routine.{run}
 use Rattle.mb_model.specs.declared.processor.Cpu.{Cpu}
 use Rattle.mb_model.specs.Keeping.{Rule, KeptLists, rule_a, rule_k}
-use Rattle.mb_devices.specs.Devices.{level_of}
 use Rattle.mb_processor.specs.declared.Finish.{Finish}
 use Rattle.mb_processor.specs.Step.{step_of}
 use Rattle.mb_laws.specs.Relations.{Admits}
 use Rattle.mb_laws.proofs.Related.{runs_agree, runs_of_run}
 use Rattle.mb_machine.specs.World.{World}
-use Rattle.mb_machine.specs.Machine.{Entries, Machine, Contents, begun, one_later, takes_steps, run_of, start, seen_machine, with_contents}
+use Rattle.mb_machine.specs.Machine.{Entries, Machine, Contents, begun, one_later, takes_steps, run_of, start, seen_machine, with_contents, asked_of}
 use Rattle.vm_meaning.specs.Free.{StandIn, rule_free, FreeStep, FreeCall, FreeRun, WorldWithin, Within}
 use Rattle.vm_meaning.proofs.Runs.{run-from_reset}
 use Rattle.vm_meaning.specs.Tidy.{searching_bus, searching_step, searching_run, Tidy}
@@ -36,7 +35,7 @@ step_from : (script : Entries) (free : Machine) (held : KeptLists) (after : Mach
 unfolding begun
 step_from script free held after stand tidy (r, w, runs, e) =
     let b = begun script free in
-    let routine = step_of (level_of b.world.devices) b.cpu in
+    let routine = step_of (asked_of script b) b.cpu in
     let here = record b.world { kept = held } in
     let s = run searching_bus routine here in
     let g = runs_agree one_way_calls-have_no_choice routine here b.world r w (record { same = refl; kept = stand }) tidy runs in
@@ -75,7 +74,7 @@ searching_admitted = record { call = λ c s. (None, tt, refl) }
 searching_step_free : (script : Entries) (m : Machine) → FreeStep script m (searching_step script m)
 searching_step_free script m =
     let b = begun script m in
-    let routine = step_of (level_of b.world.devices) b.cpu in
+    let routine = step_of (asked_of script b) b.cpu in
     let r = run searching_bus routine b.world in (r.0, r.1, runs_of_run searching_admitted routine b.world, refl)
 
 pub searching-is_free : SearchingIsFree

@@ -11,14 +11,13 @@ use Rattle.mb_model.specs.Keeping.{KeptLists, is_of}
 use Rattle.mb_model.specs.Pages.{page_of}
 use Rattle.mb_walk.specs.declared.found.Found.{Found}
 use Rattle.mb_walk.specs.declared.found.Found.TheVariants.{Entry, Invalid, BusError}
-use Rattle.mb_devices.specs.Devices.{level_of}
 use Rattle.mb_processor.specs.Step.{step_of}
 use Rattle.mb_laws.specs.Relations.{Along}
 use Rattle.mb_machine.specs.declared.reference.Reference.{Reference}
 use Rattle.mb_machine.specs.World.{World}
 use Rattle.mb_machine.specs.Access.{untranslated, marks, search_for}
 use Rattle.mb_machine.specs.Bus.{reference_of}
-use Rattle.mb_machine.specs.Machine.{Machine, Entries, begun, takes_steps, start}
+use Rattle.mb_machine.specs.Machine.{Machine, Entries, begun, takes_steps, start, asked_of}
 use Rattle.vm_meaning.specs.Free.{IsKept, rule_free}
 use Rattle.vm_meaning.specs.Tidy.{searching_bus, searching_step, Counts, Agrees, IsTidyReference, IsTidyCall, IsTidyStep, IsTidyRun}
 use Rattle.vm_meaning.proofs.KeptLemmas.{empty, head_or_tail}
@@ -161,7 +160,7 @@ along_told test bus told (Then m f) s =
 
 step_told : (script : Entries) (m : Machine) → (is_tidy_step script m ≡ true) ↔ IsTidyStep script m
 step_told script m =
-    let b = begun script m in along_told is_tidy_call searching_bus call_told (step_of (level_of b.world.devices) b.cpu) b.world
+    let b = begun script m in along_told is_tidy_call searching_bus call_told (step_of (asked_of script b) b.cpu) b.world
 
 run_so : (script : Entries) (n : ℕ) (m : Machine) → is_tidy_run script n m ≡ true → IsTidyRun script n m
 unfolding is_tidy_run

@@ -9,13 +9,12 @@ use Rattle.mb_model.specs.Keeping.{is_of}
 use Rattle.mb_model.specs.Pages.{page_of}
 use Rattle.mb_walk.specs.declared.found.Found.{Found}
 use Rattle.mb_walk.specs.declared.found.Found.TheVariants.{Entry, Invalid, BusError}
-use Rattle.mb_devices.specs.Devices.{level_of}
 use Rattle.mb_processor.specs.Step.{step_of}
 use Rattle.mb_machine.specs.declared.reference.Reference.{Reference}
 use Rattle.mb_machine.specs.World.{World}
 use Rattle.mb_machine.specs.Access.{untranslated, marks, search_for}
 use Rattle.mb_machine.specs.Bus.{reference_of}
-use Rattle.mb_machine.specs.Machine.{Machine, Contents, Entries, begun, takes_steps, start}
+use Rattle.mb_machine.specs.Machine.{Machine, Contents, Entries, begun, takes_steps, start, asked_of}
 use Rattle.vm_meaning.specs.Free.{rule_free}
 use Rattle.vm_meaning.specs.Tidy.{searching_bus, searching_step, IsTidyRun, Tidy}
 
@@ -59,7 +58,7 @@ passes_along test bus (Then m f) s =
 
 abbrev pub is_tidy_step : Entries → Machine → Bool
 is_tidy_step script m =
-    let b = begun script m in passes_along is_tidy_call searching_bus (step_of (level_of b.world.devices) b.cpu) b.world
+    let b = begun script m in passes_along is_tidy_call searching_bus (step_of (asked_of script b) b.cpu) b.world
 
 unfoldable pub is_tidy_run : Entries → ℕ → Machine → Bool
 is_tidy_run script zero m = true

@@ -1,17 +1,16 @@
 -- What holds at each call of the run that searches.
 use Rattle.std.specs.Prelude.{◌≡◌, ℕ, zero, suc, true}
 use Rattle.mb_port.specs.Routine.{Call}
-use Rattle.mb_devices.specs.Devices.{level_of}
 use Rattle.mb_laws.specs.Relations.{Along}
 use Rattle.mb_processor.specs.Step.{step_of}
 use Rattle.mb_machine.specs.World.{World}
-use Rattle.mb_machine.specs.Machine.{Entries, Machine, begun, takes_steps}
+use Rattle.mb_machine.specs.Machine.{Entries, Machine, begun, takes_steps, asked_of}
 use Rattle.vm_meaning.specs.Tidy.{searching_bus, searching_step}
 
 -- A fact holds at each call of a step,
 abbrev pub AlongStep : (Call → World → Type 0) → Entries → Machine → Type 0
 AlongStep P script m =
-    let b = begun script m in Along P searching_bus (step_of (level_of b.world.devices) b.cpu) b.world
+    let b = begun script m in Along P searching_bus (step_of (asked_of script b) b.cpu) b.world
 
 -- and at each of so many steps, or of fewer where the machine is halted or off. So a run is tidy where its calls are.
 abbrev pub AlongRun : (Call → World → Type 0) → Entries → ℕ → Machine → Type 0

@@ -1,15 +1,18 @@
-use Rattle.std.proofs.Common.{◌≡◌, ◌∙◌, ◌+◌, ◌<◌, ℕ, List, [], ◌∷◌, ◌++◌, length, take, ap, sym, arith, Some}
+use Rattle.std.proofs.Common.{◌≡◌, ◌∙◌, ◌+◌, ◌<◌, ℕ, [], ◌∷◌, ◌++◌, length, take, ap, sym, arith, Some}
 use Rattle.std.specs.Prelude.{slice_get}
 use Rattle.std.proofs.lemmas.List.{take_more}
 use Rattle.std.proofs.lemmas.Option.{get_or_from_slice_get, slice_get-get_or, slice_get_within}
+use Rattle.mb_script.specs.declared.input.Input.{Input}
+use Rattle.mb_script.specs.declared.input.Input.TheVariants.{Abort}
+use Rattle.mb_script.specs.Script.{Entries}
 use Rattle.mb_program.proofs.bare_machine.copy_script.Goals as goal
 use Rattle.mb_program.proofs.bare_machine.copy_script.Goals.{in-Some+in_ok-push, in_default}
 
-one_more : (entries : List (ℕ × ℕ)) (place : ℕ) (entry : ℕ × ℕ) → slice_get entries place ≡ Some entry
+one_more : (entries : Entries) (place : ℕ) (entry : ℕ × Input) → slice_get entries place ≡ Some entry
     → take (place + 1) entries ≡ take place entries ++ entry ∷ []
 one_more entries place entry is =
     take_more entries place entry (slice_get_within entries place entry is)
-    ∙ ap (λ (e : ℕ × ℕ). take place entries ++ e ∷ []) (get_or_from_slice_get entries place entry entry is)
+    ∙ ap (λ (e : ℕ × Input). take place entries ++ e ∷ []) (get_or_from_slice_get entries place entry entry is)
 
 pub loop-place-preserved : goal.loop-place-preserved
 loop-place-preserved c = elim c.match-entry.branch [
@@ -18,5 +21,5 @@ loop-place-preserved c = elim c.match-entry.branch [
       cc (next, w.entries-is, w.in_ok-push.ensures.items, c.loop-place.invariant)
   | in_default w ↦
       let within : c.loop-place.place < length c.args.script.now = omega (arith, c.count-place-end.ensures.counted) in
-      absurd (cc (w.in_default.is, c.entry.ensures, slice_get-get_or c.args.script.now c.loop-place.place (0, 0) within))
+      absurd (cc (w.in_default.is, c.entry.ensures, slice_get-get_or c.args.script.now c.loop-place.place (0, Abort) within))
 ]

@@ -1,15 +1,20 @@
 use Rattle.std.proofs.Common.{◌≡◌, ◌∙◌, ◌+◌, ◌-◌, ℕ, suc, Some, ap, sym, subst, arith}
+use Rattle.mb_port.specs.Routine.{run}
 use Rattle.mb_instr.specs.declared.registers.Plain.{Plain}
 use Rattle.mb_instr.specs.Registers.{plain_of}
 use Rattle.mb_model.specs.declared.processor.Cpu.{Cpu}
 use Rattle.mb_devices.specs.Devices.{IsNotDue}
 use Rattle.mb_board.specs.State.{ran_to}
 use Rattle.vm_machine.specs.declared.class.Class.{Class}
-use Rattle.vm_machine.specs.Seats.{Seat, Takes}
+use Rattle.vm_machine.specs.Bus.{guest_bus}
+use Rattle.vm_machine.specs.Seats.{Seat, Takes, guested_on}
+use Rattle.vm_machine.specs.Turns.{world_of}
 use Rattle.vm_guest.specs.Counting.{NoneDue}
 use Rattle.vm_guest.specs.Native.{gone_on, guest_run, reset_for}
+use Rattle.vm_guest.specs.declared.rest.Rest.TheVariants.{Whole}
+use Rattle.vm_guest.specs.Rests.{rest_in}
 use Rattle.vm_guest.specs.Stops.{IsStopped}
-use Rattle.vm_guest.specs.Turns.{scene}
+use Rattle.vm_guest.specs.Turns.{ended_at, scene}
 use Rattle.vm_guest.specs.contracts.guest.Guest.{the_view}
 use Rattle.vm_guest.proofs.Runs.{MayRun, fewer}
 use Rattle.vm_guest.proofs.Stretches.{fewer_due}
@@ -21,16 +26,18 @@ use Rattle.vm_guest.proofs.guest.Guest.advance.Goals.{After-run_board, After-ret
 -- ---- a step in which the board has no part
 
 pub assist-requires-clause-seated : goal.assist-requires-clause-seated
-assist-requires-clause-seated c = stands c.args.self.now c.begin.new.self c.args.board.now.world.ram c.begin.ensures.begun c.requires.seated
+assist-requires-clause-seated c = stands c.args.self.now c.begin-level.new.self c.args.board.now.world.ram c.begin-level.ensures.begun c.requires.seated
 
 pub returns-in-Some-clause-takes : goal.returns-in-Some-clause-takes
 returns-in-Some-clause-takes c =
-    let b = c.begin.new.self in
+    let b = c.begin-level.new.self in
+    let w = world_of (guested_on b c.args.board.now.world.ram) in
     assisted_by c.args.self.now b c.assist.new.self c.args.board.now.world.ram c.assist.new.board.world.ram c.args.native.now c.in-Some.class
-    c.begin.ensures.begun c.requires.takes
+    c.begin-level.ensures.begun c.requires.takes
     (record {
-      class = asked_is b (the_view c.self.inside) c.level.result c.self.view_is c.level.ensures.means ∙ sym c.assisted.ensures ∙ c.in-Some.is;
-      means = c.assist.ensures.means;
+      class = asked_is b (the_view c.self.inside) c.begin-level.result c.self.view_is c.begin-level.ensures.level ∙ sym c.assisted.ensures ∙ c.in-Some.is;
+      means = c.assist.ensures.means
+          ∙ ap (λ (level : ℕ). ended_at b.steps (run guest_bus (rest_in Whole level b.cpu) w)) c.begin-level.ensures.level;
       tally = c.assist.ensures.tally;
       same = c.assist.ensures.same;
       within = c.assist.ensures.within;
@@ -41,49 +48,50 @@ returns-in-Some-clause-takes c =
 
 pub returns-in-Idle-clause-takes : goal.returns-in-Idle-clause-takes
 returns-in-Idle-clause-takes c =
-    let b = c.begin.new.self in
+    let b = c.begin-level.new.self in
     let n = c.more_steps-more.result in
-    idle_by c.args.self.now b c.idle_on.new.self c.args.board.now.world.ram c.args.native.now n c.begin.ensures.begun c.requires.seated c.requires.going
+    idle_by c.args.self.now b c.idle_on.new.self c.args.board.now.world.ram c.args.native.now n c.begin-level.ensures.begun c.requires.seated c.requires.going
     c.requires.takes
-    (idles_by b (the_view c.self.inside) n c.level.result c.self.view_is c.level.ensures.means
+    (idles_by b (the_view c.self.inside) n c.begin-level.result c.self.view_is c.begin-level.ensures.level
     (sym c.assisted.ensures ∙ c.in-Some.is ∙ ap (λ (k : Class). Some k) c.in-Idle.is) c.more_steps-more.ensures.none c.more_steps-more.ensures.due)
     c.idle_on.ensures
 
 pub returns-in-Idle-clause-going : goal.returns-in-Idle-clause-going
 returns-in-Idle-clause-going c =
-    goes_idle c.args.self.now c.begin.new.self c.idle_on.new.self c.more_steps-more.result c.begin.ensures.begun c.requires.going c.requires.takes
+    goes_idle c.args.self.now c.begin-level.new.self c.idle_on.new.self c.more_steps-more.result c.begin-level.ensures.begun c.requires.going c.requires.takes
     c.idle_on.ensures
 
 -- ---- the board's run
 
 pub run_board-requires-clause-seated : goal.run_board-requires-clause-seated
-run_board-requires-clause-seated c = stands c.args.self.now c.begin.new.self c.args.board.now.world.ram c.begin.ensures.begun c.requires.seated
+run_board-requires-clause-seated c = stands c.args.self.now c.begin-level.new.self c.args.board.now.world.ram c.begin-level.ensures.begun c.requires.seated
 
 may : (c : After-run_board) → MayRun c.args.self.now c.args.board.now.world.ram c.args.board.now.world.devices.ram c.args.native.now c.more_steps-more.result
 may c =
-    let b = c.begin.new.self in
+    let b = c.begin-level.new.self in
     let ram = c.args.board.now.world.ram in
     let size = c.args.board.now.world.devices.ram in
     let native = c.args.native.now in
     let n = c.more_steps-more.result in
     let ran = c.run_board.ensures in
-    may_by c.args.self.now b ram size native n c.begin.ensures.begun c.requires.seated c.requires.going c.requires.takes
-    (found_by b (the_view c.self.inside) ram size native n c.level.result c.self.view_is c.level.ensures.means (sym c.assisted.ensures ∙ c.in_default.is)
-    c.more_steps-more.ensures.none c.more_steps-more.ensures.due ran.seven ran.bytes.0 ran.bytes.1 ran.fit)
+    may_by c.args.self.now b ram size native n c.begin-level.ensures.begun c.requires.seated c.requires.going c.requires.takes
+    (found_by b (the_view c.self.inside) ram size native n c.begin-level.result c.self.view_is c.begin-level.ensures.level
+    (sym c.assisted.ensures ∙ c.in_default.is) c.more_steps-more.ensures.none c.more_steps-more.ensures.due ran.seven ran.bytes.0 ran.bytes.1 ran.fit)
 
 ran : (c : After-run_board) → ran_to c.run_board.result c.run_board.new.board c.run_board.new.native
-    ≡ guest_run c.begin.new.self c.args.board.now.world.ram c.args.board.now.world.devices.ram c.args.native.now (suc c.more_steps-more.result)
+    ≡ guest_run c.begin-level.new.self c.args.board.now.world.ram c.args.board.now.world.devices.ram c.args.native.now (suc c.more_steps-more.result)
 ran c =
     let n = c.more_steps-more.result in
     c.run_board.ensures.means
-    ∙ ap (λ (k : ℕ). guest_run c.begin.new.self c.args.board.now.world.ram c.args.board.now.world.devices.ram c.args.native.now k)
+    ∙ ap (λ (k : ℕ). guest_run c.begin-level.new.self c.args.board.now.world.ram c.args.board.now.world.devices.ram c.args.native.now k)
     (let e : n + 1 ≡ suc n = omega arith in e)
 
 pub unreachable-requires : goal.unreachable-requires
 unreachable-requires c =
     let r = (goal.at.unreachable-requires c).After-run_board in
-    never_gone_by c.args.self.now c.begin.new.self c.args.board.now.world.ram c.args.board.now.world.devices.ram c.args.native.now c.more_steps-more.result
-    (ran_to c.run_board.result c.run_board.new.board c.run_board.new.native) c.begin.ensures.begun (may r) (ran r) c.in-Gone.is
+    never_gone_by c.args.self.now c.begin-level.new.self c.args.board.now.world.ram c.args.board.now.world.devices.ram c.args.native.now
+    c.more_steps-more.result (ran_to c.run_board.result c.run_board.new.board c.run_board.new.native) c.begin-level.ensures.begun (may r) (ran r)
+    c.in-Gone.is
 
 -- ---- counted to its end
 
@@ -91,17 +99,17 @@ unreachable-requires c =
 handed_back : (c : After-go_on)
     → MayRun c.args.self.now c.args.board.now.world.ram c.args.board.now.world.devices.ram c.args.native.now c.more_steps-more.result
     → ran_to c.run_board.result c.run_board.new.board c.run_board.new.native
-    ≡ guest_run c.begin.new.self c.args.board.now.world.ram c.args.board.now.world.devices.ram c.args.native.now (suc c.more_steps-more.result)
+    ≡ guest_run c.begin-level.new.self c.args.board.now.world.ram c.args.board.now.world.devices.ram c.args.native.now (suc c.more_steps-more.result)
     → Takes (c.more_steps-more.result + 1) (scene c.args.self.now c.args.board.now.world.ram c.args.native.now)
     (scene c.go_on.new.self c.run_board.new.board.world.ram c.run_board.new.native)
 handed_back c may ran =
     let n = c.more_steps-more.result in
     let more : n + 1 ≡ suc n = omega arith in
-    let b = c.begin.new.self in
+    let b = c.begin-level.new.self in
     subst (λ (k : ℕ). Takes k (scene c.args.self.now c.args.board.now.world.ram c.args.native.now)
     (scene c.go_on.new.self c.run_board.new.board.world.ram c.run_board.new.native)) (sym more)
     (counted_by c.args.self.now b c.go_on.new.self c.args.board.now.world.ram c.args.board.now.world.devices.ram c.args.native.now n
-    (ran_to c.run_board.result c.run_board.new.board c.run_board.new.native) c.plain.result c.begin.ensures.begun may ran c.in-Counted.is
+    (ran_to c.run_board.result c.run_board.new.board c.run_board.new.native) c.plain.result c.begin-level.ensures.begun may ran c.in-Counted.is
     c.run_board.ensures.wide (c.plain.ensures.means ∙ ap (λ (p : Cpu). plain_of p.regs) c.cpu.ensures)
     (c.go_on.ensures ∙ ap (λ (k : ℕ). gone_on b n k c.plain.result) more))
 
@@ -114,16 +122,16 @@ pub returns-in-Counted-clause-going : goal.returns-in-Counted-clause-going
 returns-in-Counted-clause-going c =
     let r = (goal.at.returns-in-Counted-clause-going c).After-run_board in
     let n = c.more_steps-more.result in
-    goes_by_board c.args.self.now c.begin.new.self c.go_on.new.self
+    goes_by_board c.args.self.now c.begin-level.new.self c.go_on.new.self
     (reset_for c.args.self.now c.args.board.now.world.ram c.args.board.now.world.devices.ram) c.args.native.now n n (n + 1)
-    c.plain.result c.begin.ensures.begun (may r) c.go_on.ensures
+    c.plain.result c.begin-level.ensures.begun (may r) c.go_on.ensures
 
 pub returns-in-Counted-clause-native : goal.returns-in-Counted-clause-native
 returns-in-Counted-clause-native c =
     let r = (goal.at.returns-in-Counted-clause-native c).After-run_board in
     let n = c.more_steps-more.result in
-    let counts = counted_native_by c.args.self.now c.begin.new.self c.args.board.now.world.ram c.args.board.now.world.devices.ram c.args.native.now n
-    (ran_to c.run_board.result c.run_board.new.board c.run_board.new.native) c.begin.ensures.begun (may r) (ran r) c.in-Counted.is in
+    let counts = counted_native_by c.args.self.now c.begin-level.new.self c.args.board.now.world.ram c.args.board.now.world.devices.ram c.args.native.now n
+    (ran_to c.run_board.result c.run_board.new.board c.run_board.new.native) c.begin-level.ensures.begun (may r) (ran r) c.in-Counted.is in
     let retired : c.run_board.new.native.retired ≡ c.args.native.now.retired + suc n = counts.0 in
     let exceptions : c.run_board.new.native.exceptions ≡ c.args.native.now.exceptions = counts.1 in
     (omega (arith, retired), omega (arith, exceptions))
@@ -132,12 +140,12 @@ returns-in-Counted-clause-native c =
 
 left : (c : After-retired) → MayRun c.args.self.now c.args.board.now.world.ram c.args.board.now.world.devices.ram c.args.native.now c.more_steps-more.result
     → ran_to c.run_board.result c.run_board.new.board c.run_board.new.native
-    ≡ guest_run c.begin.new.self c.args.board.now.world.ram c.args.board.now.world.devices.ram c.args.native.now (suc c.more_steps-more.result)
+    ≡ guest_run c.begin-level.new.self c.args.board.now.world.ram c.args.board.now.world.devices.ram c.args.native.now (suc c.more_steps-more.result)
     → Leaving c.args.native.now c.more_steps-more.result c.run_board.new.board c.run_board.new.native (c.retired.result - c.retired-before.result)
 left c may ran =
-    leaving c.args.self.now c.begin.new.self c.args.board.now.world.ram c.args.board.now.world.devices.ram c.args.native.now c.more_steps-more.result
+    leaving c.args.self.now c.begin-level.new.self c.args.board.now.world.ram c.args.board.now.world.devices.ram c.args.native.now c.more_steps-more.result
     c.run_board.result c.run_board.new.board c.run_board.new.native c.in-Exit.vector (c.retired.result - c.retired-before.result)
-    c.begin.ensures.begun may ran c.in-Exit.is c.run_board.ensures.wide
+    c.begin-level.ensures.begun may ran c.in-Exit.is c.run_board.ensures.wide
     (ap (λ (k : ℕ). k - c.retired-before.result) c.retired.ensures ∙ ap (λ (k : ℕ). c.run_board.new.native.retired - k) c.retired-before.ensures)
 
 pub overflow_sub-retired : goal.overflow_sub-retired
@@ -160,7 +168,7 @@ go_on-requires-in-Exit-clause-room c =
     let r = goal.at.go_on-requires-in-Exit-clause-room c in
     let few = (left r.After-retired (may r.After-run_board) (ran r.After-run_board)).few in
     let within = c.more_steps-more.ensures.within in
-    let steps = ap (λ (s : Seat). s.steps) c.begin.ensures.begun in
+    let steps = ap (λ (s : Seat). s.steps) c.begin-level.ensures.begun in
     let some = c.requires.limit in
     let room = c.requires.room in
     omega (arith, few, within, steps, some, room)
@@ -168,7 +176,7 @@ go_on-requires-in-Exit-clause-room c =
 pub go_on-requires-in-Exit-clause-none : goal.go_on-requires-in-Exit-clause-none
 go_on-requires-in-Exit-clause-none c =
     let r = goal.at.go_on-requires-in-Exit-clause-none c in
-    let b = c.begin.new.self in
+    let b = c.begin-level.new.self in
     let n = c.more_steps-more.result in
     fewer_due b.script b.steps n (c.retired.result - c.retired-before.result) (left r.After-retired (may r.After-run_board) (ran r.After-run_board)).few
     (subst (λ (s : Seat). NoneDue s.script s.steps n) c.self.view_is c.more_steps-more.ensures.none)
@@ -177,23 +185,24 @@ pub go_on-requires-in-Exit-clause-due : goal.go_on-requires-in-Exit-clause-due
 go_on-requires-in-Exit-clause-due c =
     let r = goal.at.go_on-requires-in-Exit-clause-due c in
     let n = c.more_steps-more.result in
-    fewer n (c.retired.result - c.retired-before.result) c.begin.new.self.devices (left r.After-retired (may r.After-run_board) (ran r.After-run_board)).few
+    fewer n (c.retired.result - c.retired-before.result) c.begin-level.new.self.devices
+    (left r.After-retired (may r.After-run_board) (ran r.After-run_board)).few
     (subst (λ (s : Seat). IsNotDue n s.devices) c.self.view_is c.more_steps-more.ensures.due)
 
 -- the guest in the middle of that step
 stopped : (c : After-go_on-in-Exit)
     → MayRun c.args.self.now c.args.board.now.world.ram c.args.board.now.world.devices.ram c.args.native.now c.more_steps-more.result
     → ran_to c.run_board.result c.run_board.new.board c.run_board.new.native
-    ≡ guest_run c.begin.new.self c.args.board.now.world.ram c.args.board.now.world.devices.ram c.args.native.now (suc c.more_steps-more.result)
+    ≡ guest_run c.begin-level.new.self c.args.board.now.world.ram c.args.board.now.world.devices.ram c.args.native.now (suc c.more_steps-more.result)
     → IsStopped c.args.self.now c.args.board.now.world.ram c.args.native.now (c.retired.result - c.retired-before.result) 0 c.go_on-in-Exit.new.self
     c.run_board.new.board c.run_board.new.native c.in-Exit.vector
 stopped c could went =
     let n = c.retired.result - c.retired-before.result in
-    stops c.args.self.now c.begin.new.self c.go_on-in-Exit.new.self c.args.board.now.world.ram c.args.board.now.world.devices.ram c.args.native.now
-    c.more_steps-more.result c.run_board.result c.run_board.new.board c.run_board.new.native c.in-Exit.vector n c.begin.ensures.begun could went c.in-Exit.is
-    c.run_board.ensures.wide
+    stops c.args.self.now c.begin-level.new.self c.go_on-in-Exit.new.self c.args.board.now.world.ram c.args.board.now.world.devices.ram c.args.native.now
+    c.more_steps-more.result c.run_board.result c.run_board.new.board c.run_board.new.native c.in-Exit.vector n c.begin-level.ensures.begun could went
+    c.in-Exit.is c.run_board.ensures.wide
     (ap (λ (k : ℕ). k - c.retired-before.result) c.retired.ensures ∙ ap (λ (k : ℕ). c.run_board.new.native.retired - k) c.retired-before.ensures)
-    (c.go_on-in-Exit.ensures ∙ ap (λ (p : Plain). gone_on c.begin.new.self n n p) c.before-in-Exit.ensures)
+    (c.go_on-in-Exit.ensures ∙ ap (λ (p : Plain). gone_on c.begin-level.new.self n n p) c.before-in-Exit.ensures)
 
 pub end_step-requires-clause-stopped : goal.end_step-requires-clause-stopped
 end_step-requires-clause-stopped c =
@@ -211,7 +220,7 @@ end_step-requires-clause-room c =
     let r = goal.at.end_step-requires-clause-room c in
     let few = (left r.After-retired (may r.After-run_board) (ran r.After-run_board)).few in
     let within = c.more_steps-more.ensures.within in
-    let steps = ap (λ (s : Seat). s.steps) c.begin.ensures.begun in
+    let steps = ap (λ (s : Seat). s.steps) c.begin-level.ensures.begun in
     let on = ap (λ (s : Seat). s.steps) c.go_on-in-Exit.ensures in
     let some = c.requires.limit in
     let room = c.requires.room in

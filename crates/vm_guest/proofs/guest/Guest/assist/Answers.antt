@@ -1,6 +1,5 @@
 use Rattle.std.proofs.Common.{◌≡◌, ◌∙◌, ℕ, ap, sym}
 use Rattle.mb_port.specs.Routine.{run}
-use Rattle.mb_devices.specs.Devices.{level_of}
 use Rattle.mb_processor.specs.Raise.{Stepped}
 use Rattle.vm_machine.specs.Guests.{Guest}
 use Rattle.vm_machine.specs.Bus.{guest_bus}
@@ -16,11 +15,10 @@ pub returns-clause-means : goal.returns-clause-means
 returns-clause-means c =
     let after = c.process-end.new.ram.world.ram in
     let n = c.args.self.now in
-    let h = the_view c.self-2.inside in
-    let same : c.process-end.new.self ≡ h = sym c.self-2.view_is in
-    let level : c.level-level.result ≡ level_of n.devices = c.level-level.ensures.means ∙ ap (λ (x : Seat). level_of x.devices) c.self.view_is in
-    let r : ℕ → Stepped × Guest = λ l. run guest_bus (rest_in c.args.rest.now l n.cpu) (world_of (guested_on n c.args.board.now.world.ram)) in
+    let h = the_view c.self.inside in
+    let same : c.process-end.new.self ≡ h = sym c.self.view_is in
+    let r : Stepped × Guest = run guest_bus (rest_in c.args.rest.now c.args.level n.cpu) (world_of (guested_on n c.args.board.now.world.ram)) in
     let steps : h.steps ≡ n.steps = sym (ap (λ (x : Seat). x.steps) same) ∙ ap (λ (x : Seat). x.steps) c.process-end.ensures.guest in
-    ended h.steps (r c.level-level.result) c.process-end.result h.cpu (world_of (guested_on h after)) c.state_by-self-inside.result
+    ended h.steps r c.process-end.result h.cpu (world_of (guested_on h after)) c.state_by-self-inside.result
     (c.process-end.ensures.means ∙ ap (λ (x : Seat). ((c.process-end.result, x.cpu), world_of (guested_on x after))) same) c.state_by-self-inside.ensures
-    ∙ ap (λ (k : ℕ). ended_at k (r c.level-level.result)) steps ∙ ap (λ (l : ℕ). ended_at n.steps (r l)) level
+    ∙ ap (λ (k : ℕ). ended_at k r) steps
