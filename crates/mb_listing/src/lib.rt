@@ -2,10 +2,12 @@
 //! word as a number. `specs/Listing` says what a line is: that a text gives the words is what the assembler says of it.
 #![tactic(auto)]
 
+mod fault;
 mod laws;
 mod line;
 mod listing;
 mod source;
 
+pub use fault::ListFault;
 pub use laws::each_line_gives_its_words;
-pub use listing::listing_text;
+pub use listing::list_memory;

@@ -1,12 +1,14 @@
 //! The listing of a memory.
 
-ghost use Rattle.std.specs.Prelude.{◌≡◌, ◌+◌, ◌*◌, ◌<◌, ◌≤◌, ◌++◌, ◌^◌, length, IfOk};
+ghost use Rattle.std.specs.Prelude.{◌≡◌, ◌+◌, ◌*◌, ◌%◌, ◌<◌, ◌≤◌, ◌++◌, ◌^◌, length, IfOk, IsErrOf, OnOk};
 ghost use Rattle.arrayvec.specs.ArrayVec.{array_vec_len};
+ghost use Rattle.mb_outside.specs.Prints.{Printed, PrintedPart};
 ghost use Rattle.mb_listing.specs.Listing.{words_in, words_at, listing};
 
+use crate::fault::ListFault;
 use crate::line::{line_at, line_text};
 use arrayvec::ArrayVec;
-use mb_outside::Memory;
+use mb_outside::{Memory, Sink, put_all};
 use std::alloc::Global;
 
 /// As many words as the longest instruction has.
@@ -38,9 +40,8 @@ fn words_at(ram: &[u8], at: usize) -> Words
     words
 }
 
-/// The listing of so many lines of a memory, from an address on: each line the address, words and the text that gives
-/// just these words there, else the first word as a number. A line whose first word is outside the memory ends it.
-pub fn listing_text(alloc: Global, ram: &[u8], at: u32, count: u32) -> Result<Vec<u8>, Memory>
+/// The text of so many lines of a memory, from an address on.
+fn listing_text(alloc: Global, ram: &[u8], at: u32, count: u32) -> Result<Vec<u8>, Memory>
     requires { length ram.now ≤ 2 ^ 32 }
     ensures text { IfOk result (λ text. text.items ≡ listing ram.now at count) }
 {
@@ -56,4 +57,29 @@ pub fn listing_text(alloc: Global, ram: &[u8], at: u32, count: u32) -> Result<Ve
         place += 2 * line.words.len();
     }
     Ok(text)
+}
+
+/// Writes the listing of so many lines of a memory, from an address on: each line the address, words and the text of
+/// the assembler that gives just these words there, else the first word as a number. A line whose first word is outside
+/// the memory ends the listing. The whole listing is made before a byte of it is put.
+pub fn list_memory<O: Sink>(
+    alloc: Global,
+    ram: &[u8],
+    at: u32,
+    count: u32,
+    out: &mut O,
+) -> Result<(), ListFault>
+    requires size { length ram.now ≤ 2 ^ 32 }
+    requires even { at % 2 ≡ 0 }
+    ensures printed { OnOk result (Printed (O.taken out.old) (O.taken out.new) (O.faults out.old) (O.faults out.new)
+        (listing ram.now at count)) }
+    ensures cut { IsErrOf result ListFault.Sink
+        → PrintedPart (O.taken out.old) (O.taken out.new) (O.faults out.old) (O.faults out.new)
+        (listing ram.now at count) }
+    ensures kept { IsErrOf result ListFault.Memory
+        → (O.taken out.new ≡ O.taken out.old) × (O.faults out.new ≡ O.faults out.old) }
+{
+    let text = listing_text(alloc, ram, at, count)?;
+    put_all(out, &text)?;
+    Ok(())
 }

@@ -174,13 +174,13 @@ asm_course name = reads_as source_in name (λ image. ends (asm_answer image))
 
 -- ---- dis
 
--- RAM as the image leaves it, before any step
-abbrev pub opening_ram : Excerpt → Contents → List ℕ
-opening_ram excerpt image = (start rule_a image (1024 * excerpt.ram)).world.ram
+-- RAM of so many bytes as an image leaves it, before any step
+abbrev pub opening_ram : Contents → (size : ℕ) → List ℕ
+opening_ram image size = (start rule_a image size).world.ram
 
 -- its lines from the address on
 abbrev pub dis_answer : Excerpt → Contents → Answer
-dis_answer excerpt image = shows (plain (listing (opening_ram excerpt image) excerpt.at excerpt.count))
+dis_answer excerpt image = shows (plain (listing (opening_ram image (1024 * excerpt.ram)) excerpt.at excerpt.count))
 
 abbrev pub dis_course : Excerpt → Course
 dis_course excerpt =

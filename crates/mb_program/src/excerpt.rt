@@ -7,8 +7,8 @@ ghost use Rattle.mb_program.specs.Answers.{dis_answer};
 ghost use Rattle.mb_program.specs.Ends.{GivesUncounted, sink_seen};
 
 use crate::end::End;
-use crate::machine::start_board;
-use mb_dis::{ListFault, list_image};
+use crate::opening::opening_ram;
+use mb_listing::{ListFault, list_memory};
 use mb_outside::Sink;
 use mb_srec::Image;
 use mb_words::Dis;
@@ -20,10 +20,10 @@ pub(crate) fn show_excerpt<O: Sink>(alloc: Global, dis: &Dis, image: &Image, out
     ensures { GivesUncounted (dis_answer (excerpt_said dis.now) (contents_of image.now))
         (sink_seen O.taken O.faults out.old) (sink_seen O.taken O.faults out.new) result }
 {
-    let Ok(board) = start_board(alloc, image, 1024 * dis.ram) else {
+    let Ok(ram) = opening_ram(alloc, image, 1024 * dis.ram) else {
         return End::Memory;
     };
-    match list_image(alloc, &board, dis.at, dis.count, out) {
+    match list_memory(alloc, &ram, dis.at, dis.count, out) {
         Ok(()) => End::Done,
         Err(ListFault::Memory) => End::Memory,
         Err(ListFault::Sink) => End::Output,

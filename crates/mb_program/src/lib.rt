@@ -16,6 +16,7 @@ mod generated;
 mod guest_reading;
 mod hosted;
 mod machine;
+mod opening;
 mod ordered;
 mod records;
 mod top;

@@ -2,15 +2,13 @@
 //! another disassembler.
 
 use mb_asm::assemble;
-use mb_board::Board;
-use mb_dis::{ListFault, list_image};
+use mb_listing::{ListFault, list_memory};
 use mb_outside::MemSink;
-use mb_walk::Ram;
 use std::alloc::Global;
 use std::process::Abort;
 use std::test::Fail;
 
-/// How many bytes of RAM each board here has.
+/// How many bytes each memory here has.
 const SIZE: u32 = 0x1_0000;
 
 /// Where the statements of the tables stand.
@@ -397,17 +395,30 @@ static DATA: [Row; 11] = [
     row!(b"DC.W $0", [0x00, 0x00, 0x01, 0x00]),
 ];
 
-/// Writes these bytes, where RAM has them all.
-fn put(board: &mut Board, at: u32, bytes: &[u8]) {
-    if u64::from(at) + bytes.len() as u64 <= u64::from(board.size()) {
-        board.write_phys(at, bytes);
+/// Writes these bytes, where memory has them all.
+fn put(ram: &mut [u8], at: u32, bytes: &[u8]) {
+    let at = at as usize;
+    if at <= ram.len() && bytes.len() <= ram.len() - at {
+        ram[at..at + bytes.len()].copy_from_slice(bytes);
     }
 }
 
-/// The listing of so many lines, from an even address on.
-fn listed(alloc: Global, board: &Board, at: u32, count: u32) -> Result<Vec<u8>, Fail> {
+/// Puts the listing of so many lines, from an even address on.
+fn list(
+    alloc: Global,
+    ram: &[u8],
+    at: u32,
+    count: u32,
+    out: &mut MemSink,
+) -> Result<(), ListFault> {
+    let ram = &ram[..ram.len().min(SIZE as usize)];
+    list_memory(alloc, ram, at & 0xffff_fffe, count, out)
+}
+
+/// The text of that listing.
+fn listed(alloc: Global, ram: &[u8], at: u32, count: u32) -> Result<Vec<u8>, Fail> {
     let mut out = MemSink::new(alloc, 0x1000, Vec::new(alloc))?;
-    list_image(alloc, board, at & 0xffff_fffe, count, &mut out)?;
+    list(alloc, ram, at, count, &mut out)?;
     Ok(Vec::from_slice(alloc, out.bytes())?)
 }
 
@@ -435,10 +446,10 @@ fn text_of<'a>(line: &'a [u8], words: &[u8]) -> &'a [u8] {
 
 /// Each statement is listed as it stands in its table, and gives its words again.
 fn check_rows(rt: &impl Abort, alloc: Global, rows: &[Row]) -> Result<(), Fail> {
-    let mut board = Board::new(alloc, SIZE)?;
+    let mut ram = vec![in alloc; 0u8; SIZE as usize]?;
     for row in rows {
-        put(&mut board, AT, row.words);
-        let line = listed(alloc, &board, AT, 1)?;
+        put(&mut ram, AT, row.words);
+        let line = listed(alloc, &ram, AT, 1)?;
         let text = text_of(&line, row.words);
         assert!(rt; text == row.text);
         let words = assembled(alloc, text)?;
@@ -529,10 +540,10 @@ fn byte_immediates(rt: HostRuntime) -> Result<(), Fail> {
 
 #[test]
 fn data(rt: HostRuntime) -> Result<(), Fail> {
-    let mut board = Board::new(rt.alloc(), SIZE)?;
+    let mut ram = vec![in rt.alloc(); 0u8; SIZE as usize]?;
     for row in &DATA {
-        put(&mut board, AT, row.words);
-        let line = listed(rt.alloc(), &board, AT, 1)?;
+        put(&mut ram, AT, row.words);
+        let line = listed(rt.alloc(), &ram, AT, 1)?;
         assert!(rt; text_of(&line, b"##") == row.text);
     }
     Ok(())
@@ -547,29 +558,29 @@ fn a_small_program(rt: HostRuntime) -> Result<(), Fail> {
     let text: &[u8] = b"00000400 7041 MOVEQ #$41,D0\n\
 00000402 13C0FFF00000 MOVE.B D0,$FFF00000.L\n\
 00000408 23FC00000001FFF00020 MOVE.L #$1,$FFF00020.L\n";
-    let mut board = Board::new(rt.alloc(), SIZE)?;
-    put(&mut board, 0x400, &code);
-    let lines = listed(rt.alloc(), &board, 0x400, 3)?;
+    let mut ram = vec![in rt.alloc(); 0u8; SIZE as usize]?;
+    put(&mut ram, 0x400, &code);
+    let lines = listed(rt.alloc(), &ram, 0x400, 3)?;
     assert!(rt; lines.as_slice() == text);
     let mut out = MemSink::new(rt.alloc(), 30, Vec::new(rt.alloc()))?;
-    assert!(rt; list_image(rt.alloc(), &board, 0x400, 3, &mut out) == Err(ListFault::Sink));
+    assert!(rt; list(rt.alloc(), &ram, 0x400, 3, &mut out) == Err(ListFault::Sink));
     assert!(rt; Some(out.bytes()) == text.get(..30));
     Ok(())
 }
 
-/// An instruction that leaves RAM is a number, and a first word outside RAM ends the listing.
+/// An instruction that leaves memory is a number, and a first word outside memory ends the listing.
 #[test]
 fn the_end_of_memory(rt: HostRuntime) -> Result<(), Fail> {
-    let mut board = Board::new(rt.alloc(), SIZE)?;
-    put(&mut board, SIZE - 6, &[0x4e, 0x71, 0x60, 0, 0x4e, 0xb9]);
+    let mut ram = vec![in rt.alloc(); 0u8; SIZE as usize]?;
+    put(&mut ram, SIZE - 6, &[0x4e, 0x71, 0x60, 0, 0x4e, 0xb9]);
     let text: &[u8] = b"0000FFFA 4E71 NOP\n0000FFFC 60004EB9 BRA.W $14EB7\n";
-    let lines = listed(rt.alloc(), &board, SIZE - 6, 9)?;
+    let lines = listed(rt.alloc(), &ram, SIZE - 6, 9)?;
     assert!(rt; lines.as_slice() == text);
     let text: &[u8] = b"0000FFFE 4EB9 DC.W $4EB9\n";
-    let lines = listed(rt.alloc(), &board, SIZE - 2, 9)?;
+    let lines = listed(rt.alloc(), &ram, SIZE - 2, 9)?;
     assert!(rt; lines.as_slice() == text);
-    assert!(rt; listed(rt.alloc(), &board, SIZE, 9)?.is_empty());
-    assert!(rt; listed(rt.alloc(), &board, 0xffff_fffe, 9)?.is_empty());
-    assert!(rt; listed(rt.alloc(), &board, 0, 0)?.is_empty());
+    assert!(rt; listed(rt.alloc(), &ram, SIZE, 9)?.is_empty());
+    assert!(rt; listed(rt.alloc(), &ram, 0xffff_fffe, 9)?.is_empty());
+    assert!(rt; listed(rt.alloc(), &ram, 0, 0)?.is_empty());
     Ok(())
 }

@@ -1,7 +1,7 @@
 //! Why a listing is not whole.
 
 ghost use Rattle.std.specs.Prelude.{◌≡◌};
-ghost use Rattle.mb_dis.specs.declared.fault.ListFault.TheVariants as list_fault;
+ghost use Rattle.mb_listing.specs.declared.fault.ListFault.TheVariants as list_fault;
 
 use mb_outside::{Memory, SinkFault};
 use thiserror::Error;

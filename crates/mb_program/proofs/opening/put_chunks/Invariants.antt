@@ -1,0 +1,11 @@
+-- What the chunks that are left do to memory is what all do to it as it was.
+use Rattle.std.proofs.Common.{◌≡◌, drop, length}
+use Rattle.mb_srec.specs.Image.{all_contents}
+use Rattle.mb_machine.specs.Machine.{with_contents}
+use Rattle.mb_program.proofs.opening.put_chunks.Given as goal
+
+abbrev pub invariant-loop-chunk : goal.invariant-loop-chunk
+invariant-loop-chunk l = record {
+  puts : with_contents l.ram (all_contents (drop l.chunk-index l.chunks)) ≡ with_contents l.initial.ram (all_contents l.chunks);
+  size : length l.ram ≡ length l.initial.ram;
+}
