@@ -13,7 +13,7 @@ use crate::source::{bytes_of, gives};
 use mb_decode::{Decoded, decode};
 use mb_instr::Instr;
 use mb_outside::Memory;
-use mb_report::{hex2, hex8};
+use mb_report::{hex8, push_digits};
 use mb_statement::{LineText, push_bytes, push_number, push_statement, statement_of};
 use std::alloc::Global;
 
@@ -88,19 +88,6 @@ pub(crate) fn line_at(alloc: Global, at: u32, words: &[u16]) -> Result<Line<'_>,
         })
     } else {
         Ok(data_line(at, words))
-    }
-}
-
-/// The digits of bytes, two each.
-fn push_digits(line: &mut LineText, bytes: &[u8])
-    requires { array_vec_len line.old + 2 * length bytes.now ≤ 512 }
-    ensures pushed { line.new.items ≡ line.old.items ++ digits bytes.now }
-    ensures len { array_vec_len line.new ≡ array_vec_len line.old + 2 * length bytes.now }
-{
-    for byte in bytes {
-        let [high, low] = hex2(*byte);
-        line.push(high);
-        line.push(low);
     }
 }
 

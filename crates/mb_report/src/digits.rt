@@ -1,7 +1,10 @@
 //! Hexadecimal digits.
 
-ghost use Rattle.std.specs.Prelude.{◌≡◌, ◌<◌};
-ghost use Rattle.mb_report.specs.Digits.{hex_digit, hex2, hex8};
+ghost use Rattle.std.specs.Prelude.{◌≡◌, ◌+◌, ◌*◌, ◌<◌, ◌≤◌, ◌++◌, length};
+ghost use Rattle.arrayvec.specs.ArrayVec.{array_vec_len};
+ghost use Rattle.mb_report.specs.Digits.{digits, hex_digit, hex2, hex8};
+
+use arrayvec::ArrayVec;
 
 fn hex_digit(d: u8) -> u8
     requires { d < 16 }
@@ -28,4 +31,17 @@ pub fn hex8(value: u32) -> [u8; 8]
     let [e, f] = hex2(third);
     let [g, h] = hex2(fourth);
     [a, b, c, d, e, f, g, h]
+}
+
+/// The digits of bytes, two each, behind what a line has.
+pub fn push_digits<const N: usize>(line: &mut ArrayVec<u8, N>, bytes: &[u8])
+    requires { array_vec_len line.old + 2 * length bytes.now ≤ N }
+    ensures pushed { line.new.items ≡ line.old.items ++ digits bytes.now }
+    ensures len { array_vec_len line.new ≡ array_vec_len line.old + 2 * length bytes.now }
+{
+    for byte in bytes {
+        let [high, low] = hex2(*byte);
+        line.push(high);
+        line.push(low);
+    }
 }

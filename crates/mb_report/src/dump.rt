@@ -7,7 +7,7 @@ ghost use Rattle.mb_report.specs.Digits.{digits, hex8};
 ghost use Rattle.mb_report.specs.Text.{word_line, is_zero, dump_line, memory_line, memory_text, all_rows};
 
 use crate::buffered::Buffered;
-use crate::digits::{hex2, hex8};
+use crate::digits::push_digits;
 use arrayvec::ArrayVec;
 use mb_outside::Sink;
 
@@ -21,18 +21,6 @@ fn row_at(bytes: &[u8], at: usize, width: usize) -> &[u8]
     ensures short { length result.now ≤ width }
 {
     &bytes[at..bytes.len().min(at + width)]
-}
-
-fn push_digits(line: &mut Line, bytes: &[u8])
-    requires { array_vec_len line.old + 2 * length bytes.now ≤ 65 }
-    ensures pushed { line.new.items ≡ line.old.items ++ digits bytes.now }
-    ensures len { array_vec_len line.new ≡ array_vec_len line.old + 2 * length bytes.now }
-{
-    for byte in bytes {
-        let [high, low] = hex2(*byte);
-        line.push(high);
-        line.push(low);
-    }
 }
 
 fn dump_line(row: &[u8]) -> Line

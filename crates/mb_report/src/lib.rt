@@ -11,5 +11,5 @@ mod dump;
 mod outcome;
 
 pub use comparison::same;
-pub use digits::{hex2, hex8};
+pub use digits::{hex2, hex8, push_digits};
 pub use outcome::{state_word, write_outcome};
