@@ -1,4 +1,3 @@
-pub mod Modal
 pub mod Due
 pub mod Runs
 pub mod Spellings

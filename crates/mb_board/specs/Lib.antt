@@ -1,5 +1,4 @@
 pub mod State
-pub mod Modes
 pub mod Arrivals
 pub mod Beside
 pub mod Spelling

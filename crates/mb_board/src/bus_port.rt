@@ -6,7 +6,7 @@ ghost use Rattle.mb_machine.specs.World.{World};
 ghost use Rattle.mb_machine.specs.Places.{HasPlace};
 ghost use Rattle.mb_machine.specs.Bus.{bus_of};
 
-use crate::bus::{BoardBus, mode_of};
+use crate::bus::BoardBus;
 use mb_instr::ControlRegister;
 use mb_machine::Reference;
 use mb_port::{Fault, Flush, Mmu, MmuReg, Piece, Place, Port, Space};
@@ -128,18 +128,17 @@ impl Port for BoardBus {
     }
 
     fn mmu(&self) -> Mmu {
-        self.mmu
+        *self.translator.mmu()
     }
 
     #[tactic(auto, unfolding(mb_machine::specs::Bus::bus_of, mb_machine::specs::Bus::with_register))]
     fn set_mmu(&mut self, which: MmuReg, value: u32) {
-        self.mmu
-            .set(which, value & ControlRegister::Mmu(which).kept_bits());
-        self.mode = mode_of(&self.mmu);
+        self.translator
+            .set_mmu(which, value & ControlRegister::Mmu(which).kept_bits());
     }
 
     fn flush(&mut self, what: Flush) {
-        self.kept.flush(what);
+        self.translator.flush(what);
     }
 
     fn test(&mut self, space: Space, at: u32, write: bool) -> u32 {

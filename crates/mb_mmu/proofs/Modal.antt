@@ -1,6 +1,6 @@
 -- What is known of a reference, by how the memory management unit translates.
 use Rattle.std.proofs.Common.{◌≡◌, ℕ, Bool, true, false, refl, ap}
-use Rattle.std.specs.Prelude.{Option, Some, None, ◌||◌, ◌&&◌, ◌/◌, ◌%◌, ◌^◌, ◌==◌, bit_or, not}
+use Rattle.std.specs.Prelude.{Option, Some, None, ◌||◌, ◌&&◌, ◌/◌, ◌^◌, ◌==◌, bit_or, not}
 use Rattle.mb_port.specs.declared.types.Mmu.{Mmu}
 use Rattle.mb_port.specs.declared.types.Space.{Space}
 use Rattle.mb_port.specs.declared.types.Space.TheVariants.{User}
@@ -10,8 +10,8 @@ use Rattle.mb_machine.specs.declared.reference.Reference.{Reference}
 use Rattle.mb_machine.specs.declared.reference.Settled.TheVariants.{To}
 use Rattle.mb_model.specs.Pages.{page_of}
 use Rattle.mb_machine.specs.Access.{untranslated, settled, matched, or_off, by_match, by_entry, is_translating}
-use Rattle.mb_board.specs.declared.bus.Mode.TheVariants.{Direct, Tables, UserTables}
-use Rattle.mb_board.specs.Modes.{is_enabled, has_transparent, serves_user, has_user, mode_by, mode_of}
+use Rattle.mb_mmu.specs.declared.modes.Mode.TheVariants.{Direct, Tables, UserTables}
+use Rattle.mb_mmu.specs.Modes.{is_enabled, has_transparent, serves_user, has_user, mode_by, mode_of}
 
 -- ---- no transparent register is on
 

@@ -2,8 +2,8 @@
 use Rattle.std.specs.Prelude.{ℕ, ◌/◌, ◌%◌, ◌^◌, ◌==◌, ◌||◌, ◌&&◌, Bool, true, false, not}
 use Rattle.mb_port.specs.declared.types.Mmu.{Mmu}
 use Rattle.mb_machine.specs.Access.{is_translating}
-use Rattle.mb_board.specs.declared.bus.Mode.{Mode}
-use Rattle.mb_board.specs.declared.bus.Mode.TheVariants.{Direct, Tables, UserTables, Registers}
+use Rattle.mb_mmu.specs.declared.modes.Mode.{Mode}
+use Rattle.mb_mmu.specs.declared.modes.Mode.TheVariants.{Direct, Tables, UserTables, Registers}
 
 -- E, bit 15 of a transparent register
 abbrev pub is_enabled : ℕ → Bool

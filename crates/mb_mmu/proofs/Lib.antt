@@ -1,0 +1,3 @@
+pub mod Modal
+pub mod ByPage
+pub mod SoundTlb

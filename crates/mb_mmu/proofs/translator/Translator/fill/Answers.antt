@@ -1,0 +1,5 @@
+use Rattle.mb_mmu.proofs.SoundTlb.{nothing_sound}
+use Rattle.mb_mmu.proofs.translator.Translator.fill.Goals as goal
+
+pub invariant_of-self : goal.invariant_of-self
+invariant_of-self c = (c.self.invariant.0, rw c.new-self-inside.ensures (nothing_sound _))

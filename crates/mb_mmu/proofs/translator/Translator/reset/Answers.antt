@@ -1,0 +1,6 @@
+use Rattle.std.proofs.Common.{refl}
+use Rattle.mb_mmu.proofs.SoundTlb.{nothing_sound}
+use Rattle.mb_mmu.proofs.translator.Translator.reset.Goals as goal
+
+pub invariant_of-self : goal.invariant_of-self
+invariant_of-self c = (refl, rw c.new-self-inside.ensures (nothing_sound _))

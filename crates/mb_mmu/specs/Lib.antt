@@ -1,0 +1,4 @@
+pub mod Modes
+pub mod State
+pub mod MicroTlb
+pub mod Sound

@@ -1,0 +1,61 @@
+//! How the memory management unit translates, in short.
+
+ghost use Rattle.std.specs.Prelude.{◌≡◌};
+ghost use Rattle.mb_mmu.specs.Modes.{has_transparent, has_user, is_enabled as has_enabled, mode_of as translates};
+ghost use Rattle.mb_mmu.specs.Modes.{serves_user};
+
+use mb_port::Mmu;
+
+/// How the memory management unit translates, in short.
+#[derive(Clone, Copy, Debug, PartialEq, Eq)]
+pub enum Mode {
+    /// Translation is off, and so is each transparent register.
+    Direct,
+    /// Translation is on, and no transparent register is.
+    Tables,
+    /// Translation is on, and each transparent register that is on serves the supervisor alone.
+    UserTables,
+    /// A transparent register is on, and serves user space or translation is off.
+    Registers,
+}
+
+/// E, bit 15 of TC and of a transparent register.
+fn is_enabled(register: u32) -> bool
+    ensures { result ≡ has_enabled register }
+{
+    register >> 15 & 1 == 1
+}
+
+/// Whether a transparent register is on.
+fn is_transparent(mmu: &Mmu) -> bool
+    ensures { result ≡ has_transparent mmu.now }
+{
+    is_enabled(mmu.itt0) || is_enabled(mmu.itt1) || is_enabled(mmu.dtt0) || is_enabled(mmu.dtt1)
+}
+
+/// Whether a transparent register is on that serves user space: its S field, bits 14 and 13, is not the supervisor's
+/// alone.
+fn serves_user(register: u32) -> bool
+    ensures { result ≡ serves_user register }
+{
+    is_enabled(register) && register >> 13 & 3 != 1
+}
+
+/// Whether some transparent register does.
+fn has_user(mmu: &Mmu) -> bool
+    ensures { result ≡ has_user mmu.now }
+{
+    serves_user(mmu.itt0) || serves_user(mmu.itt1) || serves_user(mmu.dtt0) || serves_user(mmu.dtt1)
+}
+
+/// What the registers come to.
+pub fn mode_of(mmu: &Mmu) -> Mode
+    ensures { result ≡ translates mmu.now }
+{
+    match (is_transparent(mmu), has_user(mmu), is_enabled(mmu.tc)) {
+        (true, true, _) | (true, false, false) => Mode::Registers,
+        (true, false, true) => Mode::UserTables,
+        (false, _, true) => Mode::Tables,
+        (false, _, false) => Mode::Direct,
+    }
+}
