@@ -1,3 +1,4 @@
+pub mod Operands
 pub mod Moves
 pub mod Goings
 pub mod Flows

@@ -1,30 +1,28 @@
--- MOVE between data registers, and with an operand (d16,An) that is known at once.
-use Rattle.std.proofs.Common.{◌≡◌, ℕ, ◌<◌, refl, true, Ok, arith, ap}
+-- Rows whose operands are data registers.
+use Rattle.std.proofs.Common.{◌≡◌, ℕ, ◌<◌, refl, true, arith, ap}
 use Rattle.std.specs.Prelude.{Bool, nat_lt}
 use Rattle.std.proofs.lemmas.Bool.Decides.{nat_tests}
 use Rattle.mb_port.specs.Routine.{Bus, run, other_fault}
 use Rattle.mb_port.specs.declared.types.Space.{Space}
 use Rattle.mb_instr.specs.declared.size.Size.{Size}
-use Rattle.mb_instr.specs.declared.size.Size.TheVariants.{Word}
-use Rattle.mb_instr.specs.declared.operand.Ea.TheVariants.{Dn, Disp}
+use Rattle.mb_instr.specs.declared.operand.Ea.TheVariants.{Dn}
 use Rattle.mb_instr.specs.declared.instruction.Instr.{Instr}
 use Rattle.mb_instr.specs.declared.registers.Plain.{Plain}
-use Rattle.mb_instr.specs.Sizes.{low_of, bytes_of, sign_extended}
-use Rattle.mb_instr.specs.Registers.{data_register, address_register}
-use Rattle.mb_ea.specs.Addresses.{sum}
-use Rattle.mb_ea.specs.Reading.{read_of}
+use Rattle.mb_instr.specs.Sizes.{low_of}
+use Rattle.mb_instr.specs.Registers.{data_register}
 use Rattle.mb_ea.specs.Resolve.{resolve_of}
-use Rattle.mb_writes.specs.Writing.{put_of}
 use Rattle.mb_meaning.specs.Ends.{Rowed, carried, went, restored}
 use Rattle.mb_meaning.specs.Operands.{operand_of, load_of, store_of, storing}
-use Rattle.mb_meaning.specs.Moves.{move_of, move_flags}
+use Rattle.mb_meaning.specs.Moves.{move_of}
 use Rattle.mb_meaning.specs.Arithmetic.{taking}
-use Rattle.mb_ops_arith.proofs.WithoutBus.{taken}
+use Rattle.mb_meaning.specs.Unary.{clr_of}
+use Rattle.mb_ops_arith.proofs.WithoutBus.{taken, without_bus}
 use Rattle.mb_meaning.specs.Rows.{row_of, perform_of}
 use Rattle.mb_short.specs.Moved.{moved_to}
 use Rattle.mb_short.specs.Taken.{gone}
 
-is_data : (n : ℕ) → n < 8 → nat_lt n 8 ≡ true
+-- a data register is one of the first eight
+pub is_data : (n : ℕ) → n < 8 → nat_lt n 8 ≡ true
 is_data n h = grind (arith, nat_tests)
 
 pub copied : {S : Type 0} (bus : Bus S) (size : Size) (n m word_at : ℕ) (space : Space) (p : Plain) (s : S) → n < 8 → m < 8
@@ -32,17 +30,11 @@ pub copied : {S : Type 0} (bus : Bus S) (size : Size) (n m word_at : ℕ) (space
 unfolding move_of operand_of load_of resolve_of storing store_of
 copied bus size n m word_at space p s h k = rw (is_data m k, is_data n h) refl
 
-pub loaded : {S : Type 0} (bus : Bus S) (size : Size) (n m d value word_at : ℕ) (space : Space) (p : Plain) (s : S) → n < 8
-    → run bus (read_of space (sum (address_register p m) (sign_extended Word d)) (bytes_of size)) s ≡ (Ok value, s)
-    → run bus (move_of size (Dn n) (Disp m d) word_at space p) s ≡ (carried (moved_to n size value p), s)
-unfolding move_of operand_of load_of resolve_of storing store_of
-loaded bus size n m d value word_at space p s h read = rw (run, read, is_data n h) refl
-
-pub stored : {S : Type 0} (bus : Bus S) (size : Size) (n m d word_at : ℕ) (space : Space) (p : Plain) (s t : S) → n < 8
-    → run bus (put_of space (sum (address_register p m) (sign_extended Word d)) (bytes_of size) (low_of size (data_register p n))) s ≡ (Ok tt, t)
-    → run bus (move_of size (Disp m d) (Dn n) word_at space p) s ≡ (carried (move_flags size (low_of size (data_register p n)) p), t)
-unfolding move_of operand_of load_of resolve_of storing store_of
-stored bus size n m d word_at space p s t h put = rw (run, is_data n h, put) refl
+-- CLR
+pub cleared : {S : Type 0} (bus : Bus S) (size : Size) (n word_at : ℕ) (space : Space) (p : Plain) (s : S) → n < 8
+    → run bus (clr_of size (Dn n) word_at space p) s ≡ (carried (moved_to n size 0 p), s)
+unfolding clr_of resolve_of storing store_of
+cleared bus size n word_at space p s h = rw (is_data n h) refl
 
 -- a row that is carried out is its instruction
 pub goes : {S : Type 0} (bus : Bus S) (i : Instr) (at : ℕ) (space : Space) (p q : Plain) (flow : Bool) (s t : S)
@@ -55,4 +47,4 @@ pub taken_register : {S : Type 0} (bus : Bus S) (effect : ℕ → Plain → Rowe
     → m < 8 → run bus (taking effect size (Dn m) word_at space p) s ≡ (effect (low_of size (data_register p m)) p, s)
 taken_register bus effect size m word_at space p s h = taken bus effect size (Dn m) (low_of size (data_register p m)) word_at space p s (h, refl)
 
-pub ruleset moves = (copied, loaded, stored, taken_register)
+pub ruleset rows = (without_bus, copied, cleared, taken_register)

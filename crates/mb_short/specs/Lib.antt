@@ -1,3 +1,3 @@
-pub mod Forms
 pub mod Moved
+pub mod Operands
 pub mod Taken

@@ -6,9 +6,14 @@
 //! all arms out has the same machine.
 #![tactic(auto)]
 
+mod addresses;
 mod branches;
-mod memory;
+mod changing;
 mod performing;
+mod places;
+mod putting;
 mod registers;
+mod stack;
+mod taking;
 
 pub use performing::perform_short;

@@ -5,12 +5,16 @@ ghost use Rattle.mb_instr.specs.Codes.{IsInstr};
 ghost use Rattle.mb_table.specs.Short.{meaning, meaning_with};
 ghost use Rattle.mb_short.specs.Taken.{Comes, IsDone};
 
+use crate::addresses::load_near;
 use crate::branches::{branch, branch_far, turn};
-use crate::memory::{load, store};
+use crate::changing::change_register;
+use crate::putting::{put_memory, put_near};
 use crate::registers::perform_in_registers;
+use crate::stack::{call_far, call_near, link, return_from, unlink};
+use crate::taking::{take_memory, take_near, take_register};
 use mb_instr::{Plain, Size};
 use mb_port::{Port, Space};
-use mb_table::Short;
+use mb_table::{Putting, Short, Taking};
 
 /// The word behind the first, where it is known at once.
 #[inline(always)]
@@ -22,54 +26,108 @@ fn second_word<P: Port>(space: Space, plain: &Plain, port: &P) -> Option<u16>
     port.quick_fetch(space, plain.pc.wrapping_add(2))
 }
 
-/// Carries out the instruction of a short form that stands at PC, where that is done at once: then the answer is
-/// whether it changed the flow of control. Else nothing has changed.
+/// What `perform_short` does, for the forms of two words that come less often.
 #[rattlefmt::skip]
+#[tactic(auto, using(crate::proofs::Goings::endings))]
 #[inline(always)]
-pub fn perform_short<P: Port>(short: Short, space: Space, plain: &mut Plain, port: &mut P) -> Option<bool>
+fn perform_pair<P: Port>(short: &Short, space: Space, plain: &mut Plain, port: &mut P) -> Option<bool>
     requires even { plain.old.pc % 2 ≡ 0 }
-    requires valid { IfSome (meaning short) IsInstr }
-    requires valid_with { (word : _) → word < 2 ^ 16 → IfSome (meaning_with word short) IsInstr }
+    requires valid_with { (word : _) → word < 2 ^ 16 → IfSome (meaning_with word short.now) IsInstr }
     ensures done { IfSome result (λ flow.
-        IsDone P.bus short space plain.old (P.world port.old) flow plain.new (P.world port.new)) }
+        IsDone P.bus short.now space plain.old (P.world port.old) flow plain.new (P.world port.new)) }
     ensures undone { IfNone result (plain.new ≡ plain.old) }
     ensures same { IfNone result (P.world port.new ≡ P.world port.old) }
     ensures rest { P.rest port.new ≡ P.rest port.old }
 {
-    let word_at = plain.pc.wrapping_add(2);
-    let done = match short {
-        Short::Unknown | Short::Other => false,
-        Short::MoveQuick { .. } => perform_in_registers(short, space, plain, port),
-        Short::CopyLong { .. } => perform_in_registers(short, space, plain, port),
-        Short::AddLong { .. } => perform_in_registers(short, space, plain, port),
-        Short::SubtractLong { .. } => perform_in_registers(short, space, plain, port),
-        Short::AndLong { .. } => perform_in_registers(short, space, plain, port),
-        Short::OrLong { .. } => perform_in_registers(short, space, plain, port),
-        Short::ExclusiveOrLong { .. } => perform_in_registers(short, space, plain, port),
-        Short::CompareLong { .. } => perform_in_registers(short, space, plain, port),
-        Short::MultiplyUnsigned { .. } => perform_in_registers(short, space, plain, port),
-        Short::MultiplySigned { .. } => perform_in_registers(short, space, plain, port),
-        Short::ShiftRightLong { .. } => perform_in_registers(short, space, plain, port),
-        Short::AddQuickLong { .. } => perform_in_registers(short, space, plain, port),
-        Short::SubtractQuickLong { .. } => perform_in_registers(short, space, plain, port),
-        Short::TestLong { .. } => perform_in_registers(short, space, plain, port),
+    let word = second_word(space, plain, port)?;
+    match *short {
+        Short::TakeNear { taking, size, base } => take_near(taking, size, base, word, space, plain, port),
+        Short::PutNear { putting, size, base } => put_near(putting, size, base, word, space, plain, port),
+        Short::AddressNear { register, base } => load_near(register, base, word, space, plain, port),
+        Short::CallFar => call_far(word, space, plain, port),
+        Short::Link { register } => link(register, word, space, plain, port),
+        _ => None,
+    }
+}
+
+/// What `perform_short` does, for the forms that come less often.
+#[rattlefmt::skip]
+#[tactic(auto, using(crate::proofs::Goings::endings))]
+#[inline(never)]
+fn perform_rarer<P: Port>(short: &Short, space: Space, plain: &mut Plain, port: &mut P) -> Option<bool>
+    requires even { plain.old.pc % 2 ≡ 0 }
+    requires valid { IfSome (meaning short.now) IsInstr }
+    requires valid_with { (word : _) → word < 2 ^ 16 → IfSome (meaning_with word short.now) IsInstr }
+    ensures done { IfSome result (λ flow.
+        IsDone P.bus short.now space plain.old (P.world port.old) flow plain.new (P.world port.new)) }
+    ensures undone { IfNone result (plain.new ≡ plain.old) }
+    ensures same { IfNone result (P.world port.new ≡ P.world port.old) }
+    ensures rest { P.rest port.new ≡ P.rest port.old }
+{
+    match *short {
+        Short::Swap { .. } => perform_in_registers(*short, space, plain, port),
+        Short::ExtendWord { .. } => perform_in_registers(*short, space, plain, port),
+        Short::RaiseAddress { .. } => perform_in_registers(*short, space, plain, port),
+        Short::LowerAddress { .. } => perform_in_registers(*short, space, plain, port),
+        Short::TakeRegister { taking, size, register } => take_register(taking, size, register, space, plain, port),
+        Short::TakeMemory { taking, size, place } => take_memory(taking, size, place, space, plain, port),
+        Short::PutMemory { putting, size, place } => put_memory(putting, size, place, space, plain, port),
+        Short::Change { change, size, register } => change_register(change, size, register, space, plain, port),
+        Short::Return => return_from(space, plain, port),
+        Short::Call { displacement } => call_near(displacement, space, plain, port),
+        Short::Unlink { register } => unlink(register, space, plain, port),
+        _ => perform_pair(short, space, plain, port),
+    }
+}
+
+/// Carries out the instruction of a short form that stands at PC, where that is done at once: then the answer is
+/// whether it changed the flow of control. Else nothing has changed.
+#[rattlefmt::skip]
+#[tactic(auto, using(crate::proofs::Goings::endings))]
+#[inline(always)]
+pub fn perform_short<P: Port>(short: &Short, space: Space, plain: &mut Plain, port: &mut P) -> Option<bool>
+    requires even { plain.old.pc % 2 ≡ 0 }
+    requires valid { IfSome (meaning short.now) IsInstr }
+    requires valid_with { (word : _) → word < 2 ^ 16 → IfSome (meaning_with word short.now) IsInstr }
+    ensures done { IfSome result (λ flow.
+        IsDone P.bus short.now space plain.old (P.world port.old) flow plain.new (P.world port.new)) }
+    ensures undone { IfNone result (plain.new ≡ plain.old) }
+    ensures same { IfNone result (P.world port.new ≡ P.world port.old) }
+    ensures rest { P.rest port.new ≡ P.rest port.old }
+{
+    match *short {
+        Short::Unknown | Short::Other => None,
+        Short::MoveQuick { .. } => perform_in_registers(*short, space, plain, port),
+        Short::CopyLong { .. } => perform_in_registers(*short, space, plain, port),
+        Short::AddLong { .. } => perform_in_registers(*short, space, plain, port),
+        Short::SubtractLong { .. } => perform_in_registers(*short, space, plain, port),
+        Short::AndLong { .. } => perform_in_registers(*short, space, plain, port),
+        Short::OrLong { .. } => perform_in_registers(*short, space, plain, port),
+        Short::ExclusiveOrLong { .. } => perform_in_registers(*short, space, plain, port),
+        Short::CompareLong { .. } => perform_in_registers(*short, space, plain, port),
+        Short::MultiplyUnsigned { .. } => perform_in_registers(*short, space, plain, port),
+        Short::MultiplySigned { .. } => perform_in_registers(*short, space, plain, port),
+        Short::ShiftRightLong { .. } => perform_in_registers(*short, space, plain, port),
+        Short::AddQuickLong { .. } => perform_in_registers(*short, space, plain, port),
+        Short::SubtractQuickLong { .. } => perform_in_registers(*short, space, plain, port),
+        Short::TestLong { .. } => perform_in_registers(*short, space, plain, port),
         Short::LoadLong { register, base } => {
-            let displacement = second_word(space, plain, port)?;
-            load(Size::Long, register, base, displacement, word_at, space, plain, port)
+            let word = second_word(space, plain, port)?;
+            take_near(Taking::Move(register), Size::Long, base, word, space, plain, port)
         }
         Short::StoreLong { register, base } => {
-            let displacement = second_word(space, plain, port)?;
-            store(Size::Long, register, base, displacement, word_at, space, plain, port)
+            let word = second_word(space, plain, port)?;
+            put_near(Putting::Data(register), Size::Long, base, word, space, plain, port)
         }
-        Short::Branch { condition, displacement } => return branch(condition, displacement, space, plain, port),
+        Short::Branch { condition, displacement } => branch(condition, displacement, space, plain, port),
         Short::BranchFar { condition } => {
-            let displacement = second_word(space, plain, port)?;
-            return branch_far(condition, displacement, space, plain, port);
+            let word = second_word(space, plain, port)?;
+            branch_far(condition, word, space, plain, port)
         }
         Short::Loop { condition, register } => {
-            let displacement = second_word(space, plain, port)?;
-            return Some(turn(condition, register, displacement, space, plain, port));
+            let word = second_word(space, plain, port)?;
+            Some(turn(condition, register, word, space, plain, port))
         }
-    };
-    if done { Some(false) } else { None }
+        _ => perform_rarer(short, space, plain, port),
+    }
 }

@@ -1,20 +1,14 @@
-//! Forms of one word whose operands are data registers.
+//! Forms of one word with names of their own, whose operands are registers or stand in the word.
 
-ghost use Rattle.std.specs.Prelude.{◌≡◌, ◌<◌, true, false, IfSome};
-ghost use Rattle.mb_port.specs.Routine.{run};
-ghost use Rattle.mb_instr.specs.declared.size.Size.TheVariants.{Long};
-ghost use Rattle.mb_instr.specs.declared.kinds.ShiftKind.TheVariants.{Logical};
+ghost use Rattle.std.specs.Prelude.{◌≡◌, ◌<◌, true, false, IfSome, IfNone};
 ghost use Rattle.mb_instr.specs.Codes.{IsInstr};
-ghost use Rattle.mb_instr.specs.Registers.{data_register};
-ghost use Rattle.mb_meaning.specs.Ends.{carried};
-ghost use Rattle.mb_meaning.specs.Rows.{row_of};
-ghost use Rattle.mb_meaning.specs.Shifts.{shift_register_of};
+ghost use Rattle.mb_meaning.specs.Moves.{move_flags, swap_of};
 ghost use Rattle.mb_table.specs.Short.{meaning};
-ghost use Rattle.mb_short.specs.Forms.{is_in_registers};
 ghost use Rattle.mb_short.specs.Moved.{moved_to};
-ghost use Rattle.mb_short.specs.Taken.{GoesBy};
+ghost use Rattle.mb_short.specs.Taken.{GoesBy, RowBy};
 
-use mb_alu::{LogicKind, logic, shift};
+use crate::changing::shift_by;
+use mb_alu::{LogicKind, extend, logic};
 use mb_instr::{Plain, ShiftKind, Size};
 use mb_operands::with_low;
 use mb_ops_arith::{
@@ -24,15 +18,23 @@ use mb_ops_move::moveq;
 use mb_port::{Port, Space};
 use mb_table::Short;
 
-const ADD: Operation = Operation::Sum(Sum::Add);
+pub(crate) const ADD: Operation = Operation::Sum(Sum::Add);
 
-const SUBTRACT: Operation = Operation::Sum(Sum::Subtract);
+pub(crate) const SUBTRACT: Operation = Operation::Sum(Sum::Subtract);
 
-const AND: Operation = Operation::Logic(LogicKind::And);
+pub(crate) const AND: Operation = Operation::Logic(LogicKind::And);
 
-const OR: Operation = Operation::Logic(LogicKind::Or);
+pub(crate) const OR: Operation = Operation::Logic(LogicKind::Or);
 
-const EXCLUSIVE_OR: Operation = Operation::Logic(LogicKind::Eor);
+pub(crate) const EXCLUSIVE_OR: Operation = Operation::Logic(LogicKind::Eor);
+
+/// The condition codes of a value that is moved.
+#[inline(always)]
+pub(crate) fn test(size: Size, value: u32, plain: &mut Plain)
+    ensures { plain.new ≡ move_flags size value plain.old }
+{
+    plain.ccr = logic(LogicKind::Pass, size, value, 0, plain.ccr).ccr;
+}
 
 /// A value of a size moves to a data register.
 #[inline(always)]
@@ -41,39 +43,41 @@ pub(crate) fn move_to(register: u8, size: Size, value: u32, plain: &mut Plain)
     ensures { plain.new ≡ moved_to register size value plain.old }
 {
     let n = register as usize;
-    plain.ccr = logic(LogicKind::Pass, size, value, 0, plain.ccr).ccr;
+    test(size, value, plain);
     plain.d[n] = with_low(size, plain.d[n], value);
 }
 
-/// LSR of a long by a count in the instruction.
+/// The halves of a data register change places.
 #[inline(always)]
-#[tactic(auto, unfolding(mb_meaning::specs::Shifts::shift_register_of))]
-fn shift_right(register: u8, count: u8, plain: &mut Plain)
-    requires register { register < 8 }
-    requires count { count < 64 }
-    ensures { plain.new ≡ shift_register_of Logical false Long count register plain.old }
+#[tactic(auto, unfolding(mb_meaning::specs::Moves::swap_of))]
+fn swap(register: u8, plain: &mut Plain)
+    requires { register < 8 }
+    ensures { plain.new ≡ swap_of register plain.old }
 {
-    let value = plain.d[register as usize];
-    let shifted = shift(
-        ShiftKind::Logical,
-        false,
-        Size::Long,
-        count,
-        value,
-        plain.ccr,
-    );
-    put_in_register(register, Size::Long, shifted, plain);
+    let n = register as usize;
+    let value = plain.d[n];
+    let swapped = value % 0x1_0000 * 0x1_0000 + value / 0x1_0000;
+    plain.d[n] = swapped;
+    test(Size::Long, swapped, plain);
 }
 
 /// Carries out the row of the instruction. PC is past its word already.
 #[rattlefmt::skip]
 #[inline(always)]
-#[tactic(auto, using(mb_ops_arith::proofs::WithoutBus::without_bus, crate::proofs::Moves::moves), unfolding(mb_meaning::specs::Arithmetic::quick_of, mb_meaning::specs::Rows::row_of, mb_meaning::specs::Rows::perform_move_of, mb_meaning::specs::Rows::perform_arith_of, mb_meaning::specs::Arithmetic::either_way))]
-fn carry_out<P: Port>(short: Short, at: u32, space: Space, plain: &mut Plain, port: &P)
-    requires group { is_in_registers short ≡ true }
+#[tactic(auto, using(crate::proofs::Moves::rows), unfolding(
+    mb_meaning::specs::Rows::row_of,
+    mb_meaning::specs::Rows::perform_move_of,
+    mb_meaning::specs::Rows::perform_arith_of,
+    mb_meaning::specs::Arithmetic::quick_of,
+    mb_meaning::specs::Arithmetic::either_way,
+    mb_meaning::specs::Shifts::shift_register_of,
+    mb_meaning::specs::Unary::ext_of,
+))]
+fn carry_out<P: Port>(short: Short, at: u32, space: Space, plain: &mut Plain, port: &P) -> bool
     requires valid { IfSome (meaning short) IsInstr }
-    ensures { IfSome (meaning short) (λ i. run P.bus (row_of i at space plain.old) (P.world port.now)
-        ≡ (carried plain.new, P.world port.now)) }
+    ensures done { result ≡ true
+        → RowBy P.bus (meaning short) at space plain.old (P.world port.now) plain.new }
+    ensures undone { result ≡ false → plain.new ≡ plain.old }
 {
     match short {
         Short::MoveQuick { register, immediate } => moveq(register, immediate, plain),
@@ -90,33 +94,44 @@ fn carry_out<P: Port>(short: Short, at: u32, space: Space, plain: &mut Plain, po
             multiply_word(false, register, Size::Word.low(plain.d[source as usize]), plain),
         Short::MultiplySigned { register, source } =>
             multiply_word(true, register, Size::Word.low(plain.d[source as usize]), plain),
-        Short::ShiftRightLong { register, count } => shift_right(register, count, plain),
+        Short::ShiftRightLong { register, count } => shift_by(ShiftKind::Logical, false, Size::Long, count, register, plain),
         Short::AddQuickLong { register, quick } => combine_into(ADD, Size::Long, u32::from(quick), register, plain),
         Short::SubtractQuickLong { register, quick } =>
             combine_into(SUBTRACT, Size::Long, u32::from(quick), register, plain),
-        Short::TestLong { register } =>
-            plain.ccr = logic(LogicKind::Pass, Size::Long, plain.d[register as usize], 0, plain.ccr).ccr,
-        Short::Unknown | Short::Other | Short::LoadLong { .. } | Short::StoreLong { .. } | Short::Branch { .. }
-        | Short::BranchFar { .. } | Short::Loop { .. } => unreachable!(),
+        Short::TestLong { register } => test(Size::Long, plain.d[register as usize], plain),
+        Short::Swap { register } => swap(register, plain),
+        Short::ExtendWord { register } => {
+            let extended = extend(Size::Word, Size::Long, plain.d[register as usize], plain.ccr);
+            put_in_register(register, Size::Long, extended, plain);
+        }
+        Short::RaiseAddress { register, quick, .. } =>
+            plain.a[register as usize] = plain.a[register as usize].wrapping_add(u32::from(quick)),
+        Short::LowerAddress { register, quick, .. } =>
+            plain.a[register as usize] = plain.a[register as usize].wrapping_sub(u32::from(quick)),
+        _ => return false,
     }
+    true
 }
 
-/// Carries out the instruction that stands at PC.
+/// Carries out the instruction that stands at PC, where its form is one of these.
 #[inline(always)]
 pub(crate) fn perform_in_registers<P: Port>(
     short: Short,
     space: Space,
     plain: &mut Plain,
     port: &P,
-) -> bool
-    requires group { is_in_registers short ≡ true }
-    requires valid { IfSome (meaning short) IsInstr }
-    ensures goes { GoesBy P.bus (meaning short) 1 space plain.old (P.world port.now) false plain.new
-        (P.world port.now) }
-    ensures done { result ≡ true }
+) -> Option<bool>
+    requires { IfSome (meaning short) IsInstr }
+    ensures done { IfSome result (λ flow. GoesBy P.bus (meaning short) 1 space plain.old (P.world port.now) flow
+        plain.new (P.world port.now)) }
+    ensures undone { IfNone result (plain.new ≡ plain.old) }
 {
     let at = plain.pc;
     plain.pc = at.wrapping_add(2);
-    carry_out(short, at, space, plain, port);
-    true
+    if carry_out(short, at, space, plain, port) {
+        Some(false)
+    } else {
+        plain.pc = at;
+        None
+    }
 }

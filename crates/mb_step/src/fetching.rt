@@ -193,12 +193,12 @@ fn learn(first: u16, first_words: &mut FirstWords, shorts: &mut Shorts) {
 #[inline(always)]
 fn execute_short<P: Port>(
     first: u16,
-    short: Short,
+    short: &Short,
     processor: &mut Processor,
     port: &mut P,
 ) -> Option<Finish>
     requires even { processor.old.regs.pc % 2 ≡ 0 }
-    requires short { IsShort first short }
+    requires short { IsShort first short.now }
     ensures done { IfSome result (λ end.
         run P.bus (found_executed processor.old (judged (alone first) (behind processor.old first))) (P.world port.old)
         ≡ ((end, processor.new), P.world port.new)) }

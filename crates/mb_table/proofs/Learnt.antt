@@ -7,8 +7,10 @@ use Rattle.mb_instr.specs.declared.instruction.Instr.{Instr}
 use Rattle.mb_instr.specs.declared.instruction.Instr.TheVariants as instr
 use Rattle.mb_instr.specs.declared.instruction.Move.TheVariants as move
 use Rattle.mb_instr.specs.declared.instruction.Flow.TheVariants as flow
+use Rattle.mb_instr.specs.declared.size.Size.{Size}
 use Rattle.mb_instr.specs.declared.kinds.Branch.TheVariants as branch
 use Rattle.mb_instr.specs.declared.kinds.Condition.{Condition}
+use Rattle.mb_instr.specs.declared.kinds.Condition.TheVariants as condition
 use Rattle.mb_instr.specs.declared.size.Size.TheVariants.{Long}
 use Rattle.mb_instr.specs.declared.operand.Ea.TheVariants.{Dn, Disp}
 use Rattle.mb_instr.specs.Opcodes.{word_of, IsOpcode}
@@ -19,9 +21,14 @@ use Rattle.mb_instr.proofs.Words.{AreWords-cons, AreWords-nil}
 use Rattle.mb_decode.specs.declared.front.Decoded.{Decoded}
 use Rattle.mb_decode.specs.declared.front.Decoded.TheVariants.{Whole, More}
 use Rattle.mb_decode.specs.Decodes.{decode_of, Decodes, BeginsWith, IfWhole, AllDecoded, ReadAgain}
+use Rattle.mb_table.specs.declared.forms.Taking.{Taking}
+use Rattle.mb_table.specs.declared.forms.Taking.TheVariants as taking
+use Rattle.mb_table.specs.declared.forms.Putting.{Putting}
+use Rattle.mb_table.specs.declared.forms.Putting.TheVariants as putting
 use Rattle.mb_table.specs.declared.short.Short.{Short}
 use Rattle.mb_table.specs.declared.short.Short.TheVariants as short
 use Rattle.mb_table.specs.FirstWords.{alone}
+use Rattle.mb_table.specs.Forms.{taking_of, putting_of}
 use Rattle.mb_table.specs.Short.{meaning, meaning_with, IsAlone, IsWith, IsShort}
 
 -- ---- a word by itself
@@ -92,6 +99,30 @@ branch_displaced c = record { legal = λ d e. refl; opcode = λ d e. refl; secon
 loop_displaced : (c : Condition) (n : ℕ) → IsDisplaced (λ d. instr.Flow (flow.Dbcc c n d))
 loop_displaced c n = record { legal = λ d e. refl; opcode = λ d e. refl; second = λ d. refl }
 
+take_displaced : (t : Taking) (size : Size) (m : ℕ) → IsDisplaced (λ d. taking_of t size (Disp m d))
+take_displaced (taking.Move n) size m = record { legal = λ d e. refl; opcode = λ d e. refl; second = λ d. refl }
+take_displaced (taking.MoveAddress n) size m = record { legal = λ d e. refl; opcode = λ d e. refl; second = λ d. refl }
+take_displaced (taking.Add n) size m = record { legal = λ d e. refl; opcode = λ d e. refl; second = λ d. refl }
+take_displaced (taking.Subtract n) size m = record { legal = λ d e. refl; opcode = λ d e. refl; second = λ d. refl }
+take_displaced (taking.And n) size m = record { legal = λ d e. refl; opcode = λ d e. refl; second = λ d. refl }
+take_displaced (taking.Or n) size m = record { legal = λ d e. refl; opcode = λ d e. refl; second = λ d. refl }
+take_displaced (taking.Compare n) size m = record { legal = λ d e. refl; opcode = λ d e. refl; second = λ d. refl }
+take_displaced (taking.AddAddress n) size m = record { legal = λ d e. refl; opcode = λ d e. refl; second = λ d. refl }
+take_displaced (taking.SubtractAddress n) size m = record { legal = λ d e. refl; opcode = λ d e. refl; second = λ d. refl }
+take_displaced (taking.CompareAddress n) size m = record { legal = λ d e. refl; opcode = λ d e. refl; second = λ d. refl }
+take_displaced taking.Test size m = record { legal = λ d e. refl; opcode = λ d e. refl; second = λ d. refl }
+
+put_displaced : (t : Putting) (size : Size) (m : ℕ) → IsDisplaced (λ d. putting_of t size (Disp m d))
+put_displaced (putting.Data n) size m = record { legal = λ d e. refl; opcode = λ d e. refl; second = λ d. refl }
+put_displaced (putting.Address n) size m = record { legal = λ d e. refl; opcode = λ d e. refl; second = λ d. refl }
+put_displaced putting.Zero size m = record { legal = λ d e. refl; opcode = λ d e. refl; second = λ d. refl }
+
+address_displaced : (n m : ℕ) → IsDisplaced (λ d. instr.Move (move.Lea n (Disp m d)))
+address_displaced n m = record { legal = λ d e. refl; opcode = λ d e. refl; second = λ d. refl }
+
+link_displaced : (n : ℕ) → IsDisplaced (λ d. instr.Move (move.LinkW n d))
+link_displaced n = record { legal = λ d e. refl; opcode = λ d e. refl; second = λ d. refl }
+
 -- by a form that has a meaning with each second word, or with none
 with_any : (first second : ℕ) (i : Instr) (s : Short) → AllDecoded → ReadAgain → first < 2 ^ 16 → second < 2 ^ 16
     → alone first ≡ More → decode_of (first ∷ second ∷ []) ≡ Whole i 2 → IfSome (meaning_with second s) (λ j. i ≡ j)
@@ -107,6 +138,21 @@ with_any first second i (short.BranchFar c) all again r r' more e h d k =
     (e ∙ ap (λ (j : Instr). Whole j 2) h) d k
 with_any first second i (short.Loop c n) all again r r' more e h d k =
     any_second (λ d. instr.Flow (flow.Dbcc c n d)) first second (loop_displaced c n) all again r r' more
+    (e ∙ ap (λ (j : Instr). Whole j 2) h) d k
+with_any first second i (short.TakeNear t size m) all again r r' more e h d k =
+    any_second (λ d. taking_of t size (Disp m d)) first second (take_displaced t size m) all again r r' more
+    (e ∙ ap (λ (j : Instr). Whole j 2) h) d k
+with_any first second i (short.PutNear t size m) all again r r' more e h d k =
+    any_second (λ d. putting_of t size (Disp m d)) first second (put_displaced t size m) all again r r' more
+    (e ∙ ap (λ (j : Instr). Whole j 2) h) d k
+with_any first second i (short.AddressNear n m) all again r r' more e h d k =
+    any_second (λ d. instr.Move (move.Lea n (Disp m d))) first second (address_displaced n m) all again r r' more
+    (e ∙ ap (λ (j : Instr). Whole j 2) h) d k
+with_any first second i short.CallFar all again r r' more e h d k =
+    any_second (λ d. instr.Flow (flow.Bcc condition.False (branch.Word d))) first second (branch_displaced condition.False) all again r r' more
+    (e ∙ ap (λ (j : Instr). Whole j 2) h) d k
+with_any first second i (short.Link n) all again r r' more e h d k =
+    any_second (λ d. instr.Move (move.LinkW n d)) first second (link_displaced n) all again r r' more
     (e ∙ ap (λ (j : Instr). Whole j 2) h) d k
 with_any first second i _ all again r r' more e h d k = tt
 

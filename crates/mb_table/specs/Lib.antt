@@ -1,3 +1,4 @@
 pub mod FirstWords
+pub mod Forms
 pub mod LongerWords
 pub mod Short

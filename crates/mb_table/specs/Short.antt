@@ -2,19 +2,21 @@
 use Rattle.std.specs.Prelude.{◌≡◌, ℕ, ◌<◌, ◌^◌, [], ◌∷◌, Option, Some, None, IfSome, false, true}
 use Rattle.mb_instr.specs.declared.size.Size.TheVariants.{Long}
 use Rattle.mb_instr.specs.declared.kinds.ShiftKind.TheVariants.{Logical}
-use Rattle.mb_instr.specs.declared.operand.Ea.TheVariants.{Dn, Disp}
+use Rattle.mb_instr.specs.declared.operand.Ea.TheVariants.{Dn, An, Disp}
 use Rattle.mb_instr.specs.declared.instruction.Instr.{Instr}
 use Rattle.mb_instr.specs.declared.instruction.Instr.TheVariants as instr
 use Rattle.mb_instr.specs.declared.instruction.Move.TheVariants as move
 use Rattle.mb_instr.specs.declared.instruction.Arith.TheVariants as arith
 use Rattle.mb_instr.specs.declared.instruction.Flow.TheVariants as flow
 use Rattle.mb_instr.specs.declared.kinds.Branch.TheVariants as branch
+use Rattle.mb_instr.specs.declared.kinds.Condition.TheVariants as condition
 use Rattle.mb_instr.specs.Codes.{IsInstr}
 use Rattle.mb_decode.specs.declared.front.Decoded.TheVariants.{Whole, More}
 use Rattle.mb_decode.specs.Decodes.{decode_of}
 use Rattle.mb_table.specs.declared.short.Short.{Short}
 use Rattle.mb_table.specs.declared.short.Short.TheVariants as short
 use Rattle.mb_table.specs.FirstWords.{alone}
+use Rattle.mb_table.specs.Forms.{register_ea, place_ea, taking_of, putting_of, change_of}
 
 -- the instruction of one word that a short form is
 abbrev pub meaning : Short → Option Instr
@@ -33,6 +35,17 @@ meaning (short.Branch c d) = Some (instr.Flow (flow.Bcc c (branch.Byte d)))
 meaning (short.AddQuickLong n quick) = Some (instr.Arith (arith.Addq quick Long (Dn n)))
 meaning (short.SubtractQuickLong n quick) = Some (instr.Arith (arith.Subq quick Long (Dn n)))
 meaning (short.TestLong n) = Some (instr.Arith (arith.Tst Long (Dn n)))
+meaning (short.TakeRegister taking size register) = Some (taking_of taking size (register_ea register))
+meaning (short.TakeMemory taking size place) = Some (taking_of taking size (place_ea place))
+meaning (short.PutMemory putting size place) = Some (putting_of putting size (place_ea place))
+meaning (short.Change change size n) = Some (change_of change size n)
+meaning (short.RaiseAddress size n quick) = Some (instr.Arith (arith.Addq quick size (An n)))
+meaning (short.LowerAddress size n quick) = Some (instr.Arith (arith.Subq quick size (An n)))
+meaning (short.Swap n) = Some (instr.Move (move.Swap n))
+meaning (short.ExtendWord n) = Some (instr.Arith (arith.ExtL n))
+meaning short.Return = Some (instr.Flow flow.Rts)
+meaning (short.Call d) = Some (instr.Flow (flow.Bcc condition.False (branch.Byte d)))
+meaning (short.Unlink n) = Some (instr.Move (move.Unlk n))
 meaning _ = None
 
 -- the instruction of two words that it is with this second one
@@ -41,6 +54,11 @@ meaning_with d (short.LoadLong n m) = Some (instr.Move (move.Move Long (Dn n) (D
 meaning_with d (short.StoreLong n m) = Some (instr.Move (move.Move Long (Disp m d) (Dn n)))
 meaning_with d (short.BranchFar c) = Some (instr.Flow (flow.Bcc c (branch.Word d)))
 meaning_with d (short.Loop c n) = Some (instr.Flow (flow.Dbcc c n d))
+meaning_with d (short.TakeNear taking size m) = Some (taking_of taking size (Disp m d))
+meaning_with d (short.PutNear putting size m) = Some (putting_of putting size (Disp m d))
+meaning_with d (short.AddressNear n m) = Some (instr.Move (move.Lea n (Disp m d)))
+meaning_with d short.CallFar = Some (instr.Flow (flow.Bcc condition.False (branch.Word d)))
+meaning_with d (short.Link n) = Some (instr.Move (move.LinkW n d))
 meaning_with d _ = None
 
 -- a first word is that instruction by itself

@@ -6,12 +6,16 @@
 //! knows no bus.
 #![tactic(auto)]
 
+mod finding;
 mod first_words;
+mod forms;
 mod longer_words;
+mod operands;
 mod short;
 mod shorts;
 
 pub use first_words::FirstWords;
+pub use forms::{Change, Place, Putting, Register, Taking};
 pub use longer_words::LongerWords;
 pub use short::Short;
 pub use shorts::Shorts;

@@ -1,15 +1,13 @@
 //! Instructions in short.
 
-ghost use Rattle.std.specs.Prelude.{◌≡◌, ℕ, None, IfSome};
-ghost use Rattle.mb_instr.specs.declared.instruction.Instr.TheVariants as instr;
-ghost use Rattle.mb_decode.specs.declared.front.Decoded.TheVariants.{Whole};
-ghost use Rattle.mb_table.specs.Short.{meaning, meaning_with};
+use crate::forms::{Change, Place, Putting, Register, Taking};
+use mb_instr::{Condition, Size};
 
-use mb_decode::Decoded;
-use mb_instr::{Arith, Branch, Condition, Ea, Flow, Instr, Move, ShiftKind, Size};
-
-/// What a first word says by itself in four bytes: which instruction it is, or which one it is with each second word.
-#[derive(Clone, Copy, Debug, PartialEq, Eq)]
+/// What a first word says by itself, in six bytes: which instruction it is, or which one it is with each second word.
+///
+/// What is carried out most often has a form of its own, which says all but the numbers in it; the other forms have
+/// parts that say the operand and what becomes of it.
+#[derive(Clone, Copy)]
 pub enum Short {
     /// It did not come yet.
     Unknown,
@@ -108,172 +106,81 @@ pub enum Short {
     TestLong {
         register: u8,
     },
-}
-
-/// The short form of what moves.
-fn short_move(instruction: &Move) -> Short
-    ensures means { IfSome (meaning result) (λ i. instr.Move instruction.now ≡ i) }
-    ensures alone { (second : ℕ) → meaning_with second result ≡ None }
-{
-    match *instruction {
-        Move::Moveq {
-            register,
-            immediate,
-        } => Short::MoveQuick {
-            register,
-            immediate,
-        },
-        Move::Move {
-            size: Size::Long,
-            destination: Ea::Dn(register),
-            source: Ea::Dn(source),
-        } => Short::CopyLong { register, source },
-        _ => Short::Other,
-    }
-}
-
-/// The short form of what computes.
-fn short_arith(instruction: &Arith) -> Short
-    ensures means { IfSome (meaning result) (λ i. instr.Arith instruction.now ≡ i) }
-    ensures alone { (second : ℕ) → meaning_with second result ≡ None }
-{
-    match *instruction {
-        Arith::Add {
-            register,
-            to_memory: false,
-            size: Size::Long,
-            ea: Ea::Dn(source),
-        } => Short::AddLong { register, source },
-        Arith::Sub {
-            register,
-            to_memory: false,
-            size: Size::Long,
-            ea: Ea::Dn(source),
-        } => Short::SubtractLong { register, source },
-        Arith::And {
-            register,
-            to_memory: false,
-            size: Size::Long,
-            ea: Ea::Dn(source),
-        } => Short::AndLong { register, source },
-        Arith::Or {
-            register,
-            to_memory: false,
-            size: Size::Long,
-            ea: Ea::Dn(source),
-        } => Short::OrLong { register, source },
-        Arith::Eor {
-            register: source,
-            size: Size::Long,
-            ea: Ea::Dn(register),
-        } => Short::ExclusiveOrLong { register, source },
-        Arith::Cmp {
-            register,
-            size: Size::Long,
-            ea: Ea::Dn(source),
-        } => Short::CompareLong { register, source },
-        Arith::MulW {
-            register,
-            is_signed: false,
-            ea: Ea::Dn(source),
-        } => Short::MultiplyUnsigned { register, source },
-        Arith::MulW {
-            register,
-            is_signed: true,
-            ea: Ea::Dn(source),
-        } => Short::MultiplySigned { register, source },
-        Arith::ShiftReg {
-            count,
-            is_left: false,
-            size: Size::Long,
-            by_register: false,
-            kind: ShiftKind::Logical,
-            register,
-        } => Short::ShiftRightLong { register, count },
-        Arith::Addq {
-            quick,
-            size: Size::Long,
-            ea: Ea::Dn(register),
-        } => Short::AddQuickLong { register, quick },
-        Arith::Subq {
-            quick,
-            size: Size::Long,
-            ea: Ea::Dn(register),
-        } => Short::SubtractQuickLong { register, quick },
-        Arith::Tst {
-            size: Size::Long,
-            ea: Ea::Dn(register),
-        } => Short::TestLong { register },
-        _ => Short::Other,
-    }
-}
-
-/// The short form of what goes elsewhere.
-fn short_flow(instruction: &Flow) -> Short
-    ensures means { IfSome (meaning result) (λ i. instr.Flow instruction.now ≡ i) }
-    ensures alone { (second : ℕ) → meaning_with second result ≡ None }
-{
-    match *instruction {
-        Flow::Bcc {
-            condition,
-            displacement: Branch::Byte(displacement),
-        } => Short::Branch {
-            condition,
-            displacement,
-        },
-        _ => Short::Other,
-    }
-}
-
-/// The short form of what a first word begins with by itself.
-pub(crate) fn short_of(found: &Decoded) -> Short
-    ensures means { IfSome (meaning result) (λ i. found.now ≡ Whole i 1) }
-    ensures alone { (second : ℕ) → meaning_with second result ≡ None }
-{
-    match found {
-        Decoded::Whole(Instr::Move(instruction), 1) => short_move(instruction),
-        Decoded::Whole(Instr::Arith(instruction), 1) => short_arith(instruction),
-        Decoded::Whole(Instr::Flow(instruction), 1) => short_flow(instruction),
-        _ => Short::Other,
-    }
-}
-
-/// The short form of a first word that is this instruction with the second.
-pub(crate) fn short_with(second: u16, instruction: &Instr) -> Short
-    ensures with { IfSome (meaning_with second result) (λ i. instruction.now ≡ i) }
-    ensures alone { meaning result ≡ None }
-{
-    match *instruction {
-        Instr::Move(
-            Move::Move {
-                size: Size::Long,
-                destination: Ea::Dn(register),
-                source: Ea::Disp(base, displacement),
-            },
-        ) if displacement == second => Short::LoadLong { register, base },
-        Instr::Move(
-            Move::Move {
-                size: Size::Long,
-                destination: Ea::Disp(base, displacement),
-                source: Ea::Dn(register),
-            },
-        ) if displacement == second => Short::StoreLong { register, base },
-        Instr::Flow(
-            Flow::Bcc {
-                condition,
-                displacement: Branch::Word(displacement),
-            },
-        ) if displacement == second => Short::BranchFar { condition },
-        Instr::Flow(
-            Flow::Dbcc {
-                condition,
-                register,
-                displacement,
-            },
-        ) if displacement == second => Short::Loop {
-            condition,
-            register,
-        },
-        _ => Short::Other,
-    }
+    /// An operand in a register is read.
+    TakeRegister {
+        taking: Taking,
+        size: Size,
+        register: Register,
+    },
+    /// An operand in memory is read.
+    TakeMemory {
+        taking: Taking,
+        size: Size,
+        place: Place,
+    },
+    /// An operand `(d16,An)` is read; the second word is the displacement.
+    TakeNear {
+        taking: Taking,
+        size: Size,
+        base: u8,
+    },
+    /// An operand in memory is written.
+    PutMemory {
+        putting: Putting,
+        size: Size,
+        place: Place,
+    },
+    /// An operand `(d16,An)` is written; the second word is the displacement.
+    PutNear {
+        putting: Putting,
+        size: Size,
+        base: u8,
+    },
+    /// A data register changes.
+    Change {
+        change: Change,
+        size: Size,
+        register: u8,
+    },
+    /// `ADDQ #quick,An`.
+    RaiseAddress {
+        size: Size,
+        register: u8,
+        quick: u8,
+    },
+    /// `SUBQ #quick,An`.
+    LowerAddress {
+        size: Size,
+        register: u8,
+        quick: u8,
+    },
+    /// `SWAP`.
+    Swap {
+        register: u8,
+    },
+    /// `EXT.L`.
+    ExtendWord {
+        register: u8,
+    },
+    /// `LEA (d16,An),Am`; the second word is the displacement.
+    AddressNear {
+        register: u8,
+        base: u8,
+    },
+    /// `RTS`.
+    Return,
+    /// `BSR.B`.
+    Call {
+        displacement: u8,
+    },
+    /// `BSR.W`; the second word is the displacement.
+    CallFar,
+    /// `LINK.W`; the second word is the displacement.
+    Link {
+        register: u8,
+    },
+    /// `UNLK`.
+    Unlink {
+        register: u8,
+    },
 }

@@ -7,7 +7,8 @@ ghost use Rattle.mb_decode.specs.Decodes.{decode_of, IfWhole};
 ghost use Rattle.mb_table.specs.FirstWords.{alone};
 ghost use Rattle.mb_table.specs.Short.{IsShort};
 
-use crate::short::{Short, short_of, short_with};
+use crate::finding::{short_of, short_with};
+use crate::short::Short;
 use mb_decode::{Decoded, spellings};
 use mb_instr::Instr;
 use std::alloc::{AllocError, Global};
@@ -44,10 +45,10 @@ impl Shorts {
 
     /// The short form of a first word.
     #[inline(always)]
-    pub fn of(&self, first: u16) -> Short
-        ensures { IsShort first result }
+    pub fn of(&self, first: u16) -> &Short
+        ensures { IsShort first result.now }
     {
-        self.forms[usize::from(first)]
+        &self.forms[usize::from(first)]
     }
 
     /// A first word came, and this is what it begins with by itself.

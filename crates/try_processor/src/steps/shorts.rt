@@ -9,8 +9,8 @@ use std::alloc::{AllocError, Global};
 /// A byte of the operands, for steps in which it is refused.
 const HOLE: u32 = 0x1109;
 
-/// Instructions of one word that have a short form, one of each.
-const ALONE: [u16; 16] = [
+/// Instructions of one word that have a short form, a few of each kind.
+const ALONE: [u16; 60] = [
     0x70F9, // MOVEQ #-7,D0
     0x2401, // MOVE.L D1,D2
     0xD481, // ADD.L D1,D2
@@ -27,14 +27,69 @@ const ALONE: [u16; 16] = [
     0x4A82, // TST.L D2
     0x6606, // BNE.B
     0x6706, // BEQ.B
+    0x4842, // SWAP D2
+    0x48C2, // EXT.L D2
+    0x5889, // ADDQ.L #4,A1
+    0x5949, // SUBQ.W #4,A1
+    0x3401, // MOVE.W D1,D2
+    0x2409, // MOVE.L A1,D2
+    0x3441, // MOVEA.W D1,A2
+    0x9401, // SUB.B D1,D2
+    0xC441, // AND.W D1,D2
+    0xB401, // CMP.B D1,D2
+    0xD5C1, // ADDA.L D1,A2
+    0x94C9, // SUBA.W A1,A2
+    0xB5C9, // CMPA.L A1,A2
+    0x4A42, // TST.W D2
+    0x1419, // MOVE.B (A1)+,D2
+    0x3411, // MOVE.W (A1),D2
+    0x2421, // MOVE.L -(A1),D2
+    0x1427, // MOVE.B -(A7),D2
+    0xB411, // CMP.B (A1),D2
+    0x2259, // MOVEA.L (A1)+,A1
+    0x8491, // OR.L (A1),D2
+    0x1282, // MOVE.B D2,(A1)
+    0x32C2, // MOVE.W D2,(A1)+
+    0x2309, // MOVE.L A1,-(A1)
+    0x1F02, // MOVE.B D2,-(A7)
+    0x4299, // CLR.L (A1)+
+    0x4242, // CLR.W D2
+    0x4482, // NEG.L D2
+    0x4602, // NOT.B D2
+    0x5A42, // ADDQ.W #5,D2
+    0x5B02, // SUBQ.B #5,D2
+    0xB342, // EOR.W D1,D2
+    0xD581, // ADDX.L D1,D2
+    0x9541, // SUBX.W D1,D2
+    0xE78A, // LSL.L #3,D2
+    0xE60A, // LSR.B #3,D2
+    0xE742, // ASL.W #3,D2
+    0xE682, // ASR.L #3,D2
+    0xE75A, // ROL.W #3,D2
+    0xE69A, // ROR.L #3,D2
+    0x4E75, // RTS
+    0x6106, // BSR.B
+    0x4E59, // UNLK A1
+    0x4E5F, // UNLK A7
 ];
 
 /// First words that have a short form with any second one.
-const WITH_ANOTHER: [u16; 4] = [
+const WITH_ANOTHER: [u16; 15] = [
     0x2429, // MOVE.L (d16,A1),D2
     0x2342, // MOVE.L D2,(d16,A1)
     0x6600, // BNE.W
     0x51C9, // DBF D1
+    0x1429, // MOVE.B (d16,A1),D2
+    0x3469, // MOVEA.W (d16,A1),A2
+    0xD4A9, // ADD.L (d16,A1),D2
+    0xB469, // CMP.W (d16,A1),D2
+    0x4AA9, // TST.L (d16,A1)
+    0x3342, // MOVE.W D2,(d16,A1)
+    0x4229, // CLR.B (d16,A1)
+    0x45E9, // LEA (d16,A1),A2
+    0x6100, // BSR.W
+    0x4E55, // LINK A5
+    0x4E57, // LINK A7
 ];
 
 /// What a step is taken from: the status register, the byte that is refused, and whether the bus answers quick calls.

@@ -1,5 +1,7 @@
-use Rattle.mb_short.proofs.Goings.{alone_goes}
+use Rattle.mb_table.specs.Short.{meaning}
+use Rattle.mb_short.proofs.Goings.{row_goes}
 use Rattle.mb_short.proofs.registers.perform_in_registers.Goals as goal
 
-pub returns-clause-goes : goal.returns-clause-goes
-returns-clause-goes g c = alone_goes g.P.Port.bus c.args.short c.args.space c.args.plain.now _ _ _ c.requires.group c.carry_out.ensures
+pub returns-then-carry_out-clause-done : goal.returns-then-carry_out-clause-done
+returns-then-carry_out-clause-done g c =
+    row_goes g.P.Port.bus (meaning c.args.short) c.args.space c.args.plain.now _ _ (c.carry_out.ensures.done c.if-carry_out.true)

@@ -6,13 +6,13 @@ perform_short-requires-clause-even g c =
     even_apart c.processor.inside.plain c.processor.inside.cpu c.args.processor.now c.processor.view_is c.requires.even
 
 pub perform_short-requires-clause-valid : goal.perform_short-requires-clause-valid
-perform_short-requires-clause-valid g c = valid c.args.first c.args.short c.requires.short
+perform_short-requires-clause-valid g c = valid c.args.first c.args.short.now c.requires.short
 
 pub perform_short-requires-clause-valid_with : goal.perform_short-requires-clause-valid_with
-perform_short-requires-clause-valid_with g c = valid_with c.args.first c.args.short c.requires.short
+perform_short-requires-clause-valid_with g c = valid_with c.args.first c.args.short.now c.requires.short
 
 pub returns-clause-done : goal.returns-clause-done
 returns-clause-done g c =
-    went_apart g.P.Port.bus c.processor.inside.cpu c.args.processor.now c.processor.inside.plain _ c.args.first c.args.short _ _ _ _
+    went_apart g.P.Port.bus c.processor.inside.cpu c.args.processor.now c.processor.inside.plain _ c.args.first c.args.short.now _ _ _ _
     c.processor.view_is (assumption c.processor.ranges) c.processor.invariant c.requires.short
     (rw c.space.ensures at c.in_ok-flow.ensures.done) c.finish_done.ensures.means

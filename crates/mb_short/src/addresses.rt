@@ -1,0 +1,34 @@
+//! LEA.
+
+ghost use Rattle.std.specs.Prelude.{◌≡◌, ◌<◌, IfSome, IfNone};
+ghost use Rattle.mb_instr.specs.declared.operand.Ea.TheVariants.{Disp};
+ghost use Rattle.mb_instr.specs.declared.instruction.Instr.TheVariants as instr;
+ghost use Rattle.mb_instr.specs.declared.instruction.Move.TheVariants as move_row;
+ghost use Rattle.mb_short.specs.Taken.{Goes};
+
+use crate::places::{near, pass_two};
+use mb_instr::Plain;
+use mb_port::{Port, Space};
+
+/// LEA at PC of an operand (d16,An), whose displacement is the second word.
+#[inline(always)]
+#[tactic(auto, using(crate::proofs::Flows::flows))]
+pub(crate) fn load_near<P: Port>(
+    register: u8,
+    base: u8,
+    displacement: u16,
+    space: Space,
+    plain: &mut Plain,
+    port: &P,
+) -> Option<bool>
+    requires register { register < 8 }
+    requires base { base < 8 }
+    ensures done { IfSome result (λ flow.
+        Goes P.bus (instr.Move (move_row.Lea register (Disp base displacement))) 2 space plain.old
+        (P.world port.now) flow plain.new (P.world port.now)) }
+    ensures undone { IfNone result (plain.new ≡ plain.old) }
+{
+    plain.a[register as usize] = near(base, displacement, plain);
+    pass_two(plain);
+    Some(false)
+}

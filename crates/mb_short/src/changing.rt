@@ -1,0 +1,128 @@
+//! Data registers that change by themselves, by a number in the instruction, or by another data register.
+
+ghost use Rattle.std.specs.Prelude.{◌≡◌, ◌<◌, IfSome, IfNone};
+ghost use Rattle.mb_port.specs.Routine.{run};
+ghost use Rattle.mb_instr.specs.Codes.{IsInstr};
+ghost use Rattle.mb_instr.specs.Registers.{data_register};
+ghost use Rattle.mb_instr.specs.Sizes.{low_of};
+ghost use Rattle.mb_alu.specs.Shifts.{shift_of};
+ghost use Rattle.mb_meaning.specs.Ends.{carried};
+ghost use Rattle.mb_meaning.specs.Rows.{row_of};
+ghost use Rattle.mb_meaning.specs.Unary.{in_register, negated, complemented};
+ghost use Rattle.mb_table.specs.Forms.{change_of};
+ghost use Rattle.mb_short.specs.Taken.{Goes};
+
+use crate::places::pass_one;
+use crate::registers::{ADD, EXCLUSIVE_OR, SUBTRACT, move_to};
+use mb_alu::{LogicKind, logic, shift, sub};
+use mb_instr::{Plain, ShiftKind, Size};
+use mb_ops_arith::{Operation, Sum, combine_into, combine_registers, put_in_register};
+use mb_port::{Port, Space};
+use mb_table::Change;
+
+const ADD_EXTENDED: Operation = Operation::Extended(Sum::Add);
+
+const SUBTRACT_EXTENDED: Operation = Operation::Extended(Sum::Subtract);
+
+/// A shift by a count.
+#[inline(always)]
+pub(crate) fn shift_by(
+    kind: ShiftKind,
+    is_left: bool,
+    size: Size,
+    count: u8,
+    register: u8,
+    plain: &mut Plain,
+)
+    requires register { register < 8 }
+    requires count { count < 64 }
+    ensures { plain.new ≡ in_register register size
+        (shift_of kind is_left size count (data_register plain.old register) plain.old.ccr) plain.old }
+{
+    let value = plain.d[register as usize];
+    let shifted = shift(kind, is_left, size, count, value, plain.ccr);
+    put_in_register(register, size, shifted, plain);
+}
+
+/// NEG.
+#[inline(always)]
+fn negate(size: Size, register: u8, plain: &mut Plain)
+    requires { register < 8 }
+    ensures { plain.new ≡ in_register register size
+        (negated size (low_of size (data_register plain.old register)) plain.old.ccr) plain.old }
+{
+    let value = size.low(plain.d[register as usize]);
+    put_in_register(register, size, sub(size, value, 0, plain.ccr, false), plain);
+}
+
+/// NOT.
+#[inline(always)]
+fn complement(size: Size, register: u8, plain: &mut Plain)
+    requires { register < 8 }
+    ensures { plain.new ≡ in_register register size
+        (complemented size (low_of size (data_register plain.old register)) plain.old.ccr) plain.old }
+{
+    let value = size.low(plain.d[register as usize]);
+    put_in_register(
+        register,
+        size,
+        logic(LogicKind::Not, size, value, 0, plain.ccr),
+        plain,
+    );
+}
+
+/// Carries out the row of the instruction. PC is past its word already.
+#[rattlefmt::skip]
+#[inline(always)]
+#[tactic(auto, using(crate::proofs::Moves::rows), unfolding(
+    mb_meaning::specs::Rows::row_of,
+    mb_meaning::specs::Rows::perform_arith_of,
+    mb_meaning::specs::Arithmetic::quick_of,
+    mb_meaning::specs::Arithmetic::either_way,
+    mb_meaning::specs::Arithmetic::chaining,
+    mb_meaning::specs::Shifts::shift_register_of,
+))]
+fn carry_out<P: Port>(change: Change, size: Size, n: u8, at: u32, space: Space, plain: &mut Plain, port: &P)
+    requires { IsInstr (change_of change size n) }
+    ensures { run P.bus (row_of (change_of change size n) at space plain.old) (P.world port.now)
+        ≡ (carried plain.new, P.world port.now) }
+{
+    match change {
+        Change::Clear => move_to(n, size, 0, plain),
+        Change::Negate => negate(size, n, plain),
+        Change::Complement => complement(size, n, plain),
+        Change::AddQuick(quick) => combine_into(ADD, size, u32::from(quick), n, plain),
+        Change::SubtractQuick(quick) => combine_into(SUBTRACT, size, u32::from(quick), n, plain),
+        Change::ExclusiveOr(m) => combine_registers(EXCLUSIVE_OR, size, m, n, plain),
+        Change::AddExtended(m) => combine_registers(ADD_EXTENDED, size, m, n, plain),
+        Change::SubtractExtended(m) => combine_registers(SUBTRACT_EXTENDED, size, m, n, plain),
+        Change::ShiftLeft(count) => shift_by(ShiftKind::Logical, true, size, count, n, plain),
+        Change::ShiftRight(count) => shift_by(ShiftKind::Logical, false, size, count, n, plain),
+        Change::ArithmeticLeft(count) => shift_by(ShiftKind::Arithmetic, true, size, count, n, plain),
+        Change::ArithmeticRight(count) => shift_by(ShiftKind::Arithmetic, false, size, count, n, plain),
+        Change::RotateLeft(count) => shift_by(ShiftKind::Rotate, true, size, count, n, plain),
+        Change::RotateRight(count) => shift_by(ShiftKind::Rotate, false, size, count, n, plain),
+    }
+}
+
+/// An instruction at PC that changes a data register.
+#[inline(always)]
+#[tactic(auto, using(crate::proofs::Goings::goings))]
+pub(crate) fn change_register<P: Port>(
+    change: Change,
+    size: Size,
+    register: u8,
+    space: Space,
+    plain: &mut Plain,
+    port: &P,
+) -> Option<bool>
+    requires { IsInstr (change_of change size register) }
+    ensures done { IfSome result (λ flow. Goes P.bus (change_of change size register) 1 space plain.old
+        (P.world port.now) flow plain.new (P.world port.now)) }
+    ensures undone { IfNone result (plain.new ≡ plain.old) }
+{
+    let at = plain.pc;
+    pass_one(plain);
+    carry_out(change, size, register, at, space, plain, port);
+    Some(false)
+}

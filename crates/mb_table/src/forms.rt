@@ -1,0 +1,93 @@
+//! Parts of short forms: operands, and what becomes of them.
+
+/// An operand in memory that an address register names without a further word.
+#[derive(Clone, Copy)]
+pub enum Place {
+    /// `(An)`.
+    At(u8),
+    /// `(An)+`.
+    Up(u8),
+    /// `-(An)`.
+    Down(u8),
+}
+
+/// An operand in a register.
+#[derive(Clone, Copy)]
+pub enum Register {
+    /// `Dn`.
+    Data(u8),
+    /// `An`.
+    Address(u8),
+}
+
+/// What becomes of an operand that is only read. The number is that of the register which changes, or with which the
+/// operand is compared.
+#[derive(Clone, Copy)]
+pub enum Taking {
+    /// `MOVE` to a data register.
+    Move(u8),
+    /// `MOVEA`.
+    MoveAddress(u8),
+    /// `ADD` to a data register.
+    Add(u8),
+    /// `SUB` from a data register.
+    Subtract(u8),
+    /// `AND` with a data register, which gets the result.
+    And(u8),
+    /// `OR` with a data register, which gets the result.
+    Or(u8),
+    /// `CMP` with a data register.
+    Compare(u8),
+    /// `ADDA`.
+    AddAddress(u8),
+    /// `SUBA`.
+    SubtractAddress(u8),
+    /// `CMPA`.
+    CompareAddress(u8),
+    /// `TST`.
+    Test,
+}
+
+/// What is written to an operand that is not read.
+#[derive(Clone, Copy)]
+pub enum Putting {
+    /// `MOVE Dn`.
+    Data(u8),
+    /// `MOVE An`.
+    Address(u8),
+    /// `CLR`.
+    Zero,
+}
+
+/// How a data register changes by itself, by a number in the first word, or by another data register.
+#[derive(Clone, Copy)]
+pub enum Change {
+    /// `CLR`.
+    Clear,
+    /// `NEG`.
+    Negate,
+    /// `NOT`.
+    Complement,
+    /// `ADDQ`.
+    AddQuick(u8),
+    /// `SUBQ`.
+    SubtractQuick(u8),
+    /// `EOR` of that data register.
+    ExclusiveOr(u8),
+    /// `ADDX` of that data register.
+    AddExtended(u8),
+    /// `SUBX` of that data register.
+    SubtractExtended(u8),
+    /// `LSL` by a count.
+    ShiftLeft(u8),
+    /// `LSR` by a count.
+    ShiftRight(u8),
+    /// `ASL` by a count.
+    ArithmeticLeft(u8),
+    /// `ASR` by a count.
+    ArithmeticRight(u8),
+    /// `ROL` by a count.
+    RotateLeft(u8),
+    /// `ROR` by a count.
+    RotateRight(u8),
+}
