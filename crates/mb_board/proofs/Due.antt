@@ -1,5 +1,5 @@
 -- Places in a script, and what arrives by its entries.
-use Rattle.std.proofs.Common.{◌≡◌, ◌∙◌, ℕ, zero, suc, ◌+◌, ◌<◌, ◌≤◌, ◌≢◌, List, [], ◌∷◌, length, drop, refl, sym, ap, arith}
+use Rattle.std.proofs.Common.{◌≡◌, ◌∙◌, ℕ, zero, suc, ◌+◌, ◌<◌, ◌≤◌, ◌≢◌, [], ◌∷◌, length, drop, refl, sym, ap, arith}
 use Rattle.std.proofs.Common.{◌⊎◌, inl, inr, add-one, Bool, true, false, ◌&&◌, ◌||◌}
 use Rattle.std.specs.Prelude.{Some, None, slice_get, ◌==◌, if◌then◌else◌}
 use Rattle.std.proofs.lemmas.Option.{get_or_from_slice_get, slice_get_within, slice_get-get_or}

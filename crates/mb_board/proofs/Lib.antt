@@ -1,6 +1,7 @@
 pub mod Due
 pub mod Runs
+pub mod Stretches
+pub mod Idle
 pub mod Spellings
 pub mod UserRuns
 pub mod AtOnce
-pub mod Steps

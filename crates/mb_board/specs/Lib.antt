@@ -3,4 +3,4 @@ pub mod Arrivals
 pub mod Beside
 pub mod Spelling
 pub mod Fits
-pub mod Aborted
+pub mod Idle

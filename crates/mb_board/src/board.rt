@@ -1,15 +1,17 @@
 //! The board.
 
-ghost use Rattle.std.specs.Prelude.{◌≡◌, ℕ, ◌+◌, ◌^◌, ◌<◌, ◌≤◌, length, replicate, slice_range, true, IfOk};
+ghost use Rattle.std.specs.Prelude.{◌≡◌, ℕ, ◌+◌, ◌^◌, ◌<◌, ◌≤◌, [], length, replicate, slice_range, true, IfOk};
 ghost use Rattle.mb_model.specs.Keeping.{rule_a};
 ghost use Rattle.mb_model.specs.Seen.{seen_of};
 ghost use Rattle.mb_walk.specs.Memory.{overwritten};
+ghost use Rattle.mb_port.specs.Routine.{run};
 ghost use Rattle.mb_processor.specs.Raise.{step_end};
-ghost use Rattle.mb_machine.specs.Machine.{reset_with, run_of, seen_machine, stepped, stepping, with_cpu, with_ram};
-ghost use Rattle.mb_machine.specs.Machine.{takes_steps};
+ghost use Rattle.mb_processor.specs.Step.{step_of};
+ghost use Rattle.mb_machine.specs.Bus.{bus_of};
+ghost use Rattle.mb_machine.specs.Machine.{processed, reset_with, run_of, seen_machine, stepped, stepping, with_cpu};
+ghost use Rattle.mb_machine.specs.Machine.{takes_steps, with_ram};
 ghost use Rattle.vm_meaning.specs.Free.{IsFreeRun};
 ghost use Rattle.vm_meaning.specs.Native.{user_step};
-ghost use Rattle.mb_board.specs.Arrivals.{IsNext};
 ghost use Rattle.mb_board.specs.State.{board_at_reset, machine_in, with_machine};
 
 use crate::bus::BoardBus;
@@ -105,6 +107,34 @@ impl Core {
         takes_steps(self.state)
     }
 
+    /// The processor's part of a step that has begun, with an interrupt of this level asked for.
+    #[inline(never)]
+    pub(crate) fn carry_out_at(&mut self, level: u8) -> Finish
+        requires { level < 8 }
+        ensures means { run (bus_of rule_a) (step_of level self.old.cpu) self.old.world
+            ≡ ((result, self.new.cpu), self.new.world) }
+        ensures steps { self.new.steps ≡ self.old.steps }
+        ensures state { self.new.state ≡ self.old.state }
+        ensures ram { length self.new.world.ram ≡ length self.old.world.ram }
+    {
+        step_in_place(&mut self.decoder, &mut self.cpu, &mut self.bus, level)
+    }
+
+    /// The processor's part of a step that has begun. Where no interrupt is asked for, its mask is not looked at.
+    #[inline(always)]
+    fn carry_out(&mut self) -> Finish
+        ensures means { processed rule_a [] self.old ≡ ((result, self.new.cpu), self.new.world) }
+        ensures steps { self.new.steps ≡ self.old.steps }
+        ensures state { self.new.state ≡ self.old.state }
+        ensures ram { length self.new.world.ram ≡ length self.old.world.ram }
+    {
+        let level = self.bus.level();
+        if level > 0 {
+            return self.carry_out_at(level);
+        }
+        step_in_place(&mut self.decoder, &mut self.cpu, &mut self.bus, 0)
+    }
+
     /// One step at which nothing arrives, and which is not counted.
     #[inline(always)]
     #[tactic(auto, unfolding(vm_meaning::specs::Native::user_step, mb_machine::specs::Machine::stepping, mb_machine::specs::Machine::begun))]
@@ -114,48 +144,9 @@ impl Core {
         ensures ram { length self.new.world.ram ≡ length self.old.world.ram }
     {
         self.bus.tick();
-        let level = self.bus.level();
-        let finish = step_in_place(&mut self.decoder, &mut self.cpu, &mut self.bus, level);
+        let finish = self.carry_out();
         self.state = state_of(finish, self.cpu.is_stopped(), self.bus.devices());
         finish
-    }
-
-    /// One step; the script's entries from `next` on are of steps that were not taken yet, and it goes behind those of
-    /// this one.
-    #[inline(always)]
-    #[tactic(auto, unfolding(vm_meaning::specs::Native::user_step, mb_machine::specs::Machine::stepping, mb_machine::specs::Machine::begun))]
-    fn step_on(&mut self, script: &Script, next: &mut u32) -> Finish
-        requires room { self.old.steps + 1 < 2 ^ 32 }
-        requires behind { IsNext script.now self.old.steps next.old }
-        ensures means { (result, self.new) ≡ stepping rule_a script.now self.old }
-        ensures next { IsNext script.now self.new.steps next.new }
-        ensures counted { self.new.steps ≡ self.old.steps + 1 }
-        ensures ram { length self.new.world.ram ≡ length self.old.world.ram }
-    {
-        let arrival = self.bus.receive(script, self.steps, *next);
-        *next = arrival.next;
-        self.steps += 1;
-        if arrival.aborted {
-            self.step_aborted()
-        } else {
-            self.step_uncounted()
-        }
-    }
-
-    /// Takes so many steps, or fewer where the machine halts or is switched off.
-    fn run_bare(&mut self, script: &Script, steps: u32)
-        requires { self.old.steps + steps < 2 ^ 32 }
-        ensures means { self.new ≡ run_of rule_a script.now steps self.old }
-        ensures free { IsFreeRun script.now steps self.old self.new }
-        ensures ram { length self.new.world.ram ≡ length self.old.world.ram }
-    {
-        let mut next = place_behind(script, self.steps);
-        for _ in 0..steps {
-            if !self.takes_steps() {
-                return;
-            }
-            self.step_on(script, &mut next);
-        }
     }
 
     /// The processor becomes another.

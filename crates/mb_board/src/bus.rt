@@ -1,6 +1,6 @@
 //! What the board's bus holds, and what the board does with it beside its calls.
 
-ghost use Rattle.std.specs.Prelude.{◌≡◌, ◌+◌, ◌^◌, ◌<◌, ◌≤◌, length, replicate, IfOk};
+ghost use Rattle.std.specs.Prelude.{◌≡◌, ◌+◌, ◌^◌, ◌<◌, ◌≤◌, length, replicate, if◌then◌else◌, IfOk};
 ghost use Rattle.mb_model.specs.Keeping.{rule_a};
 ghost use Rattle.mb_walk.specs.Memory.{overwritten};
 ghost use Rattle.mb_devices.specs.Devices.{level_of, ticked};
@@ -92,6 +92,14 @@ impl BoardBus {
         ensures within { result ≤ 6 }
     {
         self.devices.level()
+    }
+
+    /// The interrupt level that a step is asked for, where an abort has arrived for it or has not.
+    pub fn asked(&self, aborted: bool) -> u8
+        ensures means { result ≡ (if aborted then 7 else level_of self.now.devices) }
+        ensures within { result < 8 }
+    {
+        if aborted { 7 } else { self.level() }
     }
 
     /// Whether the machine is to be switched off at the end of the step.

@@ -5,7 +5,7 @@
 //! unit, the devices and the kept translations; one small function there is one stage of the definition of an access.
 #![tactic(auto)]
 
-mod aborting;
+mod bare;
 mod board;
 mod board_port;
 mod bus;

@@ -19,9 +19,9 @@ pub fn takes_steps(state: RunState) -> bool
 }
 
 /// The state after a step that ended so, by whether STOP holds the processor that it left, and by the devices.
-#[inline(always)]
+#[inline(never)]
 #[tactic(auto, unfolding(mb_machine::specs::Machine::state_after))]
-pub(crate) fn state_of(finish: Finish, stopped: bool, devices: &Devices) -> RunState
+fn state_by(finish: Finish, stopped: bool, devices: &Devices) -> RunState
     ensures { (cpu : Cpu) → cpu.stopped ≡ stopped → result ≡ state_after finish cpu devices.now }
 {
     match finish {
@@ -34,6 +34,20 @@ pub(crate) fn state_of(finish: Finish, stopped: bool, devices: &Devices) -> RunS
             } else {
                 RunState::Running
             }
+        }
+    }
+}
+
+/// The same. Nearly every step leaves the machine running, so that is asked first.
+#[inline(always)]
+#[tactic(auto, unfolding(mb_machine::specs::Machine::state_after))]
+pub(crate) fn state_of(finish: Finish, stopped: bool, devices: &Devices) -> RunState
+    ensures { (cpu : Cpu) → cpu.stopped ≡ stopped → result ≡ state_after finish cpu devices.now }
+{
+    match finish {
+        Finish::Went if !stopped && !devices.is_off() => RunState::Running,
+        Finish::Went | Finish::Entered(_) | Finish::Idle | Finish::Halted => {
+            state_by(finish, stopped, devices)
         }
     }
 }

@@ -1,0 +1,196 @@
+//! Steps and runs of the bare board.
+//!
+//! A run goes from one entry of the script to the next, and between them looks at no script. What STOP holds the
+//! processor for it takes at once, up to where the timer may wake it.
+
+ghost use Rattle.std.specs.Prelude.{◌≡◌, ◌+◌, ◌^◌, ◌<◌, ◌≤◌, [], length, true};
+ghost use Rattle.mb_model.specs.Keeping.{rule_a};
+ghost use Rattle.mb_devices.specs.Devices.{passed, IsNotDue};
+ghost use Rattle.mb_machine.specs.Machine.{run_of, stepping, takes_steps};
+ghost use Rattle.vm_meaning.specs.Free.{IsFreeRun};
+ghost use Rattle.mb_board.specs.Arrivals.{IsNext};
+ghost use Rattle.mb_board.specs.Idle.{IsHeld};
+
+use crate::board::Core;
+use crate::bus::BoardBus;
+use crate::receiving::place_behind;
+use crate::states::state_of;
+use mb_devices::Devices;
+use mb_model::RunState;
+use mb_processor::Finish;
+use mb_script::Script;
+use mb_step::rank;
+
+/// How many of so many steps, behind those that are taken, come before the step of the script's next entry.
+fn before_entry(script: &Script, next: u32, taken: u32, limit: u32) -> u32
+    requires { IsNext script.now taken next }
+    ensures next { IsNext script.now (taken + result) next }
+    ensures within { result ≤ limit }
+{
+    let _ = script.count();
+    match script.entry(next) {
+        Some((due, _)) => limit.min(due - taken - 1),
+        None => limit,
+    }
+}
+
+/// How many of so many steps pass before the timer comes to 0.
+fn before_tick(devices: &Devices, limit: u32) -> u32
+    ensures due { IsNotDue result devices.now }
+    ensures within { result ≤ limit }
+{
+    if devices.period() == 0 {
+        limit
+    } else {
+        limit.min(devices.count() - 1)
+    }
+}
+
+impl BoardBus {
+    /// So many steps pass at once, or fewer, up to where the timer comes to 0. Gives how many.
+    fn pass(&mut self, limit: u32) -> u32
+        ensures due { IsNotDue result self.old.devices }
+        ensures within { result ≤ limit }
+        ensures after { self.new ≡ record self.old { devices = passed result self.old.devices } }
+    {
+        let steps = before_tick(&self.devices, limit);
+        self.devices.pass(steps);
+        steps
+    }
+}
+
+impl Core {
+    /// Takes one step, with what arrives at it. The script's entries from `next` on are of steps that were not taken
+    /// yet, and it goes behind those of this one.
+    #[tactic(auto, unfolding(mb_machine::specs::Machine::stepping, mb_machine::specs::Machine::begun))]
+    pub(crate) fn step_on(&mut self, script: &Script, next: &mut u32) -> Finish
+        requires room { self.old.steps + 1 < 2 ^ 32 }
+        requires behind { IsNext script.now self.old.steps next.old }
+        ensures means { (result, self.new) ≡ stepping rule_a script.now self.old }
+        ensures next { IsNext script.now self.new.steps next.new }
+        ensures counted { self.new.steps ≡ self.old.steps + 1 }
+        ensures ram { length self.new.world.ram ≡ length self.old.world.ram }
+    {
+        let arrival = self.bus.receive(script, self.steps, *next);
+        *next = arrival.next;
+        self.steps += 1;
+        self.bus.tick();
+        let level = self.bus.asked(arrival.aborted);
+        let finish = self.carry_out_at(level);
+        self.state = state_of(finish, self.cpu.is_stopped(), self.bus.devices());
+        finish
+    }
+
+    /// One step at which nothing arrives.
+    #[inline(always)]
+    #[tactic(auto, unfolding(vm_meaning::specs::Native::user_step, mb_machine::specs::Machine::stepping, mb_machine::specs::Machine::begun))]
+    fn step_alone(&mut self) -> Finish
+        requires { self.old.steps + 1 < 2 ^ 32 }
+        ensures means { (result, self.new) ≡ stepping rule_a [] self.old }
+        ensures counted { self.new.steps ≡ self.old.steps + 1 }
+        ensures ram { length self.new.world.ram ≡ length self.old.world.ram }
+    {
+        self.steps += 1;
+        self.step_uncounted()
+    }
+
+    /// Whether STOP holds the processor, and no interrupt is asked for that it takes.
+    #[inline(always)]
+    fn is_held(&self) -> bool
+        ensures { result ≡ true → IsHeld self.now }
+    {
+        match self.state {
+            RunState::Stopped => {
+                self.cpu.is_stopped()
+                    && !self.bus.is_off()
+                    && rank(self.bus.level()) <= self.cpu.interrupt_mask()
+            }
+            RunState::Running | RunState::Halted | RunState::Off => false,
+        }
+    }
+
+    /// STOP holds the processor in so many steps, or in fewer, up to where the timer comes to 0: these are taken at
+    /// once. Gives how many they are.
+    #[inline(never)]
+    fn idle(&mut self, limit: u32) -> u32
+        requires held { IsHeld self.old }
+        requires room { self.old.steps + limit < 2 ^ 32 }
+        ensures within { result ≤ limit }
+        ensures means { self.new ≡ run_of rule_a [] result self.old }
+        ensures counted { self.new.steps ≡ self.old.steps + result }
+        ensures ram { length self.new.world.ram ≡ length self.old.world.ram }
+    {
+        let idle = self.bus.pass(limit);
+        self.steps += idle;
+        idle
+    }
+
+    /// Takes the idle steps that can be taken at once, at most so many. Gives how many they are.
+    #[inline(always)]
+    fn idle_on(&mut self, limit: u32) -> u32
+        requires { self.old.steps + limit < 2 ^ 32 }
+        ensures within { result ≤ limit }
+        ensures means { self.new ≡ run_of rule_a [] result self.old }
+        ensures counted { self.new.steps ≡ self.old.steps + result }
+        ensures ram { length self.new.world.ram ≡ length self.old.world.ram }
+    {
+        if self.is_held() { self.idle(limit) } else { 0 }
+    }
+
+    /// Takes so many steps at which nothing arrives, or fewer where the machine halts or is switched off.
+    fn run_alone(&mut self, steps: u32)
+        requires { self.old.steps + steps < 2 ^ 32 }
+        ensures means { self.new ≡ run_of rule_a [] steps self.old }
+        ensures within { self.new.steps ≤ self.old.steps + steps }
+        ensures counted { takes_steps self.new.state ≡ true → self.new.steps ≡ self.old.steps + steps }
+        ensures ram { length self.new.world.ram ≡ length self.old.world.ram }
+    {
+        let mut left = steps;
+        while left > 0 {
+            if !self.takes_steps() {
+                return;
+            }
+            self.step_alone();
+            left -= 1;
+            left -= self.idle_on(left);
+        }
+    }
+
+    /// Takes the next step, with what arrives at it, and those behind it at which nothing does, at most `limit` in all,
+    /// or fewer where the machine halts or is switched off. Gives how many they are where it does not, and goes to the
+    /// script's next entry.
+    fn run_to_entry(&mut self, script: &Script, next: &mut u32, limit: u32) -> u32
+        requires limit { 0 < limit }
+        requires room { self.old.steps + limit < 2 ^ 32 }
+        requires takes { takes_steps self.old.state ≡ true }
+        requires behind { IsNext script.now self.old.steps next.old }
+        ensures some { 0 < result }
+        ensures within { result ≤ limit }
+        ensures means { self.new ≡ run_of rule_a script.now result self.old }
+        ensures steps { self.new.steps ≤ self.old.steps + result }
+        ensures next { takes_steps self.new.state ≡ true → IsNext script.now self.new.steps next.new }
+        ensures ram { length self.new.world.ram ≡ length self.old.world.ram }
+    {
+        self.step_on(script, next);
+        let more = before_entry(script, *next, self.steps, limit - 1);
+        self.run_alone(more);
+        more + 1
+    }
+
+    /// Takes so many steps, or fewer where the machine halts or is switched off.
+    pub(crate) fn run_bare(&mut self, script: &Script, steps: u32)
+        requires { self.old.steps + steps < 2 ^ 32 }
+        ensures means { self.new ≡ run_of rule_a script.now steps self.old }
+        ensures free { IsFreeRun script.now steps self.old self.new }
+        ensures ram { length self.new.world.ram ≡ length self.old.world.ram }
+    {
+        let mut next = place_behind(script, self.steps);
+        let mut left = steps;
+        while left > 0 {
+            if !self.takes_steps() {
+                return;
+            }
+            left -= self.run_to_entry(script, &mut next, left);
+        }
+    }
+}
