@@ -3,7 +3,8 @@ use Rattle.std.proofs.Common.{◌≡◌, ◌≤◌, inl, inr, length, refl, sym,
 use Rattle.std.specs.Prelude.{IfSome, option_and_then, string_bytes}
 use Rattle.std.proofs.lemmas.Bool.{le-ltb, lt-ltb}
 use Rattle.mb_words.specs.Words.{Text}
-use Rattle.mb_program.specs.Answers.{Answer, Told, Course, reads_as, reads_if_named, unless_long, unless_refused, most_bytes, answer_at, MayEnd, Names}
+use Rattle.mb_program.specs.declared.files.TheConstants.{MOST_BYTES}
+use Rattle.mb_program.specs.Answers.{Answer, Told, Course, reads_as, reads_if_named, unless_long, unless_refused, answer_at, MayEnd, Names}
 use Rattle.mb_program.specs.Ends.{Around, ShelfSeen, CourseEnds, DoesNothing, HasLines, IsRefused, SaysBeside}
 use Rattle.mb_program.specs.Reads.{Holds, FileEnds, IsRefusedFor, Passes, Reads}
 use Rattle.mb_program.specs.declared.end.FileWhy.{FileWhy}
@@ -17,9 +18,9 @@ where_told None R f P h each = tt
 where_told (Some bytes) R f P h each = each bytes h
 
 -- the answer at a file that is not too long
-short_answer : (file bytes : Text) (later : Option Answer) (P : Answer → Type 0) → length bytes ≤ most_bytes
+short_answer : (file bytes : Text) (later : Option Answer) (P : Answer → Type 0) → length bytes ≤ MOST_BYTES
     → IfSome later P → IfSome (unless_long file bytes later) P
-short_answer file bytes later P short h = rw (le-ltb most_bytes (length bytes) short) h
+short_answer file bytes later P short h = rw (le-ltb MOST_BYTES (length bytes) short) h
 
 -- the answer behind a file that was read is the answer at it
 answer_behind : {A : Type 0} (told : Told) (held_in : Text → Result A FileWhy) (file : Text) (held : A) (next : A → Course) (P : Answer → Type 0)
@@ -67,7 +68,7 @@ goes_on a held_in file held next Memory h e = e
 refusal : {A : Type 0} (told : Told) (held_in : Text → Result A FileWhy) (file : Text) (next : A → Course) (name : Text) (why : FileWhy) (bytes : Text)
     → name ≡ file → IsRefusedFor held_in why bytes
     → IfSome (unless_long file bytes (answer_at told (unless_refused file (held_in bytes) next))) (IsRefused name why)
-refusal told held_in file next name why bytes named (inl long) = rw (lt-ltb most_bytes (length bytes) long.1) (sym named, sym long.0)
+refusal told held_in file next name why bytes named (inl long) = rw (lt-ltb MOST_BYTES (length bytes) long.1) (sym named, sym long.0)
 refusal told held_in file next name why bytes named (inr bad) =
     short_answer file bytes _ (IsRefused name why) bad.0 (rw bad.1 (sym named, refl))
 

@@ -3,7 +3,8 @@ use Rattle.std.proofs.Common.{◌≡◌, ◌≤◌, inl, inr, Bool, true, false,
 use Rattle.std.specs.Prelude.{is_some, option_and_then, nat_lt, string_bytes}
 use Rattle.std.proofs.lemmas.Bool.{le-ltb}
 use Rattle.mb_words.specs.Words.{Text, Asked}
-use Rattle.mb_program.specs.Answers.{Answer, Told, Course, reads, ends, most_bytes, unless_long, answer_at, course_of, Names}
+use Rattle.mb_program.specs.declared.files.TheConstants.{MOST_BYTES}
+use Rattle.mb_program.specs.Answers.{Answer, Told, Course, reads, ends, unless_long, answer_at, course_of, Names}
 use Rattle.mb_program.specs.Ends.{Around, Ends}
 use Rattle.mb_program.specs.Causes.{IsAllTold, IsStatus}
 use Rattle.mb_program.specs.Lines.{status_of}
@@ -20,9 +21,9 @@ not_long : (b : Bool) (refusal later : Option Answer) → b ≡ false → is_som
 not_long true refusal later e h = absurd cc
 not_long false refusal later e h = h
 
-behind : (file bytes : Text) (later : Option Answer) → length bytes ≤ most_bytes
+behind : (file bytes : Text) (later : Option Answer) → length bytes ≤ MOST_BYTES
     → is_some (unless_long file bytes later) ≡ true → is_some later ≡ true
-behind file bytes later short h = not_long (nat_lt most_bytes (length bytes)) _ later (le-ltb _ _ short) h
+behind file bytes later short h = not_long (nat_lt MOST_BYTES (length bytes)) _ later (le-ltb _ _ short) h
 
 here : {B : Type 0} (o : Option Text) (f : Text → Option B) → is_some (option_and_then f o) ≡ true → is_some o ≡ true
 here None f h = absurd cc

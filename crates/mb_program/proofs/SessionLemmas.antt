@@ -10,7 +10,8 @@ use Rattle.mb_gen.specs.Sessions.{generated}
 use Rattle.mb_words.specs.Words.{Text, Workload, Asked, hosting, comparison, generation}
 use Rattle.vm_guest.specs.Session.{GuestAtStart, SessionAtStart}
 use Rattle.vm_slices.specs.Fit.{Fits, need_of}
-use Rattle.mb_program.specs.Answers.{Answer, shows, Shown, Told, Course, ends, most_bytes, answer_at, course_of, reads_as, reads_if_named, reads_guest, reads_guests, reads_session, guest_by, run_of_guest, session_by, script_in, image_in, session_in, if_it_fits, host_answer, host_shown, compare_answer, compare_shown, is_same, gen_shown}
+use Rattle.mb_program.specs.declared.files.TheConstants.{MOST_BYTES}
+use Rattle.mb_program.specs.Answers.{Answer, shows, Shown, Told, Course, ends, answer_at, course_of, reads_as, reads_if_named, reads_guest, reads_guests, reads_session, guest_by, run_of_guest, session_by, script_in, image_in, session_in, if_it_fits, host_answer, host_shown, compare_answer, compare_shown, is_same, gen_shown}
 use Rattle.mb_program.specs.Direct.{Ordered}
 use Rattle.mb_program.specs.Ends.{Around, FailsNowhere, IsSaid, IsShown, Said}
 use Rattle.mb_program.specs.Sessions.{Tells, TellsScript, TellsGuest, TellsGuests, TellsSession, IsHosted, IsCompared, IsGenerated}
@@ -21,7 +22,7 @@ use Rattle.mb_program.specs.declared.end.FileWhy.{FileWhy}
 
 at_file : {A : Type 0} (told : Told) (held_in : Text → Result A FileWhy) (file : Text) (held : A) (next : A → Course) → Tells told held_in file held
     → answer_at told (reads_as held_in file next) ≡ answer_at told (next held)
-at_file told held_in file held next t = rw (t.is_told, le-ltb most_bytes (length t.bytes) t.short, t.holds) refl
+at_file told held_in file held next t = rw (t.is_told, le-ltb MOST_BYTES (length t.bytes) t.short, t.holds) refl
 
 at_script : (told : Told) (file : Option Text) (script : Entries) (next : Entries → Course) → TellsScript told file script
     → answer_at told (reads_if_named script_in file [] next) ≡ answer_at told (next script)

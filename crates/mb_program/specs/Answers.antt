@@ -28,6 +28,7 @@ use Rattle.mb_program.specs.Direct.{Ordered, counts_line, tallies_by, unordered}
 use Rattle.mb_program.specs.declared.end.FileWhy.{FileWhy}
 use Rattle.mb_program.specs.declared.end.FileWhy.TheVariants.{TooLong, Line, Outside, NoEnd}
 use Rattle.mb_program.specs.declared.end.Reason.TheVariants.{Record, Words, Source}
+use Rattle.mb_program.specs.declared.files.TheConstants.{MOST_BYTES}
 
 -- ---- answers
 
@@ -52,10 +53,6 @@ plain text = record { text = text; lines = []; status = 0; hosted = None }
 
 -- ---- the files of a command
 
--- the most bytes of a file
-abbrev pub most_bytes : ℕ
-most_bytes = 67108864
-
 -- What a command does with files: it reads the one of this name, and goes on by its bytes, or it has its answer. So its
 -- files are a list in order, and a file may name those behind it.
 pub data Course : Type 0 where
@@ -68,7 +65,7 @@ Told = Text → Option Text
 
 -- a file past its greatest length is refused
 abbrev pub unless_long : Text → Text → Option Answer → Option Answer
-unless_long file bytes later = if nat_lt most_bytes (length bytes) then Some (refuses file TooLong) else later
+unless_long file bytes later = if nat_lt MOST_BYTES (length bytes) then Some (refuses file TooLong) else later
 
 -- the answer at the end of a course, where each file on it is told
 abbrev pub answer_at : Told → Course → Option Answer
@@ -79,7 +76,7 @@ answer_at told (ends answer) = Some answer
 -- The name is that of a file on the course: of the first one, or of one behind it by bytes that the first may have.
 abbrev pub Names : Told → Course → Text → Type 0
 Names told (reads file next) name = (name ≡ file) ⊎ ((bytes : Text)
-    × (length bytes ≤ most_bytes)
+    × (length bytes ≤ MOST_BYTES)
     × IfSome (told file) (λ content. bytes ≡ content)
     × Names told (next bytes) name)
 Names told (ends answer) name = ⊥
@@ -87,7 +84,7 @@ Names told (ends answer) name = ⊥
 -- The answer at some end of the course, by bytes that its files may have, is so.
 abbrev pub MayEnd : Told → Course → (Answer → Type 0) → Type 0
 MayEnd told (reads file next) P = (bytes : Text)
-    × (length bytes ≤ most_bytes)
+    × (length bytes ≤ MOST_BYTES)
     × IfSome (told file) (λ content. bytes ≡ content)
     × MayEnd told (next bytes) P
 MayEnd told (ends answer) P = P answer

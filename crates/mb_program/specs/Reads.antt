@@ -9,7 +9,8 @@ use Rattle.mb_script.specs.declared.fault.LineFault.TheVariants as line_fault
 use Rattle.mb_asm.specs.declared.fault.AsmFault.{AsmFault}
 use Rattle.mb_asm.specs.declared.fault.AsmFault.TheVariants as asm_fault
 use Rattle.mb_words.specs.Words.{Text}
-use Rattle.mb_program.specs.Answers.{Told, Course, most_bytes}
+use Rattle.mb_program.specs.declared.files.TheConstants.{MOST_BYTES}
+use Rattle.mb_program.specs.Answers.{Told, Course}
 use Rattle.mb_program.specs.Ends.{Around, ShelfSeen, Stayed, CourseEnds, IsMissing, DoesNothing}
 use Rattle.mb_program.specs.declared.end.FileWhy.{FileWhy}
 use Rattle.mb_program.specs.declared.end.FileWhy.TheVariants.{TooLong, Line, Outside, NoEnd}
@@ -34,12 +35,12 @@ FileEnds before after name IsWhy _ = ⊥
 
 -- the bytes are more than a file may have
 abbrev pub IsTooLong : FileWhy → Text → Type 0
-IsTooLong why bytes = (why ≡ TooLong) × (most_bytes < length bytes)
+IsTooLong why bytes = (why ≡ TooLong) × (MOST_BYTES < length bytes)
 
 -- The file was read to its end, or is the cause of an end.
 abbrev pub Loads : ShelfSeen → ShelfSeen → Text → Result Loaded End → Type 0
 Loads before after name (Ok file) =
-    (string_bytes file.name ≡ name) × Stayed before after × (length file.bytes.items ≤ most_bytes)
+    (string_bytes file.name ≡ name) × Stayed before after × (length file.bytes.items ≤ MOST_BYTES)
     × IfSome (before.told name) (λ bytes. file.bytes.items ≡ bytes)
 Loads before after name (Err end) = FileEnds before after name IsTooLong end
 
@@ -48,14 +49,14 @@ Loads before after name (Err end) = FileEnds before after name IsTooLong end
 -- The file was read to its end, and holds this.
 pub record Holds {A : Type 0} (told : Told) (held_in : Text → Result A FileWhy) (file : Text) (held : A) : Type 0 where
   pub bytes : Text
-  pub short : length bytes ≤ most_bytes
+  pub short : length bytes ≤ MOST_BYTES
   pub is_told : IfSome (told file) (λ content. bytes ≡ content)
   pub holds : held_in bytes ≡ Ok held
 
 -- the bytes are too many, or are refused for this reason
 abbrev pub IsRefusedFor : {A : Type 0} → (Text → Result A FileWhy) → FileWhy → Text → Type 0
 IsRefusedFor held_in why bytes =
-    IsTooLong why bytes ⊎ ((length bytes ≤ most_bytes) × (held_in bytes ≡ Err why))
+    IsTooLong why bytes ⊎ ((length bytes ≤ MOST_BYTES) × (held_in bytes ≡ Err why))
 
 -- What the file holds was read, seen so, or the file is the cause of an end.
 abbrev pub Reads : {A X : Type 0} → (Text → Result A FileWhy) → (X → A) → ShelfSeen → ShelfSeen → Text → Result X End

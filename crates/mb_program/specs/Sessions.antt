@@ -12,7 +12,8 @@ use Rattle.mb_words.specs.Words.{Text, Workload, Asked, hosting, comparison, gen
 use Rattle.vm_guest.specs.Session.{GuestAtStart, SessionAtStart}
 use Rattle.vm_slices.specs.Fit.{Fits}
 use Rattle.mb_program.specs.Direct.{CarriedOut, Ordered, counts_line, tallies_by, unordered}
-use Rattle.mb_program.specs.Answers.{Told, most_bytes, image_in, script_in, session_in, texts_from}
+use Rattle.mb_program.specs.declared.files.TheConstants.{MOST_BYTES}
+use Rattle.mb_program.specs.Answers.{Told, image_in, script_in, session_in, texts_from}
 use Rattle.mb_program.specs.Answers.{compared_text, is_same, outcome_by, summary_text}
 use Rattle.mb_program.specs.Ends.{Around, FailsNowhere, IsSaid, Said}
 use Rattle.mb_program.specs.declared.end.FileWhy.{FileWhy}
@@ -23,7 +24,7 @@ use Rattle.mb_program.specs.declared.end.FileWhy.{FileWhy}
 pub record Tells {A : Type 0} (told : Told) (held_in : Text → Result A FileWhy) (file : Text) (held : A) : Type 0 where
   pub bytes : Text
   pub is_told : told file ≡ Some bytes
-  pub short : length bytes ≤ most_bytes
+  pub short : length bytes ≤ MOST_BYTES
   pub holds : held_in bytes ≡ Ok held
 
 -- the same for a script that may not be named; where it is not, it has no entries
