@@ -1,7 +1,7 @@
 //! A micro-TLB: for each kind of access the pages that it led to last, with their places in RAM.
 
 ghost use Rattle.std.specs.Prelude.{◌≡◌};
-ghost use Rattle.mb_mmu.specs.MicroTlb.{entry_for, entry_in, entry_to, none, nothing, place_by, with_entry, with_in};
+ghost use Rattle.mb_mmu.specs.MicroTlb.{entries_for, entry_for, entry_in, entry_to, none, nothing, place_by, with_entry, with_in};
 
 use mb_machine::Reference;
 use mb_model::page_of;
@@ -111,18 +111,26 @@ impl MicroTlb {
         }
     }
 
+    /// The entries for the kind of access that a reference is.
+    #[inline(always)]
+    fn entries(&self, r: Reference) -> &Entries
+        ensures { result.now ≡ entries_for r.code r.write self.now }
+    {
+        if r.code {
+            &self.fetches
+        } else if r.write {
+            &self.writes
+        } else {
+            &self.reads
+        }
+    }
+
     /// The place that a reference led to, where its page has an entry.
     #[inline(always)]
     pub fn place(&self, r: Reference) -> Option<u32>
         ensures { result ≡ place_by (entry_for self.now r) r.at }
     {
-        if r.code {
-            self.fetches.place(r.space, r.at)
-        } else if r.write {
-            self.writes.place(r.space, r.at)
-        } else {
-            self.reads.place(r.space, r.at)
-        }
+        self.entries(r).place(r.space, r.at)
     }
 
     /// Remembers that a reference led to a place.
