@@ -28,6 +28,15 @@ use mb_walk::Ram;
 use std::alloc::Global;
 use std::marker::Model;
 
+/// The copy of a step in runs of the bare board.
+pub(crate) const BARE: usize = 0;
+
+/// That in runs for a monitor.
+pub(crate) const NATIVE: usize = 1;
+
+/// That for steps at which something arrives, or an interrupt is asked for.
+const ASKED: usize = 2;
+
 /// The registers where none are remembered.
 const NO_REGISTERS: Plain = Plain {
     d: [0; 8],
@@ -117,12 +126,12 @@ impl Core {
         ensures state { self.new.state ≡ self.old.state }
         ensures ram { length self.new.world.ram ≡ length self.old.world.ram }
     {
-        step_in_place(&mut self.decoder, &mut self.cpu, &mut self.bus, level)
+        step_in_place::<_, ASKED>(&mut self.decoder, &mut self.cpu, &mut self.bus, level)
     }
 
     /// The processor's part of a step that has begun. Where no interrupt is asked for, its mask is not looked at.
     #[inline(always)]
-    fn carry_out(&mut self) -> Finish
+    fn carry_out<const COPY: usize>(&mut self) -> Finish
         ensures means { processed rule_a [] self.old ≡ ((result, self.new.cpu), self.new.world) }
         ensures steps { self.new.steps ≡ self.old.steps }
         ensures state { self.new.state ≡ self.old.state }
@@ -132,19 +141,19 @@ impl Core {
         if level > 0 {
             return self.carry_out_at(level);
         }
-        step_in_place(&mut self.decoder, &mut self.cpu, &mut self.bus, 0)
+        step_in_place::<_, COPY>(&mut self.decoder, &mut self.cpu, &mut self.bus, 0)
     }
 
     /// One step at which nothing arrives, and which is not counted.
     #[inline(always)]
     #[tactic(auto, unfolding(vm_meaning::specs::Native::user_step, mb_machine::specs::Machine::stepping, mb_machine::specs::Machine::begun))]
-    pub(crate) fn step_uncounted(&mut self) -> Finish
+    pub(crate) fn step_uncounted<const COPY: usize>(&mut self) -> Finish
         ensures means { (result, self.new) ≡ user_step self.old }
         ensures steps { self.new.steps ≡ self.old.steps }
         ensures ram { length self.new.world.ram ≡ length self.old.world.ram }
     {
         self.bus.tick();
-        let finish = self.carry_out();
+        let finish = self.carry_out::<COPY>();
         self.state = state_of(finish, self.cpu.is_stopped(), self.bus.devices());
         finish
     }

@@ -7,7 +7,7 @@ ghost use Rattle.mb_board.specs.Fits.{FitsAlong};
 ghost use Rattle.mb_board.specs.Spelling.{Spell};
 ghost use Rattle.mb_board.specs.State.{ran_to, run_from};
 
-use crate::board::{Board, Core};
+use crate::board::{Board, Core, NATIVE};
 use crate::native::Native;
 use crate::spelling::spelling;
 use mb_instr::Plain;
@@ -62,7 +62,7 @@ impl Core {
         ensures ram { length self.new.world.ram ≡ length self.old.world.ram }
     {
         *before = *self.cpu.plain();
-        let finish = self.step_uncounted();
+        let finish = self.step_uncounted::<NATIVE>();
         self.count(finish, before, spelled, native);
         self.ended_by(finish)
     }

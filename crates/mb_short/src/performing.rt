@@ -65,10 +65,6 @@ fn perform_rarer<P: Port>(short: &Short, space: Space, plain: &mut Plain, port: 
     ensures rest { P.rest port.new ≡ P.rest port.old }
 {
     match *short {
-        Short::Swap { .. } => perform_in_registers(*short, space, plain, port),
-        Short::ExtendWord { .. } => perform_in_registers(*short, space, plain, port),
-        Short::RaiseAddress { .. } => perform_in_registers(*short, space, plain, port),
-        Short::LowerAddress { .. } => perform_in_registers(*short, space, plain, port),
         Short::TakeRegister { taking, size, register } => take_register(taking, size, register, space, plain, port),
         Short::TakeMemory { taking, size, place } => take_memory(taking, size, place, space, plain, port),
         Short::PutMemory { putting, size, place } => put_memory(putting, size, place, space, plain, port),
@@ -82,10 +78,17 @@ fn perform_rarer<P: Port>(short: &Short, space: Space, plain: &mut Plain, port: 
 
 /// Carries out the instruction of a short form that stands at PC, where that is done at once: then the answer is
 /// whether it changed the flow of control. Else nothing has changed.
+///
+/// A `COPY` is a copy of its own of the most frequent forms: one that a single place calls is compiled into it.
 #[rattlefmt::skip]
 #[tactic(auto, using(crate::proofs::Goings::endings))]
 #[inline(always)]
-pub fn perform_short<P: Port>(short: &Short, space: Space, plain: &mut Plain, port: &mut P) -> Option<bool>
+pub fn perform_short<P: Port, const COPY: usize>(
+    short: &Short,
+    space: Space,
+    plain: &mut Plain,
+    port: &mut P,
+) -> Option<bool>
     requires even { plain.old.pc % 2 ≡ 0 }
     requires valid { IfSome (meaning short.now) IsInstr }
     requires valid_with { (word : _) → word < 2 ^ 16 → IfSome (meaning_with word short.now) IsInstr }
@@ -97,20 +100,24 @@ pub fn perform_short<P: Port>(short: &Short, space: Space, plain: &mut Plain, po
 {
     match *short {
         Short::Unknown | Short::Other => None,
-        Short::MoveQuick { .. } => perform_in_registers(*short, space, plain, port),
-        Short::CopyLong { .. } => perform_in_registers(*short, space, plain, port),
-        Short::AddLong { .. } => perform_in_registers(*short, space, plain, port),
-        Short::SubtractLong { .. } => perform_in_registers(*short, space, plain, port),
-        Short::AndLong { .. } => perform_in_registers(*short, space, plain, port),
-        Short::OrLong { .. } => perform_in_registers(*short, space, plain, port),
-        Short::ExclusiveOrLong { .. } => perform_in_registers(*short, space, plain, port),
-        Short::CompareLong { .. } => perform_in_registers(*short, space, plain, port),
-        Short::MultiplyUnsigned { .. } => perform_in_registers(*short, space, plain, port),
-        Short::MultiplySigned { .. } => perform_in_registers(*short, space, plain, port),
-        Short::ShiftRightLong { .. } => perform_in_registers(*short, space, plain, port),
-        Short::AddQuickLong { .. } => perform_in_registers(*short, space, plain, port),
-        Short::SubtractQuickLong { .. } => perform_in_registers(*short, space, plain, port),
-        Short::TestLong { .. } => perform_in_registers(*short, space, plain, port),
+        Short::MoveQuick { .. }
+        | Short::CopyLong { .. }
+        | Short::AddLong { .. }
+        | Short::SubtractLong { .. }
+        | Short::AndLong { .. }
+        | Short::OrLong { .. }
+        | Short::ExclusiveOrLong { .. }
+        | Short::CompareLong { .. }
+        | Short::MultiplyUnsigned { .. }
+        | Short::MultiplySigned { .. }
+        | Short::ShiftRightLong { .. }
+        | Short::AddQuickLong { .. }
+        | Short::SubtractQuickLong { .. }
+        | Short::TestLong { .. }
+        | Short::Swap { .. }
+        | Short::ExtendWord { .. }
+        | Short::RaiseAddress { .. }
+        | Short::LowerAddress { .. } => perform_in_registers::<_, COPY>(short, space, plain, port),
         Short::LoadLong { register, base } => {
             let word = second_word(space, plain, port)?;
             take_near(Taking::Move(register), Size::Long, base, word, space, plain, port)

@@ -73,13 +73,13 @@ fn swap(register: u8, plain: &mut Plain)
     mb_meaning::specs::Shifts::shift_register_of,
     mb_meaning::specs::Unary::ext_of,
 ))]
-fn carry_out<P: Port>(short: Short, at: u32, space: Space, plain: &mut Plain, port: &P) -> bool
-    requires valid { IfSome (meaning short) IsInstr }
+fn carry_out<P: Port, const COPY: usize>(short: &Short, at: u32, space: Space, plain: &mut Plain, port: &P) -> bool
+    requires valid { IfSome (meaning short.now) IsInstr }
     ensures done { result ≡ true
-        → RowBy P.bus (meaning short) at space plain.old (P.world port.now) plain.new }
+        → RowBy P.bus (meaning short.now) at space plain.old (P.world port.now) plain.new }
     ensures undone { result ≡ false → plain.new ≡ plain.old }
 {
-    match short {
+    match *short {
         Short::MoveQuick { register, immediate } => moveq(register, immediate, plain),
         Short::CopyLong { register, source } => move_to(register, Size::Long, plain.d[source as usize], plain),
         Short::AddLong { register, source } => combine_registers(ADD, Size::Long, source, register, plain),
@@ -115,20 +115,20 @@ fn carry_out<P: Port>(short: Short, at: u32, space: Space, plain: &mut Plain, po
 
 /// Carries out the instruction that stands at PC, where its form is one of these.
 #[inline(always)]
-pub(crate) fn perform_in_registers<P: Port>(
-    short: Short,
+pub(crate) fn perform_in_registers<P: Port, const COPY: usize>(
+    short: &Short,
     space: Space,
     plain: &mut Plain,
     port: &P,
 ) -> Option<bool>
-    requires { IfSome (meaning short) IsInstr }
-    ensures done { IfSome result (λ flow. GoesBy P.bus (meaning short) 1 space plain.old (P.world port.now) flow
+    requires { IfSome (meaning short.now) IsInstr }
+    ensures done { IfSome result (λ flow. GoesBy P.bus (meaning short.now) 1 space plain.old (P.world port.now) flow
         plain.new (P.world port.now)) }
     ensures undone { IfNone result (plain.new ≡ plain.old) }
 {
     let at = plain.pc;
     plain.pc = at.wrapping_add(2);
-    if carry_out(short, at, space, plain, port) {
+    if carry_out::<_, COPY>(short, at, space, plain, port) {
         Some(false)
     } else {
         plain.pc = at;

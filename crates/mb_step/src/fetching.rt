@@ -191,7 +191,7 @@ fn learn(first: u16, first_words: &mut FirstWords, shorts: &mut Shorts) {
 /// Carries out the instruction of a first word's short form that stands at PC, where that is done at once. Else nothing
 /// has changed.
 #[inline(always)]
-fn execute_short<P: Port>(
+fn execute_short<P: Port, const COPY: usize>(
     first: u16,
     short: &Short,
     processor: &mut Processor,
@@ -208,7 +208,7 @@ fn execute_short<P: Port>(
     ensures rest { P.rest port.new ≡ P.rest port.old }
 {
     let at = processor.plain.pc;
-    let flow = perform_short(short, processor.cpu.space(), &mut processor.plain, port)?;
+    let flow = perform_short::<_, COPY>(short, processor.cpu.space(), &mut processor.plain, port)?;
     Some(finish_done(flow, at, &mut processor.plain, &mut processor.cpu, port))
 }
 
@@ -216,7 +216,7 @@ fn execute_short<P: Port>(
 ///
 /// An instruction of one word stays where it is remembered, and a longer one in its place, from which all are carried
 /// out by one call.
-#[inline(always)]
+#[inline(never)]
 fn execute_first<P: Port>(
     first: u16,
     first_words: &mut FirstWords,
@@ -258,7 +258,7 @@ fn execute_first<P: Port>(
 /// is fetched behind those that the instruction needs, and none at an odd PC.
 #[inline(always)]
 #[tactic(auto, unfolding(mb_processor::specs::Step::instruction_of))]
-pub(crate) fn execute_next<P: Port>(
+pub(crate) fn execute_next<P: Port, const COPY: usize>(
     first_words: &mut FirstWords,
     shorts: &mut Shorts,
     longer: &mut Longer,
@@ -279,7 +279,7 @@ pub(crate) fn execute_next<P: Port>(
         Err(end) => return end,
     };
     let short = shorts.of(first);
-    match execute_short(first, short, processor, port) {
+    match execute_short::<_, COPY>(first, short, processor, port) {
         Some(end) => end,
         None => {
             if let Short::Unknown = short {

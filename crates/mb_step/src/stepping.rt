@@ -25,9 +25,12 @@ pub fn rank(level: u8) -> u8
 /// An interrupt above the mask is entered, and one of level 7 whatever the mask, and the step has nothing else. A
 /// processor that STOP holds idles. Else the instruction at PC is carried out, with the exceptions that it causes. The
 /// decoder is the caller's, whatever it remembers. The answer names the last exception that was entered.
+///
+/// Each `COPY` is a copy of its own of what a step does most often. Where a single place calls it, it is compiled into
+/// that place whole; so a loop whose steps are to be quick names one that no other place names.
 #[inline(always)]
 #[tactic(auto, unfolding(mb_processor::specs::Step::step_of))]
-pub fn step_in_place<P: Port>(
+pub fn step_in_place<P: Port, const COPY: usize>(
     decoder: &mut Decoder,
     processor: &mut Processor,
     port: &mut P,
@@ -46,7 +49,7 @@ pub fn step_in_place<P: Port>(
     if processor.is_stopped() {
         return Finish::Idle;
     }
-    execute_next(
+    execute_next::<_, COPY>(
         &mut decoder.first_words,
         &mut decoder.shorts,
         &mut decoder.longer,
@@ -70,7 +73,7 @@ pub fn step_to_finish<P: Port>(
     ensures rest { P.rest port.new ≡ P.rest port.old }
 {
     let mut processor = Processor::new(cpu);
-    let finish = step_in_place(decoder, &mut processor, port, level);
+    let finish = step_in_place::<_, 0>(decoder, &mut processor, port, level);
     *cpu = processor.cpu();
     finish
 }
