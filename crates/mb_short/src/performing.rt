@@ -14,7 +14,7 @@ use crate::stack::{call_far, call_near, link, return_from, unlink};
 use crate::taking::{take_memory, take_near, take_register};
 use mb_instr::{Plain, Size};
 use mb_port::{Port, Space};
-use mb_table::{Putting, Short, Taking};
+use mb_table::{Place, Putting, Short, Taking};
 
 /// The word behind the first, where it is known at once.
 #[inline(always)]
@@ -126,6 +126,10 @@ pub fn perform_short<P: Port, const COPY: usize>(
             let word = second_word(space, plain, port)?;
             put_near(Putting::Data(register), Size::Long, base, word, space, plain, port)
         }
+        Short::LoadLongUp { register, base } =>
+            take_memory(Taking::Move(register), Size::Long, Place::Up(base), space, plain, port),
+        Short::StoreLongUp { register, base } =>
+            put_memory(Putting::Data(register), Size::Long, Place::Up(base), space, plain, port),
         Short::Branch { condition, displacement } => branch(condition, displacement, space, plain, port),
         Short::BranchFar { condition } => {
             let word = second_word(space, plain, port)?;

@@ -2,7 +2,7 @@
 use Rattle.std.specs.Prelude.{◌≡◌, ℕ, ◌<◌, ◌^◌, [], ◌∷◌, Option, Some, None, IfSome, false, true}
 use Rattle.mb_instr.specs.declared.size.Size.TheVariants.{Long}
 use Rattle.mb_instr.specs.declared.kinds.ShiftKind.TheVariants.{Logical}
-use Rattle.mb_instr.specs.declared.operand.Ea.TheVariants.{Dn, An, Disp}
+use Rattle.mb_instr.specs.declared.operand.Ea.TheVariants.{Dn, An, Post, Disp}
 use Rattle.mb_instr.specs.declared.instruction.Instr.{Instr}
 use Rattle.mb_instr.specs.declared.instruction.Instr.TheVariants as instr
 use Rattle.mb_instr.specs.declared.instruction.Move.TheVariants as move
@@ -31,6 +31,8 @@ meaning (short.CompareLong n m) = Some (instr.Arith (arith.Cmp n Long (Dn m)))
 meaning (short.MultiplyUnsigned n m) = Some (instr.Arith (arith.MulW n false (Dn m)))
 meaning (short.MultiplySigned n m) = Some (instr.Arith (arith.MulW n true (Dn m)))
 meaning (short.ShiftRightLong n count) = Some (instr.Arith (arith.ShiftReg count false Long false Logical n))
+meaning (short.LoadLongUp n m) = Some (instr.Move (move.Move Long (Dn n) (Post m)))
+meaning (short.StoreLongUp n m) = Some (instr.Move (move.Move Long (Post m) (Dn n)))
 meaning (short.Branch c d) = Some (instr.Flow (flow.Bcc c (branch.Byte d)))
 meaning (short.AddQuickLong n quick) = Some (instr.Arith (arith.Addq quick Long (Dn n)))
 meaning (short.SubtractQuickLong n quick) = Some (instr.Arith (arith.Subq quick Long (Dn n)))

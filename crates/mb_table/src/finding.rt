@@ -22,6 +22,10 @@ fn short_move(instruction: &Move) -> Short
         Move::Moveq { register, immediate } => Short::MoveQuick { register, immediate },
         Move::Move { size: Size::Long, destination: Ea::Dn(register), source: Ea::Dn(source) } =>
             Short::CopyLong { register, source },
+        Move::Move { size: Size::Long, destination: Ea::Dn(register), source: Ea::Post(base) } =>
+            Short::LoadLongUp { register, base },
+        Move::Move { size: Size::Long, destination: Ea::Post(base), source: Ea::Dn(register) } =>
+            Short::StoreLongUp { register, base },
         Move::Swap { register } => Short::Swap { register },
         Move::Unlk { register } => Short::Unlink { register },
         _ => Short::Other,

@@ -78,6 +78,16 @@ pub enum Short {
         register: u8,
         base: u8,
     },
+    /// `MOVE.L (An)+,Dn`.
+    LoadLongUp {
+        register: u8,
+        base: u8,
+    },
+    /// `MOVE.L Dn,(An)+`.
+    StoreLongUp {
+        register: u8,
+        base: u8,
+    },
     /// `Bcc.B`, with `BRA.B` for the condition T.
     Branch {
         condition: Condition,

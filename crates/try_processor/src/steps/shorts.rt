@@ -10,7 +10,7 @@ use std::alloc::{AllocError, Global};
 const HOLE: u32 = 0x1109;
 
 /// Instructions of one word that have a short form, a few of each kind.
-const ALONE: [u16; 60] = [
+const ALONE: [u16; 62] = [
     0x70F9, // MOVEQ #-7,D0
     0x2401, // MOVE.L D1,D2
     0xD481, // ADD.L D1,D2
@@ -25,6 +25,8 @@ const ALONE: [u16; 60] = [
     0x5A82, // ADDQ.L #5,D2
     0x5B82, // SUBQ.L #5,D2
     0x4A82, // TST.L D2
+    0x2419, // MOVE.L (A1)+,D2
+    0x22C2, // MOVE.L D2,(A1)+
     0x6606, // BNE.B
     0x6706, // BEQ.B
     0x4842, // SWAP D2
