@@ -270,3 +270,30 @@ second_ended bus cpu q space first end s t k h =
     let at = (cpu.regs.pc + 2) % 2 ^ 32 in
     ended_by bus cpu q at end t (bus (Fetch space at) s) (run bus (found_executed cpu (behind cpu first)) s)
     (λ (fault : Fault) (u : _) e. no_second_word bus cpu space first fault s u k e) (sym (asked_is bus cpu at (bus (Fetch space at) s)) ∙ h)
+
+-- ---- a further word of those that are sought, which came, or did not and ended the step
+
+-- it came, and what follows goes by what the words are now
+pub seeking_came : {S : Type 0} (bus : Bus S) (cpu q : Cpu) (m n : ℕ) (space word_space : Space) (at : ℕ) (words : List ℕ) (word : ℕ) (s t : S)
+    (now : List ℕ) (d : Decoded) → m ≡ suc n → word_space ≡ space → run bus (word_of cpu word_space at) s ≡ ((Ok word, q), t)
+    → now ≡ words ++ word ∷ [] → d ≡ decode_of now
+    → seeking bus cpu space m at words s
+    ≡ run bus (sought_of cpu (judged d (found_of n space ((at + 2) % 2 ^ 32) now))) t
+seeking_came bus cpu q m n space word_space at words word s t now d e k h w j =
+    seeking_on bus cpu m n space at words word s t now d e (rw (sym k) (word_came bus cpu q word_space at word s t h)) w j
+
+-- it did not come
+sought_ended : {S : Type 0} (bus : Bus S) (cpu q : Cpu) (at : ℕ) (end : Finish) (t : S) (r : Result ℕ Fault × S) (x : Sought × S)
+    → ((fault : Fault) (u : S) → r ≡ (Err fault, u) → x ≡ ending (run bus (unread_of (refused_in at fault) cpu) u))
+    → worded bus cpu at r ≡ ((Err end, q), t) → x ≡ ((Err end, q), t)
+sought_ended bus cpu q at end t (Ok w, u) x refused h = absurd (let e = ap (λ (y : Word × _). y.0.0) h in let z : ⊥ = cc in z)
+sought_ended bus cpu q at end t (Err fault, u) x refused h =
+    refused fault u refl ∙ ap (λ (y : Word × _). ending ((finish_in end y.0.0, y.0.1), y.1)) h
+
+pub seeking_ended : {S : Type 0} (bus : Bus S) (cpu q : Cpu) (m n : ℕ) (space word_space : Space) (at : ℕ) (words : List ℕ) (end : Finish) (s t : S)
+    → m ≡ suc n → word_space ≡ space → run bus (word_of cpu word_space at) s ≡ ((Err end, q), t)
+    → seeking bus cpu space m at words s ≡ ((Err end, q), t)
+seeking_ended bus cpu q m n space word_space at words end s t e k h =
+    sought_ended bus cpu q at end t (bus (Fetch word_space at) s) (seeking bus cpu space m at words s)
+    (λ (fault : Fault) (u : _) r. seeking_without bus cpu cpu m n space at words fault s u _ e (rw (sym k) r) refl refl)
+    (sym (asked_is bus cpu at (bus (Fetch word_space at) s)) ∙ h)

@@ -1,13 +1,14 @@
 //! What a processor decodes with.
 
 use mb_instr::{Exchange, Instr, Move};
-use mb_table::{FirstWords, LongerWords, Shorts};
+use mb_table::{FirstWords, LongerWords, Shorts, ThreeWords};
 use std::alloc::{AllocError, Global};
 
-/// Instructions of several words: those of two that are remembered, and a place for one that is decoded.
+/// Instructions of several words: those of two and three that are remembered, and a place for one that is decoded.
 #[derive(Drop)]
 pub(crate) struct Longer {
     pub(crate) words: LongerWords,
+    pub(crate) three_words: ThreeWords,
     pub(crate) instruction: Instr,
 }
 
@@ -28,6 +29,7 @@ impl Decoder {
             shorts: Shorts::new(alloc)?,
             longer: Longer {
                 words: LongerWords::new(alloc)?,
+                three_words: ThreeWords::new(alloc)?,
                 instruction: Instr::Move(Move::Exg {
                     x: 0,
                     kind: Exchange::Data,

@@ -69,21 +69,22 @@ fn fetch_word<P: Port>(
     }
 }
 
-/// Fetches the words behind the first two, from that of the second on, one at a time, until they are an instruction or
+/// Fetches the words behind the first three, from that of the third on, one at a time, until they are an instruction or
 /// can no longer become one. The instruction is put into its place, and how many words it has is answered; or how the
 /// step ended without one.
 #[inline(never)]
 fn fetch_more<P: Port>(
     first: u16,
     second: u16,
-    second_at: u32,
+    third: u16,
+    third_at: u32,
     instruction: &mut Instr,
     processor: &mut Processor,
     port: &mut P,
 ) -> Result<u8, Finish>
-    requires { second_at % 2 ≡ 0 }
-    ensures means { run P.bus (sought_of processor.old (found_of (most_words - 2) (space_of processor.old)
-        ((second_at + 2) % 2 ^ 32) (first ∷ second ∷ []))) (P.world port.old)
+    requires { third_at % 2 ≡ 0 }
+    ensures means { run P.bus (sought_of processor.old (found_of (most_words - 3) (space_of processor.old)
+        ((third_at + 2) % 2 ^ 32) (first ∷ second ∷ third ∷ []))) (P.world port.old)
         ≡ ((sought_by result instruction.new, processor.new), P.world port.new) }
     ensures valid { IfOk result (λ n. IsInstr instruction.new) }
     ensures busy { IfErr result (λ end. end ≢ Finish.Idle) }
@@ -91,9 +92,10 @@ fn fetch_more<P: Port>(
 {
     let mut behind = ArrayVec::<u16, MOST_BEHIND>::new();
     behind.push(second);
+    behind.push(third);
     let space = processor.space();
-    let mut at = second_at.wrapping_add(2);
-    for _ in 1..MOST_BEHIND {
+    let mut at = third_at.wrapping_add(2);
+    for _ in 2..MOST_BEHIND {
         match port.fetch(space, at) {
             Ok(word) => behind.push(word),
             Err(fault) => return Err(processor.finish_unfetched(fault, at, port)),
@@ -109,9 +111,87 @@ fn fetch_more<P: Port>(
     Err(processor.refuse(ILLEGAL, port))
 }
 
+/// Decodes the first three words, the third of which was fetched from `third_at`, and those that follow where an
+/// instruction has more. It is put into its place, and how many words it has is answered; or how the step ended without
+/// one. An instruction of three words is remembered.
+#[inline(never)]
+fn decode_three<P: Port>(
+    first: u16,
+    second: u16,
+    third: u16,
+    third_at: u32,
+    longer: &mut Longer,
+    processor: &mut Processor,
+    port: &mut P,
+) -> Result<u8, Finish>
+    requires { third_at % 2 ≡ 0 }
+    ensures means { run P.bus (sought_of processor.old (judged (decode_of (first ∷ second ∷ third ∷ []))
+        (found_of (most_words - 3) (space_of processor.old) ((third_at + 2) % 2 ^ 32) (first ∷ second ∷ third ∷ []))))
+        (P.world port.old)
+        ≡ ((sought_by result longer.new.instruction, processor.new), P.world port.new) }
+    ensures valid { IfOk result (λ n. IsInstr longer.new.instruction) }
+    ensures busy { IfErr result (λ end. end ≢ Finish.Idle) }
+    ensures rest { P.rest port.new ≡ P.rest port.old }
+{
+    match decode_into(first, &[second, third], &mut longer.instruction) {
+        Decoding::Whole(length) => {
+            if length == 3 {
+                longer
+                    .three_words
+                    .keep(first, second, third, &longer.instruction);
+            }
+            Ok(length)
+        }
+        Decoding::More => fetch_more(
+            first,
+            second,
+            third,
+            third_at,
+            &mut longer.instruction,
+            processor,
+            port,
+        ),
+        Decoding::Illegal => Err(processor.refuse(ILLEGAL, port)),
+        Decoding::LineA => Err(processor.refuse(LINE_A, port)),
+        Decoding::LineF => Err(processor.refuse(LINE_F, port)),
+    }
+}
+
+/// Fetches the third word, and those that follow where an instruction has more. It is put into its place, and how many
+/// words it has is answered; or how the step ended without one. Three words that are remembered are not decoded again.
+#[inline(never)]
+fn find_three<P: Port>(
+    first: u16,
+    second: u16,
+    second_at: u32,
+    longer: &mut Longer,
+    processor: &mut Processor,
+    port: &mut P,
+) -> Result<u8, Finish>
+    requires { second_at % 2 ≡ 0 }
+    ensures means { run P.bus (sought_of processor.old (found_of (most_words - 2) (space_of processor.old)
+        ((second_at + 2) % 2 ^ 32) (first ∷ second ∷ []))) (P.world port.old)
+        ≡ ((sought_by result longer.new.instruction, processor.new), P.world port.new) }
+    ensures valid { IfOk result (λ n. IsInstr longer.new.instruction) }
+    ensures busy { IfErr result (λ end. end ≢ Finish.Idle) }
+    ensures rest { P.rest port.new ≡ P.rest port.old }
+{
+    let space = processor.space();
+    let third_at = second_at.wrapping_add(2);
+    let third = match fetch_word(space, third_at, processor, port) {
+        Ok(word) => word,
+        Err(end) => return Err(end),
+    };
+    if let Some(kept) = longer.three_words.find(first, second, third) {
+        longer.instruction = *kept;
+        return Ok(3);
+    }
+    decode_three(first, second, third, third_at, longer, processor, port)
+}
+
 /// Decodes the first two words, the second of which was fetched from `second_at`, and those that follow where an
 /// instruction has more. It is put into its place, and how many words it has is answered; or how the step ended without
-/// one. An instruction of two words is remembered.
+/// one. What two words begin with is remembered.
 #[inline(never)]
 fn decode_longer<P: Port>(
     first: u16,
@@ -134,27 +214,25 @@ fn decode_longer<P: Port>(
 {
     match decode_into(first, &[second], &mut longer.instruction) {
         Decoding::Whole(length) => {
+            longer
+                .words
+                .keep(first, second, Decoded::Whole(longer.instruction, length));
             if length == 2 {
-                longer.words.keep(first, second, &longer.instruction);
                 shorts.learn_with(first, second, &longer.instruction);
             }
             Ok(length)
         }
-        Decoding::More => fetch_more(
-            first,
-            second,
-            second_at,
-            &mut longer.instruction,
-            processor,
-            port,
-        ),
+        Decoding::More => {
+            longer.words.keep(first, second, Decoded::More);
+            find_three(first, second, second_at, longer, processor, port)
+        }
         Decoding::Illegal => Err(processor.refuse(ILLEGAL, port)),
         Decoding::LineA => Err(processor.refuse(LINE_A, port)),
         Decoding::LineF => Err(processor.refuse(LINE_F, port)),
     }
 }
 
-/// As `decode_longer`, but two words that are remembered are not decoded again.
+/// As `decode_longer`, but two words that are remembered are not decoded again, and three neither.
 #[inline(always)]
 fn find_longer<P: Port>(
     first: u16,
@@ -175,11 +253,14 @@ fn find_longer<P: Port>(
     ensures busy { IfErr result (λ end. end ≢ Finish.Idle) }
     ensures rest { P.rest port.new ≡ P.rest port.old }
 {
-    if let Some(kept) = longer.words.find(first, second) {
-        longer.instruction = *kept;
-        return Ok(2);
+    match longer.words.find(first, second) {
+        Some(Decoded::Whole(kept, length)) => {
+            longer.instruction = *kept;
+            Ok(*length)
+        }
+        Some(Decoded::More) => find_three(first, second, second_at, longer, processor, port),
+        _ => decode_longer(first, second, second_at, longer, shorts, processor, port),
     }
-    decode_longer(first, second, second_at, longer, shorts, processor, port)
 }
 
 /// A first word came that had not come before.

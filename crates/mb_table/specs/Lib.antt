@@ -2,3 +2,4 @@ pub mod FirstWords
 pub mod Forms
 pub mod LongerWords
 pub mod Short
+pub mod ThreeWords

@@ -1,10 +1,9 @@
--- Instructions of two words that were decoded before.
-use Rattle.std.specs.Prelude.{◌≡◌, [], ◌∷◌, IfSome}
+-- What two words begin with that were decoded before.
+use Rattle.std.specs.Prelude.{◌≡◌, [], ◌∷◌}
 use Rattle.mb_instr.specs.Codes.{IsInstr}
-use Rattle.mb_decode.specs.declared.front.Decoded.TheVariants.{Whole}
-use Rattle.mb_decode.specs.Decodes.{decode_of}
+use Rattle.mb_decode.specs.Decodes.{decode_of, IfWhole}
 use Rattle.mb_table.specs.declared.longer_words.Longer.{Longer}
 
--- what is kept is what its words decode to, where it is known
+-- what is kept is what its words decode to
 unfoldable pub IsRight : Longer → Type 0
-IsRight e = IfSome e.instruction (λ i. (decode_of (e.first ∷ e.second ∷ []) ≡ Whole i 2) × IsInstr i)
+IsRight e = (e.decoded ≡ decode_of (e.first ∷ e.second ∷ [])) × IfWhole e.decoded (λ i n. IsInstr i)

@@ -1,9 +1,9 @@
 //! What words decode to, remembered.
 //!
 //! A processor that decodes at every step decodes the same words again and again. Here each first word is decoded when
-//! it first comes, and each instruction of two words is kept by its words; later they are looked up. All answers are
-//! those of `mb_decode`, whatever is remembered, so this is no part of a machine. It stands on `mb_decode` alone and
-//! knows no bus.
+//! it first comes, and what two words begin with and each instruction of three are kept by their words; later they are
+//! looked up. All answers are those of `mb_decode`, whatever is remembered, so this is no part of a machine. It stands
+//! on `mb_decode` alone and knows no bus.
 #![tactic(auto)]
 
 mod finding;
@@ -13,9 +13,11 @@ mod longer_words;
 mod operands;
 mod short;
 mod shorts;
+mod three_words;
 
 pub use first_words::FirstWords;
 pub use forms::{Change, Place, Putting, Register, Taking};
 pub use longer_words::LongerWords;
 pub use short::Short;
 pub use shorts::Shorts;
+pub use three_words::ThreeWords;

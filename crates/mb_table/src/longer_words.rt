@@ -1,33 +1,26 @@
-//! Instructions of two words that were decoded lately.
+//! What two words begin with, where they came lately.
 
 ghost use Rattle.std.specs.Prelude.{◌≡◌, ◌<◌, [], ◌∷◌, IfSome, IfOk, length, All};
 ghost use Rattle.mb_instr.specs.Codes.{IsInstr};
-ghost use Rattle.mb_decode.specs.declared.front.Decoded.TheVariants.{Whole};
-ghost use Rattle.mb_decode.specs.Decodes.{decode_of};
+ghost use Rattle.mb_decode.specs.Decodes.{decode_of, IfWhole};
 ghost use Rattle.mb_table.specs.LongerWords.{IsRight};
 
-use mb_instr::Instr;
+use mb_decode::{Decoded, decode};
 use std::alloc::{AllocError, Global};
 use std::marker::Model;
 
 /// How many are kept.
 const SLOTS: usize = 8192;
 
-/// Two words, and the instruction that they are, where it is known.
+/// Two words, and what they begin with.
 #[derive(Clone, Copy)]
 pub struct Longer {
     first: u16,
     second: u16,
-    instruction: Option<Instr>,
+    decoded: Decoded,
 }
 
-const NOTHING: Longer = Longer {
-    first: 0,
-    second: 0,
-    instruction: None,
-};
-
-/// Instructions of two words that were decoded lately, each where its words lead. Nothing is seen of which.
+/// What two words begin with that were decoded lately, each where its words lead. Nothing is seen of which.
 #[derive(Drop)]
 pub struct LongerWords {
     slots: Vec<Longer>,
@@ -53,53 +46,59 @@ fn slot(first: u16, second: u16) -> usize
     (u32::from(first).wrapping_mul(2531) ^ u32::from(second)) as usize % SLOTS
 }
 
-/// Keeps an instruction in its place.
+/// Two words 0, decoded: every place begins with them.
 #[tactic(auto, unfolding(crate::specs::LongerWords::IsRight))]
-fn put(kept: &mut Longer, first: u16, second: u16, instruction: &Instr)
-    requires means { decode_of (first ∷ second ∷ []) ≡ Whole instruction.now 2 }
-    requires valid { IsInstr instruction.now }
+fn zeros() -> Longer
+    ensures { IsRight result }
+{
+    Longer {
+        first: 0,
+        second: 0,
+        decoded: decode(&[0, 0]),
+    }
+}
+
+/// Keeps in its place what two words begin with.
+#[tactic(auto, unfolding(crate::specs::LongerWords::IsRight))]
+fn put(kept: &mut Longer, first: u16, second: u16, decoded: Decoded)
+    requires means { decoded ≡ decode_of (first ∷ second ∷ []) }
+    requires valid { IfWhole decoded (λ i n. IsInstr i) }
     ensures { IsRight kept.new }
 {
     *kept = Longer {
         first,
         second,
-        instruction: Some(*instruction),
+        decoded,
     };
 }
 
 impl LongerWords {
-    /// Nothing kept. It takes all the memory that it will need.
-    #[tactic(auto, unfolding(crate::specs::LongerWords::IsRight))]
+    /// Nothing is kept but two words 0. It takes all the memory that it will need.
     pub fn new(alloc: Global) -> Result<LongerWords, AllocError> {
-        let slots = vec![in alloc; NOTHING; SLOTS]?;
+        let slots = vec![in alloc; zeros(); SLOTS]?;
         Ok(LongerWords { slots })
     }
 
-    /// The instruction that the two words are, where it is kept.
+    /// What the two words begin with, where it is kept.
     #[inline(always)]
     #[tactic(auto, unfolding(crate::specs::LongerWords::IsRight))]
-    pub fn find(&self, first: u16, second: u16) -> Option<&Instr>
-        ensures means { IfSome result (λ i. decode_of (first ∷ second ∷ []) ≡ Whole i.now 2) }
-        ensures valid { IfSome result (λ i. IsInstr i.now) }
+    pub fn find(&self, first: u16, second: u16) -> Option<&Decoded>
+        ensures means { IfSome result (λ d. d.now ≡ decode_of (first ∷ second ∷ [])) }
+        ensures valid { IfSome result (λ d. IfWhole d.now (λ i n. IsInstr i)) }
     {
         let kept = &self.slots[slot(first, second)];
         if kept.first == first && kept.second == second {
-            kept.instruction.as_ref()
+            Some(&kept.decoded)
         } else {
             None
         }
     }
 
-    /// Keeps the instruction that the two words are.
-    pub fn keep(&mut self, first: u16, second: u16, instruction: &Instr)
-        requires means { decode_of (first ∷ second ∷ []) ≡ Whole instruction.now 2 }
-        requires valid { IsInstr instruction.now }
+    /// Keeps what the two words begin with.
+    pub fn keep(&mut self, first: u16, second: u16, decoded: Decoded)
+        requires means { decoded ≡ decode_of (first ∷ second ∷ []) }
+        requires valid { IfWhole decoded (λ i n. IsInstr i) }
     {
-        put(
-            &mut self.slots[slot(first, second)],
-            first,
-            second,
-            instruction,
-        );
+        put(&mut self.slots[slot(first, second)], first, second, decoded);
     }
 }

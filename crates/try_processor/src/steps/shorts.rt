@@ -94,6 +94,20 @@ const WITH_ANOTHER: [u16; 15] = [
     0x4E57, // LINK A7
 ];
 
+/// Instructions of three words, each once and once more with another third word.
+const OF_THREE_WORDS: [[u16; 3]; 10] = [
+    [0x0682, 0x0000, 0x1001], // ADDI.L #$1001,D2
+    [0x0682, 0x0000, 0x1002],
+    [0x0C82, 0x8000, 0x0000], // CMPI.L #$80000000,D2
+    [0x0C82, 0x8000, 0x0001],
+    [0x2439, 0x0000, 0x1108], // MOVE.L $1108,D2
+    [0x2439, 0x0000, 0x110C],
+    [0x23C2, 0x0000, 0x1108], // MOVE.L D2,$1108
+    [0x23C2, 0x0000, 0x110C],
+    [0x0069, 0x1234, 0x0000], // ORI.W #$1234,(0,A1)
+    [0x0069, 0x1234, 0x0002],
+];
+
 /// What a step is taken from: the status register, the byte that is refused, and whether the bus answers quick calls.
 #[derive(Clone, Copy)]
 struct Setting {
@@ -148,12 +162,13 @@ fn operands(alloc: Global, setting: Setting) -> Result<VectorPort, AllocError> {
 /// One step of these words.
 fn take_step(
     setting: Setting,
-    words: [u16; 2],
+    words: [u16; 3],
     decoder: &mut Decoder,
     port: &mut VectorPort,
 ) -> Stepped {
     put(port, CODE, 2, u32::from(words[0]));
     put(port, CODE + 2, 2, u32::from(words[1]));
+    put(port, CODE + 4, 2, u32::from(words[2]));
     let mut cpu = processor(setting.sr);
     cpu.regs.a[1] = 0x1108;
     cpu.regs.usp = 0x1110;
@@ -162,16 +177,18 @@ fn take_step(
     Stepped { end, cpu }
 }
 
-/// The first step of a first word goes the general way, and the next one of the same words in short.
+/// The first step of a first word goes the general way, and the next one of the same words in short; of three words the
+/// first is decoded, and the next one is found again.
 #[test]
 fn in_short_as_in_general(rt: HostRuntime) -> Result<(), AllocError> {
     for setting in SETTINGS {
         let mut decoder = Decoder::new(rt.alloc())?;
         let mut memory = operands(rt.alloc(), setting)?;
         let mut other = operands(rt.alloc(), setting)?;
-        let alone = ALONE.iter().map(|first| [*first, 0x4E71]);
-        let with_another = WITH_ANOTHER.iter().map(|first| [*first, 0x0002]);
-        for words in alone.chain(with_another) {
+        let alone = ALONE.iter().map(|first| [*first, 0x4E71, 0x4E71]);
+        let with_another = WITH_ANOTHER.iter().map(|first| [*first, 0x0002, 0x4E71]);
+        let of_three_words = OF_THREE_WORDS.iter().copied();
+        for words in alone.chain(with_another).chain(of_three_words) {
             let general = take_step(setting, words, &mut decoder, &mut memory);
             let short = take_step(setting, words, &mut decoder, &mut other);
             let first = words[0];
@@ -179,6 +196,21 @@ fn in_short_as_in_general(rt: HostRuntime) -> Result<(), AllocError> {
             assert!(rt; short.cpu == general.cpu, "{first:x}");
         }
         assert!(rt; other.longs == memory.longs);
+    }
+    Ok(())
+}
+
+/// An instruction of three words is found again where its words came before, and never in place of another one.
+#[test]
+fn three_words_are_found_by_all(rt: HostRuntime) -> Result<(), AllocError> {
+    let setting = SETTINGS[0];
+    let mut decoder = Decoder::new(rt.alloc())?;
+    let mut memory = operands(rt.alloc(), setting)?;
+    for third in [0x1001, 0x1001, 0x1002, 0x1002, 0x1001] {
+        // MOVE.L #third,D2
+        let stepped = take_step(setting, [0x243C, 0, third], &mut decoder, &mut memory);
+        assert!(rt; stepped.cpu.regs.d[2] == u32::from(third));
+        assert!(rt; stepped.cpu.regs.pc == CODE + 6);
     }
     Ok(())
 }

@@ -7,8 +7,8 @@ use Rattle.mb_step.proofs.fetching.fetch_more.Given as goal
 abbrev pub invariant-loop : goal.invariant-loop
 invariant-loop g l = record {
   means : seeking g.P.Port.bus l.fn.processor l.space (most_words - (l.counter + 1)) l.at (l.first ∷ l.behind.items) (g.P.Port.world l.port)
-      ≡ seeking g.P.Port.bus l.fn.processor (space_of l.fn.processor) (most_words - 2) ((l.second_at + 2) % 2 ^ 32)
-      (l.first ∷ l.second ∷ []) (g.P.Port.world l.fn.port);
+      ≡ seeking g.P.Port.bus l.fn.processor (space_of l.fn.processor) (most_words - 3) ((l.third_at + 2) % 2 ^ 32)
+      (l.first ∷ l.second ∷ l.third ∷ []) (g.P.Port.world l.fn.port);
   even : l.at % 2 ≡ 0;
   count : length l.behind.items ≡ l.counter;
   processor : l.processor ≡ l.fn.processor;
