@@ -89,7 +89,7 @@ has_place write.Zero size ea h = h.fields.lower
 
 -- ---- where an operand stands, and its value
 
-abbrev Finds : {S : Type 0} → Bus S → Size → Ea → Space → Plain → S → ℕ → Plain → Type 0
+abbrev pub Finds : {S : Type 0} → Bus S → Size → Ea → Space → Plain → S → ℕ → Plain → Type 0
 Finds bus size ea space p s at q =
     (word_at : ℕ) → run bus (resolve_of ea size word_at space p) s ≡ (Ok (record { target = Memory at; plain = q }), s)
 
@@ -97,19 +97,19 @@ abbrev Fetches : {S : Type 0} → Bus S → Size → Ea → Space → Plain → 
 Fetches bus size ea space p s target value q =
     (word_at : ℕ) → run bus (operand_of size ea word_at space p) s ≡ (Ok (record { target = target; value = value; plain = q }), s)
 
-place_found : {S : Type 0} (bus : Bus S) (size : Size) (place : Place) (space : Space) (p : Plain) (s : S)
+pub place_found : {S : Type 0} (bus : Bus S) (size : Size) (place : Place) (space : Space) (p : Plain) (s : S)
     → Finds bus size (place_ea place) space p s (place_at place size p) (stepped (place_ea place) size p)
 unfolding resolve_of
 place_found bus size (place.At n) space p s word_at = refl
 place_found bus size (place.Up n) space p s word_at = refl
 place_found bus size (place.Down n) space p s word_at = refl
 
-near_found : {S : Type 0} (bus : Bus S) (size : Size) (m d : ℕ) (space : Space) (p : Plain) (s : S)
+pub near_found : {S : Type 0} (bus : Bus S) (size : Size) (m d : ℕ) (space : Space) (p : Plain) (s : S)
     → Finds bus size (Disp m d) space p s (sum (address_register p m) (sign_extended Word d)) p
 unfolding resolve_of
 near_found bus size m d space p s word_at = refl
 
-data_fetched : {S : Type 0} (bus : Bus S) (size : Size) (n : ℕ) (space : Space) (p : Plain) (s : S) → n < 8
+pub data_fetched : {S : Type 0} (bus : Bus S) (size : Size) (n : ℕ) (space : Space) (p : Plain) (s : S) → n < 8
     → Fetches bus size (Dn n) space p s (Reg n) (low_of size (data_register p n)) p
 unfolding operand_of load_of resolve_of
 data_fetched bus size n space p s h word_at = rw (is_data n h) refl
@@ -119,7 +119,7 @@ address_fetched : {S : Type 0} (bus : Bus S) (size : Size) (n : ℕ) (space : Sp
 unfolding operand_of load_of resolve_of
 address_fetched bus size n space p s word_at = rw (is_address n, less_eight n) refl
 
-memory_fetched : {S : Type 0} (bus : Bus S) (size : Size) (ea : Ea) (at value : ℕ) (space : Space) (p q : Plain) (s : S)
+pub memory_fetched : {S : Type 0} (bus : Bus S) (size : Size) (ea : Ea) (at value : ℕ) (space : Space) (p q : Plain) (s : S)
     → Finds bus size ea space p s at q → run bus (read_of space at (bytes_of size)) s ≡ (Ok value, s)
     → Fetches bus size ea space p s (Memory at) value q
 unfolding operand_of load_of
@@ -184,7 +184,7 @@ same_register : (r : Register) (n : ℕ) (p : Plain) → register_value r (past 
 same_register (register.Data m) n p = refl
 same_register (register.Address m) n p = refl
 
-same_place : (place : Place) (size : Size) (n : ℕ) (p : Plain) → place_at place size (past n p) ≡ place_at place size p
+pub same_place : (place : Place) (size : Size) (n : ℕ) (p : Plain) → place_at place size (past n p) ≡ place_at place size p
 same_place (place.At m) size n p = refl
 same_place (place.Up m) size n p = refl
 same_place (place.Down m) size n p = refl

@@ -15,5 +15,6 @@ mod putting;
 mod registers;
 mod stack;
 mod taking;
+mod updating;
 
 pub use performing::perform_short;

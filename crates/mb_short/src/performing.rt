@@ -12,6 +12,7 @@ use crate::putting::{put_memory, put_near};
 use crate::registers::perform_in_registers;
 use crate::stack::{call_far, call_near, link, return_from, unlink};
 use crate::taking::{take_memory, take_near, take_register};
+use crate::updating::{update_memory, update_near};
 use mb_instr::{Plain, Size};
 use mb_port::{Port, Space};
 use mb_table::{Place, Putting, Short, Taking};
@@ -43,6 +44,7 @@ fn perform_pair<P: Port>(short: &Short, space: Space, plain: &mut Plain, port: &
     match *short {
         Short::TakeNear { taking, size, base } => take_near(taking, size, base, word, space, plain, port),
         Short::PutNear { putting, size, base } => put_near(putting, size, base, word, space, plain, port),
+        Short::UpdateNear { update, size, base } => update_near(update, size, base, word, space, plain, port),
         Short::AddressNear { register, base } => load_near(register, base, word, space, plain, port),
         Short::CallFar => call_far(word, space, plain, port),
         Short::Link { register } => link(register, word, space, plain, port),
@@ -68,6 +70,7 @@ fn perform_rarer<P: Port>(short: &Short, space: Space, plain: &mut Plain, port: 
         Short::TakeRegister { taking, size, register } => take_register(taking, size, register, space, plain, port),
         Short::TakeMemory { taking, size, place } => take_memory(taking, size, place, space, plain, port),
         Short::PutMemory { putting, size, place } => put_memory(putting, size, place, space, plain, port),
+        Short::UpdateMemory { update, size, place } => update_memory(update, size, place, space, plain, port),
         Short::Change { change, size, register } => change_register(change, size, register, space, plain, port),
         Short::Return => return_from(space, plain, port),
         Short::Call { displacement } => call_near(displacement, space, plain, port),

@@ -25,10 +25,12 @@ use Rattle.mb_table.specs.declared.forms.Taking.{Taking}
 use Rattle.mb_table.specs.declared.forms.Taking.TheVariants as taking
 use Rattle.mb_table.specs.declared.forms.Putting.{Putting}
 use Rattle.mb_table.specs.declared.forms.Putting.TheVariants as putting
+use Rattle.mb_table.specs.declared.forms.Update.{Update}
+use Rattle.mb_table.specs.declared.forms.Update.TheVariants as update
 use Rattle.mb_table.specs.declared.short.Short.{Short}
 use Rattle.mb_table.specs.declared.short.Short.TheVariants as short
 use Rattle.mb_table.specs.FirstWords.{alone}
-use Rattle.mb_table.specs.Forms.{taking_of, putting_of}
+use Rattle.mb_table.specs.Forms.{taking_of, putting_of, update_of}
 use Rattle.mb_table.specs.Short.{meaning, meaning_with, IsAlone, IsWith, IsShort}
 
 -- ---- a word by itself
@@ -117,6 +119,17 @@ put_displaced (putting.Data n) size m = record { legal = λ d e. refl; opcode = 
 put_displaced (putting.Address n) size m = record { legal = λ d e. refl; opcode = λ d e. refl; second = λ d. refl }
 put_displaced putting.Zero size m = record { legal = λ d e. refl; opcode = λ d e. refl; second = λ d. refl }
 
+update_displaced : (t : Update) (size : Size) (m : ℕ) → IsDisplaced (λ d. update_of t size (Disp m d))
+update_displaced (update.Add n) size m = record { legal = λ d e. refl; opcode = λ d e. refl; second = λ d. refl }
+update_displaced (update.Subtract n) size m = record { legal = λ d e. refl; opcode = λ d e. refl; second = λ d. refl }
+update_displaced (update.And n) size m = record { legal = λ d e. refl; opcode = λ d e. refl; second = λ d. refl }
+update_displaced (update.Or n) size m = record { legal = λ d e. refl; opcode = λ d e. refl; second = λ d. refl }
+update_displaced (update.ExclusiveOr n) size m = record { legal = λ d e. refl; opcode = λ d e. refl; second = λ d. refl }
+update_displaced (update.AddQuick n) size m = record { legal = λ d e. refl; opcode = λ d e. refl; second = λ d. refl }
+update_displaced (update.SubtractQuick n) size m = record { legal = λ d e. refl; opcode = λ d e. refl; second = λ d. refl }
+update_displaced update.Negate size m = record { legal = λ d e. refl; opcode = λ d e. refl; second = λ d. refl }
+update_displaced update.Complement size m = record { legal = λ d e. refl; opcode = λ d e. refl; second = λ d. refl }
+
 address_displaced : (n m : ℕ) → IsDisplaced (λ d. instr.Move (move.Lea n (Disp m d)))
 address_displaced n m = record { legal = λ d e. refl; opcode = λ d e. refl; second = λ d. refl }
 
@@ -144,6 +157,9 @@ with_any first second i (short.TakeNear t size m) all again r r' more e h d k =
     (e ∙ ap (λ (j : Instr). Whole j 2) h) d k
 with_any first second i (short.PutNear t size m) all again r r' more e h d k =
     any_second (λ d. putting_of t size (Disp m d)) first second (put_displaced t size m) all again r r' more
+    (e ∙ ap (λ (j : Instr). Whole j 2) h) d k
+with_any first second i (short.UpdateNear t size m) all again r r' more e h d k =
+    any_second (λ d. update_of t size (Disp m d)) first second (update_displaced t size m) all again r r' more
     (e ∙ ap (λ (j : Instr). Whole j 2) h) d k
 with_any first second i (short.AddressNear n m) all again r r' more e h d k =
     any_second (λ d. instr.Move (move.Lea n (Disp m d))) first second (address_displaced n m) all again r r' more

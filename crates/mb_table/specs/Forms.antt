@@ -18,6 +18,8 @@ use Rattle.mb_table.specs.declared.forms.Putting.{Putting}
 use Rattle.mb_table.specs.declared.forms.Putting.TheVariants as putting
 use Rattle.mb_table.specs.declared.forms.Change.{Change}
 use Rattle.mb_table.specs.declared.forms.Change.TheVariants as change
+use Rattle.mb_table.specs.declared.forms.Update.{Update}
+use Rattle.mb_table.specs.declared.forms.Update.TheVariants as update
 
 abbrev pub place_ea : Place → Ea
 place_ea (place.At n) = Ind n
@@ -47,6 +49,18 @@ abbrev pub putting_of : Putting → Size → Ea → Instr
 putting_of (putting.Data n) size ea = instr.Move (move.Move size ea (Dn n))
 putting_of (putting.Address n) size ea = instr.Move (move.Move size ea (An n))
 putting_of putting.Zero size ea = instr.Arith (arith.Clr size ea)
+
+-- the instruction that changes this operand
+abbrev pub update_of : Update → Size → Ea → Instr
+update_of (update.Add n) size ea = instr.Arith (arith.Add n true size ea)
+update_of (update.Subtract n) size ea = instr.Arith (arith.Sub n true size ea)
+update_of (update.And n) size ea = instr.Arith (arith.And n true size ea)
+update_of (update.Or n) size ea = instr.Arith (arith.Or n true size ea)
+update_of (update.ExclusiveOr n) size ea = instr.Arith (arith.Eor n size ea)
+update_of (update.AddQuick quick) size ea = instr.Arith (arith.Addq quick size ea)
+update_of (update.SubtractQuick quick) size ea = instr.Arith (arith.Subq quick size ea)
+update_of update.Negate size ea = instr.Arith (arith.Neg size ea)
+update_of update.Complement size ea = instr.Arith (arith.Not size ea)
 
 -- the instruction that changes this data register
 abbrev pub change_of : Change → Size → ℕ → Instr

@@ -16,7 +16,7 @@ use Rattle.mb_decode.specs.Decodes.{decode_of}
 use Rattle.mb_table.specs.declared.short.Short.{Short}
 use Rattle.mb_table.specs.declared.short.Short.TheVariants as short
 use Rattle.mb_table.specs.FirstWords.{alone}
-use Rattle.mb_table.specs.Forms.{register_ea, place_ea, taking_of, putting_of, change_of}
+use Rattle.mb_table.specs.Forms.{register_ea, place_ea, taking_of, putting_of, update_of, change_of}
 
 -- the instruction of one word that a short form is
 abbrev pub meaning : Short → Option Instr
@@ -40,6 +40,7 @@ meaning (short.TestLong n) = Some (instr.Arith (arith.Tst Long (Dn n)))
 meaning (short.TakeRegister taking size register) = Some (taking_of taking size (register_ea register))
 meaning (short.TakeMemory taking size place) = Some (taking_of taking size (place_ea place))
 meaning (short.PutMemory putting size place) = Some (putting_of putting size (place_ea place))
+meaning (short.UpdateMemory update size place) = Some (update_of update size (place_ea place))
 meaning (short.Change change size n) = Some (change_of change size n)
 meaning (short.RaiseAddress size n quick) = Some (instr.Arith (arith.Addq quick size (An n)))
 meaning (short.LowerAddress size n quick) = Some (instr.Arith (arith.Subq quick size (An n)))
@@ -58,6 +59,7 @@ meaning_with d (short.BranchFar c) = Some (instr.Flow (flow.Bcc c (branch.Word d
 meaning_with d (short.Loop c n) = Some (instr.Flow (flow.Dbcc c n d))
 meaning_with d (short.TakeNear taking size m) = Some (taking_of taking size (Disp m d))
 meaning_with d (short.PutNear putting size m) = Some (putting_of putting size (Disp m d))
+meaning_with d (short.UpdateNear update size m) = Some (update_of update size (Disp m d))
 meaning_with d (short.AddressNear n m) = Some (instr.Move (move.Lea n (Disp m d)))
 meaning_with d short.CallFar = Some (instr.Flow (flow.Bcc condition.False (branch.Word d)))
 meaning_with d (short.Link n) = Some (instr.Move (move.LinkW n d))

@@ -3,11 +3,13 @@
 ghost use Rattle.std.specs.Prelude.{◌≡◌, ℕ, None, IfSome};
 ghost use Rattle.mb_instr.specs.declared.instruction.Instr.TheVariants as instr;
 ghost use Rattle.mb_decode.specs.declared.front.Decoded.TheVariants.{Whole};
-ghost use Rattle.mb_table.specs.Forms.{taking_of, putting_of};
+ghost use Rattle.mb_table.specs.Forms.{taking_of, putting_of, update_of};
 ghost use Rattle.mb_table.specs.Short.{meaning, meaning_with};
 
 use crate::forms::{Place, Register};
-use crate::operands::{Changed, Taken, Written, find_changed, find_taken, find_written};
+use crate::operands::{
+    Changed, Taken, Updated, Written, find_changed, find_taken, find_updated, find_written,
+};
 use crate::short::Short;
 use mb_decode::Decoded;
 use mb_instr::{Arith, Branch, Condition, Ea, Flow, Instr, Move, ShiftKind, Size};
@@ -153,6 +155,21 @@ fn put_alone(it: &Written) -> Short
     }
 }
 
+/// The form of what changes an operand that needs no further word.
+#[rattlefmt::skip]
+fn update_alone(it: &Updated) -> Short
+    ensures means { IfSome (meaning result) (λ i. update_of it.now.update it.now.size it.now.ea ≡ i) }
+    ensures alone { (second : ℕ) → meaning_with second result ≡ None }
+{
+    let (update, size) = (it.update, it.size);
+    match it.ea {
+        Ea::Ind(n) => Short::UpdateMemory { update, size, place: Place::At(n) },
+        Ea::Post(n) => Short::UpdateMemory { update, size, place: Place::Up(n) },
+        Ea::Pre(n) => Short::UpdateMemory { update, size, place: Place::Down(n) },
+        _ => Short::Other,
+    }
+}
+
 /// The form of an instruction that has none of its own, by its operand.
 fn short_by_operand(instruction: &Instr) -> Short
     ensures means { IfSome (meaning result) (λ i. instruction.now ≡ i) }
@@ -161,8 +178,11 @@ fn short_by_operand(instruction: &Instr) -> Short
     if let Some(it) = find_taken(instruction) {
         return take_alone(&it);
     }
-    match find_written(instruction) {
-        Some(it) => put_alone(&it),
+    if let Some(it) = find_written(instruction) {
+        return put_alone(&it);
+    }
+    match find_updated(instruction) {
+        Some(it) => update_alone(&it),
         None => Short::Other,
     }
 }
@@ -227,7 +247,7 @@ fn short_pair(second: u16, instruction: &Instr) -> Short
     }
 }
 
-/// The form of an instruction that reads or writes an operand which the second word displaces.
+/// The form of an instruction that reads, writes or changes an operand which the second word displaces.
 #[rattlefmt::skip]
 fn near_by_operand(second: u16, instruction: &Instr) -> Short
     ensures with { IfSome (meaning_with second result) (λ i. instruction.now ≡ i) }
@@ -240,7 +260,12 @@ fn near_by_operand(second: u16, instruction: &Instr) -> Short
     }
     match find_written(instruction) {
         Some(Written { putting, size, ea: Ea::Disp(base, d) }) if d == second =>
-            Short::PutNear { putting, size, base },
+            return Short::PutNear { putting, size, base },
+        _ => {}
+    }
+    match find_updated(instruction) {
+        Some(Updated { update, size, ea: Ea::Disp(base, d) }) if d == second =>
+            Short::UpdateNear { update, size, base },
         _ => Short::Other,
     }
 }

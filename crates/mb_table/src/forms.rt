@@ -91,3 +91,26 @@ pub enum Change {
     /// `ROR` by a count.
     RotateRight(u8),
 }
+
+/// How an operand in memory changes: by a data register, by a number in the first word, or by itself.
+#[derive(Clone, Copy)]
+pub enum Update {
+    /// `ADD` of that data register.
+    Add(u8),
+    /// `SUB` of that data register.
+    Subtract(u8),
+    /// `AND` with that data register.
+    And(u8),
+    /// `OR` with that data register.
+    Or(u8),
+    /// `EOR` with that data register.
+    ExclusiveOr(u8),
+    /// `ADDQ`.
+    AddQuick(u8),
+    /// `SUBQ`.
+    SubtractQuick(u8),
+    /// `NEG`.
+    Negate,
+    /// `NOT`.
+    Complement,
+}

@@ -16,7 +16,7 @@ mod shorts;
 mod three_words;
 
 pub use first_words::FirstWords;
-pub use forms::{Change, Place, Putting, Register, Taking};
+pub use forms::{Change, Place, Putting, Register, Taking, Update};
 pub use longer_words::LongerWords;
 pub use short::Short;
 pub use shorts::Shorts;

@@ -2,9 +2,9 @@
 
 ghost use Rattle.std.specs.Prelude.{◌≡◌, IfSome};
 ghost use Rattle.mb_instr.specs.declared.instruction.Instr.TheVariants as instr;
-ghost use Rattle.mb_table.specs.Forms.{taking_of, putting_of, change_of};
+ghost use Rattle.mb_table.specs.Forms.{taking_of, putting_of, update_of, change_of};
 
-use crate::forms::{Change, Putting, Taking};
+use crate::forms::{Change, Putting, Taking, Update};
 use mb_instr::{Arith, Ea, Instr, Move, ShiftKind, Size};
 
 /// An instruction that reads an operand.
@@ -19,6 +19,14 @@ pub(crate) struct Taken {
 #[derive(Clone, Copy)]
 pub(crate) struct Written {
     pub(crate) putting: Putting,
+    pub(crate) size: Size,
+    pub(crate) ea: Ea,
+}
+
+/// An instruction that reads an operand, changes it and writes it back.
+#[derive(Clone, Copy)]
+pub(crate) struct Updated {
+    pub(crate) update: Update,
     pub(crate) size: Size,
     pub(crate) ea: Ea,
 }
@@ -71,6 +79,31 @@ pub(crate) fn find_written(instruction: &Instr) -> Option<Written>
         Instr::Move(Move::Move { size, destination: ea, source: Ea::An(n) }) =>
             Some(Written { putting: Putting::Address(n), size, ea }),
         Instr::Arith(Arith::Clr { size, ea }) => Some(Written { putting: Putting::Zero, size, ea }),
+        _ => None,
+    }
+}
+
+/// The operand that an instruction reads, changes and writes back.
+#[rattlefmt::skip]
+pub(crate) fn find_updated(instruction: &Instr) -> Option<Updated>
+    ensures { IfSome result (λ it. instruction.now ≡ update_of it.update it.size it.ea) }
+{
+    match *instruction {
+        Instr::Arith(Arith::Add { register: n, to_memory: true, size, ea }) =>
+            Some(Updated { update: Update::Add(n), size, ea }),
+        Instr::Arith(Arith::Sub { register: n, to_memory: true, size, ea }) =>
+            Some(Updated { update: Update::Subtract(n), size, ea }),
+        Instr::Arith(Arith::And { register: n, to_memory: true, size, ea }) =>
+            Some(Updated { update: Update::And(n), size, ea }),
+        Instr::Arith(Arith::Or { register: n, to_memory: true, size, ea }) =>
+            Some(Updated { update: Update::Or(n), size, ea }),
+        Instr::Arith(Arith::Eor { register: n, size, ea }) =>
+            Some(Updated { update: Update::ExclusiveOr(n), size, ea }),
+        Instr::Arith(Arith::Addq { quick, size, ea }) => Some(Updated { update: Update::AddQuick(quick), size, ea }),
+        Instr::Arith(Arith::Subq { quick, size, ea }) =>
+            Some(Updated { update: Update::SubtractQuick(quick), size, ea }),
+        Instr::Arith(Arith::Neg { size, ea }) => Some(Updated { update: Update::Negate, size, ea }),
+        Instr::Arith(Arith::Not { size, ea }) => Some(Updated { update: Update::Complement, size, ea }),
         _ => None,
     }
 }

@@ -1,6 +1,6 @@
 //! Instructions in short.
 
-use crate::forms::{Change, Place, Putting, Register, Taking};
+use crate::forms::{Change, Place, Putting, Register, Taking, Update};
 use mb_instr::{Condition, Size};
 
 /// What a first word says by itself, in six bytes: which instruction it is, or which one it is with each second word.
@@ -143,6 +143,18 @@ pub enum Short {
     /// An operand `(d16,An)` is written; the second word is the displacement.
     PutNear {
         putting: Putting,
+        size: Size,
+        base: u8,
+    },
+    /// An operand in memory is read, changed and written back.
+    UpdateMemory {
+        update: Update,
+        size: Size,
+        place: Place,
+    },
+    /// An operand `(d16,An)` is read, changed and written back; the second word is the displacement.
+    UpdateNear {
+        update: Update,
         size: Size,
         base: u8,
     },

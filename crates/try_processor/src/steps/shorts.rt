@@ -10,7 +10,7 @@ use std::alloc::{AllocError, Global};
 const HOLE: u32 = 0x1109;
 
 /// Instructions of one word that have a short form, a few of each kind.
-const ALONE: [u16; 62] = [
+const ALONE: [u16; 66] = [
     0x70F9, // MOVEQ #-7,D0
     0x2401, // MOVE.L D1,D2
     0xD481, // ADD.L D1,D2
@@ -55,6 +55,10 @@ const ALONE: [u16; 62] = [
     0x2309, // MOVE.L A1,-(A1)
     0x1F02, // MOVE.B D2,-(A7)
     0x4299, // CLR.L (A1)+
+    0xD391, // ADD.L D1,(A1)
+    0x5B19, // SUBQ.B #5,(A1)+
+    0xB361, // EOR.W D1,-(A1)
+    0x4491, // NEG.L (A1)
     0x4242, // CLR.W D2
     0x4482, // NEG.L D2
     0x4602, // NOT.B D2
@@ -76,7 +80,7 @@ const ALONE: [u16; 62] = [
 ];
 
 /// First words that have a short form with any second one.
-const WITH_ANOTHER: [u16; 15] = [
+const WITH_ANOTHER: [u16; 17] = [
     0x2429, // MOVE.L (d16,A1),D2
     0x2342, // MOVE.L D2,(d16,A1)
     0x6600, // BNE.W
@@ -88,6 +92,8 @@ const WITH_ANOTHER: [u16; 15] = [
     0x4AA9, // TST.L (d16,A1)
     0x3342, // MOVE.W D2,(d16,A1)
     0x4229, // CLR.B (d16,A1)
+    0x5269, // ADDQ.W #1,(d16,A1)
+    0x9569, // SUB.W D2,(d16,A1)
     0x45E9, // LEA (d16,A1),A2
     0x6100, // BSR.W
     0x4E55, // LINK A5
