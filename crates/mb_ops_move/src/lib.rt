@@ -11,6 +11,7 @@ mod performing;
 mod peripheral;
 mod registers;
 mod stack;
+mod transfers;
 
 pub use moves::moveq;
 pub use performing::{perform_move, perform_move_in_place};

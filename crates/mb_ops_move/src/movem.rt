@@ -1,12 +1,15 @@
 //! MOVEM.
 
-ghost use Rattle.std.specs.Prelude.{◌≡◌, ◌<◌, ◌^◌};
+ghost use Rattle.std.specs.Prelude.{◌≡◌, ◌≤◌};
 ghost use Rattle.mb_port.specs.Routine.{run};
 ghost use Rattle.mb_instr.specs.Operands.{IsEa, IsInMemory};
-ghost use Rattle.mb_writes.specs.Transfers.{IsMode};
+ghost use Rattle.mb_writes.specs.Transfers.{count_of, IsMode};
+ghost use Rattle.mb_writes.specs.Moving.{transfer_of};
 ghost use Rattle.mb_meaning.specs.Moves.{movem_mode, movem_of};
 ghost use Rattle.mb_operands.specs.Endings.{carried_by};
+ghost use Rattle.mb_ops_move.specs.Transfers.{ending};
 
+use crate::transfers::transfer_at_once;
 use mb_instr::{Ea, Plain, Size};
 use mb_operands::{Undone, find_address, left_undone, unread};
 use mb_port::{Port, Space};
@@ -31,6 +34,29 @@ fn mode(size: Size, ea: &Ea) -> MovemMode
         | Ea::PcDisp(_)
         | Ea::PcIndex(_)
         | Ea::Imm(_) => MovemMode::Control,
+    }
+}
+
+/// The transfers of a MOVEM behind the first `done`, whatever the bus has to do for them.
+#[inline(never)]
+fn transfer_slowly<P: Port>(
+    movem: &Movem,
+    ea: u32,
+    done: u8,
+    space: Space,
+    plain: &mut Plain,
+    port: &mut P,
+    ended: &mut Ended,
+) -> Result<(), Undone>
+    requires mode { IsMode movem.now.mode }
+    requires done { done ≤ count_of movem.now.mask }
+    ensures means { run P.bus (ending (transfer_of movem.now ea done space plain.old)) (P.world port.old)
+        ≡ (carried_by result ended.new plain.new, P.world port.new) }
+    ensures rest { P.rest port.new ≡ P.rest port.old }
+{
+    match transfer(movem, ea, done, plain, space, port) {
+        Ok(()) => Ok(()),
+        Err(refused) => Err(left_undone(Ended::Movem(refused), ended)),
     }
 }
 
@@ -63,8 +89,8 @@ pub fn movem<P: Port>(
         mode: mode(size, ea),
         mask,
     };
-    match transfer(&movem, place, 0, plain, space, port) {
-        Ok(()) => Ok(()),
-        Err(refused) => Err(left_undone(Ended::Movem(refused), ended)),
+    match transfer_at_once(&movem, place, space, plain, port) {
+        None => Ok(()),
+        Some(done) => transfer_slowly(&movem, place, done, space, plain, port, ended),
     }
 }
