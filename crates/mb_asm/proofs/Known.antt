@@ -28,7 +28,8 @@ use Rattle.mb_asm.specs.Code.{admitted, laid_to}
 use Rattle.mb_asm.specs.Directives.{only_of, plain_of, unit_of}
 use Rattle.mb_asm.specs.Extents.{address_of, behind, behind_dc, behind_directive, behind_ds, behind_even, behind_instruction, behind_item, behind_items}
 use Rattle.mb_asm.specs.Extents.{behind_org, count_of, directive_in, equ_value, even_from, item_len, long_of, narrow_value, no_size, only_value, onward, ranged}
-use Rattle.mb_asm.specs.Extents.{is_empty, past}
+use Rattle.mb_asm.specs.Extents.{is_empty}
+use Rattle.mb_asm.specs.declared.addresses.TheConstants.{PAST}
 use Rattle.mb_asm.specs.Judged.{Laid, equ_checked, has_no_name, is_again, is_misplaced, judged, judged_operation, judged_statement}
 use Rattle.mb_asm.specs.Judged.{place}
 use Rattle.mb_asm.specs.Judged.{reaches_past, reads_earlier, scope_of, wants_label}
@@ -224,7 +225,7 @@ even_known at operation end known is =
     let a = bound (no_size operation.size) (λ none. refuse (not (is_empty operation.operands)) kind.Operand >>= λ no_operand. Ok (even_from at)) end is in
     let b = bound (refuse (not (is_empty operation.operands)) kind.Operand) (λ no_operand. Ok (even_from at)) end a.1.1 in
     let same : even_from at ≡ end = cc in
-    same_some (even_from at) end (mapped_known (λ x. min (x + x % 2) past) at known) same
+    same_some (even_from at) end (mapped_known (λ x. min (x + x % 2) PAST) at known) same
 
 instruction_known : (scope : Scope) (operation : Operation) (end : Option ℕ) → is_some scope.at ≡ true
     → behind_instruction scope operation ≡ Ok end → is_some end ≡ true

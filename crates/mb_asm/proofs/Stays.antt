@@ -42,7 +42,8 @@ use Rattle.mb_asm.specs.Code.{admitted, laid_to}
 use Rattle.mb_asm.specs.Directives.{only_of, plain_of, unit_of}
 use Rattle.mb_asm.specs.Extents.{address_of, behind, behind_dc, behind_ds, behind_even, behind_instruction, behind_item, behind_items}
 use Rattle.mb_asm.specs.Extents.{behind_org, count_of, directive_in, equ_value, even_from, is_empty, item_len, long_of, narrow_value, no_size, only_value}
-use Rattle.mb_asm.specs.Extents.{onward, past}
+use Rattle.mb_asm.specs.Extents.{onward}
+use Rattle.mb_asm.specs.declared.addresses.TheConstants.{PAST}
 use Rattle.mb_asm.specs.Extents.{ranged}
 use Rattle.mb_asm.specs.Judged.{Laid, ends_past, equ_checked, has_no_name, is_address, is_again, is_misplaced, is_odd, is_past, judged, judged_by}
 use Rattle.mb_asm.specs.Judged.{judged_label}
@@ -193,7 +194,7 @@ equ_stays line ss ts a b operation s p =
     (only_stays line ss ts a b operation.operands s p))
 
 onward_stays : (a b : Option ℕ) (n : ℕ) → Stays a b → Stays (onward a n) (onward b n)
-onward_stays a b n p = map_stays (λ known. min (known + n) past) a b p
+onward_stays a b n p = map_stays (λ known. min (known + n) PAST) a b p
 
 -- the address behind so many units
 abbrev pub units_on : Option ℕ → ℕ → Option ℕ → Option ℕ
@@ -244,7 +245,7 @@ even_stays a b operation p =
     front_stays (no_size operation.size) (λ none. refuse (not (is_empty operation.operands)) kind.Operand >>= λ no_operand. Ok (even_from a))
     (λ none. refuse (not (is_empty operation.operands)) kind.Operand >>= λ no_operand. Ok (even_from b))
     (λ none. front_stays (refuse (not (is_empty operation.operands)) kind.Operand) (λ no_operand. Ok (even_from a)) (λ no_operand. Ok (even_from b))
-    (λ no_operand. ok_stays (even_from a) (even_from b) (map_stays (λ x. min (x + x % 2) past) a b p)))
+    (λ no_operand. ok_stays (even_from a) (even_from b) (map_stays (λ x. min (x + x % 2) PAST) a b p)))
 
 instruction_stays : (line : List ℕ) (ss ts : List Symbol) (a b : Option ℕ) (operation : Operation) → Stays a b
     → GivenStays (behind_instruction (scope_at ss line a) operation) (behind_instruction (scope_at ts line b) operation)

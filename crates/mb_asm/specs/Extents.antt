@@ -24,14 +24,11 @@ use Rattle.mb_asm.specs.Kinds.{meant}
 use Rattle.mb_asm.specs.Results.{refuse}
 use Rattle.mb_asm.specs.Values.{Scope, has_flaw, value_of, values_of}
 use Rattle.mb_asm.specs.Directives.{directives, only_of, plain_of, unit_of}
-
--- Addresses are 0 to 2 ^ 32, which is the end of the last byte. This one stands for all that are past it.
-abbrev pub past : ℕ
-past = 4294967297
+use Rattle.mb_asm.specs.declared.addresses.TheConstants.{PAST}
 
 -- so many bytes on, where the address is known
 abbrev pub onward : Option ℕ → ℕ → Option ℕ
-onward at n = option_map (λ known. min (known + n) past) at
+onward at n = option_map (λ known. min (known + n) PAST) at
 
 -- what has no size
 abbrev pub no_size : Option SizeLetter → Result (Unit {0}) AsmKind
@@ -57,7 +54,7 @@ is_empty (_ ∷ _) = false
 -- ORG
 
 abbrev pub address_of : ℤ → Option ℕ
-address_of (pos n) = Some (min n past)
+address_of (pos n) = Some (min n PAST)
 address_of (negsuc n) = None
 
 unfoldable pub behind_org : Scope → Operation → Result (Option ℕ) AsmKind
@@ -118,7 +115,7 @@ behind_dc at operation = do
 -- EVEN
 
 abbrev pub even_from : Option ℕ → Option ℕ
-even_from at = option_map (λ known. min (known + known % 2) past) at
+even_from at = option_map (λ known. min (known + known % 2) PAST) at
 
 unfoldable pub behind_even : Option ℕ → Operation → Result (Option ℕ) AsmKind
 behind_even at operation = do

@@ -1,5 +1,5 @@
 -- What a statement writes, or the first fault that it has.
-use Rattle.std.specs.Prelude.{ℕ, ◌+◌, ◌%◌, ◌==◌, nat_lt, Bool, true, false, ◌&&◌, ◌||◌, if◌then◌else◌, List, []}
+use Rattle.std.specs.Prelude.{ℕ, ◌+◌, ◌-◌, ◌%◌, ◌==◌, nat_lt, Bool, true, false, ◌&&◌, ◌||◌, if◌then◌else◌, List, []}
 use Rattle.std.specs.Prelude.{length, Option, Some, None, Result, Ok, Err}
 use Rattle.std.specs.Option.{is_some, unwrap_or}
 use Rattle.mb_lines.specs.Results.{◌>>=◌}
@@ -17,6 +17,7 @@ use Rattle.mb_asm.specs.Values.{Scope, have_flaw}
 use Rattle.mb_asm.specs.Extents.{behind, directive_in, equ_value}
 use Rattle.mb_asm.specs.Bytes.{bytes}
 use Rattle.mb_asm.specs.Layouts.{Layout, earlier}
+use Rattle.mb_asm.specs.declared.addresses.TheConstants.{END}
 
 -- What a statement writes, and the address behind it.
 pub record Laid : Type 0 where
@@ -66,16 +67,16 @@ is_address (Some name) (Some directive.Equ) = false
 is_address (Some name) _ = true
 
 abbrev pub is_past : ℕ → Bool
-is_past at = nat_lt 4294967295 at
+is_past at = nat_lt (END - 1) at
 
 -- 2 ^ 32 is the end of the last byte; ORG goes to a byte
 abbrev pub ends_past : Option Directive → ℕ → Bool
 ends_past (Some directive.Org) next = is_past next
-ends_past _ next = nat_lt 4294967296 next
+ends_past _ next = nat_lt END next
 
 -- a byte at an address past the last
 abbrev pub reaches_past : ℕ → List ℕ → Bool
-reaches_past at written = nat_lt 4294967296 (at + length written)
+reaches_past at written = nat_lt END (at + length written)
 
 abbrev pub is_misplaced : ℕ → Option Name → Option Directive → ℕ → Bool
 is_misplaced at label found next = is_odd at found || (is_address label found && is_past at || ends_past found next)

@@ -2,6 +2,7 @@
 
 ghost use Rattle.std.specs.Prelude.{◌+◌, ◌≤◌, All, length};
 ghost use Rattle.mb_srec.specs.Image.{IsAddressed, all_contents};
+ghost use Rattle.mb_asm.specs.declared.addresses.TheConstants.{END};
 
 use mb_srec::Chunk;
 
@@ -12,5 +13,5 @@ pub(crate) struct Chunks {
     pub(crate) at: u64,
     pub(crate) bytes: Vec<u8>,
     ghost addressed: { All IsAddressed (all_contents whole.items) },
-    ghost inside: { at + length bytes.items ≤ 4294967296 },
+    ghost inside: { at + length bytes.items ≤ END },
 }

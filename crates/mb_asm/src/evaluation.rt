@@ -8,6 +8,7 @@ ghost use Rattle.mb_asm.specs.Scopes.{scope_said};
 ghost use Rattle.mb_asm.specs.Values.{have_flaw, has_flaw, in_form, in_mode, in_number, in_operand, in_option};
 ghost use Rattle.mb_asm.specs.Values.{in_displacement, is_long, is_nameless, is_wide, signed_value, sum_behind};
 ghost use Rattle.mb_asm.specs.Values.{counted, term_value, value_of, values_of};
+ghost use Rattle.mb_asm.specs.declared.addresses.TheConstants.{PAST};
 
 use crate::lookup::value_in;
 use crate::value::{Flaw, Scope};
@@ -19,7 +20,7 @@ use std::alloc::{AllocError, Global};
 fn term_value(scope: &Scope, term: Term) -> Option<i64>
     ensures value { result ≡ term_value (scope_said scope.now) term }
     ensures least { IfSome result (λ value. negsuc 4294967296 ≤ℤ value) }
-    ensures greatest { IfSome result (λ value. value ≤ℤ pos 4294967297) }
+    ensures greatest { IfSome result (λ value. value ≤ℤ pos PAST) }
 {
     match term {
         Term::Number(number) => Some(i64::from(number)),
@@ -35,7 +36,7 @@ fn term_value(scope: &Scope, term: Term) -> Option<i64>
 fn signed_value(scope: &Scope, signed: SignedTerm) -> Option<i64>
     ensures value { result ≡ signed_value (scope_said scope.now) signed }
     ensures least { IfSome result (λ value. negsuc 4294967296 ≤ℤ value) }
-    ensures greatest { IfSome result (λ value. value ≤ℤ pos 4294967297) }
+    ensures greatest { IfSome result (λ value. value ≤ℤ pos PAST) }
 {
     let value = term_value(scope, signed.term)?;
     if signed.is_negative {

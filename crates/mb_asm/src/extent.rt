@@ -8,6 +8,7 @@ ghost use Rattle.mb_asm.specs.Extents.{address_of, behind, behind_dc, behind_dir
 ghost use Rattle.mb_asm.specs.Extents.{behind_instruction, behind_items, behind_org, count_of, equ_value, even_from};
 ghost use Rattle.mb_asm.specs.Extents.{item_len, long_of, narrow_value, no_size, only_value, onward, text_len};
 
+use crate::addresses::PAST;
 use crate::directive::{Directive, directive_of, only_of, plain_of, unit_of};
 use crate::evaluation::{has_flaw, value_of, values_of};
 use crate::fault::AsmKind;
@@ -17,13 +18,10 @@ use mb_mnemonics::{Range, length_of, number};
 use mb_syntax::{Expression, Name, Operand, Operation, SizeLetter};
 use std::alloc::{AllocError, Global};
 
-/// Stands for all addresses past 2^32, which is the end of the last byte.
-const PAST: u64 = 0x1_0000_0001;
-
 /// The address so many bytes on, if it is known.
 fn onward(at: Option<u64>, len: u64) -> Option<u64>
     ensures value { result ≡ onward at len }
-    ensures most { IfSome result (λ known. known ≤ 4294967297) }
+    ensures most { IfSome result (λ known. known ≤ PAST) }
 {
     let known = at?;
     Some(known.saturating_add(len).min(PAST))
@@ -63,7 +61,7 @@ fn only_value(scope: &Scope, operands: &[Operand<Expression>]) -> Result<Option<
 
 fn address_of(value: i64) -> Option<u64>
     ensures value { result ≡ address_of value }
-    ensures most { IfSome result (λ at. at ≤ 4294967297) }
+    ensures most { IfSome result (λ at. at ≤ PAST) }
 {
     if value < 0 {
         return None;
@@ -74,7 +72,7 @@ fn address_of(value: i64) -> Option<u64>
 #[tactic(auto, unfolding(crate::specs::Extents::behind_org))]
 fn behind_org(scope: &Scope, operation: &Operation) -> Result<Option<u64>, AsmKind>
     ensures value { result ≡ behind_org (scope_said scope.now) (operation_said operation.now) }
-    ensures most { IfOk result (λ at. IfSome at (λ known. known ≤ 4294967297)) }
+    ensures most { IfOk result (λ at. IfSome at (λ known. known ≤ PAST)) }
 {
     no_size(operation.size)?;
     let value = only_value(scope, &operation.operands)?;
@@ -129,7 +127,7 @@ fn count_of(value: i64) -> Option<u32>
 #[tactic(auto, unfolding(crate::specs::Extents::behind_ds))]
 fn behind_ds(scope: &Scope, operation: &Operation) -> Result<Option<u64>, AsmKind>
     ensures value { result ≡ behind_ds (scope_said scope.now) (operation_said operation.now) }
-    ensures most { IfOk result (λ at. IfSome at (λ known. known ≤ 4294967297)) }
+    ensures most { IfOk result (λ at. IfSome at (λ known. known ≤ PAST)) }
 {
     let Some(unit) = unit_of(operation.size) else {
         return Err(AsmKind::Operand);
@@ -174,9 +172,9 @@ fn behind_items(
     at: Option<u64>,
     items: &[Operand<Expression>],
 ) -> Result<Option<u64>, AsmKind>
-    requires { IfSome at (λ known. known ≤ 4294967297) }
+    requires { IfSome at (λ known. known ≤ PAST) }
     ensures value { result ≡ behind_items unit at items.now }
-    ensures most { IfOk result (λ at. IfSome at (λ known. known ≤ 4294967297)) }
+    ensures most { IfOk result (λ at. IfSome at (λ known. known ≤ PAST)) }
 {
     let mut next = at;
     for item in items {
@@ -190,9 +188,9 @@ fn behind_items(
 
 #[tactic(auto, unfolding(crate::specs::Extents::behind_dc))]
 fn behind_dc(at: Option<u64>, operation: &Operation) -> Result<Option<u64>, AsmKind>
-    requires { IfSome at (λ known. known ≤ 4294967297) }
+    requires { IfSome at (λ known. known ≤ PAST) }
     ensures value { result ≡ behind_dc at (operation_said operation.now) }
-    ensures most { IfOk result (λ at. IfSome at (λ known. known ≤ 4294967297)) }
+    ensures most { IfOk result (λ at. IfSome at (λ known. known ≤ PAST)) }
 {
     let Some(unit) = unit_of(operation.size) else {
         return Err(AsmKind::Operand);
@@ -205,7 +203,7 @@ fn behind_dc(at: Option<u64>, operation: &Operation) -> Result<Option<u64>, AsmK
 
 fn even_from(at: Option<u64>) -> Option<u64>
     ensures value { result ≡ even_from at }
-    ensures most { IfSome result (λ known. known ≤ 4294967297) }
+    ensures most { IfSome result (λ known. known ≤ PAST) }
 {
     let known = at?;
     Some(known.saturating_add(known % 2).min(PAST))
@@ -214,7 +212,7 @@ fn even_from(at: Option<u64>) -> Option<u64>
 #[tactic(auto, unfolding(crate::specs::Extents::behind_even))]
 fn behind_even(at: Option<u64>, operation: &Operation) -> Result<Option<u64>, AsmKind>
     ensures value { result ≡ behind_even at (operation_said operation.now) }
-    ensures most { IfOk result (λ at. IfSome at (λ known. known ≤ 4294967297)) }
+    ensures most { IfOk result (λ at. IfSome at (λ known. known ≤ PAST)) }
 {
     no_size(operation.size)?;
     if !operation.operands.is_empty() {
@@ -231,7 +229,7 @@ fn behind_instruction(
 ) -> Result<Option<u64>, Refusal>
     ensures value { GivesAlone (λ at. at) result
         (behind_instruction (scope_said scope.now) (operation_said operation.now)) }
-    ensures most { IfOk result (λ at. IfSome at (λ known. known ≤ 4294967297)) }
+    ensures most { IfOk result (λ at. IfSome at (λ known. known ≤ PAST)) }
 {
     let values = values_of(alloc, scope, &operation.operands)?;
     match length_of(operation.name.bytes(scope.line), operation.size, &values) {
@@ -247,7 +245,7 @@ fn behind_directive(
     directive: Directive,
 ) -> Result<Option<u64>, AsmKind>
     ensures value { result ≡ behind_directive (scope_said scope.now) (operation_said operation.now) directive }
-    ensures most { IfOk result (λ at. IfSome at (λ known. known ≤ 4294967297)) }
+    ensures most { IfOk result (λ at. IfSome at (λ known. known ≤ PAST)) }
 {
     match directive {
         Directive::Org => behind_org(scope, operation),
@@ -262,7 +260,7 @@ fn behind_directive(
 #[tactic(auto, unfolding(crate::specs::Extents::behind))]
 fn behind(alloc: Global, scope: &Scope, operation: &Operation) -> Result<Option<u64>, Refusal>
     ensures value { GivesAlone (λ at. at) result (behind (scope_said scope.now) (operation_said operation.now)) }
-    ensures most { IfOk result (λ at. IfSome at (λ known. known ≤ 4294967297)) }
+    ensures most { IfOk result (λ at. IfSome at (λ known. known ≤ PAST)) }
 {
     match directive_of(operation.name.bytes(scope.line)) {
         Some(directive) => match behind_directive(scope, operation, directive) {
@@ -280,7 +278,7 @@ pub(crate) fn reached(
     operation: &Operation,
 ) -> Result<Result<Option<u64>, AsmKind>, AllocError>
     ensures value { IfOk result (λ reached. reached ≡ behind (scope_said scope.now) (operation_said operation.now)) }
-    ensures most { IfOk result (λ reached. IfOk reached (λ at. IfSome at (λ known. known ≤ 4294967297))) }
+    ensures most { IfOk result (λ reached. IfOk reached (λ at. IfSome at (λ known. known ≤ PAST))) }
 {
     match behind(alloc, scope, operation) {
         Ok(at) => Ok(Ok(at)),

@@ -5,6 +5,7 @@ ghost use Rattle.mb_srec.specs.Image.{IsAddressed, all_contents};
 ghost use Rattle.mb_asm.specs.Laids.{laid_said};
 ghost use Rattle.mb_asm.specs.Gathered.{chunks_said};
 ghost use Rattle.mb_asm.specs.Texts.{chunk_of, closed, with_laid};
+ghost use Rattle.mb_asm.specs.declared.addresses.TheConstants.{END};
 
 use crate::chunks::Chunks;
 use crate::laid::Laid;
@@ -14,7 +15,7 @@ use std::alloc::{AllocError, Global};
 /// Adds a chunk, if it has bytes.
 #[tactic(auto, using(crate::proofs::Pieces::pushed))]
 fn push_chunk(whole: &mut Vec<Chunk>, at: u64, bytes: Vec<u8>) -> Result<(), AllocError>
-    requires inside { at + length bytes.items ≤ 4294967296 }
+    requires inside { at + length bytes.items ≤ END }
     requires addressed { All IsAddressed (all_contents whole.old.items) }
     ensures given { OnOk result
         (all_contents whole.new.items ≡ all_contents whole.old.items ++ chunk_of at bytes.items) }
@@ -31,7 +32,7 @@ fn push_chunk(whole: &mut Vec<Chunk>, at: u64, bytes: Vec<u8>) -> Result<(), All
 impl Chunks {
     /// Ends the last chunk; the next one begins at the address.
     pub(crate) fn close(&mut self, alloc: Global, next: u64) -> Result<(), AllocError>
-        requires { next ≤ 4294967296 }
+        requires { next ≤ END }
         ensures given { OnOk result (chunks_said self.new ≡ closed (chunks_said self.old) next) }
         ensures end { OnOk result (self.new.at + length self.new.bytes.items ≡ next) }
     {
@@ -46,8 +47,8 @@ impl Chunks {
     #[tactic(auto, unfolding(crate::specs::Texts::with_laid))]
     pub(crate) fn add(&mut self, alloc: Global, at: u64, laid: &Laid) -> Result<(), AllocError>
         requires end { self.old.at + length self.old.bytes.items ≡ at }
-        requires inside { at + length laid.now.bytes.items ≤ 4294967296 }
-        requires next { laid.now.next ≤ 4294967296 }
+        requires inside { at + length laid.now.bytes.items ≤ END }
+        requires next { laid.now.next ≤ END }
         ensures given { OnOk result (chunks_said self.new ≡ with_laid (chunks_said self.old) at (laid_said laid.now)) }
         ensures end { OnOk result (self.new.at + length self.new.bytes.items ≡ laid.now.next) }
     {

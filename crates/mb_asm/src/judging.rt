@@ -15,7 +15,9 @@ ghost use Rattle.mb_asm.specs.Judged.{is_odd, judged, judged_by, judged_label, j
 ghost use Rattle.mb_asm.specs.Judged.{reads_earlier, scope_of, wants_label, place};
 ghost use Rattle.mb_asm.specs.declared.value.Flaw.TheVariants as flaw;
 ghost use Rattle.mb_asm.specs.Values.{have_flaw};
+ghost use Rattle.mb_asm.specs.declared.addresses.TheConstants.{PAST};
 
+use crate::addresses::END;
 use crate::directive::{Directive, directive_of};
 use crate::evaluation::have_flaw;
 use crate::extent::{equ_value, reached};
@@ -30,9 +32,6 @@ use crate::value::{Flaw, Scope};
 use crate::writing::bytes;
 use mb_syntax::{Name, Operation, Statement};
 use std::alloc::Global;
-
-/// The end of the last byte.
-const END: u64 = 0x1_0000_0000;
 
 /// A fault where a test holds.
 fn refuse(test: bool, kind: AsmKind) -> Result<(), Refusal>
@@ -120,9 +119,9 @@ fn ends_past(directive: Option<Directive>, next: u64) -> bool
 
 /// An address; one that is not known counts as 0, where all may stand.
 pub(crate) fn place(at: Option<u64>) -> u64
-    requires { IfSome at (λ known. known ≤ 4294967297) }
+    requires { IfSome at (λ known. known ≤ PAST) }
     ensures value { result ≡ place at }
-    ensures most { result ≤ 4294967297 }
+    ensures most { result ≤ PAST }
 {
     at.unwrap_or(0)
 }
@@ -178,11 +177,11 @@ fn laid_to(
     directive: Option<Directive>,
     operation: &Operation,
 ) -> Result<Laid, Refusal>
-    requires { IfSome end (λ known. known ≤ 4294967297) }
+    requires { IfSome end (λ known. known ≤ PAST) }
     ensures given { GivesAlone laid_said result
         (laid_to end (scope_said scope.now) label directive (operation_said operation.now)) }
-    ensures inside { IfOk result (λ laid. place scope.now.at + length laid.bytes.items ≤ 4294967296) }
-    ensures last { IfOk result (λ laid. laid.next ≤ 4294967296) }
+    ensures inside { IfOk result (λ laid. place scope.now.at + length laid.bytes.items ≤ END) }
+    ensures last { IfOk result (λ laid. laid.next ≤ END) }
     ensures reached { IfOk result (λ laid. laid.next ≡ place end) }
 {
     equ_checked(scope, operation, directive)?;
@@ -196,7 +195,7 @@ fn laid_to(
 
 /// A byte at an address past the last.
 fn reaches_past(at: u64, bytes: &[u8]) -> bool
-    requires { at ≤ 4294967297 }
+    requires { at ≤ PAST }
     ensures { result ≡ reaches_past at bytes.now }
 {
     at + bytes.len() as u64 > END
@@ -215,8 +214,8 @@ fn judged_operation(
     ensures given { GivesAlone laid_said result
         (judged_operation (symbols_said symbols.now) (layout_said layout.now) line.now label
         (operation_said operation.now)) }
-    ensures inside { IfOk result (λ laid. place layout.now.at + length laid.bytes.items ≤ 4294967296) }
-    ensures last { IfOk result (λ laid. laid.next ≤ 4294967296) }
+    ensures inside { IfOk result (λ laid. place layout.now.at + length laid.bytes.items ≤ END) }
+    ensures last { IfOk result (λ laid. laid.next ≤ END) }
     ensures reached { IfOk result
         (λ laid. laid.next ≡ place (next_at (layout_said layout.now) line.now (Some (operation_said operation.now)))) }
 {
@@ -240,12 +239,12 @@ fn judged_by(
     scope: &Scope,
     next: Result<Option<u64>, AsmKind>,
 ) -> Result<Laid, Refusal>
-    requires { IfOk next (λ end. IfSome end (λ known. known ≤ 4294967297)) }
+    requires { IfOk next (λ end. IfSome end (λ known. known ≤ PAST)) }
     ensures given { GivesAlone laid_said result
         (judged_by (layout_said layout.now) line.now label (operation_said operation.now) directive
         (scope_said scope.now) next) }
-    ensures inside { IfOk result (λ laid. place scope.now.at + length laid.bytes.items ≤ 4294967296) }
-    ensures last { IfOk result (λ laid. laid.next ≤ 4294967296) }
+    ensures inside { IfOk result (λ laid. place scope.now.at + length laid.bytes.items ≤ END) }
+    ensures last { IfOk result (λ laid. laid.next ≤ END) }
     ensures reached { IfOk result (λ laid. laid.next ≡ place (if_known next)) }
 {
     let is_nameless = is_nameless(next, scope, operation);
@@ -296,11 +295,11 @@ pub(crate) fn judged(
     line: &[u8],
     statement: &Option<Statement>,
 ) -> Result<Laid, Refusal>
-    requires { place layout.now.at ≤ 4294967296 }
+    requires { place layout.now.at ≤ END }
     ensures given { GivesAlone laid_said result (judged (symbols_said symbols.now) (layout_said layout.now) line.now
         (option_map statement_said statement.now)) }
-    ensures inside { IfOk result (λ laid. place layout.now.at + length laid.bytes.items ≤ 4294967296) }
-    ensures next { IfOk result (λ laid. laid.next ≤ 4294967296) }
+    ensures inside { IfOk result (λ laid. place layout.now.at + length laid.bytes.items ≤ END) }
+    ensures next { IfOk result (λ laid. laid.next ≤ END) }
     ensures reached { IfOk result
         (λ laid. laid.next
         ≡ place (after_statement (layout_said layout.now) line.now (option_map statement_said statement.now)).at) }

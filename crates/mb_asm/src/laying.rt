@@ -11,6 +11,7 @@ ghost use Rattle.mb_asm.specs.Layouts.{after_statement, earlier, front_of, if_kn
 ghost use Rattle.mb_asm.specs.Layouts.{with_label};
 ghost use Rattle.mb_asm.specs.Extents.{equ_value};
 ghost use Rattle.mb_asm.specs.Said.{symbols_said};
+ghost use Rattle.mb_asm.specs.declared.addresses.TheConstants.{PAST};
 
 use crate::directive::{Directive, directive_of};
 use crate::extent::{equ_value, reached};
@@ -92,7 +93,7 @@ fn next_at(
 ) -> Result<Option<u64>, AllocError>
     ensures value { IfOk result
         (λ at. at ≡ next_at (layout_said layout.now) line.now (option_map operation_said operation.now)) }
-    ensures most { IfOk result (λ at. IfSome at (λ known. known ≤ 4294967297)) }
+    ensures most { IfOk result (λ at. IfSome at (λ known. known ≤ PAST)) }
 {
     let Some(operation) = operation else {
         return Ok(layout.at);

@@ -2,6 +2,7 @@
 
 ghost use Rattle.std.specs.Prelude.{◌≤◌};
 ghost use Rattle.std.specs.Option.{ForSome};
+ghost use Rattle.mb_asm.specs.declared.addresses.TheConstants.{PAST};
 
 use crate::symbol::Symbols;
 
@@ -10,5 +11,5 @@ use crate::symbol::Symbols;
 pub(crate) struct Layout<'t> {
     pub(crate) at: Option<u64>,
     pub(crate) symbols: Symbols<'t>,
-    ghost at_most: { ForSome at (λ known. known ≤ 4294967297) },
+    ghost at_most: { ForSome at (λ known. known ≤ PAST) },
 }

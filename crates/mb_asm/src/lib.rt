@@ -5,6 +5,7 @@
 //! line, and `specs/Texts` what the image is. The words of an instruction are those of the table of instructions.
 #![tactic(auto)]
 
+mod addresses;
 mod assembling;
 mod chunks;
 mod directive;

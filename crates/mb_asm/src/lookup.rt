@@ -3,6 +3,7 @@
 ghost use Rattle.std.specs.Prelude.{◌≡◌, ◌≤ℤ◌, IfSome, OnOk, negsuc, pos};
 ghost use Rattle.mb_asm.specs.Symbols.{value_in, with_symbol};
 ghost use Rattle.mb_asm.specs.Said.{symbols_said};
+ghost use Rattle.mb_asm.specs.declared.addresses.TheConstants.{PAST};
 
 use crate::symbol::{SymbolValue, Symbols};
 use std::alloc::AllocError;
@@ -12,7 +13,7 @@ use std::alloc::AllocError;
 pub(crate) fn value_in(symbols: &Symbols, name: &[u8]) -> Option<Option<i64>>
     ensures given { result ≡ value_in (symbols_said symbols.now) name.now }
     ensures least { IfSome result (λ found. IfSome found (λ value. negsuc 2147483647 ≤ℤ value)) }
-    ensures greatest { IfSome result (λ found. IfSome found (λ value. value ≤ℤ pos 4294967297)) }
+    ensures greatest { IfSome result (λ found. IfSome found (λ value. value ≤ℤ pos PAST)) }
 {
     match symbols.get(&name) {
         Some(value) => Some(value.number),

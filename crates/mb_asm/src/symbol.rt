@@ -2,6 +2,7 @@
 
 ghost use Rattle.std.specs.Prelude.{pos, negsuc, ◌≤ℤ◌};
 ghost use Rattle.std.specs.Option.{ForSome};
+ghost use Rattle.mb_asm.specs.declared.addresses.TheConstants.{PAST};
 
 use indexmap::IndexMap;
 
@@ -11,7 +12,7 @@ use indexmap::IndexMap;
 pub(crate) struct SymbolValue {
     pub(crate) number: Option<i64>,
     ghost least: { ForSome number (λ value. negsuc 2147483647 ≤ℤ value) },
-    ghost greatest: { ForSome number (λ value. value ≤ℤ pos 4294967297) },
+    ghost greatest: { ForSome number (λ value. value ≤ℤ pos PAST) },
 }
 
 /// Symbols by their names, in the order of their lines.

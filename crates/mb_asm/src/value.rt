@@ -2,6 +2,7 @@
 
 ghost use Rattle.std.specs.Prelude.{◌≤◌};
 ghost use Rattle.std.specs.Option.{ForSome};
+ghost use Rattle.mb_asm.specs.declared.addresses.TheConstants.{PAST};
 
 use crate::symbol::Symbols;
 
@@ -22,5 +23,5 @@ pub(crate) struct Scope<'s> {
     pub(crate) symbols: &'s Symbols<'s>,
     pub(crate) line: &'s [u8],
     pub(crate) at: Option<u64>,
-    ghost at_most: { ForSome at (λ known. known ≤ 4294967297) },
+    ghost at_most: { ForSome at (λ known. known ≤ PAST) },
 }

@@ -6,17 +6,11 @@ ghost use Rattle.mb_model.specs.Keeping.{nothing_kept};
 ghost use Rattle.mb_model.specs.Keeping.{rule_a};
 
 use arrayvec::ArrayVec;
-use mb_model::{Kept, entry_in, place_in};
+use mb_model::{CAPACITY, CLASSES, Kept, SIDE_CLASSES, entry_in, place_in};
 use mb_outside::Memory;
 use mb_port::{Flush, Space};
 use std::alloc::Global;
 use std::marker::Model;
-
-/// How many classes there are.
-const CLASSES: usize = 32;
-
-/// How many entries a class keeps.
-const CAPACITY: usize = 4;
 
 /// The entries of a class, the oldest first.
 type Set = ArrayVec<Kept, CAPACITY>;
@@ -33,22 +27,23 @@ pub struct Atc {
 impl Model for Atc {
     ghost use Rattle.std.specs.Prelude.{◌≡◌, map, length};
     ghost use Rattle.std.specs.List.{All};
+    ghost use Rattle.mb_model.specs.declared.rules.TheConstants.{CLASSES};
     ghost use Rattle.mb_model.specs.Keeping.{KeptLists, NamesPages};
 
     ghost Value = { KeptLists };
 
     ghost view = { λ a. map (λ set. set.items) a.sets.items };
 
-    ghost invariant = { λ a. (length a.sets.items ≡ 32) × All (λ set. All NamesPages set.items) a.sets.items };
+    ghost invariant = { λ a. (length a.sets.items ≡ CLASSES) × All (λ set. All NamesPages set.items) a.sets.items };
 }
 
 /// The class of a side and a page.
 #[inline(always)]
 fn class_of(code: bool, page: u32) -> usize
-    ensures class { result ≡ page % 16 + (if code then 16 else 0) }
-    ensures inside { result < 32 }
+    ensures class { result ≡ page % SIDE_CLASSES + (if code then SIDE_CLASSES else 0) }
+    ensures inside { result < CLASSES }
 {
-    (page % 16) as usize + if code { 16 } else { 0 }
+    (page % SIDE_CLASSES) as usize + if code { SIDE_CLASSES as usize } else { 0 }
 }
 
 /// Makes an entry the newest of a set.

@@ -12,6 +12,7 @@ ghost use Rattle.mb_machine.specs.Machine.{processed, reset_with, run_of, seen_m
 ghost use Rattle.mb_machine.specs.Machine.{takes_steps, with_ram};
 ghost use Rattle.vm_meaning.specs.Free.{IsFreeRun};
 ghost use Rattle.vm_meaning.specs.Native.{user_step};
+ghost use Rattle.mb_board.specs.declared.bus.TheConstants.{MOST_BOARD_BYTES};
 ghost use Rattle.mb_board.specs.State.{board_at_reset, machine_in, with_machine};
 
 use crate::bus::BoardBus;
@@ -178,7 +179,7 @@ impl Board {
     /// it will need.
     #[tactic(auto, unfolding(mb_machine::specs::Machine::reset_with), using(mb_devices::proofs::Sizes::sizes))]
     pub fn new(alloc: Global, size: u32) -> Result<Board, Memory>
-        requires { (8 ≤ size) × (size ≤ 67108864) }
+        requires { (8 ≤ size) × (size ≤ MOST_BOARD_BYTES) }
         ensures made { IfOk result (λ board. board ≡ board_at_reset (reset_with rule_a size (replicate size 0))) }
         ensures ram { IfOk result (λ board. length board.world.ram ≡ size) }
     {

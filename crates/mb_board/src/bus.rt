@@ -12,10 +12,13 @@ use mb_devices::Devices;
 use mb_mmu::Translator;
 use mb_outside::Memory;
 use mb_port::Mmu;
-use mb_script::Script;
+use mb_script::{MOST_BOARD, Script};
 use mb_walk::overwrite;
 use std::alloc::Global;
 use std::marker::Model;
+
+/// The most bytes of RAM.
+pub const MOST_BOARD_BYTES: u32 = 1024 * MOST_BOARD;
 
 /// RAM from address 0 on, the memory management unit with the kept translations, and the devices.
 #[derive(Drop)]
@@ -28,6 +31,7 @@ pub struct BoardBus {
 impl Model for BoardBus {
     ghost use Rattle.std.specs.Prelude.{◌≡◌, ◌≤◌, vec_len};
     ghost use Rattle.mb_machine.specs.World.{World};
+    ghost use Rattle.mb_board.specs.declared.bus.TheConstants.{MOST_BOARD_BYTES};
 
     ghost Value = { World };
 
@@ -38,13 +42,13 @@ impl Model for BoardBus {
       kept = b.translator.kept;
     } };
 
-    ghost invariant = { λ b. (vec_len b.ram ≤ 67108864) × (b.translator.ram ≡ vec_len b.ram) };
+    ghost invariant = { λ b. (vec_len b.ram ≤ MOST_BOARD_BYTES) × (b.translator.ram ≡ vec_len b.ram) };
 }
 
 impl BoardBus {
     /// A bus with so many bytes of RAM, all 0, idle devices and nothing kept.
     pub fn new(alloc: Global, size: u32) -> Result<BoardBus, Memory>
-        requires { size ≤ 67108864 }
+        requires { size ≤ MOST_BOARD_BYTES }
         ensures { IfOk result (λ bus. bus ≡ world_at_reset rule_a size (replicate size 0)) }
     {
         let Ok(ram) = vec![in alloc; 0u8; size as usize] else {

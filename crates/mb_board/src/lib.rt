@@ -20,6 +20,7 @@ mod states;
 mod translating;
 
 pub use board::Board;
+pub use bus::MOST_BOARD_BYTES;
 pub use native::Native;
 pub use receiving::{Arrival, place_behind, receive};
 pub use states::{state_after, takes_steps};

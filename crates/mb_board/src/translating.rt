@@ -10,13 +10,10 @@ ghost use Rattle.mb_machine.specs.Places.{in_ram};
 ghost use Rattle.mb_mmu.specs.Sound.{IsAccess};
 
 use crate::bus::BoardBus;
-use mb_machine::{Reference, Settled, root, through};
+use mb_machine::{MMUSR_MATCHED, Reference, Settled, root, through};
 use mb_model::{has_big_pages, other_half, page_of};
 use mb_port::{Flush, Place, Space};
 use mb_walk::{Found, search, transparent};
-
-/// MMUSR of a page that a transparent register of the data side matches: R and T.
-const MATCHED: u32 = 3;
 
 impl BoardBus {
     /// Points 4 and 5: the tables are searched, and what is found is kept. The reference is given by its fields.
@@ -97,7 +94,7 @@ impl BoardBus {
     {
         let mmu = self.translator.mmu();
         if transparent(mmu.dtt0, mmu.dtt1, space, at).is_some() {
-            return MATCHED;
+            return MMUSR_MATCHED;
         }
         let big = has_big_pages(self.translator.mmu());
         self.drop_halves(space, page_of(at), big);

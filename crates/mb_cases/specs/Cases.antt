@@ -8,6 +8,8 @@ use Rattle.mb_model.specs.Seen.{Seen}
 use Rattle.mb_machine.specs.Machine.{Contents, mmu_at_reset, run_of, seen_machine, start, with_contents}
 use Rattle.mb_cases.specs.declared.chunk.Chunk.{Chunk}
 use Rattle.mb_cases.specs.declared.case.Case.{Case}
+use Rattle.mb_cases.specs.declared.chunk.TheConstants.{RAM_SIZE}
+use Rattle.mb_cases.specs.declared.machine.TheConstants.{STEPS}
 
 -- an image: addresses, each with the bytes that stand from there on
 abbrev pub contents_of : List Chunk → Contents
@@ -15,7 +17,7 @@ contents_of chunks = map (λ chunk. (chunk.at, chunk.bytes.items)) chunks
 
 -- RAM before the case
 abbrev pub memory_before : Case → List ℕ
-memory_before case = with_contents (replicate 65536 0) (contents_of case.image.items)
+memory_before case = with_contents (replicate RAM_SIZE 0) (contents_of case.image.items)
 
 -- a number as it is said, but with the undefined bits that the machine has
 abbrev pub settled : (undefined said got : ℕ) → ℕ
@@ -45,7 +47,7 @@ said_of case memory got = record {
   period = 0;
   count = 0;
   pending = 0;
-  steps = 3;
+  steps = STEPS;
   state = Running;
   ram = settled_at case.frame case.undefined memory got.ram;
 }
@@ -57,5 +59,5 @@ IsAsSaid case memory got = got ≡ said_of case memory got
 -- and the third is its instruction's.
 abbrev pub Passes : Case → Type 0
 Passes case =
-    let after = run_of rule_a [] 3 (start rule_a (contents_of case.image.items) 65536) in
+    let after = run_of rule_a [] STEPS (start rule_a (contents_of case.image.items) RAM_SIZE) in
     IsAsSaid case (with_contents (memory_before case) (contents_of case.changes.items)) (seen_machine after)

@@ -1,6 +1,7 @@
 //! A board on which cases are run.
 
 ghost use Rattle.std.specs.Prelude.{◌≡◌, ◌↔◌, length, vec_len, IsNone, []};
+ghost use Rattle.mb_cases.specs.declared.chunk.TheConstants.{RAM_SIZE};
 
 use crate::case::Case;
 use crate::chunk::RAM_SIZE;
@@ -18,9 +19,9 @@ pub struct Bench {
     ram: Vec<u8>,
     /// Nothing is typed.
     script: Script,
-    ghost ram_size: { vec_len ram ≡ 65536 },
-    ghost board_ram: { length board.world.ram ≡ 65536 },
-    ghost board_size: { board.world.devices.ram ≡ 65536 },
+    ghost ram_size: { vec_len ram ≡ RAM_SIZE },
+    ghost board_ram: { length board.world.ram ≡ RAM_SIZE },
+    ghost board_size: { board.world.devices.ram ≡ RAM_SIZE },
     ghost untyped: { script ≡ [] },
 }
 

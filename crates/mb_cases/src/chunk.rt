@@ -1,6 +1,7 @@
 //! Bytes in RAM.
 
 ghost use Rattle.std.specs.Prelude.{◌≡◌, ◌+◌, ◌≤◌, ◌↔◌, vec_len, length, IsSome, IfSome};
+ghost use Rattle.mb_cases.specs.declared.chunk.TheConstants.{RAM_SIZE};
 
 /// Bytes that stand in RAM one after the other.
 #[derive(Debug, Drop)]
@@ -8,13 +9,13 @@ pub struct Chunk {
     /// The address of the first.
     pub at: u32,
     pub bytes: Vec<u8>,
-    ghost in_ram: { at + vec_len bytes ≤ 65536 },
+    ghost in_ram: { at + vec_len bytes ≤ RAM_SIZE },
 }
 
 impl Chunk {
     /// `None` exactly where RAM does not have all these places.
     pub fn new(at: u32, bytes: Vec<u8>) -> Option<Chunk>
-        ensures in_ram { IsSome result ↔ (at + vec_len bytes ≤ 65536) }
+        ensures in_ram { IsSome result ↔ (at + vec_len bytes ≤ RAM_SIZE) }
         ensures chunk { IfSome result (λ chunk. (chunk.at ≡ at) × (chunk.bytes.items ≡ bytes.items)) }
     {
         if at as usize <= RAM_SIZE as usize && bytes.len() <= RAM_SIZE as usize - at as usize {

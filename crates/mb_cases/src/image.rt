@@ -3,14 +3,11 @@
 use crate::chunk::Chunk;
 use crate::fault::CaseFault;
 use crate::head::Head;
-use mb_instr::Regs;
+use mb_instr::{Regs, SUPERVISOR};
 use std::alloc::Global;
 
 /// How many bytes the instructions that set a case up have.
 const SET_UP: u32 = 12;
-
-/// S, of the status register.
-const SUPERVISOR: u16 = 0x2000;
 
 /// The instructions that set a case up: `MOVEM.L TABLE,D0-D7/A0-A6`, and then `MOVE #n,CCR`, or `MOVE #n,SR` where the
 /// case is in user mode.

@@ -6,34 +6,23 @@ ghost use Rattle.mb_model.specs.Keeping.{rule_a};
 ghost use Rattle.mb_machine.specs.Machine.{reset_with, run_of, seen_machine, with_contents};
 ghost use Rattle.mb_board.specs.State.{machine_in};
 ghost use Rattle.mb_cases.specs.Cases.{contents_of, cpu_after, settled, settled_at, IsAsSaid};
+ghost use Rattle.mb_cases.specs.declared.chunk.TheConstants.{RAM_SIZE};
 
 use crate::case::Case;
 use crate::chunk::Chunk;
 use crate::difference::{Difference, first_difference};
 use arrayvec::ArrayVec;
 use mb_board::Board;
+use mb_machine::MMU_AT_RESET;
 use mb_model::{Cpu, Outcome, RunState};
-use mb_port::Mmu;
 use mb_script::Script;
 
 /// The steps of a case: two set it up, and the third is its instruction's.
-const STEPS: u32 = 3;
-
-/// The registers of translation after reset.
-const MMU_AT_RESET: Mmu = Mmu {
-    tc: 0,
-    itt0: 0,
-    itt1: 0,
-    dtt0: 0,
-    dtt1: 0,
-    mmusr: 0,
-    urp: 0,
-    srp: 0,
-};
+pub const STEPS: u32 = 3;
 
 /// Puts bytes over what stands in RAM.
 fn put(ram: &mut [u8], chunk: &Chunk)
-    requires { length ram.old ≡ 65536 }
+    requires { length ram.old ≡ RAM_SIZE }
     ensures { ram.new ≡ overwritten ram.old chunk.now.at chunk.now.bytes.items }
 {
     let at = chunk.at as usize;
@@ -42,7 +31,7 @@ fn put(ram: &mut [u8], chunk: &Chunk)
 
 /// Puts chunks over what stands in RAM, later ones over earlier ones.
 pub fn put_all(ram: &mut [u8], chunks: &[Chunk])
-    requires { length ram.old ≡ 65536 }
+    requires { length ram.old ≡ RAM_SIZE }
     ensures { ram.new ≡ with_contents ram.old (contents_of chunks.now) }
 {
     for chunk in chunks {
@@ -52,8 +41,8 @@ pub fn put_all(ram: &mut [u8], chunks: &[Chunk])
 
 /// An image in RAM that is 0 elsewhere.
 pub fn load(ram: &mut [u8], image: &[Chunk])
-    requires { length ram.old ≡ 65536 }
-    ensures { ram.new ≡ with_contents (replicate 65536 0) (contents_of image.now) }
+    requires { length ram.old ≡ RAM_SIZE }
+    ensures { ram.new ≡ with_contents (replicate RAM_SIZE 0) (contents_of image.now) }
 {
     ram.fill(0);
     put_all(ram, image);
@@ -62,12 +51,12 @@ pub fn load(ram: &mut [u8], image: &[Chunk])
 /// Takes the steps of a case, from reset on.
 pub fn run(board: &mut Board, script: &Script, ram: &[u8])
     requires untyped { script.now ≡ [] }
-    requires size { length ram.now ≡ 65536 }
-    requires board_ram { length board.old.world.ram ≡ 65536 }
-    requires board_size { board.old.world.devices.ram ≡ 65536 }
-    ensures after { machine_in board.new ≡ run_of rule_a [] 3 (reset_with rule_a 65536 ram.now) }
-    ensures board_ram { length board.new.world.ram ≡ 65536 }
-    ensures board_size { board.new.world.devices.ram ≡ 65536 }
+    requires size { length ram.now ≡ RAM_SIZE }
+    requires board_ram { length board.old.world.ram ≡ RAM_SIZE }
+    requires board_size { board.old.world.devices.ram ≡ RAM_SIZE }
+    ensures after { machine_in board.new ≡ run_of rule_a [] STEPS (reset_with rule_a RAM_SIZE ram.now) }
+    ensures board_ram { length board.new.world.ram ≡ RAM_SIZE }
+    ensures board_size { board.new.world.devices.ram ≡ RAM_SIZE }
 {
     board.write_phys(0, ram);
     board.reset();
@@ -83,8 +72,8 @@ fn settled(undefined: u8, said: u16, got: u16) -> u16
 
 /// The same of a byte in RAM, where there is one.
 fn settle(place: Option<u16>, undefined: u8, said: &mut [u8], got: &[u8])
-    requires said { length said.old ≡ 65536 }
-    requires got { length got.now ≡ 65536 }
+    requires said { length said.old ≡ RAM_SIZE }
+    requires got { length got.now ≡ RAM_SIZE }
     ensures { said.new ≡ settled_at place undefined said.old got.now }
 {
     if let Some(place) = place {
@@ -105,8 +94,8 @@ fn cpu_after(case: &Case, sr: u16) -> Cpu
 
 /// What is first found to be another than the case says, with this RAM.
 pub fn compare(board: &Board, case: &Case, ram: &mut [u8]) -> Option<Difference>
-    requires size { length ram.old ≡ 65536 }
-    requires board_ram { length board.now.world.ram ≡ 65536 }
+    requires size { length ram.old ≡ RAM_SIZE }
+    requires board_ram { length board.now.world.ram ≡ RAM_SIZE }
     ensures { IsNone result ↔ IsAsSaid case.now ram.old (seen_machine (machine_in board.now)) }
 {
     let got = board.outcome();

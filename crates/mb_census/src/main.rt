@@ -4,10 +4,8 @@
 ghost use Rattle.std.specs.Prelude.{◌≡◌, ◌+◌};
 
 use mb_decode::{Decoded, decode};
+use mb_instr::FIRST_WORDS;
 use std::io;
-
-/// How many first words there are.
-const FIRST_WORDS: u32 = 65_536;
 
 /// How many words had each answer.
 #[derive(Clone, Copy)]
@@ -21,7 +19,7 @@ struct Census {
 
 /// The answers for each first word.
 fn first_words() -> Census
-    ensures counted { result.whole + result.more + result.line_a + result.line_f + result.illegal ≡ 65536 }
+    ensures counted { result.whole + result.more + result.line_a + result.line_f + result.illegal ≡ FIRST_WORDS }
 {
     let mut census = Census {
         whole: 0,
@@ -30,7 +28,7 @@ fn first_words() -> Census
         line_f: 0,
         illegal: 0,
     };
-    for first in 0..FIRST_WORDS {
+    for first in 0..FIRST_WORDS as u32 {
         match decode(&[first as u16]) {
             Decoded::Whole(..) => census.whole += 1,
             Decoded::More => census.more += 1,

@@ -1,10 +1,11 @@
 //! The instruction at the front of some words.
 
-ghost use Rattle.std.specs.Prelude.{◌≡◌, ◌≤◌, ◌∷◌, length};
+ghost use Rattle.std.specs.Prelude.{◌≡◌, ◌-◌, ◌≤◌, ◌∷◌, length};
 ghost use Rattle.mb_instr.specs.declared.instruction.Instr.{Instr};
 ghost use Rattle.mb_instr.specs.Codes.{IsInstr};
 ghost use Rattle.mb_decode.specs.Decodes.{decode_of, decode_from, no_row, told, Decodes, IfWhole, OnMore};
 ghost use Rattle.mb_decode.specs.Decodes.{AllDecoded, OneAnswer, ReadAgain, OneSpelling, NoneBegins};
+ghost use Rattle.mb_instr.specs.declared.counts.TheConstants.{MOST_WORDS};
 
 use crate::reading::Stop;
 use crate::rows::row;
@@ -45,8 +46,8 @@ pub enum Decoding {
 pub fn decode(words: &[u16]) -> Decoded
     ensures means { result ≡ decode_of words.now }
     ensures decodes { Decodes words.now result }
-    ensures length { IfWhole result (λ i n. (1 ≤ n) × (n ≤ 11)) }
-    ensures unfinished { OnMore result (length words.now ≤ 10) }
+    ensures length { IfWhole result (λ i n. (1 ≤ n) × (n ≤ MOST_WORDS)) }
+    ensures unfinished { OnMore result (length words.now ≤ MOST_WORDS - 1) }
     ensures valid { IfWhole result (λ i n. IsInstr i) }
 {
     match words {
@@ -74,8 +75,8 @@ fn decode_from(first: u16, rest: &[u16]) -> Decoded
 pub fn decode_into(first: u16, rest: &[u16], instruction: &mut Instr) -> Decoding
     ensures means { told result instruction.new ≡ decode_of (first ∷ rest.now) }
     ensures decodes { Decodes (first ∷ rest.now) (told result instruction.new) }
-    ensures length { IfWhole (told result instruction.new) (λ i n. (1 ≤ n) × (n ≤ 11)) }
-    ensures unfinished { OnMore (told result instruction.new) (length (first ∷ rest.now) ≤ 10) }
+    ensures length { IfWhole (told result instruction.new) (λ i n. (1 ≤ n) × (n ≤ MOST_WORDS)) }
+    ensures unfinished { OnMore (told result instruction.new) (length (first ∷ rest.now) ≤ MOST_WORDS - 1) }
     ensures valid { IfWhole (told result instruction.new) (λ i n. IsInstr i) }
 {
     put_from(first, rest, instruction)

@@ -4,7 +4,8 @@ use Rattle.std.specs.Prelude.{Option, Some, None, nat_lt, length, if◌then◌el
 use Rattle.mb_port.specs.declared.types.Place.{Place}
 use Rattle.mb_devices.specs.declared.register.Register.{Register}
 use Rattle.mb_devices.specs.declared.register.Register.TheVariants.{Data, Status, Ctrl, Period, Count, Ack, Power, Size}
-use Rattle.mb_devices.specs.Devices.{DeviceState, console_room, counted, idle, reset_of, sent, ticked}
+use Rattle.mb_devices.specs.Devices.{DeviceState, counted, idle, reset_of, sent, ticked}
+use Rattle.mb_devices.specs.declared.devices.TheConstants.{CONSOLE_ROOM}
 use Rattle.mb_devices.specs.Registers.{powered, read_of, read_register, register_at, write_of, write_register}
 
 -- of two outcomes that show one size, either does
@@ -14,7 +15,7 @@ size-either false a b d e f = f
 
 size-sent : (byte : ℕ) (d : DeviceState) → (sent byte d).ram ≡ d.ram
 unfolding sent
-size-sent byte d = size-either (nat_lt (length d.console) console_room) _ _ d refl refl
+size-sent byte d = size-either (nat_lt (length d.console) CONSOLE_ROOM) _ _ d refl refl
 
 size-powered : (value : ℕ) (d : DeviceState) → (powered value d).ram ≡ d.ram
 size-powered value d = size-either (value == 1) _ _ d refl refl

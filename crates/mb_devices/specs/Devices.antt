@@ -1,5 +1,6 @@
 -- The devices of the board and what happens to them: the serial line with its console, the timer, the power switch.
 use Rattle.std.specs.Prelude.{◌≡◌, ◌⊎◌, ℕ, zero, suc, ◌<◌, ◌+◌, ◌-◌, ◌^◌, ◌==◌, ◌&&◌, Bool, true, false, not, List, [], ◌∷◌, ◌++◌, length, drop, min, nat_lt, slice_get, unwrap_or, if◌then◌else◌}
+use Rattle.mb_devices.specs.declared.devices.TheConstants.{QUEUE_ROOM, CONSOLE_ROOM}
 
 pub record DeviceState : Type 0 where
   -- the bytes of RAM
@@ -20,13 +21,6 @@ pub record DeviceState : Type 0 where
   pub pending : Bool
   -- the machine is to be switched off at the end of the step
   pub off : Bool
-
--- how many bytes the receive queue holds, and how many the console keeps
-abbrev pub queue_room : ℕ
-queue_room = 16
-
-abbrev pub console_room : ℕ
-console_room = 65536
 
 -- as a machine has them at its start
 unfoldable pub idle : (ram : ℕ) → DeviceState
@@ -51,7 +45,7 @@ has_received d = not (length d.queue == 0)
 -- a byte arrives: it is queued, or dropped with an overrun
 unfoldable pub received : ℕ → DeviceState → DeviceState
 received byte d =
-    if nat_lt (length d.queue) queue_room then record d { queue = d.queue ++ byte ∷ [] }
+    if nat_lt (length d.queue) QUEUE_ROOM then record d { queue = d.queue ++ byte ∷ [] }
     else record d { overrun = true }
 
 -- the oldest received byte, 0 where there is none, and the queue without it
@@ -64,7 +58,7 @@ without_oldest d = record d { queue = drop 1 d.queue }
 -- a byte is sent: the console keeps it, or counts it as lost. The count stands still at 2^64 - 1
 unfoldable pub sent : ℕ → DeviceState → DeviceState
 sent byte d =
-    if nat_lt (length d.console) console_room then record d { console = d.console ++ byte ∷ [] }
+    if nat_lt (length d.console) CONSOLE_ROOM then record d { console = d.console ++ byte ∷ [] }
     else record d { lost = min (d.lost + 1) (2 ^ 64 - 1) }
 
 -- ---- the timer

@@ -6,10 +6,7 @@ use Rattle.mb_port.specs.declared.types.Place.{Place}
 use Rattle.mb_devices.specs.declared.register.Register.{Register}
 use Rattle.mb_devices.specs.declared.register.Register.TheVariants.{Data, Status, Ctrl, Period, Count, Ack, Power, Size}
 use Rattle.mb_devices.specs.Devices.{DeviceState, has_received, oldest, sent, started, without_oldest}
-
--- where the devices stand
-abbrev pub base : ℕ
-base = 0xFFF00000
+use Rattle.mb_devices.specs.declared.register.TheConstants.{BASE}
 
 pub record Row : Type 0 where
   -- its place behind the base, and how many bytes it has
@@ -56,7 +53,7 @@ registers = Data ∷ Status ∷ Ctrl ∷ Period ∷ Count ∷ Ack ∷ Power ∷ 
 
 -- the place is that of the register, with its size
 abbrev pub stands_at : Place → Register → Bool
-stands_at place r = (place.at == base + (row r).offset) && (place.len == (row r).size)
+stands_at place r = (place.at == BASE + (row r).offset) && (place.len == (row r).size)
 
 -- the register of just that address and size
 unfoldable pub register_at : Place → Option Register

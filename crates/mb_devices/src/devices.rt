@@ -15,10 +15,10 @@ use std::alloc::Global;
 use std::marker::Model;
 
 /// How many received bytes are queued.
-const QUEUE_ROOM: usize = 16;
+pub const QUEUE_ROOM: usize = 16;
 
 /// How many sent bytes the console keeps.
-const CONSOLE_ROOM: usize = 65_536;
+pub const CONSOLE_ROOM: usize = 65_536;
 
 /// The devices of a board. All memory that they need is taken by `new`.
 #[derive(Drop)]
@@ -247,7 +247,7 @@ impl Devices {
     /// The bytes that the console keeps, in order of sending: the first 65,536.
     pub fn console(&self) -> &[u8]
         ensures bytes { result.now ≡ self.now.console }
-        ensures room { length result.now ≤ 65536 }
+        ensures room { length result.now ≤ CONSOLE_ROOM }
     {
         &self.console
     }

@@ -10,6 +10,6 @@ mod devices;
 mod laws;
 mod register;
 
-pub use devices::Devices;
+pub use devices::{CONSOLE_ROOM, Devices, QUEUE_ROOM};
 pub use laws::ticks_pass;
 pub use register::Register;

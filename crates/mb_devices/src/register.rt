@@ -6,7 +6,7 @@ ghost use Rattle.mb_devices.specs.Registers.{register_at, row};
 use mb_port::Place;
 
 /// Where the devices stand.
-const BASE: u32 = 0xfff0_0000;
+pub const BASE: u32 = 0xfff0_0000;
 
 /// A register of a device. Each exists at its own size alone.
 #[derive(Clone, Copy, Debug, PartialEq, Eq)]

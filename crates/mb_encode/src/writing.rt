@@ -11,10 +11,10 @@ ghost use Rattle.mb_encode.specs.Encodes.{Gives, written};
 
 use crate::spelling::{Further, Spelling};
 use arrayvec::ArrayVec;
-use mb_instr::{Ea, Ext, Opcode, Size, is_full};
+use mb_instr::{Ea, Ext, MOST_WORDS, Opcode, Size, is_full};
 
-/// The words of an instruction, 11 at most.
-pub type Words = ArrayVec<u16, 11>;
+/// The words of an instruction.
+pub type Words = ArrayVec<u16, MOST_WORDS>;
 
 /// No row of the table has the value.
 #[derive(Clone, Copy, Debug, PartialEq, Eq)]
@@ -110,7 +110,7 @@ fn start(op: Opcode) -> Words
 }
 
 fn push_long(value: u32, out: &mut Words)
-    requires { array_vec_len out.old + 2 ≤ 11 }
+    requires { array_vec_len out.old + 2 ≤ MOST_WORDS }
     ensures items { out.new.items ≡ out.old.items ++ long value }
     ensures len { array_vec_len out.new ≡ array_vec_len out.old + 2 }
 {
@@ -119,7 +119,7 @@ fn push_long(value: u32, out: &mut Words)
 }
 
 fn push_immediate(size: Size, value: u32, out: &mut Words)
-    requires room { array_vec_len out.old + 2 ≤ 11 }
+    requires room { array_vec_len out.old + 2 ≤ MOST_WORDS }
     requires fits { is_immediate size value ≡ true }
     ensures items { out.new.items ≡ out.old.items ++ immediate size value }
     ensures len { array_vec_len out.new ≤ array_vec_len out.old + 2 }
@@ -131,7 +131,7 @@ fn push_immediate(size: Size, value: u32, out: &mut Words)
 }
 
 fn push_wide(width: u16, value: u32, out: &mut Words)
-    requires room { array_vec_len out.old + 2 ≤ 11 }
+    requires room { array_vec_len out.old + 2 ≤ MOST_WORDS }
     requires fits { fits width value ≡ true }
     ensures items { out.new.items ≡ out.old.items ++ wide width value }
     ensures len { array_vec_len out.new ≤ array_vec_len out.old + 2 }
@@ -144,7 +144,7 @@ fn push_wide(width: u16, value: u32, out: &mut Words)
 }
 
 fn push_full(word: u16, bd: u32, od: u32, out: &mut Words)
-    requires room { array_vec_len out.old + 5 ≤ 11 }
+    requires room { array_vec_len out.old + 5 ≤ MOST_WORDS }
     requires legal { is_ext (Full word bd od) ≡ true }
     ensures items { out.new.items ≡ out.old.items ++ ext (Full word bd od) }
     ensures len { array_vec_len out.new ≤ array_vec_len out.old + 5 }
@@ -155,7 +155,7 @@ fn push_full(word: u16, bd: u32, od: u32, out: &mut Words)
 }
 
 fn push_extension(extension: &Ext, out: &mut Words)
-    requires room { array_vec_len out.old + 5 ≤ 11 }
+    requires room { array_vec_len out.old + 5 ≤ MOST_WORDS }
     requires legal { is_ext extension.now ≡ true }
     ensures items { out.new.items ≡ out.old.items ++ ext extension.now }
     ensures len { array_vec_len out.new ≤ array_vec_len out.old + 5 }
@@ -168,7 +168,7 @@ fn push_extension(extension: &Ext, out: &mut Words)
 
 /// An operand's words.
 fn push_more(size: Size, ea: &Ea, out: &mut Words)
-    requires room { array_vec_len out.old + 5 ≤ 11 }
+    requires room { array_vec_len out.old + 5 ≤ MOST_WORDS }
     requires legal { is_spelled size ea.now ≡ true }
     ensures items { out.new.items ≡ out.old.items ++ more size ea.now }
     ensures len { array_vec_len out.new ≤ array_vec_len out.old + 5 }
@@ -196,7 +196,7 @@ fn has_words(further: &Further) -> bool
 }
 
 fn push_further(further: &Further, out: &mut Words)
-    requires room { array_vec_len out.old + 10 ≤ 11 }
+    requires room { array_vec_len out.old + 10 ≤ MOST_WORDS }
     requires legal { has_words further.now ≡ true }
     ensures { out.new.items ≡ out.old.items ++ further_words further.now }
 {

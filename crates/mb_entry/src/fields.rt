@@ -8,24 +8,9 @@ ghost use Rattle.mb_frames.specs.AccessFields.{with_writeback_1, with_writeback_
 ghost use Rattle.mb_frames.specs.AccessFields.{AccessCase, access_fields};
 ghost use Rattle.mb_writes.specs.Transfers.{refused_transfer};
 
-use mb_frames::{Access, Pend};
+use mb_frames::{ATC, Access, CM, LK, MA, Pend, RW};
 use mb_port::{Fault, Space};
 use mb_writes::{Movem, MovemFault, WriteFault};
-
-/// A transfer of a MOVEM was refused.
-const CM: u16 = 1 << 12;
-
-/// The refused piece is on another page than the operand's first byte.
-const MA: u16 = 1 << 11;
-
-/// Refused by the translation.
-const ATC: u16 = 1 << 10;
-
-/// A locked check.
-const LK: u16 = 1 << 9;
-
-/// A read.
-const RW: u16 = 1 << 8;
 
 /// A writeback that is valid.
 const VALID: u16 = 1 << 7;

@@ -8,7 +8,7 @@ ghost use Rattle.mb_entry.specs.Stacks.{seen, frames_seen};
 
 use crate::status::{handler_status, thrown_status, without_master};
 use arrayvec::ArrayVec;
-use mb_frames::{Frame, to_bytes};
+use mb_frames::{Frame, LONGEST, to_bytes};
 use mb_instr::Regs;
 use mb_instr::vectors::{CONDITION_MET, ODD_COUNTER, OUT_OF_BOUNDS, TRACE, ZERO_DIVIDE};
 use mb_processor::Cause;
@@ -17,7 +17,7 @@ use mb_processor::Cause;
 #[derive(Drop)]
 pub(crate) struct Stacked {
     pub(crate) at: u32,
-    pub(crate) bytes: ArrayVec<u8, 60>,
+    pub(crate) bytes: ArrayVec<u8, LONGEST>,
 }
 
 /// The frames of an exception. An interrupt can have a second one.

@@ -3,13 +3,8 @@
 ghost use Rattle.std.specs.Prelude.{◌≡◌, ◌<◌};
 ghost use Rattle.mb_processor.specs.Entry.{supervised, without_master, with_mask, handler_sr, thrown_sr};
 
+use mb_instr::{MASTER, SUPERVISOR};
 use mb_processor::Cause;
-
-/// Supervisor mode.
-const SUPERVISOR: u16 = 1 << 13;
-
-/// The master stack.
-const MASTER: u16 = 1 << 12;
 
 /// With S set, T1 and T0 cleared.
 fn supervised(sr: u16) -> u16

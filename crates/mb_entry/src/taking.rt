@@ -12,21 +12,12 @@ ghost use Rattle.mb_entry.specs.Clauses.{NotTaken};
 use arrayvec::ArrayVec;
 use mb_decode::{Decoded, decode};
 use mb_ea::{ReadFault, read_value};
-use mb_frames::Access;
+use mb_frames::{Access, FIELDS_PLACE, FORMAT_PLACE, LONGEST, PC_PLACE, SR_PLACE};
 use mb_instr::vectors::FORMAT_ERROR;
 use mb_instr::{Instr, Move, Regs, Size};
 use mb_model::kept_status;
 use mb_port::{Port, Space};
 use mb_writes::{Ended, count};
-
-/// Where the parts of every frame stand, and behind them the fields of its format.
-const SR_PLACE: u32 = 0x00;
-
-const PC_PLACE: u32 = 0x02;
-
-const FORMAT_PLACE: u32 = 0x06;
-
-const FIELDS_PLACE: u32 = 0x08;
 
 /// The formats of frames.
 const SHORT: u8 = 0;
@@ -173,7 +164,7 @@ fn frame_length(format: u8) -> u32
     ensures { result ≡ frame_length format }
 {
     match format {
-        ACCESS => 60,
+        ACCESS => LONGEST as u32,
         ADDRESS => 12,
         _ => 8,
     }

@@ -7,7 +7,8 @@ use Rattle.mb_port.specs.declared.types.Space.{Space}
 use Rattle.mb_port.specs.declared.types.Space.TheVariants.{Super, User}
 use Rattle.mb_frames.specs.declared.frame.Access.{Access}
 use Rattle.mb_frames.specs.declared.pend.Pend.{Pend}
-use Rattle.mb_frames.specs.AccessFields.{AccessCase, Check, Line, Movem, Read, Write, access_bits, access_fields, atc_bit, bit_if, check_fields, is_other_page, line_fields, lk_bit, ma_bit, movem_fields, read_fields, rw_bit, size_code, status, transfer_modifier, transfer_type, with_writeback_1, with_writeback_2, with_writeback_3, write_fields}
+use Rattle.mb_frames.specs.AccessFields.{AccessCase, Check, Line, Movem, Read, Write, access_bits, access_fields, bit_if, check_fields, is_other_page, line_fields, movem_fields, read_fields, size_code, status, transfer_modifier, transfer_type, with_writeback_1, with_writeback_2, with_writeback_3, write_fields}
+use Rattle.mb_frames.specs.declared.status_bits.TheConstants.{MA, ATC, LK, RW}
 
 bit_if-le : (set : Bool) (bit : ℕ) → bit_if set bit ≤ bit
 bit_if-le true bit = omega arith
@@ -34,8 +35,8 @@ status-lt : (fault : Fault) (start page : ℕ) → status fault start page < 2 ^
 status-lt fault start page =
     omega (
       arith,
-      bit_if-le (fault.atc && is_other_page page fault.at start) ma_bit,
-      bit_if-le fault.atc atc_bit,
+      bit_if-le (fault.atc && is_other_page page fault.at start) MA,
+      bit_if-le fault.atc ATC,
       access_bits-lt fault.len fault.space fault.code,
     )
 
@@ -54,10 +55,10 @@ writebacks-ssw space (Some p) (Some q) (Some r) a = refl
 pub clear_from_ct : (case : AccessCase) (page : ℕ) → (access_fields case page).ssw < 2 ^ 13
 unfolding read_fields write_fields line_fields movem_fields check_fields
 clear_from_ct (Read fault first) page =
-    omega (arith, status-lt fault (if fault.code then fault.at else first) page, bit_if-le fault.write lk_bit)
+    omega (arith, status-lt fault (if fault.code then fault.at else first) page, bit_if-le fault.write LK)
 clear_from_ct (Write fault first rest) page =
     rw (writebacks-ssw fault.space (slice_get rest 0) (slice_get rest 1) (slice_get rest 2) _) (omega (arith, status-lt fault first page))
 clear_from_ct (Line fault line) page = omega (arith, status-lt fault fault.at page)
 clear_from_ct (Movem fault first start done words next is_load) page =
-    omega (arith, status-lt fault start page, bit_if-le is_load rw_bit)
-clear_from_ct (Check fault) page = omega (arith, bit_if-le fault.atc atc_bit, access_bits-lt fault.len Super false)
+    omega (arith, status-lt fault start page, bit_if-le is_load RW)
+clear_from_ct (Check fault) page = omega (arith, bit_if-le fault.atc ATC, access_bits-lt fault.len Super false)

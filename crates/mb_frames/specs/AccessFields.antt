@@ -8,6 +8,7 @@ use Rattle.mb_port.specs.declared.types.Piece.{Piece}
 use Rattle.mb_port.specs.Pieces.{laid, span_of}
 use Rattle.mb_frames.specs.declared.frame.Access.{Access}
 use Rattle.mb_frames.specs.declared.pend.Pend.{Pend}
+use Rattle.mb_frames.specs.declared.status_bits.TheConstants.{CM, MA, ATC, LK, RW}
 
 -- SIZE: 00 long, 01 byte, 10 word, 11 line
 abbrev pub size_code : ℕ → ℕ
@@ -28,22 +29,6 @@ transfer_modifier Super true = 6
 abbrev pub access_bits : (len : ℕ) → Space → (code : Bool) → ℕ
 access_bits len space code = size_code len * 2 ^ 5 + transfer_type len * 2 ^ 3 + transfer_modifier space code
 
--- the bits of SSW above them; CP 15, CU 14 and X 7 stay clear, and CT 13 does in these fields
-abbrev pub cm_bit : ℕ
-cm_bit = 2 ^ 12
-
-abbrev pub ma_bit : ℕ
-ma_bit = 2 ^ 11
-
-abbrev pub atc_bit : ℕ
-atc_bit = 2 ^ 10
-
-abbrev pub lk_bit : ℕ
-lk_bit = 2 ^ 9
-
-abbrev pub rw_bit : ℕ
-rw_bit = 2 ^ 8
-
 -- a bit where it is set
 abbrev pub bit_if : Bool → ℕ → ℕ
 bit_if set bit = if set then bit else 0
@@ -55,7 +40,7 @@ is_other_page page a b = not (a / page == b / page)
 -- translation refused another page than the one where it begins
 abbrev pub status : Fault → (start page : ℕ) → ℕ
 status fault start page =
-    bit_if (fault.atc && is_other_page page fault.at start) ma_bit + bit_if fault.atc atc_bit
+    bit_if (fault.atc && is_other_page page fault.at start) MA + bit_if fault.atc ATC
     + access_bits fault.len fault.space fault.code
 
 -- WBnS of a writeback that is valid: V 7; the data space of the fault
@@ -117,7 +102,7 @@ read_fields fault first page =
     let ea = if fault.code then fault.at else first in
     record no_fields {
       ea = ea;
-      ssw = status fault ea page + bit_if fault.write lk_bit + rw_bit;
+      ssw = status fault ea page + bit_if fault.write LK + RW;
       fa = fault.at;
     }
 
@@ -151,7 +136,7 @@ unfoldable pub movem_fields : Fault → (first start done words next : ℕ) → 
 movem_fields fault first start done words next is_load page =
     record no_fields {
       ea = first;
-      ssw = status fault start page + cm_bit + bit_if is_load rw_bit;
+      ssw = status fault start page + CM + bit_if is_load RW;
       fa = fault.at;
       pd1 = next;
       pd2 = words;
@@ -163,7 +148,7 @@ unfoldable pub check_fields : Fault → Access
 check_fields fault =
     record no_fields {
       ea = fault.at;
-      ssw = bit_if fault.atc atc_bit + access_bits fault.len Super false;
+      ssw = bit_if fault.atc ATC + access_bits fault.len Super false;
       fa = fault.at;
     }
 

@@ -3,6 +3,7 @@ use Rattle.std.specs.Prelude.{◌≡◌, ◌<◌, ◌⊎◌, ◌==◌, if◌then
 use Rattle.byteorder.specs.Endian.{big_bytes}
 use Rattle.mb_frames.specs.declared.frame.Access.{Access}
 use Rattle.mb_frames.specs.declared.frame.Frame.{Frame}
+use Rattle.mb_frames.specs.declared.places.TheConstants.{SR_PLACE, PC_PLACE, FORMAT_PLACE, LONGEST}
 use Rattle.mb_frames.specs.declared.frame.Frame.TheVariants as frame
 
 -- a field: the place of its first byte in the frame, how many bytes it has, and its value
@@ -17,23 +18,10 @@ word offset value = record { offset = offset; size = 2; value = value }
 abbrev pub long : ℕ → ℕ → Field
 long offset value = record { offset = offset; size = 4; value = value }
 
--- where SR, PC and the format word stand in every frame, and behind them what its format has besides
-abbrev pub sr_place : ℕ
-sr_place = 0x00
-
-abbrev pub pc_place : ℕ
-pc_place = 0x02
-
-abbrev pub format_place : ℕ
-format_place = 0x06
-
-abbrev pub fields_place : ℕ
-fields_place = 0x08
-
 -- what every frame begins with: SR, PC, and the format above the vector offset
 abbrev pub head : (sr pc format offset : ℕ) → List Field
 head sr pc format offset =
-    word sr_place sr ∷ long pc_place pc ∷ word format_place (format * 0x1000 + offset) ∷ []
+    word SR_PLACE sr ∷ long PC_PLACE pc ∷ word FORMAT_PLACE (format * 0x1000 + offset) ∷ []
 
 -- what the frame of an access error has besides
 abbrev pub fields_of_access : Access → List Field
@@ -66,7 +54,7 @@ IsFormat n = (n ≡ 0) ⊎ (n ≡ 1) ⊎ (n ≡ 2) ⊎ (n ≡ 7)
 
 -- how many bytes a frame of a format has
 abbrev pub frame_length : ℕ → ℕ
-frame_length format = if format == 7 then 60 else if format == 2 then 12 else 8
+frame_length format = if format == 7 then LONGEST else if format == 2 then 12 else 8
 
 -- the vector offset of a frame
 abbrev pub offset_of : Frame → ℕ

@@ -4,7 +4,8 @@ use Rattle.byteorder.specs.Endian.{big_number}
 use Rattle.mb_frames.specs.declared.frame.Access.{Access}
 use Rattle.mb_frames.specs.declared.frame.Frame.{Frame}
 use Rattle.mb_frames.specs.declared.frame.Frame.TheVariants as frame
-use Rattle.mb_frames.specs.Layout.{sr_place, pc_place, format_place, fields_place, frame_length}
+use Rattle.mb_frames.specs.Layout.{frame_length}
+use Rattle.mb_frames.specs.declared.places.TheConstants.{SR_PLACE, PC_PLACE, FORMAT_PLACE, FIELDS_PLACE}
 
 -- the word, and the long, at a place
 unfoldable pub word_at : List ℕ → ℕ → ℕ
@@ -18,11 +19,11 @@ abbrev pub format_of_word : ℕ → ℕ
 format_of_word word = word / 0x1000
 
 abbrev pub format_in : List ℕ → ℕ
-format_in b = format_of_word (word_at b format_place)
+format_in b = format_of_word (word_at b FORMAT_PLACE)
 
 -- its other bits
 abbrev pub offset_in : List ℕ → ℕ
-offset_in b = word_at b format_place % 0x1000
+offset_in b = word_at b FORMAT_PLACE % 0x1000
 
 -- The fields of an access error, by what the word and the long at each place of its frame are. Whoever reads them
 -- reads them by this.
@@ -50,17 +51,17 @@ abbrev pub access_in : List ℕ → Access
 access_in b = access_by (word_at b) (long_at b)
 
 abbrev pub sr_in : List ℕ → ℕ
-sr_in b = word_at b sr_place
+sr_in b = word_at b SR_PLACE
 
 abbrev pub pc_in : List ℕ → ℕ
-pc_in b = long_at b pc_place
+pc_in b = long_at b PC_PLACE
 
 -- the frame of a format that the bytes hold
 abbrev pub frame_of_format : ℕ → List ℕ → Option Frame
 frame_of_format format b =
     if format == 0 then Some (frame.Short (sr_in b) (pc_in b) (offset_in b))
     else if format == 1 then Some (frame.Throwaway (sr_in b) (pc_in b) (offset_in b))
-    else if format == 2 then Some (frame.Address (sr_in b) (pc_in b) (offset_in b) (long_at b fields_place))
+    else if format == 2 then Some (frame.Address (sr_in b) (pc_in b) (offset_in b) (long_at b FIELDS_PLACE))
     else if format == 7 then Some (frame.Access (sr_in b) (pc_in b) (offset_in b) (access_in b))
     else None
 

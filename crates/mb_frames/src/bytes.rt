@@ -9,12 +9,13 @@ ghost use Rattle.mb_frames.specs.Layout.{BeginsWith, Fits, IsFormat, IsFrame, by
 ghost use Rattle.mb_frames.specs.Reading.{access_in, format_in, frame_in, frame_of_format, long_at, word_at};
 
 use crate::frame::{Access, Frame};
+use crate::places::LONGEST;
 use arrayvec::ArrayVec;
 use byteorder::{BigEndian, ByteOrder};
 
 /// Appends words, the higher byte of each first.
-fn push_words(bytes: &mut ArrayVec<u8, 60>, words: &[u16])
-    requires { array_vec_len bytes.old + 2 * length words.now ≤ 60 }
+fn push_words(bytes: &mut ArrayVec<u8, LONGEST>, words: &[u16])
+    requires { array_vec_len bytes.old + 2 * length words.now ≤ LONGEST }
     ensures bytes { bytes.new.items ≡ bytes.old.items ++ flat_map (λ word. big_bytes 2 word) words.now }
     ensures fits { All (λ word. word < 256 ^ 2) words.now }
 {
@@ -26,8 +27,8 @@ fn push_words(bytes: &mut ArrayVec<u8, 60>, words: &[u16])
 }
 
 /// Appends longs, the highest byte of each first.
-fn push_longs(bytes: &mut ArrayVec<u8, 60>, longs: &[u32])
-    requires { array_vec_len bytes.old + 4 * length longs.now ≤ 60 }
+fn push_longs(bytes: &mut ArrayVec<u8, LONGEST>, longs: &[u32])
+    requires { array_vec_len bytes.old + 4 * length longs.now ≤ LONGEST }
     ensures bytes { bytes.new.items ≡ bytes.old.items ++ flat_map (λ long. big_bytes 4 long) longs.now }
     ensures fits { All (λ long. long < 256 ^ 4) longs.now }
 {
@@ -39,8 +40,8 @@ fn push_longs(bytes: &mut ArrayVec<u8, 60>, longs: &[u32])
 }
 
 /// Appends what every frame begins with: the status register, the program counter, the format word.
-fn push_head(bytes: &mut ArrayVec<u8, 60>, sr: u16, pc: u32, format: u16, offset: u16)
-    requires room { array_vec_len bytes.old + 8 ≤ 60 }
+fn push_head(bytes: &mut ArrayVec<u8, LONGEST>, sr: u16, pc: u32, format: u16, offset: u16)
+    requires room { array_vec_len bytes.old + 8 ≤ LONGEST }
     requires format { format < 16 }
     requires offset { offset < 0x1000 }
     ensures bytes { bytes.new.items ≡ bytes.old.items ++ bytes_of_fields (head sr pc format offset) }
@@ -52,8 +53,8 @@ fn push_head(bytes: &mut ArrayVec<u8, 60>, sr: u16, pc: u32, format: u16, offset
 }
 
 /// Appends the fields of an access error. They fit, by their types.
-fn push_access(bytes: &mut ArrayVec<u8, 60>, access: Access)
-    requires { array_vec_len bytes.old + 52 ≤ 60 }
+fn push_access(bytes: &mut ArrayVec<u8, LONGEST>, access: Access)
+    requires { array_vec_len bytes.old + 52 ≤ LONGEST }
     ensures bytes { bytes.new.items ≡ bytes.old.items ++ bytes_of_fields (fields_of_access access) }
     ensures fits { All Fits (fields_of_access access) }
 {
@@ -78,7 +79,7 @@ fn push_access(bytes: &mut ArrayVec<u8, 60>, access: Access)
 
 /// Appends a frame.
 #[tactic(auto, unfolding(crate::specs::Layout::frame_bytes))]
-fn push_frame(bytes: &mut ArrayVec<u8, 60>, f: &Frame)
+fn push_frame(bytes: &mut ArrayVec<u8, LONGEST>, f: &Frame)
     requires empty { array_vec_len bytes.old ≡ 0 }
     requires offset { offset_of f.now < 0x1000 }
     ensures bytes { bytes.new.items ≡ bytes.old.items ++ frame_bytes f.now }
@@ -109,7 +110,7 @@ fn push_frame(bytes: &mut ArrayVec<u8, 60>, f: &Frame)
 }
 
 /// The bytes of a frame, as they stand in memory from its lowest address on.
-pub fn to_bytes(f: &Frame) -> ArrayVec<u8, 60>
+pub fn to_bytes(f: &Frame) -> ArrayVec<u8, LONGEST>
     requires { offset_of f.now < 0x1000 }
     ensures bytes { result.items ≡ frame_bytes f.now }
     ensures len { array_vec_len result ≡ frame_length (format_of f.now) }
@@ -143,7 +144,7 @@ fn long_at(b: &[u8], place: usize) -> u32
 
 /// The fields of an access error, from the bytes of its frame.
 fn access_from(b: &[u8]) -> Access
-    requires { 60 ≤ length b.now }
+    requires { LONGEST ≤ length b.now }
     ensures { result ≡ access_in b.now }
 {
     Access {
@@ -182,7 +183,7 @@ fn frame_of_format(format: u16, b: &[u8]) -> Option<Frame>
             offset,
             address: long_at(b, 8),
         }),
-        7 if b.len() >= 60 => Some(Frame::Access {
+        7 if b.len() >= LONGEST => Some(Frame::Access {
             sr,
             pc,
             offset,

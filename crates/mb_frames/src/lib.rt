@@ -8,8 +8,12 @@ mod bytes;
 mod frame;
 mod laws;
 mod pend;
+mod places;
+mod status_bits;
 
 pub use bytes::{from_bytes, to_bytes};
 pub use frame::{Access, Frame};
 pub use laws::{no_trace_bit, worked_frames};
 pub use pend::Pend;
+pub use places::{FIELDS_PLACE, FORMAT_PLACE, LONGEST, PC_PLACE, SR_PLACE};
+pub use status_bits::{ATC, CM, CT, LK, MA, RW};

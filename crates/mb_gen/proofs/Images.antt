@@ -10,7 +10,7 @@ use Rattle.mb_srec.specs.Image.{content_of, all_contents, LiesBelow}
 use Rattle.mb_gen.specs.Instructions.{Spelled, repeat, switch_off}
 use Rattle.mb_gen.specs.Draws.{Generator, draws, after, seeded}
 use Rattle.mb_gen.specs.Programs.{words_of, bytes_of, longs_of, lap, way_back, program, image}
-use Rattle.vm_shadow.specs.Mapped.{area_bytes}
+use Rattle.vm_shadow.specs.declared.area.TheConstants.{AREA_BYTES}
 use Rattle.vm_guest.specs.Session.{GuestAtStart, SessionAtStart, IsGuest, IsSession}
 use Rattle.mb_gen.specs.Sessions.{guest_of, guests_from, generated, IsJustFilled}
 use Rattle.mb_gen.proofs.Laps.{length-bytes, length-lap, length-draws}
@@ -76,7 +76,7 @@ length-guests zero g = refl
 length-guests (suc n) g = ap suc (length-guests n (after 2000 g))
 
 share : GuestAtStart → ℕ
-share guest = guest.ram + area_bytes
+share guest = guest.ram + AREA_BYTES
 
 share-of : (taken : List ℕ) → share (guest_of taken) ≡ 131072
 unfolding guest_of share

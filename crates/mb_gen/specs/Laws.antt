@@ -5,6 +5,7 @@ use Rattle.mb_decode.specs.Decodes.{decode_of}
 use Rattle.mb_gen.specs.Draws.{Generator, draws}
 use Rattle.mb_gen.specs.Instructions.{Spelled}
 use Rattle.mb_gen.specs.Programs.{program}
+use Rattle.mb_gen.specs.declared.program.TheConstants.{PICKS}
 
 -- the words are the instruction, whatever follows
 abbrev pub IsRead : Spelled → Type 0
@@ -16,4 +17,4 @@ pub record IsProgram (instructions : List Spelled) : Type 0 where
   pub count : length instructions ≡ 2005
 
 abbrev pub ProgramsAreRead : Type 0
-ProgramsAreRead = (generator : Generator) → IsProgram (program (draws 2000 generator))
+ProgramsAreRead = (generator : Generator) → IsProgram (program (draws PICKS generator))

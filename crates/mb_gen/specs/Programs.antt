@@ -2,6 +2,7 @@
 use Rattle.std.specs.Prelude.{ℕ, ◌+◌, ◌*◌, List, [], ◌∷◌, ◌++◌, length, map}
 use Rattle.std.specs.List.{flat_map}
 use Rattle.byteorder.specs.Endian.{big_bytes}
+use Rattle.mb_gen.specs.declared.program.TheConstants.{COUNTER, DATA, ENTRY, LAPS}
 use Rattle.mb_gen.specs.Instructions.{Spelled, picked, enter, send, count_down, repeat, switch_off}
 
 abbrev pub words_of : List Spelled → List ℕ
@@ -27,7 +28,7 @@ program draws = enter ∷ lap draws ++ repeat (way_back draws) ∷ switch_off �
 -- the initial stack pointer and the first instruction's address, the program, and how many laps there are
 unfoldable pub image : List ℕ → List (ℕ × List ℕ)
 image draws =
-    (0, longs_of (0x8000 ∷ 0x400 ∷ []))
-    ∷ (0x400, bytes_of (words_of (program draws)))
-    ∷ (0x7F00, longs_of (100 ∷ []))
+    (0, longs_of (DATA ∷ ENTRY ∷ []))
+    ∷ (ENTRY, bytes_of (words_of (program draws)))
+    ∷ (COUNTER, longs_of (LAPS ∷ []))
     ∷ []

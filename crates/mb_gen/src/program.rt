@@ -14,19 +14,19 @@ use rand_pcg::Lcg64Xsh32;
 use std::alloc::{AllocError, Global};
 
 /// How many instructions of a lap are picked.
-const PICKS: u32 = 2_000;
+pub const PICKS: u32 = 2_000;
 
 /// How many laps a program makes.
-const LAPS: u32 = 100;
+pub const LAPS: u32 = 100;
 
 /// The initial stack pointer, and where the data begin.
-const DATA: u32 = 0x8000;
+pub const DATA: u32 = 0x8000;
 
 /// Where the program begins.
-const ENTRY: u32 = 0x0400;
+pub const ENTRY: u32 = 0x0400;
 
 /// Where the laps that are left are counted.
-const COUNTER: u32 = 0x7F00;
+pub const COUNTER: u32 = 0x7F00;
 
 /// `LEA $8000,A5`.
 const ENTER: [u16; 3] = [0x4BF9, 0x0000, 0x8000];
@@ -45,8 +45,8 @@ const SWITCH_OFF: [u16; 5] = [0x23FC, 0x0000, 0x0001, 0xFFF0, 0x0020];
 
 /// The image of a guest by the next draws.
 pub(crate) fn image(alloc: Global, generator: &mut Lcg64Xsh32) -> Result<Image, AllocError>
-    ensures image { IfOk result (λ made. contents_of made ≡ image (draws 2000 (generator_seen generator.old))) }
-    ensures after { OnOk result (generator_seen generator.new ≡ after 2000 (generator_seen generator.old)) }
+    ensures image { IfOk result (λ made. contents_of made ≡ image (draws PICKS (generator_seen generator.old))) }
+    ensures after { OnOk result (generator_seen generator.new ≡ after PICKS (generator_seen generator.old)) }
 {
     let start = longs(alloc, &[DATA, ENTRY])?;
     let program = program(alloc, generator)?;
@@ -62,8 +62,8 @@ pub(crate) fn image(alloc: Global, generator: &mut Lcg64Xsh32) -> Result<Image, 
 /// The bytes of a program by the next draws.
 fn program(alloc: Global, generator: &mut Lcg64Xsh32) -> Result<Vec<u8>, AllocError>
     ensures bytes { IfOk result (λ bytes.
-        bytes.items ≡ bytes_of (words_of (program (draws 2000 (generator_seen generator.old))))) }
-    ensures after { OnOk result (generator_seen generator.new ≡ after 2000 (generator_seen generator.old)) }
+        bytes.items ≡ bytes_of (words_of (program (draws PICKS (generator_seen generator.old))))) }
+    ensures after { OnOk result (generator_seen generator.new ≡ after PICKS (generator_seen generator.old)) }
 {
     let mut bytes = Vec::new(alloc);
     push_words(&mut bytes, &ENTER)?;
@@ -78,8 +78,8 @@ fn program(alloc: Global, generator: &mut Lcg64Xsh32) -> Result<Vec<u8>, AllocEr
 /// Adds a lap by the next draws.
 fn push_lap(bytes: &mut Vec<u8>, generator: &mut Lcg64Xsh32) -> Result<(), AllocError>
     ensures lap { OnOk result (bytes.new.items
-        ≡ bytes.old.items ++ bytes_of (words_of (lap (draws 2000 (generator_seen generator.old))))) }
-    ensures after { OnOk result (generator_seen generator.new ≡ after 2000 (generator_seen generator.old)) }
+        ≡ bytes.old.items ++ bytes_of (words_of (lap (draws PICKS (generator_seen generator.old))))) }
+    ensures after { OnOk result (generator_seen generator.new ≡ after PICKS (generator_seen generator.old)) }
 {
     for _ in 0..PICKS {
         push_pick(bytes, draw(generator))?;

@@ -5,6 +5,7 @@
 #![tactic(auto)]
 
 mod control;
+mod counts;
 mod instruction;
 mod kinds;
 mod laws;
@@ -16,6 +17,7 @@ mod size;
 pub mod vectors;
 
 pub use control::ControlRegister;
+pub use counts::{FIRST_WORDS, MOST_WORDS};
 pub use instruction::{Arith, Family, Flow, Instr, Move, System, family_of, is_privileged};
 pub use kinds::{
     BitKind, Branch, CacheScope, Caches, Condition, Exchange, FieldKind, FlushKind, LineMove,
@@ -24,6 +26,6 @@ pub use kinds::{
 pub use laws::operands_stand;
 pub use opcode::Opcode;
 pub use operand::{Ea, Ext, OperandClass, is_full};
-pub use registers::{Plain, Regs};
+pub use registers::{MASTER, Plain, Regs, SUPERVISOR};
 pub use rule::WordRule;
 pub use size::Size;

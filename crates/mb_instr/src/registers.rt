@@ -4,6 +4,12 @@ ghost use Rattle.std.specs.Prelude.{◌≡◌, ◌<◌};
 ghost use Rattle.mb_instr.specs.Registers.{register_of, with_register};
 ghost use Rattle.mb_instr.specs.Registers.{is_supervisor, is_master, active_stack, with_stack, plain_of, with_plain};
 
+/// S of the status register: supervisor mode.
+pub const SUPERVISOR: u16 = 1 << 13;
+
+/// M of the status register: the master stack.
+pub const MASTER: u16 = 1 << 12;
+
 /// The registers that a program in user mode sees.
 #[derive(Clone, Copy, Debug, PartialEq, Eq)]
 pub struct Plain {

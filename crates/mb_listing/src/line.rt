@@ -8,6 +8,7 @@ ghost use Rattle.mb_statement.specs.Statements.{statement_of};
 ghost use Rattle.mb_statement.specs.Texts.{statement_text};
 ghost use Rattle.mb_listing.specs.Answers.{line_said};
 ghost use Rattle.mb_listing.specs.Listing.{data_line, line_at, line_by, line_text};
+ghost use Rattle.mb_instr.specs.declared.counts.TheConstants.{MOST_WORDS};
 
 use crate::source::{bytes_of, gives};
 use mb_decode::{Decoded, decode};
@@ -70,7 +71,7 @@ fn data_line(at: u32, words: &[u16]) -> Line<'_>
 #[tactic(auto, unfolding(crate::specs::Listing::line_at, crate::specs::Listing::line_by))]
 pub(crate) fn line_at(alloc: Global, at: u32, words: &[u16]) -> Result<Line<'_>, Memory>
     requires some { 0 < length words.now }
-    requires few { length words.now ≤ 11 }
+    requires few { length words.now ≤ MOST_WORDS }
     ensures line { IfOk result (λ line. line_said line ≡ line_at at words.now) }
     ensures few { IfOk result (λ line. length line.words.now ≤ length words.now) }
     ensures short { IfOk result (λ line. array_vec_len line.text ≤ 301) }
@@ -94,7 +95,7 @@ pub(crate) fn line_at(alloc: Global, at: u32, words: &[u16]) -> Result<Line<'_>,
 /// The address, the words in digits, and the text.
 #[tactic(auto, unfolding(crate::specs::Listing::line_text))]
 pub(crate) fn line_text(line: &Line) -> LineText
-    requires few { length line.now.words.now ≤ 11 }
+    requires few { length line.now.words.now ≤ MOST_WORDS }
     requires short { array_vec_len line.now.text ≤ 301 }
     ensures { result.items ≡ line_text (line_said line.now) }
 {

@@ -8,16 +8,17 @@ ghost use Rattle.mb_listing.specs.Listing.{words_in, words_at, listing};
 use crate::fault::ListFault;
 use crate::line::{line_at, line_text};
 use arrayvec::ArrayVec;
+use mb_instr::MOST_WORDS;
 use mb_outside::{Memory, Sink, put_all};
 use std::alloc::Global;
 
 /// As many words as the longest instruction has.
-type Words = ArrayVec<u16, 11>;
+type Words = ArrayVec<u16, MOST_WORDS>;
 
 /// At most so many words, as far as there are bytes for them.
 #[tactic(auto, unfolding(crate::specs::Listing::words_in))]
 fn push_words(words: &mut Words, most: u8, bytes: &[u8])
-    requires { array_vec_len words.old + most ≤ 11 }
+    requires { array_vec_len words.old + most ≤ MOST_WORDS }
     ensures pushed { words.new.items ≡ words.old.items ++ words_in most bytes.now }
     ensures len { 2 * array_vec_len words.new ≤ 2 * array_vec_len words.old + length bytes.now }
 {

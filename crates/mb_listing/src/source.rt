@@ -4,6 +4,7 @@ ghost use Rattle.std.specs.Prelude.{◌≡◌, ◌+◌, ◌*◌, ◌≤◌, ◌+
 ghost use Rattle.arrayvec.specs.ArrayVec.{array_vec_len};
 ghost use Rattle.mb_srec.specs.Image.{all_contents};
 ghost use Rattle.mb_listing.specs.Listing.{bytes_of, source_at, is_one_chunk, gives};
+ghost use Rattle.mb_instr.specs.declared.counts.TheConstants.{MOST_WORDS};
 
 use arrayvec::ArrayVec;
 use mb_asm::{AsmFault, assemble};
@@ -18,7 +19,7 @@ pub(crate) type Bytes = ArrayVec<u8, 22>;
 
 /// The bytes of words, the high one first.
 pub(crate) fn bytes_of(words: &[u16]) -> Bytes
-    requires { length words.now ≤ 11 }
+    requires { length words.now ≤ MOST_WORDS }
     ensures bytes { result.items ≡ bytes_of words.now }
     ensures len { array_vec_len result ≡ 2 * length words.now }
 {
@@ -59,7 +60,7 @@ fn is_one_chunk(at: u32, bytes: &[u8], chunks: &[Chunk]) -> bool
 /// Whether the text, assembled at the address, gives just these words.
 #[tactic(auto, unfolding(crate::specs::Listing::gives))]
 pub(crate) fn gives(alloc: Global, at: u32, words: &[u16], text: &[u8]) -> Result<bool, Memory>
-    requires words { length words.now ≤ 11 }
+    requires words { length words.now ≤ MOST_WORDS }
     requires text { length text.now ≤ 301 }
     ensures { IfOk result (λ yes. yes ≡ gives at words.now text.now) }
 {

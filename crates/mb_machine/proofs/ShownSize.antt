@@ -9,7 +9,8 @@ use Rattle.mb_laws.proofs.Kept.{run_leaves}
 use Rattle.mb_model.specs.Keeping.{Rule}
 use Rattle.mb_devices.specs.declared.register.Register.{Register}
 use Rattle.mb_devices.specs.declared.register.Register.TheVariants.{Data, Status, Ctrl, Period, Count, Ack, Power, Size}
-use Rattle.mb_devices.specs.Devices.{DeviceState, console_room, queue_room, received, sent}
+use Rattle.mb_devices.specs.Devices.{DeviceState, received, sent}
+use Rattle.mb_devices.specs.declared.devices.TheConstants.{QUEUE_ROOM, CONSOLE_ROOM}
 use Rattle.mb_devices.specs.Registers.{powered, row}
 use Rattle.mb_devices.proofs.Sizes.{size-idle, size-reset, size-ticked}
 use Rattle.mb_processor.specs.Step.{step_of}
@@ -35,7 +36,7 @@ shown-either false a c n h g = g
 
 shown-sent : (byte : ℕ) (d : DeviceState) → (sent byte d).ram ≡ d.ram
 unfolding sent
-shown-sent byte d = shown-either (nat_lt (length d.console) console_room) _ _ d.ram refl refl
+shown-sent byte d = shown-either (nat_lt (length d.console) CONSOLE_ROOM) _ _ d.ram refl refl
 
 shown-powered : (value : ℕ) (d : DeviceState) → (powered value d).ram ≡ d.ram
 shown-powered value d = shown-either (value == 1) _ _ d.ram refl refl
@@ -162,7 +163,7 @@ leaves rule = record { call = shown-bus rule }
 
 shown-received : (byte : ℕ) (d : DeviceState) → (received byte d).ram ≡ d.ram
 unfolding received
-shown-received byte d = shown-either (nat_lt (length d.queue) queue_room) _ _ d.ram refl refl
+shown-received byte d = shown-either (nat_lt (length d.queue) QUEUE_ROOM) _ _ d.ram refl refl
 
 shown-taken_in : (one : Input) (d : DeviceState) → (taken_in one d).ram ≡ d.ram
 shown-taken_in (Byte byte) d = shown-received byte d

@@ -5,7 +5,8 @@ use Rattle.mb_port.specs.declared.types.Space.{Space}
 use Rattle.mb_port.specs.declared.types.Space.TheVariants.{User, Super}
 use Rattle.mb_port.specs.declared.types.Mmu.{Mmu}
 use Rattle.mb_model.specs.declared.kept.Kept.{Kept}
-use Rattle.mb_model.specs.Pages.{page_size, page_of, offset_of, has_big_pages}
+use Rattle.mb_model.specs.Pages.{page_of, offset_of, has_big_pages}
+use Rattle.mb_model.specs.declared.pages.TheConstants.{PAGE_SIZE}
 use Rattle.mb_model.specs.Keeping.{KeptLists, Rule, entry_for, filled}
 use Rattle.mb_walk.specs.Transparent.{transparent_of}
 use Rattle.mb_walk.specs.declared.found.Found.{Found}
@@ -49,7 +50,7 @@ marks k r = r.write && admits k r && not k.m
 
 -- the same byte in the frame
 abbrev pub in_frame : Kept → ℕ → ℕ
-in_frame k at = page_size * k.frame + offset_of at
+in_frame k at = PAGE_SIZE * k.frame + offset_of at
 
 -- the physical address through an entry; none where it refuses
 unfoldable pub through : Kept → Reference → Option ℕ

@@ -18,6 +18,7 @@ use Rattle.mb_machine.specs.World.{World}
 use Rattle.mb_machine.specs.Places.{taken, stored, checked, taken_line, stored_line}
 use Rattle.mb_model.specs.Pages.{page_of, has_big_pages}
 use Rattle.mb_machine.specs.Access.{matched, page_search, translated}
+use Rattle.mb_machine.specs.declared.registers.TheConstants.{MMUSR_MATCHED}
 
 -- ---- references
 
@@ -94,15 +95,11 @@ with_register rule which value w = record w {
   kept = after_movec rule which w.kept;
 }
 
--- R and T: a transparent register of the data side matches
-abbrev pub mmusr_matched : ℕ
-mmusr_matched = 3
-
 abbrev pub after_test : World → KeptLists → Searched → ℕ × World
 after_test w kept s = (status_of s.found, record w { ram = s.ram; kept = kept })
 
 abbrev pub tested_by : World → Space → ℕ → Bool → Option Bool → ℕ × World
-tested_by w space page write (Some protected) = (mmusr_matched, w)
+tested_by w space page write (Some protected) = (MMUSR_MATCHED, w)
 tested_by w space page write None =
     after_test w (dropped (has_big_pages w.mmu) space page w.kept) (page_search w space page write)
 

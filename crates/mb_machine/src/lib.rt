@@ -8,6 +8,7 @@
 
 mod laws;
 mod reference;
+mod registers;
 mod settling;
 
 pub use laws::{
@@ -15,4 +16,5 @@ pub use laws::{
     memory_stays_bytes, refused_accesses,
 };
 pub use reference::{Reference, Settled};
+pub use registers::{MMU_AT_RESET, MMUSR_MATCHED};
 pub use settling::{admits, by_entry, marks, root, through, untranslated};

@@ -14,6 +14,7 @@ use Rattle.mb_writes.specs.declared.ends.Ended.{Ended}
 use Rattle.mb_writes.specs.declared.ends.Ended.TheVariants as ended
 use Rattle.mb_meaning.specs.Ends.{Performed}
 use Rattle.mb_meaning.specs.Rows.{perform_of}
+use Rattle.mb_instr.specs.declared.counts.TheConstants.{MOST_WORDS}
 
 -- why no instruction was found: none stands there, which has this vector, or the fetch of a word was refused
 pub data Unfound : Type 0 where
@@ -62,13 +63,9 @@ found_of (suc n) space at words = do
   word ← failing (λ fault. Unfetched (refused_in at fault)) (fetch space at)
   judged (decode_of (words ++ word ∷ [])) (found_of n space ((at + 2) % 2 ^ 32) (words ++ word ∷ []))
 
--- no instruction has more words
-abbrev pub most_words : ℕ
-most_words = 11
-
 -- The instruction that stands at PC. No word is fetched at an odd PC.
 unfoldable pub fetched_of : Space → ℕ → Routine Found
-fetched_of space pc = choose (pc % 2 == 1) (Return (Err odd_counter)) (found_of most_words space pc [])
+fetched_of space pc = choose (pc % 2 == 1) (Return (Err odd_counter)) (found_of MOST_WORDS space pc [])
 
 -- the registers with PC past so many words
 abbrev pub past : ℕ → Plain → Plain

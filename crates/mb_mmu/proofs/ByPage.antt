@@ -5,7 +5,8 @@ use Rattle.std.proofs.lemmas.Bool.Decides.{nat_tests}
 use Rattle.mb_port.specs.declared.types.Mmu.{Mmu}
 use Rattle.mb_model.specs.declared.kept.Kept.{Kept}
 use Rattle.mb_model.specs.Keeping.{Rule, KeptLists, entry_for, rule_a}
-use Rattle.mb_model.specs.Pages.{page_size, page_of, offset_of}
+use Rattle.mb_model.specs.Pages.{page_of, offset_of}
+use Rattle.mb_model.specs.declared.pages.TheConstants.{PAGE_SIZE}
 use Rattle.mb_machine.specs.declared.reference.Reference.{Reference}
 use Rattle.mb_machine.specs.declared.reference.Settled.{Settled}
 use Rattle.mb_machine.specs.declared.reference.Settled.TheVariants.{To, Refused, Unsettled}
@@ -20,13 +21,13 @@ moved r b = record r { at = b }
 
 -- the place of an address in the page of a place
 abbrev pub beside : (place b : ℕ) → ℕ
-beside place b = page_size * page_of place + offset_of b
+beside place b = PAGE_SIZE * page_of place + offset_of b
 
 -- the same state of knowledge of the other address
 abbrev pub Beside : ℕ → Settled → Settled → Type 0
 Beside b s after = LeadsTo s (λ at. after ≡ To (beside at b))
 
-beside_frame : (frame at b : ℕ) → page_size * frame + offset_of b ≡ beside (page_size * frame + offset_of at) b
+beside_frame : (frame at b : ℕ) → PAGE_SIZE * frame + offset_of b ≡ beside (PAGE_SIZE * frame + offset_of at) b
 beside_frame frame at b = omega arith
 
 beside_itself : (at b : ℕ) → page_of b ≡ page_of at → b ≡ beside at b
@@ -87,7 +88,7 @@ record Led (t : Translation) (r : Reference) (at : ℕ) : Type 0 where
   there : at < 2 ^ 32
   here : r.at < 2 ^ 32
   leads : settled_by t r ≡ To at
-  inside : page_of at < t.ram / page_size
+  inside : page_of at < t.ram / PAGE_SIZE
 
 beside_leads : (t : Translation) (r : Reference) (at b place : ℕ) → Led t r at → page_of b ≡ page_of r.at → place ≡ beside at b
     → LeadsIntoRam t (moved r b) place
@@ -104,7 +105,7 @@ leads_by t r at b true led less same =
     beside_leads t r at b _ led (same refl) (by_distance at r.at b led.there led.here less (same refl) (same_offset t r at led.leads))
 leads_by t r at b false led less same = tt
 
-pub page_true : (t : Translation) (r : Reference) (at : ℕ) → at < 2 ^ 32 → r.at < 2 ^ 32 → settled_by t r ≡ To at → page_of at < t.ram / page_size
+pub page_true : (t : Translation) (r : Reference) (at : ℕ) → at < 2 ^ 32 → r.at < 2 ^ 32 → settled_by t r ≡ To at → page_of at < t.ram / PAGE_SIZE
     → IsTrueOf t r.code r.write r.space (entry_to r.at at)
 page_true t r at there here leads inside =
     let led : Led t r at = record { there = there; here = here; leads = leads; inside = inside } in

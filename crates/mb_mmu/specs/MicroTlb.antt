@@ -8,6 +8,7 @@ use Rattle.mb_machine.specs.declared.reference.Reference.{Reference}
 use Rattle.mb_mmu.specs.declared.micro_tlb.Entry.{Entry}
 use Rattle.mb_mmu.specs.declared.micro_tlb.Entries.{Entries}
 use Rattle.mb_mmu.specs.declared.micro_tlb.MicroTlb.{MicroTlb}
+use Rattle.mb_mmu.specs.declared.micro_tlb.TheConstants.{ENTRIES}
 
 -- the place of an address by an entry, if it is of the address's page
 abbrev pub place_by : Entry → ℕ → Option ℕ
@@ -22,7 +23,7 @@ abbrev pub empty : Entry
 empty = record { page = 2 ^ 20; distance = 0 }
 
 abbrev pub none : Entries
-none = record { user = replicate 16 empty; supervisor = replicate 16 empty }
+none = record { user = replicate ENTRIES empty; supervisor = replicate ENTRIES empty }
 
 abbrev pub nothing : MicroTlb
 nothing = record { fetches = none; reads = none; writes = none }
@@ -33,7 +34,7 @@ entries_of e Super = e.supervisor
 
 -- the entry where one of an address's page would stand
 abbrev pub entry_in : Entries → Space → ℕ → Entry
-entry_in e space at = slice_index_or (entries_of e space) (page_of at % 16) empty
+entry_in e space at = slice_index_or (entries_of e space) (page_of at % ENTRIES) empty
 
 abbrev pub entries_for : (code write : Bool) → MicroTlb → Entries
 entries_for true write m = m.fetches
@@ -45,8 +46,8 @@ abbrev pub entry_for : MicroTlb → Reference → Entry
 entry_for m r = entry_in (entries_for r.code r.write m) r.space r.at
 
 abbrev pub with_in : Entries → Space → Entry → Entries
-with_in e User entry = record e { user = slice_set e.user (entry.page % 16) entry }
-with_in e Super entry = record e { supervisor = slice_set e.supervisor (entry.page % 16) entry }
+with_in e User entry = record e { user = slice_set e.user (entry.page % ENTRIES) entry }
+with_in e Super entry = record e { supervisor = slice_set e.supervisor (entry.page % ENTRIES) entry }
 
 abbrev pub with_entries : (code write : Bool) → Space → Entry → MicroTlb → MicroTlb
 with_entries true write space entry m = record m { fetches = with_in m.fetches space entry }

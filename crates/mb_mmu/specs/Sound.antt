@@ -2,7 +2,8 @@
 use Rattle.std.specs.Prelude.{◌≡◌, ℕ, ◌+◌, ◌*◌, ◌^◌, ◌<◌, ◌≤◌, ◌&&◌, Bool, true, false, All, IfSome}
 use Rattle.mb_port.specs.declared.types.Space.{Space}
 use Rattle.mb_port.specs.declared.types.Space.TheVariants.{User, Super}
-use Rattle.mb_model.specs.Pages.{page_size, page_of, offset_of}
+use Rattle.mb_model.specs.Pages.{page_of, offset_of}
+use Rattle.mb_model.specs.declared.pages.TheConstants.{PAGE_SIZE}
 use Rattle.mb_machine.specs.declared.reference.Reference.{Reference}
 use Rattle.mb_machine.specs.declared.reference.Settled.TheVariants.{To}
 use Rattle.mb_mmu.specs.declared.micro_tlb.Entry.{Entry}
@@ -15,7 +16,7 @@ use Rattle.mb_mmu.specs.MicroTlb.{place_by}
 pub record LeadsIntoRam (t : Translation) (r : Reference) (place : ℕ) : Type 0 where
   pub settled : settled_by t r ≡ To place
   pub offset : offset_of place ≡ offset_of r.at
-  pub inside : page_size * page_of place + page_size ≤ t.ram
+  pub inside : PAGE_SIZE * page_of place + PAGE_SIZE ≤ t.ram
 
 -- A word that is fetched is not written.
 abbrev pub IsAccess : Reference → Type 0

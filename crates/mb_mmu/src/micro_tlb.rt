@@ -8,7 +8,7 @@ use mb_model::page_of;
 use mb_port::Space;
 
 /// How many entries there are for a kind of access to a space.
-const ENTRIES: usize = 16;
+pub const ENTRIES: usize = 16;
 
 /// A page of logical addresses that stands whole in RAM.
 #[derive(Clone, Copy, Debug, PartialEq, Eq)]

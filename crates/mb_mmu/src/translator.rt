@@ -4,7 +4,7 @@ ghost use Rattle.std.specs.Prelude.{◌≡◌, ◌/◌, ◌<◌, ◌^◌, IfOk, 
 ghost use Rattle.mb_port.specs.Flushes.{NamesPage};
 ghost use Rattle.mb_port.specs.Registers.{with_mmu_register};
 ghost use Rattle.mb_model.specs.Keeping.{NamesPages, entry_for, filled, flushed, rule_a};
-ghost use Rattle.mb_model.specs.Pages.{page_of as page_number, page_size};
+ghost use Rattle.mb_model.specs.Pages.{page_of as page_number};
 ghost use Rattle.mb_machine.specs.Access.{by_entry as by_kept_entry};
 ghost use Rattle.mb_machine.specs.declared.reference.Reference.{Reference};
 ghost use Rattle.mb_machine.specs.declared.reference.Settled.TheVariants.{To};
@@ -14,24 +14,12 @@ ghost use Rattle.mb_mmu.specs.Sound.{IsAccess, LeadsIntoRam};
 use crate::micro_tlb::MicroTlb;
 use crate::modes::{Mode, mode_of};
 use mb_atc::Atc;
-use mb_machine::{Reference, Settled, by_entry, untranslated};
+use mb_machine::{MMU_AT_RESET, Reference, Settled, by_entry, untranslated};
 use mb_model::{Kept, PAGE_SIZE, page_of};
 use mb_outside::Memory;
 use mb_port::{Flush, Mmu, MmuReg, Space};
 use std::alloc::Global;
 use std::marker::Model;
-
-/// Every register is 0.
-const MMU_AT_RESET: Mmu = Mmu {
-    tc: 0,
-    itt0: 0,
-    itt1: 0,
-    dtt0: 0,
-    dtt1: 0,
-    mmusr: 0,
-    urp: 0,
-    srp: 0,
-};
 
 /// The registers of the memory management unit, and the translations that are kept by the board's rule.
 #[derive(Drop)]
@@ -169,7 +157,7 @@ impl Translator {
     fn remember_page(&mut self, r: Reference, place: u32)
         requires access { IsAccess r }
         requires leads { settled_by self.old r ≡ To place }
-        requires inside { page_number place < self.old.ram / page_size }
+        requires inside { page_number place < self.old.ram / PAGE_SIZE }
         ensures { self.new ≡ self.old }
     {
         self.recent.set(r, place);

@@ -11,6 +11,7 @@ use Rattle.mb_port.specs.declared.types.MmuReg.TheVariants.{Mmusr}
 use Rattle.mb_port.specs.declared.types.Flush.{Flush}
 use Rattle.mb_port.specs.declared.types.Flush.TheVariants.{All, AllLocal, Page, PageLocal}
 use Rattle.mb_model.specs.declared.kept.Kept.{Kept}
+use Rattle.mb_model.specs.declared.rules.TheConstants.{CAPACITY, CLASSES, GUEST_CAPACITY, SIDE_CLASSES}
 use Rattle.mb_model.specs.Pages.{other_half}
 
 -- A rule of keeping.
@@ -24,12 +25,12 @@ pub record Rule : Type 0 where
   -- the registers whose writing by MOVEC forgets all
   pub forgets : MmuReg → Bool
 
--- the board: a class of four for each side and page modulo 16, and nothing is forgotten
+-- the board: a small class for each side and page modulo the classes of a side, and nothing is forgotten
 abbrev pub rule_a : Rule
 rule_a = record {
-  classes = 32;
-  class_of = λ code page. page % 16 + (if code then 16 else 0);
-  capacity = 4;
+  classes = CLASSES;
+  class_of = λ code page. page % SIDE_CLASSES + (if code then SIDE_CLASSES else 0);
+  capacity = CAPACITY;
   forgets = λ register. false;
 }
 
@@ -37,9 +38,9 @@ abbrev pub is_of_translation : MmuReg → Bool
 is_of_translation Mmusr = false
 is_of_translation register = true
 
--- a guest: one class of 256 for both sides, and a register by which pages are translated forgets
+-- a guest: one class for both sides, and a register by which pages are translated forgets
 abbrev pub rule_k : Rule
-rule_k = record { classes = 1; class_of = λ code page. 0; capacity = 256; forgets = is_of_translation }
+rule_k = record { classes = 1; class_of = λ code page. 0; capacity = GUEST_CAPACITY; forgets = is_of_translation }
 
 -- what is kept: the list of each class, its oldest entry first
 abbrev pub KeptLists : Type 0

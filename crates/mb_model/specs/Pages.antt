@@ -1,18 +1,15 @@
 -- Pages of memory.
 use Rattle.std.specs.Prelude.{ℕ, ◌+◌, ◌-◌, ◌/◌, ◌%◌, ◌^◌, ◌==◌, Bool, if◌then◌else◌}
 use Rattle.mb_port.specs.declared.types.Mmu.{Mmu}
-
--- the bytes of a page, and of a frame
-abbrev pub page_size : ℕ
-page_size = 4096
+use Rattle.mb_model.specs.declared.pages.TheConstants.{PAGE_SIZE, BIG_PAGE_SIZE}
 
 -- the number of the page that an address lies in
 abbrev pub page_of : ℕ → ℕ
-page_of at = at / page_size
+page_of at = at / PAGE_SIZE
 
 -- the place of an address within its page
 abbrev pub offset_of : ℕ → ℕ
-offset_of at = at % page_size
+offset_of at = at % PAGE_SIZE
 
 -- ---- pages of 8 KiB
 
@@ -22,7 +19,7 @@ has_big_pages mmu = mmu.tc / 2 ^ 14 % 2 == 1
 
 -- the bytes of a page of the tables
 abbrev pub page_size_by : Mmu → ℕ
-page_size_by mmu = if has_big_pages mmu then 8192 else page_size
+page_size_by mmu = if has_big_pages mmu then BIG_PAGE_SIZE else PAGE_SIZE
 
 -- the page of 4 KiB that is the other half of the page of 8 KiB
 abbrev pub other_half : ℕ → ℕ

@@ -9,6 +9,7 @@ mod laws;
 mod outcome;
 mod pages;
 mod processor;
+mod rules;
 mod status;
 
 pub use keeping::{entry_in, place_in};
@@ -17,4 +18,5 @@ pub use laws::{found_after_a_fill, found_after_a_flush};
 pub use outcome::{Outcome, RunState};
 pub use pages::{PAGE_SIZE, has_big_pages, other_half, page_of, page_size_by};
 pub use processor::Cpu;
-pub use status::kept_status;
+pub use rules::{CAPACITY, CLASSES, GUEST_CAPACITY, SIDE_CLASSES};
+pub use status::{STATUS_BITS, kept_status};

@@ -9,7 +9,7 @@ use mb_port::Mmu;
 pub const PAGE_SIZE: u32 = 4096;
 
 /// The bytes of a page of the tables where P is set. Whatever is kept of one is of its halves.
-const BIG_PAGE_SIZE: u32 = 8192;
+pub const BIG_PAGE_SIZE: u32 = 8192;
 
 /// The number of the page that an address lies in.
 #[inline(always)]

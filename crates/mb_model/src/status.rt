@@ -4,7 +4,7 @@ ghost use Rattle.std.specs.Prelude.{◌≡◌};
 ghost use Rattle.mb_model.specs.Status.{kept_status};
 
 /// The bits that the status register has: T1, T0, S, M, the interrupt mask, X, N, Z, V and C.
-const STATUS_BITS: u32 = 0xF71F;
+pub const STATUS_BITS: u32 = 0xF71F;
 
 /// What the status register keeps of the low half of a number.
 #[inline(always)]

@@ -5,6 +5,7 @@ use Rattle.mb_port.specs.Routine.{Routine, Return, Then, caught, choose}
 use Rattle.mb_port.specs.declared.types.Fault.{Fault}
 use Rattle.mb_instr.specs.declared.vectors.TheConstants.{ACCESS_ERROR, TRACE, INTERRUPT}
 use Rattle.mb_frames.specs.declared.frame.Access.{Access}
+use Rattle.mb_frames.specs.declared.status_bits.TheConstants.{CT}
 use Rattle.mb_frames.specs.AccessFields.{check_fields}
 use Rattle.mb_model.specs.declared.processor.Cpu.{Cpu}
 use Rattle.mb_processor.specs.declared.entering.Cause.{Cause}
@@ -51,7 +52,7 @@ abbrev pub has_ct : Access → Bool
 has_ct access = access.ssw / 2 ^ 13 % 2 == 1
 
 abbrev pub with_ct : Bool → Access → Access
-with_ct due access = if due then record access { ssw = bit_or access.ssw (2 ^ 13) } else access
+with_ct due access = if due then record access { ssw = bit_or access.ssw CT } else access
 
 abbrev pub access_cause : ℕ → Access → Cause
 access_cause pc access = record { vector = ACCESS_ERROR; pc = pc; address = 0; access = Some access; level = 0 }

@@ -14,7 +14,8 @@ use Rattle.mb_instr.specs.declared.vectors.TheConstants.{FORMAT_ERROR}
 use Rattle.mb_instr.specs.Sizes.{bytes_of}
 use Rattle.mb_instr.specs.Registers.{is_supervisor, active_stack, with_stack, plain_of, with_plain}
 use Rattle.mb_frames.specs.declared.frame.Access.{Access}
-use Rattle.mb_frames.specs.Layout.{sr_place, pc_place, format_place, fields_place, frame_length}
+use Rattle.mb_frames.specs.Layout.{frame_length}
+use Rattle.mb_frames.specs.declared.places.TheConstants.{SR_PLACE, PC_PLACE, FORMAT_PLACE, FIELDS_PLACE}
 use Rattle.mb_frames.specs.Reading.{access_by, format_of_word}
 use Rattle.mb_model.specs.declared.processor.Cpu.{Cpu}
 use Rattle.mb_model.specs.Status.{space_of, kept_status}
@@ -40,9 +41,9 @@ pub record Head : Type 0 where
 -- at an address: SR, PC and the format word, each an operand of its own; the low bits of the last do not count
 unfoldable pub head_of : ℕ → Routine (Result Head ReadFault)
 head_of at = do
-  sr ← read_of Super (sum at sr_place) (bytes_of Word)
-  pc ← read_of Super (sum at pc_place) (bytes_of Long)
-  word ← read_of Super (sum at format_place) (bytes_of Word)
+  sr ← read_of Super (sum at SR_PLACE) (bytes_of Word)
+  pc ← read_of Super (sum at PC_PLACE) (bytes_of Long)
+  word ← read_of Super (sum at FORMAT_PLACE) (bytes_of Word)
   Return (Ok (record { sr = kept_status sr; pc = pc; format = format_of_word word }))
 
 -- so many longs from an address on, behind those so far
@@ -60,7 +61,7 @@ low long = long % 2 ^ 16
 
 -- of the longs behind the format word, the one that has a place of the frame, and the half of it that is the word there
 abbrev pub long_among : List ℕ → ℕ → ℕ
-long_among longs place = slice_index longs ((place - fields_place) / 4)
+long_among longs place = slice_index longs ((place - FIELDS_PLACE) / 4)
 
 abbrev pub word_among : List ℕ → ℕ → ℕ
 word_among longs place =
@@ -72,7 +73,7 @@ access_of_longs longs = access_by (word_among longs) (long_among longs)
 
 -- how many there are
 abbrev pub access_longs : ℕ
-access_longs = (frame_length 7 - fields_place) / 4
+access_longs = (frame_length 7 - FIELDS_PLACE) / 4
 
 -- ---- the continuation of a MOVEM
 
@@ -128,7 +129,7 @@ judged a r = if continues a && not (can_continue a) then Err format_error else O
 -- $7: thirteen longs are behind the format word
 unfoldable pub access_taken : Head → Regs → Routine (Result Taken Ended)
 access_taken head r = do
-  longs ← read_or_end (longs_of access_longs (sum (active_stack r) fields_place) [])
+  longs ← read_or_end (longs_of access_longs (sum (active_stack r) FIELDS_PLACE) [])
   Return (judged (access_of_longs longs) (restored 7 head r))
 
 -- a frame without an access error's fields

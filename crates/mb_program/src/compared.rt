@@ -12,6 +12,7 @@ ghost use Rattle.mb_program.specs.Ends.{GivesAnswer, sink_seen};
 ghost use Rattle.mb_program.specs.Compares.{found_of, outcome_ahead};
 ghost use Rattle.mb_program.specs.Said.{ordered_said};
 ghost use Rattle.mb_script.specs.Plan.{IsTurnOf};
+ghost use Rattle.mb_script.specs.declared.sizes.TheConstants.{MOST_GUESTS};
 
 use crate::bare_machine::BareMachine;
 use crate::end::End;
@@ -60,7 +61,7 @@ fn write_comparison<O: Sink>(
     out: &mut O,
 ) -> Result<bool, SinkFault>
     requires count { length machines.items ≡ length (members_in host.now) }
-    requires few { length machines.items ≤ 16 }
+    requires few { length machines.items ≤ MOST_GUESTS }
     ensures printed { Prints (O.taken out.old) (O.taken out.new) (O.faults out.old) (O.faults out.new)
         (texts_from compared_text 1 (found_of machines.items host.now)) result }
     ensures all { IfOk result (λ all. all ≡ list_all (λ same. same) (found_of machines.items host.now)) }

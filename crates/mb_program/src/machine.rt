@@ -4,6 +4,7 @@ ghost use Rattle.std.specs.Prelude.{◌≡◌, ◌<◌, ◌≤◌, ◌*◌, ◌%
 ghost use Rattle.mb_srec.specs.Image.{content_of, all_contents, contents_of, LiesBelow};
 ghost use Rattle.mb_walk.specs.Memory.{overwritten};
 ghost use Rattle.mb_model.specs.Keeping.{rule_a};
+ghost use Rattle.mb_board.specs.declared.bus.TheConstants.{MOST_BOARD_BYTES};
 ghost use Rattle.mb_board.specs.State.{machine_in, with_machine};
 ghost use Rattle.mb_machine.specs.Machine.{seen_machine, start, with_contents, with_ram};
 ghost use Rattle.vm_guest.specs.Session.{IsGuest};
@@ -46,7 +47,7 @@ fn write_chunks(board: &mut Board, chunks: &[Chunk])
 /// A board with an image in its RAM, after reset.
 #[tactic(auto, unfolding(mb_machine::specs::Machine::reset_with, mb_devices::specs::Devices::idle))]
 pub(crate) fn start_board(alloc: Global, image: &Image, size: u32) -> Result<Board, Memory>
-    requires size { (8 ≤ size) × (size ≤ 67108864) }
+    requires size { (8 ≤ size) × (size ≤ MOST_BOARD_BYTES) }
     requires in_ram { All (LiesBelow size) (contents_of image.now) }
     ensures start { IfOk result (λ board. machine_in board ≡ start rule_a (contents_of image.now) size) }
     ensures ram { IfOk result (λ board. length board.world.ram ≡ size) }
@@ -63,7 +64,7 @@ pub(crate) fn start_board(alloc: Global, image: &Image, size: u32) -> Result<Boa
 fn run_board(alloc: Global, guest: &SessionGuest) -> Result<Board, Memory>
     requires { IsGuest guest.now }
     ensures after { IfOk result (λ board. seen_machine (machine_in board) ≡ outcome_by rule_a guest.now) }
-    ensures ram { IfOk result (λ board. length board.world.ram ≤ 67108864) }
+    ensures ram { IfOk result (λ board. length board.world.ram ≤ MOST_BOARD_BYTES) }
 {
     let mut board = start_board(alloc, guest.image(), guest.ram())?;
     board.run_bare(guest.script(), guest.steps());

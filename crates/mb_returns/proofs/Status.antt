@@ -4,7 +4,8 @@ use Rattle.std.specs.Prelude.{bit_or}
 use Rattle.std.proofs.lemmas.Nat.Bits.{bit_at_and, bit_at_or}
 use Rattle.std.specs.Int.{bit_at}
 use Rattle.mb_instr.specs.Registers.{is_supervisor, is_master}
-use Rattle.mb_model.specs.Status.{kept_status, status_bits}
+use Rattle.mb_model.specs.Status.{kept_status}
+use Rattle.mb_model.specs.declared.status.TheConstants.{STATUS_BITS}
 use Rattle.mb_processor.specs.Entry.{supervised, without_master, with_mask, thrown_sr}
 
 pub master_supervised : (sr : ℕ) → is_master (supervised sr) ≡ is_master sr
@@ -22,8 +23,8 @@ master_without sr =
     let e : (sr / 2 ^ 13 * 2 ^ 13 + sr % 2 ^ 12) / 2 ^ 12 % 2 ≡ 0 = omega arith in
     ap (λ (n : ℕ). n == 1) e
 
-kept_bit : (sr i b : ℕ) → bit_at status_bits i ≡ 1 → b < 2 → bit_at (bit_or sr (2 ^ 13)) i ≡ b → bit_at (kept_status (thrown_sr sr)) i ≡ b
-kept_bit sr i b one small is = bit_at_and (bit_or sr (2 ^ 13)) status_bits i ∙ (omega arith)
+kept_bit : (sr i b : ℕ) → bit_at STATUS_BITS i ≡ 1 → b < 2 → bit_at (bit_or sr (2 ^ 13)) i ≡ b → bit_at (kept_status (thrown_sr sr)) i ≡ b
+kept_bit sr i b one small is = bit_at_and (bit_or sr (2 ^ 13)) STATUS_BITS i ∙ (omega arith)
 
 pub thrown_supervisor : (sr : ℕ) → is_supervisor (kept_status (thrown_sr sr)) ≡ true
 thrown_supervisor sr =

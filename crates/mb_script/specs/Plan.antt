@@ -1,6 +1,7 @@
 -- The plan of a board and its guests.
 use Rattle.std.specs.Prelude.{◌≡◌, ℕ, ◌%◌, ◌≤◌, ◌==◌, nat_le, Bool, ◌&&◌, List, length, All, Option}
 use Rattle.mb_script.specs.declared.turn.Turn.{Turn}
+use Rattle.mb_script.specs.declared.sizes.TheConstants.{LEAST_BOARD, LEAST_RAM, MOST_BOARD, MOST_GUESTS, MOST_RAM, SIZE_UNIT}
 
 -- A machine, with its RAM in KiB, a bound on its steps, and the names of its files.
 pub record Guest : Type 0 where
@@ -16,19 +17,19 @@ pub record Plan : Type 0 where
   pub guests : List Guest
   pub order : List Turn
 
--- 64 to 16,384 KiB, a multiple of 64
+-- a size of RAM in KiB
 abbrev pub is_ram : ℕ → Bool
-is_ram kib = nat_le 64 kib && nat_le kib 16384 && (kib % 64 == 0)
+is_ram kib = nat_le LEAST_RAM kib && nat_le kib MOST_RAM && (kib % SIZE_UNIT == 0)
 
 abbrev pub IsRam : ℕ → Type 0
-IsRam kib = (64 ≤ kib) × (kib ≤ 16384) × (kib % 64 ≡ 0)
+IsRam kib = (LEAST_RAM ≤ kib) × (kib ≤ MOST_RAM) × (kib % SIZE_UNIT ≡ 0)
 
--- 128 to 65,536 KiB, a multiple of 64
+-- a size of a board's memory in KiB
 abbrev pub is_board : ℕ → Bool
-is_board kib = nat_le 128 kib && nat_le kib 65536 && (kib % 64 == 0)
+is_board kib = nat_le LEAST_BOARD kib && nat_le kib MOST_BOARD && (kib % SIZE_UNIT == 0)
 
 abbrev pub IsBoard : ℕ → Type 0
-IsBoard kib = (128 ≤ kib) × (kib ≤ 65536) × (kib % 64 ≡ 0)
+IsBoard kib = (LEAST_BOARD ≤ kib) × (kib ≤ MOST_BOARD) × (kib % SIZE_UNIT ≡ 0)
 
 abbrev pub AreRams : List Guest → Type 0
 AreRams guests = All (λ guest. IsRam guest.ram) guests
@@ -37,11 +38,11 @@ AreRams guests = All (λ guest. IsRam guest.ram) guests
 abbrev pub IsTurnOf : ℕ → Turn → Type 0
 IsTurnOf count turn = (1 ≤ turn.guest) × (turn.guest ≤ count)
 
--- The sizes and numbers of a plan are in their ranges, and it has one to sixteen guests.
+-- The sizes and numbers of a plan are in their ranges, and it has one guest or more.
 pub record IsInRange (plan : Plan) : Type 0 where
   pub board : IsBoard plan.board
   pub slice : 1 ≤ plan.slice
   pub some : 1 ≤ length plan.guests
-  pub few : length plan.guests ≤ 16
+  pub few : length plan.guests ≤ MOST_GUESTS
   pub rams : AreRams plan.guests
   pub turns : All (IsTurnOf (length plan.guests)) plan.order

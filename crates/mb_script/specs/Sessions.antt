@@ -13,6 +13,7 @@ use Rattle.mb_lines.specs.Results.{◌>>=◌}
 use Rattle.mb_script.specs.Lines.{read_by, statements_of}
 use Rattle.mb_script.specs.Plan.{Guest, Plan, is_ram, is_board}
 use Rattle.mb_script.specs.Words.{number_of, tested}
+use Rattle.mb_script.specs.declared.sizes.TheConstants.{MOST_GUESTS}
 
 -- space or tab
 abbrev pub is_blank : ℕ → Bool
@@ -96,7 +97,7 @@ slice_line line = argument_in (codes "slice") line >>= λ word. ok_or (slice_of 
 
 -- there are at most sixteen guests
 abbrev pub unless_sixteen : ℕ → Guest → Result Guest LineWhy
-unless_sixteen count guest = if count == 16 then Err why.Many else Ok guest
+unless_sixteen count guest = if count == MOST_GUESTS then Err why.Many else Ok guest
 
 -- a guest behind so many others
 unfoldable pub guest_line : ℕ → List ℕ → Result Guest LineWhy

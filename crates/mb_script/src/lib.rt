@@ -16,6 +16,7 @@ mod script_line;
 mod script_reading;
 mod session_line;
 mod session_reading;
+mod sizes;
 mod statement;
 mod turn;
 
@@ -25,4 +26,5 @@ pub use plan::{GuestPlan, SessionPlan};
 pub use script::Script;
 pub use script_reading::read_script;
 pub use session_reading::read_session;
+pub use sizes::{LEAST_BOARD, LEAST_RAM, MOST_BOARD, MOST_GUESTS, MOST_RAM, SIZE_UNIT};
 pub use turn::Turn;

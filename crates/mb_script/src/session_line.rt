@@ -9,6 +9,7 @@ ghost use Rattle.mb_script.specs.Answers.{GivesAlone, bytes_said, cut_said, fiel
 use crate::fault::{LineWhy, Refusal};
 use crate::number::number_of;
 use crate::plan::GuestPlan;
+use crate::sizes::{LEAST_BOARD, LEAST_RAM, MOST_BOARD, MOST_GUESTS, MOST_RAM, SIZE_UNIT};
 use crate::turn::Turn;
 use std::alloc::{AllocError, Global};
 
@@ -58,11 +59,11 @@ pub(crate) fn slice(alloc: Global, line: &[u8]) -> Result<u32, Refusal>
 pub(crate) fn guest(alloc: Global, count: usize, line: &[u8]) -> Result<GuestPlan, Refusal>
     ensures given { GivesAlone guest_said result (guest_line count line.now) }
     ensures ram { IfOk result (λ guest. IsRam (guest_said guest).ram) }
-    ensures few { OnOk result (count ≢ 16) }
+    ensures few { OnOk result (count ≢ MOST_GUESTS) }
 {
     let words = first_words(alloc, line)?;
     let guest = guest_of(alloc, &words)?;
-    if count == 16 {
+    if count == MOST_GUESTS {
         return Err(Refusal::Why(LineWhy::Many));
     }
     Ok(guest)
@@ -146,7 +147,7 @@ fn board_of(word: &[u8]) -> Option<u32>
     ensures in_range { IfSome result IsBoard }
 {
     let kib = number_of(word)?;
-    if kib < 128 || kib > 65_536 || kib % 64 != 0 {
+    if kib < LEAST_BOARD || kib > MOST_BOARD || kib % SIZE_UNIT != 0 {
         return None;
     }
     Some(kib)
@@ -170,7 +171,7 @@ fn ram_of(word: &[u8]) -> Option<u32>
     ensures in_range { IfSome result IsRam }
 {
     let kib = number_of(word)?;
-    if kib < 64 || kib > 16_384 || kib % 64 != 0 {
+    if kib < LEAST_RAM || kib > MOST_RAM || kib % SIZE_UNIT != 0 {
         return None;
     }
     Some(kib)

@@ -4,6 +4,7 @@ ghost use Rattle.std.specs.Prelude.{◌≡◌, ◌≢◌, ◌<◌, ◌≤◌, �
 ghost use Rattle.mb_lines.specs.Lines.{left, past};
 ghost use Rattle.mb_lines.specs.Answers.{line_said};
 ghost use Rattle.mb_script.specs.Lines.{ahead, read_by, statements};
+ghost use Rattle.mb_script.specs.declared.sizes.TheConstants.{MOST_GUESTS};
 ghost use Rattle.mb_script.specs.Plan.{AreRams, IsBoard, IsInRange, IsRam, IsTurnOf};
 ghost use Rattle.mb_script.specs.Sessions.{guest_line, guests_after, guests_of, plan_of, session_of, turn_line, turns_of};
 ghost use Rattle.mb_script.specs.Sessions.{board_line, due, session_line, slice_line};
@@ -96,7 +97,7 @@ fn guests<'a>(
     )) result
         (guests_of version (past lines.old) (statements (left lines.old))) }
     ensures some { IfOk result (λ read. 1 ≤ length read.0.items) }
-    ensures few { IfOk result (λ read. length read.0.items ≤ 16) }
+    ensures few { IfOk result (λ read. length read.0.items ≤ MOST_GUESTS) }
     ensures rams { IfOk result (λ read. AreRams (map guest_said read.0.items)) }
 {
     let mut guests = Vec::new(alloc);
@@ -116,7 +117,7 @@ fn guests<'a>(
 fn guest_in(alloc: Global, count: usize, line: Line) -> Result<GuestPlan, LineFault>
     ensures given { Gives guest_said result (read_by (guest_line count) (line_said line.entry)) }
     ensures ram { IfOk result (λ guest. IsRam (guest_said guest).ram) }
-    ensures few { OnOk result (count ≢ 16) }
+    ensures few { OnOk result (count ≢ MOST_GUESTS) }
 {
     let guest = session_line::guest(alloc, count, line.characters);
     guest.map_err(|refusal| refusal.at(line.number))

@@ -12,7 +12,8 @@ use Rattle.mb_decode.specs.declared.front.Decoded.{Decoded}
 use Rattle.mb_decode.specs.declared.front.Decoded.TheVariants.{Whole}
 use Rattle.mb_decode.specs.Decodes.{decode_of}
 use Rattle.mb_ea.specs.Reading.{refused_in}
-use Rattle.mb_meaning.specs.Attempt.{NoInstruction, Unfetched, Found, illegal, found_of, fetched_of, judged, most_words}
+use Rattle.mb_meaning.specs.Attempt.{NoInstruction, Unfetched, Found, illegal, found_of, fetched_of, judged}
+use Rattle.mb_instr.specs.declared.counts.TheConstants.{MOST_WORDS}
 use Rattle.mb_processor.specs.Raise.{Stepped, refused_of}
 use Rattle.mb_processor.specs.Step.{unread_of, unfound_of, executed_of, instruction_of}
 use Rattle.mb_processor.specs.declared.Finish.{Finish}
@@ -136,7 +137,7 @@ sought bus cpu q more s t answer h =
 abbrev pub by_two : Cpu → ℕ → ℕ → Routine Found
 by_two cpu first second =
     judged (decode_of (first ∷ second ∷ []))
-    (found_of (most_words - 2) (space_of cpu) (((cpu.regs.pc + 2) % 2 ^ 32 + 2) % 2 ^ 32) (first ∷ second ∷ []))
+    (found_of (MOST_WORDS - 2) (space_of cpu) (((cpu.regs.pc + 2) % 2 ^ 32 + 2) % 2 ^ 32) (first ∷ second ∷ []))
 
 -- it has more words: the second came, and what the two are, or begin, was sought, with this answer
 pub has_more : {S : Type 0} (bus : Bus S) (cpu q : Cpu) (space : Space) (first second : ℕ) (s t u : S) (answer : Result (Instr × ℕ) Finish)
@@ -145,7 +146,7 @@ pub has_more : {S : Type 0} (bus : Bus S) (cpu q : Cpu) (space : Space) (first s
     → run bus (found_executed cpu (behind cpu first)) s ≡ carried bus answer q u
 has_more bus cpu q space first second s t u answer k h found =
     ap (doing bus cpu)
-    (fetched bus (most_words - 1) (most_words - 2) (space_of cpu) ((cpu.regs.pc + 2) % 2 ^ 32) (first ∷ []) second s t (first ∷ second ∷ [])
+    (fetched bus (MOST_WORDS - 1) (MOST_WORDS - 2) (space_of cpu) ((cpu.regs.pc + 2) % 2 ^ 32) (first ∷ []) second s t (first ∷ second ∷ [])
     (decode_of (first ∷ second ∷ [])) refl (rw (sym k) h) refl refl)
     ∙ sought bus cpu q (by_two cpu first second) t u answer found
 
@@ -155,7 +156,7 @@ pub two_words : {S : Type 0} (bus : Bus S) (cpu : Cpu) (space : Space) (first se
     → run bus (found_executed cpu (behind cpu first)) s ≡ run bus (executed_of i 2 cpu) t
 two_words bus cpu space first second s t i k h e =
     ap (doing bus cpu)
-    (fetched bus (most_words - 1) (most_words - 2) (space_of cpu) ((cpu.regs.pc + 2) % 2 ^ 32) (first ∷ []) second s t (first ∷ second ∷ [])
+    (fetched bus (MOST_WORDS - 1) (MOST_WORDS - 2) (space_of cpu) ((cpu.regs.pc + 2) % 2 ^ 32) (first ∷ []) second s t (first ∷ second ∷ [])
     (Whole i 2) refl (rw (sym k) h) refl (sym e))
 
 -- it has more words, and the second did not come
@@ -165,7 +166,7 @@ no_second_word : {S : Type 0} (bus : Bus S) (cpu : Cpu) (space : Space) (first :
 unfolding unfound_of
 no_second_word bus cpu space first fault s t k h =
     ap (doing bus cpu)
-    (unfetched bus (most_words - 1) (most_words - 2) (space_of cpu) ((cpu.regs.pc + 2) % 2 ^ 32) (first ∷ []) fault s t refl (rw (sym k) h))
+    (unfetched bus (MOST_WORDS - 1) (MOST_WORDS - 2) (space_of cpu) ((cpu.regs.pc + 2) % 2 ^ 32) (first ∷ []) fault s t refl (rw (sym k) h))
 
 -- at an odd PC nothing is fetched
 at_odd : {S : Type 0} (bus : Bus S) (cpu : Cpu) (s : S) (odd : Bool) → (cpu.regs.pc % 2 == 1) ≡ odd → odd ≡ true
@@ -182,7 +183,7 @@ instruction_at_odd bus cpu s h = at_odd bus cpu s _ refl (equal (cpu.regs.pc % 2
 
 -- at an even PC it begins without a word
 begun : {S : Type 0} (bus : Bus S) (cpu : Cpu) (s : S) (odd : Bool) → (cpu.regs.pc % 2 == 1) ≡ odd → odd ≡ false
-    → run bus (instruction_of cpu) s ≡ run bus (found_executed cpu (found_of most_words (space_of cpu) cpu.regs.pc [])) s
+    → run bus (instruction_of cpu) s ≡ run bus (found_executed cpu (found_of MOST_WORDS (space_of cpu) cpu.regs.pc [])) s
 unfolding instruction_of fetched_of
 begun bus cpu s odd e h = rw (e, h) refl
 
@@ -196,7 +197,7 @@ pub first_word : {S : Type 0} (bus : Bus S) (cpu : Cpu) (space : Space) (word : 
     ≡ run bus (found_executed cpu (judged d (behind cpu word))) t
 first_word bus cpu space word s t d even k h e =
     begun bus cpu s _ refl (unequal (cpu.regs.pc % 2) 1 even)
-    ∙ ap (doing bus cpu) (fetched bus most_words (most_words - 1) (space_of cpu) cpu.regs.pc [] word s t (word ∷ []) d refl (rw (sym k) h) refl e)
+    ∙ ap (doing bus cpu) (fetched bus MOST_WORDS (MOST_WORDS - 1) (space_of cpu) cpu.regs.pc [] word s t (word ∷ []) d refl (rw (sym k) h) refl e)
 
 -- the first word did not come
 no_first_word : {S : Type 0} (bus : Bus S) (cpu : Cpu) (space : Space) (fault : Fault) (s t : S)
@@ -205,7 +206,7 @@ no_first_word : {S : Type 0} (bus : Bus S) (cpu : Cpu) (space : Space) (fault : 
 unfolding unfound_of
 no_first_word bus cpu space fault s t even k h =
     begun bus cpu s _ refl (unequal (cpu.regs.pc % 2) 1 even)
-    ∙ ap (doing bus cpu) (unfetched bus most_words (most_words - 1) (space_of cpu) cpu.regs.pc [] fault s t refl (rw (sym k) h))
+    ∙ ap (doing bus cpu) (unfetched bus MOST_WORDS (MOST_WORDS - 1) (space_of cpu) cpu.regs.pc [] fault s t refl (rw (sym k) h))
 
 -- ---- one word, which came, or did not and ended the step
 

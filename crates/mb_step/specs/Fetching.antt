@@ -7,7 +7,8 @@ use Rattle.mb_model.specs.declared.processor.Cpu.{Cpu}
 use Rattle.mb_model.specs.Status.{space_of}
 use Rattle.mb_processor.specs.declared.Finish.{Finish}
 use Rattle.mb_ea.specs.Reading.{refused_in}
-use Rattle.mb_meaning.specs.Attempt.{Found, found_of, most_words}
+use Rattle.mb_meaning.specs.Attempt.{Found, found_of}
+use Rattle.mb_instr.specs.declared.counts.TheConstants.{MOST_WORDS}
 use Rattle.mb_processor.specs.Raise.{Stepped}
 use Rattle.mb_processor.specs.Step.{executed_of, unfound_of, unread_of}
 
@@ -38,7 +39,7 @@ sought_by (Err end) i = Err end
 
 -- the words behind the first
 abbrev pub behind : Cpu → ℕ → Routine Found
-behind cpu word = found_of (most_words - 1) (space_of cpu) ((cpu.regs.pc + 2) % 2 ^ 32) (word ∷ [])
+behind cpu word = found_of (MOST_WORDS - 1) (space_of cpu) ((cpu.regs.pc + 2) % 2 ^ 32) (word ∷ [])
 
 -- an instruction is carried out once it is found
 abbrev pub found_executed : Cpu → Routine Found → Routine Stepped

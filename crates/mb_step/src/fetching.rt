@@ -6,7 +6,7 @@ ghost use Rattle.mb_instr.specs.Codes.{IsInstr};
 ghost use Rattle.mb_model.specs.Status.{space_of};
 ghost use Rattle.mb_decode.specs.declared.front.Decoded.TheVariants.{More};
 ghost use Rattle.mb_decode.specs.Decodes.{decode_of};
-ghost use Rattle.mb_meaning.specs.Attempt.{found_of, judged, most_words};
+ghost use Rattle.mb_meaning.specs.Attempt.{found_of, judged};
 ghost use Rattle.mb_processor.specs.Step.{instruction_of};
 ghost use Rattle.mb_table.specs.FirstWords.{alone};
 ghost use Rattle.mb_table.specs.Short.{IsShort};
@@ -17,15 +17,15 @@ use crate::executing::{execute, finish_done};
 use crate::processor::Processor;
 use arrayvec::ArrayVec;
 use mb_decode::{Decoded, Decoding, decode_into};
-use mb_instr::Instr;
 use mb_instr::vectors::{ILLEGAL, LINE_A, LINE_F, ODD_COUNTER};
+use mb_instr::{Instr, MOST_WORDS};
 use mb_port::{Port, Space};
 use mb_processor::Finish;
 use mb_short::perform_short;
 use mb_table::{FirstWords, Short, Shorts};
 
 /// How many words an instruction can have behind its first.
-const MOST_BEHIND: usize = 10;
+const MOST_BEHIND: usize = MOST_WORDS - 1;
 
 /// Fetches a word, whatever the bus has to do for it, or ends the step where it does not come.
 #[inline(never)]
@@ -83,7 +83,7 @@ fn fetch_more<P: Port>(
     port: &mut P,
 ) -> Result<u8, Finish>
     requires { third_at % 2 ≡ 0 }
-    ensures means { run P.bus (sought_of processor.old (found_of (most_words - 3) (space_of processor.old)
+    ensures means { run P.bus (sought_of processor.old (found_of (MOST_WORDS - 3) (space_of processor.old)
         ((third_at + 2) % 2 ^ 32) (first ∷ second ∷ third ∷ []))) (P.world port.old)
         ≡ ((sought_by result instruction.new, processor.new), P.world port.new) }
     ensures valid { IfOk result (λ n. IsInstr instruction.new) }
@@ -126,7 +126,7 @@ fn decode_three<P: Port>(
 ) -> Result<u8, Finish>
     requires { third_at % 2 ≡ 0 }
     ensures means { run P.bus (sought_of processor.old (judged (decode_of (first ∷ second ∷ third ∷ []))
-        (found_of (most_words - 3) (space_of processor.old) ((third_at + 2) % 2 ^ 32) (first ∷ second ∷ third ∷ []))))
+        (found_of (MOST_WORDS - 3) (space_of processor.old) ((third_at + 2) % 2 ^ 32) (first ∷ second ∷ third ∷ []))))
         (P.world port.old)
         ≡ ((sought_by result longer.new.instruction, processor.new), P.world port.new) }
     ensures valid { IfOk result (λ n. IsInstr longer.new.instruction) }
@@ -169,7 +169,7 @@ fn find_three<P: Port>(
     port: &mut P,
 ) -> Result<u8, Finish>
     requires { second_at % 2 ≡ 0 }
-    ensures means { run P.bus (sought_of processor.old (found_of (most_words - 2) (space_of processor.old)
+    ensures means { run P.bus (sought_of processor.old (found_of (MOST_WORDS - 2) (space_of processor.old)
         ((second_at + 2) % 2 ^ 32) (first ∷ second ∷ []))) (P.world port.old)
         ≡ ((sought_by result longer.new.instruction, processor.new), P.world port.new) }
     ensures valid { IfOk result (λ n. IsInstr longer.new.instruction) }
@@ -205,7 +205,7 @@ fn decode_longer<P: Port>(
     requires even { second_at % 2 ≡ 0 }
     requires more { alone first ≡ More }
     ensures means { run P.bus (sought_of processor.old (judged (decode_of (first ∷ second ∷ []))
-        (found_of (most_words - 2) (space_of processor.old) ((second_at + 2) % 2 ^ 32) (first ∷ second ∷ []))))
+        (found_of (MOST_WORDS - 2) (space_of processor.old) ((second_at + 2) % 2 ^ 32) (first ∷ second ∷ []))))
         (P.world port.old)
         ≡ ((sought_by result longer.new.instruction, processor.new), P.world port.new) }
     ensures valid { IfOk result (λ n. IsInstr longer.new.instruction) }
@@ -246,7 +246,7 @@ fn find_longer<P: Port>(
     requires even { second_at % 2 ≡ 0 }
     requires more { alone first ≡ More }
     ensures means { run P.bus (sought_of processor.old (judged (decode_of (first ∷ second ∷ []))
-        (found_of (most_words - 2) (space_of processor.old) ((second_at + 2) % 2 ^ 32) (first ∷ second ∷ []))))
+        (found_of (MOST_WORDS - 2) (space_of processor.old) ((second_at + 2) % 2 ^ 32) (first ∷ second ∷ []))))
         (P.world port.old)
         ≡ ((sought_by result longer.new.instruction, processor.new), P.world port.new) }
     ensures valid { IfOk result (λ n. IsInstr longer.new.instruction) }

@@ -9,16 +9,13 @@ ghost use Rattle.mb_processor.specs.Raise.{access_error_of, unchecked_of, raise_
 ghost use Rattle.mb_processor.specs.Raise.{tracing_of, trap_of, refused_of};
 
 use mb_entry::{Cause, Entered, check_fields, enter};
-use mb_frames::Access;
+use mb_frames::{Access, CT};
 use mb_instr::vectors::{ACCESS_ERROR, INTERRUPT, TRACE};
 use mb_instr::{Plain, Regs};
 use mb_model::Cpu;
 use mb_port::{Fault, Port};
 use mb_processor::Finish;
 use std::mem::{replace, swap};
-
-/// CT of the special status word: a trace was due.
-const CT: u16 = 1 << 13;
 
 /// T1 asks for a trace after each instruction.
 #[inline(always)]

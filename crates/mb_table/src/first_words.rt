@@ -6,11 +6,9 @@ ghost use Rattle.mb_decode.specs.Decodes.{IfWhole};
 ghost use Rattle.mb_table.specs.FirstWords.{IsKnown, alone};
 
 use mb_decode::{Decoded, decode};
+use mb_instr::FIRST_WORDS;
 use std::alloc::{AllocError, Global};
 use std::marker::Model;
-
-/// How many first words there are.
-const FIRST_WORDS: usize = 65_536;
 
 /// How many of them are known at a time.
 const PLACES: usize = 4096;
@@ -36,19 +34,21 @@ impl Model for FirstWords {
     ghost use Rattle.std.specs.Prelude.{◌≡◌, ⊤, length};
     ghost use Rattle.std.specs.List.{All};
     ghost use Rattle.mb_table.specs.FirstWords.{IsKnown};
+    ghost use Rattle.mb_table.specs.declared.first_words.TheConstants.{PLACES};
+    ghost use Rattle.mb_instr.specs.declared.counts.TheConstants.{FIRST_WORDS};
 
     ghost Value = { ⊤ };
 
     ghost view = { λ _. tt };
 
-    ghost invariant = { λ t. (length t.places.items ≡ 65536) × (length t.known.items ≡ 4096)
+    ghost invariant = { λ t. (length t.places.items ≡ FIRST_WORDS) × (length t.known.items ≡ PLACES)
         × All IsKnown t.known.items };
 }
 
 /// One of the places.
 #[inline(always)]
 fn within(place: u16) -> usize
-    ensures { result < 4096 }
+    ensures { result < PLACES }
 {
     usize::from(place) % PLACES
 }

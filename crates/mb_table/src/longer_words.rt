@@ -30,18 +30,19 @@ impl Model for LongerWords {
     ghost use Rattle.std.specs.Prelude.{◌≡◌, ⊤, length};
     ghost use Rattle.std.specs.List.{All};
     ghost use Rattle.mb_table.specs.LongerWords.{IsRight};
+    ghost use Rattle.mb_table.specs.declared.longer_words.TheConstants.{SLOTS};
 
     ghost Value = { ⊤ };
 
     ghost view = { λ _. tt };
 
-    ghost invariant = { λ t. (length t.slots.items ≡ 8192) × All IsRight t.slots.items };
+    ghost invariant = { λ t. (length t.slots.items ≡ SLOTS) × All IsRight t.slots.items };
 }
 
 /// Where two words lead.
 #[inline(always)]
 fn slot(first: u16, second: u16) -> usize
-    ensures { result < 8192 }
+    ensures { result < SLOTS }
 {
     (u32::from(first).wrapping_mul(2531) ^ u32::from(second)) as usize % SLOTS
 }

@@ -10,12 +10,9 @@ ghost use Rattle.mb_table.specs.Short.{IsShort};
 use crate::finding::{short_of, short_with};
 use crate::short::Short;
 use mb_decode::{Decoded, spellings};
-use mb_instr::Instr;
+use mb_instr::{FIRST_WORDS, Instr};
 use std::alloc::{AllocError, Global};
 use std::marker::Model;
-
-/// How many first words there are.
-const FIRST_WORDS: usize = 65_536;
 
 /// The short forms of the first words that came. Which they are does not count, so nothing is seen of it.
 #[derive(Drop)]
@@ -27,12 +24,13 @@ impl Model for Shorts {
     ghost use Rattle.std.specs.Prelude.{◌≡◌, ⊤, ℕ, ◌<◌, length, slice_index_or};
     ghost use Rattle.mb_table.specs.declared.short.Short.TheVariants.{Unknown};
     ghost use Rattle.mb_table.specs.Short.{IsShort};
+    ghost use Rattle.mb_instr.specs.declared.counts.TheConstants.{FIRST_WORDS};
 
     ghost Value = { ⊤ };
 
     ghost view = { λ _. tt };
 
-    ghost invariant = { λ t. (length t.forms.items ≡ 65536)
+    ghost invariant = { λ t. (length t.forms.items ≡ FIRST_WORDS)
         × ((first : ℕ) → IsShort first (slice_index_or t.forms.items first Unknown)) };
 }
 

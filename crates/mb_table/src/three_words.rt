@@ -39,18 +39,19 @@ impl Model for ThreeWords {
     ghost use Rattle.std.specs.Prelude.{◌≡◌, ⊤, length};
     ghost use Rattle.std.specs.List.{All};
     ghost use Rattle.mb_table.specs.ThreeWords.{IsRight};
+    ghost use Rattle.mb_table.specs.declared.three_words.TheConstants.{SLOTS};
 
     ghost Value = { ⊤ };
 
     ghost view = { λ _. tt };
 
-    ghost invariant = { λ t. (length t.slots.items ≡ 2048) × All IsRight t.slots.items };
+    ghost invariant = { λ t. (length t.slots.items ≡ SLOTS) × All IsRight t.slots.items };
 }
 
 /// Where three words lead.
 #[inline(always)]
 fn slot(first: u16, second: u16, third: u16) -> usize
-    ensures { result < 2048 }
+    ensures { result < SLOTS }
 {
     let front = u32::from(first).wrapping_mul(2531) ^ u32::from(second);
     (front.wrapping_mul(331) ^ u32::from(third)) as usize % SLOTS

@@ -41,7 +41,8 @@ use Rattle.mb_writes.specs.declared.ends.Ended.TheVariants as ended
 use Rattle.mb_writes.specs.declared.transfers.Movem.{Movem}
 use Rattle.mb_meaning.specs.Ends.{Performed, restored}
 use Rattle.mb_meaning.specs.Rows.{perform_move_of, perform_arith_of, perform_flow_of, row_of, perform_of}
-use Rattle.mb_meaning.specs.Attempt.{Unfound, NoInstruction, Unfetched, end_without, Found, judged, found_of, fetched_of, past, most_words, attempt_of}
+use Rattle.mb_meaning.specs.Attempt.{Unfound, NoInstruction, Unfetched, end_without, Found, judged, found_of, fetched_of, past, attempt_of}
+use Rattle.mb_instr.specs.declared.counts.TheConstants.{MOST_WORDS}
 use Rattle.mb_tells.specs.Guarded.{Guarded, Guards, Goes, quiet}
 use Rattle.mb_tells.specs.Left.{Answered, LeftBy, Telling, Row, Attempt}
 use Rattle.mb_tells.specs.Laws.{AreLongs, HasLongs, is_movem, moves, moves_fetched}
@@ -268,7 +269,7 @@ module _ {S : Type 0} (x : Guarded S) (space : Space) (g : Guards x space) where
   pub fetched_tells : (pc : ℕ) → pc < 2 ^ 32 → Founds (fetched_of space pc)
   unfolding fetched_of Founds
   fetched_tells pc lt =
-      tells_choose (pc % 2 == 1) _ _ (λ odd. tells_err _) (λ even. found_tells most_words pc [] AreWords-nil (is_even pc even) lt)
+      tells_choose (pc % 2 == 1) _ _ (λ odd. tells_err _) (λ even. found_tells MOST_WORDS pc [] AreWords-nil (is_even pc even) lt)
 
   pub attempt_tells : (p : Plain) (s : S) → HasLongs p → p.pc < 2 ^ 32
       → Attempt x space p s (moves_fetched x.bus space p.pc s) (attempt_of space p)

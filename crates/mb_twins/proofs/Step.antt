@@ -42,7 +42,8 @@ use Rattle.mb_fields.specs.Packing.{pack_of, unpk_of}
 use Rattle.mb_meaning.specs.Decimals.{negated_decimal}
 use Rattle.mb_meaning.specs.Rows.{perform_move_of, perform_arith_of, perform_flow_of, row_of, perform_of}
 use Rattle.mb_meaning.specs.Ends.{Performed}
-use Rattle.mb_meaning.specs.Attempt.{Unfound, end_without, Found, judged, found_of, fetched_of, past, most_words, attempt_of}
+use Rattle.mb_meaning.specs.Attempt.{Unfound, end_without, Found, judged, found_of, fetched_of, past, attempt_of}
+use Rattle.mb_instr.specs.declared.counts.TheConstants.{MOST_WORDS}
 use Rattle.mb_twins.specs.Twins.{SameEnd, SameStop, SamePerformed, MayRefuse}
 use Rattle.mb_twins.proofs.Parts.{SameCut, Rows, restored_same, failing_twins}
 use Rattle.mb_twins.proofs.Moves.{move_twins, movea_twins, lea_twins, to_ccr_twins, from_ccr_twins, scc_twins}
@@ -222,7 +223,7 @@ found_twins x (suc n) at words h are =
 
 pub fetched_twins : (x : Setting) (pc : ℕ) → x.refuses ≡ true → Founds x (fetched_of x.here pc) (fetched_of x.there pc)
 unfolding fetched_of
-fetched_twins x pc h = twins_choose (between x) _ (pc % 2 == 1) _ _ _ _ (returned (h, refl, inl refl)) (found_twins x most_words pc [] h AreWords-nil)
+fetched_twins x pc h = twins_choose (between x) _ (pc % 2 == 1) _ _ _ _ (returned (h, refl, inl refl)) (found_twins x MOST_WORDS pc [] h AreWords-nil)
 
 pub attempt_twins : (x : Setting) (p : Plain) → x.refuses ≡ true → Instrs x (attempt_of x.here p) (attempt_of x.there p)
 unfolding attempt_of

@@ -7,6 +7,7 @@ use Rattle.mb_model.specs.declared.kept.Kept.{Kept}
 use Rattle.mb_model.specs.Pages.{page_of}
 use Rattle.mb_walk.specs.declared.descriptors.TableDescriptor.{TableDescriptor}
 use Rattle.mb_walk.specs.declared.descriptors.PageDescriptor.{PageDescriptor}
+use Rattle.mb_walk.specs.declared.searching.TheConstants.{BIG_PAGE_TABLE_BYTES, PAGE_TABLE_BYTES}
 
 -- a long with the bit of this number set
 abbrev pub with_bit : ℕ → ℕ → ℕ
@@ -44,13 +45,9 @@ with_modified long = with_bit long 4
 abbrev pub indirection : ℕ → ℕ
 indirection long = long / 4 * 4
 
--- the bytes of a root or pointer table
-abbrev pub table_bytes : ℕ
-table_bytes = 512
-
 -- the bytes of a page table, of pages of 4 KiB or of 8 KiB
 abbrev pub page_table_bytes : Bool → ℕ
-page_table_bytes big = if big then 128 else 256
+page_table_bytes big = if big then BIG_PAGE_TABLE_BYTES else PAGE_TABLE_BYTES
 
 -- a page's indices: bits 31 to 25 and 24 to 18 of its address, and 17 to 12, or 17 to 13 where pages have 8 KiB
 abbrev pub root_index : ℕ → ℕ

@@ -6,7 +6,8 @@ use Rattle.mb_port.specs.declared.types.Space.{Space}
 use Rattle.mb_walk.specs.declared.found.Found.{Found}
 use Rattle.mb_walk.specs.declared.found.Found.TheVariants.{BusError}
 use Rattle.mb_walk.specs.Memory.{number_at, AreBytes}
-use Rattle.mb_walk.specs.Descriptors.{page_descriptor, indirection, entry_at, table_bytes, page_table_bytes}
+use Rattle.mb_walk.specs.Descriptors.{page_descriptor, indirection, entry_at, page_table_bytes}
+use Rattle.mb_walk.specs.declared.searching.TheConstants.{TABLE_BYTES}
 use Rattle.mb_walk.specs.Descriptors.{root_index, pointer_index, page_index}
 use Rattle.mb_walk.specs.Search.{Searched, Level, descended, search_of, OnEntry}
 
@@ -66,9 +67,9 @@ met_last ram place =
 -- of all
 unfoldable pub met : List ℕ → ℕ → ℕ → Bool → List ℕ
 met ram root page big =
-    let first = entry_at root table_bytes (root_index page) in
+    let first = entry_at root TABLE_BYTES (root_index page) in
     met_and_below first (descended ram first) (λ ram pointer.
-    let second = entry_at pointer table_bytes (pointer_index page) in
+    let second = entry_at pointer TABLE_BYTES (pointer_index page) in
     met_and_below second (descended ram second) (λ ram leaf.
     met_last ram (entry_at leaf (page_table_bytes big) (page_index big page))))
 

@@ -4,7 +4,8 @@ use Rattle.mb_port.specs.declared.types.Space.{Space}
 use Rattle.mb_model.specs.declared.kept.Kept.{Kept}
 use Rattle.mb_walk.specs.Memory.{number_at}
 use Rattle.mb_walk.specs.Descriptors.{table_descriptor, page_descriptor, indirection, kept_of}
-use Rattle.mb_walk.specs.Descriptors.{table_bytes, page_table_bytes, root_index, pointer_index, page_index, entry_at}
+use Rattle.mb_walk.specs.Descriptors.{page_table_bytes, root_index, pointer_index, page_index, entry_at}
+use Rattle.mb_walk.specs.declared.searching.TheConstants.{TABLE_BYTES}
 use Rattle.mb_walk.specs.Search.{is_inside}
 
 -- the descriptor of a resident table, where it is marked
@@ -41,7 +42,7 @@ used_entry ram place space page protected big =
 -- What such a search for a read finds.
 unfoldable pub found_used : List ℕ → ℕ → Space → ℕ → Bool → Option Kept
 found_used ram root space page big =
-    below_used (used_table ram (entry_at root table_bytes (root_index page))) (λ pointer.
-    below_used (used_table ram (entry_at pointer table_bytes (pointer_index page))) (λ leaf.
+    below_used (used_table ram (entry_at root TABLE_BYTES (root_index page))) (λ pointer.
+    below_used (used_table ram (entry_at pointer TABLE_BYTES (pointer_index page))) (λ leaf.
     used_entry ram (entry_at leaf (page_table_bytes big) (page_index big page)) space page
     ((table_descriptor pointer).protected || (table_descriptor leaf).protected) big))

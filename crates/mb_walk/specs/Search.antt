@@ -7,7 +7,8 @@ use Rattle.mb_walk.specs.declared.found.Found.TheVariants.{Entry, Invalid, BusEr
 use Rattle.mb_walk.specs.Memory.{number_at, with_number}
 use Rattle.mb_walk.specs.Descriptors.{table_descriptor, page_descriptor, with_used, marked, indirection, kept_of}
 use Rattle.mb_walk.specs.Descriptors.{resident_status}
-use Rattle.mb_walk.specs.Descriptors.{table_bytes, page_table_bytes, root_index, pointer_index, page_index, entry_at}
+use Rattle.mb_walk.specs.Descriptors.{page_table_bytes, root_index, pointer_index, page_index, entry_at}
+use Rattle.mb_walk.specs.declared.searching.TheConstants.{TABLE_BYTES}
 
 -- the end of a search: memory with its marks, and what it found
 pub record Searched : Type 0 where
@@ -70,8 +71,8 @@ ended ram place space page protected write big =
 -- once each descriptor that it met is marked, and what it found.
 unfoldable pub search_of : List ℕ → ℕ → Space → ℕ → Bool → Bool → Searched
 search_of ram root space page write big =
-    and_below (descended ram (entry_at root table_bytes (root_index page))) (λ ram pointer.
-    and_below (descended ram (entry_at pointer table_bytes (pointer_index page))) (λ ram leaf.
+    and_below (descended ram (entry_at root TABLE_BYTES (root_index page))) (λ ram pointer.
+    and_below (descended ram (entry_at pointer TABLE_BYTES (pointer_index page))) (λ ram leaf.
     ended ram (entry_at leaf (page_table_bytes big) (page_index big page)) space page
     ((table_descriptor pointer).protected || (table_descriptor leaf).protected) write big))
 

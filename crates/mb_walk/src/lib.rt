@@ -23,5 +23,5 @@ pub use longs::{long_at, set_long_at, size_of};
 pub use numbers::{number_at, number_in, overwrite, set_number_at, set_number_in};
 pub use quiet::quiet_search;
 pub use ram::Ram;
-pub use searching::search;
+pub use searching::{TABLE_BYTES, search};
 pub use transparency::transparent;

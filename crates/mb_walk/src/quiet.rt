@@ -1,6 +1,6 @@
 //! A search that changes no byte.
 
-ghost use Rattle.std.specs.Prelude.{◌≡◌, ◌*◌, ◌<◌, ◌%◌, IfSome};
+ghost use Rattle.std.specs.Prelude.{◌≡◌, ◌^◌, ◌*◌, ◌<◌, ◌%◌, IfSome};
 ghost use Rattle.mb_model.specs.Keeping.{NamesPages};
 ghost use Rattle.mb_model.specs.Pages.{page_of as page_number};
 ghost use Rattle.mb_walk.specs.Quiet.{used_table, used_page, used_behind, used_entry, found_used};
@@ -32,7 +32,7 @@ fn used_table<R: Ram>(ram: &R, place: u32) -> Option<u32>
 /// What is kept of a resident page, where its descriptor is marked as used.
 fn used_page(long: u32, space: Space, page: u32, protected: bool, big: bool) -> Option<Kept>
     ensures means { result ≡ used_page long space page protected big }
-    ensures names { IfSome result (λ k. (k.space ≡ space) × (k.page ≡ page) × (k.frame < 1048576)) }
+    ensures names { IfSome result (λ k. (k.space ≡ space) × (k.page ≡ page) × (k.frame < 2 ^ 20)) }
 {
     let d = PageDescriptor::of(long);
     if !d.resident || !d.used {
@@ -61,7 +61,7 @@ fn used_behind<R: Ram>(
 ) -> Option<Kept>
     requires { place % 4 ≡ 0 }
     ensures means { result ≡ used_behind (R.bytes ram.now) place space page protected big }
-    ensures names { IfSome result (λ k. (k.space ≡ space) × (k.page ≡ page) × (k.frame < 1048576)) }
+    ensures names { IfSome result (λ k. (k.space ≡ space) × (k.page ≡ page) × (k.frame < 2 ^ 20)) }
 {
     if is_inside(ram, place) {
         used_page(ram.long(place), space, page, protected, big)
@@ -82,7 +82,7 @@ fn used_entry<R: Ram>(
 ) -> Option<Kept>
     requires { place % 4 ≡ 0 }
     ensures means { result ≡ used_entry (R.bytes ram.now) place space page protected big }
-    ensures names { IfSome result (λ k. (k.space ≡ space) × (k.page ≡ page) × (k.frame < 1048576)) }
+    ensures names { IfSome result (λ k. (k.space ≡ space) × (k.page ≡ page) × (k.frame < 2 ^ 20)) }
 {
     if !is_inside(ram, place) {
         return None;

@@ -16,13 +16,13 @@ use mb_model::{Kept, page_of};
 use mb_port::Space;
 
 /// The bytes of a root or pointer table.
-pub(crate) const TABLE_BYTES: u32 = 512;
+pub const TABLE_BYTES: u32 = 512;
 
 /// The bytes of a page table.
-const PAGE_TABLE_BYTES: u32 = 256;
+pub const PAGE_TABLE_BYTES: u32 = 256;
 
 /// Its bytes where pages have 8 KiB.
-const BIG_PAGE_TABLE_BYTES: u32 = 128;
+pub const BIG_PAGE_TABLE_BYTES: u32 = 128;
 
 /// A search, but for the root.
 #[derive(Clone, Copy)]

@@ -3,6 +3,7 @@ use Rattle.std.specs.Prelude.{◌≡◌, ◌≤◌, ◌+◌, ◌-◌, ◌*◌, �
 use Rattle.std.specs.Prelude.{if◌then◌else◌}
 use Rattle.std.specs.Prelude.{List, [], ◌∷◌, length, Option, Some, None, option_and_then, option_map}
 use denote.Ref.{Bor}
+use Rattle.mb_script.specs.declared.sizes.TheConstants.{LEAST_RAM, MOST_GUESTS, MOST_RAM, SIZE_UNIT}
 use Rattle.mb_forms.specs.Forms.{Text, Use, value_in}
 use Rattle.mb_forms.specs.Said.{text_said}
 
@@ -62,10 +63,10 @@ word_address_of text = option_and_then (tested (λ at. at % 2 == 0)) (hex_of tex
 
 -- the RAM of a machine in KiB: 64 to 16,384, a multiple of 64
 abbrev pub ram_of : Text → Option ℕ
-ram_of text = option_and_then (tested (λ kib. kib % 64 == 0)) (ranged 64 16384 text)
+ram_of text = option_and_then (tested (λ kib. kib % SIZE_UNIT == 0)) (ranged LEAST_RAM MOST_RAM text)
 
 abbrev pub IsRam : ℕ → Type 0
-IsRam kib = (64 ≤ kib) × (kib ≤ 16384) × (kib % 64 ≡ 0)
+IsRam kib = (LEAST_RAM ≤ kib) × (kib ≤ MOST_RAM) × (kib % SIZE_UNIT ≡ 0)
 
 -- the seed of a session that is made: up to 2^32 - 1
 abbrev pub seed_of : Text → Option ℕ
@@ -73,10 +74,10 @@ seed_of text = ranged 0 4294967295 text
 
 -- how many guests it has: 1 to 16
 abbrev pub guests_of : Text → Option ℕ
-guests_of text = ranged 1 16 text
+guests_of text = ranged 1 MOST_GUESTS text
 
 abbrev pub IsGuestCount : ℕ → Type 0
-IsGuestCount guests = (1 ≤ guests) × (guests ≤ 16)
+IsGuestCount guests = (1 ≤ guests) × (guests ≤ MOST_GUESTS)
 
 -- what the value of a name says, where it has one
 abbrev pub said_by : {A : Type 0} → (Text → Option A) → Text → List Use → Option A

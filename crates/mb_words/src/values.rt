@@ -5,6 +5,8 @@ ghost use Rattle.mb_forms.specs.Said.{text_said};
 ghost use Rattle.mb_words.specs.Values.{IsGuestCount, IsRam, digit_of, file_said, guests_of, hex_of, if_given, name_of};
 ghost use Rattle.mb_words.specs.Values.{number_of, ram_of, ranged, word_address_of};
 
+use mb_script::{LEAST_RAM, MOST_GUESTS, MOST_RAM, SIZE_UNIT};
+
 /// A file's name, which is not empty.
 pub(crate) fn name(text: &str) -> Option<&str>
     ensures { option_map text_said result ≡ name_of text.entry.now }
@@ -99,8 +101,8 @@ pub(crate) fn ram(text: &str) -> Option<u32>
     ensures given { result ≡ ram_of text.now }
     ensures in_range { IfSome result IsRam }
 {
-    let kib = ranged(64, 16_384, text)?;
-    if kib % 64 != 0 {
+    let kib = ranged(LEAST_RAM, MOST_RAM, text)?;
+    if kib % SIZE_UNIT != 0 {
         return None;
     }
     Some(kib)
@@ -111,6 +113,6 @@ pub(crate) fn guests(text: &str) -> Option<u8>
     ensures given { result ≡ guests_of text.now }
     ensures in_range { IfSome result IsGuestCount }
 {
-    let count = ranged(1, 16, text)?;
+    let count = ranged(1, MOST_GUESTS as u32, text)?;
     Some(count as u8)
 }

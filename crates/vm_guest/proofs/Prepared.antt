@@ -14,11 +14,13 @@ use Rattle.mb_devices.specs.Devices.{DeviceState, idle}
 use Rattle.mb_machine.specs.Machine.{Contents, Entries, going, mmu_at_reset, reset_with, with_contents}
 use Rattle.vm_shadow.specs.Slots.{Slots}
 use Rattle.vm_shadow.specs.Shadows.{Shadowed, nothing}
-use Rattle.vm_shadow.specs.Mapped.{area_bytes, shadowed}
+use Rattle.vm_shadow.specs.Mapped.{shadowed}
+use Rattle.vm_shadow.specs.declared.area.TheConstants.{AREA_BYTES}
 use Rattle.vm_shadow.specs.Area.{Maps}
 use Rattle.vm_machine.specs.Guests.{Truthful}
 use Rattle.vm_machine.specs.Turns.{Tally, Turned, no_steps, prepared}
-use Rattle.vm_machine.specs.Seats.{Seat, monitor_bytes, on_board, own, turned_on, IsSeated}
+use Rattle.vm_machine.specs.Seats.{Seat, on_board, own, turned_on, IsSeated}
+use Rattle.vm_machine.specs.declared.limits.TheConstants.{MONITOR_BYTES}
 use Rattle.vm_port.proofs.Frames.{around}
 use Rattle.vm_port.proofs.Owns.{own_nothing, placed_nothing}
 use Rattle.vm_port.proofs.Truth.{nothing_is_truthful}
@@ -27,7 +29,7 @@ use Rattle.vm_guest.proofs.Loads.{loads_all, only_over, only_both, part_zeros, l
 
 -- the RAM of a guest, and all around it and its area, once zeros, its image and its empty tables are written
 pub record Laid (base size : ℕ) (contents : Contents) (ram after : List ℕ) : Type 0 where
-  pub within : OnlyBetween base (base + size + area_bytes) ram after
+  pub within : OnlyBetween base (base + size + AREA_BYTES) ram after
   pub ram_is : part after base size ≡ with_contents (zeros size) contents
 
 wider : (from to more : ℕ) (a b : List ℕ) → to ≤ more → OnlyBetween from to a b → OnlyBetween from more a b
@@ -43,7 +45,7 @@ wider from to more a b h w = record {
 pub cleared_count : (ram : List ℕ) (base size : ℕ) → base + size ≤ length ram → length (overwritten ram base (zeros size)) ≡ length ram
 cleared_count ram base size h = length-overwritten ram base (zeros size) (let count = length-zeros size in omega (arith, count))
 
-pub laid : (base size area : ℕ) (contents : Contents) (ram loaded after : List ℕ) → base + size + area_bytes ≤ length ram
+pub laid : (base size area : ℕ) (contents : Contents) (ram loaded after : List ℕ) → base + size + AREA_BYTES ≤ length ram
     → All (LiesBelow size) contents → area ≡ base + size → loaded ≡ with_contents (overwritten ram base (zeros size)) (contents_from base contents)
     → length after ≡ length loaded → take area after ≡ take area loaded → drop (area + 65536) after ≡ drop (area + 65536) loaded
     → Laid base size contents ram after
@@ -56,7 +58,7 @@ laid base size area contents ram loaded after room lie e is count below above =
     let full = with_contents cleared (contents_from base contents) in
     let both = only_both base (base + size) ram cleared full zero loads.0 in
     let beside = around full after base size area e (below ∙ ap (take area) is) (above ∙ ap (drop (area + 65536)) is) in
-    let far = wider base (base + size) (base + size + area_bytes) ram full (omega arith) both in
+    let far = wider base (base + size) (base + size + AREA_BYTES) ram full (omega arith) both in
     record {
       within = record {
         count = count ∙ ap (λ (m : List ℕ). length m) is ∙ far.count;
@@ -136,7 +138,7 @@ goes cpu devices isp pc size reset still =
 -- with empty tables it is seated
 pub seated : (base size : ℕ) (after : List ℕ) (cpu : Cpu) (devices : DeviceState) (kept : List Kept) (slots : Slots) (script : Entries)
     (tally : Tally)
-    → monitor_bytes ≤ base → base % 65536 ≡ 0 → size % 65536 ≡ 0 → base + size + area_bytes ≤ length after → slots.area ≡ base + size
+    → MONITOR_BYTES ≤ base → base % 65536 ≡ 0 → size % 65536 ≡ 0 → base + size + AREA_BYTES ≤ length after → slots.area ≡ base + size
     → Maps slots after → shadowed slots after ≡ nothing → IsSeated (new_seat cpu devices kept slots script tally base size) after
 seated base size after cpu devices kept slots script tally behind aligned whole inside area maps none = record {
   aligned = aligned;

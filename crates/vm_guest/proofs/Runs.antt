@@ -16,7 +16,8 @@ use Rattle.vm_meaning.specs.Batches.{NothingArrives}
 use Rattle.vm_meaning.specs.Native.{NativeState, Ran, user_run}
 use Rattle.vm_machine.specs.declared.class.Class.TheVariants.{Retired}
 use Rattle.vm_machine.specs.Turns.{guest_begun, step_class_at_first, refills_of_step}
-use Rattle.vm_machine.specs.Seats.{Seat, guested_on, turned_on, monitor_bytes, IsSeated, Takes}
+use Rattle.vm_machine.specs.Seats.{Seat, guested_on, turned_on, IsSeated, Takes}
+use Rattle.vm_machine.specs.declared.limits.TheConstants.{MONITOR_BYTES}
 use Rattle.vm_step.specs.Batch.{AllRetired, IsStretch, stepped_by}
 use Rattle.vm_step.specs.Retire.{Boarded}
 use Rattle.vm_step.specs.Exit.{Furnished}
@@ -43,7 +44,7 @@ pub reset_is_set : (g : Seat) (ram : List ℕ) (size : ℕ) → IsSetFor (site_o
 reset_is_set g ram size = flushed_is_set (site_of g) ram (idle size) (idle_on size)
 
 -- the monitor's processor
-is_native : (g : Seat) → monitor_bytes ≤ g.base → IsNativeCpu (site_of g) native_cpu
+is_native : (g : Seat) → MONITOR_BYTES ≤ g.base → IsNativeCpu (site_of g) native_cpu
 is_native g behind = record { status = refl; awake = refl; vectors = refl; stack = omega arith; below = behind }
 
 -- What is known of a guest whose step has begun, and which the board is to carry out for so many steps behind that one.
@@ -178,7 +179,7 @@ module _ (g : Seat) (board : BoardState) (native : NativeState) (n : ℕ) (may :
       let after = user_run (suc n) (start_on g board native) in
       subst (λ (x : Ran). IsLeft g board.world.ram native (suc n) x) (sym is)
       (exits_take g native_cpu board.world board.steps Running native board.before (suc n) v may.seated may.bytes may.small may.running may.seven
-      (is_native g may.seated.behind) (let z : monitor_bytes ≤ monitor_bytes = omega arith in z) may.set stretch
+      (is_native g may.seated.behind) (let z : MONITOR_BYTES ≤ MONITOR_BYTES = omega arith in z) may.set stretch
       (sym (ap (λ (x : Ran). x.end) is) ∙ left)
       (subst (λ (x : Ran). length x.machine.cpu.regs.a ≡ 7) is wide))
 

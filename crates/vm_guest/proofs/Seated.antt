@@ -2,7 +2,8 @@
 use Rattle.std.proofs.Common.{◌≡◌, ◌∙◌, ℕ, ◌+◌, ◌-◌, ◌≤◌, List, take, drop, sym, ap, arith}
 use Rattle.std.proofs.lemmas.List.{drop-take}
 use Rattle.mb_devices.specs.Devices.{DeviceState}
-use Rattle.vm_machine.specs.Seats.{Seat, end_of, monitor_bytes, IsSeated, OnlyWithin}
+use Rattle.vm_machine.specs.Seats.{Seat, end_of, IsSeated, OnlyWithin}
+use Rattle.vm_machine.specs.declared.limits.TheConstants.{MONITOR_BYTES}
 use Rattle.vm_guest.specs.Memory.{OnlyBetween}
 
 -- other devices, and other steps, are nothing to it
@@ -20,16 +21,16 @@ begun_seated g ram devices steps s = record {
 }
 
 -- what changes its RAM and area alone leaves all that is behind the monitor's bytes
-pub only_within : (g : Seat) (before after : List ℕ) → monitor_bytes ≤ g.base → OnlyBetween g.base (end_of g) before after
+pub only_within : (g : Seat) (before after : List ℕ) → MONITOR_BYTES ≤ g.base → OnlyBetween g.base (end_of g) before after
     → OnlyWithin g before after
 only_within g before after behind w = record {
   count = w.count;
   below =
-      let e : monitor_bytes + (g.base - monitor_bytes) ≡ g.base = omega arith in
-      sym (drop-take monitor_bytes (g.base - monitor_bytes) after)
-      ∙ ap (λ (n : ℕ). drop monitor_bytes (take n after)) e
-      ∙ ap (drop monitor_bytes) w.below
-      ∙ ap (λ (n : ℕ). drop monitor_bytes (take n before)) (sym e)
-      ∙ drop-take monitor_bytes (g.base - monitor_bytes) before;
+      let e : MONITOR_BYTES + (g.base - MONITOR_BYTES) ≡ g.base = omega arith in
+      sym (drop-take MONITOR_BYTES (g.base - MONITOR_BYTES) after)
+      ∙ ap (λ (n : ℕ). drop MONITOR_BYTES (take n after)) e
+      ∙ ap (drop MONITOR_BYTES) w.below
+      ∙ ap (λ (n : ℕ). drop MONITOR_BYTES (take n before)) (sym e)
+      ∙ drop-take MONITOR_BYTES (g.base - MONITOR_BYTES) before;
   above = w.above;
 }

@@ -27,7 +27,8 @@ use Rattle.vm_machine.specs.declared.class.Class.{Class}
 use Rattle.vm_machine.specs.declared.class.Class.TheVariants as class
 use Rattle.vm_machine.specs.Guests.{Guest}
 use Rattle.vm_machine.specs.Bus.{guest_bus}
-use Rattle.vm_machine.specs.Refills.{refilled_at, begun_again, going_on, refilled_by, most_refills}
+use Rattle.vm_machine.specs.Refills.{refilled_at, begun_again, going_on, refilled_by}
+use Rattle.vm_machine.specs.declared.limits.TheConstants.{MOST_REFILLS}
 use Rattle.vm_machine.specs.Classes.{class_at_first}
 use Rattle.vm_machine.specs.Exits.{is_refusal, class_of_vector, frame_access, handed_by, rest_by_frame}
 use Rattle.vm_machine.specs.Turns.{Guested, Tally, Turned, world_of, guest_begun, guest_later, step_class_at_first, refills_of_step}
@@ -342,7 +343,7 @@ module _ (g s : Seat) (ram : List ℕ) (board : BoardState) (native counts : Nat
             (midway_takes g ram native k n mid board.world.ram counts m last seat next later one)
 
         -- it has begun again as often as it may
-        full_takes : n ≡ most_refills → (h : Guest)
+        full_takes : n ≡ MOST_REFILLS → (h : Guest)
             → refilled_at (world_of (guested_on s after.world.ram)) (read_by_frame (space_of s.cpu) f) ≡ Some h
             → Takes (k + 1) (scene g ram native) (scene seat next later)
         full_takes full h some =
@@ -395,7 +396,7 @@ module _ (g s : Seat) (ram : List ℕ) (board : BoardState) (native counts : Nat
 -- ---- a read is filled and put
 
 pub refilled_midway : (g s y : Seat) (ram : List ℕ) (native : NativeState) (k n : ℕ) (b : BoardState) (counts : NativeState) (v : ℕ) (f : Frame)
-    (next : List ℕ) → IsStopped g ram native k n s b counts v → suc n ≤ most_refills → IsFrameOf b f
+    (next : List ℕ) → IsStopped g ram native k n s b counts v → suc n ≤ MOST_REFILLS → IsFrameOf b f
     → Fine s.size (world_of (guested_on s b.world.ram))
     → refilled_at (world_of (guested_on s b.world.ram)) (read_by_frame (space_of s.cpu) f) ≡ Some (world_of (guested_on (filled s y) next))
     → IsSeated (filled s y) next → OnlyBetween s.base (end_of s) b.world.ram next
@@ -423,7 +424,7 @@ refilled_midway g s y ram native k n b counts v f next stopped few reads fine so
     )
 
 pub refilled_begins : (g s x : Seat) (ram : List ℕ) (native : NativeState) (k n : ℕ) (b : BoardState) (counts : NativeState) (v : ℕ) (f : Frame)
-    (next : List ℕ) → IsStopped g ram native k n s b counts v → suc n ≤ most_refills → IsFrameOf b f
+    (next : List ℕ) → IsStopped g ram native k n s b counts v → suc n ≤ MOST_REFILLS → IsFrameOf b f
     → Fine s.size (world_of (guested_on s b.world.ram))
     → refilled_at (world_of (guested_on s b.world.ram)) (read_by_frame (space_of s.cpu) f) ≡ Some (world_of (guested_on x next))
     → x ≡ filled s x → IsSeated x next → OnlyBetween s.base (end_of s) b.world.ram next
@@ -466,7 +467,7 @@ refilled_ready g s y ram native k n b counts v f later stopped reads fine some s
 
 -- the turn in which it begins again then
 abbrev pub again_of : (g s x : Seat) (ram : List ℕ) (native : NativeState) (k n : ℕ) (b : BoardState) (counts : NativeState) (v : ℕ) (f : Frame)
-    (later : BoardState) → IsStopped g ram native k n s b counts v → suc n ≤ most_refills → IsFrameOf b f
+    (later : BoardState) → IsStopped g ram native k n s b counts v → suc n ≤ MOST_REFILLS → IsFrameOf b f
     → Fine s.size (world_of (guested_on s b.world.ram))
     → refilled_at (world_of (guested_on s b.world.ram)) (read_by_frame (space_of s.cpu) f) ≡ Some (world_of (guested_on x later.world.ram))
     → x ≡ filled s x → IsSeated x later.world.ram → OnlyBetween s.base (end_of s) b.world.ram later.world.ram → but_ram later ≡ but_ram b

@@ -16,12 +16,14 @@ use Rattle.vm_mirror.specs.Ready.{native_mmu}
 use Rattle.vm_machine.specs.Bus.{guest_bus}
 use Rattle.vm_machine.specs.Exits.{frame_access, handed_by, rest_by_frame}
 use Rattle.vm_machine.specs.Turns.{Guested, world_of}
-use Rattle.vm_machine.specs.Seats.{Seat, monitor_bytes, guested_on}
+use Rattle.vm_machine.specs.Seats.{Seat, guested_on}
+use Rattle.vm_machine.specs.declared.limits.TheConstants.{MONITOR_BYTES}
 use Rattle.vm_step.specs.Lawful.{LeavesLawful}
 use Rattle.vm_step.specs.Turn.{flushed, ready_for}
 use Rattle.vm_step.specs.Taking.{site_of}
 use Rattle.vm_guest.specs.Counting.{with_retired}
 use Rattle.vm_guest.specs.Turns.{ended_at}
+use Rattle.mb_frames.specs.declared.places.TheConstants.{LONGEST}
 
 -- the processor with which it does: user mode with all interrupts masked and no trace, vectors at 0, the stack for its
 -- frames at the top of the monitor's bytes
@@ -31,7 +33,7 @@ native_cpu = record {
     d = replicate 8 0;
     a = replicate 7 0;
     usp = 0;
-    isp = monitor_bytes;
+    isp = MONITOR_BYTES;
     msp = 0;
     pc = 0;
     sr = 0x0700;
@@ -92,11 +94,11 @@ gone_on g more retired plain = record g {
 
 -- the frame that the board stacked
 abbrev pub IsFrameOf : BoardState → Frame → Type 0
-IsFrameOf b f = let at = b.cpu.regs.isp in frame_in (slice_range b.world.ram at (at + 60)) ≡ Some f
+IsFrameOf b f = let at = b.cpu.regs.isp in frame_in (slice_range b.world.ram at (at + LONGEST)) ≡ Some f
 
 -- It has stacked one, in memory, which leaves what buses may be asked for.
 pub record HasFrame (b : BoardState) : Type 0 where
-  pub room : b.cpu.regs.isp + 60 ≤ length b.world.ram
+  pub room : b.cpu.regs.isp + LONGEST ≤ length b.world.ram
   pub frame : Frame
   pub stands : IsFrameOf b frame
   pub lawful : LeavesLawful (frame_access frame)

@@ -2,6 +2,8 @@
 use Rattle.std.specs.Prelude.{◌≡◌, ℕ, ◌%◌, ◌≤◌, List, length, All}
 use Rattle.mb_srec.specs.Image.{LiesBelow}
 use Rattle.mb_machine.specs.Machine.{Contents, Entries}
+use Rattle.mb_board.specs.declared.bus.TheConstants.{MOST_BOARD_BYTES}
+use Rattle.mb_script.specs.declared.sizes.TheConstants.{MOST_GUESTS}
 
 -- what a guest begins with: its image, what is to arrive at its terminal, the bytes of its RAM, and how many steps it
 -- takes at most
@@ -25,7 +27,7 @@ IsRamBytes bytes = (65536 ≤ bytes) × (bytes ≤ 16777216) × (bytes % 65536 �
 
 -- 128 to 65,536 KiB, a multiple of 64
 abbrev pub IsBoardBytes : ℕ → Type 0
-IsBoardBytes bytes = (131072 ≤ bytes) × (bytes ≤ 67108864) × (bytes % 65536 ≡ 0)
+IsBoardBytes bytes = (131072 ≤ bytes) × (bytes ≤ MOST_BOARD_BYTES) × (bytes % 65536 ≡ 0)
 
 -- its image lies in its RAM
 pub record IsGuest (guest : GuestAtStart) : Type 0 where
@@ -37,5 +39,5 @@ pub record IsSession (session : SessionAtStart) : Type 0 where
   pub board : IsBoardBytes session.board
   pub slice : 1 ≤ session.slice
   pub some : 1 ≤ length session.guests
-  pub few : length session.guests ≤ 16
+  pub few : length session.guests ≤ MOST_GUESTS
   pub guests : All IsGuest session.guests

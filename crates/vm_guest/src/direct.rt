@@ -27,17 +27,11 @@ use crate::readying::{make_ready, set_registers};
 use crate::rest::Rest;
 use mb_board::{Board, Native, RunEnd};
 use mb_devices::Devices;
-use mb_frames::{Frame, from_bytes};
+use mb_frames::{Frame, LONGEST, from_bytes};
 use mb_instr::{Plain, Regs};
 use mb_script::Script;
 use mb_walk::Ram;
-use vm_machine::Class;
-
-/// The bytes of the longest frame.
-const FRAME: u32 = 60;
-
-/// How often a step is begun again at most.
-const MOST_REFILLS: u32 = 31;
+use vm_machine::{Class, MOST_REFILLS};
 
 /// The frame that the board stacked when it left a step.
 fn frame_on(board: &Board) -> Frame
@@ -45,7 +39,7 @@ fn frame_on(board: &Board) -> Frame
     ensures { IsFrameOf board.now result }
 {
     let isp = board.cpu().regs.isp;
-    let Some(frame) = from_bytes(board.memory(isp, FRAME)) else {
+    let Some(frame) = from_bytes(board.memory(isp, LONGEST as u32)) else {
         unreachable!()
     };
     frame

@@ -5,9 +5,10 @@ ghost use Rattle.mb_srec.specs.Image.{contents_of, LiesBelow};
 ghost use Rattle.mb_model.specs.Seen.{seen_of};
 ghost use Rattle.mb_machine.specs.Machine.{seen_machine};
 ghost use Rattle.mb_board.specs.Beside.{but_ram};
-ghost use Rattle.vm_shadow.specs.Mapped.{area_bytes};
+ghost use Rattle.vm_shadow.specs.declared.area.TheConstants.{AREA_BYTES};
 ghost use Rattle.vm_machine.specs.Turns.{prepared};
-ghost use Rattle.vm_machine.specs.Seats.{machine_on, monitor_bytes, turned_on, IsSeated};
+ghost use Rattle.vm_machine.specs.Seats.{machine_on, turned_on, IsSeated};
+ghost use Rattle.vm_machine.specs.declared.limits.TheConstants.{MONITOR_BYTES};
 ghost use Rattle.vm_guest.specs.Memory.{OnlyBetween};
 ghost use Rattle.vm_guest.specs.Counting.{tally_in};
 ghost use Rattle.vm_guest.specs.Turns.{IsGoing};
@@ -16,6 +17,7 @@ use crate::counts::Counts;
 use crate::loading::{clear, load};
 use mb_board::{Board, place_behind};
 use mb_devices::Devices;
+use mb_machine::MMU_AT_RESET;
 use mb_model::{Cpu, Outcome, RunState};
 use mb_outside::Memory;
 use mb_port::Mmu;
@@ -27,18 +29,6 @@ use std::alloc::Global;
 use std::marker::Model;
 use vm_shadow::Shadow;
 use vm_tlb::Tlb;
-
-/// Every register is 0.
-const MMU_AT_RESET: Mmu = Mmu {
-    tc: 0,
-    itt0: 0,
-    itt1: 0,
-    dtt0: 0,
-    dtt1: 0,
-    mmusr: 0,
-    urp: 0,
-    srp: 0,
-};
 
 /// A guest, but for its RAM and its tables, which stand on a board.
 #[derive(Drop)]
@@ -101,17 +91,17 @@ impl Guest {
         base: u32,
         board: &mut Board,
     ) -> Result<Guest, Memory>
-        requires ram { (65536 ≤ ram) × (ram % 65536 ≡ 0) }
+        requires ram { (65536 ≤ ram) × (ram % AREA_BYTES ≡ 0) }
         requires image { All (LiesBelow ram) (contents_of image) }
-        requires base { (monitor_bytes ≤ base) × (base % 65536 ≡ 0) }
-        requires inside { base + ram + area_bytes ≤ length board.old.world.ram }
+        requires base { (MONITOR_BYTES ≤ base) × (base % AREA_BYTES ≡ 0) }
+        requires inside { base + ram + AREA_BYTES ≤ length board.old.world.ram }
         ensures start { IfOk result (λ guest.
             turned_on guest board.new.world.ram [] ≡ prepared (contents_of image) ram) }
         ensures script { IfOk result (λ guest. guest.script ≡ script) }
         ensures place { IfOk result (λ guest. (guest.base ≡ base) × (guest.size ≡ ram)) }
         ensures seated { IfOk result (λ guest. IsSeated guest board.new.world.ram) }
         ensures going { IfOk result IsGoing }
-        ensures within { OnlyBetween base (base + ram + area_bytes) board.old.world.ram board.new.world.ram }
+        ensures within { OnlyBetween base (base + ram + AREA_BYTES) board.old.world.ram board.new.world.ram }
         ensures others { but_ram board.new ≡ but_ram board.old }
         ensures refused { IfErr result (λ memory. board.new ≡ board.old) }
     {

@@ -11,9 +11,7 @@ use mb_board::Board;
 use mb_instr::{Plain, Regs};
 use mb_model::Cpu;
 use mb_port::{MmuReg, Port};
-
-/// The top of the stack for the board's frames: the monitor's bytes are below it.
-const STACK: u32 = 0x1_0000;
+use vm_machine::MONITOR_BYTES;
 
 /// The processor with which the board carries out a guest: user mode with all interrupts masked and no trace, vectors
 /// at 0, and these registers.
@@ -24,7 +22,8 @@ fn native_cpu(plain: &Plain) -> Cpu
         d: [0; 8],
         a: [0; 7],
         usp: 0,
-        isp: STACK,
+        // the board's frames are stacked in the monitor's bytes
+        isp: MONITOR_BYTES,
         msp: 0,
         pc: 0,
         sr: 0x0700,

@@ -21,7 +21,8 @@ use Rattle.mb_ea.specs.declared.reading.ReadFault.{ReadFault}
 use Rattle.mb_writes.specs.declared.ends.Ended.{Ended as End}
 use Rattle.mb_writes.specs.declared.ends.Ended.TheVariants as ended
 use Rattle.mb_meaning.specs.Ends.{Performed}
-use Rattle.mb_meaning.specs.Attempt.{Unfound, NoInstruction, Unfetched, Found, judged, found_of, most_words, fetched_of}
+use Rattle.mb_meaning.specs.Attempt.{Unfound, NoInstruction, Unfetched, Found, judged, found_of, fetched_of}
+use Rattle.mb_instr.specs.declared.counts.TheConstants.{MOST_WORDS}
 use Rattle.mb_meaning.specs.Rows.{perform_of, row_of}
 use Rattle.mb_twins.specs.Twins.{SameEnd, SamePerformed, MayRefuse}
 use Rattle.mb_twins.proofs.Step.{SameFound, SameUnfound, fetched_twins, perform_twins}
@@ -165,7 +166,7 @@ module _ (space : Space) (size : ℕ) (g : Guest) (s : Sound size g) where
 
   pub fetched_still : (pc : ℕ) → pc < 2 ^ 32 → Still (fetched_of space pc)
   unfolding fetched_of
-  fetched_still pc lt = chosen_still (pc % 2 == 1) _ _ (λ odd. refl) (λ even. found_still most_words pc [] (is_even pc even) lt)
+  fetched_still pc lt = chosen_still (pc % 2 == 1) _ _ (λ odd. refl) (λ even. found_still MOST_WORDS pc [] (is_even pc even) lt)
 
 -- ---- the laws
 

@@ -6,7 +6,8 @@ use Rattle.mb_frames.specs.declared.pend.Pend.{Pend}
 use Rattle.mb_frames.specs.AccessFields.{read_fields, write_fields, line_fields, access_fields}
 use Rattle.mb_model.specs.declared.processor.Cpu.{Cpu}
 use Rattle.mb_model.specs.Keeping.{rule_a}
-use Rattle.mb_model.specs.Pages.{page_size, page_size_by, has_big_pages}
+use Rattle.mb_model.specs.Pages.{page_size_by, has_big_pages}
+use Rattle.mb_model.specs.declared.pages.TheConstants.{PAGE_SIZE}
 use Rattle.mb_walk.proofs.MemoryLemmas.{length-overwritten}
 use Rattle.mb_walk.proofs.Parts.{drop-over}
 use Rattle.mb_writes.specs.declared.ends.WriteFault.{WriteFault}
@@ -24,7 +25,7 @@ use Rattle.mb_machine.specs.Bus.{bus_of}
 use Rattle.mb_machine.specs.Enters.{IsOpen, HasRoom}
 use Rattle.mb_machine.proofs.Bytes.{bytes-overwritten}
 use Rattle.mb_machine.proofs.Enters.{enters_stacked, frames_are_bytes}
-use Rattle.vm_shadow.specs.Mapped.{area_bytes}
+use Rattle.vm_shadow.specs.declared.area.TheConstants.{AREA_BYTES}
 use Rattle.vm_mirror.specs.Laws.{board_bus}
 use Rattle.vm_mirror.proofs.Ready.{stays_ready}
 use Rattle.vm_leave.specs.Exits.{writing_exit, left, BoardLeaves, FramesLeaveReady}
@@ -37,15 +38,15 @@ module _ (b : World) (small : has_big_pages b.mmu ≡ false) (o : IsOpen b.mmu) 
       ap (λ (q : Entrance × World). (let s : Stepped × World = ((ends_step q.0.0, q.0.1), q.1) in s))
       (enters_stacked rule_a b (access_cause pc access) cpu o room)
 
-  by_page : page_size_by b.mmu ≡ page_size
+  by_page : page_size_by b.mmu ≡ PAGE_SIZE
   by_page = rw small refl
 
-  sized_entered : (pc : ℕ) (access : ℕ → Access) (cpu : Cpu) → HasRoom b (access_cause pc (access page_size)) cpu
+  sized_entered : (pc : ℕ) (access : ℕ → Access) (cpu : Cpu) → HasRoom b (access_cause pc (access PAGE_SIZE)) cpu
       → run board_bus (by_page_size (λ page. access_error_of pc (access page) cpu)) b
-      ≡ left (record { cause = access_cause pc (access page_size); cpu = cpu }) b
+      ≡ left (record { cause = access_cause pc (access PAGE_SIZE); cpu = cpu }) b
   unfolding bus_of
   sized_entered pc access cpu room =
-      ap (λ (page : ℕ). run board_bus (access_error_of pc (access page) cpu) b) by_page ∙ access_entered pc (access page_size) cpu room
+      ap (λ (page : ℕ). run board_bus (access_error_of pc (access page) cpu) b) by_page ∙ access_entered pc (access PAGE_SIZE) cpu room
 
   raise_entered : (is_trace : Bool) (c : Cause) (kept cpu : Cpu) → HasRoom b c cpu
       → let e = left (record { cause = c; cpu = cpu }) b in run board_bus (raise_of is_trace c kept cpu) b ≡ (Ok (e.0.1), e.1)
@@ -102,7 +103,7 @@ frames_leave_ready x b g e r room below =
     let f = (frames_of e.cause e.cpu.regs).first in
     let w = (left e b).1 in
     let under : x.base + x.size ≤ x.slots.area = r.under in
-    let inside : x.slots.area + area_bytes ≤ length b.ram = r.maps.inside in
+    let inside : x.slots.area + AREA_BYTES ≤ length b.ram = r.maps.inside in
     stays_ready x b w g r (bytes-overwritten b.ram f.at f.bytes r.bytes (frames_are_bytes e.cause e.cpu)) (length-overwritten b.ram f.at f.bytes room.fits)
     (ap (λ (m : List ℕ). take x.size m) (drop-over b.ram f.bytes x.base f.at below (omega arith)))
-    (ap (λ (m : List ℕ). take area_bytes m) (drop-over b.ram f.bytes x.slots.area f.at (omega arith) (omega arith))) refl refl
+    (ap (λ (m : List ℕ). take AREA_BYTES m) (drop-over b.ram f.bytes x.slots.area f.at (omega arith) (omega arith))) refl refl

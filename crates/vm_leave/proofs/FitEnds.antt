@@ -50,7 +50,8 @@ use Rattle.mb_writes.specs.Transfers.{movem_in}
 use Rattle.mb_meaning.specs.Moves.{movem_by}
 use Rattle.mb_processor.specs.Step.{long_of, movem_words}
 use Rattle.mb_meaning.specs.Rows.{perform_move_of, perform_arith_of, perform_flow_of, row_of, perform_of}
-use Rattle.mb_meaning.specs.Attempt.{Unfound, NoInstruction, Unfetched, found_none, Found, judged, found_of, fetched_of, past, most_words, attempt_of}
+use Rattle.mb_meaning.specs.Attempt.{Unfound, NoInstruction, Unfetched, found_none, Found, judged, found_of, fetched_of, past, attempt_of}
+use Rattle.mb_instr.specs.declared.counts.TheConstants.{MOST_WORDS}
 use Rattle.mb_attempts.specs.Attempts.{NoOther}
 use Rattle.mb_tells.specs.Laws.{AreLongs, HasLongs, is_movem}
 use Rattle.mb_tells.proofs.Ranges.{formed, formed_behind_word, formed_behind_immediate}
@@ -287,7 +288,7 @@ found_fits space (suc n) at words h =
 
 fetched_fits : (space : Space) (pc : ℕ) → IsLong pc → Answers any UnfoundFits (fetched_of space pc)
 unfolding fetched_of UnfoundFits
-fetched_fits space pc h = answers_choose (pc % 2 == 1) (answers_err _ tt) (found_fits space most_words pc [] h)
+fetched_fits space pc h = answers_choose (pc % 2 == 1) (answers_err _ tt) (found_fits space MOST_WORDS pc [] h)
 
 -- ---- an attempt
 

@@ -5,7 +5,8 @@ use Rattle.mb_instr.specs.declared.instruction.Instr.{Instr}
 use Rattle.mb_frames.specs.declared.pend.Pend.{Pend}
 use Rattle.mb_frames.specs.AccessFields.{read_fields, write_fields, line_fields, access_fields}
 use Rattle.mb_model.specs.declared.processor.Cpu.{Cpu}
-use Rattle.mb_model.specs.Pages.{page_size, has_big_pages}
+use Rattle.mb_model.specs.Pages.{has_big_pages}
+use Rattle.mb_model.specs.declared.pages.TheConstants.{PAGE_SIZE}
 use Rattle.mb_writes.specs.declared.ends.WriteFault.{WriteFault}
 use Rattle.mb_writes.specs.declared.ends.Ended.{Ended}
 use Rattle.mb_writes.specs.declared.ends.Ended.TheVariants as ended
@@ -32,12 +33,12 @@ pub record Exit : Type 0 where
 -- of a refused write: from the registers before the instruction where no piece is left
 abbrev pub writing_exit : Bool → WriteFault → List Pend → (before after : Cpu) → Exit
 writing_exit due refused [] before after = record {
-  cause = access_cause before.regs.pc (write_fields refused.fault refused.first [] page_size);
+  cause = access_cause before.regs.pc (write_fields refused.fault refused.first [] PAGE_SIZE);
   cpu = before;
 }
 writing_exit due refused (piece ∷ pieces) before after = record {
   cause = access_cause after.regs.pc
-      (with_ct due (write_fields refused.fault refused.first refused.rest.items page_size));
+      (with_ct due (write_fields refused.fault refused.first refused.rest.items PAGE_SIZE));
   cpu = after;
 }
 
@@ -49,18 +50,18 @@ exit_of i (ended.Trap vector) before after =
 exit_of i (ended.Refused vector) before after =
     let at = before.regs.pc in record { cause = cause_at vector at (at - at % 2); cpu = before }
 exit_of i (ended.ReadFault refused) before after = record {
-  cause = access_cause before.regs.pc (read_fields refused.fault refused.first page_size);
+  cause = access_cause before.regs.pc (read_fields refused.fault refused.first PAGE_SIZE);
   cpu = before;
 }
 exit_of i (ended.WriteFault refused) before after =
     writing_exit (is_due before.regs.sr (is_flow i)) refused refused.rest.items before after
 exit_of i (ended.LineFault fault line) before after = record {
-  cause = access_cause after.regs.pc (with_ct (traces_all before.regs.sr) (line_fields fault line page_size));
+  cause = access_cause after.regs.pc (with_ct (traces_all before.regs.sr) (line_fields fault line PAGE_SIZE));
   cpu = after;
 }
 exit_of i (ended.Movem refused) before after =
     let words = movem_words i in
-    let fields = access_fields (refused_transfer refused words after.regs.pc) page_size in
+    let fields = access_fields (refused_transfer refused words after.regs.pc) PAGE_SIZE in
     record {
       cause = access_cause before.regs.pc
           (with_ct (traces_all before.regs.sr && not (movem_in words).is_load) fields);

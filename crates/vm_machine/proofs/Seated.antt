@@ -5,12 +5,14 @@ use Rattle.mb_instr.specs.declared.registers.Plain.{Plain}
 use Rattle.mb_machine.specs.Machine.{Machine, Entries}
 use Rattle.mb_walk.specs.Memory.{part}
 use Rattle.vm_shadow.specs.Shadows.{Shadowed}
-use Rattle.vm_shadow.specs.Mapped.{area_bytes, shadowed}
+use Rattle.vm_shadow.specs.Mapped.{shadowed}
+use Rattle.vm_shadow.specs.declared.area.TheConstants.{AREA_BYTES}
 use Rattle.vm_shadow.proofs.Alone.{tables_are_of_the_area}
 use Rattle.vm_meaning.specs.Marks.{trail}
 use Rattle.vm_machine.specs.Guests.{Truthful}
 use Rattle.vm_machine.specs.Turns.{Turned, world_of, turn_of}
-use Rattle.vm_machine.specs.Seats.{on_board, own, Seat, end_of, monitor_bytes, machine_on, turned_on, IsSeated, OnlyWithin}
+use Rattle.vm_machine.specs.Seats.{on_board, own, Seat, end_of, machine_on, turned_on, IsSeated, OnlyWithin}
+use Rattle.vm_machine.specs.declared.limits.TheConstants.{MONITOR_BYTES}
 use Rattle.vm_machine.specs.Stages.{LieApart}
 use Rattle.vm_machine.specs.Laws.{NothingIsTaken, TakesAdd}
 use Rattle.vm_machine.proofs.TurnLaws.{nothing_turned, turns_add, turn_front, with_front}
@@ -42,11 +44,11 @@ stays_above x y b at k e h = sym (above_at y b at k h) ∙ ap (λ (p : List ℕ)
 -- ---- a guest that another's turn leaves alone
 
 -- any part of its RAM and area
-left_alone : (g h : Seat) (x y : List ℕ) → OnlyWithin g x y → LieApart g h → monitor_bytes ≤ g.base → monitor_bytes ≤ h.base
+left_alone : (g h : Seat) (x y : List ℕ) → OnlyWithin g x y → LieApart g h → MONITOR_BYTES ≤ g.base → MONITOR_BYTES ≤ h.base
     → (at k : ℕ) → h.base ≤ at → at + k ≤ end_of h → part y at k ≡ part x at k
 left_alone g h x y w (inl above) r s at k l m = stays_above x y (end_of g) at k w.above (omega arith)
 left_alone g h x y w (inr below) r s at k l m =
-    stays_inside x y monitor_bytes (g.base - monitor_bytes) at k w.below (omega arith) (omega arith)
+    stays_inside x y MONITOR_BYTES (g.base - MONITOR_BYTES) at k w.below (omega arith) (omega arith)
 
 pub record Alone (h : Seat) (x y : List ℕ) : Type 0 where
   pub machine : machine_on h y ≡ machine_on h x
@@ -67,10 +69,10 @@ turned_alone h x y marks m t =
       marks = marks;
     }) t
 
-pub alone : (g h : Seat) (x y : List ℕ) → OnlyWithin g x y → LieApart g h → monitor_bytes ≤ g.base → IsSeated h x → Alone h x y
+pub alone : (g h : Seat) (x y : List ℕ) → OnlyWithin g x y → LieApart g h → MONITOR_BYTES ≤ g.base → IsSeated h x → Alone h x y
 alone g h x y w apart behind s =
     let ram = left_alone g h x y w apart behind s.behind h.base h.size (omega arith) (omega arith) in
-    let bytes = left_alone g h x y w apart behind s.behind h.slots.area area_bytes
+    let bytes = left_alone g h x y w apart behind s.behind h.slots.area AREA_BYTES
     (let e = s.area in omega arith) (let e = s.area in omega arith) in
     let maps = tables_are_of_the_area h.slots x y s.maps (let e = s.area in let r = s.inside in let c = w.count in omega arith) bytes in
     let machine : machine_on h y ≡ machine_on h x = ap (λ (m : List ℕ). record {
@@ -120,7 +122,7 @@ takes_add n m s t u a b =
       seated = b.seated;
       within = record {
         count = b.within.count ∙ a.within.count;
-        below = subst (λ (k : ℕ). part u.ram monitor_bytes (k - monitor_bytes) ≡ part t.ram monitor_bytes (k - monitor_bytes)) base b.within.below
+        below = subst (λ (k : ℕ). part u.ram MONITOR_BYTES (k - MONITOR_BYTES) ≡ part t.ram MONITOR_BYTES (k - MONITOR_BYTES)) base b.within.below
             ∙ a.within.below;
         above = subst (λ (k : ℕ). drop k u.ram ≡ drop k t.ram) end b.within.above ∙ a.within.above;
       };

@@ -8,7 +8,8 @@ use Rattle.mb_port.specs.declared.types.Flush.{Flush}
 use Rattle.mb_port.specs.declared.types.Flush.TheVariants.{All, Page}
 use Rattle.mb_model.specs.declared.kept.Kept.{Kept}
 use Rattle.mb_model.specs.Keeping.{KeptLists, rule_k, covers, displaced, flushed, list_of}
-use Rattle.mb_model.specs.Pages.{page_size, page_of, has_big_pages, other_half}
+use Rattle.mb_model.specs.Pages.{page_of, has_big_pages, other_half}
+use Rattle.mb_model.specs.declared.pages.TheConstants.{PAGE_SIZE}
 use Rattle.mb_walk.specs.declared.found.Found.{Found}
 use Rattle.mb_walk.specs.declared.found.Found.TheVariants.{Entry, Invalid, BusError}
 use Rattle.mb_machine.specs.declared.reference.Reference.{Reference}
@@ -80,7 +81,7 @@ is_split mmu space page = differ (is_some (matched true mmu space page)) (is_som
 
 -- the page of a physical address lies in RAM of this size
 abbrev pub is_in_ram : ℕ → ℕ → Bool
-is_in_ram size at = nat_le (page_size * page_of at + page_size) size
+is_in_ram size at = nat_le (PAGE_SIZE * page_of at + PAGE_SIZE) size
 
 -- it is known where a reference leads
 abbrev pub is_to : Settled → Bool
@@ -90,7 +91,7 @@ is_to Unsettled = false
 
 -- A data write to the page now would need no search and not be refused.
 abbrev pub is_writable : World → Space → ℕ → Bool
-is_writable w space page = is_to (settled rule_k w.mmu w.kept (writing space (page_size * page)))
+is_writable w space page = is_to (settled rule_k w.mmu w.kept (writing space (PAGE_SIZE * page)))
 
 -- An access that leads to this physical address puts an entry: its page is one of RAM and not split, and the shadow
 -- does not allow the access.

@@ -3,7 +3,8 @@ use Rattle.std.specs.Prelude.{◌≡◌, ℕ, ◌+◌, ◌*◌, ◌^◌, ◌<◌
 use Rattle.mb_port.specs.Routine.{Call}
 use Rattle.mb_port.specs.declared.types.Space.{Space}
 use Rattle.mb_model.specs.Keeping.{rule_k}
-use Rattle.mb_model.specs.Pages.{page_size, page_of, offset_of}
+use Rattle.mb_model.specs.Pages.{page_of, offset_of}
+use Rattle.mb_model.specs.declared.pages.TheConstants.{PAGE_SIZE}
 use Rattle.mb_machine.specs.declared.reference.Reference.{Reference}
 use Rattle.mb_machine.specs.declared.reference.Settled.TheVariants.{To}
 use Rattle.mb_machine.specs.World.{World}
@@ -54,7 +55,7 @@ pub record IsReference (r : Reference) : Type 0 where
 
 -- where an address of a page with this frame leads
 abbrev pub placed_at : ℕ → ℕ → ℕ
-placed_at frame at = page_size * frame + offset_of at
+placed_at frame at = PAGE_SIZE * frame + offset_of at
 
 -- The shadow says what the guest's translation does now, without a search and for both sides, and names pages of RAM
 -- alone.
@@ -65,4 +66,4 @@ pub record Truthful (size : ℕ) (g : Guest) : Type 0 where
   pub writes : (space : Space) (at frame : ℕ) → at < 2 ^ 32 → g.shadow.entries space (page_of at) ≡ Some (frame, true)
       → settled rule_k g.world.mmu g.world.kept (ref false space at true) ≡ To (placed_at frame at)
   pub inside : (space : Space) (page frame : ℕ) (writable : Bool) → g.shadow.entries space page ≡ Some (frame, writable)
-      → page_size * frame + page_size ≤ size
+      → PAGE_SIZE * frame + PAGE_SIZE ≤ size

@@ -21,6 +21,7 @@ use Rattle.vm_shadow.specs.Slots.{is_full_for}
 use Rattle.vm_machine.specs.Guests.{Guest}
 use Rattle.vm_machine.specs.Bus.{gone, is_split, is_in_ram, accessed}
 use Rattle.vm_machine.specs.Held.{held_bus}
+use Rattle.vm_machine.specs.declared.limits.TheConstants.{MOST_REFILLS}
 
 -- ---- which reads
 
@@ -85,10 +86,6 @@ unfoldable pub refilled_by : ℕ → Cpu → Guest → Refilled
 refilled_by zero cpu g = record { guest = g; refills = 0 }
 refilled_by (suc n) cpu g = going_on (refilled_by n cpu) g (begun_again cpu g)
 
--- no attempt reads so many pages
-abbrev pub most_refills : ℕ
-most_refills = 31
-
 -- The guest whose attempt is judged.
 abbrev pub refilled : Cpu → Guest → Refilled
-refilled cpu g = refilled_by most_refills cpu g
+refilled cpu g = refilled_by MOST_REFILLS cpu g

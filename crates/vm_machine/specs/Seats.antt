@@ -13,10 +13,12 @@ use Rattle.vm_meaning.specs.Marks.{trail}
 use Rattle.vm_meaning.specs.Native.{NativeState}
 use Rattle.vm_shadow.specs.Slots.{Slots}
 use Rattle.vm_shadow.specs.Shadows.{Shadowed}
-use Rattle.vm_shadow.specs.Mapped.{area_bytes, shadowed}
+use Rattle.vm_shadow.specs.Mapped.{shadowed}
+use Rattle.vm_shadow.specs.declared.area.TheConstants.{AREA_BYTES}
 use Rattle.vm_shadow.specs.Area.{Maps}
 use Rattle.vm_machine.specs.Guests.{Truthful}
 use Rattle.vm_machine.specs.Turns.{Guested, Tally, Turned, world_of, exits, turn_of}
+use Rattle.vm_machine.specs.declared.limits.TheConstants.{MONITOR_BYTES}
 
 -- ---- frames of the guest and of the board
 
@@ -60,11 +62,7 @@ pub record Seat : Type 0 where
 
 -- where its area on the board ends, with RAM and tables
 abbrev pub end_of : Seat → ℕ
-end_of g = g.base + g.size + area_bytes
-
--- the bytes for the monitor itself, at the board's beginning
-abbrev pub monitor_bytes : ℕ
-monitor_bytes = 65536
+end_of g = g.base + g.size + AREA_BYTES
 
 -- The machine that a guest and a board's memory make together.
 abbrev pub machine_on : Seat → List ℕ → Machine
@@ -91,9 +89,9 @@ turned_on g ram marks = record { guest = guested_on g ram; tally = g.tally; mark
 
 -- The guest's RAM and area lie on the board behind the monitor's bytes, and its tables map its shadow.
 pub record IsSeated (g : Seat) (ram : List ℕ) : Type 0 where
-  pub aligned : g.base % 65536 ≡ 0
-  pub whole : g.size % 65536 ≡ 0
-  pub behind : monitor_bytes ≤ g.base
+  pub aligned : g.base % AREA_BYTES ≡ 0
+  pub whole : g.size % AREA_BYTES ≡ 0
+  pub behind : MONITOR_BYTES ≤ g.base
   pub inside : end_of g ≤ length ram
   pub area : g.slots.area ≡ g.base + g.size
   pub maps : Maps g.slots ram
@@ -105,7 +103,7 @@ pub record IsSeated (g : Seat) (ram : List ℕ) : Type 0 where
 -- Of a board's memory nothing changes but the guest's RAM and area, and the monitor's bytes.
 pub record OnlyWithin (g : Seat) (before after : List ℕ) : Type 0 where
   pub count : length after ≡ length before
-  pub below : part after monitor_bytes (g.base - monitor_bytes) ≡ part before monitor_bytes (g.base - monitor_bytes)
+  pub below : part after MONITOR_BYTES (g.base - MONITOR_BYTES) ≡ part before MONITOR_BYTES (g.base - MONITOR_BYTES)
   pub above : drop (end_of g) after ≡ drop (end_of g) before
 
 -- What a guest is for good.

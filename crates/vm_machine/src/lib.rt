@@ -9,6 +9,7 @@
 #![tactic(auto)]
 
 mod class;
+mod limits;
 
 ghost use Rattle.vm_machine.specs.Laws.{RunsAreByRule, StepsAreByRule, TurnsAreByRule, GuestsRunAlone};
 ghost use Rattle.vm_machine.specs.Laws.{AllowedAccessesAreStill, AttemptsAreJudged};
@@ -21,6 +22,7 @@ ghost use Rattle.vm_machine.specs.Rests.{TrapsAreFinished, DeniedWritesGoOn, Den
 ghost use Rattle.vm_machine.specs.Exits.{ExitsTell};
 
 pub use class::Class;
+pub use limits::{MONITOR_BYTES, MOST_REFILLS};
 
 /// A run over a guest's bus is its machine's by the rule of guests, whatever becomes of the shadow.
 pub fn runs_are_by_rule<A>()

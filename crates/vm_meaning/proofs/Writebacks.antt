@@ -13,7 +13,8 @@ use Rattle.mb_frames.specs.declared.frame.Access.{Access}
 use Rattle.mb_frames.specs.declared.pend.Pend.{Pend}
 use Rattle.mb_frames.specs.AccessFields.{piece_of, Read, Write, Line, Movem, Check, read_fields, write_fields, line_fields, movem_fields, check_fields}
 use Rattle.mb_frames.specs.AccessFields.{size_code, transfer_type, transfer_modifier, access_bits, bit_if, status, writeback_status}
-use Rattle.mb_frames.specs.AccessFields.{register_aligned, memory_aligned, cm_bit, lk_bit, rw_bit, atc_bit, ma_bit}
+use Rattle.mb_frames.specs.AccessFields.{register_aligned, memory_aligned}
+use Rattle.mb_frames.specs.declared.status_bits.TheConstants.{CM, MA, ATC, LK, RW}
 use Rattle.mb_processor.specs.Return.{continues}
 use Rattle.vm_meaning.specs.Frames.{is_valid, length_in, if_valid, pending_in, left_in}
 use Rattle.vm_meaning.specs.declared.left.LeftOver.{LeftOver}
@@ -49,7 +50,7 @@ sums : (a b c : ℕ) → a ≤ 2048 → b ≤ 1024 → c ≤ 110 → a + b + c �
 sums a b c h k l = omega arith
 
 few_status : (fault : Fault) (start page : ℕ) → status fault start page ≤ 3182
-few_status fault start page = sums _ _ _ (few_set _ ma_bit) (few_set fault.atc atc_bit) (few_bits fault.len fault.space fault.code)
+few_status fault start page = sums _ _ _ (few_set _ MA) (few_set fault.atc ATC) (few_bits fault.len fault.space fault.code)
 
 no_cm : (ssw : ℕ) → ssw < 4096 → (ssw / 2 ^ 12 % 2 == 1) ≡ false
 no_cm ssw h = grind (arith, nat_tests)
@@ -115,23 +116,23 @@ unfolding left_in read_fields
 tells_read fault first page =
     let ea = if fault.code then fault.at else first in
     let a = few_status fault ea page in
-    let b = few_set fault.write lk_bit in
-    rw (no_cm (status fault ea page + bit_if fault.write lk_bit + rw_bit) (omega arith)) refl
+    let b = few_set fault.write LK in
+    rw (no_cm (status fault ea page + bit_if fault.write LK + RW) (omega arith)) refl
 
 tells_movem : (fault : Fault) (first start done words next : ℕ) (is_load : Bool) (page : ℕ)
     → left_in (movem_fields fault first start done words next is_load page) ≡ left.Movem words first done next
 unfolding left_in movem_fields
 tells_movem fault first start done words next is_load page =
     let a = few_status fault start page in
-    let b = few_set is_load rw_bit in
-    rw (has_cm (status fault start page + cm_bit + bit_if is_load rw_bit) (omega arith) (omega arith)) refl
+    let b = few_set is_load RW in
+    rw (has_cm (status fault start page + CM + bit_if is_load RW) (omega arith) (omega arith)) refl
 
 tells_check : (fault : Fault) → left_in (check_fields fault) ≡ left.Again
 unfolding left_in check_fields
 tells_check fault =
     let a = few_bits fault.len Super false in
-    let b = few_set fault.atc atc_bit in
-    rw (no_cm (bit_if fault.atc atc_bit + access_bits fault.len Super false) (omega arith)) refl
+    let b = few_set fault.atc ATC in
+    rw (no_cm (bit_if fault.atc ATC + access_bits fault.len Super false) (omega arith)) refl
 
 -- ---- lines
 

@@ -15,7 +15,7 @@ use Rattle.mb_machine.specs.Access.{translated}
 use Rattle.mb_machine.proofs.Bytes.{bytes-with_number}
 use Rattle.mb_walk.proofs.Parts.{bytes-part, length-part, number-part, part-over, drop-over}
 use Rattle.vm_shadow.specs.Shadows.{Shadowed}
-use Rattle.vm_shadow.specs.Mapped.{area_bytes}
+use Rattle.vm_shadow.specs.declared.area.TheConstants.{AREA_BYTES}
 use Rattle.vm_shadow.proofs.Alone.{tables_are_of_the_area}
 use Rattle.vm_machine.specs.Guests.{Guest, ref, lets, allows, placed_at}
 use Rattle.vm_mirror.specs.Related.{Site, Related, mapping}
@@ -111,7 +111,7 @@ is_in_ram : (size p len : ℕ) → p + len ≤ size → in_ram size p len ≡ tr
 is_in_ram size p len h = grind (arith, nat_tests)
 
 pub room : (x : Site) (b : World) (g : Guest) → Related x b g → x.base + x.size ≤ length b.ram
-room x b g r = let u : x.base + x.size ≤ x.slots.area = r.under in let o : x.slots.area + area_bytes ≤ length b.ram = r.maps.inside in omega arith
+room x b g r = let u : x.base + x.size ≤ x.slots.area = r.under in let o : x.slots.area + AREA_BYTES ≤ length b.ram = r.maps.inside in omega arith
 
 pub guest_size : (x : Site) (b : World) (g : Guest) → Related x b g → length g.world.ram ≡ x.size
 guest_size x b g r = sym (ap (λ (m : List ℕ). length m) r.ram) ∙ length-part b.ram x.base x.size (room x b g r)
@@ -144,10 +144,10 @@ written x b g p len v r h =
     let fits = room x b g r in
     let after = with_number b.ram (x.base + p) len v in
     let under : x.base + x.size ≤ x.slots.area = r.under in
-    let inside : x.slots.area + area_bytes ≤ length b.ram = r.maps.inside in
+    let inside : x.slots.area + AREA_BYTES ≤ length b.ram = r.maps.inside in
     let size : length after ≡ length b.ram = length-with_number b.ram (x.base + p) len v (omega arith) in
     let tables = tables_are_of_the_area x.slots b.ram after r.maps (omega arith)
-    (ap (take area_bytes) (drop-over b.ram bytes x.slots.area (x.base + p) (omega arith) (omega arith))) in
+    (ap (take AREA_BYTES) (drop-over b.ram bytes x.slots.area (x.base + p) (omega arith) (omega arith))) in
     let same : (page : ℕ) → mapping x after page ≡ mapping x b.ram page = λ page. ap (λ (s : Shadowed). s.entries x.space page) tables.1 in
     record {
       bytes = bytes-with_number b.ram (x.base + p) len v r.bytes;

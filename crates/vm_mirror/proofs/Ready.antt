@@ -18,7 +18,8 @@ use Rattle.vm_meaning.specs.Free.{IsKept}
 use Rattle.vm_meaning.proofs.KeptLemmas.{none-kept}
 use Rattle.vm_shadow.specs.Shadows.{Shadowed, Entries, is_at, nothing, filled, dropped, room_for, has_entry, is_needed}
 use Rattle.vm_shadow.specs.Slots.{tables_for, is_full_for}
-use Rattle.vm_shadow.specs.Mapped.{area_bytes, root_of}
+use Rattle.vm_shadow.specs.Mapped.{root_of}
+use Rattle.vm_shadow.specs.declared.area.TheConstants.{AREA_BYTES}
 use Rattle.vm_shadow.proofs.Alone.{tables_are_of_the_area}
 use Rattle.vm_machine.specs.Guests.{ref}
 use Rattle.vm_mirror.specs.Related.{mapping}
@@ -70,7 +71,7 @@ starts_flushed x b g bytes maps under whole ram shadow truthful = record {
 
 pub stays_ready : StaysReady
 stays_ready x b after g r bytes size same area mmu kept =
-    let inside : x.slots.area + area_bytes ≤ length b.ram = r.maps.inside in
+    let inside : x.slots.area + AREA_BYTES ≤ length b.ram = r.maps.inside in
     let tables = tables_are_of_the_area x.slots b.ram after.ram r.maps (omega arith) area in
     let map : (page : ℕ) → mapping x after.ram page ≡ mapping x b.ram page = λ page. ap (λ (s : Shadowed). s.entries x.space page) tables.1 in
     record {

@@ -8,11 +8,13 @@ use Rattle.mb_walk.specs.Memory.{AreBytes, part}
 use Rattle.mb_machine.specs.World.{World}
 use Rattle.mb_machine.specs.Access.{untranslated, translated}
 use Rattle.vm_shadow.specs.Shadows.{Shadowed, nothing, filled, dropped}
-use Rattle.vm_shadow.specs.Mapped.{area_bytes, root_of, shadowed}
+use Rattle.vm_shadow.specs.Mapped.{root_of, shadowed}
+use Rattle.vm_shadow.specs.declared.area.TheConstants.{AREA_BYTES}
 use Rattle.vm_shadow.specs.Area.{Maps}
 use Rattle.vm_machine.specs.Guests.{Guest, Truthful, ref}
 use Rattle.vm_mirror.specs.Related.{Site, Related}
 use Rattle.vm_machine.specs.Seats.{on_board}
+use Rattle.mb_model.specs.declared.pages.TheConstants.{PAGE_SIZE}
 
 -- the board's translation registers while a guest runs: user space by its tables, the supervisor's operands as they are
 abbrev pub native_mmu : ℕ → Mmu
@@ -40,7 +42,7 @@ EntersUntranslated = (b : World) (at : ℕ) (write : Bool) → untranslated b.mm
 -- With nothing kept, the tables alone say that the board is ready.
 abbrev pub StartsFlushed : Type 0
 StartsFlushed = (x : Site) (b : World) (g : Guest) → AreBytes b.ram → Maps x.slots b.ram
-    → x.base + x.size ≤ x.slots.area → x.base % 4096 ≡ 0 → part b.ram x.base x.size ≡ g.world.ram
+    → x.base + x.size ≤ x.slots.area → x.base % PAGE_SIZE ≡ 0 → part b.ram x.base x.size ≡ g.world.ram
     → shadowed x.slots b.ram ≡ on_board x.base g.shadow → Truthful x.size g
     → Related x (record b { mmu = native_mmu (root_of x.slots.area x.space); kept = nothing_kept rule_a }) g
 
@@ -48,7 +50,7 @@ StartsFlushed = (x : Site) (b : World) (g : Guest) → AreBytes b.ram → Maps x
 abbrev pub StaysReady : Type 0
 StaysReady = (x : Site) (b after : World) (g : Guest) → Related x b g → AreBytes after.ram
     → length after.ram ≡ length b.ram → part after.ram x.base x.size ≡ part b.ram x.base x.size
-    → take area_bytes (drop x.slots.area after.ram) ≡ take area_bytes (drop x.slots.area b.ram)
+    → take AREA_BYTES (drop x.slots.area after.ram) ≡ take AREA_BYTES (drop x.slots.area b.ram)
     → after.mmu ≡ b.mmu → after.kept ≡ b.kept → Related x after g
 
 -- Each call of the shadow's code, with the board's frames, makes of the board's entries what the same makes of the
@@ -57,6 +59,6 @@ pub record OnBoard : Type 0 where
   pub empty : (base : ℕ) → on_board base nothing ≡ nothing
   pub fills : (base : ℕ) (space : Space) (page frame : ℕ) (writable : Bool) (shadow : Shadowed)
       → on_board base (filled space page frame writable shadow)
-      ≡ filled space page (base / 4096 + frame) writable (on_board base shadow)
+      ≡ filled space page (base / PAGE_SIZE + frame) writable (on_board base shadow)
   pub drops : (base : ℕ) (space : Space) (page : ℕ) (shadow : Shadowed)
       → on_board base (dropped space page shadow) ≡ dropped space page (on_board base shadow)

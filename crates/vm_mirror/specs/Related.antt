@@ -15,6 +15,7 @@ use Rattle.vm_shadow.specs.Mapped.{shadowed, root_of}
 use Rattle.vm_shadow.specs.Area.{Maps}
 use Rattle.vm_machine.specs.Guests.{Guest, Truthful, ref}
 use Rattle.vm_machine.specs.Seats.{on_board}
+use Rattle.mb_model.specs.declared.pages.TheConstants.{PAGE_SIZE}
 
 -- where a guest stands on the board: its RAM, its tables, and its present space
 pub record Site : Type 0 where
@@ -44,7 +45,7 @@ pub record Related (x : Site) (b : World) (g : Guest) : Type 0 where
   pub bytes : AreBytes b.ram
   pub maps : Maps x.slots b.ram
   pub under : x.base + x.size ≤ x.slots.area
-  pub whole : x.base % 4096 ≡ 0
+  pub whole : x.base % PAGE_SIZE ≡ 0
   pub ram : part b.ram x.base x.size ≡ g.world.ram
   pub root : b.mmu.urp ≡ root_of x.slots.area x.space
   pub small : has_big_pages b.mmu ≡ false

@@ -5,7 +5,8 @@ use Rattle.mb_walk.specs.Memory.{part, with_number}
 use Rattle.mb_walk.proofs.MemoryLemmas.{length-with_number}
 use Rattle.mb_walk.proofs.Parts.{length-part, number-part, drop-with_number, bytes-part}
 use Rattle.vm_shadow.specs.Slots.{Slots}
-use Rattle.vm_shadow.specs.Mapped.{shadowed, area_bytes}
+use Rattle.vm_shadow.specs.Mapped.{shadowed}
+use Rattle.vm_shadow.specs.declared.area.TheConstants.{AREA_BYTES}
 use Rattle.vm_shadow.specs.Area.{Maps}
 use Rattle.vm_shadow.proofs.Alone.{tables_are_of_the_area}
 
@@ -17,7 +18,7 @@ tables_same s ram at len v m h =
     let inside = m.inside in
     let count = length-with_number ram at len v (omega arith) in
     tables_are_of_the_area s ram (with_number ram at len v) m (omega arith)
-    (ap (take area_bytes) (drop-with_number ram s.area at len v h (omega arith)))
+    (ap (take AREA_BYTES) (drop-with_number ram s.area at len v h (omega arith)))
 
 pub maps_stay : (s : Slots) (ram : List ℕ) (at len v : ℕ) → Maps s ram → at + len ≤ s.area → Maps s (with_number ram at len v)
 maps_stay s ram at len v m h = (tables_same s ram at len v m h).0
@@ -39,11 +40,11 @@ take_below ram after base area h same = sym (take-take base area after h) ∙ ap
 pub around : (ram after : List ℕ) (base size area : ℕ) → area ≡ base + size → take area after ≡ take area ram
     → drop (area + 65536) after ≡ drop (area + 65536) ram
     → (part after base size ≡ part ram base size) × (take base after ≡ take base ram)
-    × (drop (base + size + area_bytes) after ≡ drop (base + size + area_bytes) ram)
+    × (drop (base + size + AREA_BYTES) after ≡ drop (base + size + AREA_BYTES) ram)
 around ram after base size area e below above = (
   part_below ram after base size area e below,
   take_below ram after base area (omega (arith, e)) below,
-  ap (λ (n : ℕ). drop (n + area_bytes) after) (sym e) ∙ above ∙ ap (λ (n : ℕ). drop (n + area_bytes) ram) e,
+  ap (λ (n : ℕ). drop (n + AREA_BYTES) after) (sym e) ∙ above ∙ ap (λ (n : ℕ). drop (n + AREA_BYTES) ram) e,
 )
 
 -- ---- what the code reads

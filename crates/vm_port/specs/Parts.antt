@@ -4,7 +4,8 @@ use Rattle.mb_walk.specs.declared.ram.Ram.{Ghosts}
 use Rattle.mb_walk.specs.Memory.{part}
 use Rattle.mb_machine.specs.World.{World}
 use Rattle.vm_shadow.specs.Shadows.{Shadowed}
-use Rattle.vm_shadow.specs.Mapped.{shadowed, area_bytes}
+use Rattle.vm_shadow.specs.Mapped.{shadowed}
+use Rattle.vm_shadow.specs.declared.area.TheConstants.{AREA_BYTES}
 use Rattle.vm_machine.specs.Seats.{own}
 use Rattle.vm_machine.specs.Guests.{Guest}
 use Rattle.vm_port.specs.Own.{guest_in}
@@ -41,7 +42,7 @@ beyond_of {T = T} p = record {
   board = T.rest p.ram.now;
   count = length (T.bytes p.ram.now);
   below = take p.base (T.bytes p.ram.now);
-  above = drop (p.base + p.size + area_bytes) (T.bytes p.ram.now);
+  above = drop (p.base + p.size + AREA_BYTES) (T.bytes p.ram.now);
 }
 
 -- all but its bytes

@@ -11,13 +11,10 @@ ghost use Rattle.vm_machine.specs.Bus.{dropped_all, after_flush, after_drop, aft
 
 use crate::port::GuestPort;
 use mb_instr::ControlRegister;
-use mb_machine::root;
+use mb_machine::{MMUSR_MATCHED, root};
 use mb_model::{Kept, has_big_pages, other_half, page_of};
 use mb_port::{Flush, MmuReg, Space};
 use mb_walk::{Ram, search, transparent};
-
-/// MMUSR of a page that a transparent register of the data side matches: R and T.
-const MATCHED: u32 = 3;
 
 impl<R: Ram> GuestPort<'_, R> {
     ghost use Rattle.vm_port.specs.Parts.{world_of, beyond_of, tables_of};
@@ -130,7 +127,7 @@ impl<R: Ram> GuestPort<'_, R> {
         ensures beyond { beyond_of self.new ≡ beyond_of self.old }
     {
         if transparent(self.registers.dtt0, self.registers.dtt1, space, at).is_some() {
-            return MATCHED;
+            return MMUSR_MATCHED;
         }
         let big = has_big_pages(self.registers);
         self.drop_halves(space, page_of(at), big);

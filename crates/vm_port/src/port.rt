@@ -1,7 +1,8 @@
 //! A guest's bus: what it is made of, and what stands between its calls.
 
 ghost use Rattle.std.specs.Prelude.{◌≡◌, ℕ, ◌+◌, ◌%◌, ◌≤◌, ◌<◌, ◌^◌, length};
-ghost use Rattle.vm_shadow.specs.Mapped.{shadowed, area_bytes};
+ghost use Rattle.vm_shadow.specs.Mapped.{shadowed};
+ghost use Rattle.vm_shadow.specs.declared.area.TheConstants.{AREA_BYTES};
 ghost use Rattle.vm_shadow.specs.Area.{Maps};
 ghost use Rattle.vm_machine.specs.Seats.{own};
 ghost use Rattle.vm_machine.specs.Guests.{Truthful};
@@ -30,10 +31,10 @@ pub struct GuestPort<'a, R: Ram> {
     pub(crate) devices: &'a mut Devices,
     pub(crate) registers: &'a mut Mmu,
     pub(crate) tlb: &'a mut Tlb,
-    ghost aligned: { base % 65536 ≡ 0 },
-    ghost whole: { size % 65536 ≡ 0 },
+    ghost aligned: { base % AREA_BYTES ≡ 0 },
+    ghost whole: { size % AREA_BYTES ≡ 0 },
     ghost small: { length (R.bytes ram.now) < 2 ^ 32 },
-    ghost inside: { base + size + area_bytes ≤ length (R.bytes ram.now) },
+    ghost inside: { base + size + AREA_BYTES ≤ length (R.bytes ram.now) },
     ghost area: { shadow.now.area ≡ base + size },
     ghost maps: { Maps shadow.now (R.bytes ram.now) },
     ghost placed: { IsPlaced base (shadowed shadow.now (R.bytes ram.now)) },
@@ -54,8 +55,8 @@ impl<'a, R: Ram> GuestPort<'a, R> {
         tlb: &'a mut Tlb,
         shadow: &'a mut Shadow,
     ) -> GuestPort<'a, R>
-        requires aligned { base % 65536 ≡ 0 }
-        requires whole { size % 65536 ≡ 0 }
+        requires aligned { base % AREA_BYTES ≡ 0 }
+        requires whole { size % AREA_BYTES ≡ 0 }
         requires area { shadow.old.area ≡ base + size }
         requires maps { Maps shadow.old (R.bytes ram.old) }
         requires placed { IsPlaced base (shadowed shadow.old (R.bytes ram.old)) }

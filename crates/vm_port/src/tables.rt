@@ -2,7 +2,8 @@
 
 ghost use Rattle.std.specs.Prelude.{◌≡◌, ◌+◌, ◌*◌, ◌≤◌, ◌<◌, ◌^◌};
 ghost use Rattle.mb_model.specs.Keeping.{rule_k, displaced, filled as kept_after, NamesPages};
-ghost use Rattle.mb_model.specs.Pages.{page_size, page_of as page_number};
+ghost use Rattle.mb_model.specs.Pages.{page_of as page_number};
+ghost use Rattle.mb_model.specs.declared.pages.TheConstants.{PAGE_SIZE};
 ghost use Rattle.mb_machine.specs.Access.{settled};
 ghost use Rattle.vm_shadow.specs.Shadows.{nothing, filled, dropped};
 ghost use Rattle.vm_machine.specs.Guests.{allows, IsReference};
@@ -32,7 +33,7 @@ impl<R: Ram> GuestPort<'_, R> {
     /// Puts an entry with a frame of the guest. Where the slots do not suffice, all else goes first.
     pub(crate) fn put_page(&mut self, space: Space, page: u32, frame: u32, writable: bool)
         requires page { page < 2 ^ 20 }
-        requires frame { page_size * frame + page_size ≤ self.old.size }
+        requires frame { PAGE_SIZE * frame + PAGE_SIZE ≤ self.old.size }
         requires truthful { IsTruthful self.old.size self.old.registers.now self.old.tlb.now
             (filled space page frame writable (tables_of self.old)) }
         ensures shadow { tables_of self.new ≡ filled space page frame writable (tables_of self.old) }

@@ -3,7 +3,7 @@ use Rattle.std.proofs.Common.{◌≡◌, ◌≢◌, ◌∙◌, ℕ, ◌+◌, ◌
 use Rattle.std.proofs.Common.{ap, arith, inl, inr}
 use Rattle.std.specs.Prelude.{Some}
 use Rattle.std.proofs.lemmas.Bool.{cases_lt}
-use Rattle.mb_model.specs.Pages.{page_size}
+use Rattle.mb_model.specs.declared.pages.TheConstants.{PAGE_SIZE}
 use Rattle.mb_port.specs.declared.types.Space.{Space}
 use Rattle.vm_shadow.specs.declared.table.Table.{Table}
 use Rattle.vm_shadow.specs.Slots.{number_of, with_table, pointers_of, pages_of}
@@ -19,8 +19,8 @@ with_more a xs = elim (cases_lt (number_of a xs) (length xs)) [
 ]
 
 pub long_some : (frame : ℕ) (writable : Bool) → page_long frame writable ≢ 0
-long_some frame true = λ e. let f : page_size * frame + 25 ≡ 0 = e in absurd (omega (arith, f))
-long_some frame false = λ e. let f : page_size * frame + 29 ≡ 0 = e in absurd (omega (arith, f))
+long_some frame true = λ e. let f : PAGE_SIZE * frame + 25 ≡ 0 = e in absurd (omega (arith, f))
+long_some frame false = λ e. let f : PAGE_SIZE * frame + 29 ≡ 0 = e in absurd (omega (arith, f))
 
 abbrev pub shadow_of : Entries → List Table → Shadowed
 shadow_of entries tables = record { entries = entries; tables = tables }

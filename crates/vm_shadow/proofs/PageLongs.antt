@@ -3,7 +3,8 @@ use Rattle.std.proofs.Common.{◌≡◌, ◌∙◌, ℕ, ◌+◌, ◌*◌, ◌==
 use Rattle.std.specs.Prelude.{◌⊎◌}
 use Rattle.std.proofs.lemmas.Bool.{cases_eq}
 use Rattle.std.proofs.lemmas.Bool.Decides.{nat_tests}
-use Rattle.mb_model.specs.Pages.{page_size, offset_of}
+use Rattle.mb_model.specs.Pages.{offset_of}
+use Rattle.mb_model.specs.declared.pages.TheConstants.{PAGE_SIZE}
 use Rattle.vm_shadow.specs.Area.{page_long, is_page_long, IsPageLong}
 
 -- none, one that takes writes, and one that takes none
@@ -34,8 +35,8 @@ true_after false = refl
 
 pub page_lawful : (frame : ℕ) (writable : Bool) → IsPageLong (page_long frame writable)
 page_lawful frame true =
-    let e : offset_of (page_size * frame + 25) ≡ 25 = omega arith in
-    rw e (true_after (page_size * frame + 25 == 0))
+    let e : offset_of (PAGE_SIZE * frame + 25) ≡ 25 = omega arith in
+    rw e (true_after (PAGE_SIZE * frame + 25 == 0))
 page_lawful frame false =
-    let e : offset_of (page_size * frame + 29) ≡ 29 = omega arith in
-    rw e (true_after (page_size * frame + 29 == 0))
+    let e : offset_of (PAGE_SIZE * frame + 29) ≡ 29 = omega arith in
+    rw e (true_after (PAGE_SIZE * frame + 29 == 0))

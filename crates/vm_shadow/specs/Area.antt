@@ -4,13 +4,15 @@ use Rattle.std.specs.Prelude.{not, nat_lt, if◌then◌else◌}
 use Rattle.std.specs.Prelude.{List, [], ◌∷◌, ◌++◌, length, filter, Option, Some, None}
 use Rattle.mb_port.specs.declared.types.Space.{Space}
 use Rattle.mb_port.specs.declared.types.Space.TheVariants.{User, Super}
-use Rattle.mb_model.specs.Pages.{page_size, offset_of}
+use Rattle.mb_model.specs.Pages.{offset_of}
+use Rattle.mb_model.specs.declared.pages.TheConstants.{PAGE_SIZE}
 use Rattle.mb_walk.specs.Memory.{number_at}
 use Rattle.mb_walk.specs.Descriptors.{page_descriptor}
 use Rattle.vm_shadow.specs.declared.table.Table.{Table}
 use Rattle.vm_shadow.specs.declared.table.Table.TheVariants.{Pointers, Pages}
-use Rattle.vm_shadow.specs.Slots.{Slots, Placed, placed, same_table, number_of, slots, Has, Once}
-use Rattle.vm_shadow.specs.Mapped.{area_bytes}
+use Rattle.vm_shadow.specs.Slots.{Slots, Placed, placed, same_table, number_of, Has, Once}
+use Rattle.vm_shadow.specs.declared.nodes.TheConstants.{SLOTS}
+use Rattle.vm_shadow.specs.declared.area.TheConstants.{AREA_BYTES}
 
 -- the longs of the area at an address, by number
 abbrev pub longs : List ℕ → ℕ → ℕ → ℕ
@@ -39,7 +41,7 @@ link_to area tables slot table =
 
 -- the descriptor of a page: resident, used and modified, write-protected where it takes no writes
 abbrev pub page_long : ℕ → Bool → ℕ
-page_long frame writable = page_size * frame + (if writable then 25 else 29)
+page_long frame writable = PAGE_SIZE * frame + (if writable then 25 else 29)
 
 -- the entry in a page's descriptor that is not indirect
 abbrev pub entry_of : ℕ → Option (ℕ × Bool)
@@ -75,7 +77,7 @@ pub record AreTables (area : ℕ) (tables : List Table) (slot : Table → ℕ) (
   pub once : Once tables
   pub named : (table : Table) → Has tables table → IsTable table
   -- each stands in a slot of its own
-  pub inside : (table : Table) → Has tables table → slot table < slots
+  pub inside : (table : Table) → Has tables table → slot table < SLOTS
   pub apart : (table other : Table) → Has tables table → Has tables other → slot table ≡ slot other → table ≡ other
   pub roots : (space : Space) (index : ℕ) → index < 128
       → t (in_root space index) ≡ link_to area tables slot (Pointers space index)
@@ -90,7 +92,7 @@ pub record AreTables (area : ℕ) (tables : List Table) (slot : Table → ℕ) (
   pub reached : (space : Space) (index : ℕ) → index < 2 ^ 14 → Has tables (Pages space index)
       → Has tables (Pointers space (index / 128))
   -- a free slot is empty
-  pub free : (number index : ℕ) → number < slots → IsFree tables slot number → index < 128
+  pub free : (number index : ℕ) → number < SLOTS → IsFree tables slot number → index < 128
       → t (in_slot number index) ≡ 0
 
 -- 1 for a long that is not 0
@@ -104,12 +106,12 @@ used t number (suc n) = one (t (in_slot number n)) + used t number n
 
 -- the counts of a shadow are those of its longs
 abbrev pub Counted : Placed → List ℕ → Type 0
-Counted s ram = (number : ℕ) → number < slots → s.count number ≡ used (longs ram s.area) number 128
+Counted s ram = (number : ℕ) → number < SLOTS → s.count number ≡ used (longs ram s.area) number 128
 
 -- The area lies in memory, and its bytes are the tables in their slots.
 pub record Laid (s : Placed) (ram : List ℕ) : Type 0 where
-  pub aligned : s.area % area_bytes ≡ 0
-  pub inside : s.area + area_bytes ≤ length ram
+  pub aligned : s.area % AREA_BYTES ≡ 0
+  pub inside : s.area + AREA_BYTES ≤ length ram
   pub tables : AreTables s.area s.tables s.slot (longs ram s.area)
   pub counted : Counted s ram
 
@@ -123,8 +125,8 @@ UsedBut but s ram = (table : Table) → table ≢ but → Has s.tables table →
 
 -- The same, and no table is empty.
 pub record MapsPlaced (s : Placed) (ram : List ℕ) : Type 0 where
-  pub aligned : s.area % area_bytes ≡ 0
-  pub inside : s.area + area_bytes ≤ length ram
+  pub aligned : s.area % AREA_BYTES ≡ 0
+  pub inside : s.area + AREA_BYTES ≤ length ram
   pub tables : AreTables s.area s.tables s.slot (longs ram s.area)
   pub counted : Counted s ram
   pub full : (table : Table) → Has s.tables table → IsUsed (longs ram s.area) (s.slot table)

@@ -2,6 +2,7 @@
 -- of those in use and the end of each list, and 127 is the root of the free ones.
 use Rattle.std.specs.Prelude.{◌≡◌, ℕ, zero, suc, ◌+◌, ◌<◌, ◌==◌, nat_lt, if◌then◌else◌}
 use Rattle.std.specs.Prelude.{List, [], ◌∷◌, length}
+use Rattle.vm_shadow.specs.declared.nodes.TheConstants.{SLOTS, FREE}
 
 -- a link leads from a place through these slots, in order, and then to the end
 abbrev pub IsPath : (ℕ → ℕ) → ℕ → List ℕ → ℕ → Type 0
@@ -11,7 +12,7 @@ IsPath f from (x ∷ xs) to = (f from ≡ x) × IsPath f x xs to
 -- the slots that a link leads through, from a place on, at most so many
 unfoldable pub walk : (ℕ → ℕ) → ℕ → ℕ → List ℕ
 walk f zero at = []
-walk f (suc n) at = if nat_lt at 126 then at ∷ walk f n (f at) else []
+walk f (suc n) at = if nat_lt at SLOTS then at ∷ walk f n (f at) else []
 
 -- how often a number is in a list
 abbrev pub times : ℕ → List ℕ → ℕ
@@ -21,10 +22,10 @@ times n (x ∷ xs) = (if x == n then 1 else 0) + times n xs
 -- The links are those of slots in use, that of the oldest table first, and of free slots.
 pub record Linked (newer older : ℕ → ℕ) (live free : List ℕ) : Type 0 where
   -- "newer" leads from the oldest through each slot in use
-  pub ring : IsPath newer 126 live 126
+  pub ring : IsPath newer SLOTS live SLOTS
   -- "older" undoes "newer"
-  pub back : (at : ℕ) → 0 < times at (126 ∷ live) → older (newer at) ≡ at
-  pub rest : IsPath newer 127 free 126
+  pub back : (at : ℕ) → 0 < times at (SLOTS ∷ live) → older (newer at) ≡ at
+  pub rest : IsPath newer FREE free SLOTS
   -- each slot is in use or free, and once
-  pub each : (at : ℕ) → times at live + times at free ≡ (if nat_lt at 126 then 1 else 0)
-  pub all : length live + length free ≡ 126
+  pub each : (at : ℕ) → times at live + times at free ≡ (if nat_lt at SLOTS then 1 else 0)
+  pub all : length live + length free ≡ SLOTS

@@ -9,7 +9,8 @@ use Rattle.mb_walk.specs.Descriptors.{resident_status}
 use Rattle.mb_walk.specs.Search.{search_of}
 use Rattle.vm_shadow.specs.Slots.{Slots}
 use Rattle.vm_shadow.specs.Shadows.{AreNeeded}
-use Rattle.vm_shadow.specs.Mapped.{area_bytes, root_of, shadowed, BothStand}
+use Rattle.vm_shadow.specs.Mapped.{root_of, shadowed, BothStand}
+use Rattle.vm_shadow.specs.declared.area.TheConstants.{AREA_BYTES}
 use Rattle.vm_shadow.specs.Area.{page_long, Maps}
 
 -- what is found of a page: nothing, or its entry's frame, protected where it takes no writes, for both spaces, modified
@@ -35,8 +36,8 @@ SearchesFindEntries = (s : Slots) (ram : List ℕ) (of space : Space) (page : �
 
 -- The tables and what they hold are of the area's bytes alone.
 abbrev pub TablesAreOfTheArea : Type 0
-TablesAreOfTheArea = (s : Slots) (ram after : List ℕ) → Maps s ram → s.area + area_bytes ≤ length after
-    → take area_bytes (drop s.area after) ≡ take area_bytes (drop s.area ram)
+TablesAreOfTheArea = (s : Slots) (ram after : List ℕ) → Maps s ram → s.area + AREA_BYTES ≤ length after
+    → take AREA_BYTES (drop s.area after) ≡ take AREA_BYTES (drop s.area ram)
     → Maps s after × (shadowed s after ≡ shadowed s ram)
 
 -- Both roots and all tables stand in the area.

@@ -6,6 +6,7 @@ use Rattle.vm_shadow.specs.declared.table.Table.TheVariants.{Pointers}
 use Rattle.vm_shadow.specs.declared.nodes.Node.{Node}
 use Rattle.vm_shadow.specs.declared.nodes.Nodes.{Nodes}
 use Rattle.vm_shadow.specs.Chains.{walk, Linked}
+use Rattle.vm_shadow.specs.declared.nodes.TheConstants.{SLOTS, FREE}
 
 -- The links, the tables and the counts, as functions of numbers.
 pub record Links : Type 0 where
@@ -16,15 +17,15 @@ pub record Links : Type 0 where
   pub used : ℕ
 
 abbrev pub no_node : Node
-no_node = record { table = Pointers User 0; count = 0; older = 126; newer = 126 }
+no_node = record { table = Pointers User 0; count = 0; older = SLOTS; newer = SLOTS }
 
 abbrev pub node : Nodes → ℕ → Node
 node t at = slice_index_or t.nodes.items at no_node
 
 abbrev pub links_of : Nodes → Links
 links_of t = record {
-  newer = λ at. if at == 126 then t.oldest else if at == 127 then t.free else (node t at).newer;
-  older = λ at. if at == 126 then t.newest else (node t at).older;
+  newer = λ at. if at == SLOTS then t.oldest else if at == FREE then t.free else (node t at).newer;
+  older = λ at. if at == SLOTS then t.newest else (node t at).older;
   table = λ at. (node t at).table;
   count = λ at. (node t at).count;
   used = t.used;
@@ -32,11 +33,11 @@ links_of t = record {
 
 -- the slots in use, from that of the oldest table on
 abbrev pub order : Links → List ℕ
-order l = walk l.newer 126 (l.newer 126)
+order l = walk l.newer SLOTS (l.newer SLOTS)
 
 -- the free slots
 abbrev pub vacant : Links → List ℕ
-vacant l = walk l.newer 126 (l.newer 127)
+vacant l = walk l.newer SLOTS (l.newer FREE)
 
 -- the tables in use
 abbrev pub tables : Links → List Table
@@ -47,7 +48,7 @@ abbrev pub counts : Nodes → List ℕ
 counts t = map (λ n. n.count) t.nodes.items
 
 abbrev pub Sized : Nodes → Type 0
-Sized t = vec_len t.nodes ≡ 126
+Sized t = vec_len t.nodes ≡ SLOTS
 
 pub record Sound (t : Nodes) : Type 0 where
   pub sized : Sized t

@@ -4,17 +4,19 @@ use Rattle.std.specs.Prelude.{List, Option, Some, None}
 use Rattle.mb_port.specs.declared.types.Space.{Space}
 use Rattle.mb_port.specs.declared.types.Space.TheVariants.{User, Super}
 use Rattle.mb_walk.specs.Memory.{number_at}
-use Rattle.mb_walk.specs.Descriptors.{table_descriptor, page_descriptor, entry_at, table_bytes, page_table_bytes}
+use Rattle.mb_walk.specs.Descriptors.{table_descriptor, page_descriptor, entry_at, page_table_bytes}
+use Rattle.mb_walk.specs.declared.searching.TheConstants.{TABLE_BYTES}
 use Rattle.mb_walk.specs.Descriptors.{root_index, pointer_index, page_index}
 use Rattle.vm_shadow.specs.Slots.{Slots}
 use Rattle.vm_shadow.specs.Shadows.{Entries, Shadowed}
+use Rattle.vm_shadow.specs.declared.area.TheConstants.{AREA_BYTES}
 
 -- the descriptors that a search for a page meets below a root: of its pointer table, of its page table, its own
 abbrev pub first : List ℕ → ℕ → ℕ → ℕ
-first ram root page = number_at ram (entry_at root table_bytes (root_index page)) 4
+first ram root page = number_at ram (entry_at root TABLE_BYTES (root_index page)) 4
 
 abbrev pub second : List ℕ → ℕ → ℕ → ℕ
-second ram root page = number_at ram (entry_at (first ram root page) table_bytes (pointer_index page)) 4
+second ram root page = number_at ram (entry_at (first ram root page) TABLE_BYTES (pointer_index page)) 4
 
 abbrev pub third : List ℕ → ℕ → ℕ → ℕ
 third ram root page = number_at ram (entry_at (second ram root page) (page_table_bytes false) (page_index false page)) 4
@@ -33,14 +35,10 @@ mapped ram root page =
     then Some ((page_descriptor (third ram root page)).frame, not (is_protected ram root page))
     else None) else None) else None
 
--- the bytes of an area
-abbrev pub area_bytes : ℕ
-area_bytes = 65536
-
 -- the root table of a space in the area at an address
 abbrev pub root_of : ℕ → Space → ℕ
 root_of area User = area
-root_of area Super = area + table_bytes
+root_of area Super = area + TABLE_BYTES
 
 -- what the tables in an area map, for pages of 20 bits
 abbrev pub entries_in : List ℕ → ℕ → Entries
@@ -59,8 +57,8 @@ GoesFurther ram root page = (table_descriptor (second ram root page)).resident �
 
 -- What a search for a page meets lies in the area. Its descriptor is not indirect, and its frame is for both spaces.
 pub record Path (ram : List ℕ) (area root page : ℕ) : Type 0 where
-  pub pointers : GoesOn ram root page → first ram root page / area_bytes ≡ area / area_bytes
-  pub pages : GoesOn ram root page → GoesFurther ram root page → second ram root page / area_bytes ≡ area / area_bytes
+  pub pointers : GoesOn ram root page → first ram root page / AREA_BYTES ≡ area / AREA_BYTES
+  pub pages : GoesOn ram root page → GoesFurther ram root page → second ram root page / AREA_BYTES ≡ area / AREA_BYTES
   pub direct : GoesOn ram root page → GoesFurther ram root page
       → (page_descriptor (third ram root page)).indirect ≡ false
   pub for_both : GoesOn ram root page → GoesFurther ram root page
@@ -68,8 +66,8 @@ pub record Path (ram : List ℕ) (area root page : ℕ) : Type 0 where
 
 -- A root and every table that it reaches lie in an area.
 pub record Stands (ram : List ℕ) (area root : ℕ) : Type 0 where
-  pub here : root / area_bytes ≡ area / area_bytes
-  pub whole : root % table_bytes ≡ 0
+  pub here : root / AREA_BYTES ≡ area / AREA_BYTES
+  pub whole : root % TABLE_BYTES ≡ 0
   pub path : (page : ℕ) → page < 2 ^ 20 → Path ram area root page
 
 -- both roots

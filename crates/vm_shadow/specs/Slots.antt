@@ -6,6 +6,7 @@ use Rattle.mb_port.specs.declared.types.Space.{Space}
 use Rattle.mb_model.specs.Keeping.{same_space}
 use Rattle.vm_shadow.specs.declared.table.Table.{Table}
 use Rattle.vm_shadow.specs.declared.table.Table.TheVariants.{Pointers, Pages}
+use Rattle.vm_shadow.specs.declared.nodes.TheConstants.{SLOTS}
 
 -- a shadow, but for what its tables hold
 pub record Slots : Type 0 where
@@ -55,10 +56,6 @@ placed s = record {
   count = λ number. get_or s.counts number 0;
 }
 
--- how many slots there are
-abbrev pub slots : ℕ
-slots = 126
-
 -- the tables once this one stands
 abbrev pub with_table : Table → List Table → List Table
 with_table table tables = if nat_lt (number_of table tables) (length tables) then tables else tables ++ table ∷ []
@@ -76,4 +73,4 @@ tables_for space page tables = with_table (pages_of space page) (with_table (poi
 
 -- are these more than there are slots
 abbrev pub is_full_for : Space → ℕ → List Table → Bool
-is_full_for space page tables = nat_lt slots (length (tables_for space page tables))
+is_full_for space page tables = nat_lt SLOTS (length (tables_for space page tables))

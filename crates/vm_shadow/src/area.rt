@@ -3,6 +3,7 @@
 ghost use Rattle.std.specs.Prelude.{◌≡◌, ℕ, ◌+◌, ◌*◌, ◌%◌, ◌^◌, ◌≤◌, ◌<◌, ◌⊎◌, length, take, drop, MatchOption};
 ghost use Rattle.vm_shadow.specs.Area.{longs, updated, in_root as root_place, in_slot as slot_place};
 ghost use Rattle.vm_shadow.specs.Area.{link as link_of, page_long as long_of, IsPageLong};
+ghost use Rattle.vm_shadow.specs.declared.nodes.TheConstants.{SLOTS};
 
 use mb_model::PAGE_SIZE;
 use mb_port::Space;
@@ -25,7 +26,7 @@ pub fn in_root(space: Space, index: u32) -> u32
 
 /// The number of an entry of a slot.
 pub fn in_slot(slot: u32, index: u32) -> u32
-    requires slot { slot < 126 }
+    requires slot { slot < SLOTS }
     requires index { index < 128 }
     ensures number { result ≡ slot_place slot index }
     ensures inside { result < 16384 }
@@ -35,8 +36,8 @@ pub fn in_slot(slot: u32, index: u32) -> u32
 
 /// The descriptor of the table in a slot.
 pub fn link(area: u32, slot: u32) -> u32
-    requires aligned { area % 65536 ≡ 0 }
-    requires slot { slot < 126 }
+    requires aligned { area % AREA_BYTES ≡ 0 }
+    requires slot { slot < SLOTS }
     ensures { result ≡ link_of area slot }
 {
     area + 1024 + 512 * slot + 10
@@ -44,9 +45,9 @@ pub fn link(area: u32, slot: u32) -> u32
 
 /// The slot of the table that a descriptor leads to.
 pub fn led(area: u32, long: u32) -> Option<u32>
-    requires aligned { area % 65536 ≡ 0 }
-    requires link { (long ≡ 0) ⊎ ((slot : ℕ) × ((slot < 126) × (long ≡ link_of area slot))) }
-    ensures { MatchOption result (long ≡ 0) (λ slot. (slot < 126) × (long ≡ link_of area slot)) }
+    requires aligned { area % AREA_BYTES ≡ 0 }
+    requires link { (long ≡ 0) ⊎ ((slot : ℕ) × ((slot < SLOTS) × (long ≡ link_of area slot))) }
+    ensures { MatchOption result (long ≡ 0) (λ slot. (slot < SLOTS) × (long ≡ link_of area slot)) }
 {
     if long == 0 {
         None
@@ -66,8 +67,8 @@ pub fn page_long(frame: u32, writable: bool) -> u32
 
 /// A long of an area.
 pub fn long_in<R: Ram>(ram: &R, area: u32, index: u32) -> u32
-    requires aligned { area % 65536 ≡ 0 }
-    requires inside { area + 65536 ≤ length (R.bytes ram.now) }
+    requires aligned { area % AREA_BYTES ≡ 0 }
+    requires inside { area + AREA_BYTES ≤ length (R.bytes ram.now) }
     requires index { index < 16384 }
     ensures { result ≡ longs (R.bytes ram.now) area index }
 {
@@ -77,13 +78,13 @@ pub fn long_in<R: Ram>(ram: &R, area: u32, index: u32) -> u32
 /// Sets a long of an area.
 #[tactic(auto, using(mb_walk::proofs::MemoryLemmas::lengths))]
 pub fn set_in<R: Ram>(ram: &mut R, area: u32, index: u32, long: u32)
-    requires aligned { area % 65536 ≡ 0 }
-    requires inside { area + 65536 ≤ length (R.bytes ram.old) }
+    requires aligned { area % AREA_BYTES ≡ 0 }
+    requires inside { area + AREA_BYTES ≤ length (R.bytes ram.old) }
     requires index { index < 16384 }
     ensures longs { longs (R.bytes ram.new) area ≡ updated (longs (R.bytes ram.old) area) index long }
     ensures size { length (R.bytes ram.new) ≡ length (R.bytes ram.old) }
     ensures below { take area (R.bytes ram.new) ≡ take area (R.bytes ram.old) }
-    ensures above { drop (area + 65536) (R.bytes ram.new) ≡ drop (area + 65536) (R.bytes ram.old) }
+    ensures above { drop (area + AREA_BYTES) (R.bytes ram.new) ≡ drop (area + AREA_BYTES) (R.bytes ram.old) }
     ensures rest { R.rest ram.new ≡ R.rest ram.old }
 {
     ram.set_long(area + 4 * index, long);
@@ -91,12 +92,12 @@ pub fn set_in<R: Ram>(ram: &mut R, area: u32, index: u32, long: u32)
 
 /// Sets all longs of an area to 0.
 pub fn wipe<R: Ram>(ram: &mut R, area: u32)
-    requires aligned { area % 65536 ≡ 0 }
-    requires inside { area + 65536 ≤ length (R.bytes ram.old) }
+    requires aligned { area % AREA_BYTES ≡ 0 }
+    requires inside { area + AREA_BYTES ≤ length (R.bytes ram.old) }
     ensures longs { (at : ℕ) → at < 16384 → longs (R.bytes ram.new) area at ≡ 0 }
     ensures size { length (R.bytes ram.new) ≡ length (R.bytes ram.old) }
     ensures below { take area (R.bytes ram.new) ≡ take area (R.bytes ram.old) }
-    ensures above { drop (area + 65536) (R.bytes ram.new) ≡ drop (area + 65536) (R.bytes ram.old) }
+    ensures above { drop (area + AREA_BYTES) (R.bytes ram.new) ≡ drop (area + AREA_BYTES) (R.bytes ram.old) }
     ensures rest { R.rest ram.new ≡ R.rest ram.old }
 {
     for index in 0..AREA_BYTES / 4 {

@@ -9,6 +9,7 @@ mod nodes;
 mod shadow;
 mod table;
 
+pub use area::AREA_BYTES;
 pub use laws::{
     entries_are_listed, searches_find_entries, tables_are_needed, tables_are_of_the_area,
 };

@@ -14,7 +14,7 @@ use std::alloc::Global;
 pub const SLOTS: u32 = 126;
 
 /// The root of the list of free slots.
-const FREE: u32 = 127;
+pub const FREE: u32 = 127;
 
 /// A slot with its links.
 #[derive(Clone, Copy)]
@@ -79,7 +79,7 @@ impl Nodes {
         requires { Sized self.old }
         ensures sound { Sound self.new }
         ensures order { order (links_of self.new) ≡ [] }
-        ensures count { (at : ℕ) → at < 126 → (links_of self.new).count at ≡ 0 }
+        ensures count { (at : ℕ) → at < SLOTS → (links_of self.new).count at ≡ 0 }
     {
         for at in 0..SLOTS {
             let node = &mut self.nodes[at as usize];
@@ -106,7 +106,7 @@ impl Nodes {
 
     fn older(&self, at: u32) -> u32
         requires sized { Sized self.now }
-        requires inside { at < 127 }
+        requires inside { at < FREE }
         ensures { result ≡ (links_of self.now).older at }
     {
         if at == SLOTS {
@@ -132,7 +132,7 @@ impl Nodes {
 
     fn set_older(&mut self, at: u32, to: u32)
         requires sized { Sized self.old }
-        requires inside { at < 127 }
+        requires inside { at < FREE }
         ensures links { links_of self.new
             ≡ record (links_of self.old) { older = updated (links_of self.old).older at to } }
         ensures sized { Sized self.new }
@@ -146,7 +146,7 @@ impl Nodes {
 
     fn set_table(&mut self, at: u32, table: Table)
         requires sized { Sized self.old }
-        requires inside { at < 126 }
+        requires inside { at < SLOTS }
         ensures links { links_of self.new
             ≡ record (links_of self.old) { table = updated (links_of self.old).table at table } }
         ensures sized { Sized self.new }
@@ -157,7 +157,7 @@ impl Nodes {
     /// How many longs of a slot are not 0.
     pub fn count(&self, at: u32) -> u32
         requires sized { Sized self.now }
-        requires inside { at < 126 }
+        requires inside { at < SLOTS }
         ensures { result ≡ (links_of self.now).count at }
     {
         self.nodes[at as usize].count
@@ -165,7 +165,7 @@ impl Nodes {
 
     fn set_count(&mut self, at: u32, count: u32)
         requires sized { Sized self.old }
-        requires inside { at < 126 }
+        requires inside { at < SLOTS }
         ensures links { links_of self.new
             ≡ record (links_of self.old) { count = updated (links_of self.old).count at count } }
         ensures sized { Sized self.new }
@@ -176,7 +176,7 @@ impl Nodes {
     /// Counts a long of a slot that is written.
     pub fn recount(&mut self, at: u32, old: u32, new: u32)
         requires sound { Sound self.old }
-        requires inside { at < 126 }
+        requires inside { at < SLOTS }
         requires some { one old ≤ (links_of self.old).count at }
         requires few { (links_of self.old).count at ≤ 128 }
         ensures sound { Sound self.new }
@@ -192,9 +192,9 @@ impl Nodes {
     /// Takes a free slot for a table, which becomes the newest.
     pub fn push(&mut self, table: Table) -> u32
         requires sound { Sound self.old }
-        requires room { length (order (links_of self.old)) < 126 }
+        requires room { length (order (links_of self.old)) < SLOTS }
         ensures sound { Sound self.new }
-        ensures inside { result < 126 }
+        ensures inside { result < SLOTS }
         ensures free { times result (order (links_of self.old)) ≡ 0 }
         ensures order { order (links_of self.new) ≡ order (links_of self.old) ++ result ∷ [] }
         ensures table { (links_of self.new).table ≡ updated (links_of self.old).table result table }

@@ -8,6 +8,7 @@ ghost use Rattle.vm_shadow.specs.Shadows.{nothing, room_for, filled, dropped, wi
 ghost use Rattle.vm_shadow.specs.Mapped.{mapped, root_of, shadowed, BothStand};
 ghost use Rattle.vm_shadow.specs.Area.{longs, updated, in_root as root_place, in_slot as slot_place, entry_of};
 ghost use Rattle.vm_shadow.specs.Area.{Counted, IsPageLong, Laid, Maps, OnlyGo, Pushed, Removed, UsedBut};
+ghost use Rattle.vm_shadow.specs.declared.area.TheConstants.{AREA_BYTES};
 
 use crate::area::{in_root, in_slot, led, link, long_in, page_long, set_in, wipe};
 use crate::nodes::{Nodes, SLOTS};
@@ -31,6 +32,7 @@ pub struct Shadow {
 
 impl Model for Shadow {
     ghost use Rattle.std.specs.Prelude.{◌≡◌, ◌%◌};
+    ghost use Rattle.vm_shadow.specs.declared.area.TheConstants.{AREA_BYTES};
     ghost use Rattle.vm_shadow.specs.Slots.{Slots};
     ghost use Rattle.vm_shadow.specs.Links.{links_of, order, tables as tables_in, counts as counts_in, Sound};
 
@@ -43,14 +45,14 @@ impl Model for Shadow {
       counts = counts_in s.nodes;
     } };
 
-    ghost invariant = { λ s. (s.area % 65536 ≡ 0) × Sound s.nodes };
+    ghost invariant = { λ s. (s.area % AREA_BYTES ≡ 0) × Sound s.nodes };
 }
 
 impl Shadow {
     /// A shadow with an area at an address. It has written no table yet: `clear` comes first. It takes all the memory
     /// that it will need.
     pub fn new(alloc: Global, area: u32) -> Result<Shadow, Memory>
-        requires { area % 65536 ≡ 0 }
+        requires { area % AREA_BYTES ≡ 0 }
         ensures { IfOk result (λ shadow. (shadow.area ≡ area) × (shadow.tables ≡ [])) }
     {
         match Nodes::new(alloc) {
@@ -72,7 +74,7 @@ impl Shadow {
     /// The address of the area.
     fn area(&self) -> u32
         ensures area { result ≡ self.now.area }
-        ensures aligned { result % 65536 ≡ 0 }
+        ensures aligned { result % AREA_BYTES ≡ 0 }
     {
         self.area
     }
@@ -80,14 +82,14 @@ impl Shadow {
     /// How many slots are in use.
     fn count(&self) -> u32
         ensures used { result ≡ length self.now.tables }
-        ensures few { result ≤ 126 }
+        ensures few { result ≤ SLOTS }
     {
         self.nodes.used
     }
 
     /// Whether all longs of a slot are 0.
     fn is_empty(&self, slot: u32) -> bool
-        requires { slot < 126 }
+        requires { slot < SLOTS }
         ensures { result ≡ ((placed self.now).count slot == 0) }
     {
         self.nodes.count(slot) == 0
@@ -95,10 +97,10 @@ impl Shadow {
 
     /// Has a table stand in a free slot.
     fn push(&mut self, table: Table) -> u32
-        requires room { length self.old.tables < 126 }
+        requires room { length self.old.tables < SLOTS }
         requires new { length self.old.tables ≤ number_of table self.old.tables }
         ensures pushed { Pushed (placed self.old) (placed self.new) table result }
-        ensures inside { result < 126 }
+        ensures inside { result < SLOTS }
     {
         self.nodes.push(table)
     }
@@ -118,7 +120,7 @@ impl Shadow {
     fn empty(&mut self)
         ensures area { self.new.area ≡ self.old.area }
         ensures tables { self.new.tables ≡ [] }
-        ensures count { (slot : ℕ) → slot < 126 → (placed self.new).count slot ≡ 0 }
+        ensures count { (slot : ℕ) → slot < SLOTS → (placed self.new).count slot ≡ 0 }
     {
         self.nodes.reset();
     }
@@ -126,13 +128,13 @@ impl Shadow {
     /// Sets an entry of a root.
     fn set_root<R: Ram>(&self, ram: &mut R, space: Space, index: u32, long: u32)
         requires index { index < 128 }
-        requires inside { self.now.area + 65536 ≤ length (R.bytes ram.old) }
+        requires inside { self.now.area + AREA_BYTES ≤ length (R.bytes ram.old) }
         ensures longs { longs (R.bytes ram.new) self.now.area
             ≡ updated (longs (R.bytes ram.old) self.now.area) (root_place space index) long }
         ensures size { length (R.bytes ram.new) ≡ length (R.bytes ram.old) }
         ensures below { take self.now.area (R.bytes ram.new) ≡ take self.now.area (R.bytes ram.old) }
-        ensures above { drop (self.now.area + 65536) (R.bytes ram.new)
-            ≡ drop (self.now.area + 65536) (R.bytes ram.old) }
+        ensures above { drop (self.now.area + AREA_BYTES) (R.bytes ram.new)
+            ≡ drop (self.now.area + AREA_BYTES) (R.bytes ram.old) }
         ensures rest { R.rest ram.new ≡ R.rest ram.old }
     {
         set_in(ram, self.area(), in_root(space, index), long);
@@ -140,9 +142,9 @@ impl Shadow {
 
     /// Sets a long of a slot, and counts it.
     fn set<R: Ram>(&mut self, ram: &mut R, slot: u32, index: u32, long: u32)
-        requires slot { slot < 126 }
+        requires slot { slot < SLOTS }
         requires index { index < 128 }
-        requires inside { self.old.area + 65536 ≤ length (R.bytes ram.old) }
+        requires inside { self.old.area + AREA_BYTES ≤ length (R.bytes ram.old) }
         requires counted { Counted (placed self.old) (R.bytes ram.old) }
         ensures longs { longs (R.bytes ram.new) self.old.area
             ≡ updated (longs (R.bytes ram.old) self.old.area) (slot_place slot index) long }
@@ -150,8 +152,8 @@ impl Shadow {
         ensures same { self.new ≡ record self.old { counts = self.new.counts } }
         ensures size { length (R.bytes ram.new) ≡ length (R.bytes ram.old) }
         ensures below { take self.old.area (R.bytes ram.new) ≡ take self.old.area (R.bytes ram.old) }
-        ensures above { drop (self.old.area + 65536) (R.bytes ram.new)
-            ≡ drop (self.old.area + 65536) (R.bytes ram.old) }
+        ensures above { drop (self.old.area + AREA_BYTES) (R.bytes ram.new)
+            ≡ drop (self.old.area + AREA_BYTES) (R.bytes ram.old) }
         ensures rest { R.rest ram.new ≡ R.rest ram.old }
     {
         let area = self.area();
@@ -163,15 +165,15 @@ impl Shadow {
 
     /// Removes all entries and tables, or makes the first.
     pub fn clear<R: Ram>(&mut self, ram: &mut R)
-        requires { self.old.area + 65536 ≤ length (R.bytes ram.old) }
+        requires { self.old.area + AREA_BYTES ≤ length (R.bytes ram.old) }
         ensures tables { Maps self.new (R.bytes ram.new) }
         ensures shadow { shadowed self.new (R.bytes ram.new) ≡ nothing }
         ensures area { self.new.area ≡ self.old.area }
         ensures stands { BothStand (R.bytes ram.new) self.new.area }
         ensures size { length (R.bytes ram.new) ≡ length (R.bytes ram.old) }
         ensures below { take self.old.area (R.bytes ram.new) ≡ take self.old.area (R.bytes ram.old) }
-        ensures above { drop (self.old.area + 65536) (R.bytes ram.new)
-            ≡ drop (self.old.area + 65536) (R.bytes ram.old) }
+        ensures above { drop (self.old.area + AREA_BYTES) (R.bytes ram.new)
+            ≡ drop (self.old.area + AREA_BYTES) (R.bytes ram.old) }
         ensures rest { R.rest ram.new ≡ R.rest ram.old }
     {
         wipe(ram, self.area());
@@ -273,8 +275,8 @@ impl Shadow {
         ensures same { self.new ≡ record self.old { counts = self.new.counts } }
         ensures size { length (R.bytes ram.new) ≡ length (R.bytes ram.old) }
         ensures below { take self.old.area (R.bytes ram.new) ≡ take self.old.area (R.bytes ram.old) }
-        ensures above { drop (self.old.area + 65536) (R.bytes ram.new)
-            ≡ drop (self.old.area + 65536) (R.bytes ram.old) }
+        ensures above { drop (self.old.area + AREA_BYTES) (R.bytes ram.new)
+            ≡ drop (self.old.area + AREA_BYTES) (R.bytes ram.old) }
         ensures rest { R.rest ram.new ≡ R.rest ram.old }
     {
         let _ = space;
@@ -297,8 +299,8 @@ impl Shadow {
         ensures area { self.new.area ≡ self.old.area }
         ensures size { length (R.bytes ram.new) ≡ length (R.bytes ram.old) }
         ensures under { take self.old.area (R.bytes ram.new) ≡ take self.old.area (R.bytes ram.old) }
-        ensures over { drop (self.old.area + 65536) (R.bytes ram.new)
-            ≡ drop (self.old.area + 65536) (R.bytes ram.old) }
+        ensures over { drop (self.old.area + AREA_BYTES) (R.bytes ram.new)
+            ≡ drop (self.old.area + AREA_BYTES) (R.bytes ram.old) }
         ensures rest { R.rest ram.new ≡ R.rest ram.old }
     {
         if !self.is_empty(slot) {
@@ -324,8 +326,8 @@ impl Shadow {
         ensures area { self.new.area ≡ self.old.area }
         ensures size { length (R.bytes ram.new) ≡ length (R.bytes ram.old) }
         ensures below { take self.old.area (R.bytes ram.new) ≡ take self.old.area (R.bytes ram.old) }
-        ensures above { drop (self.old.area + 65536) (R.bytes ram.new)
-            ≡ drop (self.old.area + 65536) (R.bytes ram.old) }
+        ensures above { drop (self.old.area + AREA_BYTES) (R.bytes ram.new)
+            ≡ drop (self.old.area + AREA_BYTES) (R.bytes ram.old) }
         ensures rest { R.rest ram.new ≡ R.rest ram.old }
     {
         if let Some(slot) = self.pointers(ram, space, index) {
@@ -347,8 +349,8 @@ impl Shadow {
         ensures stands { BothStand (R.bytes ram.new) self.new.area }
         ensures size { length (R.bytes ram.new) ≡ length (R.bytes ram.old) }
         ensures below { take self.old.area (R.bytes ram.new) ≡ take self.old.area (R.bytes ram.old) }
-        ensures above { drop (self.old.area + 65536) (R.bytes ram.new)
-            ≡ drop (self.old.area + 65536) (R.bytes ram.old) }
+        ensures above { drop (self.old.area + AREA_BYTES) (R.bytes ram.new)
+            ≡ drop (self.old.area + AREA_BYTES) (R.bytes ram.old) }
         ensures rest { R.rest ram.new ≡ R.rest ram.old }
     {
         if let Some(slot) = self.pages(ram, space, page / 64) {
@@ -361,7 +363,7 @@ impl Shadow {
     /// Has the pointer table of a root index stand. The answer is its slot.
     fn stand_pointers<R: Ram>(&mut self, ram: &mut R, space: Space, index: u32) -> u32
         requires index { index < 128 }
-        requires room { length (with_table (Table.Pointers space index) self.old.tables) ≤ 126 }
+        requires room { length (with_table (Table.Pointers space index) self.old.tables) ≤ SLOTS }
         requires tables { Maps self.old (R.bytes ram.old) }
         ensures laid { Laid (placed self.new) (R.bytes ram.new) }
         ensures full { UsedBut (Table.Pointers space index) (placed self.new) (R.bytes ram.new) }
@@ -372,8 +374,8 @@ impl Shadow {
         ensures area { self.new.area ≡ self.old.area }
         ensures size { length (R.bytes ram.new) ≡ length (R.bytes ram.old) }
         ensures below { take self.old.area (R.bytes ram.new) ≡ take self.old.area (R.bytes ram.old) }
-        ensures above { drop (self.old.area + 65536) (R.bytes ram.new)
-            ≡ drop (self.old.area + 65536) (R.bytes ram.old) }
+        ensures above { drop (self.old.area + AREA_BYTES) (R.bytes ram.new)
+            ≡ drop (self.old.area + AREA_BYTES) (R.bytes ram.old) }
         ensures rest { R.rest ram.new ≡ R.rest ram.old }
     {
         if let Some(slot) = self.pointers(ram, space, index) {
@@ -389,7 +391,7 @@ impl Shadow {
         requires index { index < 2 ^ 14 }
         requires above { Has self.old.tables (Table.Pointers space (index / 128)) }
         requires slot { above ≡ (placed self.old).slot (Table.Pointers space (index / 128)) }
-        requires room { length (with_table (Table.Pages space index) self.old.tables) ≤ 126 }
+        requires room { length (with_table (Table.Pages space index) self.old.tables) ≤ SLOTS }
         requires laid { Laid (placed self.old) (R.bytes ram.old) }
         requires full { UsedBut (Table.Pointers space (index / 128)) (placed self.old) (R.bytes ram.old) }
         ensures laid { Laid (placed self.new) (R.bytes ram.new) }
@@ -401,8 +403,8 @@ impl Shadow {
         ensures area { self.new.area ≡ self.old.area }
         ensures size { length (R.bytes ram.new) ≡ length (R.bytes ram.old) }
         ensures under { take self.old.area (R.bytes ram.new) ≡ take self.old.area (R.bytes ram.old) }
-        ensures over { drop (self.old.area + 65536) (R.bytes ram.new)
-            ≡ drop (self.old.area + 65536) (R.bytes ram.old) }
+        ensures over { drop (self.old.area + AREA_BYTES) (R.bytes ram.new)
+            ≡ drop (self.old.area + AREA_BYTES) (R.bytes ram.old) }
         ensures rest { R.rest ram.new ≡ R.rest ram.old }
     {
         if let Some(slot) = self.below(ram, space, index, above) {
@@ -418,15 +420,15 @@ impl Shadow {
         requires page { page < 2 ^ 20 }
         requires tables { Maps self.old (R.bytes ram.old) }
         ensures full { result ≡ full_for space page self.old.tables }
-        ensures room { length (tables_for space page self.new.tables) ≤ 126 }
+        ensures room { length (tables_for space page self.new.tables) ≤ SLOTS }
         ensures tables { Maps self.new (R.bytes ram.new) }
         ensures shadow { shadowed self.new (R.bytes ram.new)
             ≡ room_for space page (shadowed self.old (R.bytes ram.old)) }
         ensures area { self.new.area ≡ self.old.area }
         ensures size { length (R.bytes ram.new) ≡ length (R.bytes ram.old) }
         ensures below { take self.old.area (R.bytes ram.new) ≡ take self.old.area (R.bytes ram.old) }
-        ensures above { drop (self.old.area + 65536) (R.bytes ram.new)
-            ≡ drop (self.old.area + 65536) (R.bytes ram.old) }
+        ensures above { drop (self.old.area + AREA_BYTES) (R.bytes ram.new)
+            ≡ drop (self.old.area + AREA_BYTES) (R.bytes ram.old) }
         ensures rest { R.rest ram.new ≡ R.rest ram.old }
     {
         let full = self.is_full_for(ram, space, page);
@@ -457,8 +459,8 @@ impl Shadow {
         ensures stands { BothStand (R.bytes ram.new) self.new.area }
         ensures size { length (R.bytes ram.new) ≡ length (R.bytes ram.old) }
         ensures below { take self.old.area (R.bytes ram.new) ≡ take self.old.area (R.bytes ram.old) }
-        ensures above { drop (self.old.area + 65536) (R.bytes ram.new)
-            ≡ drop (self.old.area + 65536) (R.bytes ram.old) }
+        ensures above { drop (self.old.area + AREA_BYTES) (R.bytes ram.new)
+            ≡ drop (self.old.area + AREA_BYTES) (R.bytes ram.old) }
         ensures rest { R.rest ram.new ≡ R.rest ram.old }
     {
         let full = self.make_room(ram, space, page);

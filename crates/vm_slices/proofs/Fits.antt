@@ -4,8 +4,9 @@ use Rattle.std.proofs.Common.{get_or, drop, map, refl, ap, sym, subst, arith, ap
 use Rattle.std.specs.Prelude.{All, sum_by}
 use Rattle.std.proofs.lemmas.List.{append-nil, length-map}
 use Rattle.std.proofs.lemmas.List.Sums.{sum_by-cons}
-use Rattle.vm_shadow.specs.Mapped.{area_bytes}
-use Rattle.vm_machine.specs.Seats.{end_of, monitor_bytes, IsSeated}
+use Rattle.vm_shadow.specs.declared.area.TheConstants.{AREA_BYTES}
+use Rattle.vm_machine.specs.Seats.{end_of, IsSeated}
+use Rattle.vm_machine.specs.declared.limits.TheConstants.{MONITOR_BYTES}
 use Rattle.vm_machine.specs.Rounds.{Member}
 use Rattle.vm_guest.specs.Memory.{OnlyBetween}
 use Rattle.vm_guest.specs.Session.{GuestAtStart, IsGuest}
@@ -53,38 +54,38 @@ no_shares (k ∷ ks) (suc i) more = no_shares ks i (omega arith)
 pub record Stands (all rest : List GuestAtStart) (hosts : List HostGuest) (base : ℕ) (ram : List ℕ) : Type 0 where
   pub guests : All IsGuest rest
   pub members : members_of hosts ram ++ map member_at_start rest ≡ map member_at_start all
-  pub stand : StandFrom monitor_bytes hosts ram
+  pub stand : StandFrom MONITOR_BYTES hosts ram
   pub ready : All IsReady (members_of hosts ram)
-  pub end : end_of_all monitor_bytes hosts ≡ base
+  pub end : end_of_all MONITOR_BYTES hosts ≡ base
   pub aligned : base % 65536 ≡ 0
-  pub behind : monitor_bytes ≤ base
+  pub behind : MONITOR_BYTES ≤ base
   pub room : base + sum_by share_of rest ≤ length ram
 
 none_ready : All IsReady []
 none_ready k d less = absurd (omega arith)
 
-pub first_stands : (all : List GuestAtStart) (ram : List ℕ) → All IsGuest all → need_of all ≤ length ram → Stands all all [] monitor_bytes ram
+pub first_stands : (all : List GuestAtStart) (ram : List ℕ) → All IsGuest all → need_of all ≤ length ram → Stands all all [] MONITOR_BYTES ram
 first_stands all ram guests room =
     record { guests = guests; members = refl; stand = tt; ready = none_ready; end = refl; aligned = refl; behind = omega arith; room = room }
 
 -- the next one has room
 pub next_guest : (all rest : List GuestAtStart) (g : GuestAtStart) (hosts : List HostGuest) (base : ℕ) (ram : List ℕ)
-    → Stands all (g ∷ rest) hosts base ram → IsGuest g × (base + g.ram + area_bytes ≤ length ram)
+    → Stands all (g ∷ rest) hosts base ram → IsGuest g × (base + g.ram + AREA_BYTES ≤ length ram)
 next_guest all rest g hosts base ram s =
     let sum = sum_by-cons share_of g rest in let room = s.room in (s.guests zero g (omega arith), omega arith)
 
 -- and is prepared
 pub next_stands : (all rest : List GuestAtStart) (g : GuestAtStart) (hosts : List HostGuest) (h : HostGuest) (base : ℕ) (x y : List ℕ)
     → Stands all (g ∷ rest) hosts base x → member_of y h ≡ member_at_start g → h.guest.base ≡ base → h.guest.size ≡ g.ram
-    → IsSeated h.guest y → IsReady (member_of y h) → OnlyBetween base (base + g.ram + area_bytes) x y
-    → Stands all rest (hosts ++ h ∷ []) (base + g.ram + area_bytes) y
+    → IsSeated h.guest y → IsReady (member_of y h) → OnlyBetween base (base + g.ram + AREA_BYTES) x y
+    → Stands all rest (hosts ++ h ∷ []) (base + g.ram + AREA_BYTES) y
 next_stands all rest g hosts h base x y s start at size seated ready between =
-    let end : base + g.ram + area_bytes ≡ end_of h.guest = omega arith in
+    let end : base + g.ram + AREA_BYTES ≡ end_of h.guest = omega arith in
     let last = s.end in
     let behind = s.behind in
     let own : OnlyBetween h.guest.base (end_of h.guest) x y =
-    subst (λ (n : ℕ). OnlyBetween h.guest.base n x y) end (subst (λ (n : ℕ). OnlyBetween n (base + g.ram + area_bytes) x y) (sym at) between) in
-    let f = further monitor_bytes hosts h x y s.stand (omega arith) (omega arith) seated
+    subst (λ (n : ℕ). OnlyBetween h.guest.base n x y) end (subst (λ (n : ℕ). OnlyBetween n (base + g.ram + AREA_BYTES) x y) (sym at) between) in
+    let f = further MONITOR_BYTES hosts h x y s.stand (omega arith) (omega arith) seated
     (only_within h.guest x y (omega arith) own) in
     let ram = (s.guests zero g (omega arith)).ram in
     let whole = ram.2 in

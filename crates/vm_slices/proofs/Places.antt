@@ -8,7 +8,8 @@ use Rattle.mb_instr.specs.declared.registers.Plain.{Plain}
 use Rattle.vm_meaning.specs.Marks.{trail}
 use Rattle.vm_meaning.specs.Native.{NativeState}
 use Rattle.vm_machine.specs.Turns.{Turned}
-use Rattle.vm_machine.specs.Seats.{end_of, monitor_bytes, IsSame, IsSeated, OnlyWithin}
+use Rattle.vm_machine.specs.Seats.{end_of, IsSame, IsSeated, OnlyWithin}
+use Rattle.vm_machine.specs.declared.limits.TheConstants.{MONITOR_BYTES}
 use Rattle.vm_machine.specs.Rounds.{Member, left, is_done, all_done, left_of_all, turn_in, members_after, marks_after}
 use Rattle.vm_machine.proofs.Seated.{Alone, alone, turned_alone}
 use Rattle.vm_slices.specs.declared.host_guest.HostGuest.{HostGuest}
@@ -63,7 +64,7 @@ same_member g x y a =
 
 -- memory changes within a guest that is before them
 behind_stay : (from : ℕ) (ks : List HostGuest) (g : HostGuest) (x y : List ℕ) → StandFrom from ks x → end_of g.guest ≤ from
-    → monitor_bytes ≤ g.guest.base → OnlyWithin g.guest x y → StandFrom from ks y × (members_of ks y ≡ members_of ks x)
+    → MONITOR_BYTES ≤ g.guest.base → OnlyWithin g.guest x y → StandFrom from ks y × (members_of ks y ≡ members_of ks x)
 behind_stay from [] g x y all before behind within = (tt, refl)
 behind_stay from (k ∷ ks) g x y all before behind within =
     let first = all.0 in
@@ -79,7 +80,7 @@ pub record HasTurned (slice : ℕ) (g h : HostGuest) (x y : List ℕ) : Type 0 w
   pub within : OnlyWithin g.guest x y
 
 pub turned_one : (from slice : ℕ) (gs : List HostGuest) (i : ℕ) (g h : HostGuest) (x y : List ℕ) → StandFrom from gs x → i < length gs
-    → g ≡ get_or gs i g → monitor_bytes ≤ from → HasTurned slice g h x y
+    → g ≡ get_or gs i g → MONITOR_BYTES ≤ from → HasTurned slice g h x y
     → StandFrom from (set gs i h) y × (members_of (set gs i h) y ≡ with_turn slice i (members_of gs x))
 turned_one from slice [] i g h x y all less is behind t = absurd (omega arith)
 turned_one from slice (k ∷ ks) zero g h x y all less is behind t =
@@ -105,11 +106,11 @@ turned_one from slice (k ∷ ks) (suc i) g h x y all less is behind t =
     )
 
 -- the guest at a place
-pub turned_at : (slice : ℕ) (gs : List HostGuest) (i : ℕ) (r h : HostGuest) (x y : List ℕ) → StandFrom monitor_bytes gs x → i < length gs
+pub turned_at : (slice : ℕ) (gs : List HostGuest) (i : ℕ) (r h : HostGuest) (x y : List ℕ) → StandFrom MONITOR_BYTES gs x → i < length gs
     → r ≡ get_or gs i r → HasTurned slice (get_or gs i r) h x y
-    → StandFrom monitor_bytes (set gs i h) y × (members_of (set gs i h) y ≡ with_turn slice i (members_of gs x))
+    → StandFrom MONITOR_BYTES (set gs i h) y × (members_of (set gs i h) y ≡ with_turn slice i (members_of gs x))
 turned_at slice gs i r h x y all less is t =
-    turned_one monitor_bytes slice gs i (get_or gs i r) h x y all less (ap (λ (g : HostGuest). get_or gs i g) is) (omega arith) t
+    turned_one MONITOR_BYTES slice gs i (get_or gs i r) h x y all less (ap (λ (g : HostGuest). get_or gs i g) is) (omega arith) t
 
 -- every other member is as it was
 pub other_stays : (slice place other : ℕ) (ms : List Member) → other ≢ place → slice_get (with_turn slice place ms) other ≡ slice_get ms other
@@ -279,7 +280,7 @@ pub record Further (from : ℕ) (gs : List HostGuest) (h : HostGuest) (x y : Lis
   pub end : end_of_all from (gs ++ h ∷ []) ≡ end_of h.guest
 
 pub further : (from : ℕ) (gs : List HostGuest) (h : HostGuest) (x y : List ℕ) → StandFrom from gs x → end_of_all from gs ≤ h.guest.base
-    → monitor_bytes ≤ h.guest.base → IsSeated h.guest y → OnlyWithin h.guest x y → Further from gs h x y
+    → MONITOR_BYTES ≤ h.guest.base → IsSeated h.guest y → OnlyWithin h.guest x y → Further from gs h x y
 further from [] h x y all before behind seated within = record { stand = (before, seated, tt); members = refl; end = refl }
 further from (k ∷ ks) h x y all before behind seated within =
     let last = end_behind (end_of k.guest) ks x all.2 in

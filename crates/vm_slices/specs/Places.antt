@@ -1,7 +1,9 @@
 -- Guests of a session on a board.
 use Rattle.std.specs.Prelude.{ℕ, ◌≤◌, List, [], ◌∷◌, length, map, zero, suc}
 use Rattle.mb_instr.specs.declared.registers.Plain.{Plain}
-use Rattle.vm_machine.specs.Seats.{guested_on, end_of, monitor_bytes, IsSeated}
+use Rattle.vm_machine.specs.Seats.{guested_on, end_of, IsSeated}
+use Rattle.vm_machine.specs.declared.limits.TheConstants.{MONITOR_BYTES}
+use Rattle.mb_script.specs.declared.sizes.TheConstants.{MOST_GUESTS}
 use Rattle.vm_machine.specs.Rounds.{Member, turn_in}
 use Rattle.vm_slices.specs.declared.host_guest.HostGuest.{HostGuest}
 use Rattle.vm_slices.specs.Members.{after_turn}
@@ -41,8 +43,8 @@ end_of_all from (g ∷ guests) = end_of_all (end_of g.guest) guests
 -- what holds of a host: turns have steps, and all guests stand behind the monitor's bytes
 pub record IsHost (slice : ℕ) (guests : List HostGuest) (ram : List ℕ) : Type 0 where
   pub some : 1 ≤ slice
-  pub few : length guests ≤ 16
-  pub stand : StandFrom monitor_bytes guests ram
+  pub few : length guests ≤ MOST_GUESTS
+  pub stand : StandFrom MONITOR_BYTES guests ram
 
 -- the marks of the turn of a round of the member at a place
 abbrev pub marks_at : (slice place : ℕ) → List Member → List Plain

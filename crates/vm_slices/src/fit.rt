@@ -4,12 +4,8 @@ ghost use Rattle.std.specs.Prelude.{◌≡◌, ◌^◌, ◌<◌};
 ghost use Rattle.vm_slices.specs.Fit.{need_of};
 
 use vm_guest::SessionGuest;
-
-/// The bytes of the board for the monitor itself.
-pub(crate) const MONITOR_BYTES: u32 = 0x1_0000;
-
-/// The bytes of a guest's tables, behind its RAM.
-pub(crate) const AREA_BYTES: u32 = 0x1_0000;
+use vm_machine::MONITOR_BYTES;
+use vm_shadow::AREA_BYTES;
 
 /// The monitor's bytes, and the RAM and the tables of all guests.
 pub(crate) fn bytes_needed(guests: &[SessionGuest]) -> u32

@@ -2,20 +2,21 @@
 
 ghost use Rattle.std.specs.Prelude.{◌≡◌, ◌+◌, ◌-◌, ◌^◌, ◌<◌, ◌≤◌, length, map, true, Some, IfOk, IfErr, All};
 ghost use Rattle.mb_model.specs.Seen.{seen_of};
-ghost use Rattle.vm_machine.specs.Seats.{monitor_bytes};
+ghost use Rattle.vm_machine.specs.declared.limits.TheConstants.{MONITOR_BYTES};
 ghost use Rattle.vm_machine.specs.Rounds.{all_done, left_of_all, members_after, marks_after};
 ghost use Rattle.vm_guest.specs.Session.{IsGuest, IsSession};
 ghost use Rattle.vm_slices.specs.declared.open_fault.OpenFault.TheVariants as open_fault;
 ghost use Rattle.vm_slices.specs.Fit.{need_of, Fits};
 ghost use Rattle.vm_guest.specs.Counting.{tally_in};
 ghost use Rattle.mb_script.specs.Plan.{IsTurnOf};
+ghost use Rattle.mb_script.specs.declared.sizes.TheConstants.{MOST_GUESTS};
 ghost use Rattle.vm_slices.specs.Counting.{AreCounted, HasRoom, RisesBy};
 ghost use Rattle.vm_slices.specs.Members.{member_at_start, machine_at_end, tally_at_end, after_rounds, IsReady};
 ghost use Rattle.vm_slices.specs.Members.{machines_of, tallies_of, devices_of, shown_of, numbered};
 ghost use Rattle.vm_slices.specs.Orders.{after_order, each_given, machines_given};
 ghost use Rattle.vm_slices.specs.Places.{marks_at, members_in, members_of, with_turn, StandFrom};
 
-use crate::fit::{AREA_BYTES, MONITOR_BYTES, bytes_needed};
+use crate::fit::bytes_needed;
 use crate::host_guest::HostGuest;
 use crate::open_fault::OpenFault;
 use crate::rounds::{are_done, take_round, take_turn};
@@ -28,6 +29,8 @@ use mb_walk::Ram;
 use std::alloc::Global;
 use std::marker::Model;
 use vm_guest::{Counts, Session, SessionGuest};
+use vm_machine::MONITOR_BYTES;
+use vm_shadow::AREA_BYTES;
 
 /// All guests of a session on their board. Guests are numbered from 1.
 #[derive(Drop)]
@@ -59,7 +62,7 @@ fn prepare_guests(
     requires small { length board.old.world.ram < 2 ^ 32 }
     ensures members { IfOk result (λ hosts. members_of hosts.items board.new.world.ram
         ≡ map member_at_start guests.items) }
-    ensures stand { IfOk result (λ hosts. StandFrom monitor_bytes hosts.items board.new.world.ram) }
+    ensures stand { IfOk result (λ hosts. StandFrom MONITOR_BYTES hosts.items board.new.world.ram) }
     ensures ready { IfOk result (λ hosts. All IsReady (members_of hosts.items board.new.world.ram)) }
 {
     let mut prepared = Vec::with_capacity(alloc, guests.len())?;
@@ -103,7 +106,7 @@ impl Host {
     /// How many guests there are.
     pub fn guest_count(&self) -> u8
         ensures count { result ≡ length (members_in self.now) }
-        ensures few { result ≤ 16 }
+        ensures few { result ≤ MOST_GUESTS }
     {
         self.guests.len() as u8
     }

@@ -1,8 +1,9 @@
 //! One guest of a session on its board.
 
 ghost use Rattle.std.specs.Prelude.{◌≡◌, ◌+◌, ◌*◌, ◌%◌, ◌^◌, ◌<◌, ◌≤◌, [], ◌∷◌, length, IfOk};
-ghost use Rattle.vm_shadow.specs.Mapped.{area_bytes};
-ghost use Rattle.vm_machine.specs.Seats.{end_of, monitor_bytes, IsSame, IsSeated, OnlyWithin};
+ghost use Rattle.vm_shadow.specs.declared.area.TheConstants.{AREA_BYTES};
+ghost use Rattle.vm_machine.specs.Seats.{end_of, IsSame, IsSeated, OnlyWithin};
+ghost use Rattle.vm_machine.specs.declared.limits.TheConstants.{MONITOR_BYTES};
 ghost use Rattle.vm_machine.specs.Rounds.{left, is_done, turn_in};
 ghost use Rattle.vm_guest.specs.Memory.{OnlyBetween};
 ghost use Rattle.vm_guest.specs.Session.{IsGuest};
@@ -31,13 +32,13 @@ impl HostGuest {
         board: &mut Board,
     ) -> Result<HostGuest, Memory>
         requires guest { IsGuest guest }
-        requires base { (monitor_bytes ≤ base) × (base % 65536 ≡ 0) }
-        requires inside { base + guest.ram + area_bytes ≤ length board.old.world.ram }
+        requires base { (MONITOR_BYTES ≤ base) × (base % AREA_BYTES ≡ 0) }
+        requires inside { base + guest.ram + AREA_BYTES ≤ length board.old.world.ram }
         ensures start { IfOk result (λ host. member_of board.new.world.ram host ≡ member_at_start guest) }
         ensures place { IfOk result (λ host. (host.guest.base ≡ base) × (host.guest.size ≡ guest.ram)) }
         ensures seated { IfOk result (λ host. IsSeated host.guest board.new.world.ram) }
         ensures ready { IfOk result (λ host. IsReady (member_of board.new.world.ram host)) }
-        ensures within { OnlyBetween base (base + guest.ram + area_bytes) board.old.world.ram board.new.world.ram }
+        ensures within { OnlyBetween base (base + guest.ram + AREA_BYTES) board.old.world.ram board.new.world.ram }
     {
         let ram = guest.ram();
         let bound = guest.steps();

@@ -1,7 +1,7 @@
 //! Rounds: in each, every guest takes its turn.
 
 ghost use Rattle.std.specs.Prelude.{◌≡◌, ◌≢◌, ℕ, ◌<◌, length, slice_get, All};
-ghost use Rattle.vm_machine.specs.Seats.{monitor_bytes};
+ghost use Rattle.vm_machine.specs.declared.limits.TheConstants.{MONITOR_BYTES};
 ghost use Rattle.vm_machine.specs.Rounds.{all_done, left_of_all, members_after, marks_after};
 ghost use Rattle.vm_slices.specs.Counting.{AreCounted, HasRoom, RisesBy};
 ghost use Rattle.vm_slices.specs.Members.{IsReady};
@@ -19,7 +19,7 @@ pub(crate) fn take_turn(
     native: &mut Native,
 )
     requires place { place < length guests.old }
-    requires stand { StandFrom monitor_bytes guests.old board.old.world.ram }
+    requires stand { StandFrom MONITOR_BYTES guests.old board.old.world.ram }
     requires ready { All IsReady (members_of guests.old board.old.world.ram) }
     requires room { HasRoom (left_of_all (members_of guests.old board.old.world.ram)) native.old }
     ensures turn { members_of guests.new board.new.world.ram
@@ -28,7 +28,7 @@ pub(crate) fn take_turn(
         ≡ slice_get (members_of guests.old board.old.world.ram) other }
     ensures counts { AreCounted (members_of guests.old board.old.world.ram) (members_of guests.new board.new.world.ram)
         (marks_at slice place (members_of guests.old board.old.world.ram)) native.old native.new }
-    ensures stand { StandFrom monitor_bytes guests.new board.new.world.ram }
+    ensures stand { StandFrom MONITOR_BYTES guests.new board.new.world.ram }
     ensures ready { All IsReady (members_of guests.new board.new.world.ram) }
     ensures room { HasRoom (left_of_all (members_of guests.new board.new.world.ram)) native.new }
     ensures rises { RisesBy (left_of_all (members_of guests.old board.old.world.ram))
@@ -44,14 +44,14 @@ pub(crate) fn take_round(
     slice: u32,
     native: &mut Native,
 )
-    requires stand { StandFrom monitor_bytes guests.old board.old.world.ram }
+    requires stand { StandFrom MONITOR_BYTES guests.old board.old.world.ram }
     requires ready { All IsReady (members_of guests.old board.old.world.ram) }
     requires room { HasRoom (left_of_all (members_of guests.old board.old.world.ram)) native.old }
     ensures members { members_of guests.new board.new.world.ram
         ≡ members_after slice (members_of guests.old board.old.world.ram) }
     ensures counts { AreCounted (members_of guests.old board.old.world.ram) (members_of guests.new board.new.world.ram)
         (marks_after slice (members_of guests.old board.old.world.ram)) native.old native.new }
-    ensures stand { StandFrom monitor_bytes guests.new board.new.world.ram }
+    ensures stand { StandFrom MONITOR_BYTES guests.new board.new.world.ram }
     ensures ready { All IsReady (members_of guests.new board.new.world.ram) }
     ensures room { HasRoom (left_of_all (members_of guests.new board.new.world.ram)) native.new }
 {
@@ -62,7 +62,7 @@ pub(crate) fn take_round(
 
 /// Whether all guests have done their steps, or are halted or off.
 pub(crate) fn are_done(board: &Board, guests: &[HostGuest]) -> bool
-    requires { StandFrom monitor_bytes guests.now board.now.world.ram }
+    requires { StandFrom MONITOR_BYTES guests.now board.now.world.ram }
     ensures { result ≡ all_done (members_of guests.now board.now.world.ram) }
 {
     for guest in guests {

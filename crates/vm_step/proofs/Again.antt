@@ -21,7 +21,8 @@ use Rattle.vm_machine.specs.Turns.{guest_processed, guest_stepped, class_of_step
 use Rattle.vm_machine.specs.declared.class.Class.TheVariants as class
 use Rattle.vm_machine.proofs.Counts.{refills_aside}
 use Rattle.vm_shadow.specs.Shadows.{Shadowed}
-use Rattle.vm_machine.specs.Seats.{Seat, end_of, machine_on, guested_on, turned_on, monitor_bytes, IsSame, IsSeated, OnlyWithin}
+use Rattle.vm_machine.specs.Seats.{Seat, end_of, machine_on, guested_on, turned_on, IsSame, IsSeated, OnlyWithin}
+use Rattle.vm_machine.specs.declared.limits.TheConstants.{MONITOR_BYTES}
 use Rattle.vm_machine.proofs.Trails.{trail_append}
 use Rattle.vm_machine.proofs.TurnLaws.{going_turn, nothing_turned, turns_add}
 use Rattle.vm_step.specs.Refill.{HasBegunAgain}
@@ -41,7 +42,7 @@ within_both g mid ram now next same a b =
     let base = same.base in
     let end : end_of mid ≡ end_of g = (let size = same.size in omega arith) in record {
       count = b.count ∙ a.count;
-      below = subst (λ (k : ℕ). part next monitor_bytes (k - monitor_bytes) ≡ part now monitor_bytes (k - monitor_bytes)) base b.below ∙ a.below;
+      below = subst (λ (k : ℕ). part next MONITOR_BYTES (k - MONITOR_BYTES) ≡ part now MONITOR_BYTES (k - MONITOR_BYTES)) base b.below ∙ a.below;
       above = subst (λ (k : ℕ). drop k next ≡ drop k now) end b.above ∙ a.above;
     }
 

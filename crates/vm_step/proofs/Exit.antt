@@ -39,7 +39,8 @@ use Rattle.mb_walk.proofs.Parts.{drop-over}
 use Rattle.mb_processor.specs.Raise.{Stepped}
 use Rattle.mb_tells.specs.Laws.{moves_fetched}
 use Rattle.vm_leave.specs.Exits.{left, Exit, exit_of, IsEnd, IsBelow}
-use Rattle.vm_shadow.specs.Mapped.{area_bytes, root_of}
+use Rattle.vm_shadow.specs.Mapped.{root_of}
+use Rattle.vm_shadow.specs.declared.area.TheConstants.{AREA_BYTES}
 use Rattle.vm_machine.specs.Guests.{Guest}
 use Rattle.vm_machine.specs.Held.{held_bus}
 use Rattle.vm_machine.specs.Bus.{guest_bus}
@@ -187,7 +188,7 @@ board_left x root level own_level i cpu w guest g m related mmu status master vb
     let said = ends_fit x.space x.size (plain_of guest.regs) g i m.longs m.counter (sound_of x w g related) found (is_end k.0 never) in
     let counter : IsLong cpu.regs.pc = subst IsLong (sym (ap (λ (r : Plain). r.pc) m.plain)) m.counter in
     let is = exit_is x i own_level guest cpu p m.board_untraced m.user (ap (λ (r : Plain). r.pc) m.plain) by.ended k.0 by.same usual never in
-    let inside : x.base ≤ length w.ram = (let h = related.under in let z : x.slots.area + area_bytes ≤ length w.ram = related.maps.inside in omega arith) in
+    let inside : x.base ≤ length w.ram = (let h = related.under in let z : x.slots.area + AREA_BYTES ≤ length w.ram = related.maps.inside in omega arith) in
     let count : length by.world.ram ≡ length w.ram = by.stays.outside.count in
     let isp : e.cpu.regs.isp ≡ cpu.regs.isp = is.from.isp in
     let is_master_e : is_master e.cpu.regs.sr ≡ false = is.from.master ∙ master in
@@ -336,9 +337,9 @@ left_steps x script m g b fur regs seven is_left =
     let bytes = (frames_of e.cause e.cpu.regs).first.bytes in
     let fits : at + length bytes ≤ length q.ram = bl.room.fits in
     let top : at + length bytes ≡ m.cpu.regs.isp = bl.stack.ends ∙ bl.is.from.isp in
-    let room : x.base + x.size ≤ length q.ram = (let h = b.related.under in let z : x.slots.area + area_bytes ≤ length m.world.ram = b.related.maps.inside in
+    let room : x.base + x.size ≤ length q.ram = (let h = b.related.under in let z : x.slots.area + AREA_BYTES ≤ length m.world.ram = b.related.maps.inside in
     let e : length q.ram ≡ length m.world.ram = stays.outside.count in omega arith) in
-    let whole : x.base + 60 ≤ length q.ram = (let h = b.related.under in let z : x.slots.area + area_bytes ≤ length m.world.ram = b.related.maps.inside in
+    let whole : x.base + 60 ≤ length q.ram = (let h = b.related.under in let z : x.slots.area + AREA_BYTES ≤ length m.world.ram = b.related.maps.inside in
     let e : length q.ram ≡ length m.world.ram = stays.outside.count in omega arith) in
     let begun : BeginsWith (drop l.0.1.regs.isp l.1.ram) f = subst (λ (n : ℕ). BeginsWith (drop n l.1.ram) f) (sym entered.isp)
     (subst (λ (r : List ℕ). BeginsWith r f) (sym (stands_at q.ram bytes at (omega arith)))

@@ -20,7 +20,7 @@ use Rattle.mb_writes.specs.declared.ends.Ended.{Ended}
 use Rattle.mb_writes.specs.declared.ends.Ended.TheVariants as ended
 use Rattle.mb_processor.specs.SystemEnds.{with_registers}
 use Rattle.mb_processor.specs.Raise.{Stepped, traces_all, is_due, with_ct, cause_at}
-use Rattle.mb_model.specs.Pages.{page_size}
+use Rattle.mb_model.specs.declared.pages.TheConstants.{PAGE_SIZE}
 use Rattle.mb_processor.specs.Step.{movem_words, is_flow}
 use Rattle.mb_twins.specs.Twins.{SameEnd}
 use Rattle.mb_attempts.specs.Attempts.{IsUntraced}
@@ -131,8 +131,8 @@ module _ (x : Site) (i : Instr) (level : ℕ) (guest cpu : Cpu) (p : Plain) (pla
     small = omega arith;
     class = refl;
     from = is_itself cpu user;
-    read = read_is_told x.space f.fault g.fault f.first page_size same;
-    rest = λ _ q e now. over _ _ now (ap (λ (o : LeftOver). rest_by o level guest q) (frames_tell (fields.Read f.fault f.first) page_size tt));
+    read = read_is_told x.space f.fault g.fault f.first PAGE_SIZE same;
+    rest = λ _ q e now. over _ _ now (ap (λ (o : LeftOver). rest_by o level guest q) (frames_tell (fields.Read f.fault f.first) PAGE_SIZE tt));
   }
 
   write_is : (due : Bool) (f : WriteFault) (g : WriteFault) (items : List Pend) → due ≡ false → f.rest.items ≡ items → g.rest.items ≡ items → f.first ≡ g.first
@@ -144,9 +144,9 @@ module _ (x : Site) (i : Instr) (level : ℕ) (guest cpu : Cpu) (p : Plain) (pla
     small = omega arith;
     class = refl;
     from = is_itself cpu user;
-    read = write_reads_none x.space f.fault f.first page_size [];
+    read = write_reads_none x.space f.fault f.first PAGE_SIZE [];
     rest = λ _ q e now. over _ _ now (
-        ap (λ (o : LeftOver). rest_by o level guest q) (frames_tell (fields.Write f.fault f.first []) page_size (omega arith, tt))
+        ap (λ (o : LeftOver). rest_by o level guest q) (frames_tell (fields.Write f.fault f.first []) PAGE_SIZE (omega arith, tt))
         ∙ ap (λ (ps : List Pend). rest_by (left_pieces ps g.first) level guest p) (sym h));
   }
   write_is due f g (piece ∷ pieces) none e h first u = record {
@@ -154,13 +154,13 @@ module _ (x : Site) (i : Instr) (level : ℕ) (guest cpu : Cpu) (p : Plain) (pla
     small = omega arith;
     class = refl;
     from = is_set p cpu user;
-    read = ap (λ (a : Access). read_of_access x.space (Some a)) (no_trace due (write_fields f.fault f.first f.rest.items page_size) none)
-        ∙ write_reads_none x.space f.fault f.first page_size f.rest.items;
+    read = ap (λ (a : Access). read_of_access x.space (Some a)) (no_trace due (write_fields f.fault f.first f.rest.items PAGE_SIZE) none)
+        ∙ write_reads_none x.space f.fault f.first PAGE_SIZE f.rest.items;
     rest = λ seven q k now. over _ _ now (
         let own = subst (λ (ps : List Pend). (length ps ≤ 3) × AreOwn ps) h u in
-        ap (λ (a : Access). rest_by (left_in a) level guest q) (no_trace due (write_fields f.fault f.first f.rest.items page_size) none)
-        ∙ ap (λ (ps : List Pend). rest_by (left_in (write_fields f.fault f.first ps page_size)) level guest q) e
-        ∙ ap (λ (o : LeftOver). rest_by o level guest q) (frames_tell (fields.Write f.fault f.first (piece ∷ pieces)) page_size own)
+        ap (λ (a : Access). rest_by (left_in a) level guest q) (no_trace due (write_fields f.fault f.first f.rest.items PAGE_SIZE) none)
+        ∙ ap (λ (ps : List Pend). rest_by (left_in (write_fields f.fault f.first ps PAGE_SIZE)) level guest q) e
+        ∙ ap (λ (o : LeftOver). rest_by o level guest q) (frames_tell (fields.Write f.fault f.first (piece ∷ pieces)) PAGE_SIZE own)
         ∙ ap (λ (n : ℕ). rest_by (Writes (record { items = piece ∷ pieces }) n) level guest q) first
         ∙ ap (λ (r : Plain). rest_by (Writes (record { items = piece ∷ pieces }) g.first) level guest r) (set_behind p cpu q k)
         ∙ rest_tidy (Writes (record { items = piece ∷ pieces }) g.first) level guest p (seven_set p cpu seven)
@@ -174,11 +174,11 @@ module _ (x : Site) (i : Instr) (level : ℕ) (guest cpu : Cpu) (p : Plain) (pla
     small = omega arith;
     class = refl;
     from = is_set p cpu user;
-    read = ap (λ (a : Access). read_of_access x.space (Some a)) (no_trace (traces_all cpu.regs.sr) (line_fields f longs page_size) plain.all)
-        ∙ line_reads_none x.space f longs page_size;
+    read = ap (λ (a : Access). read_of_access x.space (Some a)) (no_trace (traces_all cpu.regs.sr) (line_fields f longs PAGE_SIZE) plain.all)
+        ∙ line_reads_none x.space f longs PAGE_SIZE;
     rest = λ seven q k now. over _ _ now (
-        ap (λ (a : Access). rest_by (left_in a) level guest q) (no_trace (traces_all cpu.regs.sr) (line_fields f longs page_size) plain.all)
-        ∙ ap (λ (o : LeftOver). rest_by o level guest q) (frames_tell (fields.Line f longs) page_size four)
+        ap (λ (a : Access). rest_by (left_in a) level guest q) (no_trace (traces_all cpu.regs.sr) (line_fields f longs PAGE_SIZE) plain.all)
+        ∙ ap (λ (o : LeftOver). rest_by o level guest q) (frames_tell (fields.Line f longs) PAGE_SIZE four)
         ∙ ap (λ (n : ℕ). rest_by (Line n longs) level guest q) (sym same)
         ∙ ap (λ (r : Plain). rest_by (Line g.at longs) level guest r) (set_behind p cpu q k)
         ∙ rest_tidy (Line g.at longs) level guest p (seven_set p cpu seven));
@@ -193,16 +193,16 @@ module _ (x : Site) (i : Instr) (level : ℕ) (guest cpu : Cpu) (p : Plain) (pla
     from = is_set p cpu user;
     read =
         let moved = refused_transfer f (movem_words i) after.regs.pc in
-        ap (λ (b : Bool). read_of_access x.space (Some (with_ct (b && not (movem_in (movem_words i)).is_load) (access_fields moved page_size)))) plain.all
+        ap (λ (b : Bool). read_of_access x.space (Some (with_ct (b && not (movem_in (movem_words i)).is_load) (access_fields moved PAGE_SIZE)))) plain.all
         ∙ (let m = movem_in (movem_words i) in
-        movem_reads_none x.space f.fault f.first (transfer_at m f.first f.done) f.done (movem_words i) after.regs.pc m.is_load page_size);
+        movem_reads_none x.space f.fault f.first (transfer_at m f.first f.done) f.done (movem_words i) after.regs.pc m.is_load PAGE_SIZE);
     rest = λ seven q k now. over _ _ now (
         let words = movem_words i in
         let own : Plain = record p { pc = (plain_of guest.regs).pc } in
         let is : q ≡ tidy own = set_to p cpu cpu.regs.pc q k ∙ ap (λ (n : ℕ). (let o : Plain = record (tidy p) { pc = n } in o)) counter in
         let moved = refused_transfer f words after.regs.pc in
-        ap (λ (b : Bool). rest_by (left_in (with_ct (b && not (movem_in words).is_load) (access_fields moved page_size))) level guest q) plain.all
-        ∙ ap (λ (o : LeftOver). rest_by o level guest q) (frames_tell moved page_size tt)
+        ap (λ (b : Bool). rest_by (left_in (with_ct (b && not (movem_in words).is_load) (access_fields moved PAGE_SIZE))) level guest q) plain.all
+        ∙ ap (λ (o : LeftOver). rest_by o level guest q) (frames_tell moved PAGE_SIZE tt)
         ∙ ap (λ (n : ℕ). rest_by (Movem words f.first f.done n) level guest q) (with_counter p cpu)
         ∙ ap (λ (n : ℕ). rest_by (Movem words n f.done p.pc) level guest q) first
         ∙ ap (λ (n : ℕ). rest_by (Movem words g.first n p.pc) level guest q) done

@@ -17,12 +17,13 @@ use Rattle.mb_frames.specs.declared.frame.Frame.TheVariants as frame
 use Rattle.mb_frames.specs.declared.pend.Pend.{Pend}
 use Rattle.mb_frames.specs.Layout.{Fits, fields_of, fields_of_access, frame_bytes, IsFrame, BeginsWith}
 use Rattle.mb_frames.specs.Reading.{frame_in}
-use Rattle.mb_frames.specs.AccessFields.{size_code, transfer_type, transfer_modifier, access_bits, bit_if, ma_bit, atc_bit, lk_bit, rw_bit, cm_bit}
+use Rattle.mb_frames.specs.AccessFields.{size_code, transfer_type, transfer_modifier, access_bits, bit_if}
+use Rattle.mb_frames.specs.declared.status_bits.TheConstants.{CM, MA, ATC, LK, RW}
 use Rattle.mb_frames.specs.AccessFields.{is_other_page, status, writeback_status, piece_of, register_aligned, memory_aligned}
 use Rattle.mb_frames.specs.AccessFields.{read_fields, write_fields, line_fields, movem_fields, access_fields}
 use Rattle.mb_frames.proofs.RoundTrip.{frame_in-begins}
 use Rattle.mb_model.specs.declared.processor.Cpu.{Cpu}
-use Rattle.mb_model.specs.Pages.{page_size}
+use Rattle.mb_model.specs.declared.pages.TheConstants.{PAGE_SIZE}
 use Rattle.mb_writes.specs.declared.ends.WriteFault.{WriteFault}
 use Rattle.mb_writes.specs.declared.ends.Ended.{Ended}
 use Rattle.mb_writes.specs.declared.ends.Ended.TheVariants as ended
@@ -91,8 +92,8 @@ bits_small len space code = let a = size_small len in let b = type_small len in 
 
 status_small : (fault : Fault) (start page : ℕ) → status fault start page < 2 ^ 12
 status_small fault start page =
-    let a = bit_small (fault.atc && is_other_page page fault.at start) ma_bit in
-    let b = bit_small fault.atc atc_bit in
+    let a = bit_small (fault.atc && is_other_page page fault.at start) MA in
+    let b = bit_small fault.atc ATC in
     let c = bits_small fault.len fault.space fault.code in
     omega arith
 
@@ -158,59 +159,59 @@ word = omega arith
 long : 0 < 2 ^ 32
 long = omega arith
 
-read_fit : (fault : Fault) (first : ℕ) → IsLong fault.at → IsLong first → AccessFits (read_fields fault first page_size)
+read_fit : (fault : Fault) (first : ℕ) → IsLong fault.at → IsLong first → AccessFits (read_fields fault first PAGE_SIZE)
 unfolding read_fields
 read_fit fault first at begins =
     let ea = cond fault.code fault.at first in
-    let status : status fault ea page_size + bit_if fault.write lk_bit + rw_bit < 2 ^ 16 =
-    (let a = status_small fault ea page_size in let b = bit_small fault.write lk_bit in omega arith) in
-    by_fields (read_fields fault first page_size) (by_kind fault.code) status word word word at long long long long long long long long long
+    let status : status fault ea PAGE_SIZE + bit_if fault.write LK + RW < 2 ^ 16 =
+    (let a = status_small fault ea PAGE_SIZE in let b = bit_small fault.write LK in omega arith) in
+    by_fields (read_fields fault first PAGE_SIZE) (by_kind fault.code) status word word word at long long long long long long long long long
   where
     by_kind : (b : Bool) → IsLong (cond b fault.at first)
     by_kind true = at
     by_kind false = begins
 
 write_fit : (fault : Fault) (first : ℕ) (rest : List Pend) → IsLong fault.at → IsLong first → length rest ≤ 3 → AreOwn rest → HaveAddresses rest
-    → AccessFits (write_fields fault first rest page_size)
+    → AccessFits (write_fields fault first rest PAGE_SIZE)
 unfolding write_fields
 write_fit fault first [] at begins few own have =
-    let status : status fault first page_size < 2 ^ 16 = (let a = status_small fault first page_size in omega arith) in
-    by_fields (write_fields fault first [] page_size) begins status word word word at long long long long long long long long long
+    let status : status fault first PAGE_SIZE < 2 ^ 16 = (let a = status_small fault first PAGE_SIZE in omega arith) in
+    by_fields (write_fields fault first [] PAGE_SIZE) begins status word word word at long long long long long long long long long
 write_fit fault first (p ∷ []) at begins few own have =
-    let status : status fault first page_size < 2 ^ 16 = (let a = status_small fault first page_size in omega arith) in
+    let status : status fault first PAGE_SIZE < 2 ^ 16 = (let a = status_small fault first PAGE_SIZE in omega arith) in
     let one = writeback_small fault.space p.len in
-    by_fields (write_fields fault first (p ∷ []) page_size) begins status word word one at long long long long
+    by_fields (write_fields fault first (p ∷ []) PAGE_SIZE) begins status word word one at long long long long
     have.0 (memory_small p own.0.piece) long long long
 write_fit fault first (p ∷ q ∷ []) at begins few own have =
-    let status : status fault first page_size < 2 ^ 16 = (let a = status_small fault first page_size in omega arith) in
+    let status : status fault first PAGE_SIZE < 2 ^ 16 = (let a = status_small fault first PAGE_SIZE in omega arith) in
     let one = writeback_small fault.space p.len in
     let two = writeback_small fault.space q.len in
-    by_fields (write_fields fault first (p ∷ q ∷ []) page_size) begins status word two one at long long have.1.0 (register_small q own.1.0.piece)
+    by_fields (write_fields fault first (p ∷ q ∷ []) PAGE_SIZE) begins status word two one at long long have.1.0 (register_small q own.1.0.piece)
     have.0 (memory_small p own.0.piece) long long long
 write_fit fault first (p ∷ q ∷ r ∷ []) at begins few own have =
-    let status : status fault first page_size < 2 ^ 16 = (let a = status_small fault first page_size in omega arith) in
+    let status : status fault first PAGE_SIZE < 2 ^ 16 = (let a = status_small fault first PAGE_SIZE in omega arith) in
     let one = writeback_small fault.space p.len in
     let two = writeback_small fault.space q.len in
     let three = writeback_small fault.space r.len in
-    by_fields (write_fields fault first (p ∷ q ∷ r ∷ []) page_size) begins status three two one at have.1.1.0 (register_small r own.1.1.0.piece)
+    by_fields (write_fields fault first (p ∷ q ∷ r ∷ []) PAGE_SIZE) begins status three two one at have.1.1.0 (register_small r own.1.1.0.piece)
     have.1.0 (register_small q own.1.0.piece) have.0 (memory_small p own.0.piece) long long long
 write_fit fault first (p ∷ q ∷ r ∷ o ∷ rest) at begins few own have = absurd (omega arith)
 
-line_fit : (fault : Fault) (line : List ℕ) → IsLong fault.at → AreLongs line → AccessFits (line_fields fault line page_size)
+line_fit : (fault : Fault) (line : List ℕ) → IsLong fault.at → AreLongs line → AccessFits (line_fields fault line PAGE_SIZE)
 unfolding line_fields
 line_fit fault line at longs =
-    let status : status fault fault.at page_size < 2 ^ 16 = (let a = status_small fault fault.at page_size in omega arith) in
-    by_fields (line_fields fault line page_size) at status word word (writeback_small fault.space 16) at long long long long at (index_long line 0 longs)
+    let status : status fault fault.at PAGE_SIZE < 2 ^ 16 = (let a = status_small fault fault.at PAGE_SIZE in omega arith) in
+    by_fields (line_fields fault line PAGE_SIZE) at status word word (writeback_small fault.space 16) at long long long long at (index_long line 0 longs)
     (index_long line 1 longs) (index_long line 2 longs) (index_long line 3 longs)
 
 movem_fit : (fault : Fault) (first start done words next : ℕ) (is_load : Bool) → IsLong fault.at → IsLong first → done < 16 → IsLong words → IsLong next
-    → AccessFits (movem_fields fault first start done words next is_load page_size)
+    → AccessFits (movem_fields fault first start done words next is_load PAGE_SIZE)
 unfolding movem_fields
 movem_fit fault first start done words next is_load at begins few is goes =
-    let status : status fault start page_size + cm_bit + bit_if is_load rw_bit < 2 ^ 16 =
-    (let a = status_small fault start page_size in let b = bit_small is_load rw_bit in omega arith) in
+    let status : status fault start PAGE_SIZE + CM + bit_if is_load RW < 2 ^ 16 =
+    (let a = status_small fault start PAGE_SIZE in let b = bit_small is_load RW in omega arith) in
     let count : IsLong done = omega arith in
-    by_fields (movem_fields fault first start done words next is_load page_size) begins status word word word at long long long long long long goes is count
+    by_fields (movem_fields fault first start done words next is_load PAGE_SIZE) begins status word word word at long long long long long long goes is count
 
 -- ---- frames
 
@@ -261,11 +262,11 @@ module _ (x : Site) (i : Instr) (cpu : Cpu) (p : Plain) (plain : IsUntraced cpu)
       access_frame cpu.regs.sr cpu.regs.pc _ status counter (write_fit f.fault f.first [] at begins few own have)
   write_exit_fits due f (piece ∷ pieces) none is at begins few own have =
       let rest = f.rest.items in
-      let fits : AccessFits (write_fields f.fault f.first rest page_size) =
-      subst (λ (ps : List Pend). AccessFits (write_fields f.fault f.first ps page_size)) (sym is)
+      let fits : AccessFits (write_fields f.fault f.first rest PAGE_SIZE) =
+      subst (λ (ps : List Pend). AccessFits (write_fields f.fault f.first ps PAGE_SIZE)) (sym is)
       (write_fit f.fault f.first (piece ∷ pieces) at begins few own have) in
-      access_frame after.regs.sr after.regs.pc (with_ct due (write_fields f.fault f.first rest page_size)) (set_small cpu.regs.sr p.ccr status) next
-      (subst AccessFits (sym (no_trace due (write_fields f.fault f.first rest page_size) none)) fits)
+      access_frame after.regs.sr after.regs.pc (with_ct due (write_fields f.fault f.first rest PAGE_SIZE)) (set_small cpu.regs.sr p.ccr status) next
+      (subst AccessFits (sym (no_trace due (write_fields f.fault f.first rest PAGE_SIZE) none)) fits)
 
   -- from what the held guest's end says
   pub exit_fits : (e k : Ended) → SameEnd (setting x) e k → IsUsual k → EndFits i k → IsEnd k → FrameFits (exit_of i e cpu after)
@@ -286,11 +287,11 @@ module _ (x : Site) (i : Instr) (cpu : Cpu) (p : Plain) (plain : IsUntraced cpu)
       (same_at x f.fault g.fault same.fault fits.0) (subst IsLong (sym same.first) fits.1) usual.0 usual.1 (subst HaveAddresses rest fits.2)
   exit_fits (ended.LineFault f l) (ended.LineFault g o) same u fits end =
       let longs : AreLongs l = subst AreLongs (sym same.1) fits.1 in
-      access_frame after.regs.sr after.regs.pc (with_ct (traces_all cpu.regs.sr) (line_fields f l page_size)) (set_small cpu.regs.sr p.ccr status) next
-      (subst AccessFits (sym (no_trace (traces_all cpu.regs.sr) (line_fields f l page_size) plain.all)) (line_fit f l (same_at x f g same.0 fits.0.1) longs))
+      access_frame after.regs.sr after.regs.pc (with_ct (traces_all cpu.regs.sr) (line_fields f l PAGE_SIZE)) (set_small cpu.regs.sr p.ccr status) next
+      (subst AccessFits (sym (no_trace (traces_all cpu.regs.sr) (line_fields f l PAGE_SIZE) plain.all)) (line_fit f l (same_at x f g same.0 fits.0.1) longs))
   exit_fits (ended.Movem f) (ended.Movem g) same u fits end =
       let words = movem_words i in
-      let fields = access_fields (refused_transfer f words after.regs.pc) page_size in
+      let fields = access_fields (refused_transfer f words after.regs.pc) PAGE_SIZE in
       let due = traces_all cpu.regs.sr && not (movem_in words).is_load in
       let none : due ≡ false = ap (λ (b : Bool). b && not (movem_in words).is_load) plain.all in
       access_frame after.regs.sr cpu.regs.pc (with_ct due fields) (set_small cpu.regs.sr p.ccr status) counter

@@ -23,7 +23,8 @@ use Rattle.vm_machine.specs.declared.class.Class.{Class}
 use Rattle.vm_machine.specs.declared.class.Class.TheVariants.{Retired}
 use Rattle.vm_machine.specs.Guests.{Guest}
 use Rattle.vm_machine.specs.Bus.{guest_bus}
-use Rattle.vm_machine.specs.Refills.{denied_read, refilled_at, begun_again, Refilled, once_more, going_on, refilled_by, most_refills}
+use Rattle.vm_machine.specs.Refills.{denied_read, refilled_at, begun_again, Refilled, once_more, going_on, refilled_by}
+use Rattle.vm_machine.specs.declared.limits.TheConstants.{MOST_REFILLS}
 use Rattle.vm_machine.specs.Classes.{class_of_attempt, class_of, class_at_first, unless_aside}
 use Rattle.vm_machine.specs.Turns.{world_of, guest_begun, guest_processed, guest_later, guest_stepped, class_of_step}
 use Rattle.vm_machine.specs.Turns.{step_class_at_first, refills_of_step, by_class, advanced}
@@ -66,12 +67,12 @@ none_left cpu h = refl
 
 pub last_is_judged : LastIsJudged
 last_is_judged cpu n g h begun few end =
-    let m = most_refills - n in
+    let m = MOST_REFILLS - n in
     let stays : refilled_by m cpu h ≡ record { guest = h; refills = 0 } = elim end [
       | inl all ↦ ap (λ (i : ℕ). refilled_by i cpu h) (let e : m ≡ 0 = omega arith in e) ∙ none_left cpu h
       | inr none ↦ none_again m cpu h none
     ] in
-    ap (λ (i : ℕ). refilled_by i cpu g) (let e : most_refills ≡ n + m = omega arith in e)
+    ap (λ (i : ℕ). refilled_by i cpu g) (let e : MOST_REFILLS ≡ n + m = omega arith in e)
     ∙ again_from cpu n m g h begun ∙ ap (plus n) stays
     ∙ ap (λ (i : ℕ). (let r : Refilled = record { guest = h; refills = i } in r)) (let e : n + 0 ≡ n = omega arith in e)
 
@@ -82,7 +83,7 @@ unfolding class_of_step step_class_at_first refills_of_step class_of class_at_fi
 none_is_refilled script g none =
     let b = guest_begun script g in
     let cpu = b.machine.cpu in
-    let last = none_again most_refills cpu (world_of b) none in (
+    let last = none_again MOST_REFILLS cpu (world_of b) none in (
       ap (λ (r : Refilled). unless_aside (asked_of script b.machine) cpu (class_of_attempt cpu r.guest)) last,
       ap (λ (r : Refilled). r.refills) last,
     )

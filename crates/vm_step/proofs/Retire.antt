@@ -18,7 +18,8 @@ use Rattle.mb_processor.specs.SystemEnds.{with_registers}
 use Rattle.mb_meaning.specs.Attempt.{attempt_of}
 use Rattle.mb_processor.specs.Raise.{Stepped, traces_all, traces_flow}
 use Rattle.mb_processor.specs.Step.{interrupt_mask, step_of, rank}
-use Rattle.mb_devices.specs.Devices.{DeviceState, ticked, level_of, has_received, received, queue_room}
+use Rattle.mb_devices.specs.Devices.{DeviceState, ticked, level_of, has_received, received}
+use Rattle.mb_devices.specs.declared.devices.TheConstants.{QUEUE_ROOM}
 use Rattle.mb_laws.specs.Until.{run_until}
 use Rattle.mb_attempts.specs.Attempts.{IsUntraced}
 use Rattle.mb_script.specs.declared.input.Input.{Input}
@@ -158,7 +159,7 @@ mirrored_by x m g b regs untraced = record {
 
 off_received : (byte : ℕ) (d : DeviceState) → (received byte d).off ≡ d.off
 unfolding received
-off_received byte d = off_if (nat_lt (length d.queue) queue_room) d
+off_received byte d = off_if (nat_lt (length d.queue) QUEUE_ROOM) d
   where
     off_if : (b : Bool) (d : DeviceState) → (cond b (record d { queue = d.queue ++ byte ∷ [] }) (record d { overrun = true })).off ≡ d.off
     off_if true d = refl

@@ -19,9 +19,11 @@ use Rattle.mb_processor.specs.SystemEnds.{with_registers}
 use Rattle.mb_machine.specs.Machine.{begun, takes_steps, asked_of}
 use Rattle.mb_port.specs.Routine.{run}
 use Rattle.mb_processor.specs.Return.{low}
-use Rattle.vm_machine.specs.Seats.{end_of, on_board, Seat, own, shadow_on, machine_on, guested_on, turned_on, monitor_bytes, IsSeated, OnlyWithin}
+use Rattle.vm_machine.specs.Seats.{end_of, on_board, Seat, own, shadow_on, machine_on, guested_on, turned_on, IsSeated, OnlyWithin}
+use Rattle.vm_machine.specs.declared.limits.TheConstants.{MONITOR_BYTES}
 use Rattle.vm_shadow.specs.Shadows.{Shadowed}
-use Rattle.vm_shadow.specs.Mapped.{area_bytes, root_of, shadowed}
+use Rattle.vm_shadow.specs.Mapped.{root_of, shadowed}
+use Rattle.vm_shadow.specs.declared.area.TheConstants.{AREA_BYTES}
 use Rattle.vm_machine.specs.Guests.{Guest, Truthful}
 use Rattle.vm_mirror.specs.Related.{Site, AllAgree, mapping}
 use Rattle.vm_mirror.specs.Ready.{native_mmu}
@@ -111,8 +113,8 @@ stands_of g ram s bytes small = record {
 only_within : (g : Seat) (ram after : List ℕ) → IsSeated g ram → IsInside (site_of g) ram after → OnlyWithin g ram after
 only_within g ram after s i = record {
   count = i.count;
-  below = between after ram g.base monitor_bytes i.below s.behind;
-  above = beyond after ram (g.base + g.size) area_bytes i.above;
+  below = between after ram g.base MONITOR_BYTES i.below s.behind;
+  above = beyond after ram (g.base + g.size) AREA_BYTES i.above;
 }
 
 -- ---- the turn
@@ -289,12 +291,12 @@ exits_take g c world steps state native before k v s bytes small running seven c
     (running ∙ sym (left.state running)) (ap (λ (q : Shadowed). own g.base q) tables ∙ sym left.shadow) in
     let of : Guested → Guest = λ q. left_guest x ram' (world_of (guest_begun g.script q)) in
     let world_is : world_of (guested_on mid ram') ≡ of u.guest = ap world_of same ∙ ap of (sym is_w) in
-    let top : h.last.cpu.regs.isp ≤ monitor_bytes =
-    subst (λ (n : ℕ). n ≤ monitor_bytes) (sym (h.isp ∙ (is_set (plain_of g.cpu.regs) c (ap is_supervisor cpu.status)).isp)) low in
+    let top : h.last.cpu.regs.isp ≤ MONITOR_BYTES =
+    subst (λ (n : ℕ). n ≤ MONITOR_BYTES) (sym (h.isp ∙ (is_set (plain_of g.cpu.regs) c (ap is_supervisor cpu.status)).isp)) low in
     let within_left : OnlyWithin g ram ram' = record {
       count = h.left.count ∙ h.inside.count;
-      below = h.left.between monitor_bytes top s.behind ∙ between h.last.world.ram ram g.base monitor_bytes h.inside.below s.behind;
-      above = beyond ram' ram (g.base + g.size) area_bytes (h.left.above ∙ h.inside.above);
+      below = h.left.between MONITOR_BYTES top s.behind ∙ between h.last.world.ram ram g.base MONITOR_BYTES h.inside.below s.behind;
+      above = beyond ram' ram (g.base + g.size) AREA_BYTES (h.left.above ∙ h.inside.above);
     } in
     let frame = h.left.frame in
     let handed = handed_by after.machine.cpu.regs frame in

@@ -8,7 +8,8 @@ use Rattle.mb_port.specs.declared.types.Fault.{Fault}
 use Rattle.mb_frames.specs.declared.frame.Access.{Access}
 use Rattle.mb_frames.specs.declared.pend.Pend.{Pend}
 use Rattle.mb_frames.specs.AccessFields.{size_code, transfer_type, transfer_modifier, access_bits}
-use Rattle.mb_frames.specs.AccessFields.{bit_if, ma_bit, atc_bit, lk_bit, rw_bit, cm_bit, is_other_page}
+use Rattle.mb_frames.specs.AccessFields.{bit_if, is_other_page}
+use Rattle.mb_frames.specs.declared.status_bits.TheConstants.{CM, MA, ATC, LK, RW}
 use Rattle.mb_frames.specs.AccessFields.{status, read_fields, write_fields, line_fields, movem_fields, no_fields}
 use Rattle.mb_frames.specs.AccessFields.{with_writeback_1, with_writeback_2, with_writeback_3}
 use Rattle.mb_machine.specs.declared.reference.Reference.{Reference}
@@ -46,7 +47,7 @@ abbrev of_bit : Bool → ℕ
 of_bit b = cond b 1 0
 
 abbrev word : (ma atc lk : Bool) (low : ℕ) → ℕ
-word ma atc lk low = bit_if ma ma_bit + bit_if atc atc_bit + low + bit_if lk lk_bit + rw_bit
+word ma atc lk low = bit_if ma MA + bit_if atc ATC + low + bit_if lk LK + RW
 
 record Told (w low : ℕ) (lk : Bool) : Type 0 where
   cm : w / 2 ^ 12 % 2 ≡ 0
@@ -116,7 +117,7 @@ none_by : (space : Space) (a : Access) → is_read a ≡ false → read_of_acces
 none_by space a h =
     ap (λ (b : Bool). cond b (let r : Option Reference = Some (record { code = is_code a; space = space; at = a.fa; write = false }) in r) None) h
 
-no_rw : (ma atc : Bool) (low : ℕ) → low ≤ 110 → (bit_if ma ma_bit + bit_if atc atc_bit + low) / 2 ^ 8 % 2 ≡ 0
+no_rw : (ma atc : Bool) (low : ℕ) → low ≤ 110 → (bit_if ma MA + bit_if atc ATC + low) / 2 ^ 8 % 2 ≡ 0
 no_rw true true low h = omega arith
 no_rw true false low h = omega arith
 no_rw false true low h = omega arith
@@ -159,7 +160,7 @@ pub line_reads_none : (space : Space) (f : Fault) (line : List ℕ) (page : ℕ)
 unfolding line_fields
 line_reads_none space f line page = none_by space (line_fields f line page) (no_read _ _ _ (status_reads_none f f.at page))
 
-with_cm : (ma atc load : Bool) (low : ℕ) → low ≤ 110 → (bit_if ma ma_bit + bit_if atc atc_bit + low + cm_bit + bit_if load rw_bit) / 2 ^ 12 % 2 ≡ 1
+with_cm : (ma atc load : Bool) (low : ℕ) → low ≤ 110 → (bit_if ma MA + bit_if atc ATC + low + CM + bit_if load RW) / 2 ^ 12 % 2 ≡ 1
 with_cm true true true low h = omega arith
 with_cm true true false low h = omega arith
 with_cm true false true low h = omega arith

@@ -11,7 +11,8 @@ use Rattle.vm_meaning.specs.Native.{NativeState}
 use Rattle.vm_machine.specs.declared.class.Class.{Class}
 use Rattle.vm_machine.specs.Guests.{Guest}
 use Rattle.vm_machine.specs.Bus.{guest_bus}
-use Rattle.vm_machine.specs.Refills.{begun_again, most_refills}
+use Rattle.vm_machine.specs.Refills.{begun_again}
+use Rattle.vm_machine.specs.declared.limits.TheConstants.{MOST_REFILLS}
 use Rattle.vm_machine.specs.Classes.{class_at_first}
 use Rattle.vm_machine.specs.Turns.{Turned, world_of, guest_begun, guest_later, counted, with_refills, exits}
 use Rattle.vm_machine.specs.Turns.{marks_of, turn_of}
@@ -40,7 +41,7 @@ pub record Midway (g : Seat) (ram : List ℕ) (native : NativeState) (k n : ℕ)
       ≡ record (guest_begun g.script turn.guest).machine { world = (machine_on mid now).world }
   pub begun : let b = guest_begun g.script turn.guest in
       HasBegunAgain b.machine.cpu n (world_of b) (world_of (guested_on mid now))
-  pub few : n ≤ most_refills
+  pub few : n ≤ MOST_REFILLS
   pub tally : mid.tally ≡ turn.tally
   pub same : IsSame g mid
   pub seated : IsSeated mid now
@@ -53,7 +54,7 @@ pub record Midway (g : Seat) (ram : List ℕ) (native : NativeState) (k n : ℕ)
 -- Where the read that the step was denied is filled and put, it begins once more.
 abbrev pub MidwayAgain : Type 0
 MidwayAgain = (g : Seat) (ram : List ℕ) (native : NativeState) (k n : ℕ) (mid : Seat) (now : List ℕ)
-    (counts : NativeState) → Midway g ram native k n mid now counts → suc n ≤ most_refills
+    (counts : NativeState) → Midway g ram native k n mid now counts → suc n ≤ MOST_REFILLS
     → (h : Guest) → begun_again mid.cpu (world_of (guested_on mid now)) ≡ Some h
     → (seat : Seat) (next : List ℕ) (later : NativeState)
     → machine_on seat next ≡ record (machine_on mid now) { world = h.world } → world_of (guested_on seat next) ≡ h
@@ -73,7 +74,7 @@ MidwayEnds = (g : Seat) (ram : List ℕ) (native : NativeState) (k n : ℕ) (mid
     (counts : NativeState) → Midway g ram native k n mid now counts
     → let w = world_of (guested_on mid now) in let level = level_of mid.devices in
     let class = class_at_first level mid.cpu w in
-    (n ≡ most_refills) ⊎ (begun_again mid.cpu w ≡ None)
+    (n ≡ MOST_REFILLS) ⊎ (begun_again mid.cpu w ≡ None)
     → (seat : Seat) (next : List ℕ) (later : NativeState)
     → guested_on seat next ≡ guest_later (machine_on mid now) (run guest_bus (step_of level mid.cpu) w)
     → seat.tally ≡ with_refills class n (counted class mid.tally)

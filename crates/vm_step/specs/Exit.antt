@@ -24,6 +24,7 @@ use Rattle.vm_meaning.specs.Native.{user_step}
 use Rattle.vm_step.specs.Retire.{Boarded, HasRegisters}
 use Rattle.vm_step.specs.Reads.{read_by_frame}
 use Rattle.vm_step.specs.Lawful.{LeavesLawful}
+use Rattle.mb_frames.specs.declared.places.TheConstants.{LONGEST}
 
 -- What the monitor sets besides: the translation for the guest's space, vectors at 0, and a stack below the guest that
 -- has room for a frame. SR is a word.
@@ -32,7 +33,7 @@ pub record Furnished (x : Site) (m : Machine) : Type 0 where
   pub status : m.cpu.regs.sr < 2 ^ 16
   pub master : is_master m.cpu.regs.sr ≡ false
   pub vectors : m.cpu.vbr ≡ 0
-  pub stack : 60 ≤ m.cpu.regs.isp
+  pub stack : LONGEST ≤ m.cpu.regs.isp
   pub below : m.cpu.regs.isp ≤ x.base
   pub table : 1024 ≤ x.base
   pub small : length m.world.ram ≤ 2 ^ 32
@@ -52,9 +53,9 @@ pub record Leaves (x : Site) (script : Entries) (m : Machine) (g : Guested) (s :
   pub frame : Frame
   pub stands : BeginsWith (drop s.1.cpu.regs.isp s.1.world.ram) frame
   -- RAM has 60 bytes there, and whoever reads so many, or more, reads this frame: each of its fields fits
-  pub room : s.1.cpu.regs.isp + 60 ≤ length s.1.world.ram
+  pub room : s.1.cpu.regs.isp + LONGEST ≤ length s.1.world.ram
   pub fits : IsFrame frame
-  pub read_back : (n : ℕ) → 60 ≤ n → let isp = s.1.cpu.regs.isp in
+  pub read_back : (n : ℕ) → LONGEST ≤ n → let isp = s.1.cpu.regs.isp in
       frame_in (slice_range s.1.world.ram isp (isp + n)) ≡ Some frame
   -- what it leaves may be asked of buses
   pub lawful : LeavesLawful (frame_access frame)

@@ -9,7 +9,8 @@ use Rattle.mb_machine.specs.Machine.{Machine, Entries, asked_of}
 use Rattle.vm_machine.specs.declared.class.Class.TheVariants.{Retired}
 use Rattle.vm_machine.specs.Guests.{Guest}
 use Rattle.vm_machine.specs.Bus.{guest_bus}
-use Rattle.vm_machine.specs.Refills.{Refilled, begun_again, most_refills, refilled}
+use Rattle.vm_machine.specs.Refills.{Refilled, begun_again, refilled}
+use Rattle.vm_machine.specs.declared.limits.TheConstants.{MOST_REFILLS}
 use Rattle.vm_machine.specs.Classes.{class_at_first}
 use Rattle.vm_machine.specs.Turns.{Guested, Turned, world_of, guest_begun, guest_processed, guest_later, class_of_step}
 use Rattle.vm_machine.specs.Turns.{step_class_at_first, refills_of_step, by_class, advanced}
@@ -43,8 +44,8 @@ HasBegunAgain cpu (suc n) g h = (k : Guest) × HasBegunAgain cpu n g k × (begun
 
 -- Where it may not begin again once more, this is the guest whose attempt is judged.
 abbrev pub LastIsJudged : Type 0
-LastIsJudged = (cpu : Cpu) (n : ℕ) (g h : Guest) → HasBegunAgain cpu n g h → n ≤ most_refills
-    → (n ≡ most_refills) ⊎ (begun_again cpu h ≡ None)
+LastIsJudged = (cpu : Cpu) (n : ℕ) (g h : Guest) → HasBegunAgain cpu n g h → n ≤ MOST_REFILLS
+    → (n ≡ MOST_REFILLS) ⊎ (begun_again cpu h ≡ None)
     → refilled cpu g ≡ (let r : Refilled = record { guest = h; refills = n } in r)
 
 -- So often it comes to the same, and of the guest nothing else has changed than what is kept and the shadow.
@@ -60,7 +61,7 @@ AgainComesToTheSame = (size level : ℕ) (cpu : Cpu) (n : ℕ) (g h : Guest) →
 abbrev pub AgainAdvances : Type 0
 AgainAdvances = (script : Entries) (t : Turned) (n : ℕ) (h : Guest) → let b = guest_begun script t.guest in
     let cpu = b.machine.cpu in let level = asked_of script b.machine in
-    HasBegunAgain cpu n (world_of b) h → n ≤ most_refills → (n ≡ most_refills) ⊎ (begun_again cpu h ≡ None)
+    HasBegunAgain cpu n (world_of b) h → n ≤ MOST_REFILLS → (n ≡ MOST_REFILLS) ⊎ (begun_again cpu h ≡ None)
     → run guest_bus (step_of level cpu) h ≡ guest_processed script b
     → advanced script t
     ≡ by_class (class_at_first level cpu h) n (guest_later b.machine (run guest_bus (step_of level cpu) h)) t

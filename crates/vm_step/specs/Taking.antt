@@ -27,12 +27,14 @@ use Rattle.vm_machine.specs.Turns.{world_of, guest_begun, guest_later, counted, 
 use Rattle.vm_machine.specs.Exits.{class_of_vector, frame_access, handed_by, rest_by_frame}
 use Rattle.vm_meaning.specs.declared.RunEnd.TheVariants.{Counted, Exit}
 use Rattle.vm_meaning.specs.Native.{NativeState, Ran, about_to_run, user_run}
-use Rattle.vm_machine.specs.Seats.{Seat, guested_on, monitor_bytes, IsSeated, IsSame, OnlyWithin, Takes}
+use Rattle.vm_machine.specs.Seats.{Seat, guested_on, IsSeated, IsSame, OnlyWithin, Takes}
+use Rattle.vm_machine.specs.declared.limits.TheConstants.{MONITOR_BYTES}
 use Rattle.vm_step.specs.Reads.{read_by_frame}
 use Rattle.vm_step.specs.Again.{Midway}
 use Rattle.vm_step.specs.Lawful.{LeavesLawful}
 use Rattle.vm_step.specs.Batch.{AllRetired, IsStretch, stepped_by}
 use Rattle.vm_step.specs.Turn.{IsNativeCpu, IsSetFor, ready_for}
+use Rattle.mb_frames.specs.declared.places.TheConstants.{LONGEST}
 
 abbrev pub site_of : Seat → Site
 site_of g = record { base = g.base; size = g.size; slots = g.slots; space = space_of g.cpu }
@@ -86,9 +88,9 @@ pub record IsLeft (g : Seat) (ram : List ℕ) (native : NativeState) (k : ℕ) (
   pub frame : Frame
   pub stands : BeginsWith (drop after.machine.cpu.regs.isp after.machine.world.ram) frame
   -- RAM has 60 bytes there, and whoever reads so many, or more, reads this frame: each of its fields fits
-  pub room : after.machine.cpu.regs.isp + 60 ≤ length after.machine.world.ram
+  pub room : after.machine.cpu.regs.isp + LONGEST ≤ length after.machine.world.ram
   pub fits : IsFrame frame
-  pub read_back : (n : ℕ) → 60 ≤ n → let isp = after.machine.cpu.regs.isp in
+  pub read_back : (n : ℕ) → LONGEST ≤ n → let isp = after.machine.cpu.regs.isp in
       frame_in (slice_range after.machine.world.ram isp (isp + n)) ≡ Some frame
   -- what it leaves may be asked of buses
   pub lawful : LeavesLawful (frame_access frame)
@@ -139,7 +141,7 @@ abbrev pub ExitsTake : Type 0
 ExitsTake = (g : Seat) (c : Cpu) (world : World) (steps : ℕ) (state : RunState) (native : NativeState) (before : Plain)
     (k v : ℕ) → let ram = world.ram in
     IsSeated g ram → AreBytes ram → length ram ≤ 2 ^ 32 → g.state ≡ Running → length g.cpu.regs.a ≡ 7
-    → IsNativeCpu (site_of g) c → c.regs.isp ≤ monitor_bytes → IsSetFor (site_of g) world
+    → IsNativeCpu (site_of g) c → c.regs.isp ≤ MONITOR_BYTES → IsSetFor (site_of g) world
     → IsStretch g.script k (guested_on g ram)
     → let after = run_for g c world steps state native before k in after.end ≡ Exit v
     → length after.machine.cpu.regs.a ≡ 7 → IsLeft g ram native k after

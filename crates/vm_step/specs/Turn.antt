@@ -26,6 +26,8 @@ use Rattle.vm_machine.specs.Turns.{Guested, Turned, world_of, guest_begun, guest
 use Rattle.vm_step.specs.Retire.{Boarded}
 use Rattle.vm_step.specs.Exit.{Furnished, left_guest, Leaves}
 use Rattle.vm_machine.specs.Exits.{class_of_vector, handed_by, frame_access, rest_by_frame}
+use Rattle.mb_model.specs.declared.pages.TheConstants.{PAGE_SIZE}
+use Rattle.mb_frames.specs.declared.places.TheConstants.{LONGEST}
 
 -- ---- the board is made ready again
 
@@ -34,7 +36,7 @@ pub record IsNativeCpu (x : Site) (c : Cpu) : Type 0 where
   pub status : c.regs.sr ≡ 0x0700
   pub awake : c.stopped ≡ false
   pub vectors : c.vbr ≡ 0
-  pub stack : 60 ≤ c.regs.isp
+  pub stack : LONGEST ≤ c.regs.isp
   pub below : c.regs.isp ≤ x.base
 
 -- the board as the monitor makes it ready for the guest's next step: with its registers
@@ -76,7 +78,7 @@ pub record Stands (x : Site) (ram : List ℕ) (g : Guest) : Type 0 where
   pub bytes : AreBytes ram
   pub maps : Maps x.slots ram
   pub under : x.base + x.size ≤ x.slots.area
-  pub whole : x.base % 4096 ≡ 0
+  pub whole : x.base % PAGE_SIZE ≡ 0
   pub ram_is : part ram x.base x.size ≡ g.world.ram
   pub shadow : shadowed x.slots ram ≡ on_board x.base g.shadow
   pub truthful : Truthful x.size g

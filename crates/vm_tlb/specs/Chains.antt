@@ -3,6 +3,7 @@
 -- the chains, and 320 is that of the free nodes.
 use Rattle.std.specs.Prelude.{◌≡◌, ℕ, zero, suc, ◌+◌, ◌<◌, ◌==◌, Bool, nat_lt, if◌then◌else◌}
 use Rattle.std.specs.Prelude.{List, [], ◌∷◌, ◌++◌, length}
+use Rattle.vm_tlb.specs.declared.nodes.TheConstants.{CHAINS, END, FREE, NODES}
 
 -- a function with another value at a number
 abbrev pub updated : {T : Type 0} → (ℕ → T) → ℕ → T → ℕ → T
@@ -16,7 +17,7 @@ IsPath f from (x ∷ xs) to = (f from ≡ x) × IsPath f x xs to
 -- the nodes that a link leads through, from a node on, at most so many
 unfoldable pub walk : (ℕ → ℕ) → ℕ → ℕ → List ℕ
 walk f zero at = []
-walk f (suc n) at = if nat_lt at 256 then at ∷ walk f n (f at) else []
+walk f (suc n) at = if nat_lt at NODES then at ∷ walk f n (f at) else []
 
 -- how often a number is in a list
 abbrev pub times : ℕ → List ℕ → ℕ
@@ -28,9 +29,9 @@ abbrev pub chain : (ℕ → ℕ) → ℕ → List ℕ → List ℕ
 chain of number [] = []
 chain of number (x ∷ xs) = chain of number xs ++ (if of x == number then x ∷ [] else [])
 
--- the first node that passes, or 256
+-- the first node that passes, or the end
 abbrev pub first_of : (ℕ → Bool) → List ℕ → ℕ
-first_of p [] = 256
+first_of p [] = END
 first_of p (x ∷ xs) = if p x then x else first_of p xs
 
 -- what comes before a node in a list that begins with a root
@@ -41,14 +42,14 @@ before at from (x ∷ xs) = if x == at then from else before at x xs
 -- The links are those of live nodes, the oldest first, each in the chain of its number, and of free nodes.
 pub record Linked (newer older next of : ℕ → ℕ) (live free : List ℕ) : Type 0 where
   -- "newer" leads from the oldest through each live node
-  pub ring : IsPath newer 256 live 256
+  pub ring : IsPath newer END live END
   -- "older" undoes "newer"
-  pub back : (at : ℕ) → 0 < times at (256 ∷ live) → older (newer at) ≡ at
+  pub back : (at : ℕ) → 0 < times at (END ∷ live) → older (newer at) ≡ at
   -- a chain has the live nodes of its number alone
-  pub chains : (number : ℕ) → number < 64 → IsPath next (256 + number) (chain of number live) 256
+  pub chains : (number : ℕ) → number < CHAINS → IsPath next (NODES + number) (chain of number live) END
   -- the free nodes are one more chain
-  pub rest : IsPath next 320 free 256
+  pub rest : IsPath next FREE free END
   -- each node is live or free, and once
-  pub each : (at : ℕ) → times at live + times at free ≡ (if nat_lt at 256 then 1 else 0)
+  pub each : (at : ℕ) → times at live + times at free ≡ (if nat_lt at NODES then 1 else 0)
   -- and together they are all
-  pub all : length live + length free ≡ 256
+  pub all : length live + length free ≡ NODES

@@ -8,22 +8,22 @@ ghost use Rattle.vm_tlb.specs.Chains.{updated, before as before_in, chain as cha
 ghost use Rattle.vm_tlb.specs.Links.{links_of, chain_of as chain_number, number_of, order, vacant, entries};
 ghost use Rattle.vm_tlb.specs.Links.{IsFreeBelow, IsLive, Sized, Sound};
 
-use mb_model::Kept;
+use mb_model::{GUEST_CAPACITY, Kept};
 use mb_outside::Memory;
 use mb_port::{Flush, Space};
 use std::alloc::Global;
 
 /// How many nodes there are.
-const NODES: u32 = 256;
+pub const NODES: u32 = GUEST_CAPACITY;
 
 /// The link at the end of a chain. As a node it is the root of the ring: before the oldest, and after the newest.
-const END: u32 = NODES;
+pub const END: u32 = NODES;
 
 /// How many chains there are. The root of a chain is its number after the nodes.
-const CHAINS: u32 = 64;
+pub const CHAINS: u32 = 64;
 
 /// The root of the chain of free nodes.
-const FREE: u32 = NODES + CHAINS;
+pub const FREE: u32 = NODES + CHAINS;
 
 /// An entry with its links, each the number of a node or `END`.
 #[derive(Clone, Copy)]
@@ -51,7 +51,7 @@ pub struct Nodes {
 #[inline(always)]
 fn chain_of(space: Space, page: u32) -> u32
     ensures chain { result ≡ chain_number space page }
-    ensures inside { result < 64 }
+    ensures inside { result < CHAINS }
 {
     match space {
         Space::User => page % CHAINS,
@@ -61,8 +61,8 @@ fn chain_of(space: Space, page: u32) -> u32
 
 /// All nodes, each before the next in the chain of free ones.
 fn free_nodes(alloc: Global) -> Result<Vec<Node>, Memory>
-    ensures count { IfOk result (λ nodes. vec_len nodes ≡ 256) }
-    ensures chain { IfOk result (λ nodes. IsFreeBelow 256 nodes.items) }
+    ensures count { IfOk result (λ nodes. vec_len nodes ≡ NODES) }
+    ensures chain { IfOk result (λ nodes. IsFreeBelow NODES nodes.items) }
 {
     let node = Node {
         kept: Kept::default(),
@@ -82,8 +82,9 @@ fn free_nodes(alloc: Global) -> Result<Vec<Node>, Memory>
 /// The roots of empty chains, and that of all nodes as free ones.
 fn empty_heads(alloc: Global) -> Result<Vec<u32>, Memory>
     ensures count { IfOk result (λ heads. vec_len heads ≡ 65) }
-    ensures chains { IfOk result (λ heads. (number : ℕ) → number < 64 → slice_index_or heads.items number 256 ≡ 256) }
-    ensures free { IfOk result (λ heads. slice_index_or heads.items 64 256 ≡ 0) }
+    ensures chains { IfOk result (λ heads. (number : ℕ) → number < CHAINS
+        → slice_index_or heads.items number END ≡ END) }
+    ensures free { IfOk result (λ heads. slice_index_or heads.items CHAINS END ≡ 0) }
 {
     let Ok(mut heads) = vec![in alloc; END; CHAINS as usize + 1] else {
         return Err(Memory);
@@ -109,7 +110,7 @@ impl Nodes {
     /// Whether no node is free.
     pub fn is_full(&self) -> bool
         requires { Sound self.now }
-        ensures { result ≡ (length (entries (links_of self.now)) == 256) }
+        ensures { result ≡ (length (entries (links_of self.now)) == NODES) }
     {
         self.next(FREE) == END
     }
@@ -118,7 +119,7 @@ impl Nodes {
     #[inline(always)]
     fn next(&self, at: u32) -> u32
         requires sized { Sized self.now }
-        requires inside { at < 321 }
+        requires inside { at < FREE + 1 }
         ensures { result ≡ (links_of self.now).next at }
     {
         if at < NODES {
@@ -130,7 +131,7 @@ impl Nodes {
 
     fn set_next(&mut self, at: u32, to: u32)
         requires sized { Sized self.old }
-        requires inside { at < 321 }
+        requires inside { at < FREE + 1 }
         ensures links { links_of self.new
             ≡ record (links_of self.old) { next = updated (links_of self.old).next at to } }
         ensures sized { Sized self.new }
@@ -144,7 +145,7 @@ impl Nodes {
 
     fn set_newer(&mut self, at: u32, to: u32)
         requires sized { Sized self.old }
-        requires inside { at ≤ 256 }
+        requires inside { at ≤ END }
         ensures links { links_of self.new
             ≡ record (links_of self.old) { newer = updated (links_of self.old).newer at to } }
         ensures sized { Sized self.new }
@@ -158,7 +159,7 @@ impl Nodes {
 
     fn set_older(&mut self, at: u32, to: u32)
         requires sized { Sized self.old }
-        requires inside { at ≤ 256 }
+        requires inside { at ≤ END }
         ensures links { links_of self.new
             ≡ record (links_of self.old) { older = updated (links_of self.old).older at to } }
         ensures sized { Sized self.new }
@@ -172,7 +173,7 @@ impl Nodes {
 
     fn set_kept(&mut self, at: u32, kept: Kept)
         requires sized { Sized self.old }
-        requires inside { at < 256 }
+        requires inside { at < NODES }
         ensures links { links_of self.new
             ≡ record (links_of self.old) { kept = updated (links_of self.old).kept at kept } }
         ensures sized { Sized self.new }
@@ -186,7 +187,7 @@ impl Nodes {
         requires { Sound self.now }
         ensures place { result ≡ first_of (λ at. is_of space page ((links_of self.now).kept at))
             (chain_in (number_of (links_of self.now).kept) (chain_number space page) (order (links_of self.now))) }
-        ensures inside { result ≤ 256 }
+        ensures inside { result ≤ END }
     {
         let mut at = self.next(NODES + chain_of(space, page));
         while at != END {
@@ -203,10 +204,10 @@ impl Nodes {
     fn before(&self, at: u32) -> u32
         requires sound { Sound self.now }
         requires live { IsLive (links_of self.now) at }
-        ensures place { result ≡ before_in at (256 + number_of (links_of self.now).kept at)
+        ensures place { result ≡ before_in at (NODES + number_of (links_of self.now).kept at)
             (chain_in (number_of (links_of self.now).kept) (number_of (links_of self.now).kept at)
             (order (links_of self.now))) }
-        ensures inside { result < 321 }
+        ensures inside { result < FREE + 1 }
     {
         let kept = self.nodes[at as usize].kept;
         let mut before = NODES + chain_of(kept.space, kept.page);
@@ -315,9 +316,9 @@ impl Nodes {
         requires sound { Sound self.old }
         requires apart { Apart (entries (links_of self.old)) }
         ensures sound { Sound self.new }
-        ensures entries { entries (links_of self.new) ≡ room_for 256 kept (entries (links_of self.old)) }
-        ensures few { length (order (links_of self.new)) < 256 }
-        ensures gone { result ≡ displaced 256 kept (entries (links_of self.old)) }
+        ensures entries { entries (links_of self.new) ≡ room_for NODES kept (entries (links_of self.old)) }
+        ensures few { length (order (links_of self.new)) < NODES }
+        ensures gone { result ≡ displaced NODES kept (entries (links_of self.old)) }
     {
         let at = self.place_of(kept.space, kept.page);
         if at != END {
@@ -336,8 +337,8 @@ impl Nodes {
         requires sound { Sound self.old }
         requires apart { Apart (entries (links_of self.old)) }
         ensures sound { Sound self.new }
-        ensures entries { entries (links_of self.new) ≡ filled_in 256 kept (entries (links_of self.old)) }
-        ensures gone { result ≡ displaced 256 kept (entries (links_of self.old)) }
+        ensures entries { entries (links_of self.new) ≡ filled_in NODES kept (entries (links_of self.old)) }
+        ensures gone { result ≡ displaced NODES kept (entries (links_of self.old)) }
     {
         let gone = self.make_room(kept);
         self.push(kept);

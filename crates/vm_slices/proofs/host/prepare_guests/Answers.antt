@@ -1,6 +1,6 @@
 use Rattle.std.proofs.Common.{◌≡◌, ◌∙◌, ℕ, ◌+◌, List, [], ◌∷◌, ◌++◌, length, refl, ap, sym, subst, arith}
 use Rattle.std.specs.Vec.Iter.{into_iter_items, into_iter_len}
-use Rattle.vm_shadow.specs.Mapped.{area_bytes}
+use Rattle.vm_shadow.specs.declared.area.TheConstants.{AREA_BYTES}
 use Rattle.vm_guest.specs.Session.{GuestAtStart}
 use Rattle.vm_slices.specs.declared.host_guest.HostGuest.{HostGuest}
 use Rattle.vm_slices.proofs.Fits.{Stands, first_stands, next_guest, next_stands, all_stand}
@@ -43,7 +43,7 @@ loop-guest-preserved c =
     let next = next_stands all rest g hosts h base ram after now c.in_ok-host_guest.ensures.start c.in_ok-host_guest.ensures.place.0
     c.in_ok-host_guest.ensures.place.1 c.in_ok-host_guest.ensures.seated c.in_ok-host_guest.ensures.ready c.prepare.ensures.within in
     let size = c.ram.ensures in
-    let behind : base + g.ram + area_bytes ≡ base + c.ram.result + 65536 = omega arith in
+    let behind : base + g.ram + AREA_BYTES ≡ base + c.ram.result + 65536 = omega arith in
     record {
       rest =
           let count : into_iter_len c.loop-guest.guest-iterator ≡ length (g ∷ rest) =

@@ -1,6 +1,6 @@
 use Rattle.std.proofs.Common.{◌≡◌}
 use Rattle.std.specs.Prelude.{All}
-use Rattle.vm_machine.specs.Seats.{monitor_bytes}
+use Rattle.vm_machine.specs.declared.limits.TheConstants.{MONITOR_BYTES}
 use Rattle.vm_machine.specs.Rounds.{left_of_all}
 use Rattle.vm_slices.specs.Counting.{AreCounted, HasRoom}
 use Rattle.vm_slices.specs.Members.{IsReady}
@@ -15,5 +15,5 @@ invariant-loop-place l = record {
       (first_marks l.slice l.place (members_of l.initial.guests l.initial.board.world.ram)) l.initial.native l.native;
   ready : All IsReady (members_of l.guests l.board.world.ram);
   room : HasRoom (left_of_all (members_of l.guests l.board.world.ram)) l.native;
-  stand : StandFrom monitor_bytes l.guests l.board.world.ram;
+  stand : StandFrom MONITOR_BYTES l.guests l.board.world.ram;
 }

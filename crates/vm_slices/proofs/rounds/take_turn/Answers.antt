@@ -1,6 +1,7 @@
 use Rattle.std.proofs.Common.{◌≡◌, ◌∙◌, List, get_or, set, ap, sym, subst, arith}
 use Rattle.std.specs.Prelude.{slice_get, All}
-use Rattle.vm_machine.specs.Seats.{monitor_bytes, IsSeated}
+use Rattle.vm_machine.specs.Seats.{IsSeated}
+use Rattle.vm_machine.specs.declared.limits.TheConstants.{MONITOR_BYTES}
 use Rattle.vm_machine.specs.Rounds.{Member, left, left_of_all}
 use Rattle.vm_slices.specs.declared.host_guest.HostGuest.{HostGuest}
 use Rattle.vm_slices.specs.Counting.{AreCounted, HasRoom, RisesBy}
@@ -14,7 +15,7 @@ take_turn-requires-clause-seated c =
     let r = c.index-guests-place.result in
     let ram = c.args.board.now.world.ram in
     subst (λ (g : HostGuest). IsSeated g.guest ram) c.index-guests-place.is
-    (seated_at monitor_bytes c.args.guests.now ram c.args.place r c.requires.stand c.requires.place c.index-guests-place.is)
+    (seated_at MONITOR_BYTES c.args.guests.now ram c.args.place r c.requires.stand c.requires.place c.index-guests-place.is)
 
 pub take_turn-requires-clause-ready : goal.take_turn-requires-clause-ready
 take_turn-requires-clause-ready c =
@@ -43,7 +44,7 @@ turned c =
     (own_by c.args.slice (member_of x g) (member_of c.take_turn.new.board.world.ram c.take_turn.new.self) c.args.native.now c.take_turn.new.native
     e.turn e.counts e.ready e.room)
 
-stands : (c : goal.After-take_turn) → StandFrom monitor_bytes (set c.args.guests.now c.args.place c.take_turn.new.self) c.take_turn.new.board.world.ram
+stands : (c : goal.After-take_turn) → StandFrom MONITOR_BYTES (set c.args.guests.now c.args.place c.take_turn.new.self) c.take_turn.new.board.world.ram
     × (members_of (set c.args.guests.now c.args.place c.take_turn.new.self) c.take_turn.new.board.world.ram
     ≡ with_turn c.args.slice c.args.place (members_of c.args.guests.now c.args.board.now.world.ram))
 stands c =

@@ -1,5 +1,6 @@
 use Rattle.std.proofs.Common.{◌≡◌, ◌/◌, ◌<◌, ◌^◌, ◌∙◌, ap, sym, subst, arith}
-use Rattle.mb_model.specs.Pages.{page_of, page_size}
+use Rattle.mb_model.specs.Pages.{page_of}
+use Rattle.mb_model.specs.declared.pages.TheConstants.{PAGE_SIZE}
 use Rattle.mb_machine.specs.declared.reference.Settled.TheVariants.{To}
 use Rattle.mb_mmu.specs.State.{Translation, settled_by}
 use Rattle.mb_mmu.specs.MicroTlb.{entry_to}
@@ -12,8 +13,8 @@ invariant_of-self c =
     let t : Translation = record { mmu = c.self.inside.mmu; kept = c.self.inside.kept; ram = c.self.inside.ram } in
     let leads : settled_by t c.args.r ≡ To c.args.place =
     ap (λ (x : Translation). settled_by x c.args.r) c.self.view_is ∙ c.requires.leads in
-    let inside : page_of c.args.place < t.ram / page_size =
-    subst (λ (x : Translation). page_of c.args.place < x.ram / page_size) (sym c.self.view_is) c.requires.inside in
+    let inside : page_of c.args.place < t.ram / PAGE_SIZE =
+    subst (λ (x : Translation). page_of c.args.place < x.ram / PAGE_SIZE) (sym c.self.view_is) c.requires.inside in
     let there : c.args.place < 2 ^ 32 = omega arith in
     let here : c.args.r.at < 2 ^ 32 = omega arith in
     let true_of = page_true t c.args.r c.args.place there here leads inside in

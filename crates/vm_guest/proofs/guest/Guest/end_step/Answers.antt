@@ -2,7 +2,8 @@ use Rattle.std.proofs.Common.{◌≡◌, ◌∙◌, ◌⊎◌, ℕ, suc, ◌+◌
 use Rattle.mb_model.specs.Status.{space_of}
 use Rattle.mb_board.specs.State.{BoardState}
 use Rattle.vm_machine.specs.Guests.{Guest}
-use Rattle.vm_machine.specs.Refills.{refilled_at, most_refills}
+use Rattle.vm_machine.specs.Refills.{refilled_at}
+use Rattle.vm_machine.specs.declared.limits.TheConstants.{MOST_REFILLS}
 use Rattle.vm_machine.specs.Turns.{Tally, steps_in, world_of}
 use Rattle.vm_machine.specs.Seats.{Seat, guested_on}
 use Rattle.vm_step.specs.Reads.{read_by_frame}
@@ -29,7 +30,7 @@ refill-requires c = record { seated = (c.loop-refills.invariant.stopped c.requir
 
 -- ---- once more
 
-once_more : (n : ℕ) → n < 31 → suc n ≤ most_refills
+once_more : (n : ℕ) → n < 31 → suc n ≤ MOST_REFILLS
 once_more n less = omega (arith, less)
 
 abbrev found : Guest → Bool → Option Guest
@@ -153,7 +154,7 @@ record Last (c : After-frame-2-1) (s : Seat) (b : BoardState) : Type 0 where
   pub stopped : (w : Stopped c.args.self.now c.args.board.now c.args.native.now c.args.first)
       → IsStopped w.guest w.ram w.native w.taken c.loop-refills.refills s b c.loop-refills.native c.loop-refills.vector
   pub reads : IsFrameOf b c.loop-refills.frame
-  pub end : (c.loop-refills.refills ≡ most_refills)
+  pub end : (c.loop-refills.refills ≡ MOST_REFILLS)
       ⊎ (refilled_at (world_of (guested_on s b.world.ram)) (read_by_frame (space_of s.cpu) c.loop-refills.frame) ≡ None)
   pub tally : s.tally ≡ c.args.self.now.tally
   pub steps : s.steps ≡ c.args.self.now.steps
@@ -161,7 +162,7 @@ record Last (c : After-frame-2-1) (s : Seat) (b : BoardState) : Type 0 where
 last : (c : After-frame-2-1) → Last c c.loop-refills-test.self c.loop-refills-test.board
 last c =
     let l = c.loop-refills in
-    let of : (l.refills ≡ most_refills)
+    let of : (l.refills ≡ MOST_REFILLS)
     ⊎ (refilled_at (world_of (guested_on l.self l.board.world.ram)) (read_by_frame (space_of l.self.cpu) l.frame) ≡ None) → Last c l.self l.board =
     λ end. record {
       stopped = l.invariant.stopped;
@@ -181,7 +182,7 @@ last c =
       | else-loop-refills-test w ↦
           let few = l.invariant.few in
           let all = w.loop-refills-test.false in
-          let full : l.refills ≡ most_refills = omega (arith, few, all) in to (sym w.self-is) (sym w.board-is) (of (inl full))
+          let full : l.refills ≡ MOST_REFILLS = omega (arith, few, all) in to (sym w.self-is) (sym w.board-is) (of (inl full))
     ]
 
 pub leave-requires-clause-counted : goal.leave-requires-clause-counted

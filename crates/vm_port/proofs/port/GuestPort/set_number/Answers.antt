@@ -2,7 +2,8 @@ use Rattle.std.proofs.Common.{◌∙◌, ℕ, ◌+◌, ◌≤◌, List, ap, sym,
 use Rattle.mb_walk.specs.Memory.{part}
 use Rattle.mb_walk.proofs.MemoryLemmas.{length-with_number}
 use Rattle.mb_walk.proofs.Parts.{length-part, part-with_number, take-with_number, drop-with_number}
-use Rattle.vm_shadow.specs.Mapped.{shadowed, area_bytes}
+use Rattle.vm_shadow.specs.Mapped.{shadowed}
+use Rattle.vm_shadow.specs.declared.area.TheConstants.{AREA_BYTES}
 use Rattle.vm_machine.specs.Seats.{own}
 use Rattle.vm_port.specs.Own.{IsPlaced}
 use Rattle.vm_port.specs.Stands.{IsTruthful}
@@ -67,5 +68,5 @@ returns-clause-beyond g c =
     let inside = c.requires.inside in
     let count = length-with_number ram at p.len c.args.value (omega (arith, m.inside)) in
     let below = take-with_number ram m.base at p.len c.args.value (omega arith) (omega (arith, m.inside)) in
-    let above = drop-with_number ram (m.base + m.size + area_bytes) at p.len c.args.value (omega arith) (omega (arith, m.inside)) in
+    let above = drop-with_number ram (m.base + m.size + AREA_BYTES) at p.len c.args.value (omega arith) (omega (arith, m.inside)) in
     rw (c.set_number_in.ensures.rest, c.set_number_in.ensures.bytes, count, below, above) refl
