@@ -1,3 +1,4 @@
+pub mod Built
 pub mod Steps
 pub mod Looks
 pub mod Reading

@@ -9,7 +9,8 @@ use Rattle.clap.specs.Walk.{Row, Rule, arg_by_id, arg_by_long, arg_by_index, has
 use Rattle.clap.specs.Faults.{defaults_fault, default_fault}
 use Rattle.clap.specs.Takes.{is_given}
 use Rattle.mb_forms.specs.Forms.{Text, Opt, Form, Use, has_use, find_option, has_required}
-use Rattle.mb_forms.specs.Clap.{plain_rule, option_rule, positional_rule, positional_rules, form_rules, row_at}
+use Rattle.mb_forms.specs.Clap.{row_at}
+use Rattle.mb_forms.proofs.Built.{plain_rule, option_rule, positional_rule, positional_rules, form_rules}
 
 pub bool_cases : (b : Bool) → (b ≡ true) ⊎ (b ≡ false)
 bool_cases true = inl refl

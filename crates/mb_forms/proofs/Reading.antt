@@ -10,7 +10,8 @@ use Rattle.clap.specs.Faults.{turn_fault, settle_fault, use_fault, defaults_faul
 use Rattle.clap.specs.declared.error.kind.ErrorKind.{ErrorKind}
 use Rattle.clap.specs.declared.error.kind.ErrorKind.TheVariants as kind
 use Rattle.mb_forms.specs.Forms.{Text, Opt, Form, Use, any, value_of, rest, has_use, find_option, has_required, begins_with_dash, ends_options, dashes_ok, IsNumbered, uses_of, finish, after, positional_use, option_use, read}
-use Rattle.mb_forms.specs.Clap.{option_rule, positional_rule, form_rules, form_shape, row_at, walk_at, pending_of_use, rows_from, rows_at_end, no_kinds}
+use Rattle.mb_forms.specs.Clap.{row_at, no_kinds}
+use Rattle.mb_forms.proofs.Built.{option_rule, positional_rule, form_rules, form_shape, walk_at, pending_of_use, rows_from, rows_at_end}
 use Rattle.mb_forms.proofs.Steps.{use_at, has_row_at, used_at, turn_ends, wait_ends, turn_unknown, wait_unknown, turn_attached, turn_named, turn_positional, turn_stray, wait_plain, wait_option, rest_positional, rest_stray, rest_empty}
 use Rattle.mb_forms.proofs.Looks.{bool_cases, option_cases, same_text, by_long, Known, known_positional, known_option, by_place, no_defaults, fold_same, missing_at, text_is, and_true}
 

@@ -9,7 +9,8 @@ use Rattle.clap.specs.declared.parser.matches.ValueSource.TheVariants.{CommandLi
 use Rattle.clap.specs.Faults.{turn_fault, settle_fault, use_fault}
 use Rattle.clap.specs.declared.error.kind.ErrorKind.TheVariants as kind
 use Rattle.mb_forms.specs.Forms.{Text, Opt, Form, Use, has_use}
-use Rattle.mb_forms.specs.Clap.{plain_rule, option_rule, positional_rule, form_rules, form_shape, row_at, walk_at}
+use Rattle.mb_forms.specs.Clap.{row_at}
+use Rattle.mb_forms.proofs.Built.{plain_rule, option_rule, positional_rule, form_rules, form_shape, walk_at}
 
 and_false : (b : Bool) → (b && false) ≡ false
 and_false true = refl

@@ -8,7 +8,8 @@ use Rattle.clap.specs.Walk.{Row, Rule, Walk, walk, walked, finished, settled, no
 use Rattle.clap.specs.Faults.{turn_fault, walk_fault, settle_fault, defaults_fault, check_fault, entered_fault, built_fault, is_simple_and_free, is_free_app}
 use Rattle.clap.specs.Simple.{App, Shape, built, entered, filled_from, names_of, is_simple, is_buildable, is_ready, is_ready_leaf}
 use Rattle.mb_forms.specs.Forms.{Text, Opt, Form, Use, any, value_of, find_option, begins_with_dash, ends_options, dashes_ok, IsNumbered, uses_of, option_use, positional_use, after, read}
-use Rattle.mb_forms.specs.Clap.{plain_rule, option_rule, option_arg, positional_arg, positional_rule, positional_rules, form_rules, form_shape, form_app, row_at, walk_at, rows_from, no_kinds, clap_gives, Agrees}
+use Rattle.mb_forms.specs.Clap.{option_arg, positional_arg, form_app, row_at, no_kinds, clap_gives, Agrees}
+use Rattle.mb_forms.proofs.Built.{plain_rule, option_rule, positional_rule, positional_rules, form_rules, form_shape, walk_at, rows_from}
 use Rattle.mb_forms.proofs.Looks.{bool_cases, option_cases}
 use Rattle.mb_forms.proofs.Reading.{reads}
 

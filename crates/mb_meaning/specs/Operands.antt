@@ -1,5 +1,5 @@
 -- Operands: what stands there, and what is put there.
-use Rattle.std.specs.Prelude.{ℕ, ◌+◌, ◌-◌, ◌*◌, ◌/◌, ◌^◌, length, Result, Ok, Err}
+use Rattle.std.specs.Prelude.{ℕ, ◌+◌, ◌-◌, ◌*◌, ◌/◌, ◌^◌, length, Result, Ok}
 use Rattle.mb_port.specs.Routine.{Routine, Return, ◌>>=◌, ◌>>◌}
 use Rattle.mb_port.specs.declared.types.Space.{Space}
 use Rattle.mb_instr.specs.declared.size.Size.{Size}
@@ -91,8 +91,3 @@ raised p = with_address_register p 7 (sum (address_register p 7) 4)
 -- A long goes onto the stack, whose new top is given. After the instruction the registers are these.
 unfoldable pub pushing : ℕ → ℕ → Space → Plain → Routine (Result (Unit {0}) (Cut Stopped))
 pushing value top space after = writing after (put_of space top 4 value)
-
--- what a store answered, with the registers after it
-abbrev pub stored : Result (Unit {0}) WriteFault → Plain → Result Plain WriteFault
-stored (Ok done) p = Ok p
-stored (Err refused) p = Err refused

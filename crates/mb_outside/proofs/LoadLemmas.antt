@@ -3,7 +3,11 @@ use Rattle.std.proofs.Common.{◌≡◌, ◌∙◌, ◌≤◌, ◌+◌, ℕ, Lis
 use Rattle.std.proofs.Math.Seq.{take-add}
 use Rattle.std.specs.Prelude.{Option, None, Some, IfSome}
 use Rattle.mb_outside.specs.Shelf.{PieceOf}
-use Rattle.mb_outside.specs.Loads.{IsFront}
+
+-- `items` are the first of `bytes`.
+pub record IsFront (items bytes : List ℕ) : Type 0 where
+  pub within : length items ≤ length bytes
+  pub front : items ≡ take (length items) bytes
 
 pub length-append-take : (items buf : List ℕ) (n : ℕ) → n ≤ length buf → length (items ++ take n buf) ≡ length items + n
 length-append-take items buf n fits = grind (arith, length-append, length-take)

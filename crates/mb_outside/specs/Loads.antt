@@ -1,5 +1,5 @@
 -- What reading a whole file gives.
-use Rattle.std.specs.Prelude.{◌≡◌, ℕ, ◌<◌, ◌≤◌, List, length, take, Option, Result, Ok, Err, IfSome, Vec}
+use Rattle.std.specs.Prelude.{◌≡◌, ℕ, ◌<◌, ◌≤◌, List, length, Option, Result, Ok, Err, IfSome, Vec}
 use Rattle.std.specs.declared.alloc.Global.{Global}
 use Rattle.mb_outside.specs.Counts.{Rose}
 use Rattle.mb_outside.specs.declared.loads.LoadFault.{LoadFault}
@@ -16,8 +16,3 @@ abbrev pub Loads : Option (List ℕ) → ℕ → ℕ → ℕ → Result (Vec ℕ
 Loads told most before now (Ok v) =
     (now ≡ before) × (length v.items ≤ most) × IfSome told (λ bytes. v.items ≡ bytes)
 Loads told most before now (Err fault) = LoadCause told most before now fault
-
--- `items` are the first of `bytes`.
-pub record IsFront (items bytes : List ℕ) : Type 0 where
-  pub within : length items ≤ length bytes
-  pub front : items ≡ take (length items) bytes

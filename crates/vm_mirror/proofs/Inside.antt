@@ -20,7 +20,7 @@ use Rattle.mb_walk.proofs.Parts.{drop-over, take-over}
 use Rattle.mb_machine.proofs.BusLemmas.{stored_memory}
 use Rattle.vm_machine.specs.Guests.{Guest, ref, allows}
 use Rattle.vm_mirror.specs.Related.{Site, setting, Related}
-use Rattle.vm_mirror.specs.Quiet.{Quiet}
+use Rattle.vm_mirror.proofs.Quiet.{Quiet}
 use Rattle.vm_mirror.specs.Laws.{board_bus, lawful, Outside, StaysInside}
 use Rattle.vm_mirror.proofs.Mirrors.{Allowed, access, allowed_access, refused_access, board_in_ram, room}
 use Rattle.vm_held.proofs.Stages.{piece_fits, word_fits, line_fits, in_guest, reads_found, reads_refused, writes_found, writes_refused, line_written, paired}

@@ -1,3 +1,4 @@
+pub mod Quiet
 pub mod Translated
 pub mod Mirrors
 pub mod Calls

@@ -20,7 +20,7 @@ use Rattle.vm_shadow.proofs.Alone.{tables_are_of_the_area}
 use Rattle.vm_machine.specs.Guests.{Guest, ref, lets, allows, placed_at}
 use Rattle.vm_mirror.specs.Related.{Site, Related, mapping}
 use Rattle.vm_machine.specs.Seats.{moved}
-use Rattle.vm_mirror.specs.Quiet.{wanted, Quiet, Translates}
+use Rattle.vm_mirror.proofs.Quiet.{wanted, Quiet, Translates}
 use Rattle.vm_held.specs.Sound.{Sound}
 use Rattle.vm_mirror.proofs.Translated.{board_translates}
 use Rattle.vm_held.proofs.Allowed.{guest_access, wrote_guest}

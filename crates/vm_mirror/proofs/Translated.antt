@@ -19,7 +19,7 @@ use Rattle.vm_shadow.specs.Mapped.{root_of}
 use Rattle.vm_shadow.proofs.Searches.{searches_find_entries}
 use Rattle.vm_machine.specs.Guests.{Guest, ref}
 use Rattle.vm_mirror.specs.Related.{Site, Related, Agrees, AllAgree, mapping}
-use Rattle.vm_mirror.specs.Quiet.{wanted, Quiet, Translates}
+use Rattle.vm_mirror.proofs.Quiet.{wanted, Quiet, Translates}
 use Rattle.vm_held.proofs.Stages.{settled_by, entry_used, entry_marked, by_known, translated_by, no_entry}
 
 -- ---- stages, by any rule

@@ -1,5 +1,4 @@
 pub mod Related
-pub mod Quiet
 pub mod Laws
 pub mod Attempts
 pub mod Ready

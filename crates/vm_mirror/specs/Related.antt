@@ -57,7 +57,3 @@ pub record Related (x : Site) (b : World) (g : Guest) : Type 0 where
 -- There is a guest that the board serves.
 abbrev pub Serves : Site → World → Type 0
 Serves x b = (g : Guest) × Related x b g
-
--- The second board state serves every guest that the first serves.
-abbrev pub Same : Site → World → World → Type 0
-Same x b u = (g : Guest) → Related x b g → Related x u g

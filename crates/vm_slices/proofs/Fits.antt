@@ -14,8 +14,8 @@ use Rattle.vm_guest.proofs.Seated.{only_within}
 use Rattle.vm_slices.specs.declared.host_guest.HostGuest.{HostGuest}
 use Rattle.vm_slices.specs.Fit.{share_of, need_of}
 use Rattle.vm_slices.specs.Members.{member_at_start, IsReady}
-use Rattle.vm_slices.specs.Places.{member_of, members_of, StandFrom, end_of_all}
-use Rattle.vm_slices.proofs.Places.{further, ready_behind}
+use Rattle.vm_slices.specs.Places.{member_of, members_of, StandFrom}
+use Rattle.vm_slices.proofs.Places.{further, ready_behind, end_of_all}
 
 -- ---- numbers
 

@@ -16,7 +16,7 @@ use Rattle.vm_slices.specs.declared.host_guest.HostGuest.{HostGuest}
 use Rattle.vm_machine.proofs.Trails.{trail_append}
 use Rattle.vm_slices.specs.Counting.{AreCounted, HasRoom}
 use Rattle.vm_slices.specs.Members.{after_turn, IsReady}
-use Rattle.vm_slices.specs.Places.{member_of, members_of, StandFrom, end_of_all, with_turn, marks_at}
+use Rattle.vm_slices.specs.Places.{member_of, members_of, StandFrom, with_turn, marks_at}
 
 -- ---- one of them
 
@@ -267,6 +267,11 @@ turn_of_one slice (suc i) (k ∷ ks) g x old new less is ready own =
     }
 
 -- ---- a further guest
+
+-- where the last of them ends
+abbrev pub end_of_all : ℕ → List HostGuest → ℕ
+end_of_all from [] = from
+end_of_all from (g ∷ guests) = end_of_all (end_of g.guest) guests
 
 end_behind : (from : ℕ) (gs : List HostGuest) (ram : List ℕ) → StandFrom from gs ram → from ≤ end_of_all from gs
 end_behind from [] ram all = omega arith

@@ -35,11 +35,6 @@ abbrev pub StandFrom : ℕ → List HostGuest → List ℕ → Type 0
 StandFrom from [] ram = Unit {0}
 StandFrom from (g ∷ guests) ram = (from ≤ g.guest.base) × IsSeated g.guest ram × StandFrom (end_of g.guest) guests ram
 
--- where the last of them ends
-abbrev pub end_of_all : ℕ → List HostGuest → ℕ
-end_of_all from [] = from
-end_of_all from (g ∷ guests) = end_of_all (end_of g.guest) guests
-
 -- what holds of a host: turns have steps, and all guests stand behind the monitor's bytes
 pub record IsHost (slice : ℕ) (guests : List HostGuest) (ram : List ℕ) : Type 0 where
   pub some : 1 ≤ slice

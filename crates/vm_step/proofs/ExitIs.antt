@@ -40,11 +40,11 @@ use Rattle.vm_step.proofs.ToldReads.{unlocked, read_is_told, write_reads_none, l
 use Rattle.vm_step.proofs.Rest.{with_counter}
 use Rattle.vm_step.proofs.Usual.{IsUsual}
 use Rattle.vm_meaning.specs.Telling.{AreOwn}
-use Rattle.vm_step.specs.Registers.{tidy, IsFrom}
+use Rattle.vm_step.specs.Registers.{IsFrom}
 use Rattle.vm_machine.specs.Rests.{left_pieces, rest_by, rest_of}
 use Rattle.vm_machine.specs.Exits.{is_refusal, class_of_vector, rest_without, rest_by_frame}
 use Rattle.vm_meaning.proofs.Writebacks.{frames_tell}
-use Rattle.vm_step.proofs.Registers.{plain_again, is_set, registers_tidy, seven_set}
+use Rattle.vm_step.proofs.Registers.{plain_again, is_set, registers_tidy, seven_set, tidy}
 
 is_itself : (cpu : Cpu) → is_supervisor cpu.regs.sr ≡ false → IsFrom cpu cpu
 is_itself cpu user = record { isp = refl; master = refl; vbr = refl; user = user; upper = refl }

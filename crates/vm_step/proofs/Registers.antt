@@ -10,7 +10,15 @@ use Rattle.mb_model.specs.Status.{space_of}
 use Rattle.mb_processor.specs.SystemEnds.{with_registers}
 use Rattle.mb_processor.specs.Step.{interrupt_mask}
 use Rattle.mb_attempts.specs.Attempts.{IsUntraced}
-use Rattle.vm_step.specs.Registers.{tidy, IsFrom}
+use Rattle.vm_step.specs.Registers.{IsFrom}
+
+-- what is read back of what was set
+abbrev pub tidy : Plain → Plain
+tidy p = record { d = p.d; a = take 7 p.a ++ slice_index p.a 7 ∷ []; pc = p.pc; ccr = p.ccr % 2 ^ 5 }
+
+-- eight address registers, and five condition codes
+abbrev pub IsTidy : Plain → Type 0
+IsTidy p = tidy p ≡ p
 
 high13 : (sr ccr : ℕ) → (sr - sr % 2 ^ 5 + ccr % 2 ^ 5) / 2 ^ 13 ≡ sr / 2 ^ 13
 high13 sr ccr = omega arith

@@ -39,11 +39,10 @@ use Rattle.vm_held.proofs.Rows.{fetches_go_on}
 use Rattle.vm_held.proofs.Attempts.{attempts_go_on}
 use Rattle.vm_held.proofs.Names.{words_name}
 use Rattle.vm_leave.proofs.Steps.{instr_in, attempted_or, same_counter}
-use Rattle.vm_step.specs.Registers.{IsTidy}
 use Rattle.vm_step.specs.Retire.{HasRegisters}
 use Rattle.vm_step.specs.Rest.{StepsGoOn}
 use Rattle.vm_step.proofs.Tidy.{StopsEight, eight_tidy, eight_plain, attempts_eight}
-use Rattle.vm_step.proofs.Registers.{plain_again, registers_over, registers_back, same_space}
+use Rattle.vm_step.proofs.Registers.{plain_again, registers_over, registers_back, same_space, IsTidy}
 
 pub with_counter : (p : Plain) (cpu : Cpu) → (with_registers p cpu).regs.pc ≡ p.pc
 unfolding with_plain

@@ -32,7 +32,7 @@ use Rattle.mb_meaning.specs.Rows.{perform_of, row_of, perform_move_of}
 use Rattle.mb_meaning.specs.Attempt.{Found, past, fetched_of, attempt_of}
 use Rattle.mb_attempts.proofs.Attempts.{attempts_perform}
 use Rattle.mb_tells.specs.Laws.{moves, moves_fetched}
-use Rattle.vm_step.specs.Registers.{IsTidy}
+use Rattle.vm_step.proofs.Registers.{IsTidy}
 
 pub record IsEight (p : Plain) : Type 0 where
   pub registers : length p.a ≡ 8

@@ -1,7 +1,7 @@
 -- A turn by its parts.
 use Rattle.std.proofs.Common.{◌≡◌, ◌∙◌, ℕ, ◌/◌, ◌%◌, ◌^◌, ◌<◌, ◌≤◌, not, false, List, [], ◌∷◌, ◌++◌, length, arith, refl, ap, sym, subst}
 use Rattle.std.specs.Prelude.{slice_index}
-use Rattle.mb_port.specs.Routine.{Return, Ask, Then, run}
+use Rattle.mb_port.specs.Routine.{Return, Ask, Then, run, Routine}
 use Rattle.mb_instr.specs.declared.registers.Plain.{Plain}
 use Rattle.mb_instr.specs.declared.registers.Regs.{Regs}
 use Rattle.mb_instr.specs.Registers.{is_supervisor, is_master, active_stack, plain_of}
@@ -25,12 +25,13 @@ use Rattle.vm_machine.specs.declared.class.Class.{Class}
 use Rattle.vm_machine.specs.Turns.{Turned, world_of, guest_begun, guest_processed, guest_later, guest_stepped, class_of_step}
 use Rattle.vm_machine.specs.Turns.{refills_of_step, by_class, advanced, turn_of}
 use Rattle.vm_step.proofs.Refill.{none_is_refilled}
-use Rattle.vm_step.specs.Registers.{IsTidy}
 use Rattle.vm_machine.specs.Exits.{class_of_vector, handed_by, frame_access, rest_by_frame}
 use Rattle.vm_step.specs.Exit.{left_guest}
-use Rattle.vm_step.specs.Turn.{FlushedIsSet, MoreStaysSet, BoardsAreReady, RunsKeepTruth, ExitsAdvance, done, stepping, running, still, CoursesAreTurns}
-use Rattle.vm_step.proofs.Registers.{same_word, seven, plain_again, same_user, same_mask, stays_plain, is_set}
+use Rattle.vm_step.specs.Turn.{FlushedIsSet, MoreStaysSet, BoardsAreReady, ExitsAdvance, done, stepping, running, still, CoursesAreTurns}
+use Rattle.vm_step.proofs.Registers.{same_word, seven, plain_again, same_user, same_mask, stays_plain, is_set, IsTidy}
 use Rattle.vm_machine.proofs.TurnLaws.{halted_turn, going_turn, nothing_turned, turns_add}
+use Rattle.mb_laws.specs.Relations.{Along}
+use Rattle.vm_held.specs.Truth.{HasAddress, Fine}
 
 -- ---- ready again
 
@@ -95,7 +96,12 @@ boards_are_ready x c world steps state g n set present has s =
       },
     )
 
--- ---- truth
+-- ---- the guest's own bus keeps the shadow's truth
+
+abbrev pub RunsKeepTruth : Type 0 → Type 1
+RunsKeepTruth A = (size : ℕ) (m : Routine A) (g : Guest) → Along (λ c (h : Guest). HasAddress c) guest_bus m g
+    → Fine size g
+    → Fine size (run guest_bus m g).1
 
 pub runs_keep_truth : (A : Type 0) → RunsKeepTruth A
 runs_keep_truth A size (Return a) g along fine = fine

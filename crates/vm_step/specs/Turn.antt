@@ -1,7 +1,6 @@
 -- A turn of a guest by parts: steps over its own bus, runs of the board, and what the board left.
 use Rattle.std.specs.Prelude.{◌≡◌, ℕ, suc, ◌+◌, ◌%◌, ◌^◌, ◌≤◌, Bool, false, true, List, length, Some, None}
-use Rattle.mb_port.specs.Routine.{Routine, run}
-use Rattle.mb_laws.specs.Relations.{Along}
+use Rattle.mb_port.specs.Routine.{run}
 use Rattle.mb_instr.specs.Registers.{plain_of}
 use Rattle.mb_model.specs.declared.processor.Cpu.{Cpu}
 use Rattle.mb_model.specs.declared.outcome.RunState.{RunState}
@@ -21,7 +20,6 @@ use Rattle.vm_machine.specs.Refills.{begun_again}
 use Rattle.vm_mirror.specs.Related.{Site, AllAgree, mapping}
 use Rattle.vm_machine.specs.Seats.{on_board}
 use Rattle.vm_mirror.specs.Ready.{native_mmu}
-use Rattle.vm_held.specs.Truth.{Fine, HasAddress}
 use Rattle.vm_machine.specs.Turns.{Guested, Turned, world_of, guest_begun, guest_later, by_class, advanced, turn_of}
 use Rattle.vm_step.specs.Retire.{Boarded}
 use Rattle.vm_step.specs.Exit.{Furnished, left_guest, Leaves}
@@ -91,13 +89,6 @@ BoardsAreReady = (x : Site) (c : Cpu) (world : World) (steps : ℕ) (state : Run
     → IsNativeCpu x c → IsSetFor x world → space_of g.machine.cpu ≡ x.space → length g.machine.cpu.regs.a ≡ 7
     → Stands x world.ram (world_of g)
     → Boarded x (ready_for c world steps state g) g × Furnished x (ready_for c world steps state g)
-
--- ---- the guest's own bus keeps the shadow's truth
-
-abbrev pub RunsKeepTruth : Type 0 → Type 1
-RunsKeepTruth A = (size : ℕ) (m : Routine A) (g : Guest) → Along (λ c (h : Guest). HasAddress c) guest_bus m g
-    → Fine size g
-    → Fine size (run guest_bus m g).1
 
 -- ---- a turn
 

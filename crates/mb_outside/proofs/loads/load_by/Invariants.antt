@@ -1,6 +1,6 @@
 use Rattle.std.proofs.Common.{◌≡◌, ◌-◌, ◌+◌, ◌≤◌, length}
 use Rattle.std.specs.Prelude.{IfSome}
-use Rattle.mb_outside.specs.Loads.{IsFront}
+use Rattle.mb_outside.proofs.LoadLemmas.{IsFront}
 use Rattle.mb_outside.proofs.loads.load_by.Given as goal
 
 abbrev pub invariant-loop-count : goal.invariant-loop-count
