@@ -1,5 +1,7 @@
 -- How a run may end, each end with its cause.
 use Rattle.std.specs.Prelude.{◌≡◌, ◌⊎◌, ℕ, [], Bool, true, Option, Some, None, is_some, IfSome, string_bytes}
+use Rattle.mb_outside.specs.declared.shelf.Shelf as shelves
+use Rattle.mb_outside.specs.declared.sink.Sink as sinks
 use Rattle.mb_outside.specs.Counts.{Rose}
 use Rattle.mb_outside.specs.Prints.{Printed, PrintedPart}
 use Rattle.mb_words.specs.Words.{Text, Asked}
@@ -26,11 +28,12 @@ pub record SinkSeen : Type 0 where
   pub taken : Option Text
   pub faults : ℕ
 
-abbrev pub shelf_seen : {S : Type 0} → (S → Told) → (S → Bool) → (S → ℕ) → S → ShelfSeen
-shelf_seen told whole faults s = record { told = told s; whole = whole s; faults = faults s }
+-- by what a shelf's type shows: a clause has that as F.Shelf, and of a sink as O.Sink
+abbrev pub shelf_seen : {S : Type 0} → shelves.Ghosts S → S → ShelfSeen
+shelf_seen ghosts s = record { told = ghosts.told s; whole = ghosts.whole s; faults = ghosts.faults s }
 
-abbrev pub sink_seen : {S : Type 0} → (S → Option Text) → (S → ℕ) → S → SinkSeen
-sink_seen taken faults s = record { taken = taken s; faults = faults s }
+abbrev pub sink_seen : {S : Type 0} → sinks.Ghosts S → S → SinkSeen
+sink_seen ghosts s = record { taken = ghosts.taken s; faults = ghosts.faults s }
 
 -- The shelf, out, and what is counted of boards in user mode, before a run and after it.
 pub record Around : Type 0 where
@@ -42,13 +45,13 @@ pub record Around : Type 0 where
   pub native_after : NativeState
 
 -- around a call, by what a shelf and a sink show
-abbrev pub around : {S O : Type 0} → (S → Told) → (S → Bool) → (S → ℕ) → (O → Option Text) → (O → ℕ)
+abbrev pub around_of : {S O : Type 0} → shelves.Ghosts S → sinks.Ghosts O
     → (shelf shelf_after : S) → (out out_after : O) → (native native_after : NativeState) → Around
-around told whole faults taken failed shelf shelf_after out out_after native native_after = record {
-  shelf = shelf_seen told whole faults shelf;
-  shelf_after = shelf_seen told whole faults shelf_after;
-  out = sink_seen taken failed out;
-  out_after = sink_seen taken failed out_after;
+around_of shelf_ghosts sink_ghosts shelf shelf_after out out_after native native_after = record {
+  shelf = shelf_seen shelf_ghosts shelf;
+  shelf_after = shelf_seen shelf_ghosts shelf_after;
+  out = sink_seen sink_ghosts out;
+  out_after = sink_seen sink_ghosts out_after;
   native = native;
   native_after = native_after;
 }
@@ -179,6 +182,10 @@ Ends (Some asked) a end = CourseEnds (course_of asked) a end
 pub record Said : Type 0 where
   pub diag : SinkSeen
   pub diag_after : SinkSeen
+
+-- around a call, by what a sink shows
+abbrev pub said_of : {E : Type 0} → sinks.Ghosts E → (diag diag_after : E) → Said
+said_of ghosts diag diag_after = record { diag = sink_seen ghosts diag; diag_after = sink_seen ghosts diag_after }
 
 -- the line was put on diag, or a first part of it before diag failed, and nothing more
 abbrev pub IsSaid : Said → Text → Type 0

@@ -7,7 +7,7 @@ ghost use Rattle.mb_words.specs.Words.{excerpt_said, run_said, session_said, sou
 ghost use Rattle.mb_program.specs.Answers.{course_of};
 ghost use Rattle.mb_program.specs.Causes.{HostsNothing};
 ghost use Rattle.mb_program.specs.Direct.{HasRoomToRun};
-ghost use Rattle.mb_program.specs.Ends.{CourseEnds, Ends, around};
+ghost use Rattle.mb_program.specs.Ends.{CourseEnds, Ends, around_of};
 ghost use Rattle.mb_program.specs.Lines.{status_of};
 ghost use Rattle.mb_program.specs.Tidy.{IsTidyTold};
 
@@ -29,7 +29,7 @@ use std::alloc::Global;
 #[tactic(auto, unfolding(crate::specs::Answers::course_of))]
 fn run_bare<F: Shelf, O: Sink>(alloc: Global, run: &Bare, shelf: &mut F, out: &mut O) -> End
     ensures ends { (native : NativeState) → CourseEnds (course_of (bare (run_said run.now)))
-        (around F.told F.whole F.faults O.taken O.faults shelf.old shelf.new out.old out.new native native) result }
+        (around_of F.Shelf O.Sink shelf.old shelf.new out.old out.new native native) result }
     ensures told { F.told shelf.new ≡ F.told shelf.old }
     ensures whole { F.whole shelf.new ≡ F.whole shelf.old }
 {
@@ -43,7 +43,7 @@ fn run_bare<F: Shelf, O: Sink>(alloc: Global, run: &Bare, shelf: &mut F, out: &m
 #[tactic(auto, unfolding(crate::specs::Answers::course_of))]
 fn run_asm<F: Shelf, O: Sink>(alloc: Global, asm: &Asm, shelf: &mut F, out: &mut O) -> End
     ensures ends { (native : NativeState) → CourseEnds (course_of (assembly (source_said asm.now)))
-        (around F.told F.whole F.faults O.taken O.faults shelf.old shelf.new out.old out.new native native) result }
+        (around_of F.Shelf O.Sink shelf.old shelf.new out.old out.new native native) result }
     ensures told { F.told shelf.new ≡ F.told shelf.old }
     ensures whole { F.whole shelf.new ≡ F.whole shelf.old }
 {
@@ -57,7 +57,7 @@ fn run_asm<F: Shelf, O: Sink>(alloc: Global, asm: &Asm, shelf: &mut F, out: &mut
 #[tactic(auto, unfolding(crate::specs::Answers::course_of))]
 fn run_dis<F: Shelf, O: Sink>(alloc: Global, dis: &Dis, shelf: &mut F, out: &mut O) -> End
     ensures ends { (native : NativeState) → CourseEnds (course_of (disassembly (excerpt_said dis.now)))
-        (around F.told F.whole F.faults O.taken O.faults shelf.old shelf.new out.old out.new native native) result }
+        (around_of F.Shelf O.Sink shelf.old shelf.new out.old out.new native native) result }
     ensures told { F.told shelf.new ≡ F.told shelf.old }
     ensures whole { F.whole shelf.new ≡ F.whole shelf.old }
 {
@@ -78,8 +78,7 @@ fn run_host<F: Shelf, O: Sink>(
 ) -> End
     requires room { HasRoomToRun native.old }
     ensures ends { CourseEnds (course_of (hosting (session_said session.now)))
-        (around F.told F.whole F.faults O.taken O.faults shelf.old shelf.new out.old out.new native.old native.new)
-        result }
+        (around_of F.Shelf O.Sink shelf.old shelf.new out.old out.new native.old native.new) result }
     ensures told { F.told shelf.new ≡ F.told shelf.old }
     ensures whole { F.whole shelf.new ≡ F.whole shelf.old }
 {
@@ -101,12 +100,10 @@ fn run_compare<F: Shelf, O: Sink>(
 ) -> End
     requires room { HasRoomToRun native.old }
     ensures ends { CourseEnds (course_of (comparison (session_said session.now)))
-        (around F.told F.whole F.faults O.taken O.faults shelf.old shelf.new out.old out.new native.old native.new)
-        result }
+        (around_of F.Shelf O.Sink shelf.old shelf.new out.old out.new native.old native.new) result }
     // Of each tidy guest it writes that it shows the same.
     ensures tidy { IsTidyTold (Some (comparison (session_said session.now)))
-        (around F.told F.whole F.faults O.taken O.faults shelf.old shelf.new out.old out.new native.old native.new)
-        (status_of result) }
+        (around_of F.Shelf O.Sink shelf.old shelf.new out.old out.new native.old native.new) (status_of result) }
     ensures told { F.told shelf.new ≡ F.told shelf.old }
     ensures whole { F.whole shelf.new ≡ F.whole shelf.old }
 {
@@ -126,8 +123,7 @@ pub fn run_words<F: Shelf, O: Sink>(
 ) -> End
     requires room { HasRoomToRun native.old }
     ensures ends { Ends (asked_by (map string_bytes words.now))
-        (around F.told F.whole F.faults O.taken O.faults shelf.old shelf.new out.old out.new native.old native.new)
-        result }
+        (around_of F.Shelf O.Sink shelf.old shelf.new out.old out.new native.old native.new) result }
     // A command that runs no guests counts nothing.
     ensures unhosted { HostsNothing (asked_by (map string_bytes words.now)) → native.new ≡ native.old }
     ensures told { F.told shelf.new ≡ F.told shelf.old }

@@ -89,7 +89,7 @@ pub(crate) fn show_compared<O: Sink>(
     requires turns { All (IsTurnOf (length ordered.session.guests)) ordered.order.items }
     requires room { HasRoomToRun native.old }
     ensures { GivesAnswer (compare_answer (ordered_said ordered))
-        (sink_seen O.taken O.faults out.old) (sink_seen O.taken O.faults out.new) native.old native.new result }
+        (sink_seen O.Sink out.old) (sink_seen O.Sink out.new) native.old native.new result }
 {
     let Ok(machines) = bare_machines(alloc, ordered.session.guests()) else {
         return End::Memory;

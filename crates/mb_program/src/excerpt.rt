@@ -18,7 +18,7 @@ use std::alloc::Global;
 pub(crate) fn show_excerpt<O: Sink>(alloc: Global, dis: &Dis, image: &Image, out: &mut O) -> End
     requires { All (LiesBelow (1024 * dis.now.ram)) (contents_of image.now) }
     ensures { GivesUncounted (dis_answer (excerpt_said dis.now) (contents_of image.now))
-        (sink_seen O.taken O.faults out.old) (sink_seen O.taken O.faults out.new) result }
+        (sink_seen O.Sink out.old) (sink_seen O.Sink out.new) result }
 {
     let Ok(ram) = opening_ram(alloc, image, 1024 * dis.ram) else {
         return End::Memory;

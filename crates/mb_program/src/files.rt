@@ -94,7 +94,7 @@ impl Loaded {
 
 /// Reads a file whole.
 fn load_file<F: Shelf>(alloc: Global, shelf: &mut F, name: &str) -> Result<Loaded, End>
-    ensures loads { Loads (shelf_seen F.told F.whole F.faults shelf.old) (shelf_seen F.told F.whole F.faults shelf.new)
+    ensures loads { Loads (shelf_seen F.Shelf shelf.old) (shelf_seen F.Shelf shelf.new)
         name.now result }
     ensures told { F.told shelf.new ≡ F.told shelf.old }
     ensures whole { F.whole shelf.new ≡ F.whole shelf.old }
@@ -118,8 +118,8 @@ pub(crate) fn image_file<F: Shelf>(
     name: &str,
     size: u32,
 ) -> Result<Image, End>
-    ensures reads { Reads (image_in size) contents_of (shelf_seen F.told F.whole F.faults shelf.old)
-        (shelf_seen F.told F.whole F.faults shelf.new) name.now result }
+    ensures reads { Reads (image_in size) contents_of (shelf_seen F.Shelf shelf.old)
+        (shelf_seen F.Shelf shelf.new) name.now result }
     ensures in_ram { IfOk result (λ image. All (LiesBelow size) (contents_of image)) }
     ensures told { F.told shelf.new ≡ F.told shelf.old }
     ensures whole { F.whole shelf.new ≡ F.whole shelf.old }
@@ -134,8 +134,8 @@ pub(crate) fn image_file<F: Shelf>(
 /// Reads the script of a file.
 #[tactic(auto, unfolding(crate::specs::Answers::script_in))]
 fn script_file<F: Shelf>(alloc: Global, shelf: &mut F, name: &str) -> Result<Script, End>
-    ensures reads { Reads script_in (λ script. script) (shelf_seen F.told F.whole F.faults shelf.old)
-        (shelf_seen F.told F.whole F.faults shelf.new) name.now result }
+    ensures reads { Reads script_in (λ script. script) (shelf_seen F.Shelf shelf.old)
+        (shelf_seen F.Shelf shelf.new) name.now result }
     ensures told { F.told shelf.new ≡ F.told shelf.old }
     ensures whole { F.whole shelf.new ≡ F.whole shelf.old }
 {
@@ -153,7 +153,7 @@ pub(crate) fn script_if_named<F: Shelf>(
     name: Option<&str>,
 ) -> Result<Script, End>
     ensures passes { Passes (reads_if_named script_in (file_said name.entry) []) (λ script. script)
-        (shelf_seen F.told F.whole F.faults shelf.old) (shelf_seen F.told F.whole F.faults shelf.new) result }
+        (shelf_seen F.Shelf shelf.old) (shelf_seen F.Shelf shelf.new) result }
     ensures told { F.told shelf.new ≡ F.told shelf.old }
     ensures whole { F.whole shelf.new ≡ F.whole shelf.old }
 {
@@ -170,8 +170,8 @@ pub(crate) fn session_file<F: Shelf>(
     shelf: &mut F,
     name: &str,
 ) -> Result<SessionPlan, End>
-    ensures reads { Reads session_in plan_said (shelf_seen F.told F.whole F.faults shelf.old)
-        (shelf_seen F.told F.whole F.faults shelf.new) name.now result }
+    ensures reads { Reads session_in plan_said (shelf_seen F.Shelf shelf.old)
+        (shelf_seen F.Shelf shelf.new) name.now result }
     ensures in_range { IfOk result (λ plan. IsInRange (plan_said plan)) }
     ensures told { F.told shelf.new ≡ F.told shelf.old }
     ensures whole { F.whole shelf.new ≡ F.whole shelf.old }
@@ -186,8 +186,8 @@ pub(crate) fn session_file<F: Shelf>(
 /// Assembles the source of a file.
 #[tactic(auto, unfolding(crate::specs::Answers::source_in))]
 pub(crate) fn source_file<F: Shelf>(alloc: Global, shelf: &mut F, name: &str) -> Result<Image, End>
-    ensures reads { Reads source_in contents_of (shelf_seen F.told F.whole F.faults shelf.old)
-        (shelf_seen F.told F.whole F.faults shelf.new) name.now result }
+    ensures reads { Reads source_in contents_of (shelf_seen F.Shelf shelf.old)
+        (shelf_seen F.Shelf shelf.new) name.now result }
     ensures addressed { IfOk result (λ image. All IsAddressed (contents_of image)) }
     ensures told { F.told shelf.new ≡ F.told shelf.old }
     ensures whole { F.whole shelf.new ≡ F.whole shelf.old }

@@ -73,7 +73,7 @@ pub(crate) fn show_generated<O: Sink>(
 ) -> End
     requires room { HasRoomToRun native.old }
     ensures { GivesAnswer (gen_answer (workload_said workload.now))
-        (sink_seen O.taken O.faults out.old) (sink_seen O.taken O.faults out.new) native.old native.new result }
+        (sink_seen O.Sink out.old) (sink_seen O.Sink out.new) native.old native.new result }
 {
     let Ok(session) = make_session(alloc, u64::from(workload.seed), workload.guests) else {
         return End::Memory;

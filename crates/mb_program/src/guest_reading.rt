@@ -26,7 +26,7 @@ pub(crate) fn read_guest<F: Shelf>(
     run: &Bare,
 ) -> Result<SessionGuest, End>
     ensures passes { Passes (reads_guest (run_said run.now)) (λ guest. guest)
-        (shelf_seen F.told F.whole F.faults shelf.old) (shelf_seen F.told F.whole F.faults shelf.new) result }
+        (shelf_seen F.Shelf shelf.old) (shelf_seen F.Shelf shelf.new) result }
     ensures in_range { IfOk result IsGuest }
     ensures told { F.told shelf.new ≡ F.told shelf.old }
     ensures whole { F.whole shelf.new ≡ F.whole shelf.old }
@@ -57,7 +57,7 @@ fn read_guests<F: Shelf>(
 ) -> Result<Vec<SessionGuest>, End>
     requires { AreRams (map guest_said plans.now) }
     ensures passes { Passes (reads_guests (map guest_said plans.now) []) (λ guests. guests.items)
-        (shelf_seen F.told F.whole F.faults shelf.old) (shelf_seen F.told F.whole F.faults shelf.new) result }
+        (shelf_seen F.Shelf shelf.old) (shelf_seen F.Shelf shelf.new) result }
     ensures in_range { IfOk result (λ guests. All IsGuest guests.items) }
     ensures count { IfOk result (λ guests. length guests.items ≡ length plans.now) }
     ensures told { F.told shelf.new ≡ F.told shelf.old }
@@ -80,7 +80,7 @@ pub(crate) fn read_session<F: Shelf>(
     name: &str,
 ) -> Result<OrderedSession, End>
     ensures passes { Passes (reads_session name.now) ordered_said
-        (shelf_seen F.told F.whole F.faults shelf.old) (shelf_seen F.told F.whole F.faults shelf.new) result }
+        (shelf_seen F.Shelf shelf.old) (shelf_seen F.Shelf shelf.new) result }
     ensures in_range { IfOk result (λ ordered. IsSession ordered.session) }
     ensures turns { IfOk result (λ ordered. All (IsTurnOf (length ordered.session.guests)) ordered.order.items) }
     ensures told { F.told shelf.new ≡ F.told shelf.old }

@@ -76,7 +76,7 @@ pub(crate) fn show_hosted<O: Sink>(
     requires turns { All (IsTurnOf (length ordered.session.guests)) ordered.order.items }
     requires room { HasRoomToRun native.old }
     ensures { GivesAnswer (host_answer (ordered_said ordered))
-        (sink_seen O.taken O.faults out.old) (sink_seen O.taken O.faults out.new) native.old native.new result }
+        (sink_seen O.Sink out.old) (sink_seen O.Sink out.new) native.old native.new result }
 {
     let host = match run_session(alloc, ordered.session, &ordered.order, native) {
         Ok(host) => host,

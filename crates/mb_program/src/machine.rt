@@ -75,7 +75,7 @@ fn run_board(alloc: Global, guest: &SessionGuest) -> Result<Board, Memory>
 pub(crate) fn show_machine<O: Sink>(alloc: Global, guest: &SessionGuest, out: &mut O) -> End
     requires { IsGuest guest.now }
     ensures { GivesUncounted (bare_answer guest.now)
-        (sink_seen O.taken O.faults out.old) (sink_seen O.taken O.faults out.new) result }
+        (sink_seen O.Sink out.old) (sink_seen O.Sink out.new) result }
 {
     let Ok(board) = run_board(alloc, guest) else {
         return End::Memory;

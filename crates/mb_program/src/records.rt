@@ -14,7 +14,7 @@ use std::alloc::Global;
 pub(crate) fn show_records<O: Sink>(alloc: Global, image: &Image, out: &mut O) -> End
     requires { All IsAddressed (contents_of image.now) }
     ensures { GivesUncounted (asm_answer (contents_of image.now))
-        (sink_seen O.taken O.faults out.old) (sink_seen O.taken O.faults out.new) result }
+        (sink_seen O.Sink out.old) (sink_seen O.Sink out.new) result }
 {
     let Ok(text) = write_records(alloc, image) else {
         return End::Memory;

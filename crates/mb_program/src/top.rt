@@ -3,7 +3,7 @@
 ghost use Rattle.std.specs.Prelude.{map, string_bytes};
 ghost use Rattle.mb_words.specs.Words.{asked_by};
 ghost use Rattle.mb_program.specs.Direct.{HasRoomToRun};
-ghost use Rattle.mb_program.specs.Ends.{EndsWith, around, sink_seen};
+ghost use Rattle.mb_program.specs.Ends.{EndsWith, around_of, said_of};
 ghost use Rattle.mb_program.specs.Causes.{Causes};
 
 use crate::command::run_words;
@@ -38,20 +38,12 @@ pub fn run_program<F: Shelf, O: Sink, E: Sink>(
     requires room { HasRoomToRun native.old }
     // The run has an end, with its cause; its status is the result, and its line is put on diag.
     ensures ends { EndsWith (asked_by (map string_bytes words.entry.now))
-        (around F.told F.whole F.faults O.taken O.faults shelf.old shelf.new out.old out.new native.old native.new)
-        (record {
-          diag = sink_seen E.taken E.faults diag.old;
-          diag_after = sink_seen E.taken E.faults diag.new;
-        })
-        result }
+        (around_of F.Shelf O.Sink shelf.old shelf.new out.old out.new native.old native.new)
+        (said_of E.Sink diag.old diag.new) result }
     // What each status says of its cause, a fact a field.
     ensures causes { Causes (asked_by (map string_bytes words.entry.now))
-        (around F.told F.whole F.faults O.taken O.faults shelf.old shelf.new out.old out.new native.old native.new)
-        (record {
-          diag = sink_seen E.taken E.faults diag.old;
-          diag_after = sink_seen E.taken E.faults diag.new;
-        })
-        result }
+        (around_of F.Shelf O.Sink shelf.old shelf.new out.old out.new native.old native.new)
+        (said_of E.Sink diag.old diag.new) result }
 {
     let end = run_words(alloc, words, shelf, out, native);
     let _ = tell(diag, &end);

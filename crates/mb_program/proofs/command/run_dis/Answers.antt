@@ -4,14 +4,14 @@ use Rattle.mb_srec.specs.Image.{contents_of}
 use Rattle.mb_machine.specs.Machine.{Contents}
 use Rattle.mb_words.specs.Words.{excerpt_said}
 use Rattle.mb_program.specs.Answers.{dis_answer, course_of, ends, image_in}
-use Rattle.mb_program.specs.Ends.{Around, around}
+use Rattle.mb_program.specs.Ends.{Around, around_of}
 use Rattle.mb_program.proofs.CourseLemmas.{ends_at, goes_on}
 use Rattle.mb_program.proofs.command.run_dis.Goals as goal
 
 pub returns-in-Ok-clause-ends : goal.returns-in-Ok-clause-ends
 unfolding course_of
 returns-in-Ok-clause-ends g c = λ native.
-    let a : Around = around g.F.Shelf.told g.F.Shelf.whole g.F.Shelf.faults g.O.Sink.taken g.O.Sink.faults
+    let a : Around = around_of g.F.Shelf g.O.Sink
     c.args.shelf.now c.image_file.new.shelf c.args.out.now c.show_excerpt.new.out native native in
     goes_on a (image_in (1024 * (excerpt_said c.args.dis.now).ram)) (excerpt_said c.args.dis.now).image (contents_of c.in-Ok.image)
     (λ (image : Contents). ends (dis_answer (excerpt_said c.args.dis.now) image))
@@ -20,7 +20,7 @@ returns-in-Ok-clause-ends g c = λ native.
 pub returns-in-Err-clause-ends : goal.returns-in-Err-clause-ends
 unfolding course_of
 returns-in-Err-clause-ends g c = λ native.
-    let a : Around = around g.F.Shelf.told g.F.Shelf.whole g.F.Shelf.faults g.O.Sink.taken g.O.Sink.faults
+    let a : Around = around_of g.F.Shelf g.O.Sink
     c.args.shelf.now c.image_file.new.shelf c.args.out.now c.args.out.now native native in
     ends_at a (image_in (1024 * (excerpt_said c.args.dis.now).ram)) (excerpt_said c.args.dis.now).image
     (λ (image : Contents). ends (dis_answer (excerpt_said c.args.dis.now) image))

@@ -6,7 +6,7 @@ use Rattle.mb_program.proofs.command.run_words.Goals as goal
 pub returns-in-Ok-Gen-clause-ends : goal.returns-in-Ok-Gen-clause-ends
 unfolding course_of
 returns-in-Ok-Gen-clause-ends g c =
-    let shelf : ShelfSeen = shelf_seen g.F.Shelf.told g.F.Shelf.whole g.F.Shelf.faults c.args.shelf.now in
+    let shelf : ShelfSeen = shelf_seen g.F.Shelf c.args.shelf.now in
     rw (c.in-Ok-Gen.ensures, c.in-Ok-Gen.field-0-is) (c.show_generated.ensures shelf shelf refl)
 
 pub returns-in-Ok-Bare-clause-ends : goal.returns-in-Ok-Bare-clause-ends

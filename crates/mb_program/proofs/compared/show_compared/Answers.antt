@@ -27,8 +27,8 @@ returns-in-Ok-true g c =
     let machines = c.in-Ok.machines.items in
     let host = c.in-Ok-run_session.host in
     let bare = c.in-Ok.ensures ∙ ap (λ (gs : List GuestAtStart). map (outcome_by rule_a) gs) c.guests.ensures in
-    compared_same (ordered_said c.args.ordered) (found_of machines host) (sink_seen g.O.Sink.taken g.O.Sink.faults c.args.out.now)
-    (sink_seen g.O.Sink.taken g.O.Sink.faults c.write_comparison.new.out) _ _ c.in-Ok-run_session.ensures.runs.0
+    compared_same (ordered_said c.args.ordered) (found_of machines host) (sink_seen g.O.Sink c.args.out.now)
+    (sink_seen g.O.Sink c.write_comparison.new.out) _ _ c.in-Ok-run_session.ensures.runs.0
     (found_so c.args.ordered.session.guests machines host bare c.in-Ok-run_session.ensures.runs.1)
     (ordered_so (ordered_said c.args.ordered) _ _ _ c.deref.ensures.value c.in-Ok-run_session.ensures.counted)
     (sym c.in-Ok-true.field-0-test ∙ c.in-Ok-true.ensures.all)
@@ -39,8 +39,8 @@ returns-in-Ok-false g c =
     let machines = c.in-Ok.machines.items in
     let host = c.in-Ok-run_session.host in
     let bare = c.in-Ok.ensures ∙ ap (λ (gs : List GuestAtStart). map (outcome_by rule_a) gs) c.guests.ensures in
-    compared_other (ordered_said c.args.ordered) (found_of machines host) (sink_seen g.O.Sink.taken g.O.Sink.faults c.args.out.now)
-    (sink_seen g.O.Sink.taken g.O.Sink.faults c.write_comparison.new.out) _ _ c.in-Ok-run_session.ensures.runs.0
+    compared_other (ordered_said c.args.ordered) (found_of machines host) (sink_seen g.O.Sink c.args.out.now)
+    (sink_seen g.O.Sink c.write_comparison.new.out) _ _ c.in-Ok-run_session.ensures.runs.0
     (found_so c.args.ordered.session.guests machines host bare c.in-Ok-run_session.ensures.runs.1)
     (ordered_so (ordered_said c.args.ordered) _ _ _ c.deref.ensures.value c.in-Ok-run_session.ensures.counted)
     (sym c.in-Ok-false.field-0-test ∙ c.in-Ok-false.ensures.all)
@@ -51,7 +51,7 @@ returns g c =
     let machines = c.in-Ok.machines.items in
     let host = c.in-Ok-run_session.host in
     let bare = c.in-Ok.ensures ∙ ap (λ (gs : List GuestAtStart). map (outcome_by rule_a) gs) c.guests.ensures in
-    compared_cut (ordered_said c.args.ordered) (found_of machines host) (sink_seen g.O.Sink.taken g.O.Sink.faults c.args.out.now)
-    (sink_seen g.O.Sink.taken g.O.Sink.faults c.write_comparison.new.out) _ _ c.in-Ok-run_session.ensures.runs.0
+    compared_cut (ordered_said c.args.ordered) (found_of machines host) (sink_seen g.O.Sink c.args.out.now)
+    (sink_seen g.O.Sink c.write_comparison.new.out) _ _ c.in-Ok-run_session.ensures.runs.0
     (found_so c.args.ordered.session.guests machines host bare c.in-Ok-run_session.ensures.runs.1)
     (ordered_so (ordered_said c.args.ordered) _ _ _ c.deref.ensures.value c.in-Ok-run_session.ensures.counted) c.in-Err-write_comparison.ensures.printed

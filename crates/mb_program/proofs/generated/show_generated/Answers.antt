@@ -12,7 +12,7 @@ use Rattle.mb_program.proofs.generated.show_generated.Goals as goal
 pub returns-in-Err : goal.returns-in-Err
 returns-in-Err g c =
     let workload = workload_said c.args.workload.now in
-    let out = sink_seen g.O.Sink.taken g.O.Sink.faults c.args.out.now in
+    let out = sink_seen g.O.Sink c.args.out.now in
     subst (λ (end : End). GivesAnswer (gen_answer workload) out out c.args.native.now c.run_session.new.native end) (sym c.from-in-Err.ensures)
     (not_hosted workload c.in-Ok.session out _ _ c.in-Err.fault c.in-Ok.ensures.filled c.in-Err.ensures.runs c.in-Err.ensures.counted)
 
@@ -21,7 +21,7 @@ returns-in-Ok-write_summary g c =
     let workload = workload_said c.args.workload.now in
     let made = subst (λ (seed : ℕ). c.in-Ok.session ≡ generated seed workload.guests) c.from.ensures c.in-Ok.ensures.generated in
     summary_done workload c.in-Ok.session (shown_of (members_in c.in-Ok-run_session.host))
-    (sink_seen g.O.Sink.taken g.O.Sink.faults c.args.out.now) (sink_seen g.O.Sink.taken g.O.Sink.faults c.write_summary.new.out)
+    (sink_seen g.O.Sink c.args.out.now) (sink_seen g.O.Sink c.write_summary.new.out)
     _ _ made c.in-Ok-run_session.ensures.runs.1 c.in-Ok-run_session.ensures.counted c.in-Ok-write_summary.ensures
 
 pub returns : goal.returns
@@ -29,5 +29,5 @@ returns g c =
     let workload = workload_said c.args.workload.now in
     let made = subst (λ (seed : ℕ). c.in-Ok.session ≡ generated seed workload.guests) c.from.ensures c.in-Ok.ensures.generated in
     summary_cut workload c.in-Ok.session (shown_of (members_in c.in-Ok-run_session.host))
-    (sink_seen g.O.Sink.taken g.O.Sink.faults c.args.out.now) (sink_seen g.O.Sink.taken g.O.Sink.faults c.write_summary.new.out)
+    (sink_seen g.O.Sink c.args.out.now) (sink_seen g.O.Sink c.write_summary.new.out)
     _ _ made c.in-Ok-run_session.ensures.runs.1 c.in-Ok-run_session.ensures.counted c.in-Err-write_summary.ensures

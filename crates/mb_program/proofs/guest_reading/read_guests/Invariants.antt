@@ -9,8 +9,8 @@ use Rattle.mb_program.proofs.guest_reading.read_guests.Given as goal
 abbrev pub invariant-loop-plan : goal.invariant-loop-plan
 invariant-loop-plan g l = record {
   read : ReadSoFar (map guest_said l.plans) (drop l.plan-index (map guest_said l.plans)) l.guests.items
-      (shelf_seen g.F.Shelf.told g.F.Shelf.whole g.F.Shelf.faults l.initial.shelf)
-      (shelf_seen g.F.Shelf.told g.F.Shelf.whole g.F.Shelf.faults l.shelf);
+      (shelf_seen g.F.Shelf l.initial.shelf)
+      (shelf_seen g.F.Shelf l.shelf);
   in_range : All IsGuest l.guests.items;
   count : length l.guests.items ≡ l.plan-index;
   told : g.F.Shelf.told l.shelf ≡ g.F.Shelf.told l.initial.shelf;

@@ -9,12 +9,12 @@ use Rattle.mb_program.proofs.hosted.show_hosted.Goals as goal
 
 pub returns-in-Err : goal.returns-in-Err
 returns-in-Err g c =
-    let out = sink_seen g.O.Sink.taken g.O.Sink.faults c.args.out.now in
+    let out = sink_seen g.O.Sink c.args.out.now in
     subst (λ (end : End). GivesAnswer (host_answer (ordered_said c.args.ordered)) out out c.args.native.now c.run_session.new.native end) (sym c.from.ensures)
     (not_opened c.args.ordered.session (host_shown (ordered_said c.args.ordered)) out _ _ c.in-Err.fault c.in-Err.ensures.runs c.in-Err.ensures.counted)
 
 pub returns-in-Ok-write_outcomes : goal.returns-in-Ok-write_outcomes
 returns-in-Ok-write_outcomes g c =
-    hosted_done (ordered_said c.args.ordered) c.in-Ok.host (sink_seen g.O.Sink.taken g.O.Sink.faults c.args.out.now)
-    (sink_seen g.O.Sink.taken g.O.Sink.faults c.write_outcomes.new.out) _ _ c.in-Ok.ensures.runs
+    hosted_done (ordered_said c.args.ordered) c.in-Ok.host (sink_seen g.O.Sink c.args.out.now)
+    (sink_seen g.O.Sink c.write_outcomes.new.out) _ _ c.in-Ok.ensures.runs
     (ordered_so (ordered_said c.args.ordered) _ _ _ c.deref.ensures.value c.in-Ok.ensures.counted) c.in-Ok-write_outcomes.ensures
