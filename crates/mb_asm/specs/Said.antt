@@ -6,7 +6,7 @@ use Rattle.mb_asm.specs.declared.symbol.SymbolValue.{SymbolValue}
 use Rattle.mb_asm.specs.Symbols as symbols
 
 abbrev pub symbol_said : Bor (List ℕ) × SymbolValue → symbols.Symbol
-symbol_said entry = record { name = entry.0.now; value = entry.1.number }
+symbol_said (name, value) = record { name = name.now; value = value.number }
 
 abbrev pub symbols_said : {S : Type 0} → HashMap (Bor (List ℕ)) SymbolValue S → List symbols.Symbol
 symbols_said given = map symbol_said given.entries

@@ -20,7 +20,7 @@ HasNoFront whole rest = (kind : TokenKind) (len : ℕ) → IsFront whole rest ki
 
 -- what is found at the front: the longest token, or that there is none
 abbrev pub Finds : Bool → List ℕ → Option (TokenKind × ℕ) → Type 0
-Finds whole rest (Some found) = IsLongestFront whole rest found.0 found.1
+Finds whole rest (Some (kind, len)) = IsLongestFront whole rest kind len
 Finds whole rest None = HasNoFront whole rest
 
 -- a number of so many digits behind its first byte

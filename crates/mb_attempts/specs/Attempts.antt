@@ -39,7 +39,7 @@ is_attempted _ cpu = true
 
 -- no other instruction was found than this one
 abbrev pub NoOther : Instr → Found → Type 0
-NoOther i (Ok found) = found.0 ≡ i
+NoOther i (Ok (found, _)) = found ≡ i
 NoOther i (Err unfound) = Unit {0}
 
 -- the fetch of a step, and its attempt
@@ -51,14 +51,15 @@ attempted_by bus cpu s = run bus (attempt_of (space_of cpu) (plain_of cpu.regs))
 
 -- the finish of an attempt that came to this
 abbrev pub finished_by : {S : Type 0} → Bus S → Instr → Cpu → Performed × S → Stepped × S
-finished_by bus i cpu attempted =
-    let end = closed attempted.0 in run bus (finish_of i end.0 cpu (with_registers end.1 cpu)) attempted.1
+finished_by bus i cpu (performed, after) =
+    let (end, registers) = closed performed in run bus (finish_of i end cpu (with_registers registers cpu)) after
 
 -- A step that takes no interrupt, of a processor that is not stopped, is its attempt and the finish of the attempt's
 -- end. Where no instruction was found that end says all, and the finish is that of any instruction.
 abbrev pub AttemptThenFinish : Type 0 → Type 0
 AttemptThenFinish S = (bus : Bus S) (level : ℕ) (cpu : Cpu) (s : S) (i : Instr)
-    → rank level ≤ interrupt_mask cpu → cpu.stopped ≡ false → NoOther i (fetched_by bus cpu s).0
+    → rank level ≤ interrupt_mask cpu → cpu.stopped ≡ false
+    → let (found, _) = fetched_by bus cpu s in NoOther i found
     → is_attempted i cpu ≡ true
     → run bus (step_of level cpu) s ≡ finished_by bus i cpu (attempted_by bus cpu s)
 

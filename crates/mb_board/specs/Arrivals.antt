@@ -5,7 +5,7 @@ use Rattle.mb_machine.specs.Machine.{Entries}
 
 -- the step of the entry at a place
 abbrev pub due_at : Entries → ℕ → ℕ
-due_at script place = (slice_index_or script place (0, Abort)).0
+due_at script place = let (step, _) = slice_index_or script place (0, Abort) in step
 
 -- Before the place stand the entries of the steps up to this one, and from it on those of later steps.
 pub record IsNext (script : Entries) (step : ℕ) (next : ℕ) : Type 0 where

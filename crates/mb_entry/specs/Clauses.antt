@@ -47,7 +47,8 @@ pub record HasNoHandler {S : Type 0} (bus : Bus S) (c : Cause) (old : Cpu) (new 
   pub places : Places
   pub between : S
   pub checked : run bus (check_frames (frames_of c old.regs)) s ≡ (Ok places, between)
-  pub unread : IsUnread bus c.vector old.vbr (run bus (put_frames (frames_of c old.regs) places) between).1 t
+  pub unread : let (_, stacked) = run bus (put_frames (frames_of c old.regs) places) between in
+      IsUnread bus c.vector old.vbr stacked t
   pub regs : new ≡ settled c (frames_of c old.regs) old.regs
 
 -- a double fault, by its cause

@@ -33,9 +33,9 @@ form_app form = record {
 -- ---- what `clap` gives
 
 abbrev pub row_at : Use → Row
-row_at u = record {
-  id = u.0;
-  values = u.1 ∷ [];
+row_at (name, value) = record {
+  id = name;
+  values = value ∷ [];
   count = None;
   source = Some CommandLine;
   reading = reading_of vp.String;

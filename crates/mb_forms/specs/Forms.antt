@@ -63,7 +63,7 @@ option_use (Some o) None uses next = next o.name
 abbrev pub dash_use : Form → Option (Text × Option Text) → Option (List Use)
     → (Text → Option (List Use)) → Option (List Use)
 dash_use form None uses next = None
-dash_use form (Some p) uses next = option_use (find_option p.0 form.options) p.1 uses next
+dash_use form (Some (name, value)) uses next = option_use (find_option name form.options) value uses next
 
 -- The uses that the words give, in their order, behind `met` positional words.
 abbrev pub uses_of : Form → Mode → ℕ → List Text → Option (List Use)
@@ -80,7 +80,7 @@ uses_of form any met (w ∷ ws) =
     else positional_use (slice_get form.positionals met) w (uses_of form any (suc met) ws))
 
 abbrev pub has_use : Text → List Use → Bool
-has_use name uses = list_any (λ u. bytes_eq u.0 name) uses
+has_use name uses = list_any (λ (used, _). bytes_eq used name) uses
 
 -- each name that must be given has a use
 abbrev pub has_required : Form → List Use → Bool
@@ -90,7 +90,8 @@ has_required form uses = list_all (λ name. has_use name uses) form.positionals
 -- the uses, where no name has two of them and each that must be given has one
 abbrev pub finish : Form → List Use → List Use → Option (List Use)
 finish form front [] = if has_required form front then Some front else None
-finish form front (u ∷ us) = if has_use u.0 front then None else finish form (front ++ u ∷ []) us
+finish form front ((name, value) ∷ us) =
+    if has_use name front then None else finish form (front ++ (name, value) ∷ []) us
 
 -- What the words give, in their order; nothing where they are not the form's.
 abbrev pub read : Form → List Text → Option (List Use)
@@ -98,7 +99,7 @@ read form words = option_and_then (λ uses. finish form [] uses) (uses_of form a
 
 -- the value that a name is given
 abbrev pub value_in : Text → List Use → Option Text
-value_in name uses = option_map (λ u. u.1) (find (λ u. bytes_eq u.0 name) uses)
+value_in name uses = option_map (λ (_, value). value) (find (λ (used, _). bytes_eq used name) uses)
 
 -- Before `--`, no word begins with one hyphen alone.
 abbrev pub dashes_ok : List Text → Bool

@@ -1,6 +1,6 @@
 -- Two buses that answer alike on related states.
 use Rattle.std.specs.Prelude.{◌≡◌, Bool, true}
-use Rattle.mb_port.specs.Routine.{Call, Routine, Bus}
+use Rattle.mb_port.specs.Routine.{Call, Routine, Bus, answer_in, state_in}
 use Rattle.mb_laws.specs.Until.{Until, Ended, Stopped}
 use Rattle.mb_laws.specs.Tree.{tree_of}
 
@@ -10,8 +10,10 @@ pub record Alike {S T : Type 0} (R : S → T → Type 0) (lawful : Call → S �
     (permitted : Call → T → Bool)
     (bus : Bus S) (peer : Bus T) : Type 0 where
   pub leave : (c : Call) (s : S) (t : T) → R s t → lawful c s → allowed c s ≡ permitted c t
-  pub answer : (c : Call) (s : S) (t : T) → R s t → lawful c s → allowed c s ≡ true → (bus c s).0 ≡ (peer c t).0
-  pub kept : (c : Call) (s : S) (t : T) → R s t → lawful c s → allowed c s ≡ true → R ((bus c s).1) ((peer c t).1)
+  pub answer : (c : Call) (s : S) (t : T) → R s t → lawful c s → allowed c s ≡ true
+      → answer_in (bus c s) ≡ answer_in (peer c t)
+  pub kept : (c : Call) (s : S) (t : T) → R s t → lawful c s → allowed c s ≡ true
+      → R (state_in (bus c s)) (state_in (peer c t))
 
 -- Both came equally far: to the same end, or to the same rest, in related states.
 pub data Met {S T A : Type 0} (R : S → T → Type 0) : Until S A → Until T A → Type 1 where
@@ -28,5 +30,5 @@ Meets R (Stopped m s) (Stopped n t) = (tree_of m ≡ tree_of n) × R s t
 -- On related states both answer alike at each lawful call, and keep the relation.
 pub record Mirrors {S T : Type 0} (R : S → T → Type 0) (lawful : Call → S → Type 0) (bus : Bus S) (peer : Bus T) : Type
     0 where
-  pub answer : (c : Call) (s : S) (t : T) → R s t → lawful c s → (bus c s).0 ≡ (peer c t).0
-  pub kept : (c : Call) (s : S) (t : T) → R s t → lawful c s → R ((bus c s).1) ((peer c t).1)
+  pub answer : (c : Call) (s : S) (t : T) → R s t → lawful c s → answer_in (bus c s) ≡ answer_in (peer c t)
+  pub kept : (c : Call) (s : S) (t : T) → R s t → lawful c s → R (state_in (bus c s)) (state_in (peer c t))

@@ -1,7 +1,7 @@
 -- The laws as clauses say them: at every state type and every answer, with tests for facts and relations, and trees of
 -- calls for routines.
 use Rattle.std.specs.Prelude.{◌≡◌, ℕ, Bool, true, false, IsTrue, List, Result, Ok, Err, ◌⊎◌}
-use Rattle.mb_port.specs.Routine.{Call, Fetch, Read, Write, ReadLine, WriteLine, Probe, Answer}
+use Rattle.mb_port.specs.Routine.{Call, Fetch, Read, Write, ReadLine, WriteLine, Probe, Answer, answer_in, state_in}
 use Rattle.mb_port.specs.Routine.{Routine, Return, Ask, Then, Bus, run, choose, tried, either, ◌>>=◌, failing, caught}
 use Rattle.mb_port.specs.Routine.{sure}
 use Rattle.mb_port.specs.Routine.{fetch, read, write, read_line, write_line, probe, get, put}
@@ -46,7 +46,7 @@ RoutinesAreTrees S A B = (bus : Bus S) (m : Tree A) (f : A → Tree B) (s : S)
 -- What each call keeps, a routine keeps.
 abbrev pub RoutinesKeep : Type 0 → Type 0 → Type 0
 RoutinesKeep S A = (p : S → Bool) (bus : Bus S) → Keeps (Passes p) bus
-    → (m : Tree A) (s : S) → Passes p s → Passes p ((run bus (routine_of m) s).1)
+    → (m : Tree A) (s : S) → Passes p s → Passes p (state_in (run bus (routine_of m) s))
 
 -- What each lawful call that is allowed keeps, a routine of lawful calls keeps up to its first call that is not
 -- allowed.
@@ -59,12 +59,13 @@ RoutinesKeepUntil S A = (p : S → Bool) (lawful allowed : Call → S → Bool) 
 -- What each call leaves alone, a routine leaves alone.
 abbrev pub RoutinesLeaveAlone : Type 0 → Type 0 → Type 0 → Type 0
 RoutinesLeaveAlone S N A = (part : S → N) (bus : Bus S) → LeavesAlone part bus
-    → (m : Tree A) (s : S) → part ((run bus (routine_of m) s).1) ≡ part s
+    → (m : Tree A) (s : S) → part (state_in (run bus (routine_of m) s)) ≡ part s
 
 -- A routine over a bus beside something else is the routine over the bus.
 abbrev pub RoutinesBeside : Type 0 → Type 0 → Type 0 → Type 0
 RoutinesBeside S N A = (bus : Bus S) (m : Tree A) (s : S) (n : N)
-    → run (lifted bus) (routine_of m) (s, n) ≡ ((run bus (routine_of m) s).0, ((run bus (routine_of m) s).1, n))
+    → run (lifted bus) (routine_of m) (s, n)
+    ≡ (answer_in (run bus (routine_of m) s), (state_in (run bus (routine_of m) s), n))
 
 -- A routine that is run until its first call that is not allowed, and then finished, is run whole.
 abbrev pub FinishedIsWhole : Type 0 → Type 0 → Type 0
@@ -95,22 +96,22 @@ abbrev pub MirroredRunsMeet : Type 0 → Type 0 → Type 0 → Type 0
 MirroredRunsMeet S T A = (r : S → T → Bool) (lawful : Call → S → Bool) (bus : Bus S) (peer : Bus T)
     → Mirrors (Related r) (IsLawful lawful) bus peer
     → (m : Tree A) (s : S) (t : T) → Related r s t → Along (IsLawful lawful) bus (routine_of m) s
-    → ((run bus (routine_of m) s).0 ≡ (run peer (routine_of m) t).0)
-    × Related r ((run bus (routine_of m) s).1) ((run peer (routine_of m) t).1)
+    → (answer_in (run bus (routine_of m) s) ≡ answer_in (run peer (routine_of m) t))
+    × Related r (state_in (run bus (routine_of m) s)) (state_in (run peer (routine_of m) t))
 
 -- A run by a bus is a run by every relation that admits the bus's answers.
 abbrev pub RunsAreAdmitted : Type 0 → Type 0 → Type 0
 RunsAreAdmitted S A = (step : (c : Call) → S → Answer c → S → Bool) (bus : Bus S) → Admits (May step) bus
-    → (m : Tree A) (s : S) → Runs (May step) (routine_of m) s ((run bus (routine_of m) s).0)
-    ((run bus (routine_of m) s).1)
+    → (m : Tree A) (s : S) → Runs (May step) (routine_of m) s (answer_in (run bus (routine_of m) s))
+    (state_in (run bus (routine_of m) s))
 
 -- A choosing bus that may follow each call may follow a routine.
 abbrev pub RunsMayFollow : Type 0 → Type 0 → Type 0 → Type 0
 RunsMayFollow S T A = (r : S → T → Bool) (lawful : Call → S → Bool) (bus : Bus S)
     (step : (c : Call) → T → Answer c → T → Bool) → MayFollow (Related r) (IsLawful lawful) bus (May step)
     → (m : Tree A) (s : S) (t : T) → Related r s t → Along (IsLawful lawful) bus (routine_of m) s
-    → (u : T) × Runs (May step) (routine_of m) t ((run bus (routine_of m) s).0) u
-    × Related r ((run bus (routine_of m) s).1) u
+    → (u : T) × Runs (May step) (routine_of m) t (answer_in (run bus (routine_of m) s)) u
+    × Related r (state_in (run bus (routine_of m) s)) u
 
 -- Where a choosing bus has no choice along a run, each of its runs is that run.
 abbrev pub RunsHaveNoChoice : Type 0 → Type 0 → Type 0 → Type 0
@@ -118,7 +119,7 @@ RunsHaveNoChoice S T A = (r : S → T → Bool) (p : Call → S → Bool) (bus :
     (step : (c : Call) → T → Answer c → T → Bool) → NoChoice (Related r) (IsLawful p) bus (May step)
     → (m : Tree A) (s : S) (t : T) (a : A) (u : T) → Related r s t → Along (IsLawful p) bus (routine_of m) s
     → Runs (May step) (routine_of m) t a u
-    → ((run bus (routine_of m) s).0 ≡ a) × Related r ((run bus (routine_of m) s).1) u
+    → (answer_in (run bus (routine_of m) s) ≡ a) × Related r (state_in (run bus (routine_of m) s)) u
 
 -- Two buses that agree along a run give one result.
 abbrev pub RunsAgree : Type 0 → Type 0 → Type 0
@@ -251,8 +252,8 @@ RefusalsAreFollowed S T A E = (r : S → T → Bool) (x : RefusingBus S) (permit
     → Alike (Related r) (IsLawful x.lawful) x.allowed permitted x.bus peer
     → (m : Tree (Result A E)) → Telling x before (routine_of m) p after
     → (s : S) (t : T) → Related r s t → Passes before s
-    → (((run x.bus (routine_of m) s).0 ≡ (run peer (routine_of m) t).0)
-    × Related r ((run x.bus (routine_of m) s).1) ((run peer (routine_of m) t).1))
+    → ((answer_in (run x.bus (routine_of m) s) ≡ answer_in (run peer (routine_of m) t))
+    × Related r (state_in (run x.bus (routine_of m) s)) (state_in (run peer (routine_of m) t)))
     ⊎ ((rest : Tree (Result A E)) × (now : S) × (later : S) × (there : T) × (e : E)
     × Related r now there × Related x.same now later × IsTrue (p now e)
     × (run x.bus (routine_of m) s ≡ (Err e, later)) × (run peer (routine_of m) t ≡ run peer (routine_of rest) there))
@@ -287,8 +288,8 @@ RefusedTwinsAreFollowed S T A B E = (k : KinTests) (r : S → T → Bool) (x : R
     → (same : Result A E → B → Bool) (m : Tree (Result A E)) (n : Tree B)
     → TwinTrees (kin_of k) (Related same) m n → Telling x before (routine_of m) p after
     → (s : S) (t : T) → Related r s t → Passes before s
-    → (Related same ((run x.bus (routine_of m) s).0) ((run peer (routine_of n) t).0)
-    × Related r ((run x.bus (routine_of m) s).1) ((run peer (routine_of n) t).1))
+    → (Related same (answer_in (run x.bus (routine_of m) s)) (answer_in (run peer (routine_of n) t))
+    × Related r (state_in (run x.bus (routine_of m) s)) (state_in (run peer (routine_of n) t)))
     ⊎ ((rest : Tree (Result A E)) × (twin : Tree B) × (now : S) × (later : S) × (there : T) × (e : E)
     × TwinTrees (kin_of k) (Related same) rest twin
     × Related r now there × Related x.same now later × IsTrue (p now e)

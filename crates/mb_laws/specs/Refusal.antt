@@ -1,6 +1,7 @@
 -- A bus that refuses the calls that are not allowed, and what a refused call leaves.
 use Rattle.std.specs.Prelude.{◌≡◌, Bool, true, false, Some, Result, Ok, Err}
 use Rattle.mb_port.specs.Routine.{Call, Fetch, Read, Write, ReadLine, WriteLine, Probe, Get, Put, ReadMmu, SetMmu}
+use Rattle.mb_port.specs.Routine.{answer_in, state_in}
 use Rattle.mb_port.specs.Routine.{FlushKept, Test, ResetDevices, Answer, Routine, Bus, run}
 use Rattle.mb_port.specs.declared.types.Fault.{Fault}
 use Rattle.mb_laws.specs.Until.{Until, Ended, Stopped, run_until, first_call, AlongUntil}
@@ -25,8 +26,8 @@ IsFault ResetDevices answer fault = ⊥
 -- fault is always allowed.
 pub record Refuses {S : Type 0} (Same : S → S → Type 0) (lawful : Call → S → Type 0) (allowed : Call → S → Bool)
     (bus : Bus S) : Type 0 where
-  pub fault : (c : Call) (s : S) → lawful c s → allowed c s ≡ false → (f : Fault) × IsFault c ((bus c s).0) f
-      × Same s ((bus c s).1)
+  pub fault : (c : Call) (s : S) → lawful c s → allowed c s ≡ false → (f : Fault) × IsFault c (answer_in (bus c s)) f
+      × Same s (state_in (bus c s))
 
 -- What is said of a routine that was refused a call: of its rest, which begins with that call, of the state there, and
 -- of the fault value that it ends with.
@@ -94,7 +95,7 @@ pub record Faulting {S A : Type 0} (Same : S → S → Type 0) (lawful : S → T
     (answer : S → Result A Fault × S)
     (before : S → Type 0) (m : Routine (Result A Fault)) (fact : Fact S A Fault) (after : A → S → Type 0) : Type 0 where
   pub lawfully : (s : S) → before s → lawful s
-  pub well : (s : S) (a : A) → before s → leave s ≡ true → (answer s).0 ≡ Ok a → after a ((answer s).1)
+  pub well : (s : S) (a : A) → before s → leave s ≡ true → answer_in (answer s) ≡ Ok a → after a (state_in (answer s))
   pub refused : (s u : S) (fault : Fault) → before s → leave s ≡ false → answer s ≡ (Err fault, u) → Same s u
       → fact m s fault
 
@@ -106,7 +107,7 @@ HasNoFault c = (answer : Answer c) (fault : Fault) → IsFault c answer fault �
 pub record Faultless {S : Type 0} (lawful : Call → S → Type 0) (bus : Bus S) (c : Call)
     (before : S → Type 0) (after : Answer c → S → Type 0) : Type 0 where
   pub lawfully : (s : S) → before s → lawful c s
-  pub well : (s : S) → before s → after ((bus c s).0) ((bus c s).1)
+  pub well : (s : S) → before s → after (answer_in (bus c s)) (state_in (bus c s))
 
 -- How the run of a routine by one bus stands to its run by another, where the first refuses some calls.
 --
@@ -116,7 +117,7 @@ pub record Faultless {S : Type 0} (lawful : Call → S → Type 0) (bus : Bus S)
 pub data Follows {S T A E : Type 0} (Same : S → S → Type 0) (R : S → T → Type 0) (allowed : Call → S → Bool)
     (bus : Bus S) (peer : Bus T)
     (fact : Fact S A E) (m : Routine (Result A E)) (s : S) (t : T) : Type 1 where
-  together : (run bus m s).0 ≡ (run peer m t).0 → R ((run bus m s).1) ((run peer m t).1)
+  together : answer_in (run bus m s) ≡ answer_in (run peer m t) → R (state_in (run bus m s)) (state_in (run peer m t))
       → Follows Same R allowed bus peer fact m s t
   refused : (rest : Routine (Result A E)) (now later : S) (there : T) (c : Call) (e : E) → R now there
       → first_call rest ≡ Some c → allowed c now ≡ false → fact rest now e

@@ -1,6 +1,6 @@
 -- Twins: two routines that make calls of one kind, as the same routine in two spaces, or with places that are moved.
 use Rattle.std.specs.Prelude.{◌≡◌, Bool, true, false, Some, Result, Ok, Err}
-use Rattle.mb_port.specs.Routine.{Call, Answer, Routine, Return, Ask, Then, Bus, run}
+use Rattle.mb_port.specs.Routine.{Call, Answer, Routine, Return, Ask, Then, Bus, run, answer_in, state_in}
 use Rattle.mb_laws.specs.Until.{Until, Ended, Stopped, first_call}
 use Rattle.mb_laws.specs.Refusal.{Fact}
 use Rattle.mb_laws.specs.Tree.{Tree, Done, Do, tree_of}
@@ -35,9 +35,9 @@ pub record AlikeOn {S T : Type 0} (k : Kin) (R : S → T → Type 0) (lawful : C
     (allowed : Call → S → Bool) (permitted : Call → T → Bool) (bus : Bus S) (peer : Bus T) : Type 0 where
   pub leave : (d : Call) (s : S) (t : T) → R s t → k.may_be d → lawful (k.on d) s → allowed (k.on d) s ≡ permitted d t
   pub answer : (d : Call) (s : S) (t : T) → R s t → k.may_be d → lawful (k.on d) s → allowed (k.on d) s ≡ true
-      → k.like d ((bus (k.on d) s).0) ((peer d t).0)
+      → k.like d (answer_in (bus (k.on d) s)) (answer_in (peer d t))
   pub kept : (d : Call) (s : S) (t : T) → R s t → k.may_be d → lawful (k.on d) s → allowed (k.on d) s ≡ true
-      → R ((bus (k.on d) s).1) ((peer d t).1)
+      → R (state_in (bus (k.on d) s)) (state_in (peer d t))
 
 -- Both came equally far: to related ends, or to rests that are twins, in related states.
 pub data MetOn {S T A B : Type 0} (k : Kin) (R : S → T → Type 0) (Rel : A → B → Type 0)
@@ -61,7 +61,8 @@ MeetsOn k R Rel (Stopped m s) (Stopped n t) = TwinTrees k Rel (tree_of m) (tree_
 pub data FollowsOn {S T A B E : Type 0} (k : Kin) (Same : S → S → Type 0) (R : S → T → Type 0)
     (allowed : Call → S → Bool) (bus : Bus S) (peer : Bus T) (fact : Fact S A E) (Rel : Result A E → B → Type 0)
     (m : Routine (Result A E)) (n : Routine B) (s : S) (t : T) : Type 1 where
-  together_on : Rel ((run bus m s).0) ((run peer n t).0) → R ((run bus m s).1) ((run peer n t).1)
+  together_on : Rel (answer_in (run bus m s)) (answer_in (run peer n t))
+      → R (state_in (run bus m s)) (state_in (run peer n t))
       → FollowsOn k Same R allowed bus peer fact Rel m n s t
   refused_on : (rest : Routine (Result A E)) (twin : Routine B) (now later : S) (there : T) (c : Call) (e : E)
       → Twin k (Result A E) B Rel rest twin → R now there

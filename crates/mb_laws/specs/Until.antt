@@ -14,7 +14,7 @@ then_until (Stopped rest s) go f = Stopped (Then rest f) s
 
 -- a single call, where it is allowed
 abbrev pub ask_until : {S A : Type 0} → Bool → A × S → Routine A → S → Until S A
-ask_until true answer m s = Ended (answer.0) (answer.1)
+ask_until true (answer, after) m s = Ended answer after
 ask_until false answer m s = Stopped m s
 
 abbrev pub run_until : {S A : Type 0} → (Call → S → Bool) → Bus S → Routine A → S → Until S A

@@ -56,7 +56,7 @@ answered None fault = Err fault
 
 -- what a place answers, or the fault
 abbrev pub faulting : {A : Type 0} → Option A × World → Fault → Result A Fault × World
-faulting answer fault = (answered answer.0 fault, answer.1)
+faulting (answer, after) fault = (answered answer fault, after)
 
 -- what reads a place
 abbrev pub Take : Type 0 → Type 0
@@ -68,7 +68,7 @@ read_at r len take (Some at) w = faulting (take (place_at at len) w) (fault_of r
 read_at r len take None w = (Err (fault_of r len true), w)
 
 abbrev pub read_by : {A : Type 0} → Rule → Reference → ℕ → Take A → World → Result A Fault × World
-read_by rule r len take w = read_at r len take (translated rule r w).0 (translated rule r w).1
+read_by rule r len take w = let (at, after) = translated rule r w in read_at r len take at after
 
 -- the world after the write, or the fault
 abbrev pub wrote : World → Option World → Fault → Result (Unit {0}) Fault × World
@@ -84,7 +84,7 @@ written_at r len store (Some at) w = wrote w (store (place_at at len) w) (fault_
 written_at r len store None w = (Err (fault_of r len true), w)
 
 abbrev pub written_by : Rule → Reference → ℕ → Store → World → Result (Unit {0}) Fault × World
-written_by rule r len store w = written_at r len store (translated rule r w).0 (translated rule r w).1
+written_by rule r len store w = let (at, after) = translated rule r w in written_at r len store at after
 
 -- ---- registers and tests
 
@@ -118,7 +118,7 @@ bus_of rule (Write space p value) w = written_by rule (writing space p.at) p.len
 bus_of rule (ReadLine space at) w = read_by rule (reading space at) 16 taken_line w
 bus_of rule (WriteLine space at line) w = written_by rule (writing space at) 16 (λ place. stored_line place line) w
 bus_of rule (Probe space p) w = read_by rule (writing space p.at) p.len checked w
-bus_of rule (Get place) w = (unwrap_or (taken place w).0 0, (taken place w).1)
+bus_of rule (Get place) w = let (value, after) = taken place w in (unwrap_or value 0, after)
 bus_of rule (Put place value) w = (tt, unwrap_or (stored place value w) w)
 bus_of rule ReadMmu w = (w.mmu, w)
 bus_of rule (SetMmu which value) w = (tt, with_register rule which value w)

@@ -14,14 +14,15 @@ use Rattle.mb_machine.specs.Bus.{fetching, reading, writing, reference_of, fault
 use Rattle.mb_machine.specs.Machine.{Entries, Machine, reset_with, run_of}
 
 abbrev pub BytesStay : Type 0
-BytesStay = (rule : Rule) (c : Call) (w : World) → HasBytes w → HasBytes (bus_of rule c w).1
+BytesStay = (rule : Rule) (c : Call) (w : World) → HasBytes w
+    → let (_, after) = bus_of rule c w in HasBytes after
 
 -- A reference to so many bytes was refused with this fault, and left this world: that which its translation left, so
 -- nothing was read or written at its place. ATC says whether the translation refused it.
 pub record WasRefused (rule : Rule) (r : Reference) (len : ℕ) (before : World) (fault : Fault) (after : World)
     : Type 0 where
-  pub told : fault ≡ fault_of r len (is_none (translated rule r before).0)
-  pub left : after ≡ (translated rule r before).1
+  pub told : let (at, _) = translated rule r before in fault ≡ fault_of r len (is_none at)
+  pub left : let (_, now) = translated rule r before in after ≡ now
 
 -- the same of a call; calls without translation are never refused
 abbrev pub CallWasRefused : Rule → Call → World → Fault → World → Type 0
@@ -40,8 +41,8 @@ CallWasRefused rule (Test space at write) = λ before fault after. ⊥
 CallWasRefused rule ResetDevices = λ before fault after. ⊥
 
 abbrev pub FaultsTell : Type 0
-FaultsTell = (rule : Rule) (c : Call) (w : World) (fault : Fault) → IsFault c (bus_of rule c w).0 fault
-    → CallWasRefused rule c w fault (bus_of rule c w).1
+FaultsTell = (rule : Rule) (c : Call) (w : World) (fault : Fault)
+    → let (answer, after) = bus_of rule c w in IsFault c answer fault → CallWasRefused rule c w fault after
 
 -- A translation marks descriptors and keeps entries; registers and devices stay.
 pub record IsBeside (before after : World) : Type 0 where
@@ -49,7 +50,8 @@ pub record IsBeside (before after : World) : Type 0 where
   pub devices : after.devices ≡ before.devices
 
 abbrev pub TranslationsStayBeside : Type 0
-TranslationsStayBeside = (rule : Rule) (r : Reference) (w : World) → IsBeside w (translated rule r w).1
+TranslationsStayBeside = (rule : Rule) (r : Reference) (w : World)
+    → let (_, after) = translated rule r w in IsBeside w after
 
 -- Memory and devices may have changed; the registers of translation, and what is kept, have not.
 pub record IsBeneath (before after : World) : Type 0 where
@@ -58,13 +60,14 @@ pub record IsBeneath (before after : World) : Type 0 where
 
 -- What a call reads or writes behind its translation keeps both as the translation left them,
 abbrev pub CallsStandBeneath : Type 0
-CallsStandBeneath = (rule : Rule) (c : Call) (w : World)
-    → IfSome (reference_of c) (λ r. IsBeneath (translated rule r w).1 (bus_of rule c w).1)
+CallsStandBeneath = (rule : Rule) (c : Call) (w : World) → let (_, after) = bus_of rule c w in
+    IfSome (reference_of c) (λ r. let (_, between) = translated rule r w in IsBeneath between after)
 
 -- and so does a call that goes to a place without translation.
 abbrev pub PlacesStandBeneath : Type 0
 PlacesStandBeneath = (rule : Rule) (place : Place) (value : ℕ) (w : World)
-    → IsBeneath w (bus_of rule (Get place) w).1 × IsBeneath w (bus_of rule (Put place value) w).1
+    → let (_, after_get) = bus_of rule (Get place) w in let (_, after_put) = bus_of rule (Put place value) w in
+    IsBeneath w after_get × IsBeneath w after_put
 
 -- a line is four longs
 abbrev pub IsWhole : Call → Type 0
@@ -74,7 +77,7 @@ IsWhole other = Unit {0}
 -- No call changes the size of RAM.
 abbrev pub SizesStay : Type 0
 SizesStay = (rule : Rule) (c : Call) (w : World) → HasBytes w → IsWhole c
-    → length (bus_of rule c w).1.ram ≡ length w.ram
+    → let (_, after) = bus_of rule c w in length after.ram ≡ length w.ram
 
 -- The devices of a machine that is reset show its size,
 abbrev pub ResetsShowTheSize : Type 0
@@ -82,7 +85,8 @@ ResetsShowTheSize = (rule : Rule) (size : ℕ) (ram : List ℕ) → (reset_with 
 
 -- and no call changes the size that they show,
 abbrev pub CallsLeaveTheSize : Type 0
-CallsLeaveTheSize = (rule : Rule) (c : Call) (w : World) → (bus_of rule c w).1.devices.ram ≡ w.devices.ram
+CallsLeaveTheSize = (rule : Rule) (c : Call) (w : World)
+    → let (_, after) = bus_of rule c w in after.devices.ram ≡ w.devices.ram
 
 -- nor does a run, whatever arrives.
 abbrev pub RunsLeaveTheSize : Type 0

@@ -38,7 +38,7 @@ Contents = List (ℕ × List ℕ)
 -- memory with an image's bytes, later ones over earlier ones
 abbrev pub with_contents : List ℕ → Contents → List ℕ
 with_contents ram [] = ram
-with_contents ram (chunk ∷ chunks) = with_contents (overwritten ram chunk.0 chunk.1) chunks
+with_contents ram ((at, bytes) ∷ chunks) = with_contents (overwritten ram at bytes) chunks
 
 abbrev pub mmu_at_reset : Mmu
 mmu_at_reset = record { tc = 0; itt0 = 0; itt1 = 0; dtt0 = 0; dtt1 = 0; mmusr = 0; urp = 0; srp = 0 }
@@ -81,7 +81,7 @@ taken_in input.Abort d = d
 -- the devices once they have received, in order, what arrives at a step
 abbrev pub arrived : ℕ → Entries → DeviceState → DeviceState
 arrived step [] d = d
-arrived step (entry ∷ script) d = arrived step script (if entry.0 == step then taken_in entry.1 d else d)
+arrived step ((at, what) ∷ script) d = arrived step script (if at == step then taken_in what d else d)
 
 abbrev pub is_abort : Input → Bool
 is_abort (input.Byte byte) = false
@@ -90,7 +90,7 @@ is_abort input.Abort = true
 -- an abort arrives at a step
 abbrev pub aborts : ℕ → Entries → Bool
 aborts step [] = false
-aborts step (entry ∷ script) = ((entry.0 == step) && is_abort entry.1) || aborts step script
+aborts step ((at, what) ∷ script) = ((at == step) && is_abort what) || aborts step script
 
 -- the interrupt level that the step of this number is asked for, with such devices once it has begun: an abort asks for
 -- level 7, in that step alone
@@ -124,7 +124,7 @@ one_later m ended cpu w =
     record { cpu = cpu; world = w; steps = m.steps + 1; state = state_after ended cpu w.devices }
 
 abbrev pub with_finish : Machine → Stepped × World → Finish × Machine
-with_finish m r = (r.0.0, one_later m r.0.0 r.0.1 r.1)
+with_finish m ((ended, cpu), w) = (ended, one_later m ended cpu w)
 
 -- one step: how it ended, and the machine after it
 unfoldable pub stepping : Rule → Entries → Machine → Finish × Machine
@@ -132,7 +132,7 @@ stepping rule script m = with_finish m (processed rule script (begun script m))
 
 -- the machine after one step
 abbrev pub stepped : Rule → Entries → Machine → Machine
-stepped rule script m = (stepping rule script m).1
+stepped rule script m = let (_, after) = stepping rule script m in after
 
 -- halted and switched-off machines take no step
 abbrev pub takes_steps : RunState → Bool

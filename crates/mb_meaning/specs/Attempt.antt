@@ -75,7 +75,7 @@ past n p = record p { pc = (p.pc + 2 * n) % 2 ^ 32 }
 abbrev pub attempted : Space → Plain → Routine Found → Routine Performed
 attempted space p found =
     caught found (λ unfound. Return (found_none unfound p))
-    (λ found. perform_of found.0 p.pc space (past found.1 p))
+    (λ (i, n). perform_of i p.pc space (past n p))
 
 -- The attempt: an instruction is fetched at PC, decoded and carried out, all accesses in this space. A privileged one
 -- is not carried out.

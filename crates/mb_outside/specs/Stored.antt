@@ -11,7 +11,7 @@ Stored = List (String Global × Vec ℕ Global)
 -- the bytes of the first file of this name
 abbrev pub stored_bytes : Stored → List ℕ → Option (List ℕ)
 stored_bytes files name =
-    option_map (λ file. file.1.items) (find (λ file. bytes_eq (string_bytes file.0) name) files)
+    option_map (λ (_, bytes). bytes.items) (find (λ (stored, _). bytes_eq (string_bytes stored) name) files)
 
 -- the same, where a missing file reads as an empty one
 abbrev pub stored_or_empty : Stored → List ℕ → Option (List ℕ)

@@ -54,7 +54,14 @@ pub data Routine : Type 0 → Type 1 where
 abbrev pub run : {S A : Type 0} → Bus S → Routine A → S → A × S
 run bus (Return a) s = (a, s)
 run bus (Ask c) s = bus c s
-run bus (Then m f) s = run bus (f ((run bus m s).0)) ((run bus m s).1)
+run bus (Then m f) s = let (answer, after) = run bus m s in run bus (f answer) after
+
+-- of what a call or a routine came to: its answer, and the state after it
+abbrev pub answer_in : {A S : Type 0} → A × S → A
+answer_in (answer, _) = answer
+
+abbrev pub state_in : {A S : Type 0} → A × S → S
+state_in (_, after) = after
 
 -- one of two routines
 abbrev pub choose : {A : Type 0} → Bool → Routine A → Routine A → Routine A

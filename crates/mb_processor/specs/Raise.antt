@@ -21,6 +21,10 @@ use Rattle.mb_processor.specs.Entry.{enter_of}
 abbrev pub Stepped : Type 0
 Stepped = Finish × Cpu
 
+-- how a step ended that came to this
+abbrev pub finish_in : {S : Type 0} → Stepped × S → Finish
+finish_in ((end, _), _) = end
+
 -- the same without a word of exceptions
 abbrev pub step_end : Finish → StepEnd
 step_end finish.Went = step.Went
@@ -29,7 +33,7 @@ step_end finish.Idle = step.Idle
 step_end finish.Halted = step.Halted
 
 abbrev pub by_its_end : {S : Type 0} → Stepped × S → (StepEnd × Cpu) × S
-by_its_end stepped = ((step_end stepped.0.0, stepped.0.1), stepped.1)
+by_its_end ((ended, cpu), s) = ((step_end ended, cpu), s)
 
 -- ---- trace bits
 
@@ -65,7 +69,7 @@ ends_step _ = finish.Halted
 -- An access error is entered with this PC and these fields. Where its own frame has no place the processor halts.
 unfoldable pub access_error_of : ℕ → Access → Cpu → Routine Stepped
 access_error_of pc access cpu =
-    Then (enter_of (access_cause pc access) cpu) (λ entrance. Return (ends_step entrance.0, entrance.1))
+    Then (enter_of (access_cause pc access) cpu) (λ (end, after). Return (ends_step end, after))
 
 -- ---- other exceptions
 
@@ -88,7 +92,7 @@ raised is_trace kept entered.DoubleFault cpu = Return (Err (finish.Halted, cpu))
 -- An exception is entered: a trace, or any other one but an access error. `kept` is the processor as an access error
 -- in its place finds it.
 unfoldable pub raise_of : Bool → Cause → Cpu → Cpu → Routine Raised
-raise_of is_trace c kept cpu = Then (enter_of c cpu) (λ entrance. raised is_trace kept entrance.0 entrance.1)
+raise_of is_trace c kept cpu = Then (enter_of c cpu) (λ (end, after). raised is_trace kept end after)
 
 -- the exception of this vector, which ends the step
 abbrev pub last : ℕ → Routine Raised → Routine Stepped

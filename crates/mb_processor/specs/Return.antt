@@ -193,7 +193,7 @@ resumed_of None cpu = Return (record { ended = went; cpu = cpu; held = None })
 resumed_of (Some a) cpu =
     let held = Some (record { access = a; pc = cpu.regs.pc }) in
     Then (choose (continues a) (continued_of a cpu) (Return (went, cpu)))
-    (λ done. Return (record { ended = done.0; cpu = done.1; held = held }))
+    (λ (end, after). Return (record { ended = end; cpu = after; held = held }))
 
 -- RTE. Where it is not carried out all registers are as before.
 unfoldable pub return_of : Cpu → Routine Returned

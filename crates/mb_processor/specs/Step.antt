@@ -31,7 +31,7 @@ use Rattle.mb_processor.specs.System.{perform_system_of}
 use Rattle.mb_processor.specs.Return.{Held, continues, return_of, holding}
 use Rattle.mb_meaning.specs.Rows.{perform_of}
 use Rattle.mb_meaning.specs.Attempt.{Unfound, NoInstruction, Unfetched, past, fetched_of}
-use Rattle.mb_processor.specs.Raise.{Stepped, traces_all, is_due, has_ct, with_ct, access_error_of, interrupt_of}
+use Rattle.mb_processor.specs.Raise.{Stepped, finish_in, traces_all, is_due, has_ct, with_ct, access_error_of, interrupt_of}
 use Rattle.mb_processor.specs.Raise.{tracing_of, trap_of, refused_of}
 
 -- ---- the finish of an instruction
@@ -132,7 +132,7 @@ finish_return_of end held before cpu = finish_of (instr.System system.Rte) end b
 
 unfoldable pub rte_of : Cpu → Routine Stepped
 rte_of cpu =
-    Then (holding nothing_held (return_of cpu)) (λ returned. finish_return_of returned.0 returned.2 cpu returned.1)
+    Then (holding nothing_held (return_of cpu)) (λ (end, after, held). finish_return_of end held cpu after)
 
 -- ---- an instruction
 
@@ -146,14 +146,14 @@ supervised_of system.Rte n cpu = rte_of cpu
 supervised_of i n cpu =
     let moved = beyond n cpu in
     Then (system_closing moved (perform_system_of i (operands_at (system_row i) cpu.regs.pc) moved))
-    (λ end. finish_of (instr.System i) end.0 cpu end.1)
+    (λ (end, after). finish_of (instr.System i) end cpu after)
 
 -- an instruction of so many words that is not privileged: it knows the space of its accesses alone
 unfoldable pub unprivileged_of : Instr → ℕ → Cpu → Routine Stepped
 unprivileged_of i n cpu =
     let p = plain_of cpu.regs in
     Then (closing (perform_of i p.pc (space_of cpu) (past n p)))
-    (λ end. finish_of i end.0 cpu (with_registers end.1 cpu))
+    (λ (end, after). finish_of i end cpu (with_registers after cpu))
 
 -- An instruction is carried out, and finished. A privileged one needs supervisor mode.
 unfoldable pub executed_of : Instr → ℕ → Cpu → Routine Stepped
@@ -171,7 +171,7 @@ unfoldable pub instruction_of : Cpu → Routine Stepped
 instruction_of cpu =
     caught (fetched_of (space_of cpu) cpu.regs.pc)
     (λ unfound. unfound_of unfound cpu)
-    (λ found. executed_of found.0 found.1 cpu)
+    (λ (i, n). executed_of i n cpu)
 
 -- ---- a step
 
@@ -192,4 +192,4 @@ step_of level cpu =
 
 -- The processor halts at the step: the frame of an access error has no place, or a vector can't be read.
 abbrev pub Halts : {S : Type 0} → Bus S → ℕ → Cpu → S → Type 0
-Halts bus level cpu s = (run bus (step_of level cpu) s).0.0 ≡ finish.Halted
+Halts bus level cpu s = finish_in (run bus (step_of level cpu) s) ≡ finish.Halted

@@ -33,21 +33,24 @@ pub record IsKept {S : Type 0} (place : Placing S) (view : Viewing S) (s t : S) 
 -- read and no other put changes it.
 pub record Keeps {S : Type 0} (bus : Bus S) (place : Placing S) (view : Viewing S) : Type 0 where
   -- A check that is not refused tells where the piece stands.
-  pub checked : (s : S) (p : Piece) (q : Place) → IsAddressed p → (bus (Probe Super p) s).0 ≡ Ok q
-      → place (bus (Probe Super p) s).1 p ≡ Some q
-  pub check_keeps : (s : S) (p : Piece) → IsAddressed p → IsKept place view s (bus (Probe Super p) s).1
+  pub checked : (s : S) (p : Piece) (q : Place) → IsAddressed p
+      → let (found, after) = bus (Probe Super p) s in found ≡ Ok q → place after p ≡ Some q
+  pub check_keeps : (s : S) (p : Piece) → IsAddressed p
+      → let (_, after) = bus (Probe Super p) s in IsKept place view s after
   -- A place has the length of its piece.
   pub whole : (s : S) (p : Piece) (q : Place) → place s p ≡ Some q → q.len ≡ p.len
   -- Bytes that are put are seen; pieces stand where they stood, and all other bytes are as they were.
   pub put : (s : S) (p : Piece) (q : Place) (bytes : List ℕ) → IsAddressed p → place s p ≡ Some q
       → ((k : ℕ) → slice_index bytes k < 2 ^ 8) → p.len ≤ length bytes
-      → Shows (view (bus (Put q (big_number p.len bytes)) s).1) p.at p.len bytes
+      → let (_, after) = bus (Put q (big_number p.len bytes)) s in Shows (view after) p.at p.len bytes
   pub put_stands : (s : S) (p : Piece) (q : Place) (value : ℕ) → IsAddressed p → place s p ≡ Some q
-      → (other : Piece) (there : Place) → place s other ≡ Some there → place (bus (Put q value) s).1 other ≡ Some there
+      → (other : Piece) (there : Place) → place s other ≡ Some there
+      → let (_, after) = bus (Put q value) s in place after other ≡ Some there
   pub put_shows : (s : S) (p : Piece) (q : Place) (value : ℕ) → IsAddressed p → place s p ≡ Some q
       → (at byte : ℕ) → ((k : ℕ) → k < p.len → at ≢ sum p.at k)
-      → view s at ≡ Some byte → view (bus (Put q value) s).1 at ≡ Some byte
+      → view s at ≡ Some byte → let (_, after) = bus (Put q value) s in view after at ≡ Some byte
   -- Bytes that are seen are read.
   pub read : (s : S) (p : Piece) (bytes : List ℕ) → IsAddressed p → Shows (view s) p.at p.len bytes
-      → (bus (Read Super p) s).0 ≡ Ok (big_number p.len bytes)
-  pub read_keeps : (s : S) (p : Piece) → IsAddressed p → IsKept place view s (bus (Read Super p) s).1
+      → let (value, _) = bus (Read Super p) s in value ≡ Ok (big_number p.len bytes)
+  pub read_keeps : (s : S) (p : Piece) → IsAddressed p
+      → let (_, after) = bus (Read Super p) s in IsKept place view s after

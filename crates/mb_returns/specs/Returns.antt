@@ -93,8 +93,8 @@ IsPlain (Some access) = continues access ≡ false
 abbrev pub EntryIsSeen : Type 0 → Type 0
 EntryIsSeen S = (bus : Bus S) (place : Placing S) (view : Viewing S) (c : Cause) (cpu : Cpu) (s : S)
     → Keeps bus place view → IsLawful c cpu → AreApart (frames_at c cpu).first (frames_at c cpu).second
-    → (run bus (enter_of c cpu) s).0.0 ≡ entered.Done
-    → AreSeen (view (run bus (enter_of c cpu) s).1) (frames_at c cpu)
+    → let (entrance, after) = run bus (enter_of c cpu) s in let (end, _) = entrance in
+    end ≡ entered.Done → AreSeen (view after) (frames_at c cpu)
 
 -- By frames that stand there RTE gives back SR, PC and both stacks, and the fields of an access error, whatever the
 -- format: $0, $2, $7, or $0 below a throwaway frame.
@@ -102,14 +102,14 @@ abbrev pub FramesAreTaken : Type 0 → Type 0
 FramesAreTaken S = (bus : Bus S) (place : Placing S) (view : Viewing S) (c : Cause) (cpu back : Cpu) (s : S)
     → Keeps bus place view → IsLawful c cpu → AreSeen (view s) (frames_at c cpu)
     → IsHandlers c cpu back → CanReturn c.access
-    → (run bus (taken_of back.regs) s).0 ≡ Ok (taken_back c cpu back)
+    → let (taken, _) = run bus (taken_of back.regs) s in taken ≡ Ok (taken_back c cpu back)
 
 -- So RTE after an entry, whatever was done between them that leaves the frames, and the handler's stacks where they
 -- were.
 abbrev pub EntryIsReturned : Type 0 → Type 0
 EntryIsReturned S = (bus : Bus S) (place : Placing S) (view : Viewing S) (c : Cause) (cpu back : Cpu) (s t : S)
     → Keeps bus place view → IsLawful c cpu → AreApart (frames_at c cpu).first (frames_at c cpu).second
-    → (run bus (enter_of c cpu) s).0.0 ≡ entered.Done
-    → (AreSeen (view (run bus (enter_of c cpu) s).1) (frames_at c cpu) → AreSeen (view t) (frames_at c cpu))
+    → let (entrance, after) = run bus (enter_of c cpu) s in let (end, _) = entrance in
+    end ≡ entered.Done → (AreSeen (view after) (frames_at c cpu) → AreSeen (view t) (frames_at c cpu))
     → IsHandlers c cpu back → IsPlain c.access
-    → (run bus (return_of back) t).0 ≡ returned_back c cpu back
+    → let (returned, _) = run bus (return_of back) t in returned ≡ returned_back c cpu back

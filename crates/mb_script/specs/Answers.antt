@@ -47,7 +47,7 @@ fault_at number refusal.Memory = Memory
 fault_at number (refusal.Why why) = Line number why
 
 abbrev pub cut_said : Bor (List ℕ) × Bor (List ℕ) → List ℕ × List ℕ
-cut_said cut = (cut.0.now, cut.1.now)
+cut_said (first, behind) = (first.now, behind.now)
 
 abbrev pub written_said : Written → scripts.Written
 written_said (written.Hex digits) = scripts.Hex digits.now

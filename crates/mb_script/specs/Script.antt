@@ -10,11 +10,11 @@ Entries = List (ℕ × Input)
 -- steps count from 1 and never fall
 pub record IsScript (entries : Entries) : Type 0 where
   pub few : length entries < 2 ^ 32
-  pub from_one : All (λ entry. 1 ≤ entry.0) entries
-  pub in_order : AllPairs (λ earlier later. earlier.0 ≤ later.0) entries
+  pub from_one : All (λ (step, _). 1 ≤ step) entries
+  pub in_order : AllPairs (λ (earlier, _) (later, _). earlier ≤ later) entries
 
 -- steps up to the last
 pub record IsInOrder (last : ℕ) (entries : Entries) : Type 0 where
-  pub from_one : All (λ entry. 1 ≤ entry.0) entries
-  pub in_order : AllPairs (λ earlier later. earlier.0 ≤ later.0) entries
-  pub up_to : All (λ entry. entry.0 ≤ last) entries
+  pub from_one : All (λ (step, _). 1 ≤ step) entries
+  pub in_order : AllPairs (λ (earlier, _) (later, _). earlier ≤ later) entries
+  pub up_to : All (λ (step, _). step ≤ last) entries

@@ -126,9 +126,9 @@ guest_number_of count word = option_and_then (tested (λ n. nat_le 1 n && nat_le
 -- the turn that a line's words name, of one of so many guests
 unfoldable pub turn_of : (count : ℕ) → List (List ℕ) → Result Turn LineWhy
 turn_of count words = do
-  named ← ok_or (turn_words_of words) why.Word
-  guest ← ok_or (guest_number_of count named.0) why.Number
-  steps ← ok_or (number_of named.1) why.Number
+  (guest_word, steps_word) ← ok_or (turn_words_of words) why.Word
+  guest ← ok_or (guest_number_of count guest_word) why.Number
+  steps ← ok_or (number_of steps_word) why.Number
   Ok (record { guest = guest; steps = steps })
 
 -- the turn in a line
@@ -145,7 +145,7 @@ due past rule (line ∷ later) = read_by rule line >>= λ said. Ok (said, later)
 
 -- a guest before others, behind which these lines stand
 abbrev pub guest_before : Guest → List Guest × List Line → List Guest × List Line
-guest_before guest others = (guest ∷ others.0, others.1)
+guest_before guest (others, behind) = (guest ∷ others, behind)
 
 -- the guests up to the first turn, behind so many others, and the lines from that turn on
 abbrev pub guests_after : (version count : ℕ) → List Line → Result (List Guest × List Line) Fault
@@ -158,9 +158,9 @@ guests_after version count (line ∷ lines) =
 -- one guest or more
 unfoldable pub guests_of : (version past : ℕ) → List Line → Result (List Guest × List Line) Fault
 guests_of version past lines = do
-  guest ← due past (guest_line 0) lines
-  others ← guests_after version 1 guest.1
-  Ok (guest_before guest.0 others)
+  (guest, behind) ← due past (guest_line 0) lines
+  others ← guests_after version 1 behind
+  Ok (guest_before guest others)
 
 -- the turns of all lines, each of one of so many guests
 abbrev pub turns_of : (count : ℕ) → List Line → Result (List Turn) Fault
@@ -173,12 +173,12 @@ turns_of count (line ∷ lines) = do
 -- a session, its board, its slice, its guests, and its turns; past is the number of the line after the last
 unfoldable pub plan_of : ℕ → List Line → Result Plan Fault
 plan_of past lines = do
-  session ← due past session_line lines
-  board ← due past board_line session.1
-  slice ← due past slice_line board.1
-  guests ← guests_of session.0 past slice.1
-  order ← turns_of (length guests.0) guests.1
-  Ok (record { board = board.0; slice = slice.0; guests = guests.0; order = order })
+  (version, behind_session) ← due past session_line lines
+  (board, behind_board) ← due past board_line behind_session
+  (slice, behind_slice) ← due past slice_line behind_board
+  (guests, behind_guests) ← guests_of version past behind_slice
+  order ← turns_of (length guests) behind_guests
+  Ok (record { board = board; slice = slice; guests = guests; order = order })
 
 -- The plan of a session file, or the first fault in order of lines.
 unfoldable pub session_of : List ℕ → Result Plan Fault

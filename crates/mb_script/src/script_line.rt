@@ -56,7 +56,7 @@ pub(crate) fn entry_of(alloc: Global, line: &[u8]) -> Result<Entry, Refusal>
 #[tactic(auto, using(crate::proofs::Cuts::cut_found, crate::proofs::Cuts::cut_none))]
 fn cut_at_space(line: &[u8]) -> Option<(&[u8], &[u8])>
     ensures given { option_map cut_said result ≡ cut_at_space line.now }
-    ensures short { IfSome result (λ cut. length cut.1.now + 1 ≤ length line.now) }
+    ensures short { IfSome result (λ (_, behind). length behind.now + 1 ≤ length line.now) }
 {
     match space(line) {
         None => None,

@@ -91,14 +91,14 @@ fn guests<'a>(
     version: u32,
     lines: &mut Lines<'a>,
 ) -> Result<(Vec<GuestPlan>, Option<Line<'a>>), LineFault>
-    ensures given { Gives (λ read. (
-      map guest_said read.0.items,
-      ahead (option_map line_said read.1) (statements (left lines.new)),
+    ensures given { Gives (λ (guests, turn). (
+      map guest_said guests.items,
+      ahead (option_map line_said turn) (statements (left lines.new)),
     )) result
         (guests_of version (past lines.old) (statements (left lines.old))) }
-    ensures some { IfOk result (λ read. 1 ≤ length read.0.items) }
-    ensures few { IfOk result (λ read. length read.0.items ≤ MOST_GUESTS) }
-    ensures rams { IfOk result (λ read. AreRams (map guest_said read.0.items)) }
+    ensures some { IfOk result (λ (guests, _). 1 ≤ length guests.items) }
+    ensures few { IfOk result (λ (guests, _). length guests.items ≤ MOST_GUESTS) }
+    ensures rams { IfOk result (λ (guests, _). AreRams (map guest_said guests.items)) }
 {
     let mut guests = Vec::new(alloc);
     let first = due_statement(lines)?;

@@ -19,7 +19,7 @@ Word = Result ℕ Finish × Cpu
 -- where a word does not come, the step ends
 abbrev pub word_of : Cpu → Space → ℕ → Routine Word
 word_of cpu space at = caught (fetch space at)
-    (λ fault. Then (unread_of (refused_in at fault) cpu) (λ stepped. Return (Err stepped.0, stepped.1)))
+    (λ fault. Then (unread_of (refused_in at fault) cpu) (λ (ended, after). Return (Err ended, after)))
     (λ word. Return (Ok word, cpu))
 
 -- an instruction and how many words it has, or how the step ended without one; and the processor then
@@ -29,7 +29,7 @@ Sought = Result (Instr × ℕ) Finish × Cpu
 -- where none is found, the step ends
 abbrev pub sought_of : Cpu → Routine Found → Routine Sought
 sought_of cpu found = caught found
-    (λ unfound. Then (unfound_of unfound cpu) (λ stepped. Return (Err stepped.0, stepped.1)))
+    (λ unfound. Then (unfound_of unfound cpu) (λ (ended, after). Return (Err ended, after)))
     (λ found. Return (Ok found, cpu))
 
 -- an answer, with the instruction in its place
@@ -43,4 +43,4 @@ behind cpu word = found_of (MOST_WORDS - 1) (space_of cpu) ((cpu.regs.pc + 2) % 
 
 -- an instruction is carried out once it is found
 abbrev pub found_executed : Cpu → Routine Found → Routine Stepped
-found_executed cpu found = caught found (λ unfound. unfound_of unfound cpu) (λ found. executed_of found.0 found.1 cpu)
+found_executed cpu found = caught found (λ unfound. unfound_of unfound cpu) (λ (i, n). executed_of i n cpu)

@@ -46,8 +46,8 @@ optional None words = (None, words)
 
 abbrev pub with_width : Sum × List Word → SizedSum × List Word
 with_width (value, words) =
-    let found = optional (width_at words) words in
-    (record { value = value; width = found.0 }, found.1)
+    let (width, behind) = optional (width_at words) words in
+    (record { value = value; width = width }, behind)
 
 -- `e`, `e.W` or `e.L`
 unfoldable pub sized_at : List Word → Option (SizedSum × List Word)
@@ -100,9 +100,9 @@ index_of x given_width given_scale = record {
 unfoldable pub index_behind : Register → List Word → Option (Index × List Word)
 index_behind given words = do
   x ← index_register given
-  found_width ← index_width x.is_dropped words
-  found_scale ← scale_at found_width.1
-  Some (index_of x found_width.0 found_scale.0, found_scale.1)
+  (width, behind_width) ← index_width x.is_dropped words
+  (scale, behind_scale) ← scale_at behind_width
+  Some (index_of x width scale, behind_scale)
 
 -- `Xn.W*k` or `Xn.L*k`
 abbrev pub index_at : List Word → Option (Index × List Word)
@@ -146,11 +146,11 @@ index_part is_first words = optional (part_place is_first words >>= index_at) wo
 -- the parts, and what stands behind them
 unfoldable pub group_at : List Word → Group × List Word
 group_at words =
-    let displacement = optional (sized_at words) words in
-    let none = not (is_some displacement.0) in
-    let base = base_part none displacement.1 in
-    let index = index_part (none && not (is_some base.0)) base.1 in
-    (record { displacement = displacement.0; base = base.0; index = index.0 }, index.1)
+    let (displacement, behind_displacement) = optional (sized_at words) words in
+    let none = not (is_some displacement) in
+    let (base, behind_base) = base_part none behind_displacement in
+    let (index, behind_index) = index_part (none && not (is_some base)) behind_base in
+    (record { displacement = displacement; base = base; index = index }, behind_index)
 
 -- Modes in parentheses.
 
@@ -206,8 +206,9 @@ stepped direct words = (direct, words)
 -- what stands behind `(`, where no bracket follows
 unfoldable pub direct_at : List Word → Option (Mode Sum × List Word)
 direct_at words = do
-  rest ← close_at (group_at words).1
-  direct ← direct_mode (group_at words).0
+  let (group, behind) = group_at words
+  rest ← close_at behind
+  direct ← direct_mode group
   Some (stepped direct rest)
 
 -- a group of brackets with the index that stands behind it, if it has none itself
@@ -235,12 +236,12 @@ outer_at words = optional (comma_at words >>= sized_at) words
 -- what stands behind `([`
 unfoldable pub indirect_at : List Word → Option (Mode Sum × List Word)
 indirect_at words = do
-  rest ← close_square_at (group_at words).1
-  let parts = (group_at words).0 in
-      let index = index_behind_brackets parts rest in
-      let outer = outer_at index.1 in
-      option_map (λ behind. (mode.Full (full (post_indexed parts index.0) (read_at index.0) outer.0), behind))
-      (close_at outer.1)
+  let (parts, behind_parts) = group_at words
+  rest ← close_square_at behind_parts
+  let (index, behind_index) = index_behind_brackets parts rest
+  let (outer, behind_outer) = outer_at behind_index
+  option_map (λ behind. (mode.Full (full (post_indexed parts index) (read_at index) outer), behind))
+      (close_at behind_outer)
 
 -- Modes.
 

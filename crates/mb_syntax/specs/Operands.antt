@@ -77,11 +77,11 @@ close_brace_at _ = None
 -- what stands behind `{`: `o:w}`
 unfoldable pub field_at : List Word → Option (BitField Sum × List Word)
 field_at words = do
-  offset ← field_number_at words
-  behind ← colon_at offset.1
-  width ← field_number_at behind
-  rest ← close_brace_at width.1
-  Some (record { offset = offset.0; width = width.0 }, rest)
+  (offset, behind_offset) ← field_number_at words
+  behind_colon ← colon_at behind_offset
+  (width, behind_width) ← field_number_at behind_colon
+  rest ← close_brace_at behind_width
+  Some (record { offset = offset; width = width }, rest)
 
 -- Pairs.
 
@@ -107,10 +107,10 @@ colon_open_at _ = None
 -- what stands behind `(` in `(Rn):(Rn)`
 unfoldable pub indirect_pair_at : List Word → Option (Operand Sum × List Word)
 indirect_pair_at words = do
-  first ← closed_register_at words
-  behind ← colon_open_at first.1
-  second ← closed_register_at behind
-  Some (operand.IndirectPair first.0 second.0, second.1)
+  (first, behind_first) ← closed_register_at words
+  behind_colon ← colon_open_at behind_first
+  (second, rest) ← closed_register_at behind_colon
+  Some (operand.IndirectPair first second, rest)
 
 -- Operands.
 
@@ -174,6 +174,6 @@ with_operand first later = option_map (λ others. first ∷ others) later
 -- At most so many operands, parted by commas, up to the line's end. A line has no more operands than words.
 abbrev pub operands_of : ℕ → Bool → List Word → Option (List (Operand Sum))
 operands_of zero caches words = None
-operands_of (suc most) caches words = operand_among caches words >>= λ found.
-    if is_end found.1 then Some (found.0 ∷ [])
-    else comma_at found.1 >>= λ rest. with_operand found.0 (operands_of most caches rest)
+operands_of (suc most) caches words = operand_among caches words >>= λ (first, behind).
+    if is_end behind then Some (first ∷ [])
+    else comma_at behind >>= λ rest. with_operand first (operands_of most caches rest)

@@ -54,9 +54,9 @@ takes_caches name = is_some (found_in cache_operations name)
 -- an operation whose name stands before the words
 unfoldable pub operation_named : List ℕ → Name → List Word → Option Operation
 operation_named line name words = do
-  size ← size_at words
-  operands ← operands_behind (takes_caches (bytes_at line name)) size.1
-  Some (record { name = name; size = size.0; operands = operands })
+  (size, behind) ← size_at words
+  operands ← operands_behind (takes_caches (bytes_at line name)) behind
+  Some (record { name = name; size = size; operands = operands })
 
 -- the operation that the words are, up to the line's end; no words are none
 unfoldable pub operation_of : List ℕ → List Word → Option (Option Operation)

@@ -49,7 +49,7 @@ signed negative term = record { is_negative = negative; term = term }
 
 -- terms before others
 abbrev pub with_front : List SignedTerm → Option (List SignedTerm × List Word) → Option (List SignedTerm × List Word)
-with_front terms later = option_map (λ found. (terms ++ found.0, found.1)) later
+with_front terms later = option_map (λ (others, behind). (terms ++ others, behind)) later
 
 -- a term before others, where there is one
 abbrev pub before : Bool → Option Term → Option (List SignedTerm × List Word) → Option (List SignedTerm × List Word)

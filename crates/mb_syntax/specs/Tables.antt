@@ -6,8 +6,8 @@ use denote.Ref.{Bor}
 -- what the table has beside a word in either case
 abbrev pub found_in : {A : Type 0} → List (List ℕ × A) → List ℕ → Option A
 found_in [] word = None
-found_in (row ∷ rows) word = if str_eq_ignore_ascii_case row.0 word then Some row.1 else found_in rows word
+found_in ((name, value) ∷ rows) word = if str_eq_ignore_ascii_case name word then Some value else found_in rows word
 
 -- a row of a table of the code
 abbrev pub row_said : {A : Type 0} → Bor (List ℕ) × A → List ℕ × A
-row_said row = (row.0.now, row.1)
+row_said (name, value) = (name.now, value)

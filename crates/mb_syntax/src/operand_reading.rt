@@ -290,7 +290,7 @@ fn listed_at(words: &[Word]) -> Result<(Operand<Expression>, &[Word]), SyntaxFau
 /// A range of registers, and what stands behind it.
 fn range_at(words: &[Word]) -> Option<(u16, &[Word])>
     ensures given { option_map read_said result ≡ range_at words.now }
-    ensures shorter { IfSome result (λ found. length found.1.now < length words.now) }
+    ensures shorter { IfSome result (λ (_, behind). length behind.now < length words.now) }
 {
     match words {
         [

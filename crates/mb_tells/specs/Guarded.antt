@@ -1,6 +1,7 @@
 -- A bus that refuses some calls, as instructions in one space meet it.
 use Rattle.std.specs.Prelude.{◌≡◌, ◌⊎◌, ℕ, ◌+◌, ◌%◌, ◌^◌, ◌<◌, ◌≤◌, Bool, true, false, Ok, Err, List, length}
 use Rattle.mb_port.specs.Routine.{Call, Answer, Fetch, Read, Write, ReadLine, WriteLine, Probe, Get, Put, ReadMmu}
+use Rattle.mb_port.specs.Routine.{answer_in, state_in}
 use Rattle.mb_port.specs.Routine.{SetMmu, FlushKept, Test, ResetDevices, Bus}
 use Rattle.mb_port.specs.Pieces.{IsPiece}
 use Rattle.mb_port.specs.declared.types.Space.{Space}
@@ -79,25 +80,25 @@ pub record Guards {S : Type 0} (x : Guarded S) (space : Space) : Type 0 where
       → x.lawful (WriteLine space at line) s
   pub probes : (piece : Piece) (s : S) → x.serving s → IsPlaced piece → x.lawful (Probe space piece) s
   -- what is fetched is a word, and a line is four longs
-  pub words : (at word : ℕ) (s : S) → Goes x (Fetch space at) s → (x.bus (Fetch space at) s).0 ≡ Ok word
+  pub words : (at word : ℕ) (s : S) → Goes x (Fetch space at) s → answer_in (x.bus (Fetch space at) s) ≡ Ok word
       → word < 2 ^ 16
   pub lines : (at : ℕ) (line : List ℕ) (s : S) → Goes x (ReadLine space at) s
-      → (x.bus (ReadLine space at) s).0 ≡ Ok line → length line ≡ 4
+      → answer_in (x.bus (ReadLine space at) s) ≡ Ok line → length line ≡ 4
   -- the fault of a refused line is at its address
   pub line_faults : (at : ℕ) (line : List ℕ) (s : S) (fault : Fault) → IsRefused x (WriteLine space at line) s
-      → (x.bus (WriteLine space at line) s).0 ≡ Err fault → fault.at ≡ at
+      → answer_in (x.bus (WriteLine space at line) s) ≡ Err fault → fault.at ≡ at
   -- what only reads keeps that nothing was written, and what stands
-  pub still : (c : Call) (s : S) → IsReading c → Goes x c s → x.unwritten s → x.unwritten ((x.bus c s).1)
+  pub still : (c : Call) (s : S) → IsReading c → Goes x c s → x.unwritten s → x.unwritten (state_in (x.bus c s))
   pub reads_keep : (c : Call) (s : S) (d : Call) (answer : Answer d) → IsReading c → Goes x c s → x.stands d answer s
-      → x.stands d answer ((x.bus c s).1)
+      → x.stands d answer (state_in (x.bus c s))
   -- a write keeps what stands of pieces that are apart from it
   pub writes_keep : (p q : Piece) (value more : ℕ) (s : S) → Apart p q → Goes x (Write space q more) s
       → x.stands (Write space p value) (Ok tt) s
-      → x.stands (Write space p value) (Ok tt) ((x.bus (Write space q more) s).1)
+      → x.stands (Write space p value) (Ok tt) (state_in (x.bus (Write space q more) s))
   -- what was read or written can be read or written again
   pub read_again : (piece : Piece) (value : ℕ) (s : S) → Goes x (Read space piece) s
-      → (x.bus (Read space piece) s).0 ≡ Ok value
-      → x.stands (Read space piece) (Ok value) ((x.bus (Read space piece) s).1)
+      → answer_in (x.bus (Read space piece) s) ≡ Ok value
+      → x.stands (Read space piece) (Ok value) (state_in (x.bus (Read space piece) s))
   pub written_again : (piece : Piece) (value : ℕ) (s : S) → Goes x (Write space piece value) s
-      → (x.bus (Write space piece value) s).0 ≡ Ok tt
-      → x.stands (Write space piece value) (Ok tt) ((x.bus (Write space piece value) s).1)
+      → answer_in (x.bus (Write space piece value) s) ≡ Ok tt
+      → x.stands (Write space piece value) (Ok tt) (state_in (x.bus (Write space piece value) s))

@@ -1,6 +1,6 @@
 -- What a refused call tells of each instruction, as clauses say it: with tests for facts of states.
 use Rattle.std.specs.Prelude.{◌≡◌, ℕ, ◌<◌, ◌^◌, Bool, true, false, IsTrue, Ok, List, All}
-use Rattle.mb_port.specs.Routine.{Call, Answer, Bus, run}
+use Rattle.mb_port.specs.Routine.{Call, Answer, Bus, run, answer_in}
 use Rattle.mb_port.specs.declared.types.Space.{Space}
 use Rattle.mb_laws.specs.Tree.{Tree, routine_of}
 use Rattle.mb_instr.specs.declared.instruction.Instr.{Instr}
@@ -30,7 +30,7 @@ moves _ m = ⊥
 -- which MOVEM the instruction is that is fetched at PC from this state on
 abbrev pub moves_fetched : {S : Type 0} → Bus S → Space → ℕ → S → Movem → Type 0
 moves_fetched bus space pc s m =
-    (i : Instr) × (n : ℕ) × ((run bus (fetched_of space pc) s).0 ≡ Ok (i, n)) × moves i m
+    (i : Instr) × (n : ℕ) × (answer_in (run bus (fetched_of space pc) s) ≡ Ok (i, n)) × moves i m
 
 -- a bus that refuses calls, with what is said of its states by tests
 pub record Tested (S : Type 0) : Type 0 where

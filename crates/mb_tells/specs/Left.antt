@@ -1,6 +1,7 @@
 -- What the end of an instruction says of what was left to do, where one of its calls was refused.
 use Rattle.std.specs.Prelude.{◌≡◌, ◌⊎◌, ℕ, ◌<◌, ◌≤◌, Some, false, Result, Ok, List, [], ◌∷◌, length}
 use Rattle.mb_port.specs.Routine.{Call, Answer, Routine, Return, ◌>>=◌, ◌>>◌, failing, write_line}
+use Rattle.mb_port.specs.Routine.{answer_in}
 use Rattle.mb_port.specs.Pieces.{span_of}
 use Rattle.mb_port.specs.declared.types.Space.{Space}
 use Rattle.mb_port.specs.declared.types.Fault.{Fault}
@@ -32,7 +33,7 @@ pub data Resumes {A : Type 0} (P : (c : Call) → Answer c → Type 0) : Tree A 
 
 -- The fault is what the bus answers to the call that the rest begins with, the refused one.
 abbrev pub Answered : {S A : Type 0} → Guarded S → Routine A → S → Fault → Type 0
-Answered x rest t fault = (c : Call) × (first_call rest ≡ Some c) × IsFault c ((x.bus c t).0) fault
+Answered x rest t fault = (c : Call) × (first_call rest ≡ Some c) × IsFault c (answer_in (x.bus c t)) fault
 
 -- a part whose fault ends the instruction so, with these registers
 abbrev pub ending : {A E : Type 0} → (E → Ended) → Plain → Routine (Result A E) → Routine (Result A Stopped)

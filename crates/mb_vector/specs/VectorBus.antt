@@ -59,7 +59,7 @@ fault_at space at len code write = record { at = at; len = len; space = space; c
 
 -- an access where it is not refused
 abbrev pub unless_refused : {A : Type 0} → Memory → A × Memory → Fault → Result A Fault × Memory
-unless_refused m done fault = if is_refused m fault.at fault.len then (Err fault, m) else (Ok done.0, done.1)
+unless_refused m (answer, after) fault = if is_refused m fault.at fault.len then (Err fault, m) else (Ok answer, after)
 
 unfoldable pub vector_bus : Bus Memory
 vector_bus (Fetch space at) m = unless_refused m (value_at m (piece_at at 2), m) (fault_at space at 2 true false)

@@ -53,14 +53,14 @@ processed g h =
 
 -- A guest once the processor's part of a step has ended so, with so many steps taken.
 abbrev pub ended_at : ℕ → Stepped × Guest → Guested
-ended_at steps r = record {
+ended_at steps ((ended, cpu), after) = record {
   machine = record {
-    cpu = r.0.1;
-    world = r.1.world;
+    cpu = cpu;
+    world = after.world;
     steps = steps;
-    state = state_after r.0.0 r.0.1 r.1.world.devices;
+    state = state_after ended cpu after.world.devices;
   };
-  shadow = r.1.shadow;
+  shadow = after.shadow;
 }
 
 -- its state then

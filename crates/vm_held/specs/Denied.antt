@@ -68,12 +68,13 @@ GoesOn space moves begun now (ended.Refused vector) after whole = ⊥
 
 -- The guest's own is what the held one came to, and tells no fault.
 abbrev pub IsAllowed : Guest → Performed × Guest → Performed × Guest → Type 0
-IsAllowed begun held own = (own ≡ held) × IsFaultless held.0 × LeavesRefused held.0 begun held.1
+IsAllowed begun (performed, now) own =
+    (own ≡ (performed, now)) × IsFaultless performed × LeavesRefused performed begun now
 
 -- Or the held one was denied a call, and its end says how the guest's own goes on.
 abbrev pub IsDenied : Space → (Movem → Type 0) → Guest → Performed × Guest → Performed × Guest → Type 0
-IsDenied space moves begun held own = (stop : Stopped) × (held.0 ≡ Err stop)
-    × GoesOn space moves begun held.1 stop.ended stop.plain own
+IsDenied space moves begun (performed, now) own = (stop : Stopped) × (performed ≡ Err stop)
+    × GoesOn space moves begun now stop.ended stop.plain own
 
 -- ---- an instruction
 
@@ -81,23 +82,23 @@ abbrev pub RowsGoOn : Type 0
 RowsGoOn = (space : Space) (size : ℕ) (i : Instr) (at : ℕ) (p : Plain) (g : Guest) → IsInstr i → HasLongs p
     → Sound size g
     → let held = run held_bus (perform_of i at space p) g in let own = run guest_bus (perform_of i at space p) g in
-    (IsAllowed g held own ⊎ IsDenied space (moves i) g held own) × Sound size held.1
+    (IsAllowed g held own ⊎ IsDenied space (moves i) g held own) × (let (_, now) = held in Sound size now)
 
 -- ---- a fetch
 
 -- what a fetch finds where no word was denied: an instruction of the table, or none
 abbrev pub IsFound : Found → Type 0
-IsFound (Ok found) = IsInstr found.0
+IsFound (Ok (i, _)) = IsInstr i
 IsFound (Err (NoInstruction vector)) = Unit {0}
 IsFound (Err (Unfetched refused)) = ⊥
 
 -- The guest's own fetch is the held one's; or that one was denied a word. Nothing has changed.
 abbrev pub FetchesGoOn : Type 0
 FetchesGoOn = (space : Space) (size pc : ℕ) (g : Guest) → pc < 2 ^ 32 → Sound size g
-    → let held = run held_bus (fetched_of space pc) g in
-    (held.1 ≡ g)
-    × (((run guest_bus (fetched_of space pc) g ≡ held) × IsFound held.0)
-    ⊎ ((refused : ReadFault) × (held.0 ≡ Err (Unfetched refused))))
+    → let (found, now) = run held_bus (fetched_of space pc) g in
+    (now ≡ g)
+    × (((run guest_bus (fetched_of space pc) g ≡ (found, now)) × IsFound found)
+    ⊎ ((refused : ReadFault) × (found ≡ Err (Unfetched refused))))
 
 -- ---- a whole attempt
 
@@ -109,9 +110,10 @@ by_guest space p g = run guest_bus (attempt_of space p) g
 
 -- how the held one ends, with the registers then
 abbrev pub held_end : Space → Plain → Guest → End
-held_end space p g = closed (by_held space p g).0
+held_end space p g = let (performed, _) = by_held space p g in closed performed
 
 abbrev pub AttemptsGoOn : Type 0
 AttemptsGoOn = (space : Space) (size : ℕ) (p : Plain) (g : Guest) → HasLongs p → p.pc < 2 ^ 32 → Sound size g
     → let held = by_held space p g in let own = by_guest space p g in
-    (IsAllowed g held own ⊎ IsDenied space (moves_fetched held_bus space p.pc g) g held own) × Sound size held.1
+    (IsAllowed g held own ⊎ IsDenied space (moves_fetched held_bus space p.pc g) g held own)
+    × (let (_, now) = held in Sound size now)

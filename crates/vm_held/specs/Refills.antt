@@ -15,7 +15,7 @@ use Rattle.vm_held.specs.Denied.{by_held, by_guest}
 
 -- the guest from which its attempt begins again
 abbrev pub again_at : Space → Plain → Guest → Option Guest
-again_at space p g = refilled_at g (denied_read (by_held space p g).0)
+again_at space p g = let (performed, _) = by_held space p g in refilled_at g (denied_read performed)
 
 -- Of the guest nothing changes but what is kept, and the shadow, which stays truthful and has each entry that it had.
 pub record IsAhead (size : ℕ) (g h : Guest) : Type 0 where
@@ -38,7 +38,8 @@ pub record BeginsAgain (space : Space) (p : Plain) (g h : Guest) : Type 0 where
   pub attempt : by_guest space p h ≡ by_guest space p g
   pub fetch : (own_fetch space p h ≡ own_fetch space p g)
       ⊎ ((i : Instr) × (n : ℕ) × IsUnprivileged i
-      × ((own_fetch space p g).0 ≡ Ok (i, n)) × ((own_fetch space p h).0 ≡ Ok (i, n)))
+      × (let (found, _) = own_fetch space p g in found ≡ Ok (i, n))
+      × (let (found, _) = own_fetch space p h in found ≡ Ok (i, n)))
 
 abbrev pub AttemptsBeginAgain : Type 0
 AttemptsBeginAgain = (space : Space) (size : ℕ) (p : Plain) (g h : Guest) → HasLongs p → p.pc < 2 ^ 32 → Fine size g

@@ -36,7 +36,7 @@ OnlyRam g h = h ≡ record g { world = record g.world { ram = h.world.ram } }
 
 abbrev pub HeldKeeps : Type 0
 HeldKeeps = (space : Space) (size : ℕ) (c : Call) (g : Guest) → Sound size g → IsLawful space 0 size c
-    → OnlyRam g (held_bus c g).1
+    → let (_, after) = held_bus c g in OnlyRam g after
 
 -- What the shadow allows, the guest's own bus does as the held one.
 abbrev pub GuestIsHeld : Type 0

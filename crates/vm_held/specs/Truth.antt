@@ -29,4 +29,5 @@ HasAddress _ = Unit {0}
 
 -- And so does each call of the guest.
 abbrev pub CallsKeepTruth : Type 0
-CallsKeepTruth = (size : ℕ) (c : Call) (g : Guest) → HasAddress c → Fine size g → Fine size (guest_bus c g).1
+CallsKeepTruth = (size : ℕ) (c : Call) (g : Guest) → HasAddress c → Fine size g
+    → let (_, after) = guest_bus c g in Fine size after

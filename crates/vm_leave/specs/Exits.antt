@@ -95,4 +95,4 @@ IsBelow x e = let f = (frames_of e.cause e.cpu.regs).first in f.at + length f.by
 -- A frame that is written below the guest leaves the board ready.
 abbrev pub FramesLeaveReady : Type 0
 FramesLeaveReady = (x : Site) (b : World) (g : Guest) (e : Exit) → Related x b g → HasRoom b e.cause e.cpu
-    → IsBelow x e → Related x (left e b).1 g
+    → IsBelow x e → let (_, after) = left e b in Related x after g

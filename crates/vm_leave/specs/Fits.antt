@@ -44,5 +44,5 @@ EndFits i (ended.Movem refused) =
 -- An attempt that is not carried out ends so, and its PC is a long.
 abbrev pub EndsFit : Type 0
 EndsFit = (space : Space) (size : ℕ) (p : Plain) (g : Guest) (i : Instr) → HasLongs p → IsLong p.pc → Sound size g
-    → NoOther i (run held_bus (fetched_of space p.pc) g).0
-    → let end = held_end space p g in IsEnd end.0 → EndFits i end.0 × IsLong end.1.pc
+    → let (found, _) = run held_bus (fetched_of space p.pc) g in NoOther i found
+    → let (end, after) = held_end space p g in IsEnd end → EndFits i end × IsLong after.pc

@@ -41,22 +41,24 @@ pub record Mirrored (x : Site) (board guest : Cpu) : Type 0 where
 abbrev pub StepsRetire : Type 0
 StepsRetire = (x : Site) (level own_level : ℕ) (board guest : Cpu) (b : World) (g : Guest) (flow : Bool)
     → Mirrored x board guest → Related x b g → rank level ≤ interrupt_mask board → rank own_level ≤ interrupt_mask guest
-    → let end = held_end x.space (plain_of guest.regs) g in end.0 ≡ ended.Done flow
-    → let native = run board_bus (step_of level board) b in let own = run guest_bus (step_of own_level guest) g in
-    (native.0 ≡ (finish.Went, with_registers end.1 board)) × (own.0 ≡ (finish.Went, with_registers end.1 guest))
-    × Stays x b g native.1 own.1
+    → let (end, after) = held_end x.space (plain_of guest.regs) g in end ≡ ended.Done flow
+    → let (native, u) = run board_bus (step_of level board) b in
+    let (own, h) = run guest_bus (step_of own_level guest) g in
+    (native ≡ (finish.Went, with_registers after board)) × (own ≡ (finish.Went, with_registers after guest))
+    × Stays x b g u h
 
 -- What the board's step comes to where the held guest's attempt ended otherwise.
 pub record LeavesBy (x : Site) (level : ℕ) (i : Instr) (board : Cpu) (b : World) (g : Guest) (end : End) (now : Guest)
     : Type 0 where
   -- the attempt's end on the board: the same, with a fault in user space
   pub ended : Ended
-  pub same : SameEnd (setting x) ended end.0
+  pub same : let (held, _) = end in SameEnd (setting x) ended held
   -- the board before the exception
   pub world : World
   pub stays : Stays x b g world now
   -- it enters the exception of that end, from the same registers, and nothing else changes
-  pub by : let e = exit_of i ended board (with_registers end.1 board) in IsOpen world.mmu → HasRoom world e.cause e.cpu
+  pub by : let (_, after) = end in let e = exit_of i ended board (with_registers after board) in
+      IsOpen world.mmu → HasRoom world e.cause e.cpu
       → run board_bus (step_of level board) b ≡ left e world
 
 -- Else the board's step is the entry of the exception of the same end, of the same instruction. (Where none was
@@ -64,6 +66,6 @@ pub record LeavesBy (x : Site) (level : ℕ) (i : Instr) (board : Cpu) (b : Worl
 abbrev pub StepsLeave : Type 0
 StepsLeave = (x : Site) (level : ℕ) (board guest : Cpu) (b : World) (g : Guest) (i : Instr)
     → Mirrored x board guest → Related x b g → rank level ≤ interrupt_mask board
-    → NoOther i (fetched_by held_bus guest g).0
-    → let end = held_end x.space (plain_of guest.regs) g in IsEnd end.0
-    → LeavesBy x level i board b g end (by_held x.space (plain_of guest.regs) g).1
+    → let (found, _) = fetched_by held_bus guest g in NoOther i found
+    → let (end, after) = held_end x.space (plain_of guest.regs) g in IsEnd end
+    → let (_, now) = by_held x.space (plain_of guest.regs) g in LeavesBy x level i board b g (end, after) now

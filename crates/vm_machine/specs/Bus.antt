@@ -111,7 +111,7 @@ put w r shadow (Some at) =
 -- What an access makes of the shadow: first the kept entry that its fill drops takes its own entry along, and then the
 -- access puts an entry, by the world that its translation leaves.
 abbrev pub accessed : Reference → World → Shadowed → Shadowed
-accessed r w shadow = put (translated rule_k r w).1 r (without_kept (gone w r) shadow) (translated rule_k r w).0
+accessed r w shadow = let (at, after) = translated rule_k r w in put after r (without_kept (gone w r) shadow) at
 
 -- a call that translates nothing leaves the shadow
 abbrev pub shadow_by : Option Reference → World → Shadowed → Shadowed
@@ -129,7 +129,6 @@ shadow_after c w shadow = shadow_by (reference_of c) w shadow
 
 -- The bus of a guest: what it answers, and what it makes of the world, is its machine's by the rule of guests.
 abbrev pub guest_bus : Bus Guest
-guest_bus c g = (
-  (bus_of rule_k c g.world).0,
-  record { world = (bus_of rule_k c g.world).1; shadow = shadow_after c g.world g.shadow },
-)
+guest_bus c g =
+    let (answer, after) = bus_of rule_k c g.world in
+    (answer, record { world = after; shadow = shadow_after c g.world g.shadow })

@@ -13,7 +13,7 @@ use Rattle.mb_model.specs.declared.processor.Cpu.{Cpu}
 use Rattle.mb_processor.specs.declared.Finish.{Finish}
 use Rattle.mb_processor.specs.declared.Finish.TheVariants as finish
 use Rattle.mb_processor.specs.SystemEnds.{with_registers}
-use Rattle.mb_processor.specs.Raise.{Stepped, cause_at}
+use Rattle.mb_processor.specs.Raise.{Stepped, finish_in, cause_at}
 use Rattle.mb_processor.specs.Step.{interrupt_mask, step_of, rank}
 use Rattle.mb_attempts.specs.Attempts.{IsUntraced, attempted_by}
 use Rattle.vm_meaning.specs.Finishes.{finish_trap_of}
@@ -41,7 +41,8 @@ is_going finish.Halted = false
 -- Such a step enters an exception, or halts, exactly where its attempt is not carried out.
 abbrev pub ExitsTell : Type 0 → Type 0
 ExitsTell S = (bus : Bus S) (level : ℕ) (cpu : Cpu) (s : S) → IsNative level cpu
-    → is_going (run bus (step_of level cpu) s).0.0 ≡ not (is_exit (class_by (attempted_by bus cpu s).0))
+    → let (performed, _) = attempted_by bus cpu s in
+    is_going (finish_in (run bus (step_of level cpu) s)) ≡ not (is_exit (class_by performed))
 
 -- ---- vectors and classes
 

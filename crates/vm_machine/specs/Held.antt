@@ -9,7 +9,7 @@ use Rattle.vm_machine.specs.Guests.{Guest, allows}
 
 -- the bus of the guest's machine, whatever its shadow says; the shadow stays
 abbrev pub plain_bus : Bus Guest
-plain_bus c g = ((bus_of rule_k c g.world).0, record g { world = (bus_of rule_k c g.world).1 })
+plain_bus c g = let (answer, after) = bus_of rule_k c g.world in (answer, record g { world = after })
 
 -- the answer where it is allowed; else the fault of the reference, and nothing has changed
 abbrev pub or_refused : {A : Type 0} → Bool → Result A Fault × Guest → Reference → ℕ → Guest → Result A Fault × Guest

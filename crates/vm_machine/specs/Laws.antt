@@ -28,8 +28,8 @@ use Rattle.vm_machine.specs.Rounds.{Hosted, Ends}
 -- What a routine answers and leaves of the machine's world has nothing of the shadow in it;
 abbrev pub RunsAreByRule : Type 0 → Type 0
 RunsAreByRule A = (m : Tree A) (g : Guest)
-    → let r = run guest_bus (routine_of m) g in let own = run (bus_of rule_k) (routine_of m) g.world in
-    (r.0 ≡ own.0) × (r.1.world ≡ own.1)
+    → let (answer, after) = run guest_bus (routine_of m) g in
+    let (own, left) = run (bus_of rule_k) (routine_of m) g.world in (answer ≡ own) × (after.world ≡ left)
 
 -- so a step of the guest is its machine's step,
 abbrev pub StepsAreByRule : Type 0
@@ -50,7 +50,7 @@ GuestsRunAlone = (contents : Contents) (script : Entries) (size n : ℕ)
 -- An access that the shadow allows searches nothing, and changes neither the world nor the shadow: so a step that is
 -- retired puts nothing.
 pub record IsStill (g : Guest) (r : Reference) : Type 0 where
-  pub world : (translated rule_k r g.world).1 ≡ g.world
+  pub world : let (_, after) = translated rule_k r g.world in after ≡ g.world
   pub shadow : accessed r g.world g.shadow ≡ g.shadow
 
 abbrev pub AllowedAccessesAreStill : Type 0

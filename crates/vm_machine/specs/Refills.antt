@@ -57,7 +57,8 @@ can_refill g r = not r.write && shows_nothing g r (translated rule_k r g.world)
 
 -- a guest once an access was carried out: it is filled and put
 abbrev pub after_access : Reference → Guest → Guest
-after_access r g = record { world = (translated rule_k r g.world).1; shadow = accessed r g.world g.shadow }
+after_access r g =
+    let (_, after) = translated rule_k r g.world in record { world = after; shadow = accessed r g.world g.shadow }
 
 -- once this read was, where there is one that is refilled
 abbrev pub refilled_at : Guest → Option Reference → Option Guest
@@ -67,7 +68,8 @@ refilled_at g (Some r) = if can_refill g r then Some (after_access r g) else Non
 -- The guest from which the attempt that it is about to make begins again.
 unfoldable pub begun_again : Cpu → Guest → Option Guest
 begun_again cpu g =
-    refilled_at g (denied_read (run held_bus (attempt_of (space_of cpu) (plain_of cpu.regs)) g).0)
+    let (performed, _) = run held_bus (attempt_of (space_of cpu) (plain_of cpu.regs)) g in
+    refilled_at g (denied_read performed)
 
 -- a guest once its attempt has begun for the last time, and how often it began again
 pub record Refilled : Type 0 where

@@ -70,7 +70,7 @@ TrapsAreFinished S = (i : Instr) (vector : ℕ) (before : Plain) (cpu : Cpu) →
 pub record Begins {S : Type 0} (bus : Bus S) (level : ℕ) (cpu : Cpu) (s : S) (i : Instr) : Type 0 where
   pub masked : rank level ≤ interrupt_mask cpu
   pub untraced : IsUntraced cpu
-  pub found : NoOther i (fetched_by bus cpu s).0
+  pub found : let (found, _) = fetched_by bus cpu s in NoOther i found
   pub attempted : is_attempted i cpu ≡ true
 
 -- Where its attempt goes on with pieces to be written, from some state, the step goes on by their finish.

@@ -42,12 +42,12 @@ Turns = List (ℕ × ℕ)
 -- They are taken one after the other.
 abbrev pub TakeTurns : Turns → Stage → Stage → Type 0
 TakeTurns [] s t = s ≡ t
-TakeTurns (turn ∷ turns) s t = (u : Stage) × TakesTurn turn.0 turn.1 s u × TakeTurns turns u t
+TakeTurns ((i, n) ∷ turns) s t = (u : Stage) × TakesTurn i n s u × TakeTurns turns u t
 
 -- the steps that these turns give a guest
 abbrev pub steps_for : ℕ → Turns → ℕ
 steps_for j [] = 0
-steps_for j (turn ∷ turns) = (if turn.0 == j then turn.1 else 0) + steps_for j turns
+steps_for j ((i, n) ∷ turns) = (if i == j then n else 0) + steps_for j turns
 
 -- A guest's machine, shadow and counts are those of one turn of so many steps.
 abbrev pub HasTaken : ℕ → ℕ → Stage → Stage → Type 0

@@ -40,7 +40,7 @@ guest_processed script b = run guest_bus (step_of (asked_of script b.machine) b.
 
 -- one step later, with what that part left
 abbrev pub guest_later : Machine → Stepped × Guest → Guested
-guest_later b r = record { machine = one_later b r.0.0 r.0.1 r.1.world; shadow = r.1.shadow }
+guest_later b ((ended, cpu), after) = record { machine = one_later b ended cpu after.world; shadow = after.shadow }
 
 -- Machine and shadow one step later.
 unfoldable pub guest_stepped : Entries → Guested → Guested

@@ -45,7 +45,7 @@ abbrev pub FreeStep : Entries → Machine → Machine → Type 0
 FreeStep script m after =
     let b = begun script m in
     (r : Stepped) × (w : World) × Runs FreeCall (step_of (asked_of script b) b.cpu) b.world r w
-    × (after ≡ one_later b r.0 r.1 w)
+    × (let (ended, cpu) = r in after ≡ one_later b ended cpu w)
 
 -- so many steps, or fewer where the machine is halted or off
 abbrev pub FreeRun : Entries → ℕ → Machine → Machine → Type 0

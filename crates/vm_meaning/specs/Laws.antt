@@ -81,4 +81,4 @@ Searches entry w r = settled rule_free w.mmu (holding entry w).kept r ≡ Unsett
 abbrev pub FreeBoardsFill : Type 0
 FreeBoardsFill = (c : Call) (w : World) (entry : Option Kept) (k : Kept)
     → IfSome (reference_of c) (λ r. Searches entry w r → IsFound w k r
-    → IsKept k (bus_of rule_free c (holding entry w)).1.kept)
+    → let (_, after) = bus_of rule_free c (holding entry w) in IsKept k after.kept)

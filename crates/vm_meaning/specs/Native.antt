@@ -23,7 +23,7 @@ nothing_counted = record { retired = 0; exceptions = 0; trail = 0 }
 
 -- A step by the board's rule, at which nothing arrives. The board's own count of steps stays.
 unfoldable pub user_step : Machine → Finish × Machine
-user_step m = let s = stepping rule_a [] m in (s.0, record s.1 { steps = m.steps })
+user_step m = let (ended, after) = stepping rule_a [] m in (ended, record after { steps = m.steps })
 
 -- ---- a run
 
@@ -66,10 +66,10 @@ goes_on Gone = false
 
 -- the run with one more step
 abbrev pub ran_by : Finish × Machine → Ran → Ran
-ran_by s r = let before = plain_of r.machine.cpu.regs in record {
-  end = ended_by s.0 s.1;
-  machine = s.1;
-  native = with_step s.0 before s.1 r.native;
+ran_by (ended, after) r = let before = plain_of r.machine.cpu.regs in record {
+  end = ended_by ended after;
+  machine = after;
+  native = with_step ended before after r.native;
   before = before;
 }
 

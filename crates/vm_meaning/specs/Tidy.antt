@@ -26,7 +26,8 @@ searching_bus c w = bus_of rule_free c (holding None w)
 abbrev pub searching_step : Entries → Machine → Machine
 searching_step script m =
     let b = begun script m in
-    let r = run searching_bus (step_of (asked_of script b) b.cpu) b.world in one_later b r.0.0 r.0.1 r.1
+    let (stepped, after) = run searching_bus (step_of (asked_of script b) b.cpu) b.world in
+    let (ended, cpu) = stepped in one_later b ended cpu after
 
 -- The machine after so many steps, or fewer where it is halted or off.
 unfoldable pub searching_run : Entries → ℕ → Machine → Machine
@@ -92,5 +93,6 @@ pub record SearchesOut (w : World) (k : Kept) (r : Reference) : Type 0 where
 -- After a call that has been searched out which was before, unless a flush or PTEST has covered it, and what the call
 -- itself searches out.
 abbrev pub PastIsWhatWasSearchedOut : Type 0
-PastIsWhatWasSearchedOut = (c : Call) (w : World) (k : Kept) → IsKept k (searching_bus c w).1.kept
+PastIsWhatWasSearchedOut = (c : Call) (w : World) (k : Kept) → let (_, after) = searching_bus c w in
+    IsKept k after.kept
     ↔ ((IsKept k w.kept × (drops c w k ≡ false)) ⊎ IsSomeAnd (reference_of c) (SearchesOut w k))

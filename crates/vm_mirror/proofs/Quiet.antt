@@ -15,5 +15,5 @@ pub record Quiet (x : Site) (b after : World) : Type 0 where
   pub kept : AllAgree (mapping x b.ram) after.kept
 
 pub record Translates (x : Site) (b : World) (want : Option ℕ) (r : Option ℕ × World) : Type 0 where
-  pub answer : r.0 ≡ want
-  pub quiet : Quiet x b r.1
+  pub answer : let (at, _) = r in at ≡ want
+  pub quiet : let (_, after) = r in Quiet x b after

@@ -32,8 +32,8 @@ pub record Stays (x : Site) (b : World) (g : Guest) (u : World) (h : Guest) : Ty
 -- An attempt ends alike on the board and at the held guest, and changes the guest's RAM alone.
 abbrev pub AttemptsStay : Type 0
 AttemptsStay = (x : Site) (p : Plain) (b : World) (g : Guest) → HasLongs p → p.pc < 2 ^ 32 → Related x b g
-    → SamePerformed (setting x) (on_the_board p b).0 (by_held x.space p g).0
-    × Stays x b g (on_the_board p b).1 (by_held x.space p g).1
+    → let (performed, u) = on_the_board p b in let (held, h) = by_held x.space p g in
+    SamePerformed (setting x) performed held × Stays x b g u h
 
 -- the same instruction, or why there is none
 abbrev pub SameFound : Setting → Found → Found → Type 0
@@ -42,11 +42,13 @@ SameFound x = Results Equal (λ e f. SameEnd x (end_without e) (end_without f))
 -- The board fetches what the held guest fetches: the same instruction, or the same end.
 abbrev pub FetchesStay : Type 0
 FetchesStay = (x : Site) (pc : ℕ) (b : World) (g : Guest) → pc < 2 ^ 32 → Related x b g
-    → let s = run board_bus (fetched_of User pc) b in let k = run held_bus (fetched_of x.space pc) g in
-    SameFound (setting x) s.0 k.0 × Stays x b g s.1 k.1
+    → let (found, u) = run board_bus (fetched_of User pc) b in
+    let (held, h) = run held_bus (fetched_of x.space pc) g in
+    SameFound (setting x) found held × Stays x b g u h
 
 -- And carries it out as the held guest does.
 abbrev pub RowsStay : Type 0
 RowsStay = (x : Site) (i : Instr) (at : ℕ) (p : Plain) (b : World) (g : Guest) → IsInstr i → HasLongs p → Related x b g
-    → let s = run board_bus (perform_of i at User p) b in let k = run held_bus (perform_of i at x.space p) g in
-    SamePerformed (setting x) s.0 k.0 × Stays x b g s.1 k.1
+    → let (performed, u) = run board_bus (perform_of i at User p) b in
+    let (held, h) = run held_bus (perform_of i at x.space p) g in
+    SamePerformed (setting x) performed held × Stays x b g u h

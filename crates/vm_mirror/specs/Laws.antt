@@ -22,8 +22,8 @@ lawful x c b = IsLawful User x.base x.size c
 abbrev pub MirrorsCalls : Type 0
 MirrorsCalls = (x : Site) (d : Call) (b : World) (g : Guest) → Related x b g → IsThere (setting x) d
     → lawful x (call_here (setting x) d) b
-    → like (setting x) d (board_bus (call_here (setting x) d) b).0 (held_bus d g).0
-    × Related x (board_bus (call_here (setting x) d) b).1 (held_bus d g).1
+    → let (answer, after) = board_bus (call_here (setting x) d) b in let (held, later) = held_bus d g in
+    like (setting x) d answer held × Related x after later
 
 abbrev pub always : {S : Type 0} → Call → S → Bool
 always c s = true
@@ -41,4 +41,5 @@ pub record Outside (x : Site) (b after : World) : Type 0 where
 
 -- Each lawful call touches nothing else of the board.
 abbrev pub StaysInside : Type 0
-StaysInside = (x : Site) (c : Call) (b : World) → Serves x b → lawful x c b → Outside x b (board_bus c b).1
+StaysInside = (x : Site) (c : Call) (b : World) → Serves x b → lawful x c b
+    → let (_, after) = board_bus c b in Outside x b after

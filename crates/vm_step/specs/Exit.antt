@@ -45,40 +45,45 @@ left_guest x ram g = record g { world = record g.world { ram = part ram x.base x
 
 -- The board entered this vector, which tells the class of the step, and has a frame on its stack. The guest's own step
 -- is the rest that the frame names, from the guest as the board has left it. And the board is related to that.
-pub record Leaves (x : Site) (script : Entries) (m : Machine) (g : Guested) (s : Finish × Machine) : Type 0 where
+pub record LeavesAfter (x : Site) (script : Entries) (m : Machine) (g : Guested) (ended : Finish) (after : Machine)
+    : Type 0 where
   pub vector : ℕ
-  pub entered : s.0 ≡ finish.Entered vector
+  pub entered : ended ≡ finish.Entered vector
   pub class : class_of_vector vector ≡ step_class_at_first script g
-  pub running : takes_steps s.1.state ≡ true
+  pub running : takes_steps after.state ≡ true
   pub frame : Frame
-  pub stands : BeginsWith (drop s.1.cpu.regs.isp s.1.world.ram) frame
+  pub stands : BeginsWith (drop after.cpu.regs.isp after.world.ram) frame
   -- RAM has 60 bytes there, and whoever reads so many, or more, reads this frame: each of its fields fits
-  pub room : s.1.cpu.regs.isp + LONGEST ≤ length s.1.world.ram
+  pub room : after.cpu.regs.isp + LONGEST ≤ length after.world.ram
   pub fits : IsFrame frame
-  pub read_back : (n : ℕ) → LONGEST ≤ n → let isp = s.1.cpu.regs.isp in
-      frame_in (slice_range s.1.world.ram isp (isp + n)) ≡ Some frame
+  pub read_back : (n : ℕ) → LONGEST ≤ n → let isp = after.cpu.regs.isp in
+      frame_in (slice_range after.world.ram isp (isp + n)) ≡ Some frame
   -- what it leaves may be asked of buses
   pub lawful : LeavesLawful (frame_access frame)
   -- a processor has seven address registers beside its stacks
-  pub rest : length s.1.cpu.regs.a ≡ 7 → let b = guest_begun script g in let h =
-      left_guest x s.1.world.ram (world_of b) in
+  pub rest : length after.cpu.regs.a ≡ 7 → let b = guest_begun script g in let h =
+      left_guest x after.world.ram (world_of b) in
       guest_processed script b ≡ run guest_bus (rest_by_frame vector (frame_access frame) (asked_of script b.machine)
-      b.machine.cpu (handed_by s.1.cpu.regs frame)) h
+      b.machine.cpu (handed_by after.cpu.regs frame)) h
   -- where the frame tells a read, nothing of the guest has changed, and it begins again where that read is refilled
   pub still : (r : Reference) → read_by_frame x.space frame ≡ Some r
-      → left_guest x s.1.world.ram (world_of (guest_begun script g)) ≡ world_of (guest_begun script g)
+      → left_guest x after.world.ram (world_of (guest_begun script g)) ≡ world_of (guest_begun script g)
   pub again : let b = guest_begun script g in
-      refilled_at (left_guest x s.1.world.ram (world_of b)) (read_by_frame x.space frame)
+      refilled_at (left_guest x after.world.ram (world_of b)) (read_by_frame x.space frame)
       ≡ begun_again b.machine.cpu (world_of b)
-  pub related : Related x s.1.world (left_guest x s.1.world.ram (world_of (guest_begun script g)))
+  pub related : Related x after.world (left_guest x after.world.ram (world_of (guest_begun script g)))
   -- it translates as before, and its devices are on
-  pub mmu : s.1.world.mmu ≡ m.world.mmu
-  pub on : s.1.world.devices.off ≡ false
+  pub mmu : after.world.mmu ≡ m.world.mmu
+  pub on : after.world.devices.off ≡ false
   -- of the board's memory nothing has changed but the guest's RAM and what is below the top of the stack
-  pub count : length s.1.world.ram ≡ length m.world.ram
+  pub count : length after.world.ram ≡ length m.world.ram
   pub between : (n : ℕ) → m.cpu.regs.isp ≤ n → n ≤ x.base
-      → take (x.base - n) (drop n s.1.world.ram) ≡ take (x.base - n) (drop n m.world.ram)
-  pub above : drop (x.base + x.size) s.1.world.ram ≡ drop (x.base + x.size) m.world.ram
+      → take (x.base - n) (drop n after.world.ram) ≡ take (x.base - n) (drop n m.world.ram)
+  pub above : drop (x.base + x.size) after.world.ram ≡ drop (x.base + x.size) m.world.ram
+
+-- the same of what a step came to
+abbrev pub Leaves : Site → Entries → Machine → Guested → Finish × Machine → Type 0
+Leaves x script m g (ended, after) = LeavesAfter x script m g ended after
 
 abbrev pub IsLeft : Class → Type 0
 IsLeft Privileged = Unit {0}

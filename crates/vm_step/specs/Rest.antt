@@ -22,7 +22,7 @@ use Rattle.vm_step.specs.Retire.{HasRegisters}
 abbrev pub StepsGoOn : Type 0
 StepsGoOn = (size level : ℕ) (guest : Cpu) (g : Guest) (i : Instr) → IsUntraced guest → length guest.regs.a ≡ 7
     → HasRegisters (plain_of guest.regs) → Sound size g → rank level ≤ interrupt_mask guest
-    → NoOther i (fetched_by held_bus guest g).0
-    → let k = held_end (space_of guest) (plain_of guest.regs) g in (class_of_end k.0 ≡ Retired → ⊥)
-    → run guest_bus (step_of level guest) g
-    ≡ run guest_bus (rest_of level guest i k.0 k.1) (by_held (space_of guest) (plain_of guest.regs) g).1
+    → let (found, _) = fetched_by held_bus guest g in NoOther i found
+    → let (end, after) = held_end (space_of guest) (plain_of guest.regs) g in (class_of_end end ≡ Retired → ⊥)
+    → let (_, now) = by_held (space_of guest) (plain_of guest.regs) g in
+    run guest_bus (step_of level guest) g ≡ run guest_bus (rest_of level guest i end after) now

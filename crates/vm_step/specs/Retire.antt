@@ -44,26 +44,31 @@ pub record HasRegisters (p : Plain) : Type 0 where
 -- The class of a step, by how the held guest's attempt ends.
 abbrev pub ClassesAreHeld : Type 0
 ClassesAreHeld = (space : Space) (size : ℕ) (p : Plain) (g : Guest) → HasRegisters p → Sound size g
-    → class_at (run_until may guest_bus (attempt_of space p) g) ≡ class_of_end (held_end space p g).0
+    → let (end, _) = held_end space p g in
+    class_at (run_until may guest_bus (attempt_of space p) g) ≡ class_of_end end
 
 -- What becomes of board and guest in a step that is retired: the board enters nothing, and is ready for the guest as it
 -- is one step later. Of the guest nothing but registers, RAM and the devices that its step began with has changed, and
 -- outside its RAM nothing of the board but its devices.
-pub record Retires (x : Site) (script : Entries) (m : Machine) (g : Guested) (s : Finish × Machine)
+pub record RetiresTo (x : Site) (script : Entries) (m : Machine) (g : Guested) (ended : Finish) (after : Machine)
     (t : Guested) : Type 0 where
-  pub step : s.0 ≡ finish.Went
-  pub running : takes_steps s.1.state ≡ true
+  pub step : ended ≡ finish.Went
+  pub running : takes_steps after.state ≡ true
   pub alone : takes_steps t.machine.state ≡ true
-  pub boarded : Boarded x s.1 t
-  pub from : IsFrom m.cpu s.1.cpu
+  pub boarded : Boarded x after t
+  pub from : IsFrom m.cpu after.cpu
   pub only : OnlyRam (world_of (guest_begun script g)) (world_of t)
-  pub outside : Outside x (begun [] m).world s.1.world
+  pub outside : Outside x (begun [] m).world after.world
   pub goes : IsUntraced t.machine.cpu
   pub mask : interrupt_mask t.machine.cpu ≡ interrupt_mask g.machine.cpu
   pub steps : t.machine.steps ≡ g.machine.steps + 1
   pub state : t.machine.state ≡ Running
   pub registers : Plain
   pub set : t.machine.cpu ≡ with_registers registers g.machine.cpu
+
+-- the same of what a step came to
+abbrev pub Retires : Site → Entries → Machine → Guested → Finish × Machine → Guested → Type 0
+Retires x script m g (ended, after) t = RetiresTo x script m g ended after t
 
 abbrev pub RetiredSteps : Type 0
 RetiredSteps = (x : Site) (script : Entries) (m : Machine) (g : Guested) → Boarded x m g

@@ -54,7 +54,7 @@ abbrev pub passes_along : {S A : Type 0} → (Call → S → Bool) → Bus S →
 passes_along test bus (Return a) s = true
 passes_along test bus (Ask c) s = test c s
 passes_along test bus (Then m f) s =
-    passes_along test bus m s && passes_along test bus (f ((run bus m s).0)) ((run bus m s).1)
+    passes_along test bus m s && (let (answer, after) = run bus m s in passes_along test bus (f answer) after)
 
 abbrev pub is_tidy_step : Entries → Machine → Bool
 is_tidy_step script m =

@@ -16,7 +16,7 @@ use Rattle.vm_tidy.specs.Runs.{AlongRun}
 
 -- The entry leads where a search leads, or refuses where it does, and the search changes no byte.
 pub record LeadsThere (r : Reference) (w : World) (k : Kept) : Type 0 where
-  pub place : through k r ≡ (searched rule_free (holding None w) r).0
+  pub place : let (found, _) = searched rule_free (holding None w) r in through k r ≡ found
   pub still : (search_for w r).ram ≡ w.ram
 
 -- Where the tables decide, each entry that counts leads there.
@@ -29,8 +29,10 @@ IsOneWayCall c w = OneWayReference (reference_of c) w
 
 -- The same place and the same memory with this entry taken into the class, or none, as where none is.
 pub record SameByAny (r : Reference) (w : World) (entry : Option Kept) : Type 0 where
-  pub place : (translated rule_free r (holding entry w)).0 ≡ (translated rule_free r (holding None w)).0
-  pub memory : (translated rule_free r (holding entry w)).1.ram ≡ (translated rule_free r (holding None w)).1.ram
+  pub place : let (used, _) = translated rule_free r (holding entry w) in
+      let (found, _) = translated rule_free r (holding None w) in used ≡ found
+  pub memory : let (_, after) = translated rule_free r (holding entry w) in
+      let (_, alone) = translated rule_free r (holding None w) in after.ram ≡ alone.ram
 
 -- ---- a run
 
