@@ -26,7 +26,7 @@ stopped first stop.Illegal = no_row first
 -- a first word, and the words behind it
 unfoldable pub decode_from : ℕ → List ℕ → Decoded
 decode_from first rest = elim (row_at (opcode_of first) rest) [
-  | Ok x ↦ Whole x.0 (1 + (length rest - length x.1))
+  | Ok (i, behind) ↦ Whole i (1 + (length rest - length behind))
   | Err e ↦ stopped first e
 ]
 

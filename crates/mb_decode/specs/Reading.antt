@@ -1,6 +1,7 @@
 -- Reading words from left to right.
 use Rattle.std.specs.Prelude.{◌≡◌, ℕ, ◌+◌, ◌*◌, ◌/◌, ◌%◌, ◌^◌, Bool, ◌==◌, List, [], ◌∷◌}
 use Rattle.std.specs.Prelude.{Result, Ok, Err, Some, None, if◌then◌else◌}
+use denote.Ref.{Bor}
 use Rattle.mb_instr.specs.declared.size.Size.{Size}
 use Rattle.mb_instr.specs.declared.size.Size.TheVariants as size
 use Rattle.mb_instr.specs.declared.operand.Ea.{Ea}
@@ -25,14 +26,14 @@ use Rattle.mb_decode.specs.declared.reading.Stop.TheVariants.{More, Illegal}
 abbrev pub Reader : Type 0 → Type 0
 Reader A = List ℕ → Result (A × List ℕ) Stop
 
--- what a function returned, seen by view, is what a reader gives
-abbrev pub Gives : {X Y : Type 0} → (X → Y) → Result X Stop → Result Y Stop → Type 0
-Gives view (Ok x) read = read ≡ Ok (view x)
-Gives view (Err e) read = read ≡ Err e
+-- what a function returned, the value and the words behind it, is what a reader gives
+abbrev pub Gives : {A : Type 0} → Result (A × Bor (List ℕ)) Stop → Result (A × List ℕ) Stop → Type 0
+Gives (Ok (value, behind)) read = read ≡ Ok (value, behind.now)
+Gives (Err stop) read = read ≡ Err stop
 
 -- a reader, and then the reader that its value chooses
 unfoldable pub reads_then : {A B : Type 0} → Reader A → (A → Reader B) → Reader B
-reads_then r f ws = elim (r ws) [ Ok x ↦ f x.0 x.1 | Err e ↦ Err e ]
+reads_then r f ws = elim (r ws) [ Ok (value, behind) ↦ f value behind | Err e ↦ Err e ]
 
 infixl 10 ◌>>=◌
 abbrev pub ◌>>=◌ : {A B : Type 0} → Reader A → (A → Reader B) → Reader B

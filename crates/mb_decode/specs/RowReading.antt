@@ -1,4 +1,5 @@
--- Reading each row of the table.
+-- Reading each row of the table. Above a reader stands the first word in bits: mmmrrr is an operand's mode and
+-- register, s its size, and k says which of the rows or forms it is.
 use Rattle.std.specs.Prelude.{ℕ, ◌+◌, ◌*◌, ◌/◌, ◌%◌, ◌^◌, Bool, true, false, ◌&&◌, ◌||◌, ◌==◌, nat_lt}
 use Rattle.std.specs.Prelude.{Some, None, if◌then◌else◌}
 use Rattle.mb_instr.specs.declared.size.Size.{Size}
@@ -43,9 +44,11 @@ is_immediate_field p = (p.mode == 7) && (p.lower == 4)
 
 -- ---- line 0: immediates, bits, CAS and CMP2
 
+-- 0000 ddd1 ks00 1aaa
 unfoldable pub movep_0 : Opcode → Reader Instr
 movep_0 p = made word_at (λ w. Move (move.Movep p.upper (nat_lt 1 p.size) (size_of_bit (p.size % 2)) p.lower w))
 
+-- 0000 ddd1 kkmm mrrr
 unfoldable pub bit_register_0 : Opcode → Reader Instr
 bit_register_0 p =
     made (ea_at (bit_class (bit_kind p.size)) size.Byte p) (λ ea. Arith (arith.BitReg p.upper (bit_kind p.size) ea))
@@ -58,23 +61,27 @@ abbrev pub bounds_of : Size → ℕ → Ea → Instr
 bounds_of s w ea = if w / 2 ^ 11 % 2 == 0 then Arith (arith.Cmp2 s ea w) else Flow (flow.Chk2 s ea w)
 
 -- size 3: CMP2 and CHK2 have their size in bits 10 and 9, CAS and CAS2 too
+-- 0000 0ss0 11mm mrrr
 unfoldable pub bounds_0 : Opcode → Reader Instr
-bounds_0 p = by_size p.upper (λ s. made (word_ea_at rule.RegisterAndBit Control s p) (λ x. bounds_of s x.0 x.1))
+bounds_0 p = by_size p.upper (λ s. made (word_ea_at rule.RegisterAndBit Control s p) (λ (w, ea). bounds_of s w ea))
 
 -- the size that CAS has in bits 10 and 9
 abbrev pub cas_size : ℕ → Size
 cas_size upper = if upper == 5 then size.Byte else if upper == 6 then size.Word else size.Long
 
+-- 0000 1ss0 1111 1100
 unfoldable pub cas2_0 : Size → Reader Instr
 cas2_0 s = when_legal (not_byte s) (do
   w ← ruled_at rule.SwapPair
   v ← ruled_at rule.SwapPair
   give (Arith (arith.Cas2 s w v)))
 
+-- 0000 1ss0 11mm mrrr
 unfoldable pub cas_0 : Opcode → Reader Instr
 cas_0 p =
     if is_immediate_field p then cas2_0 (cas_size p.upper) else
-    made (word_ea_at rule.Swap MemoryAlterable (cas_size p.upper) p) (λ x. Arith (arith.Cas (cas_size p.upper) x.1 x.0))
+    made (word_ea_at rule.Swap MemoryAlterable (cas_size p.upper) p)
+    (λ (w, ea). Arith (arith.Cas (cas_size p.upper) ea w))
 
 -- the rows that bits 11 to 9 tell apart
 abbrev pub immediate_of : ℕ → Size → ℕ → Ea → Instr
@@ -95,29 +102,34 @@ to_sr_of n w =
     if n == 1 then System (system.AndiSr w) else System (system.EoriSr w)
 
 -- ORI, ANDI and EORI to CCR and to SR stand where the others would have an immediate operand
+-- 0000 kkk0 0s11 1100
 unfoldable pub status_0 : Opcode → Reader Instr
 status_0 p =
     if (p.upper == 2) || (p.upper == 3) then illegal else
     if p.size == 0 then made word_at (λ w. to_ccr_of p.upper w) else
     if p.size == 1 then made word_at (λ w. to_sr_of p.upper w) else illegal
 
+-- 0000 kkk0 ssmm mrrr
 unfoldable pub immediate_0 : Opcode → Reader Instr
 immediate_0 p =
     if is_immediate_field p then status_0 p else
-    made (immediate_ea_at DataAlterable p) (λ x. immediate_of p.upper x.0 x.1 x.2)
+    made (immediate_ea_at DataAlterable p) (λ (s, v, ea). immediate_of p.upper s v ea)
 
+-- 0000 1100 ssmm mrrr
 unfoldable pub cmpi_0 : Opcode → Reader Instr
-cmpi_0 p = made (immediate_ea_at DataAlterableOrPc p) (λ x. Arith (arith.Cmpi x.0 x.2 x.1))
+cmpi_0 p = made (immediate_ea_at DataAlterableOrPc p) (λ (s, v, ea). Arith (arith.Cmpi s ea v))
 
+-- 0000 1110 ssmm mrrr
 unfoldable pub moves_0 : Opcode → Reader Instr
 moves_0 p =
     by_size p.size
-    (λ s. made (word_ea_at rule.RegisterAndBit MemoryAlterable s p) (λ x. System (system.Moves s x.1 x.0)))
+    (λ s. made (word_ea_at rule.RegisterAndBit MemoryAlterable s p) (λ (w, ea). System (system.Moves s ea w)))
 
+-- 0000 1000 kkmm mrrr
 unfoldable pub bit_0 : Opcode → Reader Instr
 bit_0 p =
     made (word_ea_at rule.Any (bit_class_immediate (bit_kind p.size)) size.Byte p)
-    (λ x. Arith (arith.BitImm (bit_kind p.size) x.1 x.0))
+    (λ (w, ea). Arith (arith.BitImm (bit_kind p.size) ea w))
 
 unfoldable pub even_0 : Opcode → Reader Instr
 even_0 p =
@@ -139,12 +151,14 @@ abbrev pub allows_move : Size → Opcode → Bool
 allows_move s p = allows All s p.mode p.lower && allows DataAlterable s (move_mode p) p.upper
 
 -- the source's words stand before the destination's
+-- 00ss RRRM MMmm mrrr
 unfoldable pub move_at : Size → Opcode → Reader Instr
 move_at s p = when_legal (allows_move s p) (do
   source ← operand_at s p.mode p.lower
   destination ← operand_at s (move_mode p) p.upper
   give (Move (move.Move s destination source)))
 
+-- 00ss aaa0 01mm mrrr
 unfoldable pub movea_at : Size → Opcode → Reader Instr
 movea_at s p = when_legal (not_byte s) (made (ea_at All s p) (λ ea. Move (move.Movea s p.upper ea)))
 
@@ -160,8 +174,9 @@ unary_of n s ea =
     if n == 1 then Arith (arith.Clr s ea) else
     if n == 2 then Arith (arith.Neg s ea) else Arith (arith.Not s ea)
 
+-- 0100 0kk0 ssmm mrrr
 unfoldable pub unary_4 : Opcode → Reader Instr
-unary_4 p = made (sized_at DataAlterable p) (λ x. unary_of p.upper x.0 x.1)
+unary_4 p = made (sized_at DataAlterable p) (λ (s, ea). unary_of p.upper s ea)
 
 -- MOVE from SR, from CCR, to CCR, to SR
 abbrev pub status_class : ℕ → OperandClass
@@ -173,14 +188,17 @@ status_of n ea =
     if n == 1 then Move (move.FromCcr ea) else
     if n == 2 then Move (move.ToCcr ea) else System (system.ToSr ea)
 
+-- 0100 0kk0 11mm mrrr
 unfoldable pub status_4 : Opcode → Reader Instr
 status_4 p = made (ea_at (status_class p.upper) size.Word p) (λ ea. status_of p.upper ea)
 
+-- 0100 1000 00mm mrrr; LINK.L is 0100 1000 0000 1aaa
 unfoldable pub nbcd_4 : Opcode → Reader Instr
 nbcd_4 p =
     if p.mode == 1 then made long_at (λ d. Move (move.LinkL p.lower d)) else
     made (ea_at DataAlterable size.Byte p) (λ ea. Arith (arith.Nbcd ea))
 
+-- 0100 1000 01mm mrrr; SWAP is 0100 1000 0100 0ddd
 unfoldable pub pea_4 : Opcode → Reader Instr
 pea_4 p =
     if p.mode == 0 then give (Move (move.Swap p.lower)) else
@@ -190,36 +208,42 @@ pea_4 p =
 abbrev pub extend_of : ℕ → ℕ → Instr
 extend_of n d = if n == 2 then Arith (arith.ExtW d) else Arith (arith.ExtL d)
 
+-- 0100 1000 1smm mrrr; EXT is 0100 1000 1s00 0ddd
 unfoldable pub movem_store_4 : Opcode → Reader Instr
 movem_store_4 p =
     if p.mode == 0 then give (extend_of p.size p.lower) else
     made (word_ea_at rule.Any StoreList (size_of_bit (p.size % 2)) p)
-    (λ x. Move (move.MovemStore (size_of_bit (p.size % 2)) x.1 x.0))
+    (λ (w, ea). Move (move.MovemStore (size_of_bit (p.size % 2)) ea w))
 
 -- TST of the fourth size is TAS
+-- 0100 1010 ssmm mrrr
 unfoldable pub tst_4 : Opcode → Reader Instr
 tst_4 p =
     if p.size == 3 then made (ea_at DataAlterable size.Byte p) (λ ea. Arith (arith.Tas ea)) else
-    made (sized_at All p) (λ x. Arith (arith.Tst x.0 x.1))
+    made (sized_at All p) (λ (s, ea). Arith (arith.Tst s ea))
 
 abbrev pub long_pair_of : ℕ → ℕ → Ea → Instr
 long_pair_of n w ea = if n == 0 then Arith (arith.MulL ea w) else Arith (arith.DivL ea w)
 
+-- 0100 1100 0kmm mrrr
 unfoldable pub long_pair_4 : Opcode → Reader Instr
-long_pair_4 p = made (word_ea_at rule.LongPair Data size.Long p) (λ x. long_pair_of p.size x.0 x.1)
+long_pair_4 p = made (word_ea_at rule.LongPair Data size.Long p) (λ (w, ea). long_pair_of p.size w ea)
 
+-- 0100 1100 1smm mrrr
 unfoldable pub movem_load_4 : Opcode → Reader Instr
 movem_load_4 p =
     made (word_ea_at rule.Any LoadList (size_of_bit (p.size % 2)) p)
-    (λ x. Move (move.MovemLoad (size_of_bit (p.size % 2)) x.1 x.0))
+    (λ (w, ea). Move (move.MovemLoad (size_of_bit (p.size % 2)) ea w))
 
 abbrev pub jump_of : ℕ → Ea → Instr
 jump_of n ea = if n == 2 then Flow (flow.Jsr ea) else Flow (flow.Jmp ea)
 
+-- 0100 1110 1kmm mrrr
 unfoldable pub jump_4 : Opcode → Reader Instr
 jump_4 p = made (ea_at Control size.Long p) (λ ea. jump_of p.size ea)
 
 -- $4E70 to $4E77
+-- 0100 1110 0111 0kkk
 unfoldable pub single_4 : Opcode → Reader Instr
 single_4 p =
     if p.lower == 0 then give (System system.Reset) else
@@ -231,12 +255,14 @@ single_4 p =
     if p.lower == 6 then give (Flow flow.Trapv) else give (Flow flow.Rtr)
 
 -- $4E78 to $4E7F
+-- 0100 1110 0111 101k
 unfoldable pub movec_4 : Opcode → Reader Instr
 movec_4 p =
     when_legal ((p.lower == 2) || (p.lower == 3))
     (made (ruled_at rule.Control) (λ w. System (system.Movec (p.lower == 3) w)))
 
 -- $4E40 to $4E7F
+-- 0100 1110 01kk krrr
 unfoldable pub system_4 : Opcode → Reader Instr
 system_4 p =
     if nat_lt p.mode 2 then give (Flow (flow.Trap (p.mode * 8 + p.lower))) else
@@ -254,6 +280,7 @@ even_4 p =
     if nat_lt 1 p.size then jump_4 p else if p.size == 1 then system_4 p else illegal
 
 -- EXTB stands where LEA has no operand
+-- 0100 aaa1 11mm mrrr; EXTB is 0100 1001 1100 0ddd
 unfoldable pub lea_4 : Opcode → Reader Instr
 lea_4 p =
     if (p.upper == 4) && (p.mode == 0) then give (Arith (arith.ExtbL p.lower)) else
@@ -263,6 +290,7 @@ lea_4 p =
 abbrev pub chk_size : ℕ → Size
 chk_size n = if n == 0 then size.Long else size.Word
 
+-- 0100 ddd1 s0mm mrrr
 unfoldable pub chk_4 : Opcode → Reader Instr
 chk_4 p = made (ea_at Data (chk_size p.size) p) (λ ea. Flow (flow.Chk p.upper (chk_size p.size) ea))
 
@@ -275,6 +303,7 @@ line_4 p = if p.bit == 1 then odd_4 p else even_4 p
 -- ---- lines 5 to 7: quick values, conditions and branches
 
 -- size 3: DBcc and TRAPcc stand where Scc has no operand
+-- 0101 cccc 11mm mrrr; DBcc is 0101 cccc 1100 1ddd, TRAPcc is 0101 cccc 1111 1ooo
 unfoldable pub conditional_5 : Condition → Opcode → Reader Instr
 conditional_5 c p =
     if p.mode == 1 then made word_at (λ d. Flow (flow.Dbcc c p.lower d)) else
@@ -285,15 +314,18 @@ conditional_5 c p =
 abbrev pub quick_instr : ℕ → ℕ → Size → Ea → Instr
 quick_instr n q s ea = if n == 0 then Arith (arith.Addq q s ea) else Arith (arith.Subq q s ea)
 
+-- 0101 qqqk ssmm mrrr
 unfoldable pub quick_5 : Opcode → Reader Instr
-quick_5 p = made (sized_at Alterable p) (λ x. quick_instr p.bit (quick_of p.upper) x.0 x.1)
+quick_5 p = made (sized_at Alterable p) (λ (s, ea). quick_instr p.bit (quick_of p.upper) s ea)
 
 unfoldable pub line_5 : Opcode → Reader Instr
 line_5 p = if p.size == 3 then conditional_5 (condition_of p.upper p.bit) p else quick_5 p
 
+-- 0110 cccc bbbb bbbb
 unfoldable pub line_6 : Opcode → Reader Instr
 line_6 p = made (branch_at (low_byte p)) (λ d. Flow (flow.Bcc (condition_of p.upper p.bit) d))
 
+-- 0111 ddd0 nnnn nnnn
 unfoldable pub line_7 : Opcode → Reader Instr
 line_7 p = when_legal (p.bit == 0) (give (Move (move.Moveq p.upper (low_byte p))))
 
@@ -309,9 +341,10 @@ binary_of line d k s ea =
     if line == 9 then Arith (arith.Sub d k s ea) else
     if line == 12 then Arith (arith.And d k s ea) else Arith (arith.Add d k s ea)
 
+-- llll dddk ssmm mrrr
 unfoldable pub binary_at : Opcode → Reader Instr
 binary_at p =
-    made (sized_at (side (source_class p.line) (p.bit == 1)) p) (λ x. binary_of p.line p.upper (p.bit == 1) x.0 x.1)
+    made (sized_at (side (source_class p.line) (p.bit == 1)) p) (λ (s, ea). binary_of p.line p.upper (p.bit == 1) s ea)
 
 -- SUBA, CMPA, ADDA
 abbrev pub address_of : ℕ → ℕ → Size → Ea → Instr
@@ -319,6 +352,7 @@ address_of line a s ea =
     if line == 9 then Arith (arith.Suba a s ea) else
     if line == 11 then Arith (arith.Cmpa a s ea) else Arith (arith.Adda a s ea)
 
+-- llll aaas 11mm mrrr
 unfoldable pub address_at : Opcode → Reader Instr
 address_at p = made (ea_at All (size_of_bit p.bit) p) (λ ea. address_of p.line p.upper (size_of_bit p.bit) ea)
 
@@ -326,6 +360,7 @@ address_at p = made (ea_at All (size_of_bit p.bit) p) (λ ea. address_of p.line 
 abbrev pub extended_of : ℕ → ℕ → Size → Bool → ℕ → Instr
 extended_of line x s m y = if line == 9 then Arith (arith.Subx x s m y) else Arith (arith.Addx x s m y)
 
+-- llll xxx1 ss00 kyyy
 unfoldable pub extended_at : Opcode → Reader Instr
 extended_at p = by_size p.size (λ s. give (extended_of p.line p.upper s (p.mode == 1) p.lower))
 
@@ -333,6 +368,7 @@ extended_at p = by_size p.size (λ s. give (extended_of p.line p.upper s (p.mode
 abbrev pub product_of : ℕ → ℕ → Bool → Ea → Instr
 product_of line d g ea = if line == 8 then Arith (arith.DivW d g ea) else Arith (arith.MulW d g ea)
 
+-- llll dddg 11mm mrrr
 unfoldable pub product_at : Opcode → Reader Instr
 product_at p = made (ea_at Data size.Word p) (λ ea. product_of p.line p.upper (p.bit == 1) ea)
 
@@ -344,9 +380,11 @@ decimal_of line x m y = if line == 8 then Arith (arith.Sbcd x m y) else Arith (a
 abbrev pub packed_of : ℕ → ℕ → Bool → ℕ → ℕ → Instr
 packed_of n x m y w = if n == 1 then Arith (arith.Pack x m y w) else Arith (arith.Unpk x m y w)
 
+-- 1000 xxx1 kk00 kyyy
 unfoldable pub packed_8 : Opcode → Reader Instr
 packed_8 p = made word_at (λ w. packed_of p.size p.upper (p.mode == 1) p.lower w)
 
+-- 1100 xxx1 kkkk kyyy
 unfoldable pub exchange_12 : Opcode → Reader Instr
 exchange_12 p =
     if (p.size == 1) && (p.mode == 0) then give (Move (move.Exg p.upper exchange.Data p.lower)) else
@@ -372,14 +410,16 @@ line_9 p =
     if p.size == 3 then address_at p else
     if has_registers p then extended_at p else binary_at p
 
+-- 1011 ddd0 ssmm mrrr
 unfoldable pub cmp_11 : Opcode → Reader Instr
-cmp_11 p = made (sized_at All p) (λ x. Arith (arith.Cmp p.upper x.0 x.1))
+cmp_11 p = made (sized_at All p) (λ (s, ea). Arith (arith.Cmp p.upper s ea))
 
 -- CMPM stands where EOR has no operand
+-- 1011 ddd1 ssmm mrrr; CMPM is 1011 xxx1 ss00 1yyy
 unfoldable pub eor_11 : Opcode → Reader Instr
 eor_11 p =
     if p.mode == 1 then by_size p.size (λ s. give (Arith (arith.Cmpm p.upper s p.lower))) else
-    made (sized_at DataAlterable p) (λ x. Arith (arith.Eor p.upper x.0 x.1))
+    made (sized_at DataAlterable p) (λ (s, ea). Arith (arith.Eor p.upper s ea))
 
 unfoldable pub line_11 : Opcode → Reader Instr
 line_11 p =
@@ -393,10 +433,12 @@ abbrev pub count_of : Bool → ℕ → ℕ
 count_of by_register field = if by_register then field else quick_of field
 
 -- mode 4 and above: the count is in a register
+-- 1110 nnnl ssik kddd
 unfoldable pub shift_14 : Opcode → Reader Instr
 shift_14 p = by_size p.size (λ s. give (Arith (arith.ShiftReg
     (count_of (nat_lt 3 p.mode) p.upper) (p.bit == 1) s (nat_lt 3 p.mode) (shift_kind (p.mode % 4)) p.lower)))
 
+-- 1110 0kkl 11mm mrrr
 unfoldable pub shift_mem_14 : Opcode → Reader Instr
 shift_mem_14 p =
     made (ea_at MemoryAlterable size.Word p) (λ ea. Arith (arith.ShiftMem (shift_kind p.upper) (p.bit == 1) ea))
@@ -405,10 +447,11 @@ shift_mem_14 p =
 abbrev pub field_of : Opcode → FieldKind
 field_of p = field_kind (p.upper % 4 * 2 + p.bit)
 
+-- 1110 1kkk 11mm mrrr
 unfoldable pub field_14 : Opcode → Reader Instr
 field_14 p =
     made (word_ea_at (field_rule (field_of p)) (field_class (field_of p)) size.Long p)
-    (λ x. Arith (arith.Field (field_of p) x.1 x.0))
+    (λ (w, ea). Arith (arith.Field (field_of p) ea w))
 
 unfoldable pub line_14 : Opcode → Reader Instr
 line_14 p = if p.size == 3 then (if nat_lt p.upper 4 then shift_mem_14 p else field_14 p) else shift_14 p
@@ -419,6 +462,7 @@ line_14 p = if p.size == 3 then (if nat_lt p.upper 4 then shift_mem_14 p else fi
 abbrev pub cached_of : Bool → Caches → CacheScope → ℕ → Instr
 cached_of push c s a = if push then System (system.Cpush c s a) else System (system.Cinv c s a)
 
+-- 1111 0100 kkop paaa
 unfoldable pub caches_15 : Opcode → Reader Instr
 caches_15 p = elim (scope_kind (p.mode % 4)) [
   | Some s ↦ give (cached_of (nat_lt 3 p.mode) (caches_kind p.size) s p.lower)
@@ -426,6 +470,7 @@ caches_15 p = elim (scope_kind (p.mode % 4)) [
 ]
 
 -- PFLUSH and PTEST
+-- 1111 0101 0kkk kaaa
 unfoldable pub translation_15 : Opcode → Reader Instr
 translation_15 p =
     if p.size == 0 then when_legal (nat_lt p.mode 4) (give (System (system.Pflush (flush_kind p.mode) p.lower))) else
@@ -433,6 +478,7 @@ translation_15 p =
     if (p.size == 1) && (p.mode == 5) then give (System (system.Ptest true p.lower)) else illegal
 
 -- MOVE16
+-- 1111 0110 00kk kaaa
 unfoldable pub lines_15 : Opcode → Reader Instr
 lines_15 p =
     if nat_lt p.mode 4 then made long_at (λ l. Move (move.Move16Abs (line_kind p.mode) p.lower l)) else

@@ -31,7 +31,7 @@ fn cached_of(push: bool, caches: Caches, scope: CacheScope, register: u8) -> Ins
 #[tactic(auto, unfolding(crate::specs::Reading::reads_then, crate::specs::RowReading::caches_15))]
 fn caches(op: Opcode, words: &[u16]) -> Reading<'_, Instr>
     requires { IsOpcode op }
-    ensures { Gives (λ x. (x.0, x.1.now)) result (caches_15 op words.now) }
+    ensures { Gives result (caches_15 op words.now) }
 {
     let Some(scope) = CacheScope::of(op.mode % 4) else {
         return Err(Stop::Illegal);
@@ -44,7 +44,7 @@ fn caches(op: Opcode, words: &[u16]) -> Reading<'_, Instr>
 #[tactic(auto, unfolding(crate::specs::Reading::reads_then, crate::specs::RowReading::translation_15))]
 fn translation(op: Opcode, words: &[u16]) -> Reading<'_, Instr>
     requires { IsOpcode op }
-    ensures { Gives (λ x. (x.0, x.1.now)) result (translation_15 op words.now) }
+    ensures { Gives result (translation_15 op words.now) }
 {
     let register = op.lower;
     let system = match (op.size, op.mode) {
@@ -69,7 +69,7 @@ fn translation(op: Opcode, words: &[u16]) -> Reading<'_, Instr>
 #[tactic(auto, unfolding(crate::specs::Reading::reads_then, crate::specs::RowReading::lines_15))]
 fn lines(op: Opcode, words: &[u16]) -> Reading<'_, Instr>
     requires { IsOpcode op }
-    ensures { Gives (λ x. (x.0, x.1.now)) result (lines_15 op words.now) }
+    ensures { Gives result (lines_15 op words.now) }
 {
     match op.mode {
         field @ 0..=3 => {
@@ -94,7 +94,7 @@ fn lines(op: Opcode, words: &[u16]) -> Reading<'_, Instr>
 #[tactic(auto, unfolding(crate::specs::Reading::reads_then, crate::specs::RowReading::line_15))]
 pub fn line_15(op: Opcode, words: &[u16]) -> Reading<'_, Instr>
     requires { IsOpcode op }
-    ensures { Gives (λ x. (x.0, x.1.now)) result (line_15 op words.now) }
+    ensures { Gives result (line_15 op words.now) }
 {
     match (op.upper, op.bit, op.size) {
         (2, 0, _) => caches(op, words),

@@ -16,7 +16,7 @@ use mb_instr::{
 #[tactic(auto, unfolding(crate::specs::Reading::reads_then, crate::specs::RowReading::movep_0))]
 fn movep(op: Opcode, words: &[u16]) -> Reading<'_, Instr>
     requires { IsOpcode op }
-    ensures { Gives (λ x. (x.0, x.1.now)) result (movep_0 op words.now) }
+    ensures { Gives result (movep_0 op words.now) }
 {
     let (displacement, rest) = word(words)?;
     let movep = Move::Movep {
@@ -33,7 +33,7 @@ fn movep(op: Opcode, words: &[u16]) -> Reading<'_, Instr>
 #[tactic(auto, unfolding(crate::specs::Reading::reads_then, crate::specs::RowReading::bit_register_0))]
 fn bit_register(op: Opcode, words: &[u16]) -> Reading<'_, Instr>
     requires { IsOpcode op }
-    ensures { Gives (λ x. (x.0, x.1.now)) result (bit_register_0 op words.now) }
+    ensures { Gives result (bit_register_0 op words.now) }
 {
     let kind = BitKind::of(op.size);
     let (ea, rest) = ea(kind.class(), Size::Byte, op, words)?;
@@ -56,7 +56,7 @@ fn bounds_of(size: Size, word: u16, ea: Ea) -> Instr
 #[tactic(auto, unfolding(crate::specs::Reading::reads_then, crate::specs::RowReading::bounds_0))]
 fn bounds(op: Opcode, words: &[u16]) -> Reading<'_, Instr>
     requires { IsOpcode op }
-    ensures { Gives (λ x. (x.0, x.1.now)) result (bounds_0 op words.now) }
+    ensures { Gives result (bounds_0 op words.now) }
 {
     let Some(size) = Size::of(op.upper) else {
         return Err(Stop::Illegal);
@@ -91,7 +91,7 @@ fn is_immediate_field(op: Opcode) -> bool
 /// CAS2.
 #[tactic(auto, unfolding(crate::specs::Reading::reads_then, crate::specs::RowReading::cas2_0))]
 fn cas2(size: Size, words: &[u16]) -> Reading<'_, Instr>
-    ensures { Gives (λ x. (x.0, x.1.now)) result (cas2_0 size words.now) }
+    ensures { Gives result (cas2_0 size words.now) }
 {
     if !size.is_not_byte() {
         return Err(Stop::Illegal);
@@ -110,7 +110,7 @@ fn cas2(size: Size, words: &[u16]) -> Reading<'_, Instr>
 #[tactic(auto, unfolding(crate::specs::Reading::reads_then, crate::specs::RowReading::cas_0))]
 fn cas(op: Opcode, words: &[u16]) -> Reading<'_, Instr>
     requires { IsOpcode op }
-    ensures { Gives (λ x. (x.0, x.1.now)) result (cas_0 op words.now) }
+    ensures { Gives result (cas_0 op words.now) }
 {
     let size = cas_size(op.upper);
     if is_immediate_field(op) {
@@ -181,7 +181,7 @@ fn to_sr_of(upper: u8, word: u16) -> Instr
 #[tactic(auto, unfolding(crate::specs::Reading::reads_then, crate::specs::RowReading::status_0))]
 fn status(op: Opcode, words: &[u16]) -> Reading<'_, Instr>
     requires { IsOpcode op }
-    ensures { Gives (λ x. (x.0, x.1.now)) result (status_0 op words.now) }
+    ensures { Gives result (status_0 op words.now) }
 {
     match (op.upper, op.size) {
         (2 | 3, _) => Err(Stop::Illegal),
@@ -201,7 +201,7 @@ fn status(op: Opcode, words: &[u16]) -> Reading<'_, Instr>
 #[tactic(auto, unfolding(crate::specs::Reading::reads_then, crate::specs::RowReading::immediate_0))]
 fn immediate(op: Opcode, words: &[u16]) -> Reading<'_, Instr>
     requires { IsOpcode op }
-    ensures { Gives (λ x. (x.0, x.1.now)) result (immediate_0 op words.now) }
+    ensures { Gives result (immediate_0 op words.now) }
 {
     if is_immediate_field(op) {
         return status(op, words);
@@ -214,7 +214,7 @@ fn immediate(op: Opcode, words: &[u16]) -> Reading<'_, Instr>
 #[tactic(auto, unfolding(crate::specs::Reading::reads_then, crate::specs::RowReading::cmpi_0))]
 fn cmpi(op: Opcode, words: &[u16]) -> Reading<'_, Instr>
     requires { IsOpcode op }
-    ensures { Gives (λ x. (x.0, x.1.now)) result (cmpi_0 op words.now) }
+    ensures { Gives result (cmpi_0 op words.now) }
 {
     let ((size, immediate, ea), rest) = immediate_ea(OperandClass::DataAlterableOrPc, op, words)?;
     let cmpi = Arith::Cmpi {
@@ -229,7 +229,7 @@ fn cmpi(op: Opcode, words: &[u16]) -> Reading<'_, Instr>
 #[tactic(auto, unfolding(crate::specs::Reading::reads_then, crate::specs::RowReading::moves_0))]
 fn moves(op: Opcode, words: &[u16]) -> Reading<'_, Instr>
     requires { IsOpcode op }
-    ensures { Gives (λ x. (x.0, x.1.now)) result (moves_0 op words.now) }
+    ensures { Gives result (moves_0 op words.now) }
 {
     let Some(size) = Size::of(op.size) else {
         return Err(Stop::Illegal);
@@ -243,7 +243,7 @@ fn moves(op: Opcode, words: &[u16]) -> Reading<'_, Instr>
 #[tactic(auto, unfolding(crate::specs::Reading::reads_then, crate::specs::RowReading::bit_0))]
 fn bit_immediate(op: Opcode, words: &[u16]) -> Reading<'_, Instr>
     requires { IsOpcode op }
-    ensures { Gives (λ x. (x.0, x.1.now)) result (bit_0 op words.now) }
+    ensures { Gives result (bit_0 op words.now) }
 {
     let kind = BitKind::of(op.size);
     let ((word, ea), rest) = word_ea(WordRule::Any, kind.class_immediate(), Size::Byte, op, words)?;
@@ -254,7 +254,7 @@ fn bit_immediate(op: Opcode, words: &[u16]) -> Reading<'_, Instr>
 #[tactic(auto, unfolding(crate::specs::Reading::reads_then, crate::specs::RowReading::odd_0))]
 fn odd(op: Opcode, words: &[u16]) -> Reading<'_, Instr>
     requires { IsOpcode op }
-    ensures { Gives (λ x. (x.0, x.1.now)) result (odd_0 op words.now) }
+    ensures { Gives result (odd_0 op words.now) }
 {
     if op.mode == 1 {
         movep(op, words)
@@ -267,7 +267,7 @@ fn odd(op: Opcode, words: &[u16]) -> Reading<'_, Instr>
 #[tactic(auto, unfolding(crate::specs::Reading::reads_then, crate::specs::RowReading::even_0))]
 fn even(op: Opcode, words: &[u16]) -> Reading<'_, Instr>
     requires { IsOpcode op }
-    ensures { Gives (λ x. (x.0, x.1.now)) result (even_0 op words.now) }
+    ensures { Gives result (even_0 op words.now) }
 {
     match (op.upper, op.size) {
         (4, _) => bit_immediate(op, words),
@@ -283,7 +283,7 @@ fn even(op: Opcode, words: &[u16]) -> Reading<'_, Instr>
 #[tactic(auto, unfolding(crate::specs::Reading::reads_then, crate::specs::RowReading::line_0))]
 pub fn line_0(op: Opcode, words: &[u16]) -> Reading<'_, Instr>
     requires { IsOpcode op }
-    ensures { Gives (λ x. (x.0, x.1.now)) result (line_0 op words.now) }
+    ensures { Gives result (line_0 op words.now) }
 {
     if op.bit == 1 {
         odd(op, words)

@@ -28,7 +28,7 @@ fn unary_of(upper: u8, size: Size, ea: Ea) -> Instr
 #[tactic(auto, unfolding(crate::specs::Reading::reads_then, crate::specs::RowReading::unary_4))]
 fn unary(op: Opcode, words: &[u16]) -> Reading<'_, Instr>
     requires { IsOpcode op }
-    ensures { Gives (λ x. (x.0, x.1.now)) result (unary_4 op words.now) }
+    ensures { Gives result (unary_4 op words.now) }
 {
     let ((size, ea), rest) = sized(OperandClass::DataAlterable, op, words)?;
     Ok((unary_of(op.upper, size, ea), rest))
@@ -60,7 +60,7 @@ fn status_of(upper: u8, ea: Ea) -> Instr
 #[tactic(auto, unfolding(crate::specs::Reading::reads_then, crate::specs::RowReading::status_4))]
 fn status(op: Opcode, words: &[u16]) -> Reading<'_, Instr>
     requires { IsOpcode op }
-    ensures { Gives (λ x. (x.0, x.1.now)) result (status_4 op words.now) }
+    ensures { Gives result (status_4 op words.now) }
 {
     let (ea, rest) = ea(status_class(op.upper), Size::Word, op, words)?;
     Ok((status_of(op.upper, ea), rest))
@@ -70,7 +70,7 @@ fn status(op: Opcode, words: &[u16]) -> Reading<'_, Instr>
 #[tactic(auto, unfolding(crate::specs::Reading::reads_then, crate::specs::RowReading::nbcd_4))]
 fn nbcd(op: Opcode, words: &[u16]) -> Reading<'_, Instr>
     requires { IsOpcode op }
-    ensures { Gives (λ x. (x.0, x.1.now)) result (nbcd_4 op words.now) }
+    ensures { Gives result (nbcd_4 op words.now) }
 {
     if op.mode == 1 {
         let register = op.lower;
@@ -89,7 +89,7 @@ fn nbcd(op: Opcode, words: &[u16]) -> Reading<'_, Instr>
 #[tactic(auto, unfolding(crate::specs::Reading::reads_then, crate::specs::RowReading::pea_4))]
 fn pea(op: Opcode, words: &[u16]) -> Reading<'_, Instr>
     requires { IsOpcode op }
-    ensures { Gives (λ x. (x.0, x.1.now)) result (pea_4 op words.now) }
+    ensures { Gives result (pea_4 op words.now) }
 {
     if op.mode == 0 {
         let register = op.lower;
@@ -114,7 +114,7 @@ fn extend_of(field: u8, register: u8) -> Instr
 #[tactic(auto, unfolding(crate::specs::Reading::reads_then, crate::specs::RowReading::movem_store_4))]
 fn movem_store(op: Opcode, words: &[u16]) -> Reading<'_, Instr>
     requires { IsOpcode op }
-    ensures { Gives (λ x. (x.0, x.1.now)) result (movem_store_4 op words.now) }
+    ensures { Gives result (movem_store_4 op words.now) }
 {
     if op.mode == 0 {
         return Ok((extend_of(op.size, op.lower), words));
@@ -128,7 +128,7 @@ fn movem_store(op: Opcode, words: &[u16]) -> Reading<'_, Instr>
 #[tactic(auto, unfolding(crate::specs::Reading::reads_then, crate::specs::RowReading::tst_4))]
 fn tst(op: Opcode, words: &[u16]) -> Reading<'_, Instr>
     requires { IsOpcode op }
-    ensures { Gives (λ x. (x.0, x.1.now)) result (tst_4 op words.now) }
+    ensures { Gives result (tst_4 op words.now) }
 {
     if op.size == 3 {
         let (ea, rest) = ea(OperandClass::DataAlterable, Size::Byte, op, words)?;
@@ -152,7 +152,7 @@ fn long_pair_of(field: u8, word: u16, ea: Ea) -> Instr
 #[tactic(auto, unfolding(crate::specs::Reading::reads_then, crate::specs::RowReading::long_pair_4))]
 fn long_pair(op: Opcode, words: &[u16]) -> Reading<'_, Instr>
     requires { IsOpcode op }
-    ensures { Gives (λ x. (x.0, x.1.now)) result (long_pair_4 op words.now) }
+    ensures { Gives result (long_pair_4 op words.now) }
 {
     let class = OperandClass::Data;
     let ((word, ea), rest) = word_ea(WordRule::LongPair, class, Size::Long, op, words)?;
@@ -163,7 +163,7 @@ fn long_pair(op: Opcode, words: &[u16]) -> Reading<'_, Instr>
 #[tactic(auto, unfolding(crate::specs::Reading::reads_then, crate::specs::RowReading::movem_load_4))]
 fn movem_load(op: Opcode, words: &[u16]) -> Reading<'_, Instr>
     requires { IsOpcode op }
-    ensures { Gives (λ x. (x.0, x.1.now)) result (movem_load_4 op words.now) }
+    ensures { Gives result (movem_load_4 op words.now) }
 {
     let size = Size::of_bit(op.size % 2);
     let ((mask, ea), rest) = word_ea(WordRule::Any, OperandClass::LoadList, size, op, words)?;
@@ -184,7 +184,7 @@ fn jump_of(field: u8, ea: Ea) -> Instr
 #[tactic(auto, unfolding(crate::specs::Reading::reads_then, crate::specs::RowReading::jump_4))]
 fn jump(op: Opcode, words: &[u16]) -> Reading<'_, Instr>
     requires { IsOpcode op }
-    ensures { Gives (λ x. (x.0, x.1.now)) result (jump_4 op words.now) }
+    ensures { Gives result (jump_4 op words.now) }
 {
     let (ea, rest) = ea(OperandClass::Control, Size::Long, op, words)?;
     Ok((jump_of(op.size, ea), rest))
@@ -194,7 +194,7 @@ fn jump(op: Opcode, words: &[u16]) -> Reading<'_, Instr>
 #[tactic(auto, unfolding(crate::specs::Reading::reads_then, crate::specs::RowReading::single_4))]
 fn single(op: Opcode, words: &[u16]) -> Reading<'_, Instr>
     requires { IsOpcode op }
-    ensures { Gives (λ x. (x.0, x.1.now)) result (single_4 op words.now) }
+    ensures { Gives result (single_4 op words.now) }
 {
     match op.lower {
         0 => Ok((Instr::System(System::Reset), words)),
@@ -218,7 +218,7 @@ fn single(op: Opcode, words: &[u16]) -> Reading<'_, Instr>
 #[tactic(auto, unfolding(crate::specs::Reading::reads_then, crate::specs::RowReading::movec_4))]
 fn movec(op: Opcode, words: &[u16]) -> Reading<'_, Instr>
     requires { IsOpcode op }
-    ensures { Gives (λ x. (x.0, x.1.now)) result (movec_4 op words.now) }
+    ensures { Gives result (movec_4 op words.now) }
 {
     if op.lower != 2 && op.lower != 3 {
         return Err(Stop::Illegal);
@@ -232,7 +232,7 @@ fn movec(op: Opcode, words: &[u16]) -> Reading<'_, Instr>
 #[tactic(auto, unfolding(crate::specs::Reading::reads_then, crate::specs::RowReading::system_4))]
 fn system(op: Opcode, words: &[u16]) -> Reading<'_, Instr>
     requires { IsOpcode op }
-    ensures { Gives (λ x. (x.0, x.1.now)) result (system_4 op words.now) }
+    ensures { Gives result (system_4 op words.now) }
 {
     let register = op.lower;
     match op.mode {
@@ -262,7 +262,7 @@ fn system(op: Opcode, words: &[u16]) -> Reading<'_, Instr>
 #[tactic(auto, unfolding(crate::specs::Reading::reads_then, crate::specs::RowReading::even_4))]
 fn even(op: Opcode, words: &[u16]) -> Reading<'_, Instr>
     requires { IsOpcode op }
-    ensures { Gives (λ x. (x.0, x.1.now)) result (even_4 op words.now) }
+    ensures { Gives result (even_4 op words.now) }
 {
     match (op.upper, op.size) {
         (0..=3, 3) => status(op, words),
@@ -283,7 +283,7 @@ fn even(op: Opcode, words: &[u16]) -> Reading<'_, Instr>
 #[tactic(auto, unfolding(crate::specs::Reading::reads_then, crate::specs::RowReading::lea_4))]
 fn lea(op: Opcode, words: &[u16]) -> Reading<'_, Instr>
     requires { IsOpcode op }
-    ensures { Gives (λ x. (x.0, x.1.now)) result (lea_4 op words.now) }
+    ensures { Gives result (lea_4 op words.now) }
 {
     if op.upper == 4 && op.mode == 0 {
         let register = op.lower;
@@ -305,7 +305,7 @@ fn chk_size(field: u8) -> Size
 #[tactic(auto, unfolding(crate::specs::Reading::reads_then, crate::specs::RowReading::chk_4))]
 fn chk(op: Opcode, words: &[u16]) -> Reading<'_, Instr>
     requires { IsOpcode op }
-    ensures { Gives (λ x. (x.0, x.1.now)) result (chk_4 op words.now) }
+    ensures { Gives result (chk_4 op words.now) }
 {
     let size = chk_size(op.size);
     let (ea, rest) = ea(OperandClass::Data, size, op, words)?;
@@ -317,7 +317,7 @@ fn chk(op: Opcode, words: &[u16]) -> Reading<'_, Instr>
 #[tactic(auto, unfolding(crate::specs::Reading::reads_then, crate::specs::RowReading::odd_4))]
 fn odd(op: Opcode, words: &[u16]) -> Reading<'_, Instr>
     requires { IsOpcode op }
-    ensures { Gives (λ x. (x.0, x.1.now)) result (odd_4 op words.now) }
+    ensures { Gives result (odd_4 op words.now) }
 {
     match op.size {
         3 => lea(op, words),
@@ -330,7 +330,7 @@ fn odd(op: Opcode, words: &[u16]) -> Reading<'_, Instr>
 #[tactic(auto, unfolding(crate::specs::Reading::reads_then, crate::specs::RowReading::line_4))]
 pub fn line_4(op: Opcode, words: &[u16]) -> Reading<'_, Instr>
     requires { IsOpcode op }
-    ensures { Gives (λ x. (x.0, x.1.now)) result (line_4 op words.now) }
+    ensures { Gives result (line_4 op words.now) }
 {
     if op.bit == 1 {
         odd(op, words)

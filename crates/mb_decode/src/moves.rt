@@ -29,7 +29,7 @@ fn allows_move(size: Size, op: Opcode) -> bool
 #[tactic(auto, unfolding(crate::specs::Reading::reads_then, crate::specs::RowReading::move_at))]
 fn move_row(size: Size, op: Opcode, words: &[u16]) -> Reading<'_, Instr>
     requires { IsOpcode op }
-    ensures { Gives (λ x. (x.0, x.1.now)) result (move_at size op words.now) }
+    ensures { Gives result (move_at size op words.now) }
 {
     if !allows_move(size, op) {
         return Err(Stop::Illegal);
@@ -48,7 +48,7 @@ fn move_row(size: Size, op: Opcode, words: &[u16]) -> Reading<'_, Instr>
 #[tactic(auto, unfolding(crate::specs::Reading::reads_then, crate::specs::RowReading::movea_at))]
 fn movea(size: Size, op: Opcode, words: &[u16]) -> Reading<'_, Instr>
     requires { IsOpcode op }
-    ensures { Gives (λ x. (x.0, x.1.now)) result (movea_at size op words.now) }
+    ensures { Gives result (movea_at size op words.now) }
 {
     if !size.is_not_byte() {
         return Err(Stop::Illegal);
@@ -66,7 +66,7 @@ fn movea(size: Size, op: Opcode, words: &[u16]) -> Reading<'_, Instr>
 #[tactic(auto, unfolding(crate::specs::Reading::reads_then, crate::specs::RowReading::line_move))]
 pub fn line_move(op: Opcode, words: &[u16]) -> Reading<'_, Instr>
     requires { IsOpcode op }
-    ensures { Gives (λ x. (x.0, x.1.now)) result (line_move op words.now) }
+    ensures { Gives result (line_move op words.now) }
 {
     let size = Size::of_move(op.line);
     if move_mode(op) == 1 {

@@ -28,7 +28,7 @@ pub fn quick_of(field: u8) -> u8
 #[tactic(auto, unfolding(crate::specs::Reading::reads_then, crate::specs::RowReading::conditional_5))]
 fn conditional(condition: Condition, op: Opcode, words: &[u16]) -> Reading<'_, Instr>
     requires { IsOpcode op }
-    ensures { Gives (λ x. (x.0, x.1.now)) result (conditional_5 condition op words.now) }
+    ensures { Gives result (conditional_5 condition op words.now) }
 {
     match (op.mode, op.lower) {
         (1, register) => {
@@ -65,7 +65,7 @@ fn quick_instr(bit: u8, quick: u8, size: Size, ea: Ea) -> Instr
 #[tactic(auto, unfolding(crate::specs::Reading::reads_then, crate::specs::RowReading::quick_5))]
 fn quick(op: Opcode, words: &[u16]) -> Reading<'_, Instr>
     requires { IsOpcode op }
-    ensures { Gives (λ x. (x.0, x.1.now)) result (quick_5 op words.now) }
+    ensures { Gives result (quick_5 op words.now) }
 {
     let ((size, ea), rest) = sized(OperandClass::Alterable, op, words)?;
     Ok((quick_instr(op.bit, quick_of(op.upper), size, ea), rest))
@@ -75,7 +75,7 @@ fn quick(op: Opcode, words: &[u16]) -> Reading<'_, Instr>
 #[tactic(auto, unfolding(crate::specs::Reading::reads_then, crate::specs::RowReading::line_5))]
 pub fn line_5(op: Opcode, words: &[u16]) -> Reading<'_, Instr>
     requires { IsOpcode op }
-    ensures { Gives (λ x. (x.0, x.1.now)) result (line_5 op words.now) }
+    ensures { Gives result (line_5 op words.now) }
 {
     if op.size == 3 {
         conditional(Condition::of(op.upper, op.bit), op, words)
@@ -88,7 +88,7 @@ pub fn line_5(op: Opcode, words: &[u16]) -> Reading<'_, Instr>
 #[tactic(auto, unfolding(crate::specs::Reading::reads_then, crate::specs::RowReading::line_6))]
 pub fn line_6(op: Opcode, words: &[u16]) -> Reading<'_, Instr>
     requires { IsOpcode op }
-    ensures { Gives (λ x. (x.0, x.1.now)) result (line_6 op words.now) }
+    ensures { Gives result (line_6 op words.now) }
 {
     let (displacement, rest) = branch(low_byte(op), words)?;
     let bcc = Flow::Bcc {
@@ -102,7 +102,7 @@ pub fn line_6(op: Opcode, words: &[u16]) -> Reading<'_, Instr>
 #[tactic(auto, unfolding(crate::specs::Reading::reads_then, crate::specs::RowReading::line_7))]
 pub fn line_7(op: Opcode, words: &[u16]) -> Reading<'_, Instr>
     requires { IsOpcode op }
-    ensures { Gives (λ x. (x.0, x.1.now)) result (line_7 op words.now) }
+    ensures { Gives result (line_7 op words.now) }
 {
     if op.bit != 0 {
         return Err(Stop::Illegal);

@@ -23,7 +23,7 @@ pub type Reading<'a, T> = Result<(T, &'a [u16]), Stop>;
 #[inline(always)]
 #[tactic(auto, unfolding(crate::specs::Reading::word_at))]
 pub fn word(words: &[u16]) -> Reading<'_, u16>
-    ensures { Gives (λ x. (x.0, x.1.now)) result (word_at words.now) }
+    ensures { Gives result (word_at words.now) }
 {
     match words {
         [] => Err(Stop::More),
@@ -35,7 +35,7 @@ pub fn word(words: &[u16]) -> Reading<'_, u16>
 #[inline(always)]
 #[tactic(auto, unfolding(crate::specs::Reading::reads_then, crate::specs::Reading::long_at))]
 pub fn long(words: &[u16]) -> Reading<'_, u32>
-    ensures { Gives (λ x. (x.0, x.1.now)) result (long_at words.now) }
+    ensures { Gives result (long_at words.now) }
 {
     let (high, rest) = word(words)?;
     let (low, rest) = word(rest)?;
@@ -45,7 +45,7 @@ pub fn long(words: &[u16]) -> Reading<'_, u32>
 /// A word as a number of 32 bits, not sign-extended.
 #[inline(always)]
 fn wide_word(words: &[u16]) -> Reading<'_, u32>
-    ensures { Gives (λ x. (x.0, x.1.now)) result (word_at words.now) }
+    ensures { Gives result (word_at words.now) }
 {
     let (value, rest) = word(words)?;
     Ok((u32::from(value), rest))
@@ -54,7 +54,7 @@ fn wide_word(words: &[u16]) -> Reading<'_, u32>
 /// A displacement of the full format, whose size field is 2 for a word, 3 for a long.
 #[tactic(auto, unfolding(crate::specs::Reading::wide_at))]
 fn wide(width: u16, words: &[u16]) -> Reading<'_, u32>
-    ensures { Gives (λ x. (x.0, x.1.now)) result (wide_at width words.now) }
+    ensures { Gives result (wide_at width words.now) }
 {
     match width {
         2 => wide_word(words),
@@ -66,7 +66,7 @@ fn wide(width: u16, words: &[u16]) -> Reading<'_, u32>
 /// The displacements behind a full extension word.
 #[tactic(auto, unfolding(crate::specs::Reading::reads_then, crate::specs::Reading::full_at))]
 fn full(first: u16, words: &[u16]) -> Reading<'_, Ext>
-    ensures { Gives (λ x. (x.0, x.1.now)) result (full_at first words.now) }
+    ensures { Gives result (full_at first words.now) }
 {
     let (bd, rest) = wide((first >> 4) & 3, words)?;
     let (od, rest) = wide(first & 3, rest)?;
@@ -81,7 +81,7 @@ fn full(first: u16, words: &[u16]) -> Reading<'_, Ext>
 #[inline(always)]
 #[tactic(auto, unfolding(crate::specs::Reading::reads_then, crate::specs::Reading::ext_at))]
 fn extension(words: &[u16]) -> Reading<'_, Ext>
-    ensures { Gives (λ x. (x.0, x.1.now)) result (ext_at words.now) }
+    ensures { Gives result (ext_at words.now) }
 {
     let (first, rest) = word(words)?;
     if (first >> 8) & 1 == 0 {
@@ -96,7 +96,7 @@ fn extension(words: &[u16]) -> Reading<'_, Ext>
 #[inline(always)]
 #[tactic(auto, unfolding(crate::specs::Reading::immediate_at))]
 fn immediate(size: Size, words: &[u16]) -> Reading<'_, u32>
-    ensures { Gives (λ x. (x.0, x.1.now)) result (immediate_at size words.now) }
+    ensures { Gives result (immediate_at size words.now) }
 {
     match size {
         Size::Byte | Size::Word => wide_word(words),
@@ -108,7 +108,7 @@ fn immediate(size: Size, words: &[u16]) -> Reading<'_, u32>
 #[inline(always)]
 #[tactic(auto, unfolding(crate::specs::Reading::reads_then, crate::specs::Reading::operand_at))]
 pub fn operand(size: Size, mode: u8, lower: u8, words: &[u16]) -> Reading<'_, Ea>
-    ensures { Gives (λ x. (x.0, x.1.now)) result (operand_at size mode lower words.now) }
+    ensures { Gives result (operand_at size mode lower words.now) }
 {
     match mode {
         0 => Ok((Ea::Dn(lower), words)),
@@ -153,7 +153,7 @@ pub fn operand(size: Size, mode: u8, lower: u8, words: &[u16]) -> Reading<'_, Ea
 #[inline(always)]
 #[tactic(auto, unfolding(crate::specs::Reading::reads_then, crate::specs::Reading::ruled_at))]
 pub fn ruled(rule: WordRule, words: &[u16]) -> Reading<'_, u16>
-    ensures { Gives (λ x. (x.0, x.1.now)) result (ruled_at rule words.now) }
+    ensures { Gives result (ruled_at rule words.now) }
 {
     let (word, rest) = word(words)?;
     if !rule.allows(word) {
@@ -166,7 +166,7 @@ pub fn ruled(rule: WordRule, words: &[u16]) -> Reading<'_, u16>
 #[inline(always)]
 #[tactic(auto, unfolding(crate::specs::Reading::ea_at))]
 pub fn ea(class: OperandClass, size: Size, op: Opcode, words: &[u16]) -> Reading<'_, Ea>
-    ensures { Gives (λ x. (x.0, x.1.now)) result (ea_at class size op words.now) }
+    ensures { Gives result (ea_at class size op words.now) }
 {
     if !class.allows(size, op.mode, op.lower) {
         return Err(Stop::Illegal);
@@ -178,7 +178,7 @@ pub fn ea(class: OperandClass, size: Size, op: Opcode, words: &[u16]) -> Reading
 #[inline(always)]
 #[tactic(auto, unfolding(crate::specs::Reading::reads_then, crate::specs::Reading::sized_at))]
 pub fn sized(class: OperandClass, op: Opcode, words: &[u16]) -> Reading<'_, (Size, Ea)>
-    ensures { Gives (λ x. (x.0, x.1.now)) result (sized_at class op words.now) }
+    ensures { Gives result (sized_at class op words.now) }
 {
     let Some(size) = Size::of(op.size) else {
         return Err(Stop::Illegal);
@@ -197,7 +197,7 @@ pub fn word_ea(
     op: Opcode,
     words: &[u16],
 ) -> Reading<'_, (u16, Ea)>
-    ensures { Gives (λ x. (x.0, x.1.now)) result (word_ea_at rule class size op words.now) }
+    ensures { Gives result (word_ea_at rule class size op words.now) }
 {
     if !class.allows(size, op.mode, op.lower) {
         return Err(Stop::Illegal);
@@ -211,7 +211,7 @@ pub fn word_ea(
 #[inline(always)]
 #[tactic(auto, unfolding(crate::specs::Reading::reads_then, crate::specs::Reading::immediate_ea_at))]
 pub fn immediate_ea(class: OperandClass, op: Opcode, words: &[u16]) -> Reading<'_, (Size, u32, Ea)>
-    ensures { Gives (λ x. (x.0, x.1.now)) result (immediate_ea_at class op words.now) }
+    ensures { Gives result (immediate_ea_at class op words.now) }
 {
     let Some(size) = Size::of(op.size) else {
         return Err(Stop::Illegal);
@@ -228,7 +228,7 @@ pub fn immediate_ea(class: OperandClass, op: Opcode, words: &[u16]) -> Reading<'
 #[inline(always)]
 #[tactic(auto, unfolding(crate::specs::Reading::reads_then, crate::specs::Reading::branch_at))]
 pub fn branch(byte: u8, words: &[u16]) -> Reading<'_, Branch>
-    ensures { Gives (λ x. (x.0, x.1.now)) result (branch_at byte words.now) }
+    ensures { Gives result (branch_at byte words.now) }
 {
     match byte {
         0 => {
@@ -247,7 +247,7 @@ pub fn branch(byte: u8, words: &[u16]) -> Reading<'_, Branch>
 #[inline(always)]
 #[tactic(auto, unfolding(crate::specs::Reading::reads_then, crate::specs::Reading::trap_operand_at))]
 pub fn trap_operand(lower: u8, words: &[u16]) -> Reading<'_, TrapOperand>
-    ensures { Gives (λ x. (x.0, x.1.now)) result (trap_operand_at lower words.now) }
+    ensures { Gives result (trap_operand_at lower words.now) }
 {
     match lower {
         2 => {

@@ -58,7 +58,7 @@ fn binary_of(line: u8, register: u8, to_memory: bool, size: Size, ea: Ea) -> Ins
 #[tactic(auto, unfolding(crate::specs::Reading::reads_then, crate::specs::RowReading::binary_at))]
 fn binary(op: Opcode, words: &[u16]) -> Reading<'_, Instr>
     requires { IsOpcode op }
-    ensures { Gives (λ x. (x.0, x.1.now)) result (binary_at op words.now) }
+    ensures { Gives result (binary_at op words.now) }
 {
     let to_memory = op.bit == 1;
     let class = source_class(op.line).side(to_memory);
@@ -81,7 +81,7 @@ fn address_of(line: u8, register: u8, size: Size, ea: Ea) -> Instr
 #[tactic(auto, unfolding(crate::specs::Reading::reads_then, crate::specs::RowReading::address_at))]
 fn address(op: Opcode, words: &[u16]) -> Reading<'_, Instr>
     requires { IsOpcode op }
-    ensures { Gives (λ x. (x.0, x.1.now)) result (address_at op words.now) }
+    ensures { Gives result (address_at op words.now) }
 {
     let size = Size::of_bit(op.bit);
     let (ea, rest) = ea(OperandClass::All, size, op, words)?;
@@ -112,7 +112,7 @@ fn extended_of(line: u8, x: u8, size: Size, in_memory: bool, y: u8) -> Instr
 #[tactic(auto, unfolding(crate::specs::Reading::reads_then, crate::specs::RowReading::extended_at))]
 fn extended(op: Opcode, words: &[u16]) -> Reading<'_, Instr>
     requires { IsOpcode op }
-    ensures { Gives (λ x. (x.0, x.1.now)) result (extended_at op words.now) }
+    ensures { Gives result (extended_at op words.now) }
 {
     let Some(size) = Size::of(op.size) else {
         return Err(Stop::Illegal);
@@ -143,7 +143,7 @@ fn product_of(line: u8, register: u8, is_signed: bool, ea: Ea) -> Instr
 #[tactic(auto, unfolding(crate::specs::Reading::reads_then, crate::specs::RowReading::product_at))]
 fn product(op: Opcode, words: &[u16]) -> Reading<'_, Instr>
     requires { IsOpcode op }
-    ensures { Gives (λ x. (x.0, x.1.now)) result (product_at op words.now) }
+    ensures { Gives result (product_at op words.now) }
 {
     let (ea, rest) = ea(OperandClass::Data, Size::Word, op, words)?;
     Ok((product_of(op.line, op.upper, op.bit == 1, ea), rest))
@@ -184,7 +184,7 @@ fn packed_of(field: u8, x: u8, in_memory: bool, y: u8, word: u16) -> Instr
 #[tactic(auto, unfolding(crate::specs::Reading::reads_then, crate::specs::RowReading::packed_8))]
 fn packed(op: Opcode, words: &[u16]) -> Reading<'_, Instr>
     requires { IsOpcode op }
-    ensures { Gives (λ x. (x.0, x.1.now)) result (packed_8 op words.now) }
+    ensures { Gives result (packed_8 op words.now) }
 {
     let (word, rest) = word(words)?;
     let instruction = packed_of(op.size, op.upper, op.mode == 1, op.lower, word);
@@ -195,7 +195,7 @@ fn packed(op: Opcode, words: &[u16]) -> Reading<'_, Instr>
 #[tactic(auto, unfolding(crate::specs::Reading::reads_then, crate::specs::RowReading::exchange_12))]
 fn exchange(op: Opcode, words: &[u16]) -> Reading<'_, Instr>
     requires { IsOpcode op }
-    ensures { Gives (λ x. (x.0, x.1.now)) result (exchange_12 op words.now) }
+    ensures { Gives result (exchange_12 op words.now) }
 {
     let kind = match (op.size, op.mode) {
         (1, 0) => Exchange::Data,
@@ -218,7 +218,7 @@ fn has_registers(op: Opcode) -> bool
 #[tactic(auto, unfolding(crate::specs::Reading::reads_then, crate::specs::RowReading::pair_8))]
 fn pair(op: Opcode, words: &[u16]) -> Reading<'_, Instr>
     requires { IsOpcode op }
-    ensures { Gives (λ x. (x.0, x.1.now)) result (pair_8 op words.now) }
+    ensures { Gives result (pair_8 op words.now) }
 {
     match (op.size, op.line) {
         (0, line) => Ok((decimal_of(line, op.upper, op.mode == 1, op.lower), words)),
@@ -231,7 +231,7 @@ fn pair(op: Opcode, words: &[u16]) -> Reading<'_, Instr>
 #[tactic(auto, unfolding(crate::specs::Reading::reads_then, crate::specs::RowReading::line_8))]
 pub fn line_8(op: Opcode, words: &[u16]) -> Reading<'_, Instr>
     requires { IsOpcode op }
-    ensures { Gives (λ x. (x.0, x.1.now)) result (line_8 op words.now) }
+    ensures { Gives result (line_8 op words.now) }
 {
     if op.size == 3 {
         product(op, words)
@@ -246,7 +246,7 @@ pub fn line_8(op: Opcode, words: &[u16]) -> Reading<'_, Instr>
 #[tactic(auto, unfolding(crate::specs::Reading::reads_then, crate::specs::RowReading::line_9))]
 pub fn line_9(op: Opcode, words: &[u16]) -> Reading<'_, Instr>
     requires { IsOpcode op }
-    ensures { Gives (λ x. (x.0, x.1.now)) result (line_9 op words.now) }
+    ensures { Gives result (line_9 op words.now) }
 {
     if op.size == 3 {
         address(op, words)
@@ -261,7 +261,7 @@ pub fn line_9(op: Opcode, words: &[u16]) -> Reading<'_, Instr>
 #[tactic(auto, unfolding(crate::specs::Reading::reads_then, crate::specs::RowReading::cmp_11))]
 fn cmp(op: Opcode, words: &[u16]) -> Reading<'_, Instr>
     requires { IsOpcode op }
-    ensures { Gives (λ x. (x.0, x.1.now)) result (cmp_11 op words.now) }
+    ensures { Gives result (cmp_11 op words.now) }
 {
     let ((size, ea), rest) = sized(OperandClass::All, op, words)?;
     let register = op.upper;
@@ -272,7 +272,7 @@ fn cmp(op: Opcode, words: &[u16]) -> Reading<'_, Instr>
 #[tactic(auto, unfolding(crate::specs::Reading::reads_then, crate::specs::RowReading::eor_11))]
 fn eor(op: Opcode, words: &[u16]) -> Reading<'_, Instr>
     requires { IsOpcode op }
-    ensures { Gives (λ x. (x.0, x.1.now)) result (eor_11 op words.now) }
+    ensures { Gives result (eor_11 op words.now) }
 {
     if op.mode == 1 {
         let Some(size) = Size::of(op.size) else {
@@ -290,7 +290,7 @@ fn eor(op: Opcode, words: &[u16]) -> Reading<'_, Instr>
 #[tactic(auto, unfolding(crate::specs::Reading::reads_then, crate::specs::RowReading::line_11))]
 pub fn line_11(op: Opcode, words: &[u16]) -> Reading<'_, Instr>
     requires { IsOpcode op }
-    ensures { Gives (λ x. (x.0, x.1.now)) result (line_11 op words.now) }
+    ensures { Gives result (line_11 op words.now) }
 {
     match (op.size, op.bit) {
         (3, _) => address(op, words),

@@ -20,7 +20,7 @@ use mb_instr::{Instr, Opcode};
 #[tactic(auto, unfolding(crate::specs::Reading::reads_then, crate::specs::RowReading::low_line))]
 fn low_line(op: Opcode, words: &[u16]) -> Reading<'_, Instr>
     requires { IsOpcode op }
-    ensures { Gives (λ x. (x.0, x.1.now)) result (low_line op words.now) }
+    ensures { Gives result (low_line op words.now) }
 {
     match op.line {
         0 => line_0(op, words),
@@ -37,7 +37,7 @@ fn low_line(op: Opcode, words: &[u16]) -> Reading<'_, Instr>
 #[tactic(auto, unfolding(crate::specs::Reading::reads_then, crate::specs::RowReading::high_line))]
 fn high_line(op: Opcode, words: &[u16]) -> Reading<'_, Instr>
     requires { IsOpcode op }
-    ensures { Gives (λ x. (x.0, x.1.now)) result (high_line op words.now) }
+    ensures { Gives result (high_line op words.now) }
 {
     match op.line {
         8 | 12 => line_8(op, words),
@@ -54,7 +54,7 @@ fn high_line(op: Opcode, words: &[u16]) -> Reading<'_, Instr>
 #[tactic(auto, unfolding(crate::specs::Reading::reads_then, crate::specs::RowReading::row_at))]
 pub fn row(op: Opcode, words: &[u16]) -> Reading<'_, Instr>
     requires { IsOpcode op }
-    ensures { Gives (λ x. (x.0, x.1.now)) result (row_at op words.now) }
+    ensures { Gives result (row_at op words.now) }
 {
     if op.line < 8 {
         low_line(op, words)

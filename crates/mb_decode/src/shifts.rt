@@ -20,7 +20,7 @@ fn count_of(by_register: bool, field: u8) -> u8
 #[tactic(auto, unfolding(crate::specs::Reading::reads_then, crate::specs::RowReading::shift_14))]
 fn shift(op: Opcode, words: &[u16]) -> Reading<'_, Instr>
     requires { IsOpcode op }
-    ensures { Gives (λ x. (x.0, x.1.now)) result (shift_14 op words.now) }
+    ensures { Gives result (shift_14 op words.now) }
 {
     let Some(size) = Size::of(op.size) else {
         return Err(Stop::Illegal);
@@ -41,7 +41,7 @@ fn shift(op: Opcode, words: &[u16]) -> Reading<'_, Instr>
 #[tactic(auto, unfolding(crate::specs::Reading::reads_then, crate::specs::RowReading::shift_mem_14))]
 fn shift_memory(op: Opcode, words: &[u16]) -> Reading<'_, Instr>
     requires { IsOpcode op }
-    ensures { Gives (λ x. (x.0, x.1.now)) result (shift_mem_14 op words.now) }
+    ensures { Gives result (shift_mem_14 op words.now) }
 {
     let (ea, rest) = ea(OperandClass::MemoryAlterable, Size::Word, op, words)?;
     let (kind, is_left) = (ShiftKind::of(op.upper), op.bit == 1);
@@ -60,7 +60,7 @@ fn field_of(op: Opcode) -> FieldKind
 #[tactic(auto, unfolding(crate::specs::Reading::reads_then, crate::specs::RowReading::field_14))]
 fn field(op: Opcode, words: &[u16]) -> Reading<'_, Instr>
     requires { IsOpcode op }
-    ensures { Gives (λ x. (x.0, x.1.now)) result (field_14 op words.now) }
+    ensures { Gives result (field_14 op words.now) }
 {
     let kind = field_of(op);
     let ((word, ea), rest) = word_ea(kind.rule(), kind.class(), Size::Long, op, words)?;
@@ -71,7 +71,7 @@ fn field(op: Opcode, words: &[u16]) -> Reading<'_, Instr>
 #[tactic(auto, unfolding(crate::specs::Reading::reads_then, crate::specs::RowReading::line_14))]
 pub fn line_14(op: Opcode, words: &[u16]) -> Reading<'_, Instr>
     requires { IsOpcode op }
-    ensures { Gives (λ x. (x.0, x.1.now)) result (line_14 op words.now) }
+    ensures { Gives result (line_14 op words.now) }
 {
     match (op.size, op.upper) {
         (3, 0..=3) => shift_memory(op, words),
