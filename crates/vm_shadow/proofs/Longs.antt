@@ -10,7 +10,7 @@ use Rattle.byteorder.specs.Endian.{big_bytes}
 use Rattle.byteorder.specs.Numbers.{length-bytes_high_first}
 use Rattle.mb_walk.specs.Memory.{with_number}
 use Rattle.mb_walk.proofs.LongLemmas.{long_same, long_other}
-use Rattle.vm_shadow.specs.Area.{longs, updated}
+use Rattle.vm_shadow.specs.Area.{longs, updated, OutsideStays}
 
 pub updated_same : {T : Type 0} (t : ℕ → T) (index : ℕ) (long : T) → updated t index long index ≡ long
 updated_same t index long = let b : (index == index) ≡ true = grind (arith, nat_tests) in ap (λ (b : Bool). cond b long (t index)) b
@@ -44,5 +44,11 @@ drop_written ram n at long h k =
     let count : length (big_bytes 4 long) ≡ 4 = length-bytes_high_first 4 long in
     let both = length-append (take at ram) (big_bytes 4 long) in
     drop-append-drop (at + length (big_bytes 4 long)) ram (take at ram ++ big_bytes 4 long) n (omega arith) (omega arith)
+
+-- two changes, one after the other
+pub outside_on : (area : ℕ) {before between after : List ℕ} → OutsideStays area before between → OutsideStays area between after
+    → OutsideStays area before after
+outside_on area first second =
+    record { size = second.size ∙ first.size; below = second.below ∙ first.below; above = second.above ∙ first.above }
 
 pub ruleset frames = (longs_written, take_written, drop_written)

@@ -1,7 +1,7 @@
 -- The longs of an area: two roots, and slots of a table each.
 use Rattle.std.specs.Prelude.{◌≡◌, ◌≢◌, ℕ, zero, suc, ◌+◌, ◌*◌, ◌/◌, ◌%◌, ◌^◌, ◌<◌, ◌≤◌, ◌==◌, ◌||◌, Bool, true}
 use Rattle.std.specs.Prelude.{not, nat_lt, if◌then◌else◌}
-use Rattle.std.specs.Prelude.{List, [], ◌∷◌, ◌++◌, length, filter, Option, Some, None}
+use Rattle.std.specs.Prelude.{List, [], ◌∷◌, ◌++◌, length, filter, take, drop, Option, Some, None}
 use Rattle.mb_port.specs.declared.types.Space.{Space}
 use Rattle.mb_port.specs.declared.types.Space.TheVariants.{User, Super}
 use Rattle.mb_model.specs.Pages.{offset_of}
@@ -13,10 +13,17 @@ use Rattle.vm_shadow.specs.declared.table.Table.TheVariants.{Pointers, Pages}
 use Rattle.vm_shadow.specs.Slots.{Slots, Placed, placed, same_table, number_of, Has, Once}
 use Rattle.vm_shadow.specs.declared.nodes.TheConstants.{SLOTS}
 use Rattle.vm_shadow.specs.declared.area.TheConstants.{AREA_BYTES}
+use Rattle.vm_shadow.specs.declared.area.TheConstants.{AREA_BYTES}
 
 -- the longs of the area at an address, by number
 abbrev pub longs : List ℕ → ℕ → ℕ → ℕ
 longs ram area index = number_at ram (area + 4 * index) 4
+
+-- Outside an area nothing of memory changes, and no byte is added or lost.
+pub record OutsideStays (area : ℕ) (before after : List ℕ) : Type 0 where
+  pub size : length after ≡ length before
+  pub below : take area after ≡ take area before
+  pub above : drop (area + AREA_BYTES) after ≡ drop (area + AREA_BYTES) before
 
 -- a function of numbers, as the longs of an area, with another value at a number
 abbrev pub updated : {T : Type 0} → (ℕ → T) → ℕ → T → ℕ → T

@@ -1,12 +1,12 @@
 //! The shadow and its calls.
 
-ghost use Rattle.std.specs.Prelude.{◌≡◌, ℕ, ◌+◌, ◌*◌, ◌/◌, ◌%◌, ◌^◌, ◌==◌, ◌≤◌, ◌<◌, [], length, take, drop};
+ghost use Rattle.std.specs.Prelude.{◌≡◌, ℕ, ◌+◌, ◌*◌, ◌/◌, ◌%◌, ◌^◌, ◌==◌, ◌≤◌, ◌<◌, [], length};
 ghost use Rattle.std.specs.Prelude.{IfOk, MatchOption, None, Some};
 ghost use Rattle.vm_shadow.specs.Slots.{placed, number_of, with_table, tables_for, Has, Once};
 ghost use Rattle.vm_shadow.specs.Slots.{is_full_for as full_for, pages_of, pointers_of};
 ghost use Rattle.vm_shadow.specs.Shadows.{nothing, room_for, filled, dropped, with_entry};
 ghost use Rattle.vm_shadow.specs.Mapped.{mapped, root_of, shadowed, BothStand};
-ghost use Rattle.vm_shadow.specs.Area.{longs, updated, in_root as root_place, in_slot as slot_place, entry_of};
+ghost use Rattle.vm_shadow.specs.Area.{OutsideStays, longs, updated, in_root as root_place, in_slot as slot_place, entry_of};
 ghost use Rattle.vm_shadow.specs.Area.{Counted, IsPageLong, Laid, Maps, OnlyGo, Pushed, Removed, UsedBut};
 ghost use Rattle.vm_shadow.specs.declared.area.TheConstants.{AREA_BYTES};
 
@@ -131,10 +131,7 @@ impl Shadow {
         requires inside { self.now.area + AREA_BYTES ≤ length (R.bytes ram.old) }
         ensures longs { longs (R.bytes ram.new) self.now.area
             ≡ updated (longs (R.bytes ram.old) self.now.area) (root_place space index) long }
-        ensures size { length (R.bytes ram.new) ≡ length (R.bytes ram.old) }
-        ensures below { take self.now.area (R.bytes ram.new) ≡ take self.now.area (R.bytes ram.old) }
-        ensures above { drop (self.now.area + AREA_BYTES) (R.bytes ram.new)
-            ≡ drop (self.now.area + AREA_BYTES) (R.bytes ram.old) }
+        ensures outside { OutsideStays self.now.area (R.bytes ram.old) (R.bytes ram.new) }
         ensures rest { R.rest ram.new ≡ R.rest ram.old }
     {
         set_in(ram, self.area(), in_root(space, index), long);
@@ -150,10 +147,7 @@ impl Shadow {
             ≡ updated (longs (R.bytes ram.old) self.old.area) (slot_place slot index) long }
         ensures counted { Counted (placed self.new) (R.bytes ram.new) }
         ensures same { self.new ≡ record self.old { counts = self.new.counts } }
-        ensures size { length (R.bytes ram.new) ≡ length (R.bytes ram.old) }
-        ensures below { take self.old.area (R.bytes ram.new) ≡ take self.old.area (R.bytes ram.old) }
-        ensures above { drop (self.old.area + AREA_BYTES) (R.bytes ram.new)
-            ≡ drop (self.old.area + AREA_BYTES) (R.bytes ram.old) }
+        ensures outside { OutsideStays self.old.area (R.bytes ram.old) (R.bytes ram.new) }
         ensures rest { R.rest ram.new ≡ R.rest ram.old }
     {
         let area = self.area();
@@ -170,10 +164,7 @@ impl Shadow {
         ensures shadow { shadowed self.new (R.bytes ram.new) ≡ nothing }
         ensures area { self.new.area ≡ self.old.area }
         ensures stands { BothStand (R.bytes ram.new) self.new.area }
-        ensures size { length (R.bytes ram.new) ≡ length (R.bytes ram.old) }
-        ensures below { take self.old.area (R.bytes ram.new) ≡ take self.old.area (R.bytes ram.old) }
-        ensures above { drop (self.old.area + AREA_BYTES) (R.bytes ram.new)
-            ≡ drop (self.old.area + AREA_BYTES) (R.bytes ram.old) }
+        ensures outside { OutsideStays self.old.area (R.bytes ram.old) (R.bytes ram.new) }
         ensures rest { R.rest ram.new ≡ R.rest ram.old }
     {
         wipe(ram, self.area());
@@ -273,10 +264,7 @@ impl Shadow {
             ≡ with_entry space page (entry_of long) (shadowed self.old (R.bytes ram.old)).entries }
         ensures long { longs (R.bytes ram.new) self.new.area (slot_place slot (page % 64)) ≡ long }
         ensures same { self.new ≡ record self.old { counts = self.new.counts } }
-        ensures size { length (R.bytes ram.new) ≡ length (R.bytes ram.old) }
-        ensures below { take self.old.area (R.bytes ram.new) ≡ take self.old.area (R.bytes ram.old) }
-        ensures above { drop (self.old.area + AREA_BYTES) (R.bytes ram.new)
-            ≡ drop (self.old.area + AREA_BYTES) (R.bytes ram.old) }
+        ensures outside { OutsideStays self.old.area (R.bytes ram.old) (R.bytes ram.new) }
         ensures rest { R.rest ram.new ≡ R.rest ram.old }
     {
         let _ = space;
@@ -297,10 +285,7 @@ impl Shadow {
         ensures gone { OnlyGo self.old.tables self.new.tables }
         ensures above { Has self.new.tables (Table.Pointers space (index / 128)) }
         ensures area { self.new.area ≡ self.old.area }
-        ensures size { length (R.bytes ram.new) ≡ length (R.bytes ram.old) }
-        ensures under { take self.old.area (R.bytes ram.new) ≡ take self.old.area (R.bytes ram.old) }
-        ensures over { drop (self.old.area + AREA_BYTES) (R.bytes ram.new)
-            ≡ drop (self.old.area + AREA_BYTES) (R.bytes ram.old) }
+        ensures outside { OutsideStays self.old.area (R.bytes ram.old) (R.bytes ram.new) }
         ensures rest { R.rest ram.new ≡ R.rest ram.old }
     {
         if !self.is_empty(slot) {
@@ -324,10 +309,7 @@ impl Shadow {
             ≡ (shadowed self.old (R.bytes ram.old)).entries }
         ensures gone { OnlyGo self.old.tables self.new.tables }
         ensures area { self.new.area ≡ self.old.area }
-        ensures size { length (R.bytes ram.new) ≡ length (R.bytes ram.old) }
-        ensures below { take self.old.area (R.bytes ram.new) ≡ take self.old.area (R.bytes ram.old) }
-        ensures above { drop (self.old.area + AREA_BYTES) (R.bytes ram.new)
-            ≡ drop (self.old.area + AREA_BYTES) (R.bytes ram.old) }
+        ensures outside { OutsideStays self.old.area (R.bytes ram.old) (R.bytes ram.new) }
         ensures rest { R.rest ram.new ≡ R.rest ram.old }
     {
         if let Some(slot) = self.pointers(ram, space, index) {
@@ -347,10 +329,7 @@ impl Shadow {
             ≡ dropped space page (shadowed self.old (R.bytes ram.old)) }
         ensures area { self.new.area ≡ self.old.area }
         ensures stands { BothStand (R.bytes ram.new) self.new.area }
-        ensures size { length (R.bytes ram.new) ≡ length (R.bytes ram.old) }
-        ensures below { take self.old.area (R.bytes ram.new) ≡ take self.old.area (R.bytes ram.old) }
-        ensures above { drop (self.old.area + AREA_BYTES) (R.bytes ram.new)
-            ≡ drop (self.old.area + AREA_BYTES) (R.bytes ram.old) }
+        ensures outside { OutsideStays self.old.area (R.bytes ram.old) (R.bytes ram.new) }
         ensures rest { R.rest ram.new ≡ R.rest ram.old }
     {
         if let Some(slot) = self.pages(ram, space, page / 64) {
@@ -372,10 +351,7 @@ impl Shadow {
         ensures tables { self.new.tables ≡ with_table (Table.Pointers space index) self.old.tables }
         ensures slot { result ≡ (placed self.new).slot (Table.Pointers space index) }
         ensures area { self.new.area ≡ self.old.area }
-        ensures size { length (R.bytes ram.new) ≡ length (R.bytes ram.old) }
-        ensures below { take self.old.area (R.bytes ram.new) ≡ take self.old.area (R.bytes ram.old) }
-        ensures above { drop (self.old.area + AREA_BYTES) (R.bytes ram.new)
-            ≡ drop (self.old.area + AREA_BYTES) (R.bytes ram.old) }
+        ensures outside { OutsideStays self.old.area (R.bytes ram.old) (R.bytes ram.new) }
         ensures rest { R.rest ram.new ≡ R.rest ram.old }
     {
         if let Some(slot) = self.pointers(ram, space, index) {
@@ -401,10 +377,7 @@ impl Shadow {
         ensures tables { self.new.tables ≡ with_table (Table.Pages space index) self.old.tables }
         ensures slot { result ≡ (placed self.new).slot (Table.Pages space index) }
         ensures area { self.new.area ≡ self.old.area }
-        ensures size { length (R.bytes ram.new) ≡ length (R.bytes ram.old) }
-        ensures under { take self.old.area (R.bytes ram.new) ≡ take self.old.area (R.bytes ram.old) }
-        ensures over { drop (self.old.area + AREA_BYTES) (R.bytes ram.new)
-            ≡ drop (self.old.area + AREA_BYTES) (R.bytes ram.old) }
+        ensures outside { OutsideStays self.old.area (R.bytes ram.old) (R.bytes ram.new) }
         ensures rest { R.rest ram.new ≡ R.rest ram.old }
     {
         if let Some(slot) = self.below(ram, space, index, above) {
@@ -425,10 +398,7 @@ impl Shadow {
         ensures shadow { shadowed self.new (R.bytes ram.new)
             ≡ room_for space page (shadowed self.old (R.bytes ram.old)) }
         ensures area { self.new.area ≡ self.old.area }
-        ensures size { length (R.bytes ram.new) ≡ length (R.bytes ram.old) }
-        ensures below { take self.old.area (R.bytes ram.new) ≡ take self.old.area (R.bytes ram.old) }
-        ensures above { drop (self.old.area + AREA_BYTES) (R.bytes ram.new)
-            ≡ drop (self.old.area + AREA_BYTES) (R.bytes ram.old) }
+        ensures outside { OutsideStays self.old.area (R.bytes ram.old) (R.bytes ram.new) }
         ensures rest { R.rest ram.new ≡ R.rest ram.old }
     {
         let full = self.is_full_for(ram, space, page);
@@ -457,10 +427,7 @@ impl Shadow {
             ≡ filled space page frame writable (shadowed self.old (R.bytes ram.old)) }
         ensures area { self.new.area ≡ self.old.area }
         ensures stands { BothStand (R.bytes ram.new) self.new.area }
-        ensures size { length (R.bytes ram.new) ≡ length (R.bytes ram.old) }
-        ensures below { take self.old.area (R.bytes ram.new) ≡ take self.old.area (R.bytes ram.old) }
-        ensures above { drop (self.old.area + AREA_BYTES) (R.bytes ram.new)
-            ≡ drop (self.old.area + AREA_BYTES) (R.bytes ram.old) }
+        ensures outside { OutsideStays self.old.area (R.bytes ram.old) (R.bytes ram.new) }
         ensures rest { R.rest ram.new ≡ R.rest ram.old }
     {
         let full = self.make_room(ram, space, page);

@@ -1,7 +1,7 @@
 use Rattle.std.proofs.Common.{arith, ap, ◌∙◌, ℕ, inl, inr}
 use Rattle.std.proofs.lemmas.Bool.{cases_eq}
 use Rattle.vm_shadow.specs.Area.{longs, updated}
-use Rattle.vm_shadow.proofs.Longs.{updated_same, updated_other}
+use Rattle.vm_shadow.proofs.Longs.{updated_same, updated_other, outside_on}
 use Rattle.vm_shadow.proofs.area.wipe.Goals as goal
 
 pub loop-index-preserved : goal.loop-index-preserved
@@ -12,8 +12,6 @@ loop-index-preserved g c =
         | inl e ↦ ap (updated t c.loop-index.index 0) e ∙ updated_same t c.loop-index.index 0
         | inr n ↦ updated_other t c.loop-index.index 0 at n ∙ c.loop-index.invariant.longs at (omega arith)
       ];
-      size = c.set_in.ensures.size ∙ c.loop-index.invariant.size;
-      below = c.set_in.ensures.below ∙ c.loop-index.invariant.below;
-      above = c.set_in.ensures.above ∙ c.loop-index.invariant.above;
+      outside = outside_on c.args.area c.loop-index.invariant.outside c.set_in.ensures.outside;
       rest = c.set_in.ensures.rest ∙ c.loop-index.invariant.rest;
     }

@@ -16,8 +16,8 @@ invariant_of-self g c =
     record {
       aligned = m.aligned;
       whole = m.whole;
-      small = rw e.size m.small;
-      inside = rw e.size m.inside;
+      small = rw e.outside.size m.small;
+      inside = rw e.outside.size m.inside;
       area = e.area ∙ m.area;
       maps = e.tables;
       placed = subst (IsPlaced m.base) (sym is) (placed_nothing m.base);
@@ -38,12 +38,12 @@ pub returns-clause-world : goal.returns-clause-world
 returns-clause-world g c =
     let m = c.args.self.now in
     let e = c.clear.ensures in
-    let (part, below, above) = around (g.R.Ram.bytes m.ram.now) (g.R.Ram.bytes c.clear.new.ram) m.base m.size m.shadow.now.area m.area e.below e.above in
+    let (part, below, above) = around (g.R.Ram.bytes m.ram.now) (g.R.Ram.bytes c.clear.new.ram) m.base m.size m.shadow.now.area m.area e.outside.below e.outside.above in
     rw part refl
 
 pub returns-clause-beyond : goal.returns-clause-beyond
 returns-clause-beyond g c =
     let m = c.args.self.now in
     let e = c.clear.ensures in
-    let (part, below, above) = around (g.R.Ram.bytes m.ram.now) (g.R.Ram.bytes c.clear.new.ram) m.base m.size m.shadow.now.area m.area e.below e.above in
-    rw (e.rest, e.size, below, above) refl
+    let (part, below, above) = around (g.R.Ram.bytes m.ram.now) (g.R.Ram.bytes c.clear.new.ram) m.base m.size m.shadow.now.area m.area e.outside.below e.outside.above in
+    rw (e.rest, e.outside.size, below, above) refl

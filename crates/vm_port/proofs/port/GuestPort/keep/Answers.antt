@@ -23,8 +23,8 @@ invariant_of-self g c =
     record {
       aligned = m.aligned;
       whole = m.whole;
-      small = rw e.size m.small;
-      inside = rw e.size m.inside;
+      small = rw e.outside.size m.small;
+      inside = rw e.outside.size m.inside;
       area = e.area ∙ m.area;
       maps = e.tables;
       placed = subst (IsPlaced m.base) (sym e.shadow) (placed_dropped m.base before gone.space gone.page m.placed);
@@ -67,12 +67,12 @@ pub returns-in-Some-clause-world : goal.returns-in-Some-clause-world
 returns-in-Some-clause-world g c =
     let m = c.args.self.now in
     let e = c.drop_page.ensures in
-    let (part, below, above) = around (g.R.Ram.bytes m.ram.now) (g.R.Ram.bytes c.drop_page.new.ram) m.base m.size m.shadow.now.area m.area e.below e.above in
+    let (part, below, above) = around (g.R.Ram.bytes m.ram.now) (g.R.Ram.bytes c.drop_page.new.ram) m.base m.size m.shadow.now.area m.area e.outside.below e.outside.above in
     rw (part, c.fill.ensures.entries) refl
 
 pub returns-in-Some-clause-beyond : goal.returns-in-Some-clause-beyond
 returns-in-Some-clause-beyond g c =
     let m = c.args.self.now in
     let e = c.drop_page.ensures in
-    let (part, below, above) = around (g.R.Ram.bytes m.ram.now) (g.R.Ram.bytes c.drop_page.new.ram) m.base m.size m.shadow.now.area m.area e.below e.above in
-    rw (e.rest, e.size, below, above) refl
+    let (part, below, above) = around (g.R.Ram.bytes m.ram.now) (g.R.Ram.bytes c.drop_page.new.ram) m.base m.size m.shadow.now.area m.area e.outside.below e.outside.above in
+    rw (e.rest, e.outside.size, below, above) refl
