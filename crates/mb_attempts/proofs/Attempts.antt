@@ -16,8 +16,8 @@ use Rattle.mb_meaning.specs.Ends.{Carried, Stopped, Performed}
 use Rattle.mb_processor.specs.SystemEnds.{with_registers}
 use Rattle.mb_meaning.specs.Rows.{row_of, perform_of}
 use Rattle.mb_meaning.specs.Attempt.{Unfound, NoInstruction, Unfetched, found_none, Found, fetched_of, past, attempt_of}
-use Rattle.mb_processor.specs.Raise.{is_due, tracing_of, interrupt_of, refused_of}
-use Rattle.mb_processor.specs.Step.{finish_of, supervised_of, unprivileged_of, executed_of, unfound_of, instruction_of, interrupt_mask, rank, step_of}
+use Rattle.mb_processor.specs.Raise.{is_due, trace_if_of, interrupt_of, refuse_of}
+use Rattle.mb_processor.specs.Step.{finish_instruction_of, execute_supervised_of, execute_unprivileged_of, execute_of, unfound_of, execute_next_of, interrupt_mask, rank, step_of}
 use Rattle.mb_attempts.specs.Attempts.{AttemptsPerform, AttemptsFindNone, is_attempted, NoOther, finished_by, AttemptThenFinish, IsUntraced, UntracedStepsGo}
 
 -- ---- an attempt
@@ -45,15 +45,15 @@ not_above level mask h = grind (arith, nat_tests)
 
 -- a privileged instruction is refused in user mode
 in_user_mode : {S : Type 0} (bus : Bus S) (cpu : Cpu) (t : S) (i : System) (n : ℕ) (supervisor : Bool) → not supervisor ≡ true
-    → run bus (choose supervisor (supervised_of i n cpu) (refused_of PRIVILEGED cpu)) t ≡ run bus (refused_of PRIVILEGED cpu) t
+    → run bus (choose supervisor (execute_supervised_of i n cpu) (refuse_of PRIVILEGED cpu)) t ≡ run bus (refuse_of PRIVILEGED cpu) t
 in_user_mode bus cpu t i n false h = refl
 in_user_mode bus cpu t i n true h = absurd (cc h)
 
 -- an instruction that was found is carried out as the attempt does it, and then finished
 executed : {S : Type 0} (bus : Bus S) (i : Instr) (n : ℕ) (cpu : Cpu) (t : S) → is_attempted i cpu ≡ true
-    → run bus (executed_of i n cpu) t
+    → run bus (execute_of i n cpu) t
     ≡ finished_by bus i cpu (run bus (perform_of i (plain_of cpu.regs).pc (space_of cpu) (past n (plain_of cpu.regs))) t)
-unfolding executed_of unprivileged_of perform_of row_of finish_of
+unfolding execute_of execute_unprivileged_of perform_of row_of finish_instruction_of
 executed bus (instr.Move i) n cpu t k = refl
 executed bus (instr.Arith i) n cpu t k = refl
 executed bus (instr.Flow i) n cpu t k = refl
@@ -62,27 +62,27 @@ executed bus (instr.System i) n cpu t k = in_user_mode bus cpu t i n (is_supervi
 -- where none was found, the end without one is finished, as any instruction's
 none_found : {S : Type 0} (bus : Bus S) (i : Instr) (unfound : Unfound) (cpu : Cpu) (p : Plain) (t : S)
     → run bus (unfound_of unfound cpu) t ≡ finished_by bus i cpu (found_none unfound p, t)
-unfolding unfound_of finish_of
+unfolding unfound_of finish_instruction_of
 none_found bus i (NoInstruction vector) cpu p t = refl
 none_found bus i (Unfetched refused) cpu p t = refl
 
 -- what a step does with an answer of the fetch
 by_found : {S : Type 0} (bus : Bus S) (cpu : Cpu) (i : Instr) (r : Found × S) → NoOther i r.0 → is_attempted i cpu ≡ true
-    → run bus (either r.0 (λ unfound. unfound_of unfound cpu) (λ found. executed_of found.0 found.1 cpu)) r.1
+    → run bus (either r.0 (λ unfound. unfound_of unfound cpu) (λ found. execute_of found.0 found.1 cpu)) r.1
     ≡ finished_by bus i cpu (carrying bus (space_of cpu) (plain_of cpu.regs) r)
 by_found bus cpu i (Ok (j, n), t) h k =
     let P : Instr → Type 0 = λ i. is_attempted i cpu ≡ true
-    → run bus (executed_of j n cpu) t
+    → run bus (execute_of j n cpu) t
     ≡ finished_by bus i cpu (run bus (perform_of j (plain_of cpu.regs).pc (space_of cpu) (past n (plain_of cpu.regs))) t) in
     subst P h (executed bus j n cpu t) k
 by_found bus cpu i (Err unfound, t) h k = none_found bus i unfound cpu (plain_of cpu.regs) t
 
 pub attempt_then_finish : {S : Type 0} → AttemptThenFinish S
-unfolding step_of instruction_of attempt_of plain_of
+unfolding step_of execute_next_of attempt_of plain_of
 attempt_then_finish bus level cpu s i masked going other k =
-    chosen bus (nat_lt (interrupt_mask cpu) (rank level)) (interrupt_of level cpu) (choose cpu.stopped (Return (finish.Idle, cpu)) (instruction_of cpu)) s
+    chosen bus (nat_lt (interrupt_mask cpu) (rank level)) (interrupt_of level cpu) (choose cpu.stopped (Return (finish.Idle, cpu)) (execute_next_of cpu)) s
     (not_above (rank level) (interrupt_mask cpu) masked)
-    ∙ chosen bus cpu.stopped (Return (finish.Idle, cpu)) (instruction_of cpu) s going
+    ∙ chosen bus cpu.stopped (Return (finish.Idle, cpu)) (execute_next_of cpu) s going
     ∙ by_found bus cpu i (run bus (fetched_of (space_of cpu) cpu.regs.pc) s) other k
 
 -- ---- one that is carried out, and not traced
@@ -93,10 +93,10 @@ none_due cpu flow untraced = rw (untraced.all, untraced.flow) refl
 -- what was carried out is finished with no exception
 finished_done : {S : Type 0} (bus : Bus S) (i : Instr) (cpu : Cpu) (q : Performed × S) (t : S) (done : Carried) → IsUntraced cpu → q ≡ (Ok done, t)
     → finished_by bus i cpu q ≡ ((finish.Went, with_registers done.plain cpu), t)
-unfolding finish_of
+unfolding finish_instruction_of
 finished_done bus i cpu q t done untraced e =
     ap (finished_by bus i cpu) e
-    ∙ ap (λ (due : Bool). run bus (tracing_of finish.Went due cpu.regs.pc (with_registers done.plain cpu)) t) (none_due cpu done.flow untraced)
+    ∙ ap (λ (due : Bool). run bus (trace_if_of finish.Went due cpu.regs.pc (with_registers done.plain cpu)) t) (none_due cpu done.flow untraced)
 
 -- what was stopped was not carried out
 not_done : {S : Type 0} (stop : Stopped) (done : Carried) (u t : S) → (let q : Performed × S = (Err stop, u) in q) ≡ (Ok done, t) → ⊥
@@ -104,7 +104,7 @@ not_done {S = S} stop done u t e = let z : Err stop ≡ Ok done = ap (λ (q : Pe
 
 goes_on : {S : Type 0} (bus : Bus S) (cpu : Cpu) (done : Carried) (t : S) (r : Found × S) → IsUntraced cpu
     → carrying bus (space_of cpu) (plain_of cpu.regs) r ≡ (Ok done, t)
-    → run bus (either r.0 (λ unfound. unfound_of unfound cpu) (λ found. executed_of found.0 found.1 cpu)) r.1
+    → run bus (either r.0 (λ unfound. unfound_of unfound cpu) (λ found. execute_of found.0 found.1 cpu)) r.1
     ≡ ((finish.Went, with_registers done.plain cpu), t)
 unfolding perform_of row_of
 goes_on bus cpu done t (Ok (instr.Move i, n), u) untraced e =
@@ -117,9 +117,9 @@ goes_on bus cpu done t (Ok (instr.System i, n), u) untraced e = absurd (not_done
 goes_on bus cpu done t (Err unfound, u) untraced e = absurd (not_done _ done u t e)
 
 pub untraced_steps_go : {S : Type 0} → UntracedStepsGo S
-unfolding step_of instruction_of attempt_of plain_of
+unfolding step_of execute_next_of attempt_of plain_of
 untraced_steps_go bus level cpu s t done masked untraced e =
-    chosen bus (nat_lt (interrupt_mask cpu) (rank level)) (interrupt_of level cpu) (choose cpu.stopped (Return (finish.Idle, cpu)) (instruction_of cpu)) s
+    chosen bus (nat_lt (interrupt_mask cpu) (rank level)) (interrupt_of level cpu) (choose cpu.stopped (Return (finish.Idle, cpu)) (execute_next_of cpu)) s
     (not_above (rank level) (interrupt_mask cpu) masked)
-    ∙ chosen bus cpu.stopped (Return (finish.Idle, cpu)) (instruction_of cpu) s untraced.going
+    ∙ chosen bus cpu.stopped (Return (finish.Idle, cpu)) (execute_next_of cpu) s untraced.going
     ∙ goes_on bus cpu done t (run bus (fetched_of (space_of cpu) cpu.regs.pc) s) untraced e

@@ -14,7 +14,7 @@ use Rattle.mb_processor.specs.SystemEnds.{with_registers}
 use Rattle.mb_meaning.specs.Rows.{perform_of}
 use Rattle.mb_meaning.specs.Attempt.{Unfound, found_none, Found, fetched_of, past, attempt_of}
 use Rattle.mb_processor.specs.Raise.{Stepped, traces_all, traces_flow}
-use Rattle.mb_processor.specs.Step.{finish_of, interrupt_mask, rank, step_of}
+use Rattle.mb_processor.specs.Step.{finish_instruction_of, interrupt_mask, rank, step_of}
 
 -- ---- an attempt
 
@@ -52,7 +52,8 @@ attempted_by bus cpu s = run bus (attempt_of (space_of cpu) (plain_of cpu.regs))
 -- the finish of an attempt that came to this
 abbrev pub finished_by : {S : Type 0} → Bus S → Instr → Cpu → Performed × S → Stepped × S
 finished_by bus i cpu (performed, after) =
-    let (end, registers) = closed performed in run bus (finish_of i end cpu (with_registers registers cpu)) after
+    let (end, registers) = closed performed in run bus
+    (finish_instruction_of i end cpu (with_registers registers cpu)) after
 
 -- A step that takes no interrupt, of a processor that is not stopped, is its attempt and the finish of the attempt's
 -- end. Where no instruction was found that end says all, and the finish is that of any instruction.

@@ -10,7 +10,7 @@ use Rattle.mb_devices.specs.Devices.{DeviceState, ticked, ticks, passed, level_o
 use Rattle.mb_devices.proofs.Passing.{ticks_pass}
 use Rattle.mb_processor.specs.declared.Finish.TheVariants as finish
 use Rattle.mb_processor.specs.Raise.{Stepped, interrupt_of}
-use Rattle.mb_processor.specs.Step.{interrupt_mask, instruction_of, rank, step_of}
+use Rattle.mb_processor.specs.Step.{interrupt_mask, execute_next_of, rank, step_of}
 use Rattle.mb_machine.specs.Bus.{bus_of}
 use Rattle.mb_machine.specs.Machine.{Machine, begun, run_of, state_after, stepped, stepping, takes_steps, with_finish}
 use Rattle.vm_meaning.proofs.Batches.{one_tick}
@@ -33,7 +33,7 @@ not_above mask level h = grind (arith, nat_tests)
 idles : (level : ℕ) (cpu : Cpu) → rank level ≤ interrupt_mask cpu → cpu.stopped ≡ true → step_of level cpu ≡ Return (finish.Idle, cpu)
 unfolding step_of
 idles level cpu masked stopped =
-    chosen (nat_lt (interrupt_mask cpu) (rank level)) cpu.stopped (interrupt_of level cpu) (Return (finish.Idle, cpu)) (instruction_of cpu)
+    chosen (nat_lt (interrupt_mask cpu) (rank level)) cpu.stopped (interrupt_of level cpu) (Return (finish.Idle, cpu)) (execute_next_of cpu)
     (not_above (interrupt_mask cpu) (rank level) masked) stopped
 
 stays_stopped : (cpu : Cpu) (d : DeviceState) → d.off ≡ false → cpu.stopped ≡ true → state_after finish.Idle cpu d ≡ Stopped

@@ -9,7 +9,7 @@ use Rattle.mb_port.specs.declared.types.Fault.{Fault}
 use Rattle.mb_instr.specs.declared.size.Size.{Size}
 use Rattle.mb_instr.specs.declared.size.Size.TheVariants.{Byte, Word, Long}
 use Rattle.mb_instr.specs.Sizes.{bytes_of}
-use Rattle.mb_ea.specs.Reading.{read_pieces, read_cut}
+use Rattle.mb_ea.specs.Reading.{read_pieces_of, read_cut_of}
 
 piece_of_byte : (at : ℕ) → piece_len at 1 ≡ 1
 unfolding piece_len
@@ -42,8 +42,8 @@ same_answer bus k (Ok x) s = ap (λ n. (Ok n, s)) (omega arith)
 same_answer bus k (Err e) s = refl
 
 pub single_read : {S : Type 0} (bus : Bus S) (space : Space) (at : ℕ) (size : Size) (s : S) → at % bytes_of size ≡ 0 →
-    run bus (read_cut space at (bytes_of size)) s ≡ run bus (read space (record { at = at; len = bytes_of size })) s
-unfolding read_cut
+    run bus (read_cut_of space at (bytes_of size)) s ≡ run bus (read space (record { at = at; len = bytes_of size })) s
+unfolding read_cut_of
 single_read bus space at size s h =
-    ap (λ (ps : List Piece). run bus (read_pieces space ps 0) s) (one_piece size at h)
+    ap (λ (ps : List Piece). run bus (read_pieces_of space ps 0) s) (one_piece size at h)
     ∙ same_answer bus (256 ^ bytes_of size) _ _

@@ -16,7 +16,7 @@ use Rattle.mb_instr.specs.Registers.{address_register, with_address_register}
 use Rattle.mb_ea.specs.declared.addresses.Target.{Target}
 use Rattle.mb_ea.specs.declared.addresses.Target.TheVariants.{Reg, Memory, Value}
 use Rattle.mb_ea.specs.declared.resolving.Parts.{Parts}
-use Rattle.mb_ea.specs.Reading.{read_of}
+use Rattle.mb_ea.specs.Reading.{read_operand_of}
 use Rattle.mb_ea.specs.Addresses.{sum, difference, step_of, index_of, displacement_of}
 
 -- what a full extension word spells: bit 7 leaves the base out, bit 6 the index
@@ -31,7 +31,7 @@ parts_of base w bd od p = record {
 -- the address, where it is the long that stands in memory and an outer displacement
 abbrev pub indirect_of : Space → ℕ → ℕ → Routine (Result ℕ ReadFault)
 indirect_of space at outer = do
-  long ← read_of space at 4
+  long ← read_operand_of space at 4
   Return (Ok (sum long outer))
 
 -- without indirection; preindexed, where the index counts before the long is read; postindexed, where it

@@ -4,7 +4,7 @@ ghost use Rattle.std.specs.Prelude.{◌≡◌, ◌+◌, ◌*◌, ◌^◌, ◌<�
 ghost use Rattle.mb_port.specs.Routine.{run};
 ghost use Rattle.mb_port.specs.Pieces.{ArePieces, total};
 ghost use Rattle.mb_instr.specs.Sizes.{bytes_of, values_of};
-ghost use Rattle.mb_ea.specs.Reading.{read_pieces, read_cut, read_of};
+ghost use Rattle.mb_ea.specs.Reading.{read_pieces_of, read_cut_of, read_operand_of};
 
 use mb_instr::Size;
 use mb_port::{Fault, Piece, Port, Space, split};
@@ -40,7 +40,7 @@ fn read_pieces<P: Port>(
     requires aligned { ArePieces pieces.now }
     requires fits { len + total pieces.now ≤ 5 }
     requires in_range { value < 256 ^ len }
-    ensures means { run P.bus (read_pieces space pieces.now value) (P.world port.old) ≡ (result, P.world port.new) }
+    ensures means { run P.bus (read_pieces_of space pieces.now value) (P.world port.old) ≡ (result, P.world port.new) }
     ensures range { IfOk result (λ read. read < 256 ^ (len + total pieces.now)) }
     ensures rest { P.rest port.new ≡ P.rest port.old }
 {
@@ -57,7 +57,7 @@ fn read_pieces<P: Port>(
 /// Reads the pieces of an operand of one to five bytes.
 fn read_cut<P: Port>(space: Space, at: u32, len: u8, port: &mut P) -> Result<u64, Fault>
     requires { (1 ≤ len) × (len ≤ 5) }
-    ensures means { run P.bus (read_cut space at len) (P.world port.old) ≡ (result, P.world port.new) }
+    ensures means { run P.bus (read_cut_of space at len) (P.world port.old) ≡ (result, P.world port.new) }
     ensures range { IfOk result (λ read. read < 256 ^ len) }
     ensures rest { P.rest port.new ≡ P.rest port.old }
 {
@@ -67,7 +67,7 @@ fn read_cut<P: Port>(space: Space, at: u32, len: u8, port: &mut P) -> Result<u64
 
 /// Reads the pieces of an operand that is not one piece.
 fn read_parts<P: Port>(space: Space, at: u32, size: Size, port: &mut P) -> Result<u32, Fault>
-    ensures means { run P.bus (read_cut space at (bytes_of size)) (P.world port.old) ≡ (result, P.world port.new) }
+    ensures means { run P.bus (read_cut_of space at (bytes_of size)) (P.world port.old) ≡ (result, P.world port.new) }
     ensures range { IfOk result (λ read. read < values_of size) }
     ensures rest { P.rest port.new ≡ P.rest port.old }
 {
@@ -78,7 +78,7 @@ fn read_parts<P: Port>(space: Space, at: u32, size: Size, port: &mut P) -> Resul
 /// Reads the pieces of an operand of a size; mostly it is one.
 #[inline(always)]
 fn read_sized<P: Port>(space: Space, at: u32, size: Size, port: &mut P) -> Result<u32, Fault>
-    ensures means { run P.bus (read_cut space at (bytes_of size)) (P.world port.old) ≡ (result, P.world port.new) }
+    ensures means { run P.bus (read_cut_of space at (bytes_of size)) (P.world port.old) ≡ (result, P.world port.new) }
     ensures range { IfOk result (λ read. read < values_of size) }
     ensures rest { P.rest port.new ≡ P.rest port.old }
 {
@@ -92,10 +92,10 @@ fn read_sized<P: Port>(space: Space, at: u32, size: Size, port: &mut P) -> Resul
 
 /// Reads an operand of one to five bytes, cut into pieces: the big-endian number that they spell.
 /// After a refused piece no later one is read.
-#[tactic(auto, unfolding(crate::specs::Reading::read_of))]
+#[tactic(auto, unfolding(crate::specs::Reading::read_operand_of))]
 pub fn read_operand<P: Port>(space: Space, at: u32, len: u8, port: &mut P) -> Result<u64, ReadFault>
     requires { (1 ≤ len) × (len ≤ 5) }
-    ensures means { run P.bus (read_of space at len) (P.world port.old) ≡ (result, P.world port.new) }
+    ensures means { run P.bus (read_operand_of space at len) (P.world port.old) ≡ (result, P.world port.new) }
     ensures range { IfOk result (λ read. read < 256 ^ len) }
     ensures rest { P.rest port.new ≡ P.rest port.old }
 {
@@ -107,14 +107,15 @@ pub fn read_operand<P: Port>(space: Space, at: u32, len: u8, port: &mut P) -> Re
 
 /// Reads an operand of a size, as [`read_operand`] does.
 #[inline(always)]
-#[tactic(auto, unfolding(crate::specs::Reading::read_of))]
+#[tactic(auto, unfolding(crate::specs::Reading::read_operand_of))]
 pub fn read_value<P: Port>(
     space: Space,
     at: u32,
     size: Size,
     port: &mut P,
 ) -> Result<u32, ReadFault>
-    ensures means { run P.bus (read_of space at (bytes_of size)) (P.world port.old) ≡ (result, P.world port.new) }
+    ensures means { run P.bus (read_operand_of space at (bytes_of size)) (P.world port.old)
+        ≡ (result, P.world port.new) }
     ensures range { IfOk result (λ read. read < values_of size) }
     ensures rest { P.rest port.new ≡ P.rest port.old }
 {

@@ -8,13 +8,13 @@ use Rattle.mb_instr.specs.declared.vectors.TheConstants.{FORMAT_ERROR}
 use Rattle.mb_model.specs.declared.processor.Cpu.{Cpu}
 use Rattle.mb_ea.specs.declared.reading.ReadFault.{ReadFault}
 use Rattle.mb_ea.specs.Addresses.{sum}
-use Rattle.mb_ea.specs.Reading.{read_of}
+use Rattle.mb_ea.specs.Reading.{read_operand_of}
 use Rattle.mb_writes.specs.declared.ends.Ended.{Ended}
 use Rattle.mb_writes.specs.declared.ends.Ended.TheVariants as ended
 use Rattle.mb_processor.specs.declared.entering.Cause.{Cause}
 use Rattle.mb_processor.specs.declared.entering.Entered.{Entered}
 use Rattle.mb_processor.specs.declared.entering.Entered.TheVariants as entered
-use Rattle.mb_processor.specs.Entry.{Places, frames_of, settled, check_frames, put_frames}
+use Rattle.mb_processor.specs.Entry.{Places, frames_of, settled, check_frames_of, put_frames_of}
 
 -- Where an entry was carried out, SR and the stacks are as its frames leave them, and PC alone is the handler's. Where
 -- a check was refused no register changed.
@@ -34,20 +34,20 @@ IfHalted entered.DoubleFault P = P
 pub record IsUnplaced {S : Type 0} (bus : Bus S) (c : Cause) (old : Regs) (new : Regs) (s t : S) : Type 0 where
   pub access : IsSome c.access
   pub fault : Fault
-  pub refused : run bus (check_frames (frames_of c old)) s ≡ (Err fault, t)
+  pub refused : run bus (check_frames_of (frames_of c old)) s ≡ (Err fault, t)
   pub regs : new ≡ record old { pc = c.pc }
 
 -- the long in the table of vectors can't be read
 pub record IsUnread {S : Type 0} (bus : Bus S) (vector : ℕ) (vbr : ℕ) (s t : S) : Type 0 where
   pub fault : ReadFault
-  pub refused : run bus (read_of Super (sum vbr (4 * vector)) 4) s ≡ (Err fault, t)
+  pub refused : run bus (read_operand_of Super (sum vbr (4 * vector)) 4) s ≡ (Err fault, t)
 
 -- The frames are checked and written, but the vector can't be read. The registers are as the frames leave them.
 pub record HasNoHandler {S : Type 0} (bus : Bus S) (c : Cause) (old : Cpu) (new : Regs) (s t : S) : Type 0 where
   pub places : Places
   pub between : S
-  pub checked : run bus (check_frames (frames_of c old.regs)) s ≡ (Ok places, between)
-  pub unread : let (_, stacked) = run bus (put_frames (frames_of c old.regs) places) between in
+  pub checked : run bus (check_frames_of (frames_of c old.regs)) s ≡ (Ok places, between)
+  pub unread : let (_, stacked) = run bus (put_frames_of (frames_of c old.regs) places) between in
       IsUnread bus c.vector old.vbr stacked t
   pub regs : new ≡ settled c (frames_of c old.regs) old.regs
 

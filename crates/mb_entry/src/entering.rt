@@ -2,7 +2,7 @@
 
 ghost use Rattle.std.specs.Prelude.{◌≡◌, ◌<◌, false, IsSome};
 ghost use Rattle.mb_port.specs.Routine.{run};
-ghost use Rattle.mb_processor.specs.Entry.{frames_of, check_frames, vectored, unstacked, enter_of};
+ghost use Rattle.mb_processor.specs.Entry.{frames_of, check_frames_of, go_to_handler_of, unstacked, enter_of};
 ghost use Rattle.mb_entry.specs.Clauses.{RegsAfter, GoesOn, IfFaulted, IfHalted, IsUnread, IsDoubleFault};
 
 use crate::places::{check_frames, put_frames};
@@ -29,9 +29,9 @@ fn unstacked(fault: Fault, cause: &Cause, cpu: &mut Cpu) -> Entered
 }
 
 /// Goes where the table of vectors says.
-#[tactic(auto, unfolding(mb_processor::specs::Entry::vectored))]
+#[tactic(auto, unfolding(mb_processor::specs::Entry::go_to_handler_of))]
 fn go_to_handler<P: Port>(cause: &Cause, cpu: &mut Cpu, port: &mut P) -> Entered
-    ensures means { run P.bus (vectored cause.now cpu.old) (P.world port.old)
+    ensures means { run P.bus (go_to_handler_of cause.now cpu.old) (P.world port.old)
         ≡ ((result, cpu.new), P.world port.new) }
     ensures went { GoesOn result cpu.old cpu.new }
     ensures unread { IfHalted result
@@ -62,7 +62,7 @@ pub fn enter<P: Port>(cpu: &mut Cpu, port: &mut P, cause: &Cause) -> Entered
 
     // Where a check was refused nothing was written: the checks alone were made.
     ensures unwritten { IfFaulted result (λ fault.
-        run P.bus (check_frames (frames_of cause.now cpu.old.regs)) (P.world port.old)
+        run P.bus (check_frames_of (frames_of cause.now cpu.old.regs)) (P.world port.old)
         ≡ (Err fault, P.world port.new)) }
 
     // The processor halts where a check was refused of an access error's frame, or where the vector can't be read.

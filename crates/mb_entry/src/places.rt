@@ -3,8 +3,8 @@
 ghost use Rattle.std.specs.Prelude.{◌≡◌, ◌≤◌, ◌+◌, length, All, IfOk, OnOk};
 ghost use Rattle.mb_port.specs.Routine.{run};
 ghost use Rattle.mb_port.specs.Pieces.{cut};
-ghost use Rattle.mb_writes.specs.Checked.{probe_pieces, bytes_at, probed, located, IsLength, IsOpen, AreOpen};
-ghost use Rattle.mb_processor.specs.Entry.{probe_frame, probe_second, put_bytes, put_second, check_frames, put_frames};
+ghost use Rattle.mb_writes.specs.Checked.{probe_pieces_of, bytes_at, probed, located, IsLength, IsOpen, AreOpen};
+ghost use Rattle.mb_processor.specs.Entry.{probe_frame_of, probe_second_of, put_bytes_of, put_second_of, check_frames_of, put_frames_of};
 ghost use Rattle.mb_entry.specs.Stacks.{seen, seen_second, frames_seen};
 ghost use Rattle.byteorder.specs.Endian.{big_number};
 ghost use Rattle.mb_entry.specs.Places.{places_seen, placed, Covers};
@@ -33,7 +33,7 @@ fn probe_bytes<P: Port>(
 ) -> Result<(), Fault>
     requires room { length places.old.items + length (cut left at left) ≤ 17 }
     requires open { All (IsOpen (P.exists (P.rest port.old))) places.old.items }
-    ensures means { run P.bus (probe_pieces Space.Super (cut left at left) places.old.items) (P.world port.old)
+    ensures means { run P.bus (probe_pieces_of Space.Super (cut left at left) places.old.items) (P.world port.old)
         ≡ (probed result places.new.items, P.world port.new) }
     ensures open { OnOk result (All (IsOpen (P.exists (P.rest port.new))) places.new.items) }
     ensures bytes { OnOk result (bytes_at places.new.items ≡ bytes_at places.old.items + left) }
@@ -54,12 +54,13 @@ fn probe_bytes<P: Port>(
 }
 
 /// Checks a frame for writing. The answer is where its pieces stand.
-#[tactic(auto, unfolding(mb_processor::specs::Entry::probe_frame), using(crate::proofs::Few::at_most_seventeen))]
+#[tactic(auto, unfolding(mb_processor::specs::Entry::probe_frame_of), using(crate::proofs::Few::at_most_seventeen))]
 fn probe_frame<P: Port>(
     frame: &Stacked,
     port: &mut P,
 ) -> Result<ArrayVec<Place, MOST_PIECES>, Fault>
-    ensures means { run P.bus (probe_frame (seen frame.now)) (P.world port.old) ≡ (located result, P.world port.new) }
+    ensures means { run P.bus (probe_frame_of (seen frame.now)) (P.world port.old)
+        ≡ (located result, P.world port.new) }
     ensures open { IfOk result (λ places.
         AreOpen (P.exists (P.rest port.new)) (length frame.now.bytes.items) places.items) }
     ensures rest { P.rest port.new ≡ P.rest port.old }
@@ -74,7 +75,7 @@ fn probe_second<P: Port>(
     second: &Option<Stacked>,
     port: &mut P,
 ) -> Result<ArrayVec<Place, MOST_PIECES>, Fault>
-    ensures means { run P.bus (probe_second (seen_second second.now)) (P.world port.old)
+    ensures means { run P.bus (probe_second_of (seen_second second.now)) (P.world port.old)
         ≡ (located result, P.world port.new) }
     ensures open { IfOk result (λ places. Covers (P.exists (P.rest port.new)) second.now places.items) }
     ensures rest { P.rest port.new ≡ P.rest port.old }
@@ -86,9 +87,9 @@ fn probe_second<P: Port>(
 }
 
 /// Checks every piece of every frame for writing.
-#[tactic(auto, unfolding(mb_processor::specs::Entry::check_frames))]
+#[tactic(auto, unfolding(mb_processor::specs::Entry::check_frames_of))]
 pub(crate) fn check_frames<P: Port>(frames: &Frames, port: &mut P) -> Result<Places, Fault>
-    ensures means { run P.bus (check_frames (frames_seen frames.now)) (P.world port.old)
+    ensures means { run P.bus (check_frames_of (frames_seen frames.now)) (P.world port.old)
         ≡ (placed result, P.world port.new) }
     ensures first { IfOk result (λ places.
         AreOpen (P.exists (P.rest port.new)) (length frames.now.first.bytes.items) places.first.items) }
@@ -118,7 +119,7 @@ fn number(bytes: &[u8], len: u8) -> u32
 fn put_bytes<P: Port>(places: &[Place], bytes: &[u8], port: &mut P)
     requires open { All (IsOpen (P.exists (P.rest port.old))) places.now }
     requires enough { bytes_at places.now ≤ length bytes.now }
-    ensures means { run P.bus (put_bytes places.now bytes.now) (P.world port.old) ≡ (result, P.world port.new) }
+    ensures means { run P.bus (put_bytes_of places.now bytes.now) (P.world port.old) ≡ (result, P.world port.new) }
     ensures rest { P.rest port.new ≡ P.rest port.old }
 {
     if let [first, rest @ ..] = places {
@@ -130,7 +131,7 @@ fn put_bytes<P: Port>(places: &[Place], bytes: &[u8], port: &mut P)
 /// Writes a second frame at its places, where there is one.
 fn put_second<P: Port>(second: &Option<Stacked>, places: &[Place], port: &mut P)
     requires { Covers (P.exists (P.rest port.old)) second.now places.now }
-    ensures means { run P.bus (put_second (seen_second second.now) places.now) (P.world port.old)
+    ensures means { run P.bus (put_second_of (seen_second second.now) places.now) (P.world port.old)
         ≡ (result, P.world port.new) }
     ensures rest { P.rest port.new ≡ P.rest port.old }
 {
@@ -140,11 +141,11 @@ fn put_second<P: Port>(second: &Option<Stacked>, places: &[Place], port: &mut P)
 }
 
 /// Writes the frames at their places.
-#[tactic(auto, unfolding(mb_processor::specs::Entry::put_frames))]
+#[tactic(auto, unfolding(mb_processor::specs::Entry::put_frames_of))]
 pub(crate) fn put_frames<P: Port>(frames: &Frames, places: &Places, port: &mut P)
     requires first { AreOpen (P.exists (P.rest port.old)) (length frames.now.first.bytes.items) places.now.first.items }
     requires second { Covers (P.exists (P.rest port.old)) frames.now.second places.now.second.items }
-    ensures means { run P.bus (put_frames (frames_seen frames.now) (places_seen places.now)) (P.world port.old)
+    ensures means { run P.bus (put_frames_of (frames_seen frames.now) (places_seen places.now)) (P.world port.old)
         ≡ (result, P.world port.new) }
     ensures rest { P.rest port.new ≡ P.rest port.old }
 {

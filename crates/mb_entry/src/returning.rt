@@ -3,20 +3,20 @@
 ghost use Rattle.std.specs.Prelude.{◌≡◌, ◌≤◌};
 ghost use Rattle.mb_port.specs.Routine.{run};
 ghost use Rattle.mb_writes.specs.Transfers.{count_of, mask_in};
-ghost use Rattle.mb_processor.specs.Return.{continued_of, return_of, returning, holding};
+ghost use Rattle.mb_processor.specs.Return.{go_on_of, return_from_of, returning, holding};
 ghost use Rattle.mb_entry.specs.Clauses.{ReturnEnds, WentOn};
 
-use crate::taking::{continues, take};
+use crate::taking::{continues, take_frames};
 use mb_frames::Access;
 use mb_model::Cpu;
 use mb_port::Port;
 use mb_writes::{Ended, continue_movem};
 
 /// Goes on with a MOVEM by the fields of its access error, without a fetch.
-#[tactic(auto, unfolding(mb_processor::specs::Return::continued_of), using(crate::proofs::Counts::count_few))]
+#[tactic(auto, unfolding(mb_processor::specs::Return::go_on_of), using(crate::proofs::Counts::count_few))]
 fn go_on<P: Port>(access: &Access, cpu: &mut Cpu, port: &mut P) -> Ended
     requires { access.now.pd3 ≤ count_of (mask_in access.now.pd2) }
-    ensures means { run P.bus (continued_of access.now cpu.old) (P.world port.old)
+    ensures means { run P.bus (go_on_of access.now cpu.old) (P.world port.old)
         ≡ ((result, cpu.new), P.world port.new) }
     ensures ends { WentOn result }
     ensures rest { P.rest port.new ≡ P.rest port.old }
@@ -39,14 +39,14 @@ fn go_on<P: Port>(access: &Access, cpu: &mut Cpu, port: &mut P) -> Ended
 ///
 /// Where a frame of an access error was taken, `held` becomes its fields and `at` its PC, also where a MOVEM went on
 /// and PC is behind it; else both stay.
-#[tactic(auto, unfolding(mb_processor::specs::Return::return_of, mb_processor::specs::Return::resumed_of))]
+#[tactic(auto, unfolding(mb_processor::specs::Return::return_from_of, mb_processor::specs::Return::resumed_of))]
 pub fn return_held<P: Port>(cpu: &mut Cpu, port: &mut P, held: &mut Access, at: &mut u32) -> Ended
-    ensures means { run P.bus (holding (record { access = held.old; pc = at.old }) (return_of cpu.old))
+    ensures means { run P.bus (holding (record { access = held.old; pc = at.old }) (return_from_of cpu.old))
         (P.world port.old) ≡ ((result, cpu.new, record { access = held.new; pc = at.new }), P.world port.new) }
     ensures ends { ReturnEnds result cpu.old cpu.new }
     ensures rest { P.rest port.new ≡ P.rest port.old }
 {
-    let taken = match take(&mut cpu.regs, port) {
+    let taken = match take_frames(&mut cpu.regs, port) {
         Ok(taken) => taken,
         Err(ended) => return ended,
     };
@@ -64,7 +64,7 @@ pub fn return_held<P: Port>(cpu: &mut Cpu, port: &mut P, held: &mut Access, at: 
 
 /// RTE: returns from an exception by the frame on the active stack.
 pub fn return_from<P: Port>(cpu: &mut Cpu, port: &mut P) -> Ended
-    ensures means { run P.bus (returning (return_of cpu.old)) (P.world port.old)
+    ensures means { run P.bus (returning (return_from_of cpu.old)) (P.world port.old)
         ≡ ((result, cpu.new), P.world port.new) }
     ensures ends { ReturnEnds result cpu.old cpu.new }
     ensures rest { P.rest port.new ≡ P.rest port.old }

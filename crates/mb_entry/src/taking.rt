@@ -3,9 +3,9 @@
 ghost use Rattle.std.specs.Prelude.{◌≡◌, [], length, IfOk, IfErr};
 ghost use Rattle.mb_port.specs.Routine.{run};
 ghost use Rattle.mb_frames.specs.Layout.{frame_length};
-ghost use Rattle.mb_processor.specs.Return.{head_of, longs_of, access_longs, access_of_longs, continues, is_movem};
-ghost use Rattle.mb_processor.specs.Return.{are_movem_words, can_continue, high, low, dropped, restored, access_taken, frame_taken};
-ghost use Rattle.mb_processor.specs.Return.{second_taken, throwaway_taken, taken_of};
+ghost use Rattle.mb_processor.specs.Return.{read_head_of, read_longs_of, access_longs, access_of_longs, continues, is_movem};
+ghost use Rattle.mb_processor.specs.Return.{are_movem_words, can_continue, high, low, drop_bytes_of, restore_of, take_access_of, take_frame_of};
+ghost use Rattle.mb_processor.specs.Return.{take_second_of, take_throwaway_of, take_frames_of};
 ghost use Rattle.mb_entry.specs.Takes.{head_seen, headed, longs_read, took, CanGoOn};
 ghost use Rattle.mb_entry.specs.Clauses.{NotTaken};
 
@@ -40,9 +40,9 @@ struct Head {
 }
 
 /// Reads what a frame begins with.
-#[tactic(auto, unfolding(mb_processor::specs::Return::head_of))]
+#[tactic(auto, unfolding(mb_processor::specs::Return::read_head_of))]
 fn read_head<P: Port>(at: u32, port: &mut P) -> Result<Head, ReadFault>
-    ensures means { run P.bus (head_of at) (P.world port.old) ≡ (headed result, P.world port.new) }
+    ensures means { run P.bus (read_head_of at) (P.world port.old) ≡ (headed result, P.world port.new) }
     ensures rest { P.rest port.new ≡ P.rest port.old }
 {
     let sr = read_value(Space::Super, at.wrapping_add(SR_PLACE), Size::Word, port)?;
@@ -62,7 +62,8 @@ fn read_head<P: Port>(at: u32, port: &mut P) -> Result<Head, ReadFault>
 
 /// Reads the longs of an access error's fields.
 fn read_longs<P: Port>(at: u32, port: &mut P) -> Result<ArrayVec<u32, LONGS>, ReadFault>
-    ensures means { run P.bus (longs_of access_longs at []) (P.world port.old) ≡ (longs_read result, P.world port.new) }
+    ensures means { run P.bus (read_longs_of access_longs at []) (P.world port.old)
+        ≡ (longs_read result, P.world port.new) }
     ensures all { IfOk result (λ longs. length longs.items ≡ 13) }
     ensures rest { P.rest port.new ≡ P.rest port.old }
 {
@@ -154,7 +155,7 @@ fn can_continue(access: &Access) -> bool
 
 /// Drops bytes from the active stack.
 fn drop_bytes(regs: &mut Regs, bytes: u32)
-    ensures { regs.new ≡ dropped bytes regs.old }
+    ensures { regs.new ≡ drop_bytes_of bytes regs.old }
 {
     regs.set_active_stack(regs.active_stack().wrapping_add(bytes));
 }
@@ -172,7 +173,7 @@ fn frame_length(format: u8) -> u32
 
 /// Takes a frame of a format from the active stack, with its SR and PC.
 fn restore(format: u8, head: &Head, regs: &mut Regs)
-    ensures { regs.new ≡ restored format (head_seen head.now) regs.old }
+    ensures { regs.new ≡ restore_of format (head_seen head.now) regs.old }
 {
     drop_bytes(regs, frame_length(format));
     regs.sr = head.sr;
@@ -180,9 +181,9 @@ fn restore(format: u8, head: &Head, regs: &mut Regs)
 }
 
 /// Takes the frame of an access error, all of which is read before it is judged.
-#[tactic(auto, unfolding(mb_processor::specs::Return::access_taken))]
+#[tactic(auto, unfolding(mb_processor::specs::Return::take_access_of))]
 fn take_access<P: Port>(head: &Head, regs: &mut Regs, port: &mut P) -> Result<Option<Access>, Ended>
-    ensures means { run P.bus (access_taken (head_seen head.now) regs.old) (P.world port.old)
+    ensures means { run P.bus (take_access_of (head_seen head.now) regs.old) (P.world port.old)
         ≡ (took result regs.new, P.world port.new) }
     ensures lawful { IfOk result CanGoOn }
     ensures refused { IfErr result NotTaken }
@@ -203,9 +204,9 @@ fn take_access<P: Port>(head: &Head, regs: &mut Regs, port: &mut P) -> Result<Op
 }
 
 /// Takes the frame that is returned by. The fields are those of an access error, where it is one's.
-#[tactic(auto, unfolding(mb_processor::specs::Return::frame_taken))]
+#[tactic(auto, unfolding(mb_processor::specs::Return::take_frame_of))]
 fn take_frame<P: Port>(head: &Head, regs: &mut Regs, port: &mut P) -> Result<Option<Access>, Ended>
-    ensures means { run P.bus (frame_taken (head_seen head.now) regs.old) (P.world port.old)
+    ensures means { run P.bus (take_frame_of (head_seen head.now) regs.old) (P.world port.old)
         ≡ (took result regs.new, P.world port.new) }
     ensures lawful { IfOk result CanGoOn }
     ensures refused { IfErr result NotTaken }
@@ -227,9 +228,9 @@ fn take_frame<P: Port>(head: &Head, regs: &mut Regs, port: &mut P) -> Result<Opt
 }
 
 /// Takes the frame on the active stack, below a throwaway frame.
-#[tactic(auto, unfolding(mb_processor::specs::Return::second_taken))]
+#[tactic(auto, unfolding(mb_processor::specs::Return::take_second_of))]
 fn take_second<P: Port>(regs: &mut Regs, port: &mut P) -> Result<Option<Access>, Ended>
-    ensures means { run P.bus (second_taken regs.old) (P.world port.old)
+    ensures means { run P.bus (take_second_of regs.old) (P.world port.old)
         ≡ (took result regs.new, P.world port.new) }
     ensures lawful { IfOk result CanGoOn }
     ensures refused { IfErr result NotTaken }
@@ -244,13 +245,13 @@ fn take_second<P: Port>(regs: &mut Regs, port: &mut P) -> Result<Option<Access>,
 
 /// Takes a throwaway frame, and the one on the stack that it leads to. Where that is not taken, the throwaway frame and
 /// SR come back.
-#[tactic(auto, unfolding(mb_processor::specs::Return::throwaway_taken))]
+#[tactic(auto, unfolding(mb_processor::specs::Return::take_throwaway_of))]
 fn take_throwaway<P: Port>(
     head: &Head,
     regs: &mut Regs,
     port: &mut P,
 ) -> Result<Option<Access>, Ended>
-    ensures means { run P.bus (throwaway_taken (head_seen head.now) regs.old) (P.world port.old)
+    ensures means { run P.bus (take_throwaway_of (head_seen head.now) regs.old) (P.world port.old)
         ≡ (took result regs.new, P.world port.new) }
     ensures lawful { IfOk result CanGoOn }
     ensures refused { IfErr result NotTaken }
@@ -274,9 +275,9 @@ fn take_throwaway<P: Port>(
 
 /// Takes the frame on the active stack, and below a throwaway frame another one. The registers are then as they were
 /// saved; where no frame is taken, as before. The fields are those of an access error, where the frame is one's.
-#[tactic(auto, unfolding(mb_processor::specs::Return::taken_of))]
-pub(crate) fn take<P: Port>(regs: &mut Regs, port: &mut P) -> Result<Option<Access>, Ended>
-    ensures means { run P.bus (taken_of regs.old) (P.world port.old) ≡ (took result regs.new, P.world port.new) }
+#[tactic(auto, unfolding(mb_processor::specs::Return::take_frames_of))]
+pub(crate) fn take_frames<P: Port>(regs: &mut Regs, port: &mut P) -> Result<Option<Access>, Ended>
+    ensures means { run P.bus (take_frames_of regs.old) (P.world port.old) ≡ (took result regs.new, P.world port.new) }
     ensures lawful { IfOk result CanGoOn }
     ensures refused { IfErr result NotTaken }
     ensures kept { IfErr result (λ ended. regs.new ≡ regs.old) }

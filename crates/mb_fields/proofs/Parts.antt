@@ -6,7 +6,7 @@ use Rattle.std.proofs.lemmas.Bool.Decides.{nat_tests}
 use Rattle.std.proofs.Math.Nat.{two-pow-succ}
 use Rattle.std.proofs.Math.Pow.{pow_mono}
 use Rattle.std.specs.Int.Count.{count_leading_zeros}
-use Rattle.mb_fields.specs.Fields.{first_of}
+use Rattle.mb_fields.specs.Fields.{field_first_of}
 
 -- a word put together of what stands before the field, the field, and what stands behind it
 module _ (word offset width rest value : ℕ) (narrow : (offset + width) + rest ≤ 40) (fits : word < 2 ^ ((offset + width) + rest)) where
@@ -48,8 +48,8 @@ module _ (word offset width rest value : ℕ) (narrow : (offset + width) + rest 
       omega arith
 
 -- as many bits as the number has from its first one on stand behind the zeros
-first_length : (width n : ℕ) → n < 2 ^ width → (m : ℕ) × (first_of n width + m ≡ width) × (n < 2 ^ m) × (2 ^ m ≤ 2 * n + 1)
-unfolding first_of
+first_length : (width n : ℕ) → n < 2 ^ width → (m : ℕ) × (field_first_of n width + m ≡ width) × (n < 2 ^ m) × (2 ^ m ≤ 2 * n + 1)
+unfolding field_first_of
 first_length zero n h = (0, omega arith, h, omega arith)
 first_length (suc width) n h =
     elim (cases_lt n (2 ^ width)) [
@@ -73,7 +73,7 @@ same_length n m k h e = elim (cases_lt m k) [ inl l ↦ absurd (longer l) | inr 
         omega arith
 
 pub first_is : (n width : ℕ) → width ≤ 32 → n < 2 ^ width
-    → (32 - width ≤ count_leading_zeros 32 n) × (count_leading_zeros 32 n - (32 - width) ≡ first_of n width)
+    → (32 - width ≤ count_leading_zeros 32 n) × (count_leading_zeros 32 n - (32 - width) ≡ field_first_of n width)
 first_is n width w h =
     let long : n < 2 ^ 32 = (let wide : 2 ^ width ≤ 2 ^ 32 = pow_mono w in omega arith) in
     let a = leading_length 32 n long in
@@ -81,5 +81,5 @@ first_is n width w h =
     let ab : a.0 ≤ b.0 = same_length n b.0 a.0 b.2 a.3 in
     let ba : b.0 ≤ a.0 = same_length n a.0 b.0 a.2 b.3 in
     let ea : count_leading_zeros 32 n + a.0 ≡ 32 = a.1 in
-    let eb : first_of n width + b.0 ≡ width = b.1 in
+    let eb : field_first_of n width + b.0 ≡ width = b.1 in
     (omega arith, omega arith)

@@ -5,16 +5,16 @@ use Rattle.std.specs.Prelude.{ℕ, zero, suc, ◌+◌, ◌-◌, ◌*◌, ◌/◌
 abbrev pub behind : ℕ → ℕ → ℕ → ℕ
 behind bits offset width = bits - (offset + width)
 
-unfoldable pub field_of : ℕ → ℕ → ℕ → ℕ → ℕ
-field_of word bits offset width = word / 2 ^ behind bits offset width % 2 ^ width
+unfoldable pub field_get_of : ℕ → ℕ → ℕ → ℕ → ℕ
+field_get_of word bits offset width = word / 2 ^ behind bits offset width % 2 ^ width
 
 -- what stands before the field, the low bits of the value, and what stands behind the field
-unfoldable pub with_field : ℕ → ℕ → ℕ → ℕ → ℕ → ℕ
-with_field word bits offset width value =
+unfoldable pub field_put_of : ℕ → ℕ → ℕ → ℕ → ℕ → ℕ
+field_put_of word bits offset width value =
     let rest = behind bits offset width in
     (word / 2 ^ (rest + width) * 2 ^ width + value % 2 ^ width) * 2 ^ rest + word % 2 ^ rest
 
 -- the zeros before the first one among so many bits
-unfoldable pub first_of : ℕ → ℕ → ℕ
-first_of value zero = 0
-first_of value (suc width) = if nat_lt value (2 ^ width) then suc (first_of value width) else 0
+unfoldable pub field_first_of : ℕ → ℕ → ℕ
+field_first_of value zero = 0
+field_first_of value (suc width) = if nat_lt value (2 ^ width) then suc (field_first_of value width) else 0

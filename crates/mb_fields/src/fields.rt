@@ -1,7 +1,7 @@
 //! Bit fields.
 
 ghost use Rattle.std.specs.Prelude.{◌≡◌, ◌<◌, ◌≤◌, ◌+◌, ◌-◌, ◌^◌};
-ghost use Rattle.mb_fields.specs.Fields.{field_of, with_field, first_of};
+ghost use Rattle.mb_fields.specs.Fields.{field_get_of, field_put_of, field_first_of};
 
 #[inline(always)]
 fn ones(width: u8) -> u64
@@ -12,28 +12,28 @@ fn ones(width: u8) -> u64
 }
 
 /// The field of `width` bits that stands behind the `offset` highest bits of a word of `bits` bits.
-#[tactic(auto, unfolding(crate::specs::Fields::field_of))]
+#[tactic(auto, unfolding(crate::specs::Fields::field_get_of))]
 pub fn field_get(word: u64, bits: u8, offset: u8, width: u8) -> u32
     requires bits { bits ≤ 40 }
     requires word { word < 2 ^ bits }
     requires some { 1 ≤ width }
     requires width { width ≤ 32 }
     requires inside { offset + width ≤ bits }
-    ensures means { result ≡ field_of word bits offset width }
+    ensures means { result ≡ field_get_of word bits offset width }
     ensures bound { result < 2 ^ width }
 {
     (word >> (bits - offset - width) & ones(width)) as u32
 }
 
 /// The word with another value in that field. Of the value the low `width` bits count.
-#[tactic(auto, unfolding(crate::specs::Fields::with_field))]
+#[tactic(auto, unfolding(crate::specs::Fields::field_put_of))]
 pub fn field_put(word: u64, bits: u8, offset: u8, width: u8, value: u32) -> u64
     requires bits { bits ≤ 40 }
     requires word { word < 2 ^ bits }
     requires some { 1 ≤ width }
     requires width { width ≤ 32 }
     requires inside { offset + width ≤ bits }
-    ensures means { result ≡ with_field word bits offset width value }
+    ensures means { result ≡ field_put_of word bits offset width value }
     ensures bound { result < 2 ^ bits }
 {
     let behind = bits - offset - width;
@@ -47,7 +47,7 @@ pub fn field_first(value: u32, width: u8) -> u8
     requires some { 1 ≤ width }
     requires width { width ≤ 32 }
     requires value { value < 2 ^ width }
-    ensures means { result ≡ first_of value width }
+    ensures means { result ≡ field_first_of value width }
     ensures bound { result ≤ width }
 {
     value.leading_zeros() as u8 - (32 - width)

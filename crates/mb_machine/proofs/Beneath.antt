@@ -23,7 +23,7 @@ use Rattle.mb_machine.specs.declared.reference.Settled.TheVariants.{To, Refused,
 use Rattle.mb_machine.specs.World.{World, HasBytes}
 use Rattle.mb_machine.specs.Places.{Stand, memory, register, nowhere, in_ram, taken, taken_at, stored, checked, with_longs, taken_line, stored_line}
 use Rattle.mb_machine.specs.Access.{matched, root_of, search_for, searched, settled, translated, by_settled, by_found}
-use Rattle.mb_machine.specs.Bus.{bus_of, fetching, reading, writing, fault_of, place_at, Take, Store, read_at, read_by, wrote, written_at, written_by, with_register, tested, tested_by}
+use Rattle.mb_machine.specs.Bus.{bus_of, fetching_of, reading_of, writing_of, fault_of, place_at, Take, Store, read_at, read_by, wrote, written_at, written_by, with_register, tested, tested_by}
 use Rattle.mb_machine.specs.Laws.{IsBeneath, CallsStandBeneath, PlacesStandBeneath, SizesStay}
 use Rattle.mb_machine.proofs.BusLemmas.{stored_memory, stored_register, wrote_devices}
 
@@ -135,14 +135,14 @@ Any = Unit {0}
 
 pub calls_stand_beneath : CallsStandBeneath
 unfolding bus_of Keeps
-calls_stand_beneath rule (Fetch space at) w = told (read_beneath Any rule (fetching space at) 2 taken w (taken_beneath Any))
-calls_stand_beneath rule (Read space p) w = told (read_beneath Any rule (reading space p.at) p.len taken w (taken_beneath Any))
+calls_stand_beneath rule (Fetch space at) w = told (read_beneath Any rule (fetching_of space at) 2 taken w (taken_beneath Any))
+calls_stand_beneath rule (Read space p) w = told (read_beneath Any rule (reading_of space p.at) p.len taken w (taken_beneath Any))
 calls_stand_beneath rule (Write space p value) w =
-    told (written_beneath Any rule (writing space p.at) p.len (λ place. stored place value) w (λ at u. stored_beneath Any (place_at at p.len) value u))
-calls_stand_beneath rule (ReadLine space at) w = told (read_beneath Any rule (reading space at) 16 taken_line w (line_beneath Any))
+    told (written_beneath Any rule (writing_of space p.at) p.len (λ place. stored place value) w (λ at u. stored_beneath Any (place_at at p.len) value u))
+calls_stand_beneath rule (ReadLine space at) w = told (read_beneath Any rule (reading_of space at) 16 taken_line w (line_beneath Any))
 calls_stand_beneath rule (WriteLine space at line) w =
-    told (written_beneath (length line ≡ 4) rule (writing space at) 16 (λ place. stored_line place line) w (λ at u. stored_line_beneath at line u))
-calls_stand_beneath rule (Probe space p) w = told (read_beneath Any rule (writing space p.at) p.len checked w (λ place u. same_world Any u))
+    told (written_beneath (length line ≡ 4) rule (writing_of space at) 16 (λ place. stored_line place line) w (λ at u. stored_line_beneath at line u))
+calls_stand_beneath rule (Probe space p) w = told (read_beneath Any rule (writing_of space p.at) p.len checked w (λ place u. same_world Any u))
 calls_stand_beneath rule other w = tt
 
 pub places_stand_beneath : PlacesStandBeneath
@@ -185,19 +185,19 @@ register_count rule which value w = refl
 pub sizes_stay : SizesStay
 unfolding bus_of Keeps tested
 sizes_stay rule (Fetch space at) w h whole =
-    (read_beneath Any rule (fetching space at) 2 taken w (taken_beneath Any)).size tt ∙ translated_count rule (fetching space at) w h
+    (read_beneath Any rule (fetching_of space at) 2 taken w (taken_beneath Any)).size tt ∙ translated_count rule (fetching_of space at) w h
 sizes_stay rule (Read space p) w h whole =
-    (read_beneath Any rule (reading space p.at) p.len taken w (taken_beneath Any)).size tt ∙ translated_count rule (reading space p.at) w h
+    (read_beneath Any rule (reading_of space p.at) p.len taken w (taken_beneath Any)).size tt ∙ translated_count rule (reading_of space p.at) w h
 sizes_stay rule (Write space p value) w h whole =
-    (written_beneath Any rule (writing space p.at) p.len (λ place. stored place value) w (λ at u. stored_beneath Any (place_at at p.len) value u)).size tt
-    ∙ translated_count rule (writing space p.at) w h
+    (written_beneath Any rule (writing_of space p.at) p.len (λ place. stored place value) w (λ at u. stored_beneath Any (place_at at p.len) value u)).size tt
+    ∙ translated_count rule (writing_of space p.at) w h
 sizes_stay rule (ReadLine space at) w h whole =
-    (read_beneath Any rule (reading space at) 16 taken_line w (line_beneath Any)).size tt ∙ translated_count rule (reading space at) w h
+    (read_beneath Any rule (reading_of space at) 16 taken_line w (line_beneath Any)).size tt ∙ translated_count rule (reading_of space at) w h
 sizes_stay rule (WriteLine space at line) w h whole =
-    (written_beneath (length line ≡ 4) rule (writing space at) 16 (λ place. stored_line place line) w (λ at u. stored_line_beneath at line u)).size whole
-    ∙ translated_count rule (writing space at) w h
+    (written_beneath (length line ≡ 4) rule (writing_of space at) 16 (λ place. stored_line place line) w (λ at u. stored_line_beneath at line u)).size whole
+    ∙ translated_count rule (writing_of space at) w h
 sizes_stay rule (Probe space p) w h whole =
-    (read_beneath Any rule (writing space p.at) p.len checked w (λ place u. same_world Any u)).size tt ∙ translated_count rule (writing space p.at) w h
+    (read_beneath Any rule (writing_of space p.at) p.len checked w (λ place u. same_world Any u)).size tt ∙ translated_count rule (writing_of space p.at) w h
 sizes_stay rule (Get place) w h whole = (taken_beneath Any place w).size tt
 sizes_stay rule (Put place value) w h whole = (put_beneath Any (stored place value w) w (stored_beneath Any place value w)).size tt
 sizes_stay rule ReadMmu w h whole = refl

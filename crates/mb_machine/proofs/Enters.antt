@@ -18,15 +18,15 @@ use Rattle.mb_port.specs.declared.types.Fault.{Fault}
 use Rattle.mb_model.specs.Keeping.{Rule}
 use Rattle.mb_model.specs.declared.processor.Cpu.{Cpu}
 use Rattle.mb_ea.specs.Addresses.{sum}
-use Rattle.mb_ea.specs.Reading.{read_pieces, read_cut, read_of, refused_in}
+use Rattle.mb_ea.specs.Reading.{read_pieces_of, read_cut_of, read_operand_of, refused_in}
 use Rattle.mb_ea.specs.declared.reading.ReadFault.{ReadFault}
 use Rattle.mb_walk.specs.Memory.{AreBytes, number_at, overwritten, with_number}
 use Rattle.mb_walk.proofs.MemoryLemmas.{length-overwritten, overwritten-nothing}
 use Rattle.mb_walk.proofs.LongLemmas.{number_bytes}
-use Rattle.mb_writes.specs.Checked.{probe_pieces}
+use Rattle.mb_writes.specs.Checked.{probe_pieces_of}
 use Rattle.mb_processor.specs.declared.entering.Entered.TheVariants as entered
 use Rattle.mb_processor.specs.Entry as entry
-use Rattle.mb_processor.specs.Entry.{Stacked, Frames, frames_of, settled, awake, put_bytes, probe_frame, probe_second, put_second, check_frames, put_frames, vectored, enter_of, unstacked}
+use Rattle.mb_processor.specs.Entry.{Stacked, Frames, frames_of, settled, awake, put_bytes_of, probe_frame_of, probe_second_of, put_second_of, check_frames_of, put_frames_of, go_to_handler_of, enter_of, unstacked}
 use Rattle.mb_machine.specs.World.{World}
 use Rattle.mb_machine.specs.Places.{in_ram, taken, checked}
 use Rattle.mb_machine.specs.Bus.{bus_of, place_at, fault_of, Take, faulting, read_at, read_by}
@@ -85,10 +85,10 @@ module _ (rule : Rule) where
   AreInside size (p ∷ ps) = (p.at < 2 ^ 32) × (p.at + p.len ≤ size) × AreInside size ps
 
   probes : (b : World) (ps : List Piece) (so_far : List Place) → IsOpen b.mmu → AreInside (length b.ram) ps
-      → run (bus_of rule) (probe_pieces Super ps so_far) b ≡ (Ok (so_far ++ places_of ps), b)
+      → run (bus_of rule) (probe_pieces_of Super ps so_far) b ≡ (Ok (so_far ++ places_of ps), b)
   probes b [] so_far o h = ap (λ (l : List Place). (let q : Result (List Place) Fault × World = (Ok l, b) in q)) (sym (append-nil so_far))
   probes b (p ∷ ps) so_far o h =
-      let next : Place → Routine (Result (List Place) Fault) = λ place. probe_pieces Super ps (so_far ++ place ∷ []) in
+      let next : Place → Routine (Result (List Place) Fault) = λ place. probe_pieces_of Super ps (so_far ++ place ∷ []) in
       ap (λ (q : Result Place Fault × World). run (bus_of rule) (tried q.0 next) q.1) (probed b p o h.0 h.1)
       ∙ probes b ps (so_far ++ place_at p.at p.len ∷ []) o h.2
       ∙ ap (λ (l : List Place). (let q : Result (List Place) Fault × World = (Ok l, b) in q)) (append_assoc so_far (place_at p.at p.len ∷ []) (places_of ps))
@@ -123,7 +123,7 @@ module _ (rule : Rule) where
       (tt, unwrap_or o b) in q)) (stored_memory b (place_at at len) value (is_inside (length b.ram) at len h))
 
   abbrev Puts : World → ℕ → List ℕ → List Piece → Type 0
-  Puts b at bytes ps = run (bus_of rule) (put_bytes (places_of ps) bytes) b ≡ (tt, record b { ram = overwritten b.ram at bytes })
+  Puts b at bytes ps = run (bus_of rule) (put_bytes_of (places_of ps) bytes) b ≡ (tt, record b { ram = overwritten b.ram at bytes })
 
   puts_none : (b : World) (at : ℕ) (bytes : List ℕ) → length bytes ≡ 0 → Puts b at bytes []
   puts_none b at bytes h = ap (λ (m : List ℕ). (let q : Unit {0} × World = (tt, record b { ram = m }) in q)) (sym (overwritten-nothing b.ram at bytes h))
@@ -150,7 +150,7 @@ module _ (rule : Rule) where
       subst (λ (ps : List Piece). Puts w (at + len) (drop len bytes) ps) (sym (cut_wrapped n (at + len) (suc left - len) (omega arith)))
       (puts n w (at + len) (suc left - len) (drop len bytes) (omega arith) dropped (All-drop (λ byte. byte < 2 ^ 8) len bytes are) (omega arith)
       (omega arith)) in
-      ap (λ (q : Unit {0} × World). run (bus_of rule) (put_bytes (places_of (cut n ((at + len) % 2 ^ 32) (suc left - len))) (drop len bytes)) q.1) one ∙ more
+      ap (λ (q : Unit {0} × World). run (bus_of rule) (put_bytes_of (places_of (cut n ((at + len) % 2 ^ 32) (suc left - len))) (drop len bytes)) q.1) one ∙ more
       ∙ ap (λ (m : List ℕ). (let q : Unit {0} × World = (tt, record b { ram = m }) in q)) (over-split b.ram bytes at len (omega arith) (omega arith))
 
   -- ---- the vector
@@ -169,7 +169,7 @@ module _ (rule : Rule) where
   -- ---- the whole
 
   checks : (b : World) (f : Frames) → IsOpen b.mmu → f.second ≡ None → f.first.at + length f.first.bytes ≤ length b.ram → length b.ram ≤ 2 ^ 32
-      → run (bus_of rule) (check_frames f) b ≡ (
+      → run (bus_of rule) (check_frames_of f) b ≡ (
         Ok (record {
           first =
               places_of (cut (length f.first.bytes) f.first.at (length f.first.bytes));
@@ -177,35 +177,35 @@ module _ (rule : Rule) where
         }),
         b,
       )
-  unfolding check_frames probe_frame
+  unfolding check_frames_of probe_frame_of
   checks b f o one fits small =
       let ps = cut (length f.first.bytes) f.first.at (length f.first.bytes) in
-      let first : run (bus_of rule) (probe_pieces Super ps []) b ≡ (Ok (places_of ps), b) =
+      let first : run (bus_of rule) (probe_pieces_of Super ps []) b ≡ (Ok (places_of ps), b) =
       probes b ps [] o (cut_inside (length b.ram) (length f.first.bytes) f.first.at (length f.first.bytes) fits small) in
       let both : List Place → Option Stacked → Routine (Result entry.Places Fault) =
-      λ at o. probe_second o >>= λ second. Return (Ok (record { first = at; second = second })) in
+      λ at o. probe_second_of o >>= λ second. Return (Ok (record { first = at; second = second })) in
       ap (λ (q : Result (List Place) Fault × World). run (bus_of rule) (tried q.0 (λ at. both at f.second)) q.1) first
       ∙ ap (λ (o : Option Stacked). run (bus_of rule) (both (places_of ps) o) b) one
 
   writes : (b : World) (f : Frames) → f.second ≡ None → AreBytes f.first.bytes → f.first.at + length f.first.bytes ≤ length b.ram → length b.ram ≤ 2 ^ 32
-      → run (bus_of rule) (put_frames f (record {
+      → run (bus_of rule) (put_frames_of f (record {
         first =
             places_of (cut (length f.first.bytes) f.first.at (length f.first.bytes));
         second = [];
       })) b ≡ (tt, stacked_on b f)
-  unfolding put_frames
+  unfolding put_frames_of
   writes b f one are fits small =
-      ap (λ (q : Unit {0} × World). run (bus_of rule) (put_second f.second []) q.1)
+      ap (λ (q : Unit {0} × World). run (bus_of rule) (put_second_of f.second []) q.1)
       (puts (length f.first.bytes) b f.first.at (length f.first.bytes) f.first.bytes (omega arith) refl are fits small)
-      ∙ ap (λ (o : Option Stacked). run (bus_of rule) (put_second o []) (stacked_on b f)) one
+      ∙ ap (λ (o : Option Stacked). run (bus_of rule) (put_second_of o []) (stacked_on b f)) one
 
   vector_is : (b : World) (at : ℕ) → IsOpen b.mmu → at < 2 ^ 32 → at % 4 ≡ 0 → at + 4 ≤ length b.ram
-      → run (bus_of rule) (read_of Super at 4) b ≡ (Ok (number_at b.ram at 4), b)
-  unfolding read_of read_cut
+      → run (bus_of rule) (read_operand_of Super at 4) b ≡ (Ok (number_at b.ram at 4), b)
+  unfolding read_operand_of read_cut_of
   vector_is b at o l even h =
       let value : 0 * 256 ^ 4 + number_at b.ram at 4 ≡ number_at b.ram at 4 = omega arith in
       let told : Result ℕ Fault × World → Result ℕ ReadFault × World = λ q. (other_fault (refused_in at) q.0, q.1) in
-      ap (λ (ps : List Piece). told (run (bus_of rule) (read_pieces Super ps 0) b)) (long_alone at even)
+      ap (λ (ps : List Piece). told (run (bus_of rule) (read_pieces_of Super ps 0) b)) (long_alone at even)
       ∙ ap (λ (q : Result ℕ Fault × World). told (run (bus_of rule) (tried q.0 (λ x. Return (Ok (0 * 256 ^ 4 + x)))) q.1)) (read_is b at o l h)
       ∙ ap (λ (n : ℕ). (let q : Result ℕ ReadFault × World = (Ok n, b) in q)) value
 
@@ -213,7 +213,7 @@ module _ (rule : Rule) where
   enters_by : (b : World) (c : Cause) (cpu : Cpu) → IsOpen b.mmu → HasRoom b c cpu
       → let after = stacked_on b (frames_of c cpu.regs) in
       run (bus_of rule) (enter_of c cpu) b ≡ ((entered.Done, at_handler after c cpu), after)
-  unfolding enter_of vectored
+  unfolding enter_of go_to_handler_of
   enters_by b c cpu o room =
       let f = frames_of c cpu.regs in
       let after = stacked_on b f in
@@ -224,10 +224,10 @@ module _ (rule : Rule) where
       let inside : v + 4 ≤ length b.ram = room.vector in
       let small : length b.ram ≤ 2 ^ 32 = room.small in
       ap (λ (q : Result entry.Places Fault × World).
-      run (bus_of rule) (either q.0 (λ fault. Return (unstacked c.access fault c (awake cpu))) (λ at. Then (put_frames f at)
-      (λ done. vectored c handler))) q.1)
+      run (bus_of rule) (either q.0 (λ fault. Return (unstacked c.access fault c (awake cpu))) (λ at. Then (put_frames_of f at)
+      (λ done. go_to_handler_of c handler))) q.1)
       (checks b f o room.one room.fits room.small)
-      ∙ ap (λ (q : Unit {0} × World). run (bus_of rule) (vectored c handler) q.1) (writes b f room.one (frames_are_bytes c cpu) room.fits room.small)
+      ∙ ap (λ (q : Unit {0} × World). run (bus_of rule) (go_to_handler_of c handler) q.1) (writes b f room.one (frames_are_bytes c cpu) room.fits room.small)
       ∙ ap (λ (q : Result ℕ ReadFault × World).
       run (bus_of rule) (either q.0 (λ refused. Return (entered.DoubleFault, handler)) (λ target. Return (
         entered.Done,

@@ -22,23 +22,23 @@ use Rattle.mb_machine.specs.declared.registers.TheConstants.{MMUSR_MATCHED}
 
 -- ---- references
 
-abbrev pub fetching : Space → ℕ → Reference
-fetching space at = record { code = true; space = space; at = at; write = false }
+abbrev pub fetching_of : Space → ℕ → Reference
+fetching_of space at = record { code = true; space = space; at = at; write = false }
 
-abbrev pub reading : Space → ℕ → Reference
-reading space at = record { code = false; space = space; at = at; write = false }
+abbrev pub reading_of : Space → ℕ → Reference
+reading_of space at = record { code = false; space = space; at = at; write = false }
 
-abbrev pub writing : Space → ℕ → Reference
-writing space at = record { code = false; space = space; at = at; write = true }
+abbrev pub writing_of : Space → ℕ → Reference
+writing_of space at = record { code = false; space = space; at = at; write = true }
 
 -- the reference that a call translates
 abbrev pub reference_of : Call → Option Reference
-reference_of (Fetch space at) = Some (fetching space at)
-reference_of (Read space p) = Some (reading space p.at)
-reference_of (Write space p value) = Some (writing space p.at)
-reference_of (ReadLine space at) = Some (reading space at)
-reference_of (WriteLine space at line) = Some (writing space at)
-reference_of (Probe space p) = Some (writing space p.at)
+reference_of (Fetch space at) = Some (fetching_of space at)
+reference_of (Read space p) = Some (reading_of space p.at)
+reference_of (Write space p value) = Some (writing_of space p.at)
+reference_of (ReadLine space at) = Some (reading_of space at)
+reference_of (WriteLine space at line) = Some (writing_of space at)
+reference_of (Probe space p) = Some (writing_of space p.at)
 reference_of other = None
 
 -- A reference to so many bytes is refused: by its translation, or, with ATC clear, since nothing stands at its place.
@@ -112,12 +112,12 @@ tested space page write w = tested_by w space page write (matched false w.mmu sp
 
 -- Each call. A line stands in RAM alone; `Get` and `Put` go to a place without translation.
 unfoldable pub bus_of : Rule → Bus World
-bus_of rule (Fetch space at) w = read_by rule (fetching space at) 2 taken w
-bus_of rule (Read space p) w = read_by rule (reading space p.at) p.len taken w
-bus_of rule (Write space p value) w = written_by rule (writing space p.at) p.len (λ place. stored place value) w
-bus_of rule (ReadLine space at) w = read_by rule (reading space at) 16 taken_line w
-bus_of rule (WriteLine space at line) w = written_by rule (writing space at) 16 (λ place. stored_line place line) w
-bus_of rule (Probe space p) w = read_by rule (writing space p.at) p.len checked w
+bus_of rule (Fetch space at) w = read_by rule (fetching_of space at) 2 taken w
+bus_of rule (Read space p) w = read_by rule (reading_of space p.at) p.len taken w
+bus_of rule (Write space p value) w = written_by rule (writing_of space p.at) p.len (λ place. stored place value) w
+bus_of rule (ReadLine space at) w = read_by rule (reading_of space at) 16 taken_line w
+bus_of rule (WriteLine space at line) w = written_by rule (writing_of space at) 16 (λ place. stored_line place line) w
+bus_of rule (Probe space p) w = read_by rule (writing_of space p.at) p.len checked w
 bus_of rule (Get place) w = let (value, after) = taken place w in (unwrap_or value 0, after)
 bus_of rule (Put place value) w = (tt, unwrap_or (stored place value w) w)
 bus_of rule ReadMmu w = (w.mmu, w)

@@ -10,7 +10,7 @@ use Rattle.mb_laws.specs.Refusal.{IsFault}
 use Rattle.mb_machine.specs.declared.reference.Reference.{Reference}
 use Rattle.mb_machine.specs.World.{World, HasBytes}
 use Rattle.mb_machine.specs.Access.{translated}
-use Rattle.mb_machine.specs.Bus.{fetching, reading, writing, reference_of, fault_of, bus_of}
+use Rattle.mb_machine.specs.Bus.{fetching_of, reading_of, writing_of, reference_of, fault_of, bus_of}
 use Rattle.mb_machine.specs.Machine.{Entries, Machine, reset_with, run_of}
 
 abbrev pub BytesStay : Type 0
@@ -26,12 +26,12 @@ pub record WasRefused (rule : Rule) (r : Reference) (len : ℕ) (before : World)
 
 -- the same of a call; calls without translation are never refused
 abbrev pub CallWasRefused : Rule → Call → World → Fault → World → Type 0
-CallWasRefused rule (Fetch space at) = WasRefused rule (fetching space at) 2
-CallWasRefused rule (Read space p) = WasRefused rule (reading space p.at) p.len
-CallWasRefused rule (Write space p value) = WasRefused rule (writing space p.at) p.len
-CallWasRefused rule (ReadLine space at) = WasRefused rule (reading space at) 16
-CallWasRefused rule (WriteLine space at line) = WasRefused rule (writing space at) 16
-CallWasRefused rule (Probe space p) = WasRefused rule (writing space p.at) p.len
+CallWasRefused rule (Fetch space at) = WasRefused rule (fetching_of space at) 2
+CallWasRefused rule (Read space p) = WasRefused rule (reading_of space p.at) p.len
+CallWasRefused rule (Write space p value) = WasRefused rule (writing_of space p.at) p.len
+CallWasRefused rule (ReadLine space at) = WasRefused rule (reading_of space at) 16
+CallWasRefused rule (WriteLine space at line) = WasRefused rule (writing_of space at) 16
+CallWasRefused rule (Probe space p) = WasRefused rule (writing_of space p.at) p.len
 CallWasRefused rule (Get place) = λ before fault after. ⊥
 CallWasRefused rule (Put place value) = λ before fault after. ⊥
 CallWasRefused rule ReadMmu = λ before fault after. ⊥

@@ -1,7 +1,7 @@
 //! References to memory, and what is known of where they lead.
 
 ghost use Rattle.std.specs.Prelude.{◌≡◌};
-ghost use Rattle.mb_machine.specs.Bus.{fault_of, fetching as fetches, reading as reads, writing as writes};
+ghost use Rattle.mb_machine.specs.Bus.{fault_of, fetching_of as fetches, reading_of as reads, writing_of as writes};
 
 use mb_port::{Fault, Space};
 

@@ -14,8 +14,8 @@ use Rattle.mb_alu.specs.declared.conditions.Flagged.{Flagged}
 use Rattle.mb_alu.specs.Sums.{add_of, sub_of, compare_of}
 use Rattle.mb_ea.specs.declared.reading.ReadFault.{ReadFault}
 use Rattle.mb_meaning.specs.Ends.{Rowed, carried, reading}
-use Rattle.mb_meaning.specs.Operands.{Fetched, behind, operand_of, storing}
-use Rattle.mb_meaning.specs.Modifying.{modifying}
+use Rattle.mb_meaning.specs.Operands.{Fetched, behind_of, fetch_operand_of, finish_with_of}
+use Rattle.mb_meaning.specs.Modifying.{modify_of}
 
 -- ---- operations, of a source, a destination and the condition codes
 
@@ -40,38 +40,38 @@ pub record Pair : Type 0 where
   pub destination : Fetched
 
 -- Two operands are read, the source first. Its words stand before those of the destination.
-unfoldable pub pair_of : Size → Ea → Ea → ℕ → Space → Plain → Routine (Result Pair ReadFault)
-pair_of size source destination word_at space p = do
-  from ← operand_of size source word_at space p
-  to ← operand_of size destination (behind size source word_at) space from.plain
+unfoldable pub fetch_pair_of : Size → Ea → Ea → ℕ → Space → Plain → Routine (Result Pair ReadFault)
+fetch_pair_of size source destination word_at space p = do
+  from ← fetch_operand_of size source word_at space p
+  to ← fetch_operand_of size destination (behind_of size source word_at) space from.plain
   Return (Ok (record { source = from.value; destination = to }))
 
 -- What an operation makes of a source and a destination goes to the destination. An immediate is a source.
-unfoldable pub combining : (ℕ → ℕ → ℕ → Flagged) → Size → Ea → Ea → ℕ → Space → Plain → Routine Rowed
-combining operation size source destination word_at space p = do
-  pair ← reading (pair_of size source destination word_at space p)
+unfoldable pub combine_of : (ℕ → ℕ → ℕ → Flagged) → Size → Ea → Ea → ℕ → Space → Plain → Routine Rowed
+combine_of operation size source destination word_at space p = do
+  pair ← reading (fetch_pair_of size source destination word_at space p)
   let to = pair.destination
   let result = operation pair.source to.value to.plain.ccr
-  storing to.target size result.value space (record to.plain { ccr = result.ccr })
+  finish_with_of to.target size result.value space (record to.plain { ccr = result.ccr })
 
 -- A source is compared with a destination, and only the condition codes change.
-unfoldable pub comparing : Size → Ea → Ea → ℕ → Space → Plain → Routine Rowed
-comparing size source destination word_at space p = do
-  pair ← reading (pair_of size source destination word_at space p)
+unfoldable pub compare_pair_of : Size → Ea → Ea → ℕ → Space → Plain → Routine Rowed
+compare_pair_of size source destination word_at space p = do
+  pair ← reading (fetch_pair_of size source destination word_at space p)
   let to = pair.destination
   Return (carried (record to.plain { ccr = compare_of size pair.source to.value to.plain.ccr }))
 
 -- ADD, SUB, AND and OR: from a data register to an operand, or from the operand to the register
-unfoldable pub either_way : (ℕ → ℕ → ℕ → Flagged) → ℕ → Bool → Size → Ea → ℕ → Space → Plain → Routine Rowed
-either_way operation register to_memory size ea word_at space p =
-    choose to_memory (combining operation size (Dn register) ea word_at space p)
-    (combining operation size ea (Dn register) word_at space p)
+unfoldable pub combine_either_way_of : (ℕ → ℕ → ℕ → Flagged) → ℕ → Bool → Size → Ea → ℕ → Space → Plain → Routine Rowed
+combine_either_way_of operation register to_memory size ea word_at space p =
+    choose to_memory (combine_of operation size (Dn register) ea word_at space p)
+    (combine_of operation size ea (Dn register) word_at space p)
 
 -- ADDX and SUBX: two data registers, or memory below two address registers
-unfoldable pub chaining : (ℕ → ℕ → ℕ → Flagged) → Size → Bool → ℕ → ℕ → ℕ → Space → Plain → Routine Rowed
-chaining operation size in_memory source destination word_at space p =
-    choose in_memory (combining operation size (Pre source) (Pre destination) word_at space p)
-    (combining operation size (Dn source) (Dn destination) word_at space p)
+unfoldable pub chain_of : (ℕ → ℕ → ℕ → Flagged) → Size → Bool → ℕ → ℕ → ℕ → Space → Plain → Routine Rowed
+chain_of operation size in_memory source destination word_at space p =
+    choose in_memory (combine_of operation size (Pre source) (Pre destination) word_at space p)
+    (combine_of operation size (Dn source) (Dn destination) word_at space p)
 
 -- ---- quick values
 
@@ -79,18 +79,19 @@ chaining operation size in_memory source destination word_at space p =
 abbrev pub quick_to : Option ℕ → (ℕ → ℕ → Flagged) → (ℕ → ℕ) → Size → Ea → ℕ → Space → Plain → Routine Rowed
 quick_to (Some n) change moved size ea word_at space p =
     Return (carried (with_address_register p n (moved (address_register p n))))
-quick_to None change moved size ea word_at space p = modifying change size ea word_at space p
+quick_to None change moved size ea word_at space p = modify_of change size ea word_at space p
 
 -- by the number of the address register, where the operand is one: how an operand changes, and how an address moves
-unfoldable pub quick_of : (ℕ → ℕ → Flagged) → (ℕ → ℕ) → Size → Ea → ℕ → Space → Plain → Routine Rowed
-quick_of change moved size ea word_at space p = quick_to (address_number ea) change moved size ea word_at space p
+unfoldable pub combine_quick_of : (ℕ → ℕ → Flagged) → (ℕ → ℕ) → Size → Ea → ℕ → Space → Plain → Routine Rowed
+combine_quick_of change moved size ea word_at space p =
+    quick_to (address_number ea) change moved size ea word_at space p
 
 -- ---- operands that are only read
 
 -- An operand is read, and its value and the registers then say how the instruction ends.
-unfoldable pub taking : (ℕ → Plain → Rowed) → Size → Ea → ℕ → Space → Plain → Routine Rowed
-taking effect size ea word_at space p = do
-  operand ← reading (operand_of size ea word_at space p)
+unfoldable pub take_of : (ℕ → Plain → Rowed) → Size → Ea → ℕ → Space → Plain → Routine Rowed
+take_of effect size ea word_at space p = do
+  operand ← reading (fetch_operand_of size ea word_at space p)
   Return (effect operand.value operand.plain)
 
 -- ADDA and SUBA: a word is extended by its sign, all of the address register counts, and no condition code changes

@@ -11,12 +11,12 @@ use Rattle.mb_instr.specs.declared.kinds.FieldKind.TheVariants as field
 use Rattle.mb_instr.specs.declared.registers.Plain.{Plain}
 use Rattle.mb_instr.specs.Registers.{data_register, with_data_register}
 use Rattle.mb_alu.specs.Conditions.{conditions_of, ccr_of, is_set}
-use Rattle.mb_fields.specs.Fields.{field_of, with_field, first_of}
+use Rattle.mb_fields.specs.Fields.{field_get_of, field_put_of, field_first_of}
 use Rattle.mb_ea.specs.Addresses.{sum}
-use Rattle.mb_ea.specs.Reading.{read_of}
-use Rattle.mb_writes.specs.Writing.{put_of}
+use Rattle.mb_ea.specs.Reading.{read_operand_of}
+use Rattle.mb_writes.specs.Writing.{write_operand_of}
 use Rattle.mb_meaning.specs.Ends.{Rowed, carried, reading, writing}
-use Rattle.mb_meaning.specs.Operands.{address_of}
+use Rattle.mb_meaning.specs.Operands.{find_address_of}
 
 -- the data register in bits 14 to 12
 abbrev pub named_by : ℕ → ℕ
@@ -76,7 +76,7 @@ field_signed width old = if nat_lt old (2 ^ (width - 1)) then old else old + (2 
 abbrev pub with_result : FieldKind → ℕ → ℕ → ℕ → ℕ → Plain → Plain
 with_result field.ExtractUnsigned n offset width old p = with_data_register p n old
 with_result field.ExtractSigned n offset width old p = with_data_register p n (field_signed width old)
-with_result field.FindFirst n offset width old p = with_data_register p n (sum offset (first_of old width))
+with_result field.FindFirst n offset width old p = with_data_register p n (sum offset (field_first_of old width))
 with_result _ n offset width old p = p
 
 -- the registers after a row whose field was that
@@ -89,13 +89,13 @@ field_done kind word old p =
 -- ---- a field in a data register, where it wraps round
 
 -- the register begins with its field where it is rotated by the offset, and is rotated back with the new one
-unfoldable pub field_in_register : FieldKind → ℕ → ℕ → Plain → Plain
-field_in_register kind word n p =
+unfoldable pub field_in_register_of : FieldKind → ℕ → ℕ → Plain → Plain
+field_in_register_of kind word n p =
     let width = width_of word p in
     let turned = rotate_left w32 (data_register p n) (offset_of word p) in
-    let old = field_of turned 32 0 width in
+    let old = field_get_of turned 32 0 width in
     let new = field_after kind width old (data_register p (named_by word)) in
-    let changed = rotate_right w32 (with_field turned 32 0 width new) (offset_of word p) in
+    let changed = rotate_right w32 (field_put_of turned 32 0 width new) (offset_of word p) in
     let done = field_done kind word old p in
     if is_change kind then with_data_register done n changed else done
 
@@ -110,24 +110,24 @@ abbrev pub bytes_held : ℕ → ℕ → ℕ
 bytes_held offset width = (offset % 8 + width + 7) / 8
 
 -- exactly the bytes that hold the field are read and, where the row changes it, written
-unfoldable pub field_in_memory : FieldKind → ℕ → ℕ → Space → Plain → Routine Rowed
-field_in_memory kind word address space p =
+unfoldable pub field_in_memory_of : FieldKind → ℕ → ℕ → Space → Plain → Routine Rowed
+field_in_memory_of kind word address space p =
     let offset = offset_of word p in
     let width = width_of word p in
     let first = sum address (bytes_before offset) in
     let held = bytes_held offset width in do
-      bytes ← reading (read_of space first held)
-      let old = field_of bytes (8 * held) (offset % 8) width
+      bytes ← reading (read_operand_of space first held)
+      let old = field_get_of bytes (8 * held) (offset % 8) width
       let new = field_after kind width old (data_register p (named_by word))
-      let changed = with_field bytes (8 * held) (offset % 8) width new
+      let changed = field_put_of bytes (8 * held) (offset % 8) width new
       let done = field_done kind word old p
       choose (is_change kind)
-          (writing done (put_of space first held changed) >> Return (carried done))
+          (writing done (write_operand_of space first held changed) >> Return (carried done))
           (Return (carried done))
 
 -- BFTST, BFEXTU, BFCHG, BFEXTS, BFCLR, BFFFO, BFSET and BFINS
-unfoldable pub field_row_of : FieldKind → Ea → ℕ → ℕ → Space → Plain → Routine Rowed
-field_row_of kind (Dn n) word word_at space p = Return (carried (field_in_register kind word n p))
-field_row_of kind ea word word_at space p = do
-  address ← reading (address_of Long ea word_at space p)
-  field_in_memory kind word address space p
+unfoldable pub bit_field_of : FieldKind → Ea → ℕ → ℕ → Space → Plain → Routine Rowed
+bit_field_of kind (Dn n) word word_at space p = Return (carried (field_in_register_of kind word n p))
+bit_field_of kind ea word word_at space p = do
+  address ← reading (find_address_of Long ea word_at space p)
+  field_in_memory_of kind word address space p

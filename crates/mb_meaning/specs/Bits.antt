@@ -14,8 +14,8 @@ use Rattle.mb_instr.specs.Sizes.{bits_of}
 use Rattle.mb_alu.specs.declared.conditions.Flagged.{Flagged}
 use Rattle.mb_alu.specs.Conditions.{is_set, conditions_of, ccr_of}
 use Rattle.mb_meaning.specs.Ends.{Rowed, carried, reading}
-use Rattle.mb_meaning.specs.Operands.{operand_of}
-use Rattle.mb_meaning.specs.Modifying.{modifying}
+use Rattle.mb_meaning.specs.Operands.{fetch_operand_of}
+use Rattle.mb_meaning.specs.Modifying.{modify_of}
 
 -- the bit is one of a data register, which is a long, or of a byte
 abbrev pub bit_size : Ea → Size
@@ -34,8 +34,8 @@ bit_after Clear place value = with_bit place value false
 bit_after Set place value = with_bit place value true
 
 -- The bit's number counts modulo the bits of the operand. Z is the complement of the bit, the other codes stay.
-unfoldable pub bit_changed : BitKind → ℕ → Size → ℕ → ℕ → Flagged
-bit_changed kind number size value ccr =
+unfoldable pub change_bit_of : BitKind → ℕ → Size → ℕ → ℕ → Flagged
+change_bit_of kind number size value ccr =
     let place = number % bits_of size in
     record {
       value = bit_after kind place value;
@@ -45,8 +45,8 @@ bit_changed kind number size value ccr =
 -- BTST only reads its operand; the others write it back
 unfoldable pub bit_row_of : BitKind → ℕ → Ea → ℕ → Space → Plain → Routine Rowed
 bit_row_of Test number ea word_at space p = do
-  operand ← reading (operand_of (bit_size ea) ea word_at space p)
-  let tested = bit_changed Test number (bit_size ea) operand.value operand.plain.ccr
+  operand ← reading (fetch_operand_of (bit_size ea) ea word_at space p)
+  let tested = change_bit_of Test number (bit_size ea) operand.value operand.plain.ccr
   Return (carried (record operand.plain { ccr = tested.ccr }))
 bit_row_of kind number ea word_at space p =
-    modifying (bit_changed kind number (bit_size ea)) (bit_size ea) ea word_at space p
+    modify_of (change_bit_of kind number (bit_size ea)) (bit_size ea) ea word_at space p

@@ -13,9 +13,9 @@ use Rattle.mb_alu.specs.Conditions.{conditions_of, ccr_of}
 use Rattle.mb_alu.specs.Signs.{signed_of}
 use Rattle.mb_ea.specs.declared.reading.ReadFault.{ReadFault}
 use Rattle.mb_ea.specs.Addresses.{sum, difference}
-use Rattle.mb_ea.specs.Reading.{read_of}
+use Rattle.mb_ea.specs.Reading.{read_operand_of}
 use Rattle.mb_meaning.specs.Ends.{Rowed, carried, stopped, reading}
-use Rattle.mb_meaning.specs.Operands.{operand_of, address_of, named_register}
+use Rattle.mb_meaning.specs.Operands.{fetch_operand_of, find_address_of, named_register}
 use Rattle.mb_meaning.specs.Traps.{out_of_bounds}
 
 -- ---- one bound
@@ -29,8 +29,8 @@ abbrev pub is_above : Size → ℕ → ℕ → Bool
 is_above size bound value = int_lt (signed_of size bound) (signed_of size value)
 
 -- a value below 0 or above the bound traps; then N says whether it is below 0, and the other condition codes stay
-unfoldable pub checked : Size → ℕ → ℕ → Plain → Rowed
-checked size bound value p =
+unfoldable pub check_bound_of : Size → ℕ → ℕ → Plain → Rowed
+check_bound_of size bound value p =
     if is_below size value || is_above size bound value
     then stopped out_of_bounds (record p { ccr = ccr_of (record (conditions_of p.ccr) { n = is_below size value }) })
     else carried p
@@ -38,8 +38,8 @@ checked size bound value p =
 -- CHK: the value is a data register's, and the operand is the bound
 unfoldable pub chk_of : ℕ → Size → Ea → ℕ → Space → Plain → Routine Rowed
 chk_of n size ea word_at space p = do
-  bound ← reading (operand_of size ea word_at space p)
-  Return (checked size bound.value (data_register bound.plain n) bound.plain)
+  bound ← reading (fetch_operand_of size ea word_at space p)
+  Return (check_bound_of size bound.value (data_register bound.plain n) bound.plain)
 
 -- ---- two bounds
 
@@ -70,25 +70,25 @@ compared size lower upper n p =
     (conditions_of p.ccr))
 
 -- The condition codes of CHK2 and CMP2. The bounds are two operands, the lower one first.
-unfoldable pub bounds_of : Size → Ea → ℕ → ℕ → Space → Plain → Routine (Result ℕ ReadFault)
-bounds_of size ea w word_at space p = do
-  place ← address_of size ea word_at space p
-  lower ← read_of space place (bytes_of size)
-  upper ← read_of space (sum place (bytes_of size)) (bytes_of size)
+unfoldable pub compare_bounds_of : Size → Ea → ℕ → ℕ → Space → Plain → Routine (Result ℕ ReadFault)
+compare_bounds_of size ea w word_at space p = do
+  place ← find_address_of size ea word_at space p
+  lower ← read_operand_of space place (bytes_of size)
+  upper ← read_operand_of space (sum place (bytes_of size)) (bytes_of size)
   Return (Ok (compared size lower upper (named_register w) p))
 
 -- CMP2
 unfoldable pub cmp2_of : Size → Ea → ℕ → ℕ → Space → Plain → Routine Rowed
 cmp2_of size ea w word_at space p = do
-  ccr ← reading (bounds_of size ea w word_at space p)
+  ccr ← reading (compare_bounds_of size ea w word_at space p)
   Return (carried (record p { ccr = ccr }))
 
 -- a value out of bounds, which C says, traps
-unfoldable pub checked_carry : Plain → Rowed
-checked_carry p = if (conditions_of p.ccr).c then stopped out_of_bounds p else carried p
+unfoldable pub check_carry_of : Plain → Rowed
+check_carry_of p = if (conditions_of p.ccr).c then stopped out_of_bounds p else carried p
 
 -- CHK2
 unfoldable pub chk2_of : Size → Ea → ℕ → ℕ → Space → Plain → Routine Rowed
 chk2_of size ea w word_at space p = do
-  ccr ← reading (bounds_of size ea w word_at space p)
-  Return (checked_carry (record p { ccr = ccr }))
+  ccr ← reading (compare_bounds_of size ea w word_at space p)
+  Return (check_carry_of (record p { ccr = ccr }))

@@ -13,7 +13,7 @@ use Rattle.mb_instr.specs.Sizes.{low_of, sign_extended}
 use Rattle.mb_instr.specs.Registers.{data_register, with_data_register, address_register}
 use Rattle.mb_ea.specs.Addresses.{sum, difference}
 use Rattle.mb_meaning.specs.Ends.{Rowed, carried, jumped, reading}
-use Rattle.mb_meaning.specs.Operands.{with_low, address_of, lowered, pushing}
+use Rattle.mb_meaning.specs.Operands.{with_low, find_address_of, lowered, push_of}
 use Rattle.mb_meaning.specs.Conditions.{is_met}
 
 -- a displacement as a signed long
@@ -49,41 +49,42 @@ is_call condition.LessOrEqual = false
 unfoldable pub call_of : ℕ → Space → Plain → Routine Rowed
 call_of target space p =
     let after = record (lowered p) { pc = target } in
-    pushing p.pc (address_register after 7) space after >> Return (jumped after)
+    push_of p.pc (address_register after 7) space after >> Return (jumped after)
 
 -- to the target where the condition is met, else to the next instruction
-unfoldable pub branched : Condition → ℕ → Plain → Rowed
-branched c target p = if is_met c p.ccr then jumped (record p { pc = target }) else carried p
+unfoldable pub go_if_met_of : Condition → ℕ → Plain → Rowed
+go_if_met_of c target p = if is_met c p.ccr then jumped (record p { pc = target }) else carried p
 
 -- Bcc, with BRA for the condition T and BSR for F
 unfoldable pub branch_of : Condition → Branch → ℕ → Space → Plain → Routine Rowed
 branch_of c d word_at space p =
-    choose (is_call c) (call_of (target_of word_at d) space p) (Return (branched c (target_of word_at d) p))
+    choose (is_call c) (call_of (target_of word_at d) space p) (Return (go_if_met_of c (target_of word_at d) p))
 
 -- a data register whose low word, which counts, is less by one
-abbrev pub counted_down : ℕ → Plain → Plain
-counted_down n p =
+abbrev pub count_down_of : ℕ → Plain → Plain
+count_down_of n p =
     let count = data_register p n in
     with_data_register p n (with_low Word count (difference count 1))
 
 -- the count falls by one, and the flow goes to the target unless it fell to -1
-unfoldable pub looped : ℕ → ℕ → Plain → Rowed
-looped n target p =
-    let after = counted_down n p in
+unfoldable pub go_if_counted_of : ℕ → ℕ → Plain → Rowed
+go_if_counted_of n target p =
+    let after = count_down_of n p in
     if low_of Word (data_register after n) == 2 ^ 16 - 1 then carried after else jumped (record after { pc = target })
 
 -- DBcc: to the next instruction where the condition is met, else one more turn where the count allows it
 unfoldable pub dbcc_of : Condition → ℕ → ℕ → ℕ → Plain → Rowed
-dbcc_of c n d word_at p = if is_met c p.ccr then carried p else looped n (target_of word_at (displacement.Word d)) p
+dbcc_of c n d word_at p =
+    if is_met c p.ccr then carried p else go_if_counted_of n (target_of word_at (displacement.Word d)) p
 
 -- JMP: to the address of the operand
 unfoldable pub jmp_of : Ea → ℕ → Space → Plain → Routine Rowed
 jmp_of ea word_at space p = do
-  target ← reading (address_of Long ea word_at space p)
+  target ← reading (find_address_of Long ea word_at space p)
   Return (jumped (record p { pc = target }))
 
 -- JSR: the address is formed, then the next instruction's is pushed
 unfoldable pub jsr_of : Ea → ℕ → Space → Plain → Routine Rowed
 jsr_of ea word_at space p = do
-  target ← reading (address_of Long ea word_at space p)
+  target ← reading (find_address_of Long ea word_at space p)
   call_of target space p

@@ -16,8 +16,8 @@ abbrev pub line_at : ℕ → ℕ
 line_at address = address / 2 ^ 4 * 2 ^ 4
 
 -- a line is read, and then written; the registers are those after the instruction
-unfoldable pub line_moved : ℕ → ℕ → Space → Plain → Routine Rowed
-line_moved from to space after = do
+unfoldable pub move_line_of : ℕ → ℕ → Space → Plain → Routine Rowed
+move_line_of from to space after = do
   line ← reading (failing (refused_in (line_at from)) (read_line space (line_at from)))
   ending (λ fault. ended.LineFault fault line) after (write_line space (line_at to) line)
   Return (carried after)
@@ -28,10 +28,10 @@ past_line n p = with_address_register p n (sum (address_register p n) 16)
 
 -- MOVE16 between (An)+ or (An) and an absolute address
 unfoldable pub move16_absolute_of : LineMove → ℕ → ℕ → Space → Plain → Routine Rowed
-move16_absolute_of line.PostToAbsolute n place space p = line_moved (address_register p n) place space (past_line n p)
-move16_absolute_of line.AbsoluteToPost n place space p = line_moved place (address_register p n) space (past_line n p)
-move16_absolute_of line.IndirectToAbsolute n place space p = line_moved (address_register p n) place space p
-move16_absolute_of line.AbsoluteToIndirect n place space p = line_moved place (address_register p n) space p
+move16_absolute_of line.PostToAbsolute n place space p = move_line_of (address_register p n) place space (past_line n p)
+move16_absolute_of line.AbsoluteToPost n place space p = move_line_of place (address_register p n) space (past_line n p)
+move16_absolute_of line.IndirectToAbsolute n place space p = move_line_of (address_register p n) place space p
+move16_absolute_of line.AbsoluteToIndirect n place space p = move_line_of place (address_register p n) space p
 
 -- both registers step, but one that is both steps once
 abbrev pub past_lines : ℕ → ℕ → Plain → Plain
@@ -42,7 +42,7 @@ abbrev pub destination_in : ℕ → ℕ
 destination_in word = word / 2 ^ 12 % 8
 
 -- MOVE16 (Ax)+,(Ay)+
-unfoldable pub move16_of : ℕ → ℕ → Space → Plain → Routine Rowed
-move16_of x word space p =
+unfoldable pub move16_post_of : ℕ → ℕ → Space → Plain → Routine Rowed
+move16_post_of x word space p =
     let y = destination_in word in
-    line_moved (address_register p x) (address_register p y) space (past_lines x y p)
+    move_line_of (address_register p x) (address_register p y) space (past_lines x y p)

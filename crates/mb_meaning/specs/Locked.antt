@@ -15,29 +15,29 @@ use Rattle.mb_alu.specs.declared.bitwise.LogicKind.TheVariants.{Pass}
 use Rattle.mb_alu.specs.Logic.{logic_of}
 use Rattle.mb_alu.specs.Sums.{compare_of}
 use Rattle.mb_ea.specs.Resolve.{resolve_of}
-use Rattle.mb_writes.specs.Checked.{probe_of, get_of, put_at}
+use Rattle.mb_writes.specs.Checked.{probe_operand_of, get_operand_of, put_operand_of}
 use Rattle.mb_meaning.specs.Ends.{Rowed, carried, reading}
 use Rattle.mb_meaning.specs.Operands.{with_low, place_of}
-use Rattle.mb_meaning.specs.Modifying.{modifying}
+use Rattle.mb_meaning.specs.Modifying.{modify_of}
 
 -- ---- TAS
 
 -- the byte with bit 7 set; N and Z by the byte as it was, V and C are cleared, X stays
-abbrev pub test_and_set : ℕ → ℕ → Flagged
-test_and_set value ccr = record { value = bit_or value (2 ^ 7); ccr = (logic_of Pass Byte value 0 ccr).ccr }
+abbrev pub test_and_set_of : ℕ → ℕ → Flagged
+test_and_set_of value ccr = record { value = bit_or value (2 ^ 7); ccr = (logic_of Pass Byte value 0 ccr).ccr }
 
 -- a locked byte, which is always written
 unfoldable pub tas_in_memory : ℕ → Space → Plain → Routine Rowed
 tas_in_memory address space p = do
-  places ← reading (probe_of space address 1)
-  value ← sure (get_of places)
-  let result = test_and_set value p.ccr
-  sure (put_at places 1 result.value)
+  places ← reading (probe_operand_of space address 1)
+  value ← sure (get_operand_of places)
+  let result = test_and_set_of value p.ccr
+  sure (put_operand_of places 1 result.value)
   Return (carried (record p { ccr = result.ccr }))
 
 -- TAS: a data register is no memory
 unfoldable pub tas_of : Ea → ℕ → Space → Plain → Routine Rowed
-tas_of (Dn n) word_at space p = modifying test_and_set Byte (Dn n) word_at space p
+tas_of (Dn n) word_at space p = modify_of test_and_set_of Byte (Dn n) word_at space p
 tas_of ea word_at space p = do
   to ← reading (resolve_of ea Byte word_at space p)
   tas_in_memory (place_of to.target) space to.plain
@@ -72,11 +72,11 @@ cas_equal size word value p = low_of size (data_register p (compared_by word)) =
 -- Du goes to the places of an operand that is the same as Dc. Else Dc takes the operand, and nothing is written.
 unfoldable pub cas_at : Size → ℕ → ℕ → Space → Plain → Routine Rowed
 cas_at size word address space p = do
-  places ← reading (probe_of space address (bytes_of size))
-  value ← sure (get_of places)
+  places ← reading (probe_operand_of space address (bytes_of size))
+  value ← sure (get_operand_of places)
   let after = record p { ccr = cas_codes size word value p }
   choose (cas_equal size word value p)
-      (sure (put_at places (bytes_of size) (data_register p (update_by word))) >> Return (carried after))
+      (sure (put_operand_of places (bytes_of size) (data_register p (update_by word))) >> Return (carried after))
       (Return (carried (cas_loaded size word value after)))
 
 -- CAS
@@ -97,12 +97,12 @@ cas2_codes size first second one two p =
 -- then operand 2. Else both are loaded; a register that is Dc of both takes operand 1.
 unfoldable pub cas2_of : Size → ℕ → ℕ → Space → Plain → Routine Rowed
 cas2_of size first second space p = do
-  places ← reading (probe_of space (register_of p (pointer_by first)) (bytes_of size))
-  others ← reading (probe_of space (register_of p (pointer_by second)) (bytes_of size))
-  one ← sure (get_of places)
-  two ← sure (get_of others)
+  places ← reading (probe_operand_of space (register_of p (pointer_by first)) (bytes_of size))
+  others ← reading (probe_operand_of space (register_of p (pointer_by second)) (bytes_of size))
+  one ← sure (get_operand_of places)
+  two ← sure (get_operand_of others)
   let after = record p { ccr = cas2_codes size first second one two p }
   choose (cas2_equal size first second one two p)
-      (sure (put_at places (bytes_of size) (data_register p (update_by first)))
-      >> sure (put_at others (bytes_of size) (data_register p (update_by second))) >> Return (carried after))
+      (sure (put_operand_of places (bytes_of size) (data_register p (update_by first)))
+      >> sure (put_operand_of others (bytes_of size) (data_register p (update_by second))) >> Return (carried after))
       (Return (carried (cas_loaded size first one (cas_loaded size second two after))))

@@ -7,12 +7,12 @@ use Rattle.mb_instr.specs.declared.operand.Ea.{Ea}
 use Rattle.mb_instr.specs.declared.registers.Plain.{Plain}
 use Rattle.mb_alu.specs.declared.conditions.Flagged.{Flagged}
 use Rattle.mb_meaning.specs.Ends.{Rowed, reading}
-use Rattle.mb_meaning.specs.Operands.{operand_of, storing}
+use Rattle.mb_meaning.specs.Operands.{fetch_operand_of, finish_with_of}
 
 -- An operand is read, the change makes of its value and the condition codes a value and condition codes, and the value
 -- goes back. The operand's first extension word is at `word_at`.
-unfoldable pub modifying : (ℕ → ℕ → Flagged) → Size → Ea → ℕ → Space → Plain → Routine Rowed
-modifying change size ea word_at space p = do
-  operand ← reading (operand_of size ea word_at space p)
+unfoldable pub modify_of : (ℕ → ℕ → Flagged) → Size → Ea → ℕ → Space → Plain → Routine Rowed
+modify_of change size ea word_at space p = do
+  operand ← reading (fetch_operand_of size ea word_at space p)
   let result = change operand.value operand.plain.ccr
-  storing operand.target size result.value space (record operand.plain { ccr = result.ccr })
+  finish_with_of operand.target size result.value space (record operand.plain { ccr = result.ccr })

@@ -12,10 +12,10 @@ use Rattle.mb_ea.specs.declared.addresses.Target.{Target}
 use Rattle.mb_ea.specs.declared.addresses.Target.TheVariants.{Reg, Memory, Value}
 use Rattle.mb_ea.specs.declared.reading.ReadFault.{ReadFault}
 use Rattle.mb_ea.specs.Addresses.{sum, difference}
-use Rattle.mb_ea.specs.Reading.{read_of}
+use Rattle.mb_ea.specs.Reading.{read_operand_of}
 use Rattle.mb_ea.specs.Resolve.{resolve_of}
 use Rattle.mb_writes.specs.declared.ends.WriteFault.{WriteFault}
-use Rattle.mb_writes.specs.Writing.{put_of}
+use Rattle.mb_writes.specs.Writing.{write_operand_of}
 use Rattle.mb_meaning.specs.Ends.{Rowed, Cut, Stopped, carried, writing}
 
 -- the register of all sixteen that an instruction's second word names: bit 15 says an address register, bits 14 to 12
@@ -24,13 +24,13 @@ abbrev pub named_register : ℕ → ℕ
 named_register word = word / 2 ^ 12
 
 -- the address of the words behind those of an operand
-abbrev pub behind : Size → Ea → ℕ → ℕ
-behind size ea word_at = sum word_at (2 * length (more size ea))
+abbrev pub behind_of : Size → Ea → ℕ → ℕ
+behind_of size ea word_at = sum word_at (2 * length (more size ea))
 
 -- what stands there: the low bytes of a register, the bytes in memory, or the value itself
 unfoldable pub load_of : Target → Size → Space → Plain → Routine (Result ℕ ReadFault)
 load_of (Reg n) size space p = Return (Ok (low_of size (register_of p n)))
-load_of (Memory at) size space p = read_of space at (bytes_of size)
+load_of (Memory at) size space p = read_operand_of space at (bytes_of size)
 load_of (Value v) size space p = Return (Ok v)
 
 -- a number with other low bytes
@@ -44,7 +44,7 @@ unreached_store p = Return (Ok p)
 -- Puts a value there: in the low bytes of a register, the others staying, or in memory. No row stores to a value.
 unfoldable pub store_of : Target → Size → ℕ → Space → Plain → Routine (Result Plain WriteFault)
 store_of (Reg n) size value space p = Return (Ok (with_register p n (with_low size (register_of p n) value)))
-store_of (Memory at) size value space p = put_of space at (bytes_of size) value >> Return (Ok p)
+store_of (Memory at) size value space p = write_operand_of space at (bytes_of size) value >> Return (Ok p)
 store_of (Value v) size value space p = unreached_store p
 
 -- An operand that was read: where it stands, its value, and the registers then.
@@ -54,8 +54,8 @@ pub record Fetched : Type 0 where
   pub plain : Plain
 
 -- an operand is resolved, and then read
-unfoldable pub operand_of : Size → Ea → ℕ → Space → Plain → Routine (Result Fetched ReadFault)
-operand_of size ea word_at space p = do
+unfoldable pub fetch_operand_of : Size → Ea → ℕ → Space → Plain → Routine (Result Fetched ReadFault)
+fetch_operand_of size ea word_at space p = do
   resolved ← resolve_of ea size word_at space p
   value ← load_of resolved.target size space resolved.plain
   Return (Ok (record { target = resolved.target; value = value; plain = resolved.plain }))
@@ -70,14 +70,14 @@ place_of (Memory at) = at
 place_of _ = unreached
 
 -- The address of an operand in memory, which is not read. `(An)+` and `-(An)` do not step here.
-unfoldable pub address_of : Size → Ea → ℕ → Space → Plain → Routine (Result ℕ ReadFault)
-address_of size ea word_at space p = do
+unfoldable pub find_address_of : Size → Ea → ℕ → Space → Plain → Routine (Result ℕ ReadFault)
+find_address_of size ea word_at space p = do
   resolved ← resolve_of ea size word_at space p
   Return (Ok (place_of resolved.target))
 
 -- The last part of an instruction: a value goes to its target. The registers are these but for that.
-unfoldable pub storing : Target → Size → ℕ → Space → Plain → Routine Rowed
-storing target size value space after = do
+unfoldable pub finish_with_of : Target → Size → ℕ → Space → Plain → Routine Rowed
+finish_with_of target size value space after = do
   done ← writing after (store_of target size value space after)
   Return (carried done)
 
@@ -89,5 +89,5 @@ abbrev pub raised : Plain → Plain
 raised p = with_address_register p 7 (sum (address_register p 7) 4)
 
 -- A long goes onto the stack, whose new top is given. After the instruction the registers are these.
-unfoldable pub pushing : ℕ → ℕ → Space → Plain → Routine (Result (Unit {0}) (Cut Stopped))
-pushing value top space after = writing after (put_of space top 4 value)
+unfoldable pub push_of : ℕ → ℕ → Space → Plain → Routine (Result (Unit {0}) (Cut Stopped))
+push_of value top space after = writing after (write_operand_of space top 4 value)

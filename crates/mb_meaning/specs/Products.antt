@@ -14,8 +14,8 @@ use Rattle.mb_meaning.specs.Ends.{Rowed, carried, stopped}
 -- ---- by words
 
 -- MULU.W and MULS.W: the product is the whole register
-abbrev pub multiplied_by_word : Bool → ℕ → ℕ → Plain → Rowed
-multiplied_by_word signed n value p =
+abbrev pub multiply_word_of : Bool → ℕ → ℕ → Plain → Rowed
+multiply_word_of signed n value p =
     let product = mul_of signed Word value (data_register p n) p.ccr in
     carried (record (with_data_register p n product.value) { ccr = product.ccr })
 
@@ -31,8 +31,8 @@ divided_by_word n (Overflow ccr) p = carried (record p { ccr = ccr })
 divided_by_word n (ZeroDivide ccr) p = zero_divided ccr p
 
 -- DIVU.W and DIVS.W
-abbrev pub word_divided : Bool → ℕ → ℕ → Plain → Rowed
-word_divided signed n value p = divided_by_word n (div_of signed Word value (data_register p n) p.ccr) p
+abbrev pub divide_word_of : Bool → ℕ → ℕ → Plain → Rowed
+divide_word_of signed n value p = divided_by_word n (div_of signed Word value (data_register p n) p.ccr) p
 
 -- ---- by longs: the word behind the first is `0lll sw00 0000 0hhh`
 
@@ -55,23 +55,23 @@ abbrev pub with_two : Plain → ℕ → ℕ → ℕ → ℕ → Plain
 with_two p n value m other = with_data_register (with_data_register p n value) m other
 
 -- MULU.L and MULS.L with a product of 32 bits
-abbrev pub multiplied_long : ℕ → ℕ → Plain → Plain
-multiplied_long word value p =
+abbrev pub multiply_to_long_of : ℕ → ℕ → Plain → Plain
+multiply_to_long_of word value p =
     let product = mul_of (is_signed word) Long value (data_register p (low_register word)) p.ccr in
     record (with_data_register p (low_register word) product.value) { ccr = product.ccr }
 
 -- the same with a product of 64 bits: the register of the low long is written first
-abbrev pub multiplied_wide : ℕ → ℕ → Plain → Plain
-multiplied_wide word value p =
+abbrev pub multiply_to_wide_of : ℕ → ℕ → Plain → Plain
+multiply_to_wide_of word value p =
     let product = mul_of (is_signed word) Wide value (data_register p (low_register word)) p.ccr in
     record (with_two p (low_register word) (product.value % 2 ^ 32) (high_register word) (product.value / 2 ^ 32)) {
       ccr = product.ccr;
     }
 
 -- MULU.L and MULS.L
-abbrev pub multiplied_by_long : ℕ → ℕ → Plain → Rowed
-multiplied_by_long word value p =
-    carried (if is_wide word then multiplied_wide word value p else multiplied_long word value p)
+abbrev pub multiply_long_of : ℕ → ℕ → Plain → Rowed
+multiply_long_of word value p =
+    carried (if is_wide word then multiply_to_wide_of word value p else multiply_to_long_of word value p)
 
 -- the dividend: 64 bits in two registers, or 32 in one
 abbrev pub dividend_of : ℕ → Plain → ℕ
@@ -90,6 +90,6 @@ divided_by_long word (Overflow ccr) p = carried (record p { ccr = ccr })
 divided_by_long word (ZeroDivide ccr) p = zero_divided ccr p
 
 -- DIVUL.L, DIVSL.L, DIVU.L and DIVS.L
-abbrev pub long_divided : ℕ → ℕ → Plain → Rowed
-long_divided word value p =
+abbrev pub divide_long_of : ℕ → ℕ → Plain → Rowed
+divide_long_of word value p =
     divided_by_long word (div_of (is_signed word) (width_of word) value (dividend_of word p) p.ccr) p

@@ -7,14 +7,14 @@ use Rattle.mb_instr.specs.declared.registers.Plain.{Plain}
 use Rattle.mb_instr.specs.Sizes.{bytes_of, sign_extended}
 use Rattle.mb_instr.specs.Registers.{address_register, with_address_register}
 use Rattle.mb_ea.specs.Addresses.{sum}
-use Rattle.mb_ea.specs.Reading.{read_of}
+use Rattle.mb_ea.specs.Reading.{read_operand_of}
 use Rattle.mb_meaning.specs.Ends.{Rowed, jumped, reading}
 use Rattle.mb_meaning.specs.Operands.{raised}
 
 -- RTS: to the address on the stack, which is taken from it
 unfoldable pub rts_of : Space → Plain → Routine Rowed
 rts_of space p = do
-  target ← reading (read_of space (address_register p 7) (bytes_of Long))
+  target ← reading (read_operand_of space (address_register p 7) (bytes_of Long))
   Return (jumped (record (raised p) { pc = target }))
 
 -- the stack, moved by a signed word
@@ -24,7 +24,7 @@ deallocated d p = with_address_register p 7 (sum (address_register p 7) (sign_ex
 -- RTD: the same, and then the displacement is added to the stack pointer
 unfoldable pub rtd_of : ℕ → Space → Plain → Routine Rowed
 rtd_of d space p = do
-  target ← reading (read_of space (address_register p 7) (bytes_of Long))
+  target ← reading (read_operand_of space (address_register p 7) (bytes_of Long))
   Return (jumped (record (deallocated d (raised p)) { pc = target }))
 
 -- the stack with one word less
@@ -34,6 +34,6 @@ word_raised p = with_address_register p 7 (sum (address_register p 7) 2)
 -- RTR: a word on the stack, whose low five bits are the condition codes, and behind it the address
 unfoldable pub rtr_of : Space → Plain → Routine Rowed
 rtr_of space p = do
-  codes ← reading (read_of space (address_register p 7) (bytes_of Word))
-  target ← reading (read_of space (address_register (word_raised p) 7) (bytes_of Long))
+  codes ← reading (read_operand_of space (address_register p 7) (bytes_of Word))
+  target ← reading (read_operand_of space (address_register (word_raised p) 7) (bytes_of Long))
   Return (jumped (record (raised (word_raised p)) { pc = target; ccr = codes % 2 ^ 5 }))

@@ -24,22 +24,22 @@ use Rattle.mb_writes.specs.declared.ends.Ended.{Ended}
 use Rattle.mb_writes.specs.declared.ends.Ended.TheVariants as ended
 use Rattle.mb_meaning.specs.Ends.{Performed, Rowed, carried, stopped, restoring}
 use Rattle.mb_instr.specs.Sizes.{sign_extended}
-use Rattle.mb_meaning.specs.Moves.{moveq_of, move_of, movea_of, lea_of, exg_of, swap_of, movem_of, to_ccr_of}
-use Rattle.mb_meaning.specs.Moves.{from_ccr_of, scc_of}
+use Rattle.mb_meaning.specs.Moves.{moveq_of, move_operand_of, movea_of, lea_of, exg_of, swap_of, movem_of, move_to_ccr_of}
+use Rattle.mb_meaning.specs.Moves.{move_from_ccr_of, scc_of}
 use Rattle.mb_meaning.specs.Stack.{pea_of, link_of, unlk_of}
 use Rattle.mb_meaning.specs.Peripheral.{movep_of}
-use Rattle.mb_meaning.specs.Lines.{move16_absolute_of, move16_of}
+use Rattle.mb_meaning.specs.Lines.{move16_absolute_of, move16_post_of}
 use Rattle.mb_instr.specs.Shapes.{operands_at}
 use Rattle.mb_instr.specs.Rows.{move_row, arith_row, flow_row}
-use Rattle.mb_meaning.specs.Modifying.{modifying}
-use Rattle.mb_meaning.specs.Arithmetic.{added, subtracted, added_extended, subtracted_extended, combining, comparing}
-use Rattle.mb_meaning.specs.Arithmetic.{either_way, chaining, quick_of, taking, address_moved, address_compared}
-use Rattle.mb_meaning.specs.Unary.{negated, negated_extended, complemented, clr_of, tested, ext_of, ccr_by}
+use Rattle.mb_meaning.specs.Modifying.{modify_of}
+use Rattle.mb_meaning.specs.Arithmetic.{added, subtracted, added_extended, subtracted_extended, combine_of, compare_pair_of}
+use Rattle.mb_meaning.specs.Arithmetic.{combine_either_way_of, chain_of, combine_quick_of, take_of, address_moved, address_compared}
+use Rattle.mb_meaning.specs.Unary.{negated, negated_extended, complemented, clr_of, tested, ext_of, combine_with_ccr_of}
 use Rattle.mb_meaning.specs.Shifts.{count_of, shift_register_of, shifted_by_one}
-use Rattle.mb_meaning.specs.Products.{multiplied_by_word, word_divided, multiplied_by_long, long_divided}
+use Rattle.mb_meaning.specs.Products.{multiply_word_of, divide_word_of, multiply_long_of, divide_long_of}
 use Rattle.mb_meaning.specs.Bits.{bit_row_of}
-use Rattle.mb_meaning.specs.Decimals.{negated_decimal, decimal_of, digits_of}
-use Rattle.mb_meaning.specs.BitFields.{field_row_of}
+use Rattle.mb_meaning.specs.Decimals.{negate_decimal_of, decimal_of, repack_of}
+use Rattle.mb_meaning.specs.BitFields.{bit_field_of}
 use Rattle.mb_meaning.specs.Locked.{tas_of, cas_of, cas2_of}
 use Rattle.mb_meaning.specs.Flow.{branch_of, dbcc_of, jmp_of, jsr_of}
 use Rattle.mb_meaning.specs.Returns.{rts_of, rtd_of, rtr_of}
@@ -52,7 +52,8 @@ privileged = ended.Refused PRIVILEGED
 
 -- What moves.
 unfoldable pub perform_move_of : Move → ℕ → Space → Plain → Routine Rowed
-perform_move_of (move.Move size destination source) word_at space p = move_of size destination source word_at space p
+perform_move_of (move.Move size destination source) word_at space p =
+    move_operand_of size destination source word_at space p
 perform_move_of (move.Moveq register immediate) word_at space p = Return (carried (moveq_of register immediate p))
 perform_move_of (move.MovemLoad size ea mask) word_at space p = movem_of true size ea mask word_at space p
 perform_move_of (move.MovemStore size ea mask) word_at space p = movem_of false size ea mask word_at space p
@@ -60,8 +61,8 @@ perform_move_of (move.Movea size register source) word_at space p = movea_of siz
 perform_move_of (move.Lea register ea) word_at space p = lea_of register ea word_at space p
 perform_move_of (move.Exg x kind y) word_at space p = Return (carried (exg_of kind x y p))
 perform_move_of (move.Swap register) word_at space p = Return (carried (swap_of register p))
-perform_move_of (move.ToCcr ea) word_at space p = to_ccr_of ea word_at space p
-perform_move_of (move.FromCcr ea) word_at space p = from_ccr_of ea word_at space p
+perform_move_of (move.ToCcr ea) word_at space p = move_to_ccr_of ea word_at space p
+perform_move_of (move.FromCcr ea) word_at space p = move_from_ccr_of ea word_at space p
 perform_move_of (move.Scc condition ea) word_at space p = scc_of condition ea word_at space p
 perform_move_of (move.Pea ea) word_at space p = pea_of ea word_at space p
 perform_move_of (move.LinkW register displacement) word_at space p =
@@ -72,81 +73,82 @@ perform_move_of (move.Movep register is_store size address displacement) word_at
     movep_of register is_store size address displacement space p
 perform_move_of (move.Move16Abs kind register address) word_at space p =
     move16_absolute_of kind register address space p
-perform_move_of (move.Move16Post x word) word_at space p = move16_of x word space p
+perform_move_of (move.Move16Post x word) word_at space p = move16_post_of x word space p
 
 -- What computes.
 unfoldable pub perform_arith_of : Arith → ℕ → Space → Plain → Routine Rowed
 perform_arith_of (arith.Add register to_memory size ea) word_at space p =
-    either_way (added size) register to_memory size ea word_at space p
+    combine_either_way_of (added size) register to_memory size ea word_at space p
 perform_arith_of (arith.Sub register to_memory size ea) word_at space p =
-    either_way (subtracted size) register to_memory size ea word_at space p
+    combine_either_way_of (subtracted size) register to_memory size ea word_at space p
 perform_arith_of (arith.And register to_memory size ea) word_at space p =
-    either_way (logic_of logic.And size) register to_memory size ea word_at space p
+    combine_either_way_of (logic_of logic.And size) register to_memory size ea word_at space p
 perform_arith_of (arith.Or register to_memory size ea) word_at space p =
-    either_way (logic_of logic.Or size) register to_memory size ea word_at space p
+    combine_either_way_of (logic_of logic.Or size) register to_memory size ea word_at space p
 perform_arith_of (arith.Eor register size ea) word_at space p =
-    either_way (logic_of logic.Eor size) register true size ea word_at space p
+    combine_either_way_of (logic_of logic.Eor size) register true size ea word_at space p
 perform_arith_of (arith.Addi size ea immediate) word_at space p =
-    combining (added size) size (Imm immediate) ea word_at space p
+    combine_of (added size) size (Imm immediate) ea word_at space p
 perform_arith_of (arith.Subi size ea immediate) word_at space p =
-    combining (subtracted size) size (Imm immediate) ea word_at space p
+    combine_of (subtracted size) size (Imm immediate) ea word_at space p
 perform_arith_of (arith.Andi size ea immediate) word_at space p =
-    combining (logic_of logic.And size) size (Imm immediate) ea word_at space p
+    combine_of (logic_of logic.And size) size (Imm immediate) ea word_at space p
 perform_arith_of (arith.Ori size ea immediate) word_at space p =
-    combining (logic_of logic.Or size) size (Imm immediate) ea word_at space p
+    combine_of (logic_of logic.Or size) size (Imm immediate) ea word_at space p
 perform_arith_of (arith.Eori size ea immediate) word_at space p =
-    combining (logic_of logic.Eor size) size (Imm immediate) ea word_at space p
+    combine_of (logic_of logic.Eor size) size (Imm immediate) ea word_at space p
 perform_arith_of (arith.Addx destination size in_memory source) word_at space p =
-    chaining (added_extended size) size in_memory source destination word_at space p
+    chain_of (added_extended size) size in_memory source destination word_at space p
 perform_arith_of (arith.Subx destination size in_memory source) word_at space p =
-    chaining (subtracted_extended size) size in_memory source destination word_at space p
-perform_arith_of (arith.Cmp register size ea) word_at space p = comparing size ea (Dn register) word_at space p
-perform_arith_of (arith.Cmpi size ea immediate) word_at space p = comparing size (Imm immediate) ea word_at space p
+    chain_of (subtracted_extended size) size in_memory source destination word_at space p
+perform_arith_of (arith.Cmp register size ea) word_at space p = compare_pair_of size ea (Dn register) word_at space p
+perform_arith_of (arith.Cmpi size ea immediate) word_at space p =
+    compare_pair_of size (Imm immediate) ea word_at space p
 perform_arith_of (arith.Cmpm destination size source) word_at space p =
-    comparing size (Post source) (Post destination) word_at space p
+    compare_pair_of size (Post source) (Post destination) word_at space p
 perform_arith_of (arith.Addq quick size ea) word_at space p =
-    quick_of (added size quick) (λ address. sum address quick) size ea word_at space p
+    combine_quick_of (added size quick) (λ address. sum address quick) size ea word_at space p
 perform_arith_of (arith.Subq quick size ea) word_at space p =
-    quick_of (subtracted size quick) (λ address. difference address quick) size ea word_at space p
+    combine_quick_of (subtracted size quick) (λ address. difference address quick) size ea word_at space p
 perform_arith_of (arith.Adda register size ea) word_at space p =
-    taking (address_moved sum register size) size ea word_at space p
+    take_of (address_moved sum register size) size ea word_at space p
 perform_arith_of (arith.Suba register size ea) word_at space p =
-    taking (address_moved difference register size) size ea word_at space p
+    take_of (address_moved difference register size) size ea word_at space p
 perform_arith_of (arith.Cmpa register size ea) word_at space p =
-    taking (address_compared register size) size ea word_at space p
-perform_arith_of (arith.Neg size ea) word_at space p = modifying (negated size) size ea word_at space p
-perform_arith_of (arith.Negx size ea) word_at space p = modifying (negated_extended size) size ea word_at space p
-perform_arith_of (arith.Not size ea) word_at space p = modifying (complemented size) size ea word_at space p
+    take_of (address_compared register size) size ea word_at space p
+perform_arith_of (arith.Neg size ea) word_at space p = modify_of (negated size) size ea word_at space p
+perform_arith_of (arith.Negx size ea) word_at space p = modify_of (negated_extended size) size ea word_at space p
+perform_arith_of (arith.Not size ea) word_at space p = modify_of (complemented size) size ea word_at space p
 perform_arith_of (arith.Clr size ea) word_at space p = clr_of size ea word_at space p
-perform_arith_of (arith.Tst size ea) word_at space p = taking (tested size) size ea word_at space p
+perform_arith_of (arith.Tst size ea) word_at space p = take_of (tested size) size ea word_at space p
 perform_arith_of (arith.ExtW register) word_at space p = Return (carried (ext_of Byte Word register p))
 perform_arith_of (arith.ExtL register) word_at space p = Return (carried (ext_of Word Long register p))
 perform_arith_of (arith.ExtbL register) word_at space p = Return (carried (ext_of Byte Long register p))
-perform_arith_of (arith.OriCcr word) word_at space p = Return (carried (ccr_by logic.Or word p))
-perform_arith_of (arith.AndiCcr word) word_at space p = Return (carried (ccr_by logic.And word p))
-perform_arith_of (arith.EoriCcr word) word_at space p = Return (carried (ccr_by logic.Eor word p))
+perform_arith_of (arith.OriCcr word) word_at space p = Return (carried (combine_with_ccr_of logic.Or word p))
+perform_arith_of (arith.AndiCcr word) word_at space p = Return (carried (combine_with_ccr_of logic.And word p))
+perform_arith_of (arith.EoriCcr word) word_at space p = Return (carried (combine_with_ccr_of logic.Eor word p))
 perform_arith_of (arith.ShiftReg count is_left size by_register kind register) word_at space p =
     Return (carried (shift_register_of kind is_left size (count_of by_register count p) register p))
 perform_arith_of (arith.ShiftMem kind is_left ea) word_at space p =
-    modifying (shifted_by_one kind is_left) Word ea word_at space p
+    modify_of (shifted_by_one kind is_left) Word ea word_at space p
 perform_arith_of (arith.MulW register signed ea) word_at space p =
-    taking (multiplied_by_word signed register) Word ea word_at space p
+    take_of (multiply_word_of signed register) Word ea word_at space p
 perform_arith_of (arith.MulL ea word) word_at space p =
-    taking (multiplied_by_long word) Long ea word_at space p
+    take_of (multiply_long_of word) Long ea word_at space p
 perform_arith_of (arith.DivW register signed ea) word_at space p =
-    taking (word_divided signed register) Word ea word_at space p
-perform_arith_of (arith.DivL ea word) word_at space p = taking (long_divided word) Long ea word_at space p
+    take_of (divide_word_of signed register) Word ea word_at space p
+perform_arith_of (arith.DivL ea word) word_at space p = take_of (divide_long_of word) Long ea word_at space p
 perform_arith_of (arith.BitReg register kind ea) word_at space p =
     bit_row_of kind (data_register p register) ea word_at space p
 perform_arith_of (arith.BitImm kind ea word) word_at space p = bit_row_of kind word ea word_at space p
-perform_arith_of (arith.Nbcd ea) word_at space p = modifying negated_decimal Byte ea word_at space p
+perform_arith_of (arith.Nbcd ea) word_at space p = modify_of negate_decimal_of Byte ea word_at space p
 perform_arith_of (arith.Abcd x in_memory y) word_at space p = decimal_of abcd_of x in_memory y word_at space p
 perform_arith_of (arith.Sbcd x in_memory y) word_at space p = decimal_of sbcd_of x in_memory y word_at space p
 perform_arith_of (arith.Pack x in_memory y word) word_at space p =
-    digits_of pack_of Word Byte x in_memory y word word_at space p
+    repack_of pack_of Word Byte x in_memory y word word_at space p
 perform_arith_of (arith.Unpk x in_memory y word) word_at space p =
-    digits_of unpk_of Byte Word x in_memory y word word_at space p
-perform_arith_of (arith.Field kind ea word) word_at space p = field_row_of kind ea word word_at space p
+    repack_of unpk_of Byte Word x in_memory y word word_at space p
+perform_arith_of (arith.Field kind ea word) word_at space p = bit_field_of kind ea word word_at space p
 perform_arith_of (arith.Tas ea) word_at space p = tas_of ea word_at space p
 perform_arith_of (arith.Cas size ea word) word_at space p = cas_of size ea word word_at space p
 perform_arith_of (arith.Cas2 size first second) word_at space p = cas2_of size first second space p

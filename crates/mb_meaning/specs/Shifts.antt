@@ -7,7 +7,7 @@ use Rattle.mb_instr.specs.declared.registers.Plain.{Plain}
 use Rattle.mb_instr.specs.Registers.{data_register}
 use Rattle.mb_alu.specs.declared.conditions.Flagged.{Flagged}
 use Rattle.mb_alu.specs.Shifts.{shift_of}
-use Rattle.mb_meaning.specs.Unary.{in_register}
+use Rattle.mb_meaning.specs.Unary.{put_in_register_of}
 
 -- a register of counts counts modulo 64
 abbrev pub count_of : Bool → ℕ → Plain → ℕ
@@ -16,7 +16,7 @@ count_of by_register count p = if by_register then data_register p count % 64 el
 -- a shift or rotate of a data register
 unfoldable pub shift_register_of : ShiftKind → Bool → Size → ℕ → ℕ → Plain → Plain
 shift_register_of kind is_left size count register p =
-    in_register register size (shift_of kind is_left size count (data_register p register) p.ccr) p
+    put_in_register_of register size (shift_of kind is_left size count (data_register p register) p.ccr) p
 
 -- a shift or rotate of a word in memory, by one bit
 abbrev pub shifted_by_one : ShiftKind → Bool → ℕ → ℕ → Flagged

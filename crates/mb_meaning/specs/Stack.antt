@@ -7,16 +7,16 @@ use Rattle.mb_instr.specs.declared.operand.Ea.{Ea}
 use Rattle.mb_instr.specs.declared.registers.Plain.{Plain}
 use Rattle.mb_instr.specs.Registers.{address_register, with_address_register}
 use Rattle.mb_ea.specs.Addresses.{sum}
-use Rattle.mb_ea.specs.Reading.{read_of}
+use Rattle.mb_ea.specs.Reading.{read_operand_of}
 use Rattle.mb_meaning.specs.Ends.{Rowed, carried, reading}
-use Rattle.mb_meaning.specs.Operands.{address_of, lowered, pushing}
+use Rattle.mb_meaning.specs.Operands.{find_address_of, lowered, push_of}
 
 -- PEA: the address is formed, and then A7 falls and the address is stored there
 unfoldable pub pea_of : Ea → ℕ → Space → Plain → Routine Rowed
 pea_of ea word_at space p = do
-  place ← reading (address_of Long ea word_at space p)
+  place ← reading (find_address_of Long ea word_at space p)
   let after = lowered p
-  pushing place (address_register after 7) space after
+  push_of place (address_register after 7) space after
   Return (carried after)
 
 -- An becomes A7, and then A7 moves by the displacement
@@ -30,11 +30,11 @@ unfoldable pub link_of : ℕ → ℕ → Space → Plain → Routine Rowed
 link_of n displacement space p =
     let low = lowered p in
     let after = linked n displacement low in
-    pushing (address_register low n) (address_register low 7) space after >> Return (carried after)
+    push_of (address_register low n) (address_register low 7) space after >> Return (carried after)
 
 -- UNLK: A7 becomes An, the long there goes to An, and A7 is past it; A7 itself becomes the long
 unfoldable pub unlk_of : ℕ → Space → Plain → Routine Rowed
 unlk_of n space p = do
-  frame ← reading (read_of space (address_register p n) 4)
+  frame ← reading (read_operand_of space (address_register p n) 4)
   let past = with_address_register p 7 (sum (address_register p n) 4)
   Return (carried (with_address_register past n frame))

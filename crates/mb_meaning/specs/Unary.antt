@@ -15,7 +15,7 @@ use Rattle.mb_alu.specs.Logic.{logic_of}
 use Rattle.mb_alu.specs.Sums.{sub_of}
 use Rattle.mb_ea.specs.Resolve.{resolve_of}
 use Rattle.mb_meaning.specs.Ends.{Rowed, carried, reading}
-use Rattle.mb_meaning.specs.Operands.{with_low, storing}
+use Rattle.mb_meaning.specs.Operands.{with_low, finish_with_of}
 use Rattle.mb_meaning.specs.Moves.{move_flags}
 
 -- NEG: 0 less the operand
@@ -34,21 +34,21 @@ complemented size value ccr = logic_of Not size value 0 ccr
 unfoldable pub clr_of : Size → Ea → ℕ → Space → Plain → Routine Rowed
 clr_of size ea word_at space p = do
   to ← reading (resolve_of ea size word_at space p)
-  storing to.target size 0 space (move_flags size 0 to.plain)
+  finish_with_of to.target size 0 space (move_flags size 0 to.plain)
 
 -- TST
 abbrev pub tested : Size → ℕ → Plain → Rowed
 tested size value p = carried (move_flags size value p)
 
 -- the low bytes of a data register become these, and the condition codes too
-abbrev pub in_register : ℕ → Size → Flagged → Plain → Plain
-in_register n size result p =
+abbrev pub put_in_register_of : ℕ → Size → Flagged → Plain → Plain
+put_in_register_of n size result p =
     record (with_data_register p n (with_low size (data_register p n) result.value)) { ccr = result.ccr }
 
 -- EXT and EXTB
 unfoldable pub ext_of : Size → Size → ℕ → Plain → Plain
-ext_of from to register p = in_register register to (extend_of from to (data_register p register) p.ccr) p
+ext_of from to register p = put_in_register_of register to (extend_of from to (data_register p register) p.ccr) p
 
 -- ORI, ANDI and EORI to CCR: the low five bits of the word count
-unfoldable pub ccr_by : LogicKind → ℕ → Plain → Plain
-ccr_by kind word p = record p { ccr = (logic_of kind Byte word p.ccr p.ccr).value % 2 ^ 5 }
+unfoldable pub combine_with_ccr_of : LogicKind → ℕ → Plain → Plain
+combine_with_ccr_of kind word p = record p { ccr = (logic_of kind Byte word p.ccr p.ccr).value % 2 ^ 5 }

@@ -4,7 +4,7 @@ ghost use Rattle.std.specs.Prelude.{◌≡◌, ◌<◌};
 ghost use Rattle.mb_port.specs.Routine.{run};
 ghost use Rattle.mb_instr.specs.Operands.{IsEa, IsInMemory};
 ghost use Rattle.mb_meaning.specs.Bounds.{compared_size, above};
-ghost use Rattle.mb_meaning.specs.Bounds.{bounds_codes, compared, bounds_of};
+ghost use Rattle.mb_meaning.specs.Bounds.{bounds_codes, compared, compare_bounds_of};
 
 use crate::operands::{find_address, named_register};
 use mb_alu::Conditions;
@@ -60,7 +60,7 @@ fn compare(size: Size, lower: u32, upper: u32, register: u8, plain: &Plain) -> u
 
 /// The condition codes of CHK2 and CMP2. The word names the register; the operand's own words are behind it.
 #[inline(always)]
-#[tactic(auto, unfolding(mb_meaning::specs::Bounds::bounds_of))]
+#[tactic(auto, unfolding(mb_meaning::specs::Bounds::compare_bounds_of))]
 pub fn compare_bounds<P: Port>(
     size: Size,
     ea: &Ea,
@@ -72,7 +72,7 @@ pub fn compare_bounds<P: Port>(
 ) -> Result<u8, ReadFault>
     requires operand { IsEa size ea.now }
     requires place { IsInMemory ea.now }
-    ensures means { run P.bus (bounds_of size ea.now word word_at space plain.now) (P.world port.old)
+    ensures means { run P.bus (compare_bounds_of size ea.now word word_at space plain.now) (P.world port.old)
         ≡ (result, P.world port.new) }
     ensures rest { P.rest port.new ≡ P.rest port.old }
 {

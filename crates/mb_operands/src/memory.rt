@@ -6,8 +6,8 @@ ghost use Rattle.std.specs.Prelude.{◌≡◌, ◌%◌, ◌<◌, IfOk, IfSome, O
 ghost use Rattle.mb_port.specs.Routine.{run, failing};
 ghost use Rattle.mb_port.specs.Pieces.{IsPiece};
 ghost use Rattle.mb_instr.specs.Sizes.{bytes_of, values_of};
-ghost use Rattle.mb_ea.specs.Reading.{read_of};
-ghost use Rattle.mb_writes.specs.Writing.{put_of};
+ghost use Rattle.mb_ea.specs.Reading.{read_operand_of};
+ghost use Rattle.mb_writes.specs.Writing.{write_operand_of};
 ghost use Rattle.mb_writes.specs.declared.ends.Ended.TheVariants as ends;
 ghost use Rattle.mb_operands.specs.Endings.{with_end, IsUnfinished};
 
@@ -15,7 +15,7 @@ use crate::endings::{Undone, unwritten};
 use mb_ea::{ReadFault, read_value};
 use mb_instr::Size;
 use mb_port::{Piece, Port, Space};
-use mb_writes::{Ended, put_value};
+use mb_writes::{Ended, write_value};
 
 /// An operand that is one piece.
 #[inline(always)]
@@ -36,7 +36,7 @@ fn whole_piece(at: u32, size: Size) -> Option<Piece>
 /// have is left to the slow way.
 #[inline(always)]
 pub fn read_at_once<P: Port>(space: Space, at: u32, size: Size, port: &P) -> Option<u32>
-    ensures means { IfSome result (λ value. run P.bus (read_of space at (bytes_of size)) (P.world port.now)
+    ensures means { IfSome result (λ value. run P.bus (read_operand_of space at (bytes_of size)) (P.world port.now)
         ≡ (Ok value, P.world port.now)) }
     ensures range { IfSome result (λ value. value < values_of size) }
 {
@@ -52,7 +52,8 @@ pub fn read_at_once<P: Port>(space: Space, at: u32, size: Size, port: &P) -> Opt
 /// Reads an operand, whatever the bus has to do for it.
 #[inline(never)]
 fn read_slowly<P: Port>(space: Space, at: u32, size: Size, port: &mut P) -> Result<u32, ReadFault>
-    ensures means { run P.bus (read_of space at (bytes_of size)) (P.world port.old) ≡ (result, P.world port.new) }
+    ensures means { run P.bus (read_operand_of space at (bytes_of size)) (P.world port.old)
+        ≡ (result, P.world port.new) }
     ensures range { IfOk result (λ value. value < values_of size) }
     ensures rest { P.rest port.new ≡ P.rest port.old }
 {
@@ -67,7 +68,8 @@ pub fn read_memory<P: Port>(
     size: Size,
     port: &mut P,
 ) -> Result<u32, ReadFault>
-    ensures means { run P.bus (read_of space at (bytes_of size)) (P.world port.old) ≡ (result, P.world port.new) }
+    ensures means { run P.bus (read_operand_of space at (bytes_of size)) (P.world port.old)
+        ≡ (result, P.world port.new) }
     ensures range { IfOk result (λ value. value < values_of size) }
     ensures rest { P.rest port.new ≡ P.rest port.old }
 {
@@ -80,7 +82,7 @@ pub fn read_memory<P: Port>(
 /// Writes an operand, where that is done at once; else nothing has changed.
 #[inline(always)]
 pub fn write_at_once<P: Port>(space: Space, at: u32, size: Size, value: u32, port: &mut P) -> bool
-    ensures done { result ≡ true → run P.bus (put_of space at (bytes_of size) value) (P.world port.old)
+    ensures done { result ≡ true → run P.bus (write_operand_of space at (bytes_of size) value) (P.world port.old)
         ≡ (Ok tt, P.world port.new) }
     ensures undone { result ≡ false → P.world port.new ≡ P.world port.old }
     ensures rest { P.rest port.new ≡ P.rest port.old }
@@ -101,12 +103,13 @@ fn write_slowly<P: Port>(
     port: &mut P,
     ended: &mut Ended,
 ) -> Result<(), Undone>
-    ensures means { run P.bus (failing ends.WriteFault (put_of space at (bytes_of size) value)) (P.world port.old)
+    ensures means { run P.bus (failing ends.WriteFault (write_operand_of space at (bytes_of size) value))
+        (P.world port.old)
         ≡ (with_end result ended.new, P.world port.new) }
     ensures left { OnErr result (IsUnfinished ended.new) }
     ensures rest { P.rest port.new ≡ P.rest port.old }
 {
-    match put_value(space, at, size, value, port) {
+    match write_value(space, at, size, value, port) {
         Ok(()) => Ok(()),
         Err(refused) => Err(unwritten(refused, ended)),
     }
@@ -122,7 +125,8 @@ pub(crate) fn write_memory<P: Port>(
     port: &mut P,
     ended: &mut Ended,
 ) -> Result<(), Undone>
-    ensures means { run P.bus (failing ends.WriteFault (put_of space at (bytes_of size) value)) (P.world port.old)
+    ensures means { run P.bus (failing ends.WriteFault (write_operand_of space at (bytes_of size) value))
+        (P.world port.old)
         ≡ (with_end result ended.new, P.world port.new) }
     ensures left { OnErr result (IsUnfinished ended.new) }
     ensures rest { P.rest port.new ≡ P.rest port.old }

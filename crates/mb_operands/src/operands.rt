@@ -5,8 +5,8 @@ ghost use Rattle.mb_port.specs.Routine.{run};
 ghost use Rattle.mb_instr.specs.Sizes.{values_of};
 ghost use Rattle.mb_instr.specs.Operands.{IsEa, IsInMemory, IsDestination};
 ghost use Rattle.mb_ea.specs.Addresses.{IsTarget, IsMemory, IsPlace};
-ghost use Rattle.mb_meaning.specs.Operands.{behind, named_register, with_low, load_of, operand_of, address_of};
-ghost use Rattle.mb_meaning.specs.Operands.{place_of, storing, pushing};
+ghost use Rattle.mb_meaning.specs.Operands.{behind_of, named_register, with_low, load_of, fetch_operand_of, find_address_of};
+ghost use Rattle.mb_meaning.specs.Operands.{place_of, finish_with_of, push_of};
 ghost use Rattle.mb_operands.specs.Fetched.{fetched, pushed, IsOperand};
 ghost use Rattle.mb_operands.specs.Endings.{IsUnfinished, carried_by};
 
@@ -38,7 +38,7 @@ pub fn named_register(word: u16) -> u8
 /// The address of the words behind those of an operand whose first word is at `word_at`.
 #[inline(always)]
 pub fn behind(size: Size, ea: &Ea, word_at: u32) -> u32
-    ensures { result ≡ behind size ea.now word_at }
+    ensures { result ≡ behind_of size ea.now word_at }
 {
     word_at.wrapping_add(2 * u32::from(ea.words(size)))
 }
@@ -75,7 +75,7 @@ pub fn with_low(size: Size, old: u32, value: u32) -> u32
 
 /// Reads an operand. Its first extension word is at `word_at`.
 #[inline(always)]
-#[tactic(auto, unfolding(mb_meaning::specs::Operands::operand_of))]
+#[tactic(auto, unfolding(mb_meaning::specs::Operands::fetch_operand_of))]
 pub fn fetch_operand<P: Port>(
     size: Size,
     ea: &Ea,
@@ -85,7 +85,7 @@ pub fn fetch_operand<P: Port>(
     port: &mut P,
 ) -> Result<Operand, ReadFault>
     requires { IsEa size ea.now }
-    ensures means { run P.bus (operand_of size ea.now word_at space plain.old) (P.world port.old)
+    ensures means { run P.bus (fetch_operand_of size ea.now word_at space plain.old) (P.world port.old)
         ≡ (fetched result plain.new, P.world port.new) }
     ensures operand { IfOk result (IsOperand size) }
     ensures place { IsDestination ea.now → IfOk result (λ operand. IsPlace operand.target) }
@@ -110,7 +110,7 @@ pub fn place(target: Target) -> u32
 
 /// The address of an operand in memory, which is not read. `(An)+` and `-(An)` do not step here.
 #[inline(always)]
-#[tactic(auto, unfolding(mb_meaning::specs::Operands::address_of))]
+#[tactic(auto, unfolding(mb_meaning::specs::Operands::find_address_of))]
 pub fn find_address<P: Port>(
     size: Size,
     ea: &Ea,
@@ -121,7 +121,7 @@ pub fn find_address<P: Port>(
 ) -> Result<u32, ReadFault>
     requires operand { IsEa size ea.now }
     requires place { IsInMemory ea.now }
-    ensures means { run P.bus (address_of size ea.now word_at space plain.now) (P.world port.old)
+    ensures means { run P.bus (find_address_of size ea.now word_at space plain.now) (P.world port.old)
         ≡ (result, P.world port.new) }
     ensures rest { P.rest port.new ≡ P.rest port.old }
 {
@@ -131,7 +131,7 @@ pub fn find_address<P: Port>(
 
 /// The last part of an instruction: a value goes to its target.
 #[inline(always)]
-#[tactic(auto, unfolding(mb_meaning::specs::Operands::storing, mb_meaning::specs::Operands::store_of))]
+#[tactic(auto, unfolding(mb_meaning::specs::Operands::finish_with_of, mb_meaning::specs::Operands::store_of))]
 pub fn finish_with<P: Port>(
     target: Target,
     size: Size,
@@ -143,7 +143,7 @@ pub fn finish_with<P: Port>(
 ) -> Result<(), Undone>
     requires target { IsTarget size target }
     requires place { IsPlace target }
-    ensures means { run P.bus (storing target size value space plain.old) (P.world port.old)
+    ensures means { run P.bus (finish_with_of target size value space plain.old) (P.world port.old)
         ≡ (carried_by result ended.new plain.new, P.world port.new) }
     ensures left { OnErr result (IsUnfinished ended.new) }
     ensures rest { P.rest port.new ≡ P.rest port.old }
@@ -160,7 +160,7 @@ pub fn finish_with<P: Port>(
 
 /// Puts a long onto the stack, whose new top is `top`. The registers are those after the instruction.
 #[inline(always)]
-#[tactic(auto, unfolding(mb_meaning::specs::Operands::pushing))]
+#[tactic(auto, unfolding(mb_meaning::specs::Operands::push_of))]
 pub fn push<P: Port>(
     value: u32,
     top: u32,
@@ -169,7 +169,7 @@ pub fn push<P: Port>(
     port: &mut P,
     ended: &mut Ended,
 ) -> Result<(), Undone>
-    ensures means { run P.bus (pushing value top space plain.now) (P.world port.old)
+    ensures means { run P.bus (push_of value top space plain.now) (P.world port.old)
         ≡ (pushed result ended.new plain.now, P.world port.new) }
     ensures rest { P.rest port.new ≡ P.rest port.old }
 {

@@ -16,10 +16,10 @@ use Rattle.mb_ea.specs.declared.addresses.Target.{Target}
 use Rattle.mb_ea.specs.declared.addresses.Target.TheVariants.{Reg, Value}
 use Rattle.mb_ea.specs.Resolve.{resolve_of}
 use Rattle.mb_meaning.specs.Ends.{Rowed, carried}
-use Rattle.mb_meaning.specs.Operands.{behind, operand_of, load_of, store_of, storing}
-use Rattle.mb_meaning.specs.Arithmetic.{pair_of, combining, comparing, taking}
-use Rattle.mb_meaning.specs.Modifying.{modifying}
-use Rattle.mb_meaning.specs.Unary.{in_register}
+use Rattle.mb_meaning.specs.Operands.{behind_of, fetch_operand_of, load_of, store_of, finish_with_of}
+use Rattle.mb_meaning.specs.Arithmetic.{fetch_pair_of, combine_of, compare_pair_of, take_of}
+use Rattle.mb_meaning.specs.Modifying.{modify_of}
+use Rattle.mb_meaning.specs.Unary.{put_in_register_of}
 use Rattle.mb_ops_arith.specs.AtHand.{IsAtHand}
 
 is_data : (n : ℕ) → n < 8 → nat_lt n 8 ≡ true
@@ -34,13 +34,13 @@ target_of size other = Value 0
 -- ---- the operand
 
 in_register_n : {S : Type 0} (bus : Bus S) (size : Size) (n word_at : ℕ) (space : Space) (p : Plain) (s : S) → n < 8
-    → run bus (operand_of size (Dn n) word_at space p) s ≡ (Ok (record { target = Reg n; value = low_of size (data_register p n); plain = p }), s)
-unfolding operand_of load_of resolve_of
+    → run bus (fetch_operand_of size (Dn n) word_at space p) s ≡ (Ok (record { target = Reg n; value = low_of size (data_register p n); plain = p }), s)
+unfolding fetch_operand_of load_of resolve_of
 in_register_n bus size n word_at space p s h = rw (is_data n h) refl
 
 at_hand : {S : Type 0} (bus : Bus S) (size : Size) (ea : Ea) (value word_at : ℕ) (space : Space) (p : Plain) (s : S) → IsAtHand size ea p value
-    → run bus (operand_of size ea word_at space p) s ≡ (Ok (record { target = target_of size ea; value = value; plain = p }), s)
-unfolding operand_of load_of resolve_of
+    → run bus (fetch_operand_of size ea word_at space p) s ≡ (Ok (record { target = target_of size ea; value = value; plain = p }), s)
+unfolding fetch_operand_of load_of resolve_of
 at_hand bus size (Dn n) value word_at space p s h = rw (is_data n h.0, h.1) refl
 at_hand bus size (Imm v) value word_at space p s h = rw h refl
 at_hand bus size (An n) value word_at space p s h = absurd h
@@ -58,50 +58,50 @@ at_hand bus size (PcIndex e) value word_at space p s h = absurd h
 
 combined : {S : Type 0} (bus : Bus S) (operation : ℕ → ℕ → ℕ → Flagged) (size : Size) (source : Ea) (value register word_at : ℕ) (space : Space)
     (p : Plain) (s : S) → IsAtHand size source p value → register < 8
-    → run bus (combining operation size source (Dn register) word_at space p) s
-    ≡ (carried (in_register register size (operation value (low_of size (data_register p register)) p.ccr) p), s)
-unfolding combining pair_of storing store_of
+    → run bus (combine_of operation size source (Dn register) word_at space p) s
+    ≡ (carried (put_in_register_of register size (operation value (low_of size (data_register p register)) p.ccr) p), s)
+unfolding combine_of fetch_pair_of finish_with_of store_of
 combined bus operation size source value register word_at space p s h k =
-    let destination = in_register_n bus size register (behind size source word_at) space p s k in
+    let destination = in_register_n bus size register (behind_of size source word_at) space p s k in
     rw (run, at_hand bus size source value word_at space p s h, destination, is_data register k) refl
 
 pub combined_registers : {S : Type 0} (bus : Bus S) (operation : ℕ → ℕ → ℕ → Flagged) (size : Size) (source register word_at : ℕ) (space : Space)
     (p : Plain) (s : S) → source < 8 → register < 8
-    → run bus (combining operation size (Dn source) (Dn register) word_at space p) s
-    ≡ (carried (in_register register size (operation (low_of size (data_register p source)) (low_of size (data_register p register)) p.ccr) p), s)
+    → run bus (combine_of operation size (Dn source) (Dn register) word_at space p) s
+    ≡ (carried (put_in_register_of register size (operation (low_of size (data_register p source)) (low_of size (data_register p register)) p.ccr) p), s)
 combined_registers bus operation size source register word_at space p s h k =
     combined bus operation size (Dn source) (low_of size (data_register p source)) register word_at space p s (h, refl) k
 
 pub combined_immediate : {S : Type 0} (bus : Bus S) (operation : ℕ → ℕ → ℕ → Flagged) (size : Size) (value register word_at : ℕ) (space : Space)
-    (p : Plain) (s : S) → register < 8 → run bus (combining operation size (Imm value) (Dn register) word_at space p) s
-    ≡ (carried (in_register register size (operation (low_of size value) (low_of size (data_register p register)) p.ccr) p), s)
+    (p : Plain) (s : S) → register < 8 → run bus (combine_of operation size (Imm value) (Dn register) word_at space p) s
+    ≡ (carried (put_in_register_of register size (operation (low_of size value) (low_of size (data_register p register)) p.ccr) p), s)
 combined_immediate bus operation size value register word_at space p s k =
     combined bus operation size (Imm value) (low_of size value) register word_at space p s refl k
 
 pub compared : {S : Type 0} (bus : Bus S) (size : Size) (source : Ea) (value register word_at : ℕ) (space : Space) (p : Plain) (s : S)
     → IsAtHand size source p value → register < 8
-    → run bus (comparing size source (Dn register) word_at space p) s
+    → run bus (compare_pair_of size source (Dn register) word_at space p) s
     ≡ (carried (record p { ccr = compare_of size value (low_of size (data_register p register)) p.ccr }), s)
-unfolding comparing pair_of
+unfolding compare_pair_of fetch_pair_of
 compared bus size source value register word_at space p s h k =
-    let destination = in_register_n bus size register (behind size source word_at) space p s k in
+    let destination = in_register_n bus size register (behind_of size source word_at) space p s k in
     rw (run, at_hand bus size source value word_at space p s h, destination) refl
 
 pub compared_immediate : {S : Type 0} (bus : Bus S) (size : Size) (value register word_at : ℕ) (space : Space) (p : Plain) (s : S) → register < 8
-    → run bus (comparing size (Imm value) (Dn register) word_at space p) s
+    → run bus (compare_pair_of size (Imm value) (Dn register) word_at space p) s
     ≡ (carried (record p { ccr = compare_of size (low_of size value) (low_of size (data_register p register)) p.ccr }), s)
 compared_immediate bus size value register word_at space p s k =
     compared bus size (Imm value) (low_of size value) register word_at space p s refl k
 
 pub modified : {S : Type 0} (bus : Bus S) (change : ℕ → ℕ → Flagged) (size : Size) (register word_at : ℕ) (space : Space) (p : Plain) (s : S)
-    → register < 8 → run bus (modifying change size (Dn register) word_at space p) s
-    ≡ (carried (in_register register size (change (low_of size (data_register p register)) p.ccr) p), s)
-unfolding modifying storing store_of
+    → register < 8 → run bus (modify_of change size (Dn register) word_at space p) s
+    ≡ (carried (put_in_register_of register size (change (low_of size (data_register p register)) p.ccr) p), s)
+unfolding modify_of finish_with_of store_of
 modified bus change size register word_at space p s k = rw (run, in_register_n bus size register word_at space p s k, is_data register k) refl
 
 pub taken : {S : Type 0} (bus : Bus S) (effect : ℕ → Plain → Rowed) (size : Size) (ea : Ea) (value word_at : ℕ) (space : Space) (p : Plain) (s : S)
-    → IsAtHand size ea p value → run bus (taking effect size ea word_at space p) s ≡ (effect value p, s)
-unfolding taking
+    → IsAtHand size ea p value → run bus (take_of effect size ea word_at space p) s ≡ (effect value p, s)
+unfolding take_of
 taken bus effect size ea value word_at space p s h = rw (run, at_hand bus size ea value word_at space p s h) refl
 
 pub ruleset without_bus = (combined_registers, combined_immediate, compared, compared_immediate, modified, taken)

@@ -7,9 +7,9 @@ use Rattle.mb_ea.specs.Addresses.{sum, difference}
 use Rattle.mb_meaning.specs.Arithmetic.{added, subtracted, added_extended, subtracted_extended}
 use Rattle.mb_meaning.specs.Unary.{negated, negated_extended, complemented}
 use Rattle.mb_meaning.specs.Shifts.{shifted_by_one}
-use Rattle.mb_meaning.specs.Decimals.{negated_decimal}
-use Rattle.mb_meaning.specs.Bits.{bit_changed}
-use Rattle.mb_meaning.specs.Locked.{test_and_set}
+use Rattle.mb_meaning.specs.Decimals.{negate_decimal_of}
+use Rattle.mb_meaning.specs.Bits.{change_bit_of}
+use Rattle.mb_meaning.specs.Locked.{test_and_set_of}
 use Rattle.mb_ops_arith.specs.declared.operations.Sum.{Sum}
 use Rattle.mb_ops_arith.specs.declared.operations.Sum.TheVariants.{Add, Subtract}
 use Rattle.mb_ops_arith.specs.declared.operations.Operation.{Operation}
@@ -44,6 +44,6 @@ change_of change.Negate size value ccr = negated size value ccr
 change_of change.NegateExtended size value ccr = negated_extended size value ccr
 change_of change.Complement size value ccr = complemented size value ccr
 change_of (change.ShiftWord kind is_left) size value ccr = shifted_by_one kind is_left value ccr
-change_of change.NegateDecimal size value ccr = negated_decimal value ccr
-change_of change.TestAndSet size value ccr = test_and_set value ccr
-change_of (change.Bit kind number) size value ccr = bit_changed kind number size value ccr
+change_of change.NegateDecimal size value ccr = negate_decimal_of value ccr
+change_of change.TestAndSet size value ccr = test_and_set_of value ccr
+change_of (change.Bit kind number) size value ccr = change_bit_of kind number size value ccr

@@ -5,7 +5,7 @@ use Rattle.mb_instr.specs.declared.registers.Plain.{Plain}
 use Rattle.mb_meaning.specs.Ends.{Rowed}
 use Rattle.mb_meaning.specs.Arithmetic.{address_moved, address_compared}
 use Rattle.mb_meaning.specs.Unary.{tested}
-use Rattle.mb_meaning.specs.Products.{multiplied_by_word, word_divided, multiplied_by_long, long_divided}
+use Rattle.mb_meaning.specs.Products.{multiply_word_of, divide_word_of, multiply_long_of, divide_long_of}
 use Rattle.mb_ops_arith.specs.Changes.{moved_of}
 use Rattle.mb_ops_arith.specs.declared.taking.Effect.{Effect}
 use Rattle.mb_ops_arith.specs.declared.taking.Effect.TheVariants as effect
@@ -15,10 +15,10 @@ abbrev pub effect_of : Effect → Size → ℕ → Plain → Rowed
 effect_of effect.Test size value p = tested size value p
 effect_of (effect.MoveAddress sum register) size value p = address_moved (moved_of sum) register size value p
 effect_of (effect.CompareAddress register) size value p = address_compared register size value p
-effect_of (effect.MultiplyWord is_signed register) size value p = multiplied_by_word is_signed register value p
-effect_of (effect.MultiplyLong word) size value p = multiplied_by_long word value p
-effect_of (effect.DivideWord is_signed register) size value p = word_divided is_signed register value p
-effect_of (effect.DivideLong word) size value p = long_divided word value p
+effect_of (effect.MultiplyWord is_signed register) size value p = multiply_word_of is_signed register value p
+effect_of (effect.MultiplyLong word) size value p = multiply_long_of word value p
+effect_of (effect.DivideWord is_signed register) size value p = divide_word_of is_signed register value p
+effect_of (effect.DivideLong word) size value p = divide_long_of word value p
 
 -- its register is one of eight
 abbrev pub IsEffect : Effect → Type 0

@@ -5,8 +5,8 @@ ghost use Rattle.mb_port.specs.Routine.{run};
 ghost use Rattle.mb_instr.specs.Operands.{IsEa, IsData};
 ghost use Rattle.mb_meaning.specs.BitFields.{named_by, offset_of, width_bits, width_of, is_change, field_after};
 ghost use Rattle.mb_meaning.specs.BitFields.{field_flags, field_seen, field_signed, with_result, field_done};
-ghost use Rattle.mb_meaning.specs.BitFields.{field_in_register, field_in_memory, bytes_before, bytes_held};
-ghost use Rattle.mb_meaning.specs.BitFields.{field_row_of};
+ghost use Rattle.mb_meaning.specs.BitFields.{field_in_register_of, field_in_memory_of, bytes_before, bytes_held};
+ghost use Rattle.mb_meaning.specs.BitFields.{bit_field_of};
 ghost use Rattle.mb_operands.specs.Endings.{carried_by};
 
 use mb_alu::Conditions;
@@ -15,7 +15,7 @@ use mb_fields::{field_first, field_get, field_put};
 use mb_instr::{Ea, FieldKind, Plain, Size};
 use mb_operands::{Undone, find_address, unread, unwritten};
 use mb_port::{Port, Space};
-use mb_writes::{Ended, put_pieces};
+use mb_writes::{Ended, write_operand};
 
 /// The number of the data register that the word names.
 #[inline(always)]
@@ -211,10 +211,10 @@ fn finish_field(kind: FieldKind, word: u16, old: u32, plain: &mut Plain)
 
 /// A field in data register `n`, where it wraps round.
 #[inline(always)]
-#[tactic(auto, unfolding(mb_meaning::specs::BitFields::field_in_register))]
+#[tactic(auto, unfolding(mb_meaning::specs::BitFields::field_in_register_of))]
 fn field_in_register(kind: FieldKind, word: u16, n: u8, plain: &mut Plain)
     requires { n < 8 }
-    ensures { plain.new ≡ field_in_register kind word n plain.old }
+    ensures { plain.new ≡ field_in_register_of kind word n plain.old }
 {
     let (offset, width) = (offset(word, plain), width(word, plain));
     let turned = u64::from(plain.d[n as usize].rotate_left(offset));
@@ -253,7 +253,7 @@ fn bytes_held(offset: u32, width: u8) -> u8
 
 /// A field in memory: exactly the bytes that hold it are read and, where the row changes it, written.
 #[inline(always)]
-#[tactic(auto, unfolding(mb_meaning::specs::BitFields::field_in_memory))]
+#[tactic(auto, unfolding(mb_meaning::specs::BitFields::field_in_memory_of))]
 fn field_in_memory<P: Port>(
     kind: FieldKind,
     word: u16,
@@ -263,7 +263,7 @@ fn field_in_memory<P: Port>(
     port: &mut P,
     ended: &mut Ended,
 ) -> Result<(), Undone>
-    ensures means { run P.bus (field_in_memory kind word address space plain.old) (P.world port.old)
+    ensures means { run P.bus (field_in_memory_of kind word address space plain.old) (P.world port.old)
         ≡ (carried_by result ended.new plain.new, P.world port.new) }
     ensures rest { P.rest port.new ≡ P.rest port.old }
 {
@@ -280,7 +280,7 @@ fn field_in_memory<P: Port>(
     finish_field(kind, word, old, plain);
     if is_change(kind) {
         let changed = field_put(bytes, 8 * held, bit, width, new);
-        match put_pieces(space, first, held, changed, port) {
+        match write_operand(space, first, held, changed, port) {
             Ok(()) => Ok(()),
             Err(refused) => Err(unwritten(refused, ended)),
         }
@@ -291,7 +291,7 @@ fn field_in_memory<P: Port>(
 
 /// BFTST, BFEXTU, BFCHG, BFEXTS, BFCLR, BFFFO, BFSET and BFINS.
 #[inline(always)]
-#[tactic(auto, unfolding(mb_meaning::specs::BitFields::field_row_of))]
+#[tactic(auto, unfolding(mb_meaning::specs::BitFields::bit_field_of))]
 pub(crate) fn bit_field<P: Port>(
     kind: FieldKind,
     ea: &Ea,
@@ -304,7 +304,7 @@ pub(crate) fn bit_field<P: Port>(
 ) -> Result<(), Undone>
     requires operand { IsEa Size.Long ea.now }
     requires place { IsData ea.now }
-    ensures means { run P.bus (field_row_of kind ea.now word word_at space plain.old) (P.world port.old)
+    ensures means { run P.bus (bit_field_of kind ea.now word word_at space plain.old) (P.world port.old)
         ≡ (carried_by result ended.new plain.new, P.world port.new) }
     ensures rest { P.rest port.new ≡ P.rest port.old }
 {

@@ -14,7 +14,7 @@ use mb_writes::Ended;
 /// CMP2; the word says which register is compared.
 #[inline(always)]
 #[tactic(auto, unfolding(mb_meaning::specs::Bounds::cmp2_of))]
-pub fn compare_with_bounds<P: Port>(
+pub fn cmp2<P: Port>(
     size: Size,
     ea: &Ea,
     word: u16,

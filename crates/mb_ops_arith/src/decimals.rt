@@ -4,7 +4,7 @@ ghost use Rattle.std.specs.Prelude.{◌≡◌, ◌<◌};
 ghost use Rattle.mb_port.specs.Routine.{run};
 ghost use Rattle.mb_instr.specs.Operands.{IsEa, IsDestination};
 ghost use Rattle.mb_instr.specs.Sizes.{values_of};
-ghost use Rattle.mb_meaning.specs.Decimals.{negated_decimal, paired, decimal_of, digits_of};
+ghost use Rattle.mb_meaning.specs.Decimals.{negate_decimal_of, paired, decimal_of, repack_of};
 ghost use Rattle.mb_ops_arith.specs.Decimals.{decimal_operation, packing_operation, packed_from, packed_to};
 ghost use Rattle.mb_operands.specs.Endings.{carried_by};
 
@@ -80,7 +80,7 @@ impl PackingKind {
 /// 0 less the digits of the byte and X.
 #[inline(always)]
 pub(crate) fn negate_decimal(value: u32, ccr: u8) -> Flagged
-    ensures { result ≡ negated_decimal value ccr }
+    ensures { result ≡ negate_decimal_of value ccr }
 {
     nbcd((value & 0xff) as u8, ccr)
 }
@@ -145,7 +145,7 @@ pub(crate) fn decimal<P: Port>(
 
 /// PACK and UNPK: the source is read first, and no condition code changes.
 #[inline(always)]
-#[tactic(auto, unfolding(mb_meaning::specs::Decimals::digits_of))]
+#[tactic(auto, unfolding(mb_meaning::specs::Decimals::repack_of))]
 pub(crate) fn repack<P: Port>(
     operation: PackingKind,
     x: u8,
@@ -160,7 +160,7 @@ pub(crate) fn repack<P: Port>(
 ) -> Result<(), Undone>
     requires destination { x < 8 }
     requires source { y < 8 }
-    ensures means { run P.bus (digits_of (packing_operation operation) (packed_from operation) (packed_to operation)
+    ensures means { run P.bus (repack_of (packing_operation operation) (packed_from operation) (packed_to operation)
         x in_memory y adjust word_at space plain.old) (P.world port.old)
         ≡ (carried_by result ended.new plain.new, P.world port.new) }
     ensures rest { P.rest port.new ≡ P.rest port.old }

@@ -5,7 +5,7 @@ ghost use Rattle.mb_instr.specs.Operands.{IsEa};
 ghost use Rattle.mb_instr.specs.Sizes.{low_of};
 ghost use Rattle.mb_instr.specs.Registers.{data_register};
 ghost use Rattle.mb_alu.specs.Sums.{compare_of};
-ghost use Rattle.mb_meaning.specs.Unary.{in_register};
+ghost use Rattle.mb_meaning.specs.Unary.{put_in_register_of};
 ghost use Rattle.mb_ops_arith.specs.AtHand.{IsAtHand};
 ghost use Rattle.mb_ops_arith.specs.Changes.{operation_of};
 
@@ -31,7 +31,7 @@ pub(crate) fn at_hand(size: Size, ea: &Ea, plain: &Plain) -> Option<u32>
 #[inline(always)]
 pub fn combine_into(operation: Operation, size: Size, source: u32, register: u8, plain: &mut Plain)
     requires { register < 8 }
-    ensures { plain.new ≡ in_register register size
+    ensures { plain.new ≡ put_in_register_of register size
         (operation_of operation size source (low_of size (data_register plain.old register)) plain.old.ccr)
         plain.old }
 {
@@ -51,7 +51,7 @@ pub fn combine_registers(
 )
     requires source { source < 8 }
     requires destination { destination < 8 }
-    ensures { plain.new ≡ in_register destination size
+    ensures { plain.new ≡ put_in_register_of destination size
         (operation_of operation size (low_of size (data_register plain.old source))
         (low_of size (data_register plain.old destination)) plain.old.ccr) plain.old }
 {

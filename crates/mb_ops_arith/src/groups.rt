@@ -13,7 +13,7 @@ ghost use Rattle.mb_ops_arith.specs.Groups.{is_bits, is_decimal, is_locked};
 
 use crate::bit_fields::bit_field;
 use crate::bits::bit_row;
-use crate::bounds::compare_with_bounds;
+use crate::bounds::cmp2;
 use crate::decimals::{DecimalKind, PackingKind, decimal, repack};
 use crate::locked::{cas, cas2, tas};
 use crate::modifying::modify;
@@ -25,7 +25,7 @@ use crate::pairs::{
 use crate::quick::combine_quick;
 use crate::shifts::shift_register;
 use crate::taking::{Effect, take};
-use crate::unary::{clear, combine_with_ccr, extend_register};
+use crate::unary::{clr, combine_with_ccr, ext};
 use mb_alu::LogicKind;
 use mb_instr::{Arith, Ea, Plain, Size};
 use mb_operands::Undone;
@@ -157,7 +157,7 @@ pub(crate) fn comparison_row<P: Port>(
         Arith::Cmpm { x, size, y } =>
             compare_pair(size, &Ea::Post(y), &Ea::Post(x), first_word, space, plain, port, ended),
         Arith::Cmp2 { size, ref ea, word } =>
-            compare_with_bounds(size, ea, word, second_word, space, plain, port, ended),
+            cmp2(size, ea, word, second_word, space, plain, port, ended),
         Arith::Cmpa { register, size, ref ea } =>
             take(Effect::CompareAddress(register), size, ea, first_word, space, plain, port, ended),
         Arith::Tst { size, ref ea } => take(Effect::Test, size, ea, first_word, space, plain, port, ended),
@@ -229,14 +229,14 @@ pub(crate) fn single_row<P: Port>(
             return modify(Change::NegateExtended, size, ea, first_word, space, plain, port, ended),
         Arith::Not { size, ref ea } =>
             return modify(Change::Complement, size, ea, first_word, space, plain, port, ended),
-        Arith::Clr { size, ref ea } => return clear(size, ea, first_word, space, plain, port, ended),
+        Arith::Clr { size, ref ea } => return clr(size, ea, first_word, space, plain, port, ended),
         Arith::ShiftMem { kind, is_left, ref ea } =>
             return modify(Change::ShiftWord { kind, is_left }, Size::Word, ea, first_word, space, plain, port, ended),
         Arith::Nbcd { ref ea } =>
             return modify(Change::NegateDecimal, Size::Byte, ea, first_word, space, plain, port, ended),
-        Arith::ExtW { register } => extend_register(Size::Byte, Size::Word, register, plain),
-        Arith::ExtL { register } => extend_register(Size::Word, Size::Long, register, plain),
-        Arith::ExtbL { register } => extend_register(Size::Byte, Size::Long, register, plain),
+        Arith::ExtW { register } => ext(Size::Byte, Size::Word, register, plain),
+        Arith::ExtL { register } => ext(Size::Word, Size::Long, register, plain),
+        Arith::ExtbL { register } => ext(Size::Byte, Size::Long, register, plain),
         Arith::ShiftReg { count, is_left, size, by_register, kind, register } =>
             shift_register(kind, is_left, size, by_register, count, register, plain),
         _ => unreachable!(),

@@ -5,7 +5,7 @@ ghost use Rattle.mb_port.specs.Routine.{run};
 ghost use Rattle.mb_instr.specs.Operands.{IsEa, IsInMemory, IsData};
 ghost use Rattle.mb_instr.specs.Sizes.{values_of};
 ghost use Rattle.mb_meaning.specs.Operands.{place_of};
-ghost use Rattle.mb_meaning.specs.Locked.{test_and_set, tas_of, compared_by, update_by, pointer_by};
+ghost use Rattle.mb_meaning.specs.Locked.{test_and_set_of, tas_of, compared_by, update_by, pointer_by};
 ghost use Rattle.mb_meaning.specs.Locked.{cas_codes, cas_loaded, cas_equal, cas_of};
 ghost use Rattle.mb_meaning.specs.Locked.{cas2_codes, cas2_equal, cas2_of};
 ghost use Rattle.mb_operands.specs.Endings.{carried_by};
@@ -22,7 +22,7 @@ use mb_writes::{Ended, get_operand, probe_operand, put_operand};
 /// The byte with bit 7 set, and the condition codes by the byte as it was.
 #[inline(always)]
 pub(crate) fn test_and_set(value: u32, ccr: u8) -> Flagged
-    ensures { result ≡ test_and_set value ccr }
+    ensures { result ≡ test_and_set_of value ccr }
 {
     Flagged {
         value: value | 0x80,

@@ -3,7 +3,7 @@
 ghost use Rattle.std.specs.Prelude.{◌≡◌};
 ghost use Rattle.mb_port.specs.Routine.{run};
 ghost use Rattle.mb_instr.specs.Operands.{IsEa, IsDestination};
-ghost use Rattle.mb_meaning.specs.Modifying.{modifying};
+ghost use Rattle.mb_meaning.specs.Modifying.{modify_of};
 ghost use Rattle.mb_ops_arith.specs.Changes.{change_of};
 ghost use Rattle.mb_operands.specs.Endings.{carried_by};
 
@@ -16,7 +16,7 @@ use mb_writes::Ended;
 
 /// Reads an operand, wherever it stands, changes it, and writes it back.
 #[inline(never)]
-#[tactic(auto, unfolding(mb_meaning::specs::Modifying::modifying))]
+#[tactic(auto, unfolding(mb_meaning::specs::Modifying::modify_of))]
 fn modify_operand<P: Port>(
     change: Change,
     size: Size,
@@ -29,7 +29,7 @@ fn modify_operand<P: Port>(
 ) -> Result<(), Undone>
     requires operand { IsEa size ea.now }
     requires destination { IsDestination ea.now }
-    ensures means { run P.bus (modifying (change_of change size) size ea.now word_at space plain.old) (P.world port.old)
+    ensures means { run P.bus (modify_of (change_of change size) size ea.now word_at space plain.old) (P.world port.old)
         ≡ (carried_by result ended.new plain.new, P.world port.new) }
     ensures rest { P.rest port.new ≡ P.rest port.old }
 {
@@ -66,7 +66,7 @@ pub(crate) fn modify<P: Port>(
 ) -> Result<(), Undone>
     requires operand { IsEa size ea.now }
     requires destination { IsDestination ea.now }
-    ensures means { run P.bus (modifying (change_of change size) size ea.now word_at space plain.old) (P.world port.old)
+    ensures means { run P.bus (modify_of (change_of change size) size ea.now word_at space plain.old) (P.world port.old)
         ≡ (carried_by result ended.new plain.new, P.world port.new) }
     ensures rest { P.rest port.new ≡ P.rest port.old }
 {

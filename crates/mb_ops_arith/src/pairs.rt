@@ -5,7 +5,7 @@ ghost use Rattle.mb_port.specs.Routine.{run};
 ghost use Rattle.mb_instr.specs.Operands.{IsEa, IsImmediate, IsDestination};
 ghost use Rattle.mb_instr.specs.declared.operand.Ea.TheVariants.{Dn, Imm};
 ghost use Rattle.mb_operands.specs.Fetched.{IsOperand};
-ghost use Rattle.mb_meaning.specs.Arithmetic.{pair_of, combining, comparing, either_way, chaining};
+ghost use Rattle.mb_meaning.specs.Arithmetic.{fetch_pair_of, combine_of, compare_pair_of, combine_either_way_of, chain_of};
 ghost use Rattle.mb_ops_arith.specs.Changes.{operation_of};
 ghost use Rattle.mb_ops_arith.specs.Pairs.{paired};
 ghost use Rattle.mb_operands.specs.Endings.{carried_by};
@@ -30,7 +30,7 @@ pub(crate) struct Pair {
 
 /// Reads two operands, the source first. Its words stand before those of the destination.
 #[inline(always)]
-#[tactic(auto, unfolding(mb_meaning::specs::Arithmetic::pair_of))]
+#[tactic(auto, unfolding(mb_meaning::specs::Arithmetic::fetch_pair_of))]
 pub(crate) fn fetch_pair<P: Port>(
     size: Size,
     source: &Ea,
@@ -42,7 +42,7 @@ pub(crate) fn fetch_pair<P: Port>(
 ) -> Result<Pair, ReadFault>
     requires source { IsEa size source.now }
     requires destination { IsEa size destination.now }
-    ensures means { run P.bus (pair_of size source.now destination.now word_at space plain.old) (P.world port.old)
+    ensures means { run P.bus (fetch_pair_of size source.now destination.now word_at space plain.old) (P.world port.old)
         ≡ (paired result plain.new, P.world port.new) }
     ensures operand { IfOk result (λ pair. IsOperand size pair.destination) }
     ensures place { IsDestination destination.now → IfOk result (λ pair. IsPlace pair.destination.target) }
@@ -59,7 +59,7 @@ pub(crate) fn fetch_pair<P: Port>(
 
 /// What the operation makes of a source and a destination goes to the destination.
 #[inline(always)]
-#[tactic(auto, unfolding(mb_meaning::specs::Arithmetic::combining))]
+#[tactic(auto, unfolding(mb_meaning::specs::Arithmetic::combine_of))]
 fn combine<P: Port>(
     operation: Operation,
     size: Size,
@@ -75,7 +75,7 @@ fn combine<P: Port>(
     requires destination { IsEa size destination.now }
     requires place { IsDestination destination.now }
     ensures means { run P.bus
-        (combining (operation_of operation size) size source.now destination.now word_at space plain.old)
+        (combine_of (operation_of operation size) size source.now destination.now word_at space plain.old)
         (P.world port.old) ≡ (carried_by result ended.new plain.new, P.world port.new) }
     ensures rest { P.rest port.new ≡ P.rest port.old }
 {
@@ -91,7 +91,7 @@ fn combine<P: Port>(
 
 /// Compares a source with a destination, wherever they stand. Only the condition codes change.
 #[inline(never)]
-#[tactic(auto, unfolding(mb_meaning::specs::Arithmetic::comparing))]
+#[tactic(auto, unfolding(mb_meaning::specs::Arithmetic::compare_pair_of))]
 pub(crate) fn compare_pair<P: Port>(
     size: Size,
     source: &Ea,
@@ -104,7 +104,8 @@ pub(crate) fn compare_pair<P: Port>(
 ) -> Result<(), Undone>
     requires source { IsEa size source.now }
     requires destination { IsEa size destination.now }
-    ensures means { run P.bus (comparing size source.now destination.now word_at space plain.old) (P.world port.old)
+    ensures means { run P.bus (compare_pair_of size source.now destination.now word_at space plain.old)
+        (P.world port.old)
         ≡ (carried_by result ended.new plain.new, P.world port.new) }
     ensures rest { P.rest port.new ≡ P.rest port.old }
 {
@@ -131,7 +132,7 @@ pub(crate) fn compare_with_register<P: Port>(
 ) -> Result<(), Undone>
     requires operand { IsEa size ea.now }
     requires register { register < 8 }
-    ensures means { run P.bus (comparing size ea.now (Dn register) word_at space plain.old) (P.world port.old)
+    ensures means { run P.bus (compare_pair_of size ea.now (Dn register) word_at space plain.old) (P.world port.old)
         ≡ (carried_by result ended.new plain.new, P.world port.new) }
     ensures rest { P.rest port.new ≡ P.rest port.old }
 {
@@ -166,7 +167,7 @@ pub(crate) fn compare_immediate<P: Port>(
 ) -> Result<(), Undone>
     requires immediate { IsImmediate size immediate }
     requires operand { IsEa size ea.now }
-    ensures means { run P.bus (comparing size (Imm immediate) ea.now word_at space plain.old) (P.world port.old)
+    ensures means { run P.bus (compare_pair_of size (Imm immediate) ea.now word_at space plain.old) (P.world port.old)
         ≡ (carried_by result ended.new plain.new, P.world port.new) }
     ensures rest { P.rest port.new ≡ P.rest port.old }
 {
@@ -188,7 +189,7 @@ pub(crate) fn compare_immediate<P: Port>(
 
 /// ADD, SUB, AND, OR and EOR of an operand that stands anywhere.
 #[inline(never)]
-#[tactic(auto, unfolding(mb_meaning::specs::Arithmetic::either_way))]
+#[tactic(auto, unfolding(mb_meaning::specs::Arithmetic::combine_either_way_of))]
 fn combine_operand<P: Port>(
     operation: Operation,
     register: u8,
@@ -205,7 +206,7 @@ fn combine_operand<P: Port>(
     requires destination { to_memory ≡ true → IsDestination ea.now }
     requires register { register < 8 }
     ensures means { run P.bus
-        (either_way (operation_of operation size) register to_memory size ea.now word_at space plain.old)
+        (combine_either_way_of (operation_of operation size) register to_memory size ea.now word_at space plain.old)
         (P.world port.old) ≡ (carried_by result ended.new plain.new, P.world port.new) }
     ensures rest { P.rest port.new ≡ P.rest port.old }
 {
@@ -223,7 +224,7 @@ fn combine_operand<P: Port>(
 
 /// ADD, SUB, AND and OR: from a data register to an operand, or from the operand to the register.
 #[inline(always)]
-#[tactic(auto, using(crate::proofs::WithoutBus::without_bus), unfolding(mb_meaning::specs::Arithmetic::either_way))]
+#[tactic(auto, using(crate::proofs::WithoutBus::without_bus), unfolding(mb_meaning::specs::Arithmetic::combine_either_way_of))]
 pub(crate) fn combine_either_way<P: Port>(
     operation: Operation,
     register: u8,
@@ -240,7 +241,7 @@ pub(crate) fn combine_either_way<P: Port>(
     requires destination { to_memory ≡ true → IsDestination ea.now }
     requires register { register < 8 }
     ensures means { run P.bus
-        (either_way (operation_of operation size) register to_memory size ea.now word_at space plain.old)
+        (combine_either_way_of (operation_of operation size) register to_memory size ea.now word_at space plain.old)
         (P.world port.old) ≡ (carried_by result ended.new plain.new, P.world port.new) }
     ensures rest { P.rest port.new ≡ P.rest port.old }
 {
@@ -259,7 +260,7 @@ pub(crate) fn combine_either_way<P: Port>(
 }
 
 /// ADDX and SUBX: two data registers, or memory below two address registers.
-#[tactic(auto, using(crate::proofs::WithoutBus::without_bus), unfolding(mb_meaning::specs::Arithmetic::chaining))]
+#[tactic(auto, using(crate::proofs::WithoutBus::without_bus), unfolding(mb_meaning::specs::Arithmetic::chain_of))]
 pub(crate) fn chain<P: Port>(
     operation: Operation,
     size: Size,
@@ -275,7 +276,7 @@ pub(crate) fn chain<P: Port>(
     requires source { source < 8 }
     requires destination { destination < 8 }
     ensures means { run P.bus
-        (chaining (operation_of operation size) size in_memory source destination word_at space plain.old)
+        (chain_of (operation_of operation size) size in_memory source destination word_at space plain.old)
         (P.world port.old) ≡ (carried_by result ended.new plain.new, P.world port.new) }
     ensures rest { P.rest port.new ≡ P.rest port.old }
 {
@@ -314,7 +315,7 @@ fn combine_operand_immediate<P: Port>(
     requires operand { IsEa size ea.now }
     requires destination { IsDestination ea.now }
     ensures means { run P.bus
-        (combining (operation_of operation size) size (Imm immediate) ea.now word_at space plain.old)
+        (combine_of (operation_of operation size) size (Imm immediate) ea.now word_at space plain.old)
         (P.world port.old) ≡ (carried_by result ended.new plain.new, P.world port.new) }
     ensures rest { P.rest port.new ≡ P.rest port.old }
 {
@@ -349,7 +350,7 @@ pub(crate) fn combine_immediate<P: Port>(
     requires operand { IsEa size ea.now }
     requires destination { IsDestination ea.now }
     ensures means { run P.bus
-        (combining (operation_of operation size) size (Imm immediate) ea.now word_at space plain.old)
+        (combine_of (operation_of operation size) size (Imm immediate) ea.now word_at space plain.old)
         (P.world port.old) ≡ (carried_by result ended.new plain.new, P.world port.new) }
     ensures rest { P.rest port.new ≡ P.rest port.old }
 {

@@ -4,10 +4,10 @@ ghost use Rattle.std.specs.Prelude.{◌≡◌, ◌<◌, ◌^◌};
 ghost use Rattle.mb_alu.specs.Products.{IsBounded};
 ghost use Rattle.mb_alu.specs.declared.width.Width.TheVariants as width;
 ghost use Rattle.mb_meaning.specs.Ends.{carried};
-ghost use Rattle.mb_meaning.specs.Products.{multiplied_by_word, divided_by_word, word_divided};
+ghost use Rattle.mb_meaning.specs.Products.{multiply_word_of, divided_by_word, divide_word_of};
 ghost use Rattle.mb_meaning.specs.Products.{low_register, high_register, is_signed, is_wide};
-ghost use Rattle.mb_meaning.specs.Products.{multiplied_long, multiplied_wide, multiplied_by_long};
-ghost use Rattle.mb_meaning.specs.Products.{dividend_of, width_of, divided_by_long, long_divided};
+ghost use Rattle.mb_meaning.specs.Products.{multiply_to_long_of, multiply_to_wide_of, multiply_long_of};
+ghost use Rattle.mb_meaning.specs.Products.{dividend_of, width_of, divided_by_long, divide_long_of};
 ghost use Rattle.mb_operands.specs.Endings.{carried_by};
 
 use mb_alu::{Divided, Width, div, mul};
@@ -20,7 +20,7 @@ use mb_writes::Ended;
 #[inline(always)]
 pub fn multiply_word(signed: bool, register: u8, value: u32, plain: &mut Plain)
     requires { register < 8 }
-    ensures { carried plain.new ≡ multiplied_by_word signed register value plain.old }
+    ensures { carried plain.new ≡ multiply_word_of signed register value plain.old }
 {
     let n = register as usize;
     let product = mul(signed, Width::Word, value, plain.d[n], plain.ccr);
@@ -71,7 +71,7 @@ pub(crate) fn divide_word(
     ended: &mut Ended,
 ) -> Result<(), Undone>
     requires { register < 8 }
-    ensures means { carried_by result ended.new plain.new ≡ word_divided signed register value plain.old }
+    ensures means { carried_by result ended.new plain.new ≡ divide_word_of signed register value plain.old }
 {
     let dividend = u64::from(plain.d[register as usize]);
     let divided = div(signed, Width::Word, value, dividend, plain.ccr);
@@ -115,7 +115,7 @@ fn is_wide(word: u16) -> bool
 /// MULU.L and MULS.L with a product of 32 bits.
 #[inline(always)]
 fn multiply_to_long(word: u16, value: u32, plain: &mut Plain)
-    ensures { plain.new ≡ multiplied_long word value plain.old }
+    ensures { plain.new ≡ multiply_to_long_of word value plain.old }
 {
     let n = low_register(word);
     let product = mul(is_signed(word), Width::Long, value, plain.d[n], plain.ccr);
@@ -126,7 +126,7 @@ fn multiply_to_long(word: u16, value: u32, plain: &mut Plain)
 /// The same with a product of 64 bits: the register of the low long is written first.
 #[inline(always)]
 fn multiply_to_wide(word: u16, value: u32, plain: &mut Plain)
-    ensures { plain.new ≡ multiplied_wide word value plain.old }
+    ensures { plain.new ≡ multiply_to_wide_of word value plain.old }
 {
     let n = low_register(word);
     let product = mul(is_signed(word), Width::Wide, value, plain.d[n], plain.ccr);
@@ -138,7 +138,7 @@ fn multiply_to_wide(word: u16, value: u32, plain: &mut Plain)
 /// MULU.L and MULS.L.
 #[inline(always)]
 pub(crate) fn multiply_long(word: u16, value: u32, plain: &mut Plain)
-    ensures { carried plain.new ≡ multiplied_by_long word value plain.old }
+    ensures { carried plain.new ≡ multiply_long_of word value plain.old }
 {
     if is_wide(word) {
         multiply_to_wide(word, value, plain);
@@ -212,7 +212,7 @@ pub(crate) fn divide_long(
     plain: &mut Plain,
     ended: &mut Ended,
 ) -> Result<(), Undone>
-    ensures means { carried_by result ended.new plain.new ≡ long_divided word value plain.old }
+    ensures means { carried_by result ended.new plain.new ≡ divide_long_of word value plain.old }
 {
     let dividend = dividend(word, plain);
     let divided = div(is_signed(word), width(word), value, dividend, plain.ccr);

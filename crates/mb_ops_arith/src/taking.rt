@@ -3,7 +3,7 @@
 ghost use Rattle.std.specs.Prelude.{◌≡◌, ◌<◌};
 ghost use Rattle.mb_port.specs.Routine.{run};
 ghost use Rattle.mb_instr.specs.Operands.{IsEa};
-ghost use Rattle.mb_meaning.specs.Arithmetic.{taking};
+ghost use Rattle.mb_meaning.specs.Arithmetic.{take_of};
 ghost use Rattle.mb_ops_arith.specs.Effects.{effect_of, IsEffect};
 ghost use Rattle.mb_operands.specs.Endings.{carried_by};
 
@@ -73,7 +73,7 @@ impl Effect {
 
 /// Reads an operand, wherever it stands, and does by it what the effect says.
 #[inline(never)]
-#[tactic(auto, unfolding(mb_meaning::specs::Arithmetic::taking))]
+#[tactic(auto, unfolding(mb_meaning::specs::Arithmetic::take_of))]
 fn take_operand<P: Port>(
     effect: Effect,
     size: Size,
@@ -86,7 +86,7 @@ fn take_operand<P: Port>(
 ) -> Result<(), Undone>
     requires operand { IsEa size ea.now }
     requires effect { IsEffect effect }
-    ensures means { run P.bus (taking (effect_of effect size) size ea.now word_at space plain.old) (P.world port.old)
+    ensures means { run P.bus (take_of (effect_of effect size) size ea.now word_at space plain.old) (P.world port.old)
         ≡ (carried_by result ended.new plain.new, P.world port.new) }
     ensures rest { P.rest port.new ≡ P.rest port.old }
 {
@@ -112,7 +112,7 @@ pub(crate) fn take<P: Port>(
 ) -> Result<(), Undone>
     requires operand { IsEa size ea.now }
     requires effect { IsEffect effect }
-    ensures means { run P.bus (taking (effect_of effect size) size ea.now word_at space plain.old) (P.world port.old)
+    ensures means { run P.bus (take_of (effect_of effect size) size ea.now word_at space plain.old) (P.world port.old)
         ≡ (carried_by result ended.new plain.new, P.world port.new) }
     ensures rest { P.rest port.new ≡ P.rest port.old }
 {

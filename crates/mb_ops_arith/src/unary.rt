@@ -3,7 +3,7 @@
 ghost use Rattle.std.specs.Prelude.{◌≡◌, ◌<◌};
 ghost use Rattle.mb_port.specs.Routine.{run};
 ghost use Rattle.mb_instr.specs.Operands.{IsEa, IsDestination};
-ghost use Rattle.mb_meaning.specs.Unary.{clr_of, in_register, ext_of, ccr_by};
+ghost use Rattle.mb_meaning.specs.Unary.{clr_of, put_in_register_of, ext_of, combine_with_ccr_of};
 ghost use Rattle.mb_operands.specs.Endings.{carried_by};
 
 use mb_alu::{Flagged, LogicKind, extend, logic};
@@ -18,7 +18,7 @@ const CODES: u32 = 0x1F;
 
 /// CLR: 0 is moved to the operand, which is not read.
 #[tactic(auto, unfolding(mb_meaning::specs::Unary::clr_of))]
-pub(crate) fn clear<P: Port>(
+pub(crate) fn clr<P: Port>(
     size: Size,
     ea: &Ea,
     word_at: u32,
@@ -45,7 +45,7 @@ pub(crate) fn clear<P: Port>(
 #[inline(always)]
 pub fn put_in_register(register: u8, size: Size, flagged: Flagged, plain: &mut Plain)
     requires { register < 8 }
-    ensures { plain.new ≡ in_register register size flagged plain.old }
+    ensures { plain.new ≡ put_in_register_of register size flagged plain.old }
 {
     let n = register as usize;
     plain.d[n] = with_low(size, plain.d[n], flagged.value);
@@ -55,7 +55,7 @@ pub fn put_in_register(register: u8, size: Size, flagged: Flagged, plain: &mut P
 /// EXT and EXTB.
 #[inline(always)]
 #[tactic(auto, unfolding(mb_meaning::specs::Unary::ext_of))]
-pub(crate) fn extend_register(from: Size, to: Size, register: u8, plain: &mut Plain)
+pub(crate) fn ext(from: Size, to: Size, register: u8, plain: &mut Plain)
     requires { register < 8 }
     ensures { plain.new ≡ ext_of from to register plain.old }
 {
@@ -65,9 +65,9 @@ pub(crate) fn extend_register(from: Size, to: Size, register: u8, plain: &mut Pl
 
 /// ORI, ANDI and EORI to CCR.
 #[inline(always)]
-#[tactic(auto, unfolding(mb_meaning::specs::Unary::ccr_by))]
+#[tactic(auto, unfolding(mb_meaning::specs::Unary::combine_with_ccr_of))]
 pub(crate) fn combine_with_ccr(kind: LogicKind, word: u16, plain: &mut Plain)
-    ensures { plain.new ≡ ccr_by kind word plain.old }
+    ensures { plain.new ≡ combine_with_ccr_of kind word plain.old }
 {
     let before = plain.ccr;
     let combined = logic(kind, Size::Byte, u32::from(word), u32::from(before), before);

@@ -4,7 +4,7 @@ ghost use Rattle.std.specs.Prelude.{◌≡◌, ◌<◌};
 ghost use Rattle.mb_port.specs.Routine.{run};
 ghost use Rattle.mb_instr.specs.Operands.{IsEa, IsInMemory};
 ghost use Rattle.mb_alu.specs.Signs.{signed_of};
-ghost use Rattle.mb_meaning.specs.Bounds.{checked, chk_of, checked_carry, chk2_of};
+ghost use Rattle.mb_meaning.specs.Bounds.{check_bound_of, chk_of, check_carry_of, chk2_of};
 ghost use Rattle.mb_operands.specs.Endings.{performed_by};
 
 use mb_alu::Conditions;
@@ -30,7 +30,7 @@ fn signed(size: Size, value: u32) -> i64
 
 /// A value below 0 or above the bound traps; then N says whether it is below 0, and the other condition codes stay.
 #[inline(always)]
-#[tactic(auto, unfolding(mb_meaning::specs::Bounds::checked))]
+#[tactic(auto, unfolding(mb_meaning::specs::Bounds::check_bound_of))]
 fn check_bound(
     size: Size,
     bound: u32,
@@ -38,7 +38,7 @@ fn check_bound(
     plain: &mut Plain,
     ended: &mut Ended,
 ) -> Result<bool, Undone>
-    ensures means { performed_by result ended.new plain.new ≡ checked size bound value plain.old }
+    ensures means { performed_by result ended.new plain.new ≡ check_bound_of size bound value plain.old }
 {
     let bound = signed(size, bound);
     let value = signed(size, value);
@@ -57,7 +57,7 @@ fn check_bound(
 /// CHK.
 #[inline(always)]
 #[tactic(auto, unfolding(mb_meaning::specs::Bounds::chk_of))]
-pub fn check<P: Port>(
+pub fn chk<P: Port>(
     register: u8,
     size: Size,
     ea: &Ea,
@@ -81,9 +81,9 @@ pub fn check<P: Port>(
 
 /// A value out of bounds, which C says, traps.
 #[inline(always)]
-#[tactic(auto, unfolding(mb_meaning::specs::Bounds::checked_carry))]
+#[tactic(auto, unfolding(mb_meaning::specs::Bounds::check_carry_of))]
 fn check_carry(plain: &Plain, ended: &mut Ended) -> Result<bool, Undone>
-    ensures means { performed_by result ended.new plain.now ≡ checked_carry plain.now }
+    ensures means { performed_by result ended.new plain.now ≡ check_carry_of plain.now }
 {
     if Conditions::of(plain.ccr).c {
         Err(trapped(OUT_OF_BOUNDS, ended))
@@ -95,7 +95,7 @@ fn check_carry(plain: &Plain, ended: &mut Ended) -> Result<bool, Undone>
 /// CHK2; the word says which register is compared.
 #[inline(always)]
 #[tactic(auto, unfolding(mb_meaning::specs::Bounds::chk2_of))]
-pub fn check_bounds<P: Port>(
+pub fn chk2<P: Port>(
     size: Size,
     ea: &Ea,
     word: u16,

@@ -3,7 +3,7 @@
 ghost use Rattle.std.specs.Prelude.{◌≡◌, ◌<◌, ◌^◌};
 ghost use Rattle.mb_port.specs.Routine.{run};
 ghost use Rattle.mb_meaning.specs.Ends.{went};
-ghost use Rattle.mb_meaning.specs.Flow.{displacement_of, target_of, is_call, call_of, branched, branch_of};
+ghost use Rattle.mb_meaning.specs.Flow.{displacement_of, target_of, is_call, call_of, go_if_met_of, branch_of};
 ghost use Rattle.mb_operands.specs.Endings.{performed_by};
 
 use mb_instr::{Branch, Condition, Plain, Size};
@@ -79,9 +79,9 @@ pub(crate) fn call<P: Port>(
 
 /// Goes to the target where the condition is met. The answer is whether it does.
 #[inline(always)]
-#[tactic(auto, unfolding(mb_meaning::specs::Flow::branched))]
+#[tactic(auto, unfolding(mb_meaning::specs::Flow::go_if_met_of))]
 pub fn go_if_met(condition: Condition, target: u32, plain: &mut Plain) -> bool
-    ensures { went result plain.new ≡ branched condition target plain.old }
+    ensures { went result plain.new ≡ go_if_met_of condition target plain.old }
 {
     let met = is_met(condition, plain.ccr);
     if met {

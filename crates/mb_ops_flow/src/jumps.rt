@@ -15,7 +15,7 @@ use mb_writes::Ended;
 /// JMP: to the address of the operand.
 #[inline(always)]
 #[tactic(auto, unfolding(mb_meaning::specs::Flow::jmp_of))]
-pub fn jump<P: Port>(
+pub fn jmp<P: Port>(
     ea: &Ea,
     word_at: u32,
     space: Space,
@@ -41,7 +41,7 @@ pub fn jump<P: Port>(
 /// JSR: the address is formed, then the next instruction's is pushed.
 #[inline(always)]
 #[tactic(auto, unfolding(mb_meaning::specs::Flow::jsr_of))]
-pub fn jump_to_subroutine<P: Port>(
+pub fn jsr<P: Port>(
     ea: &Ea,
     word_at: u32,
     space: Space,

@@ -12,5 +12,5 @@ mod returns;
 mod traps;
 
 pub use branches::{go_if_met, is_call, target};
-pub use loops::loop_unless;
+pub use loops::dbcc;
 pub use performing::{perform_flow, perform_flow_in_place};

@@ -2,7 +2,7 @@
 
 ghost use Rattle.std.specs.Prelude.{◌≡◌, ◌<◌};
 ghost use Rattle.mb_meaning.specs.Ends.{went};
-ghost use Rattle.mb_meaning.specs.Flow.{counted_down, looped, dbcc_of};
+ghost use Rattle.mb_meaning.specs.Flow.{count_down_of, go_if_counted_of, dbcc_of};
 
 use crate::branches::target;
 use mb_instr::{Branch, Condition, Plain, Size};
@@ -15,7 +15,7 @@ const NO_MORE: u32 = 0xffff;
 #[inline(always)]
 fn count_down(register: u8, plain: &mut Plain)
     requires { register < 8 }
-    ensures { plain.new ≡ counted_down register plain.old }
+    ensures { plain.new ≡ count_down_of register plain.old }
 {
     let register = register as usize;
     let count = plain.d[register];
@@ -24,10 +24,10 @@ fn count_down(register: u8, plain: &mut Plain)
 
 /// Counts down, and goes to the target unless the count fell to -1. The answer is whether it does.
 #[inline(always)]
-#[tactic(auto, unfolding(mb_meaning::specs::Flow::looped))]
+#[tactic(auto, unfolding(mb_meaning::specs::Flow::go_if_counted_of))]
 fn go_if_counted(register: u8, target: u32, plain: &mut Plain) -> bool
     requires { register < 8 }
-    ensures { went result plain.new ≡ looped register target plain.old }
+    ensures { went result plain.new ≡ go_if_counted_of register target plain.old }
 {
     count_down(register, plain);
     let goes = Size::Word.low(plain.d[register as usize]) != NO_MORE;
@@ -41,7 +41,7 @@ fn go_if_counted(register: u8, target: u32, plain: &mut Plain) -> bool
 /// is whether it changed the flow of control.
 #[inline(always)]
 #[tactic(auto, unfolding(mb_meaning::specs::Flow::dbcc_of))]
-pub fn loop_unless(
+pub fn dbcc(
     condition: Condition,
     register: u8,
     displacement: u16,

@@ -10,12 +10,12 @@ ghost use Rattle.mb_meaning.specs.Rows.{perform_flow_of};
 ghost use Rattle.mb_meaning.specs.Ends.{closing, restoring};
 ghost use Rattle.mb_operands.specs.Endings.{is_unread, performed_by};
 
-use crate::bounds::{check, check_bounds};
+use crate::bounds::{chk, chk2};
 use crate::branches::branch;
-use crate::jumps::{jump, jump_to_subroutine};
-use crate::loops::loop_unless;
-use crate::returns::{return_and_deallocate, return_and_restore, return_from_subroutine};
-use crate::traps::{trap, trap_if, trap_on_overflow};
+use crate::jumps::{jmp, jsr};
+use crate::loops::dbcc;
+use crate::returns::{rtd, rtr, rts};
+use crate::traps::{trap, trapcc, trapv};
 use mb_instr::{Flow, Plain};
 use mb_operands::{Undone, put_back};
 use mb_port::{Port, Space};
@@ -46,18 +46,18 @@ fn carry_out<P: Port>(
         Flow::Nop => Ok(false),
         Flow::Bcc { condition, displacement } =>
             branch(condition, displacement, first_word, space, plain, port, ended),
-        Flow::Chk { register, size, ref ea } => check(register, size, ea, first_word, space, plain, port, ended),
-        Flow::Chk2 { size, ref ea, word } => check_bounds(size, ea, word, second_word, space, plain, port, ended),
+        Flow::Chk { register, size, ref ea } => chk(register, size, ea, first_word, space, plain, port, ended),
+        Flow::Chk2 { size, ref ea, word } => chk2(size, ea, word, second_word, space, plain, port, ended),
         Flow::Dbcc { condition, register, displacement } =>
-            Ok(loop_unless(condition, register, displacement, first_word, plain)),
-        Flow::Jmp { ref ea } => jump(ea, first_word, space, plain, port, ended),
-        Flow::Jsr { ref ea } => jump_to_subroutine(ea, first_word, space, plain, port, ended),
-        Flow::Rtd { displacement } => return_and_deallocate(displacement, space, plain, port, ended),
-        Flow::Rtr => return_and_restore(space, plain, port, ended),
-        Flow::Rts => return_from_subroutine(space, plain, port, ended),
+            Ok(dbcc(condition, register, displacement, first_word, plain)),
+        Flow::Jmp { ref ea } => jmp(ea, first_word, space, plain, port, ended),
+        Flow::Jsr { ref ea } => jsr(ea, first_word, space, plain, port, ended),
+        Flow::Rtd { displacement } => rtd(displacement, space, plain, port, ended),
+        Flow::Rtr => rtr(space, plain, port, ended),
+        Flow::Rts => rts(space, plain, port, ended),
         Flow::Trap { number } => trap(number, plain, ended),
-        Flow::Trapcc { condition, .. } => trap_if(condition, plain, ended),
-        Flow::Trapv => trap_on_overflow(plain, ended),
+        Flow::Trapcc { condition, .. } => trapcc(condition, plain, ended),
+        Flow::Trapv => trapv(plain, ended),
     }
 }
 

@@ -13,7 +13,7 @@ use mb_writes::Ended;
 /// RTS: to the address on the stack, which is taken from it.
 #[inline(always)]
 #[tactic(auto, unfolding(mb_meaning::specs::Returns::rts_of))]
-pub fn return_from_subroutine<P: Port>(
+pub fn rts<P: Port>(
     space: Space,
     plain: &mut Plain,
     port: &mut P,
@@ -36,7 +36,7 @@ pub fn return_from_subroutine<P: Port>(
 /// RTD: the same, and then the displacement is added to the stack pointer.
 #[inline(always)]
 #[tactic(auto, unfolding(mb_meaning::specs::Returns::rtd_of))]
-pub fn return_and_deallocate<P: Port>(
+pub fn rtd<P: Port>(
     displacement: u16,
     space: Space,
     plain: &mut Plain,
@@ -61,7 +61,7 @@ pub fn return_and_deallocate<P: Port>(
 /// RTR: a word on the stack, whose low five bits are the condition codes, and behind it the address.
 #[inline(always)]
 #[tactic(auto, unfolding(mb_meaning::specs::Returns::rtr_of))]
-pub fn return_and_restore<P: Port>(
+pub fn rtr<P: Port>(
     space: Space,
     plain: &mut Plain,
     port: &mut P,

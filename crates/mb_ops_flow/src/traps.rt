@@ -22,7 +22,7 @@ pub fn trap(number: u8, plain: &Plain, ended: &mut Ended) -> Result<bool, Undone
 /// TRAPcc, whose operand is passed over: a trap where the condition is met.
 #[inline(always)]
 #[tactic(auto, unfolding(mb_meaning::specs::Traps::trapcc_of))]
-pub fn trap_if(condition: Condition, plain: &Plain, ended: &mut Ended) -> Result<bool, Undone>
+pub fn trapcc(condition: Condition, plain: &Plain, ended: &mut Ended) -> Result<bool, Undone>
     ensures means { performed_by result ended.new plain.now ≡ trapcc_of condition plain.now }
 {
     if is_met(condition, plain.ccr) {
@@ -35,8 +35,8 @@ pub fn trap_if(condition: Condition, plain: &Plain, ended: &mut Ended) -> Result
 /// TRAPV: a trap on overflow.
 #[inline(always)]
 #[tactic(auto, unfolding(mb_meaning::specs::Traps::trapv_of))]
-pub fn trap_on_overflow(plain: &Plain, ended: &mut Ended) -> Result<bool, Undone>
+pub fn trapv(plain: &Plain, ended: &mut Ended) -> Result<bool, Undone>
     ensures means { performed_by result ended.new plain.now ≡ trapv_of plain.now }
 {
-    trap_if(Condition::OverflowSet, plain, ended)
+    trapcc(Condition::OverflowSet, plain, ended)
 }

@@ -8,14 +8,14 @@ use Rattle.mb_port.specs.declared.types.Space.{Space}
 use Rattle.mb_instr.specs.declared.registers.Plain.{Plain}
 use Rattle.mb_instr.specs.Sizes.{bytes_of}
 use Rattle.mb_ea.specs.declared.reading.ReadFault.{ReadFault}
-use Rattle.mb_ea.specs.Reading.{read_of}
+use Rattle.mb_ea.specs.Reading.{read_operand_of}
 use Rattle.mb_writes.specs.declared.ends.MovemFault.{MovemFault}
 use Rattle.mb_writes.specs.declared.ends.WriteFault.{WriteFault}
 use Rattle.mb_writes.specs.declared.transfers.Movem.{Movem}
 use Rattle.mb_writes.specs.declared.transfers.Transfer.{Transfer}
 use Rattle.mb_writes.specs.Transfers.{set_bits, count_of, number_of, step_of, placed, transfers_of, transfer_at}
-use Rattle.mb_writes.specs.Moving.{Halfway, refused_at, stored_of, store_all, loaded_of, load_all, stepped_of, transfer_of}
-use Rattle.mb_writes.specs.Writing.{put_of}
+use Rattle.mb_writes.specs.Moving.{Halfway, refused_at, stored_of, store_all_of, loaded_of, load_all_of, stepped_of, transfer_of}
+use Rattle.mb_writes.specs.Writing.{write_operand_of}
 use Rattle.mb_writes.proofs.Bits.{length-transfers}
 
 -- ---- which transfers are left
@@ -98,20 +98,20 @@ ended bus m ea x =
 -- the loads behind the first `done` do what all do
 abbrev pub AreLoaded : {S : Type 0} → Bus S → Movem → (ea : ℕ) → Space → (done : ℕ) → (p q : Plain) → (s : S) → Type 0
 AreLoaded bus m ea space done p q s =
-    run bus (load_all m space ea done (drop done (transfers_of m ea)) q) s ≡ run bus (load_all m space ea 0 (transfers_of m ea) p) s
+    run bus (load_all_of m space ea done (drop done (transfers_of m ea)) q) s ≡ run bus (load_all_of m space ea 0 (transfers_of m ea) p) s
 
 pub loaded_next : {S : Type 0} (bus : Bus S) (m : Movem) (ea : ℕ) (space : Space) (done bit n : ℕ) (p q r : Plain) (value : ℕ) (s : S)
     → IsAtNext m ea done bit → n ≡ number_of m.mode bit
-    → run bus (read_of space (transfer_at m ea done) (bytes_of m.size)) s ≡ (Ok value, s)
+    → run bus (read_operand_of space (transfer_at m ea done) (bytes_of m.size)) s ≡ (Ok value, s)
     → loaded_of m.mode m.size q n value ≡ r
     → AreLoaded bus m ea space done p q s → AreLoaded bus m ea space (done + 1) p r s
 loaded_next {S = S} bus m ea space done bit n p q r value s at named read into told =
     let ts = drop (done + 1) (transfers_of m ea) in
     let loaded = ap (λ (k : ℕ). loaded_of m.mode m.size q k value) (sym named) ∙ into in
-    ap (λ (x : Plain). run bus (load_all m space ea (done + 1) ts x) s) (sym loaded)
+    ap (λ (x : Plain). run bus (load_all_of m space ea (done + 1) ts x) s) (sym loaded)
     ∙ sym (ap (λ (x : Result ℕ ReadFault × S). run bus (tried (other_fault (unread ea done q) x.0)
-    (λ (k : ℕ). load_all m space ea (done + 1) ts (loaded_of m.mode m.size q (number_of m.mode bit) k))) x.1) read)
-    ∙ sym (ap (λ (xs : List Transfer). run bus (load_all m space ea done xs q) s) at.next)
+    (λ (k : ℕ). load_all_of m space ea (done + 1) ts (loaded_of m.mode m.size q (number_of m.mode bit) k))) x.1) read)
+    ∙ sym (ap (λ (xs : List Transfer). run bus (load_all_of m space ea done xs q) s) at.next)
     ∙ told
 
 -- what is left of a MOVEM does what all of it does
@@ -127,7 +127,7 @@ pub loads_done : {S : Type 0} (bus : Bus S) (m : Movem) (ea : ℕ) (space : Spac
     → (Ok r, s) ≡ run bus (transfer_of m ea 0 space p) s
 unfolding transfer_of transfers_of
 loads_done bus m ea space done p q r s load told all stepped =
-    let none = ap (λ (ts : List Transfer). run bus (load_all m space ea done ts q) s) (sym all.none) ∙ told in
+    let none = ap (λ (ts : List Transfer). run bus (load_all_of m space ea done ts q) s) (sym all.none) ∙ told in
     let count = ap (λ (n : ℕ). stepped_of m.mode m.size ea n q) (sym all.count) in
     rw load (ap (λ (x : Plain). (Ok x, s)) (stepped ∙ count) ∙ ap (ended bus m ea) none)
 
@@ -147,19 +147,19 @@ stored bus p x = run bus (tried (other_fault (halted p) x.0) (λ _. Return (Ok p
 -- the stores behind the first `done` do, in the state now, what all did
 abbrev pub AreStored : {S : Type 0} → Bus S → Movem → (ea : ℕ) → Space → (done : ℕ) → Plain → (s t : S) → Type 0
 AreStored bus m ea space done p s t =
-    run bus (store_all m space p ea done (drop done (transfers_of m ea))) t ≡ run bus (store_all m space p ea 0 (transfers_of m ea)) s
+    run bus (store_all_of m space p ea done (drop done (transfers_of m ea))) t ≡ run bus (store_all_of m space p ea 0 (transfers_of m ea)) s
 
 pub stored_next : {S : Type 0} (bus : Bus S) (m : Movem) (ea : ℕ) (space : Space) (done bit n : ℕ) (p : Plain) (value : ℕ) (s t u : S)
     → IsAtNext m ea done bit → n ≡ number_of m.mode bit → stored_of m.mode m.size p n ≡ value
-    → run bus (put_of space (transfer_at m ea done) (bytes_of m.size) value) t ≡ (Ok tt, u)
+    → run bus (write_operand_of space (transfer_at m ea done) (bytes_of m.size) value) t ≡ (Ok tt, u)
     → AreStored bus m ea space done p s t → AreStored bus m ea space (done + 1) p s u
 stored_next {S = S} bus m ea space done bit n p value s t u at named is put told =
     let ts = drop (done + 1) (transfers_of m ea) in
     let number = ap (λ (k : ℕ). stored_of m.mode m.size p k) (sym named) ∙ is in
-    let written = ap (λ (k : ℕ). run bus (put_of space (transfer_at m ea done) (bytes_of m.size) k) t) number ∙ put in
+    let written = ap (λ (k : ℕ). run bus (write_operand_of space (transfer_at m ea done) (bytes_of m.size) k) t) number ∙ put in
     sym (ap (λ (x : Result (Unit {0}) WriteFault × S). run bus (tried (other_fault (unwritten ea done) x.0)
-    (λ _. store_all m space p ea (done + 1) ts)) x.1) written)
-    ∙ sym (ap (λ (xs : List Transfer). run bus (store_all m space p ea done xs) t) at.next)
+    (λ _. store_all_of m space p ea (done + 1) ts)) x.1) written)
+    ∙ sym (ap (λ (xs : List Transfer). run bus (store_all_of m space p ea done xs) t) at.next)
     ∙ told
 
 pub stores_left : {S : Type 0} (bus : Bus S) (m : Movem) (ea : ℕ) (space : Space) (done : ℕ) (p : Plain) (s t : S)
@@ -174,6 +174,6 @@ pub stores_done : {S : Type 0} (bus : Bus S) (m : Movem) (ea : ℕ) (space : Spa
     → (Ok r, t) ≡ run bus (transfer_of m ea 0 space p) s
 unfolding transfer_of transfers_of
 stores_done {S = S} bus m ea space done p r s t store told all stepped =
-    let none = ap (λ (ts : List Transfer). run bus (store_all m space p ea done ts) t) (sym all.none) ∙ told in
+    let none = ap (λ (ts : List Transfer). run bus (store_all_of m space p ea done ts) t) (sym all.none) ∙ told in
     let count = ap (λ (n : ℕ). stepped_of m.mode m.size ea n p) (sym all.count) in
     rw store (ap (λ (x : Plain). (Ok x, t)) (stepped ∙ count) ∙ ap (λ (x : Result (Unit {0}) MovemFault × S). ended bus m ea (stored bus p x)) none)

@@ -3,7 +3,7 @@
 ghost use Rattle.std.specs.Prelude.{◌≡◌, ◌<◌, ◌^◌};
 ghost use Rattle.mb_port.specs.Routine.{run};
 ghost use Rattle.mb_instr.specs.Operands.{IsEa, IsDestination};
-ghost use Rattle.mb_meaning.specs.Moves.{to_ccr_of, from_ccr_of, byte_of, scc_of};
+ghost use Rattle.mb_meaning.specs.Moves.{move_to_ccr_of, move_from_ccr_of, byte_of, scc_of};
 ghost use Rattle.mb_operands.specs.Endings.{carried_by};
 
 use mb_ea::resolve;
@@ -14,7 +14,7 @@ use mb_writes::Ended;
 
 /// MOVE to CCR: a word is read, and its low five bits are the condition codes.
 #[inline(always)]
-#[tactic(auto, unfolding(mb_meaning::specs::Moves::to_ccr_of))]
+#[tactic(auto, unfolding(mb_meaning::specs::Moves::move_to_ccr_of))]
 pub fn move_to_ccr<P: Port>(
     ea: &Ea,
     word_at: u32,
@@ -24,7 +24,7 @@ pub fn move_to_ccr<P: Port>(
     ended: &mut Ended,
 ) -> Result<(), Undone>
     requires { IsEa Size.Word ea.now }
-    ensures means { run P.bus (to_ccr_of ea.now word_at space plain.old) (P.world port.old)
+    ensures means { run P.bus (move_to_ccr_of ea.now word_at space plain.old) (P.world port.old)
         ≡ (carried_by result ended.new plain.new, P.world port.new) }
     ensures rest { P.rest port.new ≡ P.rest port.old }
 {
@@ -39,7 +39,7 @@ pub fn move_to_ccr<P: Port>(
 
 /// MOVE from CCR: a word with X, N, Z, V and C in bits 4 to 0. The destination is not read.
 #[inline(always)]
-#[tactic(auto, unfolding(mb_meaning::specs::Moves::from_ccr_of))]
+#[tactic(auto, unfolding(mb_meaning::specs::Moves::move_from_ccr_of))]
 pub fn move_from_ccr<P: Port>(
     ea: &Ea,
     word_at: u32,
@@ -50,7 +50,7 @@ pub fn move_from_ccr<P: Port>(
 ) -> Result<(), Undone>
     requires operand { IsEa Size.Word ea.now }
     requires destination { IsDestination ea.now }
-    ensures means { run P.bus (from_ccr_of ea.now word_at space plain.old) (P.world port.old)
+    ensures means { run P.bus (move_from_ccr_of ea.now word_at space plain.old) (P.world port.old)
         ≡ (carried_by result ended.new plain.new, P.world port.new) }
     ensures rest { P.rest port.new ≡ P.rest port.old }
 {
@@ -73,7 +73,7 @@ fn byte_of(met: bool) -> u32
 /// Scc: ones where the condition is met, else zeros. The destination is not read.
 #[inline(always)]
 #[tactic(auto, unfolding(mb_meaning::specs::Moves::scc_of))]
-pub fn set_by_condition<P: Port>(
+pub fn scc<P: Port>(
     condition: Condition,
     ea: &Ea,
     word_at: u32,

@@ -2,8 +2,8 @@
 
 ghost use Rattle.std.specs.Prelude.{◌≡◌, ◌<◌, ◌%◌};
 ghost use Rattle.mb_port.specs.Routine.{run};
-ghost use Rattle.mb_meaning.specs.Lines.{line_at, line_moved, past_line, past_lines, destination_in};
-ghost use Rattle.mb_meaning.specs.Lines.{move16_absolute_of, move16_of};
+ghost use Rattle.mb_meaning.specs.Lines.{line_at, move_line_of, past_line, past_lines, destination_in};
+ghost use Rattle.mb_meaning.specs.Lines.{move16_absolute_of, move16_post_of};
 ghost use Rattle.mb_operands.specs.Endings.{carried_by};
 
 use mb_ea::ReadFault;
@@ -26,7 +26,7 @@ fn line_at(address: u32) -> u32
 
 /// Reads a line, and then writes it, whatever the registers after the instruction.
 #[inline(always)]
-#[tactic(auto, unfolding(mb_meaning::specs::Lines::line_moved))]
+#[tactic(auto, unfolding(mb_meaning::specs::Lines::move_line_of))]
 fn move_line<P: Port>(
     from: u32,
     to: u32,
@@ -34,7 +34,7 @@ fn move_line<P: Port>(
     port: &mut P,
     ended: &mut Ended,
 ) -> Result<(), Undone>
-    ensures means { (after : Plain) → run P.bus (line_moved from to space after) (P.world port.old)
+    ensures means { (after : Plain) → run P.bus (move_line_of from to space after) (P.world port.old)
         ≡ (carried_by result ended.new after, P.world port.new) }
     ensures rest { P.rest port.new ≡ P.rest port.old }
 {
@@ -61,7 +61,7 @@ fn step_past_line(register: u8, plain: &mut Plain)
 
 /// MOVE16 between `(An)+` or `(An)` and an absolute address.
 #[tactic(auto, unfolding(mb_meaning::specs::Lines::move16_absolute_of))]
-pub fn move_line_absolute<P: Port>(
+pub fn move16_absolute<P: Port>(
     kind: LineMove,
     register: u8,
     place: u32,
@@ -112,8 +112,8 @@ fn destination(word: u16) -> u8
 }
 
 /// MOVE16 `(Ax)+,(Ay)+`.
-#[tactic(auto, unfolding(mb_meaning::specs::Lines::move16_of))]
-pub fn move_line_post<P: Port>(
+#[tactic(auto, unfolding(mb_meaning::specs::Lines::move16_post_of))]
+pub fn move16_post<P: Port>(
     x: u8,
     word: u16,
     space: Space,
@@ -122,7 +122,7 @@ pub fn move_line_post<P: Port>(
     ended: &mut Ended,
 ) -> Result<(), Undone>
     requires { x < 8 }
-    ensures means { run P.bus (move16_of x word space plain.old) (P.world port.old)
+    ensures means { run P.bus (move16_post_of x word space plain.old) (P.world port.old)
         ≡ (carried_by result ended.new plain.new, P.world port.new) }
     ensures rest { P.rest port.new ≡ P.rest port.old }
 {

@@ -3,7 +3,7 @@
 ghost use Rattle.std.specs.Prelude.{◌≡◌, ◌<◌};
 ghost use Rattle.mb_port.specs.Routine.{run};
 ghost use Rattle.mb_instr.specs.Operands.{IsEa, IsInMemory, IsDestination};
-ghost use Rattle.mb_meaning.specs.Moves.{moveq_of, move_of, movea_of, lea_of};
+ghost use Rattle.mb_meaning.specs.Moves.{moveq_of, move_operand_of, movea_of, lea_of};
 ghost use Rattle.mb_operands.specs.Endings.{carried_by};
 
 use mb_alu::{LogicKind, extend, logic};
@@ -27,7 +27,7 @@ pub fn moveq(register: u8, immediate: u8, plain: &mut Plain)
 
 /// MOVE: the source is read before the destination's address is formed, and the pieces are written last.
 #[inline(always)]
-#[tactic(auto, unfolding(mb_meaning::specs::Moves::move_of))]
+#[tactic(auto, unfolding(mb_meaning::specs::Moves::move_operand_of))]
 pub fn move_operand<P: Port>(
     size: Size,
     destination: &Ea,
@@ -41,7 +41,7 @@ pub fn move_operand<P: Port>(
     requires target { IsEa size destination.now }
     requires destination { IsDestination destination.now }
     requires source { IsEa size from.now }
-    ensures means { run P.bus (move_of size destination.now from.now word_at space plain.old) (P.world port.old)
+    ensures means { run P.bus (move_operand_of size destination.now from.now word_at space plain.old) (P.world port.old)
         ≡ (carried_by result ended.new plain.new, P.world port.new) }
     ensures rest { P.rest port.new ≡ P.rest port.old }
 {
@@ -61,7 +61,7 @@ pub fn move_operand<P: Port>(
 /// MOVEA: the source, read at its size, goes to the whole register with its sign.
 #[inline(always)]
 #[tactic(auto, unfolding(mb_meaning::specs::Moves::movea_of))]
-pub fn move_address<P: Port>(
+pub fn movea<P: Port>(
     size: Size,
     register: u8,
     from: &Ea,
@@ -89,7 +89,7 @@ pub fn move_address<P: Port>(
 /// LEA: the address of an operand, which is not read.
 #[inline(always)]
 #[tactic(auto, unfolding(mb_meaning::specs::Moves::lea_of))]
-pub fn load_address<P: Port>(
+pub fn lea<P: Port>(
     register: u8,
     ea: &Ea,
     word_at: u32,

@@ -10,13 +10,13 @@ ghost use Rattle.mb_meaning.specs.Rows.{perform_move_of};
 ghost use Rattle.mb_meaning.specs.Ends.{closing, restoring};
 ghost use Rattle.mb_operands.specs.Endings.{is_unread, performed_by, carried_by};
 
-use crate::codes::{move_from_ccr, move_to_ccr, set_by_condition};
-use crate::lines::{move_line_absolute, move_line_post};
+use crate::codes::{move_from_ccr, move_to_ccr, scc};
+use crate::lines::{move16_absolute, move16_post};
 use crate::movem::movem;
-use crate::moves::{load_address, move_address, move_operand, moveq};
-use crate::peripheral::move_peripheral;
-use crate::registers::{exchange, swap};
-use crate::stack::{link, push_address, unlink};
+use crate::moves::{lea, move_operand, movea, moveq};
+use crate::peripheral::movep;
+use crate::registers::{exg, swap};
+use crate::stack::{link, pea, unlk};
 use mb_instr::{Move, Plain, Size};
 use mb_operands::{Undone, put_back};
 use mb_port::{Port, Space};
@@ -52,10 +52,10 @@ fn carry_out<P: Port>(
         Move::MovemLoad { size, ref ea, mask } => movem(true, size, ea, mask, second_word, space, plain, port, ended),
         Move::MovemStore { size, ref ea, mask } => movem(false, size, ea, mask, second_word, space, plain, port, ended),
         Move::Movea { size, register, ref source } =>
-            move_address(size, register, source, first_word, space, plain, port, ended),
-        Move::Lea { register, ref ea } => load_address(register, ea, first_word, space, plain, port, ended),
+            movea(size, register, source, first_word, space, plain, port, ended),
+        Move::Lea { register, ref ea } => lea(register, ea, first_word, space, plain, port, ended),
         Move::Exg { x, kind, y } => {
-            exchange(x, kind, y, plain);
+            exg(x, kind, y, plain);
             Ok(())
         }
         Move::Swap { register } => {
@@ -64,17 +64,17 @@ fn carry_out<P: Port>(
         }
         Move::ToCcr { ref ea } => move_to_ccr(ea, first_word, space, plain, port, ended),
         Move::FromCcr { ref ea } => move_from_ccr(ea, first_word, space, plain, port, ended),
-        Move::Scc { condition, ref ea } => set_by_condition(condition, ea, first_word, space, plain, port, ended),
-        Move::Pea { ref ea } => push_address(ea, first_word, space, plain, port, ended),
+        Move::Scc { condition, ref ea } => scc(condition, ea, first_word, space, plain, port, ended),
+        Move::Pea { ref ea } => pea(ea, first_word, space, plain, port, ended),
         Move::LinkW { register, displacement } =>
             link(register, Size::Word.sign_extend(u32::from(displacement)), space, plain, port, ended),
         Move::LinkL { register, displacement } => link(register, displacement, space, plain, port, ended),
-        Move::Unlk { register } => unlink(register, space, plain, port, ended),
+        Move::Unlk { register } => unlk(register, space, plain, port, ended),
         Move::Movep { register, is_store, size, address, displacement } =>
-            move_peripheral(register, is_store, size, address, displacement, space, plain, port, ended),
+            movep(register, is_store, size, address, displacement, space, plain, port, ended),
         Move::Move16Abs { kind, register, address } =>
-            move_line_absolute(kind, register, address, space, plain, port, ended),
-        Move::Move16Post { x, word } => move_line_post(x, word, space, plain, port, ended),
+            move16_absolute(kind, register, address, space, plain, port, ended),
+        Move::Move16Post { x, word } => move16_post(x, word, space, plain, port, ended),
     }
 }
 

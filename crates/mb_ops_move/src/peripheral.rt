@@ -3,16 +3,16 @@
 ghost use Rattle.std.specs.Prelude.{◌≡◌, ◌<◌};
 ghost use Rattle.mb_port.specs.Routine.{run};
 ghost use Rattle.mb_instr.specs.Sizes.{bytes_of};
-ghost use Rattle.mb_ea.specs.Reading.{read_pieces};
+ghost use Rattle.mb_ea.specs.Reading.{read_pieces_of};
 ghost use Rattle.mb_writes.specs.Writing.{apart};
-ghost use Rattle.mb_meaning.specs.Peripheral.{read_apart_of, from_peripheral, to_peripheral, movep_of};
+ghost use Rattle.mb_meaning.specs.Peripheral.{read_apart_of, load_peripheral_of, store_peripheral_of, movep_of};
 ghost use Rattle.mb_operands.specs.Endings.{carried_by};
 
 use mb_ea::{ReadFault, Target};
 use mb_instr::{Plain, Size};
 use mb_operands::{Undone, finish_with, unread, unwritten};
 use mb_port::{Fault, Piece, Port, Space};
-use mb_writes::{Ended, put_apart};
+use mb_writes::{Ended, write_apart};
 
 /// A single byte as a piece.
 #[inline(always)]
@@ -24,7 +24,7 @@ fn byte_at(at: u32) -> Piece
 
 /// Reads a byte.
 fn read_byte<P: Port>(space: Space, at: u32, port: &mut P) -> Result<u32, Fault>
-    ensures means { run P.bus (read_pieces space (apart at 1) 0) (P.world port.old) ≡ (result, P.world port.new) }
+    ensures means { run P.bus (read_pieces_of space (apart at 1) 0) (P.world port.old) ≡ (result, P.world port.new) }
     ensures rest { P.rest port.new ≡ P.rest port.old }
 {
     let byte = port.read(space, byte_at(at))?;
@@ -33,7 +33,7 @@ fn read_byte<P: Port>(space: Space, at: u32, port: &mut P) -> Result<u32, Fault>
 
 /// Reads a word whose bytes stand at every second address.
 fn read_word<P: Port>(space: Space, at: u32, port: &mut P) -> Result<u32, Fault>
-    ensures means { run P.bus (read_pieces space (apart at 2) 0) (P.world port.old) ≡ (result, P.world port.new) }
+    ensures means { run P.bus (read_pieces_of space (apart at 2) 0) (P.world port.old) ≡ (result, P.world port.new) }
     ensures rest { P.rest port.new ≡ P.rest port.old }
 {
     let high = port.read(space, byte_at(at))?;
@@ -43,7 +43,7 @@ fn read_word<P: Port>(space: Space, at: u32, port: &mut P) -> Result<u32, Fault>
 
 /// Reads a long whose bytes stand at every second address.
 fn read_long<P: Port>(space: Space, at: u32, port: &mut P) -> Result<u32, Fault>
-    ensures means { run P.bus (read_pieces space (apart at 4) 0) (P.world port.old) ≡ (result, P.world port.new) }
+    ensures means { run P.bus (read_pieces_of space (apart at 4) 0) (P.world port.old) ≡ (result, P.world port.new) }
     ensures rest { P.rest port.new ≡ P.rest port.old }
 {
     let second = at.wrapping_add(2);
@@ -58,7 +58,7 @@ fn read_long<P: Port>(space: Space, at: u32, port: &mut P) -> Result<u32, Fault>
 
 /// Reads the bytes of an operand at every second address.
 fn read_bytes<P: Port>(space: Space, at: u32, size: Size, port: &mut P) -> Result<u32, Fault>
-    ensures means { run P.bus (read_pieces space (apart at (bytes_of size)) 0) (P.world port.old)
+    ensures means { run P.bus (read_pieces_of space (apart at (bytes_of size)) 0) (P.world port.old)
         ≡ (result, P.world port.new) }
     ensures rest { P.rest port.new ≡ P.rest port.old }
 {
@@ -82,8 +82,8 @@ fn read_apart<P: Port>(space: Space, at: u32, size: Size, port: &mut P) -> Resul
 }
 
 /// The low word or the long of a data register is set by the bytes.
-#[tactic(auto, unfolding(mb_meaning::specs::Peripheral::from_peripheral))]
-fn load<P: Port>(
+#[tactic(auto, unfolding(mb_meaning::specs::Peripheral::load_peripheral_of))]
+fn load_peripheral<P: Port>(
     register: u8,
     size: Size,
     place: u32,
@@ -93,7 +93,7 @@ fn load<P: Port>(
     ended: &mut Ended,
 ) -> Result<(), Undone>
     requires { register < 8 }
-    ensures means { run P.bus (from_peripheral register size place space plain.old) (P.world port.old)
+    ensures means { run P.bus (load_peripheral_of register size place space plain.old) (P.world port.old)
         ≡ (carried_by result ended.new plain.new, P.world port.new) }
     ensures rest { P.rest port.new ≡ P.rest port.old }
 {
@@ -112,8 +112,8 @@ fn load<P: Port>(
 }
 
 /// The low word or the long of a data register is written byte by byte.
-#[tactic(auto, unfolding(mb_meaning::specs::Peripheral::to_peripheral))]
-fn store<P: Port>(
+#[tactic(auto, unfolding(mb_meaning::specs::Peripheral::store_peripheral_of))]
+fn store_peripheral<P: Port>(
     register: u8,
     size: Size,
     place: u32,
@@ -123,11 +123,11 @@ fn store<P: Port>(
     ended: &mut Ended,
 ) -> Result<(), Undone>
     requires { register < 8 }
-    ensures means { run P.bus (to_peripheral register size place space plain.now) (P.world port.old)
+    ensures means { run P.bus (store_peripheral_of register size place space plain.now) (P.world port.old)
         ≡ (carried_by result ended.new plain.now, P.world port.new) }
     ensures rest { P.rest port.new ≡ P.rest port.old }
 {
-    match put_apart(space, place, size, plain.d[register as usize], port) {
+    match write_apart(space, place, size, plain.d[register as usize], port) {
         Ok(()) => Ok(()),
         Err(refused) => Err(unwritten(refused, ended)),
     }
@@ -135,7 +135,7 @@ fn store<P: Port>(
 
 /// MOVEP: from the address register plus the displacement on.
 #[tactic(auto, unfolding(mb_meaning::specs::Peripheral::movep_of))]
-pub fn move_peripheral<P: Port>(
+pub fn movep<P: Port>(
     register: u8,
     is_store: bool,
     size: Size,
@@ -154,8 +154,8 @@ pub fn move_peripheral<P: Port>(
     let displacement = Size::Word.sign_extend(u32::from(displacement));
     let place = plain.a[address as usize].wrapping_add(displacement);
     if is_store {
-        store(register, size, place, space, plain, port, ended)
+        store_peripheral(register, size, place, space, plain, port, ended)
     } else {
-        load(register, size, place, space, plain, port, ended)
+        load_peripheral(register, size, place, space, plain, port, ended)
     }
 }

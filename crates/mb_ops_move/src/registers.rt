@@ -1,7 +1,7 @@
 //! EXG and SWAP.
 
 ghost use Rattle.std.specs.Prelude.{◌≡◌, ◌<◌};
-ghost use Rattle.mb_meaning.specs.Moves.{exchanged, exg_of, swap_of};
+ghost use Rattle.mb_meaning.specs.Moves.{exchange_registers_of, exg_of, swap_of};
 
 use mb_alu::{LogicKind, logic};
 use mb_instr::{Exchange, Plain, Size};
@@ -10,7 +10,7 @@ use mb_instr::{Exchange, Plain, Size};
 #[inline(always)]
 fn exchange_registers(m: u8, n: u8, plain: &mut Plain)
     requires { (m < 16) × (n < 16) }
-    ensures { plain.new ≡ exchanged m n plain.old }
+    ensures { plain.new ≡ exchange_registers_of m n plain.old }
 {
     let first = plain.register(m);
     plain.set_register(m, plain.register(n));
@@ -20,7 +20,7 @@ fn exchange_registers(m: u8, n: u8, plain: &mut Plain)
 /// EXG: two data registers, two address registers, or a data and an address register.
 #[inline(always)]
 #[tactic(auto, unfolding(mb_meaning::specs::Moves::exg_of))]
-pub fn exchange(x: u8, kind: Exchange, y: u8, plain: &mut Plain)
+pub fn exg(x: u8, kind: Exchange, y: u8, plain: &mut Plain)
     requires { (x < 8) × (y < 8) }
     ensures { plain.new ≡ exg_of kind x y plain.old }
 {

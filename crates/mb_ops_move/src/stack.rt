@@ -14,7 +14,7 @@ use mb_writes::Ended;
 /// PEA: the address of an operand is formed, and then pushed.
 #[inline(always)]
 #[tactic(auto, unfolding(mb_meaning::specs::Stack::pea_of))]
-pub fn push_address<P: Port>(
+pub fn pea<P: Port>(
     ea: &Ea,
     word_at: u32,
     space: Space,
@@ -64,7 +64,7 @@ pub fn link<P: Port>(
 /// UNLK: A7 becomes the register, which gets the long there, and rises. A7 itself becomes the long.
 #[inline(always)]
 #[tactic(auto, unfolding(mb_meaning::specs::Stack::unlk_of))]
-pub fn unlink<P: Port>(
+pub fn unlk<P: Port>(
     register: u8,
     space: Space,
     plain: &mut Plain,

@@ -18,36 +18,36 @@ abbrev pub named_control : ℕ → Option ControlRegister
 named_control word = control_of (word % 2 ^ 12)
 
 -- what a control register holds; those of the memory management unit stand at the bus
-unfoldable pub control_value : ControlRegister → Cpu → Routine ℕ
-control_value control.Sfc cpu = Return cpu.sfc
-control_value control.Dfc cpu = Return cpu.dfc
-control_value control.Cacr cpu = Return cpu.cacr
-control_value control.Usp cpu = Return cpu.regs.usp
-control_value control.Vbr cpu = Return cpu.vbr
-control_value control.Msp cpu = Return cpu.regs.msp
-control_value control.Isp cpu = Return cpu.regs.isp
-control_value (control.Mmu which) cpu = Then mmu (λ registers. Return (mmu_register registers which))
+unfoldable pub control_value_of : ControlRegister → Cpu → Routine ℕ
+control_value_of control.Sfc cpu = Return cpu.sfc
+control_value_of control.Dfc cpu = Return cpu.dfc
+control_value_of control.Cacr cpu = Return cpu.cacr
+control_value_of control.Usp cpu = Return cpu.regs.usp
+control_value_of control.Vbr cpu = Return cpu.vbr
+control_value_of control.Msp cpu = Return cpu.regs.msp
+control_value_of control.Isp cpu = Return cpu.regs.isp
+control_value_of (control.Mmu which) cpu = Then mmu (λ registers. Return (mmu_register registers which))
 
 -- a control register holds this now
-unfoldable pub setting_control : ControlRegister → ℕ → Cpu → Routine Cpu
-setting_control control.Sfc value cpu = Return (record cpu { sfc = value })
-setting_control control.Dfc value cpu = Return (record cpu { dfc = value })
-setting_control control.Cacr value cpu = Return (record cpu { cacr = value })
-setting_control control.Usp value cpu = Return (record cpu { regs = record cpu.regs { usp = value } })
-setting_control control.Vbr value cpu = Return (record cpu { vbr = value })
-setting_control control.Msp value cpu = Return (record cpu { regs = record cpu.regs { msp = value } })
-setting_control control.Isp value cpu = Return (record cpu { regs = record cpu.regs { isp = value } })
-setting_control (control.Mmu which) value cpu = Then (set_mmu which value) (λ done. Return cpu)
+unfoldable pub set_control_of : ControlRegister → ℕ → Cpu → Routine Cpu
+set_control_of control.Sfc value cpu = Return (record cpu { sfc = value })
+set_control_of control.Dfc value cpu = Return (record cpu { dfc = value })
+set_control_of control.Cacr value cpu = Return (record cpu { cacr = value })
+set_control_of control.Usp value cpu = Return (record cpu { regs = record cpu.regs { usp = value } })
+set_control_of control.Vbr value cpu = Return (record cpu { vbr = value })
+set_control_of control.Msp value cpu = Return (record cpu { regs = record cpu.regs { msp = value } })
+set_control_of control.Isp value cpu = Return (record cpu { regs = record cpu.regs { isp = value } })
+set_control_of (control.Mmu which) value cpu = Then (set_mmu which value) (λ done. Return cpu)
 
 -- MOVEC to a control register: it keeps those bits of register n of all sixteen that it has
-unfoldable pub to_control_of : ControlRegister → ℕ → Cpu → Routine Cpu
-to_control_of register n cpu =
-    setting_control register (bit_and (register_of (plain_of cpu.regs) n) (kept_bits register)) cpu
+unfoldable pub move_to_control_of : ControlRegister → ℕ → Cpu → Routine Cpu
+move_to_control_of register n cpu =
+    set_control_of register (bit_and (register_of (plain_of cpu.regs) n) (kept_bits register)) cpu
 
 -- MOVEC from a control register: to all of register n
-unfoldable pub from_control_of : ControlRegister → ℕ → Cpu → Routine Cpu
-from_control_of register n cpu =
-    Then (control_value register cpu)
+unfoldable pub move_from_control_of : ControlRegister → ℕ → Cpu → Routine Cpu
+move_from_control_of register n cpu =
+    Then (control_value_of register cpu)
     (λ value. Return (with_registers (with_register (plain_of cpu.regs) n value) cpu))
 
 -- what is no instruction has the vector of an illegal one
@@ -57,7 +57,7 @@ not_carried_out = ended.Refused ILLEGAL
 -- A code that no control register has makes no instruction.
 abbrev pub moving_control : Option ControlRegister → Bool → ℕ → Cpu → Routine SystemRowed
 moving_control (Some register) to_control n cpu =
-    completing (choose to_control (to_control_of register n cpu) (from_control_of register n cpu))
+    completing (choose to_control (move_to_control_of register n cpu) (move_from_control_of register n cpu))
 moving_control None to_control n cpu = Return (ended_by not_carried_out cpu)
 
 -- MOVEC

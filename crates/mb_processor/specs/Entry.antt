@@ -17,11 +17,11 @@ use Rattle.mb_frames.specs.declared.frame.Frame.TheVariants as frame
 use Rattle.mb_frames.specs.Layout.{frame_bytes}
 use Rattle.mb_model.specs.declared.processor.Cpu.{Cpu}
 use Rattle.mb_ea.specs.Addresses.{sum, difference}
-use Rattle.mb_ea.specs.Reading.{read_of}
+use Rattle.mb_ea.specs.Reading.{read_operand_of}
 use Rattle.mb_processor.specs.declared.entering.Cause.{Cause}
 use Rattle.mb_processor.specs.declared.entering.Entered.{Entered}
 use Rattle.mb_processor.specs.declared.entering.Entered.TheVariants as entered
-use Rattle.mb_writes.specs.Checked.{probe_pieces}
+use Rattle.mb_writes.specs.Checked.{probe_pieces_of}
 
 -- ---- causes
 
@@ -115,22 +115,22 @@ settled c f r = with_second f.second (record (with_handler_stack r f.first.at) {
 -- ---- checking and writing
 
 -- The pieces of a frame are checked for writing in order, as they are cut greedily from its lowest address on.
-unfoldable pub probe_frame : Stacked → Routine (Result (List Place) Fault)
-probe_frame s = probe_pieces Super (cut (length s.bytes) s.at (length s.bytes)) []
+unfoldable pub probe_frame_of : Stacked → Routine (Result (List Place) Fault)
+probe_frame_of s = probe_pieces_of Super (cut (length s.bytes) s.at (length s.bytes)) []
 
 -- bytes go to the checked places, in order
-abbrev pub put_bytes : List Place → List ℕ → Routine (Unit {0})
-put_bytes [] bytes = Return tt
-put_bytes (p ∷ ps) bytes = Then (put p (big_number p.len bytes)) (λ done. put_bytes ps (drop p.len bytes))
+abbrev pub put_bytes_of : List Place → List ℕ → Routine (Unit {0})
+put_bytes_of [] bytes = Return tt
+put_bytes_of (p ∷ ps) bytes = Then (put p (big_number p.len bytes)) (λ done. put_bytes_of ps (drop p.len bytes))
 
 -- a second frame, where there is one
-abbrev pub probe_second : Option Stacked → Routine (Result (List Place) Fault)
-probe_second None = Return (Ok [])
-probe_second (Some s) = probe_frame s
+abbrev pub probe_second_of : Option Stacked → Routine (Result (List Place) Fault)
+probe_second_of None = Return (Ok [])
+probe_second_of (Some s) = probe_frame_of s
 
-abbrev pub put_second : Option Stacked → List Place → Routine (Unit {0})
-put_second None places = Return tt
-put_second (Some s) places = put_bytes places s.bytes
+abbrev pub put_second_of : Option Stacked → List Place → Routine (Unit {0})
+put_second_of None places = Return tt
+put_second_of (Some s) places = put_bytes_of places s.bytes
 
 -- where the frames stand
 pub record Places : Type 0 where
@@ -138,15 +138,15 @@ pub record Places : Type 0 where
   pub second : List Place
 
 -- every piece of every frame is checked before any is written
-unfoldable pub check_frames : Frames → Routine (Result Places Fault)
-check_frames f = do
-  first ← probe_frame f.first
-  second ← probe_second f.second
+unfoldable pub check_frames_of : Frames → Routine (Result Places Fault)
+check_frames_of f = do
+  first ← probe_frame_of f.first
+  second ← probe_second_of f.second
   Return (Ok (record { first = first; second = second }))
 
 -- the frames go to the checked places
-unfoldable pub put_frames : Frames → Places → Routine (Unit {0})
-put_frames f places = Then (put_bytes places.first f.first.bytes) (λ done. put_second f.second places.second)
+unfoldable pub put_frames_of : Frames → Places → Routine (Unit {0})
+put_frames_of f places = Then (put_bytes_of places.first f.first.bytes) (λ done. put_second_of f.second places.second)
 
 -- ---- the entry
 
@@ -161,9 +161,9 @@ unstacked (Some access) fault c cpu = (entered.DoubleFault, record cpu { regs = 
 unstacked None fault c cpu = (entered.Faulted fault, cpu)
 
 -- the new PC is a long in the table of vectors; where it can't be read the processor halts
-unfoldable pub vectored : Cause → Cpu → Routine Entrance
-vectored c cpu =
-    caught (read_of Super (sum cpu.vbr (4 * c.vector)) 4)
+unfoldable pub go_to_handler_of : Cause → Cpu → Routine Entrance
+go_to_handler_of c cpu =
+    caught (read_operand_of Super (sum cpu.vbr (4 * c.vector)) 4)
     (λ refused. Return (entered.DoubleFault, cpu))
     (λ target. Return (entered.Done, record cpu { regs = record cpu.regs { pc = target } }))
 
@@ -175,7 +175,7 @@ awake cpu = record cpu { stopped = false }
 unfoldable pub enter_of : Cause → Cpu → Routine Entrance
 enter_of c cpu =
     let frames = frames_of c cpu.regs in
-    caught (check_frames frames)
+    caught (check_frames_of frames)
     (λ fault. Return (unstacked c.access fault c (awake cpu)))
-    (λ places. Then (put_frames frames places)
-    (λ done. vectored c (record (awake cpu) { regs = settled c frames cpu.regs })))
+    (λ places. Then (put_frames_of frames places)
+    (λ done. go_to_handler_of c (record (awake cpu) { regs = settled c frames cpu.regs })))

@@ -95,8 +95,8 @@ unfoldable pub raise_of : Bool → Cause → Cpu → Cpu → Routine Raised
 raise_of is_trace c kept cpu = Then (enter_of c cpu) (λ (end, after). raised is_trace kept end after)
 
 -- the exception of this vector, which ends the step
-abbrev pub last : ℕ → Routine Raised → Routine Stepped
-last vector m = caught m (λ stepped. Return stepped) (λ cpu. Return (finish.Entered vector, cpu))
+abbrev pub raise_last_of : ℕ → Routine Raised → Routine Stepped
+raise_last_of vector m = caught m (λ stepped. Return stepped) (λ cpu. Return (finish.Entered vector, cpu))
 
 -- ---- interrupts
 
@@ -105,7 +105,7 @@ interrupt_cause level pc = record { vector = INTERRUPT + level; pc = pc; address
 
 -- The entry of an interrupt. Where its frames have no place no register has changed.
 unfoldable pub interrupt_of : ℕ → Cpu → Routine Stepped
-interrupt_of level cpu = last (INTERRUPT + level) (raise_of false (interrupt_cause level cpu.regs.pc) cpu cpu)
+interrupt_of level cpu = raise_last_of (INTERRUPT + level) (raise_of false (interrupt_cause level cpu.regs.pc) cpu cpu)
 
 -- ---- exceptions of instructions
 
@@ -114,24 +114,24 @@ cause_at vector pc address = record { vector = vector; pc = pc; address = addres
 
 -- Trace: the frame has the PC now, and the address of the instruction. It is the last exception of a step.
 unfoldable pub trace_of : ℕ → Cpu → Routine Stepped
-trace_of address cpu = last TRACE (raise_of true (cause_at TRACE cpu.regs.pc address) cpu cpu)
+trace_of address cpu = raise_last_of TRACE (raise_of true (cause_at TRACE cpu.regs.pc address) cpu cpu)
 
 -- a trace of the instruction at an address, where it is due; else the step ends so
-abbrev pub tracing_of : Finish → Bool → ℕ → Cpu → Routine Stepped
-tracing_of so_far due address cpu = choose due (trace_of address cpu) (Return (so_far, cpu))
+abbrev pub trace_if_of : Finish → Bool → ℕ → Cpu → Routine Stepped
+trace_if_of so_far due address cpu = choose due (trace_of address cpu) (Return (so_far, cpu))
 
 -- An instruction traps: the frame has the next PC, and the address of the instruction. T1 asks for a trace behind it,
 -- with the handler's PC. Where the frame has no place all registers are as before the instruction.
-unfoldable pub trap_of : ℕ → Cpu → Cpu → Routine Stepped
-trap_of vector before cpu =
+unfoldable pub raise_trap_of : ℕ → Cpu → Cpu → Routine Stepped
+raise_trap_of vector before cpu =
     let at = before.regs.pc in
     caught (raise_of false (cause_at vector cpu.regs.pc at) before cpu)
     (λ stepped. Return stepped)
-    (λ handler. tracing_of (finish.Entered vector) (traces_all before.regs.sr) at handler)
+    (λ handler. trace_if_of (finish.Entered vector) (traces_all before.regs.sr) at handler)
 
 -- An instruction is not carried out: the frame has its own PC, and for an odd PC the even address below. All registers
 -- are as before, and no trace is due.
-unfoldable pub refused_of : ℕ → Cpu → Routine Stepped
-refused_of vector before =
+unfoldable pub refuse_of : ℕ → Cpu → Routine Stepped
+refuse_of vector before =
     let at = before.regs.pc in
-    last vector (raise_of false (cause_at vector at (at - at % 2)) before before)
+    raise_last_of vector (raise_of false (cause_at vector at (at - at % 2)) before before)

@@ -24,7 +24,7 @@ use Rattle.mb_decode.specs.declared.front.Decoded.TheVariants.{Whole}
 use Rattle.mb_decode.specs.Decodes.{decode_of}
 use Rattle.mb_ea.specs.declared.reading.ReadFault.{ReadFault}
 use Rattle.mb_ea.specs.Addresses.{sum}
-use Rattle.mb_ea.specs.Reading.{read_of}
+use Rattle.mb_ea.specs.Reading.{read_operand_of}
 use Rattle.mb_writes.specs.declared.ends.Ended.{Ended}
 use Rattle.mb_writes.specs.declared.ends.Ended.TheVariants as ended
 use Rattle.mb_writes.specs.Moving.{Halfway, transfer_of}
@@ -39,19 +39,19 @@ pub record Head : Type 0 where
   pub format : ℕ
 
 -- at an address: SR, PC and the format word, each an operand of its own; the low bits of the last do not count
-unfoldable pub head_of : ℕ → Routine (Result Head ReadFault)
-head_of at = do
-  sr ← read_of Super (sum at SR_PLACE) (bytes_of Word)
-  pc ← read_of Super (sum at PC_PLACE) (bytes_of Long)
-  word ← read_of Super (sum at FORMAT_PLACE) (bytes_of Word)
+unfoldable pub read_head_of : ℕ → Routine (Result Head ReadFault)
+read_head_of at = do
+  sr ← read_operand_of Super (sum at SR_PLACE) (bytes_of Word)
+  pc ← read_operand_of Super (sum at PC_PLACE) (bytes_of Long)
+  word ← read_operand_of Super (sum at FORMAT_PLACE) (bytes_of Word)
   Return (Ok (record { sr = kept_status sr; pc = pc; format = format_of_word word }))
 
 -- so many longs from an address on, behind those so far
-unfoldable pub longs_of : ℕ → ℕ → List ℕ → Routine (Result (List ℕ) ReadFault)
-longs_of zero at longs = Return (Ok longs)
-longs_of (suc n) at longs = do
-  long ← read_of Super at (bytes_of Long)
-  longs_of n (sum at 4) (longs ++ long ∷ [])
+unfoldable pub read_longs_of : ℕ → ℕ → List ℕ → Routine (Result (List ℕ) ReadFault)
+read_longs_of zero at longs = Return (Ok longs)
+read_longs_of (suc n) at longs = do
+  long ← read_operand_of Super at (bytes_of Long)
+  read_longs_of n (sum at 4) (longs ++ long ∷ [])
 
 abbrev pub high : ℕ → ℕ
 high long = long / 2 ^ 16
@@ -107,12 +107,12 @@ abbrev pub format_error : Ended
 format_error = ended.Refused FORMAT_ERROR
 
 -- the registers with so many bytes fewer on the active stack
-abbrev pub dropped : ℕ → Regs → Regs
-dropped bytes r = with_stack r (sum (active_stack r) bytes)
+abbrev pub drop_bytes_of : ℕ → Regs → Regs
+drop_bytes_of bytes r = with_stack r (sum (active_stack r) bytes)
 
 -- the registers after a frame of a format, with its SR and PC
-abbrev pub restored : (format : ℕ) → Head → Regs → Regs
-restored format head r = record (dropped (frame_length format) r) { sr = head.sr; pc = head.pc }
+abbrev pub restore_of : (format : ℕ) → Head → Regs → Regs
+restore_of format head r = record (drop_bytes_of (frame_length format) r) { sr = head.sr; pc = head.pc }
 
 -- what was taken from the stacks: the registers then, and the fields of an access error
 pub record Taken : Type 0 where
@@ -127,40 +127,40 @@ abbrev pub judged : Access → Regs → Result Taken Ended
 judged a r = if continues a && not (can_continue a) then Err format_error else Ok (record { regs = r; access = Some a })
 
 -- $7: thirteen longs are behind the format word
-unfoldable pub access_taken : Head → Regs → Routine (Result Taken Ended)
-access_taken head r = do
-  longs ← read_or_end (longs_of access_longs (sum (active_stack r) FIELDS_PLACE) [])
-  Return (judged (access_of_longs longs) (restored 7 head r))
+unfoldable pub take_access_of : Head → Regs → Routine (Result Taken Ended)
+take_access_of head r = do
+  longs ← read_or_end (read_longs_of access_longs (sum (active_stack r) FIELDS_PLACE) [])
+  Return (judged (access_of_longs longs) (restore_of 7 head r))
 
 -- a frame without an access error's fields
 abbrev pub plainly : Regs → Result Taken Ended
 plainly r = Ok (record { regs = r; access = None })
 
 -- the frame that is returned by: $0, $2, whose address is not read, or $7
-unfoldable pub frame_taken : Head → Regs → Routine (Result Taken Ended)
-frame_taken head r =
-    choose (head.format == 7) (access_taken head r)
-    (Return (if head.format == 0 then plainly (restored 0 head r) else
-    if head.format == 2 then plainly (restored 2 head r) else Err format_error))
+unfoldable pub take_frame_of : Head → Regs → Routine (Result Taken Ended)
+take_frame_of head r =
+    choose (head.format == 7) (take_access_of head r)
+    (Return (if head.format == 0 then plainly (restore_of 0 head r) else
+    if head.format == 2 then plainly (restore_of 2 head r) else Err format_error))
 
 -- the frame on the active stack below a throwaway frame
-unfoldable pub second_taken : Regs → Routine (Result Taken Ended)
-second_taken r = do
-  head ← read_or_end (head_of (active_stack r))
-  frame_taken head r
+unfoldable pub take_second_of : Regs → Routine (Result Taken Ended)
+take_second_of r = do
+  head ← read_or_end (read_head_of (active_stack r))
+  take_frame_of head r
 
 -- $1: its SR, in which S has to be set, says which stack the frame is on that is returned by
-unfoldable pub throwaway_taken : Head → Regs → Routine (Result Taken Ended)
-throwaway_taken head r =
+unfoldable pub take_throwaway_of : Head → Regs → Routine (Result Taken Ended)
+take_throwaway_of head r =
     choose (is_supervisor head.sr)
-    (second_taken (record (dropped (frame_length 1) r) { sr = head.sr }))
+    (take_second_of (record (drop_bytes_of (frame_length 1) r) { sr = head.sr }))
     (Return (Err format_error))
 
 -- the frame on the active stack, and below a throwaway frame another one
-unfoldable pub taken_of : Regs → Routine (Result Taken Ended)
-taken_of r = do
-  head ← read_or_end (head_of (active_stack r))
-  choose (head.format == 1) (throwaway_taken head r) (frame_taken head r)
+unfoldable pub take_frames_of : Regs → Routine (Result Taken Ended)
+take_frames_of r = do
+  head ← read_or_end (read_head_of (active_stack r))
+  choose (head.format == 1) (take_throwaway_of head r) (take_frame_of head r)
 
 -- what is told of a $7 frame that was taken: its fields and its PC
 pub record Held : Type 0 where
@@ -182,8 +182,8 @@ continued a cpu (Ok p) = (went, record cpu { regs = with_plain cpu.regs (record 
 continued a cpu (Err half) = (ended.Movem half.fault, record cpu { regs = with_plain cpu.regs half.plain })
 
 -- A MOVEM goes on with the transfer that was refused, by the words and the address of its frame. Nothing is fetched.
-unfoldable pub continued_of : Access → Cpu → Routine (Ended × Cpu)
-continued_of a cpu =
+unfoldable pub go_on_of : Access → Cpu → Routine (Ended × Cpu)
+go_on_of a cpu =
     Then (transfer_of (movem_in a.pd2) a.ea a.pd3 (space_of cpu) (plain_of cpu.regs))
     (λ moved. Return (continued a cpu moved))
 
@@ -192,13 +192,13 @@ unfoldable pub resumed_of : Option Access → Cpu → Routine Returned
 resumed_of None cpu = Return (record { ended = went; cpu = cpu; held = None })
 resumed_of (Some a) cpu =
     let held = Some (record { access = a; pc = cpu.regs.pc }) in
-    Then (choose (continues a) (continued_of a cpu) (Return (went, cpu)))
+    Then (choose (continues a) (go_on_of a cpu) (Return (went, cpu)))
     (λ (end, after). Return (record { ended = end; cpu = after; held = held }))
 
 -- RTE. Where it is not carried out all registers are as before.
-unfoldable pub return_of : Cpu → Routine Returned
-return_of cpu =
-    caught (taken_of cpu.regs)
+unfoldable pub return_from_of : Cpu → Routine Returned
+return_from_of cpu =
+    caught (take_frames_of cpu.regs)
     (λ ended. Return (record { ended = ended; cpu = cpu; held = None }))
     (λ taken. resumed_of taken.access (record cpu { regs = taken.regs }))
 

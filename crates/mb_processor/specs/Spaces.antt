@@ -15,13 +15,13 @@ use Rattle.mb_instr.specs.Sizes.{bytes_of, sign_extended}
 use Rattle.mb_instr.specs.Registers.{plain_of, register_of, data_register, with_data_register, address_register}
 use Rattle.mb_instr.specs.Registers.{with_address_register}
 use Rattle.mb_ea.specs.declared.addresses.Target.{Target}
-use Rattle.mb_ea.specs.Reading.{read_of}
+use Rattle.mb_ea.specs.Reading.{read_operand_of}
 use Rattle.mb_ea.specs.Resolve.{resolve_of}
 use Rattle.mb_model.specs.declared.processor.Cpu.{Cpu}
 use Rattle.mb_model.specs.Pages.{page_of, has_big_pages, other_half}
-use Rattle.mb_meaning.specs.Operands.{named_register, with_low, place_of, storing}
+use Rattle.mb_meaning.specs.Operands.{named_register, with_low, place_of, finish_with_of}
 use Rattle.mb_meaning.specs.Ends.{reading}
-use Rattle.mb_processor.specs.SystemEnds.{SystemRowed, completed, with_registers, finishing}
+use Rattle.mb_processor.specs.SystemEnds.{SystemRowed, completed, with_registers, finish_row_of}
 
 -- the space of a function code, by its bit 2
 abbrev pub function_space : ℕ → Space
@@ -30,20 +30,21 @@ function_space code = if code / 2 ^ 2 % 2 == 1 then Super else User
 -- ---- MOVES
 
 -- of a data register the low bytes become the value; an address register becomes all of it, with its sign
-abbrev pub taken : Size → ℕ → ℕ → Plain → Plain
-taken size n value p =
+abbrev pub load_register_of : Size → ℕ → ℕ → Plain → Plain
+load_register_of size n value p =
     if nat_lt n 8 then with_data_register p n (with_low size (data_register p n) value)
     else with_address_register p (n - 8) (sign_extended size value)
 
 -- to memory, in DFC's space. An address register that has stepped is stored with its new value.
-unfoldable pub out_of_register : Size → Target → ℕ → Plain → Cpu → Routine SystemRowed
-out_of_register size target n p cpu = finishing cpu (storing target size (register_of p n) (function_space cpu.dfc) p)
+unfoldable pub move_out_of : Size → Target → ℕ → Plain → Cpu → Routine SystemRowed
+move_out_of size target n p cpu =
+    finish_row_of cpu (finish_with_of target size (register_of p n) (function_space cpu.dfc) p)
 
 -- from memory, in SFC's space. An address register that has stepped becomes what was read.
-unfoldable pub into_register : Size → Target → ℕ → Plain → Cpu → Routine SystemRowed
-into_register size target n p cpu = do
-  value ← reading (read_of (function_space cpu.sfc) (place_of target) (bytes_of size))
-  Return (completed (with_registers (taken size n value p) cpu))
+unfoldable pub move_in_of : Size → Target → ℕ → Plain → Cpu → Routine SystemRowed
+move_in_of size target n p cpu = do
+  value ← reading (read_operand_of (function_space cpu.sfc) (place_of target) (bytes_of size))
+  Return (completed (with_registers (load_register_of size n value p) cpu))
 
 -- bit 11 of the word says to memory
 abbrev pub is_store : ℕ → Bool
@@ -54,8 +55,8 @@ is_store word = word / 2 ^ 11 % 2 == 1
 unfoldable pub moves_of : Size → Ea → ℕ → ℕ → Cpu → Routine SystemRowed
 moves_of size ea word word_at cpu = do
   to ← reading (resolve_of ea size word_at Super (plain_of cpu.regs))
-  choose (is_store word) (out_of_register size to.target (named_register word) to.plain cpu)
-      (into_register size to.target (named_register word) to.plain cpu)
+  choose (is_store word) (move_out_of size to.target (named_register word) to.plain cpu)
+      (move_in_of size to.target (named_register word) to.plain cpu)
 
 -- ---- pages
 
@@ -73,8 +74,8 @@ is_of_a_page kind.AllLocal = false
 is_of_a_page kind.All = false
 
 -- of the other half of a page of 8 KiB too, where the tables are of such pages
-unfoldable pub flushed_beside : FlushKind → ℕ → Cpu → Routine Cpu
-flushed_beside kind page cpu =
+unfoldable pub flush_beside_of : FlushKind → ℕ → Cpu → Routine Cpu
+flush_beside_of kind page cpu =
     Then mmu (λ registers.
     let both = has_big_pages registers && is_of_a_page kind in
     Then (choose both (flush (flushed_by kind (other_half page) cpu)) (Return tt)) (λ done. Return cpu))
@@ -83,7 +84,7 @@ flushed_beside kind page cpu =
 unfoldable pub pflush_of : FlushKind → ℕ → Cpu → Routine Cpu
 pflush_of kind n cpu =
     let page = page_of (address_register (plain_of cpu.regs) n) in
-    Then (flush (flushed_by kind page cpu)) (λ done. flushed_beside kind page cpu)
+    Then (flush (flushed_by kind page cpu)) (λ done. flush_beside_of kind page cpu)
 
 -- PTEST: the page is tested in DFC's space, for a read or a write, and the answer becomes MMUSR
 unfoldable pub ptest_of : Bool → ℕ → Cpu → Routine Cpu

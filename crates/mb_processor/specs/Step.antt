@@ -28,11 +28,11 @@ use Rattle.mb_processor.specs.declared.Finish.TheVariants as finish
 use Rattle.mb_meaning.specs.Ends.{closing}
 use Rattle.mb_processor.specs.SystemEnds.{with_registers, system_closing}
 use Rattle.mb_processor.specs.System.{perform_system_of}
-use Rattle.mb_processor.specs.Return.{Held, continues, return_of, holding}
+use Rattle.mb_processor.specs.Return.{Held, continues, return_from_of, holding}
 use Rattle.mb_meaning.specs.Rows.{perform_of}
 use Rattle.mb_meaning.specs.Attempt.{Unfound, NoInstruction, Unfetched, past, fetched_of}
 use Rattle.mb_processor.specs.Raise.{Stepped, finish_in, traces_all, is_due, has_ct, with_ct, access_error_of, interrupt_of}
-use Rattle.mb_processor.specs.Raise.{tracing_of, trap_of, refused_of}
+use Rattle.mb_processor.specs.Raise.{trace_if_of, raise_trap_of, refuse_of}
 
 -- ---- the finish of an instruction
 
@@ -42,14 +42,14 @@ abbrev pub by_page_size : (ℕ → Routine Stepped) → Routine Stepped
 by_page_size finish = Then mmu (λ registers. finish (page_size_by registers))
 
 -- a fetch, a read or a locked check was refused: all registers are as before
-unfoldable pub unread_of : ReadFault → Cpu → Routine Stepped
-unread_of refused before =
+unfoldable pub finish_unread_of : ReadFault → Cpu → Routine Stepped
+finish_unread_of refused before =
     by_page_size (λ page. access_error_of before.regs.pc (read_fields refused.fault refused.first page) before)
 
 -- a write was refused of an operand that has pieces left: the instruction is otherwise complete, and CT says that a
 -- trace is due
-unfoldable pub unfinished_of : Bool → WriteFault → Cpu → Routine Stepped
-unfinished_of due refused cpu =
+unfoldable pub finish_unfinished_of : Bool → WriteFault → Cpu → Routine Stepped
+finish_unfinished_of due refused cpu =
     by_page_size (λ page.
     let fields = write_fields refused.fault refused.first refused.rest.items page in
     access_error_of cpu.regs.pc (with_ct due fields) cpu)
@@ -59,13 +59,13 @@ unfoldable pub unbegun_of : WriteFault → Cpu → Routine Stepped
 unbegun_of refused before =
     by_page_size (λ page. access_error_of before.regs.pc (write_fields refused.fault refused.first [] page) before)
 
-abbrev pub unwritten_of : Bool → WriteFault → List Pend → Cpu → Cpu → Routine Stepped
-unwritten_of due refused [] before cpu = unbegun_of refused before
-unwritten_of due refused (piece ∷ pieces) before cpu = unfinished_of due refused cpu
+abbrev pub finish_unwritten_of : Bool → WriteFault → List Pend → Cpu → Cpu → Routine Stepped
+finish_unwritten_of due refused [] before cpu = unbegun_of refused before
+finish_unwritten_of due refused (piece ∷ pieces) before cpu = finish_unfinished_of due refused cpu
 
 -- the write of a line was refused: the instruction is otherwise complete, and CT says that a trace is due
-unfoldable pub line_unwritten_of : Bool → Fault → List ℕ → Cpu → Routine Stepped
-line_unwritten_of due fault line cpu =
+unfoldable pub finish_unwritten_line_of : Bool → Fault → List ℕ → Cpu → Routine Stepped
+finish_unwritten_line_of due fault line cpu =
     by_page_size (λ page. access_error_of cpu.regs.pc (with_ct due (line_fields fault line page)) cpu)
 
 -- two words as a long
@@ -79,8 +79,8 @@ movem_words i = long_of (words_of (row i))
 
 -- A transfer of a MOVEM was refused: what was loaded stays, and the frame has the PC of the instruction and the next
 -- one. CT says that a trace is due, of a MOVEM that stores alone.
-unfoldable pub untransferred_of : Bool → MovemFault → ℕ → Cpu → Cpu → Routine Stepped
-untransferred_of due refused words before cpu =
+unfoldable pub finish_untransferred_of : Bool → MovemFault → ℕ → Cpu → Cpu → Routine Stepped
+finish_untransferred_of due refused words before cpu =
     by_page_size (λ page.
     let fields = access_fields (refused_transfer refused words cpu.regs.pc) page in
     access_error_of before.regs.pc (with_ct (due && not (movem_in words).is_load) fields) cpu)
@@ -92,16 +92,18 @@ is_flow _ = false
 
 -- The finish of an instruction that ended so, by the processor before it and after it. Whether a trace is due is said
 -- by the bits before it.
-unfoldable pub finish_of : Instr → Ended → Cpu → Cpu → Routine Stepped
-finish_of i (ended.Done flow) before cpu = tracing_of finish.Went (is_due before.regs.sr flow) before.regs.pc cpu
-finish_of i (ended.Trap vector) before cpu = trap_of vector before cpu
-finish_of i (ended.Refused vector) before cpu = refused_of vector before
-finish_of i (ended.ReadFault refused) before cpu = unread_of refused before
-finish_of i (ended.WriteFault refused) before cpu =
-    unwritten_of (is_due before.regs.sr (is_flow i)) refused refused.rest.items before cpu
-finish_of i (ended.LineFault fault line) before cpu = line_unwritten_of (traces_all before.regs.sr) fault line cpu
-finish_of i (ended.Movem refused) before cpu =
-    untransferred_of (traces_all before.regs.sr) refused (movem_words i) before cpu
+unfoldable pub finish_instruction_of : Instr → Ended → Cpu → Cpu → Routine Stepped
+finish_instruction_of i (ended.Done flow) before cpu =
+    trace_if_of finish.Went (is_due before.regs.sr flow) before.regs.pc cpu
+finish_instruction_of i (ended.Trap vector) before cpu = raise_trap_of vector before cpu
+finish_instruction_of i (ended.Refused vector) before cpu = refuse_of vector before
+finish_instruction_of i (ended.ReadFault refused) before cpu = finish_unread_of refused before
+finish_instruction_of i (ended.WriteFault refused) before cpu =
+    finish_unwritten_of (is_due before.regs.sr (is_flow i)) refused refused.rest.items before cpu
+finish_instruction_of i (ended.LineFault fault line) before cpu =
+    finish_unwritten_line_of (traces_all before.regs.sr) fault line cpu
+finish_instruction_of i (ended.Movem refused) before cpu =
+    finish_untransferred_of (traces_all before.regs.sr) refused (movem_words i) before cpu
 
 -- ---- RTE
 
@@ -114,8 +116,8 @@ abbrev pub is_due_by : Held → Cpu → Bool
 is_due_by held cpu = has_ct held.access || (continues held.access && traces_all cpu.regs.sr)
 
 -- A transfer of the MOVEM was refused again: a frame as the one that was taken.
-unfoldable pub untransferred_again_of : Bool → MovemFault → Held → Cpu → Routine Stepped
-untransferred_again_of due refused held cpu =
+unfoldable pub finish_untransferred_again_of : Bool → MovemFault → Held → Cpu → Routine Stepped
+finish_untransferred_again_of due refused held cpu =
     let old = held.access in
     by_page_size (λ page.
     let fields = access_fields (refused_transfer refused old.pd2 old.pd1) page in
@@ -125,14 +127,14 @@ untransferred_again_of due refused held cpu =
 abbrev pub finish_return_of : Ended → Held → Cpu → Cpu → Routine Stepped
 finish_return_of (ended.Done flow) held before cpu =
     let asked = is_due before.regs.sr flow in
-    tracing_of finish.Went (asked || is_due_by held cpu) (if asked then before.regs.pc else held.pc) cpu
+    trace_if_of finish.Went (asked || is_due_by held cpu) (if asked then before.regs.pc else held.pc) cpu
 finish_return_of (ended.Movem refused) held before cpu =
-    untransferred_again_of (is_due before.regs.sr true) refused held cpu
-finish_return_of end held before cpu = finish_of (instr.System system.Rte) end before cpu
+    finish_untransferred_again_of (is_due before.regs.sr true) refused held cpu
+finish_return_of end held before cpu = finish_instruction_of (instr.System system.Rte) end before cpu
 
 unfoldable pub rte_of : Cpu → Routine Stepped
 rte_of cpu =
-    Then (holding nothing_held (return_of cpu)) (λ (end, after, held). finish_return_of end held cpu after)
+    Then (holding nothing_held (return_from_of cpu)) (λ (end, after, held). finish_return_of end held cpu after)
 
 -- ---- an instruction
 
@@ -141,37 +143,37 @@ abbrev pub beyond : ℕ → Cpu → Cpu
 beyond n cpu = record cpu { regs = record cpu.regs { pc = (cpu.regs.pc + 2 * n) % 2 ^ 32 } }
 
 -- a privileged instruction of so many words, in supervisor mode
-unfoldable pub supervised_of : System → ℕ → Cpu → Routine Stepped
-supervised_of system.Rte n cpu = rte_of cpu
-supervised_of i n cpu =
+unfoldable pub execute_supervised_of : System → ℕ → Cpu → Routine Stepped
+execute_supervised_of system.Rte n cpu = rte_of cpu
+execute_supervised_of i n cpu =
     let moved = beyond n cpu in
     Then (system_closing moved (perform_system_of i (operands_at (system_row i) cpu.regs.pc) moved))
-    (λ (end, after). finish_of (instr.System i) end cpu after)
+    (λ (end, after). finish_instruction_of (instr.System i) end cpu after)
 
 -- an instruction of so many words that is not privileged: it knows the space of its accesses alone
-unfoldable pub unprivileged_of : Instr → ℕ → Cpu → Routine Stepped
-unprivileged_of i n cpu =
+unfoldable pub execute_unprivileged_of : Instr → ℕ → Cpu → Routine Stepped
+execute_unprivileged_of i n cpu =
     let p = plain_of cpu.regs in
     Then (closing (perform_of i p.pc (space_of cpu) (past n p)))
-    (λ (end, after). finish_of i end cpu (with_registers after cpu))
+    (λ (end, after). finish_instruction_of i end cpu (with_registers after cpu))
 
 -- An instruction is carried out, and finished. A privileged one needs supervisor mode.
-unfoldable pub executed_of : Instr → ℕ → Cpu → Routine Stepped
-executed_of (instr.System i) n cpu =
-    choose (is_supervisor cpu.regs.sr) (supervised_of i n cpu) (refused_of PRIVILEGED cpu)
-executed_of i n cpu = unprivileged_of i n cpu
+unfoldable pub execute_of : Instr → ℕ → Cpu → Routine Stepped
+execute_of (instr.System i) n cpu =
+    choose (is_supervisor cpu.regs.sr) (execute_supervised_of i n cpu) (refuse_of PRIVILEGED cpu)
+execute_of i n cpu = execute_unprivileged_of i n cpu
 
 -- no instruction was found
 unfoldable pub unfound_of : Unfound → Cpu → Routine Stepped
-unfound_of (NoInstruction vector) cpu = refused_of vector cpu
-unfound_of (Unfetched refused) cpu = unread_of refused cpu
+unfound_of (NoInstruction vector) cpu = refuse_of vector cpu
+unfound_of (Unfetched refused) cpu = finish_unread_of refused cpu
 
 -- An instruction is fetched at PC, one word at a time, and carried out.
-unfoldable pub instruction_of : Cpu → Routine Stepped
-instruction_of cpu =
+unfoldable pub execute_next_of : Cpu → Routine Stepped
+execute_next_of cpu =
     caught (fetched_of (space_of cpu) cpu.regs.pc)
     (λ unfound. unfound_of unfound cpu)
-    (λ (i, n). executed_of i n cpu)
+    (λ (i, n). execute_of i n cpu)
 
 -- ---- a step
 
@@ -188,7 +190,7 @@ rank level = if level == 7 then 8 else level
 unfoldable pub step_of : ℕ → Cpu → Routine Stepped
 step_of level cpu =
     choose (nat_lt (interrupt_mask cpu) (rank level)) (interrupt_of level cpu)
-    (choose cpu.stopped (Return (finish.Idle, cpu)) (instruction_of cpu))
+    (choose cpu.stopped (Return (finish.Idle, cpu)) (execute_next_of cpu))
 
 -- The processor halts at the step: the frame of an access error has no place, or a vector can't be read.
 abbrev pub Halts : {S : Type 0} → Bus S → ℕ → Cpu → S → Type 0

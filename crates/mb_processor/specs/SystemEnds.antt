@@ -48,8 +48,8 @@ within cpu (Err (Unread refused)) = Err (Unread refused)
 within cpu (Err (Stop stop)) = ended_by stop.ended (with_registers stop.plain cpu)
 
 -- the last part of a row, which works on the processor's registers alone
-abbrev pub finishing : Cpu → Routine Rowed → Routine SystemRowed
-finishing cpu m = Then m (λ rowed. Return (within cpu rowed))
+abbrev pub finish_row_of : Cpu → Routine Rowed → Routine SystemRowed
+finish_row_of cpu m = Then m (λ rowed. Return (within cpu rowed))
 
 -- a row that cannot fail
 abbrev pub completing : Routine Cpu → Routine SystemRowed

@@ -13,13 +13,13 @@ use Rattle.mb_frames.specs.Layout.{format_of, frame_length}
 use Rattle.mb_frames.proofs.RoundTrip.{length-frame_bytes}
 use Rattle.mb_model.specs.declared.processor.Cpu.{Cpu}
 use Rattle.mb_ea.specs.Addresses.{sum}
-use Rattle.mb_ea.specs.Reading.{read_of}
+use Rattle.mb_ea.specs.Reading.{read_operand_of}
 use Rattle.mb_ea.specs.declared.reading.ReadFault.{ReadFault}
-use Rattle.mb_writes.specs.Checked.{probe_pieces}
+use Rattle.mb_writes.specs.Checked.{probe_pieces_of}
 use Rattle.mb_processor.specs.declared.entering.Cause.{Cause}
 use Rattle.mb_processor.specs.declared.entering.Entered.TheVariants as entered
 use Rattle.mb_processor.specs.Entry as entry
-use Rattle.mb_processor.specs.Entry.{Stacked, Frames, Entrance, stacked, is_interrupt, frame_of, throwaway_of, handler_stack, frames_of, settled, awake, unstacked, put_bytes, probe_frame, probe_second, put_second, check_frames, put_frames, vectored, enter_of}
+use Rattle.mb_processor.specs.Entry.{Stacked, Frames, Entrance, stacked, is_interrupt, frame_of, throwaway_of, handler_stack, frames_of, settled, awake, unstacked, put_bytes_of, probe_frame_of, probe_second_of, put_second_of, check_frames_of, put_frames_of, go_to_handler_of, enter_of}
 use Rattle.mb_returns.specs.Keeping.{Placing, Viewing, IsKept, Keeps}
 use Rattle.mb_returns.specs.Returns.{AreApart, IsSeen, SecondIsSeen, AreSeen, EntryIsSeen}
 use Rattle.mb_returns.proofs.Bytes.{frame_is_bytes}
@@ -64,14 +64,14 @@ module _ (S : Type 0) (bus : Bus S) (place : Placing S) (view : Viewing S) (keep
   made first second = record { first = first; second = second }
 
   after_second : (f : Frames) (s : Stacked) (first : List Place) (places : entry.Places) (t : S) (r : Result (List Place) Fault)
-      → (run bus (probe_pieces Super (pieces_of s) []) t).0 ≡ r → IsFrameOn s → f.second ≡ Some s → AreAt (place t) (pieces_of f.first) first
+      → (run bus (probe_pieces_of Super (pieces_of s) []) t).0 ≡ r → IsFrameOn s → f.second ≡ Some s → AreAt (place t) (pieces_of f.first) first
       → (let rest : Result (List Place) Fault → Routine (Result entry.Places Fault) =
       λ r. tried r (λ second. Return (Ok (record { first = first; second = second }))) in
-      let u = (run bus (probe_pieces Super (pieces_of s) []) t).1 in
+      let u = (run bus (probe_pieces_of Super (pieces_of s) []) t).1 in
       (run bus (rest r) u).0 ≡ Ok places → AreChecked place (run bus (rest r) u).1 f places)
   after_second f s first places t (Err fault) is on there at_first h = let no : ⊥ = cc in absurd no
   after_second f s first places t (Ok second) is on there at_first h =
-      let u = (run bus (probe_pieces Super (pieces_of s) []) t).1 in
+      let u = (run bus (probe_pieces_of Super (pieces_of s) []) t).1 in
       let found = probes S bus place view keeps (pieces_of s) [] second t (cut_addressed (length s.bytes) s.at (length s.bytes) on.at) is in
       let e : places ≡ record { first = first; second = second } = cc in
       subst (λ (p : entry.Places). AreChecked place u f p) (sym e) (record {
@@ -84,8 +84,8 @@ module _ (S : Type 0) (bus : Bus S) (place : Placing S) (view : Viewing S) (keep
       → f.second ≡ o → SecondIsFrame o → AreAt (place t) (pieces_of f.first) first
       → (let rest : Result (List Place) Fault → Routine (Result entry.Places Fault) =
       λ r. tried r (λ second. Return (Ok (record { first = first; second = second }))) in
-      (run bus (Then (probe_second o) rest) t).0 ≡ Ok places → AreChecked place (run bus (Then (probe_second o) rest) t).1 f places)
-  unfolding probe_frame
+      (run bus (Then (probe_second_of o) rest) t).0 ≡ Ok places → AreChecked place (run bus (Then (probe_second_of o) rest) t).1 f places)
+  unfolding probe_frame_of
   by_second f None first places t there on at_first h =
       let e : places ≡ record { first = first; second = [] } = cc in
       subst (λ (p : entry.Places). AreChecked place t f p) (sym e) (record {
@@ -93,35 +93,35 @@ module _ (S : Type 0) (bus : Bus S) (place : Placing S) (view : Viewing S) (keep
         second = subst (λ (o : Option Stacked). SecondIsAt (place t) o []) (sym there) tt;
       })
   by_second f (Some s) first places t there on at_first h =
-      after_second f s first places t (run bus (probe_pieces Super (pieces_of s) []) t).0 refl on there at_first h
+      after_second f s first places t (run bus (probe_pieces_of Super (pieces_of s) []) t).0 refl on there at_first h
 
   after_first : (f : Frames) (places : entry.Places) (s : S) (r : Result (List Place) Fault)
-      → (run bus (probe_pieces Super (pieces_of f.first) []) s).0 ≡ r → IsFrameOn f.first → SecondIsFrame f.second
+      → (run bus (probe_pieces_of Super (pieces_of f.first) []) s).0 ≡ r → IsFrameOn f.first → SecondIsFrame f.second
       → (let rest : Result (List Place) Fault → Routine (Result entry.Places Fault) =
-      λ r. tried r (λ first. Then (probe_second f.second) (λ r. tried r (λ second. Return (Ok (record { first = first; second = second }))))) in
-      let t = (run bus (probe_pieces Super (pieces_of f.first) []) s).1 in
+      λ r. tried r (λ first. Then (probe_second_of f.second) (λ r. tried r (λ second. Return (Ok (record { first = first; second = second }))))) in
+      let t = (run bus (probe_pieces_of Super (pieces_of f.first) []) s).1 in
       (run bus (rest r) t).0 ≡ Ok places → AreChecked place (run bus (rest r) t).1 f places)
   after_first f places s (Err fault) is on more h = let no : ⊥ = cc in absurd no
   after_first f places s (Ok first) is on more h =
-      let t = (run bus (probe_pieces Super (pieces_of f.first) []) s).1 in
+      let t = (run bus (probe_pieces_of Super (pieces_of f.first) []) s).1 in
       let found = probes S bus place view keeps (pieces_of f.first) [] first s (cut_addressed (length f.first.bytes) f.first.at
       (length f.first.bytes) on.at) is in
       by_second f f.second first places t refl more (subst (λ (l : List Place). AreAt (place t) (pieces_of f.first) l) (sym found.all_are) found.at) h
 
   checks : (f : Frames) (places : entry.Places) (s : S) → IsFrameOn f.first → SecondIsFrame f.second
-      → (run bus (check_frames f) s).0 ≡ Ok places → AreChecked place (run bus (check_frames f) s).1 f places
-  unfolding check_frames probe_frame
-  checks f places s on more h = after_first f places s (run bus (probe_pieces Super (pieces_of f.first) []) s).0 refl on more h
+      → (run bus (check_frames_of f) s).0 ≡ Ok places → AreChecked place (run bus (check_frames_of f) s).1 f places
+  unfolding check_frames_of probe_frame_of
+  checks f places s on more h = after_first f places s (run bus (probe_pieces_of Super (pieces_of f.first) []) s).0 refl on more h
 
   -- ---- writes
 
   second_put : (f : Frames) (o : Option Stacked) (places : entry.Places) (t : S) → f.second ≡ o → SecondIsFrame o → AreApart f.first o
       → SecondIsAt (place t) o places.second → IsSeen (view t) f.first
-      → AreSeen (view (run bus (put_second o places.second) t).1) f
+      → AreSeen (view (run bus (put_second_of o places.second) t).1) f
   second_put f None places t there on apart at_second h =
       record { first = h; second = subst (λ (o : Option Stacked). SecondIsSeen (view t) o) (sym there) tt }
   second_put f (Some s) places t there on apart at_second h =
-      let u = (run bus (put_bytes places.second s.bytes) t).1 in
+      let u = (run bus (put_bytes_of places.second s.bytes) t).1 in
       let done = puts S bus place view keeps (length s.bytes) s.at (length s.bytes) places.second s.bytes t (omega arith) on.at on.bytes (omega arith)
       (let few = on.few in omega arith) at_second in record {
         first = λ k l. done.others (sum f.first.at k) (slice_index f.first.bytes k) (λ j m. apart k j l m) (h k l);
@@ -129,13 +129,13 @@ module _ (S : Type 0) (bus : Bus S) (place : Placing S) (view : Viewing S) (keep
       }
 
   writes : (f : Frames) (places : entry.Places) (t : S) → IsFrameOn f.first → SecondIsFrame f.second → AreApart f.first f.second
-      → AreChecked place t f places → AreSeen (view (run bus (put_frames f places) t).1) f
-  unfolding put_frames
+      → AreChecked place t f places → AreSeen (view (run bus (put_frames_of f places) t).1) f
+  unfolding put_frames_of
   writes f places t on more apart h =
       let n = length f.first.bytes in
       let done = puts S bus place view keeps n f.first.at n places.first f.first.bytes t (omega arith) on.at on.bytes (omega arith)
       (let few = on.few in omega arith) h.first in
-      let u = (run bus (put_bytes places.first f.first.bytes) t).1 in
+      let u = (run bus (put_bytes_of places.first f.first.bytes) t).1 in
       second_put f f.second places u refl more apart (second_still f.second places.second t u done.stands h.second) done.shown
     where
       second_still : (o : Option Stacked) (qs : List Place) (t u : S) → ((p : Piece) (q : Place) → place t p ≡ Some q → place u p ≡ Some q)
@@ -160,12 +160,12 @@ module _ (S : Type 0) (bus : Bus S) (place : Placing S) (view : Viewing S) (keep
   either_still P (Ok a) g f t h = h
   either_still P (Err e) g f t h = h
 
-  vector_keeps : (f : Frames) (c : Cause) (cpu : Cpu) (t : S) → AreSeen (view t) f → AreSeen (view (run bus (vectored c cpu) t).1) f
-  unfolding vectored
+  vector_keeps : (f : Frames) (c : Cause) (cpu : Cpu) (t : S) → AreSeen (view t) f → AreSeen (view (run bus (go_to_handler_of c cpu) t).1) f
+  unfolding go_to_handler_of
   vector_keeps f c cpu t h =
       let at = sum cpu.vbr (4 * c.vector) in
-      let u = (run bus (read_of Super at 4) t).1 in
-      either_still (λ (w : S). AreSeen (view w) f) (run bus (read_of Super at 4) t).0
+      let u = (run bus (read_operand_of Super at 4) t).1 in
+      either_still (λ (w : S). AreSeen (view w) f) (run bus (read_operand_of Super at 4) t).0
       (λ (refused : ReadFault). (let e : Entrance = (entered.DoubleFault, cpu) in e))
       (λ (target : ℕ). (let e : Entrance = (entered.Done, record cpu { regs = record cpu.regs { pc = target } }) in e)) u
       (seen_kept f t u (read_keeps S bus place view keeps at 4 t (omega arith)) h)
@@ -177,15 +177,15 @@ module _ (S : Type 0) (bus : Bus S) (place : Placing S) (view : Viewing S) (keep
   not_done (Some a) fault c cpu h = cc
 
   after_check : (f : Frames) (c : Cause) (cpu handler : Cpu) (s : S) (r : Result entry.Places Fault)
-      → (run bus (check_frames f) s).0 ≡ r → IsFrameOn f.first → SecondIsFrame f.second → AreApart f.first f.second
+      → (run bus (check_frames_of f) s).0 ≡ r → IsFrameOn f.first → SecondIsFrame f.second → AreApart f.first f.second
       → (let rest : Result entry.Places Fault → Routine Entrance =
-      λ r. either r (λ fault. Return (unstacked c.access fault c cpu)) (λ places. Then (put_frames f places) (λ done. vectored c handler)) in
-      let t = (run bus (check_frames f) s).1 in
+      λ r. either r (λ fault. Return (unstacked c.access fault c cpu)) (λ places. Then (put_frames_of f places) (λ done. go_to_handler_of c handler)) in
+      let t = (run bus (check_frames_of f) s).1 in
       (run bus (rest r) t).0.0 ≡ entered.Done → AreSeen (view (run bus (rest r) t).1) f)
   after_check f c cpu handler s (Err fault) is on more apart h = absurd (not_done c.access fault c cpu h)
   after_check f c cpu handler s (Ok places) is on more apart h =
-      let t = (run bus (check_frames f) s).1 in
-      let u = (run bus (put_frames f places) t).1 in
+      let t = (run bus (check_frames_of f) s).1 in
+      let u = (run bus (put_frames_of f places) t).1 in
       vector_keeps f c handler u (writes f places t on more apart (checks f places s on more is))
 
 second_is_frame : (b : Bool) (f : Frame) (top : ℕ) → SecondIsFrame (if b then Some (stacked f top) else None)
@@ -197,5 +197,5 @@ unfolding enter_of frames_of
 entry_is_seen S bus place view c cpu s keeps lawful apart h =
     let r = cpu.regs in
     let f = frames_of c r in
-    after_check S bus place view keeps f c (awake cpu) (record (awake cpu) { regs = settled c f r }) s (run bus (check_frames f) s).0 refl
+    after_check S bus place view keeps f c (awake cpu) (record (awake cpu) { regs = settled c f r }) s (run bus (check_frames_of f) s).0 refl
     (is_frame (frame_of r.sr c) (handler_stack r)) (second_is_frame (is_interrupt c && is_master r.sr) (throwaway_of r.sr c) r.isp) apart h

@@ -15,9 +15,9 @@ use Rattle.mb_frames.proofs.Fields.{ReadsAs, fields_read}
 use Rattle.mb_frames.proofs.RoundTrip.{access-read, format-read, frame_bytes-stand_alone, length-frame_bytes}
 use Rattle.mb_model.specs.Status.{kept_status}
 use Rattle.mb_ea.specs.Addresses.{sum}
-use Rattle.mb_ea.specs.Reading.{read_of}
+use Rattle.mb_ea.specs.Reading.{read_operand_of}
 use Rattle.mb_ea.specs.declared.reading.ReadFault.{ReadFault}
-use Rattle.mb_processor.specs.Return.{Head, head_of}
+use Rattle.mb_processor.specs.Return.{Head, read_head_of}
 use Rattle.mb_returns.specs.Keeping.{Placing, Viewing, Shows, Keeps}
 use Rattle.mb_returns.proofs.Readings.{Gives, followed, at_once, shown_still, shown_behind, reads}
 
@@ -78,26 +78,26 @@ at_least_eight f = let e = length-frame_bytes f in let h = frame_length-some f i
 module _ (S : Type 0) (bus : Bus S) (place : Placing S) (view : Viewing S) (keeps : Keeps bus place view) where
   -- an operand in bytes that are seen
   reads_in : (at k n : ℕ) (b : List ℕ) (s : S) → n ≤ 5 → k + n ≤ length b → Shows (view s) at (length b) b
-      → Gives bus place view (read_of Super (sum at k) n) s (Ok (big_number n (drop k b)))
+      → Gives bus place view (read_operand_of Super (sum at k) n) s (Ok (big_number n (drop k b)))
   reads_in at k n b s few room h =
       reads S bus place view keeps (sum at k) n (drop k b) s few (omega arith)
       (λ i l. shown_behind (view s) at (length b) k b (omega arith) h i (omega arith))
 
   pub reads_head : (at : ℕ) (f : Frame) (s : S) → IsFrame f → Shows (view s) at (length (frame_bytes f)) (frame_bytes f)
-      → Gives bus place view (head_of at) s (Ok (head_from f))
-  unfolding head_of word_at long_at
+      → Gives bus place view (read_head_of at) s (Ok (head_from f))
+  unfolding read_head_of word_at long_at
   reads_head at f s lawful h =
       let b = frame_bytes f in
       let is = of_reads f b lawful.0 (frame_reads f lawful) in
       let room = at_least_eight f in
       let first = reads_in at 0 2 b s (omega arith) (omega arith) h in
-      let t = (run bus (read_of Super (sum at 0) 2) s).1 in
+      let t = (run bus (read_operand_of Super (sum at 0) 2) s).1 in
       let in_t = shown_still place view s t at (length b) b first.keeps h in
       let second = reads_in at 2 4 b t (omega arith) (omega arith) in_t in
-      let u = (run bus (read_of Super (sum at 2) 4) t).1 in
+      let u = (run bus (read_operand_of Super (sum at 2) 4) t).1 in
       let in_u = shown_still place view t u at (length b) b second.keeps in_t in
       let third = reads_in at 6 2 b u (omega arith) (omega arith) in_u in
-      let v = (run bus (read_of Super (sum at 6) 2) u).1 in
+      let v = (run bus (read_operand_of Super (sum at 6) 2) u).1 in
       let made : ℕ → ℕ → ℕ → Head = λ sr pc word. record { sr = kept_status sr; pc = pc; format = format_of_word word } in
       let head : made (word_at b 0) (long_at b 2) (word_at b 6) ≡ head_from f = rw (is.sr, is.pc, is.format) refl in
       let last : Routine (Result Head ReadFault) = Return (Ok (made (word_at b 0) (long_at b 2) (word_at b 6))) in
@@ -105,8 +105,9 @@ module _ (S : Type 0) (bus : Bus S) (place : Placing S) (view : Viewing S) (keep
       subst (λ (x : Head). Gives bus place view last v (Ok x)) head (at_once bus place view v (Ok (made (word_at b 0) (long_at b 2) (word_at b 6)))) in
       let words : ℕ → ℕ → Result ℕ ReadFault → Routine (Result Head ReadFault) =
       λ sr pc r. tried r (λ word. Return (Ok (made sr pc word))) in
-      let counters : ℕ → Result ℕ ReadFault → Routine (Result Head ReadFault) = λ sr r. tried r (λ pc. Then (read_of Super (sum at 6) 2) (words sr pc)) in
-      let status : Result ℕ ReadFault → Routine (Result Head ReadFault) = λ r. tried r (λ sr. Then (read_of Super (sum at 2) 4) (counters sr)) in
-      followed bus place view (read_of Super (sum at 0) 2) status s (Ok (word_at b 0)) _ first
-      (followed bus place view (read_of Super (sum at 2) 4) (counters (word_at b 0)) t (Ok (long_at b 2)) _ second
-      (followed bus place view (read_of Super (sum at 6) 2) (words (word_at b 0) (long_at b 2)) u (Ok (word_at b 6)) _ third ends))
+      let counters : ℕ → Result ℕ ReadFault
+      → Routine (Result Head ReadFault) = λ sr r. tried r (λ pc. Then (read_operand_of Super (sum at 6) 2) (words sr pc)) in
+      let status : Result ℕ ReadFault → Routine (Result Head ReadFault) = λ r. tried r (λ sr. Then (read_operand_of Super (sum at 2) 4) (counters sr)) in
+      followed bus place view (read_operand_of Super (sum at 0) 2) status s (Ok (word_at b 0)) _ first
+      (followed bus place view (read_operand_of Super (sum at 2) 4) (counters (word_at b 0)) t (Ok (long_at b 2)) _ second
+      (followed bus place view (read_operand_of Super (sum at 6) 2) (words (word_at b 0) (long_at b 2)) u (Ok (word_at b 6)) _ third ends))

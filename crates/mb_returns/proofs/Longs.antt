@@ -7,9 +7,9 @@ use Rattle.mb_port.specs.Routine.{Bus, run, tried}
 use Rattle.mb_port.specs.declared.types.Space.TheVariants.{Super}
 use Rattle.mb_frames.specs.Reading.{word_at, long_at, access_in}
 use Rattle.mb_ea.specs.Addresses.{sum}
-use Rattle.mb_ea.specs.Reading.{read_of}
+use Rattle.mb_ea.specs.Reading.{read_operand_of}
 use Rattle.mb_ea.specs.declared.reading.ReadFault.{ReadFault}
-use Rattle.mb_processor.specs.Return.{longs_of, access_of_longs, high, low}
+use Rattle.mb_processor.specs.Return.{read_longs_of, access_of_longs, high, low}
 use Rattle.mb_returns.specs.Keeping.{Placing, Viewing, Shows, Keeps}
 use Rattle.mb_returns.proofs.Numbers.{two_parts, from_place}
 use Rattle.mb_returns.proofs.Readings.{Gives, followed, at_once, shown_still, shown_behind, reads}
@@ -29,19 +29,20 @@ long_in (suc n) bytes (suc i) l =
 
 module _ (S : Type 0) (bus : Bus S) (place : Placing S) (view : Viewing S) (keeps : Keeps bus place view) where
   pub reads_longs : (n at : ℕ) (so_far bytes : List ℕ) (s : S) → at < 2 ^ 32 → Shows (view s) at (4 * n) bytes
-      → Gives bus place view (longs_of n at so_far) s (Ok (so_far ++ longs_in n bytes))
-  unfolding longs_of longs_in
+      → Gives bus place view (read_longs_of n at so_far) s (Ok (so_far ++ longs_in n bytes))
+  unfolding read_longs_of longs_in
   reads_longs zero at so_far bytes s small h =
-      subst (λ (l : List ℕ). Gives bus place view (longs_of zero at so_far) s (Ok l)) (sym (append-nil so_far)) (at_once bus place view s (Ok so_far))
+      subst (λ (l : List ℕ). Gives bus place view (read_longs_of zero at so_far) s (Ok l)) (sym (append-nil so_far)) (at_once bus place view s (Ok so_far))
   reads_longs (suc n) at so_far bytes s small h =
       let x = big_number 4 bytes in
       let one = reads S bus place view keeps at 4 bytes s (omega arith) small (λ k l. h k (omega arith)) in
-      let t = (run bus (read_of Super at 4) s).1 in
+      let t = (run bus (read_operand_of Super at 4) s).1 in
       let rest : Shows (view s) (sum at 4) (4 * n) (drop 4 bytes) = λ k l. shown_behind (view s) at (4 * suc n) 4 bytes (omega arith) h k (omega arith) in
       let later = reads_longs n (sum at 4) (so_far ++ x ∷ []) (drop 4 bytes) t (omega arith)
       (shown_still place view s t (sum at 4) (4 * n) (drop 4 bytes) one.keeps rest) in
-      followed bus place view (read_of Super at 4) (λ (r : Result ℕ ReadFault). tried r (λ long. longs_of n (sum at 4) (so_far ++ long ∷ []))) s (Ok x) _ one
-      (subst (λ (l : List ℕ). Gives bus place view (longs_of n (sum at 4) (so_far ++ x ∷ [])) t (Ok l))
+      followed bus place view (read_operand_of Super at 4) (λ (r : Result ℕ ReadFault). tried r (λ long. read_longs_of n (sum at 4) (so_far
+      ++ long ∷ []))) s (Ok x) _ one
+      (subst (λ (l : List ℕ). Gives bus place view (read_longs_of n (sum at 4) (so_far ++ x ∷ [])) t (Ok l))
       (append_assoc so_far (x ∷ []) (longs_in n (drop 4 bytes))) later)
 
 -- the halves of a long are words

@@ -11,9 +11,9 @@ use Rattle.mb_port.specs.declared.types.Place.{Place}
 use Rattle.mb_port.specs.declared.types.Fault.{Fault}
 use Rattle.mb_port.proofs.Cuts.{cut_are}
 use Rattle.mb_ea.specs.Addresses.{sum}
-use Rattle.mb_ea.specs.Reading.{read_pieces, read_cut, read_of}
-use Rattle.mb_writes.specs.Checked.{probe_pieces}
-use Rattle.mb_processor.specs.Entry.{put_bytes}
+use Rattle.mb_ea.specs.Reading.{read_pieces_of, read_cut_of, read_operand_of}
+use Rattle.mb_writes.specs.Checked.{probe_pieces_of}
+use Rattle.mb_processor.specs.Entry.{put_bytes_of}
 use Rattle.mb_returns.specs.Keeping.{Placing, Viewing, IsAddressed, Shows, IsKept, Keeps}
 use Rattle.mb_returns.proofs.Readings.{kept_still, piece_fits}
 
@@ -61,14 +61,14 @@ pub record ArePut {S : Type 0} (place : Placing S) (view : Viewing S) (s t : S) 
 module _ (S : Type 0) (bus : Bus S) (place : Placing S) (view : Viewing S) (keeps : Keeps bus place view) where
   after_probe : (p : Piece) (ps : List Piece) (so_far all : List Place) (s : S) (r : Result Place Fault)
       → (bus (Probe Super p) s).0 ≡ r → IsAddressed p
-      → ((more : List Place) (t : S) → (run bus (probe_pieces Super ps more) t).0 ≡ Ok all
-      → AreFound place view t (run bus (probe_pieces Super ps more) t).1 ps more all)
-      → (run bus (tried r (λ place. probe_pieces Super ps (so_far ++ place ∷ []))) (bus (Probe Super p) s).1).0 ≡ Ok all
-      → AreFound place view s (run bus (tried r (λ place. probe_pieces Super ps (so_far ++ place ∷ []))) (bus (Probe Super p) s).1).1 (p ∷ ps) so_far all
+      → ((more : List Place) (t : S) → (run bus (probe_pieces_of Super ps more) t).0 ≡ Ok all
+      → AreFound place view t (run bus (probe_pieces_of Super ps more) t).1 ps more all)
+      → (run bus (tried r (λ place. probe_pieces_of Super ps (so_far ++ place ∷ []))) (bus (Probe Super p) s).1).0 ≡ Ok all
+      → AreFound place view s (run bus (tried r (λ place. probe_pieces_of Super ps (so_far ++ place ∷ []))) (bus (Probe Super p) s).1).1 (p ∷ ps) so_far all
   after_probe p ps so_far all s (Err fault) is one rest h = let no : ⊥ = cc in absurd no
   after_probe p ps so_far all s (Ok q) is one rest h =
       let t = (bus (Probe Super p) s).1 in
-      let u = (run bus (probe_pieces Super ps (so_far ++ q ∷ [])) t).1 in
+      let u = (run bus (probe_pieces_of Super ps (so_far ++ q ∷ [])) t).1 in
       let later : AreFound place view t u ps (so_far ++ q ∷ []) all = rest (so_far ++ q ∷ []) t h in record {
         places = q ∷ later.places;
         all_are = later.all_are ∙ append_assoc so_far (q ∷ []) later.places;
@@ -77,8 +77,8 @@ module _ (S : Type 0) (bus : Bus S) (place : Placing S) (view : Viewing S) (keep
       }
 
   pub probes : (ps : List Piece) (so_far all : List Place) (s : S) → AreAddressed ps
-      → (run bus (probe_pieces Super ps so_far) s).0 ≡ Ok all
-      → AreFound place view s (run bus (probe_pieces Super ps so_far) s).1 ps so_far all
+      → (run bus (probe_pieces_of Super ps so_far) s).0 ≡ Ok all
+      → AreFound place view s (run bus (probe_pieces_of Super ps so_far) s).1 ps so_far all
   probes [] so_far all s lawful h =
       record { places = []; all_are = (let e : so_far ≡ all = cc in sym e) ∙ sym (append-nil so_far); at = tt; kept = itself place view s }
   probes (p ∷ ps) so_far all s lawful h =
@@ -87,20 +87,20 @@ module _ (S : Type 0) (bus : Bus S) (place : Placing S) (view : Viewing S) (keep
   -- ---- reads, refused or not
 
   after_read : (ps : List Piece) (value len : ℕ) (s : S) (r : Result ℕ Fault)
-      → ((more : ℕ) (t : S) → IsKept place view t (run bus (read_pieces Super ps more) t).1)
-      → IsKept place view s (run bus (tried r (λ x. read_pieces Super ps (value * 256 ^ len + x))) s).1
+      → ((more : ℕ) (t : S) → IsKept place view t (run bus (read_pieces_of Super ps more) t).1)
+      → IsKept place view s (run bus (tried r (λ x. read_pieces_of Super ps (value * 256 ^ len + x))) s).1
   after_read ps value len s (Err fault) rest = itself place view s
   after_read ps value len s (Ok x) rest = rest (value * 256 ^ len + x) s
 
-  reads_keep : (ps : List Piece) (value : ℕ) (s : S) → AreAddressed ps → IsKept place view s (run bus (read_pieces Super ps value) s).1
+  reads_keep : (ps : List Piece) (value : ℕ) (s : S) → AreAddressed ps → IsKept place view s (run bus (read_pieces_of Super ps value) s).1
   reads_keep [] value s lawful = itself place view s
   reads_keep (p ∷ ps) value s lawful =
       let t = (run bus (read Super p) s).1 in
       kept_still place view s t _ (keeps.read_keeps s p lawful.0)
       (after_read ps value p.len t (run bus (read Super p) s).0 (λ more u. reads_keep ps more u lawful.1))
 
-  pub read_keeps : (at n : ℕ) (s : S) → at < 2 ^ 32 → IsKept place view s (run bus (read_of Super at n) s).1
-  unfolding read_of read_cut split_of
+  pub read_keeps : (at n : ℕ) (s : S) → at < 2 ^ 32 → IsKept place view s (run bus (read_operand_of Super at n) s).1
+  unfolding read_operand_of read_cut_of split_of
   read_keeps at n s small = reads_keep (cut 3 at n) 0 s (cut_addressed 3 at n small)
 
   -- ---- writes
@@ -135,7 +135,7 @@ module _ (S : Type 0) (bus : Bus S) (place : Placing S) (view : Viewing S) (keep
 
   pub puts : (n at left : ℕ) (qs : List Place) (bytes : List ℕ) (s : S) → left ≤ n → at < 2 ^ 32
       → ((k : ℕ) → slice_index bytes k < 2 ^ 8) → left ≤ length bytes → left ≤ 2 ^ 32 → AreAt (place s) (cut n at left) qs
-      → ArePut place view s (run bus (put_bytes qs bytes) s).1 at left bytes
+      → ArePut place view s (run bus (put_bytes_of qs bytes) s).1 at left bytes
   puts zero at left [] bytes s few small byte enough limit h =
       subst (λ (m : ℕ). ArePut place view s s at m bytes) (let e : 0 ≡ left = omega arith in e) (nothing_put s at bytes)
   puts zero at left (q ∷ qs) bytes s few small byte enough limit h = absurd h
@@ -148,7 +148,7 @@ module _ (S : Type 0) (bus : Bus S) (place : Placing S) (view : Viewing S) (keep
       let fits = piece_fits at (suc left) (omega arith) in
       let lawful : IsAddressed p = ((cut_are (suc n) at (suc left)).0, small) in
       let same : q.len ≡ len = keeps.whole s p q h.0 in
-      let then_state : ℕ → S = λ m. (run bus (put_bytes qs (drop m bytes)) (bus (Put q (big_number m bytes)) s).1).1 in
+      let then_state : ℕ → S = λ m. (run bus (put_bytes_of qs (drop m bytes)) (bus (Put q (big_number m bytes)) s).1).1 in
       let t = (bus (Put q (big_number len bytes)) s).1 in
       let dropped : length (drop len bytes) ≡ length bytes - len = length-drop len bytes in
       let rest = still_at place s t (cut n (sum at len) (suc left - len)) qs (keeps.put_stands s p q (big_number len bytes) lawful h.0) h.1 in

@@ -9,7 +9,7 @@ use Rattle.mb_port.specs.declared.types.Piece.{Piece}
 use Rattle.mb_port.specs.declared.types.Fault.{Fault}
 use Rattle.mb_port.proofs.Cuts.{cut_greedy, none_left}
 use Rattle.mb_ea.specs.Addresses.{sum}
-use Rattle.mb_ea.specs.Reading.{read_pieces, read_cut, read_of}
+use Rattle.mb_ea.specs.Reading.{read_pieces_of, read_cut_of, read_operand_of}
 use Rattle.mb_returns.specs.Keeping.{Placing, Viewing, IsAddressed, Shows, IsKept, Keeps}
 use Rattle.mb_returns.proofs.Numbers.{behind}
 
@@ -59,11 +59,11 @@ module _ (S : Type 0) (bus : Bus S) (place : Placing S) (view : Viewing S) (keep
 
   -- pieces that are a greedy cut
   reads_pieces : (ps : List Piece) (at left value : ℕ) (bytes : List ℕ) (s : S) → IsGreedy at left ps → at < 2 ^ 32 → Shows (view s) at left bytes
-      → Gives bus place view (read_pieces Super ps value) s (Ok (value * 256 ^ left + big_number left bytes))
+      → Gives bus place view (read_pieces_of Super ps value) s (Ok (value * 256 ^ left + big_number left bytes))
   unfolding IsGreedy
   reads_pieces [] at left value bytes s none small h =
       let e : value ≡ value * 256 ^ left + big_number left bytes = rw none (omega arith) in
-      subst (λ (x : ℕ). Gives bus place view (read_pieces Super [] value) s (Ok x)) e (at_once bus place view s (let r : Result ℕ Fault = Ok value in r))
+      subst (λ (x : ℕ). Gives bus place view (read_pieces_of Super [] value) s (Ok x)) e (at_once bus place view s (let r : Result ℕ Fault = Ok value in r))
   reads_pieces (p ∷ ps) at left value bytes s greedy small h =
       let here = greedy.0.here in
       let fits = greedy.0.fits in
@@ -76,16 +76,16 @@ module _ (S : Type 0) (bus : Bus S) (place : Placing S) (view : Viewing S) (keep
       let all : (value * 256 ^ p.len + x) * 256 ^ (left - p.len) + big_number (left - p.len) (drop p.len bytes) ≡ value * 256 ^ left + big_number left bytes =
       behind bytes value p.len (left - p.len)
       ∙ ap (λ (m : ℕ). value * 256 ^ m + big_number m bytes) (let e : p.len + (left - p.len) ≡ left = omega arith in e) in
-      followed bus place view (read Super p) (λ (r : Result ℕ Fault). tried r (λ x. read_pieces Super ps (value * 256 ^ p.len + x))) s (Ok x) _ one
-      (subst (λ (y : ℕ). Gives bus place view (read_pieces Super ps (value * 256 ^ p.len + x)) t (Ok y)) all later)
+      followed bus place view (read Super p) (λ (r : Result ℕ Fault). tried r (λ x. read_pieces_of Super ps (value * 256 ^ p.len + x))) s (Ok x) _ one
+      (subst (λ (y : ℕ). Gives bus place view (read_pieces_of Super ps (value * 256 ^ p.len + x)) t (Ok y)) all later)
 
   -- an operand
   pub reads : (at n : ℕ) (bytes : List ℕ) (s : S) → n ≤ 5 → at < 2 ^ 32 → Shows (view s) at n bytes
-      → Gives bus place view (read_of Super at n) s (Ok (big_number n bytes))
-  unfolding read_of read_cut split_of
+      → Gives bus place view (read_operand_of Super at n) s (Ok (big_number n bytes))
+  unfolding read_operand_of read_cut_of split_of
   reads at n bytes s few small h =
       let whole = reads_pieces (cut 3 at n) at n 0 bytes s (cut_greedy 3 at n (none_left at n few)) small h in
       let value : 0 * 256 ^ n + big_number n bytes ≡ big_number n bytes = omega arith in
-      followed bus place view (read_pieces Super (cut 3 at n) 0) _ s (Ok (big_number n bytes)) _
-      (subst (λ (x : ℕ). Gives bus place view (read_pieces Super (cut 3 at n) 0) s (Ok x)) value whole)
+      followed bus place view (read_pieces_of Super (cut 3 at n) 0) _ s (Ok (big_number n bytes)) _
+      (subst (λ (x : ℕ). Gives bus place view (read_pieces_of Super (cut 3 at n) 0) s (Ok x)) value whole)
       (at_once bus place view _ (Ok (big_number n bytes)))

@@ -4,7 +4,7 @@ use Rattle.mb_port.specs.Routine.{Bus, Return, Then, run, choose, either}
 use Rattle.mb_frames.specs.declared.frame.Access.{Access}
 use Rattle.mb_model.specs.declared.processor.Cpu.{Cpu}
 use Rattle.mb_writes.specs.declared.ends.Ended.{Ended}
-use Rattle.mb_processor.specs.Return.{Taken, Held, continued_of, taken_of, resumed_of, return_of, went}
+use Rattle.mb_processor.specs.Return.{Taken, Held, go_on_of, take_frames_of, resumed_of, return_from_of, went}
 use Rattle.mb_returns.specs.Returns.{IsPlain, CanReturn, given_back, held_of, EntryIsReturned}
 use Rattle.mb_returns.proofs.Entries.{entry_is_seen}
 use Rattle.mb_returns.proofs.Taken.{frames_are_taken}
@@ -19,15 +19,15 @@ unfolding resumed_of
 resumed S bus None cpu s h = refl
 resumed S bus (Some a) cpu s h =
     let held : Option Held = Some (record { access = a; pc = cpu.regs.pc }) in
-    ap (λ (b : Bool). (run bus (Then (choose b (continued_of a cpu) (Return (went, cpu)))
+    ap (λ (b : Bool). (run bus (Then (choose b (go_on_of a cpu) (Return (went, cpu)))
     (λ done. Return (record { ended = done.0; cpu = done.1; held = held }))) s).0) h
 
 pub entry_is_returned : (S : Type 0) → EntryIsReturned S
-unfolding return_of
+unfolding return_from_of
 entry_is_returned S bus place view c cpu back s t keeps lawful apart done stay h plain =
     let seen = stay (entry_is_seen S bus place view c cpu s keeps lawful apart done) in
     let taken = frames_are_taken S bus place view c cpu back t keeps lawful seen h (can_return c.access plain) in
-    let u = (run bus (taken_of back.regs) t).1 in
+    let u = (run bus (take_frames_of back.regs) t).1 in
     ap (λ (r : Result Taken Ended). (run bus
     (either r (λ ended. Return (record { ended = ended; cpu = back; held = None }))
     (λ taken. resumed_of taken.access (record back { regs = taken.regs }))) u).0) taken

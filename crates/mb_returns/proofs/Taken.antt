@@ -16,7 +16,7 @@ use Rattle.mb_writes.specs.declared.ends.Ended.{Ended}
 use Rattle.mb_writes.specs.declared.ends.Ended.TheVariants as ended
 use Rattle.mb_processor.specs.declared.entering.Cause.{Cause}
 use Rattle.mb_processor.specs.Entry.{has_address, is_interrupt, supervised, with_mask, frame_with, frame_of, throwaway_of, thrown_sr, stacked, with_second, settled, frames_of, Frames}
-use Rattle.mb_processor.specs.Return.{Head, Taken, head_of, longs_of, access_of_longs, continues, can_continue, restored, dropped, format_error, read_or_end, judged, access_taken, frame_taken, second_taken, throwaway_taken, taken_of}
+use Rattle.mb_processor.specs.Return.{Head, Taken, read_head_of, read_longs_of, access_of_longs, continues, can_continue, restore_of, drop_bytes_of, format_error, read_or_end, judged, take_access_of, take_frame_of, take_second_of, take_throwaway_of, take_frames_of}
 use Rattle.mb_returns.specs.Keeping.{Placing, Viewing, Shows, Keeps}
 use Rattle.mb_returns.specs.Returns.{IsLawful, AreSeen, taken_back, CanReturn, FramesAreTaken}
 use Rattle.mb_returns.proofs.Readings.{Gives, followed, at_once, shown_still, shown_behind}
@@ -64,7 +64,7 @@ no_second (frame.Address sr pc offset address) h = refl
 no_second (frame.Access sr pc offset access) h = refl
 
 abbrev taken_by : Frame → Regs → Taken
-taken_by f r = record { regs = restored (format_of f) (head_from f) r; access = access_of f }
+taken_by f r = record { regs = restore_of (format_of f) (head_from f) r; access = access_of f }
 
 module _ (S : Type 0) (bus : Bus S) (place : Placing S) (view : Viewing S) (keeps : Keeps bus place view) where
   not_refused : {A : Type 0} (m : Routine (Result A ReadFault)) (s : S) (a : A) → Gives bus place view m s (Ok a)
@@ -75,8 +75,8 @@ module _ (S : Type 0) (bus : Bus S) (place : Placing S) (view : Viewing S) (keep
   -- the frame that is returned by
   frame_given : (f : Frame) (r : Regs) (s : S) → Returns f → IsFrame f → CanReturn (access_of f)
       → Shows (view s) (active_stack r) (length (frame_bytes f)) (frame_bytes f)
-      → Gives bus place view (frame_taken (head_from f) r) s (Ok (taken_by f r))
-  unfolding frame_taken access_taken
+      → Gives bus place view (take_frame_of (head_from f) r) s (Ok (taken_by f r))
+  unfolding take_frame_of take_access_of
   frame_given (frame.Short sr pc offset) r s is lawful can h = at_once bus place view s _
   frame_given (frame.Throwaway sr pc offset) r s is lawful can h = absurd is
   frame_given (frame.Address sr pc offset address) r s is lawful can h = at_once bus place view s _
@@ -85,60 +85,61 @@ module _ (S : Type 0) (bus : Bus S) (place : Placing S) (view : Viewing S) (keep
       let b = frame_bytes f in
       let count : length b ≡ 60 = length-frame_bytes f in
       let top = active_stack r in
-      let back = restored 7 (head_from f) r in
+      let back = restore_of 7 (head_from f) r in
       let longs = longs_in 13 (drop 8 b) in
       let behind : Shows (view s) (sum top 8) 52 (drop 8 b) = λ k l. shown_behind (view s) top (length b) 8 b (omega arith) h k (omega arith) in
-      let read = not_refused (longs_of 13 (sum top 8) []) s longs (reads_longs S bus place view keeps 13 (sum top 8) [] (drop 8 b) s (omega arith) behind) in
+      let read = not_refused (read_longs_of 13 (sum top 8) []) s longs
+      (reads_longs S bus place view keeps 13 (sum top 8) [] (drop 8 b) s (omega arith) behind) in
       let fields : access_of_longs longs ≡ a = fields_among b (frame_is_bytes f) ∙ fields_of_frame sr pc offset a lawful in
       let judgement : judged (access_of_longs longs) back ≡ Ok (record { regs = back; access = Some a }) =
       ap (λ (x : Access). judged x back) fields ∙ judged_by (continues a) (can_continue a) _ _ can in
       let next : Result (List ℕ) Ended → Routine (Result Taken Ended) = λ q. tried q (λ longs. Return (judged (access_of_longs longs) back)) in
-      followed bus place view (read_or_end (longs_of 13 (sum top 8) [])) next s (Ok longs) _ read
-      (subst (λ (x : Result Taken Ended). Gives bus place view (next (Ok longs)) (run bus (read_or_end (longs_of 13 (sum top 8) [])) s).1 x)
+      followed bus place view (read_or_end (read_longs_of 13 (sum top 8) [])) next s (Ok longs) _ read
+      (subst (λ (x : Result Taken Ended). Gives bus place view (next (Ok longs)) (run bus (read_or_end (read_longs_of 13 (sum top 8) [])) s).1 x)
       judgement (at_once bus place view _ (judged (access_of_longs longs) back)))
 
   -- one frame
   one_given : (f : Frame) (r : Regs) (s : S) → Returns f → IsFrame f → CanReturn (access_of f)
       → Shows (view s) (active_stack r) (length (frame_bytes f)) (frame_bytes f)
-      → Gives bus place view (taken_of r) s (Ok (taken_by f r))
-  unfolding taken_of
+      → Gives bus place view (take_frames_of r) s (Ok (taken_by f r))
+  unfolding take_frames_of
   one_given f r s is lawful can h =
-      let m = head_of (active_stack r) in
+      let m = read_head_of (active_stack r) in
       let next : Result Head Ended → Routine (Result Taken Ended) =
-      λ q. tried q (λ head. choose (head.format == 1) (throwaway_taken head r) (frame_taken head r)) in
+      λ q. tried q (λ head. choose (head.format == 1) (take_throwaway_of head r) (take_frame_of head r)) in
       let head = not_refused m s (head_from f) (reads_head S bus place view keeps (active_stack r) f s lawful h) in
       let t = (run bus (read_or_end m) s).1 in
       let later = frame_given f r t is lawful can (shown_still place view s t (active_stack r) (length (frame_bytes f)) (frame_bytes f) head.keeps h) in
       followed bus place view (read_or_end m) next s (Ok (head_from f)) _ head
-      (subst (λ (b : Bool). Gives bus place view (choose b (throwaway_taken (head_from f) r) (frame_taken (head_from f) r)) t (Ok (taken_by f r)))
+      (subst (λ (b : Bool). Gives bus place view (choose b (take_throwaway_of (head_from f) r) (take_frame_of (head_from f) r)) t (Ok (taken_by f r)))
       (sym (no_second f is)) later)
 
   -- a throwaway frame, and one below it
   two_given : (sr pc offset : ℕ) (f : Frame) (r : Regs) (s : S) → Returns f → IsFrame f → IsFrame (frame.Throwaway sr pc offset) → CanReturn (access_of f)
       → is_supervisor (kept_status sr) ≡ true
       → Shows (view s) (active_stack r) (length (frame_bytes (frame.Throwaway sr pc offset))) (frame_bytes (frame.Throwaway sr pc offset))
-      → (let below : Regs = record (dropped 8 r) { sr = kept_status sr } in
+      → (let below : Regs = record (drop_bytes_of 8 r) { sr = kept_status sr } in
       Shows (view s) (active_stack below) (length (frame_bytes f)) (frame_bytes f)
-      → Gives bus place view (taken_of r) s (Ok (taken_by f below)))
-  unfolding taken_of throwaway_taken second_taken
+      → Gives bus place view (take_frames_of r) s (Ok (taken_by f below)))
+  unfolding take_frames_of take_throwaway_of take_second_of
   two_given sr pc offset f r s is lawful thrown can super seen h =
-      let low : Regs = record (dropped 8 r) { sr = kept_status sr } in
+      let low : Regs = record (drop_bytes_of 8 r) { sr = kept_status sr } in
       let above = frame.Throwaway sr pc offset in
-      let m = head_of (active_stack r) in
+      let m = read_head_of (active_stack r) in
       let next : Result Head Ended → Routine (Result Taken Ended) =
-      λ q. tried q (λ head. choose (head.format == 1) (throwaway_taken head r) (frame_taken head r)) in
+      λ q. tried q (λ head. choose (head.format == 1) (take_throwaway_of head r) (take_frame_of head r)) in
       let head = not_refused m s (head_from above) (reads_head S bus place view keeps (active_stack r) above s thrown seen) in
       let t = (run bus (read_or_end m) s).1 in
       let in_t = shown_still place view s t (active_stack low) (length (frame_bytes f)) (frame_bytes f) head.keeps h in
-      let k = head_of (active_stack low) in
+      let k = read_head_of (active_stack low) in
       let second = not_refused k t (head_from f) (reads_head S bus place view keeps (active_stack low) f t lawful in_t) in
       let u = (run bus (read_or_end k) t).1 in
       let in_u = shown_still place view t u (active_stack low) (length (frame_bytes f)) (frame_bytes f) second.keeps in_t in
       let last = frame_given f low u is lawful can in_u in
-      let then_taken : Result Head Ended → Routine (Result Taken Ended) = λ q. tried q (λ head. frame_taken head low) in
+      let then_taken : Result Head Ended → Routine (Result Taken Ended) = λ q. tried q (λ head. take_frame_of head low) in
       let both = followed bus place view (read_or_end k) then_taken t (Ok (head_from f)) _ second last in
       followed bus place view (read_or_end m) next s (Ok (head_from above)) _ head
-      (subst (λ (b : Bool). Gives bus place view (choose b (second_taken low) (Return (Err format_error))) t (Ok (taken_by f low))) (sym super) both)
+      (subst (λ (b : Bool). Gives bus place view (choose b (take_second_of low) (Return (Err format_error))) t (Ok (taken_by f low))) (sym super) both)
 
 -- ---- the registers
 
@@ -150,7 +151,7 @@ up_again top n h k = omega arith
 
 from_master : (format n pc : ℕ) (head : Head) (before r : Regs) → is_supervisor r.sr ≡ true → is_master r.sr ≡ true
     → frame_length format ≡ n → n ≤ 60 → before.msp < 2 ^ 32 → head.sr ≡ before.sr → head.pc ≡ pc
-    → r.isp ≡ before.isp → r.msp ≡ difference before.msp n → restored format head r ≡ back_to before pc r
+    → r.isp ≡ before.isp → r.msp ≡ difference before.msp n → restore_of format head r ≡ back_to before pc r
 from_master format n pc head before r s m len few small sr at isp msp =
     let top : sum r.msp (frame_length format) ≡ before.msp = ap (λ (x : ℕ). sum x (frame_length format)) msp
     ∙ ap (λ (k : ℕ). sum (difference before.msp n) k) len ∙ up_again before.msp n small few in
@@ -158,7 +159,7 @@ from_master format n pc head before r s m len few small sr at isp msp =
 
 from_interrupt : (format n pc : ℕ) (head : Head) (before r : Regs) → is_supervisor r.sr ≡ true → is_master r.sr ≡ false
     → frame_length format ≡ n → n ≤ 60 → before.isp < 2 ^ 32 → head.sr ≡ before.sr → head.pc ≡ pc
-    → r.msp ≡ before.msp → r.isp ≡ difference before.isp n → restored format head r ≡ back_to before pc r
+    → r.msp ≡ before.msp → r.isp ≡ difference before.isp n → restore_of format head r ≡ back_to before pc r
 from_interrupt format n pc head before r s m len few small sr at msp isp =
     let top : sum r.isp (frame_length format) ≡ before.isp = ap (λ (x : ℕ). sum x (frame_length format)) isp
     ∙ ap (λ (k : ℕ). sum (difference before.isp n) k) len ∙ up_again before.isp n small few in
@@ -201,16 +202,16 @@ module _ (S : Type 0) (bus : Bus S) (place : Placing S) (view : Viewing S) (keep
   OnStack s r = Shows (view s) (active_stack r) (length (frame_bytes (frame_of cpu.regs.sr c))) (frame_bytes (frame_of cpu.regs.sr c))
 
   abbrev Restores : Regs → Type 0
-  Restores r = restored (format_of (frame_of cpu.regs.sr c)) (head_from (frame_of cpu.regs.sr c)) r ≡ back_to cpu.regs c.pc back.regs
+  Restores r = restore_of (format_of (frame_of cpu.regs.sr c)) (head_from (frame_of cpu.regs.sr c)) r ≡ back_to cpu.regs c.pc back.regs
 
-  finish_one : (s : S) → OnStack s back.regs → Restores back.regs → (run bus (taken_of back.regs) s).0 ≡ Ok (taken_back c cpu back)
+  finish_one : (s : S) → OnStack s back.regs → Restores back.regs → (run bus (take_frames_of back.regs) s).0 ≡ Ok (taken_back c cpu back)
   finish_one s seen regs =
       let f = frame_of cpu.regs.sr c in
       let is = of_cause c.access cpu.regs.sr c in
       let may : CanReturn (access_of f) = subst CanReturn (sym is.access) can in
       let given = one_given S bus place view keeps f back.regs s is.returns lawful.frame may seen in
       given.answers ∙ ap (λ (a : Option Access). (let q : Result Taken Ended = Ok (record {
-        regs = restored (format_of f)
+        regs = restore_of (format_of f)
             (head_from f) back.regs;
         access = a;
       }) in q)) is.access
@@ -220,7 +221,7 @@ module _ (S : Type 0) (bus : Bus S) (place : Placing S) (view : Viewing S) (keep
   saved = let is = of_cause c.access cpu.regs.sr c in ap kept_status is.sr ∙ lawful.status
 
   pub by_cases : (i m : Bool) (s : S) → is_master cpu.regs.sr ≡ m → AreSeen (view s) (frames_by i m c cpu.regs) → IsBack (settled_by i m c cpu.regs) back.regs
-      → (run bus (taken_of back.regs) s).0 ≡ Ok (taken_back c cpu back)
+      → (run bus (take_frames_of back.regs) s).0 ≡ Ok (taken_back c cpu back)
   unfolding stacked
   by_cases false false s m seen h =
       let f = frame_of cpu.regs.sr c in
@@ -258,7 +259,7 @@ module _ (S : Type 0) (bus : Bus S) (place : Placing S) (view : Viewing S) (keep
       let above = throwaway_of cpu.regs.sr c in
       let master : is_master r.sr ≡ false = h.master ∙ master_without (with_mask c.level (supervised cpu.regs.sr)) in
       let top : active_stack r ≡ difference cpu.regs.isp 8 = rw (h.supervisor, master) (h.isp ∙ ap (difference cpu.regs.isp) (length-frame_bytes above)) in
-      let low : Regs = record (dropped 8 r) { sr = kept_status sr } in
+      let low : Regs = record (drop_bytes_of 8 r) { sr = kept_status sr } in
       let isp : sum (active_stack r) 8 ≡ cpu.regs.isp = ap (λ (x : ℕ). sum x 8) top ∙ up_again cpu.regs.isp 8 lawful.isp (omega arith) in
       let low_is : low ≡ record r { sr = kept_status sr; isp = cpu.regs.isp } = rw (h.supervisor, master) (let e : sum r.isp 8 ≡ cpu.regs.isp = rw
       (h.supervisor, master) at isp in rw e refl) in
@@ -273,15 +274,15 @@ module _ (S : Type 0) (bus : Bus S) (place : Placing S) (view : Viewing S) (keep
       (sym (let e : active_stack r ≡ difference cpu.regs.isp (length (frame_bytes above)) = rw (h.supervisor, master) h.isp in e)) seen.second in
       let may : CanReturn (access_of f) = subst CanReturn (sym is.access) can in
       let given = two_given S bus place view keeps sr c.pc (4 * c.vector) f r s is.returns lawful.frame lawful.thrown may super second first in
-      let regs : restored (format_of f) (head_from f) below ≡ back_to cpu.regs c.pc back.regs =
+      let regs : restore_of (format_of f) (head_from f) below ≡ back_to cpu.regs c.pc back.regs =
       from_master (format_of f) n c.pc (head_from f) cpu.regs below super low_master
       (sym (length-frame_bytes f)) (few_bytes f) lawful.msp saved is.pc refl h.msp in
       given.answers ∙ ap (λ (a : Option Access). (let q : Result Taken Ended = Ok (record {
-        regs = restored (format_of f)
+        regs = restore_of (format_of f)
             (head_from f) low;
         access = a;
       }) in q)) is.access
-      ∙ ap (λ (x : Regs). (let q : Result Taken Ended = Ok (record { regs = restored (format_of f) (head_from f) x; access = c.access }) in q)) low_is
+      ∙ ap (λ (x : Regs). (let q : Result Taken Ended = Ok (record { regs = restore_of (format_of f) (head_from f) x; access = c.access }) in q)) low_is
       ∙ ap (λ (x : Regs). (let q : Result Taken Ended = Ok (record { regs = x; access = c.access }) in q)) regs
 
 pub frames_are_taken : (S : Type 0) → FramesAreTaken S

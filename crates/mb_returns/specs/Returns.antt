@@ -11,7 +11,7 @@ use Rattle.mb_ea.specs.Addresses.{sum}
 use Rattle.mb_processor.specs.declared.entering.Cause.{Cause}
 use Rattle.mb_processor.specs.declared.entering.Entered.TheVariants as entered
 use Rattle.mb_processor.specs.Entry.{Stacked, Frames, frame_of, throwaway_of, frames_of, settled, enter_of}
-use Rattle.mb_processor.specs.Return.{Held, Taken, Returned, continues, can_continue, taken_of, return_of, went}
+use Rattle.mb_processor.specs.Return.{Held, Taken, Returned, continues, can_continue, take_frames_of, return_from_of, went}
 use Rattle.mb_returns.specs.Keeping.{Placing, Viewing, Keeps, Shows}
 
 -- ---- what is entered
@@ -102,7 +102,7 @@ abbrev pub FramesAreTaken : Type 0 → Type 0
 FramesAreTaken S = (bus : Bus S) (place : Placing S) (view : Viewing S) (c : Cause) (cpu back : Cpu) (s : S)
     → Keeps bus place view → IsLawful c cpu → AreSeen (view s) (frames_at c cpu)
     → IsHandlers c cpu back → CanReturn c.access
-    → let (taken, _) = run bus (taken_of back.regs) s in taken ≡ Ok (taken_back c cpu back)
+    → let (taken, _) = run bus (take_frames_of back.regs) s in taken ≡ Ok (taken_back c cpu back)
 
 -- So RTE after an entry, whatever was done between them that leaves the frames, and the handler's stacks where they
 -- were.
@@ -112,4 +112,4 @@ EntryIsReturned S = (bus : Bus S) (place : Placing S) (view : Viewing S) (c : Ca
     → let (entrance, after) = run bus (enter_of c cpu) s in let (end, _) = entrance in
     end ≡ entered.Done → (AreSeen (view after) (frames_at c cpu) → AreSeen (view t) (frames_at c cpu))
     → IsHandlers c cpu back → IsPlain c.access
-    → let (returned, _) = run bus (return_of back) t in returned ≡ returned_back c cpu back
+    → let (returned, _) = run bus (return_from_of back) t in returned ≡ returned_back c cpu back

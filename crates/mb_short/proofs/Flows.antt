@@ -11,16 +11,16 @@ use Rattle.mb_instr.specs.declared.instruction.Move.TheVariants as move
 use Rattle.mb_instr.specs.Registers.{address_register, with_address_register}
 use Rattle.mb_instr.specs.Sizes.{sign_extended}
 use Rattle.mb_ea.specs.Addresses.{sum}
-use Rattle.mb_ea.specs.Reading.{read_of}
+use Rattle.mb_ea.specs.Reading.{read_operand_of}
 use Rattle.mb_ea.specs.Resolve.{resolve_of}
 use Rattle.mb_instr.specs.declared.instruction.Instr.TheVariants as instr
 use Rattle.mb_instr.specs.declared.instruction.Flow.TheVariants as flow
 use Rattle.mb_instr.specs.declared.registers.Plain.{Plain}
 use Rattle.mb_meaning.specs.Attempt.{past}
 use Rattle.mb_meaning.specs.Ends.{Rowed, went}
-use Rattle.mb_meaning.specs.Flow.{branch_of, branched, call_of, dbcc_of, target_of, is_call}
+use Rattle.mb_meaning.specs.Flow.{branch_of, go_if_met_of, call_of, dbcc_of, target_of, is_call}
 use Rattle.mb_meaning.specs.Moves.{lea_of}
-use Rattle.mb_meaning.specs.Operands.{address_of, raised}
+use Rattle.mb_meaning.specs.Operands.{find_address_of, raised}
 use Rattle.mb_meaning.specs.Returns.{rts_of}
 use Rattle.mb_meaning.specs.Rows.{row_of, perform_flow_of, perform_move_of}
 use Rattle.mb_meaning.specs.Stack.{link_of, unlk_of}
@@ -28,7 +28,7 @@ use Rattle.mb_short.specs.Taken.{Goes}
 use Rattle.mb_short.proofs.Moves.{goes}
 
 pub branch_goes : {S : Type 0} (bus : Bus S) (c : Condition) (d : Branch) (n : ℕ) (space : Space) (p q : Plain) (met : Bool) (s : S)
-    → is_call c ≡ false → went met q ≡ branched c (target_of ((p.pc + 2) % 2 ^ 32) d) (past n p)
+    → is_call c ≡ false → went met q ≡ go_if_met_of c (target_of ((p.pc + 2) % 2 ^ 32) d) (past n p)
     → Goes bus (instr.Flow (flow.Bcc c d)) n space p s met q s
 unfolding row_of perform_flow_of branch_of
 branch_goes {S} bus c d n space p q met s e h =
@@ -48,7 +48,7 @@ call_goes bus d n space p q s t None h = h
 call_goes bus d n space p q s t (Some met) h = goes bus (instr.Flow (flow.Bcc condition.False d)) p.pc space (past n p) q met s t h
 
 pub return_goes : {S : Type 0} (bus : Bus S) (target : ℕ) (space : Space) (p : Plain) (s : S)
-    → run bus (read_of space (address_register p 7) 4) s ≡ (Ok target, s)
+    → run bus (read_operand_of space (address_register p 7) 4) s ≡ (Ok target, s)
     → Goes bus (instr.Flow flow.Rts) 1 space p s true (record (raised p) { pc = target }) s
 unfolding row_of perform_flow_of rts_of
 return_goes bus target space p s read =
@@ -62,7 +62,7 @@ link_goes bus n d space p q s t None h = h
 link_goes bus n d space p q s t (Some met) h = goes bus (instr.Move (move.LinkW n d)) p.pc space (past 2 p) q met s t h
 
 pub unlink_goes : {S : Type 0} (bus : Bus S) (n value : ℕ) (space : Space) (p : Plain) (s : S)
-    → run bus (read_of space (address_register p n) 4) s ≡ (Ok value, s)
+    → run bus (read_operand_of space (address_register p n) 4) s ≡ (Ok value, s)
     → Goes bus (instr.Move (move.Unlk n)) 1 space p s false
     (with_address_register (with_address_register (past 1 p) 7 (sum (address_register p n) 4)) n value) s
 unfolding row_of perform_move_of unlk_of
@@ -73,7 +73,7 @@ unlink_goes bus n value space p s read =
 pub address_goes : {S : Type 0} (bus : Bus S) (n m d : ℕ) (space : Space) (p : Plain) (s : S)
     → Goes bus (instr.Move (move.Lea n (Disp m d))) 2 space p s false
     (with_address_register (past 2 p) n (sum (address_register p m) (sign_extended Word d))) s
-unfolding row_of perform_move_of lea_of address_of resolve_of
+unfolding row_of perform_move_of lea_of find_address_of resolve_of
 address_goes bus n m d space p s =
     goes bus (instr.Move (move.Lea n (Disp m d))) p.pc space (past 2 p)
     (with_address_register (past 2 p) n (sum (address_register p m) (sign_extended Word d))) false s s refl

@@ -12,9 +12,9 @@ use Rattle.mb_instr.specs.Sizes.{low_of}
 use Rattle.mb_instr.specs.Registers.{data_register}
 use Rattle.mb_ea.specs.Resolve.{resolve_of}
 use Rattle.mb_meaning.specs.Ends.{Rowed, carried, went, restored}
-use Rattle.mb_meaning.specs.Operands.{operand_of, load_of, store_of, storing}
-use Rattle.mb_meaning.specs.Moves.{move_of}
-use Rattle.mb_meaning.specs.Arithmetic.{taking}
+use Rattle.mb_meaning.specs.Operands.{fetch_operand_of, load_of, store_of, finish_with_of}
+use Rattle.mb_meaning.specs.Moves.{move_operand_of}
+use Rattle.mb_meaning.specs.Arithmetic.{take_of}
 use Rattle.mb_meaning.specs.Unary.{clr_of}
 use Rattle.mb_ops_arith.proofs.WithoutBus.{taken, without_bus}
 use Rattle.mb_meaning.specs.Rows.{row_of, perform_of}
@@ -26,14 +26,14 @@ pub is_data : (n : ℕ) → n < 8 → nat_lt n 8 ≡ true
 is_data n h = grind (arith, nat_tests)
 
 pub copied : {S : Type 0} (bus : Bus S) (size : Size) (n m word_at : ℕ) (space : Space) (p : Plain) (s : S) → n < 8 → m < 8
-    → run bus (move_of size (Dn n) (Dn m) word_at space p) s ≡ (carried (moved_to n size (low_of size (data_register p m)) p), s)
-unfolding move_of operand_of load_of resolve_of storing store_of
+    → run bus (move_operand_of size (Dn n) (Dn m) word_at space p) s ≡ (carried (moved_to n size (low_of size (data_register p m)) p), s)
+unfolding move_operand_of fetch_operand_of load_of resolve_of finish_with_of store_of
 copied bus size n m word_at space p s h k = rw (is_data m k, is_data n h) refl
 
 -- CLR
 pub cleared : {S : Type 0} (bus : Bus S) (size : Size) (n word_at : ℕ) (space : Space) (p : Plain) (s : S) → n < 8
     → run bus (clr_of size (Dn n) word_at space p) s ≡ (carried (moved_to n size 0 p), s)
-unfolding clr_of resolve_of storing store_of
+unfolding clr_of resolve_of finish_with_of store_of
 cleared bus size n word_at space p s h = rw (is_data n h) refl
 
 -- a row that is carried out is its instruction
@@ -44,7 +44,7 @@ goes bus i at space p q flow s t h = ap (λ (x : Rowed × _). (other_fault (rest
 
 -- an operand in a data register is at hand
 pub taken_register : {S : Type 0} (bus : Bus S) (effect : ℕ → Plain → Rowed) (size : Size) (m word_at : ℕ) (space : Space) (p : Plain) (s : S)
-    → m < 8 → run bus (taking effect size (Dn m) word_at space p) s ≡ (effect (low_of size (data_register p m)) p, s)
+    → m < 8 → run bus (take_of effect size (Dn m) word_at space p) s ≡ (effect (low_of size (data_register p m)) p, s)
 taken_register bus effect size m word_at space p s h = taken bus effect size (Dn m) (low_of size (data_register p m)) word_at space p s (h, refl)
 
 pub ruleset rows = (without_bus, copied, cleared, taken_register)

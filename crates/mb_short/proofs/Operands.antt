@@ -18,15 +18,15 @@ use Rattle.mb_alu.specs.Sums.{compare_of}
 use Rattle.mb_ea.specs.declared.addresses.Target.{Target}
 use Rattle.mb_ea.specs.declared.addresses.Target.TheVariants.{Reg, Memory}
 use Rattle.mb_ea.specs.Addresses.{sum}
-use Rattle.mb_ea.specs.Reading.{read_of}
+use Rattle.mb_ea.specs.Reading.{read_operand_of}
 use Rattle.mb_ea.specs.Resolve.{resolve_of, stepped}
-use Rattle.mb_writes.specs.Writing.{put_of}
+use Rattle.mb_writes.specs.Writing.{write_operand_of}
 use Rattle.mb_meaning.specs.Attempt.{past}
 use Rattle.mb_meaning.specs.Ends.{Rowed, carried}
-use Rattle.mb_meaning.specs.Operands.{behind, operand_of, load_of, store_of, storing}
-use Rattle.mb_meaning.specs.Moves.{move_of, movea_of, move_flags}
-use Rattle.mb_meaning.specs.Arithmetic.{pair_of, combining, comparing, either_way, taking}
-use Rattle.mb_meaning.specs.Unary.{clr_of, in_register}
+use Rattle.mb_meaning.specs.Operands.{behind_of, fetch_operand_of, load_of, store_of, finish_with_of}
+use Rattle.mb_meaning.specs.Moves.{move_operand_of, movea_of, move_flags}
+use Rattle.mb_meaning.specs.Arithmetic.{fetch_pair_of, combine_of, compare_pair_of, combine_either_way_of, take_of}
+use Rattle.mb_meaning.specs.Unary.{clr_of, put_in_register_of}
 use Rattle.mb_meaning.specs.Rows.{row_of, perform_move_of, perform_arith_of}
 use Rattle.mb_table.specs.declared.forms.Place.{Place}
 use Rattle.mb_table.specs.declared.forms.Place.TheVariants as place
@@ -95,7 +95,7 @@ Finds bus size ea space p s at q =
 
 abbrev Fetches : {S : Type 0} → Bus S → Size → Ea → Space → Plain → S → Target → ℕ → Plain → Type 0
 Fetches bus size ea space p s target value q =
-    (word_at : ℕ) → run bus (operand_of size ea word_at space p) s ≡ (Ok (record { target = target; value = value; plain = q }), s)
+    (word_at : ℕ) → run bus (fetch_operand_of size ea word_at space p) s ≡ (Ok (record { target = target; value = value; plain = q }), s)
 
 pub place_found : {S : Type 0} (bus : Bus S) (size : Size) (place : Place) (space : Space) (p : Plain) (s : S)
     → Finds bus size (place_ea place) space p s (place_at place size p) (stepped (place_ea place) size p)
@@ -111,26 +111,26 @@ near_found bus size m d space p s word_at = refl
 
 pub data_fetched : {S : Type 0} (bus : Bus S) (size : Size) (n : ℕ) (space : Space) (p : Plain) (s : S) → n < 8
     → Fetches bus size (Dn n) space p s (Reg n) (low_of size (data_register p n)) p
-unfolding operand_of load_of resolve_of
+unfolding fetch_operand_of load_of resolve_of
 data_fetched bus size n space p s h word_at = rw (is_data n h) refl
 
 address_fetched : {S : Type 0} (bus : Bus S) (size : Size) (n : ℕ) (space : Space) (p : Plain) (s : S)
     → Fetches bus size (An n) space p s (Reg (8 + n)) (low_of size (address_register p n)) p
-unfolding operand_of load_of resolve_of
+unfolding fetch_operand_of load_of resolve_of
 address_fetched bus size n space p s word_at = rw (is_address n, less_eight n) refl
 
 pub memory_fetched : {S : Type 0} (bus : Bus S) (size : Size) (ea : Ea) (at value : ℕ) (space : Space) (p q : Plain) (s : S)
-    → Finds bus size ea space p s at q → run bus (read_of space at (bytes_of size)) s ≡ (Ok value, s)
+    → Finds bus size ea space p s at q → run bus (read_operand_of space at (bytes_of size)) s ≡ (Ok value, s)
     → Fetches bus size ea space p s (Memory at) value q
-unfolding operand_of load_of
+unfolding fetch_operand_of load_of
 memory_fetched bus size ea at value space p q s found read word_at = rw (run, found word_at, read) refl
 
 -- ---- what is made of an operand's value
 
 moved : {S : Type 0} (bus : Bus S) (size : Size) (n : ℕ) (ea : Ea) (target : Target) (value word_at : ℕ) (space : Space) (p q : Plain) (s : S)
     → n < 8 → Fetches bus size ea space p s target value q
-    → run bus (move_of size (Dn n) ea word_at space p) s ≡ (carried (moved_to n size value q), s)
-unfolding move_of resolve_of storing store_of
+    → run bus (move_operand_of size (Dn n) ea word_at space p) s ≡ (carried (moved_to n size value q), s)
+unfolding move_operand_of resolve_of finish_with_of store_of
 moved bus size n ea target value word_at space p q s h fetched = rw (run, fetched word_at, is_data n h) refl
 
 moved_address : {S : Type 0} (bus : Bus S) (size : Size) (n : ℕ) (ea : Ea) (target : Target) (value word_at : ℕ) (space : Space) (p q : Plain)
@@ -141,32 +141,32 @@ moved_address bus size n ea target value word_at space p q s fetched = rw (run, 
 
 combined : {S : Type 0} (bus : Bus S) (operation : ℕ → ℕ → ℕ → Flagged) (size : Size) (n : ℕ) (ea : Ea) (target : Target) (value word_at : ℕ)
     (space : Space) (p q : Plain) (s : S) → n < 8 → Fetches bus size ea space p s target value q
-    → run bus (combining operation size ea (Dn n) word_at space p) s
-    ≡ (carried (in_register n size (operation value (low_of size (data_register q n)) q.ccr) q), s)
-unfolding combining pair_of storing store_of
+    → run bus (combine_of operation size ea (Dn n) word_at space p) s
+    ≡ (carried (put_in_register_of n size (operation value (low_of size (data_register q n)) q.ccr) q), s)
+unfolding combine_of fetch_pair_of finish_with_of store_of
 combined bus operation size n ea target value word_at space p q s h fetched =
-    let destination = data_fetched bus size n space q s h (behind size ea word_at) in
+    let destination = data_fetched bus size n space q s h (behind_of size ea word_at) in
     rw (run, fetched word_at, destination, is_data n h) refl
 
 compared : {S : Type 0} (bus : Bus S) (size : Size) (n : ℕ) (ea : Ea) (target : Target) (value word_at : ℕ) (space : Space) (p q : Plain) (s : S)
     → n < 8 → Fetches bus size ea space p s target value q
-    → run bus (comparing size ea (Dn n) word_at space p) s
+    → run bus (compare_pair_of size ea (Dn n) word_at space p) s
     ≡ (carried (record q { ccr = compare_of size value (low_of size (data_register q n)) q.ccr }), s)
-unfolding comparing pair_of
+unfolding compare_pair_of fetch_pair_of
 compared bus size n ea target value word_at space p q s h fetched =
-    let destination = data_fetched bus size n space q s h (behind size ea word_at) in
+    let destination = data_fetched bus size n space q s h (behind_of size ea word_at) in
     rw (run, fetched word_at, destination) refl
 
 taken : {S : Type 0} (bus : Bus S) (effect : ℕ → Plain → Rowed) (size : Size) (ea : Ea) (target : Target) (value word_at : ℕ) (space : Space)
     (p q : Plain) (s : S) → Fetches bus size ea space p s target value q
-    → run bus (taking effect size ea word_at space p) s ≡ (effect value q, s)
-unfolding taking
+    → run bus (take_of effect size ea word_at space p) s ≡ (effect value q, s)
+unfolding take_of
 taken bus effect size ea target value word_at space p q s fetched = rw (run, fetched word_at) refl
 
 takes : {S : Type 0} (bus : Bus S) (t : Taking) (size : Size) (ea : Ea) (target : Target) (value at : ℕ) (space : Space) (p q : Plain) (s : S)
     → HasRegister t → Fetches bus size ea space p s target value q
     → run bus (row_of (taking_of t size ea) at space p) s ≡ (carried (taken_by t size value q), s)
-unfolding row_of perform_move_of perform_arith_of either_way
+unfolding row_of perform_move_of perform_arith_of combine_either_way_of
 takes bus (take.Move n) size ea target value at space p q s h fetched = moved bus size n ea target value _ space p q s h fetched
 takes bus (take.MoveAddress n) size ea target value at space p q s h fetched = moved_address bus size n ea target value _ space p q s fetched
 takes bus (take.Add n) size ea target value at space p q s h fetched = combined bus _ size n ea target value _ space p q s h fetched
@@ -214,19 +214,19 @@ takes_register bus t size r space p s valid =
 
 pub takes_memory : {S : Type 0} (bus : Bus S) (t : Taking) (size : Size) (place : Place) (value : ℕ) (space : Space) (p : Plain) (s : S)
     → IsInstr (taking_of t size (place_ea place))
-    → run bus (read_of space (place_at place size p) (bytes_of size)) s ≡ (Ok value, s)
+    → run bus (read_operand_of space (place_at place size p) (bytes_of size)) s ≡ (Ok value, s)
     → Goes bus (taking_of t size (place_ea place)) 1 space p s false (taken_by t size value (stepped (place_ea place) size (past 1 p))) s
 takes_memory bus t size place value space p s valid read =
     let moved = past 1 p in
     let after = stepped (place_ea place) size moved in
-    let here = subst (λ (at : ℕ). run bus (read_of space at (bytes_of size)) s ≡ (Ok value, s)) (sym (same_place place size 1 p)) read in
+    let here = subst (λ (at : ℕ). run bus (read_operand_of space at (bytes_of size)) s ≡ (Ok value, s)) (sym (same_place place size 1 p)) read in
     one_goes bus (taking_of t size (place_ea place)) space p (taken_by t size value after) s s
     (takes bus t size (place_ea place) (Memory (place_at place size moved)) value p.pc space moved after s (has_register t size (place_ea place) valid)
     (memory_fetched bus size (place_ea place) (place_at place size moved) value space moved after s (place_found bus size place space moved s) here))
 
 pub takes_near : {S : Type 0} (bus : Bus S) (t : Taking) (size : Size) (m d value : ℕ) (space : Space) (p : Plain) (s : S)
     → IsInstr (taking_of t size (Disp m d))
-    → run bus (read_of space (sum (address_register p m) (sign_extended Word d)) (bytes_of size)) s ≡ (Ok value, s)
+    → run bus (read_operand_of space (sum (address_register p m) (sign_extended Word d)) (bytes_of size)) s ≡ (Ok value, s)
     → Goes bus (taking_of t size (Disp m d)) 2 space p s false (taken_by t size value (past 2 p)) s
 takes_near bus t size m d value space p s valid read =
     let moved = past 2 p in
@@ -240,24 +240,24 @@ takes_near bus t size m d value space p s valid read =
 
 puts : {S : Type 0} (bus : Bus S) (t : Putting) (size : Size) (ea : Ea) (to at : ℕ) (space : Space) (p q : Plain) (s u : S)
     → HasSource t → Finds bus size ea space p s to q
-    → run bus (put_of space to (bytes_of size) (put_value t size p)) s ≡ (Ok tt, u)
+    → run bus (write_operand_of space to (bytes_of size) (put_value t size p)) s ≡ (Ok tt, u)
     → run bus (row_of (putting_of t size ea) at space p) s ≡ (carried (move_flags size (put_value t size p) q), u)
-unfolding row_of perform_move_of perform_arith_of move_of clr_of storing store_of
+unfolding row_of perform_move_of perform_arith_of move_operand_of clr_of finish_with_of store_of
 puts bus (write.Data n) size ea to at space p q s u h found put = rw (run, data_fetched bus size n space p s h, found, put) refl
 puts bus (write.Address n) size ea to at space p q s u h found put = rw (run, address_fetched bus size n space p s, found, put) refl
 puts bus write.Zero size ea to at space p q s u h found put = rw (run, found, put) refl
 
 pub puts_memory : {S : Type 0} (bus : Bus S) (t : Putting) (size : Size) (place : Place) (space : Space) (p : Plain) (s u : S)
     → IsInstr (putting_of t size (place_ea place))
-    → run bus (put_of space (place_at place size p) (bytes_of size) (put_value t size p)) s ≡ (Ok tt, u)
+    → run bus (write_operand_of space (place_at place size p) (bytes_of size) (put_value t size p)) s ≡ (Ok tt, u)
     → Goes bus (putting_of t size (place_ea place)) 1 space p s false
     (move_flags size (put_value t size p) (stepped (place_ea place) size (past 1 p))) u
 puts_memory bus t size place space p s u valid put =
     let moved = past 1 p in
     let after = stepped (place_ea place) size moved in
-    let there = subst (λ (at : ℕ). run bus (put_of space at (bytes_of size) (put_value t size p)) s ≡ (Ok tt, u))
+    let there = subst (λ (at : ℕ). run bus (write_operand_of space at (bytes_of size) (put_value t size p)) s ≡ (Ok tt, u))
     (sym (same_place place size 1 p)) put in
-    let here = subst (λ (value : ℕ). run bus (put_of space (place_at place size moved) (bytes_of size) value) s ≡ (Ok tt, u)) (sym (same_put t size 1 p)) there in
+    let here = subst (λ (value : ℕ). run bus (write_operand_of space (place_at place size moved) (bytes_of size) value) s ≡ (Ok tt, u)) (sym (same_put t size 1 p)) there in
     let row = puts bus t size (place_ea place) (place_at place size moved) p.pc space moved after s u (has_source t size (place_ea place) valid)
     (place_found bus size place space moved s) here in
     one_goes bus (putting_of t size (place_ea place)) space p (move_flags size (put_value t size p) after) s u
@@ -266,12 +266,12 @@ puts_memory bus t size place space p s u valid put =
 
 pub puts_near : {S : Type 0} (bus : Bus S) (t : Putting) (size : Size) (m d : ℕ) (space : Space) (p : Plain) (s u : S)
     → IsInstr (putting_of t size (Disp m d))
-    → run bus (put_of space (sum (address_register p m) (sign_extended Word d)) (bytes_of size) (put_value t size p)) s ≡ (Ok tt, u)
+    → run bus (write_operand_of space (sum (address_register p m) (sign_extended Word d)) (bytes_of size) (put_value t size p)) s ≡ (Ok tt, u)
     → Goes bus (putting_of t size (Disp m d)) 2 space p s false (move_flags size (put_value t size p) (past 2 p)) u
 puts_near bus t size m d space p s u valid put =
     let moved = past 2 p in
     let at = sum (address_register p m) (sign_extended Word d) in
-    let here = subst (λ (value : ℕ). run bus (put_of space at (bytes_of size) value) s ≡ (Ok tt, u)) (sym (same_put t size 2 p)) put in
+    let here = subst (λ (value : ℕ). run bus (write_operand_of space at (bytes_of size) value) s ≡ (Ok tt, u)) (sym (same_put t size 2 p)) put in
     let row = puts bus t size (Disp m d) at p.pc space moved moved s u (has_source t size (Disp m d) valid) (near_found bus size m d space moved s) here in
     two_go bus (putting_of t size (Disp m d)) space p (move_flags size (put_value t size p) moved) s u
     (subst (λ (value : ℕ). run bus (row_of (putting_of t size (Disp m d)) p.pc space moved) s ≡ (carried (move_flags size value moved), u))

@@ -14,14 +14,14 @@ use Rattle.mb_instr.specs.Registers.{address_register}
 use Rattle.mb_alu.specs.declared.conditions.Flagged.{Flagged}
 use Rattle.mb_ea.specs.declared.addresses.Target.TheVariants.{Reg}
 use Rattle.mb_ea.specs.Addresses.{sum}
-use Rattle.mb_ea.specs.Reading.{read_of}
+use Rattle.mb_ea.specs.Reading.{read_operand_of}
 use Rattle.mb_ea.specs.Resolve.{stepped}
-use Rattle.mb_writes.specs.Writing.{put_of}
+use Rattle.mb_writes.specs.Writing.{write_operand_of}
 use Rattle.mb_meaning.specs.Attempt.{past}
 use Rattle.mb_meaning.specs.Ends.{carried}
-use Rattle.mb_meaning.specs.Operands.{behind, operand_of, store_of, storing}
-use Rattle.mb_meaning.specs.Arithmetic.{pair_of, combining, either_way, quick_of}
-use Rattle.mb_meaning.specs.Modifying.{modifying}
+use Rattle.mb_meaning.specs.Operands.{behind_of, fetch_operand_of, store_of, finish_with_of}
+use Rattle.mb_meaning.specs.Arithmetic.{fetch_pair_of, combine_of, combine_either_way_of, combine_quick_of}
+use Rattle.mb_meaning.specs.Modifying.{modify_of}
 use Rattle.mb_meaning.specs.Rows.{row_of, perform_arith_of}
 use Rattle.mb_table.specs.declared.forms.Place.{Place}
 use Rattle.mb_table.specs.declared.forms.Place.TheVariants as place
@@ -74,30 +74,30 @@ same_update update.Complement size value n p = refl
 
 combined : {S : Type 0} (bus : Bus S) (operation : ℕ → ℕ → ℕ → Flagged) (size : Size) (n : ℕ) (ea : Ea) (to value word_at : ℕ) (space : Space)
     (p q : Plain) (s t : S) (source : ℕ) → n < 8 → Finds bus size ea space p s to q → q.ccr ≡ p.ccr
-    → run bus (read_of space to (bytes_of size)) s ≡ (Ok value, s)
-    → run bus (operand_of size (Dn n) word_at space p) s ≡ (Ok (record { target = Reg n; value = source; plain = p }), s)
-    → run bus (put_of space to (bytes_of size) (operation source value p.ccr).value) s ≡ (Ok tt, t)
-    → run bus (combining operation size (Dn n) ea word_at space p) s ≡ (carried (record q { ccr = (operation source value p.ccr).ccr }), t)
-unfolding combining pair_of storing store_of
+    → run bus (read_operand_of space to (bytes_of size)) s ≡ (Ok value, s)
+    → run bus (fetch_operand_of size (Dn n) word_at space p) s ≡ (Ok (record { target = Reg n; value = source; plain = p }), s)
+    → run bus (write_operand_of space to (bytes_of size) (operation source value p.ccr).value) s ≡ (Ok tt, t)
+    → run bus (combine_of operation size (Dn n) ea word_at space p) s ≡ (carried (record q { ccr = (operation source value p.ccr).ccr }), t)
+unfolding combine_of fetch_pair_of finish_with_of store_of
 combined bus operation size n ea to value word_at space p q s t source h found same read from put =
-    let at = behind size (Dn n) word_at in
+    let at = behind_of size (Dn n) word_at in
     rw (run, from, memory_fetched bus size ea to value space p q s found read at, same, put) refl
 
 modified : {S : Type 0} (bus : Bus S) (change : ℕ → ℕ → Flagged) (size : Size) (ea : Ea) (to value word_at : ℕ) (space : Space)
     (p q : Plain) (s t : S) → Finds bus size ea space p s to q → q.ccr ≡ p.ccr
-    → run bus (read_of space to (bytes_of size)) s ≡ (Ok value, s)
-    → run bus (put_of space to (bytes_of size) (change value p.ccr).value) s ≡ (Ok tt, t)
-    → run bus (modifying change size ea word_at space p) s ≡ (carried (record q { ccr = (change value p.ccr).ccr }), t)
-unfolding modifying storing store_of
+    → run bus (read_operand_of space to (bytes_of size)) s ≡ (Ok value, s)
+    → run bus (write_operand_of space to (bytes_of size) (change value p.ccr).value) s ≡ (Ok tt, t)
+    → run bus (modify_of change size ea word_at space p) s ≡ (carried (record q { ccr = (change value p.ccr).ccr }), t)
+unfolding modify_of finish_with_of store_of
 modified bus change size ea to value word_at space p q s t found same read put =
     rw (run, memory_fetched bus size ea to value space p q s found read word_at, same, put) refl
 
 updates : {S : Type 0} (bus : Bus S) (u : Update) (size : Size) (ea : Ea) (to value at : ℕ) (space : Space) (p q : Plain) (s t : S)
     → HasData u → address_number ea ≡ None → Finds bus size ea space p s to q → q.ccr ≡ p.ccr
-    → run bus (read_of space to (bytes_of size)) s ≡ (Ok value, s)
-    → run bus (put_of space to (bytes_of size) (updated_by u size value p).value) s ≡ (Ok tt, t)
+    → run bus (read_operand_of space to (bytes_of size)) s ≡ (Ok value, s)
+    → run bus (write_operand_of space to (bytes_of size) (updated_by u size value p).value) s ≡ (Ok tt, t)
     → run bus (row_of (update_of u size ea) at space p) s ≡ (carried (record q { ccr = (updated_by u size value p).ccr }), t)
-unfolding row_of perform_arith_of either_way quick_of
+unfolding row_of perform_arith_of combine_either_way_of combine_quick_of
 updates bus (update.Add n) size ea to value at space p q s t h none found same read put =
     combined bus _ size n ea to value _ space p q s t _ h found same read (data_fetched bus size n space p s h _) put
 updates bus (update.Subtract n) size ea to value at space p q s t h none found same read put =
@@ -129,8 +129,8 @@ same_codes (place.Down n) size p = refl
 
 pub updates_memory : {S : Type 0} (bus : Bus S) (u : Update) (size : Size) (place : Place) (value : ℕ) (space : Space) (p : Plain) (s t : S)
     → IsInstr (update_of u size (place_ea place))
-    → run bus (read_of space (place_at place size p) (bytes_of size)) s ≡ (Ok value, s)
-    → run bus (put_of space (place_at place size p) (bytes_of size) (updated_by u size value p).value) s ≡ (Ok tt, t)
+    → run bus (read_operand_of space (place_at place size p) (bytes_of size)) s ≡ (Ok value, s)
+    → run bus (write_operand_of space (place_at place size p) (bytes_of size) (updated_by u size value p).value) s ≡ (Ok tt, t)
     → Goes bus (update_of u size (place_ea place)) 1 space p s false
     (record (stepped (place_ea place) size (past 1 p)) { ccr = (updated_by u size value p).ccr }) t
 updates_memory bus u size place value space p s t valid read put =
@@ -138,9 +138,10 @@ updates_memory bus u size place value space p s t valid read put =
     let after = stepped (place_ea place) size moved in
     let at = same_place place size 1 p in
     let same = same_update u size value 1 p in
-    let here = subst (λ (n : ℕ). run bus (read_of space n (bytes_of size)) s ≡ (Ok value, s)) (sym at) read in
-    let there = subst (λ (n : ℕ). run bus (put_of space n (bytes_of size) (updated_by u size value p).value) s ≡ (Ok tt, t)) (sym at) put in
-    let written = subst (λ (f : Flagged). run bus (put_of space (place_at place size moved) (bytes_of size) f.value) s ≡ (Ok tt, t)) (sym same) there in
+    let here = subst (λ (n : ℕ). run bus (read_operand_of space n (bytes_of size)) s ≡ (Ok value, s)) (sym at) read in
+    let there = subst (λ (n : ℕ). run bus (write_operand_of space n (bytes_of size) (updated_by u size value p).value) s ≡ (Ok tt, t)) (sym at) put in
+    let written = subst (λ (f : Flagged). run bus (write_operand_of space (place_at place size moved) (bytes_of size) f.value) s
+    ≡ (Ok tt, t)) (sym same) there in
     let row = updates bus u size (place_ea place) (place_at place size moved) value p.pc space moved after s t (has_data u size (place_ea place) valid)
     (no_number place) (place_found bus size place space moved s) (same_codes place size moved) here written in
     one_goes bus (update_of u size (place_ea place)) space p (record after { ccr = (updated_by u size value p).ccr }) s t
@@ -148,14 +149,14 @@ updates_memory bus u size place value space p s t valid read put =
 
 pub updates_near : {S : Type 0} (bus : Bus S) (u : Update) (size : Size) (m d value : ℕ) (space : Space) (p : Plain) (s t : S)
     → IsInstr (update_of u size (Disp m d))
-    → run bus (read_of space (sum (address_register p m) (sign_extended Word d)) (bytes_of size)) s ≡ (Ok value, s)
-    → run bus (put_of space (sum (address_register p m) (sign_extended Word d)) (bytes_of size) (updated_by u size value p).value) s ≡ (Ok tt, t)
+    → run bus (read_operand_of space (sum (address_register p m) (sign_extended Word d)) (bytes_of size)) s ≡ (Ok value, s)
+    → run bus (write_operand_of space (sum (address_register p m) (sign_extended Word d)) (bytes_of size) (updated_by u size value p).value) s ≡ (Ok tt, t)
     → Goes bus (update_of u size (Disp m d)) 2 space p s false (record (past 2 p) { ccr = (updated_by u size value p).ccr }) t
 updates_near bus u size m d value space p s t valid read put =
     let moved = past 2 p in
     let at = sum (address_register p m) (sign_extended Word d) in
     let same = same_update u size value 2 p in
-    let written = subst (λ (f : Flagged). run bus (put_of space at (bytes_of size) f.value) s ≡ (Ok tt, t)) (sym same) put in
+    let written = subst (λ (f : Flagged). run bus (write_operand_of space at (bytes_of size) f.value) s ≡ (Ok tt, t)) (sym same) put in
     let row = updates bus u size (Disp m d) at value p.pc space moved moved s t (has_data u size (Disp m d) valid)
     refl (near_found bus size m d space moved s) refl read written in
     two_go bus (update_of u size (Disp m d)) space p (record moved { ccr = (updated_by u size value p).ccr }) s t

@@ -11,7 +11,7 @@ use Rattle.mb_alu.specs.Sums.{compare_of}
 use Rattle.mb_ea.specs.Addresses.{sum, difference, step_of}
 use Rattle.mb_meaning.specs.Arithmetic.{added, subtracted}
 use Rattle.mb_meaning.specs.Moves.{move_flags}
-use Rattle.mb_meaning.specs.Unary.{in_register}
+use Rattle.mb_meaning.specs.Unary.{put_in_register_of}
 use Rattle.mb_table.specs.declared.forms.Place.{Place}
 use Rattle.mb_table.specs.declared.forms.Place.TheVariants as place
 use Rattle.mb_table.specs.declared.forms.Register.{Register}
@@ -51,13 +51,14 @@ HasRegister taking.Test = ⊤
 abbrev pub taken_by : Taking → Size → ℕ → Plain → Plain
 taken_by (taking.Move n) size value p = moved_to n size value p
 taken_by (taking.MoveAddress n) size value p = with_address_register p n (sign_extended size value)
-taken_by (taking.Add n) size value p = in_register n size (added size value (low_of size (data_register p n)) p.ccr) p
+taken_by (taking.Add n) size value p =
+    put_in_register_of n size (added size value (low_of size (data_register p n)) p.ccr) p
 taken_by (taking.Subtract n) size value p =
-    in_register n size (subtracted size value (low_of size (data_register p n)) p.ccr) p
+    put_in_register_of n size (subtracted size value (low_of size (data_register p n)) p.ccr) p
 taken_by (taking.And n) size value p =
-    in_register n size (logic_of And size value (low_of size (data_register p n)) p.ccr) p
+    put_in_register_of n size (logic_of And size value (low_of size (data_register p n)) p.ccr) p
 taken_by (taking.Or n) size value p =
-    in_register n size (logic_of Or size value (low_of size (data_register p n)) p.ccr) p
+    put_in_register_of n size (logic_of Or size value (low_of size (data_register p n)) p.ccr) p
 taken_by (taking.Compare n) size value p =
     record p { ccr = compare_of size value (low_of size (data_register p n)) p.ccr }
 taken_by (taking.AddAddress n) size value p =

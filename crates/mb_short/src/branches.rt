@@ -7,7 +7,7 @@ ghost use Rattle.mb_instr.specs.declared.instruction.Flow.TheVariants as flow_ro
 ghost use Rattle.mb_short.specs.Taken.{Goes};
 
 use mb_instr::{Branch, Condition, Plain};
-use mb_ops_flow::{go_if_met, is_call, loop_unless, target};
+use mb_ops_flow::{dbcc, go_if_met, is_call, target};
 use mb_port::{Port, Space};
 
 /// A branch that stands at PC with its displacement in the first word. BSR is left to its row.
@@ -75,5 +75,5 @@ pub(crate) fn turn<P: Port>(
 {
     let word_at = plain.pc.wrapping_add(2);
     plain.pc = plain.pc.wrapping_add(4);
-    loop_unless(condition, register, displacement, word_at, plain)
+    dbcc(condition, register, displacement, word_at, plain)
 }

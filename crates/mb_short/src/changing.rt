@@ -8,7 +8,7 @@ ghost use Rattle.mb_instr.specs.Sizes.{low_of};
 ghost use Rattle.mb_alu.specs.Shifts.{shift_of};
 ghost use Rattle.mb_meaning.specs.Ends.{carried};
 ghost use Rattle.mb_meaning.specs.Rows.{row_of};
-ghost use Rattle.mb_meaning.specs.Unary.{in_register, negated, complemented};
+ghost use Rattle.mb_meaning.specs.Unary.{put_in_register_of, negated, complemented};
 ghost use Rattle.mb_table.specs.Forms.{change_of};
 ghost use Rattle.mb_short.specs.Taken.{Goes};
 
@@ -36,7 +36,7 @@ pub(crate) fn shift_by(
 )
     requires register { register < 8 }
     requires count { count < 64 }
-    ensures { plain.new ≡ in_register register size
+    ensures { plain.new ≡ put_in_register_of register size
         (shift_of kind is_left size count (data_register plain.old register) plain.old.ccr) plain.old }
 {
     let value = plain.d[register as usize];
@@ -48,7 +48,7 @@ pub(crate) fn shift_by(
 #[inline(always)]
 fn negate(size: Size, register: u8, plain: &mut Plain)
     requires { register < 8 }
-    ensures { plain.new ≡ in_register register size
+    ensures { plain.new ≡ put_in_register_of register size
         (negated size (low_of size (data_register plain.old register)) plain.old.ccr) plain.old }
 {
     let value = size.low(plain.d[register as usize]);
@@ -59,7 +59,7 @@ fn negate(size: Size, register: u8, plain: &mut Plain)
 #[inline(always)]
 fn complement(size: Size, register: u8, plain: &mut Plain)
     requires { register < 8 }
-    ensures { plain.new ≡ in_register register size
+    ensures { plain.new ≡ put_in_register_of register size
         (complemented size (low_of size (data_register plain.old register)) plain.old.ccr) plain.old }
 {
     let value = size.low(plain.d[register as usize]);
@@ -77,9 +77,9 @@ fn complement(size: Size, register: u8, plain: &mut Plain)
 #[tactic(auto, using(crate::proofs::Moves::rows), unfolding(
     mb_meaning::specs::Rows::row_of,
     mb_meaning::specs::Rows::perform_arith_of,
-    mb_meaning::specs::Arithmetic::quick_of,
-    mb_meaning::specs::Arithmetic::either_way,
-    mb_meaning::specs::Arithmetic::chaining,
+    mb_meaning::specs::Arithmetic::combine_quick_of,
+    mb_meaning::specs::Arithmetic::combine_either_way_of,
+    mb_meaning::specs::Arithmetic::chain_of,
     mb_meaning::specs::Shifts::shift_register_of,
 ))]
 fn carry_out<P: Port>(change: Change, size: Size, n: u8, at: u32, space: Space, plain: &mut Plain, port: &P)

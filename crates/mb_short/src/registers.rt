@@ -68,8 +68,8 @@ fn swap(register: u8, plain: &mut Plain)
     mb_meaning::specs::Rows::row_of,
     mb_meaning::specs::Rows::perform_move_of,
     mb_meaning::specs::Rows::perform_arith_of,
-    mb_meaning::specs::Arithmetic::quick_of,
-    mb_meaning::specs::Arithmetic::either_way,
+    mb_meaning::specs::Arithmetic::combine_quick_of,
+    mb_meaning::specs::Arithmetic::combine_either_way_of,
     mb_meaning::specs::Shifts::shift_register_of,
     mb_meaning::specs::Unary::ext_of,
 ))]

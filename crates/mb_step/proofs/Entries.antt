@@ -11,7 +11,7 @@ use Rattle.mb_processor.specs.declared.entering.Cause.{Cause}
 use Rattle.mb_processor.specs.declared.entering.Entered.TheVariants as entered
 use Rattle.mb_processor.specs.Entry.{Entrance, awake, enter_of}
 use Rattle.mb_processor.specs.SystemEnds.{with_registers}
-use Rattle.mb_processor.specs.Raise.{Stepped, traces_all, cause_at, access_error_of, unchecked_of, raised, raise_of, tracing_of, trap_of}
+use Rattle.mb_processor.specs.Raise.{Stepped, traces_all, cause_at, access_error_of, unchecked_of, raised, raise_of, trace_if_of, raise_trap_of}
 
 -- an access error ends the stopped state itself
 pub unchecked_awake : {S : Type 0} (bus : Bus S) (is_trace : Bool) (fault : Fault) (cpu : Cpu) (s : S)
@@ -34,7 +34,7 @@ before_again cpu left exchanged back q again o r k =
 abbrev entered_trap : {S : Type 0} → Bus S → ℕ → Cpu → Entrance × S → Stepped × S
 entered_trap bus vector before entrance = run bus
     (caught (raised false before entrance.0.0 entrance.0.1) (λ stepped. Return stepped)
-    (λ handler. tracing_of (finish.Entered vector) (traces_all before.regs.sr) before.regs.pc handler)) entrance.1
+    (λ handler. trace_if_of (finish.Entered vector) (traces_all before.regs.sr) before.regs.pc handler)) entrance.1
 
 -- An instruction traps, and its frame has no place. `exchanged` are the registers after the instruction, `left` is the
 -- processor as the entry left it, and `back` are the registers that were put back.
@@ -44,8 +44,8 @@ pub trap_unchecked : {S : Type 0} (bus : Bus S) (vector : ℕ) (before left : Cp
     → run bus (enter_of c (holding exchanged before)) s ≡ ((entered.Faulted fault, left), t)
     → left ≡ record before { regs = left.regs; stopped = false } → left.regs ≡ exchanged → back ≡ with_plain left.regs q
     → run bus (unchecked_of false fault (holding back left)) t ≡ stepped
-    → run bus (trap_of vector before (with_registers p before)) s ≡ stepped
-unfolding trap_of raise_of
+    → run bus (raise_trap_of vector before (with_registers p before)) s ≡ stepped
+unfolding raise_trap_of raise_of
 trap_unchecked bus vector before left exchanged back p q c fault s t stepped e again is h o r k u =
     ap (entered_trap bus vector before)
     (ap (λ (x : Regs). run bus (enter_of (cause_at vector x.pc before.regs.pc) (holding x before)) s) (sym e)

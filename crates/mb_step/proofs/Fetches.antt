@@ -14,8 +14,8 @@ use Rattle.mb_decode.specs.Decodes.{decode_of}
 use Rattle.mb_ea.specs.Reading.{refused_in}
 use Rattle.mb_meaning.specs.Attempt.{NoInstruction, Unfetched, Found, illegal, found_of, fetched_of, judged}
 use Rattle.mb_instr.specs.declared.counts.TheConstants.{MOST_WORDS}
-use Rattle.mb_processor.specs.Raise.{Stepped, refused_of}
-use Rattle.mb_processor.specs.Step.{unread_of, unfound_of, executed_of, instruction_of}
+use Rattle.mb_processor.specs.Raise.{Stepped, refuse_of}
+use Rattle.mb_processor.specs.Step.{finish_unread_of, unfound_of, execute_of, execute_next_of}
 use Rattle.mb_processor.specs.declared.Finish.{Finish}
 use Rattle.mb_step.specs.Fetching.{Sought, Word, sought_of, word_of, found_executed, behind}
 
@@ -64,21 +64,21 @@ seeking_on bus cpu m n space at words word s t now d e h w k = ap (seek bus cpu)
 
 -- `q` is the same processor, as the code has it then
 pub seeking_without : {S : Type 0} (bus : Bus S) (cpu q : Cpu) (m n : ℕ) (space : Space) (at : ℕ) (words : List ℕ) (fault : Fault) (s t : S)
-    (stepped : Stepped × S) → m ≡ suc n → Answered bus space at s (Err fault) t → q ≡ cpu → run bus (unread_of (refused_in at fault) q) t ≡ stepped
+    (stepped : Stepped × S) → m ≡ suc n → Answered bus space at s (Err fault) t → q ≡ cpu → run bus (finish_unread_of (refused_in at fault) q) t ≡ stepped
     → seeking bus cpu space m at words s ≡ ending stepped
 unfolding unfound_of
 seeking_without bus cpu q m n space at words fault s t stepped e h k r =
     ap (seek bus cpu) (unfetched bus m n space at words fault s t e h) ∙ ap ending (rw (sym k) r)
 
 pub seeking_no_more : {S : Type 0} (bus : Bus S) (cpu q : Cpu) (m : ℕ) (space : Space) (at : ℕ) (words : List ℕ) (s : S) (stepped : Stepped × S)
-    → m ≡ 0 → q ≡ cpu → run bus (refused_of ILLEGAL q) s ≡ stepped → seeking bus cpu space m at words s ≡ ending stepped
+    → m ≡ 0 → q ≡ cpu → run bus (refuse_of ILLEGAL q) s ≡ stepped → seeking bus cpu space m at words s ≡ ending stepped
 unfolding unfound_of
 seeking_no_more bus cpu q m space at words s stepped e k r =
     ap (seek bus cpu) (exhausted bus m space at words s e) ∙ ap ending (rw (sym k) r)
 
 -- no instruction begins so
 pub seeking_none : {S : Type 0} (bus : Bus S) (cpu q : Cpu) (vector : ℕ) (t : S) (stepped : Stepped × S)
-    → q ≡ cpu → run bus (refused_of vector q) t ≡ stepped
+    → q ≡ cpu → run bus (refuse_of vector q) t ≡ stepped
     → run bus (sought_of cpu (Return (Err (NoInstruction vector)))) t ≡ ending stepped
 unfolding unfound_of
 seeking_none bus cpu q vector t stepped k r = ap ending (rw (sym k) r)
@@ -107,18 +107,18 @@ begun_as bus cpu first s found d e h = ap (λ (x : Decoded). run bus (found_exec
 
 -- it begins no instruction
 pub begins_none : {S : Type 0} (bus : Bus S) (cpu : Cpu) (vector : ℕ) (t : S)
-    → run bus (found_executed cpu (Return (Err (NoInstruction vector)))) t ≡ run bus (refused_of vector cpu) t
+    → run bus (found_executed cpu (Return (Err (NoInstruction vector)))) t ≡ run bus (refuse_of vector cpu) t
 unfolding unfound_of
 begins_none bus cpu vector t = refl
 
 -- it is an instruction
 pub is_whole : {S : Type 0} (bus : Bus S) (cpu : Cpu) (more : Routine Found) (t : S) (d : Decoded) (i : Instr) (n : ℕ) → d ≡ Whole i n
-    → run bus (found_executed cpu (judged d more)) t ≡ run bus (executed_of i n cpu) t
+    → run bus (found_executed cpu (judged d more)) t ≡ run bus (execute_of i n cpu) t
 is_whole bus cpu more t d i n h = rw (h) refl
 
 -- what follows an answer: the instruction is carried out, or the step has ended
 abbrev pub carried : {S : Type 0} → Bus S → Result (Instr × ℕ) Finish → Cpu → S → Stepped × S
-carried bus (Ok found) cpu s = run bus (executed_of found.0 found.1 cpu) s
+carried bus (Ok found) cpu s = run bus (execute_of found.0 found.1 cpu) s
 carried bus (Err end) cpu s = ((end, cpu), s)
 
 carried_on : {S : Type 0} (bus : Bus S) (cpu : Cpu) (answer : Found) (s : S)
@@ -153,7 +153,7 @@ has_more bus cpu q space first second s t u answer k h found =
 -- it has more words: the second came, and the two are an instruction
 pub two_words : {S : Type 0} (bus : Bus S) (cpu : Cpu) (space : Space) (first second : ℕ) (s t : S) (i : Instr)
     → space ≡ space_of cpu → Answered bus space ((cpu.regs.pc + 2) % 2 ^ 32) s (Ok second) t → decode_of (first ∷ second ∷ []) ≡ Whole i 2
-    → run bus (found_executed cpu (behind cpu first)) s ≡ run bus (executed_of i 2 cpu) t
+    → run bus (found_executed cpu (behind cpu first)) s ≡ run bus (execute_of i 2 cpu) t
 two_words bus cpu space first second s t i k h e =
     ap (doing bus cpu)
     (fetched bus (MOST_WORDS - 1) (MOST_WORDS - 2) (space_of cpu) ((cpu.regs.pc + 2) % 2 ^ 32) (first ∷ []) second s t (first ∷ second ∷ [])
@@ -162,7 +162,7 @@ two_words bus cpu space first second s t i k h e =
 -- it has more words, and the second did not come
 no_second_word : {S : Type 0} (bus : Bus S) (cpu : Cpu) (space : Space) (first : ℕ) (fault : Fault) (s t : S)
     → space ≡ space_of cpu → Answered bus space ((cpu.regs.pc + 2) % 2 ^ 32) s (Err fault) t
-    → run bus (found_executed cpu (behind cpu first)) s ≡ run bus (unread_of (refused_in ((cpu.regs.pc + 2) % 2 ^ 32) fault) cpu) t
+    → run bus (found_executed cpu (behind cpu first)) s ≡ run bus (finish_unread_of (refused_in ((cpu.regs.pc + 2) % 2 ^ 32) fault) cpu) t
 unfolding unfound_of
 no_second_word bus cpu space first fault s t k h =
     ap (doing bus cpu)
@@ -170,21 +170,21 @@ no_second_word bus cpu space first fault s t k h =
 
 -- at an odd PC nothing is fetched
 at_odd : {S : Type 0} (bus : Bus S) (cpu : Cpu) (s : S) (odd : Bool) → (cpu.regs.pc % 2 == 1) ≡ odd → odd ≡ true
-    → run bus (instruction_of cpu) s ≡ run bus (refused_of ODD_COUNTER cpu) s
-unfolding instruction_of fetched_of unfound_of
+    → run bus (execute_next_of cpu) s ≡ run bus (refuse_of ODD_COUNTER cpu) s
+unfolding execute_next_of fetched_of unfound_of
 at_odd bus cpu s odd e h = rw (e, h) refl
 
 equal : (a b : ℕ) → a ≡ b → (a == b) ≡ true
 equal a b h = grind (arith, nat_tests)
 
 pub instruction_at_odd : {S : Type 0} (bus : Bus S) (cpu : Cpu) (s : S) → cpu.regs.pc % 2 ≡ 1
-    → run bus (instruction_of cpu) s ≡ run bus (refused_of ODD_COUNTER cpu) s
+    → run bus (execute_next_of cpu) s ≡ run bus (refuse_of ODD_COUNTER cpu) s
 instruction_at_odd bus cpu s h = at_odd bus cpu s _ refl (equal (cpu.regs.pc % 2) 1 h)
 
 -- at an even PC it begins without a word
 begun : {S : Type 0} (bus : Bus S) (cpu : Cpu) (s : S) (odd : Bool) → (cpu.regs.pc % 2 == 1) ≡ odd → odd ≡ false
-    → run bus (instruction_of cpu) s ≡ run bus (found_executed cpu (found_of MOST_WORDS (space_of cpu) cpu.regs.pc [])) s
-unfolding instruction_of fetched_of
+    → run bus (execute_next_of cpu) s ≡ run bus (found_executed cpu (found_of MOST_WORDS (space_of cpu) cpu.regs.pc [])) s
+unfolding execute_next_of fetched_of
 begun bus cpu s odd e h = rw (e, h) refl
 
 unequal : (a b : ℕ) → a ≢ b → (a == b) ≡ false
@@ -193,7 +193,7 @@ unequal a b h = grind (arith, nat_tests)
 -- the first word came, and what follows goes by what it is alone
 pub first_word : {S : Type 0} (bus : Bus S) (cpu : Cpu) (space : Space) (word : ℕ) (s t : S) (d : Decoded)
     → cpu.regs.pc % 2 ≢ 1 → space ≡ space_of cpu → Answered bus space cpu.regs.pc s (Ok word) t → d ≡ decode_of (word ∷ [])
-    → run bus (instruction_of cpu) s
+    → run bus (execute_next_of cpu) s
     ≡ run bus (found_executed cpu (judged d (behind cpu word))) t
 first_word bus cpu space word s t d even k h e =
     begun bus cpu s _ refl (unequal (cpu.regs.pc % 2) 1 even)
@@ -202,7 +202,7 @@ first_word bus cpu space word s t d even k h e =
 -- the first word did not come
 no_first_word : {S : Type 0} (bus : Bus S) (cpu : Cpu) (space : Space) (fault : Fault) (s t : S)
     → cpu.regs.pc % 2 ≢ 1 → space ≡ space_of cpu → Answered bus space cpu.regs.pc s (Err fault) t
-    → run bus (instruction_of cpu) s ≡ run bus (unread_of (refused_in cpu.regs.pc fault) cpu) t
+    → run bus (execute_next_of cpu) s ≡ run bus (finish_unread_of (refused_in cpu.regs.pc fault) cpu) t
 unfolding unfound_of
 no_first_word bus cpu space fault s t even k h =
     begun bus cpu s _ refl (unequal (cpu.regs.pc % 2) 1 even)
@@ -217,11 +217,11 @@ ended_word stepped = ((Err stepped.0.0, stepped.0.1), stepped.1)
 -- what is made of an answer of the bus
 abbrev worded : {S : Type 0} → Bus S → Cpu → ℕ → Result ℕ Fault × S → Word × S
 worded bus cpu at (Ok word, t) = ((Ok word, cpu), t)
-worded bus cpu at (Err fault, t) = ended_word (run bus (unread_of (refused_in at fault) cpu) t)
+worded bus cpu at (Err fault, t) = ended_word (run bus (finish_unread_of (refused_in at fault) cpu) t)
 
 abbrev asked : {S : Type 0} → Bus S → Cpu → ℕ → Result ℕ Fault × S → Word × S
 asked bus cpu at r = run bus (caught (Return r.0)
-    (λ fault. Then (unread_of (refused_in at fault) cpu) (λ stepped. Return (Err stepped.0, stepped.1)))
+    (λ fault. Then (finish_unread_of (refused_in at fault) cpu) (λ stepped. Return (Err stepped.0, stepped.1)))
     (λ word. Return (Ok word, cpu))) r.1
 
 asked_is : {S : Type 0} (bus : Bus S) (cpu : Cpu) (at : ℕ) (r : Result ℕ Fault × S) → asked bus cpu at r ≡ worded bus cpu at r
@@ -249,7 +249,7 @@ finish_in other (Err end) = end
 
 -- what has become of it where it did not come
 ended_by : {S : Type 0} (bus : Bus S) (cpu q : Cpu) (at : ℕ) (end : Finish) (t : S) (r : Result ℕ Fault × S) (x : Stepped × S)
-    → ((fault : Fault) (u : S) → r ≡ (Err fault, u) → x ≡ run bus (unread_of (refused_in at fault) cpu) u)
+    → ((fault : Fault) (u : S) → r ≡ (Err fault, u) → x ≡ run bus (finish_unread_of (refused_in at fault) cpu) u)
     → worded bus cpu at r ≡ ((Err end, q), t) → x ≡ ((end, q), t)
 ended_by bus cpu q at end t (Ok w, u) x refused h = absurd (let e = ap (λ (y : Word × _). y.0.0) h in let z : ⊥ = cc in z)
 ended_by bus cpu q at end t (Err fault, u) x refused h =
@@ -257,10 +257,10 @@ ended_by bus cpu q at end t (Err fault, u) x refused h =
 
 -- the first did not come
 pub first_ended : {S : Type 0} (bus : Bus S) (cpu q : Cpu) (space : Space) (end : Finish) (s t : S) → cpu.regs.pc % 2 ≢ 1
-    → space ≡ space_of cpu → run bus (word_of cpu space cpu.regs.pc) s ≡ ((Err end, q), t) → run bus (instruction_of cpu) s ≡ ((end, q), t)
+    → space ≡ space_of cpu → run bus (word_of cpu space cpu.regs.pc) s ≡ ((Err end, q), t) → run bus (execute_next_of cpu) s ≡ ((end, q), t)
 first_ended bus cpu q space end s t even k h =
     let at = cpu.regs.pc in
-    ended_by bus cpu q at end t (bus (Fetch space at) s) (run bus (instruction_of cpu) s)
+    ended_by bus cpu q at end t (bus (Fetch space at) s) (run bus (execute_next_of cpu) s)
     (λ (fault : Fault) (u : _) e. no_first_word bus cpu space fault s u even k e) (sym (asked_is bus cpu at (bus (Fetch space at) s)) ∙ h)
 
 -- the second did not
@@ -285,7 +285,7 @@ seeking_came bus cpu q m n space word_space at words word s t now d e k h w j =
 
 -- it did not come
 sought_ended : {S : Type 0} (bus : Bus S) (cpu q : Cpu) (at : ℕ) (end : Finish) (t : S) (r : Result ℕ Fault × S) (x : Sought × S)
-    → ((fault : Fault) (u : S) → r ≡ (Err fault, u) → x ≡ ending (run bus (unread_of (refused_in at fault) cpu) u))
+    → ((fault : Fault) (u : S) → r ≡ (Err fault, u) → x ≡ ending (run bus (finish_unread_of (refused_in at fault) cpu) u))
     → worded bus cpu at r ≡ ((Err end, q), t) → x ≡ ((Err end, q), t)
 sought_ended bus cpu q at end t (Ok w, u) x refused h = absurd (let e = ap (λ (y : Word × _). y.0.0) h in let z : ⊥ = cc in z)
 sought_ended bus cpu q at end t (Err fault, u) x refused h =

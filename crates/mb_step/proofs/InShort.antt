@@ -14,9 +14,9 @@ use Rattle.mb_meaning.specs.Attempt.{judged}
 use Rattle.mb_meaning.specs.Ends.{Performed, closed}
 use Rattle.mb_meaning.specs.Rows.{row_of, perform_of}
 use Rattle.mb_processor.specs.SystemEnds.{with_registers}
-use Rattle.mb_processor.specs.Raise.{Stepped, is_due, tracing_of}
+use Rattle.mb_processor.specs.Raise.{Stepped, is_due, trace_if_of}
 use Rattle.mb_processor.specs.declared.Finish.TheVariants as finish
-use Rattle.mb_processor.specs.Step.{executed_of, unprivileged_of, finish_of}
+use Rattle.mb_processor.specs.Step.{execute_of, execute_unprivileged_of, finish_instruction_of}
 use Rattle.mb_table.specs.declared.short.Short.{Short}
 use Rattle.mb_table.specs.FirstWords.{alone}
 use Rattle.mb_table.specs.Short.{meaning, meaning_with, IsAlone, IsWith, IsShort}
@@ -27,14 +27,14 @@ use Rattle.mb_step.proofs.Registers.{same_space, same_due, same_counter, registe
 
 -- what follows an instruction that went
 abbrev pub after : {S : Type 0} → Bus S → Cpu → Bool → Plain → S → Stepped × S
-after bus cpu flow q t = run bus (tracing_of finish.Went (is_due cpu.regs.sr flow) cpu.regs.pc (with_registers q cpu)) t
+after bus cpu flow q t = run bus (trace_if_of finish.Went (is_due cpu.regs.sr flow) cpu.regs.pc (with_registers q cpu)) t
 
 abbrev finished : {S : Type 0} → Bus S → Cpu → Instr → Performed × S → Stepped × S
-finished bus cpu i r = run bus (finish_of i (closed r.0).0 cpu (with_registers (closed r.0).1 cpu)) r.1
+finished bus cpu i r = run bus (finish_instruction_of i (closed r.0).0 cpu (with_registers (closed r.0).1 cpu)) r.1
 
 executed : {S : Type 0} (bus : Bus S) (cpu : Cpu) (i : Instr) (n : ℕ) (flow : Bool) (q : Plain) (s t : S)
-    → Goes bus i n (space_of cpu) (plain_of cpu.regs) s flow q t → run bus (executed_of i n cpu) s ≡ after bus cpu flow q t
-unfolding executed_of unprivileged_of finish_of perform_of row_of
+    → Goes bus i n (space_of cpu) (plain_of cpu.regs) s flow q t → run bus (execute_of i n cpu) s ≡ after bus cpu flow q t
+unfolding execute_of execute_unprivileged_of finish_instruction_of perform_of row_of
 executed bus cpu (instr.Move i) n flow q s t h = ap (finished bus cpu (instr.Move i)) h
 executed bus cpu (instr.Arith i) n flow q s t h = ap (finished bus cpu (instr.Arith i)) h
 executed bus cpu (instr.Flow i) n flow q s t h = ap (finished bus cpu (instr.Flow i)) h
@@ -71,7 +71,7 @@ went bus cpu first short flow q s t right (inr (word, range, came, h)) =
 pub went_apart : {S : Type 0} (bus : Bus S) (cpu value : Cpu) (before now : Plain) (first : ℕ) (short : Short) (flow : Bool) (s t : S)
     (stepped : Stepped × S) → with_registers before cpu ≡ value → length before.a ≡ 8 → before.ccr < 32 → IsShort first short
     → IsDone bus short (space_of cpu) before s flow now t
-    → run bus (tracing_of finish.Went (is_due cpu.regs.sr flow) before.pc (with_registers now cpu)) t ≡ stepped
+    → run bus (trace_if_of finish.Went (is_due cpu.regs.sr flow) before.pc (with_registers now cpu)) t ≡ stepped
     → run bus (found_executed value (judged (alone first) (behind value first))) s ≡ stepped
 unfolding with_plain
 went_apart bus cpu value before now first short flow s t stepped k len less right done h =
@@ -80,8 +80,8 @@ went_apart bus cpu value before now first short flow s t stepped k len less righ
     let by_plain = subst (λ (p : Plain). IsDone bus short (space_of whole) p s flow now t) (sym (plain_again before cpu len less)) by_space in
     ap (λ (c : Cpu). run bus (found_executed c (judged (alone first) (behind c first))) s) (sym k)
     ∙ went bus whole first short flow now s t right by_plain
-    ∙ ap (λ (b : Bool). run bus (tracing_of finish.Went b before.pc (with_registers now whole)) t) (sym (same_due before cpu flow))
-    ∙ ap (λ (c : Cpu). run bus (tracing_of finish.Went (is_due cpu.regs.sr flow) before.pc c) t) (registers_over before now cpu)
+    ∙ ap (λ (b : Bool). run bus (trace_if_of finish.Went b before.pc (with_registers now whole)) t) (sym (same_due before cpu flow))
+    ∙ ap (λ (c : Cpu). run bus (trace_if_of finish.Went (is_due cpu.regs.sr flow) before.pc c) t) (registers_over before now cpu)
     ∙ h
 
 -- ---- what a right form is, is in the table of instructions

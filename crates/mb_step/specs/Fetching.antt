@@ -10,7 +10,7 @@ use Rattle.mb_ea.specs.Reading.{refused_in}
 use Rattle.mb_meaning.specs.Attempt.{Found, found_of}
 use Rattle.mb_instr.specs.declared.counts.TheConstants.{MOST_WORDS}
 use Rattle.mb_processor.specs.Raise.{Stepped}
-use Rattle.mb_processor.specs.Step.{executed_of, unfound_of, unread_of}
+use Rattle.mb_processor.specs.Step.{execute_of, unfound_of, finish_unread_of}
 
 -- a word, or how the step ended without one; and the processor then
 abbrev pub Word : Type 0
@@ -19,7 +19,7 @@ Word = Result ℕ Finish × Cpu
 -- where a word does not come, the step ends
 abbrev pub word_of : Cpu → Space → ℕ → Routine Word
 word_of cpu space at = caught (fetch space at)
-    (λ fault. Then (unread_of (refused_in at fault) cpu) (λ (ended, after). Return (Err ended, after)))
+    (λ fault. Then (finish_unread_of (refused_in at fault) cpu) (λ (ended, after). Return (Err ended, after)))
     (λ word. Return (Ok word, cpu))
 
 -- an instruction and how many words it has, or how the step ended without one; and the processor then
@@ -43,4 +43,4 @@ behind cpu word = found_of (MOST_WORDS - 1) (space_of cpu) ((cpu.regs.pc + 2) % 
 
 -- an instruction is carried out once it is found
 abbrev pub found_executed : Cpu → Routine Found → Routine Stepped
-found_executed cpu found = caught found (λ unfound. unfound_of unfound cpu) (λ (i, n). executed_of i n cpu)
+found_executed cpu found = caught found (λ unfound. unfound_of unfound cpu) (λ (i, n). execute_of i n cpu)

@@ -5,9 +5,9 @@ ghost use Rattle.mb_port.specs.Routine.{run};
 ghost use Rattle.mb_instr.specs.Codes.{IsInstr};
 ghost use Rattle.mb_instr.specs.declared.instruction.Instr.TheVariants as instr;
 ghost use Rattle.mb_ea.specs.Reading.{refused_in};
-ghost use Rattle.mb_processor.specs.Raise.{interrupt_of, refused_of, trace_of};
+ghost use Rattle.mb_processor.specs.Raise.{interrupt_of, refuse_of, trace_of};
 ghost use Rattle.mb_processor.specs.SystemEnds.{with_registers};
-ghost use Rattle.mb_processor.specs.Step.{executed_of, finish_of, unread_of};
+ghost use Rattle.mb_processor.specs.Step.{execute_of, finish_instruction_of, finish_unread_of};
 
 use crate::executing::execute_supervised;
 use crate::finishing::{finish_instruction, finish_unread};
@@ -40,7 +40,7 @@ impl Processor {
     /// Enters the exception of an instruction at PC that is not carried out.
     #[inline(never)]
     pub(crate) fn refuse<P: Port>(&mut self, vector: u8, port: &mut P) -> Finish
-        ensures means { run P.bus (refused_of vector self.old) (P.world port.old)
+        ensures means { run P.bus (refuse_of vector self.old) (P.world port.old)
             ≡ ((result, self.new), P.world port.new) }
         ensures busy { result ≢ Finish.Idle }
         ensures rest { P.rest port.new ≡ P.rest port.old }
@@ -59,7 +59,7 @@ impl Processor {
         at: u32,
         port: &mut P,
     ) -> Finish
-        ensures means { run P.bus (unread_of (refused_in at fault) self.old) (P.world port.old)
+        ensures means { run P.bus (finish_unread_of (refused_in at fault) self.old) (P.world port.old)
             ≡ ((result, self.new), P.world port.new) }
         ensures busy { result ≢ Finish.Idle }
         ensures rest { P.rest port.new ≡ P.rest port.old }
@@ -72,7 +72,7 @@ impl Processor {
 
     /// Carries out a privileged instruction of so many words. It needs supervisor mode.
     #[inline(never)]
-    #[tactic(auto, unfolding(mb_processor::specs::Step::executed_of))]
+    #[tactic(auto, unfolding(mb_processor::specs::Step::execute_of))]
     pub(crate) fn execute_privileged<P: Port>(
         &mut self,
         system: &System,
@@ -80,7 +80,7 @@ impl Processor {
         port: &mut P,
     ) -> Finish
         requires { IsInstr (instr.System system.now) }
-        ensures means { run P.bus (executed_of (instr.System system.now) length self.old) (P.world port.old)
+        ensures means { run P.bus (execute_of (instr.System system.now) length self.old) (P.world port.old)
             ≡ ((result, self.new), P.world port.new) }
         ensures busy { result ≢ Finish.Idle }
         ensures rest { P.rest port.new ≡ P.rest port.old }
@@ -127,7 +127,7 @@ pub(crate) fn finish_undone<P: Port>(
     port: &mut P,
 ) -> Finish
     requires { IsInstr instruction.now }
-    ensures means { run P.bus (finish_of instruction.now ended.now (with_registers before.now cpu.old)
+    ensures means { run P.bus (finish_instruction_of instruction.now ended.now (with_registers before.now cpu.old)
         (with_registers plain.old cpu.old)) (P.world port.old)
         ≡ ((result, with_registers plain.new cpu.new), P.world port.new) }
     ensures ccr { plain.new.ccr < 32 }

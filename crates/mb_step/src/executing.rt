@@ -4,17 +4,17 @@ ghost use Rattle.std.specs.Prelude.{◌≡◌, ◌≢◌, ◌<◌};
 ghost use Rattle.mb_port.specs.Routine.{run};
 ghost use Rattle.mb_instr.specs.Codes.{IsInstr};
 ghost use Rattle.mb_instr.specs.declared.instruction.Instr.TheVariants as instr;
-ghost use Rattle.mb_processor.specs.Raise.{is_due, tracing_of};
+ghost use Rattle.mb_processor.specs.Raise.{is_due, trace_if_of};
 ghost use Rattle.mb_processor.specs.SystemEnds.{with_registers};
 ghost use Rattle.mb_operands.specs.Endings.{end_of, with_end};
-ghost use Rattle.mb_processor.specs.Step.{finish_of, supervised_of, unprivileged_of, executed_of};
+ghost use Rattle.mb_processor.specs.Step.{finish_instruction_of, execute_supervised_of, execute_unprivileged_of, execute_of};
 
 use crate::apart::{finish_undone, trace_left};
 use crate::finishing::{finish_unfinished, finish_unread};
 use crate::performing::perform_in_place;
 use crate::processor::Processor;
 use crate::raising::{is_due, refuse, trace_if};
-use crate::returning::return_from_exception;
+use crate::returning::rte;
 use mb_instr::{Instr, Plain, System};
 use mb_model::Cpu;
 use mb_operands::Undone;
@@ -25,7 +25,7 @@ use mb_writes::Ended;
 
 /// Carries out a privileged instruction of so many words in supervisor mode.
 #[inline(never)]
-#[tactic(auto, unfolding(mb_processor::specs::Step::supervised_of, mb_processor::specs::Step::finish_of))]
+#[tactic(auto, unfolding(mb_processor::specs::Step::execute_supervised_of, mb_processor::specs::Step::finish_instruction_of))]
 pub(crate) fn execute_supervised<P: Port>(
     system: &System,
     length: u8,
@@ -33,13 +33,13 @@ pub(crate) fn execute_supervised<P: Port>(
     port: &mut P,
 ) -> Finish
     requires { IsInstr (instr.System system.now) }
-    ensures means { run P.bus (supervised_of system.now length cpu.old) (P.world port.old)
+    ensures means { run P.bus (execute_supervised_of system.now length cpu.old) (P.world port.old)
         ≡ ((result, cpu.new), P.world port.new) }
     ensures busy { result ≢ Finish.Idle }
     ensures rest { P.rest port.new ≡ P.rest port.old }
 {
     if let System::Rte = system {
-        return return_from_exception(cpu, port);
+        return rte(cpu, port);
     }
     let (at, sr) = (cpu.regs.pc, cpu.regs.sr);
     cpu.regs.pc = at.wrapping_add(2 * u32::from(length));
@@ -68,7 +68,7 @@ pub(crate) fn finish_done<P: Port>(
     port: &mut P,
 ) -> Finish
     ensures means { run P.bus
-        (tracing_of Finish.Went (is_due cpu.old.regs.sr flow) at (with_registers plain.old cpu.old)) (P.world port.old)
+        (trace_if_of Finish.Went (is_due cpu.old.regs.sr flow) at (with_registers plain.old cpu.old)) (P.world port.old)
         ≡ ((result, with_registers plain.new cpu.new), P.world port.new) }
     ensures ccr { plain.new.ccr < 32 }
     ensures busy { result ≢ Finish.Idle }
@@ -85,7 +85,7 @@ pub(crate) fn finish_done<P: Port>(
 /// Finishes an instruction that left these registers; those before it stand beside. Where it was not done, how it ended
 /// does too.
 #[inline(always)]
-#[tactic(auto, unfolding(mb_processor::specs::Step::finish_of))]
+#[tactic(auto, unfolding(mb_processor::specs::Step::finish_instruction_of))]
 fn finish_plain<P: Port>(
     instruction: &Instr,
     done: Result<bool, Undone>,
@@ -96,7 +96,7 @@ fn finish_plain<P: Port>(
     port: &mut P,
 ) -> Finish
     requires { IsInstr instruction.now }
-    ensures means { run P.bus (finish_of instruction.now (end_of (with_end done ended.now))
+    ensures means { run P.bus (finish_instruction_of instruction.now (end_of (with_end done ended.now))
         (with_registers before.now cpu.old) (with_registers plain.old cpu.old)) (P.world port.old)
         ≡ ((result, with_registers plain.new cpu.new), P.world port.new) }
     ensures ccr { plain.new.ccr < 32 }
@@ -111,7 +111,7 @@ fn finish_plain<P: Port>(
 
 /// Carries out an instruction of so many words that is not privileged.
 #[inline(always)]
-#[tactic(auto, unfolding(mb_processor::specs::Step::unprivileged_of))]
+#[tactic(auto, unfolding(mb_processor::specs::Step::execute_unprivileged_of))]
 fn execute_unprivileged<P: Port>(
     instruction: &Instr,
     length: u8,
@@ -119,7 +119,7 @@ fn execute_unprivileged<P: Port>(
     port: &mut P,
 ) -> Finish
     requires { IsInstr instruction.now }
-    ensures means { run P.bus (unprivileged_of instruction.now length processor.old) (P.world port.old)
+    ensures means { run P.bus (execute_unprivileged_of instruction.now length processor.old) (P.world port.old)
         ≡ ((result, processor.new), P.world port.new) }
     ensures busy { result ≢ Finish.Idle }
     ensures rest { P.rest port.new ≡ P.rest port.old }
@@ -150,7 +150,7 @@ fn execute_unprivileged<P: Port>(
 ///
 /// All families are inlined here, and it has one caller, so a step has them once.
 #[inline(always)]
-#[tactic(auto, unfolding(mb_processor::specs::Step::executed_of))]
+#[tactic(auto, unfolding(mb_processor::specs::Step::execute_of))]
 pub(crate) fn execute<P: Port>(
     instruction: &Instr,
     length: u8,
@@ -158,7 +158,7 @@ pub(crate) fn execute<P: Port>(
     port: &mut P,
 ) -> Finish
     requires { IsInstr instruction.now }
-    ensures means { run P.bus (executed_of instruction.now length processor.old) (P.world port.old)
+    ensures means { run P.bus (execute_of instruction.now length processor.old) (P.world port.old)
         ≡ ((result, processor.new), P.world port.new) }
     ensures busy { result ≢ Finish.Idle }
     ensures rest { P.rest port.new ≡ P.rest port.old }

@@ -7,7 +7,7 @@ ghost use Rattle.mb_model.specs.Status.{space_of};
 ghost use Rattle.mb_decode.specs.declared.front.Decoded.TheVariants.{More};
 ghost use Rattle.mb_decode.specs.Decodes.{decode_of};
 ghost use Rattle.mb_meaning.specs.Attempt.{found_of, judged};
-ghost use Rattle.mb_processor.specs.Step.{instruction_of};
+ghost use Rattle.mb_processor.specs.Step.{execute_next_of};
 ghost use Rattle.mb_table.specs.FirstWords.{alone};
 ghost use Rattle.mb_table.specs.Short.{IsShort};
 ghost use Rattle.mb_step.specs.Fetching.{sought_of, sought_by, word_of, behind, found_executed};
@@ -338,7 +338,7 @@ fn execute_first<P: Port>(
 /// Fetches the instruction that stands at PC and carries it out: by its short form, where that is done at once. No word
 /// is fetched behind those that the instruction needs, and none at an odd PC.
 #[inline(always)]
-#[tactic(auto, unfolding(mb_processor::specs::Step::instruction_of))]
+#[tactic(auto, unfolding(mb_processor::specs::Step::execute_next_of))]
 pub(crate) fn execute_next<P: Port, const COPY: usize>(
     first_words: &mut FirstWords,
     shorts: &mut Shorts,
@@ -346,7 +346,7 @@ pub(crate) fn execute_next<P: Port, const COPY: usize>(
     processor: &mut Processor,
     port: &mut P,
 ) -> Finish
-    ensures means { run P.bus (instruction_of processor.old) (P.world port.old)
+    ensures means { run P.bus (execute_next_of processor.old) (P.world port.old)
         ≡ ((result, processor.new), P.world port.new) }
     ensures busy { result ≢ Finish.Idle }
     ensures rest { P.rest port.new ≡ P.rest port.old }

@@ -4,10 +4,10 @@ ghost use Rattle.std.specs.Prelude.{◌≡◌, ◌≢◌};
 ghost use Rattle.mb_port.specs.Routine.{run};
 ghost use Rattle.mb_instr.specs.Codes.{IsInstr};
 ghost use Rattle.mb_processor.specs.SystemEnds.{with_registers};
-ghost use Rattle.mb_processor.specs.Step.{unread_of, unfinished_of, unwritten_of, line_unwritten_of, movem_words};
-ghost use Rattle.mb_processor.specs.Step.{untransferred_of, is_flow, finish_of};
+ghost use Rattle.mb_processor.specs.Step.{finish_unread_of, finish_unfinished_of, finish_unwritten_of, finish_unwritten_line_of, movem_words};
+ghost use Rattle.mb_processor.specs.Step.{finish_untransferred_of, is_flow, finish_instruction_of};
 
-use crate::raising::{access_error, is_due, refuse, trace_if, traces_all, trap, with_ct};
+use crate::raising::{access_error, is_due, raise_trap, refuse, trace_if, traces_all, with_ct};
 use mb_ea::ReadFault;
 use mb_encode::encode;
 use mb_entry::{line_fields, movem_fields, read_fields, write_fields};
@@ -19,9 +19,9 @@ use mb_writes::{Ended, Movem, MovemFault, WriteFault};
 
 /// After a refused fetch, read or locked check. The processor is as before the instruction.
 #[inline(never)]
-#[tactic(auto, unfolding(mb_processor::specs::Step::unread_of))]
+#[tactic(auto, unfolding(mb_processor::specs::Step::finish_unread_of))]
 pub(crate) fn finish_unread<P: Port>(refused: &ReadFault, cpu: &mut Cpu, port: &mut P) -> Finish
-    ensures means { run P.bus (unread_of refused.now cpu.old) (P.world port.old)
+    ensures means { run P.bus (finish_unread_of refused.now cpu.old) (P.world port.old)
         ≡ ((result, cpu.new), P.world port.new) }
     ensures busy { result ≢ Finish.Idle }
     ensures rest { P.rest port.new ≡ P.rest port.old }
@@ -32,14 +32,14 @@ pub(crate) fn finish_unread<P: Port>(refused: &ReadFault, cpu: &mut Cpu, port: &
 
 /// After a refused write of which something is left. The instruction is otherwise complete.
 #[inline(never)]
-#[tactic(auto, unfolding(mb_processor::specs::Step::unfinished_of))]
+#[tactic(auto, unfolding(mb_processor::specs::Step::finish_unfinished_of))]
 pub(crate) fn finish_unfinished<P: Port>(
     due: bool,
     refused: &WriteFault,
     cpu: &mut Cpu,
     port: &mut P,
 ) -> Finish
-    ensures means { run P.bus (unfinished_of due refused.now cpu.old) (P.world port.old)
+    ensures means { run P.bus (finish_unfinished_of due refused.now cpu.old) (P.world port.old)
         ≡ ((result, cpu.new), P.world port.new) }
     ensures busy { result ≢ Finish.Idle }
     ensures rest { P.rest port.new ≡ P.rest port.old }
@@ -58,7 +58,7 @@ fn finish_unwritten<P: Port>(
     cpu: &mut Cpu,
     port: &mut P,
 ) -> Finish
-    ensures means { run P.bus (unwritten_of due refused.now refused.now.rest.items cpu.old
+    ensures means { run P.bus (finish_unwritten_of due refused.now refused.now.rest.items cpu.old
         (with_registers plain.now cpu.old)) (P.world port.old) ≡ ((result, cpu.new), P.world port.new) }
     ensures busy { result ≢ Finish.Idle }
     ensures rest { P.rest port.new ≡ P.rest port.old }
@@ -78,8 +78,8 @@ fn finish_unwritten<P: Port>(
 
 /// After a refused write of a line. The instruction is otherwise complete.
 #[inline(never)]
-#[tactic(auto, unfolding(mb_processor::specs::Step::line_unwritten_of))]
-fn finish_line<P: Port>(
+#[tactic(auto, unfolding(mb_processor::specs::Step::finish_unwritten_line_of))]
+fn finish_unwritten_line<P: Port>(
     due: bool,
     fault: &Fault,
     line: [u32; 4],
@@ -87,7 +87,7 @@ fn finish_line<P: Port>(
     cpu: &mut Cpu,
     port: &mut P,
 ) -> Finish
-    ensures means { run P.bus (line_unwritten_of due fault.now line (with_registers plain.now cpu.old))
+    ensures means { run P.bus (finish_unwritten_line_of due fault.now line (with_registers plain.now cpu.old))
         (P.world port.old) ≡ ((result, cpu.new), P.world port.new) }
     ensures busy { result ≢ Finish.Idle }
     ensures rest { P.rest port.new ≡ P.rest port.old }
@@ -113,8 +113,8 @@ fn movem_words(instruction: &Instr) -> u32
 
 /// After a refused transfer of a MOVEM. What was loaded stays.
 #[inline(never)]
-#[tactic(auto, unfolding(mb_processor::specs::Step::untransferred_of))]
-fn finish_movem<P: Port>(
+#[tactic(auto, unfolding(mb_processor::specs::Step::finish_untransferred_of))]
+fn finish_untransferred<P: Port>(
     due: bool,
     refused: &MovemFault,
     words: u32,
@@ -122,7 +122,7 @@ fn finish_movem<P: Port>(
     cpu: &mut Cpu,
     port: &mut P,
 ) -> Finish
-    ensures means { run P.bus (untransferred_of due refused.now words cpu.old (with_registers plain.now cpu.old))
+    ensures means { run P.bus (finish_untransferred_of due refused.now words cpu.old (with_registers plain.now cpu.old))
         (P.world port.old) ≡ ((result, cpu.new), P.world port.new) }
     ensures busy { result ≢ Finish.Idle }
     ensures rest { P.rest port.new ≡ P.rest port.old }
@@ -143,7 +143,7 @@ fn is_flow(instruction: &Instr) -> bool
 
 /// Finishes an instruction that is not privileged, ended so and left these registers. The processor is as before it.
 #[inline(never)]
-#[tactic(auto, unfolding(mb_processor::specs::Step::finish_of))]
+#[tactic(auto, unfolding(mb_processor::specs::Step::finish_instruction_of))]
 pub(crate) fn finish_instruction<P: Port>(
     instruction: &Instr,
     ended: &Ended,
@@ -152,7 +152,8 @@ pub(crate) fn finish_instruction<P: Port>(
     port: &mut P,
 ) -> Finish
     requires { IsInstr instruction.now }
-    ensures means { run P.bus (finish_of instruction.now ended.now cpu.old (with_registers plain.old cpu.old))
+    ensures means { run P.bus
+        (finish_instruction_of instruction.now ended.now cpu.old (with_registers plain.old cpu.old))
         (P.world port.old) ≡ ((result, cpu.new), P.world port.new) }
     ensures busy { result ≢ Finish.Idle }
     ensures rest { P.rest port.new ≡ P.rest port.old }
@@ -163,18 +164,18 @@ pub(crate) fn finish_instruction<P: Port>(
             cpu.regs.set_plain(plain);
             trace_if(Finish::Went, is_due(sr, *flow), at, cpu, port)
         }
-        Ended::Trap(vector) => trap(*vector, plain, cpu, port),
+        Ended::Trap(vector) => raise_trap(*vector, plain, cpu, port),
         Ended::Refused(vector) => refuse(*vector, cpu, port),
         Ended::ReadFault(refused) => finish_unread(refused, cpu, port),
         Ended::WriteFault(refused) => {
             finish_unwritten(is_due(sr, is_flow(instruction)), refused, plain, cpu, port)
         }
         Ended::LineFault { fault, line } => {
-            finish_line(traces_all(sr), fault, *line, plain, cpu, port)
+            finish_unwritten_line(traces_all(sr), fault, *line, plain, cpu, port)
         }
         Ended::Movem(refused) => {
             let words = movem_words(instruction);
-            finish_movem(traces_all(sr), refused, words, plain, cpu, port)
+            finish_untransferred(traces_all(sr), refused, words, plain, cpu, port)
         }
     }
 }

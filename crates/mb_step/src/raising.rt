@@ -5,8 +5,8 @@ ghost use Rattle.mb_port.specs.Routine.{run};
 ghost use Rattle.mb_instr.specs.Registers.{with_plain};
 ghost use Rattle.mb_processor.specs.SystemEnds.{with_registers};
 ghost use Rattle.mb_processor.specs.Raise.{traces_all, traces_flow, is_due, has_ct, with_ct, cause_at};
-ghost use Rattle.mb_processor.specs.Raise.{access_error_of, unchecked_of, raise_of, last, interrupt_of, trace_of};
-ghost use Rattle.mb_processor.specs.Raise.{tracing_of, trap_of, refused_of};
+ghost use Rattle.mb_processor.specs.Raise.{access_error_of, unchecked_of, raise_of, raise_last_of, interrupt_of, trace_of};
+ghost use Rattle.mb_processor.specs.Raise.{trace_if_of, raise_trap_of, refuse_of};
 
 use mb_entry::{Cause, Entered, check_fields, enter};
 use mb_frames::{Access, CT};
@@ -118,7 +118,8 @@ pub fn unchecked<P: Port>(is_trace: bool, fault: &Fault, cpu: &mut Cpu, port: &m
 #[tactic(auto, unfolding(mb_processor::specs::Raise::raise_of), using(crate::proofs::Entries::unchecked_awake))]
 fn raise_last<P: Port>(is_trace: bool, cause: &Cause, cpu: &mut Cpu, port: &mut P) -> Finish
     requires { cause.now.level < 8 }
-    ensures means { run P.bus (last cause.now.vector (raise_of is_trace cause.now cpu.old cpu.old)) (P.world port.old)
+    ensures means { run P.bus (raise_last_of cause.now.vector (raise_of is_trace cause.now cpu.old cpu.old))
+        (P.world port.old)
         ≡ ((result, cpu.new), P.world port.new) }
     ensures busy { result ≢ Finish.Idle }
     ensures rest { P.rest port.new ≡ P.rest port.old }
@@ -172,7 +173,7 @@ pub(crate) fn trace_if<P: Port>(
     port: &mut P,
 ) -> Finish
     requires { so_far ≢ Finish.Idle }
-    ensures means { run P.bus (tracing_of so_far due address cpu.old) (P.world port.old)
+    ensures means { run P.bus (trace_if_of so_far due address cpu.old) (P.world port.old)
         ≡ ((result, cpu.new), P.world port.new) }
     ensures busy { result ≢ Finish.Idle }
     ensures rest { P.rest port.new ≡ P.rest port.old }
@@ -205,9 +206,14 @@ fn exchange(plain: &mut Plain, regs: &mut Regs)
 /// Enters the exception of an instruction that traps and left these registers, and behind it a trace, where T1 asks for
 /// one. Where the frame has no place, the registers before the instruction come back.
 #[inline(never)]
-#[tactic(auto, unfolding(mb_processor::specs::Raise::trap_of, mb_processor::specs::Raise::raise_of))]
-pub(crate) fn trap<P: Port>(vector: u8, plain: &mut Plain, cpu: &mut Cpu, port: &mut P) -> Finish
-    ensures means { run P.bus (trap_of vector cpu.old (with_registers plain.old cpu.old)) (P.world port.old)
+#[tactic(auto, unfolding(mb_processor::specs::Raise::raise_trap_of, mb_processor::specs::Raise::raise_of))]
+pub(crate) fn raise_trap<P: Port>(
+    vector: u8,
+    plain: &mut Plain,
+    cpu: &mut Cpu,
+    port: &mut P,
+) -> Finish
+    ensures means { run P.bus (raise_trap_of vector cpu.old (with_registers plain.old cpu.old)) (P.world port.old)
         ≡ ((result, cpu.new), P.world port.new) }
     ensures busy { result ≢ Finish.Idle }
     ensures rest { P.rest port.new ≡ P.rest port.old }
@@ -226,9 +232,9 @@ pub(crate) fn trap<P: Port>(vector: u8, plain: &mut Plain, cpu: &mut Cpu, port: 
 
 /// Enters the exception of an instruction at PC that is not carried out.
 #[inline(never)]
-#[tactic(auto, unfolding(mb_processor::specs::Raise::refused_of))]
+#[tactic(auto, unfolding(mb_processor::specs::Raise::refuse_of))]
 pub(crate) fn refuse<P: Port>(vector: u8, cpu: &mut Cpu, port: &mut P) -> Finish
-    ensures means { run P.bus (refused_of vector cpu.old) (P.world port.old)
+    ensures means { run P.bus (refuse_of vector cpu.old) (P.world port.old)
         ≡ ((result, cpu.new), P.world port.new) }
     ensures busy { result ≢ Finish.Idle }
     ensures rest { P.rest port.new ≡ P.rest port.old }

@@ -2,7 +2,7 @@
 
 ghost use Rattle.std.specs.Prelude.{◌≡◌, ◌≢◌};
 ghost use Rattle.mb_port.specs.Routine.{run};
-ghost use Rattle.mb_processor.specs.Step.{is_due_by, untransferred_again_of, rte_of};
+ghost use Rattle.mb_processor.specs.Step.{is_due_by, finish_untransferred_again_of, rte_of};
 
 use crate::finishing::finish_unread;
 use crate::raising::{access_error, has_ct, is_due, refuse, trace_if, traces_all, with_ct};
@@ -29,15 +29,15 @@ fn is_due_by(held: &Held, cpu: &Cpu) -> bool
 
 /// After a transfer that was refused again: the frame is as the one that was taken.
 #[inline(never)]
-#[tactic(auto, unfolding(mb_processor::specs::Step::untransferred_again_of))]
-fn finish_movem_again<P: Port>(
+#[tactic(auto, unfolding(mb_processor::specs::Step::finish_untransferred_again_of))]
+fn finish_untransferred_again<P: Port>(
     due: bool,
     refused: &MovemFault,
     held: &Held,
     cpu: &mut Cpu,
     port: &mut P,
 ) -> Finish
-    ensures means { run P.bus (untransferred_again_of due refused.now
+    ensures means { run P.bus (finish_untransferred_again_of due refused.now
         (record { access = held.now.access; pc = held.now.pc }) cpu.old) (P.world port.old)
         ≡ ((result, cpu.new), P.world port.new) }
     ensures busy { result ≢ Finish.Idle }
@@ -50,8 +50,8 @@ fn finish_movem_again<P: Port>(
 
 /// RTE, in supervisor mode. Where it took no frame the processor is as it was.
 #[inline(never)]
-#[tactic(auto, unfolding(mb_processor::specs::Step::rte_of, mb_processor::specs::Step::finish_of))]
-pub(crate) fn return_from_exception<P: Port>(cpu: &mut Cpu, port: &mut P) -> Finish
+#[tactic(auto, unfolding(mb_processor::specs::Step::rte_of, mb_processor::specs::Step::finish_instruction_of))]
+pub(crate) fn rte<P: Port>(cpu: &mut Cpu, port: &mut P) -> Finish
     ensures means { run P.bus (rte_of cpu.old) (P.world port.old) ≡ ((result, cpu.new), P.world port.new) }
     ensures busy { result ≢ Finish.Idle }
     ensures rest { P.rest port.new ≡ P.rest port.old }
@@ -73,7 +73,13 @@ pub(crate) fn return_from_exception<P: Port>(cpu: &mut Cpu, port: &mut P) -> Fin
                 port,
             )
         }
-        Ended::Movem(refused) => finish_movem_again(is_due(sr, true), &refused, &held, cpu, port),
+        Ended::Movem(refused) => finish_untransferred_again(
+            is_due(sr, true),
+            &refused,
+            &held,
+            cpu,
+            port,
+        ),
         Ended::Refused(vector) => refuse(vector, cpu, port),
         Ended::ReadFault(refused) => finish_unread(&refused, cpu, port),
         Ended::Trap(_) | Ended::WriteFault(_) | Ended::LineFault { .. } => unreachable!(),

@@ -5,7 +5,7 @@ ghost use Rattle.mb_port.specs.Routine.{run};
 ghost use Rattle.mb_instr.specs.Control.{kept_bits};
 ghost use Rattle.mb_processor.specs.SystemEnds.{system_carried_by};
 ghost use Rattle.mb_processor.specs.Control.{named_control};
-ghost use Rattle.mb_processor.specs.Control.{control_value, setting_control, to_control_of, from_control_of, movec_of};
+ghost use Rattle.mb_processor.specs.Control.{control_value_of, set_control_of, move_to_control_of, move_from_control_of, movec_of};
 ghost use Rattle.mb_system.specs.Ends.{SystemEnds};
 
 use mb_instr::ControlRegister;
@@ -25,9 +25,9 @@ fn named_control(word: u16) -> Option<ControlRegister>
 
 /// What a control register holds; those of the memory management unit stand at the bus.
 #[inline(always)]
-#[tactic(auto, unfolding(mb_processor::specs::Control::control_value))]
+#[tactic(auto, unfolding(mb_processor::specs::Control::control_value_of))]
 fn control_value<P: Port>(register: ControlRegister, cpu: &Cpu, port: &P) -> u32
-    ensures { run P.bus (control_value register cpu.now) (P.world port.now) ≡ (result, P.world port.now) }
+    ensures { run P.bus (control_value_of register cpu.now) (P.world port.now) ≡ (result, P.world port.now) }
 {
     match register {
         ControlRegister::Sfc => u32::from(cpu.sfc),
@@ -43,9 +43,9 @@ fn control_value<P: Port>(register: ControlRegister, cpu: &Cpu, port: &P) -> u32
 
 /// Makes a control register hold what it keeps of a value.
 #[inline(always)]
-#[tactic(auto, unfolding(mb_processor::specs::Control::setting_control))]
+#[tactic(auto, unfolding(mb_processor::specs::Control::set_control_of))]
 fn set_control<P: Port>(register: ControlRegister, value: u32, cpu: &mut Cpu, port: &mut P)
-    ensures means { run P.bus (setting_control register (bit_and value (kept_bits register)) cpu.old)
+    ensures means { run P.bus (set_control_of register (bit_and value (kept_bits register)) cpu.old)
         (P.world port.old) ≡ (cpu.new, P.world port.new) }
     ensures rest { P.rest port.new ≡ P.rest port.old }
 {
@@ -64,10 +64,10 @@ fn set_control<P: Port>(register: ControlRegister, value: u32, cpu: &mut Cpu, po
 
 /// MOVEC to a control register.
 #[inline(always)]
-#[tactic(auto, unfolding(mb_processor::specs::Control::to_control_of))]
+#[tactic(auto, unfolding(mb_processor::specs::Control::move_to_control_of))]
 fn move_to_control<P: Port>(control: ControlRegister, register: u8, cpu: &mut Cpu, port: &mut P)
     requires { register < 16 }
-    ensures means { run P.bus (to_control_of control register cpu.old) (P.world port.old)
+    ensures means { run P.bus (move_to_control_of control register cpu.old) (P.world port.old)
         ≡ (cpu.new, P.world port.new) }
     ensures rest { P.rest port.new ≡ P.rest port.old }
 {
@@ -77,10 +77,11 @@ fn move_to_control<P: Port>(control: ControlRegister, register: u8, cpu: &mut Cp
 
 /// MOVEC from a control register: to all of the other one.
 #[inline(always)]
-#[tactic(auto, unfolding(mb_processor::specs::Control::from_control_of))]
+#[tactic(auto, unfolding(mb_processor::specs::Control::move_from_control_of))]
 fn move_from_control<P: Port>(control: ControlRegister, register: u8, cpu: &mut Cpu, port: &P)
     requires { register < 16 }
-    ensures { run P.bus (from_control_of control register cpu.old) (P.world port.now) ≡ (cpu.new, P.world port.now) }
+    ensures { run P.bus (move_from_control_of control register cpu.old) (P.world port.now)
+        ≡ (cpu.new, P.world port.now) }
 {
     let value = control_value(control, cpu, port);
     let mut plain = cpu.regs.plain();
@@ -91,7 +92,7 @@ fn move_from_control<P: Port>(control: ControlRegister, register: u8, cpu: &mut 
 /// MOVEC. A code that no control register has makes no instruction.
 #[inline(always)]
 #[tactic(auto, unfolding(mb_processor::specs::Control::movec_of))]
-pub(crate) fn move_control<P: Port>(
+pub(crate) fn movec<P: Port>(
     to_control: bool,
     word: u16,
     cpu: &mut Cpu,

@@ -3,8 +3,8 @@
 ghost use Rattle.std.specs.Prelude.{◌≡◌, IfErr};
 ghost use Rattle.mb_port.specs.Routine.{run};
 ghost use Rattle.mb_ea.specs.Addresses.{IsTarget, IsPlace};
-ghost use Rattle.mb_meaning.specs.Operands.{storing};
-ghost use Rattle.mb_processor.specs.SystemEnds.{finishing, system_carried_by};
+ghost use Rattle.mb_meaning.specs.Operands.{finish_with_of};
+ghost use Rattle.mb_processor.specs.SystemEnds.{finish_row_of, system_carried_by};
 ghost use Rattle.mb_system.specs.Ends.{SystemEnds};
 
 use mb_ea::Target;
@@ -28,7 +28,8 @@ pub(crate) fn finish_row<P: Port>(
 ) -> Result<(), Ended>
     requires target { IsTarget size target }
     requires place { IsPlace target }
-    ensures means { run P.bus (finishing cpu.old (storing target size value space plain.old)) (P.world port.old)
+    ensures means { run P.bus (finish_row_of cpu.old (finish_with_of target size value space plain.old))
+        (P.world port.old)
         ≡ (system_carried_by result cpu.new, P.world port.new) }
     ensures ends { IfErr result (λ end. SystemEnds end cpu.old cpu.new) }
     ensures rest { P.rest port.new ≡ P.rest port.old }

@@ -10,8 +10,8 @@ ghost use Rattle.mb_processor.specs.SystemEnds.{system_closing, system_performed
 ghost use Rattle.mb_processor.specs.System.{perform_system_of};
 ghost use Rattle.mb_system.specs.Ends.{SystemEnds};
 
-use crate::control::move_control;
-use crate::spaces::{flush, move_by_function_code, test};
+use crate::control::movec;
+use crate::spaces::{moves, pflush, ptest};
 use crate::status::{change_status, move_from_status, move_to_status, move_usp, stop};
 use mb_alu::LogicKind;
 use mb_instr::System;
@@ -57,14 +57,14 @@ fn carry_out<P: Port>(
             return Ok(true);
         }
         System::MoveUsp { from_usp, register } => move_usp(*from_usp, *register, cpu),
-        System::Movec { to_control, word } => move_control(*to_control, *word, cpu, port)?,
+        System::Movec { to_control, word } => movec(*to_control, *word, cpu, port)?,
         System::Moves { size, ea, word } => {
-            move_by_function_code(*size, ea, *word, at.wrapping_add(4), cpu, port)?;
+            moves(*size, ea, *word, at.wrapping_add(4), cpu, port)?;
         }
         System::Reset => port.reset_devices(),
         System::Cinv { .. } | System::Cpush { .. } => {}
-        System::Pflush { kind, register } => flush(*kind, *register, cpu, port),
-        System::Ptest { is_read, register } => test(*is_read, *register, cpu, port),
+        System::Pflush { kind, register } => pflush(*kind, *register, cpu, port),
+        System::Ptest { is_read, register } => ptest(*is_read, *register, cpu, port),
         System::Rte => unreachable!(),
     }
     Ok(false)

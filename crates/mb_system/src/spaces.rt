@@ -8,8 +8,8 @@ ghost use Rattle.mb_instr.specs.Operands.{IsEa, IsInMemory, IsDestination};
 ghost use Rattle.mb_ea.specs.Addresses.{IsTarget, IsMemory, IsPlace};
 ghost use Rattle.mb_processor.specs.SystemEnds.{system_carried_by};
 ghost use Rattle.mb_system.specs.Ends.{SystemEnds};
-ghost use Rattle.mb_processor.specs.Spaces.{function_space, taken, out_of_register, into_register, is_store, moves_of};
-ghost use Rattle.mb_processor.specs.Spaces.{flushed_by, is_of_a_page as of_page, flushed_beside, pflush_of, ptest_of};
+ghost use Rattle.mb_processor.specs.Spaces.{function_space, load_register_of, move_out_of, move_in_of, is_store, moves_of};
+ghost use Rattle.mb_processor.specs.Spaces.{flushed_by, is_of_a_page as of_page, flush_beside_of, pflush_of, ptest_of};
 
 use crate::finishing::finish_row;
 use mb_ea::{Target, read_value, resolve};
@@ -34,9 +34,9 @@ fn function_space(code: u8) -> Space
 /// Takes a value into a register: into the low bytes of a data register, or with its sign into all of an address
 /// register.
 #[inline(always)]
-fn take(size: Size, register: u8, value: u32, plain: &mut Plain)
+fn load_register(size: Size, register: u8, value: u32, plain: &mut Plain)
     requires { register < 16 }
-    ensures { plain.new ≡ taken size register value plain.old }
+    ensures { plain.new ≡ load_register_of size register value plain.old }
 {
     if register < 8 {
         let old = &mut plain.d[register as usize];
@@ -48,7 +48,7 @@ fn take(size: Size, register: u8, value: u32, plain: &mut Plain)
 
 /// MOVES to memory, in DFC's space. The registers are those after the address was formed.
 #[inline(always)]
-#[tactic(auto, unfolding(mb_processor::specs::Spaces::out_of_register))]
+#[tactic(auto, unfolding(mb_processor::specs::Spaces::move_out_of))]
 fn move_out<P: Port>(
     size: Size,
     target: Target,
@@ -60,7 +60,7 @@ fn move_out<P: Port>(
     requires target { IsTarget size target }
     requires place { IsPlace target }
     requires register { register < 16 }
-    ensures means { run P.bus (out_of_register size target register plain.old cpu.old) (P.world port.old)
+    ensures means { run P.bus (move_out_of size target register plain.old cpu.old) (P.world port.old)
         ≡ (system_carried_by result cpu.new, P.world port.new) }
     ensures ends { IfErr result (λ end. SystemEnds end cpu.old cpu.new) }
     ensures rest { P.rest port.new ≡ P.rest port.old }
@@ -79,7 +79,7 @@ fn move_out<P: Port>(
 
 /// MOVES from memory, in SFC's space. The registers are those after the address was formed.
 #[inline(always)]
-#[tactic(auto, unfolding(mb_processor::specs::Spaces::into_register))]
+#[tactic(auto, unfolding(mb_processor::specs::Spaces::move_in_of))]
 fn move_in<P: Port>(
     size: Size,
     target: Target,
@@ -90,14 +90,14 @@ fn move_in<P: Port>(
 ) -> Result<(), Ended>
     requires target { IsMemory target }
     requires register { register < 16 }
-    ensures means { run P.bus (into_register size target register plain.old cpu.old) (P.world port.old)
+    ensures means { run P.bus (move_in_of size target register plain.old cpu.old) (P.world port.old)
         ≡ (system_carried_by result cpu.new, P.world port.new) }
     ensures ends { IfErr result (λ end. SystemEnds end cpu.old cpu.new) }
     ensures rest { P.rest port.new ≡ P.rest port.old }
 {
     match read_value(function_space(cpu.sfc), place(target), size, port) {
         Ok(value) => {
-            take(size, register, value, plain);
+            load_register(size, register, value, plain);
             cpu.regs.set_plain(plain);
             Ok(())
         }
@@ -116,7 +116,7 @@ fn is_store(word: u16) -> bool
 /// MOVES. A memory indirection of its address is read in supervisor space; only the operand itself goes by SFC or DFC.
 #[inline(always)]
 #[tactic(auto, unfolding(mb_processor::specs::Spaces::moves_of))]
-pub(crate) fn move_by_function_code<P: Port>(
+pub(crate) fn moves<P: Port>(
     size: Size,
     ea: &Ea,
     word: u16,
@@ -170,10 +170,10 @@ fn is_of_a_page(kind: FlushKind) -> bool
 
 /// PFLUSH of the other half of a page of 8 KiB, where the tables are of such pages.
 #[inline(always)]
-#[tactic(auto, unfolding(mb_processor::specs::Spaces::flushed_beside))]
+#[tactic(auto, unfolding(mb_processor::specs::Spaces::flush_beside_of))]
 fn flush_beside<P: Port>(kind: FlushKind, page: u32, cpu: &Cpu, port: &mut P)
     requires { page < 2 ^ 20 }
-    ensures means { run P.bus (flushed_beside kind page cpu.now) (P.world port.old) ≡ (cpu.now, P.world port.new) }
+    ensures means { run P.bus (flush_beside_of kind page cpu.now) (P.world port.old) ≡ (cpu.now, P.world port.new) }
     ensures rest { P.rest port.new ≡ P.rest port.old }
 {
     if has_big_pages(&port.mmu()) && is_of_a_page(kind) {
@@ -184,7 +184,7 @@ fn flush_beside<P: Port>(kind: FlushKind, page: u32, cpu: &Cpu, port: &mut P)
 /// PFLUSH.
 #[inline(always)]
 #[tactic(auto, unfolding(mb_processor::specs::Spaces::pflush_of))]
-pub(crate) fn flush<P: Port>(kind: FlushKind, register: u8, cpu: &Cpu, port: &mut P)
+pub(crate) fn pflush<P: Port>(kind: FlushKind, register: u8, cpu: &Cpu, port: &mut P)
     requires { register < 8 }
     ensures means { run P.bus (pflush_of kind register cpu.now) (P.world port.old) ≡ (cpu.now, P.world port.new) }
     ensures rest { P.rest port.new ≡ P.rest port.old }
@@ -197,7 +197,7 @@ pub(crate) fn flush<P: Port>(kind: FlushKind, register: u8, cpu: &Cpu, port: &mu
 /// PTEST: the page is tested in DFC's space, and the answer becomes MMUSR.
 #[inline(always)]
 #[tactic(auto, unfolding(mb_processor::specs::Spaces::ptest_of))]
-pub(crate) fn test<P: Port>(is_read: bool, register: u8, cpu: &Cpu, port: &mut P)
+pub(crate) fn ptest<P: Port>(is_read: bool, register: u8, cpu: &Cpu, port: &mut P)
     requires { register < 8 }
     ensures means { run P.bus (ptest_of is_read register cpu.now) (P.world port.old) ≡ (cpu.now, P.world port.new) }
     ensures rest { P.rest port.new ≡ P.rest port.old }

@@ -5,8 +5,8 @@ ghost use Rattle.mb_port.specs.Routine.{run};
 ghost use Rattle.mb_instr.specs.Operands.{IsEa, IsDestination};
 ghost use Rattle.mb_processor.specs.SystemEnds.{system_performed_by, system_carried_by, with_registers};
 ghost use Rattle.mb_system.specs.Ends.{SystemEnds};
-ghost use Rattle.mb_processor.specs.Status.{with_status, status_by, to_status_of, from_status_of, stop_of};
-ghost use Rattle.mb_processor.specs.Status.{to_usp_of, from_usp_of, move_usp_of};
+ghost use Rattle.mb_processor.specs.Status.{with_status, change_status_of, move_to_status_of, move_from_status_of, stop_of};
+ghost use Rattle.mb_processor.specs.Status.{move_to_usp_of, move_from_usp_of, move_usp_of};
 
 use crate::finishing::finish_row;
 use mb_alu::{LogicKind, logic};
@@ -27,9 +27,9 @@ fn set_status(value: u32, cpu: &mut Cpu)
 
 /// ANDI, ORI and EORI to SR.
 #[inline(always)]
-#[tactic(auto, unfolding(mb_processor::specs::Status::status_by))]
+#[tactic(auto, unfolding(mb_processor::specs::Status::change_status_of))]
 pub(crate) fn change_status(kind: LogicKind, word: u16, cpu: &mut Cpu)
-    ensures { cpu.new ≡ status_by kind word cpu.old }
+    ensures { cpu.new ≡ change_status_of kind word cpu.old }
 {
     let status = u32::from(cpu.regs.sr);
     set_status(
@@ -40,7 +40,7 @@ pub(crate) fn change_status(kind: LogicKind, word: u16, cpu: &mut Cpu)
 
 /// MOVE to SR: a word is read, by the registers as the old S and M give them.
 #[inline(always)]
-#[tactic(auto, unfolding(mb_processor::specs::Status::to_status_of))]
+#[tactic(auto, unfolding(mb_processor::specs::Status::move_to_status_of))]
 pub(crate) fn move_to_status<P: Port>(
     ea: &Ea,
     word_at: u32,
@@ -48,7 +48,7 @@ pub(crate) fn move_to_status<P: Port>(
     port: &mut P,
 ) -> Result<bool, Ended>
     requires { IsEa Size.Word ea.now }
-    ensures means { run P.bus (to_status_of ea.now word_at cpu.old) (P.world port.old)
+    ensures means { run P.bus (move_to_status_of ea.now word_at cpu.old) (P.world port.old)
         ≡ (system_performed_by result cpu.new, P.world port.new) }
     ensures ends { IfErr result (λ end. SystemEnds end cpu.old cpu.new) }
     ensures rest { P.rest port.new ≡ P.rest port.old }
@@ -66,7 +66,7 @@ pub(crate) fn move_to_status<P: Port>(
 
 /// MOVE from SR. The destination is not read.
 #[inline(always)]
-#[tactic(auto, unfolding(mb_processor::specs::Status::from_status_of))]
+#[tactic(auto, unfolding(mb_processor::specs::Status::move_from_status_of))]
 pub(crate) fn move_from_status<P: Port>(
     ea: &Ea,
     word_at: u32,
@@ -75,7 +75,7 @@ pub(crate) fn move_from_status<P: Port>(
 ) -> Result<(), Ended>
     requires operand { IsEa Size.Word ea.now }
     requires destination { IsDestination ea.now }
-    ensures means { run P.bus (from_status_of ea.now word_at cpu.old) (P.world port.old)
+    ensures means { run P.bus (move_from_status_of ea.now word_at cpu.old) (P.world port.old)
         ≡ (system_carried_by result cpu.new, P.world port.new) }
     ensures ends { IfErr result (λ end. SystemEnds end cpu.old cpu.new) }
     ensures rest { P.rest port.new ≡ P.rest port.old }
@@ -109,20 +109,20 @@ pub(crate) fn stop(word: u16, cpu: &mut Cpu)
 
 /// MOVE An to USP.
 #[inline(always)]
-#[tactic(auto, unfolding(mb_processor::specs::Status::to_usp_of))]
+#[tactic(auto, unfolding(mb_processor::specs::Status::move_to_usp_of))]
 fn move_to_usp(register: u8, cpu: &mut Cpu)
     requires { register < 8 }
-    ensures { cpu.new ≡ to_usp_of register cpu.old }
+    ensures { cpu.new ≡ move_to_usp_of register cpu.old }
 {
     cpu.regs.usp = cpu.regs.plain().a[register as usize];
 }
 
 /// MOVE USP to An.
 #[inline(always)]
-#[tactic(auto, unfolding(mb_processor::specs::Status::from_usp_of))]
+#[tactic(auto, unfolding(mb_processor::specs::Status::move_from_usp_of))]
 fn move_from_usp(register: u8, cpu: &mut Cpu)
     requires { register < 8 }
-    ensures { cpu.new ≡ from_usp_of register cpu.old }
+    ensures { cpu.new ≡ move_from_usp_of register cpu.old }
 {
     let mut plain = cpu.regs.plain();
     plain.a[register as usize] = cpu.regs.usp;

@@ -8,7 +8,7 @@ use Rattle.mb_tells.specs.Laws.{AreLongs}
 use Rattle.mb_instr.specs.declared.operand.Ea.{Ea}
 use Rattle.mb_instr.specs.declared.kinds.BitKind.{BitKind}
 use Rattle.mb_instr.specs.declared.kinds.BitKind.TheVariants as bit
-use Rattle.mb_meaning.specs.Bits.{bit_size, bit_changed, bit_row_of}
+use Rattle.mb_meaning.specs.Bits.{bit_size, change_bit_of, bit_row_of}
 use Rattle.mb_tells.proofs.Ranges.{IsFormed}
 use Rattle.mb_tells.proofs.Parts.{RowTells, row_reading, row_done}
 use Rattle.mb_tells.proofs.Operands.{fetched_tells}
@@ -21,4 +21,4 @@ module _ {S : Type 0} (x : Guarded S) (space : Space) (g : Guards x space) {move
   bit_row_tells bit.Test number ea word_at p is longs =
       row_reading x space (fetched_tells x space g (bit_size ea) ea word_at p is longs) (λ operand read. row_done x space _)
   bit_row_tells kind number ea word_at p is longs =
-      modifying_tells x space g (bit_changed kind number (bit_size ea)) (bit_size ea) ea word_at p is longs
+      modifying_tells x space g (change_bit_of kind number (bit_size ea)) (bit_size ea) ea word_at p is longs

@@ -9,7 +9,7 @@ use Rattle.mb_instr.specs.declared.size.Size.{Size}
 use Rattle.mb_instr.specs.declared.operand.Ea.{Ea}
 use Rattle.mb_instr.specs.Sizes.{bytes_of}
 use Rattle.mb_ea.specs.Addresses.{sum}
-use Rattle.mb_meaning.specs.Bounds.{chk_of, bounds_of, cmp2_of, chk2_of}
+use Rattle.mb_meaning.specs.Bounds.{chk_of, compare_bounds_of, cmp2_of, chk2_of}
 use Rattle.mb_tells.proofs.Longs.{sum_long}
 use Rattle.mb_tells.proofs.Ranges.{IsFormed}
 use Rattle.mb_tells.proofs.Parts.{RowTells, Reads, reads_then, reads_none, row_reading, row_done, row_ends}
@@ -17,8 +17,8 @@ use Rattle.mb_tells.proofs.Operands.{reading_tells, fetched_tells, address_tells
 
 module _ {S : Type 0} (x : Guarded S) (space : Space) (g : Guards x space) where
   bounds_tells : (size : Size) (ea : Ea) (w word_at : ℕ) (p : Plain) → IsFormed ea → AreLongs p.a
-      → Reads x (λ ccr. Unit {0}) (bounds_of size ea w word_at space p)
-  unfolding bounds_of
+      → Reads x (λ ccr. Unit {0}) (compare_bounds_of size ea w word_at space p)
+  unfolding compare_bounds_of
   bounds_tells size ea w word_at p is longs =
       reads_then x space (address_tells x space g size ea word_at p is longs) (λ place found.
       reads_then x space (reading_tells x space g place (bytes_of size) found) (λ lower read.

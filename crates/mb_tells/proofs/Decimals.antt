@@ -8,7 +8,7 @@ use Rattle.mb_tells.specs.Laws.{AreLongs}
 use Rattle.mb_instr.specs.declared.size.Size.{Size}
 use Rattle.mb_instr.specs.declared.size.Size.TheVariants.{Byte}
 use Rattle.mb_alu.specs.declared.conditions.Flagged.{Flagged}
-use Rattle.mb_meaning.specs.Decimals.{paired, decimal_of, digits_of}
+use Rattle.mb_meaning.specs.Decimals.{paired, decimal_of, repack_of}
 use Rattle.mb_tells.proofs.Ranges.{IsFormed}
 use Rattle.mb_tells.proofs.Parts.{RowTells, row_reading}
 use Rattle.mb_tells.proofs.Operands.{resolve_tells, fetched_tells, storing_tells}
@@ -29,8 +29,8 @@ module _ {S : Type 0} (x : Guarded S) (space : Space) (g : Guards x space) {move
       storing_tells x space g destination.target Byte result.value (record destination.plain { ccr = result.ccr }) found.0))
 
   pub digits_tells : (operation : ℕ → ℕ → ℕ) (read written : Size) (to : ℕ) (in_memory : Bool) (from adjust word_at : ℕ) (p : Plain) → AreLongs p.a
-      → RowTells x space p moves (digits_of operation read written to in_memory from adjust word_at space p)
-  unfolding digits_of
+      → RowTells x space p moves (repack_of operation read written to in_memory from adjust word_at space p)
+  unfolding repack_of
   digits_tells operation read written to in_memory from adjust word_at p longs =
       row_reading x space (fetched_tells x space g read (paired in_memory from) word_at p (paired_formed in_memory from) longs) (λ source comes.
       row_reading x space (resolve_tells x space g (paired in_memory to) written word_at source.plain (paired_formed in_memory to) comes.1)

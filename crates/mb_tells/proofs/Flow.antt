@@ -12,7 +12,7 @@ use Rattle.mb_instr.specs.declared.kinds.Branch.{Branch}
 use Rattle.mb_instr.specs.declared.kinds.Condition.{Condition}
 use Rattle.mb_instr.specs.Registers.{address_register}
 use Rattle.mb_meaning.specs.Operands.{lowered}
-use Rattle.mb_meaning.specs.Flow.{target_of, is_call, call_of, branched, branch_of, jmp_of, jsr_of}
+use Rattle.mb_meaning.specs.Flow.{target_of, is_call, call_of, go_if_met_of, branch_of, jmp_of, jsr_of}
 use Rattle.mb_tells.proofs.Longs.{lowered_long}
 use Rattle.mb_tells.proofs.Ranges.{IsFormed}
 use Rattle.mb_tells.proofs.Parts.{RowTells, row_reading, row_done, row_ends}
@@ -28,7 +28,7 @@ module _ {S : Type 0} (x : Guarded S) (space : Space) (g : Guards x space) {move
   pub branch_tells : (c : Condition) (d : Branch) (word_at : ℕ) (p : Plain) → AreLongs p.a → RowTells x space p moves (branch_of c d word_at space p)
   unfolding branch_of
   branch_tells c d word_at p longs =
-      tells_choose (is_call c) _ _ (λ e. call_tells (target_of word_at d) p longs) (λ e. row_ends x space (branched c (target_of word_at d) p))
+      tells_choose (is_call c) _ _ (λ e. call_tells (target_of word_at d) p longs) (λ e. row_ends x space (go_if_met_of c (target_of word_at d) p))
 
   pub jmp_tells : (ea : Ea) (word_at : ℕ) (p : Plain) → IsFormed ea → AreLongs p.a → RowTells x space p moves (jmp_of ea word_at space p)
   unfolding jmp_of

@@ -16,7 +16,7 @@ use Rattle.mb_tells.specs.Left.{line_completing}
 use Rattle.mb_instr.specs.declared.kinds.LineMove.{LineMove}
 use Rattle.mb_instr.specs.declared.kinds.LineMove.TheVariants as line_move
 use Rattle.mb_instr.specs.Registers.{address_register}
-use Rattle.mb_meaning.specs.Lines.{line_at, line_moved, past_line, past_lines, destination_in, move16_absolute_of, move16_of}
+use Rattle.mb_meaning.specs.Lines.{line_at, move_line_of, past_line, past_lines, destination_in, move16_absolute_of, move16_post_of}
 use Rattle.mb_tells.specs.Laws.{AreLongs}
 use Rattle.mb_tells.proofs.Longs.{address_long}
 use Rattle.mb_tells.proofs.Resumed.{closed_end}
@@ -64,8 +64,8 @@ module _ {S : Type 0} (x : Guarded S) (space : Space) (g : Guards x space) where
   -- MOVE16
 
   moved_tells : {moves : Movem → Type 0} (from to : ℕ) (before after : Plain) → from < 2 ^ 32 → to < 2 ^ 32
-      → RowTells x space before moves (line_moved from to space after)
-  unfolding line_moved
+      → RowTells x space before moves (move_line_of from to space after)
+  unfolding move_line_of
   moved_tells from to before after comes goes =
       row_reading x space (line_read_tells (line_at from) (line_at from) (line_is from comes)) (λ line four.
       line_written_tells (line_at to) line (record { flow = false; plain = after }) (line_is to goes) four)
@@ -78,8 +78,8 @@ module _ {S : Type 0} (x : Guarded S) (space : Space) (g : Guards x space) where
   move16_absolute_tells line_move.IndirectToAbsolute n place p lt longs = moved_tells (address_register p n) place p p (address_long p n longs) lt
   move16_absolute_tells line_move.AbsoluteToIndirect n place p lt longs = moved_tells place (address_register p n) p p lt (address_long p n longs)
 
-  pub move16_tells : {moves : Movem → Type 0} (m word : ℕ) (p : Plain) → AreLongs p.a → RowTells x space p moves (move16_of m word space p)
-  unfolding move16_of
+  pub move16_tells : {moves : Movem → Type 0} (m word : ℕ) (p : Plain) → AreLongs p.a → RowTells x space p moves (move16_post_of m word space p)
+  unfolding move16_post_of
   move16_tells m word p longs =
       let n = destination_in word in
       moved_tells (address_register p m) (address_register p n) p (past_lines m n p) (address_long p m longs) (address_long p n longs)

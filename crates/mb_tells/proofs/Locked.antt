@@ -23,8 +23,8 @@ use Rattle.mb_instr.specs.Registers.{register_of, data_register}
 use Rattle.mb_ea.specs.Reading.{refused_in}
 use Rattle.mb_writes.specs.Writing.{part_of}
 use Rattle.mb_meaning.specs.Operands.{place_of}
-use Rattle.mb_writes.specs.Checked.{probe_pieces, probe_of, get_places, get_of, put_places, put_at}
-use Rattle.mb_meaning.specs.Locked.{test_and_set, tas_in_memory, tas_of}
+use Rattle.mb_writes.specs.Checked.{probe_pieces_of, probe_operand_of, get_places_of, get_operand_of, put_places_of, put_operand_of}
+use Rattle.mb_meaning.specs.Locked.{test_and_set_of, tas_in_memory, tas_of}
 use Rattle.mb_meaning.specs.Locked.{update_by, pointer_by, cas_equal, cas_at, cas_of, cas2_equal, cas2_of}
 use Rattle.mb_tells.specs.Guarded.{Goes, quiet}
 use Rattle.mb_tells.specs.Left.{Answered, Telling}
@@ -49,12 +49,12 @@ module _ {S : Type 0} (x : Guarded S) (space : Space) (g : Guards x space) where
   -- ---- parts
 
   probes_tell : (pieces : List Piece) (places : List Place) → ArePlaced pieces → AreOpen x places
-      → Telling x (quiet x) (probe_pieces space pieces places) (λ rest t fault. Answered x rest t fault × x.unwritten t)
+      → Telling x (quiet x) (probe_pieces_of space pieces places) (λ rest t fault. Answered x rest t fault × x.unwritten t)
       (λ ps s. quiet x s × AreOpen x ps)
   unfolding AreOpen
   probes_tell [] places are may = tells_ok places (λ s q. (q, may))
   probes_tell (p ∷ ps) places are may =
-      tells_bind {mid = λ place s. quiet x s × IsOpen x.serving x.lawful place} (probe space p) (λ place. probe_pieces space ps (places ++ place ∷ []))
+      tells_bind {mid = λ place s. quiet x s × IsOpen x.serving x.lawful place} (probe space p) (λ place. probe_pieces_of space ps (places ++ place ∷ []))
       (tells_probe g.refuses space p (record {
         lawfully = λ s q. g.probes p s q.0 are.0;
         well = λ s place q yes e.
@@ -65,33 +65,33 @@ module _ {S : Type 0} (x : Guarded S) (space : Space) (g : Guards x space) where
       (λ place. knowing x (quiet x) (IsOpen x.serving x.lawful place) _ _ _
       (λ is. probes_tell ps (places ++ place ∷ []) are.1 (one_more x places place may is)))
 
-  probe_tells : (at len : ℕ) → at < 2 ^ 32 → Reads x (AreOpen x) (probe_of space at len)
-  unfolding probe_of AreOpen
+  probe_tells : (at len : ℕ) → at < 2 ^ 32 → Reads x (AreOpen x) (probe_operand_of space at len)
+  unfolding probe_operand_of AreOpen
   probe_tells at len h =
-      tells_failing (refused_in at) (probe_pieces space (split_of at len) []) (probes_tell (split_of at len) [] (split_placed at len h) tt)
+      tells_failing (refused_in at) (probe_pieces_of space (split_of at len) []) (probes_tell (split_of at len) [] (split_placed at len h) tt)
 
-  gets_end : (ps : List Place) (value : ℕ) → AreOpen x ps → Ends x.lawful x.allowed x.bus x.serving (get_places ps value) (λ v s. x.serving s)
+  gets_end : (ps : List Place) (value : ℕ) → AreOpen x ps → Ends x.lawful x.allowed x.bus x.serving (get_places_of ps value) (λ v s. x.serving s)
   unfolding AreOpen
   gets_end [] value h = ends_return value (λ s q. q)
   gets_end (p ∷ ps) value h =
-      ends_then (get p) (λ v. get_places ps (value * 256 ^ p.len + v)) (ends_get_open g.refuses g.opens p h.0)
+      ends_then (get p) (λ v. get_places_of ps (value * 256 ^ p.len + v)) (ends_get_open g.refuses g.opens p h.0)
       (λ v. gets_end ps (value * 256 ^ p.len + v) h.1)
 
   puts_end : (ps : List Place) (before_end value : ℕ) → AreOpen x ps
-      → Ends x.lawful x.allowed x.bus x.serving (put_places ps before_end value) (λ v s. x.serving s)
+      → Ends x.lawful x.allowed x.bus x.serving (put_places_of ps before_end value) (λ v s. x.serving s)
   unfolding AreOpen
   puts_end [] before_end value h = ends_return tt (λ s q. q)
   puts_end (p ∷ ps) before_end value h =
-      ends_then (put p (part_of value before_end p.len)) (λ done. put_places ps (before_end - p.len) value)
+      ends_then (put p (part_of value before_end p.len)) (λ done. put_places_of ps (before_end - p.len) value)
       (ends_put_open g.refuses g.opens p (part_of value before_end p.len) h.0)
       (λ done. puts_end ps (before_end - p.len) value h.1)
 
-  get_calm : (ps : List Place) → AreOpen x ps → Calm x (sure (get_of ps))
-  unfolding get_of
+  get_calm : (ps : List Place) → AreOpen x ps → Calm x (sure (get_operand_of ps))
+  unfolding get_operand_of
   get_calm ps h = calm_sure x space (gets_end ps 0 h)
 
-  put_calm : (ps : List Place) (len value : ℕ) → AreOpen x ps → Calm x (sure (put_at ps len value))
-  unfolding put_at
+  put_calm : (ps : List Place) (len value : ℕ) → AreOpen x ps → Calm x (sure (put_operand_of ps len value))
+  unfolding put_operand_of
   put_calm ps len value h = calm_sure x space (puts_end ps len value h)
 
 module _ {S : Type 0} (x : Guarded S) (space : Space) (g : Guards x space) {moves : Movem → Type 0} where
@@ -102,11 +102,11 @@ module _ {S : Type 0} (x : Guarded S) (space : Space) (g : Guards x space) {move
   tas_in_memory_tells address before p lt =
       row_reading x space (probe_tells x space g address 1 lt) (λ places may. row_tail x space (
       tail_then x space (get_calm x space g places may) (λ value.
-      tail_then x space (put_calm x space g places 1 (test_and_set value p.ccr).value may) (λ done. tail_done x space _))))
+      tail_then x space (put_calm x space g places 1 (test_and_set_of value p.ccr).value may) (λ done. tail_done x space _))))
 
   pub tas_tells : (ea : Ea) (word_at : ℕ) (p : Plain) → IsFormed ea → AreLongs p.a → RowTells x space p moves (tas_of ea word_at space p)
   unfolding tas_of
-  tas_tells (Dn n) word_at p is longs = modifying_tells x space g test_and_set Byte (Dn n) word_at p tt longs
+  tas_tells (Dn n) word_at p is longs = modifying_tells x space g test_and_set_of Byte (Dn n) word_at p tt longs
   tas_tells ea word_at p is longs =
       row_reading x space (resolve_tells x space g ea Byte word_at p is longs)
       (λ to found. tas_in_memory_tells (place_of to.target) p to.plain (place_long to.target found.0))

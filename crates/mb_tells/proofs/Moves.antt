@@ -7,8 +7,8 @@ use Rattle.mb_instr.specs.declared.kinds.Condition.{Condition}
 use Rattle.mb_instr.specs.declared.operand.Ea.{Ea}
 use Rattle.mb_instr.specs.declared.registers.Plain.{Plain}
 use Rattle.mb_writes.specs.declared.transfers.Movem.{Movem}
-use Rattle.mb_meaning.specs.Operands.{behind}
-use Rattle.mb_meaning.specs.Moves.{move_flags, move_of, movea_of, lea_of, to_ccr_of, from_ccr_of, byte_of, scc_of}
+use Rattle.mb_meaning.specs.Operands.{behind_of}
+use Rattle.mb_meaning.specs.Moves.{move_flags, move_operand_of, movea_of, lea_of, move_to_ccr_of, move_from_ccr_of, byte_of, scc_of}
 use Rattle.mb_meaning.specs.Conditions.{is_met}
 use Rattle.mb_tells.specs.Guarded.{Guarded, Guards}
 use Rattle.mb_tells.specs.Laws.{AreLongs}
@@ -18,15 +18,15 @@ use Rattle.mb_tells.proofs.Operands.{resolve_tells, fetched_tells, address_tells
 
 module _ {S : Type 0} (x : Guarded S) (space : Space) (g : Guards x space) {moves : Movem → Type 0} where
   pub move_tells : (size : Size) (destination source : Ea) (word_at : ℕ) (p : Plain) → IsFormed destination → IsFormed source → AreLongs p.a
-      → RowTells x space p moves (move_of size destination source word_at space p)
-  unfolding move_of
+      → RowTells x space p moves (move_operand_of size destination source word_at space p)
+  unfolding move_operand_of
   move_tells size destination source word_at p goes comes longs =
       row_reading x space (fetched_tells x space g size source word_at p comes longs) (λ from read.
-      row_reading x space (resolve_tells x space g destination size (behind size source word_at) from.plain goes read.1) (λ to found.
+      row_reading x space (resolve_tells x space g destination size (behind_of size source word_at) from.plain goes read.1) (λ to found.
       storing_tells x space g to.target size from.value (move_flags size from.value to.plain) found.0))
 
-  pub to_ccr_tells : (ea : Ea) (word_at : ℕ) (p : Plain) → IsFormed ea → AreLongs p.a → RowTells x space p moves (to_ccr_of ea word_at space p)
-  unfolding to_ccr_of
+  pub to_ccr_tells : (ea : Ea) (word_at : ℕ) (p : Plain) → IsFormed ea → AreLongs p.a → RowTells x space p moves (move_to_ccr_of ea word_at space p)
+  unfolding move_to_ccr_of
   to_ccr_tells ea word_at p is longs = row_reading x space (fetched_tells x space g Word ea word_at p is longs) (λ operand read. row_done x space _)
 
   pub movea_tells : (size : Size) (n : ℕ) (source : Ea) (word_at : ℕ) (p : Plain) → IsFormed source → AreLongs p.a
@@ -39,8 +39,8 @@ module _ {S : Type 0} (x : Guarded S) (space : Space) (g : Guards x space) {move
   unfolding lea_of
   lea_tells n ea word_at p is longs = row_reading x space (address_tells x space g Long ea word_at p is longs) (λ place found. row_done x space _)
 
-  pub from_ccr_tells : (ea : Ea) (word_at : ℕ) (p : Plain) → IsFormed ea → AreLongs p.a → RowTells x space p moves (from_ccr_of ea word_at space p)
-  unfolding from_ccr_of
+  pub from_ccr_tells : (ea : Ea) (word_at : ℕ) (p : Plain) → IsFormed ea → AreLongs p.a → RowTells x space p moves (move_from_ccr_of ea word_at space p)
+  unfolding move_from_ccr_of
   from_ccr_tells ea word_at p is longs =
       row_reading x space (resolve_tells x space g ea Word word_at p is longs) (λ to found.
       storing_tells x space g to.target Word (p.ccr % 2 ^ 5) to.plain found.0)

@@ -16,15 +16,15 @@ use Rattle.mb_instr.specs.Registers.{address_register}
 use Rattle.mb_ea.specs.declared.addresses.Target.{Target}
 use Rattle.mb_ea.specs.declared.addresses.Target.TheVariants.{Reg, Memory, Value}
 use Rattle.mb_ea.specs.Addresses.{sum, step_of}
-use Rattle.mb_ea.specs.Reading.{read_of}
+use Rattle.mb_ea.specs.Reading.{read_operand_of}
 use Rattle.mb_ea.specs.Resolve.{indirect_of, full_of, parts_of, indexed_of, in_memory, Resolved, resolve_of}
 use Rattle.mb_writes.specs.declared.ends.WriteFault.{WriteFault}
 use Rattle.mb_writes.specs.declared.transfers.Movem.{Movem}
-use Rattle.mb_writes.specs.Writing.{left_by, write_all, put_of}
+use Rattle.mb_writes.specs.Writing.{left_by, write_pieces_of, write_operand_of}
 use Rattle.mb_frames.specs.declared.pend.Pend.{Pend}
 use Rattle.mb_frames.specs.AccessFields.{piece_of}
 use Rattle.mb_meaning.specs.Ends.{Carried}
-use Rattle.mb_meaning.specs.Operands.{load_of, store_of, Fetched, operand_of, place_of, address_of, storing, pushing}
+use Rattle.mb_meaning.specs.Operands.{load_of, store_of, Fetched, fetch_operand_of, place_of, find_address_of, finish_with_of, push_of}
 use Rattle.mb_tells.specs.Guarded.{Guarded, Guards}
 use Rattle.mb_tells.specs.Left.{AreOwn}
 use Rattle.mb_tells.specs.Laws.{AreLongs}
@@ -53,9 +53,9 @@ place_long (Value v) h = omega arith
 module _ {S : Type 0} (x : Guarded S) (space : Space) (g : Guards x space) where
   -- ---- what stands in memory
 
-  pub reading_tells : (at len : ℕ) → at < 2 ^ 32 → Reads x (λ v. Unit {0}) (read_of space at len)
+  pub reading_tells : (at len : ℕ) → at < 2 ^ 32 → Reads x (λ v. Unit {0}) (read_operand_of space at len)
   reading_tells at len h =
-      tells_weaker (read_of space at len) (operand_tells x space g at len h) (λ s q. q) (λ rest t e told. (told.0, told.1)) (λ a t q. (q, tt))
+      tells_weaker (read_operand_of space at len) (operand_tells x space g at len h) (λ s q. q) (λ rest t e told. (told.0, told.1)) (λ a t q. (q, tt))
 
   -- ---- where a mode leads
 
@@ -109,30 +109,30 @@ module _ {S : Type 0} (x : Guarded S) (space : Space) (g : Guards x space) where
   load_tells (Value v) size p h = reads_none x space _ tt
 
   pub fetched_tells : (size : Size) (ea : Ea) (word_at : ℕ) (p : Plain) → IsFormed ea → AreLongs p.a
-      → Reads x IsFetched (operand_of size ea word_at space p)
-  unfolding operand_of
+      → Reads x IsFetched (fetch_operand_of size ea word_at space p)
+  unfolding fetch_operand_of
   fetched_tells size ea word_at p is longs =
       reads_then x space (resolve_tells ea size word_at p is longs) (λ resolved h.
       reads_then x space (load_tells resolved.target size resolved.plain h.0) (λ value u. reads_none x space _ h))
 
   pub address_tells : (size : Size) (ea : Ea) (word_at : ℕ) (p : Plain) → IsFormed ea → AreLongs p.a
-      → Reads x IsAddress (address_of size ea word_at space p)
-  unfolding address_of
+      → Reads x IsAddress (find_address_of size ea word_at space p)
+  unfolding find_address_of
   address_tells size ea word_at p is longs =
       reads_then x space (resolve_tells ea size word_at p is longs) (λ resolved h. reads_none x space _ (place_long resolved.target h.0))
 
   -- ---- operands that are written
 
-  pub writing_tells : (at len value : ℕ) → at < 2 ^ 32 → Writes x space tt (put_of space at len value)
-  writing_tells at len value h = tells_weaker (put_of space at len value) (put_tells x space g at len value h) (λ s q. q)
-      (λ rest t e told. (told.0, told.2 ∙ then_nothing (tree_of (write_all space e.first e.rest.items)), told.4)) (λ a t q. q)
+  pub writing_tells : (at len value : ℕ) → at < 2 ^ 32 → Writes x space tt (write_operand_of space at len value)
+  writing_tells at len value h = tells_weaker (write_operand_of space at len value) (put_tells x space g at len value h) (λ s q. q)
+      (λ rest t e told. (told.0, told.2 ∙ then_nothing (tree_of (write_pieces_of space e.first e.rest.items)), told.4)) (λ a t q. q)
 
   pub store_tells : (target : Target) (size : Size) (value : ℕ) (p : Plain) → IsReached target → Writes x space p (store_of target size value space p)
   unfolding store_of
   store_tells (Reg n) size value p h = tells_ok _ (λ s q. q)
   store_tells (Memory at) size value p h =
-      tells_bind (put_of space at (bytes_of size) value) (λ done. Return (Ok p))
-      (tells_weaker (put_of space at (bytes_of size) value) (put_tells x space g at (bytes_of size) value h) (λ s q. q)
+      tells_bind (write_operand_of space at (bytes_of size) value) (λ done. Return (Ok p))
+      (tells_weaker (write_operand_of space at (bytes_of size) value) (put_tells x space g at (bytes_of size) value h) (λ s q. q)
       (λ rest t e told.
       (told.0, ap (λ u. graft u (λ (r : Result (Unit {0}) WriteFault). tree_of (tried r (λ done. Return (Ok p))))) told.2, told.4)) (λ a t q. q))
       (λ done. tells_ok p (λ s q. q))
@@ -141,31 +141,31 @@ module _ {S : Type 0} (x : Guarded S) (space : Space) (g : Guards x space) where
   -- ---- the last parts of instructions
 
   pub storing_tells : {p : Plain} {moves : Movem → Type 0} (target : Target) (size : Size) (value : ℕ) (after : Plain) → IsReached target
-      → RowTells x space p moves (storing target size value space after)
-  unfolding storing
+      → RowTells x space p moves (finish_with_of target size value space after)
+  unfolding finish_with_of
   storing_tells target size value after h =
       row_writing x space after (λ done. record { flow = false; plain = done }) (store_tells target size value after h)
 
   -- a long is pushed, and the instruction is carried out
   pub pushing_tells : {p : Plain} {moves : Movem → Type 0} (value top : ℕ) (done : Carried) → top < 2 ^ 32
-      → RowTells x space p moves (pushing value top space done.plain >> Return (Ok done))
-  unfolding pushing
+      → RowTells x space p moves (push_of value top space done.plain >> Return (Ok done))
+  unfolding push_of
   pushing_tells value top done h = row_writing x space tt (λ pushed. done) (writing_tells top 4 value h)
 
   -- ---- pieces that are no operand's
 
   -- a list of pieces
-  pub list_tells : (first : ℕ) (ps : List Pend) → AreOwn ps → length ps ≤ 3 → Writes x space tt (write_all space first ps)
+  pub list_tells : (first : ℕ) (ps : List Pend) → AreOwn ps → length ps ≤ 3 → Writes x space tt (write_pieces_of space first ps)
   list_tells first [] own few = tells_ok tt (λ s q. q)
   list_tells first (p ∷ ps) own few =
-      tells_bind (failing (left_by first (p ∷ ps)) (write space (piece_of p) p.value)) (λ done. write_all space first ps)
+      tells_bind (failing (left_by first (p ∷ ps)) (write space (piece_of p) p.value)) (λ done. write_pieces_of space first ps)
       (tells_failing (left_by first (p ∷ ps)) (write space (piece_of p) p.value)
       (tells_write g.refuses space (piece_of p) p.value (record {
         lawfully = λ s q. g.writes (piece_of p) p.value s q own.0.placed;
         well = λ s done q yes e. g.opens.call (Write space (piece_of p) p.value) s q (g.writes (piece_of p) p.value s q own.0.placed);
         refused = λ s u fault q no e same. (
           (Write space (piece_of p) p.value, refl, ap (λ r. r.0) e),
-          then_nothing (tree_of (write_all space first (p ∷ ps))),
+          then_nothing (tree_of (write_pieces_of space first (p ∷ ps))),
           record { some = omega arith; few = few; own = own },
         );
       })))

@@ -11,7 +11,7 @@ use Rattle.mb_ea.specs.declared.reading.ReadFault.{ReadFault}
 use Rattle.mb_writes.specs.declared.ends.WriteFault.{WriteFault}
 use Rattle.mb_writes.specs.declared.ends.Ended.TheVariants as ended
 use Rattle.mb_writes.specs.declared.transfers.Movem.{Movem}
-use Rattle.mb_writes.specs.Writing.{write_all}
+use Rattle.mb_writes.specs.Writing.{write_pieces_of}
 use Rattle.mb_meaning.specs.Ends.{Carried, Stopped, Cut, Unread, Stop, Rowed, restored, restoring, reading, writing}
 use Rattle.mb_tells.specs.Guarded.{Guarded, quiet}
 use Rattle.mb_tells.specs.Left.{Left, Answered, IsRest, SameCalls, Telling}
@@ -28,7 +28,7 @@ Reads x P m = Telling x (quiet x) m (ReadLeft x) (λ a s. quiet x s × P a)
 -- a part that writes, and answers this where it does not answer earlier without any call
 abbrev pub StoreLeft : {S A : Type 0} → Guarded S → Space → A → Fact S A WriteFault
 StoreLeft x space a rest t refused =
-    Answered x rest t refused.fault × SameCalls rest (write_all space refused.first refused.rest.items >> Return (Ok a))
+    Answered x rest t refused.fault × SameCalls rest (write_pieces_of space refused.first refused.rest.items >> Return (Ok a))
     × IsRest refused.rest.items
 
 abbrev pub Writes : {S A : Type 0} → Guarded S → Space → A → Routine (Result A WriteFault) → Type 0
@@ -101,7 +101,7 @@ module _ {S : Type 0} (x : Guarded S) (space : Space) where
           told.2,
           done a,
           refl,
-          goes_to_end _ (restored p) a done (tree_of (write_all space e.first e.rest.items)) (tree_of rest) told.1,
+          goes_to_end _ (restored p) a done (tree_of (write_pieces_of space e.first e.rest.items)) (tree_of rest) told.1,
         ),
       ))
       (λ b t q. q)))

@@ -14,13 +14,13 @@ use Rattle.mb_instr.specs.Sizes.{bytes_of, sign_extended}
 use Rattle.mb_instr.specs.Registers.{data_register, address_register}
 use Rattle.mb_ea.specs.declared.addresses.Target.TheVariants.{Reg}
 use Rattle.mb_ea.specs.Addresses.{sum}
-use Rattle.mb_ea.specs.Reading.{read_pieces, refused_in}
+use Rattle.mb_ea.specs.Reading.{read_pieces_of, refused_in}
 use Rattle.mb_writes.specs.declared.ends.WriteFault.{WriteFault}
 use Rattle.mb_writes.specs.declared.ends.Ended.TheVariants as ended
 use Rattle.mb_writes.specs.declared.transfers.Movem.{Movem}
-use Rattle.mb_writes.specs.Writing.{part_of, parts_of, left_by, write_all, apart, put_apart_of}
+use Rattle.mb_writes.specs.Writing.{part_of, parts_of, left_by, write_pieces_of, apart, write_apart_of}
 use Rattle.mb_meaning.specs.Ends.{Carried, Stop, restored, restoring, carried, writing}
-use Rattle.mb_meaning.specs.Peripheral.{read_apart_of, from_peripheral, to_peripheral, movep_of}
+use Rattle.mb_meaning.specs.Peripheral.{read_apart_of, load_peripheral_of, store_peripheral_of, movep_of}
 use Rattle.mb_tells.specs.Guarded.{Guarded, Guards, IsPlaced, quiet}
 use Rattle.mb_tells.specs.Left.{Answered, IsRest, SameCalls, WriteLeft, Telling}
 use Rattle.mb_tells.proofs.Resumed.{goes_to_end}
@@ -45,18 +45,18 @@ apart_as_many at (suc n) = ap (λ (k : ℕ). suc k) (apart_as_many ((at + 2) % 2
 BytesLeft : {S : Type 0} → Guarded S → Space → Fact S (Unit {0}) WriteFault
 BytesLeft x space rest t e = Answered x rest t e.fault
     × ((x.unwritten t × (e.rest.items ≡ []))
-    ⊎ (IsRest e.rest.items × SameCalls rest (write_all space e.first e.rest.items >> Return (Ok tt))))
+    ⊎ (IsRest e.rest.items × SameCalls rest (write_pieces_of space e.first e.rest.items >> Return (Ok tt))))
 
 module _ {S : Type 0} (x : Guarded S) (space : Space) (g : Guards x space) where
   read_apart_tells : (at : ℕ) (size : Size) → at < 2 ^ 32 → Reads x (λ v. Unit {0}) (read_apart_of space at size)
   unfolding read_apart_of
   read_apart_tells at size h =
-      tells_failing (refused_in at) (read_pieces space (apart at (bytes_of size)) 0)
+      tells_failing (refused_in at) (read_pieces_of space (apart at (bytes_of size)) 0)
       (tells_weaker _ (pieces_tell x space g (apart at (bytes_of size)) 0 (apart_placed at (bytes_of size) h)) (λ s q. q)
       (λ rest t e told. (told.0, told.1)) (λ a t q. (q, tt)))
 
   bytes_tell : (at n value first : ℕ) → at < 2 ^ 32 → n ≤ 3
-      → let m = write_all space first (parts_of (apart at n) n value) in Telling x x.serving m (BytesLeft x space) (λ done s. x.serving s)
+      → let m = write_pieces_of space first (parts_of (apart at n) n value) in Telling x x.serving m (BytesLeft x space) (λ done s. x.serving s)
   unfolding BytesLeft
   bytes_tell at n value first h few =
       tells_weaker _ (list_tells x space g first (parts_of (apart at n) n value) (parts_own (apart at n) n value (apart_placed at n h))
@@ -64,15 +64,15 @@ module _ {S : Type 0} (x : Guarded S) (space : Space) (g : Guards x space) where
       (λ rest t e told. (told.0, inr (told.2, told.1))) (λ a t q. q)
 
   put_apart_tells : (at : ℕ) (size : Size) (value : ℕ) → at < 2 ^ 32
-      → Telling x (quiet x) (put_apart_of space at size value) (BytesLeft x space) (λ done s. x.serving s)
-  unfolding put_apart_of BytesLeft
+      → Telling x (quiet x) (write_apart_of space at size value) (BytesLeft x space) (λ done s. x.serving s)
+  unfolding write_apart_of BytesLeft
   put_apart_tells at Byte value h = tells_weaker _ (bytes_tell at 1 value at h (omega arith)) (λ s q. q.0) (λ rest t e told. told) (λ a t q. q)
   put_apart_tells at Word value h = tells_weaker _ (bytes_tell at 2 value at h (omega arith)) (λ s q. q.0) (λ rest t e told. told) (λ a t q. q)
   put_apart_tells at Long value h =
       let byte : Piece = record { at = at; len = 1 } in
       let next : (at + 2) % 2 ^ 32 < 2 ^ 32 = omega arith in
       tells_bind (failing (left_by at []) (write space byte (part_of value 4 1)))
-      (λ done. write_all space at (parts_of (apart ((at + 2) % 2 ^ 32) 3) 3 value))
+      (λ done. write_pieces_of space at (parts_of (apart ((at + 2) % 2 ^ 32) 3) 3 value))
       (tells_failing (left_by at []) (write space byte (part_of value 4 1))
       (tells_write g.refuses space byte (part_of value 4 1) (record {
         lawfully = λ s q. g.writes byte (part_of value 4 1) s q.0 (byte_placed at h);
@@ -85,7 +85,7 @@ module _ {S : Type 0} (x : Guarded S) (space : Space) (g : Guards x space) where
   -- nothing was written, or the rest is written: the registers are the same
   either_left : (p : Plain) (rest : Routine (Result (Unit {0}) WriteFault)) (t : S) (e : WriteFault)
       → (x.unwritten t × (e.rest.items ≡ []))
-      ⊎ (IsRest e.rest.items × SameCalls rest (write_all space e.first e.rest.items >> Return (Ok tt)))
+      ⊎ (IsRest e.rest.items × SameCalls rest (write_pieces_of space e.first e.rest.items >> Return (Ok tt)))
       → WriteLeft x space p (restoring p (writing p rest >>= λ done. Return (carried p))) t e p
   either_left p rest t e (inl a) = inl ((a.0, refl), a.1)
   either_left p rest t e (inr s) = inr (
@@ -93,19 +93,19 @@ module _ {S : Type 0} (x : Guarded S) (space : Space) (g : Guards x space) where
     record { flow = false; plain = p },
     refl,
     goes_to_end _ (restored p) tt (λ (done : Unit {0}). let end : Carried = record { flow = false; plain = p } in end)
-        (tree_of (write_all space e.first e.rest.items)) (tree_of rest) s.1,
+        (tree_of (write_pieces_of space e.first e.rest.items)) (tree_of rest) s.1,
   )
 
 module _ {S : Type 0} (x : Guarded S) (space : Space) (g : Guards x space) {moves : Movem → Type 0} where
-  load_tells : (n : ℕ) (size : Size) (place : ℕ) (p : Plain) → place < 2 ^ 32 → RowTells x space p moves (from_peripheral n size place space p)
-  unfolding from_peripheral
+  load_tells : (n : ℕ) (size : Size) (place : ℕ) (p : Plain) → place < 2 ^ 32 → RowTells x space p moves (load_peripheral_of n size place space p)
+  unfolding load_peripheral_of
   load_tells n size place p h =
       row_reading x space (read_apart_tells x space g place size h) (λ value read. storing_tells x space g (Reg n) size value p tt)
 
-  store_tells : (n : ℕ) (size : Size) (place : ℕ) (p : Plain) → place < 2 ^ 32 → RowTells x space p moves (to_peripheral n size place space p)
-  unfolding to_peripheral BytesLeft
+  store_tells : (n : ℕ) (size : Size) (place : ℕ) (p : Plain) → place < 2 ^ 32 → RowTells x space p moves (store_peripheral_of n size place space p)
+  unfolding store_peripheral_of BytesLeft
   store_tells n size place p h =
-      let m = put_apart_of space place size (data_register p n) in
+      let m = write_apart_of space place size (data_register p n) in
       tells_bind (writing p m) (λ done. Return (carried p))
       (tells_failing (λ refused. Stop (record { ended = ended.WriteFault refused; plain = p })) m
       (tells_weaker m (put_apart_tells x space g place size (data_register p n) h) (λ s q. q)

@@ -34,7 +34,7 @@ use Rattle.mb_instr.specs.Rows.{move_row, arith_row, flow_row}
 use Rattle.mb_meaning.specs.Arithmetic.{added, subtracted, added_extended, subtracted_extended, address_moved, address_compared}
 use Rattle.mb_meaning.specs.Unary.{negated, negated_extended, complemented, tested}
 use Rattle.mb_meaning.specs.Shifts.{shifted_by_one}
-use Rattle.mb_meaning.specs.Products.{multiplied_by_word, word_divided, multiplied_by_long, long_divided}
+use Rattle.mb_meaning.specs.Products.{multiply_word_of, divide_word_of, multiply_long_of, divide_long_of}
 use Rattle.mb_ea.specs.Reading.{refused_in}
 use Rattle.mb_writes.specs.declared.ends.Ended.{Ended}
 use Rattle.mb_writes.specs.declared.ends.Ended.TheVariants as ended
@@ -65,7 +65,7 @@ use Rattle.mb_tells.proofs.Bounds.{chk_tells, cmp2_tells, chk2_tells}
 use Rattle.mb_instr.specs.Registers.{data_register}
 use Rattle.mb_fields.specs.Decimals.{abcd_of, sbcd_of}
 use Rattle.mb_fields.specs.Packing.{pack_of, unpk_of}
-use Rattle.mb_meaning.specs.Decimals.{negated_decimal}
+use Rattle.mb_meaning.specs.Decimals.{negate_decimal_of}
 
 -- an end of a part that fetches, at a refused call
 unfoldable pub FoundLeft : {S A : Type 0} → Guarded S → Fact S A Unfound
@@ -172,19 +172,19 @@ module _ {S : Type 0} (x : Guarded S) (space : Space) (g : Guards x space) where
   perform_arith_tells (arithmetic.ShiftMem kind is_left ea) word_at p is words longs =
       modifying_tells x space g (shifted_by_one kind is_left) Word ea word_at p (formed Word ea is.are_words) longs
   perform_arith_tells (arithmetic.MulW register signed ea) word_at p is words longs =
-      taking_tells x space g (multiplied_by_word signed register) Word ea word_at p (formed Word ea is.are_words) longs
+      taking_tells x space g (multiply_word_of signed register) Word ea word_at p (formed Word ea is.are_words) longs
   perform_arith_tells (arithmetic.MulL ea word) word_at p is words longs =
-      taking_tells x space g (multiplied_by_long word) Long ea word_at p (formed_behind_word Long ea word is.are_words) longs
+      taking_tells x space g (multiply_long_of word) Long ea word_at p (formed_behind_word Long ea word is.are_words) longs
   perform_arith_tells (arithmetic.DivW register signed ea) word_at p is words longs =
-      taking_tells x space g (word_divided signed register) Word ea word_at p (formed Word ea is.are_words) longs
+      taking_tells x space g (divide_word_of signed register) Word ea word_at p (formed Word ea is.are_words) longs
   perform_arith_tells (arithmetic.DivL ea word) word_at p is words longs =
-      taking_tells x space g (long_divided word) Long ea word_at p (formed_behind_word Long ea word is.are_words) longs
+      taking_tells x space g (divide_long_of word) Long ea word_at p (formed_behind_word Long ea word is.are_words) longs
   perform_arith_tells (arithmetic.BitReg register kind ea) word_at p is words longs =
       bit_row_tells x space g kind (data_register p register) ea word_at p (formed Byte ea is.are_words) longs
   perform_arith_tells (arithmetic.BitImm kind ea word) word_at p is words longs =
       bit_row_tells x space g kind word ea word_at p (formed_behind_word Byte ea word is.are_words) longs
   perform_arith_tells (arithmetic.Nbcd ea) word_at p is words longs =
-      modifying_tells x space g negated_decimal Byte ea word_at p (formed Byte ea is.are_words) longs
+      modifying_tells x space g negate_decimal_of Byte ea word_at p (formed Byte ea is.are_words) longs
   perform_arith_tells (arithmetic.Abcd to in_memory from) word_at p is words longs = decimal_tells x space g abcd_of to in_memory from word_at p longs
   perform_arith_tells (arithmetic.Sbcd to in_memory from) word_at p is words longs = decimal_tells x space g sbcd_of to in_memory from word_at p longs
   perform_arith_tells (arithmetic.Pack to in_memory from word) word_at p is words longs =

@@ -11,14 +11,14 @@ use Rattle.mb_instr.specs.declared.size.Size.{Size}
 use Rattle.mb_instr.specs.declared.operand.Ea.{Ea}
 use Rattle.mb_instr.specs.declared.registers.Plain.{Plain}
 use Rattle.mb_instr.specs.Sizes.{bytes_of}
-use Rattle.mb_ea.specs.Reading.{read_of}
+use Rattle.mb_ea.specs.Reading.{read_operand_of}
 use Rattle.mb_writes.specs.declared.ends.MovemFault.{MovemFault}
 use Rattle.mb_writes.specs.declared.ends.Ended.TheVariants as ended
 use Rattle.mb_writes.specs.declared.transfers.Movem.{Movem}
 use Rattle.mb_writes.specs.declared.transfers.Transfer.{Transfer}
 use Rattle.mb_writes.specs.Transfers.{transfers_of}
-use Rattle.mb_writes.specs.Writing.{put_of}
-use Rattle.mb_writes.specs.Moving.{Halfway, refused_at, stored_of, store_all, loaded_of, load_all, stepped_of, transfer_of}
+use Rattle.mb_writes.specs.Writing.{write_operand_of}
+use Rattle.mb_writes.specs.Moving.{Halfway, refused_at, stored_of, store_all_of, loaded_of, load_all_of, stepped_of, transfer_of}
 use Rattle.mb_meaning.specs.Ends.{Carried, Stopped, Cut, Stop, restored, restoring, carried}
 use Rattle.mb_meaning.specs.Moves.{movem_by, transferring, movem_of}
 use Rattle.mb_tells.specs.Guarded.{Guarded, Guards, quiet}
@@ -35,12 +35,12 @@ use Rattle.mb_tells.proofs.Operands.{address_tells}
 StoresLeft : {S : Type 0} → Guarded S → Space → Movem → Plain → ℕ → ℕ → List Transfer → Fact S (Unit {0}) MovemFault
 StoresLeft x space m p first done ts rest t e = Answered x rest t e.fault × (e.first ≡ first)
     × ((k : ℕ) × (e.done ≡ done + k)
-    × Resumes (λ c answer. x.stands c answer t) (tree_of (store_all m space p first e.done (drop k ts))) (tree_of rest))
+    × Resumes (λ c answer. x.stands c answer t) (tree_of (store_all_of m space p first e.done (drop k ts))) (tree_of rest))
 
 LoadsLeft : {S : Type 0} → Guarded S → Space → Movem → ℕ → ℕ → List Transfer → Fact S Plain Halfway
 LoadsLeft x space m first done ts rest t e = Answered x rest t e.fault.fault × (e.fault.first ≡ first)
     × ((k : ℕ) × (e.fault.done ≡ done + k)
-    × Resumes (λ c answer. x.stands c answer t) (tree_of (load_all m space first e.fault.done (drop k ts) e.plain)) (tree_of rest))
+    × Resumes (λ c answer. x.stands c answer t) (tree_of (load_all_of m space first e.fault.done (drop k ts) e.plain)) (tree_of rest))
 
 -- where a transfer is refused, the rest resumes the transfers from that one on
 TransferLeft : {S : Type 0} → Guarded S → Space → Movem → Fact S Plain Halfway
@@ -49,26 +49,26 @@ TransferLeft x space m rest t e = Answered x rest t e.fault.fault
 
 module _ {S : Type 0} (x : Guarded S) (space : Space) (g : Guards x space) where
   stores_tell : (m : Movem) (p : Plain) (first done : ℕ) (ts : List Transfer) → HaveAddresses ts
-      → Telling x x.serving (store_all m space p first done ts) (StoresLeft x space m p first done ts) (λ stored s. x.serving s)
+      → Telling x x.serving (store_all_of m space p first done ts) (StoresLeft x space m p first done ts) (λ stored s. x.serving s)
   unfolding StoresLeft
   stores_tell m p first done [] have = tells_ok tt (λ s q. q)
   stores_tell m p first done (t ∷ ts) have =
-      let one = put_of space t.at (bytes_of m.size) (stored_of m.mode m.size p t.register) in
-      tells_bind (failing (λ refused. refused_at first done refused.fault) one) (λ stored. store_all m space p first (done + 1) ts)
+      let one = write_operand_of space t.at (bytes_of m.size) (stored_of m.mode m.size p t.register) in
+      tells_bind (failing (λ refused. refused_at first done refused.fault) one) (λ stored. store_all_of m space p first (done + 1) ts)
       (tells_failing (λ refused. refused_at first done refused.fault) one
       (tells_weaker one (put_tells x space g t.at (bytes_of m.size) (stored_of m.mode m.size p t.register) have.0) (λ s q. q)
       (λ rest u e told. (told.0, refl, (0, omega arith, resumes_then _ (resumes_then _ told.3)))) (λ a u q. q)))
-      (λ stored. tells_weaker (store_all m space p first (done + 1) ts) (stores_tell m p first (done + 1) ts have.1) (λ s q. q)
+      (λ stored. tells_weaker (store_all_of m space p first (done + 1) ts) (stores_tell m p first (done + 1) ts have.1) (λ s q. q)
       (λ rest u e told. let (k, far, resumes) = told.2 in (told.0, told.1, (suc k, omega arith, resumes))) (λ a u q. q))
 
   loads_tell : (m : Movem) (first done : ℕ) (ts : List Transfer) (p : Plain) → HaveAddresses ts
-      → Telling x (quiet x) (load_all m space first done ts p) (LoadsLeft x space m first done ts) (λ loaded s. quiet x s)
+      → Telling x (quiet x) (load_all_of m space first done ts p) (LoadsLeft x space m first done ts) (λ loaded s. quiet x s)
   unfolding LoadsLeft
   loads_tell m first done [] p have = tells_ok p (λ s q. q)
   loads_tell m first done (t ∷ ts) p have =
-      let one = read_of space t.at (bytes_of m.size) in
+      let one = read_operand_of space t.at (bytes_of m.size) in
       tells_bind (failing (λ refused. record { fault = refused_at first done refused.fault; plain = p }) one)
-      (λ value. load_all m space first (done + 1) ts (loaded_of m.mode m.size p t.register value))
+      (λ value. load_all_of m space first (done + 1) ts (loaded_of m.mode m.size p t.register value))
       (tells_failing (λ refused. record { fault = refused_at first done refused.fault; plain = p }) one
       (tells_weaker one (operand_tells x space g t.at (bytes_of m.size) have.0) (λ s q. q)
       (λ rest u e told. (told.0, refl, (0, omega arith, resumes_then _ (resumes_then _ told.2)))) (λ a u q. q)))
@@ -86,11 +86,11 @@ module _ {S : Type 0} (x : Guarded S) (space : Space) (g : Guards x space) where
   load_tells size ea mask place done p h =
       let m = movem_by true size ea mask in
       let ts = transfers_of m place in
-      tells_bind (load_all m space place done (drop done ts) p) (λ moved. Return (Ok (stepped_of m.mode m.size place (length ts) moved)))
-      (tells_weaker (load_all m space place done (drop done ts) p) (loads_tell m place done (drop done ts) p (transfer_addresses m place done h)) (λ s q. q)
+      tells_bind (load_all_of m space place done (drop done ts) p) (λ moved. Return (Ok (stepped_of m.mode m.size place (length ts) moved)))
+      (tells_weaker (load_all_of m space place done (drop done ts) p) (loads_tell m place done (drop done ts) p (transfer_addresses m place done h)) (λ s q. q)
       (λ rest t e told.
       let (k, far, resumes) = told.2 in
-      let from = subst (λ l. Resumes (λ c answer. x.stands c answer t) (tree_of (load_all m space place e.fault.done l e.plain)) (tree_of rest))
+      let from = subst (λ l. Resumes (λ c answer. x.stands c answer t) (tree_of (load_all_of m space place e.fault.done l e.plain)) (tree_of rest))
       (further m place done k e.fault.done far) resumes in (
         told.0,
         subst (λ first. Resumes (λ c answer. x.stands c answer t) (tree_of (transfer_of m first e.fault.done space e.plain))
@@ -106,7 +106,7 @@ module _ {S : Type 0} (x : Guarded S) (space : Space) (g : Guards x space) where
   store_tells size ea mask place done p h =
       let m = movem_by false size ea mask in
       let ts = transfers_of m place in
-      let all = store_all m space p place done (drop done ts) in
+      let all = store_all_of m space p place done (drop done ts) in
       tells_bind (failing (λ fault. record { fault = fault; plain = p }) all >> Return (Ok p))
       (λ moved. Return (Ok (stepped_of m.mode m.size place (length ts) moved)))
       (tells_bind (failing (λ fault. record { fault = fault; plain = p }) all) (λ stored. Return (Ok p))
@@ -114,7 +114,7 @@ module _ {S : Type 0} (x : Guarded S) (space : Space) (g : Guards x space) where
       (tells_weaker all (stores_tell m p place done (drop done ts) (transfer_addresses m place done h)) (λ s q. q.0)
       (λ rest t e told.
       let (k, far, resumes) = told.2 in
-      let from = subst (λ l. Resumes (λ c answer. x.stands c answer t) (tree_of (store_all m space p place e.done l)) (tree_of rest))
+      let from = subst (λ l. Resumes (λ c answer. x.stands c answer t) (tree_of (store_all_of m space p place e.done l)) (tree_of rest))
       (further m place done k e.done far) resumes in (
         told.0,
         subst (λ first. Resumes (λ c answer. x.stands c answer t) (tree_of (transfer_of m first e.done space p))

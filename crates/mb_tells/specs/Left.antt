@@ -16,7 +16,7 @@ use Rattle.mb_writes.specs.declared.ends.Ended.{Ended}
 use Rattle.mb_writes.specs.declared.ends.Ended.TheVariants as ended
 use Rattle.mb_writes.specs.declared.ends.WriteFault.{WriteFault}
 use Rattle.mb_writes.specs.declared.ends.MovemFault.{MovemFault}
-use Rattle.mb_writes.specs.Writing.{write_all}
+use Rattle.mb_writes.specs.Writing.{write_pieces_of}
 use Rattle.mb_writes.specs.Moving.{Halfway, transfer_of}
 use Rattle.mb_meaning.specs.Ends.{Carried, Stopped, Performed}
 use Rattle.mb_tells.specs.Guarded.{Guarded, IsPlaced, quiet}
@@ -42,7 +42,7 @@ ending how after m = failing (λ fault. record { ended = how fault; plain = afte
 -- what is left where a write was refused: these pieces are written, and the instruction is carried out
 abbrev pub completing : Space → ℕ → List Pend → Carried → Routine Performed
 completing space first pieces done =
-    ending (λ refused. ended.WriteFault refused) done.plain (write_all space first pieces) >> Return (Ok done)
+    ending (λ refused. ended.WriteFault refused) done.plain (write_pieces_of space first pieces) >> Return (Ok done)
 
 -- what is left where the write of a line was refused: it is written, and the instruction is carried out
 abbrev pub line_completing : Space → ℕ → List ℕ → Carried → Routine Performed

@@ -9,32 +9,32 @@ use Rattle.mb_instr.specs.declared.operand.Ea.TheVariants.{Dn}
 use Rattle.mb_instr.specs.declared.kinds.FieldKind.{FieldKind}
 use Rattle.mb_instr.specs.declared.registers.Plain.{Plain}
 use Rattle.mb_instr.specs.Registers.{data_register}
-use Rattle.mb_fields.specs.Fields.{field_of, with_field}
+use Rattle.mb_fields.specs.Fields.{field_get_of, field_put_of}
 use Rattle.mb_ea.specs.Addresses.{sum}
-use Rattle.mb_meaning.specs.BitFields.{named_by, offset_of, width_of, is_change, field_after, field_done, bytes_before, bytes_held, field_in_memory, field_row_of}
+use Rattle.mb_meaning.specs.BitFields.{named_by, offset_of, width_of, is_change, field_after, field_done, bytes_before, bytes_held, field_in_memory_of, bit_field_of}
 use Rattle.mb_twins.proofs.Parts.{SameCut, SameRowed, Rows, then_twins, reading_twins, writing_twins}
 use Rattle.mb_twins.proofs.Operands.{address_twins, read_twins, put_twins}
 
 in_memory_twins : (x : Setting) (kind : FieldKind) (word address : ℕ) (p : Plain)
-    → Rows x (field_in_memory kind word address x.here p) (field_in_memory kind word address x.there p)
-unfolding field_in_memory
+    → Rows x (field_in_memory_of kind word address x.here p) (field_in_memory_of kind word address x.there p)
+unfolding field_in_memory_of
 in_memory_twins x kind word address p =
     let offset = offset_of word p in
     let width = width_of word p in
     let first = sum address (bytes_before offset) in
     let held = bytes_held offset width in
     then_twins x (SameCut x) (reading_twins x (read_twins x first held)) (λ bytes.
-    let old = field_of bytes (8 * held) (offset % 8) width in
+    let old = field_get_of bytes (8 * held) (offset % 8) width in
     let new = field_after kind width old (data_register p (named_by word)) in
     twins_choose (between x) (SameRowed x) (is_change kind) _ _ _ _
     (then_twins x (SameCut x)
-    (writing_twins x (field_done kind word old p) (put_twins x first held (with_field bytes (8 * held) (offset % 8) width new)))
+    (writing_twins x (field_done kind word old p) (put_twins x first held (field_put_of bytes (8 * held) (offset % 8) width new)))
     (λ done. returned refl))
     (returned refl))
 
 pub field_row_twins : (x : Setting) (kind : FieldKind) (ea : Ea) (word word_at : ℕ) (p : Plain)
-    → Rows x (field_row_of kind ea word word_at x.here p) (field_row_of kind ea word word_at x.there p)
-unfolding field_row_of
+    → Rows x (bit_field_of kind ea word word_at x.here p) (bit_field_of kind ea word word_at x.there p)
+unfolding bit_field_of
 field_row_twins x kind (Dn n) word word_at p = returned refl
 field_row_twins x kind ea word word_at p =
     then_twins x (SameCut x) (reading_twins x (address_twins x Long ea word_at p)) (λ address. in_memory_twins x kind word address p)

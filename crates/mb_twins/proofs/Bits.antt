@@ -6,7 +6,7 @@ use Rattle.mb_instr.specs.declared.operand.Ea.{Ea}
 use Rattle.mb_instr.specs.declared.kinds.BitKind.{BitKind}
 use Rattle.mb_instr.specs.declared.kinds.BitKind.TheVariants as bit
 use Rattle.mb_instr.specs.declared.registers.Plain.{Plain}
-use Rattle.mb_meaning.specs.Bits.{bit_size, bit_changed, bit_row_of}
+use Rattle.mb_meaning.specs.Bits.{bit_size, change_bit_of, bit_row_of}
 use Rattle.mb_twins.proofs.Parts.{SameCut, Rows, then_twins, reading_twins}
 use Rattle.mb_twins.proofs.Operands.{operand_twins}
 use Rattle.mb_twins.proofs.Modifying.{modifying_twins}
@@ -16,4 +16,4 @@ pub bit_row_twins : (x : Setting) (kind : BitKind) (number : ℕ) (ea : Ea) (wor
 unfolding bit_row_of
 bit_row_twins x bit.Test number ea word_at p =
     then_twins x (SameCut x) (reading_twins x (operand_twins x (bit_size ea) ea word_at p)) (λ operand. returned refl)
-bit_row_twins x kind number ea word_at p = modifying_twins x (bit_changed kind number (bit_size ea)) (bit_size ea) ea word_at p
+bit_row_twins x kind number ea word_at p = modifying_twins x (change_bit_of kind number (bit_size ea)) (bit_size ea) ea word_at p

@@ -12,14 +12,14 @@ use Rattle.mb_alu.specs.Conditions.{conditions_of}
 use Rattle.mb_ea.specs.Addresses.{sum}
 use Rattle.mb_meaning.specs.Ends.{carried, stopped}
 use Rattle.mb_meaning.specs.Traps.{out_of_bounds}
-use Rattle.mb_meaning.specs.Bounds.{is_below, is_above, checked, chk_of, bounds_of, cmp2_of, checked_carry, chk2_of}
+use Rattle.mb_meaning.specs.Bounds.{is_below, is_above, check_bound_of, chk_of, compare_bounds_of, cmp2_of, check_carry_of, chk2_of}
 use Rattle.mb_twins.specs.Twins.{SameRead}
 use Rattle.mb_twins.proofs.Parts.{SameCut, SameRowed, Rows, Reads, then_twins, reading_twins}
 use Rattle.mb_twins.proofs.Operands.{read_twins, operand_twins, address_twins}
 use Rattle.mb_twins.proofs.Flow.{either_same}
 
-checked_same : (x : Setting) (size : Size) (bound value : ℕ) (p : Plain) → SameRowed x (checked size bound value p) (checked size bound value p)
-unfolding checked
+checked_same : (x : Setting) (size : Size) (bound value : ℕ) (p : Plain) → SameRowed x (check_bound_of size bound value p) (check_bound_of size bound value p)
+unfolding check_bound_of
 checked_same x size bound value p =
     either_same x (is_below size value || is_above size bound value) (stopped out_of_bounds _) (carried p) ((refl, inr (inl refl)), refl) refl
 
@@ -31,8 +31,8 @@ chk_twins x n size ea word_at p =
     returned (checked_same x size bound.value (data_register bound.plain n) bound.plain))
 
 bounds_twins : (x : Setting) (size : Size) (ea : Ea) (w word_at : ℕ) (p : Plain)
-    → Reads x (bounds_of size ea w word_at x.here p) (bounds_of size ea w word_at x.there p)
-unfolding bounds_of
+    → Reads x (compare_bounds_of size ea w word_at x.here p) (compare_bounds_of size ea w word_at x.there p)
+unfolding compare_bounds_of
 bounds_twins x size ea w word_at p =
     then_twins x (SameRead x) (address_twins x size ea word_at p) (λ place.
     then_twins x (SameRead x) (read_twins x place (bytes_of size)) (λ lower.
@@ -43,8 +43,8 @@ pub cmp2_twins : (x : Setting) (size : Size) (ea : Ea) (w word_at : ℕ) (p : Pl
 unfolding cmp2_of
 cmp2_twins x size ea w word_at p = then_twins x (SameCut x) (reading_twins x (bounds_twins x size ea w word_at p)) (λ ccr. returned refl)
 
-checked_carry_same : (x : Setting) (p : Plain) → SameRowed x (checked_carry p) (checked_carry p)
-unfolding checked_carry
+checked_carry_same : (x : Setting) (p : Plain) → SameRowed x (check_carry_of p) (check_carry_of p)
+unfolding check_carry_of
 checked_carry_same x p = either_same x (conditions_of p.ccr).c (stopped out_of_bounds p) (carried p) ((refl, inr (inl refl)), refl) refl
 
 pub chk2_twins : (x : Setting) (size : Size) (ea : Ea) (w word_at : ℕ) (p : Plain)

@@ -14,7 +14,7 @@ use Rattle.mb_instr.specs.Registers.{data_register, address_register}
 use Rattle.mb_meaning.specs.Ends.{Rowed, carried, jumped}
 use Rattle.mb_meaning.specs.Conditions.{is_met}
 use Rattle.mb_meaning.specs.Operands.{lowered}
-use Rattle.mb_meaning.specs.Flow.{target_of, is_call, call_of, branched, branch_of, counted_down, looped, dbcc_of, jmp_of, jsr_of}
+use Rattle.mb_meaning.specs.Flow.{target_of, is_call, call_of, go_if_met_of, branch_of, count_down_of, go_if_counted_of, dbcc_of, jmp_of, jsr_of}
 use Rattle.mb_twins.proofs.Parts.{SameCut, SameRowed, Rows, then_twins, reading_twins}
 use Rattle.mb_twins.proofs.Operands.{address_twins, pushing_twins}
 
@@ -30,8 +30,8 @@ pub either_same : (x : Setting) (b : Bool) (one other : Rowed) → SameRowed x o
 either_same x true one other h k = h
 either_same x false one other h k = k
 
-branched_same : (x : Setting) (c : Condition) (target : ℕ) (p : Plain) → SameRowed x (branched c target p) (branched c target p)
-unfolding branched
+branched_same : (x : Setting) (c : Condition) (target : ℕ) (p : Plain) → SameRowed x (go_if_met_of c target p) (go_if_met_of c target p)
+unfolding go_if_met_of
 branched_same x c target p = either_same x (is_met c p.ccr) (jumped (record p { pc = target })) (carried p) refl refl
 
 pub branch_twins : (x : Setting) (c : Condition) (d : Branch) (word_at : ℕ) (p : Plain)
@@ -40,17 +40,17 @@ unfolding branch_of
 branch_twins x c d word_at p =
     twins_choose (between x) (SameRowed x) (is_call c) _ _ _ _ (call_twins x (target_of word_at d) p) (returned (branched_same x c (target_of word_at d) p))
 
-looped_same : (x : Setting) (n target : ℕ) (p : Plain) → SameRowed x (looped n target p) (looped n target p)
-unfolding looped
+looped_same : (x : Setting) (n target : ℕ) (p : Plain) → SameRowed x (go_if_counted_of n target p) (go_if_counted_of n target p)
+unfolding go_if_counted_of
 looped_same x n target p =
-    let after = counted_down n p in
+    let after = count_down_of n p in
     either_same x (low_of Word (data_register after n) == 2 ^ 16 - 1) (carried after) (jumped (record after { pc = target })) refl refl
 
 pub dbcc_same : (x : Setting) (c : Condition) (n d word_at : ℕ) (p : Plain) → SameRowed x (dbcc_of c n d word_at p) (dbcc_of c n d word_at p)
 unfolding dbcc_of
 dbcc_same x c n d word_at p =
     let target = target_of word_at (displacement.Word d) in
-    either_same x (is_met c p.ccr) (carried p) (looped n target p) refl (looped_same x n target p)
+    either_same x (is_met c p.ccr) (carried p) (go_if_counted_of n target p) refl (looped_same x n target p)
 
 pub jmp_twins : (x : Setting) (ea : Ea) (word_at : ℕ) (p : Plain) → Rows x (jmp_of ea word_at x.here p) (jmp_of ea word_at x.there p)
 unfolding jmp_of

@@ -7,12 +7,12 @@ use Rattle.mb_instr.specs.declared.kinds.LineMove.{LineMove}
 use Rattle.mb_instr.specs.declared.kinds.LineMove.TheVariants as line
 use Rattle.mb_instr.specs.declared.registers.Plain.{Plain}
 use Rattle.mb_instr.specs.Registers.{address_register}
-use Rattle.mb_meaning.specs.Lines.{line_at, line_moved, past_line, move16_absolute_of, past_lines, destination_in, move16_of}
+use Rattle.mb_meaning.specs.Lines.{line_at, move_line_of, past_line, move16_absolute_of, past_lines, destination_in, move16_post_of}
 use Rattle.mb_twins.specs.Twins.{SameRead}
 use Rattle.mb_twins.proofs.Parts.{SameCut, Rows, then_twins, failing_twins, reading_twins}
 
-line_twins : (x : Setting) (from to : ℕ) (after : Plain) → Rows x (line_moved from to x.here after) (line_moved from to x.there after)
-unfolding line_moved
+line_twins : (x : Setting) (from to : ℕ) (after : Plain) → Rows x (move_line_of from to x.here after) (move_line_of from to x.there after)
+unfolding move_line_of
 line_twins x from to after =
     then_twins x (SameCut x)
     (reading_twins x (failing_twins x (SameFault x) (SameRead x) (λ e f h. record { fault = h; first = refl }) (twin_read_line x (line_at from))))
@@ -28,8 +28,8 @@ move16_absolute_twins x line.AbsoluteToPost n place p = line_twins x place (addr
 move16_absolute_twins x line.IndirectToAbsolute n place p = line_twins x (address_register p n) place p
 move16_absolute_twins x line.AbsoluteToIndirect n place p = line_twins x place (address_register p n) p
 
-pub move16_twins : (x : Setting) (m word : ℕ) (p : Plain) → Rows x (move16_of m word x.here p) (move16_of m word x.there p)
-unfolding move16_of
+pub move16_twins : (x : Setting) (m word : ℕ) (p : Plain) → Rows x (move16_post_of m word x.here p) (move16_post_of m word x.there p)
+unfolding move16_post_of
 move16_twins x m word p =
     let n = destination_in word in
     line_twins x (address_register p m) (address_register p n) (past_lines m n p)

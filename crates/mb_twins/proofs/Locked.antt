@@ -21,8 +21,8 @@ use Rattle.mb_instr.specs.Registers.{register_of, data_register}
 use Rattle.mb_writes.specs.Writing.{part_of}
 use Rattle.mb_meaning.specs.Ends.{Rowed, Cut, Stopped, reading}
 use Rattle.mb_meaning.specs.Operands.{place_of}
-use Rattle.mb_writes.specs.Checked.{probe_pieces, probe_of, get_places, get_of, put_places, put_at}
-use Rattle.mb_meaning.specs.Locked.{test_and_set, tas_in_memory, tas_of}
+use Rattle.mb_writes.specs.Checked.{probe_pieces_of, probe_operand_of, get_places_of, get_operand_of, put_places_of, put_operand_of}
+use Rattle.mb_meaning.specs.Locked.{test_and_set_of, tas_in_memory, tas_of}
 use Rattle.mb_meaning.specs.Locked.{update_by, pointer_by, cas_equal, cas_at, cas_of, cas2_equal, cas2_of}
 use Rattle.mb_twins.specs.Twins.{SameRead}
 use Rattle.mb_twins.proofs.Parts.{SameCut, SameRowed, Rows, Stages, then_twins, reading_twins}
@@ -41,7 +41,7 @@ one_more x ps qs p q e h =
 
 pieces_twins : (x : Setting) (pieces : List Piece) (ps qs : List Place) → AreRaised x ps qs
     → Twin (between x) (Result (List Place) Fault) (Result (List Place) Fault) (Results (AreRaised x) (SameFault x))
-    (probe_pieces x.here pieces ps) (probe_pieces x.there pieces qs)
+    (probe_pieces_of x.here pieces ps) (probe_pieces_of x.there pieces qs)
 pieces_twins x [] ps qs e = returned e
 pieces_twins x (piece ∷ pieces) ps qs e =
     twins_bind (between x) (IsRaised x) (SameFault x) (AreRaised x) _ _ _ _ (twin_probe x piece)
@@ -50,20 +50,20 @@ pieces_twins x (piece ∷ pieces) ps qs e =
 -- a check whose refusal is the instruction's end
 probe_twins : (x : Setting) (at len : ℕ)
     → Twin (between x) (Result (List Place) (Cut Stopped)) (Result (List Place) (Cut Stopped)) (Results (AreRaised x) (SameCut x))
-    (reading (probe_of x.here at len)) (reading (probe_of x.there at len))
-unfolding probe_of
+    (reading (probe_operand_of x.here at len)) (reading (probe_operand_of x.there at len))
+unfolding probe_operand_of
 probe_twins x at len =
     twins_failing (between x) (AreRaised x) (SameRead x) (SameCut x) _ _ _ _ (λ e f h. h)
     (twins_failing (between x) (AreRaised x) (SameFault x) (SameRead x) _ _ _ _ (λ e f h. record { fault = h; first = refl })
     (pieces_twins x (split_of at len) [] [] refl))
 
-places_twins : (x : Setting) (qs : List Place) (value : ℕ) → Twin (between x) ℕ ℕ Equal (get_places (map (raised x.base) qs) value) (get_places qs value)
+places_twins : (x : Setting) (qs : List Place) (value : ℕ) → Twin (between x) ℕ ℕ Equal (get_places_of (map (raised x.base) qs) value) (get_places_of qs value)
 places_twins x [] value = returned refl
 places_twins x (q ∷ qs) value =
     twins_then_same (between x) Equal _ _ _ _ (twin_get x q) (λ v. places_twins x qs (value * 256 ^ q.len + v))
 
 put_places_twins : (x : Setting) (qs : List Place) (before_end value : ℕ)
-    → Twin (between x) (Unit {0}) (Unit {0}) Equal (put_places (map (raised x.base) qs) before_end value) (put_places qs before_end value)
+    → Twin (between x) (Unit {0}) (Unit {0}) Equal (put_places_of (map (raised x.base) qs) before_end value) (put_places_of qs before_end value)
 put_places_twins x [] before_end value = returned refl
 put_places_twins x (q ∷ qs) before_end value =
     twins_then_same (between x) Equal _ _ _ _ (twin_put x q (part_of value before_end q.len))
@@ -72,20 +72,22 @@ put_places_twins x (q ∷ qs) before_end value =
 sure_twins : {A : Type 0} (x : Setting) {m n : Routine A} → Twin (between x) A A Equal m n → Stages x (sure m) (sure n)
 sure_twins x w = twins_then_same (between x) (Results Equal (SameCut x)) _ _ _ _ w (λ a. returned refl)
 
-get_twins : (x : Setting) (ps qs : List Place) → AreRaised x ps qs → Stages x (sure (get_of ps)) (sure (get_of qs))
-unfolding get_of
-get_twins x ps qs e = sure_twins x (subst (λ (l : List Place). Twin (between x) ℕ ℕ Equal (get_places l 0) (get_places qs 0)) (sym e) (places_twins x qs 0))
+get_twins : (x : Setting) (ps qs : List Place) → AreRaised x ps qs → Stages x (sure (get_operand_of ps)) (sure (get_operand_of qs))
+unfolding get_operand_of
+get_twins x ps qs e =
+    sure_twins x (subst (λ (l : List Place). Twin (between x) ℕ ℕ Equal (get_places_of l 0) (get_places_of qs 0)) (sym e) (places_twins x qs 0))
 
-put_twins : (x : Setting) (ps qs : List Place) (len value : ℕ) → AreRaised x ps qs → Stages x (sure (put_at ps len value)) (sure (put_at qs len value))
-unfolding put_at
+put_twins : (x : Setting) (ps qs : List Place) (len value : ℕ) → AreRaised x ps qs
+    → Stages x (sure (put_operand_of ps len value)) (sure (put_operand_of qs len value))
+unfolding put_operand_of
 put_twins x ps qs len value e =
-    sure_twins x (subst (λ (l : List Place). Twin (between x) (Unit {0}) (Unit {0}) Equal (put_places l len value) (put_places qs len value)) (sym e)
+    sure_twins x (subst (λ (l : List Place). Twin (between x) (Unit {0}) (Unit {0}) Equal (put_places_of l len value) (put_places_of qs len value)) (sym e)
     (put_places_twins x qs len value))
 
 -- a locked operand, and what follows from its places
 locked_twins : (x : Setting) (at len : ℕ) {f g : List Place → Routine Rowed}
     → ((ps qs : List Place) → AreRaised x ps qs → Rows x (f ps) (g qs))
-    → Rows x (reading (probe_of x.here at len) >>= f) (reading (probe_of x.there at len) >>= g)
+    → Rows x (reading (probe_operand_of x.here at len) >>= f) (reading (probe_operand_of x.there at len) >>= g)
 locked_twins x at len more = twins_bind (between x) (AreRaised x) (SameCut x) Equal _ _ _ _ (probe_twins x at len) more
 
 -- ---- rows
@@ -94,11 +96,11 @@ tas_in_memory_twins : (x : Setting) (address : ℕ) (p : Plain) → Rows x (tas_
 unfolding tas_in_memory
 tas_in_memory_twins x address p = locked_twins x address 1 (λ ps qs e.
     then_twins x (SameCut x) (get_twins x ps qs e) (λ value.
-    then_twins x (SameCut x) (put_twins x ps qs 1 (test_and_set value p.ccr).value e) (λ done. returned refl)))
+    then_twins x (SameCut x) (put_twins x ps qs 1 (test_and_set_of value p.ccr).value e) (λ done. returned refl)))
 
 pub tas_twins : (x : Setting) (ea : Ea) (word_at : ℕ) (p : Plain) → Rows x (tas_of ea word_at x.here p) (tas_of ea word_at x.there p)
 unfolding tas_of
-tas_twins x (Dn n) word_at p = modifying_twins x test_and_set Byte (Dn n) word_at p
+tas_twins x (Dn n) word_at p = modifying_twins x test_and_set_of Byte (Dn n) word_at p
 tas_twins x ea word_at p =
     then_twins x (SameCut x) (reading_twins x (resolve_twins x ea Byte word_at p))
     (λ to. tas_in_memory_twins x (place_of to.target) to.plain)

@@ -5,13 +5,13 @@ use Rattle.mb_instr.specs.declared.size.Size.{Size}
 use Rattle.mb_instr.specs.declared.operand.Ea.{Ea}
 use Rattle.mb_instr.specs.declared.registers.Plain.{Plain}
 use Rattle.mb_alu.specs.declared.conditions.Flagged.{Flagged}
-use Rattle.mb_meaning.specs.Modifying.{modifying}
+use Rattle.mb_meaning.specs.Modifying.{modify_of}
 use Rattle.mb_twins.proofs.Parts.{SameCut, Rows, then_twins, reading_twins}
 use Rattle.mb_twins.proofs.Operands.{operand_twins, storing_twins}
 
 pub modifying_twins : (x : Setting) (change : ℕ → ℕ → Flagged) (size : Size) (ea : Ea) (word_at : ℕ) (p : Plain)
-    → Rows x (modifying change size ea word_at x.here p) (modifying change size ea word_at x.there p)
-unfolding modifying
+    → Rows x (modify_of change size ea word_at x.here p) (modify_of change size ea word_at x.there p)
+unfolding modify_of
 modifying_twins x change size ea word_at p =
     then_twins x (SameCut x) (reading_twins x (operand_twins x size ea word_at p)) (λ operand.
     let result = change operand.value operand.plain.ccr in

@@ -7,27 +7,27 @@ use Rattle.mb_instr.specs.declared.size.Size.TheVariants.{Byte, Word, Long}
 use Rattle.mb_instr.specs.declared.operand.Ea.{Ea}
 use Rattle.mb_instr.specs.declared.kinds.Condition.{Condition}
 use Rattle.mb_instr.specs.declared.registers.Plain.{Plain}
-use Rattle.mb_meaning.specs.Operands.{behind}
+use Rattle.mb_meaning.specs.Operands.{behind_of}
 use Rattle.mb_meaning.specs.Conditions.{is_met}
-use Rattle.mb_meaning.specs.Moves.{move_flags, move_of, movea_of, lea_of, to_ccr_of, from_ccr_of, byte_of, scc_of}
+use Rattle.mb_meaning.specs.Moves.{move_flags, move_operand_of, movea_of, lea_of, move_to_ccr_of, move_from_ccr_of, byte_of, scc_of}
 use Rattle.mb_twins.proofs.Parts.{SameCut, Rows, then_twins, reading_twins}
 use Rattle.mb_twins.proofs.Operands.{resolve_twins, operand_twins, address_twins, storing_twins}
 
 pub move_twins : (x : Setting) (size : Size) (destination source : Ea) (word_at : ℕ) (p : Plain)
-    → Rows x (move_of size destination source word_at x.here p) (move_of size destination source word_at x.there p)
-unfolding move_of
+    → Rows x (move_operand_of size destination source word_at x.here p) (move_operand_of size destination source word_at x.there p)
+unfolding move_operand_of
 move_twins x size destination source word_at p =
     then_twins x (SameCut x) (reading_twins x (operand_twins x size source word_at p)) (λ from.
-    then_twins x (SameCut x) (reading_twins x (resolve_twins x destination size (behind size source word_at) from.plain)) (λ to.
+    then_twins x (SameCut x) (reading_twins x (resolve_twins x destination size (behind_of size source word_at) from.plain)) (λ to.
     storing_twins x to.target size from.value (move_flags size from.value to.plain)))
 
-pub to_ccr_twins : (x : Setting) (ea : Ea) (word_at : ℕ) (p : Plain) → Rows x (to_ccr_of ea word_at x.here p) (to_ccr_of ea word_at x.there p)
-unfolding to_ccr_of
+pub to_ccr_twins : (x : Setting) (ea : Ea) (word_at : ℕ) (p : Plain) → Rows x (move_to_ccr_of ea word_at x.here p) (move_to_ccr_of ea word_at x.there p)
+unfolding move_to_ccr_of
 to_ccr_twins x ea word_at p =
     then_twins x (SameCut x) (reading_twins x (operand_twins x Word ea word_at p)) (λ operand. returned refl)
 
-pub from_ccr_twins : (x : Setting) (ea : Ea) (word_at : ℕ) (p : Plain) → Rows x (from_ccr_of ea word_at x.here p) (from_ccr_of ea word_at x.there p)
-unfolding from_ccr_of
+pub from_ccr_twins : (x : Setting) (ea : Ea) (word_at : ℕ) (p : Plain) → Rows x (move_from_ccr_of ea word_at x.here p) (move_from_ccr_of ea word_at x.there p)
+unfolding move_from_ccr_of
 from_ccr_twins x ea word_at p =
     then_twins x (SameCut x) (reading_twins x (resolve_twins x ea Word word_at p)) (λ to.
     storing_twins x to.target Word (p.ccr % 2 ^ 5) to.plain)

@@ -19,26 +19,26 @@ use Rattle.mb_frames.specs.AccessFields.{piece_of}
 use Rattle.mb_ea.specs.declared.addresses.Target.{Target}
 use Rattle.mb_ea.specs.declared.addresses.Target.TheVariants.{Reg, Memory, Value}
 use Rattle.mb_ea.specs.Addresses.{sum}
-use Rattle.mb_ea.specs.Reading.{read_pieces, read_cut, read_of}
+use Rattle.mb_ea.specs.Reading.{read_pieces_of, read_cut_of, read_operand_of}
 use Rattle.mb_ea.specs.Resolve.{indirect_of, full_of, parts_of, indexed_of, in_memory, resolve_of}
-use Rattle.mb_writes.specs.Writing.{pending_of, write_all, put_of}
-use Rattle.mb_meaning.specs.Operands.{load_of, store_of, operand_of, address_of, storing, pushing}
+use Rattle.mb_writes.specs.Writing.{pending_of, write_pieces_of, write_operand_of}
+use Rattle.mb_meaning.specs.Operands.{load_of, store_of, fetch_operand_of, find_address_of, finish_with_of, push_of}
 use Rattle.mb_twins.specs.Twins.{SameRead, SameWrite}
 use Rattle.mb_twins.proofs.Parts.{SameCut, Rows, Stages, TwinParts, Reads, Writes, then_twins, failing_twins, writing_twins}
 
 -- ---- what stands in memory
 
 pub pieces_twins : (x : Setting) (pieces : List Piece) (value : ℕ)
-    → TwinParts x (SameFault x) (read_pieces x.here pieces value) (read_pieces x.there pieces value)
+    → TwinParts x (SameFault x) (read_pieces_of x.here pieces value) (read_pieces_of x.there pieces value)
 pieces_twins x [] value = returned refl
 pieces_twins x (p ∷ ps) value = then_twins x (SameFault x) (twin_read x p) (λ v. pieces_twins x ps (value * 256 ^ p.len + v))
 
-cut_twins : (x : Setting) (at len : ℕ) → TwinParts x (SameFault x) (read_cut x.here at len) (read_cut x.there at len)
-unfolding read_cut
+cut_twins : (x : Setting) (at len : ℕ) → TwinParts x (SameFault x) (read_cut_of x.here at len) (read_cut_of x.there at len)
+unfolding read_cut_of
 cut_twins x at len = pieces_twins x (split_of at len) 0
 
-pub read_twins : (x : Setting) (at len : ℕ) → Reads x (read_of x.here at len) (read_of x.there at len)
-unfolding read_of
+pub read_twins : (x : Setting) (at len : ℕ) → Reads x (read_operand_of x.here at len) (read_operand_of x.there at len)
+unfolding read_operand_of
 read_twins x at len = failing_twins x (SameFault x) (SameRead x) (λ e f h. record { fault = h; first = refl }) (cut_twins x at len)
 
 -- ---- where a mode leads
@@ -81,28 +81,28 @@ load_twins x (Memory at) size p = read_twins x at (bytes_of size)
 load_twins x (Value v) size p = returned refl
 
 pub operand_twins : (x : Setting) (size : Size) (ea : Ea) (word_at : ℕ) (p : Plain)
-    → Reads x (operand_of size ea word_at x.here p) (operand_of size ea word_at x.there p)
-unfolding operand_of
+    → Reads x (fetch_operand_of size ea word_at x.here p) (fetch_operand_of size ea word_at x.there p)
+unfolding fetch_operand_of
 operand_twins x size ea word_at p =
     then_twins x (SameRead x) (resolve_twins x ea size word_at p) (λ resolved.
     then_twins x (SameRead x) (load_twins x resolved.target size resolved.plain) (λ value. returned refl))
 
 pub address_twins : (x : Setting) (size : Size) (ea : Ea) (word_at : ℕ) (p : Plain)
-    → Reads x (address_of size ea word_at x.here p) (address_of size ea word_at x.there p)
-unfolding address_of
+    → Reads x (find_address_of size ea word_at x.here p) (find_address_of size ea word_at x.there p)
+unfolding find_address_of
 address_twins x size ea word_at p = then_twins x (SameRead x) (resolve_twins x ea size word_at p) (λ resolved. returned refl)
 
 -- ---- operands that are written
 
-pub write_all_twins : (x : Setting) (first : ℕ) (pending : List Pend) → Writes x (write_all x.here first pending) (write_all x.there first pending)
+pub write_all_twins : (x : Setting) (first : ℕ) (pending : List Pend) → Writes x (write_pieces_of x.here first pending) (write_pieces_of x.there first pending)
 write_all_twins x first [] = returned refl
 write_all_twins x first (p ∷ ps) =
     then_twins x (SameWrite x)
     (failing_twins x (SameFault x) (SameWrite x) (λ e f h. record { fault = h; first = refl; rest = refl }) (twin_write x (piece_of p) p.value))
     (λ done. write_all_twins x first ps)
 
-pub put_twins : (x : Setting) (at len value : ℕ) → Writes x (put_of x.here at len value) (put_of x.there at len value)
-unfolding put_of
+pub put_twins : (x : Setting) (at len value : ℕ) → Writes x (write_operand_of x.here at len value) (write_operand_of x.there at len value)
+unfolding write_operand_of
 put_twins x at len value = write_all_twins x at (pending_of at len value)
 
 pub store_twins : (x : Setting) (target : Target) (size : Size) (value : ℕ) (p : Plain)
@@ -115,11 +115,11 @@ store_twins x (Value v) size value p = returned refl
 -- ---- the last parts of instructions
 
 pub storing_twins : (x : Setting) (target : Target) (size : Size) (value : ℕ) (after : Plain)
-    → Rows x (storing target size value x.here after) (storing target size value x.there after)
-unfolding storing
+    → Rows x (finish_with_of target size value x.here after) (finish_with_of target size value x.there after)
+unfolding finish_with_of
 storing_twins x target size value after =
     then_twins x (SameCut x) (writing_twins x after (store_twins x target size value after)) (λ done. returned refl)
 
-pub pushing_twins : (x : Setting) (value top : ℕ) (after : Plain) → Stages x (pushing value top x.here after) (pushing value top x.there after)
-unfolding pushing
+pub pushing_twins : (x : Setting) (value top : ℕ) (after : Plain) → Stages x (push_of value top x.here after) (push_of value top x.there after)
+unfolding push_of
 pushing_twins x value top after = writing_twins x after (put_twins x top 4 value)

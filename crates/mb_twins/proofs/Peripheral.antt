@@ -11,8 +11,8 @@ use Rattle.mb_instr.specs.Sizes.{bytes_of, sign_extended}
 use Rattle.mb_instr.specs.Registers.{data_register, address_register}
 use Rattle.mb_ea.specs.declared.addresses.Target.TheVariants.{Reg}
 use Rattle.mb_ea.specs.Addresses.{sum}
-use Rattle.mb_writes.specs.Writing.{part_of, parts_of, apart, put_apart_of}
-use Rattle.mb_meaning.specs.Peripheral.{read_apart_of, from_peripheral, to_peripheral, movep_of}
+use Rattle.mb_writes.specs.Writing.{part_of, parts_of, apart, write_apart_of}
+use Rattle.mb_meaning.specs.Peripheral.{read_apart_of, load_peripheral_of, store_peripheral_of, movep_of}
 use Rattle.mb_twins.specs.Twins.{SameRead, SameWrite}
 use Rattle.mb_twins.proofs.Parts.{SameCut, SameRowed, Rows, Reads, Writes, then_twins, failing_twins, reading_twins, writing_twins}
 use Rattle.mb_twins.proofs.Operands.{pieces_twins, write_all_twins, storing_twins}
@@ -22,8 +22,8 @@ unfolding read_apart_of
 read_apart_twins x at size =
     failing_twins x (SameFault x) (SameRead x) (λ e f h. record { fault = h; first = refl }) (pieces_twins x (apart at (bytes_of size)) 0)
 
-put_apart_twins : (x : Setting) (at : ℕ) (size : Size) (value : ℕ) → Writes x (put_apart_of x.here at size value) (put_apart_of x.there at size value)
-unfolding put_apart_of
+put_apart_twins : (x : Setting) (at : ℕ) (size : Size) (value : ℕ) → Writes x (write_apart_of x.here at size value) (write_apart_of x.there at size value)
+unfolding write_apart_of
 put_apart_twins x at Byte value = write_all_twins x at (parts_of (apart at 1) 1 value)
 put_apart_twins x at Word value = write_all_twins x at (parts_of (apart at 2) 2 value)
 put_apart_twins x at Long value =
@@ -33,14 +33,14 @@ put_apart_twins x at Long value =
     (λ done. write_all_twins x at (parts_of (apart ((at + 2) % 2 ^ 32) 3) 3 value))
 
 load_twins : (x : Setting) (n : ℕ) (size : Size) (place : ℕ) (p : Plain)
-    → Rows x (from_peripheral n size place x.here p) (from_peripheral n size place x.there p)
-unfolding from_peripheral
+    → Rows x (load_peripheral_of n size place x.here p) (load_peripheral_of n size place x.there p)
+unfolding load_peripheral_of
 load_twins x n size place p =
     then_twins x (SameCut x) (reading_twins x (read_apart_twins x place size)) (λ value. storing_twins x (Reg n) size value p)
 
 store_twins : (x : Setting) (n : ℕ) (size : Size) (place : ℕ) (p : Plain)
-    → Rows x (to_peripheral n size place x.here p) (to_peripheral n size place x.there p)
-unfolding to_peripheral
+    → Rows x (store_peripheral_of n size place x.here p) (store_peripheral_of n size place x.there p)
+unfolding store_peripheral_of
 store_twins x n size place p =
     then_twins x (SameCut x) (writing_twins x p (put_apart_twins x place size (data_register p n))) (λ done. returned refl)
 

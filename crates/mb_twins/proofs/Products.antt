@@ -8,7 +8,7 @@ use Rattle.mb_alu.specs.declared.width.Width.TheVariants.{Word}
 use Rattle.mb_alu.specs.declared.quotients.Divided.{Divided}
 use Rattle.mb_alu.specs.declared.quotients.Divided.TheVariants.{Done, ZeroDivide, Overflow}
 use Rattle.mb_alu.specs.Products.{div_of}
-use Rattle.mb_meaning.specs.Products.{divided_by_word, word_divided, is_signed, width_of, dividend_of, divided_by_long, long_divided}
+use Rattle.mb_meaning.specs.Products.{divided_by_word, divide_word_of, is_signed, width_of, dividend_of, divided_by_long, divide_long_of}
 use Rattle.mb_twins.proofs.Parts.{SameRowed}
 
 by_word_same : (x : Setting) (n : ℕ) (d : Divided) (p : Plain) → SameRowed x (divided_by_word n d p) (divided_by_word n d p)
@@ -17,7 +17,7 @@ by_word_same x n (Overflow ccr) p = refl
 by_word_same x n (ZeroDivide ccr) p = ((refl, inl refl), refl)
 
 pub word_divided_same : (x : Setting) (signed : Bool) (n value : ℕ) (p : Plain)
-    → SameRowed x (word_divided signed n value p) (word_divided signed n value p)
+    → SameRowed x (divide_word_of signed n value p) (divide_word_of signed n value p)
 word_divided_same x signed n value p = by_word_same x n (div_of signed Word value (data_register p n) p.ccr) p
 
 by_long_same : (x : Setting) (word : ℕ) (d : Divided) (p : Plain) → SameRowed x (divided_by_long word d p) (divided_by_long word d p)
@@ -25,6 +25,6 @@ by_long_same x word (Done quotient remainder ccr) p = refl
 by_long_same x word (Overflow ccr) p = refl
 by_long_same x word (ZeroDivide ccr) p = ((refl, inl refl), refl)
 
-pub long_divided_same : (x : Setting) (word value : ℕ) (p : Plain) → SameRowed x (long_divided word value p) (long_divided word value p)
+pub long_divided_same : (x : Setting) (word value : ℕ) (p : Plain) → SameRowed x (divide_long_of word value p) (divide_long_of word value p)
 long_divided_same x word value p =
     by_long_same x word (div_of (is_signed word) (width_of word) value (dividend_of word p) p.ccr) p

@@ -35,11 +35,11 @@ use Rattle.mb_instr.specs.Rows.{move_row, arith_row, flow_row}
 use Rattle.mb_meaning.specs.Arithmetic.{added, subtracted, added_extended, subtracted_extended, address_moved, address_compared}
 use Rattle.mb_meaning.specs.Unary.{negated, negated_extended, complemented, tested}
 use Rattle.mb_meaning.specs.Shifts.{shifted_by_one}
-use Rattle.mb_meaning.specs.Products.{multiplied_by_word, word_divided, multiplied_by_long, long_divided}
+use Rattle.mb_meaning.specs.Products.{multiply_word_of, divide_word_of, multiply_long_of, divide_long_of}
 use Rattle.mb_instr.specs.Registers.{data_register}
 use Rattle.mb_fields.specs.Decimals.{abcd_of, sbcd_of}
 use Rattle.mb_fields.specs.Packing.{pack_of, unpk_of}
-use Rattle.mb_meaning.specs.Decimals.{negated_decimal}
+use Rattle.mb_meaning.specs.Decimals.{negate_decimal_of}
 use Rattle.mb_meaning.specs.Rows.{perform_move_of, perform_arith_of, perform_flow_of, row_of, perform_of}
 use Rattle.mb_meaning.specs.Ends.{Performed}
 use Rattle.mb_meaning.specs.Attempt.{Unfound, end_without, Found, judged, found_of, fetched_of, past, attempt_of}
@@ -122,14 +122,14 @@ perform_arith_twins x (arith.AndiCcr word) word_at p = returned refl
 perform_arith_twins x (arith.EoriCcr word) word_at p = returned refl
 perform_arith_twins x (arith.ShiftReg count is_left size by_register kind register) word_at p = returned refl
 perform_arith_twins x (arith.ShiftMem kind is_left ea) word_at p = modifying_twins x (shifted_by_one kind is_left) Word ea word_at p
-perform_arith_twins x (arith.MulW register signed ea) word_at p = taking_twins x (multiplied_by_word signed register) Word ea word_at p (λ value q. refl)
-perform_arith_twins x (arith.MulL ea word) word_at p = taking_twins x (multiplied_by_long word) Long ea word_at p (λ value q. refl)
+perform_arith_twins x (arith.MulW register signed ea) word_at p = taking_twins x (multiply_word_of signed register) Word ea word_at p (λ value q. refl)
+perform_arith_twins x (arith.MulL ea word) word_at p = taking_twins x (multiply_long_of word) Long ea word_at p (λ value q. refl)
 perform_arith_twins x (arith.DivW register signed ea) word_at p =
-    taking_twins x (word_divided signed register) Word ea word_at p (word_divided_same x signed register)
-perform_arith_twins x (arith.DivL ea word) word_at p = taking_twins x (long_divided word) Long ea word_at p (long_divided_same x word)
+    taking_twins x (divide_word_of signed register) Word ea word_at p (word_divided_same x signed register)
+perform_arith_twins x (arith.DivL ea word) word_at p = taking_twins x (divide_long_of word) Long ea word_at p (long_divided_same x word)
 perform_arith_twins x (arith.BitReg register kind ea) word_at p = bit_row_twins x kind (data_register p register) ea word_at p
 perform_arith_twins x (arith.BitImm kind ea word) word_at p = bit_row_twins x kind word ea word_at p
-perform_arith_twins x (arith.Nbcd ea) word_at p = modifying_twins x negated_decimal Byte ea word_at p
+perform_arith_twins x (arith.Nbcd ea) word_at p = modifying_twins x negate_decimal_of Byte ea word_at p
 perform_arith_twins x (arith.Abcd to in_memory from) word_at p = decimal_twins x abcd_of to in_memory from word_at p
 perform_arith_twins x (arith.Sbcd to in_memory from) word_at p = decimal_twins x sbcd_of to in_memory from word_at p
 perform_arith_twins x (arith.Pack to in_memory from word) word_at p = digits_twins x pack_of Word Byte to in_memory from word word_at p

@@ -10,7 +10,7 @@ use Rattle.mb_instr.specs.Sizes.{bytes_of}
 use Rattle.mb_writes.specs.declared.transfers.Movem.{Movem}
 use Rattle.mb_writes.specs.declared.transfers.Transfer.{Transfer}
 use Rattle.mb_writes.specs.Transfers.{transfers_of}
-use Rattle.mb_writes.specs.Moving.{Halfway, stored_of, store_all, loaded_of, load_all, storing, transfer_of}
+use Rattle.mb_writes.specs.Moving.{Halfway, stored_of, store_all_of, loaded_of, load_all_of, storing, transfer_of}
 use Rattle.mb_meaning.specs.Moves.{movem_by, movem_of}
 use Rattle.mb_twins.specs.Twins.{SameRead, SameWrite, SameTransfer}
 use Rattle.mb_twins.proofs.Parts.{SameCut, Rows, TwinParts, then_twins, failing_twins, reading_twins}
@@ -21,7 +21,7 @@ abbrev SameHalfway : Setting → Halfway → Halfway → Type 0
 SameHalfway x a b = SameTransfer x a.fault b.fault × (a.plain ≡ b.plain)
 
 store_all_twins : (x : Setting) (m : Movem) (p : Plain) (first done : ℕ) (ts : List Transfer)
-    → TwinParts x (SameTransfer x) (store_all m x.here p first done ts) (store_all m x.there p first done ts)
+    → TwinParts x (SameTransfer x) (store_all_of m x.here p first done ts) (store_all_of m x.there p first done ts)
 store_all_twins x m p first done [] = returned refl
 store_all_twins x m p first done (t ∷ ts) =
     then_twins x (SameTransfer x)
@@ -30,7 +30,7 @@ store_all_twins x m p first done (t ∷ ts) =
     (λ stored. store_all_twins x m p first (done + 1) ts)
 
 load_all_twins : (x : Setting) (m : Movem) (first done : ℕ) (ts : List Transfer) (p : Plain)
-    → TwinParts x (SameHalfway x) (load_all m x.here first done ts p) (load_all m x.there first done ts p)
+    → TwinParts x (SameHalfway x) (load_all_of m x.here first done ts p) (load_all_of m x.there first done ts p)
 load_all_twins x m first done [] p = returned refl
 load_all_twins x m first done (t ∷ ts) p =
     then_twins x (SameHalfway x)

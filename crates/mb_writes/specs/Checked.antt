@@ -14,34 +14,34 @@ use Rattle.mb_writes.specs.Writing.{part_of}
 -- ---- checks, reads and writes
 
 -- Pieces are checked for writing in their order. Where each stands comes behind the places so far.
-abbrev pub probe_pieces : Space → List Piece → List Place → Routine (Result (List Place) Fault)
-probe_pieces space [] places = Return (Ok places)
-probe_pieces space (p ∷ ps) places = do
+abbrev pub probe_pieces_of : Space → List Piece → List Place → Routine (Result (List Place) Fault)
+probe_pieces_of space [] places = Return (Ok places)
+probe_pieces_of space (p ∷ ps) places = do
   place ← probe space p
-  probe_pieces space ps (places ++ place ∷ [])
+  probe_pieces_of space ps (places ++ place ∷ [])
 
 -- The places of an operand, which are checked for writing. A refused check is told with the operand's first byte.
-unfoldable pub probe_of : Space → ℕ → ℕ → Routine (Result (List Place) ReadFault)
-probe_of space at len = failing (refused_in at) (probe_pieces space (split_of at len) [])
+unfoldable pub probe_operand_of : Space → ℕ → ℕ → Routine (Result (List Place) ReadFault)
+probe_operand_of space at len = failing (refused_in at) (probe_pieces_of space (split_of at len) [])
 
 -- Checked places are read in their order: the big-endian number that they spell, behind the value so far.
-abbrev pub get_places : List Place → ℕ → Routine ℕ
-get_places [] value = Return value
-get_places (p ∷ ps) value = Then (get p) (λ x. get_places ps (value * 256 ^ p.len + x))
+abbrev pub get_places_of : List Place → ℕ → Routine ℕ
+get_places_of [] value = Return value
+get_places_of (p ∷ ps) value = Then (get p) (λ x. get_places_of ps (value * 256 ^ p.len + x))
 
 -- what stands at an operand's places
-unfoldable pub get_of : List Place → Routine ℕ
-get_of places = get_places places 0
+unfoldable pub get_operand_of : List Place → Routine ℕ
+get_operand_of places = get_places_of places 0
 
 -- Checked places are written in their order, each with its part of the number.
-abbrev pub put_places : List Place → ℕ → ℕ → Routine (Unit {0})
-put_places [] before_end value = Return tt
-put_places (p ∷ ps) before_end value =
-    Then (put p (part_of value before_end p.len)) (λ done. put_places ps (before_end - p.len) value)
+abbrev pub put_places_of : List Place → ℕ → ℕ → Routine (Unit {0})
+put_places_of [] before_end value = Return tt
+put_places_of (p ∷ ps) before_end value =
+    Then (put p (part_of value before_end p.len)) (λ done. put_places_of ps (before_end - p.len) value)
 
 -- an operand of so many bytes goes to its places
-unfoldable pub put_at : List Place → ℕ → ℕ → Routine (Unit {0})
-put_at places len value = put_places places len value
+unfoldable pub put_operand_of : List Place → ℕ → ℕ → Routine (Unit {0})
+put_operand_of places len value = put_places_of places len value
 
 -- ---- places
 

@@ -8,14 +8,14 @@ use Rattle.mb_instr.specs.declared.size.Size.{Size}
 use Rattle.mb_instr.specs.declared.registers.Plain.{Plain}
 use Rattle.mb_instr.specs.Sizes.{bytes_of, sign_extended}
 use Rattle.mb_instr.specs.Registers.{register_of, with_register, with_address_register}
-use Rattle.mb_ea.specs.Reading.{read_of}
+use Rattle.mb_ea.specs.Reading.{read_operand_of}
 use Rattle.mb_writes.specs.declared.ends.MovemFault.{MovemFault}
 use Rattle.mb_writes.specs.declared.transfers.Movem.{Movem}
 use Rattle.mb_writes.specs.declared.transfers.MovemMode.{MovemMode}
 use Rattle.mb_writes.specs.declared.transfers.MovemMode.TheVariants.{Control, Post, Pre}
 use Rattle.mb_writes.specs.declared.transfers.Transfer.{Transfer}
 use Rattle.mb_writes.specs.Transfers.{transfers_of}
-use Rattle.mb_writes.specs.Writing.{put_of}
+use Rattle.mb_writes.specs.Writing.{write_operand_of}
 
 -- a refused transfer: the address of the first one, and how many were done
 abbrev pub refused_at : ℕ → ℕ → Fault → MovemFault
@@ -29,12 +29,12 @@ stored_of (Pre n) size p r =
     if r == 8 + n then (register_of p r + (2 ^ 32 - bytes_of size)) % 2 ^ 32 else register_of p r
 
 -- registers go to memory in the order of the transfers
-abbrev pub store_all : Movem → Space → Plain → ℕ → ℕ → List Transfer → Routine (Result (Unit {0}) MovemFault)
-store_all m space p first done [] = Return (Ok tt)
-store_all m space p first done (t ∷ ts) = do
+abbrev pub store_all_of : Movem → Space → Plain → ℕ → ℕ → List Transfer → Routine (Result (Unit {0}) MovemFault)
+store_all_of m space p first done [] = Return (Ok tt)
+store_all_of m space p first done (t ∷ ts) = do
   failing (λ refused. refused_at first done refused.fault)
-      (put_of space t.at (bytes_of m.size) (stored_of m.mode m.size p t.register))
-  store_all m space p first (done + 1) ts
+      (write_operand_of space t.at (bytes_of m.size) (stored_of m.mode m.size p t.register))
+  store_all_of m space p first (done + 1) ts
 
 -- a value goes to a register with its sign; what is read for the register of (An)+ is dropped
 abbrev pub loaded_of : MovemMode → Size → Plain → ℕ → ℕ → Plain
@@ -48,12 +48,12 @@ pub record Halfway : Type 0 where
   pub plain : Plain
 
 -- registers come from memory in the order of the transfers
-abbrev pub load_all : Movem → Space → ℕ → ℕ → List Transfer → Plain → Routine (Result Plain Halfway)
-load_all m space first done [] p = Return (Ok p)
-load_all m space first done (t ∷ ts) p = do
+abbrev pub load_all_of : Movem → Space → ℕ → ℕ → List Transfer → Plain → Routine (Result Plain Halfway)
+load_all_of m space first done [] p = Return (Ok p)
+load_all_of m space first done (t ∷ ts) p = do
   value ← failing (λ refused. record { fault = refused_at first done refused.fault; plain = p })
-      (read_of space t.at (bytes_of m.size))
-  load_all m space first (done + 1) ts (loaded_of m.mode m.size p t.register value)
+      (read_operand_of space t.at (bytes_of m.size))
+  load_all_of m space first (done + 1) ts (loaded_of m.mode m.size p t.register value)
 
 -- The address register of (An)+ and -(An) afterwards, by the first transfer's address and the number of
 -- transfers.
@@ -65,13 +65,14 @@ stepped_of (Pre n) size ea count p =
 
 abbrev pub storing : Movem → ℕ → ℕ → Space → Plain → Routine (Result Plain Halfway)
 storing m ea done space p = do
-  failing (λ fault. record { fault = fault; plain = p }) (store_all m space p ea done (drop done (transfers_of m ea)))
+  failing (λ fault. record { fault = fault; plain = p })
+      (store_all_of m space p ea done (drop done (transfers_of m ea)))
   Return (Ok p)
 
 -- MOVEM from a transfer on: `done` of them were done before
 unfoldable pub transfer_of : Movem → ℕ → ℕ → Space → Plain → Routine (Result Plain Halfway)
 transfer_of m ea done space p = do
-  moved ← choose m.is_load (load_all m space ea done (drop done (transfers_of m ea)) p) (storing m ea done space p)
+  moved ← choose m.is_load (load_all_of m space ea done (drop done (transfers_of m ea)) p) (storing m ea done space p)
   Return (Ok (stepped_of m.mode m.size ea (length (transfers_of m ea)) moved))
 
 -- what a call answered, with the registers after it

@@ -36,15 +36,15 @@ abbrev pub left_by : ℕ → List Pend → Fault → WriteFault
 left_by first rest fault = record { fault = fault; first = first; rest = record { items = rest } }
 
 -- Pieces are written in their order. A refused one is left, and so are all that come after it.
-abbrev pub write_all : Space → ℕ → List Pend → Routine (Result (Unit {0}) WriteFault)
-write_all space first [] = Return (Ok tt)
-write_all space first (p ∷ ps) = do
+abbrev pub write_pieces_of : Space → ℕ → List Pend → Routine (Result (Unit {0}) WriteFault)
+write_pieces_of space first [] = Return (Ok tt)
+write_pieces_of space first (p ∷ ps) = do
   failing (left_by first (p ∷ ps)) (write space (piece_of p) p.value)
-  write_all space first ps
+  write_pieces_of space first ps
 
 -- an operand of one to five bytes
-unfoldable pub put_of : Space → ℕ → ℕ → ℕ → Routine (Result (Unit {0}) WriteFault)
-put_of space at len value = write_all space at (pending_of at len value)
+unfoldable pub write_operand_of : Space → ℕ → ℕ → ℕ → Routine (Result (Unit {0}) WriteFault)
+write_operand_of space at len value = write_pieces_of space at (pending_of at len value)
 
 -- so many single bytes, at every second address
 abbrev pub apart : ℕ → ℕ → List Piece
@@ -53,12 +53,12 @@ apart at (suc n) = record { at = at; len = 1 } ∷ apart ((at + 2) % 2 ^ 32) n
 
 -- An operand whose bytes stand at every second address, each a piece. Of a long whose first byte is refused nothing is
 -- left to be written.
-unfoldable pub put_apart_of : Space → ℕ → Size → ℕ → Routine (Result (Unit {0}) WriteFault)
-put_apart_of space at Byte value = write_all space at (parts_of (apart at 1) 1 value)
-put_apart_of space at Word value = write_all space at (parts_of (apart at 2) 2 value)
-put_apart_of space at Long value = do
+unfoldable pub write_apart_of : Space → ℕ → Size → ℕ → Routine (Result (Unit {0}) WriteFault)
+write_apart_of space at Byte value = write_pieces_of space at (parts_of (apart at 1) 1 value)
+write_apart_of space at Word value = write_pieces_of space at (parts_of (apart at 2) 2 value)
+write_apart_of space at Long value = do
   failing (left_by at []) (write space (record { at = at; len = 1 }) (part_of value 4 1))
-  write_all space at (parts_of (apart ((at + 2) % 2 ^ 32) 3) 3 value)
+  write_pieces_of space at (parts_of (apart ((at + 2) % 2 ^ 32) 3) 3 value)
 
 -- where the first of them is
 abbrev pub first_of : List Pend → ℕ
@@ -67,7 +67,7 @@ first_of (p ∷ ps) = p.at
 
 -- what a refused write left
 unfoldable pub complete_of : Space → List Pend → Routine (Result (Unit {0}) WriteFault)
-complete_of space pending = write_all space (first_of pending) pending
+complete_of space pending = write_pieces_of space (first_of pending) pending
 
 -- The list is the end of the other, and not empty.
 pub record IsLeft (rest pending : List Pend) : Type 0 where

@@ -4,7 +4,7 @@ ghost use Rattle.std.specs.Prelude.{◌≡◌, ◌<◌, ◌≤◌, ◌+◌, ◌^
 ghost use Rattle.mb_port.specs.Routine.{run};
 ghost use Rattle.mb_port.specs.Pieces.{ArePieces, total};
 ghost use Rattle.mb_instr.specs.Sizes.{bytes_of, values_of};
-ghost use Rattle.mb_writes.specs.Checked.{probe_pieces, probe_of, get_places, get_of, put_places, put_at};
+ghost use Rattle.mb_writes.specs.Checked.{probe_pieces_of, probe_operand_of, get_places_of, get_operand_of, put_places_of, put_operand_of};
 ghost use Rattle.mb_writes.specs.Checked.{bytes_at, probed, located, IsOpen, AreOpen};
 
 use crate::writing::part;
@@ -23,7 +23,7 @@ fn probe_pieces<P: Port>(
     requires aligned { ArePieces pieces.now }
     requires room { length places.old.items + length pieces.now ≤ 3 }
     requires open { All (IsOpen (P.exists (P.rest port.old))) places.old.items }
-    ensures means { run P.bus (probe_pieces space pieces.now places.old.items) (P.world port.old)
+    ensures means { run P.bus (probe_pieces_of space pieces.now places.old.items) (P.world port.old)
         ≡ (probed result places.new.items, P.world port.new) }
     ensures open { OnOk result (All (IsOpen (P.exists (P.rest port.new))) places.new.items) }
     ensures bytes { OnOk result (bytes_at places.new.items ≡ bytes_at places.old.items + total pieces.now) }
@@ -40,14 +40,14 @@ fn probe_pieces<P: Port>(
 }
 
 /// Checks an operand for writing. The answer is where its pieces stand.
-#[tactic(auto, unfolding(crate::specs::Checked::probe_of))]
+#[tactic(auto, unfolding(crate::specs::Checked::probe_operand_of))]
 pub fn probe_operand<P: Port>(
     space: Space,
     at: u32,
     size: Size,
     port: &mut P,
 ) -> Result<ArrayVec<Place, 3>, ReadFault>
-    ensures means { run P.bus (probe_of space at (bytes_of size)) (P.world port.old)
+    ensures means { run P.bus (probe_operand_of space at (bytes_of size)) (P.world port.old)
         ≡ (located result, P.world port.new) }
     ensures open { IfOk result (λ places. AreOpen (P.exists (P.rest port.new)) (bytes_of size) places.items) }
     ensures rest { P.rest port.new ≡ P.rest port.old }
@@ -65,7 +65,7 @@ fn get_places<P: Port>(places: &[Place], value: u64, len: u8, port: &mut P) -> u
     requires open { All (IsOpen (P.exists (P.rest port.old))) places.now }
     requires fits { len + bytes_at places.now ≤ 4 }
     requires in_range { value < 256 ^ len }
-    ensures means { run P.bus (get_places places.now value) (P.world port.old) ≡ (result, P.world port.new) }
+    ensures means { run P.bus (get_places_of places.now value) (P.world port.old) ≡ (result, P.world port.new) }
     ensures range { result < 256 ^ (len + bytes_at places.now) }
     ensures rest { P.rest port.new ≡ P.rest port.old }
 {
@@ -80,10 +80,10 @@ fn get_places<P: Port>(places: &[Place], value: u64, len: u8, port: &mut P) -> u
 }
 
 /// Reads a checked operand.
-#[tactic(auto, unfolding(crate::specs::Checked::get_of))]
+#[tactic(auto, unfolding(crate::specs::Checked::get_operand_of))]
 pub fn get_operand<P: Port>(places: &ArrayVec<Place, 3>, size: Size, port: &mut P) -> u32
     requires { AreOpen (P.exists (P.rest port.old)) (bytes_of size) places.now.items }
-    ensures means { run P.bus (get_of places.now.items) (P.world port.old) ≡ (result, P.world port.new) }
+    ensures means { run P.bus (get_operand_of places.now.items) (P.world port.old) ≡ (result, P.world port.new) }
     ensures range { result < values_of size }
     ensures rest { P.rest port.new ≡ P.rest port.old }
 {
@@ -95,7 +95,7 @@ fn put_places<P: Port>(places: &[Place], before_end: u8, value: u32, port: &mut 
     requires open { All (IsOpen (P.exists (P.rest port.old))) places.now }
     requires fits { bytes_at places.now ≤ 4 }
     requires few { before_end ≤ 4 }
-    ensures means { run P.bus (put_places places.now before_end value) (P.world port.old)
+    ensures means { run P.bus (put_places_of places.now before_end value) (P.world port.old)
         ≡ (result, P.world port.new) }
     ensures rest { P.rest port.new ≡ P.rest port.old }
 {
@@ -106,10 +106,10 @@ fn put_places<P: Port>(places: &[Place], before_end: u8, value: u32, port: &mut 
 }
 
 /// Writes a checked operand.
-#[tactic(auto, unfolding(crate::specs::Checked::put_at))]
+#[tactic(auto, unfolding(crate::specs::Checked::put_operand_of))]
 pub fn put_operand<P: Port>(places: &ArrayVec<Place, 3>, size: Size, value: u32, port: &mut P)
     requires { AreOpen (P.exists (P.rest port.old)) (bytes_of size) places.now.items }
-    ensures means { run P.bus (put_at places.now.items (bytes_of size) value) (P.world port.old)
+    ensures means { run P.bus (put_operand_of places.now.items (bytes_of size) value) (P.world port.old)
         ≡ (result, P.world port.new) }
     ensures rest { P.rest port.new ≡ P.rest port.old }
 {

@@ -17,4 +17,4 @@ pub use ends::{Ended, MovemFault, WriteFault};
 pub use laws::writes_complete;
 pub use movem::{continue_movem, transfer};
 pub use transfers::{Movem, MovemMode, Transfer, count};
-pub use writing::{complete, part, put_apart, put_pieces, put_value, write_pieces};
+pub use writing::{complete, part, write_apart, write_operand, write_pieces, write_value};

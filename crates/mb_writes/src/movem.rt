@@ -3,11 +3,11 @@
 ghost use Rattle.std.specs.Prelude.{◌≡◌, ◌+◌, ◌<◌, ◌≤◌, ◌/◌, ◌%◌, ◌^◌, drop, length};
 ghost use Rattle.mb_port.specs.Routine.{run};
 ghost use Rattle.mb_writes.specs.Transfers.{movem_in, mask_in, transfers_of, count_of, IsMode, AreTransfers};
-ghost use Rattle.mb_writes.specs.Moving.{stored_of, store_all, loaded_of, load_all, stepped_of, transfer_of, halfway};
+ghost use Rattle.mb_writes.specs.Moving.{stored_of, store_all_of, loaded_of, load_all_of, stepped_of, transfer_of, halfway};
 
 use crate::ends::MovemFault;
 use crate::transfers::{Movem, MovemMode, Transfer};
-use crate::writing::put_value;
+use crate::writing::write_value;
 use mb_ea::read_value;
 use mb_instr::{Plain, Size};
 use mb_port::{Port, Space};
@@ -71,14 +71,14 @@ fn store_all<P: Port>(
     requires mode { IsMode movem.now.mode }
     requires few { done + length transfers.now ≤ 16 }
     requires registers { AreTransfers transfers.now }
-    ensures means { run P.bus (store_all movem.now space plain.now first done transfers.now) (P.world port.old)
+    ensures means { run P.bus (store_all_of movem.now space plain.now first done transfers.now) (P.world port.old)
         ≡ (result, P.world port.new) }
     ensures rest { P.rest port.new ≡ P.rest port.old }
 {
     let mut done = done;
     for transfer in transfers {
         let value = movem.stored(plain, transfer.register);
-        if let Err(refused) = put_value(space, transfer.at, movem.size, value, port) {
+        if let Err(refused) = write_value(space, transfer.at, movem.size, value, port) {
             return Err(MovemFault {
                 fault: refused.fault,
                 first,
@@ -103,7 +103,7 @@ fn load_all<P: Port>(
     requires mode { IsMode movem.now.mode }
     requires few { done + length transfers.now ≤ 16 }
     requires registers { AreTransfers transfers.now }
-    ensures means { run P.bus (load_all movem.now space first done transfers.now plain.old) (P.world port.old)
+    ensures means { run P.bus (load_all_of movem.now space first done transfers.now plain.old) (P.world port.old)
         ≡ (halfway result plain.new, P.world port.new) }
     ensures rest { P.rest port.new ≡ P.rest port.old }
 {

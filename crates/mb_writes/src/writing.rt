@@ -6,7 +6,7 @@ ghost use Rattle.mb_port.specs.Pieces.{ArePieces, IsPiece};
 ghost use Rattle.mb_frames.specs.AccessFields.{piece_of};
 ghost use Rattle.mb_instr.specs.Sizes.{bytes_of, low_of};
 ghost use Rattle.mb_writes.specs.Writing.{part_of, parts_of, pending_of, ArePending, IsLeft};
-ghost use Rattle.mb_writes.specs.Writing.{left_by, write_all, put_of, apart, put_apart_of, complete_of};
+ghost use Rattle.mb_writes.specs.Writing.{left_by, write_pieces_of, write_operand_of, apart, write_apart_of, complete_of};
 
 use crate::ends::WriteFault;
 use arrayvec::ArrayVec;
@@ -71,7 +71,8 @@ pub fn write_pieces<P: Port>(
 ) -> Result<(), WriteFault>
     requires few { length pending.now ≤ 3 }
     requires pieces { ArePending pending.now }
-    ensures means { run P.bus (write_all space first pending.now) (P.world port.old) ≡ (result, P.world port.new) }
+    ensures means { run P.bus (write_pieces_of space first pending.now) (P.world port.old)
+        ≡ (result, P.world port.new) }
     ensures left { IfErr result (λ refused. IsLeft refused.rest.items pending.now) }
     ensures rest { P.rest port.new ≡ P.rest port.old }
 {
@@ -118,7 +119,7 @@ fn put_parts<P: Port>(
     requires few { length pieces.now ≤ 3 }
     requires aligned { ArePieces pieces.now }
     requires short { len ≤ 5 }
-    ensures means { run P.bus (write_all space first (parts_of pieces.now len value)) (P.world port.old)
+    ensures means { run P.bus (write_pieces_of space first (parts_of pieces.now len value)) (P.world port.old)
         ≡ (result, P.world port.new) }
     ensures left { IfErr result (λ refused. IsLeft refused.rest.items (parts_of pieces.now len value)) }
     ensures rest { P.rest port.new ≡ P.rest port.old }
@@ -129,7 +130,7 @@ fn put_parts<P: Port>(
 
 /// Writes an operand of one to five bytes, cut into pieces in order of address. Bytes of `value` above
 /// `len` do not count.
-pub fn put_pieces<P: Port>(
+pub fn write_operand<P: Port>(
     space: Space,
     at: u32,
     len: u8,
@@ -137,7 +138,7 @@ pub fn put_pieces<P: Port>(
     port: &mut P,
 ) -> Result<(), WriteFault>
     requires { (1 ≤ len) × (len ≤ 5) }
-    ensures means { run P.bus (put_of space at len value) (P.world port.old) ≡ (result, P.world port.new) }
+    ensures means { run P.bus (write_operand_of space at len value) (P.world port.old) ≡ (result, P.world port.new) }
     ensures left { IfErr result (λ refused. IsLeft refused.rest.items (pending_of at len value)) }
     ensures rest { P.rest port.new ≡ P.rest port.old }
 {
@@ -149,7 +150,8 @@ pub fn put_pieces<P: Port>(
 #[inline(always)]
 fn write_alone<P: Port>(pend: Pend, space: Space, port: &mut P) -> Result<(), WriteFault>
     requires { IsPiece (piece_of pend) }
-    ensures means { run P.bus (write_all space pend.at (pend ∷ [])) (P.world port.old) ≡ (result, P.world port.new) }
+    ensures means { run P.bus (write_pieces_of space pend.at (pend ∷ [])) (P.world port.old)
+        ≡ (result, P.world port.new) }
     ensures left { IfErr result (λ refused. IsLeft refused.rest.items (pend ∷ [])) }
     ensures rest { P.rest port.new ≡ P.rest port.old }
 {
@@ -163,16 +165,17 @@ fn write_alone<P: Port>(pend: Pend, space: Space, port: &mut P) -> Result<(), Wr
     }
 }
 
-/// Writes an operand of a size, as [`put_pieces`] does. Mostly it is one piece.
+/// Writes an operand of a size, as [`write_operand`] does. Mostly it is one piece.
 #[inline(always)]
-pub fn put_value<P: Port>(
+pub fn write_value<P: Port>(
     space: Space,
     at: u32,
     size: Size,
     value: u32,
     port: &mut P,
 ) -> Result<(), WriteFault>
-    ensures means { run P.bus (put_of space at (bytes_of size) value) (P.world port.old) ≡ (result, P.world port.new) }
+    ensures means { run P.bus (write_operand_of space at (bytes_of size) value) (P.world port.old)
+        ≡ (result, P.world port.new) }
     ensures left { IfErr result (λ refused. IsLeft refused.rest.items (pending_of at (bytes_of size) value)) }
     ensures rest { P.rest port.new ≡ P.rest port.old }
 {
@@ -181,7 +184,7 @@ pub fn put_value<P: Port>(
         let value = size.low(value);
         write_alone(Pend { at, len, value }, space, port)
     } else {
-        put_pieces(space, at, len, u64::from(value), port)
+        write_operand(space, at, len, u64::from(value), port)
     }
 }
 
@@ -195,15 +198,15 @@ fn byte_at(at: u32) -> Piece
 /// Writes an operand whose bytes stand at every second address, each a piece, the highest first.
 ///
 /// A refused byte is left with those after it, three at most: of a long whose first byte is refused nothing is left.
-#[tactic(auto, unfolding(crate::specs::Writing::put_apart_of))]
-pub fn put_apart<P: Port>(
+#[tactic(auto, unfolding(crate::specs::Writing::write_apart_of))]
+pub fn write_apart<P: Port>(
     space: Space,
     at: u32,
     size: Size,
     value: u32,
     port: &mut P,
 ) -> Result<(), WriteFault>
-    ensures means { run P.bus (put_apart_of space at size value) (P.world port.old) ≡ (result, P.world port.new) }
+    ensures means { run P.bus (write_apart_of space at size value) (P.world port.old) ≡ (result, P.world port.new) }
     ensures rest { P.rest port.new ≡ P.rest port.old }
 {
     let value = u64::from(value);

@@ -9,7 +9,7 @@ use mb_frames::Pend;
 use mb_instr::{Plain, Size};
 use mb_port::Space;
 use mb_vector::VectorPort;
-use mb_writes::{Movem, complete, continue_movem, count, put_apart, put_pieces, transfer};
+use mb_writes::{Movem, complete, continue_movem, count, transfer, write_apart, write_operand};
 use std::alloc::{AllocError, Global};
 
 /// Whether it has the place and length of a piece.
@@ -93,7 +93,7 @@ fn refused_pieces(rt: HostRuntime) -> Result<(), AllocError> {
     for row in &REFUSED_WRITES {
         let mut port = VectorPort::new(rt.alloc(), 2, row.hole)?;
         assert!(rt; 1 <= row.len && row.len <= 5);
-        let put = put_pieces(Space::User, row.at, row.len, 0xEE11_2233_4455, &mut port);
+        let put = write_operand(Space::User, row.at, row.len, 0xEE11_2233_4455, &mut port);
         assert!(rt; put.is_err(), "{} bytes at {}", row.len, row.at);
         assert!(rt; port.longs.as_slice() == row.then.as_slice());
         if let Err(refused) = put {
@@ -146,7 +146,7 @@ static REFUSED_BYTES: [RefusedBytes; 6] = [
 fn refused_bytes_apart(rt: HostRuntime) -> Result<(), AllocError> {
     for row in &REFUSED_BYTES {
         let mut port = VectorPort::new(rt.alloc(), 2, row.hole)?;
-        let put = put_apart(Space::User, 1, row.size, 0x2233_4455, &mut port);
+        let put = write_apart(Space::User, 1, row.size, 0x2233_4455, &mut port);
         assert!(rt; put.is_err(), "byte {}", row.hole);
         assert!(rt; port.longs.as_slice() == row.then.as_slice());
         if let Err(refused) = put {

@@ -18,7 +18,7 @@ use Rattle.mb_walk.specs.Memory.{number_at, with_number}
 use Rattle.mb_machine.specs.declared.reference.Reference.{Reference}
 use Rattle.mb_machine.specs.Places.{taken, stored, checked, line_at, taken_line}
 use Rattle.mb_model.specs.Pages.{page_of}
-use Rattle.mb_machine.specs.Bus.{bus_of, fault_of, place_at, fetching, reading, writing, Take, read_by}
+use Rattle.mb_machine.specs.Bus.{bus_of, fault_of, place_at, fetching_of, reading_of, writing_of, Take, read_by}
 use Rattle.mb_tells.specs.Guarded.{Apart}
 use Rattle.mb_walk.proofs.Parts.{over-again, over-stands}
 use Rattle.mb_machine.proofs.BusLemmas.{taken_memory}
@@ -47,12 +47,14 @@ true_not_false : true ≡ false → ⊥
 true_not_false h = cc
 
 call_refused : (space : Space) (size : ℕ) (c : Call) (g : Guest) → IsLawful space 0 size c → allows_call c g.shadow ≡ false → Refused c g
-call_refused space size (Fetch of at) g l h = refused (allows g.shadow (fetching of at)) (plain_bus (Fetch of at) g) (fetching of at) 2 g h
-call_refused space size (Read of p) g l h = refused (allows g.shadow (reading of p.at)) (plain_bus (Read of p) g) (reading of p.at) p.len g h
-call_refused space size (Write of p value) g l h = refused (allows g.shadow (writing of p.at)) (plain_bus (Write of p value) g) (writing of p.at) p.len g h
-call_refused space size (ReadLine of at) g l h = refused (allows g.shadow (reading of at)) (plain_bus (ReadLine of at) g) (reading of at) 16 g h
-call_refused space size (WriteLine of at line) g l h = refused (allows g.shadow (writing of at)) (plain_bus (WriteLine of at line) g) (writing of at) 16 g h
-call_refused space size (Probe of p) g l h = refused (allows g.shadow (writing of p.at)) (plain_bus (Probe of p) g) (writing of p.at) p.len g h
+call_refused space size (Fetch of at) g l h = refused (allows g.shadow (fetching_of of at)) (plain_bus (Fetch of at) g) (fetching_of of at) 2 g h
+call_refused space size (Read of p) g l h = refused (allows g.shadow (reading_of of p.at)) (plain_bus (Read of p) g) (reading_of of p.at) p.len g h
+call_refused space size (Write of p value) g l h =
+    refused (allows g.shadow (writing_of of p.at)) (plain_bus (Write of p value) g) (writing_of of p.at) p.len g h
+call_refused space size (ReadLine of at) g l h = refused (allows g.shadow (reading_of of at)) (plain_bus (ReadLine of at) g) (reading_of of at) 16 g h
+call_refused space size (WriteLine of at line) g l h =
+    refused (allows g.shadow (writing_of of at)) (plain_bus (WriteLine of at line) g) (writing_of of at) 16 g h
+call_refused space size (Probe of p) g l h = refused (allows g.shadow (writing_of of p.at)) (plain_bus (Probe of p) g) (writing_of of p.at) p.len g h
 call_refused space size (Get place) g l h = absurd (true_not_false h)
 call_refused space size (Put place value) g l h = absurd (true_not_false h)
 call_refused space size ReadMmu g l h = absurd l
@@ -217,10 +219,10 @@ opens space size begun = record {
 }
 
 -- the fault of a refused line
-line_fault : (space : Space) (at : ℕ) (line : List ℕ) (g : Guest) (fault : Fault) → allows g.shadow (writing space at) ≡ false
+line_fault : (space : Space) (at : ℕ) (line : List ℕ) (g : Guest) (fault : Fault) → allows g.shadow (writing_of space at) ≡ false
     → (held_bus (WriteLine space at line) g).0 ≡ Err fault → fault.at ≡ at
 line_fault space at line g fault denied e =
-    let r = writing space at in
+    let r = writing_of space at in
     let is : Err fault ≡ Err (fault_of r 16 true) =
     sym e ∙ ap (λ (q : Result (Unit {0}) Fault × Guest). q.0) (held_not (allows g.shadow r) (plain_bus (WriteLine space at line) g) r 16 g denied) in
     let same : fault ≡ fault_of r 16 true = cc in ap (λ (f : Fault). f.at) same

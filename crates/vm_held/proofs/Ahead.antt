@@ -13,7 +13,7 @@ use Rattle.mb_machine.specs.declared.reference.Reference.{Reference}
 use Rattle.mb_machine.specs.World.{World}
 use Rattle.mb_machine.specs.Places.{taken, stored, checked, taken_line, stored_line}
 use Rattle.mb_machine.specs.Access.{translated}
-use Rattle.mb_machine.specs.Bus.{bus_of, fetching, reading, writing, reference_of, read_at, written_at}
+use Rattle.mb_machine.specs.Bus.{bus_of, fetching_of, reading_of, writing_of, reference_of, read_at, written_at}
 use Rattle.vm_meaning.proofs.Blind.{IsBlind, taken-blind, taken_line-blind, checked-blind, read-blind, stored-blind, stored_line-blind, write-blind, get-blind}
 use Rattle.vm_meaning.proofs.Blind.{put-blind}
 use Rattle.vm_shadow.specs.Shadows.{Shadowed}
@@ -82,21 +82,25 @@ module _ (size : ℕ) (kept : KeptLists) (shadow : Shadowed) where
       → allows_call c s.shadow ≡ true → held_bus c (moved kept shadow s) ≡ answer_moved kept shadow (held_bus c s)
   unfolding bus_of
   held_moved space (Fetch of at) s sound there more l may =
-      access_moved s true of at false 2 (read_at (fetching of at) 2 taken) (read-blind (fetching of at) 2 taken taken-blind) sound there more l.1 (λ z. cc) may
+      access_moved s true of at false 2 (read_at (fetching_of of at) 2 taken) (read-blind (fetching_of of at) 2 taken taken-blind) sound there more l.1
+      (λ z. cc) may
   held_moved space (Read of p) s sound there more l may =
-      access_moved s false of p.at false p.len (read_at (reading of p.at) p.len taken) (read-blind (reading of p.at) p.len taken taken-blind) sound there more
+      access_moved s false of p.at false p.len (read_at (reading_of of p.at) p.len taken)
+      (read-blind (reading_of of p.at) p.len taken taken-blind) sound there more
       l.1 (λ z. refl) may
   held_moved space (Write of p value) s sound there more l may =
-      access_moved s false of p.at true p.len (written_at (writing of p.at) p.len (λ place. stored place value))
-      (write-blind (writing of p.at) p.len (λ place. stored place value) (λ place. stored-blind place value)) sound there more l.1 (λ z. refl) may
+      access_moved s false of p.at true p.len (written_at (writing_of of p.at) p.len (λ place. stored place value))
+      (write-blind (writing_of of p.at) p.len (λ place. stored place value) (λ place. stored-blind place value)) sound there more l.1 (λ z. refl) may
   held_moved space (ReadLine of at) s sound there more l may =
-      access_moved s false of at false 16 (read_at (reading of at) 16 taken_line) (read-blind (reading of at) 16 taken_line taken_line-blind) sound there more
+      access_moved s false of at false 16 (read_at (reading_of of at) 16 taken_line)
+      (read-blind (reading_of of at) 16 taken_line taken_line-blind) sound there more
       l.1 (λ z. refl) may
   held_moved space (WriteLine of at line) s sound there more l may =
-      access_moved s false of at true 16 (written_at (writing of at) 16 (λ place. stored_line place line))
-      (write-blind (writing of at) 16 (λ place. stored_line place line) (λ place. stored_line-blind place line)) sound there more l.1 (λ z. refl) may
+      access_moved s false of at true 16 (written_at (writing_of of at) 16 (λ place. stored_line place line))
+      (write-blind (writing_of of at) 16 (λ place. stored_line place line) (λ place. stored_line-blind place line)) sound there more l.1 (λ z. refl) may
   held_moved space (Probe of p) s sound there more l may =
-      access_moved s false of p.at true p.len (read_at (writing of p.at) p.len checked) (read-blind (writing of p.at) p.len checked checked-blind) sound there
+      access_moved s false of p.at true p.len (read_at (writing_of of p.at) p.len checked)
+      (read-blind (writing_of of p.at) p.len checked checked-blind) sound there
       more l.1 (λ z. refl) may
   held_moved space (Get place) s sound there more l may =
       ap (λ (q : ℕ × World). (let a : ℕ × Guest = (q.0, record { world = q.1; shadow = shadow }) in a)) (get-blind place s.world kept)

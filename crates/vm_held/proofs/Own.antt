@@ -7,7 +7,7 @@ use Rattle.mb_laws.specs.Tree.{Tree, tree_of, routine_of}
 use Rattle.mb_laws.specs.Alike.{Alike}
 use Rattle.mb_laws.proofs.Trees.{run_tree}
 use Rattle.mb_model.specs.Keeping.{rule_k}
-use Rattle.mb_machine.specs.Bus.{bus_of, fetching, reading, writing}
+use Rattle.mb_machine.specs.Bus.{bus_of, fetching_of, reading_of, writing_of}
 use Rattle.mb_tells.specs.Left.{Resumes, here, later, SameCalls}
 use Rattle.mb_tells.proofs.Over.{resumed_over}
 use Rattle.vm_shadow.specs.Shadows.{Shadowed}
@@ -36,22 +36,22 @@ pub guest_is_held : GuestIsHeld
 unfolding shadow_after
 guest_is_held space size (Fetch of at) g s l may =
     left_alone (Fetch of at) g (shadow_same size g true of at false s.truthful l.1 (λ z. cc) may)
-    ∙ sym (held_is (allows g.shadow (fetching of at)) (plain_bus (Fetch of at) g) (fetching of at) 2 g may)
+    ∙ sym (held_is (allows g.shadow (fetching_of of at)) (plain_bus (Fetch of at) g) (fetching_of of at) 2 g may)
 guest_is_held space size (Read of p) g s l may =
     left_alone (Read of p) g (shadow_same size g false of p.at false s.truthful l.1 (λ z. refl) may)
-    ∙ sym (held_is (allows g.shadow (reading of p.at)) (plain_bus (Read of p) g) (reading of p.at) p.len g may)
+    ∙ sym (held_is (allows g.shadow (reading_of of p.at)) (plain_bus (Read of p) g) (reading_of of p.at) p.len g may)
 guest_is_held space size (Write of p value) g s l may =
     left_alone (Write of p value) g (shadow_same size g false of p.at true s.truthful l.1 (λ z. refl) may)
-    ∙ sym (held_is (allows g.shadow (writing of p.at)) (plain_bus (Write of p value) g) (writing of p.at) p.len g may)
+    ∙ sym (held_is (allows g.shadow (writing_of of p.at)) (plain_bus (Write of p value) g) (writing_of of p.at) p.len g may)
 guest_is_held space size (ReadLine of at) g s l may =
     left_alone (ReadLine of at) g (shadow_same size g false of at false s.truthful l.1 (λ z. refl) may)
-    ∙ sym (held_is (allows g.shadow (reading of at)) (plain_bus (ReadLine of at) g) (reading of at) 16 g may)
+    ∙ sym (held_is (allows g.shadow (reading_of of at)) (plain_bus (ReadLine of at) g) (reading_of of at) 16 g may)
 guest_is_held space size (WriteLine of at line) g s l may =
     left_alone (WriteLine of at line) g (shadow_same size g false of at true s.truthful l.1 (λ z. refl) may)
-    ∙ sym (held_is (allows g.shadow (writing of at)) (plain_bus (WriteLine of at line) g) (writing of at) 16 g may)
+    ∙ sym (held_is (allows g.shadow (writing_of of at)) (plain_bus (WriteLine of at line) g) (writing_of of at) 16 g may)
 guest_is_held space size (Probe of p) g s l may =
     left_alone (Probe of p) g (shadow_same size g false of p.at true s.truthful l.1 (λ z. refl) may)
-    ∙ sym (held_is (allows g.shadow (writing of p.at)) (plain_bus (Probe of p) g) (writing of p.at) p.len g may)
+    ∙ sym (held_is (allows g.shadow (writing_of of p.at)) (plain_bus (Probe of p) g) (writing_of of p.at) p.len g may)
 guest_is_held space size (Get place) g s l may = refl
 guest_is_held space size (Put place value) g s l may = refl
 guest_is_held space size ReadMmu g s l may = absurd l

@@ -45,7 +45,7 @@ use Rattle.mb_machine.specs.declared.reference.Settled.TheVariants.{To, Refused,
 use Rattle.mb_machine.specs.World.{World}
 use Rattle.mb_machine.specs.Places.{taken, taken_line}
 use Rattle.mb_machine.specs.Access.{search_for, settled, by_found, searched, by_settled, translated}
-use Rattle.mb_machine.specs.Bus.{bus_of, fetching, reading, writing, reference_of, fault_of, read_at}
+use Rattle.mb_machine.specs.Bus.{bus_of, fetching_of, reading_of, writing_of, reference_of, fault_of, read_at}
 use Rattle.vm_shadow.specs.Shadows.{Shadowed, is_at, nothing, room_for, filled}
 use Rattle.vm_shadow.specs.Slots.{is_full_for}
 use Rattle.vm_shadow.proofs.Held.{at_is, at_self}
@@ -86,18 +86,21 @@ some_reference r s e = ap (λ (x : Reference). (let o : Option Reference = Some 
 pub call_told : (space : Space) (size : ℕ) (c : Call) (g : Guest) (f : Fault) → IsLawful space 0 size c → allows_call c g.shadow ≡ false
     → IsFault c ((held_bus c g).0) f → reference_of c ≡ Some (told_by f)
 call_told space size (Fetch of at) g f l h e =
-    some_reference (fetching of at) (told_by f) (same_fault (allows g.shadow (fetching of at)) (plain_bus (Fetch of at) g) (fetching of at) 2 g f h e)
+    some_reference (fetching_of of at) (told_by f) (same_fault (allows g.shadow (fetching_of of at)) (plain_bus (Fetch of at) g) (fetching_of of at) 2 g f h e)
 call_told space size (Read of p) g f l h e =
-    some_reference (reading of p.at) (told_by f) (same_fault (allows g.shadow (reading of p.at)) (plain_bus (Read of p) g) (reading of p.at) p.len g f h e)
+    some_reference (reading_of of p.at) (told_by f)
+    (same_fault (allows g.shadow (reading_of of p.at)) (plain_bus (Read of p) g) (reading_of of p.at) p.len g f h e)
 call_told space size (Write of p value) g f l h e =
-    some_reference (writing of p.at) (told_by f)
-    (same_fault (allows g.shadow (writing of p.at)) (plain_bus (Write of p value) g) (writing of p.at) p.len g f h e)
+    some_reference (writing_of of p.at) (told_by f)
+    (same_fault (allows g.shadow (writing_of of p.at)) (plain_bus (Write of p value) g) (writing_of of p.at) p.len g f h e)
 call_told space size (ReadLine of at) g f l h e =
-    some_reference (reading of at) (told_by f) (same_fault (allows g.shadow (reading of at)) (plain_bus (ReadLine of at) g) (reading of at) 16 g f h e)
+    some_reference (reading_of of at) (told_by f) (same_fault (allows g.shadow (reading_of of at)) (plain_bus (ReadLine of at) g) (reading_of of at) 16 g f h e)
 call_told space size (WriteLine of at line) g f l h e =
-    some_reference (writing of at) (told_by f) (same_fault (allows g.shadow (writing of at)) (plain_bus (WriteLine of at line) g) (writing of at) 16 g f h e)
+    some_reference (writing_of of at) (told_by f)
+    (same_fault (allows g.shadow (writing_of of at)) (plain_bus (WriteLine of at line) g) (writing_of of at) 16 g f h e)
 call_told space size (Probe of p) g f l h e =
-    some_reference (writing of p.at) (told_by f) (same_fault (allows g.shadow (writing of p.at)) (plain_bus (Probe of p) g) (writing of p.at) p.len g f h e)
+    some_reference (writing_of of p.at) (told_by f)
+    (same_fault (allows g.shadow (writing_of of p.at)) (plain_bus (Probe of p) g) (writing_of of p.at) p.len g f h e)
 call_told space size (Get place) g f l h e = absurd e
 call_told space size (Put place value) g f l h e = absurd e
 call_told space size ReadMmu g f l h e = absurd e
@@ -280,17 +283,18 @@ no_write size c g r w is fine denied can = contradicts r.write w can.reads
 call_again : (size : ℕ) (c : Call) (g : Guest) (r : Reference) → reference_of c ≡ Some r → Again size c g r
 unfolding bus_of shadow_after
 call_again size (Fetch of at) g r e =
-    subst (Again size (Fetch of at) g) (same_Some (fetching of at) r e)
-    (λ is fine denied can. by_again size g (fetching of at) is fine denied can (read_at (fetching of at) 2 taken))
+    subst (Again size (Fetch of at) g) (same_Some (fetching_of of at) r e)
+    (λ is fine denied can. by_again size g (fetching_of of at) is fine denied can (read_at (fetching_of of at) 2 taken))
 call_again size (Read of p) g r e =
-    subst (Again size (Read of p) g) (same_Some (reading of p.at) r e)
-    (λ is fine denied can. by_again size g (reading of p.at) is fine denied can (read_at (reading of p.at) p.len taken))
+    subst (Again size (Read of p) g) (same_Some (reading_of of p.at) r e)
+    (λ is fine denied can. by_again size g (reading_of of p.at) is fine denied can (read_at (reading_of of p.at) p.len taken))
 call_again size (ReadLine of at) g r e =
-    subst (Again size (ReadLine of at) g) (same_Some (reading of at) r e)
-    (λ is fine denied can. by_again size g (reading of at) is fine denied can (read_at (reading of at) 16 taken_line))
-call_again size (Write of p value) g r e = no_write size (Write of p value) g r (sym (ap (λ (s : Reference). s.write) (same_Some (writing of p.at) r e)))
-call_again size (WriteLine of at line) g r e = no_write size (WriteLine of at line) g r (sym (ap (λ (s : Reference). s.write) (same_Some (writing of at) r e)))
-call_again size (Probe of p) g r e = no_write size (Probe of p) g r (sym (ap (λ (s : Reference). s.write) (same_Some (writing of p.at) r e)))
+    subst (Again size (ReadLine of at) g) (same_Some (reading_of of at) r e)
+    (λ is fine denied can. by_again size g (reading_of of at) is fine denied can (read_at (reading_of of at) 16 taken_line))
+call_again size (Write of p value) g r e = no_write size (Write of p value) g r (sym (ap (λ (s : Reference). s.write) (same_Some (writing_of of p.at) r e)))
+call_again size (WriteLine of at line) g r e =
+    no_write size (WriteLine of at line) g r (sym (ap (λ (s : Reference). s.write) (same_Some (writing_of of at) r e)))
+call_again size (Probe of p) g r e = no_write size (Probe of p) g r (sym (ap (λ (s : Reference). s.write) (same_Some (writing_of of p.at) r e)))
 call_again size (Get place) g r e = absurd (let z : ⊥ = cc in z)
 call_again size (Put place value) g r e = absurd (let z : ⊥ = cc in z)
 call_again size ReadMmu g r e = absurd (let z : ⊥ = cc in z)
@@ -301,12 +305,12 @@ call_again size ResetDevices g r e = absurd (let z : ⊥ = cc in z)
 
 is_reference : (space : Space) (size : ℕ) (c : Call) (r : Reference) → IsLawful space 0 size c → reference_of c ≡ Some r → IsReference r
 is_reference space size (Fetch of at) r l e =
-    subst IsReference (same_Some (fetching of at) r e) (record { at = l.1; on_data = λ w. absurd (let z : ⊥ = cc in z) })
-is_reference space size (Read of p) r l e = subst IsReference (same_Some (reading of p.at) r e) (record { at = l.1; on_data = λ w. refl })
-is_reference space size (Write of p value) r l e = subst IsReference (same_Some (writing of p.at) r e) (record { at = l.1; on_data = λ w. refl })
-is_reference space size (ReadLine of at) r l e = subst IsReference (same_Some (reading of at) r e) (record { at = l.1; on_data = λ w. refl })
-is_reference space size (WriteLine of at line) r l e = subst IsReference (same_Some (writing of at) r e) (record { at = l.1; on_data = λ w. refl })
-is_reference space size (Probe of p) r l e = subst IsReference (same_Some (writing of p.at) r e) (record { at = l.1; on_data = λ w. refl })
+    subst IsReference (same_Some (fetching_of of at) r e) (record { at = l.1; on_data = λ w. absurd (let z : ⊥ = cc in z) })
+is_reference space size (Read of p) r l e = subst IsReference (same_Some (reading_of of p.at) r e) (record { at = l.1; on_data = λ w. refl })
+is_reference space size (Write of p value) r l e = subst IsReference (same_Some (writing_of of p.at) r e) (record { at = l.1; on_data = λ w. refl })
+is_reference space size (ReadLine of at) r l e = subst IsReference (same_Some (reading_of of at) r e) (record { at = l.1; on_data = λ w. refl })
+is_reference space size (WriteLine of at line) r l e = subst IsReference (same_Some (writing_of of at) r e) (record { at = l.1; on_data = λ w. refl })
+is_reference space size (Probe of p) r l e = subst IsReference (same_Some (writing_of of p.at) r e) (record { at = l.1; on_data = λ w. refl })
 is_reference space size (Get place) r l e = absurd (let z : ⊥ = cc in z)
 is_reference space size (Put place value) r l e = absurd (let z : ⊥ = cc in z)
 is_reference space size ReadMmu r l e = absurd l

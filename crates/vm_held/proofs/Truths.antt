@@ -5,7 +5,7 @@ use Rattle.mb_model.specs.Keeping.{list_of, Apart, KeptLists, rule_k, flushed, d
 use Rattle.mb_walk.specs.Memory.{AreBytes}
 use Rattle.mb_machine.specs.World.{World, HasBytes}
 use Rattle.mb_machine.specs.Access.{translated, matched, or_off, untranslated, by_match, settled, root_of}
-use Rattle.mb_machine.specs.Bus.{bus_of, fetching, reading, writing, tested, with_register, tested_by}
+use Rattle.mb_machine.specs.Bus.{bus_of, fetching_of, reading_of, writing_of, tested, with_register, tested_by}
 use Rattle.mb_machine.specs.Laws.{IsBeneath, IsWhole}
 use Rattle.mb_machine.proofs.Bytes.{bus-bytes}
 use Rattle.mb_machine.proofs.Beneath.{calls_stand_beneath, places_stand_beneath, sizes_stay}
@@ -218,17 +218,17 @@ reset_fine size g fine = fine_behind size g.world (bus_of rule_k ResetDevices g.
 pub calls_keep_truth : CallsKeepTruth
 unfolding shadow_after
 calls_keep_truth size (Fetch space at) g l fine =
-    let c = Fetch space at in fine_access size c g fine (fetching space at) (is_reading true space at l) tt (calls_stand_beneath rule_k c g.world)
+    let c = Fetch space at in fine_access size c g fine (fetching_of space at) (is_reading true space at l) tt (calls_stand_beneath rule_k c g.world)
 calls_keep_truth size (Read space p) g l fine =
-    let c = Read space p in fine_access size c g fine (reading space p.at) (is_reading false space p.at l) tt (calls_stand_beneath rule_k c g.world)
+    let c = Read space p in fine_access size c g fine (reading_of space p.at) (is_reading false space p.at l) tt (calls_stand_beneath rule_k c g.world)
 calls_keep_truth size (Write space p value) g l fine =
-    let c = Write space p value in fine_access size c g fine (writing space p.at) (is_writing space p.at l) tt (calls_stand_beneath rule_k c g.world)
+    let c = Write space p value in fine_access size c g fine (writing_of space p.at) (is_writing space p.at l) tt (calls_stand_beneath rule_k c g.world)
 calls_keep_truth size (ReadLine space at) g l fine =
-    let c = ReadLine space at in fine_access size c g fine (reading space at) (is_reading false space at l) tt (calls_stand_beneath rule_k c g.world)
+    let c = ReadLine space at in fine_access size c g fine (reading_of space at) (is_reading false space at l) tt (calls_stand_beneath rule_k c g.world)
 calls_keep_truth size (WriteLine space at line) g l fine =
-    let c = WriteLine space at line in fine_access size c g fine (writing space at) (is_writing space at l.0) l.1 (calls_stand_beneath rule_k c g.world)
+    let c = WriteLine space at line in fine_access size c g fine (writing_of space at) (is_writing space at l.0) l.1 (calls_stand_beneath rule_k c g.world)
 calls_keep_truth size (Probe space p) g l fine =
-    let c = Probe space p in fine_access size c g fine (writing space p.at) (is_writing space p.at l) tt (calls_stand_beneath rule_k c g.world)
+    let c = Probe space p in fine_access size c g fine (writing_of space p.at) (is_writing space p.at l) tt (calls_stand_beneath rule_k c g.world)
 calls_keep_truth size (Get place) g l fine = fine_place size (Get place) g fine tt (places_stand_beneath rule_k place 0 g.world).0
 calls_keep_truth size (Put place value) g l fine = fine_place size (Put place value) g fine tt (places_stand_beneath rule_k place value g.world).1
 calls_keep_truth size ReadMmu g l fine = unchanged_fine size g fine

@@ -16,9 +16,9 @@ use Rattle.mb_writes.specs.Transfers.{movem_in, refused_transfer}
 use Rattle.mb_processor.specs.declared.entering.Cause.{Cause}
 use Rattle.mb_processor.specs.declared.Finish.TheVariants as finish
 use Rattle.mb_processor.specs.Entry.{Entrance, frames_of}
-use Rattle.mb_processor.specs.Raise.{Stepped, Raised, traces_all, is_due, ends_step, access_cause, access_error_of, cause_at, raised, raise_of, tracing_of}
-use Rattle.mb_processor.specs.Raise.{trap_of, refused_of, with_ct}
-use Rattle.mb_processor.specs.Step.{by_page_size, movem_words, unread_of, unfinished_of, unbegun_of, unwritten_of, line_unwritten_of, untransferred_of, is_flow, finish_of}
+use Rattle.mb_processor.specs.Raise.{Stepped, Raised, traces_all, is_due, ends_step, access_cause, access_error_of, cause_at, raised, raise_of, trace_if_of}
+use Rattle.mb_processor.specs.Raise.{raise_trap_of, refuse_of, with_ct}
+use Rattle.mb_processor.specs.Step.{by_page_size, movem_words, finish_unread_of, finish_unfinished_of, unbegun_of, finish_unwritten_of, finish_unwritten_line_of, finish_untransferred_of, is_flow, finish_instruction_of}
 use Rattle.mb_attempts.specs.Attempts.{IsUntraced}
 use Rattle.mb_machine.specs.World.{World}
 use Rattle.mb_machine.specs.Bus.{bus_of}
@@ -55,35 +55,35 @@ module _ (b : World) (small : has_big_pages b.mmu ≡ false) (o : IsOpen b.mmu) 
       ap (λ (q : Entrance × World). run board_bus (raised is_trace kept q.0.0 q.0.1) q.1) (enters_stacked rule_a b c cpu o room)
 
   refused_entered : (vector : ℕ) (before : Cpu) → let at = before.regs.pc in let c = cause_at vector at (at - at % 2) in HasRoom b c before
-      → run board_bus (refused_of vector before) b ≡ left (record { cause = c; cpu = before }) b
-  unfolding refused_of
+      → run board_bus (refuse_of vector before) b ≡ left (record { cause = c; cpu = before }) b
+  unfolding refuse_of
   refused_entered vector before room =
       let at = before.regs.pc in
       ap (λ (q : Raised × World). run board_bus (either q.0 (λ stepped. Return stepped) (λ cpu. Return (finish.Entered vector, cpu))) q.1)
       (raise_entered false (cause_at vector at (at - at % 2)) before before room)
 
   trap_entered : (vector : ℕ) (before after : Cpu) → IsUntraced before → let c = cause_at vector after.regs.pc before.regs.pc in HasRoom b c after
-      → run board_bus (trap_of vector before after) b ≡ left (record { cause = c; cpu = after }) b
-  unfolding trap_of
+      → run board_bus (raise_trap_of vector before after) b ≡ left (record { cause = c; cpu = after }) b
+  unfolding raise_trap_of
   trap_entered vector before after plain room =
       let c = cause_at vector after.regs.pc before.regs.pc in
       let e = left (record { cause = c; cpu = after }) b in
       ap (λ (q : Raised × World). run board_bus (either q.0 (λ stepped. Return stepped)
-      (λ handler. tracing_of (finish.Entered vector) (traces_all before.regs.sr) before.regs.pc handler)) q.1)
+      (λ handler. trace_if_of (finish.Entered vector) (traces_all before.regs.sr) before.regs.pc handler)) q.1)
       (raise_entered false c before after room)
-      ∙ ap (λ (t : Bool). run board_bus (tracing_of (finish.Entered vector) t before.regs.pc e.0.1) e.1) plain.all
+      ∙ ap (λ (t : Bool). run board_bus (trace_if_of (finish.Entered vector) t before.regs.pc e.0.1) e.1) plain.all
 
   write_entered : (due : Bool) (refused : WriteFault) (rest : List Pend) (before after : Cpu) → let e = writing_exit due refused rest before after in
       HasRoom b e.cause e.cpu
-      → run board_bus (unwritten_of due refused rest before after) b ≡ left e b
-  unfolding unbegun_of unfinished_of
+      → run board_bus (finish_unwritten_of due refused rest before after) b ≡ left e b
+  unfolding unbegun_of finish_unfinished_of
   write_entered due refused [] before after room =
       sized_entered before.regs.pc (λ page. write_fields refused.fault refused.first [] page) before room
   write_entered due refused (piece ∷ pieces) before after room =
       sized_entered after.regs.pc (λ page. with_ct due (write_fields refused.fault refused.first refused.rest.items page)) after room
 
 pub board_leaves : BoardLeaves
-unfolding finish_of unread_of line_unwritten_of untransferred_of
+unfolding finish_instruction_of finish_unread_of finish_unwritten_line_of finish_untransferred_of
 board_leaves b i (ended.Done flow) before after plain end small o room = absurd end
 board_leaves b i (ended.Trap vector) before after plain end small o room = trap_entered b small o vector before after plain room
 board_leaves b i (ended.Refused vector) before after plain end small o room = refused_entered b small o vector before room

@@ -26,12 +26,12 @@ use Rattle.mb_instr.specs.Rows.{move_row, arith_row, flow_row}
 use Rattle.mb_meaning.specs.Arithmetic.{added, subtracted, added_extended, subtracted_extended, address_moved, address_compared}
 use Rattle.mb_meaning.specs.Unary.{negated, negated_extended, complemented, tested}
 use Rattle.mb_meaning.specs.Shifts.{shifted_by_one}
-use Rattle.mb_meaning.specs.Products.{multiplied_by_word, word_divided, multiplied_by_long, long_divided}
+use Rattle.mb_meaning.specs.Products.{multiply_word_of, divide_word_of, multiply_long_of, divide_long_of}
 use Rattle.mb_ea.specs.Reading.{refused_in}
 use Rattle.mb_instr.specs.Registers.{data_register}
 use Rattle.mb_fields.specs.Decimals.{abcd_of, sbcd_of}
 use Rattle.mb_fields.specs.Packing.{pack_of, unpk_of}
-use Rattle.mb_meaning.specs.Decimals.{negated_decimal}
+use Rattle.mb_meaning.specs.Decimals.{negate_decimal_of}
 use Rattle.mb_instr.specs.Opcodes.{word_of, IsOpcode}
 use Rattle.mb_instr.specs.declared.opcode.Opcode.{Opcode}
 use Rattle.mb_instr.specs.Shapes.{further}
@@ -84,10 +84,10 @@ module _ (i : Instr) where
   divided_long_fits word (Overflow ccr) p fit = tt
   divided_long_fits word (ZeroDivide ccr) p fit = (tt, fit.1)
 
-  word_divided_fits : (signed : Bool) (n value : ℕ) (p : Plain) → IsFit p → IsAnswer any (CutFits i) (word_divided signed n value p)
+  word_divided_fits : (signed : Bool) (n value : ℕ) (p : Plain) → IsFit p → IsAnswer any (CutFits i) (divide_word_of signed n value p)
   word_divided_fits signed n value p fit = divided_word_fits n (div_of signed width.Word value (data_register p n) p.ccr) p fit
 
-  long_divided_fits : (word value : ℕ) (p : Plain) → IsFit p → IsAnswer any (CutFits i) (long_divided word value p)
+  long_divided_fits : (word value : ℕ) (p : Plain) → IsFit p → IsAnswer any (CutFits i) (divide_long_of word value p)
   long_divided_fits word value p fit = divided_long_fits word (div_of (is_signed word) (width_of word) value (dividend_of word p) p.ccr) p fit
 
 -- ---- a line a row
@@ -189,20 +189,20 @@ module _ (i : Instr) (space : Space) where
   perform_arith_fits (arithmetic.ShiftMem kind is_left ea) word_at p is words fit =
       modifying_fits i space (shifted_by_one kind is_left) Word ea word_at p (formed Word ea is.are_words) fit
   perform_arith_fits (arithmetic.MulW register signed ea) word_at p is words fit =
-      taking_fits i space (multiplied_by_word signed register) Word ea word_at p (formed Word ea is.are_words) fit (λ value q f. tt)
+      taking_fits i space (multiply_word_of signed register) Word ea word_at p (formed Word ea is.are_words) fit (λ value q f. tt)
   perform_arith_fits (arithmetic.MulL ea word) word_at p is words fit =
-      taking_fits i space (multiplied_by_long word) Long ea word_at p (formed_behind_word Long ea word is.are_words) fit (λ value q f. tt)
+      taking_fits i space (multiply_long_of word) Long ea word_at p (formed_behind_word Long ea word is.are_words) fit (λ value q f. tt)
   perform_arith_fits (arithmetic.DivW register signed ea) word_at p is words fit =
-      taking_fits i space (word_divided signed register) Word ea word_at p (formed Word ea is.are_words) fit
+      taking_fits i space (divide_word_of signed register) Word ea word_at p (formed Word ea is.are_words) fit
       (λ value q f. word_divided_fits i signed register value q f)
   perform_arith_fits (arithmetic.DivL ea word) word_at p is words fit =
-      taking_fits i space (long_divided word) Long ea word_at p (formed_behind_word Long ea word is.are_words) fit
+      taking_fits i space (divide_long_of word) Long ea word_at p (formed_behind_word Long ea word is.are_words) fit
       (λ value q f. long_divided_fits i word value q f)
   perform_arith_fits (arithmetic.BitReg register kind ea) word_at p is words fit =
       bit_row_fits i space kind (data_register p register) ea word_at p (formed Byte ea is.are_words) fit
   perform_arith_fits (arithmetic.BitImm kind ea word) word_at p is words fit =
       bit_row_fits i space kind word ea word_at p (formed_behind_word Byte ea word is.are_words) fit
-  perform_arith_fits (arithmetic.Nbcd ea) word_at p is words fit = modifying_fits i space negated_decimal Byte ea word_at p (formed Byte ea is.are_words) fit
+  perform_arith_fits (arithmetic.Nbcd ea) word_at p is words fit = modifying_fits i space negate_decimal_of Byte ea word_at p (formed Byte ea is.are_words) fit
   perform_arith_fits (arithmetic.Abcd to in_memory from) word_at p is words fit = decimal_fits i space abcd_of to in_memory from word_at p fit
   perform_arith_fits (arithmetic.Sbcd to in_memory from) word_at p is words fit = decimal_fits i space sbcd_of to in_memory from word_at p fit
   perform_arith_fits (arithmetic.Pack to in_memory from word) word_at p is words fit =

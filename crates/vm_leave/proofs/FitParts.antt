@@ -20,15 +20,15 @@ use Rattle.mb_ea.specs.declared.addresses.Target.{Target}
 use Rattle.mb_ea.specs.declared.addresses.Target.TheVariants.{Reg, Memory, Value}
 use Rattle.mb_ea.specs.declared.reading.ReadFault.{ReadFault}
 use Rattle.mb_ea.specs.Addresses.{sum, step_of}
-use Rattle.mb_ea.specs.Reading.{read_pieces, refused_in, read_cut, read_of}
+use Rattle.mb_ea.specs.Reading.{read_pieces_of, refused_in, read_cut_of, read_operand_of}
 use Rattle.mb_ea.specs.Resolve.{parts_of, indirect_of, full_of, indexed_of, Resolved, in_memory, resolve_of}
 use Rattle.mb_writes.specs.declared.ends.WriteFault.{WriteFault}
 use Rattle.mb_writes.specs.declared.ends.Ended.TheVariants as ended
 use Rattle.mb_writes.specs.Writing as writes
-use Rattle.mb_writes.specs.Writing.{part_of, pending_of, left_by, write_all, put_of, apart, put_apart_of}
+use Rattle.mb_writes.specs.Writing.{part_of, pending_of, left_by, write_pieces_of, write_operand_of, apart, write_apart_of}
 use Rattle.mb_meaning.specs.Ends.{Carried, Stopped, Cut, Unread, Stop, Rowed, reading, writing}
-use Rattle.mb_meaning.specs.Operands.{load_of, store_of, Fetched, operand_of, address_of, storing, pushing}
-use Rattle.mb_writes.specs.Checked.{probe_pieces, probe_of}
+use Rattle.mb_meaning.specs.Operands.{load_of, store_of, Fetched, fetch_operand_of, find_address_of, finish_with_of, push_of}
+use Rattle.mb_writes.specs.Checked.{probe_pieces_of, probe_operand_of}
 use Rattle.mb_meaning.specs.Peripheral.{read_apart_of}
 use Rattle.mb_tells.specs.Laws.{AreLongs}
 use Rattle.mb_tells.proofs.Ranges.{IsFormed}
@@ -109,38 +109,38 @@ pending_at [] before_end value h = tt
 pending_at (p ∷ ps) before_end value h = (h.0, pending_at ps (before_end - p.len) value h.1)
 
 module _ (space : Space) where
-  pieces_fit : (ps : List Piece) (value : ℕ) → AreAt ps → Answers any FaultFits (read_pieces space ps value)
+  pieces_fit : (ps : List Piece) (value : ℕ) → AreAt ps → Answers any FaultFits (read_pieces_of space ps value)
   pieces_fit [] value h = answers_ok value tt
   pieces_fit (p ∷ ps) value h = answers_then (reading_fits space p h.0) (λ x u. pieces_fit ps (value * 256 ^ p.len + x) h.1)
 
-  pub read_fits : (at len : ℕ) → IsLong at → Reads any (read_of space at len)
-  unfolding read_of read_cut split_of
+  pub read_fits : (at len : ℕ) → IsLong at → Reads any (read_operand_of space at len)
+  unfolding read_operand_of read_cut_of split_of
   read_fits at len h = answers_failing (refused_in at) (pieces_fit (split_of at len) 0 (cut_at 3 at len h)) (λ f k. (k, h))
 
   pub read_apart_fits : (at : ℕ) (size : Size) → IsLong at → Reads any (read_apart_of space at size)
   unfolding read_apart_of
   read_apart_fits at size h = answers_failing (refused_in at) (pieces_fit (apart at (bytes_of size)) 0 (apart_at at (bytes_of size) h)) (λ f k. (k, h))
 
-  probes_fit : (ps : List Piece) (places : List Place) → AreAt ps → Answers any FaultFits (probe_pieces space ps places)
+  probes_fit : (ps : List Piece) (places : List Place) → AreAt ps → Answers any FaultFits (probe_pieces_of space ps places)
   probes_fit [] places h = answers_ok places tt
   probes_fit (p ∷ ps) places h = answers_then (probing_fits space p h.0) (λ place u. probes_fit ps (places ++ place ∷ []) h.1)
 
-  pub probe_fits : (at len : ℕ) → IsLong at → Reads any (probe_of space at len)
-  unfolding probe_of split_of
+  pub probe_fits : (at len : ℕ) → IsLong at → Reads any (probe_operand_of space at len)
+  unfolding probe_operand_of split_of
   probe_fits at len h = answers_failing (refused_in at) (probes_fit (split_of at len) [] (cut_at 3 at len h)) (λ f k. (k, h))
 
-  pub all_fit : (first : ℕ) (ps : List Pend) → IsLong first → HaveAddresses ps → Writes (write_all space first ps)
+  pub all_fit : (first : ℕ) (ps : List Pend) → IsLong first → HaveAddresses ps → Writes (write_pieces_of space first ps)
   all_fit first [] h are = answers_ok tt tt
   all_fit first (p ∷ ps) h are =
       answers_then (answers_failing (left_by first (p ∷ ps)) (writing_fits space (piece_of p) p.value are.0) (λ f k. (k, h, are)))
       (λ done u. all_fit first ps h are.1)
 
-  pub put_fits : (at len value : ℕ) → IsLong at → Writes (put_of space at len value)
-  unfolding put_of pending_of split_of
+  pub put_fits : (at len value : ℕ) → IsLong at → Writes (write_operand_of space at len value)
+  unfolding write_operand_of pending_of split_of
   put_fits at len value h = all_fit at (pending_of at len value) h (pending_at (split_of at len) len value (cut_at 3 at len h))
 
-  pub put_apart_fits : (at : ℕ) (size : Size) (value : ℕ) → IsLong at → Writes (put_apart_of space at size value)
-  unfolding put_apart_of
+  pub put_apart_fits : (at : ℕ) (size : Size) (value : ℕ) → IsLong at → Writes (write_apart_of space at size value)
+  unfolding write_apart_of
   put_apart_fits at Byte value h = all_fit at (writes.parts_of (apart at 1) 1 value) h (pending_at (apart at 1) 1 value (apart_at at 1 h))
   put_apart_fits at Word value h = all_fit at (writes.parts_of (apart at 2) 2 value) h (pending_at (apart at 2) 2 value (apart_at at 2 h))
   put_apart_fits at Long value h =
@@ -204,14 +204,14 @@ module _ (space : Space) where
   load_fits (Memory at) size p h = read_fits at (bytes_of size) h
   load_fits (Value v) size p h = answers_ok _ tt
 
-  pub operand_fits : (size : Size) (ea : Ea) (word_at : ℕ) (p : Plain) → IsFormed ea → IsFit p → Reads IsFetched (operand_of size ea word_at space p)
-  unfolding operand_of
+  pub operand_fits : (size : Size) (ea : Ea) (word_at : ℕ) (p : Plain) → IsFormed ea → IsFit p → Reads IsFetched (fetch_operand_of size ea word_at space p)
+  unfolding fetch_operand_of
   operand_fits size ea word_at p is fit =
       answers_then (resolve_fits ea size word_at p is fit) (λ resolved h.
       answers_then (load_fits resolved.target size resolved.plain h.0) (λ value u. answers_ok _ h))
 
-  pub address_fits : (size : Size) (ea : Ea) (word_at : ℕ) (p : Plain) → IsFormed ea → IsFit p → Reads IsLong (address_of size ea word_at space p)
-  unfolding address_of
+  pub address_fits : (size : Size) (ea : Ea) (word_at : ℕ) (p : Plain) → IsFormed ea → IsFit p → Reads IsLong (find_address_of size ea word_at space p)
+  unfolding find_address_of
   address_fits size ea word_at p is fit =
       answers_then (resolve_fits ea size word_at p is fit) (λ resolved h. answers_ok _ (place_long resolved.target h.0))
 
@@ -224,11 +224,11 @@ module _ (space : Space) where
   -- ---- the last parts of instructions
 
   pub storing_fits : (i : Instr) (target : Target) (size : Size) (value : ℕ) (after : Plain) → IsReached target → IsLong after.pc
-      → Row i (storing target size value space after)
-  unfolding storing
+      → Row i (finish_with_of target size value space after)
+  unfolding finish_with_of
   storing_fits i target size value after h pc = row_writing i after pc (store_fits target size value after h) (λ done. row_done i _)
 
   pub pushing_fits : (i : Instr) (value top : ℕ) (done : Carried) → IsLong top → IsLong done.plain.pc
-      → Row i (pushing value top space done.plain >> Return (Ok done))
-  unfolding pushing
+      → Row i (push_of value top space done.plain >> Return (Ok done))
+  unfolding push_of
   pushing_fits i value top done h pc = row_writing i done.plain pc (put_fits top 4 value h) (λ pushed. row_done i done)

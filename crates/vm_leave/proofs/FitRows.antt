@@ -34,26 +34,26 @@ use Rattle.mb_writes.specs.declared.transfers.MovemMode.{MovemMode}
 use Rattle.mb_writes.specs.declared.transfers.MovemMode.TheVariants as mode
 use Rattle.mb_writes.specs.declared.transfers.Transfer.{Transfer}
 use Rattle.mb_writes.specs.Transfers.{is_set, set_bits, count_of, mask_in, movem_in, transfers_of}
-use Rattle.mb_writes.specs.Moving.{Halfway, refused_at, stored_of, store_all, loaded_of, load_all, transfer_of}
+use Rattle.mb_writes.specs.Moving.{Halfway, refused_at, stored_of, store_all_of, loaded_of, load_all_of, transfer_of}
 use Rattle.mb_writes.proofs.Bits.{length-transfers}
 use Rattle.mb_meaning.specs.Ends.{Unread, Stop, Rowed, carried, jumped, stopped, reading, ending}
-use Rattle.mb_meaning.specs.Operands.{lowered, behind, place_of}
-use Rattle.mb_meaning.specs.Moves.{move_flags, move_of, movea_of, lea_of, to_ccr_of, from_ccr_of, byte_of, scc_of, movem_by, movem_of}
+use Rattle.mb_meaning.specs.Operands.{lowered, behind_of, place_of}
+use Rattle.mb_meaning.specs.Moves.{move_flags, move_operand_of, movea_of, lea_of, move_to_ccr_of, move_from_ccr_of, byte_of, scc_of, movem_by, movem_of}
 use Rattle.mb_meaning.specs.Stack.{pea_of, linked, link_of, unlk_of}
-use Rattle.mb_meaning.specs.Peripheral.{from_peripheral, to_peripheral, movep_of}
-use Rattle.mb_meaning.specs.Lines.{line_at, line_moved, past_line, past_lines, destination_in, move16_absolute_of, move16_of}
-use Rattle.mb_meaning.specs.Modifying.{modifying}
-use Rattle.mb_meaning.specs.Arithmetic.{Pair, pair_of, combining, comparing, either_way, chaining, quick_to, quick_of, taking}
+use Rattle.mb_meaning.specs.Peripheral.{load_peripheral_of, store_peripheral_of, movep_of}
+use Rattle.mb_meaning.specs.Lines.{line_at, move_line_of, past_line, past_lines, destination_in, move16_absolute_of, move16_post_of}
+use Rattle.mb_meaning.specs.Modifying.{modify_of}
+use Rattle.mb_meaning.specs.Arithmetic.{Pair, fetch_pair_of, combine_of, compare_pair_of, combine_either_way_of, chain_of, quick_to, combine_quick_of, take_of}
 use Rattle.mb_meaning.specs.Unary.{clr_of}
-use Rattle.mb_meaning.specs.Bits.{bit_size, bit_changed, bit_row_of}
-use Rattle.mb_meaning.specs.Decimals.{paired, decimal_of, digits_of}
-use Rattle.mb_meaning.specs.BitFields.{offset_of, width_of, is_change, bytes_before, bytes_held, field_done, field_in_memory, field_row_of}
-use Rattle.mb_meaning.specs.Locked.{test_and_set, tas_in_memory, tas_of, pointer_by, cas_equal, cas_at, cas_of, cas2_equal, cas2_of}
+use Rattle.mb_meaning.specs.Bits.{bit_size, change_bit_of, bit_row_of}
+use Rattle.mb_meaning.specs.Decimals.{paired, decimal_of, repack_of}
+use Rattle.mb_meaning.specs.BitFields.{offset_of, width_of, is_change, bytes_before, bytes_held, field_done, field_in_memory_of, bit_field_of}
+use Rattle.mb_meaning.specs.Locked.{test_and_set_of, tas_in_memory, tas_of, pointer_by, cas_equal, cas_at, cas_of, cas2_equal, cas2_of}
 use Rattle.mb_meaning.specs.Conditions.{is_met}
-use Rattle.mb_meaning.specs.Flow.{target_of, is_call, call_of, branched, branch_of, counted_down, looped, dbcc_of, jmp_of, jsr_of}
+use Rattle.mb_meaning.specs.Flow.{target_of, is_call, call_of, go_if_met_of, branch_of, count_down_of, go_if_counted_of, dbcc_of, jmp_of, jsr_of}
 use Rattle.mb_meaning.specs.Returns.{rts_of, rtd_of, word_raised, rtr_of}
 use Rattle.mb_meaning.specs.Traps.{out_of_bounds, trap_of, trapcc_of, trapv_of}
-use Rattle.mb_meaning.specs.Bounds.{is_below, is_above, checked, chk_of, bounds_of, checked_carry, cmp2_of, chk2_of}
+use Rattle.mb_meaning.specs.Bounds.{is_below, is_above, check_bound_of, chk_of, compare_bounds_of, check_carry_of, cmp2_of, chk2_of}
 use Rattle.mb_processor.specs.Step.{movem_words}
 use Rattle.mb_tells.specs.Guarded.{IsLine}
 use Rattle.mb_tells.specs.Laws.{AreLongs}
@@ -129,7 +129,7 @@ HalfFits all h = MovemFits all h.fault × IsLong h.plain.pc
 
 module _ (space : Space) (all : ℕ) where
   stores_fit : (m : Movem) (p : Plain) (first done : ℕ) (ts : List Transfer) → IsLong first → done + length ts ≤ all → HaveAddresses ts
-      → Answers any (MovemFits all) (store_all m space p first done ts)
+      → Answers any (MovemFits all) (store_all_of m space p first done ts)
   stores_fit m p first done [] h few have = answers_ok tt tt
   stores_fit m p first done (t ∷ ts) h few have =
       answers_then (answers_failing (λ refused. refused_at first done refused.fault)
@@ -137,7 +137,7 @@ module _ (space : Space) (all : ℕ) where
       (λ stored u. stores_fit m p first (done + 1) ts h (omega arith) have.1)
 
   loads_fit : (m : Movem) (first done : ℕ) (ts : List Transfer) (p : Plain) → IsLong first → done + length ts ≤ all → HaveAddresses ts → IsLong p.pc
-      → Answers (λ (q : Plain). IsLong q.pc) (HalfFits all) (load_all m space first done ts p)
+      → Answers (λ (q : Plain). IsLong q.pc) (HalfFits all) (load_all_of m space first done ts p)
   loads_fit m first done [] p h few have pc = answers_ok p pc
   loads_fit m first done (t ∷ ts) p h few have pc =
       answers_then (answers_failing (λ refused. record { fault = refused_at first done refused.fault; plain = p })
@@ -168,11 +168,11 @@ module _ (i : Instr) (space : Space) where
   -- what moves
 
   pub move_fits : (size : Size) (destination source : Ea) (word_at : ℕ) (p : Plain) → IsFormed destination → IsFormed source → IsFit p
-      → Row i (move_of size destination source word_at space p)
-  unfolding move_of
+      → Row i (move_operand_of size destination source word_at space p)
+  unfolding move_operand_of
   move_fits size destination source word_at p goes comes fit =
       row_reading i (operand_fits space size source word_at p comes fit) (λ from read.
-      row_reading i (resolve_fits space destination size (behind size source word_at) from.plain goes read.1) (λ to found.
+      row_reading i (resolve_fits space destination size (behind_of size source word_at) from.plain goes read.1) (λ to found.
       storing_fits space i to.target size from.value (move_flags size from.value to.plain) found.0 found.1.1))
 
   pub movea_fits : (size : Size) (n : ℕ) (source : Ea) (word_at : ℕ) (p : Plain) → IsFormed source → IsFit p → Row i (movea_of size n source word_at space p)
@@ -183,12 +183,12 @@ module _ (i : Instr) (space : Space) where
   unfolding lea_of
   lea_fits n ea word_at p is fit = row_reading i (address_fits space Long ea word_at p is fit) (λ place found. row_done i _)
 
-  pub to_ccr_fits : (ea : Ea) (word_at : ℕ) (p : Plain) → IsFormed ea → IsFit p → Row i (to_ccr_of ea word_at space p)
-  unfolding to_ccr_of
+  pub to_ccr_fits : (ea : Ea) (word_at : ℕ) (p : Plain) → IsFormed ea → IsFit p → Row i (move_to_ccr_of ea word_at space p)
+  unfolding move_to_ccr_of
   to_ccr_fits ea word_at p is fit = row_reading i (operand_fits space Word ea word_at p is fit) (λ operand read. row_done i _)
 
-  pub from_ccr_fits : (ea : Ea) (word_at : ℕ) (p : Plain) → IsFormed ea → IsFit p → Row i (from_ccr_of ea word_at space p)
-  unfolding from_ccr_of
+  pub from_ccr_fits : (ea : Ea) (word_at : ℕ) (p : Plain) → IsFormed ea → IsFit p → Row i (move_from_ccr_of ea word_at space p)
+  unfolding move_from_ccr_of
   from_ccr_fits ea word_at p is fit =
       row_reading i (resolve_fits space ea Word word_at p is fit) (λ to found. storing_fits space i to.target Word (p.ccr % 2 ^ 5) to.plain found.0 found.1.1)
 
@@ -233,7 +233,7 @@ module _ (i : Instr) (space : Space) where
 
   pub movep_fits : (n : ℕ) (is_store : Bool) (size : Size) (address displacement : ℕ) (p : Plain) → IsFit p
       → Row i (movep_of n is_store size address displacement space p)
-  unfolding movep_of to_peripheral from_peripheral
+  unfolding movep_of store_peripheral_of load_peripheral_of
   movep_fits n is_store size address displacement p fit =
       let place = sum (address_register p address) (sign_extended Word displacement) in
       let lt = sum_long (address_register p address) (sign_extended Word displacement) in
@@ -243,30 +243,30 @@ module _ (i : Instr) (space : Space) where
   -- what reads an operand
 
   pub taking_fits : (effect : ℕ → Plain → Rowed) (size : Size) (ea : Ea) (word_at : ℕ) (p : Plain) → IsFormed ea → IsFit p
-      → ((value : ℕ) (q : Plain) → IsFit q → IsAnswer any (CutFits i) (effect value q)) → Row i (taking effect size ea word_at space p)
-  unfolding taking
+      → ((value : ℕ) (q : Plain) → IsFit q → IsAnswer any (CutFits i) (effect value q)) → Row i (take_of effect size ea word_at space p)
+  unfolding take_of
   taking_fits effect size ea word_at p is fit ends =
       row_reading i (operand_fits space size ea word_at p is fit) (λ operand read.
       row_ends i (effect operand.value operand.plain) (ends operand.value operand.plain read.1))
 
   pub modifying_fits : (change : ℕ → ℕ → Flagged) (size : Size) (ea : Ea) (word_at : ℕ) (p : Plain) → IsFormed ea → IsFit p
-      → Row i (modifying change size ea word_at space p)
-  unfolding modifying
+      → Row i (modify_of change size ea word_at space p)
+  unfolding modify_of
   modifying_fits change size ea word_at p is fit =
       row_reading i (operand_fits space size ea word_at p is fit) (λ operand read.
       let result = change operand.value operand.plain.ccr in
       storing_fits space i operand.target size result.value (record operand.plain { ccr = result.ccr }) read.0 read.1.1)
 
   pair_fits : (size : Size) (source destination : Ea) (word_at : ℕ) (p : Plain) → IsFormed source → IsFormed destination → IsFit p
-      → Reads (λ (pair : Pair). IsFetched space pair.destination) (pair_of size source destination word_at space p)
-  unfolding pair_of
+      → Reads (λ (pair : Pair). IsFetched space pair.destination) (fetch_pair_of size source destination word_at space p)
+  unfolding fetch_pair_of
   pair_fits size source destination word_at p comes goes fit =
       answers_then (operand_fits space size source word_at p comes fit) (λ from read.
-      answers_then (operand_fits space size destination (behind size source word_at) from.plain goes read.1) (λ to found. answers_ok _ found))
+      answers_then (operand_fits space size destination (behind_of size source word_at) from.plain goes read.1) (λ to found. answers_ok _ found))
 
   pub combining_fits : (operation : ℕ → ℕ → ℕ → Flagged) (size : Size) (source destination : Ea) (word_at : ℕ) (p : Plain)
-      → IsFormed source → IsFormed destination → IsFit p → Row i (combining operation size source destination word_at space p)
-  unfolding combining
+      → IsFormed source → IsFormed destination → IsFit p → Row i (combine_of operation size source destination word_at space p)
+  unfolding combine_of
   combining_fits operation size source destination word_at p comes goes fit =
       row_reading i (pair_fits size source destination word_at p comes goes fit) (λ pair found.
       let to = pair.destination in
@@ -274,21 +274,21 @@ module _ (i : Instr) (space : Space) where
       storing_fits space i to.target size result.value (record to.plain { ccr = result.ccr }) found.0 found.1.1)
 
   pub comparing_fits : (size : Size) (source destination : Ea) (word_at : ℕ) (p : Plain) → IsFormed source → IsFormed destination → IsFit p
-      → Row i (comparing size source destination word_at space p)
-  unfolding comparing
+      → Row i (compare_pair_of size source destination word_at space p)
+  unfolding compare_pair_of
   comparing_fits size source destination word_at p comes goes fit =
       row_reading i (pair_fits size source destination word_at p comes goes fit) (λ pair found. row_done i _)
 
   pub either_way_fits : (operation : ℕ → ℕ → ℕ → Flagged) (register : ℕ) (to_memory : Bool) (size : Size) (ea : Ea) (word_at : ℕ) (p : Plain)
-      → IsFormed ea → IsFit p → Row i (either_way operation register to_memory size ea word_at space p)
-  unfolding either_way
+      → IsFormed ea → IsFit p → Row i (combine_either_way_of operation register to_memory size ea word_at space p)
+  unfolding combine_either_way_of
   either_way_fits operation register to_memory size ea word_at p is fit =
       answers_choose to_memory (combining_fits operation size (Dn register) ea word_at p tt is fit)
       (combining_fits operation size ea (Dn register) word_at p is tt fit)
 
   pub chaining_fits : (operation : ℕ → ℕ → ℕ → Flagged) (size : Size) (in_memory : Bool) (source destination word_at : ℕ) (p : Plain)
-      → IsFit p → Row i (chaining operation size in_memory source destination word_at space p)
-  unfolding chaining
+      → IsFit p → Row i (chain_of operation size in_memory source destination word_at space p)
+  unfolding chain_of
   chaining_fits operation size in_memory source destination word_at p fit =
       answers_choose in_memory (combining_fits operation size (Pre source) (Pre destination) word_at p tt tt fit)
       (combining_fits operation size (Dn source) (Dn destination) word_at p tt tt fit)
@@ -299,8 +299,8 @@ module _ (i : Instr) (space : Space) where
   quick_to_fits None change moved size ea word_at p is fit = modifying_fits change size ea word_at p is fit
 
   pub quick_fits : (change : ℕ → ℕ → Flagged) (moved : ℕ → ℕ) (size : Size) (ea : Ea) (word_at : ℕ) (p : Plain)
-      → IsFormed ea → IsFit p → Row i (quick_of change moved size ea word_at space p)
-  unfolding quick_of
+      → IsFormed ea → IsFit p → Row i (combine_quick_of change moved size ea word_at space p)
+  unfolding combine_quick_of
   quick_fits change moved size ea word_at p is fit = quick_to_fits (address_number ea) change moved size ea word_at p is fit
 
   pub clr_fits : (size : Size) (ea : Ea) (word_at : ℕ) (p : Plain) → IsFormed ea → IsFit p → Row i (clr_of size ea word_at space p)
@@ -313,9 +313,9 @@ module _ (i : Instr) (space : Space) where
       → Row i (bit_row_of kind number ea word_at space p)
   unfolding bit_row_of
   bit_row_fits bit.Test number ea word_at p is fit = row_reading i (operand_fits space (bit_size ea) ea word_at p is fit) (λ operand read. row_done i _)
-  bit_row_fits bit.Change number ea word_at p is fit = modifying_fits (bit_changed bit.Change number (bit_size ea)) (bit_size ea) ea word_at p is fit
-  bit_row_fits bit.Clear number ea word_at p is fit = modifying_fits (bit_changed bit.Clear number (bit_size ea)) (bit_size ea) ea word_at p is fit
-  bit_row_fits bit.Set number ea word_at p is fit = modifying_fits (bit_changed bit.Set number (bit_size ea)) (bit_size ea) ea word_at p is fit
+  bit_row_fits bit.Change number ea word_at p is fit = modifying_fits (change_bit_of bit.Change number (bit_size ea)) (bit_size ea) ea word_at p is fit
+  bit_row_fits bit.Clear number ea word_at p is fit = modifying_fits (change_bit_of bit.Clear number (bit_size ea)) (bit_size ea) ea word_at p is fit
+  bit_row_fits bit.Set number ea word_at p is fit = modifying_fits (change_bit_of bit.Set number (bit_size ea)) (bit_size ea) ea word_at p is fit
 
   paired_formed : (in_memory : Bool) (n : ℕ) → IsFormed (paired in_memory n)
   paired_formed true n = tt
@@ -331,15 +331,15 @@ module _ (i : Instr) (space : Space) where
       storing_fits space i destination.target Byte result.value (record destination.plain { ccr = result.ccr }) found.0 found.1.1))
 
   pub digits_fits : (operation : ℕ → ℕ → ℕ) (from to : Size) (m : ℕ) (in_memory : Bool) (n adjust word_at : ℕ) (p : Plain) → IsFit p
-      → Row i (digits_of operation from to m in_memory n adjust word_at space p)
-  unfolding digits_of
+      → Row i (repack_of operation from to m in_memory n adjust word_at space p)
+  unfolding repack_of
   digits_fits operation from to m in_memory n adjust word_at p fit =
       row_reading i (operand_fits space from (paired in_memory n) word_at p (paired_formed in_memory n) fit) (λ source read.
       row_reading i (resolve_fits space (paired in_memory m) to word_at source.plain (paired_formed in_memory m) read.1) (λ destination found.
       storing_fits space i destination.target to (operation source.value adjust) destination.plain found.0 found.1.1))
 
-  field_in_memory_fits : (kind : FieldKind) (word address : ℕ) (p : Plain) → IsFit p → Row i (field_in_memory kind word address space p)
-  unfolding field_in_memory
+  field_in_memory_fits : (kind : FieldKind) (word address : ℕ) (p : Plain) → IsFit p → Row i (field_in_memory_of kind word address space p)
+  unfolding field_in_memory_of
   field_in_memory_fits kind word address p fit =
       let first = sum address (bytes_before (offset_of word p)) in
       let lt = sum_long address (bytes_before (offset_of word p)) in
@@ -347,8 +347,8 @@ module _ (i : Instr) (space : Space) where
       answers_choose (is_change kind)
       (row_writing i _ (subst IsLong (sym (field_pc kind word _ p)) fit.1) (put_fits space first _ _ lt) (λ written. row_done i _)) (row_done i _))
 
-  pub field_row_fits : (kind : FieldKind) (ea : Ea) (word word_at : ℕ) (p : Plain) → IsFormed ea → IsFit p → Row i (field_row_of kind ea word word_at space p)
-  unfolding field_row_of
+  pub field_row_fits : (kind : FieldKind) (ea : Ea) (word word_at : ℕ) (p : Plain) → IsFormed ea → IsFit p → Row i (bit_field_of kind ea word word_at space p)
+  unfolding bit_field_of
   field_row_fits kind (Dn n) word word_at p is fit = row_done i _
   field_row_fits kind ea word word_at p is fit =
       row_reading i (address_fits space Long ea word_at p is fit) (λ address found. field_in_memory_fits kind word address p fit)
@@ -362,7 +362,7 @@ module _ (i : Instr) (space : Space) where
 
   pub tas_fits : (ea : Ea) (word_at : ℕ) (p : Plain) → IsFormed ea → IsFit p → Row i (tas_of ea word_at space p)
   unfolding tas_of
-  tas_fits (Dn n) word_at p is fit = modifying_fits test_and_set Byte (Dn n) word_at p tt fit
+  tas_fits (Dn n) word_at p is fit = modifying_fits test_and_set_of Byte (Dn n) word_at p tt fit
   tas_fits ea word_at p is fit =
       row_reading i (resolve_fits space ea Byte word_at p is fit) (λ to found. tas_in_memory_fits (place_of to.target) to.plain (place_long to.target found.0))
 
@@ -397,17 +397,17 @@ module _ (i : Instr) (space : Space) where
       pushing_fits space i p.pc (address_register after 7) (record { flow = true; plain = after }) (lowered_long p fit.0) h
 
   pub branch_fits : (c : Condition) (d : Branch) (word_at : ℕ) (p : Plain) → IsFit p → Row i (branch_of c d word_at space p)
-  unfolding branch_of branched
+  unfolding branch_of go_if_met_of
   branch_fits c d word_at p fit =
       answers_choose (is_call c) (call_fits (target_of word_at d) p (sum_long word_at _) fit)
-      (row_ends i (branched c (target_of word_at d) p) (ends_if (is_met c p.ccr) (jumped (record p { pc = target_of word_at d })) (carried p) tt tt))
+      (row_ends i (go_if_met_of c (target_of word_at d) p) (ends_if (is_met c p.ccr) (jumped (record p { pc = target_of word_at d })) (carried p) tt tt))
 
   pub dbcc_fits : (c : Condition) (n d word_at : ℕ) (p : Plain) → Row i (Return (dbcc_of c n d word_at p))
-  unfolding dbcc_of looped
+  unfolding dbcc_of go_if_counted_of
   dbcc_fits c n d word_at p =
       let target = target_of word_at (displacement.Word d) in
-      let after = counted_down n p in
-      row_ends i (dbcc_of c n d word_at p) (ends_if (is_met c p.ccr) (carried p) (looped n target p) tt
+      let after = count_down_of n p in
+      row_ends i (dbcc_of c n d word_at p) (ends_if (is_met c p.ccr) (carried p) (go_if_counted_of n target p) tt
       (ends_if (low_of Word (data_register after n) == 2 ^ 16 - 1) (carried after) (jumped (record after { pc = target })) tt tt))
 
   pub jmp_fits : (ea : Ea) (word_at : ℕ) (p : Plain) → IsFormed ea → IsFit p → Row i (jmp_of ea word_at space p)
@@ -446,15 +446,15 @@ module _ (i : Instr) (space : Space) where
   unfolding trapv_of
   trapv_fits p fit = trapcc_fits condition.OverflowSet p fit
 
-  checked_fits : (size : Size) (bound value : ℕ) (p : Plain) → IsFit p → IsAnswer any (CutFits i) (checked size bound value p)
-  unfolding checked
+  checked_fits : (size : Size) (bound value : ℕ) (p : Plain) → IsFit p → IsAnswer any (CutFits i) (check_bound_of size bound value p)
+  unfolding check_bound_of
   checked_fits size bound value p fit =
       let below = is_below size value in
       let codes = ccr_of (record (conditions_of p.ccr) { n = below }) in
       ends_if (below || is_above size bound value) (stopped out_of_bounds (record p { ccr = codes })) (carried p) (tt, fit.1) tt
 
-  checked_carry_fits : (p : Plain) → IsFit p → IsAnswer any (CutFits i) (checked_carry p)
-  unfolding checked_carry
+  checked_carry_fits : (p : Plain) → IsFit p → IsAnswer any (CutFits i) (check_carry_of p)
+  unfolding check_carry_of
   checked_carry_fits p fit = ends_if (conditions_of p.ccr).c (stopped out_of_bounds p) (carried p) (tt, fit.1) tt
 
   pub chk_fits : (n : ℕ) (size : Size) (ea : Ea) (word_at : ℕ) (p : Plain) → IsFormed ea → IsFit p → Row i (chk_of n size ea word_at space p)
@@ -462,10 +462,10 @@ module _ (i : Instr) (space : Space) where
   chk_fits n size ea word_at p is fit =
       row_reading i (operand_fits space size ea word_at p is fit) (λ bound read.
       let q = bound.plain in
-      row_ends i (checked size bound.value (data_register q n) q) (checked_fits size bound.value (data_register q n) q read.1))
+      row_ends i (check_bound_of size bound.value (data_register q n) q) (checked_fits size bound.value (data_register q n) q read.1))
 
-  bounds_fits : (size : Size) (ea : Ea) (w word_at : ℕ) (p : Plain) → IsFormed ea → IsFit p → Reads any (bounds_of size ea w word_at space p)
-  unfolding bounds_of
+  bounds_fits : (size : Size) (ea : Ea) (w word_at : ℕ) (p : Plain) → IsFormed ea → IsFit p → Reads any (compare_bounds_of size ea w word_at space p)
+  unfolding compare_bounds_of
   bounds_fits size ea w word_at p is fit =
       answers_then (address_fits space size ea word_at p is fit) (λ place found.
       answers_then (read_fits space place (bytes_of size) found) (λ lower u.
@@ -479,7 +479,7 @@ module _ (i : Instr) (space : Space) where
   unfolding chk2_of
   chk2_fits size ea w word_at p is fit =
       row_reading i (bounds_fits size ea w word_at p is fit) (λ ccr u.
-      row_ends i (checked_carry (record p { ccr = ccr })) (checked_carry_fits (record p { ccr = ccr }) fit))
+      row_ends i (check_carry_of (record p { ccr = ccr })) (checked_carry_fits (record p { ccr = ccr }) fit))
 
   -- lines, of a sound guest
 
@@ -487,8 +487,8 @@ module _ (i : Instr) (space : Space) where
   line_is at h = (omega arith, omega arith)
 
   line_fits : (size from to : ℕ) (after : Plain) (g : Guest) → Sound size g → IsLong from → IsLong to → IsLong after.pc
-      → IsAnswer any (CutFits i) (run held_bus (line_moved from to space after) g).0
-  unfolding line_moved
+      → IsAnswer any (CutFits i) (run held_bus (move_line_of from to space after) g).0
+  unfolding move_line_of
   line_fits size from to after g s comes goes pc =
       let first = line_is from comes in
       let m = reading (failing (refused_in (line_at from)) (read_line space (line_at from))) in
@@ -516,8 +516,8 @@ module _ (i : Instr) (space : Space) where
       line_fits size place (address_register p n) p g s lt (address_long p n fit.0) fit.1
 
   pub move16_fits : (size m word : ℕ) (p : Plain) (g : Guest) → Sound size g → IsFit p
-      → IsAnswer any (CutFits i) (run held_bus (move16_of m word space p) g).0
-  unfolding move16_of
+      → IsAnswer any (CutFits i) (run held_bus (move16_post_of m word space p) g).0
+  unfolding move16_post_of
   move16_fits size m word p g s fit =
       let n = destination_in word in
       line_fits size (address_register p m) (address_register p n) (past_lines m n p) g s (address_long p m fit.0) (address_long p n fit.0)

@@ -18,7 +18,7 @@ use Rattle.mb_processor.specs.SystemEnds.{with_registers}
 use Rattle.mb_meaning.specs.Rows.{privileged, perform_of, row_of}
 use Rattle.mb_meaning.specs.Attempt.{Found, found_none, fetched_of, past, attempt_of}
 use Rattle.mb_processor.specs.Raise.{Stepped, is_due}
-use Rattle.mb_processor.specs.Step.{finish_of, interrupt_mask, step_of, rank}
+use Rattle.mb_processor.specs.Step.{finish_instruction_of, interrupt_mask, step_of, rank}
 use Rattle.mb_attempts.specs.Attempts.{is_attempted, IsUntraced, NoOther, fetched_by, attempted_by, finished_by}
 use Rattle.mb_attempts.proofs.Attempts.{attempt_then_finish}
 use Rattle.mb_twins.specs.Twins.{SameEnd, SamePerformed}
@@ -76,8 +76,8 @@ never_due : (cpu : Cpu) (flow : Bool) → IsUntraced cpu → is_due cpu.regs.sr 
 never_due cpu flow h = rw h.all (rw h.flow refl)
 
 done_finish : {S : Type 0} (bus : Bus S) (i : Instr) (f : Bool) (before after : Cpu) (t : S) → IsUntraced before
-    → run bus (finish_of i (ended.Done f) before after) t ≡ ((finish.Went, after), t)
-unfolding finish_of
+    → run bus (finish_instruction_of i (ended.Done f) before after) t ≡ ((finish.Went, after), t)
+unfolding finish_instruction_of
 done_finish bus i f before after t h = rw (never_due before f h) refl
 
 -- ---- the instruction
@@ -171,10 +171,10 @@ module _ (x : Site) (board guest : Cpu) (b : World) (g : Guest) (m : Mirrored x 
       ∙ ap (λ (q : Performed × World). finished_by board_bus i board q) attempts_there
 
   -- with the registers of the held guest
-  finished_there : (i : Instr) (end : Ended) → run board_bus (finish_of i end board (with_registers (closed there.0).1 board)) there.1
-      ≡ run board_bus (finish_of i end board (with_registers (closed held.0).1 board)) there.1
+  finished_there : (i : Instr) (end : Ended) → run board_bus (finish_instruction_of i end board (with_registers (closed there.0).1 board)) there.1
+      ≡ run board_bus (finish_instruction_of i end board (with_registers (closed held.0).1 board)) there.1
   finished_there i end =
-      ap (λ (q : Plain). run board_bus (finish_of i end board (with_registers q board)) there.1) (same_closed x (there.0) (held.0) mirrored.0).1
+      ap (λ (q : Plain). run board_bus (finish_instruction_of i end board (with_registers q board)) there.1) (same_closed x (there.0) (held.0) mirrored.0).1
 
   -- where the held guest was denied nothing, the guest's own attempt is the held one's
   own_is_held : (f : Bool) → (closed held.0).0 ≡ ended.Done f → attempted_by guest_bus guest g ≡ held
@@ -200,7 +200,7 @@ module _ (x : Site) (board guest : Cpu) (b : World) (g : Guest) (m : Mirrored x 
       ] in
       attempt_then_finish guest_bus level guest g i masked m.guest_untraced.going (in_it found) attempted
       ∙ ap (λ (q : Performed × Guest). finished_by guest_bus i guest q) is
-      ∙ ap (λ (e : Ended). run guest_bus (finish_of i e guest (with_registers (closed held.0).1 guest)) held.1) done
+      ∙ ap (λ (e : Ended). run guest_bus (finish_instruction_of i e guest (with_registers (closed held.0).1 guest)) held.1) done
       ∙ done_finish guest_bus i f guest (with_registers (closed held.0).1 guest) held.1 m.guest_untraced
 
   retires : (level : ℕ) (f : Bool) → rank level ≤ interrupt_mask board → (closed held.0).0 ≡ ended.Done f
@@ -212,7 +212,7 @@ module _ (x : Site) (board guest : Cpu) (b : World) (g : Guest) (m : Mirrored x 
       let is : (closed there.0).0 ≡ ended.Done f = same_done x (closed there.0).0 f (subst (λ (e : Ended). SameEnd (setting x) (closed there.0).0 e) done same)
       in
       native level i masked (in_it found) ∙ finished_there i (closed there.0).0
-      ∙ ap (λ (e : Ended). run board_bus (finish_of i e board (with_registers (closed held.0).1 board)) there.1) is
+      ∙ ap (λ (e : Ended). run board_bus (finish_instruction_of i e board (with_registers (closed held.0).1 board)) there.1) is
       ∙ done_finish board_bus i f board (with_registers (closed held.0).1 board) there.1 m.board_untraced
 
 pub steps_retire : StepsRetire

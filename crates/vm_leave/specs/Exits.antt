@@ -15,7 +15,7 @@ use Rattle.mb_processor.specs.declared.entering.Cause.{Cause}
 use Rattle.mb_processor.specs.declared.Finish.TheVariants as finish
 use Rattle.mb_processor.specs.Entry.{frames_of}
 use Rattle.mb_processor.specs.Raise.{Stepped, traces_all, is_due, with_ct, access_cause, cause_at}
-use Rattle.mb_processor.specs.Step.{finish_of, movem_words, is_flow}
+use Rattle.mb_processor.specs.Step.{finish_instruction_of, movem_words, is_flow}
 use Rattle.mb_attempts.specs.Attempts.{IsUntraced}
 use Rattle.mb_machine.specs.World.{World}
 use Rattle.mb_machine.specs.Enters.{IsOpen, HasRoom, stacked_on, at_handler}
@@ -86,7 +86,7 @@ IsEnd _ = Unit {0}
 abbrev pub BoardLeaves : Type 0
 BoardLeaves = (b : World) (i : Instr) (end : Ended) (before after : Cpu) → IsUntraced before → IsEnd end
     → has_big_pages b.mmu ≡ false → IsOpen b.mmu → let e = exit_of i end before after in HasRoom b e.cause e.cpu
-    → run board_bus (finish_of i end before after) b ≡ left e b
+    → run board_bus (finish_instruction_of i end before after) b ≡ left e b
 
 -- the frame of an exit lies below the guest
 abbrev pub IsBelow : Site → Exit → Type 0

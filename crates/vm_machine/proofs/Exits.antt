@@ -20,8 +20,8 @@ use Rattle.mb_processor.specs.SystemEnds.{with_registers}
 use Rattle.mb_processor.specs.Entry.{enter_of}
 use Rattle.mb_meaning.specs.Attempt.{Found}
 use Rattle.mb_processor.specs.Raise.{Stepped, Raised, is_due, traces_all, access_cause, ends_step, access_error_of, unchecked_of, raised, raise_of}
-use Rattle.mb_processor.specs.Raise.{tracing_of, trap_of, refused_of}
-use Rattle.mb_processor.specs.Step.{unread_of, unfinished_of, unbegun_of, unwritten_of, line_unwritten_of, untransferred_of, finish_of, is_flow}
+use Rattle.mb_processor.specs.Raise.{trace_if_of, raise_trap_of, refuse_of}
+use Rattle.mb_processor.specs.Step.{finish_unread_of, finish_unfinished_of, unbegun_of, finish_unwritten_of, finish_unwritten_line_of, finish_untransferred_of, finish_instruction_of, is_flow}
 use Rattle.mb_attempts.specs.Attempts.{IsUntraced, NoOther, is_attempted, fetched_by, attempted_by, finished_by}
 use Rattle.mb_attempts.proofs.Attempts.{attempt_then_finish}
 use Rattle.vm_machine.specs.Classes.{class_of_end, class_by, is_exit}
@@ -59,25 +59,25 @@ last_ends : {S : Type 0} (bus : Bus S) (vector : ℕ) (r : Raised) (t : S) → E
 last_ends bus vector (Ok cpu) t h = refl
 last_ends bus vector (Err stepped) t h = h
 
-refused_ends : {S : Type 0} (bus : Bus S) (vector : ℕ) (before : Cpu) (s : S) → is_going (run bus (refused_of vector before) s).0.0 ≡ false
-unfolding refused_of
+refused_ends : {S : Type 0} (bus : Bus S) (vector : ℕ) (before : Cpu) (s : S) → is_going (run bus (refuse_of vector before) s).0.0 ≡ false
+unfolding refuse_of
 refused_ends bus vector before s = last_ends bus vector _ _ (raise_ends bus false _ before before s)
 
 -- a trace behind a trap, where none is due
 behind_trap : {S : Type 0} (bus : Bus S) (vector : ℕ) (due : Bool) (at : ℕ) (r : Raised) (t : S) → due ≡ false → Ends r
-    → is_going (run bus (either r (λ (stepped : Stepped). Return stepped) (λ (cpu : Cpu). tracing_of (finish.Entered vector) due at cpu)) t).0.0 ≡ false
+    → is_going (run bus (either r (λ (stepped : Stepped). Return stepped) (λ (cpu : Cpu). trace_if_of (finish.Entered vector) due at cpu)) t).0.0 ≡ false
 behind_trap bus vector due at (Ok cpu) t h e = rw h refl
 behind_trap bus vector due at (Err stepped) t h e = e
 
 trap_ends : {S : Type 0} (bus : Bus S) (vector : ℕ) (before cpu : Cpu) (s : S) → IsUntraced before
-    → is_going (run bus (trap_of vector before cpu) s).0.0 ≡ false
-unfolding trap_of
+    → is_going (run bus (raise_trap_of vector before cpu) s).0.0 ≡ false
+unfolding raise_trap_of
 trap_ends bus vector before cpu s h =
     behind_trap bus vector (traces_all before.regs.sr) before.regs.pc _ _ h.all (raise_ends bus false _ before cpu s)
 
 unwritten_ends : {S : Type 0} (bus : Bus S) (due : Bool) (refused : WriteFault) (items : List Pend) (before cpu : Cpu) (s : S)
-    → is_going (run bus (unwritten_of due refused items before cpu) s).0.0 ≡ false
-unfolding unbegun_of unfinished_of
+    → is_going (run bus (finish_unwritten_of due refused items before cpu) s).0.0 ≡ false
+unfolding unbegun_of finish_unfinished_of
 unwritten_ends bus due refused [] before cpu s = error_ends bus before.regs.pc _ before (bus ReadMmu s).1
 unwritten_ends bus due refused (piece ∷ pieces) before cpu s = error_ends bus cpu.regs.pc _ cpu (bus ReadMmu s).1
 
@@ -87,10 +87,10 @@ none_due : (cpu : Cpu) (flow : Bool) → IsUntraced cpu → is_due cpu.regs.sr f
 none_due cpu flow h = rw (h.all, h.flow) refl
 
 finish_tells : {S : Type 0} (bus : Bus S) (i : Instr) (end : Ended) (before cpu : Cpu) (s : S) → IsUntraced before
-    → is_going (run bus (finish_of i end before cpu) s).0.0 ≡ not (is_exit (class_of_end end))
-unfolding finish_of unread_of line_unwritten_of untransferred_of
+    → is_going (run bus (finish_instruction_of i end before cpu) s).0.0 ≡ not (is_exit (class_of_end end))
+unfolding finish_instruction_of finish_unread_of finish_unwritten_line_of finish_untransferred_of
 finish_tells bus i (ended.Done flow) before cpu s h =
-    ap (λ (due : Bool). is_going (run bus (tracing_of finish.Went due before.regs.pc cpu) s).0.0) (none_due before flow h)
+    ap (λ (due : Bool). is_going (run bus (trace_if_of finish.Went due before.regs.pc cpu) s).0.0) (none_due before flow h)
 finish_tells bus i (ended.Trap vector) before cpu s h = trap_ends bus vector before cpu s h
 finish_tells bus i (ended.Refused vector) before cpu s h = refused_ends bus vector before s
 finish_tells bus i (ended.ReadFault refused) before cpu s h = error_ends bus before.regs.pc _ before (bus ReadMmu s).1

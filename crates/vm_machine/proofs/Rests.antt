@@ -17,13 +17,13 @@ use Rattle.mb_writes.specs.declared.ends.WriteFault.{WriteFault}
 use Rattle.mb_writes.specs.declared.ends.Ended.TheVariants as ended
 use Rattle.mb_writes.specs.Transfers.{movem_in, refused_transfer}
 use Rattle.mb_writes.specs.Moving.{Halfway, transfer_of}
-use Rattle.mb_writes.specs.Writing.{left_by, write_all}
+use Rattle.mb_writes.specs.Writing.{left_by, write_pieces_of}
 use Rattle.mb_processor.specs.declared.Finish.{Finish}
 use Rattle.mb_processor.specs.declared.Finish.TheVariants as finish
 use Rattle.mb_meaning.specs.Ends.{Carried, Stopped, Performed}
 use Rattle.mb_processor.specs.SystemEnds.{with_registers}
-use Rattle.mb_processor.specs.Raise.{Stepped, traces_all, is_due, cause_at, raise_of, trap_of, tracing_of, access_error_of, with_ct}
-use Rattle.mb_processor.specs.Step.{unfinished_of, unwritten_of, line_unwritten_of, untransferred_of, movem_words, finish_of, is_flow, step_of}
+use Rattle.mb_processor.specs.Raise.{Stepped, traces_all, is_due, cause_at, raise_of, raise_trap_of, trace_if_of, access_error_of, with_ct}
+use Rattle.mb_processor.specs.Step.{finish_unfinished_of, finish_unwritten_of, finish_unwritten_line_of, finish_untransferred_of, movem_words, finish_instruction_of, is_flow, step_of}
 use Rattle.mb_tells.specs.Left.{completing, line_completing, moving}
 use Rattle.mb_attempts.specs.Attempts.{IsUntraced, attempted_by, finished_by}
 use Rattle.mb_attempts.proofs.Attempts.{attempt_then_finish}
@@ -39,7 +39,7 @@ either_alike bus g f h same (Err e) t = refl
 
 -- no trace is due
 untraced : {S : Type 0} (bus : Bus S) (so_far : Finish) (due : Bool) (at : ℕ) (cpu : Cpu) (t : S) → due ≡ false
-    → run bus (tracing_of so_far due at cpu) t ≡ ((so_far, cpu), t)
+    → run bus (trace_if_of so_far due at cpu) t ≡ ((so_far, cpu), t)
 untraced bus so_far due at cpu t h = rw h refl
 
 never_due : (before : Cpu) (flow : Bool) → IsUntraced before → is_due before.regs.sr flow ≡ false
@@ -54,13 +54,13 @@ step_is bus level cpu s i q b e =
 -- ---- traps
 
 pub traps_are_finished : {S : Type 0} → TrapsAreFinished S
-unfolding finish_of trap_of finish_trap_of
+unfolding finish_instruction_of raise_trap_of finish_trap_of
 traps_are_finished i vector before cpu h bus s =
     let kept = with_registers before cpu in
     let m = raise_of false (cause_at vector cpu.regs.pc kept.regs.pc) kept cpu in
     let r = run bus m s in
     either_alike bus (λ (stepped : Stepped). Return stepped)
-    (λ (handler : Cpu). tracing_of (finish.Entered vector) (traces_all kept.regs.sr) kept.regs.pc handler)
+    (λ (handler : Cpu). trace_if_of (finish.Entered vector) (traces_all kept.regs.sr) kept.regs.pc handler)
     (λ (handler : Cpu). Return (finish.Entered vector, handler))
     (λ handler t. untraced bus (finish.Entered vector) (traces_all kept.regs.sr) kept.regs.pc handler t h.all) r.0 r.1
 
@@ -71,21 +71,23 @@ abbrev HasLeft : Result (Unit {0}) WriteFault → Type 0
 HasLeft (Ok done) = Unit {0}
 HasLeft (Err refused) = (p : Pend) × (ps : List Pend) × (refused.rest.items ≡ p ∷ ps)
 
-left_behind : {S : Type 0} (bus : Bus S) (space : Space) (first : ℕ) (p : Pend) (ps : List Pend) → ((t : S) → HasLeft (run bus (write_all space first ps) t).0)
+left_behind : {S : Type 0} (bus : Bus S) (space : Space) (first : ℕ) (p : Pend) (ps : List Pend)
+    → ((t : S) → HasLeft (run bus (write_pieces_of space first ps) t).0)
     → (r : Result (Unit {0}) Fault) (t : S)
-    → HasLeft (run bus (tried (other_fault (left_by first (p ∷ ps)) r) (λ _. write_all space first ps)) t).0
+    → HasLeft (run bus (tried (other_fault (left_by first (p ∷ ps)) r) (λ _. write_pieces_of space first ps)) t).0
 left_behind bus space first p ps more (Ok done) t = more t
 left_behind bus space first p ps more (Err fault) t = (p, ps, refl)
 
-writes_leave : {S : Type 0} (bus : Bus S) (space : Space) (first : ℕ) (pending : List Pend) (s : S) → HasLeft (run bus (write_all space first pending) s).0
+writes_leave : {S : Type 0} (bus : Bus S) (space : Space) (first : ℕ) (pending : List Pend) (s : S)
+    → HasLeft (run bus (write_pieces_of space first pending) s).0
 writes_leave bus space first [] s = tt
 writes_leave bus space first (p ∷ ps) s =
     left_behind bus space first p ps (λ t. writes_leave bus space first ps t) (bus (Write space (piece_of p) p.value) s).0
     (bus (Write space (piece_of p) p.value) s).1
 
 unwritten_here : (due : Bool) (refused : WriteFault) (items : List Pend) (p : Pend) (ps : List Pend) (before cpu : Cpu) → items ≡ p ∷ ps
-    → unwritten_of due refused items before cpu ≡ unfinished_of due refused cpu
-unwritten_here due refused items p ps before cpu h = ap (λ (l : List Pend). unwritten_of due refused l before cpu) h
+    → finish_unwritten_of due refused items before cpu ≡ finish_unfinished_of due refused cpu
+unwritten_here due refused items p ps before cpu h = ap (λ (l : List Pend). finish_unwritten_of due refused l before cpu) h
 
 -- the condition codes leave S alone
 same_high : (sr ccr : ℕ) → (sr - sr % 2 ^ 5 + ccr % 2 ^ 5) / 2 ^ 13 ≡ sr / 2 ^ 13
@@ -104,24 +106,25 @@ written_finish : {S : Type 0} (bus : Bus S) (i : Instr) (before : Cpu) (done : C
     → (r : Result (Unit {0}) WriteFault) (t : S) → HasLeft r
     → let cpu = with_registers done.plain before in
     finished_by bus i before (run bus (tried (other_fault (refusing_write done) r) (λ _. Return (Ok done))) t)
-    ≡ run bus (either r (λ refused. unfinished_of false refused cpu) (λ end. Return (finish.Went, cpu))) t
-unfolding finish_of
+    ≡ run bus (either r (λ refused. finish_unfinished_of false refused cpu) (λ end. Return (finish.Went, cpu))) t
+unfolding finish_instruction_of
 written_finish bus i before done h (Ok end) t left =
     untraced bus finish.Went (is_due before.regs.sr done.flow) before.regs.pc (with_registers done.plain before) t (never_due before done.flow h)
 written_finish bus i before done h (Err refused) t (p, ps, e) =
     let cpu = with_registers done.plain before in
     ap (λ (m : Routine Stepped). run bus m t) (unwritten_here (is_due before.regs.sr (is_flow i)) refused refused.rest.items p ps before cpu e)
-    ∙ ap (λ (due : Bool). run bus (unfinished_of due refused cpu) t) (never_due before (is_flow i) h)
+    ∙ ap (λ (due : Bool). run bus (finish_unfinished_of due refused cpu) t) (never_due before (is_flow i) h)
 
 pub writes_are_finished : {S : Type 0} (bus : Bus S) (i : Instr) (before : Cpu) (first : ℕ) (pending : List Pend) (done : Carried) (s : S) → IsUntraced before
     → finished_by bus i before (run bus (completing (space_of before) first pending done) s)
     ≡ run bus (finish_writes_of pending first (with_registers done.plain before)) s
 unfolding finish_writes_of
 writes_are_finished bus i before first pending done s h =
-    let w = run bus (write_all (space_of before) first pending) s in
+    let w = run bus (write_pieces_of (space_of before) first pending) s in
     let cpu = with_registers done.plain before in
     written_finish bus i before done h w.0 w.1 (writes_leave bus (space_of before) first pending s)
-    ∙ ap (λ (space : Space). run bus (caught (write_all space first pending) (λ refused. unfinished_of false refused cpu) (λ end. Return (finish.Went, cpu))) s)
+    ∙ ap (λ (space : Space). run bus
+    (caught (write_pieces_of space first pending) (λ refused. finish_unfinished_of false refused cpu) (λ end. Return (finish.Went, cpu))) s)
     (sym (same_space done.plain before))
 
 pub denied_writes_go_on : {S : Type 0} → DeniedWritesGoOn S
@@ -138,12 +141,12 @@ lined_finish : {S : Type 0} (bus : Bus S) (i : Instr) (before : Cpu) (line : Lis
     → (r : Result (Unit {0}) Fault) (t : S)
     → let cpu = with_registers done.plain before in
     finished_by bus i before (run bus (tried (other_fault (refusing_line line done) r) (λ _. Return (Ok done))) t)
-    ≡ run bus (either r (λ fault. line_unwritten_of false fault line cpu) (λ end. Return (finish.Went, cpu))) t
-unfolding finish_of
+    ≡ run bus (either r (λ fault. finish_unwritten_line_of false fault line cpu) (λ end. Return (finish.Went, cpu))) t
+unfolding finish_instruction_of
 lined_finish bus i before line done h (Ok end) t =
     untraced bus finish.Went (is_due before.regs.sr done.flow) before.regs.pc (with_registers done.plain before) t (never_due before done.flow h)
 lined_finish bus i before line done h (Err fault) t =
-    ap (λ (due : Bool). run bus (line_unwritten_of due fault line (with_registers done.plain before)) t) h.all
+    ap (λ (due : Bool). run bus (finish_unwritten_line_of due fault line (with_registers done.plain before)) t) h.all
 
 pub lines_are_finished : {S : Type 0} (bus : Bus S) (i : Instr) (before : Cpu) (at : ℕ) (line : List ℕ) (done : Carried) (s : S) → IsUntraced before
     → finished_by bus i before (run bus (line_completing (space_of before) at line done) s)
@@ -153,7 +156,8 @@ lines_are_finished bus i before at line done s h =
     let w = bus (WriteLine (space_of before) at line) s in
     let cpu = with_registers done.plain before in
     lined_finish bus i before line done h w.0 w.1
-    ∙ ap (λ (space : Space). run bus (caught (write_line space at line) (λ fault. line_unwritten_of false fault line cpu) (λ end. Return (finish.Went, cpu))) s)
+    ∙ ap (λ (space : Space). run bus
+    (caught (write_line space at line) (λ fault. finish_unwritten_line_of false fault line cpu) (λ end. Return (finish.Went, cpu))) s)
     (sym (same_space done.plain before))
 
 pub denied_lines_go_on : {S : Type 0} → DeniedLinesGoOn S
@@ -168,14 +172,14 @@ moved_finish : {S : Type 0} (bus : Bus S) (i : Instr) (before now : Cpu) → IsU
     (run bus (tried (other_fault (λ half. record { ended = ended.Movem half.fault; plain = half.plain }) r)
     (λ moved. Return (Ok (record { flow = false; plain = moved })))) t)
     ≡ run bus (moved_on (movem_words i) now r) t
-unfolding finish_of untransferred_of
+unfolding finish_instruction_of finish_untransferred_of
 moved_finish bus i before now h on (Ok p) t =
     untraced bus finish.Went (is_due before.regs.sr false) before.regs.pc (with_registers p before) t (never_due before false h)
     ∙ ap (λ (c : Cpu). ((finish.Went, c), t)) (sym (on.others p))
 moved_finish bus i before now h on (Err half) t =
     let words = movem_words i in
-    ap (λ (due : Bool). run bus (untransferred_of due half.fault words before (with_registers half.plain before)) t) h.all
-    ∙ ap (λ (c : Cpu). run bus (untransferred_of false half.fault words before c) t) (sym (on.others half.plain))
+    ap (λ (due : Bool). run bus (finish_untransferred_of due half.fault words before (with_registers half.plain before)) t) h.all
+    ∙ ap (λ (c : Cpu). run bus (finish_untransferred_of false half.fault words before c) t) (sym (on.others half.plain))
     ∙ (let page = page_size_by (bus ReadMmu t).0 in
     ap (λ (at : ℕ). run bus (access_error_of at (with_ct (false && not (movem_in words).is_load)
     (access_fields (refused_transfer half.fault words (with_registers half.plain now).regs.pc) page)) (with_registers half.plain now)) (bus ReadMmu t).1)

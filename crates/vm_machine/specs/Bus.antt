@@ -17,7 +17,7 @@ use Rattle.mb_machine.specs.declared.reference.Settled.{Settled}
 use Rattle.mb_machine.specs.declared.reference.Settled.TheVariants.{To, Refused, Unsettled}
 use Rattle.mb_machine.specs.World.{World}
 use Rattle.mb_machine.specs.Access.{matched, search_for, settled, translated}
-use Rattle.mb_machine.specs.Bus.{bus_of, reference_of, writing}
+use Rattle.mb_machine.specs.Bus.{bus_of, reference_of, writing_of}
 use Rattle.vm_shadow.specs.Shadows.{Shadowed, nothing, filled, dropped}
 use Rattle.vm_machine.specs.Guests.{Guest, allows}
 
@@ -91,7 +91,7 @@ is_to Unsettled = false
 
 -- A data write to the page now would need no search and not be refused.
 abbrev pub is_writable : World → Space → ℕ → Bool
-is_writable w space page = is_to (settled rule_k w.mmu w.kept (writing space (PAGE_SIZE * page)))
+is_writable w space page = is_to (settled rule_k w.mmu w.kept (writing_of space (PAGE_SIZE * page)))
 
 -- An access that leads to this physical address puts an entry: its page is one of RAM and not split, and the shadow
 -- does not allow the access.

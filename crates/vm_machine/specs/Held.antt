@@ -4,7 +4,7 @@ use Rattle.mb_port.specs.Routine.{Bus, Fetch, Read, Write, ReadLine, WriteLine, 
 use Rattle.mb_port.specs.declared.types.Fault.{Fault}
 use Rattle.mb_model.specs.Keeping.{rule_k}
 use Rattle.mb_machine.specs.declared.reference.Reference.{Reference}
-use Rattle.mb_machine.specs.Bus.{bus_of, fetching, reading, writing, fault_of}
+use Rattle.mb_machine.specs.Bus.{bus_of, fetching_of, reading_of, writing_of, fault_of}
 use Rattle.vm_machine.specs.Guests.{Guest, allows}
 
 -- the bus of the guest's machine, whatever its shadow says; the shadow stays
@@ -19,15 +19,17 @@ or_refused false answer r len g = (Err (fault_of r len true), g)
 -- Each access of what the shadow allows is the machine's; any other is refused.
 abbrev pub held_bus : Bus Guest
 held_bus (Fetch space at) g =
-    or_refused (allows g.shadow (fetching space at)) (plain_bus (Fetch space at) g) (fetching space at) 2 g
+    or_refused (allows g.shadow (fetching_of space at)) (plain_bus (Fetch space at) g) (fetching_of space at) 2 g
 held_bus (Read space p) g =
-    or_refused (allows g.shadow (reading space p.at)) (plain_bus (Read space p) g) (reading space p.at) p.len g
+    or_refused (allows g.shadow (reading_of space p.at)) (plain_bus (Read space p) g) (reading_of space p.at) p.len g
 held_bus (Write space p value) g =
-    or_refused (allows g.shadow (writing space p.at)) (plain_bus (Write space p value) g) (writing space p.at) p.len g
+    or_refused (allows g.shadow (writing_of space p.at)) (plain_bus (Write space p value) g)
+    (writing_of space p.at) p.len g
 held_bus (ReadLine space at) g =
-    or_refused (allows g.shadow (reading space at)) (plain_bus (ReadLine space at) g) (reading space at) 16 g
+    or_refused (allows g.shadow (reading_of space at)) (plain_bus (ReadLine space at) g) (reading_of space at) 16 g
 held_bus (WriteLine space at line) g =
-    or_refused (allows g.shadow (writing space at)) (plain_bus (WriteLine space at line) g) (writing space at) 16 g
+    or_refused (allows g.shadow (writing_of space at)) (plain_bus (WriteLine space at line) g)
+    (writing_of space at) 16 g
 held_bus (Probe space p) g =
-    or_refused (allows g.shadow (writing space p.at)) (plain_bus (Probe space p) g) (writing space p.at) p.len g
+    or_refused (allows g.shadow (writing_of space p.at)) (plain_bus (Probe space p) g) (writing_of space p.at) p.len g
 held_bus c g = plain_bus c g

@@ -13,7 +13,7 @@ use Rattle.mb_writes.specs.Transfers.{movem_in}
 use Rattle.mb_meaning.specs.Ends.{Carried}
 use Rattle.mb_processor.specs.SystemEnds.{with_registers}
 use Rattle.mb_processor.specs.Raise.{Stepped, cause_at}
-use Rattle.mb_processor.specs.Step.{movem_words, finish_of, interrupt_mask, step_of, rank}
+use Rattle.mb_processor.specs.Step.{movem_words, finish_instruction_of, interrupt_mask, step_of, rank}
 use Rattle.mb_tells.specs.Left.{completing, line_completing, moving}
 use Rattle.mb_attempts.specs.Attempts.{IsUntraced, NoOther, is_attempted, fetched_by, attempted_by}
 use Rattle.vm_meaning.specs.declared.left.LeftOver.{LeftOver}
@@ -63,7 +63,7 @@ SameOver S m n = (bus : Bus S) (s : S) → run bus m s ≡ run bus n s
 -- An untraced instruction that traps is finished by the entry of its trap.
 abbrev pub TrapsAreFinished : Type 0 → Type 0
 TrapsAreFinished S = (i : Instr) (vector : ℕ) (before : Plain) (cpu : Cpu) → IsUntraced (with_registers before cpu)
-    → SameOver S (finish_of i (ended.Trap vector) (with_registers before cpu) cpu)
+    → SameOver S (finish_instruction_of i (ended.Trap vector) (with_registers before cpu) cpu)
     (finish_trap_of (cause_at vector cpu.regs.pc (with_registers before cpu).regs.pc) before cpu)
 
 -- An untraced step begins an instruction: no interrupt is taken.

@@ -19,7 +19,7 @@ use Rattle.mb_machine.specs.World.{World}
 use Rattle.mb_machine.specs.Places.{taken, stored, checked, taken_line, stored_line}
 use Rattle.mb_model.specs.Pages.{page_of, has_big_pages}
 use Rattle.mb_machine.specs.Access.{matched, search_for, settled, by_match, by_entry, untranslated, searched, translated, by_settled, by_found}
-use Rattle.mb_machine.specs.Bus.{bus_of, reading, writing, fetching, read_at, read_by, written_at, written_by, tested, tested_by, with_register}
+use Rattle.mb_machine.specs.Bus.{bus_of, reading_of, writing_of, fetching_of, read_at, read_by, written_at, written_by, tested, tested_by, with_register}
 use Rattle.vm_meaning.specs.Free.{IsKept, StandIn, rule_free, holding, FreeCall, WorldWithin}
 use Rattle.vm_meaning.proofs.Blind.{IsBlind, IsBlindStore, taken-blind, taken_line-blind, checked-blind, stored-blind, stored_line-blind}
 use Rattle.vm_meaning.proofs.Blind.{read-blind, write-blind, get-blind, put-blind, blind-kept}
@@ -159,34 +159,34 @@ record Followed (rule : Rule) (c : Call) (w : World) (held : KeptLists) : Type 0
 followed : (rule : Rule) (c : Call) (w : World) (held : KeptLists) → StandIn w.kept held → Followed rule c w held
 unfolding bus_of
 followed rule (Fetch space at) w held stand = record {
-  entry = used rule (fetching space at) w;
-  stands = used_is_kept rule (fetching space at) w held stand;
-  met = read_met rule (fetching space at) 2 taken w held taken-blind stand;
+  entry = used rule (fetching_of space at) w;
+  stands = used_is_kept rule (fetching_of space at) w held stand;
+  met = read_met rule (fetching_of space at) 2 taken w held taken-blind stand;
 }
 followed rule (Read space p) w held stand = record {
-  entry = used rule (reading space p.at) w;
-  stands = used_is_kept rule (reading space p.at) w held stand;
-  met = read_met rule (reading space p.at) p.len taken w held taken-blind stand;
+  entry = used rule (reading_of space p.at) w;
+  stands = used_is_kept rule (reading_of space p.at) w held stand;
+  met = read_met rule (reading_of space p.at) p.len taken w held taken-blind stand;
 }
 followed rule (Write space p value) w held stand = record {
-  entry = used rule (writing space p.at) w;
-  stands = used_is_kept rule (writing space p.at) w held stand;
-  met = write_met rule (writing space p.at) p.len (λ place. stored place value) w held (λ place. stored-blind place value) stand;
+  entry = used rule (writing_of space p.at) w;
+  stands = used_is_kept rule (writing_of space p.at) w held stand;
+  met = write_met rule (writing_of space p.at) p.len (λ place. stored place value) w held (λ place. stored-blind place value) stand;
 }
 followed rule (ReadLine space at) w held stand = record {
-  entry = used rule (reading space at) w;
-  stands = used_is_kept rule (reading space at) w held stand;
-  met = read_met rule (reading space at) 16 taken_line w held taken_line-blind stand;
+  entry = used rule (reading_of space at) w;
+  stands = used_is_kept rule (reading_of space at) w held stand;
+  met = read_met rule (reading_of space at) 16 taken_line w held taken_line-blind stand;
 }
 followed rule (WriteLine space at line) w held stand = record {
-  entry = used rule (writing space at) w;
-  stands = used_is_kept rule (writing space at) w held stand;
-  met = write_met rule (writing space at) 16 (λ place. stored_line place line) w held (λ place. stored_line-blind place line) stand;
+  entry = used rule (writing_of space at) w;
+  stands = used_is_kept rule (writing_of space at) w held stand;
+  met = write_met rule (writing_of space at) 16 (λ place. stored_line place line) w held (λ place. stored_line-blind place line) stand;
 }
 followed rule (Probe space p) w held stand = record {
-  entry = used rule (writing space p.at) w;
-  stands = used_is_kept rule (writing space p.at) w held stand;
-  met = read_met rule (writing space p.at) p.len checked w held checked-blind stand;
+  entry = used rule (writing_of space p.at) w;
+  stands = used_is_kept rule (writing_of space p.at) w held stand;
+  met = read_met rule (writing_of space p.at) p.len checked w held checked-blind stand;
 }
 followed rule (Get place) w held stand = record {
   entry = None;

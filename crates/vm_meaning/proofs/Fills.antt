@@ -12,7 +12,7 @@ use Rattle.mb_machine.specs.declared.reference.Settled.{Settled}
 use Rattle.mb_machine.specs.World.{World}
 use Rattle.mb_machine.specs.Places.{taken, stored, checked, taken_line, stored_line}
 use Rattle.mb_machine.specs.Access.{search_for, searched, translated, by_settled, by_found}
-use Rattle.mb_machine.specs.Bus.{bus_of, reading, writing, fetching, read_at, read_by, written_at, written_by}
+use Rattle.mb_machine.specs.Bus.{bus_of, reading_of, writing_of, fetching_of, read_at, read_by, written_at, written_by}
 use Rattle.vm_meaning.specs.Free.{IsKept, rule_free, holding}
 use Rattle.vm_meaning.specs.Laws.{IsFound, Searches, FreeBoardsFill}
 use Rattle.vm_meaning.proofs.KeptLemmas.{filled-first}
@@ -53,12 +53,12 @@ module _ (entry : Option Kept) (w : World) (k : Kept) (r : Reference) where
 
 pub free-boards_fill : FreeBoardsFill
 unfolding bus_of
-free-boards_fill (Fetch space at) w entry k = λ h f. read_fills entry w k (fetching space at) 2 taken taken-blind h f
-free-boards_fill (Read space p) w entry k = λ h f. read_fills entry w k (reading space p.at) p.len taken taken-blind h f
+free-boards_fill (Fetch space at) w entry k = λ h f. read_fills entry w k (fetching_of space at) 2 taken taken-blind h f
+free-boards_fill (Read space p) w entry k = λ h f. read_fills entry w k (reading_of space p.at) p.len taken taken-blind h f
 free-boards_fill (Write space p value) w entry k =
-    λ h f. write_fills entry w k (writing space p.at) p.len (λ place. stored place value) (λ place. stored-blind place value) h f
-free-boards_fill (ReadLine space at) w entry k = λ h f. read_fills entry w k (reading space at) 16 taken_line taken_line-blind h f
+    λ h f. write_fills entry w k (writing_of space p.at) p.len (λ place. stored place value) (λ place. stored-blind place value) h f
+free-boards_fill (ReadLine space at) w entry k = λ h f. read_fills entry w k (reading_of space at) 16 taken_line taken_line-blind h f
 free-boards_fill (WriteLine space at line) w entry k =
-    λ h f. write_fills entry w k (writing space at) 16 (λ place. stored_line place line) (λ place. stored_line-blind place line) h f
-free-boards_fill (Probe space p) w entry k = λ h f. read_fills entry w k (writing space p.at) p.len checked checked-blind h f
+    λ h f. write_fills entry w k (writing_of space at) 16 (λ place. stored_line place line) (λ place. stored_line-blind place line) h f
+free-boards_fill (Probe space p) w entry k = λ h f. read_fills entry w k (writing_of space p.at) p.len checked checked-blind h f
 free-boards_fill other w entry k = tt

@@ -15,7 +15,7 @@ use Rattle.mb_machine.specs.World.{World}
 use Rattle.mb_machine.specs.Places.{taken, stored, checked, taken_line, stored_line}
 use Rattle.mb_model.specs.Pages.{page_of, has_big_pages}
 use Rattle.mb_machine.specs.Access.{matched, search_for, untranslated, settled, searched, translated, by_match, by_settled, by_found}
-use Rattle.mb_machine.specs.Bus.{bus_of, reading, writing, fetching, read_at, read_by, written_at, written_by, tested, tested_by, with_register}
+use Rattle.mb_machine.specs.Bus.{bus_of, reading_of, writing_of, fetching_of, read_at, read_by, written_at, written_by, tested, tested_by, with_register}
 use Rattle.vm_meaning.specs.Free.{IsKept, rule_free, holding}
 use Rattle.vm_meaning.proofs.Blind.{IsBlind, IsBlindStore, taken-blind, taken_line-blind, checked-blind, stored-blind, stored_line-blind}
 use Rattle.vm_meaning.proofs.Blind.{read-blind, write-blind, get-blind, put-blind, blind-kept}
@@ -178,14 +178,14 @@ set_past which value w k = still_past w ([] ∷ w.kept) k refl
 
 pub past-is_searched_out : PastIsWhatWasSearchedOut
 unfolding searching_bus bus_of
-past-is_searched_out (Fetch space at) w k = read_past (fetching space at) 2 taken w k taken-blind
-past-is_searched_out (Read space p) w k = read_past (reading space p.at) p.len taken w k taken-blind
+past-is_searched_out (Fetch space at) w k = read_past (fetching_of space at) 2 taken w k taken-blind
+past-is_searched_out (Read space p) w k = read_past (reading_of space p.at) p.len taken w k taken-blind
 past-is_searched_out (Write space p value) w k =
-    write_past (writing space p.at) p.len (λ place. stored place value) w k (λ place. stored-blind place value)
-past-is_searched_out (ReadLine space at) w k = read_past (reading space at) 16 taken_line w k taken_line-blind
+    write_past (writing_of space p.at) p.len (λ place. stored place value) w k (λ place. stored-blind place value)
+past-is_searched_out (ReadLine space at) w k = read_past (reading_of space at) 16 taken_line w k taken_line-blind
 past-is_searched_out (WriteLine space at line) w k =
-    write_past (writing space at) 16 (λ place. stored_line place line) w k (λ place. stored_line-blind place line)
-past-is_searched_out (Probe space p) w k = read_past (writing space p.at) p.len checked w k checked-blind
+    write_past (writing_of space at) 16 (λ place. stored_line place line) w k (λ place. stored_line-blind place line)
+past-is_searched_out (Probe space p) w k = read_past (writing_of space p.at) p.len checked w k checked-blind
 past-is_searched_out (Get place) w k =
     still_past w (taken place (holding None w)).1.kept k
     (blind-kept (λ u. (unwrap_or (taken place u).0 0, (taken place u).1)) (get-blind place) (holding None w))

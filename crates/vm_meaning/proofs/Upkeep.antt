@@ -17,7 +17,7 @@ use Rattle.mb_machine.specs.World.{World}
 use Rattle.mb_machine.specs.Places.{taken, stored, checked, taken_line, stored_line}
 use Rattle.mb_model.specs.Pages.{page_of, has_big_pages}
 use Rattle.mb_machine.specs.Access.{matched, search_for, settled, searched, translated, by_settled, by_found}
-use Rattle.mb_machine.specs.Bus.{bus_of, reading, writing, fetching, read_at, read_by, written_at, written_by, tested, tested_by, with_register}
+use Rattle.mb_machine.specs.Bus.{bus_of, reading_of, writing_of, fetching_of, read_at, read_by, written_at, written_by, tested, tested_by, with_register}
 use Rattle.vm_meaning.specs.Free.{IsKept, rule_free}
 use Rattle.vm_meaning.specs.Laws.{IsFound, KeepsFound, FreeBoardsKeep}
 use Rattle.vm_meaning.proofs.KeptLemmas.{empty, head_or_tail, kept-behind, flushed-is, flushed-keeps, dropped-is, dropped-keeps, filled-is, filled-behind}
@@ -154,27 +154,27 @@ called : (c : Call) (w : World) (xs : List Kept) → AreKept xs w.kept → (k : 
     → KeepsFound c w (bus_of rule_free c (record w { kept = xs ∷ w.kept })).1 k
 unfolding bus_of
 called (Fetch space at) w xs are k =
-    let r = fetching space at in
+    let r = fetching_of space at in
     let h = read_keeps r 2 taken w xs taken-blind are in
     record { stays = λ there d. h.stays k there; only = λ there. kept_or_found r w k (h.only k there) }
 called (Read space p) w xs are k =
-    let r = reading space p.at in
+    let r = reading_of space p.at in
     let h = read_keeps r p.len taken w xs taken-blind are in
     record { stays = λ there d. h.stays k there; only = λ there. kept_or_found r w k (h.only k there) }
 called (Write space p value) w xs are k =
-    let r = writing space p.at in
+    let r = writing_of space p.at in
     let h = write_keeps r p.len (λ place. stored place value) w xs (λ place. stored-blind place value) are in
     record { stays = λ there d. h.stays k there; only = λ there. kept_or_found r w k (h.only k there) }
 called (ReadLine space at) w xs are k =
-    let r = reading space at in
+    let r = reading_of space at in
     let h = read_keeps r 16 taken_line w xs taken_line-blind are in
     record { stays = λ there d. h.stays k there; only = λ there. kept_or_found r w k (h.only k there) }
 called (WriteLine space at line) w xs are k =
-    let r = writing space at in
+    let r = writing_of space at in
     let h = write_keeps r 16 (λ place. stored_line place line) w xs (λ place. stored_line-blind place line) are in
     record { stays = λ there d. h.stays k there; only = λ there. kept_or_found r w k (h.only k there) }
 called (Probe space p) w xs are k =
-    let r = writing space p.at in
+    let r = writing_of space p.at in
     let h = read_keeps r p.len checked w xs checked-blind are in
     record { stays = λ there d. h.stays k there; only = λ there. kept_or_found r w k (h.only k there) }
 called (Get place) w xs are k =

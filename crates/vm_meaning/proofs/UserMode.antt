@@ -27,11 +27,11 @@ use Rattle.mb_processor.specs.declared.Finish.TheVariants as finish
 use Rattle.mb_meaning.specs.Attempt.{NoInstruction, Unfetched, Found, fetched_of, past}
 use Rattle.mb_meaning.specs.Ends.{closing}
 use Rattle.mb_processor.specs.Entry.{enter_of}
-use Rattle.mb_processor.specs.Raise.{Stepped, Raised, access_cause, access_error_of, ends_step, unchecked_of, raised, raise_of, last, with_ct}
-use Rattle.mb_processor.specs.Raise.{cause_at, interrupt_cause, interrupt_of, trace_of, tracing_of, trap_of, refused_of, traces_all, is_due}
+use Rattle.mb_processor.specs.Raise.{Stepped, Raised, access_cause, access_error_of, ends_step, unchecked_of, raised, raise_of, raise_last_of, with_ct}
+use Rattle.mb_processor.specs.Raise.{cause_at, interrupt_cause, interrupt_of, trace_of, trace_if_of, raise_trap_of, refuse_of, traces_all, is_due}
 use Rattle.mb_meaning.specs.Rows.{perform_of}
-use Rattle.mb_processor.specs.Step.{unread_of, unfinished_of, unbegun_of, unwritten_of, line_unwritten_of, untransferred_of, is_flow, movem_words, finish_of, rank}
-use Rattle.mb_processor.specs.Step.{supervised_of, unprivileged_of, executed_of, unfound_of, instruction_of, interrupt_mask, step_of}
+use Rattle.mb_processor.specs.Step.{finish_unread_of, finish_unfinished_of, unbegun_of, finish_unwritten_of, finish_unwritten_line_of, finish_untransferred_of, is_flow, movem_words, finish_instruction_of, rank}
+use Rattle.mb_processor.specs.Step.{execute_supervised_of, execute_unprivileged_of, execute_of, unfound_of, execute_next_of, interrupt_mask, step_of}
 use Rattle.mb_processor.specs.SystemEnds.{with_registers}
 use Rattle.mb_machine.specs.Bus.{bus_of}
 use Rattle.mb_machine.specs.Machine.{Machine, begun, stepping, asked_of}
@@ -79,7 +79,7 @@ last_so bus vector (Ok cpu) s h = tt
 last_so bus vector (Err stepped) s h = h
 
 last_stays : {S : Type 0} (bus : Bus S) (vector : ℕ) (is_trace : Bool) (c : Cause) (kept cpu : Cpu) (s : S)
-    → Stays (run bus (last vector (raise_of is_trace c kept cpu)) s).0
+    → Stays (run bus (raise_last_of vector (raise_of is_trace c kept cpu)) s).0
 last_stays bus vector is_trace c kept cpu s =
     let r = run bus (raise_of is_trace c kept cpu) s in last_so bus vector r.0 r.1 (raise_stays bus is_trace c kept cpu s)
 
@@ -91,23 +91,23 @@ trace_stays : {S : Type 0} (bus : Bus S) (address : ℕ) (cpu : Cpu) (s : S) →
 unfolding trace_of
 trace_stays bus address cpu s = last_stays bus TRACE true (cause_at TRACE cpu.regs.pc address) cpu cpu s
 
-refused_stays : {S : Type 0} (bus : Bus S) (vector : ℕ) (cpu : Cpu) (s : S) → Stays (run bus (refused_of vector cpu) s).0
-unfolding refused_of
+refused_stays : {S : Type 0} (bus : Bus S) (vector : ℕ) (cpu : Cpu) (s : S) → Stays (run bus (refuse_of vector cpu) s).0
+unfolding refuse_of
 refused_stays bus vector cpu s =
     let at = cpu.regs.pc in last_stays bus vector false (cause_at vector at (at - at % 2)) cpu cpu s
 
 tracing_stays : {S : Type 0} (bus : Bus S) (so_far : Finish) (due : Bool) (address : ℕ) (cpu : Cpu) (s : S) → Stays (so_far, cpu)
-    → Stays (run bus (tracing_of so_far due address cpu) s).0
+    → Stays (run bus (trace_if_of so_far due address cpu) s).0
 tracing_stays bus so_far true address cpu s h = trace_stays bus address cpu s
 tracing_stays bus so_far false address cpu s h = h
 
 trap_so : {S : Type 0} (bus : Bus S) (vector : ℕ) (due : Bool) (at : ℕ) (r : Raised) (s : S) → RaisedStays r
-    → Stays (run bus (either r (λ stepped. Return stepped) (λ handler. tracing_of (finish.Entered vector) due at handler)) s).0
+    → Stays (run bus (either r (λ stepped. Return stepped) (λ handler. trace_if_of (finish.Entered vector) due at handler)) s).0
 trap_so bus vector due at (Ok handler) s h = tracing_stays bus (finish.Entered vector) due at handler s tt
 trap_so bus vector due at (Err stepped) s h = h
 
-trap_stays : {S : Type 0} (bus : Bus S) (vector : ℕ) (before cpu : Cpu) (s : S) → Stays (run bus (trap_of vector before cpu) s).0
-unfolding trap_of
+trap_stays : {S : Type 0} (bus : Bus S) (vector : ℕ) (before cpu : Cpu) (s : S) → Stays (run bus (raise_trap_of vector before cpu) s).0
+unfolding raise_trap_of
 trap_stays bus vector before cpu s =
     let at = before.regs.pc in
     let c = cause_at vector cpu.regs.pc at in
@@ -117,8 +117,8 @@ trap_stays bus vector before cpu s =
 -- ---- the finish of an instruction
 
 unwritten_stays : {S : Type 0} (bus : Bus S) (due : Bool) (refused : WriteFault) (pieces : List Pend) (before cpu : Cpu) (s : S)
-    → Stays (run bus (unwritten_of due refused pieces before cpu) s).0
-unfolding unbegun_of unfinished_of
+    → Stays (run bus (finish_unwritten_of due refused pieces before cpu) s).0
+unfolding unbegun_of finish_unfinished_of
 unwritten_stays bus due refused [] before cpu s =
     let page = page_size_by (bus ReadMmu s).0 in
     access_error_stays bus before.regs.pc (write_fields refused.fault refused.first [] page) before (bus ReadMmu s).1
@@ -127,16 +127,16 @@ unwritten_stays bus due refused (piece ∷ pieces) before cpu s =
     access_error_stays bus cpu.regs.pc (with_ct due (write_fields refused.fault refused.first refused.rest.items page)) cpu (bus ReadMmu s).1
 
 untransferred_stays : {S : Type 0} (bus : Bus S) (due : Bool) (refused : MovemFault) (words : ℕ) (before cpu : Cpu) (s : S)
-    → Stays (run bus (untransferred_of due refused words before cpu) s).0
-unfolding untransferred_of
+    → Stays (run bus (finish_untransferred_of due refused words before cpu) s).0
+unfolding finish_untransferred_of
 untransferred_stays bus due refused words before cpu s =
     let page = page_size_by (bus ReadMmu s).0 in
     let fields = access_fields (refused_transfer refused words cpu.regs.pc) page in
     access_error_stays bus before.regs.pc (with_ct (due && not (movem_in words).is_load) fields) cpu (bus ReadMmu s).1
 
 finish_stays : {S : Type 0} (bus : Bus S) (i : Instr) (end : Ended) (before cpu : Cpu) (s : S) → is_supervisor cpu.regs.sr ≡ false
-    → Stays (run bus (finish_of i end before cpu) s).0
-unfolding finish_of unread_of line_unwritten_of
+    → Stays (run bus (finish_instruction_of i end before cpu) s).0
+unfolding finish_instruction_of finish_unread_of finish_unwritten_line_of
 finish_stays bus i (ended.Done flow) before cpu s h =
     tracing_stays bus finish.Went (is_due before.regs.sr flow) before.regs.pc cpu s h
 finish_stays bus i (ended.Trap vector) before cpu s h = trap_stays bus vector before cpu s
@@ -161,29 +161,29 @@ supervisor_stays p cpu =
     let e : with_ccr cpu.regs.sr p.ccr / 2 ^ 13 ≡ cpu.regs.sr / 2 ^ 13 = omega arith in ap (λ (x : ℕ). x % 2 == 1) e
 
 in_user_mode : {S : Type 0} (bus : Bus S) (i : System) (n : ℕ) (cpu : Cpu) (supervisor : Bool) (s : S) → supervisor ≡ false
-    → Stays (run bus (choose supervisor (supervised_of i n cpu) (refused_of PRIVILEGED cpu)) s).0
+    → Stays (run bus (choose supervisor (execute_supervised_of i n cpu) (refuse_of PRIVILEGED cpu)) s).0
 in_user_mode bus i n cpu true s h = absurd (cc h)
 in_user_mode bus i n cpu false s h = refused_stays bus 8 cpu s
 
 unprivileged_stays : {S : Type 0} (bus : Bus S) (i : Instr) (n : ℕ) (cpu : Cpu) (s : S) → is_supervisor cpu.regs.sr ≡ false
-    → Stays (run bus (unprivileged_of i n cpu) s).0
-unfolding unprivileged_of
+    → Stays (run bus (execute_unprivileged_of i n cpu) s).0
+unfolding execute_unprivileged_of
 unprivileged_stays bus i n cpu s h =
     let p = plain_of cpu.regs in
     let q = run bus (closing (perform_of i p.pc (space_of cpu) (past n p))) s in
     finish_stays bus i q.0.0 cpu (with_registers q.0.1 cpu) q.1 (supervisor_stays q.0.1 cpu ∙ h)
 
 executed_stays : {S : Type 0} (bus : Bus S) (i : Instr) (n : ℕ) (cpu : Cpu) (s : S) → is_supervisor cpu.regs.sr ≡ false
-    → Stays (run bus (executed_of i n cpu) s).0
-unfolding executed_of
+    → Stays (run bus (execute_of i n cpu) s).0
+unfolding execute_of
 executed_stays bus (instr.Move i) n cpu s h = unprivileged_stays bus (instr.Move i) n cpu s h
 executed_stays bus (instr.Arith i) n cpu s h = unprivileged_stays bus (instr.Arith i) n cpu s h
 executed_stays bus (instr.Flow i) n cpu s h = unprivileged_stays bus (instr.Flow i) n cpu s h
 executed_stays bus (instr.System i) n cpu s h = in_user_mode bus i n cpu (is_supervisor cpu.regs.sr) s h
 
 found_stays : {S : Type 0} (bus : Bus S) (cpu : Cpu) (found : Found) (s : S) → is_supervisor cpu.regs.sr ≡ false
-    → Stays (run bus (either found (λ unfound. unfound_of unfound cpu) (λ found. executed_of found.0 found.1 cpu)) s).0
-unfolding unfound_of unread_of
+    → Stays (run bus (either found (λ unfound. unfound_of unfound cpu) (λ found. execute_of found.0 found.1 cpu)) s).0
+unfolding unfound_of finish_unread_of
 found_stays bus cpu (Ok found) s h = executed_stays bus found.0 found.1 cpu s h
 found_stays bus cpu (Err (NoInstruction vector)) s h = refused_stays bus vector cpu s
 found_stays bus cpu (Err (Unfetched refused)) s h =
@@ -193,13 +193,13 @@ found_stays bus cpu (Err (Unfetched refused)) s h =
 -- ---- a step
 
 instruction_stays : {S : Type 0} (bus : Bus S) (cpu : Cpu) (s : S) → is_supervisor cpu.regs.sr ≡ false
-    → Stays (run bus (instruction_of cpu) s).0
-unfolding instruction_of
+    → Stays (run bus (execute_next_of cpu) s).0
+unfolding execute_next_of
 instruction_stays bus cpu s h =
     let r = run bus (fetched_of (space_of cpu) cpu.regs.pc) s in found_stays bus cpu r.0 r.1 h
 
 chosen_stays : {S : Type 0} (bus : Bus S) (level : ℕ) (cpu : Cpu) (above stopped : Bool) (s : S) → is_supervisor cpu.regs.sr ≡ false
-    → Stays (run bus (choose above (interrupt_of level cpu) (choose stopped (Return (finish.Idle, cpu)) (instruction_of cpu))) s).0
+    → Stays (run bus (choose above (interrupt_of level cpu) (choose stopped (Return (finish.Idle, cpu)) (execute_next_of cpu))) s).0
 chosen_stays bus level cpu true stopped s h = interrupt_stays bus level cpu s
 chosen_stays bus level cpu false true s h = h
 chosen_stays bus level cpu false false s h = instruction_stays bus cpu s h

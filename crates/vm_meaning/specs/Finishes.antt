@@ -10,30 +10,30 @@ use Rattle.mb_frames.specs.declared.pend.Pend.{Pend}
 use Rattle.mb_model.specs.declared.processor.Cpu.{Cpu}
 use Rattle.mb_model.specs.Status.{space_of}
 use Rattle.mb_writes.specs.Transfers.{movem_in}
-use Rattle.mb_writes.specs.Writing.{write_all}
+use Rattle.mb_writes.specs.Writing.{write_pieces_of}
 use Rattle.mb_writes.specs.Moving.{Halfway, transfer_of}
 use Rattle.mb_processor.specs.declared.entering.Cause.{Cause}
 use Rattle.mb_processor.specs.declared.Finish.TheVariants as finish
 use Rattle.mb_processor.specs.SystemEnds.{with_registers}
-use Rattle.mb_processor.specs.Raise.{Stepped, raise_of, last}
-use Rattle.mb_processor.specs.Step.{unfinished_of, line_unwritten_of, untransferred_of}
+use Rattle.mb_processor.specs.Raise.{Stepped, raise_of, raise_last_of}
+use Rattle.mb_processor.specs.Step.{finish_unfinished_of, finish_unwritten_line_of, finish_untransferred_of}
 
 -- A cause is entered. Where its frame has no place the registers become those before, and an access error is entered.
 unfoldable pub finish_trap_of : Cause → (before : Plain) → Cpu → Routine Stepped
-finish_trap_of cause before cpu = last cause.vector (raise_of false cause (with_registers before cpu) cpu)
+finish_trap_of cause before cpu = raise_last_of cause.vector (raise_of false cause (with_registers before cpu) cpu)
 
 -- The pieces are written, of an operand whose first byte is at `first`. At a refused one an access error is entered
 -- that names it and those after it.
 unfoldable pub finish_writes_of : List Pend → (first : ℕ) → Cpu → Routine Stepped
 finish_writes_of pending first cpu =
-    caught (write_all (space_of cpu) first pending)
-    (λ refused. unfinished_of false refused cpu) (λ done. Return (finish.Went, cpu))
+    caught (write_pieces_of (space_of cpu) first pending)
+    (λ refused. finish_unfinished_of false refused cpu) (λ done. Return (finish.Went, cpu))
 
 -- The line is written, or an access error is entered.
 unfoldable pub finish_line_of : (at : ℕ) → (line : List ℕ) → Cpu → Routine Stepped
 finish_line_of at line cpu =
     caught (write_line (space_of cpu) at line)
-    (λ fault. line_unwritten_of false fault line cpu) (λ done. Return (finish.Went, cpu))
+    (λ fault. finish_unwritten_line_of false fault line cpu) (λ done. Return (finish.Went, cpu))
 
 -- the registers with PC at the next instruction
 abbrev pub at_next : ℕ → Cpu → Plain
@@ -42,7 +42,7 @@ at_next next cpu = record (plain_of cpu.regs) { pc = next }
 -- by what became of the transfers of a MOVEM whose own PC the processor has
 abbrev pub moved_on : (words : ℕ) → Cpu → Result Plain Halfway → Routine Stepped
 moved_on words cpu (Ok p) = Return (finish.Went, with_registers p cpu)
-moved_on words cpu (Err half) = untransferred_of false half.fault words cpu (with_registers half.plain cpu)
+moved_on words cpu (Err half) = finish_untransferred_of false half.fault words cpu (with_registers half.plain cpu)
 
 -- A MOVEM, by its words and the address of its first transfer, goes on behind the first `done` transfers, and PC goes
 -- to the next instruction. Until then the processor's PC is the MOVEM's own.

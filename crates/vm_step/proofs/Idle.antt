@@ -10,7 +10,7 @@ use Rattle.mb_devices.specs.Devices.{DeviceState, ticked, ticks, level_of, IsNot
 use Rattle.mb_devices.proofs.Passing.{ticks_pass}
 use Rattle.mb_processor.specs.declared.Finish.TheVariants as finish
 use Rattle.mb_processor.specs.Raise.{Stepped, interrupt_of}
-use Rattle.mb_processor.specs.Step.{interrupt_mask, instruction_of, step_of, rank}
+use Rattle.mb_processor.specs.Step.{interrupt_mask, execute_next_of, step_of, rank}
 use Rattle.mb_machine.specs.Machine.{Entries, arrived, begun, state_after, takes_steps, asked, asked_of}
 use Rattle.mb_machine.proofs.Asked.{asked_devices, asked_masked}
 use Rattle.vm_meaning.specs.Batches.{NothingArrives}
@@ -50,7 +50,7 @@ is_idle level cpu g masked stopped =
 idles : (level : ℕ) (cpu : Cpu) → rank level ≤ interrupt_mask cpu → cpu.stopped ≡ true → step_of level cpu ≡ Return (finish.Idle, cpu)
 unfolding step_of
 idles level cpu masked stopped =
-    chosen (nat_lt (interrupt_mask cpu) (rank level)) cpu.stopped (interrupt_of level cpu) (Return (finish.Idle, cpu)) (instruction_of cpu)
+    chosen (nat_lt (interrupt_mask cpu) (rank level)) cpu.stopped (interrupt_of level cpu) (Return (finish.Idle, cpu)) (execute_next_of cpu)
     (not_above (interrupt_mask cpu) (rank level) masked) stopped
 
 stays_stopped : (cpu : Cpu) (d : DeviceState) → d.off ≡ false → cpu.stopped ≡ true → state_after finish.Idle cpu d ≡ Stopped

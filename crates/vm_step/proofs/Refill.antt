@@ -13,7 +13,7 @@ use Rattle.mb_meaning.specs.Ends.{Performed, closed}
 use Rattle.mb_meaning.specs.Attempt.{Found}
 use Rattle.mb_processor.specs.Raise.{Stepped, interrupt_of}
 use Rattle.mb_processor.specs.declared.Finish.TheVariants as finish
-use Rattle.mb_processor.specs.Step.{interrupt_mask, unfound_of, executed_of, instruction_of, step_of, rank}
+use Rattle.mb_processor.specs.Step.{interrupt_mask, unfound_of, execute_of, execute_next_of, step_of, rank}
 use Rattle.mb_attempts.specs.Attempts.{NoOther, is_attempted, fetched_by, finished_by}
 use Rattle.mb_attempts.proofs.Attempts.{attempt_then_finish}
 use Rattle.mb_model.specs.Keeping.{KeptLists}
@@ -127,16 +127,17 @@ chosen bus b m n s h = rw h refl
 -- a step is by its fetch
 step_by_fetch : (level : ℕ) (cpu : Cpu) (g h : Guest) → rank level ≤ interrupt_mask cpu → cpu.stopped ≡ false
     → fetched_by guest_bus cpu h ≡ fetched_by guest_bus cpu g → run guest_bus (step_of level cpu) h ≡ run guest_bus (step_of level cpu) g
-unfolding step_of instruction_of
+unfolding step_of execute_next_of
 step_by_fetch level cpu g h masked going same =
-    chosen guest_bus (nat_lt (interrupt_mask cpu) (rank level)) (interrupt_of level cpu) (choose cpu.stopped (Return (finish.Idle, cpu)) (instruction_of cpu)) h
+    chosen guest_bus (nat_lt (interrupt_mask cpu) (rank level)) (interrupt_of level cpu)
+    (choose cpu.stopped (Return (finish.Idle, cpu)) (execute_next_of cpu)) h
     (not_above (interrupt_mask cpu) (rank level) masked)
-    ∙ chosen guest_bus cpu.stopped (Return (finish.Idle, cpu)) (instruction_of cpu) h going
-    ∙ ap (λ (r : Found × Guest). run guest_bus (either r.0 (λ unfound. unfound_of unfound cpu) (λ found. executed_of found.0 found.1 cpu)) r.1) same
+    ∙ chosen guest_bus cpu.stopped (Return (finish.Idle, cpu)) (execute_next_of cpu) h going
+    ∙ ap (λ (r : Found × Guest). run guest_bus (either r.0 (λ unfound. unfound_of unfound cpu) (λ found. execute_of found.0 found.1 cpu)) r.1) same
     ∙ sym (chosen guest_bus (nat_lt (interrupt_mask cpu) (rank level)) (interrupt_of level cpu)
-    (choose cpu.stopped (Return (finish.Idle, cpu)) (instruction_of cpu)) g
+    (choose cpu.stopped (Return (finish.Idle, cpu)) (execute_next_of cpu)) g
     (not_above (interrupt_mask cpu) (rank level) masked)
-    ∙ chosen guest_bus cpu.stopped (Return (finish.Idle, cpu)) (instruction_of cpu) g going)
+    ∙ chosen guest_bus cpu.stopped (Return (finish.Idle, cpu)) (execute_next_of cpu) g going)
 
 always_attempted : (i : Instr) (cpu : Cpu) → IsUnprivileged i → is_attempted i cpu ≡ true
 always_attempted (instr.Move i) cpu h = refl

@@ -18,7 +18,7 @@ use Rattle.mb_meaning.specs.Ends.{Carried, Stopped, Performed, closed}
 use Rattle.mb_processor.specs.SystemEnds.{with_registers}
 use Rattle.mb_meaning.specs.Attempt.{Unfound, NoInstruction, Unfetched, end_without, Found, found_none}
 use Rattle.mb_processor.specs.Raise.{Stepped, cause_at}
-use Rattle.mb_processor.specs.Step.{finish_of, interrupt_mask, movem_words, step_of, rank}
+use Rattle.mb_processor.specs.Step.{finish_instruction_of, interrupt_mask, movem_words, step_of, rank}
 use Rattle.mb_attempts.specs.Attempts.{IsUntraced, NoOther, is_attempted, fetched_by, finished_by}
 use Rattle.mb_attempts.proofs.Attempts.{attempts_find_none, attempt_then_finish}
 use Rattle.mb_tells.specs.Left.{IsRest, completing, moving}
@@ -51,13 +51,13 @@ with_counter p cpu = refl
 -- ---- a trap, and a MOVEM
 
 trap_rest : (i : Instr) (vector : ℕ) (guest : Cpu) (p : Plain) (h : Guest) → IsUntraced guest → length guest.regs.a ≡ 7
-    → run guest_bus (finish_of i (ended.Trap vector) guest (with_registers p guest)) h
+    → run guest_bus (finish_instruction_of i (ended.Trap vector) guest (with_registers p guest)) h
     ≡ run guest_bus (finish_trap_of (cause_at vector p.pc guest.regs.pc) (plain_of guest.regs) (with_registers p guest)) h
 trap_rest i vector guest p h plain seven =
     let cpu = with_registers p guest in
     let before = with_registers (plain_of guest.regs) cpu in
     let back : before ≡ guest = registers_back p guest seven in
-    ap (λ (b : Cpu). run guest_bus (finish_of i (ended.Trap vector) b cpu) h) (sym back)
+    ap (λ (b : Cpu). run guest_bus (finish_instruction_of i (ended.Trap vector) b cpu) h) (sym back)
     ∙ traps_are_finished i vector (plain_of guest.regs) cpu (subst IsUntraced (sym back) plain) guest_bus h
     ∙ ap (λ (n : ℕ). run guest_bus (finish_trap_of (cause_at vector n before.regs.pc) (plain_of guest.regs) cpu) h) (with_counter p guest)
     ∙ ap (λ (b : Cpu). run guest_bus (finish_trap_of (cause_at vector p.pc b.regs.pc) (plain_of guest.regs) cpu) h) back
@@ -160,7 +160,8 @@ module _ (size level : ℕ) (guest : Cpu) (g : Guest) (i : Instr) (plain : IsUnt
       attempt_then_finish guest_bus level guest g i b.masked b.untraced.going b.found b.attempted
       ∙ ap (λ (q : Performed × Guest). finished_by guest_bus i guest q) same
 
-  allowed_end : (end : Ended) (after : Plain) (now : Guest) → (IsBegun end → own ≡ run guest_bus (finish_of i end guest (with_registers after guest)) now)
+  allowed_end : (end : Ended) (after : Plain) (now : Guest) → (IsBegun end → own
+      ≡ run guest_bus (finish_instruction_of i end guest (with_registers after guest)) now)
       → HasNone end → IfRefused end (now ≡ g) → (class_of_end end ≡ Retired → ⊥) → Rest end after now
   unfolding rest_of rest_by
   allowed_end (ended.Done f) after now e none left never = absurd (never refl)

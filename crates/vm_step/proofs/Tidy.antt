@@ -17,17 +17,17 @@ use Rattle.mb_instr.specs.Registers.{active_stack, plain_of, with_register, with
 use Rattle.mb_instr.specs.Rows.{move_row}
 use Rattle.mb_instr.specs.Shapes.{operands_at}
 use Rattle.mb_ea.specs.declared.reading.ReadFault.{ReadFault}
-use Rattle.mb_ea.specs.Reading.{read_of}
+use Rattle.mb_ea.specs.Reading.{read_operand_of}
 use Rattle.mb_writes.specs.declared.ends.MovemFault.{MovemFault}
 use Rattle.mb_writes.specs.declared.transfers.Movem.{Movem}
 use Rattle.mb_writes.specs.declared.transfers.MovemMode.{MovemMode}
 use Rattle.mb_writes.specs.declared.transfers.MovemMode.TheVariants.{Control, Post, Pre}
 use Rattle.mb_writes.specs.declared.transfers.Transfer.{Transfer}
 use Rattle.mb_writes.specs.Transfers.{transfers_of}
-use Rattle.mb_writes.specs.Moving.{Halfway, refused_at, loaded_of, load_all, store_all, stepped_of, storing, transfer_of}
+use Rattle.mb_writes.specs.Moving.{Halfway, refused_at, loaded_of, load_all_of, store_all_of, stepped_of, storing, transfer_of}
 use Rattle.mb_meaning.specs.Ends.{Performed, Rowed, Stopped, Cut, Unread, Stop, restored, carried}
 use Rattle.mb_meaning.specs.Moves.{movem_by, movem_of, transferring}
-use Rattle.mb_meaning.specs.Operands.{address_of}
+use Rattle.mb_meaning.specs.Operands.{find_address_of}
 use Rattle.mb_meaning.specs.Rows.{perform_of, row_of, perform_move_of}
 use Rattle.mb_meaning.specs.Attempt.{Found, past, fetched_of, attempt_of}
 use Rattle.mb_attempts.proofs.Attempts.{attempts_perform}
@@ -106,17 +106,17 @@ restored_eight p e (Err (Stop stop)) c = c
 
 module _ {S : Type 0} (bus : Bus S) (m : Movem) (space : Space) (first : ℕ) where
   load_one : (done : ℕ) (t : Transfer) (ts : List Transfer) (p : Plain) → IsEight p
-      → ((q : Plain) → IsEight q → (u : S) → IsHalfEight (run bus (load_all m space first (done + 1) ts q) u).0)
+      → ((q : Plain) → IsEight q → (u : S) → IsHalfEight (run bus (load_all_of m space first (done + 1) ts q) u).0)
       → (answer : Result ℕ ReadFault) (u : S)
       → IsHalfEight (run bus (tried (other_fault (λ refused. (let h : Halfway = record { fault = refused_at first done refused.fault; plain = p } in h)) answer)
-      (λ value. load_all m space first (done + 1) ts (loaded_of m.mode m.size p t.register value))) u).0
+      (λ value. load_all_of m space first (done + 1) ts (loaded_of m.mode m.size p t.register value))) u).0
   load_one done t ts p e more (Ok value) u = more (loaded_of m.mode m.size p t.register value) (loaded_eight m.mode m.size p t.register value e) u
   load_one done t ts p e more (Err refused) u = e
 
-  loads_eight : (ts : List Transfer) (done : ℕ) (p : Plain) → IsEight p → (u : S) → IsHalfEight (run bus (load_all m space first done ts p) u).0
+  loads_eight : (ts : List Transfer) (done : ℕ) (p : Plain) → IsEight p → (u : S) → IsHalfEight (run bus (load_all_of m space first done ts p) u).0
   loads_eight [] done p e u = tt
   loads_eight (t ∷ ts) done p e u =
-      let q = run bus (read_of space t.at (bytes_of m.size)) u in
+      let q = run bus (read_operand_of space t.at (bytes_of m.size)) u in
       load_one done t ts p e (loads_eight ts (done + 1)) q.0 q.1
 
   stores_eight : (p : Plain) → IsEight p → (answer : Result (Unit {0}) MovemFault) (u : S)
@@ -125,10 +125,10 @@ module _ {S : Type 0} (bus : Bus S) (m : Movem) (space : Space) (first : ℕ) wh
   stores_eight p e (Err fault) u = e
 
   chosen_eight : (b : Bool) (done : ℕ) (p : Plain) → IsEight p → (u : S)
-      → IsHalfEight (run bus (choose b (load_all m space first done (drop done (transfers_of m first)) p) (storing m first done space p)) u).0
+      → IsHalfEight (run bus (choose b (load_all_of m space first done (drop done (transfers_of m first)) p) (storing m first done space p)) u).0
   chosen_eight true done p e u = loads_eight (drop done (transfers_of m first)) done p e u
   chosen_eight false done p e u =
-      let q = run bus (store_all m space p first done (drop done (transfers_of m first))) u in stores_eight p e q.0 q.1
+      let q = run bus (store_all_of m space p first done (drop done (transfers_of m first))) u in stores_eight p e q.0 q.1
 
   stepped_eight : (answer : Result Plain Halfway) (u : S) → IsHalfEight answer
       → IsHalfEight (run bus (tried answer (λ moved. Return (Ok (stepped_of m.mode m.size first (length (transfers_of m first)) moved)))) u).0
@@ -138,7 +138,7 @@ module _ {S : Type 0} (bus : Bus S) (m : Movem) (space : Space) (first : ℕ) wh
   transfers_eight : (done : ℕ) (p : Plain) → IsEight p → (u : S) → IsHalfEight (run bus (transfer_of m first done space p) u).0
   unfolding transfer_of
   transfers_eight done p e u =
-      let q = run bus (choose m.is_load (load_all m space first done (drop done (transfers_of m first)) p) (storing m first done space p)) u in
+      let q = run bus (choose m.is_load (load_all_of m space first done (drop done (transfers_of m first)) p) (storing m first done space p)) u in
       stepped_eight q.0 q.1 (chosen_eight m.is_load done p e u)
 
   moved_eight : (answer : Result Plain Halfway) (u : S) → IsHalfEight answer
@@ -160,7 +160,7 @@ module _ {S : Type 0} (bus : Bus S) (space : Space) where
       → CutsEight (run bus (movem_of is_load size ea mask at space p) u).0
   unfolding movem_of
   movems_eight is_load size ea mask at p e u =
-      let q = run bus (address_of size ea at space p) u in placed_eight (movem_by is_load size ea mask) p e q.0 q.1
+      let q = run bus (find_address_of size ea at space p) u in placed_eight (movem_by is_load size ea mask) p e q.0 q.1
 
   rows_eight : (i : Instr) (m : Movem) (at : ℕ) (p : Plain) → moves i m → IsEight p → (u : S) → StopsEight (run bus (perform_of i at space p) u).0
   unfolding perform_of row_of perform_move_of

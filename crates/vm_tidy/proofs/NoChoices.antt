@@ -17,7 +17,7 @@ use Rattle.mb_machine.specs.World.{World}
 use Rattle.mb_machine.specs.Places.{taken, stored, checked, taken_line, stored_line}
 use Rattle.mb_machine.specs.Access.{matched, search_for, settled, by_match, untranslated, searched, translated, by_settled, by_found}
 use Rattle.mb_machine.specs.Access.{marks, through}
-use Rattle.mb_machine.specs.Bus.{bus_of, reading, writing, fetching, read_at, read_by, written_at, written_by, tested, tested_by, with_register}
+use Rattle.mb_machine.specs.Bus.{bus_of, reading_of, writing_of, fetching_of, read_at, read_by, written_at, written_by, tested, tested_by, with_register}
 use Rattle.vm_meaning.specs.Free.{IsKept, StandIn, rule_free, holding, WorldWithin}
 use Rattle.vm_meaning.proofs.Blind.{IsBlind, IsBlindStore, taken-blind, taken_line-blind, checked-blind, stored-blind, stored_line-blind}
 use Rattle.vm_meaning.proofs.Blind.{read-blind, write-blind, get-blind, put-blind, blind-kept}
@@ -229,19 +229,19 @@ pub called : (c : Call) (t : World) (held : KeptLists) (entry : Option Kept) →
     → Met (bus_of rule_free c (holding entry t)) (bus_of rule_free c (record t { kept = [] ∷ held }))
 unfolding bus_of
 called (Fetch space at) t held entry is stand tidy =
-    let r = fetching space at in read_met r 2 taken t held entry taken-blind (translated_met r t held entry is stand tidy)
+    let r = fetching_of space at in read_met r 2 taken t held entry taken-blind (translated_met r t held entry is stand tidy)
 called (Read space p) t held entry is stand tidy =
-    let r = reading space p.at in read_met r p.len taken t held entry taken-blind (translated_met r t held entry is stand tidy)
+    let r = reading_of space p.at in read_met r p.len taken t held entry taken-blind (translated_met r t held entry is stand tidy)
 called (Write space p value) t held entry is stand tidy =
-    let r = writing space p.at in
+    let r = writing_of space p.at in
     write_met r p.len (λ place. stored place value) t held entry (λ place. stored-blind place value) (translated_met r t held entry is stand tidy)
 called (ReadLine space at) t held entry is stand tidy =
-    let r = reading space at in read_met r 16 taken_line t held entry taken_line-blind (translated_met r t held entry is stand tidy)
+    let r = reading_of space at in read_met r 16 taken_line t held entry taken_line-blind (translated_met r t held entry is stand tidy)
 called (WriteLine space at line) t held entry is stand tidy =
-    let r = writing space at in
+    let r = writing_of space at in
     write_met r 16 (λ place. stored_line place line) t held entry (λ place. stored_line-blind place line) (translated_met r t held entry is stand tidy)
 called (Probe space p) t held entry is stand tidy =
-    let r = writing space p.at in read_met r p.len checked t held entry checked-blind (translated_met r t held entry is stand tidy)
+    let r = writing_of space p.at in read_met r p.len checked t held entry checked-blind (translated_met r t held entry is stand tidy)
 called (Get place) t held entry is stand tidy =
     blind_met (λ u. (unwrap_or (taken place u).0 0, (taken place u).1)) (get-blind place) (holding entry t) (record t { kept = [] ∷ held })
     (behind (holding entry t) held (in_front entry t.kept held is stand))

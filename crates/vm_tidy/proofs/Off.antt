@@ -13,7 +13,7 @@ use Rattle.mb_processor.specs.Step.{step_of}
 use Rattle.mb_machine.specs.declared.reference.Reference.{Reference}
 use Rattle.mb_machine.specs.World.{World}
 use Rattle.mb_machine.specs.Access.{matched, is_translating, or_off, untranslated, translated}
-use Rattle.mb_machine.specs.Bus.{bus_of, reference_of, fetching, reading, writing, tested, tested_by, with_register}
+use Rattle.mb_machine.specs.Bus.{bus_of, reference_of, fetching_of, reading_of, writing_of, tested, tested_by, with_register}
 use Rattle.mb_machine.specs.Machine.{Entries, Machine, begun, start, reset_with, asked_of}
 use Rattle.mb_machine.specs.Laws.{IsBeneath}
 use Rattle.mb_machine.proofs.Refusals.{translated-beside}
@@ -52,14 +52,14 @@ placed w after h = ap (λ (mmu : Mmu). mmu.tc) h.mmu
 
 call_leaves : (c : Call) (w : World) → sets_tc c ≡ false → (searching_bus c w).1.mmu.tc ≡ w.mmu.tc
 unfolding searching_bus bus_of
-call_leaves (Fetch space at) w h = accessed (fetching space at) w _ (calls_stand_beneath rule_free (Fetch space at) (holding None w))
-call_leaves (Read space p) w h = accessed (reading space p.at) w _ (calls_stand_beneath rule_free (Read space p) (holding None w))
+call_leaves (Fetch space at) w h = accessed (fetching_of space at) w _ (calls_stand_beneath rule_free (Fetch space at) (holding None w))
+call_leaves (Read space p) w h = accessed (reading_of space p.at) w _ (calls_stand_beneath rule_free (Read space p) (holding None w))
 call_leaves (Write space p value) w h =
-    accessed (writing space p.at) w _ (calls_stand_beneath rule_free (Write space p value) (holding None w))
-call_leaves (ReadLine space at) w h = accessed (reading space at) w _ (calls_stand_beneath rule_free (ReadLine space at) (holding None w))
+    accessed (writing_of space p.at) w _ (calls_stand_beneath rule_free (Write space p value) (holding None w))
+call_leaves (ReadLine space at) w h = accessed (reading_of space at) w _ (calls_stand_beneath rule_free (ReadLine space at) (holding None w))
 call_leaves (WriteLine space at line) w h =
-    accessed (writing space at) w _ (calls_stand_beneath rule_free (WriteLine space at line) (holding None w))
-call_leaves (Probe space p) w h = accessed (writing space p.at) w _ (calls_stand_beneath rule_free (Probe space p) (holding None w))
+    accessed (writing_of space at) w _ (calls_stand_beneath rule_free (WriteLine space at line) (holding None w))
+call_leaves (Probe space p) w h = accessed (writing_of space p.at) w _ (calls_stand_beneath rule_free (Probe space p) (holding None w))
 call_leaves (Get place) w h = placed w _ (places_stand_beneath rule_free place 0 (holding None w)).0
 call_leaves (Put place value) w h = placed w _ (places_stand_beneath rule_free place value (holding None w)).1
 call_leaves ReadMmu w h = refl

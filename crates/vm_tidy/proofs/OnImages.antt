@@ -16,16 +16,16 @@ use Rattle.mb_decode.specs.RowReading.{low_line, high_line, row_at}
 use Rattle.mb_alu.specs.Conditions.{conditions_of, ccr_of}
 use Rattle.mb_alu.specs.Extend.{extend_of}
 use Rattle.mb_alu.specs.Logic.{moved_of, logic_of}
-use Rattle.mb_ea.specs.Reading.{read_cut, read_of}
+use Rattle.mb_ea.specs.Reading.{read_cut_of, read_operand_of}
 use Rattle.mb_ea.specs.Resolve.{resolve_of}
-use Rattle.mb_writes.specs.Writing.{part_of, pending_of, put_of}
+use Rattle.mb_writes.specs.Writing.{part_of, pending_of, write_operand_of}
 use Rattle.mb_meaning.specs.Attempt.{found_of, fetched_of, attempt_of}
-use Rattle.mb_processor.specs.Control.{setting_control, to_control_of, movec_of}
-use Rattle.mb_meaning.specs.Moves.{moveq_of, move_of, lea_of}
-use Rattle.mb_meaning.specs.Operands.{load_of, store_of, operand_of, address_of, storing}
+use Rattle.mb_processor.specs.Control.{set_control_of, move_to_control_of, movec_of}
+use Rattle.mb_meaning.specs.Moves.{moveq_of, move_operand_of, lea_of}
+use Rattle.mb_meaning.specs.Operands.{load_of, store_of, fetch_operand_of, find_address_of, finish_with_of}
 use Rattle.mb_meaning.specs.Rows.{perform_move_of, row_of, perform_of}
-use Rattle.mb_processor.specs.Spaces.{flushed_beside, pflush_of}
-use Rattle.mb_processor.specs.Step.{finish_of, supervised_of, unprivileged_of, executed_of, instruction_of, step_of}
+use Rattle.mb_processor.specs.Spaces.{flush_beside_of, pflush_of}
+use Rattle.mb_processor.specs.Step.{finish_instruction_of, execute_supervised_of, execute_unprivileged_of, execute_of, execute_next_of, step_of}
 use Rattle.mb_processor.specs.System.{perform_system_of}
 use Rattle.mb_machine.specs.Access.{untranslated, through, by_entry, settled, searched, translated}
 use Rattle.mb_machine.specs.Bus.{with_register, bus_of}
@@ -57,17 +57,17 @@ rows_on_images = tt
 
 -- what their operands and condition codes unfold
 unfoldable pub operands_on_images : ⊤
-unfolding conditions_of ccr_of extend_of moved_of logic_of read_cut read_of resolve_of part_of pending_of put_of load_of store_of operand_of address_of storing
+unfolding conditions_of ccr_of extend_of moved_of logic_of read_cut_of read_operand_of resolve_of part_of pending_of write_operand_of load_of store_of fetch_operand_of find_address_of finish_with_of
 operands_on_images = tt
 
 -- what they do
 unfoldable pub instructions_on_images : ⊤
-unfolding setting_control to_control_of movec_of moveq_of move_of lea_of perform_move_of row_of perform_of flushed_beside pflush_of perform_system_of
+unfolding set_control_of move_to_control_of movec_of moveq_of move_operand_of lea_of perform_move_of row_of perform_of flush_beside_of pflush_of perform_system_of
 instructions_on_images = tt
 
 -- what a step unfolds
 unfoldable pub steps_on_images : ⊤
-unfolding found_of fetched_of attempt_of finish_of supervised_of unprivileged_of executed_of instruction_of step_of
+unfolding found_of fetched_of attempt_of finish_instruction_of execute_supervised_of execute_unprivileged_of execute_of execute_next_of step_of
 steps_on_images = tt
 
 -- what the runs of an image unfold

@@ -2,7 +2,7 @@ use Rattle.std.proofs.Common.{◌≡◌, sym, ap, ◌∙◌, inr}
 use Rattle.mb_port.specs.Routine.{run}
 use Rattle.mb_model.specs.declared.processor.Cpu.{Cpu}
 use Rattle.mb_processor.specs.Entry as entry
-use Rattle.mb_processor.specs.Entry.{frames_of, settled, put_frames}
+use Rattle.mb_processor.specs.Entry.{frames_of, settled, put_frames_of}
 use Rattle.mb_entry.specs.Places.{places_seen}
 use Rattle.mb_entry.specs.Stacks.{frames_seen}
 use Rattle.mb_entry.proofs.Faulted.{of_the_fault, both_halted, halted_stays}
@@ -18,7 +18,7 @@ returns-in-Ok-clause-halts g c =
     let frames = frames_seen c.frames_for-frames.result in
     let places = places_seen c.in-Ok.places in
     let is : frames ≡ frames_of c.args.cause.now c.args.cpu.now.regs = c.frames_for-frames.ensures in
-    let put : g.P.Port.world c.put_frames.new.port ≡ (run g.P.Port.bus (put_frames frames places) (g.P.Port.world c.check_frames.new.port)).1 =
+    let put : g.P.Port.world c.put_frames.new.port ≡ (run g.P.Port.bus (put_frames_of frames places) (g.P.Port.world c.check_frames.new.port)).1 =
     ap (λ q. q.1) (sym c.put_frames.ensures.means) in
     both_halted c.go_to_handler.result _ _ _ c.go_to_handler.ensures.unread
     (halted_stays c.go_to_handler.result _ c.go_to_handler.new.cpu c.go_to_handler.ensures.went)

@@ -1,13 +1,13 @@
 use Rattle.std.proofs.Common.{◌≡◌, ◌-◌, [], length}
 use Rattle.mb_port.specs.Routine.{run}
-use Rattle.mb_processor.specs.Return.{longs_of}
+use Rattle.mb_processor.specs.Return.{read_longs_of}
 use Rattle.mb_entry.proofs.taking.read_longs.Given as goal
 
 -- the longs that are left do what all do
 abbrev pub invariant-loop-i : goal.invariant-loop-i
 invariant-loop-i g l = record {
-  told : run g.P.Port.bus (longs_of (13 - l.i) l.at l.longs.items) (g.P.Port.world l.port)
-      ≡ run g.P.Port.bus (longs_of 13 l.fn.at []) (g.P.Port.world l.fn.port);
+  told : run g.P.Port.bus (read_longs_of (13 - l.i) l.at l.longs.items) (g.P.Port.world l.port)
+      ≡ run g.P.Port.bus (read_longs_of 13 l.fn.at []) (g.P.Port.world l.fn.port);
   all : length l.longs.items ≡ l.i;
   rest : g.P.Port.rest l.port ≡ g.P.Port.rest l.fn.port;
 }

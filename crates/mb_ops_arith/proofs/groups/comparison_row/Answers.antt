@@ -15,14 +15,14 @@ pub compare_immediate-requires-clause-operand : goal.compare_immediate-requires-
 compare_immediate-requires-clause-operand g c =
     (immediate_ea_range DataAlterableOrPc 0 6 0 c.in-Cmpi.size c.in-Cmpi.immediate c.in-Cmpi.ea (spelled c.in-Cmpi.is c.requires.row)).1
 
-pub compare_with_bounds-requires-clause-place : goal.compare_with_bounds-requires-clause-place
-compare_with_bounds-requires-clause-place g c =
+pub cmp2-requires-clause-place : goal.cmp2-requires-clause-place
+cmp2-requires-clause-place g c =
     let size = c.in-Cmp2.size in
     word_ea_memory rule.Compare Control size 0 (size_bits size) 0 3 c.in-Cmp2.word c.in-Cmp2.ea (control_memory size)
     (spelled c.in-Cmp2.is c.requires.row)
 
-pub compare_with_bounds-requires-clause-operand : goal.compare_with_bounds-requires-clause-operand
-compare_with_bounds-requires-clause-operand g c =
+pub cmp2-requires-clause-operand : goal.cmp2-requires-clause-operand
+cmp2-requires-clause-operand g c =
     let size = c.in-Cmp2.size in
     let ea = c.in-Cmp2.ea in
     (word_ea_range rule.Compare Control size 0 (size_bits size) 0 3 c.in-Cmp2.word ea

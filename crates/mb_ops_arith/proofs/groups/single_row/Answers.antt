@@ -32,12 +32,12 @@ pub modify-requires-in-Not-clause-destination : goal.modify-requires-in-Not-clau
 modify-requires-in-Not-clause-destination g c =
     at_ea_destination DataAlterable c.in-Not.size 4 3 0 (size_bits c.in-Not.size) c.in-Not.ea refl (spelled c.in-Not.is c.requires.row)
 
-pub clear-requires-clause-operand : goal.clear-requires-clause-operand
-clear-requires-clause-operand g c =
+pub clr-requires-clause-operand : goal.clr-requires-clause-operand
+clr-requires-clause-operand g c =
     at_ea_range DataAlterable c.in-Clr.size 4 1 0 (size_bits c.in-Clr.size) c.in-Clr.ea (spelled c.in-Clr.is c.requires.row)
 
-pub clear-requires-clause-destination : goal.clear-requires-clause-destination
-clear-requires-clause-destination g c =
+pub clr-requires-clause-destination : goal.clr-requires-clause-destination
+clr-requires-clause-destination g c =
     at_ea_destination DataAlterable c.in-Clr.size 4 1 0 (size_bits c.in-Clr.size) c.in-Clr.ea refl (spelled c.in-Clr.is c.requires.row)
 
 pub modify-requires-in-ShiftMem-clause-operand : goal.modify-requires-in-ShiftMem-clause-operand

@@ -10,39 +10,39 @@ use Rattle.mb_instr.specs.Codes.{IsInstr}
 use Rattle.mb_instr.proofs.Ranges.{when_has, at_ea_range, word_ea_range, at_ea_memory, word_ea_memory, control_memory}
 use Rattle.mb_ops_flow.proofs.performing.carry_out.Goals as goal
 
-pub check-requires-clause-operand : goal.check-requires-clause-operand
-check-requires-clause-operand g c =
+pub chk-requires-clause-operand : goal.chk-requires-clause-operand
+chk-requires-clause-operand g c =
     let d = c.in-Chk.register in
     let size = c.in-Chk.size in
     let ea = c.in-Chk.ea in
     let has = when_has (not_byte size) (at_ea Data size 4 d 1 (chk_bits size) ea) (subst (λ (i : Flow). IsInstr (instr.Flow i)) c.in-Chk.is c.requires) in
     at_ea_range Data size 4 d 1 (chk_bits size) ea has.1
 
-pub check_bounds-requires-clause-operand : goal.check_bounds-requires-clause-operand
-check_bounds-requires-clause-operand g c =
+pub chk2-requires-clause-operand : goal.chk2-requires-clause-operand
+chk2-requires-clause-operand g c =
     let size = c.in-Chk2.size in
     let ea = c.in-Chk2.ea in
     (word_ea_range rule.Check Control size 0 (size_bits size) 0 3 c.in-Chk2.word ea (subst (λ (i : Flow). IsInstr (instr.Flow i)) c.in-Chk2.is c.requires)).2
 
-pub check_bounds-requires-clause-place : goal.check_bounds-requires-clause-place
-check_bounds-requires-clause-place g c =
+pub chk2-requires-clause-place : goal.chk2-requires-clause-place
+chk2-requires-clause-place g c =
     let size = c.in-Chk2.size in
     let ea = c.in-Chk2.ea in
     word_ea_memory rule.Check Control size 0 (size_bits size) 0 3 c.in-Chk2.word ea (control_memory size)
     (subst (λ (i : Flow). IsInstr (instr.Flow i)) c.in-Chk2.is c.requires)
 
-pub jump-requires-clause-operand : goal.jump-requires-clause-operand
-jump-requires-clause-operand g c =
+pub jmp-requires-clause-operand : goal.jmp-requires-clause-operand
+jmp-requires-clause-operand g c =
     at_ea_range Control Long 4 7 0 3 c.in-Jmp.ea (subst (λ (i : Flow). IsInstr (instr.Flow i)) c.in-Jmp.is c.requires)
 
-pub jump-requires-clause-place : goal.jump-requires-clause-place
-jump-requires-clause-place g c =
+pub jmp-requires-clause-place : goal.jmp-requires-clause-place
+jmp-requires-clause-place g c =
     at_ea_memory Control Long 4 7 0 3 c.in-Jmp.ea (control_memory Long) (subst (λ (i : Flow). IsInstr (instr.Flow i)) c.in-Jmp.is c.requires)
 
-pub jump_to_subroutine-requires-clause-operand : goal.jump_to_subroutine-requires-clause-operand
-jump_to_subroutine-requires-clause-operand g c =
+pub jsr-requires-clause-operand : goal.jsr-requires-clause-operand
+jsr-requires-clause-operand g c =
     at_ea_range Control Long 4 7 0 2 c.in-Jsr.ea (subst (λ (i : Flow). IsInstr (instr.Flow i)) c.in-Jsr.is c.requires)
 
-pub jump_to_subroutine-requires-clause-place : goal.jump_to_subroutine-requires-clause-place
-jump_to_subroutine-requires-clause-place g c =
+pub jsr-requires-clause-place : goal.jsr-requires-clause-place
+jsr-requires-clause-place g c =
     at_ea_memory Control Long 4 7 0 2 c.in-Jsr.ea (control_memory Long) (subst (λ (i : Flow). IsInstr (instr.Flow i)) c.in-Jsr.is c.requires)

@@ -65,13 +65,13 @@ pub move_from_ccr-requires-clause-operand : goal.move_from_ccr-requires-clause-o
 move_from_ccr-requires-clause-operand g c =
     at_ea_range DataAlterable Word 4 1 0 3 c.in-FromCcr.ea (subst (λ (i : Move). IsInstr (instr.Move i)) c.in-FromCcr.is c.requires)
 
-pub set_by_condition-requires-clause-operand : goal.set_by_condition-requires-clause-operand
-set_by_condition-requires-clause-operand g c =
+pub scc-requires-clause-operand : goal.scc-requires-clause-operand
+scc-requires-clause-operand g c =
     let bits = condition_bits c.in-Scc.condition in
     at_ea_range DataAlterable Byte 5 (bits / 2) (bits % 2) 3 c.in-Scc.ea (subst (λ (i : Move). IsInstr (instr.Move i)) c.in-Scc.is c.requires)
 
-pub move_address-requires-clause-source : goal.move_address-requires-clause-source
-move_address-requires-clause-source g c =
+pub movea-requires-clause-source : goal.movea-requires-clause-source
+movea-requires-clause-source g c =
     let size = c.in-Movea.size in
     let register = c.in-Movea.register in
     let source = c.in-Movea.source in
@@ -79,21 +79,21 @@ move_address-requires-clause-source g c =
     (subst (λ (i : Move). IsInstr (instr.Move i)) c.in-Movea.is c.requires) in
     at_ea_range All size (move_bits size) register 0 1 source has.1
 
-pub load_address-requires-clause-operand : goal.load_address-requires-clause-operand
-load_address-requires-clause-operand g c =
+pub lea-requires-clause-operand : goal.lea-requires-clause-operand
+lea-requires-clause-operand g c =
     at_ea_range Control Long 4 c.in-Lea.register 1 3 c.in-Lea.ea (subst (λ (i : Move). IsInstr (instr.Move i)) c.in-Lea.is c.requires)
 
-pub load_address-requires-clause-place : goal.load_address-requires-clause-place
-load_address-requires-clause-place g c =
+pub lea-requires-clause-place : goal.lea-requires-clause-place
+lea-requires-clause-place g c =
     at_ea_memory Control Long 4 c.in-Lea.register 1 3 c.in-Lea.ea (control_memory Long)
     (subst (λ (i : Move). IsInstr (instr.Move i)) c.in-Lea.is c.requires)
 
-pub push_address-requires-clause-place : goal.push_address-requires-clause-place
-push_address-requires-clause-place g c =
+pub pea-requires-clause-place : goal.pea-requires-clause-place
+pea-requires-clause-place g c =
     at_ea_memory Control Long 4 4 0 1 c.in-Pea.ea (control_memory Long) (subst (λ (i : Move). IsInstr (instr.Move i)) c.in-Pea.is c.requires)
 
-pub push_address-requires-clause-operand : goal.push_address-requires-clause-operand
-push_address-requires-clause-operand g c =
+pub pea-requires-clause-operand : goal.pea-requires-clause-operand
+pea-requires-clause-operand g c =
     at_ea_range Control Long 4 4 0 1 c.in-Pea.ea (subst (λ (i : Move). IsInstr (instr.Move i)) c.in-Pea.is c.requires)
 
 pub move_operand-requires-clause-destination : goal.move_operand-requires-clause-destination
@@ -104,7 +104,7 @@ pub move_from_ccr-requires-clause-destination : goal.move_from_ccr-requires-clau
 move_from_ccr-requires-clause-destination g c =
     at_ea_destination DataAlterable Word 4 1 0 3 c.in-FromCcr.ea refl (subst (λ (i : Move). IsInstr (instr.Move i)) c.in-FromCcr.is c.requires)
 
-pub set_by_condition-requires-clause-destination : goal.set_by_condition-requires-clause-destination
-set_by_condition-requires-clause-destination g c =
+pub scc-requires-clause-destination : goal.scc-requires-clause-destination
+scc-requires-clause-destination g c =
     let bits = condition_bits c.in-Scc.condition in
     at_ea_destination DataAlterable Byte 5 (bits / 2) (bits % 2) 3 c.in-Scc.ea refl (subst (λ (i : Move). IsInstr (instr.Move i)) c.in-Scc.is c.requires)

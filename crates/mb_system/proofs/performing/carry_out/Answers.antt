@@ -18,14 +18,14 @@ pub move_from_status-requires-clause-operand : goal.move_from_status-requires-cl
 move_from_status-requires-clause-operand g c =
     at_ea_range DataAlterable Word 4 0 0 3 c.in-FromSr.ea (subst (λ (i : System). IsInstr (instr.System i)) c.in-FromSr.is c.requires.row)
 
-pub move_by_function_code-requires-clause-place : goal.move_by_function_code-requires-clause-place
-move_by_function_code-requires-clause-place g c =
+pub moves-requires-clause-place : goal.moves-requires-clause-place
+moves-requires-clause-place g c =
     let size = c.in-Moves.size in
     word_ea_memory rule.RegisterAndBit MemoryAlterable size 0 7 0 (size_bits size) c.in-Moves.word c.in-Moves.ea (alterable_memory size)
     (subst (λ (i : System). IsInstr (instr.System i)) c.in-Moves.is c.requires.row)
 
-pub move_by_function_code-requires-clause-operand : goal.move_by_function_code-requires-clause-operand
-move_by_function_code-requires-clause-operand g c =
+pub moves-requires-clause-operand : goal.moves-requires-clause-operand
+moves-requires-clause-operand g c =
     let size = c.in-Moves.size in
     let ea = c.in-Moves.ea in
     (word_ea_range rule.RegisterAndBit MemoryAlterable size 0 7 0 (size_bits size) c.in-Moves.word ea
@@ -35,8 +35,8 @@ pub move_from_status-requires-clause-destination : goal.move_from_status-require
 move_from_status-requires-clause-destination g c =
     at_ea_destination DataAlterable Word 4 0 0 3 c.in-FromSr.ea refl (subst (λ (i : System). IsInstr (instr.System i)) c.in-FromSr.is c.requires.row)
 
-pub move_by_function_code-requires-clause-destination : goal.move_by_function_code-requires-clause-destination
-move_by_function_code-requires-clause-destination g c =
+pub moves-requires-clause-destination : goal.moves-requires-clause-destination
+moves-requires-clause-destination g c =
     let size = c.in-Moves.size in
     word_ea_destination rule.RegisterAndBit MemoryAlterable size 0 7 0 (size_bits size) c.in-Moves.word c.in-Moves.ea refl
     (subst (λ (i : System). IsInstr (instr.System i)) c.in-Moves.is c.requires.row)

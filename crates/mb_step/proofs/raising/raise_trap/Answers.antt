@@ -1,5 +1,5 @@
 use Rattle.mb_step.proofs.Entries.{trap_unchecked}
-use Rattle.mb_step.proofs.raising.trap.Goals as goal
+use Rattle.mb_step.proofs.raising.raise_trap.Goals as goal
 
 pub returns-in-Faulted-clause-means : goal.returns-in-Faulted-clause-means
 returns-in-Faulted-clause-means g c =

@@ -3,9 +3,9 @@ use Rattle.mb_port.specs.Routine.{run}
 use Rattle.mb_instr.specs.declared.size.Size.{Size}
 use Rattle.mb_instr.specs.Sizes.{bytes_of, low_of}
 use Rattle.mb_frames.specs.declared.pend.Pend.{Pend}
-use Rattle.mb_writes.specs.Writing.{write_all, put_of, pending_of, IsLeft}
+use Rattle.mb_writes.specs.Writing.{write_pieces_of, write_operand_of, pending_of, IsLeft}
 use Rattle.mb_writes.proofs.Single.{one_pending}
-use Rattle.mb_writes.proofs.writing.put_value.Goals as goal
+use Rattle.mb_writes.proofs.writing.write_value.Goals as goal
 
 -- the one piece, with its length and value as they are computed
 alone : (size : Size) (at value len low : ℕ) → at % len ≡ 0 → len ≡ bytes_of size → low ≡ low_of size value →
@@ -16,10 +16,10 @@ alone size at value len low h e k =
     ∙ ap (λ (v : ℕ). record { at = at; len = len; value = v } ∷ []) (sym k)
 
 pub returns-then-at-from-eq0-clause-means : goal.returns-then-at-from-eq0-clause-means
-unfolding put_of
+unfolding write_operand_of
 returns-then-at-from-eq0-clause-means g c =
     let aligned = ap (λ (n : ℕ). c.args.at % n) (sym c.from.ensures) ∙ c.if-at-from-eq0.true in
-    ap (λ (ps : List Pend). run g.P.Port.bus (write_all c.args.space c.args.at ps) (g.P.Port.world c.args.port.now))
+    ap (λ (ps : List Pend). run g.P.Port.bus (write_pieces_of c.args.space c.args.at ps) (g.P.Port.world c.args.port.now))
     (alone c.args.size c.args.at c.args.value c.bytes-len.result c.low-value.result aligned c.bytes-len.ensures c.low-value.ensures.value)
     ∙ c.write_alone.ensures.means
 
