@@ -7,7 +7,7 @@ use Rattle.mb_alu.specs.declared.products.Product.{Product}
 use Rattle.mb_alu.specs.declared.quotients.Divided.{Divided}
 use Rattle.mb_alu.specs.declared.quotients.Divided.TheVariants.{Done, ZeroDivide, Overflow}
 use Rattle.mb_alu.specs.Conditions.{conditions_of, ccr_of}
-use Rattle.mb_alu.specs.Signs.{read_of, fits, modulo}
+use Rattle.mb_alu.specs.Signs.{integer_of, fits, modulo}
 
 -- how many values a factor, a divisor, a quotient and a remainder can have
 abbrev pub short_values : Width → ℕ
@@ -23,11 +23,11 @@ long_values Wide = 2 ^ 64
 
 -- a factor or a divisor of the width, read as a whole number
 abbrev pub short_of : Bool → Width → ℕ → ℤ
-short_of signed width n = read_of signed (short_values width) (n % short_values width)
+short_of signed width n = integer_of signed (short_values width) (n % short_values width)
 
 -- a product or a dividend of the width, read as a whole number
 abbrev pub long_of : Bool → Width → ℕ → ℤ
-long_of signed width n = read_of signed (long_values width) (n % long_values width)
+long_of signed width n = integer_of signed (long_values width) (n % long_values width)
 
 abbrev pub product_of : Bool → Width → ℕ → ℕ → ℤ
 product_of signed width x y = short_of signed width x *ℤ short_of signed width y

@@ -4,8 +4,8 @@ use Rattle.mb_instr.specs.declared.size.Size.{Size}
 use Rattle.mb_instr.specs.Sizes.{values_of, low_of}
 
 -- a number below m read unsigned, or signed in two's complement
-abbrev pub read_of : Bool → ℕ → ℕ → ℤ
-read_of signed m n = if signed && nat_le (m / 2) n then pos n -ℤ pos m else pos n
+abbrev pub integer_of : Bool → ℕ → ℕ → ℤ
+integer_of signed m n = if signed && nat_le (m / 2) n then pos n -ℤ pos m else pos n
 
 -- the whole numbers that are read so
 abbrev pub fits : Bool → ℕ → ℤ → Bool
@@ -20,7 +20,7 @@ modulo m (negsuc n) = m - 1 - n % m
 
 -- the low bytes that count at the size, in two's complement
 abbrev pub signed_of : Size → ℕ → ℤ
-signed_of size n = read_of true (values_of size) (low_of size n)
+signed_of size n = integer_of true (values_of size) (low_of size n)
 
 -- the sign of the low bytes that count at the size
 abbrev pub is_negative : Size → ℕ → Bool

@@ -1,7 +1,7 @@
 //! Whole numbers of up to 64 bits and a sign.
 
 ghost use Rattle.std.specs.Prelude.{◌≡◌, ◌*◌, ◌%◌, ◌^◌, ◌<◌, ◌≤◌, ◌*ℤ◌, int_div, int_rem};
-ghost use Rattle.mb_alu.specs.Signs.{read_of, fits, modulo};
+ghost use Rattle.mb_alu.specs.Signs.{integer_of, fits, modulo};
 ghost use Rattle.mb_alu.specs.Products.{short_values, short_of, long_of};
 ghost use Rattle.mb_alu.specs.Wholes.{whole_of};
 
@@ -19,7 +19,7 @@ impl Whole {
     #[inline(always)]
     fn read(signed: bool, half: u64, value: u64) -> Whole
         requires { value < 2 * half }
-        ensures value { whole_of result ≡ read_of signed (2 * half) value }
+        ensures value { whole_of result ≡ integer_of signed (2 * half) value }
         ensures bound { result.magnitude ≤ value }
         ensures nonzero { 0 < value → 0 < result.magnitude }
     {

@@ -4,7 +4,7 @@ use Rattle.std.specs.Prelude.{Result, Ok, Err}
 use Rattle.mb_lines.specs.Results.{◌>>=◌}
 use Rattle.mb_syntax.specs.Lines.{statement_in}
 use Rattle.mb_asm.specs.Layouts.{after_line}
-use Rattle.mb_asm.specs.Judged.{judged, place}
+use Rattle.mb_asm.specs.Judged.{judged_line, address_or_zero}
 use Rattle.mb_asm.specs.Texts.{Fault, at_line, chunks_from, with_laid}
 use Rattle.mb_asm.specs.Laws.{FirstFaultStays}
 
@@ -17,9 +17,9 @@ step_stays (Err e) f g fault later is = is
 pub first_stays : FirstFaultStays
 first_stays symbols layout chunks [] behind fault is = absurd cc
 first_stays symbols layout chunks (line ∷ lines) behind fault is =
-    step_stays (at_line line.number (judged symbols layout line.characters (statement_in line.characters)))
-    (λ laid. chunks_from symbols (after_line layout line) (with_laid chunks (place layout.at) laid) lines)
-    (λ laid. chunks_from symbols (after_line layout line) (with_laid chunks (place layout.at) laid) (lines ++ behind))
+    step_stays (at_line line.number (judged_line symbols layout line.characters (statement_in line.characters)))
+    (λ laid. chunks_from symbols (after_line layout line) (with_laid chunks (address_or_zero layout.at) laid) lines)
+    (λ laid. chunks_from symbols (after_line layout line) (with_laid chunks (address_or_zero layout.at) laid) (lines ++ behind))
     fault
-    (λ laid. first_stays symbols (after_line layout line) (with_laid chunks (place layout.at) laid) lines behind fault)
+    (λ laid. first_stays symbols (after_line layout line) (with_laid chunks (address_or_zero layout.at) laid) lines behind fault)
     is

@@ -51,7 +51,7 @@ use Rattle.mb_mnemonics.specs.Values.{valued, valued_displacement, valued_field,
 use Rattle.mb_mnemonics.proofs.ModeWords.{chained, mapped}
 use Rattle.mb_mnemonics.proofs.SameForm.{form_of_same, operand_words_same}
 use Rattle.mb_asm.specs.Bytes.{is_out}
-use Rattle.mb_asm.specs.Values.{Scope, counted, filled, filled_base, filled_mode, target}
+use Rattle.mb_asm.specs.Values.{Scope, value_or_one, filled, filled_base, filled_mode, target}
 
 -- ---- numbers
 
@@ -601,7 +601,7 @@ out_stays name letter os i j f g fills h =
 
 -- the value of a marked number
 abbrev pub fill : Scope → Marked → ℤ
-fill scope m = if m.is_target then target scope m.terms else counted scope m.terms
+fill scope m = if m.is_target then target scope m.terms else value_or_one scope m.terms
 
 -- a value whatever the mark is
 abbrev pub unmarked : (Sum → ℤ) → Marked → ℤ
@@ -615,18 +615,18 @@ outer_filled value f is_target (Some d) h = rw (h d.value) refl
 base_filled : (scope : Scope) (b : Base) (d : Option (Displacement Sum))
     → filled_base scope b d ≡ option_map (valued_displacement (fill scope)) (option_map (marked_displacement (is_pc b)) d)
 base_filled scope base.Pc d = outer_filled (target scope) (fill scope) true d (λ e. refl)
-base_filled scope (base.Address n) d = outer_filled (counted scope) (fill scope) false d (λ e. refl)
-base_filled scope (base.NoAddress n) d = outer_filled (counted scope) (fill scope) false d (λ e. refl)
-base_filled scope base.NoPc d = outer_filled (counted scope) (fill scope) false d (λ e. refl)
+base_filled scope (base.Address n) d = outer_filled (value_or_one scope) (fill scope) false d (λ e. refl)
+base_filled scope (base.NoAddress n) d = outer_filled (value_or_one scope) (fill scope) false d (λ e. refl)
+base_filled scope base.NoPc d = outer_filled (value_or_one scope) (fill scope) false d (λ e. refl)
 
 mode_filled : (scope : Scope) (m : Mode Sum) → filled_mode scope m ≡ valued_mode (fill scope) (marked_mode m)
 mode_filled scope (mode.Absolute e None) = refl
 mode_filled scope (mode.Absolute e (Some w)) = refl
 mode_filled scope (mode.Full t) =
-    rw (base_filled scope t.base t.displacement, outer_filled (counted scope) (fill scope) false t.outer (λ e. refl)) refl
+    rw (base_filled scope t.base t.displacement, outer_filled (value_or_one scope) (fill scope) false t.outer (λ e. refl)) refl
 mode_filled scope _ = refl
 
-number_filled : (scope : Scope) (n : FieldNumber Sum) → valued_number (counted scope) n ≡ valued_number (fill scope) (marked_number n)
+number_filled : (scope : Scope) (n : FieldNumber Sum) → valued_number (value_or_one scope) n ≡ valued_number (fill scope) (marked_number n)
 number_filled scope (field_number.Data n) = refl
 number_filled scope (field_number.Number e) = refl
 

@@ -23,15 +23,15 @@ use Rattle.mb_asm.specs.declared.directive.Directive.TheVariants as directive
 use Rattle.mb_asm.specs.declared.fault.AsmKind.{AsmKind}
 use Rattle.mb_asm.specs.declared.fault.AsmKind.TheVariants as kind
 use Rattle.mb_asm.specs.declared.value.Flaw.TheVariants as flaw
-use Rattle.mb_asm.specs.Bytes.{bytes}
+use Rattle.mb_asm.specs.Bytes.{operation_bytes}
 use Rattle.mb_asm.specs.Code.{admitted, laid_to}
 use Rattle.mb_asm.specs.Directives.{only_of, plain_of, unit_of}
-use Rattle.mb_asm.specs.Extents.{address_of, behind, behind_dc, behind_directive, behind_ds, behind_even, behind_instruction, behind_item, behind_items}
-use Rattle.mb_asm.specs.Extents.{behind_org, count_of, directive_in, equ_value, even_from, item_len, long_of, narrow_value, no_size, only_value, onward, ranged}
+use Rattle.mb_asm.specs.Extents.{org_address, address_behind, behind_dc, behind_directive, behind_ds, behind_even, behind_instruction, behind_item, behind_items}
+use Rattle.mb_asm.specs.Extents.{behind_org, ds_count, directive_in, equ_value, even_from, item_len, equ_long, narrow_value, no_size, only_value, onward, ranged}
 use Rattle.mb_asm.specs.Extents.{is_empty}
 use Rattle.mb_asm.specs.declared.addresses.TheConstants.{PAST}
-use Rattle.mb_asm.specs.Judged.{Laid, equ_checked, has_no_name, is_again, is_misplaced, judged, judged_operation, judged_statement}
-use Rattle.mb_asm.specs.Judged.{place}
+use Rattle.mb_asm.specs.Judged.{Laid, equ_checked, has_no_name, is_again, is_misplaced, judged_line, judged_operation, judged_statement}
+use Rattle.mb_asm.specs.Judged.{address_or_zero}
 use Rattle.mb_asm.specs.Judged.{reaches_past, reads_earlier, scope_of, wants_label}
 use Rattle.mb_asm.specs.Kinds.{meant}
 use Rattle.mb_asm.specs.Laws.{ImageLeavesNothingUnknown, IsKnown}
@@ -172,17 +172,17 @@ org_known : (scope : Scope) (operation : Operation) (end : Option ℕ) → AllKn
     → have_flaw flaw.Nameless scope operation.operands ≡ false → behind_org scope operation ≡ Ok end → is_some end ≡ true
 unfolding behind_org
 org_known scope operation end known named is =
-    let a = bound (no_size operation.size) (λ none. only_value scope operation.operands >>= ranged address_of) end is in
-    let b = bound (only_value scope operation.operands) (ranged address_of) end a.1.1 in
-    ranged_some address_of b.0 end (only_some scope operation.operands b.0 known named b.1.0) b.1.1
+    let a = bound (no_size operation.size) (λ none. only_value scope operation.operands >>= ranged org_address) end is in
+    let b = bound (only_value scope operation.operands) (ranged org_address) end a.1.1 in
+    ranged_some org_address b.0 end (only_some scope operation.operands b.0 known named b.1.0) b.1.1
 
 equ_known : (scope : Scope) (operation : Operation) (value : Option ℤ) → AllKnown scope
     → have_flaw flaw.Nameless scope operation.operands ≡ false → equ_value scope operation ≡ Ok value → is_some value ≡ true
 unfolding equ_value
 equ_known scope operation value known named is =
-    let a = bound (no_size operation.size) (λ none. only_value scope operation.operands >>= ranged long_of) value is in
-    let b = bound (only_value scope operation.operands) (ranged long_of) value a.1.1 in
-    ranged_some long_of b.0 value (only_some scope operation.operands b.0 known named b.1.0) b.1.1
+    let a = bound (no_size operation.size) (λ none. only_value scope operation.operands >>= ranged equ_long) value is in
+    let b = bound (only_value scope operation.operands) (ranged equ_long) value a.1.1 in
+    ranged_some equ_long b.0 value (only_some scope operation.operands b.0 known named b.1.0) b.1.1
 
 onward_known : (at : Option ℕ) (n : ℕ) → is_some at ≡ true → is_some (onward at n) ≡ true
 onward_known None n e = absurd cc
@@ -194,11 +194,11 @@ unfolding behind_ds
 ds_known scope operation end known named is =
     let reached = λ (unit : ℕ) (count : Option ℕ). option_and_then (λ n. onward scope.at (unit * n)) count in
     let a = bound (ok_or (unit_of operation.size) kind.Operand)
-    (λ unit. only_value scope operation.operands >>= λ value. ranged count_of value >>= λ count. Ok (reached unit count)) end is in
-    let b = bound (only_value scope operation.operands) (λ value. ranged count_of value >>= λ count. Ok (reached a.0 count)) end a.1.1 in
-    let c = bound (ranged count_of b.0) (λ count. Ok (reached a.0 count)) end b.1.1 in
+    (λ unit. only_value scope operation.operands >>= λ value. ranged ds_count value >>= λ count. Ok (reached unit count)) end is in
+    let b = bound (only_value scope operation.operands) (λ value. ranged ds_count value >>= λ count. Ok (reached a.0 count)) end a.1.1 in
+    let c = bound (ranged ds_count b.0) (λ count. Ok (reached a.0 count)) end b.1.1 in
     let same : reached a.0 c.0 ≡ end = cc in
-    let some = ranged_some count_of b.0 c.0 (only_some scope operation.operands b.0 known named b.1.0) c.1.0 in
+    let some = ranged_some ds_count b.0 c.0 (only_some scope operation.operands b.0 known named b.1.0) c.1.0 in
     same_some (reached a.0 c.0) end (then_known (λ n. onward scope.at (a.0 * n)) c.0 some (λ n. onward_known scope.at (a.0 * n) known.at)) same
 
 items_known : (unit : ℕ) (at : Option ℕ) (items : List (Operand Sum)) (end : Option ℕ) → is_some at ≡ true
@@ -292,11 +292,11 @@ admitted_named layout line label found a b x is =
 
 operation_known : (symbols : List Symbol) (layout : Layout) (line : List ℕ) (label : Option Name) (operation : Operation) (laid : Laid)
     → IsKnown layout → judged_operation symbols layout line label operation ≡ Ok laid → OperationKnown layout line operation
-unfolding judged_operation laid_to next_at label_value behind
+unfolding judged_operation laid_to next_at label_value address_behind
 operation_known symbols layout line label operation laid known is =
     let found = directive_in line operation in
     let scope = scope_of symbols layout line found in
-    let next = behind (earlier layout line) operation in
+    let next = address_behind (earlier layout line) operation in
     let flawed = have_flaw flaw.Nameless scope operation.operands in
     let parts = judged_parts layout line label operation found scope next in
     let a = bound (admitted layout line label found (has_no_name next || flawed)) (λ first. next >>= λ end. laid_to end scope label found operation) laid
@@ -304,9 +304,9 @@ operation_known symbols layout line label operation laid known is =
     let b = bound next (λ end. laid_to end scope label found operation) laid a.1.1 in
     let named : flawed ≡ false = admitted_named layout line label found (has_no_name next) flawed a.0 a.1.0 in
     let placed = λ (written : List ℕ).
-    refuse (is_misplaced (place scope.at) label found (place b.0) || reaches_past (place scope.at) written) kind.Place
-    >>= λ placed. Ok (record { bytes = written; next = place b.0 }) in
-    let c = bound (equ_checked scope operation found) (λ value. bytes scope operation >>= placed) laid b.1.1 in
+    refuse (is_misplaced (address_or_zero scope.at) label found (address_or_zero b.0) || reaches_past (address_or_zero scope.at) written) kind.Place
+    >>= λ placed. Ok (record { bytes = written; next = address_or_zero b.0 }) in
+    let c = bound (equ_checked scope operation found) (λ value. operation_bytes scope operation >>= placed) laid b.1.1 in
     let end = behind_known (earlier layout line) operation found b.0 (earlier_known layout line known)
     (named_earlier symbols layout line operation (reads_earlier found) named) b.1.0 in
     record {
@@ -343,8 +343,8 @@ statement_known symbols layout line label (Some operation) laid known is =
     }
 
 line_known : (symbols : List Symbol) (layout : Layout) (line : List ℕ) (statement : Option Statement) (laid : Laid)
-    → IsKnown layout → judged symbols layout line statement ≡ Ok laid → IsKnown (after_statement layout line statement)
-unfolding judged
+    → IsKnown layout → judged_line symbols layout line statement ≡ Ok laid → IsKnown (after_statement layout line statement)
+unfolding judged_line
 line_known symbols layout line None laid known is = absurd cc
 line_known symbols layout line (Some statement) laid known is =
     statement_known symbols layout line statement.label statement.operation laid known is
@@ -357,8 +357,8 @@ lines_known : (symbols : List Symbol) (layout : Layout) (chunks : Chunks) (lines
     → IsKnown layout → chunks_from symbols layout chunks (lines ++ others) ≡ Ok given → IsKnown (after_lines layout lines)
 lines_known symbols layout chunks [] others given known is = known
 lines_known symbols layout chunks (line ∷ lines) others given known is =
-    let r = judged symbols layout line.characters (statement_in line.characters) in
-    let more = λ (laid : Laid). with_laid chunks (place layout.at) laid in
+    let r = judged_line symbols layout line.characters (statement_in line.characters) in
+    let more = λ (laid : Laid). with_laid chunks (address_or_zero layout.at) laid in
     let a = bound (at_line line.number r) (λ (laid : Laid). chunks_from symbols (after_line layout line) (more laid) (lines ++ others)) given is in
     let one = line_known symbols layout line.characters (statement_in line.characters) a.0 known (at_line_is line.number r a.0 a.1.0) in
     lines_known symbols (after_line layout line) (more a.0) lines others given one a.1.1

@@ -10,7 +10,7 @@ use Rattle.mb_syntax.specs.Statements.{Operation, Statement}
 use Rattle.mb_asm.specs.declared.directive.Directive.{Directive}
 use Rattle.mb_asm.specs.declared.directive.Directive.TheVariants as directive
 use Rattle.mb_asm.specs.declared.fault.AsmKind.{AsmKind}
-use Rattle.mb_asm.specs.Extents.{behind, directive_in, equ_value}
+use Rattle.mb_asm.specs.Extents.{address_behind, directive_in, equ_value}
 use Rattle.mb_asm.specs.Laws.{FaultyBeforeMended, FaultyBehindMended, FoundStays, LayoutStays, Stays, SymbolsStay}
 use Rattle.mb_asm.specs.Layouts.{Layout, after_line, after_lines, after_statement, beginning, earlier, if_known, label_in, label_value, next_at}
 use Rattle.mb_asm.specs.Layouts.{operation_value}
@@ -100,7 +100,7 @@ statement_stays before after line label None p = record {
       (map_stays pos before.at after.at p.at);
 }
 statement_stays before after line label (Some operation) p = record {
-  at = known_stays (behind (earlier before line) operation) (behind (earlier after line) operation)
+  at = known_stays (address_behind (earlier before line) operation) (address_behind (earlier after line) operation)
       (behind_stays line before.symbols after.symbols before.at after.at operation p.symbols p.at);
   symbols = label_stays before.symbols after.symbols line label (operation_value before line operation (directive_in line operation))
       (operation_value after line operation (directive_in line operation)) p.symbols

@@ -35,25 +35,25 @@ use Rattle.mb_asm.specs.declared.directive.Directive.TheVariants as directive
 use Rattle.mb_asm.specs.declared.fault.AsmKind.{AsmKind}
 use Rattle.mb_asm.specs.declared.fault.AsmKind.TheVariants as kind
 use Rattle.mb_asm.specs.declared.value.Flaw.TheVariants as flaw
-use Rattle.mb_asm.specs.Bytes.{bytes, bytes_of, has_out, is_out, bytes_there, dc_bytes, directive_bytes, instruction_bytes, item_bytes, items_bytes}
-use Rattle.mb_asm.specs.Bytes.{plain_bytes, settled_at, settled_bytes}
+use Rattle.mb_asm.specs.Bytes.{operation_bytes, instr_bytes, has_out, is_out, bytes_there, dc_bytes, directive_bytes, instruction_bytes, item_bytes, items_bytes}
+use Rattle.mb_asm.specs.Bytes.{plain_bytes, known_address, bytes_where_known}
 use Rattle.mb_asm.specs.Bytes.{text_bytes, unit_bytes, unit_range}
 use Rattle.mb_asm.specs.Code.{admitted, laid_to}
 use Rattle.mb_asm.specs.Directives.{only_of, plain_of, unit_of}
-use Rattle.mb_asm.specs.Extents.{address_of, behind, behind_dc, behind_ds, behind_even, behind_instruction, behind_item, behind_items}
-use Rattle.mb_asm.specs.Extents.{behind_org, count_of, directive_in, equ_value, even_from, is_empty, item_len, long_of, narrow_value, no_size, only_value}
+use Rattle.mb_asm.specs.Extents.{org_address, address_behind, behind_dc, behind_ds, behind_even, behind_instruction, behind_item, behind_items}
+use Rattle.mb_asm.specs.Extents.{behind_org, ds_count, directive_in, equ_value, even_from, is_empty, item_len, equ_long, narrow_value, no_size, only_value}
 use Rattle.mb_asm.specs.Extents.{onward}
 use Rattle.mb_asm.specs.declared.addresses.TheConstants.{PAST}
 use Rattle.mb_asm.specs.Extents.{ranged}
-use Rattle.mb_asm.specs.Judged.{Laid, ends_past, equ_checked, has_no_name, is_address, is_again, is_misplaced, is_odd, is_past, judged, judged_by}
+use Rattle.mb_asm.specs.Judged.{Laid, ends_past, equ_checked, has_no_name, is_address, is_again, is_misplaced, is_odd, is_past, judged_line, judged_by}
 use Rattle.mb_asm.specs.Judged.{judged_label}
-use Rattle.mb_asm.specs.Judged.{judged_operation, judged_statement, place, reaches_past, reads_earlier, wants_label}
+use Rattle.mb_asm.specs.Judged.{judged_operation, judged_statement, address_or_zero, reaches_past, reads_earlier, wants_label}
 use Rattle.mb_asm.specs.Kinds.{meant}
 use Rattle.mb_asm.specs.Laws.{FaultyStaysFaulty, FoundStays, LayoutStays, Stays, SymbolsStay}
 use Rattle.mb_asm.specs.Layouts.{Layout, earlier}
 use Rattle.mb_asm.specs.Results.{refuse}
 use Rattle.mb_asm.specs.Symbols.{Symbol, value_in}
-use Rattle.mb_asm.specs.Values.{Scope, counted, near, target, has_flaw, have_flaw, in_displacement, in_mode, in_number, in_operand, in_option, is_long}
+use Rattle.mb_asm.specs.Values.{Scope, value_or_one, near, target, has_flaw, have_flaw, in_displacement, in_mode, in_number, in_operand, in_option, is_long}
 use Rattle.mb_asm.specs.Values.{is_nameless}
 use Rattle.mb_asm.specs.Values.{is_wide, signed_value, sum_behind, term_value, value_of, values_of, with_sign}
 use Rattle.mb_asm.proofs.Filled.{Fills, IsNumber, IsTarget, all_filled, all_unmarked, fill, near_at, out_stays, unmarked}
@@ -179,18 +179,18 @@ org_stays : (line : List ℕ) (ss ts : List Symbol) (a b : Option ℕ) (operatio
     → GivenStays (behind_org (scope_at ss line a) operation) (behind_org (scope_at ts line b) operation)
 unfolding behind_org
 org_stays line ss ts a b operation s p =
-    front_stays (no_size operation.size) (λ none. only_value (scope_at ss line a) operation.operands >>= ranged address_of)
-    (λ none. only_value (scope_at ts line b) operation.operands >>= ranged address_of)
-    (λ none. ranged_stays address_of (only_value (scope_at ss line a) operation.operands) (only_value (scope_at ts line b) operation.operands)
+    front_stays (no_size operation.size) (λ none. only_value (scope_at ss line a) operation.operands >>= ranged org_address)
+    (λ none. only_value (scope_at ts line b) operation.operands >>= ranged org_address)
+    (λ none. ranged_stays org_address (only_value (scope_at ss line a) operation.operands) (only_value (scope_at ts line b) operation.operands)
     (only_stays line ss ts a b operation.operands s p))
 
 pub equ_stays : (line : List ℕ) (ss ts : List Symbol) (a b : Option ℕ) (operation : Operation) → SymbolsStay ss ts → Stays a b
     → GivenStays (equ_value (scope_at ss line a) operation) (equ_value (scope_at ts line b) operation)
 unfolding equ_value
 equ_stays line ss ts a b operation s p =
-    front_stays (no_size operation.size) (λ none. only_value (scope_at ss line a) operation.operands >>= ranged long_of)
-    (λ none. only_value (scope_at ts line b) operation.operands >>= ranged long_of)
-    (λ none. ranged_stays long_of (only_value (scope_at ss line a) operation.operands) (only_value (scope_at ts line b) operation.operands)
+    front_stays (no_size operation.size) (λ none. only_value (scope_at ss line a) operation.operands >>= ranged equ_long)
+    (λ none. only_value (scope_at ts line b) operation.operands >>= ranged equ_long)
+    (λ none. ranged_stays equ_long (only_value (scope_at ss line a) operation.operands) (only_value (scope_at ts line b) operation.operands)
     (only_stays line ss ts a b operation.operands s p))
 
 onward_stays : (a b : Option ℕ) (n : ℕ) → Stays a b → Stays (onward a n) (onward b n)
@@ -201,11 +201,11 @@ abbrev pub units_on : Option ℕ → ℕ → Option ℕ → Option ℕ
 units_on at unit count = option_and_then (λ n. onward at (unit * n)) count
 
 units_stay : (a b : Option ℕ) (unit : ℕ) (r t : Result (Option ℤ) AsmKind) → GivenStays r t → Stays a b
-    → GivenStays (r >>= λ value. ranged count_of value >>= λ count. Ok (units_on a unit count))
-    (t >>= λ value. ranged count_of value >>= λ count. Ok (units_on b unit count))
+    → GivenStays (r >>= λ value. ranged ds_count value >>= λ count. Ok (units_on a unit count))
+    (t >>= λ value. ranged ds_count value >>= λ count. Ok (units_on b unit count))
 units_stay a b unit (Ok None) t p s = tt
 units_stay a b unit (Ok (Some x)) t p s =
-    rw p (front_stays (ranged count_of (Some x)) (λ count. Ok (units_on a unit count)) (λ count. Ok (units_on b unit count))
+    rw p (front_stays (ranged ds_count (Some x)) (λ count. Ok (units_on a unit count)) (λ count. Ok (units_on b unit count))
     (λ count. ok_stays (units_on a unit count) (units_on b unit count)
     (then_stays (λ n. onward a (unit * n)) (λ n. onward b (unit * n)) count count (stays_by count count (λ v h. h)) (λ n. onward_stays a b (unit * n) s))))
 units_stay a b unit (Err e) t p s = rw p refl
@@ -215,8 +215,8 @@ ds_stays : (line : List ℕ) (ss ts : List Symbol) (a b : Option ℕ) (operation
 unfolding behind_ds
 ds_stays line ss ts a b operation s p =
     front_stays (ok_or (unit_of operation.size) kind.Operand)
-    (λ unit. only_value (scope_at ss line a) operation.operands >>= λ value. ranged count_of value >>= λ count. Ok (units_on a unit count))
-    (λ unit. only_value (scope_at ts line b) operation.operands >>= λ value. ranged count_of value >>= λ count. Ok (units_on b unit count))
+    (λ unit. only_value (scope_at ss line a) operation.operands >>= λ value. ranged ds_count value >>= λ count. Ok (units_on a unit count))
+    (λ unit. only_value (scope_at ts line b) operation.operands >>= λ value. ranged ds_count value >>= λ count. Ok (units_on b unit count))
     (λ unit. units_stay a b unit (only_value (scope_at ss line a) operation.operands) (only_value (scope_at ts line b) operation.operands)
     (only_stays line ss ts a b operation.operands s p) p)
 
@@ -251,13 +251,13 @@ instruction_stays : (line : List ℕ) (ss ts : List Symbol) (a b : Option ℕ) (
     → GivenStays (behind_instruction (scope_at ss line a) operation) (behind_instruction (scope_at ts line b) operation)
 unfolding behind_instruction
 instruction_stays line ss ts a b operation p =
-    rw (length_by_same (counted (scope_at ss line a)) (counted (scope_at ts line b)) (bytes_at line operation.name) operation.size operation.operands)
+    rw (length_by_same (value_or_one (scope_at ss line a)) (value_or_one (scope_at ts line b)) (bytes_at line operation.name) operation.size operation.operands)
     (front_stays (meant (length_by (bytes_at line operation.name) operation.size (values_of (scope_at ts line b) operation.operands)))
     (λ len. Ok (onward a len)) (λ len. Ok (onward b len)) (λ len. ok_stays (onward a len) (onward b len) (onward_stays a b len p)))
 
 pub behind_stays : (line : List ℕ) (ss ts : List Symbol) (a b : Option ℕ) (operation : Operation) → SymbolsStay ss ts → Stays a b
-    → GivenStays (behind (scope_at ss line a) operation) (behind (scope_at ts line b) operation)
-unfolding behind
+    → GivenStays (address_behind (scope_at ss line a) operation) (address_behind (scope_at ts line b) operation)
+unfolding address_behind
 behind_stays line ss ts a b operation s p =
     elim (directive_in line operation) as (λ found. GivenStays (behind_by (scope_at ss line a) operation found)
     (behind_by (scope_at ts line b) operation found)) [
@@ -355,7 +355,7 @@ unit_length unit scope terms x is =
     let a = bound (narrow_value scope terms) (λ value. ranged says value >>= last) x is in
     let b = bound (ranged says a.0) last x a.1.1 in
     let same : big_bytes unit (unwrap_or b.0 0) ≡ x = cc in
-    subst (λ (bytes : List ℕ). length bytes ≡ unit) same (length-bytes_high_first unit (unwrap_or b.0 0))
+    subst (λ (operation_bytes : List ℕ). length operation_bytes ≡ unit) same (length-bytes_high_first unit (unwrap_or b.0 0))
 
 plain_stays : (unit : ℕ) (line : List ℕ) (ss ts : List Symbol) (a b : Option ℕ) (given : Option Sum) → SymbolsStay ss ts → Stays a b
     → BytesStay (plain_bytes unit (scope_at ss line a) given) (plain_bytes unit (scope_at ts line b) given)
@@ -507,8 +507,8 @@ some_stays None y p h = absurd cc
 some_stays (Some v) y p h = rw p refl
 
 follows : (line : List ℕ) (ss ts : List Symbol) (a b : Option ℕ) → SymbolsStay ss ts → Stays a b
-    → Follows (has_flaw flaw.Unknown (scope_at ss line a)) (has_flaw flaw.Unknown (scope_at ts line b)) (counted (scope_at ss line a))
-    (counted (scope_at ts line b))
+    → Follows (has_flaw flaw.Unknown (scope_at ss line a)) (has_flaw flaw.Unknown (scope_at ts line b)) (value_or_one (scope_at ss line a))
+    (value_or_one (scope_at ts line b))
 follows line ss ts a b s p = record {
   test = λ e k. some_stays (value_of (scope_at ss line a) e) (value_of (scope_at ts line b) e) (value_stays line ss ts a b e s p) k;
   value = λ e k. counted_stays (value_of (scope_at ss line a) e) (value_of (scope_at ts line b) e) (value_stays line ss ts a b e s p) k;
@@ -527,7 +527,7 @@ there_same : (line : List ℕ) (ss ts : List Symbol) (a b : Option ℕ) (operati
     → bytes_there (scope_at ss line a) operation x ≡ bytes_there (scope_at ts line b) operation x
 unfolding bytes_there
 there_same line ss ts a b operation x same =
-    ap (λ (values : List (Operand ℤ)). meant (meaning (bytes_at line operation.name) operation.size values (x % 2 ^ 32)) >>= λ i. Ok (bytes_of i)) same
+    ap (λ (values : List (Operand ℤ)). meant (meaning (bytes_at line operation.name) operation.size values (x % 2 ^ 32)) >>= λ i. Ok (instr_bytes i)) same
 
 -- ---- where a number is out of its range
 
@@ -566,7 +566,7 @@ fills_more line ss ts a b s p = record {
 
 -- the targets of a scope beside the values of one in which the address is known
 known_target : (line : List ℕ) (ss ts : List Symbol) (a : Option ℕ) (y : ℕ) (e : Sum) → SymbolsStay ss ts → Stays a (Some y)
-    → IsTarget (low_at a) (y % 4294967296) (target (scope_at ss line a) e) (counted (scope_at ts line (Some y)) e)
+    → IsTarget (low_at a) (y % 4294967296) (target (scope_at ss line a) e) (value_or_one (scope_at ts line (Some y)) e)
 known_target line ss ts None y e s p = inr (near_same ss line None)
 known_target line ss ts (Some x) y e s p =
     let same : x ≡ y = cc in
@@ -575,7 +575,7 @@ known_target line ss ts (Some x) y e s p =
     (pos 1) (value_stays line ss ts (Some x) (Some y) e s p) (ap (λ (n : ℕ). n % 4294967296) same))
 
 fills_known : (line : List ℕ) (ss ts : List Symbol) (a : Option ℕ) (y : ℕ) → SymbolsStay ss ts → Stays a (Some y)
-    → Fills (low_at a) (y % 4294967296) (fill (scope_at ss line a)) (unmarked (counted (scope_at ts line (Some y))))
+    → Fills (low_at a) (y % 4294967296) (fill (scope_at ss line a)) (unmarked (value_or_one (scope_at ts line (Some y))))
 fills_known line ss ts a y s p = record {
   number = λ e. counted_near (value_of (scope_at ss line a) e) (value_of (scope_at ts line (Some y)) e) (value_stays line ss ts a (Some y) e s p);
   target = λ e. known_target line ss ts a y e s p;
@@ -591,7 +591,7 @@ out_more line ss ts a b operation s p h =
     (out_stays name operation.size os (low_at a) (low_at b) (fill (scope_at ss line a)) (fill (scope_at ts line b)) (fills_more line ss ts a b s p)
     (subst (λ (vs : List (Operand ℤ)). is_out (meaning name operation.size vs (low_at a)) ≡ true) (all_filled (scope_at ss line a) os) h))
 
-out_faulty : (r : Result Instr MeansFault) → is_out r ≡ true → is_err (meant r >>= λ i. Ok (bytes_of i)) ≡ true
+out_faulty : (r : Result Instr MeansFault) → is_out r ≡ true → is_err (meant r >>= λ i. Ok (instr_bytes i)) ≡ true
 out_faulty (Err fault) h = refl
 out_faulty (Ok i) h = absurd cc
 
@@ -601,7 +601,7 @@ unfolding has_out bytes_there
 out_known line ss ts a y operation s p h =
     let name = bytes_at line operation.name in
     let os = operation.operands in
-    let value = counted (scope_at ts line (Some y)) in
+    let value = value_or_one (scope_at ts line (Some y)) in
     out_faulty (meaning name operation.size (map (valued value) os) (y % 4294967296))
     (subst (λ (vs : List (Operand ℤ)). is_out (meaning name operation.size vs (y % 4294967296)) ≡ true) (sym (all_unmarked value os))
     (out_stays name operation.size os (low_at a) (y % 4294967296) (fill (scope_at ss line a)) (unmarked value) (fills_known line ss ts a y s p)
@@ -621,7 +621,7 @@ unless_faulty out h = rw h refl
 -- what is not settled beside what may be
 unsettled_stays : (line : List ℕ) (ss ts : List Symbol) (a b there : Option ℕ) (operation : Operation) → SymbolsStay ss ts → Stays a b
     → Stays there b
-    → BytesStay (unless_out (has_out (scope_at ss line a) operation)) (settled_bytes (scope_at ts line b) operation there)
+    → BytesStay (unless_out (has_out (scope_at ss line a) operation)) (bytes_where_known (scope_at ts line b) operation there)
 unsettled_stays line ss ts a b None operation s p within =
     unless_first (has_out (scope_at ss line a) operation) (unless_out (has_out (scope_at ts line b) operation))
     (λ h. unless_faulty (has_out (scope_at ts line b) operation) (out_more line ss ts a b operation s p h))
@@ -637,7 +637,7 @@ settled_within false (Some y) = refl
 settled_stays : (line : List ℕ) (ss ts : List Symbol) (a b : Option ℕ) (operation : Operation) (unknown later : Bool) → SymbolsStay ss ts
     → Stays a b → (unknown ≡ false → later ≡ false) → (unknown ≡ false
     → values_of (scope_at ss line a) operation.operands ≡ values_of (scope_at ts line b) operation.operands)
-    → BytesStay (settled_bytes (scope_at ss line a) operation (if unknown then None else a)) (settled_bytes (scope_at ts line b) operation
+    → BytesStay (bytes_where_known (scope_at ss line a) operation (if unknown then None else a)) (bytes_where_known (scope_at ts line b) operation
     (if later then None else b))
 settled_stays line ss ts a b operation true later s p more same =
     unsettled_stays line ss ts a b (if later then None else b) operation s p (settled_within later b)
@@ -645,8 +645,8 @@ settled_stays line ss ts None b operation false later s p more same =
     unsettled_stays line ss ts None b (if later then None else b) operation s p (settled_within later b)
 settled_stays line ss ts (Some x) b operation false later s p more same =
     let there : (if later then None else b) ≡ Some x = rw (more refl) p in
-    let e : settled_bytes (scope_at ts line b) operation (if later then None else b) ≡ bytes_there (scope_at ts line b) operation x =
-    ap (settled_bytes (scope_at ts line b) operation) there in
+    let e : bytes_where_known (scope_at ts line b) operation (if later then None else b) ≡ bytes_there (scope_at ts line b) operation x =
+    ap (bytes_where_known (scope_at ts line b) operation) there in
     subst (BytesStay (bytes_there (scope_at ss line (Some x)) operation x))
     (there_same line ss ts (Some x) b operation x (same refl) ∙ sym e) (same_bytes (bytes_there (scope_at ss line (Some x)) operation x))
 
@@ -666,16 +666,16 @@ allowed_stay (Err k) (Err l) false s = s
 
 instruction_bytes_stay : (line : List ℕ) (ss ts : List Symbol) (a b : Option ℕ) (operation : Operation) → SymbolsStay ss ts → Stays a b
     → BytesStay (instruction_bytes (scope_at ss line a) operation) (instruction_bytes (scope_at ts line b) operation)
-unfolding instruction_bytes settled_at
+unfolding instruction_bytes known_address
 instruction_bytes_stay line ss ts a b operation s p =
     let t = has_flaw flaw.Unknown (scope_at ss line a) in
     let u = has_flaw flaw.Unknown (scope_at ts line b) in
-    let f = counted (scope_at ss line a) in
-    let g = counted (scope_at ts line b) in
+    let f = value_or_one (scope_at ss line a) in
+    let g = value_or_one (scope_at ts line b) in
     let unknown = have_flaw flaw.Unknown (scope_at ss line a) operation.operands in
     let later = have_flaw flaw.Unknown (scope_at ts line b) operation.operands in
-    allowed_stay (settled_bytes (scope_at ss line a) operation (if unknown then None else a))
-    (settled_bytes (scope_at ts line b) operation (if later then None else b))
+    allowed_stay (bytes_where_known (scope_at ss line a) operation (if unknown then None else a))
+    (bytes_where_known (scope_at ts line b) operation (if later then None else b))
     (have_flaw flaw.Wide (scope_at ts line b) operation.operands)
     (settled_stays line ss ts a b operation unknown later s p
     (λ k. operands_test t u f g operation.operands (follows line ss ts a b s p) k)
@@ -687,8 +687,8 @@ bytes_by scope operation (Some found) = directive_bytes scope operation found
 bytes_by scope operation None = instruction_bytes scope operation
 
 bytes_stay : (line : List ℕ) (ss ts : List Symbol) (a b : Option ℕ) (operation : Operation) → SymbolsStay ss ts → Stays a b
-    → BytesStay (bytes (scope_at ss line a) operation) (bytes (scope_at ts line b) operation)
-unfolding bytes
+    → BytesStay (operation_bytes (scope_at ss line a) operation) (operation_bytes (scope_at ts line b) operation)
+unfolding operation_bytes
 bytes_stay line ss ts a b operation s p =
     elim (directive_in line operation) as (λ found. BytesStay (bytes_by (scope_at ss line a) operation found) (bytes_by (scope_at ts line b) operation found)) [
       | None ↦ instruction_bytes_stay line ss ts a b operation s p
@@ -738,21 +738,23 @@ checked_stays line ss ts a b operation (Some directive.Dc) s p = λ h. h
 checked_stays line ss ts a b operation (Some directive.Ds) s p = λ h. h
 checked_stays line ss ts a b operation (Some directive.Even) s p = λ h. h
 
-place_le : (a b : Option ℕ) → Stays a b → place a ≤ place b
+place_le : (a b : Option ℕ) → Stays a b → address_or_zero a ≤ address_or_zero b
 place_le None b p = zero-le
 place_le (Some x) b p = rw p (le_refl x)
 
-odd_stays : (a b : Option ℕ) (found : Option Directive) → Stays a b → is_odd (place a) found ≡ true → is_odd (place b) found ≡ true
+odd_stays : (a b : Option ℕ) (found : Option Directive) → Stays a b → is_odd (address_or_zero a) found ≡ true → is_odd (address_or_zero b) found ≡ true
 odd_stays None b None p h = absurd cc
 odd_stays None b (Some d) p h = absurd cc
 odd_stays (Some x) b found p h = rw p h
 
-address_stays : (address : Bool) (a b : Option ℕ) → Stays a b → (address && is_past (place a)) ≡ true → (address && is_past (place b)) ≡ true
+address_stays : (address : Bool) (a b : Option ℕ) → Stays a b → (address && is_past (address_or_zero a)) ≡ true → (address && is_past (address_or_zero b))
+    ≡ true
 address_stays true None b p h = absurd cc
 address_stays false None b p h = absurd cc
 address_stays address (Some x) b p h = rw p h
 
-end_stays : (found : Option Directive) (end later : Option ℕ) → Stays end later → ends_past found (place end) ≡ true → ends_past found (place later) ≡ true
+end_stays : (found : Option Directive) (end later : Option ℕ) → Stays end later → ends_past found (address_or_zero end)
+    ≡ true → ends_past found (address_or_zero later) ≡ true
 end_stays None None later p h = absurd cc
 end_stays (Some directive.Org) None later p h = absurd cc
 end_stays (Some directive.Equ) None later p h = absurd cc
@@ -770,16 +772,19 @@ laid one = Ok one
 
 placed_stays : (a b end later : Option ℕ) (label : Option Name) (found : Option Directive) (x y : List ℕ) → Stays a b → Stays end later
     → length x ≤ length y
-    → (is_misplaced (place a) label found (place end) || reaches_past (place a) x) ≡ true
-    → (is_misplaced (place b) label found (place later) || reaches_past (place b) y) ≡ true
+    → (is_misplaced (address_or_zero a) label found (address_or_zero end) || reaches_past (address_or_zero a) x) ≡ true
+    → (is_misplaced (address_or_zero b) label found (address_or_zero later) || reaches_past (address_or_zero b) y) ≡ true
 placed_stays a b end later label found x y p q more =
-    or_stays (is_misplaced (place a) label found (place end)) (reaches_past (place a) x) (is_misplaced (place b) label found (place later))
-    (reaches_past (place b) y)
-    (or_stays (is_odd (place a) found) (is_address label found && is_past (place a) || ends_past found (place end)) (is_odd (place b) found)
-    (is_address label found && is_past (place b) || ends_past found (place later)) (odd_stays a b found p)
-    (or_stays (is_address label found && is_past (place a)) (ends_past found (place end)) (is_address label found && is_past (place b))
-    (ends_past found (place later)) (address_stays (is_address label found) a b p) (end_stays found end later q)))
-    (reach_stays (place a) (place b) (length x) (length y) (place_le a b p) more)
+    or_stays (is_misplaced (address_or_zero a) label found (address_or_zero end)) (reaches_past (address_or_zero a) x)
+    (is_misplaced (address_or_zero b) label found (address_or_zero later))
+    (reaches_past (address_or_zero b) y)
+    (or_stays (is_odd (address_or_zero a) found) (is_address label found && is_past (address_or_zero a)
+    || ends_past found (address_or_zero end)) (is_odd (address_or_zero b) found)
+    (is_address label found && is_past (address_or_zero b) || ends_past found (address_or_zero later)) (odd_stays a b found p)
+    (or_stays (is_address label found && is_past (address_or_zero a)) (ends_past found (address_or_zero end)) (is_address label found
+    && is_past (address_or_zero b))
+    (ends_past found (address_or_zero later)) (address_stays (is_address label found) a b p) (end_stays found end later q)))
+    (reach_stays (address_or_zero a) (address_or_zero b) (length x) (length y) (place_le a b p) more)
 
 laid_stays : (line : List ℕ) (ss ts : List Symbol) (a b end later : Option ℕ) (label : Option Name) (found : Option Directive) (operation : Operation)
     → SymbolsStay ss ts → Stays a b → Stays end later
@@ -788,17 +793,17 @@ unfolding laid_to
 laid_stays line ss ts a b end later label found operation s p q =
     let r = equ_checked (scope_at ss line a) operation found in
     let t = equ_checked (scope_at ts line b) operation found in
-    let u = bytes (scope_at ss line a) operation in
-    let v = bytes (scope_at ts line b) operation in
-    let m = λ (x : List ℕ). is_misplaced (place a) label found (place end) || reaches_past (place a) x in
-    let n = λ (x : List ℕ). is_misplaced (place b) label found (place later) || reaches_past (place b) x in
-    let f = λ (x : List ℕ). refuse (m x) kind.Place >>= λ placed. laid (record { bytes = x; next = place end }) in
-    let g = λ (x : List ℕ). refuse (n x) kind.Place >>= λ placed. laid (record { bytes = x; next = place later }) in
+    let u = operation_bytes (scope_at ss line a) operation in
+    let v = operation_bytes (scope_at ts line b) operation in
+    let m = λ (x : List ℕ). is_misplaced (address_or_zero a) label found (address_or_zero end) || reaches_past (address_or_zero a) x in
+    let n = λ (x : List ℕ). is_misplaced (address_or_zero b) label found (address_or_zero later) || reaches_past (address_or_zero b) x in
+    let f = λ (x : List ℕ). refuse (m x) kind.Place >>= λ placed. laid (record { bytes = x; next = address_or_zero end }) in
+    let g = λ (x : List ℕ). refuse (n x) kind.Place >>= λ placed. laid (record { bytes = x; next = address_or_zero later }) in
     let stays = bytes_stay line ss ts a b operation s p in
     bound_stays r t (λ value. u >>= f) (λ value. v >>= g) (checked_stays line ss ts a b operation found s p)
     (λ one two i j. bound_stays u v f g stays.faulty
     (λ x y is there. bound_stays (refuse (m x) kind.Place) (refuse (n y) kind.Place)
-    (λ placed. laid (record { bytes = x; next = place end })) (λ placed. laid (record { bytes = y; next = place later }))
+    (λ placed. laid (record { bytes = x; next = address_or_zero end })) (λ placed. laid (record { bytes = y; next = address_or_zero later }))
     (refuse_stays (m x) (n y) kind.Place kind.Place (placed_stays a b end later label found x y p q (stays.longer x y is there)))
     (λ c d k l h. h)))
 
@@ -828,8 +833,8 @@ operation_stays : (symbols more : List Symbol) (before after : Layout) (line : L
 unfolding judged_operation
 operation_stays symbols more before after line label operation s p =
     let found = directive_in line operation in
-    let next = behind (earlier before line) operation in
-    let later = behind (earlier after line) operation in
+    let next = address_behind (earlier before line) operation in
+    let later = address_behind (earlier after line) operation in
     let q = behind_stays line before.symbols after.symbols before.at after.at operation p.symbols p.at in
     elim (reads_earlier found) as (λ reads. ErrStays
     (judged_by before line label operation found (if reads then earlier before line else scope_at symbols line before.at) next)
@@ -844,10 +849,10 @@ unfolding judged_label
 label_stays before after line label p =
     let r = refuse (is_again before line label) kind.Twice in
     let t = refuse (is_again after line label) kind.Twice in
-    let m = is_address label None && is_past (place before.at) in
-    let n = is_address label None && is_past (place after.at) in
-    let f = λ (placed : Unit {0}). laid (record { bytes = []; next = place before.at }) in
-    let g = λ (placed : Unit {0}). laid (record { bytes = []; next = place after.at }) in
+    let m = is_address label None && is_past (address_or_zero before.at) in
+    let n = is_address label None && is_past (address_or_zero after.at) in
+    let f = λ (placed : Unit {0}). laid (record { bytes = []; next = address_or_zero before.at }) in
+    let g = λ (placed : Unit {0}). laid (record { bytes = []; next = address_or_zero after.at }) in
     bound_stays r t (λ first. refuse m kind.Place >>= f) (λ first. refuse n kind.Place >>= g)
     (refuse_stays (is_again before line label) (is_again after line label) kind.Twice kind.Twice (again_stays before after line label p))
     (λ x y is there. bound_stays (refuse m kind.Place) (refuse n kind.Place) f g
@@ -861,7 +866,7 @@ statement_stays symbols more before after line label None s p = label_stays befo
 statement_stays symbols more before after line label (Some operation) s p = operation_stays symbols more before after line label operation s p
 
 pub faulty_stays : FaultyStaysFaulty
-unfolding judged
+unfolding judged_line
 faulty_stays symbols more before after line None s p h = refl
 faulty_stays symbols more before after line (Some statement) s p h =
     statement_stays symbols more before after line statement.label statement.operation s p h

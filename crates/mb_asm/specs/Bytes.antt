@@ -70,19 +70,19 @@ dc_bytes scope operation = do
 -- Instructions
 
 -- the high byte of each word is the first
-abbrev pub bytes_of : Instr → List ℕ
-bytes_of i = flat_map (big_bytes 2) (words_of (row i))
+abbrev pub instr_bytes : Instr → List ℕ
+instr_bytes i = flat_map (big_bytes 2) (words_of (row i))
 
 -- the address of an instruction, where all that its numbers rest on is known
-unfoldable pub settled_at : Scope → Operation → Option ℕ
-settled_at scope operation = if have_flaw flaw.Unknown scope operation.operands then None else scope.at
+unfoldable pub known_address : Scope → Operation → Option ℕ
+known_address scope operation = if have_flaw flaw.Unknown scope operation.operands then None else scope.at
 
 -- an instruction at the address
 unfoldable pub bytes_there : Scope → Operation → ℕ → Result (List ℕ) AsmKind
 bytes_there scope operation at = do
   i ← meant (meaning (bytes_at scope.line operation.name) operation.size (values_of scope operation.operands)
       (at % 2 ^ 32))
-  Ok (bytes_of i)
+  Ok (instr_bytes i)
 
 -- a number is out of its range
 abbrev pub is_out : Result Instr MeansFault → Bool
@@ -96,13 +96,13 @@ has_out scope operation =
     (unwrap_or scope.at 0 % 2 ^ 32))
 
 -- Of an instruction that rests on what is not known, the numbers that are known are judged.
-abbrev pub settled_bytes : Scope → Operation → Option ℕ → Result (List ℕ) AsmKind
-settled_bytes scope operation None = refuse (has_out scope operation) kind.Range >>= λ known. Ok []
-settled_bytes scope operation (Some at) = bytes_there scope operation at
+abbrev pub bytes_where_known : Scope → Operation → Option ℕ → Result (List ℕ) AsmKind
+bytes_where_known scope operation None = refuse (has_out scope operation) kind.Range >>= λ known. Ok []
+bytes_where_known scope operation (Some at) = bytes_there scope operation at
 
 unfoldable pub instruction_bytes : Scope → Operation → Result (List ℕ) AsmKind
 instruction_bytes scope operation = do
-  written ← settled_bytes scope operation (settled_at scope operation)
+  written ← bytes_where_known scope operation (known_address scope operation)
   narrow ← refuse (have_flaw flaw.Wide scope operation.operands) kind.Range
   Ok written
 
@@ -111,8 +111,8 @@ directive_bytes scope operation directive.Dc = dc_bytes scope operation
 directive_bytes scope operation _ = Ok []
 
 -- ORG, EQU, DS and EVEN write nothing.
-unfoldable pub bytes : Scope → Operation → Result (List ℕ) AsmKind
-bytes scope operation = elim (directive_in scope.line operation) [
+unfoldable pub operation_bytes : Scope → Operation → Result (List ℕ) AsmKind
+operation_bytes scope operation = elim (directive_in scope.line operation) [
   | Some directive ↦ directive_bytes scope operation directive
   | None ↦ instruction_bytes scope operation
 ]

@@ -8,9 +8,9 @@ use Rattle.mb_asm.specs.declared.fault.AsmKind.TheVariants as kind
 use Rattle.mb_asm.specs.declared.directive.Directive.{Directive}
 use Rattle.mb_asm.specs.Results.{refuse}
 use Rattle.mb_asm.specs.Values.{Scope}
-use Rattle.mb_asm.specs.Bytes.{bytes}
+use Rattle.mb_asm.specs.Bytes.{operation_bytes}
 use Rattle.mb_asm.specs.Layouts.{Layout}
-use Rattle.mb_asm.specs.Judged.{Laid, equ_checked, is_again, is_misplaced, place, reaches_past, wants_label}
+use Rattle.mb_asm.specs.Judged.{Laid, equ_checked, is_again, is_misplaced, address_or_zero, reaches_past, wants_label}
 
 -- bytes before others
 abbrev pub with_front : List ℕ → Result (List ℕ) AsmKind → Result (List ℕ) AsmKind
@@ -27,7 +27,8 @@ admitted layout line label found unknown = do
 unfoldable pub laid_to : Option ℕ → Scope → Option Name → Option Directive → Operation → Result Laid AsmKind
 laid_to end scope label found operation = do
   value ← equ_checked scope operation found
-  written ← bytes scope operation
-  placed ← refuse (is_misplaced (place scope.at) label found (place end) || reaches_past (place scope.at) written)
+  written ← operation_bytes scope operation
+  placed ← refuse (is_misplaced (address_or_zero scope.at) label found (address_or_zero end)
+      || reaches_past (address_or_zero scope.at) written)
       kind.Place
-  Ok (record { bytes = written; next = place end })
+  Ok (record { bytes = written; next = address_or_zero end })

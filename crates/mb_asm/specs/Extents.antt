@@ -53,39 +53,39 @@ is_empty (_ ∷ _) = false
 
 -- ORG
 
-abbrev pub address_of : ℤ → Option ℕ
-address_of (pos n) = Some (min n PAST)
-address_of (negsuc n) = None
+abbrev pub org_address : ℤ → Option ℕ
+org_address (pos n) = Some (min n PAST)
+org_address (negsuc n) = None
 
 unfoldable pub behind_org : Scope → Operation → Result (Option ℕ) AsmKind
 behind_org scope operation = do
   none ← no_size operation.size
   value ← only_value scope operation.operands
-  ranged address_of value
+  ranged org_address value
 
 -- EQU: a value of 32 bits, with or without a sign
 
-abbrev pub long_of : ℤ → Option ℤ
-long_of value =
+abbrev pub equ_long : ℤ → Option ℤ
+equ_long value =
     if int_le (least range.Long) value && int_le value (greatest range.Long) then Some value else None
 
 unfoldable pub equ_value : Scope → Operation → Result (Option ℤ) AsmKind
 equ_value scope operation = do
   none ← no_size operation.size
   value ← only_value scope operation.operands
-  ranged long_of value
+  ranged equ_long value
 
 -- DS: so many units
 
-abbrev pub count_of : ℤ → Option ℕ
-count_of (pos n) = number range.Long (pos n)
-count_of (negsuc n) = None
+abbrev pub ds_count : ℤ → Option ℕ
+ds_count (pos n) = number range.Long (pos n)
+ds_count (negsuc n) = None
 
 unfoldable pub behind_ds : Scope → Operation → Result (Option ℕ) AsmKind
 behind_ds scope operation = do
   unit ← ok_or (unit_of operation.size) kind.Operand
   value ← only_value scope operation.operands
-  count ← ranged count_of value
+  count ← ranged ds_count value
   Ok (option_and_then (λ n. onward scope.at (unit * n)) count)
 
 -- DC: one or more items, each an expression or, where units are bytes, a text
@@ -142,8 +142,8 @@ behind_directive scope operation directive.Even = behind_even scope.at operation
 abbrev pub directive_in : List ℕ → Operation → Option Directive
 directive_in line operation = found_in directives (bytes_at line operation.name)
 
-unfoldable pub behind : Scope → Operation → Result (Option ℕ) AsmKind
-behind scope operation = elim (directive_in scope.line operation) [
+unfoldable pub address_behind : Scope → Operation → Result (Option ℕ) AsmKind
+address_behind scope operation = elim (directive_in scope.line operation) [
   | Some directive ↦ behind_directive scope operation directive
   | None ↦ behind_instruction scope operation
 ]

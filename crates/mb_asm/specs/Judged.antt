@@ -14,8 +14,8 @@ use Rattle.mb_asm.specs.declared.directive.Directive.TheVariants as directive
 use Rattle.mb_asm.specs.Results.{refuse}
 use Rattle.mb_asm.specs.Symbols.{Symbol, value_in}
 use Rattle.mb_asm.specs.Values.{Scope, have_flaw}
-use Rattle.mb_asm.specs.Extents.{behind, directive_in, equ_value}
-use Rattle.mb_asm.specs.Bytes.{bytes}
+use Rattle.mb_asm.specs.Extents.{address_behind, directive_in, equ_value}
+use Rattle.mb_asm.specs.Bytes.{operation_bytes}
 use Rattle.mb_asm.specs.Layouts.{Layout, earlier}
 use Rattle.mb_asm.specs.declared.addresses.TheConstants.{END}
 
@@ -53,8 +53,8 @@ is_again layout line None = false
 
 -- Place: a word or long at an odd address by an instruction, or an address past the last. An address that is not known
 -- counts as 0, where all may stand.
-abbrev pub place : Option ℕ → ℕ
-place at = unwrap_or at 0
+abbrev pub address_or_zero : Option ℕ → ℕ
+address_or_zero at = unwrap_or at 0
 
 abbrev pub is_odd : ℕ → Option Directive → Bool
 is_odd at None = at % 2 == 1
@@ -96,24 +96,25 @@ judged_by layout line label operation found scope next = do
   first ← refuse (is_again layout line label) kind.Twice
   end ← next
   value ← equ_checked scope operation found
-  written ← bytes scope operation
-  placed ← refuse (is_misplaced (place scope.at) label found (place end) || reaches_past (place scope.at) written)
+  written ← operation_bytes scope operation
+  placed ← refuse (is_misplaced (address_or_zero scope.at) label found (address_or_zero end)
+      || reaches_past (address_or_zero scope.at) written)
       kind.Place
-  Ok (record { bytes = written; next = place end })
+  Ok (record { bytes = written; next = address_or_zero end })
 
 -- an operation in the line, with the symbols of all lines
 unfoldable pub judged_operation : List Symbol → Layout → List ℕ → Option Name → Operation → Result Laid AsmKind
 judged_operation symbols layout line label operation =
     let found = directive_in line operation in
     judged_by layout line label operation found (scope_of symbols layout line found)
-    (behind (earlier layout line) operation)
+    (address_behind (earlier layout line) operation)
 
 -- a label alone
 unfoldable pub judged_label : Layout → List ℕ → Option Name → Result Laid AsmKind
 judged_label layout line label = do
   first ← refuse (is_again layout line label) kind.Twice
-  placed ← refuse (is_address label None && is_past (place layout.at)) kind.Place
-  Ok (record { bytes = []; next = place layout.at })
+  placed ← refuse (is_address label None && is_past (address_or_zero layout.at)) kind.Place
+  Ok (record { bytes = []; next = address_or_zero layout.at })
 
 abbrev pub judged_statement : List Symbol → Layout → List ℕ → Statement → Result Laid AsmKind
 judged_statement symbols layout line statement = elim statement.operation [
@@ -122,6 +123,6 @@ judged_statement symbols layout line statement = elim statement.operation [
 ]
 
 -- The statement of a line, which may be none.
-unfoldable pub judged : List Symbol → Layout → List ℕ → Option Statement → Result Laid AsmKind
-judged symbols layout line (Some statement) = judged_statement symbols layout line statement
-judged symbols layout line None = Err kind.Syntax
+unfoldable pub judged_line : List Symbol → Layout → List ℕ → Option Statement → Result Laid AsmKind
+judged_line symbols layout line (Some statement) = judged_statement symbols layout line statement
+judged_line symbols layout line None = Err kind.Syntax

@@ -6,7 +6,7 @@ use Rattle.mb_syntax.specs.Lines.{statement_in}
 use Rattle.mb_syntax.specs.Statements.{Statement}
 use Rattle.mb_asm.specs.Symbols.{Symbol, value_in}
 use Rattle.mb_asm.specs.Layouts.{Layout, after_lines, beginning}
-use Rattle.mb_asm.specs.Judged.{judged}
+use Rattle.mb_asm.specs.Judged.{judged_line}
 use Rattle.mb_asm.specs.Texts.{Chunks, Fault, assembled, chunks_from, symbols_of}
 
 -- With the same symbols, the first faulty line of lines is told whatever stands behind them.
@@ -39,12 +39,12 @@ pub record LayoutStays (before after : Layout) : Type 0 where
 abbrev pub FaultyStaysFaulty : Type 0
 FaultyStaysFaulty = (symbols more : List Symbol) (before after : Layout) (line : List ℕ) (statement : Option Statement)
     → SymbolsStay symbols more → LayoutStays before after
-    → is_err (judged symbols before line statement) ≡ true → is_err (judged more after line statement) ≡ true
+    → is_err (judged_line symbols before line statement) ≡ true → is_err (judged_line more after line statement) ≡ true
 
 -- whether a line is faulty that stands in a text behind the lines of its front
 abbrev pub is_faulty_in : List Line → List Line → Line → Bool
 is_faulty_in text front line =
-    is_err (judged (symbols_of text) (after_lines beginning front) line.characters (statement_in line.characters))
+    is_err (judged_line (symbols_of text) (after_lines beginning front) line.characters (statement_in line.characters))
 
 -- Lines before a line, as a faulty one, have others in their place, which give the same symbols and leave no less
 -- known: if the line was faulty, it is.

@@ -13,7 +13,7 @@ use Rattle.mb_asm.specs.declared.directive.Directive.{Directive}
 use Rattle.mb_asm.specs.declared.directive.Directive.TheVariants as directive
 use Rattle.mb_asm.specs.Symbols.{Symbol, with_symbol}
 use Rattle.mb_asm.specs.Values.{Scope}
-use Rattle.mb_asm.specs.Extents.{behind, directive_in, equ_value}
+use Rattle.mb_asm.specs.Extents.{address_behind, directive_in, equ_value}
 
 -- The address that is reached, if it is known, and the symbols so far.
 pub record Layout : Type 0 where
@@ -49,7 +49,7 @@ with_label symbols line (Some name) value = with_symbol symbols (record { name =
 -- An address behind a line of which no extent is known is not known.
 unfoldable pub next_at : Layout → List ℕ → Option Operation → Option ℕ
 next_at layout line None = layout.at
-next_at layout line (Some operation) = if_known (behind (earlier layout line) operation)
+next_at layout line (Some operation) = if_known (address_behind (earlier layout line) operation)
 
 -- what stands before the first blank of a line
 abbrev pub front_of : List ℕ → List ℕ

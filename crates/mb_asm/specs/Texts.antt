@@ -7,7 +7,7 @@ use Rattle.mb_syntax.specs.Lines.{statement_in}
 use Rattle.mb_asm.specs.declared.fault.AsmKind.{AsmKind}
 use Rattle.mb_asm.specs.Symbols.{Symbol}
 use Rattle.mb_asm.specs.Layouts.{Layout, after_line, after_lines, beginning}
-use Rattle.mb_asm.specs.Judged.{Laid, judged, place}
+use Rattle.mb_asm.specs.Judged.{Laid, judged_line, address_or_zero}
 
 -- The number of a line, and the first kind of fault that it has.
 pub record Fault : Type 0 where
@@ -36,8 +36,8 @@ abbrev pub all_chunks : Chunks → List (ℕ × List ℕ)
 all_chunks chunks = chunks.whole ++ chunk_of chunks.at chunks.bytes
 
 -- the next chunk begins at the address
-abbrev pub closed : Chunks → ℕ → Chunks
-closed chunks next = record { whole = all_chunks chunks; at = next; bytes = [] }
+abbrev pub with_next_chunk : Chunks → ℕ → Chunks
+with_next_chunk chunks next = record { whole = all_chunks chunks; at = next; bytes = [] }
 
 -- bytes go on in the last chunk
 abbrev pub with_bytes : Chunks → List ℕ → Chunks
@@ -47,14 +47,14 @@ with_bytes chunks bytes = record { whole = chunks.whole; at = chunks.at; bytes =
 unfoldable pub with_laid : Chunks → ℕ → Laid → Chunks
 with_laid chunks at laid =
     let more = with_bytes chunks laid.bytes in
-    if laid.next == at + length laid.bytes then more else closed more laid.next
+    if laid.next == at + length laid.bytes then more else with_next_chunk more laid.next
 
 -- The chunks behind those so far. All lines are judged with the symbols of the whole text.
 abbrev pub chunks_from : List Symbol → Layout → Chunks → List Line → Result Chunks Fault
 chunks_from symbols layout chunks [] = Ok chunks
 chunks_from symbols layout chunks (line ∷ lines) =
-    at_line line.number (judged symbols layout line.characters (statement_in line.characters)) >>= λ laid.
-    chunks_from symbols (after_line layout line) (with_laid chunks (place layout.at) laid) lines
+    at_line line.number (judged_line symbols layout line.characters (statement_in line.characters)) >>= λ laid.
+    chunks_from symbols (after_line layout line) (with_laid chunks (address_or_zero layout.at) laid) lines
 
 -- the symbols of all lines
 abbrev pub symbols_of : List Line → List Symbol

@@ -58,11 +58,11 @@ abbrev pub value_of : Scope → Sum → Option ℤ
 value_of scope terms = if is_long terms then Some (pos 0) else sum_behind scope (pos 0) terms
 
 -- a value that is not known counts as 1, which every range of numbers has
-abbrev pub counted : Scope → Sum → ℤ
-counted scope terms = unwrap_or (value_of scope terms) (pos 1)
+abbrev pub value_or_one : Scope → Sum → ℤ
+value_or_one scope terms = unwrap_or (value_of scope terms) (pos 1)
 
 abbrev pub values_of : Scope → List (Operand Sum) → List (Operand ℤ)
-values_of scope operands = map (valued (counted scope)) operands
+values_of scope operands = map (valued (value_or_one scope)) operands
 
 -- Where numbers are not known. A target is relative to the PC, or an address without a width, as a branch has it; it
 -- rests on the statement's address too, and one that is not known counts as the place 4 bytes on, which every
@@ -77,7 +77,7 @@ target scope terms = unwrap_or (option_and_then (λ at. value_of scope terms) sc
 -- the base displacement of a full form, by its base
 abbrev pub filled_base : Scope → Base → Option (Displacement Sum) → Option (Displacement ℤ)
 filled_base scope base.Pc displacement = option_map (valued_displacement (target scope)) displacement
-filled_base scope _ displacement = option_map (valued_displacement (counted scope)) displacement
+filled_base scope _ displacement = option_map (valued_displacement (value_or_one scope)) displacement
 
 abbrev pub filled_form : Scope → FullForm Sum → FullForm ℤ
 filled_form scope form = record {
@@ -85,7 +85,7 @@ filled_form scope form = record {
   base = form.base;
   index = form.index;
   indirection = form.indirection;
-  outer = option_map (valued_displacement (counted scope)) form.outer;
+  outer = option_map (valued_displacement (value_or_one scope)) form.outer;
 }
 
 abbrev pub filled_mode : Scope → Mode Sum → Mode ℤ
@@ -93,13 +93,13 @@ filled_mode scope (mode.Absolute e None) = mode.Absolute (target scope e) None
 filled_mode scope (mode.PcDisplaced e) = mode.PcDisplaced (target scope e)
 filled_mode scope (mode.PcIndexed e i) = mode.PcIndexed (target scope e) i
 filled_mode scope (mode.Full form) = mode.Full (filled_form scope form)
-filled_mode scope m = valued_mode (counted scope) m
+filled_mode scope m = valued_mode (value_or_one scope) m
 
 -- an operand with numbers in range in the place of those that are not known
 abbrev pub filled : Scope → Operand Sum → Operand ℤ
 filled scope (operand.Mode m) = operand.Mode (filled_mode scope m)
-filled scope (operand.Field m field) = operand.Field (filled_mode scope m) (valued_field (counted scope) field)
-filled scope o = valued (counted scope) o
+filled scope (operand.Field m field) = operand.Field (filled_mode scope m) (valued_field (value_or_one scope) field)
+filled scope o = valued (value_or_one scope) o
 
 -- Flaws of expressions.
 

@@ -12,7 +12,7 @@ ghost use Rattle.mb_asm.specs.Texts.{assembled, chunks_from, no_chunks};
 
 use crate::chunks::Chunks;
 use crate::fault::AsmFault;
-use crate::judging::{judged, place};
+use crate::judging::{address_or_zero, judged_line};
 use crate::laying::{lay, statement_in};
 use crate::layout::Layout;
 use crate::symbol::Symbols;
@@ -84,8 +84,8 @@ fn chunks_of(alloc: Global, text: &[u8], symbols: &Symbols) -> Result<Chunks, As
     let mut lines = Lines::new(text);
     while let Some(line) = lines.next_line() {
         let statement = statement_in(alloc, line.characters)?;
-        match judged(alloc, symbols, &layout, line.characters, &statement) {
-            Ok(laid) => chunks.add(alloc, place(layout.at), &laid)?,
+        match judged_line(alloc, symbols, &layout, line.characters, &statement) {
+            Ok(laid) => chunks.add(alloc, address_or_zero(layout.at), &laid)?,
             Err(refusal) => return Err(refusal.at(line.number)),
         }
         lay(alloc, &mut layout, line.characters, &statement)?;

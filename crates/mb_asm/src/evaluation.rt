@@ -7,7 +7,7 @@ ghost use Rattle.mb_mnemonics.specs.Values.{valued_number};
 ghost use Rattle.mb_asm.specs.Scopes.{scope_said};
 ghost use Rattle.mb_asm.specs.Values.{have_flaw, has_flaw, in_form, in_mode, in_number, in_operand, in_option};
 ghost use Rattle.mb_asm.specs.Values.{in_displacement, is_long, is_nameless, is_wide, signed_value, sum_behind};
-ghost use Rattle.mb_asm.specs.Values.{counted, term_value, value_of, values_of};
+ghost use Rattle.mb_asm.specs.Values.{value_or_one, term_value, value_of, values_of};
 ghost use Rattle.mb_asm.specs.declared.addresses.TheConstants.{PAST};
 
 use crate::lookup::value_in;
@@ -72,8 +72,8 @@ fn sum_of(scope: &Scope, terms: &[SignedTerm]) -> Option<i64>
 }
 
 /// The value of an expression, and 1 where it is not known.
-fn counted(scope: &Scope, expression: &Expression) -> i64
-    ensures { result ≡ counted (scope_said scope.now) expression.now }
+fn value_or_one(scope: &Scope, expression: &Expression) -> i64
+    ensures { result ≡ value_or_one (scope_said scope.now) expression.now }
 {
     value_of(scope, expression).unwrap_or(1)
 }
@@ -203,11 +203,11 @@ pub(crate) fn displacement_value(
     scope: &Scope,
     displacement: &Option<Displacement<Expression>>,
 ) -> Option<Displacement<i64>>
-    ensures { result ≡ option_map (valued_displacement (counted (scope_said scope.now))) displacement.now }
+    ensures { result ≡ option_map (valued_displacement (value_or_one (scope_said scope.now))) displacement.now }
 {
     match displacement {
         Some(displacement) => Some(Displacement {
-            value: counted(scope, &displacement.value),
+            value: value_or_one(scope, &displacement.value),
             width: displacement.width,
         }),
         None => None,
@@ -215,7 +215,7 @@ pub(crate) fn displacement_value(
 }
 
 fn form_value(scope: &Scope, form: &FullForm<Expression>) -> FullForm<i64>
-    ensures { result ≡ valued_form (counted (scope_said scope.now)) form.now }
+    ensures { result ≡ valued_form (value_or_one (scope_said scope.now)) form.now }
 {
     FullForm {
         displacement: displacement_value(scope, &form.displacement),
@@ -228,7 +228,7 @@ fn form_value(scope: &Scope, form: &FullForm<Expression>) -> FullForm<i64>
 
 #[rattlefmt::skip]
 pub(crate) fn mode_value(scope: &Scope, mode: &Mode<Expression>) -> Mode<i64>
-    ensures { result ≡ valued_mode (counted (scope_said scope.now)) mode.now }
+    ensures { result ≡ valued_mode (value_or_one (scope_said scope.now)) mode.now }
 {
     match mode {
         Mode::Data(register) => Mode::Data(*register),
@@ -237,28 +237,28 @@ pub(crate) fn mode_value(scope: &Scope, mode: &Mode<Expression>) -> Mode<i64>
         Mode::PostIncrement(register) => Mode::PostIncrement(*register),
         Mode::PreDecrement(register) => Mode::PreDecrement(*register),
         Mode::Displaced { register, displacement } =>
-            Mode::Displaced { register: *register, displacement: counted(scope, displacement) },
+            Mode::Displaced { register: *register, displacement: value_or_one(scope, displacement) },
         Mode::Indexed { register, displacement, index } =>
-            Mode::Indexed { register: *register, displacement: counted(scope, displacement), index: *index },
-        Mode::Absolute { address, width } => Mode::Absolute { address: counted(scope, address), width: *width },
-        Mode::PcDisplaced { target } => Mode::PcDisplaced { target: counted(scope, target) },
-        Mode::PcIndexed { target, index } => Mode::PcIndexed { target: counted(scope, target), index: *index },
+            Mode::Indexed { register: *register, displacement: value_or_one(scope, displacement), index: *index },
+        Mode::Absolute { address, width } => Mode::Absolute { address: value_or_one(scope, address), width: *width },
+        Mode::PcDisplaced { target } => Mode::PcDisplaced { target: value_or_one(scope, target) },
+        Mode::PcIndexed { target, index } => Mode::PcIndexed { target: value_or_one(scope, target), index: *index },
         Mode::Full(form) => Mode::Full(form_value(scope, form)),
-        Mode::Immediate(e) => Mode::Immediate(counted(scope, e)),
+        Mode::Immediate(e) => Mode::Immediate(value_or_one(scope, e)),
     }
 }
 
 fn number_value(scope: &Scope, number: &FieldNumber<Expression>) -> FieldNumber<i64>
-    ensures { result ≡ valued_number (counted (scope_said scope.now)) number.now }
+    ensures { result ≡ valued_number (value_or_one (scope_said scope.now)) number.now }
 {
     match number {
         FieldNumber::Data(register) => FieldNumber::Data(*register),
-        FieldNumber::Number(e) => FieldNumber::Number(counted(scope, e)),
+        FieldNumber::Number(e) => FieldNumber::Number(value_or_one(scope, e)),
     }
 }
 
 pub(crate) fn field_value(scope: &Scope, field: &BitField<Expression>) -> BitField<i64>
-    ensures { result ≡ valued_field (counted (scope_said scope.now)) field.now }
+    ensures { result ≡ valued_field (value_or_one (scope_said scope.now)) field.now }
 {
     BitField {
         offset: number_value(scope, &field.offset),
@@ -269,7 +269,7 @@ pub(crate) fn field_value(scope: &Scope, field: &BitField<Expression>) -> BitFie
 /// An operand with the values of its expressions.
 #[rattlefmt::skip]
 pub(crate) fn operand_value(scope: &Scope, operand: &Operand<Expression>) -> Operand<i64>
-    ensures { result ≡ valued (counted (scope_said scope.now)) operand.now }
+    ensures { result ≡ valued (value_or_one (scope_said scope.now)) operand.now }
 {
     match operand {
         Operand::Mode(mode) => Operand::Mode(mode_value(scope, mode)),

@@ -4,9 +4,9 @@ ghost use Rattle.std.specs.Prelude.{◌≡◌, ◌+◌, ◌-◌, ◌*◌, ◌≤
 ghost use Rattle.mb_asm.specs.Scopes.{scope_said};
 ghost use Rattle.mb_syntax.specs.Answers.{operation_said};
 ghost use Rattle.mb_asm.specs.Answers.{GivesAlone};
-ghost use Rattle.mb_asm.specs.Extents.{address_of, behind, behind_dc, behind_directive, behind_ds, behind_even};
-ghost use Rattle.mb_asm.specs.Extents.{behind_instruction, behind_items, behind_org, count_of, equ_value, even_from};
-ghost use Rattle.mb_asm.specs.Extents.{item_len, long_of, narrow_value, no_size, only_value, onward, text_len};
+ghost use Rattle.mb_asm.specs.Extents.{org_address, address_behind, behind_dc, behind_directive, behind_ds, behind_even};
+ghost use Rattle.mb_asm.specs.Extents.{behind_instruction, behind_items, behind_org, ds_count, equ_value, even_from};
+ghost use Rattle.mb_asm.specs.Extents.{item_len, equ_long, narrow_value, no_size, only_value, onward, text_len};
 
 use crate::addresses::PAST;
 use crate::directive::{Directive, directive_of, only_of, plain_of, unit_of};
@@ -59,8 +59,8 @@ fn only_value(scope: &Scope, operands: &[Operand<Expression>]) -> Result<Option<
     narrow_value(scope, expression)
 }
 
-fn address_of(value: i64) -> Option<u64>
-    ensures value { result ≡ address_of value }
+fn org_address(value: i64) -> Option<u64>
+    ensures value { result ≡ org_address value }
     ensures most { IfSome result (λ at. at ≤ PAST) }
 {
     if value < 0 {
@@ -77,7 +77,7 @@ fn behind_org(scope: &Scope, operation: &Operation) -> Result<Option<u64>, AsmKi
     no_size(operation.size)?;
     let value = only_value(scope, &operation.operands)?;
     match value {
-        Some(value) => match address_of(value) {
+        Some(value) => match org_address(value) {
             Some(at) => Ok(Some(at)),
             None => Err(AsmKind::Range),
         },
@@ -95,7 +95,7 @@ pub(crate) fn equ_value(scope: &Scope, operation: &Operation) -> Result<Option<i
     no_size(operation.size)?;
     let value = only_value(scope, &operation.operands)?;
     match value {
-        Some(value) => match long_of(value) {
+        Some(value) => match equ_long(value) {
             Some(value) => Ok(Some(value)),
             None => Err(AsmKind::Range),
         },
@@ -103,8 +103,8 @@ pub(crate) fn equ_value(scope: &Scope, operation: &Operation) -> Result<Option<i
     }
 }
 
-fn long_of(value: i64) -> Option<i64>
-    ensures value { result ≡ long_of value }
+fn equ_long(value: i64) -> Option<i64>
+    ensures value { result ≡ equ_long value }
     ensures least { IfSome result (λ value. negsuc 2147483647 ≤ℤ value) }
     ensures greatest { IfSome result (λ value. value ≤ℤ pos 4294967295) }
 {
@@ -115,8 +115,8 @@ fn long_of(value: i64) -> Option<i64>
     }
 }
 
-fn count_of(value: i64) -> Option<u32>
-    ensures { result ≡ count_of value }
+fn ds_count(value: i64) -> Option<u32>
+    ensures { result ≡ ds_count value }
 {
     if value < 0 {
         return None;
@@ -134,7 +134,7 @@ fn behind_ds(scope: &Scope, operation: &Operation) -> Result<Option<u64>, AsmKin
     };
     let value = only_value(scope, &operation.operands)?;
     match value {
-        Some(value) => match count_of(value) {
+        Some(value) => match ds_count(value) {
             Some(count) => Ok(onward(scope.at, u64::from(unit) * u64::from(count))),
             None => Err(AsmKind::Range),
         },
@@ -257,9 +257,14 @@ fn behind_directive(
 }
 
 /// The address behind an operation, with the symbols of earlier lines.
-#[tactic(auto, unfolding(crate::specs::Extents::behind))]
-fn behind(alloc: Global, scope: &Scope, operation: &Operation) -> Result<Option<u64>, Refusal>
-    ensures value { GivesAlone (λ at. at) result (behind (scope_said scope.now) (operation_said operation.now)) }
+#[tactic(auto, unfolding(crate::specs::Extents::address_behind))]
+fn address_behind(
+    alloc: Global,
+    scope: &Scope,
+    operation: &Operation,
+) -> Result<Option<u64>, Refusal>
+    ensures value { GivesAlone (λ at. at) result
+        (address_behind (scope_said scope.now) (operation_said operation.now)) }
     ensures most { IfOk result (λ at. IfSome at (λ known. known ≤ PAST)) }
 {
     match directive_of(operation.name.bytes(scope.line)) {
@@ -277,10 +282,11 @@ pub(crate) fn reached(
     scope: &Scope,
     operation: &Operation,
 ) -> Result<Result<Option<u64>, AsmKind>, AllocError>
-    ensures value { IfOk result (λ reached. reached ≡ behind (scope_said scope.now) (operation_said operation.now)) }
+    ensures value { IfOk result (λ reached. reached
+        ≡ address_behind (scope_said scope.now) (operation_said operation.now)) }
     ensures most { IfOk result (λ reached. IfOk reached (λ at. IfSome at (λ known. known ≤ PAST))) }
 {
-    match behind(alloc, scope, operation) {
+    match address_behind(alloc, scope, operation) {
         Ok(at) => Ok(Ok(at)),
         Err(Refusal::Kind(kind)) => Ok(Err(kind)),
         Err(Refusal::Memory) => Err(AllocError),

@@ -4,7 +4,7 @@ ghost use Rattle.std.specs.Prelude.{◌≡◌, ◌+◌, ◌≤◌, ◌++◌, All
 ghost use Rattle.mb_srec.specs.Image.{IsAddressed, all_contents};
 ghost use Rattle.mb_asm.specs.Laids.{laid_said};
 ghost use Rattle.mb_asm.specs.Gathered.{chunks_said};
-ghost use Rattle.mb_asm.specs.Texts.{chunk_of, closed, with_laid};
+ghost use Rattle.mb_asm.specs.Texts.{chunk_of, with_next_chunk, with_laid};
 ghost use Rattle.mb_asm.specs.declared.addresses.TheConstants.{END};
 
 use crate::chunks::Chunks;
@@ -33,7 +33,7 @@ impl Chunks {
     /// Ends the last chunk; the next one begins at the address.
     pub(crate) fn close(&mut self, alloc: Global, next: u64) -> Result<(), AllocError>
         requires { next ≤ END }
-        ensures given { OnOk result (chunks_said self.new ≡ closed (chunks_said self.old) next) }
+        ensures given { OnOk result (chunks_said self.new ≡ with_next_chunk (chunks_said self.old) next) }
         ensures end { OnOk result (self.new.at + length self.new.bytes.items ≡ next) }
     {
         let bytes = std::mem::replace(&mut self.bytes, Vec::new(alloc));

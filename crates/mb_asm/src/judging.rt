@@ -11,8 +11,8 @@ ghost use Rattle.mb_asm.specs.Laids.{laid_said};
 ghost use Rattle.mb_asm.specs.Results.{refuse};
 ghost use Rattle.mb_asm.specs.Code.{admitted, laid_to};
 ghost use Rattle.mb_asm.specs.Judged.{ends_past, equ_checked, has_no_name, is_address, is_again, is_misplaced};
-ghost use Rattle.mb_asm.specs.Judged.{is_odd, judged, judged_by, judged_label, judged_operation, reaches_past};
-ghost use Rattle.mb_asm.specs.Judged.{reads_earlier, scope_of, wants_label, place};
+ghost use Rattle.mb_asm.specs.Judged.{is_odd, judged_line, judged_by, judged_label, judged_operation, reaches_past};
+ghost use Rattle.mb_asm.specs.Judged.{reads_earlier, scope_of, wants_label, address_or_zero};
 ghost use Rattle.mb_asm.specs.declared.value.Flaw.TheVariants as flaw;
 ghost use Rattle.mb_asm.specs.Values.{have_flaw};
 ghost use Rattle.mb_asm.specs.declared.addresses.TheConstants.{PAST};
@@ -29,7 +29,7 @@ use crate::lookup::value_in;
 use crate::refusal::Refusal;
 use crate::symbol::Symbols;
 use crate::value::{Flaw, Scope};
-use crate::writing::bytes;
+use crate::writing::operation_bytes;
 use mb_syntax::{Name, Operation, Statement};
 use std::alloc::Global;
 
@@ -118,9 +118,9 @@ fn ends_past(directive: Option<Directive>, next: u64) -> bool
 }
 
 /// An address; one that is not known counts as 0, where all may stand.
-pub(crate) fn place(at: Option<u64>) -> u64
+pub(crate) fn address_or_zero(at: Option<u64>) -> u64
     requires { IfSome at (λ known. known ≤ PAST) }
-    ensures value { result ≡ place at }
+    ensures value { result ≡ address_or_zero at }
     ensures most { result ≤ PAST }
 {
     at.unwrap_or(0)
@@ -180,14 +180,14 @@ fn laid_to(
     requires { IfSome end (λ known. known ≤ PAST) }
     ensures given { GivesAlone laid_said result
         (laid_to end (scope_said scope.now) label directive (operation_said operation.now)) }
-    ensures inside { IfOk result (λ laid. place scope.now.at + length laid.bytes.items ≤ END) }
+    ensures inside { IfOk result (λ laid. address_or_zero scope.now.at + length laid.bytes.items ≤ END) }
     ensures last { IfOk result (λ laid. laid.next ≤ END) }
-    ensures reached { IfOk result (λ laid. laid.next ≡ place end) }
+    ensures reached { IfOk result (λ laid. laid.next ≡ address_or_zero end) }
 {
     equ_checked(scope, operation, directive)?;
-    let bytes = bytes(alloc, scope, operation)?;
-    let at = place(scope.at);
-    let next = place(end);
+    let bytes = operation_bytes(alloc, scope, operation)?;
+    let at = address_or_zero(scope.at);
+    let next = address_or_zero(end);
     let is_misplaced = is_misplaced(at, label, directive, next) || reaches_past(at, &bytes);
     refuse(is_misplaced, AsmKind::Place)?;
     Ok(Laid { bytes, next })
@@ -214,10 +214,11 @@ fn judged_operation(
     ensures given { GivesAlone laid_said result
         (judged_operation (symbols_said symbols.now) (layout_said layout.now) line.now label
         (operation_said operation.now)) }
-    ensures inside { IfOk result (λ laid. place layout.now.at + length laid.bytes.items ≤ END) }
+    ensures inside { IfOk result (λ laid. address_or_zero layout.now.at + length laid.bytes.items ≤ END) }
     ensures last { IfOk result (λ laid. laid.next ≤ END) }
     ensures reached { IfOk result
-        (λ laid. laid.next ≡ place (next_at (layout_said layout.now) line.now (Some (operation_said operation.now)))) }
+        (λ laid. laid.next
+        ≡ address_or_zero (next_at (layout_said layout.now) line.now (Some (operation_said operation.now)))) }
 {
     let directive = directive_of(operation.name.bytes(line));
     let scope = scope_of(symbols, layout, line, directive);
@@ -243,9 +244,9 @@ fn judged_by(
     ensures given { GivesAlone laid_said result
         (judged_by (layout_said layout.now) line.now label (operation_said operation.now) directive
         (scope_said scope.now) next) }
-    ensures inside { IfOk result (λ laid. place scope.now.at + length laid.bytes.items ≤ END) }
+    ensures inside { IfOk result (λ laid. address_or_zero scope.now.at + length laid.bytes.items ≤ END) }
     ensures last { IfOk result (λ laid. laid.next ≤ END) }
-    ensures reached { IfOk result (λ laid. laid.next ≡ place (if_known next)) }
+    ensures reached { IfOk result (λ laid. laid.next ≡ address_or_zero (if_known next)) }
 {
     let is_nameless = is_nameless(next, scope, operation);
     match admitted(layout, line, label, directive, is_nameless) {
@@ -275,9 +276,9 @@ fn judged_label(
 ) -> Result<Laid, Refusal>
     ensures given { GivesAlone laid_said result (judged_label (layout_said layout.now) line.now label) }
     ensures written { IfOk result (λ laid. laid.bytes.items ≡ []) }
-    ensures next { IfOk result (λ laid. laid.next ≡ place layout.now.at) }
+    ensures next { IfOk result (λ laid. laid.next ≡ address_or_zero layout.now.at) }
 {
-    let at = place(layout.at);
+    let at = address_or_zero(layout.at);
     refuse(is_again(layout, line, label), AsmKind::Twice)?;
     refuse(label.is_some() && at >= END, AsmKind::Place)?;
     Ok(Laid {
@@ -287,22 +288,24 @@ fn judged_label(
 }
 
 /// What the statement of a line writes, or the first fault that the line has.
-#[tactic(auto, unfolding(crate::specs::Judged::judged, crate::specs::Layouts::next_at))]
-pub(crate) fn judged(
+#[tactic(auto, unfolding(crate::specs::Judged::judged_line, crate::specs::Layouts::next_at))]
+pub(crate) fn judged_line(
     alloc: Global,
     symbols: &Symbols,
     layout: &Layout,
     line: &[u8],
     statement: &Option<Statement>,
 ) -> Result<Laid, Refusal>
-    requires { place layout.now.at ≤ END }
-    ensures given { GivesAlone laid_said result (judged (symbols_said symbols.now) (layout_said layout.now) line.now
+    requires { address_or_zero layout.now.at ≤ END }
+    ensures given { GivesAlone laid_said result
+        (judged_line (symbols_said symbols.now) (layout_said layout.now) line.now
         (option_map statement_said statement.now)) }
-    ensures inside { IfOk result (λ laid. place layout.now.at + length laid.bytes.items ≤ END) }
+    ensures inside { IfOk result (λ laid. address_or_zero layout.now.at + length laid.bytes.items ≤ END) }
     ensures next { IfOk result (λ laid. laid.next ≤ END) }
     ensures reached { IfOk result
         (λ laid. laid.next
-        ≡ place (after_statement (layout_said layout.now) line.now (option_map statement_said statement.now)).at) }
+        ≡ address_or_zero
+        (after_statement (layout_said layout.now) line.now (option_map statement_said statement.now)).at) }
 {
     let Some(statement) = statement else {
         return Err(Refusal::Kind(AsmKind::Syntax));

@@ -8,8 +8,8 @@ ghost use Rattle.mb_mnemonics.specs.Ranges.{values};
 ghost use Rattle.mb_asm.specs.Scopes.{scope_said};
 ghost use Rattle.mb_syntax.specs.Answers.{operation_said};
 ghost use Rattle.mb_asm.specs.Answers.{GivesAlone};
-ghost use Rattle.mb_asm.specs.Bytes.{bytes, bytes_of, dc_bytes, directive_bytes, has_out, instruction_bytes, is_out};
-ghost use Rattle.mb_asm.specs.Bytes.{bytes_there, item_bytes, items_bytes, settled_at, settled_bytes, text_bytes};
+ghost use Rattle.mb_asm.specs.Bytes.{operation_bytes, instr_bytes, dc_bytes, directive_bytes, has_out, instruction_bytes, is_out};
+ghost use Rattle.mb_asm.specs.Bytes.{bytes_there, item_bytes, items_bytes, known_address, bytes_where_known, text_bytes};
 ghost use Rattle.mb_asm.specs.Bytes.{unit_bytes};
 ghost use Rattle.mb_asm.specs.Bytes.{unit_range};
 
@@ -150,9 +150,9 @@ fn push_words(bytes: &mut Vec<u8>, words: &[u16]) -> Result<(), AllocError>
 }
 
 /// The bytes of an instruction's words.
-fn bytes_of(alloc: Global, instruction: &Instr) -> Result<Vec<u8>, AllocError>
+fn instr_bytes(alloc: Global, instruction: &Instr) -> Result<Vec<u8>, AllocError>
     requires { IsInstr instruction.now }
-    ensures { IfOk result (λ bytes. bytes.items ≡ bytes_of instruction.now) }
+    ensures { IfOk result (λ bytes. bytes.items ≡ instr_bytes instruction.now) }
 {
     let mut bytes = Vec::new(alloc);
     if let Ok(words) = encode(instruction) {
@@ -162,9 +162,9 @@ fn bytes_of(alloc: Global, instruction: &Instr) -> Result<Vec<u8>, AllocError>
 }
 
 /// The address of an instruction, where all that its numbers rest on is known.
-#[tactic(auto, unfolding(crate::specs::Bytes::settled_at))]
-fn settled_at(scope: &Scope, operation: &Operation) -> Option<u64>
-    ensures { result ≡ settled_at (scope_said scope.now) (operation_said operation.now) }
+#[tactic(auto, unfolding(crate::specs::Bytes::known_address))]
+fn known_address(scope: &Scope, operation: &Operation) -> Option<u64>
+    ensures { result ≡ known_address (scope_said scope.now) (operation_said operation.now) }
 {
     if have_flaw(Flaw::Unknown, scope, &operation.operands) {
         return None;
@@ -187,7 +187,7 @@ fn bytes_there(
     let name = operation.name.bytes(scope.line);
     let at = (at % 0x1_0000_0000) as u32;
     match instruction_of(name, operation.size, &values, at) {
-        Ok(instruction) => Ok(bytes_of(alloc, &instruction)?),
+        Ok(instruction) => Ok(instr_bytes(alloc, &instruction)?),
         Err(fault) => Err(Refusal::Kind(AsmKind::from(fault))),
     }
 }
@@ -211,14 +211,14 @@ fn has_out(alloc: Global, scope: &Scope, operation: &Operation) -> Result<bool, 
 }
 
 /// Of an instruction that rests on what is not known, the numbers that are known are judged.
-fn settled_bytes(
+fn bytes_where_known(
     alloc: Global,
     scope: &Scope,
     operation: &Operation,
     at: Option<u64>,
 ) -> Result<Vec<u8>, Refusal>
     ensures { GivesAlone (λ bytes. bytes.items) result
-        (settled_bytes (scope_said scope.now) (operation_said operation.now) at) }
+        (bytes_where_known (scope_said scope.now) (operation_said operation.now) at) }
 {
     match at {
         Some(at) => bytes_there(alloc, scope, operation, at),
@@ -236,8 +236,8 @@ fn instruction_bytes(
     ensures { GivesAlone (λ bytes. bytes.items) result
         (instruction_bytes (scope_said scope.now) (operation_said operation.now)) }
 {
-    let at = settled_at(scope, operation);
-    let bytes = settled_bytes(alloc, scope, operation, at)?;
+    let at = known_address(scope, operation);
+    let bytes = bytes_where_known(alloc, scope, operation, at)?;
     if have_flaw(Flaw::Wide, scope, &operation.operands) {
         return Err(Refusal::Kind(AsmKind::Range));
     }
@@ -245,9 +245,14 @@ fn instruction_bytes(
 }
 
 /// The bytes that an operation writes, with the symbols of all lines.
-#[tactic(auto, unfolding(crate::specs::Bytes::bytes))]
-pub(crate) fn bytes(alloc: Global, scope: &Scope, operation: &Operation) -> Result<Vec<u8>, Refusal>
-    ensures { GivesAlone (λ bytes. bytes.items) result (bytes (scope_said scope.now) (operation_said operation.now)) }
+#[tactic(auto, unfolding(crate::specs::Bytes::operation_bytes))]
+pub(crate) fn operation_bytes(
+    alloc: Global,
+    scope: &Scope,
+    operation: &Operation,
+) -> Result<Vec<u8>, Refusal>
+    ensures { GivesAlone (λ bytes. bytes.items) result
+        (operation_bytes (scope_said scope.now) (operation_said operation.now)) }
 {
     match directive_of(operation.name.bytes(scope.line)) {
         Some(Directive::Dc) => dc_bytes(alloc, scope, operation),

@@ -12,10 +12,10 @@ use Rattle.mb_instr.specs.Registers.{is_supervisor, plain_of}
 use Rattle.mb_model.specs.declared.processor.Cpu.{Cpu}
 use Rattle.mb_model.specs.Status.{space_of}
 use Rattle.mb_processor.specs.declared.Finish.TheVariants as finish
-use Rattle.mb_meaning.specs.Ends.{Carried, Stopped, Performed}
+use Rattle.mb_meaning.specs.Ends.{Carried, OtherEnd, Performed}
 use Rattle.mb_processor.specs.SystemEnds.{with_registers}
 use Rattle.mb_meaning.specs.Rows.{row_of, perform_of}
-use Rattle.mb_meaning.specs.Attempt.{Unfound, NoInstruction, Unfetched, found_none, Found, fetched_of, past, attempt_of}
+use Rattle.mb_meaning.specs.Attempt.{Unfound, NoInstruction, Unfetched, found_none, FoundInstr, fetched_of, past, attempt_of}
 use Rattle.mb_processor.specs.Raise.{is_due, trace_if_of, interrupt_of, refuse_of}
 use Rattle.mb_processor.specs.Step.{finish_instruction_of, execute_supervised_of, execute_unprivileged_of, execute_of, unfound_of, execute_next_of, interrupt_mask, rank, step_of}
 use Rattle.mb_attempts.specs.Attempts.{AttemptsPerform, AttemptsFindNone, is_attempted, NoOther, finished_by, AttemptThenFinish, IsUntraced, UntracedStepsGo}
@@ -23,7 +23,7 @@ use Rattle.mb_attempts.specs.Attempts.{AttemptsPerform, AttemptsFindNone, is_att
 -- ---- an attempt
 
 -- what an attempt does with an answer of the fetch
-abbrev carrying : {S : Type 0} → Bus S → Space → Plain → Found × S → Performed × S
+abbrev carrying : {S : Type 0} → Bus S → Space → Plain → FoundInstr × S → Performed × S
 carrying bus space p r =
     run bus (either r.0 (λ unfound. Return (found_none unfound p)) (λ found. perform_of found.0 p.pc space (past found.1 p))) r.1
 
@@ -67,7 +67,7 @@ none_found bus i (NoInstruction vector) cpu p t = refl
 none_found bus i (Unfetched refused) cpu p t = refl
 
 -- what a step does with an answer of the fetch
-by_found : {S : Type 0} (bus : Bus S) (cpu : Cpu) (i : Instr) (r : Found × S) → NoOther i r.0 → is_attempted i cpu ≡ true
+by_found : {S : Type 0} (bus : Bus S) (cpu : Cpu) (i : Instr) (r : FoundInstr × S) → NoOther i r.0 → is_attempted i cpu ≡ true
     → run bus (either r.0 (λ unfound. unfound_of unfound cpu) (λ found. execute_of found.0 found.1 cpu)) r.1
     ≡ finished_by bus i cpu (carrying bus (space_of cpu) (plain_of cpu.regs) r)
 by_found bus cpu i (Ok (j, n), t) h k =
@@ -99,10 +99,10 @@ finished_done bus i cpu q t done untraced e =
     ∙ ap (λ (due : Bool). run bus (trace_if_of finish.Went due cpu.regs.pc (with_registers done.plain cpu)) t) (none_due cpu done.flow untraced)
 
 -- what was stopped was not carried out
-not_done : {S : Type 0} (stop : Stopped) (done : Carried) (u t : S) → (let q : Performed × S = (Err stop, u) in q) ≡ (Ok done, t) → ⊥
+not_done : {S : Type 0} (stop : OtherEnd) (done : Carried) (u t : S) → (let q : Performed × S = (Err stop, u) in q) ≡ (Ok done, t) → ⊥
 not_done {S = S} stop done u t e = let z : Err stop ≡ Ok done = ap (λ (q : Performed × S). q.0) e in let y : ⊥ = cc in y
 
-goes_on : {S : Type 0} (bus : Bus S) (cpu : Cpu) (done : Carried) (t : S) (r : Found × S) → IsUntraced cpu
+goes_on : {S : Type 0} (bus : Bus S) (cpu : Cpu) (done : Carried) (t : S) (r : FoundInstr × S) → IsUntraced cpu
     → carrying bus (space_of cpu) (plain_of cpu.regs) r ≡ (Ok done, t)
     → run bus (either r.0 (λ unfound. unfound_of unfound cpu) (λ found. execute_of found.0 found.1 cpu)) r.1
     ≡ ((finish.Went, with_registers done.plain cpu), t)

@@ -12,7 +12,7 @@ use Rattle.mb_processor.specs.declared.Finish.TheVariants as finish
 use Rattle.mb_meaning.specs.Ends.{Carried, Performed, closed}
 use Rattle.mb_processor.specs.SystemEnds.{with_registers}
 use Rattle.mb_meaning.specs.Rows.{perform_of}
-use Rattle.mb_meaning.specs.Attempt.{Unfound, found_none, Found, fetched_of, past, attempt_of}
+use Rattle.mb_meaning.specs.Attempt.{Unfound, found_none, FoundInstr, fetched_of, past, attempt_of}
 use Rattle.mb_processor.specs.Raise.{Stepped, traces_all, traces_flow}
 use Rattle.mb_processor.specs.Step.{finish_instruction_of, interrupt_mask, rank, step_of}
 
@@ -38,12 +38,12 @@ is_attempted (instr.System i) cpu = not (is_supervisor cpu.regs.sr)
 is_attempted _ cpu = true
 
 -- no other instruction was found than this one
-abbrev pub NoOther : Instr → Found → Type 0
+abbrev pub NoOther : Instr → FoundInstr → Type 0
 NoOther i (Ok (found, _)) = found ≡ i
 NoOther i (Err unfound) = Unit {0}
 
 -- the fetch of a step, and its attempt
-abbrev pub fetched_by : {S : Type 0} → Bus S → Cpu → S → Found × S
+abbrev pub fetched_by : {S : Type 0} → Bus S → Cpu → S → FoundInstr × S
 fetched_by bus cpu s = run bus (fetched_of (space_of cpu) cpu.regs.pc) s
 
 abbrev pub attempted_by : {S : Type 0} → Bus S → Cpu → S → Performed × S

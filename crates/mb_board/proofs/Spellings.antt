@@ -2,14 +2,14 @@
 use Rattle.std.specs.Prelude.{All}
 use Rattle.std.proofs.Common.{◌≡◌, ◌∙◌, ℕ, ◌+◌, ◌*◌, ◌%◌, ◌^◌, ◌<◌, List, [], ◌∷◌, ◌++◌, length, get_or, length-append, ap, sym, zero-mul, arith}
 use Rattle.mb_instr.specs.declared.registers.Plain.{Plain}
-use Rattle.vm_meaning.specs.Marks.{numbers_of, with_numbers, spelled, with_spelled, trail, HasNumbers}
+use Rattle.vm_meaning.specs.Marks.{numbers_of, sum_with_all, spelled, with_spelled, trail, HasNumbers}
 use Rattle.vm_meaning.proofs.Spellings.{sum-spells, numbers-append, trails-by_spelling}
 use Rattle.mb_board.specs.Spelling.{Spell}
 
 eight : (t a b c d e f g h : ℕ) → t < 2 ^ 64
     → ((t * 852891037441 % 2 ^ 64 + a * 27512614111 % 2 ^ 64) % 2 ^ 64
     + (b * 887503681 + c * 28629151 + d * 923521 + e * 29791 + f * 961 + g * 31 + h)) % 2 ^ 64
-    ≡ with_numbers t (a ∷ b ∷ c ∷ d ∷ e ∷ f ∷ g ∷ h ∷ [])
+    ≡ sum_with_all t (a ∷ b ∷ c ∷ d ∷ e ∷ f ∷ g ∷ h ∷ [])
 eight t a b c d e f g h less =
     let powers : (t * 31 ^ 8 + spelled (a ∷ b ∷ c ∷ d ∷ e ∷ f ∷ g ∷ h ∷ [])) % 2 ^ 64
     ≡ ((t * 852891037441 % 2 ^ 64 + a * 27512614111 % 2 ^ 64) % 2 ^ 64
@@ -21,12 +21,12 @@ pub eight-at_once : (t : ℕ) (xs : List ℕ) → length xs ≡ 8 → t < 2 ^ 64
     → ((t * 852891037441 % 2 ^ 64 + get_or xs 0 0 * 27512614111 % 2 ^ 64) % 2 ^ 64
     + (get_or xs 1 0 * 887503681 + get_or xs 2 0 * 28629151 + get_or xs 3 0 * 923521 + get_or xs 4 0 * 29791 + get_or xs 5 0 * 961
     + get_or xs 6 0 * 31 + get_or xs 7 0)) % 2 ^ 64
-    ≡ with_numbers t xs
+    ≡ sum_with_all t xs
 eight-at_once t (a ∷ b ∷ c ∷ d ∷ e ∷ f ∷ g ∷ h ∷ []) n less = eight t a b c d e f g h less
 eight-at_once t _ n less = absurd (omega arith)
 
 -- two numbers at once
-pub two-at_once : (t pc ccr : ℕ) → (t * 961 % 2 ^ 64 + (pc * 31 + ccr)) % 2 ^ 64 ≡ with_numbers t (pc ∷ ccr ∷ [])
+pub two-at_once : (t pc ccr : ℕ) → (t * 961 % 2 ^ 64 + (pc * 31 + ccr)) % 2 ^ 64 ≡ sum_with_all t (pc ∷ ccr ∷ [])
 two-at_once t pc ccr = omega arith
 
 remainder_of : (x y : ℕ) → x % 2 ^ 64 ≡ (0 * y + x) % 2 ^ 64
@@ -39,17 +39,17 @@ has_eighteen p d a =
 
 -- what registers spell is the sum over all their numbers
 pub sum-is_spelled : (p : Plain) (sum front whole : ℕ) → length p.d ≡ 8 → length p.a ≡ 8 → All (λ v. v < 2 ^ 32) p.d
-    → All (λ v. v < 2 ^ 32) p.a → p.pc < 2 ^ 32 → front ≡ with_numbers 0 p.d
-    → whole ≡ with_numbers front p.a → sum ≡ (whole * 961 % 2 ^ 64 + (p.pc * 31 + p.ccr)) % 2 ^ 64 → Spell p sum
+    → All (λ v. v < 2 ^ 32) p.a → p.pc < 2 ^ 32 → front ≡ sum_with_all 0 p.d
+    → whole ≡ sum_with_all front p.a → sum ≡ (whole * 961 % 2 ^ 64 + (p.pc * 31 + p.ccr)) % 2 ^ 64 → Spell p sum
 sum-is_spelled p sum front whole n m x y counter d a e =
     let tail = p.pc ∷ p.ccr ∷ [] in
     let all = numbers_of p in
-    let behind : whole ≡ with_numbers (with_numbers 0 p.d) p.a = a ∙ ap (λ (t : ℕ). with_numbers t p.a) d in record {
+    let behind : whole ≡ sum_with_all (sum_with_all 0 p.d) p.a = a ∙ ap (λ (t : ℕ). sum_with_all t p.a) d in record {
       numbers = has_eighteen p n m;
       fit = record { longs = (x, y); eight = m; counter = counter };
       remainder =
-          e ∙ two-at_once whole p.pc p.ccr ∙ ap (λ (t : ℕ). with_numbers t tail) behind
-          ∙ ap (λ (t : ℕ). with_numbers t tail) (sym (numbers-append 0 p.d p.a)) ∙ sym (numbers-append 0 (p.d ++ p.a) tail)
+          e ∙ two-at_once whole p.pc p.ccr ∙ ap (λ (t : ℕ). sum_with_all t tail) behind
+          ∙ ap (λ (t : ℕ). sum_with_all t tail) (sym (numbers-append 0 p.d p.a)) ∙ sym (numbers-append 0 (p.d ++ p.a) tail)
           ∙ sum-spells all 0 (omega arith) ∙ sym (remainder_of (spelled all) (31 ^ length all));
     }
 

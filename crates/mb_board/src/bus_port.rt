@@ -131,7 +131,7 @@ impl Port for BoardBus {
         *self.translator.mmu()
     }
 
-    #[tactic(auto, unfolding(mb_machine::specs::Bus::bus_of, mb_machine::specs::Bus::with_register))]
+    #[tactic(auto, unfolding(mb_machine::specs::Bus::bus_of, mb_machine::specs::Bus::after_set_mmu))]
     fn set_mmu(&mut self, which: MmuReg, value: u32) {
         self.translator
             .set_mmu(which, value & ControlRegister::Mmu(which).kept_bits());

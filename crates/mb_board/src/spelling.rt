@@ -1,7 +1,7 @@
 //! What registers spell: the digits of a number in base 31.
 
 ghost use Rattle.std.specs.Prelude.{◌≡◌, ◌<◌, ◌^◌, length, All};
-ghost use Rattle.vm_meaning.specs.Marks.{with_numbers};
+ghost use Rattle.vm_meaning.specs.Marks.{sum_with_all};
 ghost use Rattle.mb_board.specs.Spelling.{Spell};
 
 use mb_instr::Plain;
@@ -10,7 +10,7 @@ use mb_instr::Plain;
 #[inline(always)]
 #[tactic(auto, using(crate::proofs::Spellings::spellings))]
 fn with_eight(sum: u64, numbers: &[u32; 8]) -> u64
-    ensures means { result ≡ with_numbers sum numbers.now }
+    ensures means { result ≡ sum_with_all sum numbers.now }
     ensures eight { length numbers.now ≡ 8 }
     ensures longs { All (λ v. v < 2 ^ 32) numbers.now }
 {

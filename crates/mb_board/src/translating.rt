@@ -2,7 +2,7 @@
 
 ghost use Rattle.std.specs.Prelude.{◌≡◌, ◌<◌, ◌^◌, length, IfSome, Some, true};
 ghost use Rattle.mb_port.specs.Pieces.{IsPiece};
-ghost use Rattle.mb_model.specs.Keeping.{dropped, rule_a};
+ghost use Rattle.mb_model.specs.Keeping.{after_ptest, rule_a};
 ghost use Rattle.mb_model.specs.Pages.{page_of as page_number};
 ghost use Rattle.mb_machine.specs.Access.{searched, translated};
 ghost use Rattle.mb_machine.specs.Bus.{tested};
@@ -78,7 +78,7 @@ impl BoardBus {
     /// What PTEST drops of a page, and of the other half of it where pages have 8 KiB.
     fn drop_halves(&mut self, space: Space, page: u32, big: bool)
         requires { page < 2 ^ 20 }
-        ensures { self.new ≡ record self.old { kept = dropped big space page self.old.kept } }
+        ensures { self.new ≡ record self.old { kept = after_ptest big space page self.old.kept } }
     {
         self.translator.flush(Flush::Page(space, page));
         if big {

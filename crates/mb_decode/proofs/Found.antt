@@ -10,7 +10,7 @@ use Rattle.mb_instr.specs.declared.operand.Ext.{Ext}
 use Rattle.mb_instr.specs.declared.operand.OperandClass.{OperandClass}
 use Rattle.mb_instr.specs.declared.operand.OperandClass.TheVariants.{All, Data, Alterable, DataAlterable, DataAlterableOrPc, MemoryAlterable, Control}
 use Rattle.mb_instr.specs.declared.operand.OperandClass.TheVariants.{ControlAlterable, StoreList, LoadList, FieldSource, FieldTarget}
-use Rattle.mb_instr.specs.Operands.{allows, mode, lower, more, is_spelled, long, wide, fits, is_full, is_ext, ext, is_immediate, immediate}
+use Rattle.mb_instr.specs.Operands.{allows, mode, lower, more, is_spelled, long_words, wide, fits_width, is_full, is_ext, ext, is_immediate, immediate}
 use Rattle.mb_instr.specs.Codes.{AreWords}
 use Rattle.mb_instr.proofs.Words.{AreWords-head, AreWords-tail}
 use Rattle.mb_decode.specs.declared.reading.Stop.{Stop}
@@ -60,7 +60,7 @@ pub word_found : (ws : List ℕ) (w : ℕ) (rest : List ℕ) → AreWords ws →
 word_found ws w rest h e = subst (FoundWord ws) e (word_cases ws h)
 
 abbrev FoundLong : List ℕ → Result (ℕ × List ℕ) Stop → Type 0
-FoundLong ws (Ok x) = Takes ws (long x.0) x.1
+FoundLong ws (Ok x) = Takes ws (long_words x.0) x.1
 FoundLong ws (Err e) = Unit {0}
 
 long_cases : (ws : List ℕ) → AreWords ws → FoundLong ws (long_at ws)
@@ -74,11 +74,11 @@ long_cases ws h =
     let lo : (high * 65536 + low) % 65536 ≡ low = omega arith in
     record { parts = rw (hi, lo, a.1.parts, b.1.parts) refl; rest_words = b.1.rest_words }))
 
-pub long_found : (ws : List ℕ) (v : ℕ) (rest : List ℕ) → AreWords ws → long_at ws ≡ Ok (v, rest) → Takes ws (long v) rest
+pub long_found : (ws : List ℕ) (v : ℕ) (rest : List ℕ) → AreWords ws → long_at ws ≡ Ok (v, rest) → Takes ws (long_words v) rest
 long_found ws v rest h e = subst (FoundLong ws) e (long_cases ws h)
 
 wide_of : (two three : Bool) (ws : List ℕ) (v : ℕ) (rest : List ℕ) → AreWords ws → cond two word_at (cond three long_at (give 0)) ws ≡ Ok (v, rest) →
-    (cond two (nat_lt v 65536) (cond three true (v == 0)) ≡ true) × Takes ws (cond two (v ∷ []) (cond three (long v) [])) rest
+    (cond two (nat_lt v 65536) (cond three true (v == 0)) ≡ true) × Takes ws (cond two (v ∷ []) (cond three (long_words v) [])) rest
 wide_of true three ws v rest h e = let a = word_found ws v rest h e in let l = a.0 in (grind (arith, nat_tests), a.1)
 wide_of false true ws v rest h e = (refl, long_found ws v rest h e)
 wide_of false false ws v rest h e =
@@ -87,7 +87,7 @@ wide_of false false ws v rest h e =
     (rw (← v-is) refl, record { parts = rest-is; rest_words = rw (← rest-is) h })
 
 pub wide_found : (width : ℕ) (ws : List ℕ) (v : ℕ) (rest : List ℕ) → AreWords ws → wide_at width ws ≡ Ok (v, rest) →
-    (fits width v ≡ true) × Takes ws (wide width v) rest
+    (fits_width width v ≡ true) × Takes ws (wide width v) rest
 unfolding wide_at
 wide_found width ws v rest h e = wide_of (width == 2) (width == 3) ws v rest h e
 

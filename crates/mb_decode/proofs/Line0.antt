@@ -27,7 +27,7 @@ use Rattle.mb_decode.proofs.Found.{after, eq_true, eq_false}
 use Rattle.mb_decode.proofs.Steady.{then_steady, always, made_steady, made_readable, ruled_steady, ruled_readable}
 use Rattle.mb_decode.proofs.Shapes.{Found, Shape, none, either, equal, equals, below, only, by_size_shape, op_is, guarded, made_row, Same, made_row_if}
 use Rattle.mb_decode.proofs.Shapes.{word_ea_row, immediate_ea_row, word_shape, ruled_found, both, joined, ea_shape, word_ea_shape, immediate_ea_shape}
-use Rattle.mb_decode.specs.RowReading.{movep_0, bit_register_0, odd_0, bounds_of, cas_size, bounds_0, cas2_0, cas_0, immediate_of, to_ccr_of, to_sr_of}
+use Rattle.mb_decode.specs.RowReading.{movep_0, bit_register_0, odd_0, bounds_instr, cas_size, bounds_0, cas2_0, cas_0, immediate_instr, to_ccr_instr, to_sr_instr}
 use Rattle.mb_decode.specs.RowReading.{status_0, immediate_0}
 use Rattle.mb_decode.specs.RowReading.{cmpi_0, moves_0, bit_0, even_0, line_0}
 use Rattle.mb_decode.proofs.Fields.{under_4, under_8, not_three, not_byte_of_bit, bit_kind_is, bit_kind_of, not_address, not_address_data, not_immediate}
@@ -67,7 +67,7 @@ bit_imm_read k ea w rest h =
 
 -- CMP2 and CHK2: bit 11 of the word tells which
 bounds_again : (s : Size) (ea : Ea) (w : ℕ) (rest : List ℕ) → (holds rule.RegisterAndBit w && takes Control s ea) ≡ true →
-    line_0 (op 0 (size_bits s) 0 3 (mode ea) (lower ea)) (w ∷ more s ea ++ rest) ≡ Ok (bounds_of s w ea, rest)
+    line_0 (op 0 (size_bits s) 0 3 (mode ea) (lower ea)) (w ∷ more s ea ++ rest) ≡ Ok (bounds_instr s w ea, rest)
 unfolding line_0 even_0 bounds_0
 bounds_again size.Byte ea w rest h = next _ _ _ _ _ (word_ea_read rule.RegisterAndBit Control size.Byte 0 0 0 3 w ea rest h)
 bounds_again size.Word ea w rest h = next _ _ _ _ _ (word_ea_read rule.RegisterAndBit Control size.Word 0 1 0 3 w ea rest h)
@@ -133,7 +133,7 @@ cas2_read size.Long w v rest h =
 -- ORI, ANDI, SUBI, ADDI, EORI
 pub immediate_again : (n : ℕ) (s : Size) (ea : Ea) (v : ℕ) (rest : List ℕ) → (is_immediate s v && takes DataAlterable s ea) ≡ true → (n == 4) ≡ false →
     (n == 6) ≡ false → (n == 7) ≡ false →
-    line_0 (op 0 n 0 (size_bits s) (mode ea) (lower ea)) ((immediate s v ++ more s ea) ++ rest) ≡ Ok (immediate_of n s v ea, rest)
+    line_0 (op 0 n 0 (size_bits s) (mode ea) (lower ea)) ((immediate s v ++ more s ea) ++ rest) ≡ Ok (immediate_instr n s v ea, rest)
 unfolding line_0 even_0 immediate_0
 immediate_again n s ea v rest h n4 n6 n7 =
     let class = (taken DataAlterable s ea (and_is (is_immediate s v) (takes DataAlterable s ea) h).1).0 in
@@ -142,12 +142,12 @@ immediate_again n s ea v rest h n4 n6 n7 =
     rw (n4, n6, n7, size, operand) (next _ _ _ _ _ (immediate_ea_read DataAlterable 0 n 0 s v ea rest h))
 
 pub ccr_again : (n w : ℕ) (rest : List ℕ) → (n == 4) ≡ false → (n == 6) ≡ false → (n == 7) ≡ false → ((n == 2) || (n == 3)) ≡ false →
-    line_0 (op 0 n 0 0 7 4) (w ∷ rest) ≡ Ok (to_ccr_of n w, rest)
+    line_0 (op 0 n 0 0 7 4) (w ∷ rest) ≡ Ok (to_ccr_instr n w, rest)
 unfolding line_0 even_0 immediate_0 status_0
 ccr_again n w rest n4 n6 n7 other = rw (n4, n6, n7, other) (next _ _ _ _ _ (word_read w rest))
 
 pub sr_again : (n w : ℕ) (rest : List ℕ) → (n == 4) ≡ false → (n == 6) ≡ false → (n == 7) ≡ false → ((n == 2) || (n == 3)) ≡ false →
-    line_0 (op 0 n 0 1 7 4) (w ∷ rest) ≡ Ok (to_sr_of n w, rest)
+    line_0 (op 0 n 0 1 7 4) (w ∷ rest) ≡ Ok (to_sr_instr n w, rest)
 unfolding line_0 even_0 immediate_0 status_0
 sr_again n w rest n4 n6 n7 other = rw (n4, n6, n7, other) (next _ _ _ _ _ (word_read w rest))
 
@@ -239,7 +239,7 @@ or_false false b e = (refl, e)
 
 -- each of the rows that bits 11 to 9 tell apart
 abbrev ImmediateRow : ℕ → Type 0
-ImmediateRow n = (x : Size × ℕ × Ea) → row (immediate_of n x.0 x.1 x.2) ≡ immediate_ea_row DataAlterable 0 n 0 x
+ImmediateRow n = (x : Size × ℕ × Ea) → row (immediate_instr n x.0 x.1 x.2) ≡ immediate_ea_row DataAlterable 0 n 0 x
 
 immediate_row : (n : ℕ) → n < 8 → n < 6 → n ≢ 4 → ImmediateRow n
 immediate_row n h = under_8 (λ n. n < 6 → n ≢ 4 → ImmediateRow n)
@@ -247,7 +247,7 @@ immediate_row n h = under_8 (λ n. n < 6 → n ≢ 4 → ImmediateRow n)
     (λ a b. absurd (omega arith)) (λ a b. absurd (omega arith)) n h
 
 abbrev StatusRow : ℕ → Type 0
-StatusRow n = ((w : ℕ) → row (to_ccr_of n w) ≡ with_word (op 0 n 0 0 7 4) w) × ((w : ℕ) → row (to_sr_of n w) ≡ with_word (op 0 n 0 1 7 4) w)
+StatusRow n = ((w : ℕ) → row (to_ccr_instr n w) ≡ with_word (op 0 n 0 0 7 4) w) × ((w : ℕ) → row (to_sr_instr n w) ≡ with_word (op 0 n 0 1 7 4) w)
 
 status_row : (n : ℕ) → n < 8 → n < 6 → n ≢ 2 → n ≢ 3 → n ≢ 4 → StatusRow n
 status_row n h = under_8 (λ n. n < 6 → n ≢ 2 → n ≢ 3 → n ≢ 4 → StatusRow n)

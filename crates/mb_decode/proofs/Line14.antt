@@ -22,7 +22,7 @@ use Rattle.mb_instr.specs.Shapes.{op, is_quick}
 use Rattle.mb_instr.specs.Rows.{row, count_field}
 use Rattle.mb_decode.proofs.ReadBack.{next, by_size_read, ea_read, word_ea_read}
 use Rattle.mb_decode.proofs.Shapes.{Shape, equal, below, by_size_shape, op_is, made_row, given_when, ea_shape, word_ea_shape}
-use Rattle.mb_decode.specs.RowReading.{count_of, field_of, shift_14, shift_mem_14, field_14, line_14}
+use Rattle.mb_decode.specs.RowReading.{shift_count, field_kind_in, shift_14, shift_mem_14, field_14, line_14}
 use Rattle.mb_decode.proofs.Fields.{under_8, not_three, flag_is, flag_of, shift_kind_is, shift_kind_of, shift_low, quick_again, is_quick_of, quick_field}
 use Rattle.mb_decode.proofs.Fields.{test_holds}
 
@@ -48,7 +48,7 @@ shift_as false shift.Logical = refl
 shift_as false shift.RotateExtended = refl
 shift_as false shift.Rotate = refl
 
-count_again : (i : Bool) (n : ℕ) → (i || is_quick n) ≡ true → count_of i (count_field i n) ≡ n
+count_again : (i : Bool) (n : ℕ) → (i || is_quick n) ≡ true → shift_count i (count_field i n) ≡ n
 count_again true n h = refl
 count_again false n h = quick_again n h
 
@@ -86,11 +86,11 @@ field_read field.Insert ea w rest h = next _ _ _ _ _ (word_ea_read rule.Field Fi
 
 -- ---- what is read
 
-count_legal : (i : Bool) (n : ℕ) → n < 8 → (i || is_quick (count_of i n)) ≡ true
+count_legal : (i : Bool) (n : ℕ) → n < 8 → (i || is_quick (shift_count i n)) ≡ true
 count_legal true n h = refl
 count_legal false n h = is_quick_of n h
 
-count_fits : (i : Bool) (n : ℕ) → n < 8 → n ≡ count_field i (count_of i n)
+count_fits : (i : Bool) (n : ℕ) → n < 8 → n ≡ count_field i (shift_count i n)
 count_fits true n h = refl
 count_fits false n h = quick_field n h
 
@@ -118,9 +118,9 @@ field_14_shape p is line wide high =
     let up = is.upper in
     let below = is.bit in
     let same = field_bits_of (p.upper % 4 * 2 + p.bit) (omega arith) in
-    let upper : p.upper ≡ 4 + field_bits (field_of p) / 2 = omega arith in
-    let bit : p.bit ≡ field_bits (field_of p) % 2 = omega arith in
-    made_row _ p _ _ (word_ea_shape p (field_rule (field_of p)) (field_class (field_of p)) size.Long 14 _ _ 3 is line upper bit wide) (λ x. refl)
+    let upper : p.upper ≡ 4 + field_bits (field_kind_in p) / 2 = omega arith in
+    let bit : p.bit ≡ field_bits (field_kind_in p) % 2 = omega arith in
+    made_row _ p _ _ (word_ea_shape p (field_rule (field_kind_in p)) (field_class (field_kind_in p)) size.Long 14 _ _ 3 is line upper bit wide) (λ x. refl)
 
 pub line_14_shape : (p : Opcode) → IsOpcode p → p.line ≡ 14 → Shape row p (line_14 p)
 unfolding line_14

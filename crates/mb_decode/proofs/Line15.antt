@@ -14,14 +14,14 @@ use Rattle.mb_instr.specs.declared.opcode.Opcode.{Opcode}
 use Rattle.mb_instr.specs.Kinds.{flag, line_bits, caches_bits, caches_kind, scope_bits, scope_kind, flush_bits}
 use Rattle.mb_instr.specs.Rules.{holds}
 use Rattle.mb_instr.specs.Opcodes.{IsOpcode}
-use Rattle.mb_instr.specs.Operands.{long}
+use Rattle.mb_instr.specs.Operands.{long_words}
 use Rattle.mb_instr.specs.Shapes.{op, bare}
 use Rattle.mb_instr.specs.Rows.{row}
 use Rattle.mb_decode.proofs.ReadBack.{and_is, next, long_read, ruled_read}
 use Rattle.mb_decode.proofs.Found.{eq_true}
 use Rattle.mb_decode.proofs.Shapes.{Shape, none, either, equal, equals, below, op_is, made_row, given, long_shape, ruled_shape}
 use Rattle.mb_decode.specs.Reading.{give, illegal}
-use Rattle.mb_decode.specs.RowReading.{cached_of, caches_15, translation_15, lines_15, line_15}
+use Rattle.mb_decode.specs.RowReading.{cached_instr, caches_15, translation_15, lines_15, line_15}
 use Rattle.mb_decode.proofs.Fields.{under_4, under_8, line_kind_is, line_kind_of, line_low, caches_kind_is, caches_kind_of, flush_kind_is, flush_kind_of}
 use Rattle.mb_decode.proofs.Fields.{flush_low}
 
@@ -53,7 +53,8 @@ unfolding line_15 translation_15
 ptest_read true a rest = refl
 ptest_read false a rest = refl
 
-pub move16_abs_read : (k : LineMove) (a l : ℕ) (rest : List ℕ) → line_15 (op 15 3 0 0 (line_bits k) a) (long l ++ rest) ≡ Ok (Move (move.Move16Abs k a l), rest)
+pub move16_abs_read : (k : LineMove) (a l : ℕ) (rest : List ℕ) → line_15 (op 15 3 0 0 (line_bits k) a) (long_words l ++ rest)
+    ≡ Ok (Move (move.Move16Abs k a l), rest)
 unfolding line_15 lines_15
 move16_abs_read k a l rest =
     let low = line_low k in
@@ -74,7 +75,7 @@ scope_is : (n : ℕ) → n < 4 → ScopeIs n (scope_kind n)
 scope_is n h = under_4 (λ n. ScopeIs n (scope_kind n)) tt refl refl refl n h
 
 cached_row : (push : Bool) (c : Caches) (s : CacheScope) (a : ℕ) →
-    row (cached_of push c s a) ≡ bare (op 15 2 0 (caches_bits c) (flag push * 4 + scope_bits s) a)
+    row (cached_instr push c s a) ≡ bare (op 15 2 0 (caches_bits c) (flag push * 4 + scope_bits s) a)
 cached_row true c s a = refl
 cached_row false c scope.Line a = refl
 cached_row false c scope.Page a = refl
@@ -84,7 +85,7 @@ mode_halves : (n : ℕ) → n < 8 → n ≡ flag (nat_lt 3 n) * 4 + n % 4
 mode_halves n h = under_8 (λ n. n ≡ flag (nat_lt 3 n) * 4 + n % 4) refl refl refl refl refl refl refl refl n h
 
 caches_cases : (p : Opcode) (o : Option CacheScope) → IsOpcode p → p.line ≡ 15 → p.upper ≡ 2 → p.bit ≡ 0 → ScopeIs (p.mode % 4) o →
-    Shape row p (elim o [ Some s ↦ give (cached_of (nat_lt 3 p.mode) (caches_kind p.size) s p.lower) | None ↦ illegal ])
+    Shape row p (elim o [ Some s ↦ give (cached_instr (nat_lt 3 p.mode) (caches_kind p.size) s p.lower) | None ↦ illegal ])
 caches_cases p (Some s) is line upper bit e =
     let mode : p.mode ≡ flag (nat_lt 3 p.mode) * 4 + scope_bits s = rw e (mode_halves p.mode is.mode) in
     given p _ _ (cached_row (nat_lt 3 p.mode) (caches_kind p.size) s p.lower)

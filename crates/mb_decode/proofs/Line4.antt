@@ -17,14 +17,14 @@ use Rattle.mb_instr.specs.Sizes.{size_bits, chk_bits, long_bit, size_of_bit, not
 use Rattle.mb_instr.specs.Kinds.{flag}
 use Rattle.mb_instr.specs.Rules.{holds}
 use Rattle.mb_instr.specs.Opcodes.{IsOpcode}
-use Rattle.mb_instr.specs.Operands.{takes, mode, lower, more, long}
+use Rattle.mb_instr.specs.Operands.{takes, mode, lower, more, long_words}
 use Rattle.mb_instr.specs.Shapes.{op, bare, at_ea}
 use Rattle.mb_instr.specs.Rows.{row}
 use Rattle.mb_decode.proofs.ReadBack.{next, unmet, word_read, long_read, taken, ruled_read, ea_read, sized_read, word_ea_read}
 use Rattle.mb_decode.proofs.Shapes.{Shape, none, equal, equals, below, above, only, op_is, guarded, made_row, given, given_when, sized_row, word_ea_row}
 use Rattle.mb_decode.proofs.Shapes.{word_shape, long_shape, ruled_shape, ea_shape, sized_shape, word_ea_shape}
-use Rattle.mb_decode.specs.RowReading.{unary_of, unary_4, status_class, status_of, status_4, nbcd_4, pea_4, extend_of, movem_store_4, tst_4}
-use Rattle.mb_decode.specs.RowReading.{long_pair_of, long_pair_4, movem_load_4, jump_of, jump_4, single_4, movec_4, system_4, even_4}
+use Rattle.mb_decode.specs.RowReading.{unary_instr, unary_4, status_class, status_instr, status_4, nbcd_4, pea_4, extend_instr, movem_store_4, tst_4}
+use Rattle.mb_decode.specs.RowReading.{long_pair_instr, long_pair_4, movem_load_4, jump_instr, jump_4, single_4, movec_4, system_4, even_4}
 use Rattle.mb_decode.specs.RowReading.{lea_4, chk_size, chk_4, odd_4, line_4}
 use Rattle.mb_decode.proofs.Fields.{under_2, under_4, under_8, not_three, not_register_control, not_register_store, not_address, not_byte_of_bit, high_size}
 use Rattle.mb_decode.proofs.Fields.{and_false, test_holds}
@@ -33,13 +33,13 @@ use Rattle.mb_decode.proofs.Fields.{and_false, test_holds}
 
 -- NEGX, CLR, NEG, NOT
 pub unary_again : (n : ℕ) (s : Size) (ea : Ea) (rest : List ℕ) → takes DataAlterable s ea ≡ true → nat_lt n 4 ≡ true →
-    line_4 (op 4 n 0 (size_bits s) (mode ea) (lower ea)) (more s ea ++ rest) ≡ Ok (unary_of n s ea, rest)
+    line_4 (op 4 n 0 (size_bits s) (mode ea) (lower ea)) (more s ea ++ rest) ≡ Ok (unary_instr n s ea, rest)
 unfolding line_4 even_4 unary_4
 unary_again n s ea rest h low = let size = not_three s in rw (low, size) (next _ _ _ _ _ (sized_read DataAlterable 4 n 0 s ea rest h))
 
 -- MOVE from and to the status registers
 pub status_again : (n : ℕ) (ea : Ea) (rest : List ℕ) → takes (status_class n) size.Word ea ≡ true → nat_lt n 4 ≡ true →
-    line_4 (op 4 n 0 3 (mode ea) (lower ea)) (more size.Word ea ++ rest) ≡ Ok (status_of n ea, rest)
+    line_4 (op 4 n 0 3 (mode ea) (lower ea)) (more size.Word ea ++ rest) ≡ Ok (status_instr n ea, rest)
 unfolding line_4 even_4 status_4
 status_again n ea rest h low = rw low (next _ _ _ _ _ (ea_read (status_class n) size.Word 4 n 0 3 ea rest h))
 
@@ -77,7 +77,7 @@ pub div_read : (ea : Ea) (w : ℕ) (rest : List ℕ) → (holds rule.LongPair w 
 unfolding line_4 even_4 long_pair_4
 div_read ea w rest h = next _ _ _ _ _ (word_ea_read rule.LongPair Data size.Long 4 6 0 1 w ea rest h)
 
-pub link_long_read : (a d : ℕ) (rest : List ℕ) → line_4 (op 4 4 0 0 1 a) (long d ++ rest) ≡ Ok (Move (move.LinkL a d), rest)
+pub link_long_read : (a d : ℕ) (rest : List ℕ) → line_4 (op 4 4 0 0 1 a) (long_words d ++ rest) ≡ Ok (Move (move.LinkL a d), rest)
 unfolding line_4 even_4 nbcd_4
 link_long_read a d rest = next _ _ _ _ _ (long_read d rest)
 
@@ -216,7 +216,7 @@ pea_4_shape p is line upper bit f =
     made_row _ p _ _ (ea_shape p Control size.Long 4 4 0 1 is line upper bit f) (λ ea. refl))
 
 abbrev ExtendRow : ℕ → Type 0
-ExtendRow n = 2 ≤ n → (d : ℕ) → row (extend_of n d) ≡ bare (op 4 4 0 n 0 d)
+ExtendRow n = 2 ≤ n → (d : ℕ) → row (extend_instr n d) ≡ bare (op 4 4 0 n 0 d)
 
 extend_row : (n : ℕ) → n < 4 → ExtendRow n
 extend_row n h = under_4 ExtendRow (λ z. absurd (omega arith)) (λ z. absurd (omega arith)) (λ z d. refl) (λ z d. refl) n h
@@ -224,11 +224,11 @@ extend_row n h = under_4 ExtendRow (λ z. absurd (omega arith)) (λ z. absurd (o
 movem_store_4_shape : (p : Opcode) → IsOpcode p → p.line ≡ 4 → p.upper ≡ 4 → p.bit ≡ 0 → 2 ≤ p.size → Shape row p (movem_store_4 p)
 unfolding movem_store_4
 movem_store_4_shape p is line upper bit high =
-    let long = size_of_bit (p.size % 2) in
+    let long_words = size_of_bit (p.size % 2) in
     equal row p p.mode 0 _ _
     (λ mode. given p _ _ (extend_row p.size is.size high p.lower) (op_is p 4 4 0 _ 0 p.lower line upper bit refl mode refl)) (λ n.
     made_row _ p _ _ (guarded _ p _ _ (not_byte_of_bit (p.size % 2) (omega arith))
-    (word_ea_shape p rule.Any StoreList long 4 4 0 _ is line upper bit (high_size p.size is.size high))) (λ x. refl))
+    (word_ea_shape p rule.Any StoreList long_words 4 4 0 _ is line upper bit (high_size p.size is.size high))) (λ x. refl))
 
 single_4_shape : (p : Opcode) → IsOpcode p → p.line ≡ 4 → p.upper ≡ 7 → p.bit ≡ 0 → p.size ≡ 1 → p.mode ≡ 6 → Shape row p (single_4 p)
 unfolding single_4
@@ -279,7 +279,7 @@ system_4_shape p is line upper bit size =
     given p _ _ refl (op_is p 4 7 0 1 _ p.lower line upper bit size (usp_mode p.mode is.mode m n2 n3 n6 n7) refl))))))
 
 abbrev UnaryRow : ℕ → Type 0
-UnaryRow n = (x : Size × Ea) → row (unary_of n x.0 x.1) ≡ sized_row DataAlterable 4 n 0 x
+UnaryRow n = (x : Size × Ea) → row (unary_instr n x.0 x.1) ≡ sized_row DataAlterable 4 n 0 x
 
 unary_4_shape : (p : Opcode) → IsOpcode p → p.line ≡ 4 → p.upper < 4 → p.bit ≡ 0 → Shape row p (unary_4 p)
 unfolding unary_4
@@ -287,7 +287,7 @@ unary_4_shape p is line low bit =
     made_row _ p _ _ (sized_shape p DataAlterable 4 p.upper 0 is line refl bit) (under_4 UnaryRow (λ x. refl) (λ x. refl) (λ x. refl) (λ x. refl) p.upper low)
 
 abbrev StatusRow : ℕ → Type 0
-StatusRow n = (ea : Ea) → row (status_of n ea) ≡ at_ea (status_class n) size.Word 4 n 0 3 ea
+StatusRow n = (ea : Ea) → row (status_instr n ea) ≡ at_ea (status_class n) size.Word 4 n 0 3 ea
 
 status_4_shape : (p : Opcode) → IsOpcode p → p.line ≡ 4 → p.upper < 4 → p.bit ≡ 0 → p.size ≡ 3 → Shape row p (status_4 p)
 unfolding status_4
@@ -302,7 +302,7 @@ tst_4_shape p is line upper bit =
     made_row _ p _ _ (sized_shape p All 4 5 0 is line upper bit) (λ x. refl))
 
 abbrev LongPairRow : ℕ → Type 0
-LongPairRow n = (x : ℕ × Ea) → row (long_pair_of n x.0 x.1) ≡ word_ea_row rule.LongPair Data size.Long 4 6 0 n x
+LongPairRow n = (x : ℕ × Ea) → row (long_pair_instr n x.0 x.1) ≡ word_ea_row rule.LongPair Data size.Long 4 6 0 n x
 
 long_pair_4_shape : (p : Opcode) → IsOpcode p → p.line ≡ 4 → p.upper ≡ 6 → p.bit ≡ 0 → p.size < 2 → Shape row p (long_pair_4 p)
 unfolding long_pair_4
@@ -313,12 +313,12 @@ long_pair_4_shape p is line upper bit low =
 movem_load_4_shape : (p : Opcode) → IsOpcode p → p.line ≡ 4 → p.upper ≡ 6 → p.bit ≡ 0 → 2 ≤ p.size → Shape row p (movem_load_4 p)
 unfolding movem_load_4
 movem_load_4_shape p is line upper bit high =
-    let long = size_of_bit (p.size % 2) in
+    let long_words = size_of_bit (p.size % 2) in
     made_row _ p _ _ (guarded _ p _ _ (not_byte_of_bit (p.size % 2) (omega arith))
-    (word_ea_shape p rule.Any LoadList long 4 6 0 _ is line upper bit (high_size p.size is.size high))) (λ x. refl)
+    (word_ea_shape p rule.Any LoadList long_words 4 6 0 _ is line upper bit (high_size p.size is.size high))) (λ x. refl)
 
 abbrev JumpRow : ℕ → Type 0
-JumpRow n = 2 ≤ n → (ea : Ea) → row (jump_of n ea) ≡ at_ea Control size.Long 4 7 0 n ea
+JumpRow n = 2 ≤ n → (ea : Ea) → row (jump_instr n ea) ≡ at_ea Control size.Long 4 7 0 n ea
 
 jump_4_shape : (p : Opcode) → IsOpcode p → p.line ≡ 4 → p.upper ≡ 7 → p.bit ≡ 0 → 2 ≤ p.size → Shape row p (jump_4 p)
 unfolding jump_4

@@ -25,7 +25,7 @@ use Rattle.mb_decode.proofs.Found.{after, eq_true}
 use Rattle.mb_decode.proofs.Steady.{made_steady, branch_steady, trap_operand_steady}
 use Rattle.mb_decode.proofs.Shapes.{Found, Shape, either, equal, only, op_is, guarded, made_row, given, word_shape, ea_shape, sized_shape, FoundBranch}
 use Rattle.mb_decode.proofs.Shapes.{branch_cases, FoundTrap, trap_cases}
-use Rattle.mb_decode.specs.RowReading.{low_byte, quick_of, conditional_5, quick_instr, quick_5, line_5, line_6, line_7}
+use Rattle.mb_decode.specs.RowReading.{low_byte, quick_value, conditional_5, quick_instr, quick_5, line_5, line_6, line_7}
 use Rattle.mb_decode.proofs.Fields.{under_2, not_three, not_address, not_trap, quick_again, is_quick_of, quick_field, condition_is, IsCondition}
 use Rattle.mb_decode.proofs.Fields.{condition_fields}
 
@@ -111,7 +111,7 @@ unfolding quick_5
 quick_5_shape p is line =
     made_row _ p _ _
     (guarded _ p _ _ (is_quick_of p.upper is.upper) (sized_shape p Alterable 5 _ p.bit is line (quick_field p.upper is.upper) refl))
-    (λ x. quick_row p.bit is.bit (quick_of p.upper) x.0 x.1)
+    (λ x. quick_row p.bit is.bit (quick_value p.upper) x.0 x.1)
 
 pub line_5_shape : (p : Opcode) → IsOpcode p → p.line ≡ 5 → Shape row p (line_5 p)
 unfolding line_5

@@ -21,15 +21,15 @@ use Rattle.mb_instr.specs.Rows.{row, exchange_bits, exchange_mode}
 use Rattle.mb_decode.proofs.ReadBack.{and_is, next, unmet, by_size_read, word_read, taken, ea_read, sized_read}
 use Rattle.mb_decode.proofs.Found.{eq_true}
 use Rattle.mb_decode.proofs.Shapes.{Shape, none, either, equal, equals, by_size_shape, op_is, guarded, made_row, given, word_shape, ea_shape, sized_shape}
-use Rattle.mb_decode.specs.RowReading.{source_class, binary_of, binary_at, address_of, address_at, extended_of, extended_at, product_of, product_at}
-use Rattle.mb_decode.specs.RowReading.{decimal_of, packed_of, packed_8, exchange_12, has_registers, pair_8, line_8, line_9, cmp_11, eor_11, line_11}
+use Rattle.mb_decode.specs.RowReading.{source_class, binary_instr, binary_at, address_instr, address_at, extended_instr, extended_at, product_instr, product_at}
+use Rattle.mb_decode.specs.RowReading.{decimal_instr, packed_instr, packed_8, exchange_12, has_registers, pair_8, line_8, line_9, cmp_11, eor_11, line_11}
 use Rattle.mb_decode.proofs.Fields.{not_byte_of_bit, under_2, under_4, not_three, flag_is, flag_of, not_address, not_register}
 
 -- ---- from its spelling
 
 -- OR and AND
 pub logic_again : (n d : ℕ) (k : Bool) (s : Size) (ea : Ea) (rest : List ℕ) → takes (side (source_class n) k) s ea ≡ true →
-    line_8 (op n d (flag k) (size_bits s) (mode ea) (lower ea)) (more s ea ++ rest) ≡ Ok (binary_of n d k s ea, rest)
+    line_8 (op n d (flag k) (size_bits s) (mode ea) (lower ea)) (more s ea ++ rest) ≡ Ok (binary_instr n d k s ea, rest)
 unfolding line_8 binary_at
 logic_again n d true s ea rest h =
     let size = not_three s in
@@ -39,7 +39,7 @@ logic_again n d false s ea rest h = let size = not_three s in rw size (next _ _ 
 
 -- SUB and ADD
 pub sum_again : (n d : ℕ) (k : Bool) (s : Size) (ea : Ea) (rest : List ℕ) → takes (side (source_class n) k) s ea ≡ true →
-    line_9 (op n d (flag k) (size_bits s) (mode ea) (lower ea)) (more s ea ++ rest) ≡ Ok (binary_of n d k s ea, rest)
+    line_9 (op n d (flag k) (size_bits s) (mode ea) (lower ea)) (more s ea ++ rest) ≡ Ok (binary_instr n d k s ea, rest)
 unfolding line_9 binary_at
 sum_again n d true s ea rest h =
     let size = not_three s in
@@ -48,26 +48,26 @@ sum_again n d true s ea rest h =
 sum_again n d false s ea rest h = let size = not_three s in rw size (next _ _ _ _ _ (sized_read (source_class n) n d 0 s ea rest h))
 
 pub address_again : (n a : ℕ) (s : Size) (ea : Ea) (rest : List ℕ) → (not_byte s && takes All s ea) ≡ true →
-    line_9 (op n a (long_bit s) 3 (mode ea) (lower ea)) (more s ea ++ rest) ≡ Ok (address_of n a s ea, rest)
+    line_9 (op n a (long_bit s) 3 (mode ea) (lower ea)) (more s ea ++ rest) ≡ Ok (address_instr n a s ea, rest)
 unfolding line_9 address_at
 address_again n a size.Byte ea rest h = absurd cc
 address_again n a size.Word ea rest h = next _ _ _ _ _ (ea_read All size.Word n a 0 3 ea rest h)
 address_again n a size.Long ea rest h = next _ _ _ _ _ (ea_read All size.Long n a 1 3 ea rest h)
 
 pub extended_again : (n x : ℕ) (s : Size) (m : Bool) (y : ℕ) (rest : List ℕ) →
-    line_9 (op n x 1 (size_bits s) (flag m) y) rest ≡ Ok (extended_of n x s m y, rest)
+    line_9 (op n x 1 (size_bits s) (flag m) y) rest ≡ Ok (extended_instr n x s m y, rest)
 unfolding line_9 extended_at
 extended_again n x s true y rest = let size = not_three s in rw size (by_size_read s _ _)
 extended_again n x s false y rest = let size = not_three s in rw size (by_size_read s _ _)
 
 -- DIVU and DIVS, MULU and MULS
 pub product_again : (n d : ℕ) (g : Bool) (ea : Ea) (rest : List ℕ) → takes Data size.Word ea ≡ true →
-    line_8 (op n d (flag g) 3 (mode ea) (lower ea)) (more size.Word ea ++ rest) ≡ Ok (product_of n d g ea, rest)
+    line_8 (op n d (flag g) 3 (mode ea) (lower ea)) (more size.Word ea ++ rest) ≡ Ok (product_instr n d g ea, rest)
 unfolding line_8 product_at
 product_again n d g ea rest h = let signed = flag_is g in rw signed (next _ _ _ _ _ (ea_read Data size.Word n d (flag g) 3 ea rest h))
 
 -- SBCD and ABCD
-pub decimal_again : (n x : ℕ) (m : Bool) (y : ℕ) (rest : List ℕ) → line_8 (op n x 1 0 (flag m) y) rest ≡ Ok (decimal_of n x m y, rest)
+pub decimal_again : (n x : ℕ) (m : Bool) (y : ℕ) (rest : List ℕ) → line_8 (op n x 1 0 (flag m) y) rest ≡ Ok (decimal_instr n x m y, rest)
 unfolding line_8 pair_8
 decimal_again n x true y rest = refl
 decimal_again n x false y rest = refl
@@ -117,19 +117,19 @@ eor_read d s ea rest h =
 
 -- what the line tells apart
 abbrev pub BinaryRow : ℕ → Type 0
-BinaryRow n = (d : ℕ) (k : Bool) (s : Size) (ea : Ea) → row (binary_of n d k s ea) ≡ sized (side (source_class n) k) n d (flag k) s ea
+BinaryRow n = (d : ℕ) (k : Bool) (s : Size) (ea : Ea) → row (binary_instr n d k s ea) ≡ sized (side (source_class n) k) n d (flag k) s ea
 
 abbrev pub AddressRow : ℕ → Type 0
-AddressRow n = (a : ℕ) (s : Size) (ea : Ea) → row (address_of n a s ea) ≡ when (not_byte s) (at_ea All s n a (long_bit s) 3 ea)
+AddressRow n = (a : ℕ) (s : Size) (ea : Ea) → row (address_instr n a s ea) ≡ when (not_byte s) (at_ea All s n a (long_bit s) 3 ea)
 
 abbrev pub ExtendedRow : ℕ → Type 0
-ExtendedRow n = (x : ℕ) (s : Size) (m : Bool) (y : ℕ) → row (extended_of n x s m y) ≡ bare (op n x 1 (size_bits s) (flag m) y)
+ExtendedRow n = (x : ℕ) (s : Size) (m : Bool) (y : ℕ) → row (extended_instr n x s m y) ≡ bare (op n x 1 (size_bits s) (flag m) y)
 
 abbrev pub ProductRow : ℕ → Type 0
-ProductRow n = (d : ℕ) (g : Bool) (ea : Ea) → row (product_of n d g ea) ≡ at_ea Data size.Word n d (flag g) 3 ea
+ProductRow n = (d : ℕ) (g : Bool) (ea : Ea) → row (product_instr n d g ea) ≡ at_ea Data size.Word n d (flag g) 3 ea
 
 abbrev pub DecimalRow : ℕ → Type 0
-DecimalRow n = (x : ℕ) (m : Bool) (y : ℕ) → row (decimal_of n x m y) ≡ bare (op n x 1 0 (flag m) y)
+DecimalRow n = (x : ℕ) (m : Bool) (y : ℕ) → row (decimal_instr n x m y) ≡ bare (op n x 1 0 (flag m) y)
 
 lt_of : (m n : ℕ) → nat_lt m n ≡ true → m < n
 lt_of m n h = grind (arith, nat_tests)
@@ -161,7 +161,7 @@ product_shape p is rows f = made_row _ p _ _
     (ea_shape p Data size.Word p.line p.upper _ 3 is refl refl (flag_of p.bit is.bit) f) (λ ea. rows p.upper (p.bit == 1) ea)
 
 abbrev PackedRow : ℕ → Type 0
-PackedRow n = n ≢ 0 → n ≢ 3 → (x : ℕ) (m : Bool) (y w : ℕ) → row (packed_of n x m y w) ≡ with_word (op 8 x 1 n (flag m) y) w
+PackedRow n = n ≢ 0 → n ≢ 3 → (x : ℕ) (m : Bool) (y w : ℕ) → row (packed_instr n x m y w) ≡ with_word (op 8 x 1 n (flag m) y) w
 
 packed_row : (n : ℕ) → n < 4 → PackedRow n
 packed_row n h = under_4 PackedRow (λ a b. absurd (a refl)) (λ a b x m y w. refl) (λ a b x m y w. refl) (λ a b. absurd (b refl)) n h

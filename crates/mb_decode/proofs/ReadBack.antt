@@ -17,7 +17,7 @@ use Rattle.mb_instr.specs.declared.kinds.TrapOperand.{TrapOperand}
 use Rattle.mb_instr.specs.declared.kinds.TrapOperand.TheVariants as trap
 use Rattle.mb_instr.specs.Sizes.{size_bits}
 use Rattle.mb_instr.specs.Rules.{holds}
-use Rattle.mb_instr.specs.Operands.{allows, mode, lower, more, is_spelled, takes, long, wide, fits, is_full, is_ext, ext, is_immediate, immediate}
+use Rattle.mb_instr.specs.Operands.{allows, mode, lower, more, is_spelled, takes, long_words, wide, fits_width, is_full, is_ext, ext, is_immediate, immediate}
 use Rattle.mb_instr.specs.Shapes.{op, branch_byte, branch_words, is_branch}
 use Rattle.mb_instr.specs.Rows.{trap_lower, trap_words}
 use Rattle.mb_decode.specs.Reading.{Reader, reads_then, give, by_size, word_at, long_at, wide_at, full_at, ext_at, immediate_at, operand_at, ruled_at, ea_at}
@@ -41,21 +41,21 @@ pub word_read : (w : ℕ) (rest : List ℕ) → word_at (w ∷ rest) ≡ Ok (w, 
 unfolding word_at
 word_read w rest = refl
 
-pub long_read : (v : ℕ) (rest : List ℕ) → long_at (long v ++ rest) ≡ Ok (v, rest)
+pub long_read : (v : ℕ) (rest : List ℕ) → long_at (long_words v ++ rest) ≡ Ok (v, rest)
 unfolding long_at reads_then word_at
 long_read v rest = let e : v / 65536 * 65536 + v % 65536 ≡ v = omega arith in rw e refl
 
 wide_cases : (two three : Bool) (v : ℕ) (rest : List ℕ) → cond two (nat_lt v 65536) (cond three true (v == 0)) ≡ true →
-    (cond two word_at (cond three long_at (give 0))) ((cond two (v ∷ []) (cond three (long v) [])) ++ rest) ≡ Ok (v, rest)
+    (cond two word_at (cond three long_at (give 0))) ((cond two (v ∷ []) (cond three (long_words v) [])) ++ rest) ≡ Ok (v, rest)
 wide_cases true three v rest h = word_read v rest
 wide_cases false true v rest h = long_read v rest
 wide_cases false false v rest h = let e : v ≡ 0 = grind (arith, nat_tests) in rw e refl
 
-pub wide_read : (width v : ℕ) (rest : List ℕ) → fits width v ≡ true → wide_at width (wide width v ++ rest) ≡ Ok (v, rest)
+pub wide_read : (width v : ℕ) (rest : List ℕ) → fits_width width v ≡ true → wide_at width (wide width v ++ rest) ≡ Ok (v, rest)
 unfolding wide_at
 wide_read width v rest h = wide_cases (width == 2) (width == 3) v rest h
 
-pub full_read : (w bd od : ℕ) (rest : List ℕ) → fits (w / 2 ^ 4 % 4) bd ≡ true → fits (w % 4) od ≡ true →
+pub full_read : (w bd od : ℕ) (rest : List ℕ) → fits_width (w / 2 ^ 4 % 4) bd ≡ true → fits_width (w % 4) od ≡ true →
     full_at w (wide (w / 2 ^ 4 % 4) bd ++ wide (w % 4) od ++ rest) ≡ Ok (Full w bd od, rest)
 unfolding full_at
 full_read w bd od rest hb ho =
@@ -65,8 +65,8 @@ pub ext_read : (e : Ext) (rest : List ℕ) → is_ext e ≡ true → ext_at (ext
 unfolding ext_at
 ext_read (Brief w) rest h = next _ _ _ _ _ (word_read w rest) ∙ rw h refl
 ext_read (Full w bd od) rest h =
-    let a = and_is (not (w / 2 ^ 8 % 2 == 0) && is_full w && fits (w / 2 ^ 4 % 4) bd) (fits (w % 4) od) h in
-    let b = and_is (not (w / 2 ^ 8 % 2 == 0) && is_full w) (fits (w / 2 ^ 4 % 4) bd) a.0 in
+    let a = and_is (not (w / 2 ^ 8 % 2 == 0) && is_full w && fits_width (w / 2 ^ 4 % 4) bd) (fits_width (w % 4) od) h in
+    let b = and_is (not (w / 2 ^ 8 % 2 == 0) && is_full w) (fits_width (w / 2 ^ 4 % 4) bd) a.0 in
     let c = and_is (not (w / 2 ^ 8 % 2 == 0)) (is_full w) b.0 in
     let n = not_is (w / 2 ^ 8 % 2 == 0) c.0 in
     next _ _ _ _ _ (word_read w _) ∙ rw (n, c.1) (full_read w bd od rest b.1 a.1)

@@ -19,7 +19,7 @@ use Rattle.mb_decode.specs.declared.reading.Stop.TheVariants as stop
 use Rattle.mb_decode.specs.declared.front.Decoded.{Decoded}
 use Rattle.mb_decode.specs.declared.front.Decoded.TheVariants.{Whole, More, Illegal, LineA, LineF}
 use Rattle.mb_decode.specs.RowReading.{row_at}
-use Rattle.mb_decode.specs.Decodes.{stopped, decode_from, decode_of, IfWhole, OnMore, BeginsWith, IsUnfinished, IsOther, HasLine, Decodes, OneAnswer, ReadAgain}
+use Rattle.mb_decode.specs.Decodes.{at_stop, decode_from, decode_of, IfWhole, OnMore, BeginsWith, IsUnfinished, IsOther, HasLine, Decodes, OneAnswer, ReadAgain}
 use Rattle.mb_decode.specs.Decodes.{OneSpelling, NoneBegins, AllDecoded}
 use Rattle.mb_decode.proofs.Found.{eq_true, eq_false}
 use Rattle.mb_decode.proofs.Shapes.{Fits, Found}
@@ -110,7 +110,7 @@ no_row_cases first ws false true ea ef o = (o, eq_true (first / 2 ^ 12) 15 ef)
 no_row_cases first ws false false ea ef o = (o, (eq_false (first / 2 ^ 12) 10 ea, eq_false (first / 2 ^ 12) 15 ef))
 
 from_cases : (first : ℕ) (ws : List ℕ) (r : Result (Instr × List ℕ) Stop) → row_at (opcode_of first) ws ≡ r → first < 2 ^ 16 → AreWords ws →
-    Decodes (first ∷ ws) (elim r [ Ok x ↦ Whole x.0 (1 + (length ws - length x.1)) | Err d ↦ stopped first d ])
+    Decodes (first ∷ ws) (elim r [ Ok x ↦ Whole x.0 (1 + (length ws - length x.1)) | Err d ↦ at_stop first d ])
 from_cases first ws (Ok x) e lt h = whole first ws x.0 x.1 lt h e
 from_cases first ws (Err stop.More) e lt h = unfinished first ws lt h e
 from_cases first ws (Err stop.Illegal) e lt h = no_row_cases first ws (first / 2 ^ 12 == 10) (first / 2 ^ 12 == 15) refl refl (other first ws lt e)
@@ -175,7 +175,7 @@ at_opcode p first ws r e h = subst (λ (q : Opcode). row_at q ws ≡ r) e h
 from_read : (first : ℕ) (ws : List ℕ) (i : Instr) (rest : List ℕ) → row_at (opcode_of first) ws ≡ read i rest →
     decode_from first ws ≡ Whole i (1 + (length ws - length rest))
 unfolding decode_from
-from_read first ws i rest e = ap (λ (r : Result (Instr × List ℕ) Stop). elim r [ Ok x ↦ Whole x.0 (1 + (length ws - length x.1)) | Err d ↦ stopped first d ]) e
+from_read first ws i rest e = ap (λ (r : Result (Instr × List ℕ) Stop). elim r [ Ok x ↦ Whole x.0 (1 + (length ws - length x.1)) | Err d ↦ at_stop first d ]) e
 
 again : (i : Instr) (first : ℕ) (others rest : List ℕ) → Codes i (first ∷ others) → decode_of (first ∷ others ++ rest) ≡ Whole i (length (first ∷ others))
 unfolding decode_of

@@ -19,15 +19,15 @@ abbrev pub no_row : ℕ → Decoded
 no_row first = if first / 2 ^ 12 == 10 then LineA else if first / 2 ^ 12 == 15 then LineF else Illegal
 
 -- the answer where no instruction was read
-abbrev pub stopped : ℕ → Stop → Decoded
-stopped first stop.More = More
-stopped first stop.Illegal = no_row first
+abbrev pub at_stop : ℕ → Stop → Decoded
+at_stop first stop.More = More
+at_stop first stop.Illegal = no_row first
 
 -- a first word, and the words behind it
 unfoldable pub decode_from : ℕ → List ℕ → Decoded
 decode_from first rest = elim (row_at (opcode_of first) rest) [
   | Ok (i, behind) ↦ Whole i (1 + (length rest - length behind))
-  | Err e ↦ stopped first e
+  | Err e ↦ at_stop first e
 ]
 
 -- what words begin with; the empty list is less than any instruction

@@ -35,8 +35,8 @@ abbrev pub low_byte : Opcode → ℕ
 low_byte p = p.size * 64 + p.mode * 8 + p.lower
 
 -- a quick value or a count of 8 is spelled 0
-abbrev pub quick_of : ℕ → ℕ
-quick_of field = if field == 0 then 8 else field
+abbrev pub quick_value : ℕ → ℕ
+quick_value field = if field == 0 then 8 else field
 
 -- an immediate in place of an operand
 abbrev pub is_immediate_field : Opcode → Bool
@@ -57,13 +57,13 @@ unfoldable pub odd_0 : Opcode → Reader Instr
 odd_0 p = if p.mode == 1 then movep_0 p else bit_register_0 p
 
 -- bit 11 of the word tells CMP2 from CHK2
-abbrev pub bounds_of : Size → ℕ → Ea → Instr
-bounds_of s w ea = if w / 2 ^ 11 % 2 == 0 then Arith (arith.Cmp2 s ea w) else Flow (flow.Chk2 s ea w)
+abbrev pub bounds_instr : Size → ℕ → Ea → Instr
+bounds_instr s w ea = if w / 2 ^ 11 % 2 == 0 then Arith (arith.Cmp2 s ea w) else Flow (flow.Chk2 s ea w)
 
 -- size 3: CMP2 and CHK2 have their size in bits 10 and 9, CAS and CAS2 too
 -- 0000 0ss0 11mm mrrr
 unfoldable pub bounds_0 : Opcode → Reader Instr
-bounds_0 p = by_size p.upper (λ s. made (word_ea_at rule.RegisterAndBit Control s p) (λ (w, ea). bounds_of s w ea))
+bounds_0 p = by_size p.upper (λ s. made (word_ea_at rule.RegisterAndBit Control s p) (λ (w, ea). bounds_instr s w ea))
 
 -- the size that CAS has in bits 10 and 9
 abbrev pub cas_size : ℕ → Size
@@ -84,20 +84,20 @@ cas_0 p =
     (λ (w, ea). Arith (arith.Cas (cas_size p.upper) ea w))
 
 -- the rows that bits 11 to 9 tell apart
-abbrev pub immediate_of : ℕ → Size → ℕ → Ea → Instr
-immediate_of n s v ea =
+abbrev pub immediate_instr : ℕ → Size → ℕ → Ea → Instr
+immediate_instr n s v ea =
     if n == 0 then Arith (arith.Ori s ea v) else
     if n == 1 then Arith (arith.Andi s ea v) else
     if n == 2 then Arith (arith.Subi s ea v) else
     if n == 3 then Arith (arith.Addi s ea v) else Arith (arith.Eori s ea v)
 
-abbrev pub to_ccr_of : ℕ → ℕ → Instr
-to_ccr_of n w =
+abbrev pub to_ccr_instr : ℕ → ℕ → Instr
+to_ccr_instr n w =
     if n == 0 then Arith (arith.OriCcr w) else
     if n == 1 then Arith (arith.AndiCcr w) else Arith (arith.EoriCcr w)
 
-abbrev pub to_sr_of : ℕ → ℕ → Instr
-to_sr_of n w =
+abbrev pub to_sr_instr : ℕ → ℕ → Instr
+to_sr_instr n w =
     if n == 0 then System (system.OriSr w) else
     if n == 1 then System (system.AndiSr w) else System (system.EoriSr w)
 
@@ -106,14 +106,14 @@ to_sr_of n w =
 unfoldable pub status_0 : Opcode → Reader Instr
 status_0 p =
     if (p.upper == 2) || (p.upper == 3) then illegal else
-    if p.size == 0 then made word_at (λ w. to_ccr_of p.upper w) else
-    if p.size == 1 then made word_at (λ w. to_sr_of p.upper w) else illegal
+    if p.size == 0 then made word_at (λ w. to_ccr_instr p.upper w) else
+    if p.size == 1 then made word_at (λ w. to_sr_instr p.upper w) else illegal
 
 -- 0000 kkk0 ssmm mrrr
 unfoldable pub immediate_0 : Opcode → Reader Instr
 immediate_0 p =
     if is_immediate_field p then status_0 p else
-    made (immediate_ea_at DataAlterable p) (λ (s, v, ea). immediate_of p.upper s v ea)
+    made (immediate_ea_at DataAlterable p) (λ (s, v, ea). immediate_instr p.upper s v ea)
 
 -- 0000 1100 ssmm mrrr
 unfoldable pub cmpi_0 : Opcode → Reader Instr
@@ -168,29 +168,29 @@ line_move p = if move_mode p == 1 then movea_at (move_size p.line) p else move_a
 -- ---- line 4: one operand, and what has none
 
 -- NEGX, CLR, NEG, NOT
-abbrev pub unary_of : ℕ → Size → Ea → Instr
-unary_of n s ea =
+abbrev pub unary_instr : ℕ → Size → Ea → Instr
+unary_instr n s ea =
     if n == 0 then Arith (arith.Negx s ea) else
     if n == 1 then Arith (arith.Clr s ea) else
     if n == 2 then Arith (arith.Neg s ea) else Arith (arith.Not s ea)
 
 -- 0100 0kk0 ssmm mrrr
 unfoldable pub unary_4 : Opcode → Reader Instr
-unary_4 p = made (sized_at DataAlterable p) (λ (s, ea). unary_of p.upper s ea)
+unary_4 p = made (sized_at DataAlterable p) (λ (s, ea). unary_instr p.upper s ea)
 
 -- MOVE from SR, from CCR, to CCR, to SR
 abbrev pub status_class : ℕ → OperandClass
 status_class n = if nat_lt n 2 then DataAlterable else Data
 
-abbrev pub status_of : ℕ → Ea → Instr
-status_of n ea =
+abbrev pub status_instr : ℕ → Ea → Instr
+status_instr n ea =
     if n == 0 then System (system.FromSr ea) else
     if n == 1 then Move (move.FromCcr ea) else
     if n == 2 then Move (move.ToCcr ea) else System (system.ToSr ea)
 
 -- 0100 0kk0 11mm mrrr
 unfoldable pub status_4 : Opcode → Reader Instr
-status_4 p = made (ea_at (status_class p.upper) size.Word p) (λ ea. status_of p.upper ea)
+status_4 p = made (ea_at (status_class p.upper) size.Word p) (λ ea. status_instr p.upper ea)
 
 -- 0100 1000 00mm mrrr; LINK.L is 0100 1000 0000 1aaa
 unfoldable pub nbcd_4 : Opcode → Reader Instr
@@ -205,13 +205,13 @@ pea_4 p =
     made (ea_at Control size.Long p) (λ ea. Move (move.Pea ea))
 
 -- EXT to a word and to a long
-abbrev pub extend_of : ℕ → ℕ → Instr
-extend_of n d = if n == 2 then Arith (arith.ExtW d) else Arith (arith.ExtL d)
+abbrev pub extend_instr : ℕ → ℕ → Instr
+extend_instr n d = if n == 2 then Arith (arith.ExtW d) else Arith (arith.ExtL d)
 
 -- 0100 1000 1smm mrrr; EXT is 0100 1000 1s00 0ddd
 unfoldable pub movem_store_4 : Opcode → Reader Instr
 movem_store_4 p =
-    if p.mode == 0 then give (extend_of p.size p.lower) else
+    if p.mode == 0 then give (extend_instr p.size p.lower) else
     made (word_ea_at rule.Any StoreList (size_of_bit (p.size % 2)) p)
     (λ (w, ea). Move (move.MovemStore (size_of_bit (p.size % 2)) ea w))
 
@@ -222,12 +222,12 @@ tst_4 p =
     if p.size == 3 then made (ea_at DataAlterable size.Byte p) (λ ea. Arith (arith.Tas ea)) else
     made (sized_at All p) (λ (s, ea). Arith (arith.Tst s ea))
 
-abbrev pub long_pair_of : ℕ → ℕ → Ea → Instr
-long_pair_of n w ea = if n == 0 then Arith (arith.MulL ea w) else Arith (arith.DivL ea w)
+abbrev pub long_pair_instr : ℕ → ℕ → Ea → Instr
+long_pair_instr n w ea = if n == 0 then Arith (arith.MulL ea w) else Arith (arith.DivL ea w)
 
 -- 0100 1100 0kmm mrrr
 unfoldable pub long_pair_4 : Opcode → Reader Instr
-long_pair_4 p = made (word_ea_at rule.LongPair Data size.Long p) (λ (w, ea). long_pair_of p.size w ea)
+long_pair_4 p = made (word_ea_at rule.LongPair Data size.Long p) (λ (w, ea). long_pair_instr p.size w ea)
 
 -- 0100 1100 1smm mrrr
 unfoldable pub movem_load_4 : Opcode → Reader Instr
@@ -235,12 +235,12 @@ movem_load_4 p =
     made (word_ea_at rule.Any LoadList (size_of_bit (p.size % 2)) p)
     (λ (w, ea). Move (move.MovemLoad (size_of_bit (p.size % 2)) ea w))
 
-abbrev pub jump_of : ℕ → Ea → Instr
-jump_of n ea = if n == 2 then Flow (flow.Jsr ea) else Flow (flow.Jmp ea)
+abbrev pub jump_instr : ℕ → Ea → Instr
+jump_instr n ea = if n == 2 then Flow (flow.Jsr ea) else Flow (flow.Jmp ea)
 
 -- 0100 1110 1kmm mrrr
 unfoldable pub jump_4 : Opcode → Reader Instr
-jump_4 p = made (ea_at Control size.Long p) (λ ea. jump_of p.size ea)
+jump_4 p = made (ea_at Control size.Long p) (λ ea. jump_instr p.size ea)
 
 -- $4E70 to $4E77
 -- 0100 1110 0111 0kkk
@@ -316,7 +316,7 @@ quick_instr n q s ea = if n == 0 then Arith (arith.Addq q s ea) else Arith (arit
 
 -- 0101 qqqk ssmm mrrr
 unfoldable pub quick_5 : Opcode → Reader Instr
-quick_5 p = made (sized_at Alterable p) (λ (s, ea). quick_instr p.bit (quick_of p.upper) s ea)
+quick_5 p = made (sized_at Alterable p) (λ (s, ea). quick_instr p.bit (quick_value p.upper) s ea)
 
 unfoldable pub line_5 : Opcode → Reader Instr
 line_5 p = if p.size == 3 then conditional_5 (condition_of p.upper p.bit) p else quick_5 p
@@ -335,8 +335,8 @@ line_7 p = when_legal (p.bit == 0) (give (Move (move.Moveq p.upper (low_byte p))
 abbrev pub source_class : ℕ → OperandClass
 source_class line = if (line == 8) || (line == 12) then Data else All
 
-abbrev pub binary_of : ℕ → ℕ → Bool → Size → Ea → Instr
-binary_of line d k s ea =
+abbrev pub binary_instr : ℕ → ℕ → Bool → Size → Ea → Instr
+binary_instr line d k s ea =
     if line == 8 then Arith (arith.Or d k s ea) else
     if line == 9 then Arith (arith.Sub d k s ea) else
     if line == 12 then Arith (arith.And d k s ea) else Arith (arith.Add d k s ea)
@@ -344,45 +344,46 @@ binary_of line d k s ea =
 -- llll dddk ssmm mrrr
 unfoldable pub binary_at : Opcode → Reader Instr
 binary_at p =
-    made (sized_at (side (source_class p.line) (p.bit == 1)) p) (λ (s, ea). binary_of p.line p.upper (p.bit == 1) s ea)
+    made (sized_at (side (source_class p.line) (p.bit == 1)) p)
+    (λ (s, ea). binary_instr p.line p.upper (p.bit == 1) s ea)
 
 -- SUBA, CMPA, ADDA
-abbrev pub address_of : ℕ → ℕ → Size → Ea → Instr
-address_of line a s ea =
+abbrev pub address_instr : ℕ → ℕ → Size → Ea → Instr
+address_instr line a s ea =
     if line == 9 then Arith (arith.Suba a s ea) else
     if line == 11 then Arith (arith.Cmpa a s ea) else Arith (arith.Adda a s ea)
 
 -- llll aaas 11mm mrrr
 unfoldable pub address_at : Opcode → Reader Instr
-address_at p = made (ea_at All (size_of_bit p.bit) p) (λ ea. address_of p.line p.upper (size_of_bit p.bit) ea)
+address_at p = made (ea_at All (size_of_bit p.bit) p) (λ ea. address_instr p.line p.upper (size_of_bit p.bit) ea)
 
 -- SUBX, ADDX
-abbrev pub extended_of : ℕ → ℕ → Size → Bool → ℕ → Instr
-extended_of line x s m y = if line == 9 then Arith (arith.Subx x s m y) else Arith (arith.Addx x s m y)
+abbrev pub extended_instr : ℕ → ℕ → Size → Bool → ℕ → Instr
+extended_instr line x s m y = if line == 9 then Arith (arith.Subx x s m y) else Arith (arith.Addx x s m y)
 
 -- llll xxx1 ss00 kyyy
 unfoldable pub extended_at : Opcode → Reader Instr
-extended_at p = by_size p.size (λ s. give (extended_of p.line p.upper s (p.mode == 1) p.lower))
+extended_at p = by_size p.size (λ s. give (extended_instr p.line p.upper s (p.mode == 1) p.lower))
 
 -- DIVU and DIVS, MULU and MULS
-abbrev pub product_of : ℕ → ℕ → Bool → Ea → Instr
-product_of line d g ea = if line == 8 then Arith (arith.DivW d g ea) else Arith (arith.MulW d g ea)
+abbrev pub product_instr : ℕ → ℕ → Bool → Ea → Instr
+product_instr line d g ea = if line == 8 then Arith (arith.DivW d g ea) else Arith (arith.MulW d g ea)
 
 -- llll dddg 11mm mrrr
 unfoldable pub product_at : Opcode → Reader Instr
-product_at p = made (ea_at Data size.Word p) (λ ea. product_of p.line p.upper (p.bit == 1) ea)
+product_at p = made (ea_at Data size.Word p) (λ ea. product_instr p.line p.upper (p.bit == 1) ea)
 
 -- SBCD, ABCD
-abbrev pub decimal_of : ℕ → ℕ → Bool → ℕ → Instr
-decimal_of line x m y = if line == 8 then Arith (arith.Sbcd x m y) else Arith (arith.Abcd x m y)
+abbrev pub decimal_instr : ℕ → ℕ → Bool → ℕ → Instr
+decimal_instr line x m y = if line == 8 then Arith (arith.Sbcd x m y) else Arith (arith.Abcd x m y)
 
 -- PACK, UNPK
-abbrev pub packed_of : ℕ → ℕ → Bool → ℕ → ℕ → Instr
-packed_of n x m y w = if n == 1 then Arith (arith.Pack x m y w) else Arith (arith.Unpk x m y w)
+abbrev pub packed_instr : ℕ → ℕ → Bool → ℕ → ℕ → Instr
+packed_instr n x m y w = if n == 1 then Arith (arith.Pack x m y w) else Arith (arith.Unpk x m y w)
 
 -- 1000 xxx1 kk00 kyyy
 unfoldable pub packed_8 : Opcode → Reader Instr
-packed_8 p = made word_at (λ w. packed_of p.size p.upper (p.mode == 1) p.lower w)
+packed_8 p = made word_at (λ w. packed_instr p.size p.upper (p.mode == 1) p.lower w)
 
 -- 1100 xxx1 kkkk kyyy
 unfoldable pub exchange_12 : Opcode → Reader Instr
@@ -397,7 +398,7 @@ has_registers p = (p.bit == 1) && nat_lt p.mode 2
 
 unfoldable pub pair_8 : Opcode → Reader Instr
 pair_8 p =
-    if p.size == 0 then give (decimal_of p.line p.upper (p.mode == 1) p.lower) else
+    if p.size == 0 then give (decimal_instr p.line p.upper (p.mode == 1) p.lower) else
     if p.line == 8 then packed_8 p else exchange_12 p
 
 unfoldable pub line_8 : Opcode → Reader Instr
@@ -429,14 +430,14 @@ line_11 p =
 -- ---- line 14: shifts and bit fields
 
 -- the count of a shift: a register, or 1 to 8
-abbrev pub count_of : Bool → ℕ → ℕ
-count_of by_register field = if by_register then field else quick_of field
+abbrev pub shift_count : Bool → ℕ → ℕ
+shift_count by_register field = if by_register then field else quick_value field
 
 -- mode 4 and above: the count is in a register
 -- 1110 nnnl ssik kddd
 unfoldable pub shift_14 : Opcode → Reader Instr
 shift_14 p = by_size p.size (λ s. give (Arith (arith.ShiftReg
-    (count_of (nat_lt 3 p.mode) p.upper) (p.bit == 1) s (nat_lt 3 p.mode) (shift_kind (p.mode % 4)) p.lower)))
+    (shift_count (nat_lt 3 p.mode) p.upper) (p.bit == 1) s (nat_lt 3 p.mode) (shift_kind (p.mode % 4)) p.lower)))
 
 -- 1110 0kkl 11mm mrrr
 unfoldable pub shift_mem_14 : Opcode → Reader Instr
@@ -444,14 +445,14 @@ shift_mem_14 p =
     made (ea_at MemoryAlterable size.Word p) (λ ea. Arith (arith.ShiftMem (shift_kind p.upper) (p.bit == 1) ea))
 
 -- what a bit field instruction does stands in bits 10 to 8
-abbrev pub field_of : Opcode → FieldKind
-field_of p = field_kind (p.upper % 4 * 2 + p.bit)
+abbrev pub field_kind_in : Opcode → FieldKind
+field_kind_in p = field_kind (p.upper % 4 * 2 + p.bit)
 
 -- 1110 1kkk 11mm mrrr
 unfoldable pub field_14 : Opcode → Reader Instr
 field_14 p =
-    made (word_ea_at (field_rule (field_of p)) (field_class (field_of p)) size.Long p)
-    (λ (w, ea). Arith (arith.Field (field_of p) ea w))
+    made (word_ea_at (field_rule (field_kind_in p)) (field_class (field_kind_in p)) size.Long p)
+    (λ (w, ea). Arith (arith.Field (field_kind_in p) ea w))
 
 unfoldable pub line_14 : Opcode → Reader Instr
 line_14 p = if p.size == 3 then (if nat_lt p.upper 4 then shift_mem_14 p else field_14 p) else shift_14 p
@@ -459,13 +460,13 @@ line_14 p = if p.size == 3 then (if nat_lt p.upper 4 then shift_mem_14 p else fi
 -- ---- line 15: caches, translation and MOVE16
 
 -- CINV and CPUSH
-abbrev pub cached_of : Bool → Caches → CacheScope → ℕ → Instr
-cached_of push c s a = if push then System (system.Cpush c s a) else System (system.Cinv c s a)
+abbrev pub cached_instr : Bool → Caches → CacheScope → ℕ → Instr
+cached_instr push c s a = if push then System (system.Cpush c s a) else System (system.Cinv c s a)
 
 -- 1111 0100 kkop paaa
 unfoldable pub caches_15 : Opcode → Reader Instr
 caches_15 p = elim (scope_kind (p.mode % 4)) [
-  | Some s ↦ give (cached_of (nat_lt 3 p.mode) (caches_kind p.size) s p.lower)
+  | Some s ↦ give (cached_instr (nat_lt 3 p.mode) (caches_kind p.size) s p.lower)
   | None ↦ illegal
 ]
 

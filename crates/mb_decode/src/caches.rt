@@ -3,13 +3,13 @@
 ghost use Rattle.std.specs.Prelude.{◌≡◌, ◌<◌};
 ghost use Rattle.mb_instr.specs.Opcodes.{IsOpcode};
 ghost use Rattle.mb_decode.specs.Reading.{Gives};
-ghost use Rattle.mb_decode.specs.RowReading.{caches_15, translation_15, lines_15, line_15, cached_of};
+ghost use Rattle.mb_decode.specs.RowReading.{caches_15, translation_15, lines_15, line_15, cached_instr};
 
 use crate::reading::{Reading, Stop, long, ruled};
 use mb_instr::{CacheScope, Caches, FlushKind, Instr, LineMove, Move, Opcode, System, WordRule};
 
-fn cached_of(push: bool, caches: Caches, scope: CacheScope, register: u8) -> Instr
-    ensures { result ≡ cached_of push caches scope register }
+fn cached_instr(push: bool, caches: Caches, scope: CacheScope, register: u8) -> Instr
+    ensures { result ≡ cached_instr push caches scope register }
 {
     let system = if push {
         System::Cpush {
@@ -36,7 +36,7 @@ fn caches(op: Opcode, words: &[u16]) -> Reading<'_, Instr>
     let Some(scope) = CacheScope::of(op.mode % 4) else {
         return Err(Stop::Illegal);
     };
-    let instruction = cached_of(op.mode > 3, Caches::of(op.size), scope, op.lower);
+    let instruction = cached_instr(op.mode > 3, Caches::of(op.size), scope, op.lower);
     Ok((instruction, words))
 }
 

@@ -4,8 +4,8 @@ ghost use Rattle.std.specs.Prelude.{◌≡◌, ◌<◌};
 ghost use Rattle.mb_instr.specs.Opcodes.{IsOpcode};
 ghost use Rattle.mb_decode.specs.Reading.{Gives};
 ghost use Rattle.mb_decode.specs.RowReading.{movep_0, bit_register_0, bounds_0, cas2_0, cas_0, status_0};
-ghost use Rattle.mb_decode.specs.RowReading.{immediate_0, cmpi_0, moves_0, bit_0, odd_0, even_0, line_0, bounds_of};
-ghost use Rattle.mb_decode.specs.RowReading.{cas_size, is_immediate_field, immediate_of, to_ccr_of, to_sr_of};
+ghost use Rattle.mb_decode.specs.RowReading.{immediate_0, cmpi_0, moves_0, bit_0, odd_0, even_0, line_0, bounds_instr};
+ghost use Rattle.mb_decode.specs.RowReading.{cas_size, is_immediate_field, immediate_instr, to_ccr_instr, to_sr_instr};
 
 use crate::reading::{Reading, Stop, ea, immediate_ea, ruled, word, word_ea};
 use mb_instr::{
@@ -42,8 +42,8 @@ fn bit_register(op: Opcode, words: &[u16]) -> Reading<'_, Instr>
 }
 
 /// Bit 11 of the word tells CMP2 from CHK2.
-fn bounds_of(size: Size, word: u16, ea: Ea) -> Instr
-    ensures { result ≡ bounds_of size word ea }
+fn bounds_instr(size: Size, word: u16, ea: Ea) -> Instr
+    ensures { result ≡ bounds_instr size word ea }
 {
     if word >> 11 & 1 == 0 {
         Instr::Arith(Arith::Cmp2 { size, ea, word })
@@ -68,7 +68,7 @@ fn bounds(op: Opcode, words: &[u16]) -> Reading<'_, Instr>
         op,
         words,
     )?;
-    Ok((bounds_of(size, word, ea), rest))
+    Ok((bounds_instr(size, word, ea), rest))
 }
 
 fn cas_size(upper: u8) -> Size
@@ -122,8 +122,8 @@ fn cas(op: Opcode, words: &[u16]) -> Reading<'_, Instr>
 }
 
 /// The rows that bits 11 to 9 tell apart.
-fn immediate_of(upper: u8, size: Size, immediate: u32, ea: Ea) -> Instr
-    ensures { result ≡ immediate_of upper size immediate ea }
+fn immediate_instr(upper: u8, size: Size, immediate: u32, ea: Ea) -> Instr
+    ensures { result ≡ immediate_instr upper size immediate ea }
 {
     let arith = match upper {
         0 => Arith::Ori {
@@ -155,8 +155,8 @@ fn immediate_of(upper: u8, size: Size, immediate: u32, ea: Ea) -> Instr
     Instr::Arith(arith)
 }
 
-fn to_ccr_of(upper: u8, word: u16) -> Instr
-    ensures { result ≡ to_ccr_of upper word }
+fn to_ccr_instr(upper: u8, word: u16) -> Instr
+    ensures { result ≡ to_ccr_instr upper word }
 {
     let arith = match upper {
         0 => Arith::OriCcr { word },
@@ -166,8 +166,8 @@ fn to_ccr_of(upper: u8, word: u16) -> Instr
     Instr::Arith(arith)
 }
 
-fn to_sr_of(upper: u8, word: u16) -> Instr
-    ensures { result ≡ to_sr_of upper word }
+fn to_sr_instr(upper: u8, word: u16) -> Instr
+    ensures { result ≡ to_sr_instr upper word }
 {
     let system = match upper {
         0 => System::OriSr { word },
@@ -187,11 +187,11 @@ fn status(op: Opcode, words: &[u16]) -> Reading<'_, Instr>
         (2 | 3, _) => Err(Stop::Illegal),
         (_, 0) => {
             let (word, rest) = word(words)?;
-            Ok((to_ccr_of(op.upper, word), rest))
+            Ok((to_ccr_instr(op.upper, word), rest))
         }
         (_, 1) => {
             let (word, rest) = word(words)?;
-            Ok((to_sr_of(op.upper, word), rest))
+            Ok((to_sr_instr(op.upper, word), rest))
         }
         _ => Err(Stop::Illegal),
     }
@@ -207,7 +207,7 @@ fn immediate(op: Opcode, words: &[u16]) -> Reading<'_, Instr>
         return status(op, words);
     }
     let ((size, immediate, ea), rest) = immediate_ea(OperandClass::DataAlterable, op, words)?;
-    Ok((immediate_of(op.upper, size, immediate, ea), rest))
+    Ok((immediate_instr(op.upper, size, immediate, ea), rest))
 }
 
 /// CMPI.

@@ -5,15 +5,15 @@ ghost use Rattle.mb_instr.specs.Opcodes.{IsOpcode};
 ghost use Rattle.mb_decode.specs.Reading.{Gives};
 ghost use Rattle.mb_decode.specs.RowReading.{unary_4, status_4, nbcd_4, pea_4, movem_store_4, tst_4, long_pair_4};
 ghost use Rattle.mb_decode.specs.RowReading.{movem_load_4, jump_4, single_4, movec_4, system_4, even_4, lea_4};
-ghost use Rattle.mb_decode.specs.RowReading.{chk_4, odd_4, line_4, unary_of, status_class, status_of, extend_of};
-ghost use Rattle.mb_decode.specs.RowReading.{long_pair_of, jump_of, chk_size};
+ghost use Rattle.mb_decode.specs.RowReading.{chk_4, odd_4, line_4, unary_instr, status_class, status_instr, extend_instr};
+ghost use Rattle.mb_decode.specs.RowReading.{long_pair_instr, jump_instr, chk_size};
 
 use crate::reading::{Reading, Stop, ea, long, ruled, sized, word, word_ea};
 use mb_instr::{Arith, Ea, Flow, Instr, Move, Opcode, OperandClass, Size, System, WordRule};
 
 /// NEGX, CLR, NEG and NOT.
-fn unary_of(upper: u8, size: Size, ea: Ea) -> Instr
-    ensures { result ≡ unary_of upper size ea }
+fn unary_instr(upper: u8, size: Size, ea: Ea) -> Instr
+    ensures { result ≡ unary_instr upper size ea }
 {
     let arith = match upper {
         0 => Arith::Negx { size, ea },
@@ -31,7 +31,7 @@ fn unary(op: Opcode, words: &[u16]) -> Reading<'_, Instr>
     ensures { Gives result (unary_4 op words.now) }
 {
     let ((size, ea), rest) = sized(OperandClass::DataAlterable, op, words)?;
-    Ok((unary_of(op.upper, size, ea), rest))
+    Ok((unary_instr(op.upper, size, ea), rest))
 }
 
 /// What moves to a status register takes more than what moves from it.
@@ -45,8 +45,8 @@ fn status_class(upper: u8) -> OperandClass
     }
 }
 
-fn status_of(upper: u8, ea: Ea) -> Instr
-    ensures { result ≡ status_of upper ea }
+fn status_instr(upper: u8, ea: Ea) -> Instr
+    ensures { result ≡ status_instr upper ea }
 {
     match upper {
         0 => Instr::System(System::FromSr { ea }),
@@ -63,7 +63,7 @@ fn status(op: Opcode, words: &[u16]) -> Reading<'_, Instr>
     ensures { Gives result (status_4 op words.now) }
 {
     let (ea, rest) = ea(status_class(op.upper), Size::Word, op, words)?;
-    Ok((status_of(op.upper, ea), rest))
+    Ok((status_instr(op.upper, ea), rest))
 }
 
 /// NBCD, and LINK with a long.
@@ -100,8 +100,8 @@ fn pea(op: Opcode, words: &[u16]) -> Reading<'_, Instr>
 }
 
 /// EXT to a word and to a long.
-fn extend_of(field: u8, register: u8) -> Instr
-    ensures { result ≡ extend_of field register }
+fn extend_instr(field: u8, register: u8) -> Instr
+    ensures { result ≡ extend_instr field register }
 {
     if field == 2 {
         Instr::Arith(Arith::ExtW { register })
@@ -117,7 +117,7 @@ fn movem_store(op: Opcode, words: &[u16]) -> Reading<'_, Instr>
     ensures { Gives result (movem_store_4 op words.now) }
 {
     if op.mode == 0 {
-        return Ok((extend_of(op.size, op.lower), words));
+        return Ok((extend_instr(op.size, op.lower), words));
     }
     let size = Size::of_bit(op.size % 2);
     let ((mask, ea), rest) = word_ea(WordRule::Any, OperandClass::StoreList, size, op, words)?;
@@ -138,8 +138,8 @@ fn tst(op: Opcode, words: &[u16]) -> Reading<'_, Instr>
     Ok((Instr::Arith(Arith::Tst { size, ea }), rest))
 }
 
-fn long_pair_of(field: u8, word: u16, ea: Ea) -> Instr
-    ensures { result ≡ long_pair_of field word ea }
+fn long_pair_instr(field: u8, word: u16, ea: Ea) -> Instr
+    ensures { result ≡ long_pair_instr field word ea }
 {
     if field == 0 {
         Instr::Arith(Arith::MulL { ea, word })
@@ -156,7 +156,7 @@ fn long_pair(op: Opcode, words: &[u16]) -> Reading<'_, Instr>
 {
     let class = OperandClass::Data;
     let ((word, ea), rest) = word_ea(WordRule::LongPair, class, Size::Long, op, words)?;
-    Ok((long_pair_of(op.size, word, ea), rest))
+    Ok((long_pair_instr(op.size, word, ea), rest))
 }
 
 /// MOVEM from memory.
@@ -170,8 +170,8 @@ fn movem_load(op: Opcode, words: &[u16]) -> Reading<'_, Instr>
     Ok((Instr::Move(Move::MovemLoad { size, ea, mask }), rest))
 }
 
-fn jump_of(field: u8, ea: Ea) -> Instr
-    ensures { result ≡ jump_of field ea }
+fn jump_instr(field: u8, ea: Ea) -> Instr
+    ensures { result ≡ jump_instr field ea }
 {
     if field == 2 {
         Instr::Flow(Flow::Jsr { ea })
@@ -187,7 +187,7 @@ fn jump(op: Opcode, words: &[u16]) -> Reading<'_, Instr>
     ensures { Gives result (jump_4 op words.now) }
 {
     let (ea, rest) = ea(OperandClass::Control, Size::Long, op, words)?;
-    Ok((jump_of(op.size, ea), rest))
+    Ok((jump_instr(op.size, ea), rest))
 }
 
 /// `$4E70` to `$4E77`.

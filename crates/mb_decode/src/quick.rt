@@ -3,7 +3,7 @@
 ghost use Rattle.std.specs.Prelude.{◌≡◌, ◌<◌};
 ghost use Rattle.mb_instr.specs.Opcodes.{IsOpcode};
 ghost use Rattle.mb_decode.specs.Reading.{Gives};
-ghost use Rattle.mb_decode.specs.RowReading.{conditional_5, quick_5, line_5, line_6, line_7, low_byte, quick_of};
+ghost use Rattle.mb_decode.specs.RowReading.{conditional_5, quick_5, line_5, line_6, line_7, low_byte, quick_value};
 ghost use Rattle.mb_decode.specs.RowReading.{quick_instr};
 
 use crate::reading::{Reading, Stop, branch, ea, sized, trap_operand, word};
@@ -18,8 +18,8 @@ fn low_byte(op: Opcode) -> u8
 }
 
 /// The value 1 to 8 of a quick field.
-pub fn quick_of(field: u8) -> u8
-    ensures { result ≡ quick_of field }
+pub fn quick_value(field: u8) -> u8
+    ensures { result ≡ quick_value field }
 {
     if field == 0 { 8 } else { field }
 }
@@ -68,7 +68,7 @@ fn quick(op: Opcode, words: &[u16]) -> Reading<'_, Instr>
     ensures { Gives result (quick_5 op words.now) }
 {
     let ((size, ea), rest) = sized(OperandClass::Alterable, op, words)?;
-    Ok((quick_instr(op.bit, quick_of(op.upper), size, ea), rest))
+    Ok((quick_instr(op.bit, quick_value(op.upper), size, ea), rest))
 }
 
 /// The rows of line 5.

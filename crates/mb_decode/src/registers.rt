@@ -5,7 +5,7 @@ ghost use Rattle.mb_instr.specs.Opcodes.{IsOpcode};
 ghost use Rattle.mb_decode.specs.Reading.{Gives};
 ghost use Rattle.mb_decode.specs.RowReading.{binary_at, address_at, extended_at, product_at, packed_8, exchange_12};
 ghost use Rattle.mb_decode.specs.RowReading.{pair_8, line_8, line_9, cmp_11, eor_11, line_11, source_class};
-ghost use Rattle.mb_decode.specs.RowReading.{binary_of, address_of, extended_of, product_of, decimal_of, packed_of};
+ghost use Rattle.mb_decode.specs.RowReading.{binary_instr, address_instr, extended_instr, product_instr, decimal_instr, packed_instr};
 ghost use Rattle.mb_decode.specs.RowReading.{has_registers};
 
 use crate::reading::{Reading, Stop, ea, sized, word};
@@ -22,8 +22,8 @@ fn source_class(line: u8) -> OperandClass
     }
 }
 
-fn binary_of(line: u8, register: u8, to_memory: bool, size: Size, ea: Ea) -> Instr
-    ensures { result ≡ binary_of line register to_memory size ea }
+fn binary_instr(line: u8, register: u8, to_memory: bool, size: Size, ea: Ea) -> Instr
+    ensures { result ≡ binary_instr line register to_memory size ea }
 {
     let arith = match line {
         8 => Arith::Or {
@@ -63,11 +63,11 @@ fn binary(op: Opcode, words: &[u16]) -> Reading<'_, Instr>
     let to_memory = op.bit == 1;
     let class = source_class(op.line).side(to_memory);
     let ((size, ea), rest) = sized(class, op, words)?;
-    Ok((binary_of(op.line, op.upper, to_memory, size, ea), rest))
+    Ok((binary_instr(op.line, op.upper, to_memory, size, ea), rest))
 }
 
-fn address_of(line: u8, register: u8, size: Size, ea: Ea) -> Instr
-    ensures { result ≡ address_of line register size ea }
+fn address_instr(line: u8, register: u8, size: Size, ea: Ea) -> Instr
+    ensures { result ≡ address_instr line register size ea }
 {
     let arith = match line {
         9 => Arith::Suba { register, size, ea },
@@ -85,11 +85,11 @@ fn address(op: Opcode, words: &[u16]) -> Reading<'_, Instr>
 {
     let size = Size::of_bit(op.bit);
     let (ea, rest) = ea(OperandClass::All, size, op, words)?;
-    Ok((address_of(op.line, op.upper, size, ea), rest))
+    Ok((address_instr(op.line, op.upper, size, ea), rest))
 }
 
-fn extended_of(line: u8, x: u8, size: Size, in_memory: bool, y: u8) -> Instr
-    ensures { result ≡ extended_of line x size in_memory y }
+fn extended_instr(line: u8, x: u8, size: Size, in_memory: bool, y: u8) -> Instr
+    ensures { result ≡ extended_instr line x size in_memory y }
 {
     if line == 9 {
         Instr::Arith(Arith::Subx {
@@ -117,12 +117,12 @@ fn extended(op: Opcode, words: &[u16]) -> Reading<'_, Instr>
     let Some(size) = Size::of(op.size) else {
         return Err(Stop::Illegal);
     };
-    let instruction = extended_of(op.line, op.upper, size, op.mode == 1, op.lower);
+    let instruction = extended_instr(op.line, op.upper, size, op.mode == 1, op.lower);
     Ok((instruction, words))
 }
 
-fn product_of(line: u8, register: u8, is_signed: bool, ea: Ea) -> Instr
-    ensures { result ≡ product_of line register is_signed ea }
+fn product_instr(line: u8, register: u8, is_signed: bool, ea: Ea) -> Instr
+    ensures { result ≡ product_instr line register is_signed ea }
 {
     if line == 8 {
         Instr::Arith(Arith::DivW {
@@ -146,12 +146,12 @@ fn product(op: Opcode, words: &[u16]) -> Reading<'_, Instr>
     ensures { Gives result (product_at op words.now) }
 {
     let (ea, rest) = ea(OperandClass::Data, Size::Word, op, words)?;
-    Ok((product_of(op.line, op.upper, op.bit == 1, ea), rest))
+    Ok((product_instr(op.line, op.upper, op.bit == 1, ea), rest))
 }
 
 /// SBCD and ABCD.
-fn decimal_of(line: u8, x: u8, in_memory: bool, y: u8) -> Instr
-    ensures { result ≡ decimal_of line x in_memory y }
+fn decimal_instr(line: u8, x: u8, in_memory: bool, y: u8) -> Instr
+    ensures { result ≡ decimal_instr line x in_memory y }
 {
     if line == 8 {
         Instr::Arith(Arith::Sbcd { x, in_memory, y })
@@ -160,8 +160,8 @@ fn decimal_of(line: u8, x: u8, in_memory: bool, y: u8) -> Instr
     }
 }
 
-fn packed_of(field: u8, x: u8, in_memory: bool, y: u8, word: u16) -> Instr
-    ensures { result ≡ packed_of field x in_memory y word }
+fn packed_instr(field: u8, x: u8, in_memory: bool, y: u8, word: u16) -> Instr
+    ensures { result ≡ packed_instr field x in_memory y word }
 {
     if field == 1 {
         Instr::Arith(Arith::Pack {
@@ -187,7 +187,7 @@ fn packed(op: Opcode, words: &[u16]) -> Reading<'_, Instr>
     ensures { Gives result (packed_8 op words.now) }
 {
     let (word, rest) = word(words)?;
-    let instruction = packed_of(op.size, op.upper, op.mode == 1, op.lower, word);
+    let instruction = packed_instr(op.size, op.upper, op.mode == 1, op.lower, word);
     Ok((instruction, rest))
 }
 
@@ -221,7 +221,7 @@ fn pair(op: Opcode, words: &[u16]) -> Reading<'_, Instr>
     ensures { Gives result (pair_8 op words.now) }
 {
     match (op.size, op.line) {
-        (0, line) => Ok((decimal_of(line, op.upper, op.mode == 1, op.lower), words)),
+        (0, line) => Ok((decimal_instr(line, op.upper, op.mode == 1, op.lower), words)),
         (_, 8) => packed(op, words),
         _ => exchange(op, words),
     }

@@ -3,17 +3,21 @@
 ghost use Rattle.std.specs.Prelude.{◌≡◌, ◌<◌};
 ghost use Rattle.mb_instr.specs.Opcodes.{IsOpcode};
 ghost use Rattle.mb_decode.specs.Reading.{Gives};
-ghost use Rattle.mb_decode.specs.RowReading.{shift_14, shift_mem_14, field_14, line_14, count_of, field_of};
+ghost use Rattle.mb_decode.specs.RowReading.{shift_14, shift_mem_14, field_14, line_14, shift_count, field_kind_in};
 
-use crate::quick::quick_of;
+use crate::quick::quick_value;
 use crate::reading::{Reading, Stop, ea, word_ea};
 use mb_instr::{Arith, FieldKind, Instr, Opcode, OperandClass, ShiftKind, Size};
 
 /// The count of a shift: a register, or 1 to 8.
-fn count_of(by_register: bool, field: u8) -> u8
-    ensures { result ≡ count_of by_register field }
+fn shift_count(by_register: bool, field: u8) -> u8
+    ensures { result ≡ shift_count by_register field }
 {
-    if by_register { field } else { quick_of(field) }
+    if by_register {
+        field
+    } else {
+        quick_value(field)
+    }
 }
 
 /// The shifts of a register.
@@ -27,7 +31,7 @@ fn shift(op: Opcode, words: &[u16]) -> Reading<'_, Instr>
     };
     let by_register = op.mode > 3;
     let shift = Arith::ShiftReg {
-        count: count_of(by_register, op.upper),
+        count: shift_count(by_register, op.upper),
         is_left: op.bit == 1,
         size,
         by_register,
@@ -49,9 +53,9 @@ fn shift_memory(op: Opcode, words: &[u16]) -> Reading<'_, Instr>
 }
 
 /// What a bit field instruction does, which stands in bits 10 to 8.
-fn field_of(op: Opcode) -> FieldKind
+fn field_kind_in(op: Opcode) -> FieldKind
     requires { IsOpcode op }
-    ensures { result ≡ field_of op }
+    ensures { result ≡ field_kind_in op }
 {
     FieldKind::of(op.upper % 4 * 2 + op.bit)
 }
@@ -62,7 +66,7 @@ fn field(op: Opcode, words: &[u16]) -> Reading<'_, Instr>
     requires { IsOpcode op }
     ensures { Gives result (field_14 op words.now) }
 {
-    let kind = field_of(op);
+    let kind = field_kind_in(op);
     let ((word, ea), rest) = word_ea(kind.rule(), kind.class(), Size::Long, op, words)?;
     Ok((Instr::Arith(Arith::Field { kind, ea, word }), rest))
 }

@@ -4,7 +4,7 @@ use Rattle.std.specs.Prelude.{Option, Some, None, nat_lt, length, if◌then◌el
 use Rattle.mb_port.specs.declared.types.Place.{Place}
 use Rattle.mb_devices.specs.declared.register.Register.{Register}
 use Rattle.mb_devices.specs.declared.register.Register.TheVariants.{Data, Status, Ctrl, Period, Count, Ack, Power, Size}
-use Rattle.mb_devices.specs.Devices.{DeviceState, counted, idle, reset_of, sent, ticked}
+use Rattle.mb_devices.specs.Devices.{DeviceState, timer_counted, idle, reset_of, sent, ticked}
 use Rattle.mb_devices.specs.declared.devices.TheConstants.{CONSOLE_ROOM}
 use Rattle.mb_devices.specs.Registers.{powered, read_of, read_register, register_at, write_of, write_register}
 
@@ -20,12 +20,12 @@ size-sent byte d = size-either (nat_lt (length d.console) CONSOLE_ROOM) _ _ d re
 size-powered : (value : ℕ) (d : DeviceState) → (powered value d).ram ≡ d.ram
 size-powered value d = size-either (value == 1) _ _ d refl refl
 
-size-counted : (d : DeviceState) → (counted d).ram ≡ d.ram
+size-counted : (d : DeviceState) → (timer_counted d).ram ≡ d.ram
 size-counted d = size-either (d.count - 1 == 0) _ _ d refl refl
 
 pub size-ticked : (d : DeviceState) → (ticked d).ram ≡ d.ram
 unfolding ticked
-size-ticked d = size-either (d.period == 0) d (counted d) d refl (size-counted d)
+size-ticked d = size-either (d.period == 0) d (timer_counted d) d refl (size-counted d)
 
 pub size-idle : (ram : ℕ) → (idle ram).ram ≡ ram
 unfolding idle

@@ -68,14 +68,14 @@ abbrev pub started : ℕ → DeviceState → DeviceState
 started period d = record d { period = period; count = period }
 
 -- COUNT falls by 1. Where it reaches 0 the timer asks for an interrupt, and COUNT starts again
-abbrev pub counted : DeviceState → DeviceState
-counted d =
+abbrev pub timer_counted : DeviceState → DeviceState
+timer_counted d =
     let count = d.count - 1 in
     if count == 0 then record d { pending = true; count = d.period } else record d { count = count }
 
 -- one step of the machine: a timer of period 0 stands still
 unfoldable pub ticked : DeviceState → DeviceState
-ticked d = if d.period == 0 then d else counted d
+ticked d = if d.period == 0 then d else timer_counted d
 
 -- so many ticks
 abbrev pub ticks : ℕ → DeviceState → DeviceState

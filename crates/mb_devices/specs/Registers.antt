@@ -8,7 +8,7 @@ use Rattle.mb_devices.specs.declared.register.Register.TheVariants.{Data, Status
 use Rattle.mb_devices.specs.Devices.{DeviceState, has_received, oldest, sent, started, without_oldest}
 use Rattle.mb_devices.specs.declared.register.TheConstants.{BASE}
 
-pub record Row : Type 0 where
+pub record DeviceRow : Type 0 where
   -- its place behind the base, and how many bytes it has
   pub offset : ℕ
   pub size : ℕ
@@ -33,27 +33,28 @@ abbrev pub ignored : ℕ → DeviceState → DeviceState
 ignored value d = d
 
 abbrev pub register : (offset size : ℕ) → (value : DeviceState → ℕ) → (after_read : DeviceState → DeviceState)
-    → (written : ℕ → DeviceState → DeviceState) → Row
+    → (written : ℕ → DeviceState → DeviceState) → DeviceRow
 register offset size value after_read written =
     record { offset = offset; size = size; value = value; after_read = after_read; written = written }
 
 -- the table: a line a register
-abbrev pub row : Register → Row
-row Data = register 0x00 1 oldest without_oldest (λ value. sent (value % 2 ^ 8))
-row Status = register 0x01 1 status_of unchanged (λ value d. record d { overrun = false })
-row Ctrl = register 0x02 1 (λ d. from_bool d.enabled) unchanged (λ value d. record d { enabled = value % 2 == 1 })
-row Period = register 0x10 4 (λ d. d.period) unchanged started
-row Count = register 0x14 4 (λ d. d.count) unchanged ignored
-row Ack = register 0x18 4 (λ d. from_bool d.pending) unchanged (λ value d. record d { pending = false })
-row Power = register 0x20 4 (λ d. 0) unchanged powered
-row Size = register 0x24 4 (λ d. d.ram) unchanged ignored
+abbrev pub register_row : Register → DeviceRow
+register_row Data = register 0x00 1 oldest without_oldest (λ value. sent (value % 2 ^ 8))
+register_row Status = register 0x01 1 status_of unchanged (λ value d. record d { overrun = false })
+register_row Ctrl =
+    register 0x02 1 (λ d. from_bool d.enabled) unchanged (λ value d. record d { enabled = value % 2 == 1 })
+register_row Period = register 0x10 4 (λ d. d.period) unchanged started
+register_row Count = register 0x14 4 (λ d. d.count) unchanged ignored
+register_row Ack = register 0x18 4 (λ d. from_bool d.pending) unchanged (λ value d. record d { pending = false })
+register_row Power = register 0x20 4 (λ d. 0) unchanged powered
+register_row Size = register 0x24 4 (λ d. d.ram) unchanged ignored
 
 abbrev pub registers : List Register
 registers = Data ∷ Status ∷ Ctrl ∷ Period ∷ Count ∷ Ack ∷ Power ∷ Size ∷ []
 
 -- the place is that of the register, with its size
 abbrev pub stands_at : Place → Register → Bool
-stands_at place r = (place.at == BASE + (row r).offset) && (place.len == (row r).size)
+stands_at place r = (place.at == BASE + (register_row r).offset) && (place.len == (register_row r).size)
 
 -- the register of just that address and size
 unfoldable pub register_at : Place → Option Register
@@ -61,7 +62,7 @@ register_at place = find (stands_at place) registers
 
 -- what a read answers and what it leaves; none, and nothing changed, where there is no register
 abbrev pub read_register : Option Register → DeviceState → Option ℕ × DeviceState
-read_register (Some r) d = (Some ((row r).value d), (row r).after_read d)
+read_register (Some r) d = (Some ((register_row r).value d), (register_row r).after_read d)
 read_register None d = (None, d)
 
 unfoldable pub read_of : Place → DeviceState → Option ℕ × DeviceState
@@ -69,7 +70,7 @@ read_of place d = read_register (register_at place) d
 
 -- the same of a write
 abbrev pub write_register : Option Register → ℕ → DeviceState → Option (Unit {0}) × DeviceState
-write_register (Some r) value d = (Some tt, (row r).written value d)
+write_register (Some r) value d = (Some tt, (register_row r).written value d)
 write_register None value d = (None, d)
 
 unfoldable pub write_of : Place → ℕ → DeviceState → Option (Unit {0}) × DeviceState

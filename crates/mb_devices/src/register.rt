@@ -1,7 +1,7 @@
 //! The registers.
 
 ghost use Rattle.std.specs.Prelude.{◌≡◌, IfSome};
-ghost use Rattle.mb_devices.specs.Registers.{register_at, row};
+ghost use Rattle.mb_devices.specs.Registers.{register_at, register_row};
 
 use mb_port::Place;
 
@@ -34,7 +34,7 @@ impl Register {
     #[tactic(auto, unfolding(crate::specs::Registers::register_at))]
     pub(crate) fn at(place: Place) -> Option<Register>
         ensures register { result ≡ register_at place }
-        ensures size { IfSome result (λ r. place.len ≡ (row r).size) }
+        ensures size { IfSome result (λ r. place.len ≡ (register_row r).size) }
     {
         match (place.at.wrapping_sub(BASE), place.len) {
             (0x00, 1) => Some(Register::Data),

@@ -17,8 +17,8 @@ abbrev pub difference : ℕ → ℕ → ℕ
 difference a b = (a + (2 ^ 32 - b)) % 2 ^ 32
 
 -- the step of (An)+ and -(An): the operand's bytes, but two for a byte at A7
-abbrev pub step_of : Size → ℕ → ℕ
-step_of size n = if is_byte size && (n == 7) then 2 else bytes_of size
+abbrev pub increment_of : Size → ℕ → ℕ
+increment_of size n = if is_byte size && (n == 7) then 2 else bytes_of size
 
 -- the index register of an extension word: bit 15 says an address register, bits 14 to 12 are its number
 abbrev pub index_register : ℕ → Plain → ℕ

@@ -17,7 +17,7 @@ use Rattle.mb_ea.specs.declared.addresses.Target.{Target}
 use Rattle.mb_ea.specs.declared.addresses.Target.TheVariants.{Reg, Memory, Value}
 use Rattle.mb_ea.specs.declared.resolving.Parts.{Parts}
 use Rattle.mb_ea.specs.Reading.{read_operand_of}
-use Rattle.mb_ea.specs.Addresses.{sum, difference, step_of, index_of, displacement_of}
+use Rattle.mb_ea.specs.Addresses.{sum, difference, increment_of, index_of, displacement_of}
 
 -- what a full extension word spells: bit 7 leaves the base out, bit 6 the index
 abbrev pub parts_of : ℕ → ℕ → ℕ → ℕ → Plain → Parts
@@ -53,38 +53,39 @@ pub record Resolved : Type 0 where
   pub plain : Plain
 
 -- a target that leaves the registers as they were
-abbrev pub found : Target → Plain → Routine (Result Resolved ReadFault)
-found target p = Return (Ok (record { target = target; plain = p }))
+abbrev pub resolved_to : Target → Plain → Routine (Result Resolved ReadFault)
+resolved_to target p = Return (Ok (record { target = target; plain = p }))
 
 abbrev pub in_memory : Plain → Routine (Result ℕ ReadFault) → Routine (Result Resolved ReadFault)
 in_memory p address = do
   at ← address
-  found (Memory at) p
+  resolved_to (Memory at) p
 
 -- The target of an operand. `word_at` is the address of its first extension word, which is the base of the
 -- modes relative to the PC. A memory indirection reads its long as an operand, in the space that is given.
 unfoldable pub resolve_of : Ea → Size → ℕ → Space → Plain → Routine (Result Resolved ReadFault)
-resolve_of (Dn n) size word_at space p = found (Reg n) p
-resolve_of (An n) size word_at space p = found (Reg (8 + n)) p
-resolve_of (Ind n) size word_at space p = found (Memory (address_register p n)) p
+resolve_of (Dn n) size word_at space p = resolved_to (Reg n) p
+resolve_of (An n) size word_at space p = resolved_to (Reg (8 + n)) p
+resolve_of (Ind n) size word_at space p = resolved_to (Memory (address_register p n)) p
 resolve_of (Post n) size word_at space p =
-    found (Memory (address_register p n)) (with_address_register p n (sum (address_register p n) (step_of size n)))
+    resolved_to (Memory (address_register p n))
+    (with_address_register p n (sum (address_register p n) (increment_of size n)))
 resolve_of (Pre n) size word_at space p =
-    let at = difference (address_register p n) (step_of size n) in
-    found (Memory at) (with_address_register p n at)
-resolve_of (Disp n d) size word_at space p = found (Memory (sum (address_register p n) (sign_extended Word d))) p
+    let at = difference (address_register p n) (increment_of size n) in
+    resolved_to (Memory at) (with_address_register p n at)
+resolve_of (Disp n d) size word_at space p = resolved_to (Memory (sum (address_register p n) (sign_extended Word d))) p
 resolve_of (Index n e) size word_at space p = in_memory p (indexed_of (address_register p n) e space p)
-resolve_of (AbsW a) size word_at space p = found (Memory (sign_extended Word a)) p
-resolve_of (AbsL a) size word_at space p = found (Memory a) p
-resolve_of (PcDisp d) size word_at space p = found (Memory (sum word_at (sign_extended Word d))) p
+resolve_of (AbsW a) size word_at space p = resolved_to (Memory (sign_extended Word a)) p
+resolve_of (AbsL a) size word_at space p = resolved_to (Memory a) p
+resolve_of (PcDisp d) size word_at space p = resolved_to (Memory (sum word_at (sign_extended Word d))) p
 resolve_of (PcIndex e) size word_at space p = in_memory p (indexed_of word_at e space p)
-resolve_of (Imm v) size word_at space p = found (Value (low_of size v)) p
+resolve_of (Imm v) size word_at space p = resolved_to (Value (low_of size v)) p
 
 -- the registers once the operand's target was found: that of (An)+ has gone up, and that of -(An) down
-abbrev pub stepped : Ea → Size → Plain → Plain
-stepped (Post n) size p = with_address_register p n (sum (address_register p n) (step_of size n))
-stepped (Pre n) size p = with_address_register p n (difference (address_register p n) (step_of size n))
-stepped ea size p = p
+abbrev pub step_over_of : Ea → Size → Plain → Plain
+step_over_of (Post n) size p = with_address_register p n (sum (address_register p n) (increment_of size n))
+step_over_of (Pre n) size p = with_address_register p n (difference (address_register p n) (increment_of size n))
+step_over_of ea size p = p
 
 -- what a call answered, with the registers after it
 abbrev pub resolved : Result Target ReadFault → Plain → Result Resolved ReadFault

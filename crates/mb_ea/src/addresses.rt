@@ -1,7 +1,7 @@
 //! Addresses: steps, displacements and indices.
 
 ghost use Rattle.std.specs.Prelude.{◌≡◌, ◌<◌, ◌^◌};
-ghost use Rattle.mb_ea.specs.Addresses.{step_of, index_register, index_value, index_of, displacement_of};
+ghost use Rattle.mb_ea.specs.Addresses.{increment_of, index_register, index_value, index_of, displacement_of};
 
 use mb_instr::{Plain, Size};
 
@@ -18,8 +18,8 @@ pub enum Target {
 
 /// How far `(An)+` and `-(An)` step: A7 stays even.
 #[inline(always)]
-pub(crate) fn step(size: Size, register: u8) -> u32
-    ensures { result ≡ step_of size register }
+pub(crate) fn increment(size: Size, register: u8) -> u32
+    ensures { result ≡ increment_of size register }
 {
     if size == Size::Byte && register == 7 {
         2

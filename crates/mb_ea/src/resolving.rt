@@ -4,9 +4,9 @@ ghost use Rattle.std.specs.Prelude.{◌≡◌, ◌<◌, OnErr, IfOk};
 ghost use Rattle.mb_port.specs.Routine.{run};
 ghost use Rattle.mb_instr.specs.Operands.{IsExt, IsEa, IsInMemory, IsDestination};
 ghost use Rattle.mb_ea.specs.Addresses.{IsTarget, IsMemory, IsPlace};
-ghost use Rattle.mb_ea.specs.Resolve.{parts_of, indirect_of, full_of, indexed_of, stepped, resolve_of, resolved};
+ghost use Rattle.mb_ea.specs.Resolve.{parts_of, indirect_of, full_of, indexed_of, step_over_of, resolve_of, resolved};
 
-use crate::addresses::{Target, displacement, index, step};
+use crate::addresses::{Target, displacement, increment, index};
 use crate::reading::{ReadFault, read_value};
 use mb_instr::{Ea, Ext, Plain, Size};
 use mb_port::{Port, Space};
@@ -99,7 +99,7 @@ pub fn find_target<P: Port>(
 ) -> Result<Target, ReadFault>
     requires { IsEa size ea.now }
     ensures means { run P.bus (resolve_of ea.now size word_at space plain.now) (P.world port.old)
-        ≡ (resolved result (stepped ea.now size plain.now), P.world port.new) }
+        ≡ (resolved result (step_over_of ea.now size plain.now), P.world port.new) }
     ensures target { IfOk result (IsTarget size) }
     ensures place { IsDestination ea.now → IfOk result IsPlace }
     ensures memory { IsInMemory ea.now → IfOk result IsMemory }
@@ -109,7 +109,7 @@ pub fn find_target<P: Port>(
         Ea::Dn(n) => Ok(Target::Reg(n)),
         Ea::An(n) => Ok(Target::Reg(8 + n)),
         Ea::Ind(n) | Ea::Post(n) => Ok(Target::Memory(plain.a[n as usize])),
-        Ea::Pre(n) => Ok(Target::Memory(plain.a[n as usize].wrapping_sub(step(size, n)))),
+        Ea::Pre(n) => Ok(Target::Memory(plain.a[n as usize].wrapping_sub(increment(size, n)))),
         Ea::Disp(n, d) => {
             let displacement = Size::Word.sign_extend(u32::from(d));
             Ok(Target::Memory(plain.a[n as usize].wrapping_add(displacement)))
@@ -151,11 +151,11 @@ pub fn resolve<P: Port>(
     match *ea {
         Ea::Post(n) => {
             let at = plain.a[n as usize];
-            plain.a[n as usize] = at.wrapping_add(step(size, n));
+            plain.a[n as usize] = at.wrapping_add(increment(size, n));
             Ok(Target::Memory(at))
         }
         Ea::Pre(n) => {
-            let at = plain.a[n as usize].wrapping_sub(step(size, n));
+            let at = plain.a[n as usize].wrapping_sub(increment(size, n));
             plain.a[n as usize] = at;
             Ok(Target::Memory(at))
         }

@@ -2,7 +2,7 @@
 use Rattle.std.specs.Prelude.{ℕ, Bool, true, false, ◌&&◌, List, [], ◌∷◌, ◌++◌}
 use Rattle.mb_instr.specs.declared.instruction.Arith.{Arith}
 use Rattle.mb_instr.specs.declared.instruction.Arith.TheVariants as arith
-use Rattle.mb_instr.specs.Operands.{more, long, is_spelled, is_immediate, immediate}
+use Rattle.mb_instr.specs.Operands.{more, long_words, is_spelled, is_immediate, immediate}
 use Rattle.mb_instr.specs.Shapes.{Row}
 use Rattle.mb_encode.specs.declared.spelling.Head.{Head}
 use Rattle.mb_encode.specs.declared.spelling.Further.{Further}
@@ -31,7 +31,7 @@ abbrev pub operand_words : Further → List ℕ
 operand_words further.Nothing = []
 operand_words (further.Word w) = w ∷ []
 operand_words (further.Words w v) = w ∷ v ∷ []
-operand_words (further.Long v) = long v
+operand_words (further.Long v) = long_words v
 operand_words (further.Operand s ea) = more s ea
 operand_words (further.WordOperand w s ea) = more s ea
 operand_words (further.ImmediateOperand v s ea) = immediate s v ++ more s ea

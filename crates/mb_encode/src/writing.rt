@@ -3,8 +3,8 @@
 ghost use Rattle.std.specs.Prelude.{◌≡◌, ◌+◌, ◌≤◌, ◌++◌, [], ◌∷◌, true};
 ghost use Rattle.arrayvec.specs.ArrayVec.{array_vec_len};
 ghost use Rattle.mb_instr.specs.Opcodes.{word_of, IsOpcode};
-ghost use Rattle.mb_instr.specs.Operands.{mode, lower, long, ext, immediate, more, wide};
-ghost use Rattle.mb_instr.specs.Operands.{is_spelled, is_immediate, fits, is_ext};
+ghost use Rattle.mb_instr.specs.Operands.{mode, lower, long_words, ext, immediate, more, wide};
+ghost use Rattle.mb_instr.specs.Operands.{is_spelled, is_immediate, fits_width, is_ext};
 ghost use Rattle.mb_instr.specs.declared.operand.Ext.TheVariants.{Full};
 ghost use Rattle.mb_encode.specs.Spellings.{row_of, has_words, further_words};
 ghost use Rattle.mb_encode.specs.Encodes.{Gives, written};
@@ -57,7 +57,7 @@ pub fn lower(ea: &Ea) -> u8
 }
 
 fn fits(width: u16, value: u32) -> bool
-    ensures { result ≡ fits width value }
+    ensures { result ≡ fits_width width value }
 {
     match width {
         2 => value < 65536,
@@ -111,7 +111,7 @@ fn start(op: Opcode) -> Words
 
 fn push_long(value: u32, out: &mut Words)
     requires { array_vec_len out.old + 2 ≤ MOST_WORDS }
-    ensures items { out.new.items ≡ out.old.items ++ long value }
+    ensures items { out.new.items ≡ out.old.items ++ long_words value }
     ensures len { array_vec_len out.new ≡ array_vec_len out.old + 2 }
 {
     out.push((value >> 16) as u16);
@@ -132,7 +132,7 @@ fn push_immediate(size: Size, value: u32, out: &mut Words)
 
 fn push_wide(width: u16, value: u32, out: &mut Words)
     requires room { array_vec_len out.old + 2 ≤ MOST_WORDS }
-    requires fits { fits width value ≡ true }
+    requires fits { fits_width width value ≡ true }
     ensures items { out.new.items ≡ out.old.items ++ wide width value }
     ensures len { array_vec_len out.new ≤ array_vec_len out.old + 2 }
 {

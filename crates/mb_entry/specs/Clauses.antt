@@ -14,12 +14,12 @@ use Rattle.mb_writes.specs.declared.ends.Ended.TheVariants as ended
 use Rattle.mb_processor.specs.declared.entering.Cause.{Cause}
 use Rattle.mb_processor.specs.declared.entering.Entered.{Entered}
 use Rattle.mb_processor.specs.declared.entering.Entered.TheVariants as entered
-use Rattle.mb_processor.specs.Entry.{Places, frames_of, settled, check_frames_of, put_frames_of}
+use Rattle.mb_processor.specs.Entry.{Places, frames_of, handler_regs, check_frames_of, put_frames_of}
 
 -- Where an entry was carried out, SR and the stacks are as its frames leave them, and PC alone is the handler's. Where
 -- a check was refused no register changed.
 abbrev pub RegsAfter : Entered → Cause → Regs → Regs → Type 0
-RegsAfter entered.Done c old new = new ≡ record (settled c (frames_of c old) old) { pc = new.pc }
+RegsAfter entered.Done c old new = new ≡ record (handler_regs c (frames_of c old) old) { pc = new.pc }
 RegsAfter (entered.Faulted fault) c old new = new ≡ old
 RegsAfter entered.DoubleFault c old new = ⊤
 
@@ -49,7 +49,7 @@ pub record HasNoHandler {S : Type 0} (bus : Bus S) (c : Cause) (old : Cpu) (new 
   pub checked : run bus (check_frames_of (frames_of c old.regs)) s ≡ (Ok places, between)
   pub unread : let (_, stacked) = run bus (put_frames_of (frames_of c old.regs) places) between in
       IsUnread bus c.vector old.vbr stacked t
-  pub regs : new ≡ settled c (frames_of c old.regs) old.regs
+  pub regs : new ≡ handler_regs c (frames_of c old.regs) old.regs
 
 -- a double fault, by its cause
 abbrev pub IsDoubleFault : {S : Type 0} → Bus S → Cause → Cpu → Regs → S → S → Type 0

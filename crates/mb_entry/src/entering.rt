@@ -6,7 +6,7 @@ ghost use Rattle.mb_processor.specs.Entry.{frames_of, check_frames_of, go_to_han
 ghost use Rattle.mb_entry.specs.Clauses.{RegsAfter, GoesOn, IfFaulted, IfHalted, IsUnread, IsDoubleFault};
 
 use crate::places::{check_frames, put_frames};
-use crate::stacking::{frames_for, offset, settle};
+use crate::stacking::{frames_for, offset, set_handler_regs};
 use mb_ea::read_value;
 use mb_instr::Size;
 use mb_model::Cpu;
@@ -75,7 +75,7 @@ pub fn enter<P: Port>(cpu: &mut Cpu, port: &mut P, cause: &Cause) -> Entered
     match check_frames(&frames, port) {
         Ok(places) => {
             put_frames(&frames, &places, port);
-            settle(cause, &frames, &mut cpu.regs);
+            set_handler_regs(cause, &frames, &mut cpu.regs);
             go_to_handler(cause, cpu, port)
         }
         Err(fault) => unstacked(fault, cause, cpu),

@@ -1,9 +1,9 @@
 //! What is stacked for a cause, and where; and the registers once it is written.
 
 ghost use Rattle.std.specs.Prelude.{◌≡◌, ◌*◌, ◌<◌};
-ghost use Rattle.mb_frames.specs.Layout.{offset_of};
+ghost use Rattle.mb_frames.specs.Layout.{vector_offset_of};
 ghost use Rattle.mb_processor.specs.Entry.{frame_of, throwaway_of, stacked, handler_stack, with_handler_stack};
-ghost use Rattle.mb_processor.specs.Entry.{frames_of, settled};
+ghost use Rattle.mb_processor.specs.Entry.{frames_of, handler_regs};
 ghost use Rattle.mb_entry.specs.Stacks.{seen, frames_seen};
 
 use crate::status::{handler_status, thrown_status, without_master};
@@ -38,7 +38,7 @@ pub(crate) fn offset(vector: u8) -> u16
 /// The frame of a cause, with the saved status register.
 fn frame(sr: u16, cause: &Cause) -> Frame
     ensures frame { result ≡ frame_of sr cause.now }
-    ensures offset { offset_of result < 0x1000 }
+    ensures offset { vector_offset_of result < 0x1000 }
 {
     let pc = cause.pc;
     let offset = offset(cause.vector);
@@ -63,7 +63,7 @@ fn frame(sr: u16, cause: &Cause) -> Frame
 /// The frame of an interrupt above the one on the master stack.
 fn throwaway(sr: u16, cause: &Cause) -> Frame
     ensures frame { result ≡ throwaway_of sr cause.now }
-    ensures offset { offset_of result < 0x1000 }
+    ensures offset { vector_offset_of result < 0x1000 }
 {
     Frame::Throwaway {
         sr: thrown_status(sr),
@@ -75,7 +75,7 @@ fn throwaway(sr: u16, cause: &Cause) -> Frame
 /// A frame below the top of a stack.
 #[tactic(auto, unfolding(mb_processor::specs::Entry::stacked))]
 fn stack(frame: &Frame, top: u32) -> Stacked
-    requires { offset_of frame.now < 0x1000 }
+    requires { vector_offset_of frame.now < 0x1000 }
     ensures { seen result ≡ stacked frame.now top }
 {
     let bytes = to_bytes(frame);
@@ -118,10 +118,10 @@ pub(crate) fn frames_for(cause: &Cause, regs: &Regs) -> Frames
 }
 
 /// Makes the registers those of the handler, once the frames are written. PC is still the one that was stacked.
-#[tactic(auto, unfolding(mb_processor::specs::Entry::settled))]
-pub(crate) fn settle(cause: &Cause, frames: &Frames, regs: &mut Regs)
+#[tactic(auto, unfolding(mb_processor::specs::Entry::handler_regs))]
+pub(crate) fn set_handler_regs(cause: &Cause, frames: &Frames, regs: &mut Regs)
     requires { cause.now.level < 8 }
-    ensures { regs.new ≡ settled cause.now (frames_seen frames.now) regs.old }
+    ensures { regs.new ≡ handler_regs cause.now (frames_seen frames.now) regs.old }
 {
     set_handler_stack(regs, frames.first.at);
     regs.sr = handler_status(cause, regs.sr);

@@ -8,15 +8,15 @@ use Rattle.std.proofs.lemmas.List.Elements.{recursion_from_All, All-from_recursi
 use Rattle.mb_frames.specs.declared.frame.Access.{Access}
 use Rattle.mb_frames.specs.declared.frame.Frame.{Frame}
 use Rattle.mb_frames.specs.declared.frame.Frame.TheVariants as frame
-use Rattle.mb_frames.specs.Layout.{BeginsWith, Fits, IsFrame, StandsIn, bytes_of_fields, fields_of, fields_of_access, format_of, frame_bytes, frame_length, long, offset_of, word}
+use Rattle.mb_frames.specs.Layout.{BeginsWith, Fits, IsFrame, StandsIn, bytes_of_fields, fields_of, fields_of_access, format_of, frame_bytes, frame_length, long_field, vector_offset_of, word_field}
 use Rattle.mb_frames.specs.Reading.{access_in, format_in, frame_in, frame_of_format, long_at, offset_in, word_at}
 use Rattle.mb_frames.proofs.Fields.{AreAdjacent, ReadsAs, fields_read, fields_stand, fields_written, length-bytes_of_fields, size_of}
 
-word-read : (b : List ℕ) (place value : ℕ) → ReadsAs b (word place value) → word_at b place ≡ value
+word-read : (b : List ℕ) (place value : ℕ) → ReadsAs b (word_field place value) → word_at b place ≡ value
 unfolding word_at
 word-read b place value h = h
 
-long-read : (b : List ℕ) (place value : ℕ) → ReadsAs b (long place value) → long_at b place ≡ value
+long-read : (b : List ℕ) (place value : ℕ) → ReadsAs b (long_field place value) → long_at b place ≡ value
 unfolding long_at
 long-read b place value h = h
 
@@ -52,7 +52,7 @@ access-read b a (ea, (ssw, (wb3s, (wb2s, (wb1s, (fa, (wb3a, (wb3d, (wb2a, (wb2d,
     ) refl
 
 -- where the fields of a frame are read, the frame is
-pub frame_in-read : (b : List ℕ) (f : Frame) → size_of (fields_of f) ≤ length b → offset_of f < 0x1000
+pub frame_in-read : (b : List ℕ) (f : Frame) → size_of (fields_of f) ≤ length b → vector_offset_of f < 0x1000
     → AllByRecursion (ReadsAs b) (fields_of f) → frame_in b ≡ Some f
 frame_in-read b (frame.Short sr pc offset) room low (sr_read, (pc_read, (format_read, end))) =
     let format = format-read (word_at b 6) 0 offset (word-read b 6 _ format_read) low in
@@ -174,7 +174,7 @@ pub frame_in-begins : (b : List ℕ) (f : Frame) (rest : List ℕ) → IsFrame f
 frame_in-begins b f rest h e = ap frame_in e ∙ frame_in-frame_bytes f rest h
 
 -- the same for the bytes alone, by the facts that the code has
-pub frame_in-bytes : (b : List ℕ) (f : Frame) → b ≡ frame_bytes f → offset_of f < 4096 → All Fits (fields_of f) → frame_in b ≡ Some f
+pub frame_in-bytes : (b : List ℕ) (f : Frame) → b ≡ frame_bytes f → vector_offset_of f < 4096 → All Fits (fields_of f) → frame_in b ≡ Some f
 frame_in-bytes b f e low fits = frame_in-begins b f [] (low, fits) (e ∙ sym (append-nil (frame_bytes f)))
 
 -- how the code comes to the frame

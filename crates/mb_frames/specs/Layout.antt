@@ -12,27 +12,27 @@ pub record Field : Type 0 where
   pub size : ℕ
   pub value : ℕ
 
-abbrev pub word : ℕ → ℕ → Field
-word offset value = record { offset = offset; size = 2; value = value }
+abbrev pub word_field : ℕ → ℕ → Field
+word_field offset value = record { offset = offset; size = 2; value = value }
 
-abbrev pub long : ℕ → ℕ → Field
-long offset value = record { offset = offset; size = 4; value = value }
+abbrev pub long_field : ℕ → ℕ → Field
+long_field offset value = record { offset = offset; size = 4; value = value }
 
 -- what every frame begins with: SR, PC, and the format above the vector offset
 abbrev pub head : (sr pc format offset : ℕ) → List Field
 head sr pc format offset =
-    word SR_PLACE sr ∷ long PC_PLACE pc ∷ word FORMAT_PLACE (format * 0x1000 + offset) ∷ []
+    word_field SR_PLACE sr ∷ long_field PC_PLACE pc ∷ word_field FORMAT_PLACE (format * 0x1000 + offset) ∷ []
 
 -- what the frame of an access error has besides
 abbrev pub fields_of_access : Access → List Field
 fields_of_access a =
-    long 0x08 a.ea ∷ word 0x0C a.ssw
-    ∷ word 0x0E a.wb3s ∷ word 0x10 a.wb2s ∷ word 0x12 a.wb1s
-    ∷ long 0x14 a.fa
-    ∷ long 0x18 a.wb3a ∷ long 0x1C a.wb3d
-    ∷ long 0x20 a.wb2a ∷ long 0x24 a.wb2d
-    ∷ long 0x28 a.wb1a ∷ long 0x2C a.wb1d
-    ∷ long 0x30 a.pd1 ∷ long 0x34 a.pd2 ∷ long 0x38 a.pd3 ∷ []
+    long_field 0x08 a.ea ∷ word_field 0x0C a.ssw
+    ∷ word_field 0x0E a.wb3s ∷ word_field 0x10 a.wb2s ∷ word_field 0x12 a.wb1s
+    ∷ long_field 0x14 a.fa
+    ∷ long_field 0x18 a.wb3a ∷ long_field 0x1C a.wb3d
+    ∷ long_field 0x20 a.wb2a ∷ long_field 0x24 a.wb2d
+    ∷ long_field 0x28 a.wb1a ∷ long_field 0x2C a.wb1d
+    ∷ long_field 0x30 a.pd1 ∷ long_field 0x34 a.pd2 ∷ long_field 0x38 a.pd3 ∷ []
 
 -- the format number of a frame
 abbrev pub format_of : Frame → ℕ
@@ -45,7 +45,7 @@ format_of (frame.Access sr pc offset access) = 7
 abbrev pub fields_of : Frame → List Field
 fields_of (frame.Short sr pc offset) = head sr pc 0 offset
 fields_of (frame.Throwaway sr pc offset) = head sr pc 1 offset
-fields_of (frame.Address sr pc offset address) = head sr pc 2 offset ++ long 0x08 address ∷ []
+fields_of (frame.Address sr pc offset address) = head sr pc 2 offset ++ long_field 0x08 address ∷ []
 fields_of (frame.Access sr pc offset access) = head sr pc 7 offset ++ fields_of_access access
 
 -- the formats of the four frames
@@ -57,11 +57,11 @@ abbrev pub frame_length : ℕ → ℕ
 frame_length format = if format == 7 then LONGEST else if format == 2 then 12 else 8
 
 -- the vector offset of a frame
-abbrev pub offset_of : Frame → ℕ
-offset_of (frame.Short sr pc offset) = offset
-offset_of (frame.Throwaway sr pc offset) = offset
-offset_of (frame.Address sr pc offset address) = offset
-offset_of (frame.Access sr pc offset access) = offset
+abbrev pub vector_offset_of : Frame → ℕ
+vector_offset_of (frame.Short sr pc offset) = offset
+vector_offset_of (frame.Throwaway sr pc offset) = offset
+vector_offset_of (frame.Address sr pc offset address) = offset
+vector_offset_of (frame.Access sr pc offset access) = offset
 
 -- the bytes of fields that follow one another, each with its highest byte first
 abbrev pub bytes_of_fields : List Field → List ℕ
@@ -82,7 +82,7 @@ Fits f = f.value < 256 ^ f.size
 
 -- a frame as the code holds it: each field fits, and the vector offset has twelve bits
 abbrev pub IsFrame : Frame → Type 0
-IsFrame f = (offset_of f < 0x1000) × All Fits (fields_of f)
+IsFrame f = (vector_offset_of f < 0x1000) × All Fits (fields_of f)
 
 -- the bytes begin with the frame's
 abbrev pub BeginsWith : List ℕ → Frame → Type 0

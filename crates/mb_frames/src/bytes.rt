@@ -5,7 +5,7 @@ ghost use Rattle.std.specs.List.{flat_map};
 ghost use Rattle.arrayvec.specs.ArrayVec.{array_vec_len};
 ghost use Rattle.byteorder.specs.Endian.{big_bytes};
 ghost use Rattle.mb_frames.specs.declared.frame.Frame.{Frame};
-ghost use Rattle.mb_frames.specs.Layout.{BeginsWith, Fits, IsFormat, IsFrame, bytes_of_fields, fields_of, fields_of_access, format_of, frame_bytes, frame_length, head, offset_of, StandsIn};
+ghost use Rattle.mb_frames.specs.Layout.{BeginsWith, Fits, IsFormat, IsFrame, bytes_of_fields, fields_of, fields_of_access, format_of, frame_bytes, frame_length, head, vector_offset_of, StandsIn};
 ghost use Rattle.mb_frames.specs.Reading.{access_in, format_in, frame_in, frame_of_format, long_at, word_at};
 
 use crate::frame::{Access, Frame};
@@ -81,7 +81,7 @@ fn push_access(bytes: &mut ArrayVec<u8, LONGEST>, access: Access)
 #[tactic(auto, unfolding(crate::specs::Layout::frame_bytes))]
 fn push_frame(bytes: &mut ArrayVec<u8, LONGEST>, f: &Frame)
     requires empty { array_vec_len bytes.old ≡ 0 }
-    requires offset { offset_of f.now < 0x1000 }
+    requires offset { vector_offset_of f.now < 0x1000 }
     ensures bytes { bytes.new.items ≡ bytes.old.items ++ frame_bytes f.now }
     ensures fits { All Fits (fields_of f.now) }
 {
@@ -111,7 +111,7 @@ fn push_frame(bytes: &mut ArrayVec<u8, LONGEST>, f: &Frame)
 
 /// The bytes of a frame, as they stand in memory from its lowest address on.
 pub fn to_bytes(f: &Frame) -> ArrayVec<u8, LONGEST>
-    requires { offset_of f.now < 0x1000 }
+    requires { vector_offset_of f.now < 0x1000 }
     ensures bytes { result.items ≡ frame_bytes f.now }
     ensures len { array_vec_len result ≡ frame_length (format_of f.now) }
 

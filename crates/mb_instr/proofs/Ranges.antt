@@ -16,7 +16,7 @@ use Rattle.mb_instr.specs.declared.kinds.FieldKind.TheVariants as field
 use Rattle.mb_instr.specs.Kinds.{field_class}
 use Rattle.mb_instr.specs.declared.instruction.Move.TheVariants as move
 use Rattle.mb_instr.specs.declared.instruction.Instr.TheVariants as instr
-use Rattle.mb_instr.specs.Operands.{allows, mode, lower, more, long, wide, fits, is_full, is_ext, ext, immediate, is_immediate}
+use Rattle.mb_instr.specs.Operands.{allows, mode, lower, more, long_words, wide, fits_width, is_full, is_ext, ext, immediate, is_immediate}
 use Rattle.mb_instr.specs.Operands.{is_spelled, takes, IsExt, IsImmediate, IsEa, IsDestination, IsInMemory, IsData}
 use Rattle.mb_instr.specs.Rules.{holds}
 use Rattle.mb_instr.specs.Shapes.{Row, at_ea, word_ea, immediate_ea, when}
@@ -28,23 +28,23 @@ and_is true true e = (refl, refl)
 and_is true false e = absurd cc
 and_is false b e = absurd cc
 
-pub long_range : (v : ℕ) → AreWords (long v) → v < 2 ^ 32
+pub long_range : (v : ℕ) → AreWords (long_words v) → v < 2 ^ 32
 long_range v h = let high = AreWords-head (v / 65536) (v % 65536 ∷ []) h in omega arith
 
 wide_cases : (two three : Bool) (v : ℕ) → cond two (nat_lt v 65536) (cond three true (v == 0)) ≡ true →
-    AreWords (cond two (v ∷ []) (cond three (long v) [])) → v < 2 ^ 32
+    AreWords (cond two (v ∷ []) (cond three (long_words v) [])) → v < 2 ^ 32
 wide_cases true three v h w = let lt = AreWords-head v [] w in omega arith
 wide_cases false true v h w = long_range v w
 wide_cases false false v h w = grind (arith, nat_tests)
 
-wide_range : (width v : ℕ) → fits width v ≡ true → AreWords (wide width v) → v < 2 ^ 32
+wide_range : (width v : ℕ) → fits_width width v ≡ true → AreWords (wide width v) → v < 2 ^ 32
 wide_range width v h w = wide_cases (width == 2) (width == 3) v h w
 
 pub ext_range : (e : Ext) → is_ext e ≡ true → AreWords (ext e) → IsExt e
 ext_range (Brief w) h ws = AreWords-head w [] ws
 ext_range (Full w bd od) h ws =
-    let a = and_is (not (w / 2 ^ 8 % 2 == 0) && is_full w && fits (w / 2 ^ 4 % 4) bd) (fits (w % 4) od) h in
-    let b = and_is (not (w / 2 ^ 8 % 2 == 0) && is_full w) (fits (w / 2 ^ 4 % 4) bd) a.0 in
+    let a = and_is (not (w / 2 ^ 8 % 2 == 0) && is_full w && fits_width (w / 2 ^ 4 % 4) bd) (fits_width (w % 4) od) h in
+    let b = and_is (not (w / 2 ^ 8 % 2 == 0) && is_full w) (fits_width (w / 2 ^ 4 % 4) bd) a.0 in
     let behind = AreWords-tail w _ ws in (
       AreWords-head w _ ws,
       wide_range (w / 2 ^ 4 % 4) bd b.1 (AreWords-left _ _ behind),

@@ -21,7 +21,7 @@ use Rattle.mb_instr.specs.declared.instruction.System.{System}
 use Rattle.mb_instr.specs.declared.instruction.System.TheVariants as system
 use Rattle.mb_instr.specs.declared.instruction.Instr.{Instr}
 use Rattle.mb_instr.specs.declared.instruction.Instr.TheVariants as instr
-use Rattle.mb_instr.specs.Operands.{more, long, wide, ext, immediate}
+use Rattle.mb_instr.specs.Operands.{more, long_words, wide, ext, immediate}
 use Rattle.mb_instr.specs.Shapes.{further, branch_words}
 use Rattle.mb_instr.specs.Rows.{row, move_row, arith_row, flow_row, system_row, trap_words}
 use Rattle.mb_instr.specs.Codes.{Codes, AreWords}
@@ -122,7 +122,7 @@ one w = omega arith
 two : (w v : ℕ) → IsShort (w ∷ v ∷ [])
 two w v = omega arith
 
-long_length : (v : ℕ) → IsShort (long v)
+long_length : (v : ℕ) → IsShort (long_words v)
 long_length v = omega arith
 
 move_length : (i : Move) → IsShort (further (move_row i))

@@ -5,10 +5,10 @@ use Rattle.mb_instr.specs.Codes.{words_of}
 
 -- In an instruction at this address, whose words stand one behind the other, the operands' words begin with the word
 -- that has the address of `operands_at`.
-pub record Stand (r : Row) (at : ℕ) : Type 0 where
+pub record WordsStand (r : Row) (at : ℕ) : Type 0 where
   pub number : ℕ
   pub address : operands_at r at ≡ (at + 2 * number) % 2 ^ 32
   pub words : drop number (words_of r) ≡ r.operands
 
 abbrev pub OperandsStand : Type 0
-OperandsStand = (r : Row) (at : ℕ) → Stand r at
+OperandsStand = (r : Row) (at : ℕ) → WordsStand r at

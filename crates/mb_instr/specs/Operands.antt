@@ -71,16 +71,16 @@ lower (PcDisp d) = 2
 lower (PcIndex e) = 3
 lower (Imm v) = 4
 
-abbrev pub long : ℕ → List ℕ
-long v = v / 65536 ∷ v % 65536 ∷ []
+abbrev pub long_words : ℕ → List ℕ
+long_words v = v / 65536 ∷ v % 65536 ∷ []
 
 -- a full word's displacement: none, a word, a long
 abbrev pub wide : ℕ → ℕ → List ℕ
-wide width v = if width == 2 then v ∷ [] else if width == 3 then long v else []
+wide width v = if width == 2 then v ∷ [] else if width == 3 then long_words v else []
 
 -- such a displacement has its width, and is 0 where there is none
-abbrev pub fits : ℕ → ℕ → Bool
-fits width v = if width == 2 then nat_lt v 65536 else if width == 3 then true else v == 0
+abbrev pub fits_width : ℕ → ℕ → Bool
+fits_width width v = if width == 2 then nat_lt v 65536 else if width == 3 then true else v == 0
 
 -- a full word's forms: bit 3 is 0, a base displacement is named, and so is a kind of indirection
 abbrev pub is_full : ℕ → Bool
@@ -90,7 +90,7 @@ is_full w =
 
 abbrev pub is_ext : Ext → Bool
 is_ext (Brief w) = w / 2 ^ 8 % 2 == 0
-is_ext (Full w bd od) = not (w / 2 ^ 8 % 2 == 0) && is_full w && fits (w / 2 ^ 4 % 4) bd && fits (w % 4) od
+is_ext (Full w bd od) = not (w / 2 ^ 8 % 2 == 0) && is_full w && fits_width (w / 2 ^ 4 % 4) bd && fits_width (w % 4) od
 
 abbrev pub ext : Ext → List ℕ
 ext (Brief w) = w ∷ []
@@ -104,14 +104,14 @@ is_immediate size.Long v = true
 abbrev pub immediate : Size → ℕ → List ℕ
 immediate size.Byte v = v ∷ []
 immediate size.Word v = v ∷ []
-immediate size.Long v = long v
+immediate size.Long v = long_words v
 
 -- the words behind the first
 abbrev pub more : Size → Ea → List ℕ
 more size (Disp n d) = d ∷ []
 more size (Index n e) = ext e
 more size (AbsW a) = a ∷ []
-more size (AbsL a) = long a
+more size (AbsL a) = long_words a
 more size (PcDisp d) = d ∷ []
 more size (PcIndex e) = ext e
 more size (Imm v) = immediate size v

@@ -24,7 +24,7 @@ use Rattle.mb_instr.specs.Sizes.{size_bits, move_bits, chk_bits, long_bit, not_b
 use Rattle.mb_instr.specs.Kinds.{flag, bit_bits, shift_bits, field_bits, line_bits, caches_bits, scope_bits}
 use Rattle.mb_instr.specs.Kinds.{flush_bits, condition_bits, bit_class, bit_class_immediate, field_class, field_rule, side}
 use Rattle.mb_instr.specs.Rules.{holds}
-use Rattle.mb_instr.specs.Operands.{takes, more, mode, lower, long}
+use Rattle.mb_instr.specs.Operands.{takes, more, mode, lower, long_words}
 use Rattle.mb_instr.specs.Shapes.{Row, op, bare, with_word, with_long, with_ruled, at_ea, sized, word_ea, immediate_ea}
 use Rattle.mb_instr.specs.Shapes.{when, on_condition, branch_byte, branch_words, is_branch, is_quick}
 
@@ -47,7 +47,7 @@ trap_lower trap.Nothing = 4
 
 abbrev pub trap_words : TrapOperand → List ℕ
 trap_words (trap.Word w) = w ∷ []
-trap_words (trap.Long l) = long l
+trap_words (trap.Long l) = long_words l
 trap_words trap.Nothing = []
 
 -- an immediate count 8 is spelled 0

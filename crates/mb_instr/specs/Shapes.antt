@@ -12,7 +12,7 @@ use Rattle.mb_instr.specs.declared.opcode.Opcode.{Opcode}
 use Rattle.mb_instr.specs.Sizes.{size_bits}
 use Rattle.mb_instr.specs.Kinds.{condition_bits}
 use Rattle.mb_instr.specs.Rules.{holds}
-use Rattle.mb_instr.specs.Operands.{takes, more, mode, lower, long, is_immediate, immediate}
+use Rattle.mb_instr.specs.Operands.{takes, more, mode, lower, long_words, is_immediate, immediate}
 
 -- One row of the table: whether it has the value, the first word's fields, the words between the first one and those of
 -- the operands, and the operands' words.
@@ -46,7 +46,7 @@ abbrev pub with_word : Opcode → ℕ → Row
 with_word p w = record { legal = true; opcode = p; before = []; operands = w ∷ [] }
 
 abbrev pub with_long : Opcode → ℕ → Row
-with_long p v = record { legal = true; opcode = p; before = []; operands = long v }
+with_long p v = record { legal = true; opcode = p; before = []; operands = long_words v }
 
 -- a first word before a word with fixed bits
 abbrev pub with_ruled : WordRule → Opcode → ℕ → Row
@@ -96,7 +96,7 @@ branch_byte (branch.Long l) = 255
 abbrev pub branch_words : Branch → List ℕ
 branch_words (branch.Byte b) = []
 branch_words (branch.Word w) = w ∷ []
-branch_words (branch.Long l) = long l
+branch_words (branch.Long l) = long_words l
 
 abbrev pub is_branch : Branch → Bool
 is_branch (branch.Byte b) = not (b == 0) && not (b == 255)

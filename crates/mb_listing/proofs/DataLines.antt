@@ -8,10 +8,10 @@ use Rattle.mb_mnemonics.specs.declared.range.Range.TheVariants as range
 use Rattle.mb_mnemonics.specs.Ranges.{number}
 use Rattle.mb_asm.specs.Symbols.{Symbol}
 use Rattle.mb_asm.specs.Values.{Scope}
-use Rattle.mb_asm.specs.Extents.{behind, behind_dc, directive_in}
-use Rattle.mb_asm.specs.Bytes.{bytes, dc_bytes, item_bytes, unit_bytes}
+use Rattle.mb_asm.specs.Extents.{address_behind, behind_dc, directive_in}
+use Rattle.mb_asm.specs.Bytes.{operation_bytes, dc_bytes, item_bytes, unit_bytes}
 use Rattle.mb_asm.specs.Layouts.{earlier}
-use Rattle.mb_asm.specs.Judged.{judged, judged_by, judged_operation}
+use Rattle.mb_asm.specs.Judged.{judged_line, judged_by, judged_operation}
 use Rattle.mb_asm.specs.Texts.{assembled}
 use Rattle.mb_statement.specs.Numbers.{last_digits}
 use Rattle.mb_listing.specs.Listing.{data_line, source_at}
@@ -23,8 +23,8 @@ use Rattle.mb_listing.proofs.Sources.{dc_plain, digits_plain}
 use Rattle.mb_listing.proofs.Placed.{laid_by, number_narrow, number_sum, operation_by, placed, statement_placed}
 
 dc_behind_line : (at : ℕ) (digits : List ℕ) (value : ℕ) → at + 2 ≤ 4294967296
-    → behind (earlier (placed at) (dc_line digits)) (operation_by (name_at 1 3) (Some letter.Word) value) ≡ Ok (Some (at + 2))
-unfolding behind behind_dc
+    → address_behind (earlier (placed at) (dc_line digits)) (operation_by (name_at 1 3) (Some letter.Word) value) ≡ Ok (Some (at + 2))
+unfolding address_behind behind_dc
 dc_behind_line at digits value inside =
     let least : min (at + 2) 4294967297 ≡ at + 2 = omega arith in
     rw least refl
@@ -46,15 +46,15 @@ dc_judged_by : (symbols : List Symbol) (at : ℕ) (digits : List ℕ) (value : �
     → judged_by (placed at) (dc_line digits) None (operation_by (name_at 1 3) (Some letter.Word) value)
     (directive_in (dc_line digits) (operation_by (name_at 1 3) (Some letter.Word) value))
     (record { symbols = symbols; line = dc_line digits; at = Some at }) (Ok (Some (at + 2))) ≡ Ok (laid_by (value / 256 ∷ value % 256 ∷ []) (at + 2))
-unfolding judged_by bytes dc_bytes item_bytes
+unfolding judged_by operation_bytes dc_bytes item_bytes
 dc_judged_by symbols at digits value small inside =
     let none : nat_lt 4294967296 (at + 2) ≡ false = le-ltb 4294967296 (at + 2) inside in
     rw (word_bytes (record { symbols = symbols; line = dc_line digits; at = Some at }) value small, none) refl
 
 dc_judged : (symbols : List Symbol) (at : ℕ) (digits : List ℕ) (value : ℕ) → Spells digits value → value < 65536
     → at + 2 ≤ 4294967296
-    → judged symbols (placed at) (dc_line digits) (statement_in (dc_line digits)) ≡ Ok (laid_by (value / 256 ∷ value % 256 ∷ []) (at + 2))
-unfolding judged judged_operation
+    → judged_line symbols (placed at) (dc_line digits) (statement_in (dc_line digits)) ≡ Ok (laid_by (value / 256 ∷ value % 256 ∷ []) (at + 2))
+unfolding judged_line judged_operation
 dc_judged symbols at digits value spells small inside =
     rw (dc_statement digits value spells (omega arith), dc_behind_line at digits value inside)
     (dc_judged_by symbols at digits value small inside)

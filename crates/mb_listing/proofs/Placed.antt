@@ -13,10 +13,10 @@ use Rattle.mb_syntax.specs.Statements.{Operation}
 use Rattle.mb_syntax.specs.Lines.{statement_in}
 use Rattle.mb_asm.specs.Symbols.{Symbol}
 use Rattle.mb_asm.specs.Values.{Scope, value_of}
-use Rattle.mb_asm.specs.Extents.{behind, behind_org, directive_in, narrow_value, only_value}
-use Rattle.mb_asm.specs.Bytes.{bytes}
+use Rattle.mb_asm.specs.Extents.{address_behind, behind_org, directive_in, narrow_value, only_value}
+use Rattle.mb_asm.specs.Bytes.{operation_bytes}
 use Rattle.mb_asm.specs.Layouts.{Layout, beginning, after_line, earlier, next_at}
-use Rattle.mb_asm.specs.Judged.{Laid, judged, judged_by, judged_operation}
+use Rattle.mb_asm.specs.Judged.{Laid, judged_line, judged_by, judged_operation}
 use Rattle.mb_asm.specs.Texts.{Chunks, assembled, chunks_from, finished, no_chunks, symbols_of, with_laid}
 use Rattle.mb_report.specs.Digits.{hex8}
 use Rattle.mb_listing.specs.Listing.{source_at}
@@ -54,19 +54,19 @@ org_behind scope value small =
     rw (number_narrow scope value, least) refl
 
 org_behind_line : (layout : Layout) (digits : List ℕ) (value : ℕ) → value ≤ 4294967295
-    → behind (earlier layout (org_line digits)) (operation_by (name_at 1 4) None value) ≡ Ok (Some value)
-unfolding behind
+    → address_behind (earlier layout (org_line digits)) (operation_by (name_at 1 4) None value) ≡ Ok (Some value)
+unfolding address_behind
 org_behind_line layout digits value small = org_behind (earlier layout (org_line digits)) value small
 
 org_judged_by : (digits : List ℕ) (value : ℕ) → value ≤ 4294967295
     → judged_by beginning (org_line digits) None (operation_by (name_at 1 4) None value)
     (directive_in (org_line digits) (operation_by (name_at 1 4) None value)) (earlier beginning (org_line digits)) (Ok (Some value)) ≡ Ok (laid_by [] value)
-unfolding judged_by bytes
+unfolding judged_by operation_bytes
 org_judged_by digits value small = rw (le-ltb 4294967295 value small) refl
 
 org_judged : (symbols : List Symbol) (digits : List ℕ) (value : ℕ) → Spells digits value → value ≤ 4294967295
-    → judged symbols beginning (org_line digits) (statement_in (org_line digits)) ≡ Ok (laid_by [] value)
-unfolding judged judged_operation
+    → judged_line symbols beginning (org_line digits) (statement_in (org_line digits)) ≡ Ok (laid_by [] value)
+unfolding judged_line judged_operation
 org_judged symbols digits value spells small =
     rw (org_statement digits value spells small, org_behind_line beginning digits value small) (org_judged_by digits value small)
 
@@ -100,7 +100,7 @@ org_laid symbols digits value lines spells small =
 
 -- bytes that a statement lays without a gap are the last chunk
 last_laid : (symbols : List Symbol) (at first : ℕ) (others : List ℕ) (line : Line)
-    → judged symbols (placed at) line.characters (statement_in line.characters) ≡ Ok (laid_by (first ∷ others) (at + length (first ∷ others)))
+    → judged_line symbols (placed at) line.characters (statement_in line.characters) ≡ Ok (laid_by (first ∷ others) (at + length (first ∷ others)))
     → finished (chunks_from symbols (placed at) (started at) (line ∷ [])) ≡ Ok ((at, first ∷ others) ∷ [])
 unfolding with_laid
 last_laid symbols at first others line laid =
@@ -109,7 +109,7 @@ last_laid symbols at first others line laid =
 
 -- A text at an address is assembled as what its statement lays there.
 pub statement_placed : (at first : ℕ) (others text : List ℕ) → at < 2 ^ 32 → IsPlain text
-    → ((symbols : List Symbol) → judged symbols (placed at) (32 ∷ text) (statement_in (32 ∷ text))
+    → ((symbols : List Symbol) → judged_line symbols (placed at) (32 ∷ text) (statement_in (32 ∷ text))
     ≡ Ok (laid_by (first ∷ others) (at + length (first ∷ others))))
     → assembled (source_at at text) ≡ Ok ((at, first ∷ others) ∷ [])
 unfolding assembled

@@ -23,7 +23,7 @@ use Rattle.mb_machine.specs.declared.reference.Settled.TheVariants.{To, Refused,
 use Rattle.mb_machine.specs.World.{World, HasBytes}
 use Rattle.mb_machine.specs.Places.{Stand, memory, register, nowhere, in_ram, taken, taken_at, stored, checked, with_longs, taken_line, stored_line}
 use Rattle.mb_machine.specs.Access.{matched, root_of, search_for, searched, settled, translated, by_settled, by_found}
-use Rattle.mb_machine.specs.Bus.{bus_of, fetching_of, reading_of, writing_of, fault_of, place_at, Take, Store, read_at, read_by, wrote, written_at, written_by, with_register, tested, tested_by}
+use Rattle.mb_machine.specs.Bus.{bus_of, fetching_of, reading_of, writing_of, fault_of, place_at, Take, Store, read_at, read_by, wrote, written_at, written_by, after_set_mmu, tested, tested_by}
 use Rattle.mb_machine.specs.Laws.{IsBeneath, CallsStandBeneath, PlacesStandBeneath, SizesStay}
 use Rattle.mb_machine.proofs.BusLemmas.{stored_memory, stored_register, wrote_devices}
 
@@ -178,8 +178,8 @@ tested_count : (w : World) (space : Space) (page : ℕ) (write : Bool) (o : Opti
 tested_count w space page write (Some protected) h = refl
 tested_count w space page write None h = (searches_mark w.ram (root_of w.mmu space) space page write (has_big_pages w.mmu) h.bytes).size
 
-register_count : (rule : Rule) (which : MmuReg) (value : ℕ) (w : World) → length (with_register rule which value w).ram ≡ length w.ram
-unfolding with_register
+register_count : (rule : Rule) (which : MmuReg) (value : ℕ) (w : World) → length (after_set_mmu rule which value w).ram ≡ length w.ram
+unfolding after_set_mmu
 register_count rule which value w = refl
 
 pub sizes_stay : SizesStay

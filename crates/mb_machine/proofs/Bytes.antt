@@ -19,7 +19,7 @@ use Rattle.mb_machine.specs.declared.reference.Settled.TheVariants.{To, Refused,
 use Rattle.mb_machine.specs.World.{World, HasBytes}
 use Rattle.mb_machine.specs.Places.{Stand, memory, register, nowhere, taken, taken_at, stored, stored_at, checked, taken_line, stored_line, with_longs}
 use Rattle.mb_machine.specs.Access.{search_for, searched, translated, by_settled, by_found}
-use Rattle.mb_machine.specs.Bus.{bus_of, read_at, read_by, written_at, written_by, wrote, tested, tested_by, with_register}
+use Rattle.mb_machine.specs.Bus.{bus_of, read_at, read_by, written_at, written_by, wrote, tested, tested_by, after_set_mmu}
 
 abbrev pub AreBytes : List ℕ → Type 0
 AreBytes ram = All (λ byte. byte < 2 ^ 8) ram
@@ -208,8 +208,8 @@ tested-bytes : (space : Space) (page : ℕ) (write : Bool) (w : World) → HasBy
 unfolding tested
 tested-bytes space page write w h = tested_by-bytes w space page write _ h
 
-registered-bytes : (rule : Rule) (which : MmuReg) (value : ℕ) (w : World) → HasBytes w → HasBytes (with_register rule which value w)
-unfolding with_register
+registered-bytes : (rule : Rule) (which : MmuReg) (value : ℕ) (w : World) → HasBytes w → HasBytes (after_set_mmu rule which value w)
+unfolding after_set_mmu
 registered-bytes rule which value w h = record { bytes = h.bytes }
 
 pub bus-bytes : (rule : Rule) (c : Call) (w : World) → HasBytes w → HasBytes (bus_of rule c w).1

@@ -26,14 +26,14 @@ use Rattle.mb_walk.proofs.LongLemmas.{number_bytes}
 use Rattle.mb_writes.specs.Checked.{probe_pieces_of}
 use Rattle.mb_processor.specs.declared.entering.Entered.TheVariants as entered
 use Rattle.mb_processor.specs.Entry as entry
-use Rattle.mb_processor.specs.Entry.{Stacked, Frames, frames_of, settled, awake, put_bytes_of, probe_frame_of, probe_second_of, put_second_of, check_frames_of, put_frames_of, go_to_handler_of, enter_of, unstacked}
+use Rattle.mb_processor.specs.Entry.{Stacked, Frames, frames_of, handler_regs, awake, put_bytes_of, probe_frame_of, probe_second_of, put_second_of, check_frames_of, put_frames_of, go_to_handler_of, enter_of, unstacked}
 use Rattle.mb_machine.specs.World.{World}
 use Rattle.mb_machine.specs.Places.{in_ram, taken, checked}
 use Rattle.mb_machine.specs.Bus.{bus_of, place_at, fault_of, Take, faulting, read_at, read_by}
 use Rattle.mb_machine.proofs.BusLemmas.{taken_memory, stored_memory, takes_memory}
 use Rattle.mb_machine.specs.declared.reference.Reference.{Reference}
 use Rattle.mb_machine.specs.Access.{untranslated, translated, settled as settled_by, by_match, by_settled}
-use Rattle.mb_machine.specs.Enters.{supervising, IsOpen, HasRoom, stacked_on, at_handler, EntersStacked}
+use Rattle.mb_machine.specs.Enters.{supervising, IsUntranslated, HasRoom, stacked_on, at_handler, EntersStacked}
 use Rattle.mb_machine.proofs.Pieces.{piece_back, piece_fits, piece_some}
 use Rattle.mb_walk.proofs.Parts.{over-split}
 
@@ -69,7 +69,7 @@ frames_are_bytes c cpu = fields_are_bytes (fields_of (entry.frame_of cpu.regs.sr
 module _ (rule : Rule) where
   -- ---- checks
 
-  probed : (b : World) (p : Piece) → IsOpen b.mmu → p.at < 2 ^ 32 → p.at + p.len ≤ length b.ram
+  probed : (b : World) (p : Piece) → IsUntranslated b.mmu → p.at < 2 ^ 32 → p.at + p.len ≤ length b.ram
       → (bus_of rule) (Probe Super p) b ≡ (Ok (place_at p.at p.len), b)
   unfolding bus_of
   probed b p o l h =
@@ -84,7 +84,7 @@ module _ (rule : Rule) where
   AreInside size [] = Unit {0}
   AreInside size (p ∷ ps) = (p.at < 2 ^ 32) × (p.at + p.len ≤ size) × AreInside size ps
 
-  probes : (b : World) (ps : List Piece) (so_far : List Place) → IsOpen b.mmu → AreInside (length b.ram) ps
+  probes : (b : World) (ps : List Piece) (so_far : List Place) → IsUntranslated b.mmu → AreInside (length b.ram) ps
       → run (bus_of rule) (probe_pieces_of Super ps so_far) b ≡ (Ok (so_far ++ places_of ps), b)
   probes b [] so_far o h = ap (λ (l : List Place). (let q : Result (List Place) Fault × World = (Ok l, b) in q)) (sym (append-nil so_far))
   probes b (p ∷ ps) so_far o h =
@@ -159,7 +159,7 @@ module _ (rule : Rule) where
   unfolding split_of piece_len
   long_alone at h = let b : (at % 4 == 0) ≡ true = grind (arith, nat_tests) in rw b refl
 
-  read_is : (b : World) (at : ℕ) → IsOpen b.mmu → at < 2 ^ 32 → at + 4 ≤ length b.ram
+  read_is : (b : World) (at : ℕ) → IsUntranslated b.mmu → at < 2 ^ 32 → at + 4 ≤ length b.ram
       → (bus_of rule) (Read Super (record { at = at; len = 4 })) b ≡ (Ok (number_at b.ram at 4), b)
   unfolding bus_of
   read_is b at o l h =
@@ -168,7 +168,7 @@ module _ (rule : Rule) where
 
   -- ---- the whole
 
-  checks : (b : World) (f : Frames) → IsOpen b.mmu → f.second ≡ None → f.first.at + length f.first.bytes ≤ length b.ram → length b.ram ≤ 2 ^ 32
+  checks : (b : World) (f : Frames) → IsUntranslated b.mmu → f.second ≡ None → f.first.at + length f.first.bytes ≤ length b.ram → length b.ram ≤ 2 ^ 32
       → run (bus_of rule) (check_frames_of f) b ≡ (
         Ok (record {
           first =
@@ -199,7 +199,7 @@ module _ (rule : Rule) where
       (puts (length f.first.bytes) b f.first.at (length f.first.bytes) f.first.bytes (omega arith) refl are fits small)
       ∙ ap (λ (o : Option Stacked). run (bus_of rule) (put_second_of o []) (stacked_on b f)) one
 
-  vector_is : (b : World) (at : ℕ) → IsOpen b.mmu → at < 2 ^ 32 → at % 4 ≡ 0 → at + 4 ≤ length b.ram
+  vector_is : (b : World) (at : ℕ) → IsUntranslated b.mmu → at < 2 ^ 32 → at % 4 ≡ 0 → at + 4 ≤ length b.ram
       → run (bus_of rule) (read_operand_of Super at 4) b ≡ (Ok (number_at b.ram at 4), b)
   unfolding read_operand_of read_cut_of
   vector_is b at o l even h =
@@ -210,7 +210,7 @@ module _ (rule : Rule) where
       ∙ ap (λ (n : ℕ). (let q : Result ℕ ReadFault × World = (Ok n, b) in q)) value
 
   -- nothing that is written changes how the board translates
-  enters_by : (b : World) (c : Cause) (cpu : Cpu) → IsOpen b.mmu → HasRoom b c cpu
+  enters_by : (b : World) (c : Cause) (cpu : Cpu) → IsUntranslated b.mmu → HasRoom b c cpu
       → let after = stacked_on b (frames_of c cpu.regs) in
       run (bus_of rule) (enter_of c cpu) b ≡ ((entered.Done, at_handler after c cpu), after)
   unfolding enter_of go_to_handler_of
@@ -218,7 +218,7 @@ module _ (rule : Rule) where
       let f = frames_of c cpu.regs in
       let after = stacked_on b f in
       let places : entry.Places = record { first = places_of (cut (length f.first.bytes) f.first.at (length f.first.bytes)); second = [] } in
-      let handler : Cpu = record (awake cpu) { regs = settled c f cpu.regs } in
+      let handler : Cpu = record (awake cpu) { regs = handler_regs c f cpu.regs } in
       let v = sum cpu.vbr (4 * c.vector) in
       let size : length after.ram ≡ length b.ram = length-overwritten b.ram f.first.at f.first.bytes room.fits in
       let inside : v + 4 ≤ length b.ram = room.vector in

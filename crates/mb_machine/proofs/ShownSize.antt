@@ -11,14 +11,14 @@ use Rattle.mb_devices.specs.declared.register.Register.{Register}
 use Rattle.mb_devices.specs.declared.register.Register.TheVariants.{Data, Status, Ctrl, Period, Count, Ack, Power, Size}
 use Rattle.mb_devices.specs.Devices.{DeviceState, received, sent}
 use Rattle.mb_devices.specs.declared.devices.TheConstants.{QUEUE_ROOM, CONSOLE_ROOM}
-use Rattle.mb_devices.specs.Registers.{powered, row}
+use Rattle.mb_devices.specs.Registers.{powered, register_row}
 use Rattle.mb_devices.proofs.Sizes.{size-idle, size-reset, size-ticked}
 use Rattle.mb_processor.specs.Step.{step_of}
 use Rattle.mb_machine.specs.declared.reference.Reference.{Reference}
 use Rattle.mb_machine.specs.World.{World}
 use Rattle.mb_machine.specs.Places.{Stand, memory, register, nowhere, taken, taken_at, stored, stored_at, checked, taken_line, stored_line}
 use Rattle.mb_machine.specs.Access.{translated}
-use Rattle.mb_machine.specs.Bus.{bus_of, read_at, read_by, written_at, written_by, wrote, tested, tested_by, with_register}
+use Rattle.mb_machine.specs.Bus.{bus_of, read_at, read_by, written_at, written_by, wrote, tested, tested_by, after_set_mmu}
 use Rattle.mb_machine.proofs.Refusals.{translated-beside}
 use Rattle.mb_machine.specs.Laws.{ResetsShowTheSize, CallsLeaveTheSize, RunsLeaveTheSize}
 use Rattle.mb_script.specs.declared.input.Input.{Input}
@@ -41,7 +41,7 @@ shown-sent byte d = shown-either (nat_lt (length d.console) CONSOLE_ROOM) _ _ d.
 shown-powered : (value : ℕ) (d : DeviceState) → (powered value d).ram ≡ d.ram
 shown-powered value d = shown-either (value == 1) _ _ d.ram refl refl
 
-shown-after_read : (r : Register) (d : DeviceState) → ((row r).after_read d).ram ≡ d.ram
+shown-after_read : (r : Register) (d : DeviceState) → ((register_row r).after_read d).ram ≡ d.ram
 shown-after_read Data d = refl
 shown-after_read Status d = refl
 shown-after_read Ctrl d = refl
@@ -51,7 +51,7 @@ shown-after_read Ack d = refl
 shown-after_read Power d = refl
 shown-after_read Size d = refl
 
-shown-written : (r : Register) (value : ℕ) (d : DeviceState) → ((row r).written value d).ram ≡ d.ram
+shown-written : (r : Register) (value : ℕ) (d : DeviceState) → ((register_row r).written value d).ram ≡ d.ram
 shown-written Data value d = shown-sent _ d
 shown-written Status value d = refl
 shown-written Ctrl value d = refl
@@ -139,7 +139,7 @@ unfolding tested
 shown-tested space page write w = shown-tested_by w space page write _
 
 pub shown-bus : CallsLeaveTheSize
-unfolding bus_of with_register
+unfolding bus_of after_set_mmu
 shown-bus rule (Fetch space at) w = shown-read_by rule _ _ taken w shown-taken
 shown-bus rule (Read space p) w = shown-read_by rule _ _ taken w shown-taken
 shown-bus rule (Write space p value) w =

@@ -10,7 +10,7 @@ use Rattle.mb_port.specs.declared.types.MmuReg.{MmuReg}
 use Rattle.mb_port.specs.Registers.{with_mmu_register}
 use Rattle.mb_instr.specs.declared.control.ControlRegister.TheVariants as control
 use Rattle.mb_instr.specs.Control.{kept_bits}
-use Rattle.mb_model.specs.Keeping.{KeptLists, Rule, flushed, dropped, after_movec}
+use Rattle.mb_model.specs.Keeping.{KeptLists, Rule, flushed, after_ptest, after_movec}
 use Rattle.mb_walk.specs.Search.{Searched, status_of}
 use Rattle.mb_devices.specs.Devices.{reset_of}
 use Rattle.mb_machine.specs.declared.reference.Reference.{Reference}
@@ -89,8 +89,8 @@ written_by rule r len store w = let (at, after) = translated rule r w in written
 -- ---- registers and tests
 
 -- a register of the memory management unit is written: its bits are kept, and the rule says whether all is forgotten
-unfoldable pub with_register : Rule → MmuReg → ℕ → World → World
-with_register rule which value w = record w {
+unfoldable pub after_set_mmu : Rule → MmuReg → ℕ → World → World
+after_set_mmu rule which value w = record w {
   mmu = with_mmu_register w.mmu which (bit_and value (kept_bits (control.Mmu which)));
   kept = after_movec rule which w.kept;
 }
@@ -101,7 +101,7 @@ after_test w kept s = (status_of s.found, record w { ram = s.ram; kept = kept })
 abbrev pub tested_by : World → Space → ℕ → Bool → Option Bool → ℕ × World
 tested_by w space page write (Some protected) = (MMUSR_MATCHED, w)
 tested_by w space page write None =
-    after_test w (dropped (has_big_pages w.mmu) space page w.kept) (page_search w space page write)
+    after_test w (after_ptest (has_big_pages w.mmu) space page w.kept) (page_search w space page write)
 
 -- PTEST: unless a transparent register matches, the kept entries of the page are dropped, where pages have 8 KiB of
 -- both halves, and the tables are searched, whether translation is on or not. Nothing is kept.
@@ -121,7 +121,7 @@ bus_of rule (Probe space p) w = read_by rule (writing_of space p.at) p.len check
 bus_of rule (Get place) w = let (value, after) = taken place w in (unwrap_or value 0, after)
 bus_of rule (Put place value) w = (tt, unwrap_or (stored place value w) w)
 bus_of rule ReadMmu w = (w.mmu, w)
-bus_of rule (SetMmu which value) w = (tt, with_register rule which value w)
+bus_of rule (SetMmu which value) w = (tt, after_set_mmu rule which value w)
 bus_of rule (FlushKept what) w = (tt, record w { kept = flushed what w.kept })
 bus_of rule (Test space at write) w = tested space (page_of at) write w
 bus_of rule ResetDevices w = (tt, record w { devices = reset_of w.devices })

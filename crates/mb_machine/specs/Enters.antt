@@ -9,7 +9,7 @@ use Rattle.mb_ea.specs.Addresses.{sum}
 use Rattle.mb_walk.specs.Memory.{number_at, overwritten}
 use Rattle.mb_processor.specs.declared.entering.Cause.{Cause}
 use Rattle.mb_processor.specs.declared.entering.Entered.TheVariants as entered
-use Rattle.mb_processor.specs.Entry.{Frames, frames_of, settled, awake, enter_of}
+use Rattle.mb_processor.specs.Entry.{Frames, frames_of, handler_regs, awake, enter_of}
 use Rattle.mb_machine.specs.declared.reference.Reference.{Reference}
 use Rattle.mb_machine.specs.World.{World}
 use Rattle.mb_machine.specs.Access.{untranslated}
@@ -20,8 +20,8 @@ abbrev pub supervising : ℕ → Bool → Reference
 supervising at write = record { code = false; space = Super; at = at; write = write }
 
 -- the supervisor's operands stand at their own addresses
-abbrev pub IsOpen : Mmu → Type 0
-IsOpen mmu = (at : ℕ) (write : Bool) → at < 2 ^ 32 → untranslated mmu (supervising at write) ≡ Some false
+abbrev pub IsUntranslated : Mmu → Type 0
+IsUntranslated mmu = (at : ℕ) (write : Bool) → at < 2 ^ 32 → untranslated mmu (supervising at write) ≡ Some false
 
 -- One frame is written to a place in RAM, and the vector is a long in RAM.
 pub record HasRoom (w : World) (c : Cause) (cpu : Cpu) : Type 0 where
@@ -39,10 +39,10 @@ stacked_on w f = record w { ram = overwritten w.ram f.first.at f.first.bytes }
 abbrev pub at_handler : World → Cause → Cpu → Cpu
 at_handler after c cpu =
     let target = number_at after.ram (sum cpu.vbr (4 * c.vector)) 4 in
-    record (awake cpu) { regs = record (settled c (frames_of c cpu.regs) cpu.regs) { pc = target } }
+    record (awake cpu) { regs = record (handler_regs c (frames_of c cpu.regs) cpu.regs) { pc = target } }
 
 -- Nothing but the frame is written: nothing is searched and nothing is kept.
 abbrev pub EntersStacked : Type 0
-EntersStacked = (rule : Rule) (w : World) (c : Cause) (cpu : Cpu) → IsOpen w.mmu → HasRoom w c cpu
+EntersStacked = (rule : Rule) (w : World) (c : Cause) (cpu : Cpu) → IsUntranslated w.mmu → HasRoom w c cpu
     → let after = stacked_on w (frames_of c cpu.regs) in
     run (bus_of rule) (enter_of c cpu) w ≡ ((entered.Done, at_handler after c cpu), after)

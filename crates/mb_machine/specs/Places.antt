@@ -3,7 +3,7 @@ use Rattle.std.specs.Prelude.{ℕ, ◌+◌, ◌<◌, ◌≤◌, ◌≡◌, ◌�
 use Rattle.std.specs.Prelude.{Option, Some, None, if◌then◌else◌}
 use Rattle.mb_port.specs.declared.types.Place.{Place}
 use Rattle.mb_devices.specs.declared.register.Register.{Register}
-use Rattle.mb_devices.specs.Registers.{row, register_at}
+use Rattle.mb_devices.specs.Registers.{register_row, register_at}
 use Rattle.mb_walk.specs.Memory.{number_at, with_number}
 use Rattle.mb_machine.specs.World.{World}
 
@@ -28,13 +28,14 @@ stand_of size place = if in_ram size place.at place.len then memory else among_r
 -- what reading there answers, with the world after it
 abbrev pub taken_at : Stand → Place → World → Option ℕ × World
 taken_at memory place w = (Some (number_at w.ram place.at place.len), w)
-taken_at (register r) place w = (Some ((row r).value w.devices), record w { devices = (row r).after_read w.devices })
+taken_at (register r) place w =
+    (Some ((register_row r).value w.devices), record w { devices = (register_row r).after_read w.devices })
 taken_at nowhere place w = (None, w)
 
 -- the world after writing there
 abbrev pub stored_at : Stand → Place → ℕ → World → Option World
 stored_at memory place value w = Some (record w { ram = with_number w.ram place.at place.len value })
-stored_at (register r) place value w = Some (record w { devices = (row r).written value w.devices })
+stored_at (register r) place value w = Some (record w { devices = (register_row r).written value w.devices })
 stored_at nowhere place value w = None
 
 -- a read and a write of a physical piece, wherever it stands

@@ -44,27 +44,27 @@ abbrev pub found_none : Unfound → Plain → Performed
 found_none unfound p = Err (record { ended = end_without unfound; plain = p })
 
 -- an instruction and how many words it has, or why there is none
-abbrev pub Found : Type 0
-Found = Result (Instr × ℕ) Unfound
+abbrev pub FoundInstr : Type 0
+FoundInstr = Result (Instr × ℕ) Unfound
 
 -- by what the words are so far: the instruction, what follows with more words, or why there is none
-abbrev pub judged : Decoded → Routine Found → Routine Found
-judged (Whole i n) more = Return (Ok (i, n))
-judged More more = more
-judged Illegal more = Return (Err illegal)
-judged LineA more = Return (Err line_a)
-judged LineF more = Return (Err line_f)
+abbrev pub by_decoded : Decoded → Routine FoundInstr → Routine FoundInstr
+by_decoded (Whole i n) more = Return (Ok (i, n))
+by_decoded More more = more
+by_decoded Illegal more = Return (Err illegal)
+by_decoded LineA more = Return (Err line_a)
+by_decoded LineF more = Return (Err line_f)
 
 -- Words are fetched one at a time, at most so many more, until they are an instruction or can no longer become one. No
 -- later word is fetched.
-unfoldable pub found_of : ℕ → Space → ℕ → List ℕ → Routine Found
+unfoldable pub found_of : ℕ → Space → ℕ → List ℕ → Routine FoundInstr
 found_of zero space at words = Return (Err illegal)
 found_of (suc n) space at words = do
   word ← failing (λ fault. Unfetched (refused_in at fault)) (fetch space at)
-  judged (decode_of (words ++ word ∷ [])) (found_of n space ((at + 2) % 2 ^ 32) (words ++ word ∷ []))
+  by_decoded (decode_of (words ++ word ∷ [])) (found_of n space ((at + 2) % 2 ^ 32) (words ++ word ∷ []))
 
 -- The instruction that stands at PC. No word is fetched at an odd PC.
-unfoldable pub fetched_of : Space → ℕ → Routine Found
+unfoldable pub fetched_of : Space → ℕ → Routine FoundInstr
 fetched_of space pc = choose (pc % 2 == 1) (Return (Err odd_counter)) (found_of MOST_WORDS space pc [])
 
 -- the registers with PC past so many words
@@ -72,7 +72,7 @@ abbrev pub past : ℕ → Plain → Plain
 past n p = record p { pc = (p.pc + 2 * n) % 2 ^ 32 }
 
 -- what of a fetched instruction is done, as an instruction's own routine answers it
-abbrev pub attempted : Space → Plain → Routine Found → Routine Performed
+abbrev pub attempted : Space → Plain → Routine FoundInstr → Routine Performed
 attempted space p found =
     caught found (λ unfound. Return (found_none unfound p))
     (λ (i, n). perform_of i p.pc space (past n p))

@@ -19,20 +19,20 @@ use Rattle.mb_meaning.specs.Ends.{Rowed, carried, reading, writing}
 use Rattle.mb_meaning.specs.Operands.{find_address_of}
 
 -- the data register in bits 14 to 12
-abbrev pub named_by : ℕ → ℕ
-named_by word = word / 2 ^ 12 % 8
+abbrev pub field_register_in : ℕ → ℕ
+field_register_in word = word / 2 ^ 12 % 8
 
 -- the offset: where bit 11 is 1, the data register in bits 8 to 6, else bits 10 to 6
-abbrev pub offset_of : ℕ → Plain → ℕ
-offset_of word p = if word / 2 ^ 11 % 2 == 1 then data_register p (word / 2 ^ 6 % 8) else word / 2 ^ 6 % 32
+abbrev pub field_offset_of : ℕ → Plain → ℕ
+field_offset_of word p = if word / 2 ^ 11 % 2 == 1 then data_register p (word / 2 ^ 6 % 8) else word / 2 ^ 6 % 32
 
 -- the width modulo 32: where bit 5 is 1, of the data register in bits 2 to 0, else bits 4 to 0
 abbrev pub width_bits : ℕ → Plain → ℕ
 width_bits word p = if word / 2 ^ 5 % 2 == 1 then data_register p (word % 8) % 32 else word % 32
 
 -- the width, 0 meaning 32
-abbrev pub width_of : ℕ → Plain → ℕ
-width_of word p = if width_bits word p == 0 then 32 else width_bits word p
+abbrev pub field_width_of : ℕ → Plain → ℕ
+field_width_of word p = if width_bits word p == 0 then 32 else width_bits word p
 
 -- the row writes its field
 abbrev pub is_change : FieldKind → Bool
@@ -82,20 +82,22 @@ with_result _ n offset width old p = p
 -- the registers after a row whose field was that
 unfoldable pub field_done : FieldKind → ℕ → ℕ → Plain → Plain
 field_done kind word old p =
-    let width = width_of word p in
-    let seen = field_seen kind width old (data_register p (named_by word)) in
-    record (with_result kind (named_by word) (offset_of word p) width old p) { ccr = field_flags width seen p.ccr }
+    let width = field_width_of word p in
+    let seen = field_seen kind width old (data_register p (field_register_in word)) in
+    record (with_result kind (field_register_in word) (field_offset_of word p) width old p) {
+      ccr = field_flags width seen p.ccr;
+    }
 
 -- ---- a field in a data register, where it wraps round
 
 -- the register begins with its field where it is rotated by the offset, and is rotated back with the new one
 unfoldable pub field_in_register_of : FieldKind → ℕ → ℕ → Plain → Plain
 field_in_register_of kind word n p =
-    let width = width_of word p in
-    let turned = rotate_left w32 (data_register p n) (offset_of word p) in
+    let width = field_width_of word p in
+    let turned = rotate_left w32 (data_register p n) (field_offset_of word p) in
     let old = field_get_of turned 32 0 width in
-    let new = field_after kind width old (data_register p (named_by word)) in
-    let changed = rotate_right w32 (field_put_of turned 32 0 width new) (offset_of word p) in
+    let new = field_after kind width old (data_register p (field_register_in word)) in
+    let changed = rotate_right w32 (field_put_of turned 32 0 width new) (field_offset_of word p) in
     let done = field_done kind word old p in
     if is_change kind then with_data_register done n changed else done
 
@@ -112,13 +114,13 @@ bytes_held offset width = (offset % 8 + width + 7) / 8
 -- exactly the bytes that hold the field are read and, where the row changes it, written
 unfoldable pub field_in_memory_of : FieldKind → ℕ → ℕ → Space → Plain → Routine Rowed
 field_in_memory_of kind word address space p =
-    let offset = offset_of word p in
-    let width = width_of word p in
+    let offset = field_offset_of word p in
+    let width = field_width_of word p in
     let first = sum address (bytes_before offset) in
     let held = bytes_held offset width in do
       bytes ← reading (read_operand_of space first held)
       let old = field_get_of bytes (8 * held) (offset % 8) width
-      let new = field_after kind width old (data_register p (named_by word))
+      let new = field_after kind width old (data_register p (field_register_in word))
       let changed = field_put_of bytes (8 * held) (offset % 8) width new
       let done = field_done kind word old p
       choose (is_change kind)

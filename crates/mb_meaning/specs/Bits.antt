@@ -23,15 +23,15 @@ bit_size (Dn n) = Long
 bit_size _ = Byte
 
 -- The value with that bit: what stands above it, the bit, and what stands below it.
-abbrev pub with_bit : ℕ → ℕ → Bool → ℕ
-with_bit place value b = (value / 2 ^ place / 2 * 2 + from_bool b) * 2 ^ place + value % 2 ^ place
+abbrev pub with_bit_as : ℕ → ℕ → Bool → ℕ
+with_bit_as place value b = (value / 2 ^ place / 2 * 2 + from_bool b) * 2 ^ place + value % 2 ^ place
 
 -- the value with that bit inverted, cleared or set
 abbrev pub bit_after : BitKind → ℕ → ℕ → ℕ
 bit_after Test place value = value
-bit_after Change place value = with_bit place value (not (is_set value place))
-bit_after Clear place value = with_bit place value false
-bit_after Set place value = with_bit place value true
+bit_after Change place value = with_bit_as place value (not (is_set value place))
+bit_after Clear place value = with_bit_as place value false
+bit_after Set place value = with_bit_as place value true
 
 -- The bit's number counts modulo the bits of the operand. Z is the complement of the bit, the other codes stay.
 unfoldable pub change_bit_of : BitKind → ℕ → Size → ℕ → ℕ → Flagged

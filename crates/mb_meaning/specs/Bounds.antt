@@ -14,8 +14,8 @@ use Rattle.mb_alu.specs.Signs.{signed_of}
 use Rattle.mb_ea.specs.declared.reading.ReadFault.{ReadFault}
 use Rattle.mb_ea.specs.Addresses.{sum, difference}
 use Rattle.mb_ea.specs.Reading.{read_operand_of}
-use Rattle.mb_meaning.specs.Ends.{Rowed, carried, stopped, reading}
-use Rattle.mb_meaning.specs.Operands.{fetch_operand_of, find_address_of, named_register}
+use Rattle.mb_meaning.specs.Ends.{Rowed, carried, ended_otherwise, reading}
+use Rattle.mb_meaning.specs.Operands.{fetch_operand_of, find_address_of, named_register_in}
 use Rattle.mb_meaning.specs.Traps.{out_of_bounds}
 
 -- ---- one bound
@@ -32,7 +32,8 @@ is_above size bound value = int_lt (signed_of size bound) (signed_of size value)
 unfoldable pub check_bound_of : Size → ℕ → ℕ → Plain → Rowed
 check_bound_of size bound value p =
     if is_below size value || is_above size bound value
-    then stopped out_of_bounds (record p { ccr = ccr_of (record (conditions_of p.ccr) { n = is_below size value }) })
+    then ended_otherwise out_of_bounds
+    (record p { ccr = ccr_of (record (conditions_of p.ccr) { n = is_below size value }) })
     else carried p
 
 -- CHK: the value is a data register's, and the operand is the bound
@@ -75,7 +76,7 @@ compare_bounds_of size ea w word_at space p = do
   place ← find_address_of size ea word_at space p
   lower ← read_operand_of space place (bytes_of size)
   upper ← read_operand_of space (sum place (bytes_of size)) (bytes_of size)
-  Return (Ok (compared size lower upper (named_register w) p))
+  Return (Ok (compared size lower upper (named_register_in w) p))
 
 -- CMP2
 unfoldable pub cmp2_of : Size → Ea → ℕ → ℕ → Space → Plain → Routine Rowed
@@ -85,7 +86,7 @@ cmp2_of size ea w word_at space p = do
 
 -- a value out of bounds, which C says, traps
 unfoldable pub check_carry_of : Plain → Rowed
-check_carry_of p = if (conditions_of p.ccr).c then stopped out_of_bounds p else carried p
+check_carry_of p = if (conditions_of p.ccr).c then ended_otherwise out_of_bounds p else carried p
 
 -- CHK2
 unfoldable pub chk2_of : Size → Ea → ℕ → ℕ → Space → Plain → Routine Rowed

@@ -13,13 +13,13 @@ pub record Carried : Type 0 where
   pub plain : Plain
 
 -- an instruction that ended otherwise: how, and the registers then
-pub record Stopped : Type 0 where
+pub record OtherEnd : Type 0 where
   pub ended : Ended
   pub plain : Plain
 
 -- What an instruction's routine answers. It is closed once, in the step.
 abbrev pub Performed : Type 0
-Performed = Result Carried Stopped
+Performed = Result Carried OtherEnd
 
 -- ---- rows
 
@@ -30,10 +30,10 @@ pub data Cut (A : Type 0) : Type 0 where
 
 -- What the routine of a row answers.
 abbrev pub Rowed : Type 0
-Rowed = Result Carried (Cut Stopped)
+Rowed = Result Carried (Cut OtherEnd)
 
 -- how an instruction ends that began with these registers, and whose row was cut short so
-abbrev pub restored : Plain → Cut Stopped → Stopped
+abbrev pub restored : Plain → Cut OtherEnd → OtherEnd
 restored before (Unread refused) = record { ended = ended.ReadFault refused; plain = before }
 restored before (Stop stop) = stop
 
@@ -53,19 +53,19 @@ carried p = went false p
 abbrev pub jumped : Plain → Rowed
 jumped p = went true p
 
-abbrev pub stopped : Ended → Plain → Rowed
-stopped ended p = Err (Stop (record { ended = ended; plain = p }))
+abbrev pub ended_otherwise : Ended → Plain → Rowed
+ended_otherwise ended p = Err (Stop (record { ended = ended; plain = p }))
 
 -- a part that reads, whose fault cuts the row short and says nothing of the registers
 abbrev pub reading : {A B : Type 0} → Routine (Result A ReadFault) → Routine (Result A (Cut B))
 reading m = failing (λ refused. Unread refused) m
 
 -- a part whose fault ends the instruction so, with these registers
-abbrev pub ending : {A E : Type 0} → (E → Ended) → Plain → Routine (Result A E) → Routine (Result A (Cut Stopped))
+abbrev pub ending : {A E : Type 0} → (E → Ended) → Plain → Routine (Result A E) → Routine (Result A (Cut OtherEnd))
 ending how p m = failing (λ fault. Stop (record { ended = how fault; plain = p })) m
 
 -- a write: its fault leaves the registers as they are after the instruction
-abbrev pub writing : {A : Type 0} → Plain → Routine (Result A WriteFault) → Routine (Result A (Cut Stopped))
+abbrev pub writing : {A : Type 0} → Plain → Routine (Result A WriteFault) → Routine (Result A (Cut OtherEnd))
 writing after m = ending (λ refused. ended.WriteFault refused) after m
 
 -- ---- instructions

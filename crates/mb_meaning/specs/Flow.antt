@@ -13,18 +13,18 @@ use Rattle.mb_instr.specs.Sizes.{low_of, sign_extended}
 use Rattle.mb_instr.specs.Registers.{data_register, with_data_register, address_register}
 use Rattle.mb_ea.specs.Addresses.{sum, difference}
 use Rattle.mb_meaning.specs.Ends.{Rowed, carried, jumped, reading}
-use Rattle.mb_meaning.specs.Operands.{with_low, find_address_of, lowered, push_of}
+use Rattle.mb_meaning.specs.Operands.{with_low, find_address_of, stack_lowered, push_of}
 use Rattle.mb_meaning.specs.Conditions.{is_met}
 
 -- a displacement as a signed long
-abbrev pub displacement_of : Branch → ℕ
-displacement_of (displacement.Byte b) = sign_extended Byte b
-displacement_of (displacement.Word w) = sign_extended Word w
-displacement_of (displacement.Long l) = l
+abbrev pub branch_displacement_of : Branch → ℕ
+branch_displacement_of (displacement.Byte b) = sign_extended Byte b
+branch_displacement_of (displacement.Word w) = sign_extended Word w
+branch_displacement_of (displacement.Long l) = l
 
 -- the displacement counts from the word behind the instruction's first
 abbrev pub target_of : ℕ → Branch → ℕ
-target_of word_at d = sum word_at (displacement_of d)
+target_of word_at d = sum word_at (branch_displacement_of d)
 
 -- the condition F, which BSR has in a branch
 abbrev pub is_call : Condition → Bool
@@ -48,7 +48,7 @@ is_call condition.LessOrEqual = false
 -- the next instruction's address is pushed, and the flow goes to the target
 unfoldable pub call_of : ℕ → Space → Plain → Routine Rowed
 call_of target space p =
-    let after = record (lowered p) { pc = target } in
+    let after = record (stack_lowered p) { pc = target } in
     push_of p.pc (address_register after 7) space after >> Return (jumped after)
 
 -- to the target where the condition is met, else to the next instruction

@@ -12,14 +12,14 @@ use Rattle.mb_writes.specs.declared.ends.Ended.TheVariants as ended
 use Rattle.mb_meaning.specs.Ends.{Rowed, carried, ending, reading}
 
 -- the line of 16 bytes that has an address: the address with its low four bits clear
-abbrev pub line_at : ℕ → ℕ
-line_at address = address / 2 ^ 4 * 2 ^ 4
+abbrev pub line_address : ℕ → ℕ
+line_address address = address / 2 ^ 4 * 2 ^ 4
 
 -- a line is read, and then written; the registers are those after the instruction
 unfoldable pub move_line_of : ℕ → ℕ → Space → Plain → Routine Rowed
 move_line_of from to space after = do
-  line ← reading (failing (refused_in (line_at from)) (read_line space (line_at from)))
-  ending (λ fault. ended.LineFault fault line) after (write_line space (line_at to) line)
+  line ← reading (failing (refused_in (line_address from)) (read_line space (line_address from)))
+  ending (λ fault. ended.LineFault fault line) after (write_line space (line_address to) line)
   Return (carried after)
 
 -- a postincrement

@@ -23,7 +23,7 @@ use Rattle.mb_writes.specs.declared.transfers.MovemMode.TheVariants as mode
 use Rattle.mb_writes.specs.declared.ends.Ended.TheVariants as ended
 use Rattle.mb_writes.specs.Moving.{Halfway, transfer_of}
 use Rattle.mb_meaning.specs.Conditions.{is_met}
-use Rattle.mb_meaning.specs.Ends.{Rowed, Cut, Stop, Stopped, carried, reading}
+use Rattle.mb_meaning.specs.Ends.{Rowed, Cut, Stop, OtherEnd, carried, reading}
 use Rattle.mb_meaning.specs.Operands.{behind_of, fetch_operand_of, find_address_of, finish_with_of}
 
 -- MOVEQ: the byte, sign-extended; N and Z by it, V and C are cleared, X stays
@@ -84,14 +84,14 @@ move_from_ccr_of ea word_at space p = do
   finish_with_of to.target Word (p.ccr % 2 ^ 5) space to.plain
 
 -- a byte of ones, or of zeros
-abbrev pub byte_of : Bool → ℕ
-byte_of met = if met then 2 ^ 8 - 1 else 0
+abbrev pub condition_byte : Bool → ℕ
+condition_byte met = if met then 2 ^ 8 - 1 else 0
 
 -- Scc: ones where the condition is met, else zeros; the destination is not read
 unfoldable pub scc_of : Condition → Ea → ℕ → Space → Plain → Routine Rowed
 scc_of c ea word_at space p = do
   to ← reading (resolve_of ea Byte word_at space p)
-  finish_with_of to.target Byte (byte_of (is_met c p.ccr)) space to.plain
+  finish_with_of to.target Byte (condition_byte (is_met c p.ccr)) space to.plain
 
 -- what becomes of the address register of a MOVEM's operand
 abbrev pub movem_mode : Ea → MovemMode
@@ -104,7 +104,7 @@ abbrev pub movem_by : Bool → Size → Ea → ℕ → Movem
 movem_by is_load size ea mask = record { is_load = is_load; size = size; mode = movem_mode ea; mask = mask }
 
 -- a refused transfer ends the instruction, with what was loaded so far
-abbrev pub transferring : Routine (Result Plain Halfway) → Routine (Result Plain (Cut Stopped))
+abbrev pub transferring : Routine (Result Plain Halfway) → Routine (Result Plain (Cut OtherEnd))
 transferring m = failing (λ halfway. Stop (record { ended = ended.Movem halfway.fault; plain = halfway.plain })) m
 
 -- MOVEM

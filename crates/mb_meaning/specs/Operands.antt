@@ -16,12 +16,12 @@ use Rattle.mb_ea.specs.Reading.{read_operand_of}
 use Rattle.mb_ea.specs.Resolve.{resolve_of}
 use Rattle.mb_writes.specs.declared.ends.WriteFault.{WriteFault}
 use Rattle.mb_writes.specs.Writing.{write_operand_of}
-use Rattle.mb_meaning.specs.Ends.{Rowed, Cut, Stopped, carried, writing}
+use Rattle.mb_meaning.specs.Ends.{Rowed, Cut, OtherEnd, carried, writing}
 
 -- the register of all sixteen that an instruction's second word names: bit 15 says an address register, bits 14 to 12
 -- are its number
-abbrev pub named_register : ℕ → ℕ
-named_register word = word / 2 ^ 12
+abbrev pub named_register_in : ℕ → ℕ
+named_register_in word = word / 2 ^ 12
 
 -- the address of the words behind those of an operand
 abbrev pub behind_of : Size → Ea → ℕ → ℕ
@@ -82,12 +82,12 @@ finish_with_of target size value space after = do
   Return (carried done)
 
 -- the stack with one more long, and with one less
-abbrev pub lowered : Plain → Plain
-lowered p = with_address_register p 7 (difference (address_register p 7) 4)
+abbrev pub stack_lowered : Plain → Plain
+stack_lowered p = with_address_register p 7 (difference (address_register p 7) 4)
 
-abbrev pub raised : Plain → Plain
-raised p = with_address_register p 7 (sum (address_register p 7) 4)
+abbrev pub stack_raised : Plain → Plain
+stack_raised p = with_address_register p 7 (sum (address_register p 7) 4)
 
 -- A long goes onto the stack, whose new top is given. After the instruction the registers are these.
-unfoldable pub push_of : ℕ → ℕ → Space → Plain → Routine (Result (Unit {0}) (Cut Stopped))
+unfoldable pub push_of : ℕ → ℕ → Space → Plain → Routine (Result (Unit {0}) (Cut OtherEnd))
 push_of value top space after = writing after (write_operand_of space top 4 value)

@@ -9,7 +9,7 @@ use Rattle.mb_alu.specs.declared.quotients.Divided.{Divided}
 use Rattle.mb_alu.specs.declared.quotients.Divided.TheVariants.{Done, ZeroDivide, Overflow}
 use Rattle.mb_alu.specs.Products.{mul_of, div_of}
 use Rattle.mb_writes.specs.declared.ends.Ended.TheVariants as ended
-use Rattle.mb_meaning.specs.Ends.{Rowed, carried, stopped}
+use Rattle.mb_meaning.specs.Ends.{Rowed, carried, ended_otherwise}
 
 -- ---- by words
 
@@ -21,7 +21,7 @@ multiply_word_of signed n value p =
 
 -- a zero divide is a trap of this vector, and changes only condition codes
 abbrev pub zero_divided : ℕ → Plain → Rowed
-zero_divided ccr p = stopped (ended.Trap ZERO_DIVIDE) (record p { ccr = ccr })
+zero_divided ccr p = ended_otherwise (ended.Trap ZERO_DIVIDE) (record p { ccr = ccr })
 
 -- the quotient is the low word of the register, and the remainder the high one
 abbrev pub divided_by_word : ℕ → Divided → Plain → Rowed
@@ -37,12 +37,12 @@ divide_word_of signed n value p = divided_by_word n (div_of signed Word value (d
 -- ---- by longs: the word behind the first is `0lll sw00 0000 0hhh`
 
 -- the register of the low long, or of the quotient
-abbrev pub low_register : ℕ → ℕ
-low_register word = word / 2 ^ 12 % 8
+abbrev pub low_register_in : ℕ → ℕ
+low_register_in word = word / 2 ^ 12 % 8
 
 -- the register of the high long, or of the remainder
-abbrev pub high_register : ℕ → ℕ
-high_register word = word % 8
+abbrev pub high_register_in : ℕ → ℕ
+high_register_in word = word % 8
 
 abbrev pub is_signed : ℕ → Bool
 is_signed word = word / 2 ^ 11 % 2 == 1
@@ -57,14 +57,15 @@ with_two p n value m other = with_data_register (with_data_register p n value) m
 -- MULU.L and MULS.L with a product of 32 bits
 abbrev pub multiply_to_long_of : ℕ → ℕ → Plain → Plain
 multiply_to_long_of word value p =
-    let product = mul_of (is_signed word) Long value (data_register p (low_register word)) p.ccr in
-    record (with_data_register p (low_register word) product.value) { ccr = product.ccr }
+    let product = mul_of (is_signed word) Long value (data_register p (low_register_in word)) p.ccr in
+    record (with_data_register p (low_register_in word) product.value) { ccr = product.ccr }
 
 -- the same with a product of 64 bits: the register of the low long is written first
 abbrev pub multiply_to_wide_of : ℕ → ℕ → Plain → Plain
 multiply_to_wide_of word value p =
-    let product = mul_of (is_signed word) Wide value (data_register p (low_register word)) p.ccr in
-    record (with_two p (low_register word) (product.value % 2 ^ 32) (high_register word) (product.value / 2 ^ 32)) {
+    let product = mul_of (is_signed word) Wide value (data_register p (low_register_in word)) p.ccr in
+    record (with_two p (low_register_in word) (product.value % 2 ^ 32) (high_register_in word)
+    (product.value / 2 ^ 32)) {
       ccr = product.ccr;
     }
 
@@ -76,20 +77,20 @@ multiply_long_of word value p =
 -- the dividend: 64 bits in two registers, or 32 in one
 abbrev pub dividend_of : ℕ → Plain → ℕ
 dividend_of word p = if is_wide word
-    then data_register p (high_register word) * 2 ^ 32 + data_register p (low_register word)
-    else data_register p (low_register word)
+    then data_register p (high_register_in word) * 2 ^ 32 + data_register p (low_register_in word)
+    else data_register p (low_register_in word)
 
-abbrev pub width_of : ℕ → Width
-width_of word = if is_wide word then Wide else Long
+abbrev pub width_in : ℕ → Width
+width_in word = if is_wide word then Wide else Long
 
 -- the register of the remainder is written first
 abbrev pub divided_by_long : ℕ → Divided → Plain → Rowed
 divided_by_long word (Done quotient remainder ccr) p =
-    carried (record (with_two p (high_register word) remainder (low_register word) quotient) { ccr = ccr })
+    carried (record (with_two p (high_register_in word) remainder (low_register_in word) quotient) { ccr = ccr })
 divided_by_long word (Overflow ccr) p = carried (record p { ccr = ccr })
 divided_by_long word (ZeroDivide ccr) p = zero_divided ccr p
 
 -- DIVUL.L, DIVSL.L, DIVU.L and DIVS.L
 abbrev pub divide_long_of : ℕ → ℕ → Plain → Rowed
 divide_long_of word value p =
-    divided_by_long word (div_of (is_signed word) (width_of word) value (dividend_of word p) p.ccr) p
+    divided_by_long word (div_of (is_signed word) (width_in word) value (dividend_of word p) p.ccr) p

@@ -22,7 +22,7 @@ use Rattle.mb_fields.specs.Decimals.{abcd_of, sbcd_of}
 use Rattle.mb_fields.specs.Packing.{pack_of, unpk_of}
 use Rattle.mb_writes.specs.declared.ends.Ended.{Ended}
 use Rattle.mb_writes.specs.declared.ends.Ended.TheVariants as ended
-use Rattle.mb_meaning.specs.Ends.{Performed, Rowed, carried, stopped, restoring}
+use Rattle.mb_meaning.specs.Ends.{Performed, Rowed, carried, ended_otherwise, restoring}
 use Rattle.mb_instr.specs.Sizes.{sign_extended}
 use Rattle.mb_meaning.specs.Moves.{moveq_of, move_operand_of, movea_of, lea_of, exg_of, swap_of, movem_of, move_to_ccr_of}
 use Rattle.mb_meaning.specs.Moves.{move_from_ccr_of, scc_of}
@@ -34,8 +34,8 @@ use Rattle.mb_instr.specs.Rows.{move_row, arith_row, flow_row}
 use Rattle.mb_meaning.specs.Modifying.{modify_of}
 use Rattle.mb_meaning.specs.Arithmetic.{added, subtracted, added_extended, subtracted_extended, combine_of, compare_pair_of}
 use Rattle.mb_meaning.specs.Arithmetic.{combine_either_way_of, chain_of, combine_quick_of, take_of, address_moved, address_compared}
-use Rattle.mb_meaning.specs.Unary.{negated, negated_extended, complemented, clr_of, tested, ext_of, combine_with_ccr_of}
-use Rattle.mb_meaning.specs.Shifts.{count_of, shift_register_of, shifted_by_one}
+use Rattle.mb_meaning.specs.Unary.{negated, negated_extended, complemented, clr_of, tst_effect, ext_of, combine_with_ccr_of}
+use Rattle.mb_meaning.specs.Shifts.{shift_count_of, shift_register_of, shifted_by_one}
 use Rattle.mb_meaning.specs.Products.{multiply_word_of, divide_word_of, multiply_long_of, divide_long_of}
 use Rattle.mb_meaning.specs.Bits.{bit_row_of}
 use Rattle.mb_meaning.specs.Decimals.{negate_decimal_of, decimal_of, repack_of}
@@ -120,7 +120,7 @@ perform_arith_of (arith.Neg size ea) word_at space p = modify_of (negated size) 
 perform_arith_of (arith.Negx size ea) word_at space p = modify_of (negated_extended size) size ea word_at space p
 perform_arith_of (arith.Not size ea) word_at space p = modify_of (complemented size) size ea word_at space p
 perform_arith_of (arith.Clr size ea) word_at space p = clr_of size ea word_at space p
-perform_arith_of (arith.Tst size ea) word_at space p = take_of (tested size) size ea word_at space p
+perform_arith_of (arith.Tst size ea) word_at space p = take_of (tst_effect size) size ea word_at space p
 perform_arith_of (arith.ExtW register) word_at space p = Return (carried (ext_of Byte Word register p))
 perform_arith_of (arith.ExtL register) word_at space p = Return (carried (ext_of Word Long register p))
 perform_arith_of (arith.ExtbL register) word_at space p = Return (carried (ext_of Byte Long register p))
@@ -128,7 +128,7 @@ perform_arith_of (arith.OriCcr word) word_at space p = Return (carried (combine_
 perform_arith_of (arith.AndiCcr word) word_at space p = Return (carried (combine_with_ccr_of logic.And word p))
 perform_arith_of (arith.EoriCcr word) word_at space p = Return (carried (combine_with_ccr_of logic.Eor word p))
 perform_arith_of (arith.ShiftReg count is_left size by_register kind register) word_at space p =
-    Return (carried (shift_register_of kind is_left size (count_of by_register count p) register p))
+    Return (carried (shift_register_of kind is_left size (shift_count_of by_register count p) register p))
 perform_arith_of (arith.ShiftMem kind is_left ea) word_at space p =
     modify_of (shifted_by_one kind is_left) Word ea word_at space p
 perform_arith_of (arith.MulW register signed ea) word_at space p =
@@ -177,7 +177,7 @@ unfoldable pub row_of : Instr → ℕ → Space → Plain → Routine Rowed
 row_of (instr.Move i) at space p = perform_move_of i (operands_at (move_row i) at) space p
 row_of (instr.Arith i) at space p = perform_arith_of i (operands_at (arith_row i) at) space p
 row_of (instr.Flow i) at space p = perform_flow_of i (operands_at (flow_row i) at) space p
-row_of (instr.System i) at space p = Return (stopped privileged p)
+row_of (instr.System i) at space p = Return (ended_otherwise privileged p)
 
 -- What an instruction does, all accesses in this space. `at` is its address; PC is past it. A part which reads and is
 -- refused leaves the registers, whatever the row.

@@ -10,8 +10,8 @@ use Rattle.mb_alu.specs.Shifts.{shift_of}
 use Rattle.mb_meaning.specs.Unary.{put_in_register_of}
 
 -- a register of counts counts modulo 64
-abbrev pub count_of : Bool → ℕ → Plain → ℕ
-count_of by_register count p = if by_register then data_register p count % 64 else count
+abbrev pub shift_count_of : Bool → ℕ → Plain → ℕ
+shift_count_of by_register count p = if by_register then data_register p count % 64 else count
 
 -- a shift or rotate of a data register
 unfoldable pub shift_register_of : ShiftKind → Bool → Size → ℕ → ℕ → Plain → Plain

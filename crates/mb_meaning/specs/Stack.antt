@@ -9,13 +9,13 @@ use Rattle.mb_instr.specs.Registers.{address_register, with_address_register}
 use Rattle.mb_ea.specs.Addresses.{sum}
 use Rattle.mb_ea.specs.Reading.{read_operand_of}
 use Rattle.mb_meaning.specs.Ends.{Rowed, carried, reading}
-use Rattle.mb_meaning.specs.Operands.{find_address_of, lowered, push_of}
+use Rattle.mb_meaning.specs.Operands.{find_address_of, stack_lowered, push_of}
 
 -- PEA: the address is formed, and then A7 falls and the address is stored there
 unfoldable pub pea_of : Ea → ℕ → Space → Plain → Routine Rowed
 pea_of ea word_at space p = do
   place ← reading (find_address_of Long ea word_at space p)
-  let after = lowered p
+  let after = stack_lowered p
   push_of place (address_register after 7) space after
   Return (carried after)
 
@@ -28,7 +28,7 @@ linked n displacement p =
 -- LINK: A7 falls, and An is stored there; of A7 itself its new value
 unfoldable pub link_of : ℕ → ℕ → Space → Plain → Routine Rowed
 link_of n displacement space p =
-    let low = lowered p in
+    let low = stack_lowered p in
     let after = linked n displacement low in
     push_of (address_register low n) (address_register low 7) space after >> Return (carried after)
 

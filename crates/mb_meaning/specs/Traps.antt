@@ -6,7 +6,7 @@ use Rattle.mb_instr.specs.declared.registers.Plain.{Plain}
 use Rattle.mb_instr.specs.declared.vectors.TheConstants.{OUT_OF_BOUNDS, CONDITION_MET, FIRST_TRAP}
 use Rattle.mb_writes.specs.declared.ends.Ended.{Ended}
 use Rattle.mb_writes.specs.declared.ends.Ended.TheVariants as ended
-use Rattle.mb_meaning.specs.Ends.{Rowed, carried, stopped}
+use Rattle.mb_meaning.specs.Ends.{Rowed, carried, ended_otherwise}
 use Rattle.mb_meaning.specs.Conditions.{is_met}
 
 -- the vectors of traps
@@ -21,11 +21,11 @@ numbered_trap number = ended.Trap (FIRST_TRAP + number)
 
 -- TRAP
 unfoldable pub trap_of : ℕ → Plain → Rowed
-trap_of number p = stopped (numbered_trap number) p
+trap_of number p = ended_otherwise (numbered_trap number) p
 
 -- TRAPcc, whose operand is passed over: a trap where the condition is met
 unfoldable pub trapcc_of : Condition → Plain → Rowed
-trapcc_of c p = if is_met c p.ccr then stopped conditional_trap p else carried p
+trapcc_of c p = if is_met c p.ccr then ended_otherwise conditional_trap p else carried p
 
 -- TRAPV: a trap on overflow
 unfoldable pub trapv_of : Plain → Rowed

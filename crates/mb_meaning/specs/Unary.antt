@@ -37,8 +37,8 @@ clr_of size ea word_at space p = do
   finish_with_of to.target size 0 space (move_flags size 0 to.plain)
 
 -- TST
-abbrev pub tested : Size → ℕ → Plain → Rowed
-tested size value p = carried (move_flags size value p)
+abbrev pub tst_effect : Size → ℕ → Plain → Rowed
+tst_effect size value p = carried (move_flags size value p)
 
 -- the low bytes of a data register become these, and the condition codes too
 abbrev pub put_in_register_of : ℕ → Size → Flagged → Plain → Plain

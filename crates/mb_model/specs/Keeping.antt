@@ -121,9 +121,9 @@ is_half_of big space page k = is_of space page k || (big && is_of space (other_h
 
 -- what is kept once PTEST has dropped the entries of a page of a space, on both sides: where pages have 8 KiB, of both
 -- halves
-abbrev pub dropped : Bool → Space → ℕ → KeptLists → KeptLists
-dropped false space page kept = flushed (Page space page) kept
-dropped true space page kept = flushed (Page space (other_half page)) (flushed (Page space page) kept)
+abbrev pub after_ptest : Bool → Space → ℕ → KeptLists → KeptLists
+after_ptest false space page kept = flushed (Page space page) kept
+after_ptest true space page kept = flushed (Page space (other_half page)) (flushed (Page space page) kept)
 
 -- what is kept after a MOVEC to a register
 abbrev pub after_movec : Rule → MmuReg → KeptLists → KeptLists

@@ -4,7 +4,7 @@ use Rattle.mb_port.specs.Routine.{other_fault}
 use Rattle.mb_instr.specs.declared.registers.Plain.{Plain}
 use Rattle.mb_writes.specs.declared.ends.Ended.{Ended}
 use Rattle.mb_writes.specs.declared.ends.Ended.TheVariants as ends
-use Rattle.mb_meaning.specs.Ends.{Stopped, Performed, Cut, Unread, Stop, Rowed, restored, went, carried}
+use Rattle.mb_meaning.specs.Ends.{OtherEnd, Performed, Cut, Unread, Stop, Rowed, restored, went, carried}
 use Rattle.mb_operands.specs.declared.endings.Undone.{Undone}
 
 -- what it answered, with that end
@@ -35,7 +35,7 @@ IsUnfinished (ends.Movem refused) = ⊥
 -- ---- functions that work on the registers in place
 
 -- what cut a row short whose function left this end, and these registers
-abbrev pub cut_by : Ended → Plain → Cut Stopped
+abbrev pub cut_by : Ended → Plain → Cut OtherEnd
 cut_by (ends.ReadFault refused) now = Unread refused
 cut_by end now = Stop (record { ended = end; plain = now })
 

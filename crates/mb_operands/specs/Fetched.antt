@@ -6,7 +6,7 @@ use Rattle.mb_instr.specs.Sizes.{values_of}
 use Rattle.mb_ea.specs.declared.reading.ReadFault.{ReadFault}
 use Rattle.mb_ea.specs.Addresses.{IsTarget}
 use Rattle.mb_writes.specs.declared.ends.Ended.{Ended}
-use Rattle.mb_meaning.specs.Ends.{Stopped, Cut}
+use Rattle.mb_meaning.specs.Ends.{OtherEnd, Cut}
 use Rattle.mb_meaning.specs.Operands.{Fetched}
 use Rattle.mb_operands.specs.declared.operands.Operand.{Operand}
 use Rattle.mb_operands.specs.declared.endings.Undone.{Undone}
@@ -22,6 +22,6 @@ abbrev pub IsOperand : Size → Operand → Type 0
 IsOperand size operand = IsTarget size operand.target × (operand.value < values_of size)
 
 -- what a push answered, with its end and the registers after the instruction
-abbrev pub pushed : Result (Unit {0}) Undone → Ended → Plain → Result (Unit {0}) (Cut Stopped)
+abbrev pub pushed : Result (Unit {0}) Undone → Ended → Plain → Result (Unit {0}) (Cut OtherEnd)
 pushed (Ok done) end p = Ok done
 pushed (Err undone) end p = Err (cut_by end p)

@@ -5,7 +5,7 @@ ghost use Rattle.mb_port.specs.Routine.{run};
 ghost use Rattle.mb_instr.specs.Sizes.{values_of};
 ghost use Rattle.mb_instr.specs.Operands.{IsEa, IsInMemory, IsDestination};
 ghost use Rattle.mb_ea.specs.Addresses.{IsTarget, IsMemory, IsPlace};
-ghost use Rattle.mb_meaning.specs.Operands.{behind_of, named_register, with_low, load_of, fetch_operand_of, find_address_of};
+ghost use Rattle.mb_meaning.specs.Operands.{behind_of, named_register_in, with_low, load_of, fetch_operand_of, find_address_of};
 ghost use Rattle.mb_meaning.specs.Operands.{place_of, finish_with_of, push_of};
 ghost use Rattle.mb_operands.specs.Fetched.{fetched, pushed, IsOperand};
 ghost use Rattle.mb_operands.specs.Endings.{IsUnfinished, carried_by};
@@ -29,7 +29,7 @@ pub struct Operand {
 /// are its number.
 #[inline(always)]
 pub fn named_register(word: u16) -> u8
-    ensures value { result ≡ named_register word }
+    ensures value { result ≡ named_register_in word }
     ensures range { result < 16 }
 {
     (word >> 12) as u8

@@ -9,7 +9,7 @@ use Rattle.std.proofs.Math.Nat.{mod-eq_of_lt, add-mul}
 use Rattle.std.proofs.Math.Pow.{pow_mono}
 use Rattle.std.specs.Int.{from_bool}
 use Rattle.mb_alu.specs.Conditions.{is_set}
-use Rattle.mb_meaning.specs.Bits.{with_bit}
+use Rattle.mb_meaning.specs.Bits.{with_bit_as}
 
 low_or : (r : ℕ) → r < 2 → bit_or r 1 ≡ 1
 low_or zero h = refl
@@ -44,13 +44,13 @@ module _ (v p : ℕ) where
   alone : 2 ^ p ≡ 1 * 2 ^ p + 0
   alone = omega arith
 
-  pub set_is : bit_or v (2 ^ p) ≡ with_bit p v true
+  pub set_is : bit_or v (2 ^ p) ≡ with_bit_as p v true
   set_is =
       ap (λ (n : ℕ). bit_or n (2 ^ p)) split ∙ ap (λ (n : ℕ). bit_or (v / 2 ^ p * 2 ^ p + v % 2 ^ p) n) alone
       ∙ or_block p (v / 2 ^ p) 1 (v % 2 ^ p) 0 below (pow_pos p)
       ∙ rw (or_zero_r (v % 2 ^ p), or_one (v / 2 ^ p)) refl
 
-  pub changed_is : bit_xor v (2 ^ p) ≡ with_bit p v (not (is_set v p))
+  pub changed_is : bit_xor v (2 ^ p) ≡ with_bit_as p v (not (is_set v p))
   changed_is =
       ap (λ (n : ℕ). bit_xor n (2 ^ p)) split ∙ ap (λ (n : ℕ). bit_xor (v / 2 ^ p * 2 ^ p + v % 2 ^ p) n) alone
       ∙ xor_block p (v / 2 ^ p) 1 (v % 2 ^ p) 0 below (pow_pos p)
@@ -68,7 +68,7 @@ module _ (v p : ℕ) where
       let same : ((2 ^ (32 - p) - 2 ^ 1) + 2 ^ 1) * 2 ^ p ≡ 2 ^ (32 - p) * 2 ^ p = ap (λ (n : ℕ). n * 2 ^ p) parted in
       omega arith
 
-  pub cleared_is : v < 2 ^ 32 → p < 32 → bit_and v (bit_not w32 (2 ^ p)) ≡ with_bit p v false
+  pub cleared_is : v < 2 ^ 32 → p < 32 → bit_and v (bit_not w32 (2 ^ p)) ≡ with_bit_as p v false
   cleared_is fits h =
       let some = pow_pos p in
       let more : (32 - p) + p ≡ 32 = omega arith in

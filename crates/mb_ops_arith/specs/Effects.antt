@@ -4,7 +4,7 @@ use Rattle.mb_instr.specs.declared.size.Size.{Size}
 use Rattle.mb_instr.specs.declared.registers.Plain.{Plain}
 use Rattle.mb_meaning.specs.Ends.{Rowed}
 use Rattle.mb_meaning.specs.Arithmetic.{address_moved, address_compared}
-use Rattle.mb_meaning.specs.Unary.{tested}
+use Rattle.mb_meaning.specs.Unary.{tst_effect}
 use Rattle.mb_meaning.specs.Products.{multiply_word_of, divide_word_of, multiply_long_of, divide_long_of}
 use Rattle.mb_ops_arith.specs.Changes.{moved_of}
 use Rattle.mb_ops_arith.specs.declared.taking.Effect.{Effect}
@@ -12,7 +12,7 @@ use Rattle.mb_ops_arith.specs.declared.taking.Effect.TheVariants as effect
 
 -- how the instruction ends by the operand's value and the registers
 abbrev pub effect_of : Effect → Size → ℕ → Plain → Rowed
-effect_of effect.Test size value p = tested size value p
+effect_of effect.Test size value p = tst_effect size value p
 effect_of (effect.MoveAddress sum register) size value p = address_moved (moved_of sum) register size value p
 effect_of (effect.CompareAddress register) size value p = address_compared register size value p
 effect_of (effect.MultiplyWord is_signed register) size value p = multiply_word_of is_signed register value p

@@ -3,7 +3,7 @@
 ghost use Rattle.std.specs.Prelude.{◌≡◌, ◌<◌, ◌≤◌, ◌+◌, ◌-◌, ◌*◌, ◌%◌, ◌^◌};
 ghost use Rattle.mb_port.specs.Routine.{run};
 ghost use Rattle.mb_instr.specs.Operands.{IsEa, IsData};
-ghost use Rattle.mb_meaning.specs.BitFields.{named_by, offset_of, width_bits, width_of, is_change, field_after};
+ghost use Rattle.mb_meaning.specs.BitFields.{field_register_in, field_offset_of, width_bits, field_width_of, is_change, field_after};
 ghost use Rattle.mb_meaning.specs.BitFields.{field_flags, field_seen, field_signed, with_result, field_done};
 ghost use Rattle.mb_meaning.specs.BitFields.{field_in_register_of, field_in_memory_of, bytes_before, bytes_held};
 ghost use Rattle.mb_meaning.specs.BitFields.{bit_field_of};
@@ -19,8 +19,8 @@ use mb_writes::{Ended, write_operand};
 
 /// The number of the data register that the word names.
 #[inline(always)]
-fn named(word: u16) -> usize
-    ensures value { result ≡ named_by word }
+fn field_register(word: u16) -> usize
+    ensures value { result ≡ field_register_in word }
     ensures range { result < 8 }
 {
     (word >> 12 & 7) as usize
@@ -28,8 +28,8 @@ fn named(word: u16) -> usize
 
 /// The offset of the field: a data register, or a number in the word.
 #[inline(always)]
-fn offset(word: u16, plain: &Plain) -> u32
-    ensures { result ≡ offset_of word plain.now }
+fn field_offset(word: u16, plain: &Plain) -> u32
+    ensures { result ≡ field_offset_of word plain.now }
 {
     let field = word >> 6;
     if word >> 11 & 1 == 1 {
@@ -54,8 +54,8 @@ fn width_bits(word: u16, plain: &Plain) -> u8
 
 /// The width of the field, 1 to 32.
 #[inline(always)]
-fn width(word: u16, plain: &Plain) -> u8
-    ensures value { result ≡ width_of word plain.now }
+fn field_width(word: u16, plain: &Plain) -> u8
+    ensures value { result ≡ field_width_of word plain.now }
     ensures some { 1 ≤ result }
     ensures range { result ≤ 32 }
 {
@@ -198,14 +198,14 @@ fn put_result(kind: FieldKind, n: usize, offset: u32, width: u8, old: u32, plain
 #[inline(always)]
 #[tactic(auto, unfolding(mb_meaning::specs::BitFields::field_done))]
 fn finish_field(kind: FieldKind, word: u16, old: u32, plain: &mut Plain)
-    requires { old < 2 ^ width_of word plain.old }
+    requires { old < 2 ^ field_width_of word plain.old }
     ensures { plain.new ≡ field_done kind word old plain.old }
 {
-    let n = named(word);
-    let width = width(word, plain);
+    let n = field_register(word);
+    let width = field_width(word, plain);
     let seen = field_seen(kind, width, old, plain.d[n]);
     let ccr = field_flags(width, seen, plain.ccr);
-    put_result(kind, n, offset(word, plain), width, old, plain);
+    put_result(kind, n, field_offset(word, plain), width, old, plain);
     plain.ccr = ccr;
 }
 
@@ -216,10 +216,10 @@ fn field_in_register(kind: FieldKind, word: u16, n: u8, plain: &mut Plain)
     requires { n < 8 }
     ensures { plain.new ≡ field_in_register_of kind word n plain.old }
 {
-    let (offset, width) = (offset(word, plain), width(word, plain));
+    let (offset, width) = (field_offset(word, plain), field_width(word, plain));
     let turned = u64::from(plain.d[n as usize].rotate_left(offset));
     let old = field_get(turned, 32, 0, width);
-    let new = field_after(kind, width, old, plain.d[named(word)]);
+    let new = field_after(kind, width, old, plain.d[field_register(word)]);
     let changed = (field_put(turned, 32, 0, width, new) as u32).rotate_right(offset);
     finish_field(kind, word, old, plain);
     if is_change(kind) {
@@ -267,7 +267,7 @@ fn field_in_memory<P: Port>(
         ≡ (carried_by result ended.new plain.new, P.world port.new) }
     ensures rest { P.rest port.new ≡ P.rest port.old }
 {
-    let (offset, width) = (offset(word, plain), width(word, plain));
+    let (offset, width) = (field_offset(word, plain), field_width(word, plain));
     let first = address.wrapping_add(bytes_before(offset));
     let held = bytes_held(offset, width);
     let bytes = match read_operand(space, first, held, port) {
@@ -276,7 +276,7 @@ fn field_in_memory<P: Port>(
     };
     let bit = (offset % 8) as u8;
     let old = field_get(bytes, 8 * held, bit, width);
-    let new = field_after(kind, width, old, plain.d[named(word)]);
+    let new = field_after(kind, width, old, plain.d[field_register(word)]);
     finish_field(kind, word, old, plain);
     if is_change(kind) {
         let changed = field_put(bytes, 8 * held, bit, width, new);

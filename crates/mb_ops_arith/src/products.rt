@@ -5,9 +5,9 @@ ghost use Rattle.mb_alu.specs.Products.{IsBounded};
 ghost use Rattle.mb_alu.specs.declared.width.Width.TheVariants as width;
 ghost use Rattle.mb_meaning.specs.Ends.{carried};
 ghost use Rattle.mb_meaning.specs.Products.{multiply_word_of, divided_by_word, divide_word_of};
-ghost use Rattle.mb_meaning.specs.Products.{low_register, high_register, is_signed, is_wide};
+ghost use Rattle.mb_meaning.specs.Products.{low_register_in, high_register_in, is_signed, is_wide};
 ghost use Rattle.mb_meaning.specs.Products.{multiply_to_long_of, multiply_to_wide_of, multiply_long_of};
-ghost use Rattle.mb_meaning.specs.Products.{dividend_of, width_of, divided_by_long, divide_long_of};
+ghost use Rattle.mb_meaning.specs.Products.{dividend_of, width_in, divided_by_long, divide_long_of};
 ghost use Rattle.mb_operands.specs.Endings.{carried_by};
 
 use mb_alu::{Divided, Width, div, mul};
@@ -81,7 +81,7 @@ pub(crate) fn divide_word(
 /// The register of the low long, or of the quotient.
 #[inline(always)]
 fn low_register(word: u16) -> usize
-    ensures value { result ≡ low_register word }
+    ensures value { result ≡ low_register_in word }
     ensures range { result < 8 }
 {
     (word >> 12 & 7) as usize
@@ -90,7 +90,7 @@ fn low_register(word: u16) -> usize
 /// The register of the high long, or of the remainder.
 #[inline(always)]
 fn high_register(word: u16) -> usize
-    ensures value { result ≡ high_register word }
+    ensures value { result ≡ high_register_in word }
     ensures range { result < 8 }
 {
     (word & 7) as usize
@@ -163,7 +163,7 @@ fn dividend(word: u16, plain: &Plain) -> u64
 /// How wide the operands of a division are.
 #[inline(always)]
 fn width(word: u16) -> Width
-    ensures { result ≡ width_of word }
+    ensures { result ≡ width_in word }
 {
     if is_wide(word) {
         Width::Wide

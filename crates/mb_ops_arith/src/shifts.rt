@@ -1,7 +1,7 @@
 //! Shifts and rotates.
 
 ghost use Rattle.std.specs.Prelude.{◌≡◌, ◌<◌};
-ghost use Rattle.mb_meaning.specs.Shifts.{count_of, shift_register_of};
+ghost use Rattle.mb_meaning.specs.Shifts.{shift_count_of, shift_register_of};
 ghost use Rattle.mb_ops_arith.specs.Counts.{IsCount};
 
 use crate::unary::put_in_register;
@@ -13,9 +13,9 @@ const COUNTS: u32 = 64;
 
 /// By how many bits: the number, or what is in the data register of that number.
 #[inline(always)]
-fn count(by_register: bool, number: u8, plain: &Plain) -> u8
+fn shift_count(by_register: bool, number: u8, plain: &Plain) -> u8
     requires { IsCount by_register number }
-    ensures value { result ≡ count_of by_register number plain.now }
+    ensures value { result ≡ shift_count_of by_register number plain.now }
     ensures range { result < 64 }
 {
     if by_register {
@@ -39,9 +39,9 @@ pub(crate) fn shift_register(
     requires number { IsCount by_register number }
     requires register { register < 8 }
     ensures { plain.new
-        ≡ shift_register_of kind is_left size (count_of by_register number plain.old) register plain.old }
+        ≡ shift_register_of kind is_left size (shift_count_of by_register number plain.old) register plain.old }
 {
-    let count = count(by_register, number, plain);
+    let count = shift_count(by_register, number, plain);
     let value = plain.d[register as usize];
     let shifted = shift(kind, is_left, size, count, value, plain.ccr);
     put_in_register(register, size, shifted, plain);

@@ -3,7 +3,7 @@
 ghost use Rattle.std.specs.Prelude.{◌≡◌, ◌<◌, ◌^◌};
 ghost use Rattle.mb_port.specs.Routine.{run};
 ghost use Rattle.mb_meaning.specs.Ends.{went};
-ghost use Rattle.mb_meaning.specs.Flow.{displacement_of, target_of, is_call, call_of, go_if_met_of, branch_of};
+ghost use Rattle.mb_meaning.specs.Flow.{branch_displacement_of, target_of, is_call, call_of, go_if_met_of, branch_of};
 ghost use Rattle.mb_operands.specs.Endings.{performed_by};
 
 use mb_instr::{Branch, Condition, Plain, Size};
@@ -13,8 +13,8 @@ use mb_writes::Ended;
 
 /// A displacement as a signed long.
 #[inline(always)]
-fn displacement(branch: Branch) -> u32
-    ensures { result ≡ displacement_of branch }
+fn branch_displacement(branch: Branch) -> u32
+    ensures { result ≡ branch_displacement_of branch }
 {
     match branch {
         Branch::Byte(byte) => Size::Byte.sign_extend(u32::from(byte)),
@@ -28,7 +28,7 @@ fn displacement(branch: Branch) -> u32
 pub fn target(word_at: u32, branch: Branch) -> u32
     ensures { result ≡ target_of word_at branch }
 {
-    word_at.wrapping_add(displacement(branch))
+    word_at.wrapping_add(branch_displacement(branch))
 }
 
 /// Whether it is the condition F, which BSR has in a branch.

@@ -13,7 +13,7 @@ use Rattle.mb_writes.specs.declared.ends.MovemFault.{MovemFault}
 use Rattle.mb_writes.specs.declared.ends.WriteFault.{WriteFault}
 use Rattle.mb_writes.specs.declared.transfers.Movem.{Movem}
 use Rattle.mb_writes.specs.declared.transfers.Transfer.{Transfer}
-use Rattle.mb_writes.specs.Transfers.{set_bits, count_of, number_of, step_of, placed, transfers_of, transfer_at}
+use Rattle.mb_writes.specs.Transfers.{set_bits, count_of, number_of, transfer_step, placed, transfers_of, transfer_at}
 use Rattle.mb_writes.specs.Moving.{Halfway, refused_at, stored_of, store_all_of, loaded_of, load_all_of, stepped_of, transfer_of}
 use Rattle.mb_writes.specs.Writing.{write_operand_of}
 use Rattle.mb_writes.proofs.Bits.{length-transfers}
@@ -23,13 +23,13 @@ use Rattle.mb_writes.proofs.Bits.{length-transfers}
 -- So many are done, and those of the mask's bits from `from` on are left.
 pub record IsLeft (m : Movem) (ea done from : ℕ) : Type 0 where
   pub left : drop done (transfers_of m ea)
-      ≡ placed (step_of m.mode (bytes_of m.size)) (transfer_at m ea done) (map (number_of m.mode) (set_bits m.mask from (16 - from)))
+      ≡ placed (transfer_step m.mode (bytes_of m.size)) (transfer_at m ea done) (map (number_of m.mode) (set_bits m.mask from (16 - from)))
   pub count : done + length (set_bits m.mask from (16 - from)) ≡ count_of m.mask
 
 pub all_left : (m : Movem) (ea : ℕ) → ea < 2 ^ 32 → IsLeft m ea 0 0
 unfolding transfers_of
 all_left m ea small =
-    let step = step_of m.mode (bytes_of m.size) in
+    let step = transfer_step m.mode (bytes_of m.size) in
     let first : ea ≡ (ea + 0 * step) % 2 ^ 32 = omega arith in
     record {
       left = ap (λ (at : ℕ). placed step at (map (number_of m.mode) (set_bits m.mask 0 16))) first;
@@ -48,7 +48,7 @@ pub record IsAtNext (m : Movem) (ea done bit : ℕ) : Type 0 where
 pub next_of : (m : Movem) (ea done from bit : ℕ) → IsLeft m ea done from
     → set_bits m.mask from (16 - from) ≡ bit ∷ set_bits m.mask (bit + 1) (16 - (bit + 1)) → IsAtNext m ea done bit
 next_of m ea done from bit h is =
-    let step = step_of m.mode (bytes_of m.size) in
+    let step = transfer_step m.mode (bytes_of m.size) in
     let at = transfer_at m ea done in
     let t : Transfer = record { register = number_of m.mode bit; at = at } in
     let rest = placed step ((at + step) % 2 ^ 32) (map (number_of m.mode) (set_bits m.mask (bit + 1) (16 - (bit + 1)))) in
@@ -77,7 +77,7 @@ pub record IsAll (m : Movem) (ea done : ℕ) : Type 0 where
 
 pub all_done : (m : Movem) (ea done from : ℕ) → IsLeft m ea done from → set_bits m.mask from (16 - from) ≡ [] → IsAll m ea done
 all_done m ea done from h is =
-    let step = step_of m.mode (bytes_of m.size) in
+    let step = transfer_step m.mode (bytes_of m.size) in
     let counted = ap (λ (ks : List ℕ). length ks) is in
     record {
       none = h.left ∙ ap (λ (ks : List ℕ). placed step (transfer_at m ea done) (map (number_of m.mode) ks)) is;

@@ -3,7 +3,7 @@
 ghost use Rattle.std.specs.Prelude.{◌≡◌, ◌<◌, ◌^◌};
 ghost use Rattle.mb_port.specs.Routine.{run};
 ghost use Rattle.mb_instr.specs.Operands.{IsEa, IsDestination};
-ghost use Rattle.mb_meaning.specs.Moves.{move_to_ccr_of, move_from_ccr_of, byte_of, scc_of};
+ghost use Rattle.mb_meaning.specs.Moves.{move_to_ccr_of, move_from_ccr_of, condition_byte, scc_of};
 ghost use Rattle.mb_operands.specs.Endings.{carried_by};
 
 use mb_ea::resolve;
@@ -64,8 +64,8 @@ pub fn move_from_ccr<P: Port>(
 
 /// A byte of ones, or of zeros.
 #[inline(always)]
-fn byte_of(met: bool) -> u32
-    ensures { result ≡ byte_of met }
+fn condition_byte(met: bool) -> u32
+    ensures { result ≡ condition_byte met }
 {
     if met { 0xff } else { 0 }
 }
@@ -88,7 +88,7 @@ pub fn scc<P: Port>(
         ≡ (carried_by result ended.new plain.new, P.world port.new) }
     ensures rest { P.rest port.new ≡ P.rest port.old }
 {
-    let byte = byte_of(is_met(condition, plain.ccr));
+    let byte = condition_byte(is_met(condition, plain.ccr));
     let target = match resolve(ea, Size::Byte, plain, word_at, space, port) {
         Ok(target) => target,
         Err(refused) => return Err(unread(&refused, ended)),

@@ -2,7 +2,7 @@
 
 ghost use Rattle.std.specs.Prelude.{◌≡◌, ◌<◌, ◌%◌};
 ghost use Rattle.mb_port.specs.Routine.{run};
-ghost use Rattle.mb_meaning.specs.Lines.{line_at, move_line_of, past_line, past_lines, destination_in};
+ghost use Rattle.mb_meaning.specs.Lines.{line_address, move_line_of, past_line, past_lines, destination_in};
 ghost use Rattle.mb_meaning.specs.Lines.{move16_absolute_of, move16_post_of};
 ghost use Rattle.mb_operands.specs.Endings.{carried_by};
 
@@ -17,8 +17,8 @@ const LINE: u32 = 16;
 
 /// The line that has an address.
 #[inline(always)]
-fn line_at(address: u32) -> u32
-    ensures value { result ≡ line_at address }
+fn line_address(address: u32) -> u32
+    ensures value { result ≡ line_address address }
     ensures aligned { result % 16 ≡ 0 }
 {
     address / LINE * LINE
@@ -38,12 +38,12 @@ fn move_line<P: Port>(
         ≡ (carried_by result ended.new after, P.world port.new) }
     ensures rest { P.rest port.new ≡ P.rest port.old }
 {
-    let first = line_at(from);
+    let first = line_address(from);
     let line = match port.read_line(space, first) {
         Ok(line) => line,
         Err(fault) => return Err(unread(&ReadFault { fault, first }, ended)),
     };
-    match port.write_line(space, line_at(to), line) {
+    match port.write_line(space, line_address(to), line) {
         Ok(()) => Ok(()),
         Err(fault) => Err(left_undone(Ended::LineFault { fault, line }, ended)),
     }

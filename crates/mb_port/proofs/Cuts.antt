@@ -2,7 +2,7 @@
 use Rattle.std.proofs.Common.{◌≡◌, ℕ, zero, suc, ◌+◌, ◌-◌, ◌%◌, ◌^◌, ◌<◌, ◌≤◌, List, [], ◌∷◌, ◌++◌, refl, ap, arith, sym, ◌∙◌, append_assoc, subst}
 use Rattle.std.proofs.lemmas.List.{append-nil}
 use Rattle.mb_port.specs.declared.types.Piece.{Piece}
-use Rattle.mb_port.specs.Pieces.{piece_len, cut, bytes_from, bytes_of, IsPiece, ArePieces, IsLongest, IsGreedy}
+use Rattle.mb_port.specs.Pieces.{piece_len, cut, addresses_from, addresses_of, IsPiece, ArePieces, IsLongest, IsGreedy}
 
 cut_more : (n at left : ℕ) → 0 < left
     → cut (suc n) at left ≡ record { at = at; len = piece_len at left } ∷ cut n ((at + piece_len at left) % 2 ^ 32) (left - piece_len at left)
@@ -112,29 +112,29 @@ cut_greedy (suc n) at zero h = refl
 cut_greedy (suc n) at (suc left) h = (is_longest at (suc left) (omega arith), cut_greedy n _ _ h)
 
 -- the same addresses modulo 2^32
-pub bytes_same : (n at more : ℕ) → at % 2 ^ 32 ≡ more % 2 ^ 32 → bytes_from at n ≡ bytes_from more n
-unfolding bytes_from
+pub bytes_same : (n at more : ℕ) → at % 2 ^ 32 ≡ more % 2 ^ 32 → addresses_from at n ≡ addresses_from more n
+unfolding addresses_from
 bytes_same zero at more h = refl
-bytes_same (suc n) at more h = ap (λ a. a ∷ bytes_from (at + 1) n) h ∙ ap (λ l. more % 2 ^ 32 ∷ l) (bytes_same n (at + 1) (more + 1) (omega arith))
+bytes_same (suc n) at more h = ap (λ a. a ∷ addresses_from (at + 1) n) h ∙ ap (λ l. more % 2 ^ 32 ∷ l) (bytes_same n (at + 1) (more + 1) (omega arith))
 
-pub bytes_join : (n m at : ℕ) → bytes_from at n ++ bytes_from ((at + n) % 2 ^ 32) m ≡ bytes_from at (n + m)
-unfolding bytes_from
-bytes_join zero m at = bytes_same m ((at + 0) % 2 ^ 32) at (omega arith) ∙ ap (bytes_from at) (omega arith)
+pub bytes_join : (n m at : ℕ) → addresses_from at n ++ addresses_from ((at + n) % 2 ^ 32) m ≡ addresses_from at (n + m)
+unfolding addresses_from
+bytes_join zero m at = bytes_same m ((at + 0) % 2 ^ 32) at (omega arith) ∙ ap (addresses_from at) (omega arith)
 bytes_join (suc n) m at =
     let e : suc n + m ≡ suc (n + m) = omega arith in
     rw e (ap (λ l. at % 2 ^ 32 ∷ l)
-    (ap (λ l. bytes_from (at + 1) n ++ l) (bytes_same m ((at + suc n) % 2 ^ 32) ((at + 1 + n) % 2 ^ 32) (omega arith)) ∙ bytes_join n m (at + 1)))
+    (ap (λ l. addresses_from (at + 1) n ++ l) (bytes_same m ((at + suc n) % 2 ^ 32) ((at + 1 + n) % 2 ^ 32) (omega arith)) ∙ bytes_join n m (at + 1)))
 
-pub cut_bytes : (n at left : ℕ) → rest_of n at left ≡ 0 → bytes_of (cut n at left) ≡ bytes_from at left
-unfolding rest_of left_after after bytes_of bytes_from
+pub cut_bytes : (n at left : ℕ) → rest_of n at left ≡ 0 → addresses_of (cut n at left) ≡ addresses_from at left
+unfolding rest_of left_after after addresses_of addresses_from
 cut_bytes zero at left h = rw h refl
 cut_bytes (suc n) at zero h = refl
 cut_bytes (suc n) at (suc left) h =
     let k = piece_len at (suc left) in
     let fits = (piece_fits at (suc left) (omega arith)).1 in
     let e : k + (suc left - k) ≡ suc left = omega arith in
-    let whole : bytes_from at k ++ bytes_of (cut n (after at (suc left)) (suc left - k)) ≡ bytes_from at (suc left) =
-    ap (λ l. bytes_from at k ++ l) (cut_bytes n _ _ h) ∙ bytes_join k (suc left - k) at ∙ ap (bytes_from at) e in
+    let whole : addresses_from at k ++ addresses_of (cut n (after at (suc left)) (suc left - k)) ≡ addresses_from at (suc left) =
+    ap (λ l. addresses_from at k ++ l) (cut_bytes n _ _ h) ∙ bytes_join k (suc left - k) at ∙ ap (addresses_from at) e in
     whole
 
 -- one more piece of the cut, and its end

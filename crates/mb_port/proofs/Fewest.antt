@@ -5,7 +5,7 @@ use Rattle.std.specs.Prelude.{◌==◌, ◌||◌, nat_le}
 use Rattle.std.proofs.lemmas.Bool.{leb-true}
 use Rattle.std.proofs.lemmas.List.{append_cancel_left, length-append}
 use Rattle.mb_port.specs.declared.types.Piece.{Piece}
-use Rattle.mb_port.specs.Pieces.{piece_len, cut, bytes_from, bytes_of, IsPiece, ArePieces}
+use Rattle.mb_port.specs.Pieces.{piece_len, cut, addresses_from, addresses_of, IsPiece, ArePieces}
 use Rattle.mb_port.proofs.Cuts.{bytes_same, bytes_join}
 
 -- a test of all numbers below n
@@ -81,37 +81,38 @@ step q left h few fits =
     count_same 3 ((q.at + q.len) % 2 ^ 32) (q.at % 4 + q.len) (left - q.len) (omega arith) in
     omega arith
 
-pub length-bytes_from : (at n : ℕ) → length (bytes_from at n) ≡ n
-unfolding bytes_from
+pub length-bytes_from : (at n : ℕ) → length (addresses_from at n) ≡ n
+unfolding addresses_from
 length-bytes_from at zero = refl
 length-bytes_from at (suc n) = ap suc (length-bytes_from (at + 1) n)
 
-heads : (x y n m : ℕ) (more : List ℕ) → 0 < n → bytes_from x n ++ more ≡ bytes_from y m → x % 2 ^ 32 ≡ y % 2 ^ 32
-unfolding bytes_from
+heads : (x y n m : ℕ) (more : List ℕ) → 0 < n → addresses_from x n ++ more ≡ addresses_from y m → x % 2 ^ 32 ≡ y % 2 ^ 32
+unfolding addresses_from
 heads x y zero m more some e = absurd (omega arith)
 heads x y (suc n) zero more some e = absurd (cc)
 heads x y (suc n) (suc m) more some e = cc
 
 -- what follows the first piece is the rest
-rests : (q : Piece) (at left : ℕ) (more : List ℕ) → 0 < q.len → bytes_from q.at q.len ++ more ≡ bytes_from at left
-    → (q.len ≤ left) × (more ≡ bytes_from ((q.at + q.len) % 2 ^ 32) (left - q.len)) × (q.at % 2 ^ 32 ≡ at % 2 ^ 32)
+rests : (q : Piece) (at left : ℕ) (more : List ℕ) → 0 < q.len → addresses_from q.at q.len ++ more ≡ addresses_from at left
+    → (q.len ≤ left) × (more ≡ addresses_from ((q.at + q.len) % 2 ^ 32) (left - q.len)) × (q.at % 2 ^ 32 ≡ at % 2 ^ 32)
 rests q at left more some e =
     let same : q.at % 2 ^ 32 ≡ at % 2 ^ 32 = heads q.at at q.len left more some e in
     let lens : q.len + length more ≡ left =
     ap (λ n. n + length more) (sym (length-bytes_from q.at q.len))
-    ∙ sym (length-append (bytes_from q.at q.len) more) ∙ ap length e ∙ length-bytes_from at left in
+    ∙ sym (length-append (addresses_from q.at q.len) more) ∙ ap length e ∙ length-bytes_from at left in
     let fits : q.len ≤ left = omega arith in
     let sum : q.len + (left - q.len) ≡ left = omega arith in
-    let joined : bytes_from q.at q.len ++ bytes_from ((q.at + q.len) % 2 ^ 32) (left - q.len) ≡ bytes_from q.at left =
-    bytes_join q.len (left - q.len) q.at ∙ ap (bytes_from q.at) sum in
-    (fits, append_cancel_left (bytes_from q.at q.len) _ _ (e ∙ sym (joined ∙ bytes_same left q.at at same)), same)
+    let joined : addresses_from q.at q.len ++ addresses_from ((q.at + q.len) % 2 ^ 32) (left - q.len) ≡ addresses_from q.at left =
+    bytes_join q.len (left - q.len) q.at ∙ ap (addresses_from q.at) sum in
+    (fits, append_cancel_left (addresses_from q.at q.len) _ _ (e ∙ sym (joined ∙ bytes_same left q.at at same)), same)
 
-pub fewest : (others : List Piece) (at left : ℕ) → left ≤ 5 → ArePieces others → bytes_of others ≡ bytes_from at left → length (cut 3 at left) ≤ length others
-unfolding bytes_of bytes_from
+pub fewest : (others : List Piece) (at left : ℕ) → left ≤ 5 → ArePieces others → addresses_of others
+    ≡ addresses_from at left → length (cut 3 at left) ≤ length others
+unfolding addresses_of addresses_from
 fewest [] at zero few are e = omega arith
 fewest [] at (suc left) few are e = absurd (cc)
 fewest (q ∷ qs) at left few (is, are) e =
-    let (fits, more, same) = rests q at left (bytes_of qs) is.0 e in
+    let (fits, more, same) = rests q at left (addresses_of qs) is.0 e in
     let rest = fewest qs ((q.at + q.len) % 2 ^ 32) (left - q.len) (omega arith) are more in
     let one = step q left is few fits in
     let moved : length (cut 3 at left) ≡ length (cut 3 q.at left) = count_same 3 at q.at left (omega arith) in

@@ -2,15 +2,15 @@
 use Rattle.std.proofs.Common.{◌≡◌, ℕ, ◌≤◌, ◌+◌, ◌-◌, ◌%◌, ◌^◌, zero, suc, List, [], ◌∷◌, ◌++◌, length, refl, ap, arith, sym, ◌∙◌, subst}
 use Rattle.std.proofs.lemmas.List.{length-append}
 use Rattle.mb_port.specs.declared.types.Piece.{Piece}
-use Rattle.mb_port.specs.Pieces.{piece_len, cut, split_of, total, bytes_from, bytes_of, ArePieces, IsGreedy, IsFewest}
+use Rattle.mb_port.specs.Pieces.{piece_len, cut, split_of, total, addresses_from, addresses_of, ArePieces, IsGreedy, IsFewest}
 use Rattle.mb_port.proofs.Cuts.{cut_end, cut_break, cut_are, cut_greedy, cut_bytes, none_left}
 use Rattle.mb_port.proofs.Fewest.{fewest, length-bytes_from}
 
-length-bytes_of : (ps : List Piece) → length (bytes_of ps) ≡ total ps
-unfolding bytes_of
+length-bytes_of : (ps : List Piece) → length (addresses_of ps) ≡ total ps
+unfolding addresses_of
 length-bytes_of [] = refl
 length-bytes_of (p ∷ ps) =
-    length-append (bytes_from p.at p.len) (bytes_of ps) ∙ ap (λ n. n + length (bytes_of ps)) (length-bytes_from p.at p.len)
+    length-append (addresses_from p.at p.len) (addresses_of ps) ∙ ap (λ n. n + length (addresses_of ps)) (length-bytes_from p.at p.len)
     ∙ ap (λ n. p.len + n) (length-bytes_of ps)
 
 length-cut : (n at left : ℕ) → length (cut n at left) ≤ n
@@ -28,7 +28,7 @@ some at (suc left) h = omega arith
 pub record IsSplit (at len : ℕ) (all : List Piece) : Type 0 where
   pub pieces : all ≡ split_of at len
   pub aligned : ArePieces all
-  pub bytes : bytes_of all ≡ bytes_from at len
+  pub bytes : addresses_of all ≡ addresses_from at len
   pub whole : total all ≡ len
   pub greedy : IsGreedy at len all
   pub fewest : IsFewest all

@@ -33,14 +33,14 @@ unfoldable pub split_of : ℕ → ℕ → List Piece
 split_of at len = cut 3 at len
 
 -- the addresses of so many bytes, in order
-unfoldable pub bytes_from : ℕ → ℕ → List ℕ
-bytes_from at zero = []
-bytes_from at (suc n) = at % 2 ^ 32 ∷ bytes_from (at + 1) n
+unfoldable pub addresses_from : ℕ → ℕ → List ℕ
+addresses_from at zero = []
+addresses_from at (suc n) = at % 2 ^ 32 ∷ addresses_from (at + 1) n
 
 -- the addresses of the pieces' bytes, in order
-unfoldable pub bytes_of : List Piece → List ℕ
-bytes_of [] = []
-bytes_of (p ∷ ps) = bytes_from p.at p.len ++ bytes_of ps
+unfoldable pub addresses_of : List Piece → List ℕ
+addresses_of [] = []
+addresses_of (p ∷ ps) = addresses_from p.at p.len ++ addresses_of ps
 
 -- The piece begins here and fits, and no longer one does.
 pub record IsLongest (at left : ℕ) (p : Piece) : Type 0 where
@@ -57,7 +57,7 @@ IsGreedy at left (p ∷ ps) = IsLongest at left p × IsGreedy ((at + p.len) % 2 
 -- No pieces that have these bytes in order are fewer.
 unfoldable pub IsFewest : List Piece → Type 0
 IsFewest pieces =
-    (others : List Piece) → ArePieces others → bytes_of others ≡ bytes_of pieces → length pieces ≤ length others
+    (others : List Piece) → ArePieces others → addresses_of others ≡ addresses_of pieces → length pieces ≤ length others
 
 -- how many values a piece can have
 abbrev pub span_of : Piece → ℕ

@@ -1,7 +1,7 @@
 //! The pieces of an operand.
 
 ghost use Rattle.std.specs.Prelude.{◌≡◌, ◌<◌, ◌≤◌, ◌+◌, ◌-◌, ◌%◌, ◌^◌, ◌∷◌, length};
-ghost use Rattle.mb_port.specs.Pieces.{piece_len as longest, cut, split_of, total, bytes_from, bytes_of, ArePieces};
+ghost use Rattle.mb_port.specs.Pieces.{piece_len as longest, cut, split_of, total, addresses_from, addresses_of, ArePieces};
 ghost use Rattle.mb_port.specs.Pieces.{IsPiece, IsGreedy, IsFewest};
 
 use crate::types::Piece;
@@ -47,7 +47,7 @@ pub fn split(at: u32, len: u8) -> ArrayVec<Piece, 3>
     requires { (1 ≤ len) × (len ≤ 5) }
     ensures pieces { result.items ≡ split_of at len }
     ensures aligned { ArePieces result.items }
-    ensures bytes { bytes_of result.items ≡ bytes_from at len }
+    ensures bytes { addresses_of result.items ≡ addresses_from at len }
     ensures whole { total result.items ≡ len }
     ensures greedy { IsGreedy at len result.items }
     ensures fewest { IsFewest result.items }

@@ -10,12 +10,12 @@ use Rattle.mb_instr.specs.declared.control.ControlRegister.{ControlRegister}
 use Rattle.mb_instr.specs.declared.control.ControlRegister.TheVariants as control
 use Rattle.mb_instr.specs.declared.vectors.TheConstants.{ILLEGAL}
 use Rattle.mb_instr.specs.Control.{control_of, kept_bits}
-use Rattle.mb_meaning.specs.Operands.{named_register}
-use Rattle.mb_processor.specs.SystemEnds.{SystemRowed, with_registers, completing, ended_by}
+use Rattle.mb_meaning.specs.Operands.{named_register_in}
+use Rattle.mb_processor.specs.SystemEnds.{SystemRowed, with_registers, completing, system_ended_otherwise}
 
 -- the control register that a word names in its other bits
-abbrev pub named_control : ℕ → Option ControlRegister
-named_control word = control_of (word % 2 ^ 12)
+abbrev pub named_control_in : ℕ → Option ControlRegister
+named_control_in word = control_of (word % 2 ^ 12)
 
 -- what a control register holds; those of the memory management unit stand at the bus
 unfoldable pub control_value_of : ControlRegister → Cpu → Routine ℕ
@@ -58,8 +58,8 @@ not_carried_out = ended.Refused ILLEGAL
 abbrev pub moving_control : Option ControlRegister → Bool → ℕ → Cpu → Routine SystemRowed
 moving_control (Some register) to_control n cpu =
     completing (choose to_control (move_to_control_of register n cpu) (move_from_control_of register n cpu))
-moving_control None to_control n cpu = Return (ended_by not_carried_out cpu)
+moving_control None to_control n cpu = Return (system_ended_otherwise not_carried_out cpu)
 
 -- MOVEC
 unfoldable pub movec_of : Bool → ℕ → Cpu → Routine SystemRowed
-movec_of to_control word cpu = moving_control (named_control word) to_control (named_register word) cpu
+movec_of to_control word cpu = moving_control (named_control_in word) to_control (named_register_in word) cpu

@@ -109,8 +109,9 @@ with_second (Some s) r = record r { sr = without_master r.sr; isp = s.at }
 
 -- The registers once the frames are written: SR is the handler's, each stack that took a frame is lowered, and PC is
 -- the one that was stacked until the vector is read.
-unfoldable pub settled : Cause → Frames → Regs → Regs
-settled c f r = with_second f.second (record (with_handler_stack r f.first.at) { sr = handler_sr c r.sr; pc = c.pc })
+unfoldable pub handler_regs : Cause → Frames → Regs → Regs
+handler_regs c f r =
+    with_second f.second (record (with_handler_stack r f.first.at) { sr = handler_sr c r.sr; pc = c.pc })
 
 -- ---- checking and writing
 
@@ -178,4 +179,4 @@ enter_of c cpu =
     caught (check_frames_of frames)
     (λ fault. Return (unstacked c.access fault c (awake cpu)))
     (λ places. Then (put_frames_of frames places)
-    (λ done. go_to_handler_of c (record (awake cpu) { regs = settled c frames cpu.regs })))
+    (λ done. go_to_handler_of c (record (awake cpu) { regs = handler_regs c frames cpu.regs })))

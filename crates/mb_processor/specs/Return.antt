@@ -123,14 +123,15 @@ abbrev pub read_or_end : {A : Type 0} → Routine (Result A ReadFault) → Routi
 read_or_end m = failing (λ refused. ended.ReadFault refused) m
 
 -- of an access error's frame all is read before it is judged
-abbrev pub judged : Access → Regs → Result Taken Ended
-judged a r = if continues a && not (can_continue a) then Err format_error else Ok (record { regs = r; access = Some a })
+abbrev pub access_or_format_error : Access → Regs → Result Taken Ended
+access_or_format_error a r =
+    if continues a && not (can_continue a) then Err format_error else Ok (record { regs = r; access = Some a })
 
 -- $7: thirteen longs are behind the format word
 unfoldable pub take_access_of : Head → Regs → Routine (Result Taken Ended)
 take_access_of head r = do
   longs ← read_or_end (read_longs_of access_longs (sum (active_stack r) FIELDS_PLACE) [])
-  Return (judged (access_of_longs longs) (restore_of 7 head r))
+  Return (access_or_format_error (access_of_longs longs) (restore_of 7 head r))
 
 -- a frame without an access error's fields
 abbrev pub plainly : Regs → Result Taken Ended
@@ -173,12 +174,12 @@ pub record Returned : Type 0 where
   pub cpu : Cpu
   pub held : Option Held
 
-abbrev pub went : Ended
-went = ended.Done true
+abbrev pub done_with_flow : Ended
+done_with_flow = ended.Done true
 
 -- The rest of a MOVEM was done, and PC goes to the next instruction; or a transfer was refused again.
 abbrev pub continued : Access → Cpu → Result Plain Halfway → Ended × Cpu
-continued a cpu (Ok p) = (went, record cpu { regs = with_plain cpu.regs (record p { pc = a.pd1 }) })
+continued a cpu (Ok p) = (done_with_flow, record cpu { regs = with_plain cpu.regs (record p { pc = a.pd1 }) })
 continued a cpu (Err half) = (ended.Movem half.fault, record cpu { regs = with_plain cpu.regs half.plain })
 
 -- A MOVEM goes on with the transfer that was refused, by the words and the address of its frame. Nothing is fetched.
@@ -189,10 +190,10 @@ go_on_of a cpu =
 
 -- what follows once the frames were taken
 unfoldable pub resumed_of : Option Access → Cpu → Routine Returned
-resumed_of None cpu = Return (record { ended = went; cpu = cpu; held = None })
+resumed_of None cpu = Return (record { ended = done_with_flow; cpu = cpu; held = None })
 resumed_of (Some a) cpu =
     let held = Some (record { access = a; pc = cpu.regs.pc }) in
-    Then (choose (continues a) (go_on_of a cpu) (Return (went, cpu)))
+    Then (choose (continues a) (go_on_of a cpu) (Return (done_with_flow, cpu)))
     (λ (end, after). Return (record { ended = end; cpu = after; held = held }))
 
 -- RTE. Where it is not carried out all registers are as before.

@@ -19,7 +19,7 @@ use Rattle.mb_ea.specs.Reading.{read_operand_of}
 use Rattle.mb_ea.specs.Resolve.{resolve_of}
 use Rattle.mb_model.specs.declared.processor.Cpu.{Cpu}
 use Rattle.mb_model.specs.Pages.{page_of, has_big_pages, other_half}
-use Rattle.mb_meaning.specs.Operands.{named_register, with_low, place_of, finish_with_of}
+use Rattle.mb_meaning.specs.Operands.{named_register_in, with_low, place_of, finish_with_of}
 use Rattle.mb_meaning.specs.Ends.{reading}
 use Rattle.mb_processor.specs.SystemEnds.{SystemRowed, completed, with_registers, finish_row_of}
 
@@ -55,8 +55,8 @@ is_store word = word / 2 ^ 11 % 2 == 1
 unfoldable pub moves_of : Size → Ea → ℕ → ℕ → Cpu → Routine SystemRowed
 moves_of size ea word word_at cpu = do
   to ← reading (resolve_of ea size word_at Super (plain_of cpu.regs))
-  choose (is_store word) (move_out_of size to.target (named_register word) to.plain cpu)
-      (move_in_of size to.target (named_register word) to.plain cpu)
+  choose (is_store word) (move_out_of size to.target (named_register_in word) to.plain cpu)
+      (move_in_of size to.target (named_register_in word) to.plain cpu)
 
 -- ---- pages
 

@@ -7,7 +7,7 @@ use Rattle.mb_alu.specs.declared.bitwise.LogicKind.TheVariants as logic
 use Rattle.mb_writes.specs.declared.ends.Ended.{Ended}
 use Rattle.mb_writes.specs.declared.ends.Ended.TheVariants as ended
 use Rattle.mb_model.specs.declared.processor.Cpu.{Cpu}
-use Rattle.mb_processor.specs.SystemEnds.{SystemRowed, completed, redirected, ended_by, completing}
+use Rattle.mb_processor.specs.SystemEnds.{SystemRowed, completed, redirected, system_ended_otherwise, completing}
 use Rattle.mb_processor.specs.Status.{change_status_of, move_to_status_of, move_from_status_of, stop_of, move_usp_of}
 use Rattle.mb_processor.specs.Control.{movec_of}
 use Rattle.mb_processor.specs.Spaces.{moves_of, pflush_of, ptest_of}
@@ -20,7 +20,7 @@ reset_of cpu = Then reset_devices (λ done. Return cpu)
 -- how RTE ended, as a row's routine answers it
 abbrev pub gone_by : Ended → Cpu → SystemRowed
 gone_by (ended.Done flow) cpu = Ok (record { flow = flow; cpu = cpu })
-gone_by end cpu = ended_by end cpu
+gone_by end cpu = system_ended_otherwise end cpu
 
 -- RTE. What it tells of the frame that it took is for its finish.
 abbrev pub gone_back : Routine Returned → Routine SystemRowed

@@ -14,13 +14,13 @@ pub record SystemCarried : Type 0 where
   pub cpu : Cpu
 
 -- one that ended otherwise: how, and the processor then
-pub record SystemStopped : Type 0 where
+pub record SystemOtherEnd : Type 0 where
   pub ended : Ended
   pub cpu : Cpu
 
 -- What the routine of a privileged row answers.
 abbrev pub SystemRowed : Type 0
-SystemRowed = Result SystemCarried (Cut SystemStopped)
+SystemRowed = Result SystemCarried (Cut SystemOtherEnd)
 
 -- carried out, and whether T0 asks for a trace
 abbrev pub system_went : Bool → Cpu → SystemRowed
@@ -34,8 +34,8 @@ completed cpu = system_went false cpu
 abbrev pub redirected : Cpu → SystemRowed
 redirected cpu = system_went true cpu
 
-abbrev pub ended_by : Ended → Cpu → SystemRowed
-ended_by ended cpu = Err (Stop (record { ended = ended; cpu = cpu }))
+abbrev pub system_ended_otherwise : Ended → Cpu → SystemRowed
+system_ended_otherwise ended cpu = Err (Stop (record { ended = ended; cpu = cpu }))
 
 -- the processor with these registers, of which A7 is its active stack pointer
 abbrev pub with_registers : Plain → Cpu → Cpu
@@ -45,7 +45,7 @@ with_registers p cpu = record cpu { regs = with_plain cpu.regs p }
 abbrev pub within : Cpu → Rowed → SystemRowed
 within cpu (Ok done) = system_went done.flow (with_registers done.plain cpu)
 within cpu (Err (Unread refused)) = Err (Unread refused)
-within cpu (Err (Stop stop)) = ended_by stop.ended (with_registers stop.plain cpu)
+within cpu (Err (Stop stop)) = system_ended_otherwise stop.ended (with_registers stop.plain cpu)
 
 -- the last part of a row, which works on the processor's registers alone
 abbrev pub finish_row_of : Cpu → Routine Rowed → Routine SystemRowed
@@ -73,7 +73,7 @@ system_closing before m = Then m (λ rowed. Return (system_closed before rowed))
 abbrev pub system_performed_by : Result Bool Ended → Cpu → SystemRowed
 system_performed_by (Ok flow) cpu = system_went flow cpu
 system_performed_by (Err (ended.ReadFault refused)) cpu = Err (Unread refused)
-system_performed_by (Err end) cpu = ended_by end cpu
+system_performed_by (Err end) cpu = system_ended_otherwise end cpu
 
 -- the same of a function whose instruction never changes the flow
 abbrev pub system_carried_by : Result (Unit {0}) Ended → Cpu → SystemRowed

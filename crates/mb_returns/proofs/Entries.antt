@@ -19,7 +19,7 @@ use Rattle.mb_writes.specs.Checked.{probe_pieces_of}
 use Rattle.mb_processor.specs.declared.entering.Cause.{Cause}
 use Rattle.mb_processor.specs.declared.entering.Entered.TheVariants as entered
 use Rattle.mb_processor.specs.Entry as entry
-use Rattle.mb_processor.specs.Entry.{Stacked, Frames, Entrance, stacked, is_interrupt, frame_of, throwaway_of, handler_stack, frames_of, settled, awake, unstacked, put_bytes_of, probe_frame_of, probe_second_of, put_second_of, check_frames_of, put_frames_of, go_to_handler_of, enter_of}
+use Rattle.mb_processor.specs.Entry.{Stacked, Frames, Entrance, stacked, is_interrupt, frame_of, throwaway_of, handler_stack, frames_of, handler_regs, awake, unstacked, put_bytes_of, probe_frame_of, probe_second_of, put_second_of, check_frames_of, put_frames_of, go_to_handler_of, enter_of}
 use Rattle.mb_returns.specs.Keeping.{Placing, Viewing, IsKept, Keeps}
 use Rattle.mb_returns.specs.Returns.{AreApart, IsSeen, SecondIsSeen, AreSeen, EntryIsSeen}
 use Rattle.mb_returns.proofs.Bytes.{frame_is_bytes}
@@ -197,5 +197,5 @@ unfolding enter_of frames_of
 entry_is_seen S bus place view c cpu s keeps lawful apart h =
     let r = cpu.regs in
     let f = frames_of c r in
-    after_check S bus place view keeps f c (awake cpu) (record (awake cpu) { regs = settled c f r }) s (run bus (check_frames_of f) s).0 refl
+    after_check S bus place view keeps f c (awake cpu) (record (awake cpu) { regs = handler_regs c f r }) s (run bus (check_frames_of f) s).0 refl
     (is_frame (frame_of r.sr c) (handler_stack r)) (second_is_frame (is_interrupt c && is_master r.sr) (throwaway_of r.sr c) r.isp) apart h

@@ -9,7 +9,7 @@ use Rattle.mb_port.specs.declared.types.Space.TheVariants.{Super}
 use Rattle.mb_frames.specs.declared.frame.Access.{Access}
 use Rattle.mb_frames.specs.declared.frame.Frame.{Frame}
 use Rattle.mb_frames.specs.declared.frame.Frame.TheVariants as frame
-use Rattle.mb_frames.specs.Layout.{Fits, StandsIn, fields_of, format_of, offset_of, frame_bytes, frame_length, IsFrame}
+use Rattle.mb_frames.specs.Layout.{Fits, StandsIn, fields_of, format_of, vector_offset_of, frame_bytes, frame_length, IsFrame}
 use Rattle.mb_frames.specs.Reading.{word_at, long_at, format_of_word, access_in}
 use Rattle.mb_frames.proofs.Fields.{ReadsAs, fields_read}
 use Rattle.mb_frames.proofs.RoundTrip.{access-read, format-read, frame_bytes-stand_alone, length-frame_bytes}
@@ -49,7 +49,7 @@ record IsHead (b : List ℕ) (f : Frame) : Type 0 where
   pc : long_at b 2 ≡ pc_of f
   format : format_of_word (word_at b 6) ≡ format_of f
 
-of_reads : (f : Frame) (b : List ℕ) → offset_of f < 4096 → AllByRecursion (ReadsAs b) (fields_of f) → IsHead b f
+of_reads : (f : Frame) (b : List ℕ) → vector_offset_of f < 4096 → AllByRecursion (ReadsAs b) (fields_of f) → IsHead b f
 unfolding word_at long_at
 of_reads (frame.Short sr pc offset) b low (s, (p, (w, end))) = record { sr = s; pc = p; format = (format-read _ 0 offset w low).0 }
 of_reads (frame.Throwaway sr pc offset) b low (s, (p, (w, end))) = record { sr = s; pc = p; format = (format-read _ 1 offset w low).0 }

@@ -15,8 +15,8 @@ use Rattle.mb_ea.specs.declared.reading.ReadFault.{ReadFault}
 use Rattle.mb_writes.specs.declared.ends.Ended.{Ended}
 use Rattle.mb_writes.specs.declared.ends.Ended.TheVariants as ended
 use Rattle.mb_processor.specs.declared.entering.Cause.{Cause}
-use Rattle.mb_processor.specs.Entry.{has_address, is_interrupt, supervised, with_mask, frame_with, frame_of, throwaway_of, thrown_sr, stacked, with_second, settled, frames_of, Frames}
-use Rattle.mb_processor.specs.Return.{Head, Taken, read_head_of, read_longs_of, access_of_longs, continues, can_continue, restore_of, drop_bytes_of, format_error, read_or_end, judged, take_access_of, take_frame_of, take_second_of, take_throwaway_of, take_frames_of}
+use Rattle.mb_processor.specs.Entry.{has_address, is_interrupt, supervised, with_mask, frame_with, frame_of, throwaway_of, thrown_sr, stacked, with_second, handler_regs, frames_of, Frames}
+use Rattle.mb_processor.specs.Return.{Head, Taken, read_head_of, read_longs_of, access_of_longs, continues, can_continue, restore_of, drop_bytes_of, format_error, read_or_end, access_or_format_error, take_access_of, take_frame_of, take_second_of, take_throwaway_of, take_frames_of}
 use Rattle.mb_returns.specs.Keeping.{Placing, Viewing, Shows, Keeps}
 use Rattle.mb_returns.specs.Returns.{IsLawful, AreSeen, taken_back, CanReturn, FramesAreTaken}
 use Rattle.mb_returns.proofs.Readings.{Gives, followed, at_once, shown_still, shown_behind}
@@ -91,12 +91,12 @@ module _ (S : Type 0) (bus : Bus S) (place : Placing S) (view : Viewing S) (keep
       let read = not_refused (read_longs_of 13 (sum top 8) []) s longs
       (reads_longs S bus place view keeps 13 (sum top 8) [] (drop 8 b) s (omega arith) behind) in
       let fields : access_of_longs longs ≡ a = fields_among b (frame_is_bytes f) ∙ fields_of_frame sr pc offset a lawful in
-      let judgement : judged (access_of_longs longs) back ≡ Ok (record { regs = back; access = Some a }) =
-      ap (λ (x : Access). judged x back) fields ∙ judged_by (continues a) (can_continue a) _ _ can in
-      let next : Result (List ℕ) Ended → Routine (Result Taken Ended) = λ q. tried q (λ longs. Return (judged (access_of_longs longs) back)) in
+      let judgement : access_or_format_error (access_of_longs longs) back ≡ Ok (record { regs = back; access = Some a }) =
+      ap (λ (x : Access). access_or_format_error x back) fields ∙ judged_by (continues a) (can_continue a) _ _ can in
+      let next : Result (List ℕ) Ended → Routine (Result Taken Ended) = λ q. tried q (λ longs. Return (access_or_format_error (access_of_longs longs) back)) in
       followed bus place view (read_or_end (read_longs_of 13 (sum top 8) [])) next s (Ok longs) _ read
       (subst (λ (x : Result Taken Ended). Gives bus place view (next (Ok longs)) (run bus (read_or_end (read_longs_of 13 (sum top 8) [])) s).1 x)
-      judgement (at_once bus place view _ (judged (access_of_longs longs) back)))
+      judgement (at_once bus place view _ (access_or_format_error (access_of_longs longs) back)))
 
   -- one frame
   one_given : (f : Frame) (r : Regs) (s : S) → Returns f → IsFrame f → CanReturn (access_of f)
@@ -286,7 +286,7 @@ module _ (S : Type 0) (bus : Bus S) (place : Placing S) (view : Viewing S) (keep
       ∙ ap (λ (x : Regs). (let q : Result Taken Ended = Ok (record { regs = x; access = c.access }) in q)) regs
 
 pub frames_are_taken : (S : Type 0) → FramesAreTaken S
-unfolding frames_of settled
+unfolding frames_of handler_regs
 frames_are_taken S bus place view c cpu back s keeps lawful seen h can =
     by_cases S bus place view keeps c cpu back lawful can (is_interrupt c) (is_master cpu.regs.sr) s refl seen
     (record { supervisor = h.supervisor; master = h.master; isp = h.isp; msp = h.msp })

@@ -10,8 +10,8 @@ use Rattle.mb_model.specs.Status.{kept_status}
 use Rattle.mb_ea.specs.Addresses.{sum}
 use Rattle.mb_processor.specs.declared.entering.Cause.{Cause}
 use Rattle.mb_processor.specs.declared.entering.Entered.TheVariants as entered
-use Rattle.mb_processor.specs.Entry.{Stacked, Frames, frame_of, throwaway_of, frames_of, settled, enter_of}
-use Rattle.mb_processor.specs.Return.{Held, Taken, Returned, continues, can_continue, take_frames_of, return_from_of, went}
+use Rattle.mb_processor.specs.Entry.{Stacked, Frames, frame_of, throwaway_of, frames_of, handler_regs, enter_of}
+use Rattle.mb_processor.specs.Return.{Held, Taken, Returned, continues, can_continue, take_frames_of, return_from_of, done_with_flow}
 use Rattle.mb_returns.specs.Keeping.{Placing, Viewing, Keeps, Shows}
 
 -- ---- what is entered
@@ -53,9 +53,9 @@ pub record AreSeen (view : ℕ → Option ℕ) (f : Frames) : Type 0 where
 -- In supervisor mode, with the stacks and the M with which the handler began. All else may be another.
 pub record IsHandlers (c : Cause) (cpu back : Cpu) : Type 0 where
   pub supervisor : is_supervisor back.regs.sr ≡ true
-  pub master : is_master back.regs.sr ≡ is_master (settled c (frames_at c cpu) cpu.regs).sr
-  pub isp : back.regs.isp ≡ (settled c (frames_at c cpu) cpu.regs).isp
-  pub msp : back.regs.msp ≡ (settled c (frames_at c cpu) cpu.regs).msp
+  pub master : is_master back.regs.sr ≡ is_master (handler_regs c (frames_at c cpu) cpu.regs).sr
+  pub isp : back.regs.isp ≡ (handler_regs c (frames_at c cpu) cpu.regs).isp
+  pub msp : back.regs.msp ≡ (handler_regs c (frames_at c cpu) cpu.regs).msp
 
 -- SR, the PC that was stacked and both stack pointers as they were before the entry
 abbrev pub given_back : Cause → Regs → Regs → Regs
@@ -72,7 +72,7 @@ held_of (Some access) pc = Some (record { access = access; pc = pc })
 
 abbrev pub returned_back : Cause → Cpu → Cpu → Returned
 returned_back c cpu back = record {
-  ended = went;
+  ended = done_with_flow;
   cpu = record back { regs = given_back c cpu.regs back.regs };
   held = held_of c.access c.pc;
 }

@@ -20,7 +20,7 @@ use Rattle.mb_meaning.specs.Attempt.{past}
 use Rattle.mb_meaning.specs.Ends.{Rowed, went}
 use Rattle.mb_meaning.specs.Flow.{branch_of, go_if_met_of, call_of, dbcc_of, target_of, is_call}
 use Rattle.mb_meaning.specs.Moves.{lea_of}
-use Rattle.mb_meaning.specs.Operands.{find_address_of, raised}
+use Rattle.mb_meaning.specs.Operands.{find_address_of, stack_raised}
 use Rattle.mb_meaning.specs.Returns.{rts_of}
 use Rattle.mb_meaning.specs.Rows.{row_of, perform_flow_of, perform_move_of}
 use Rattle.mb_meaning.specs.Stack.{link_of, unlk_of}
@@ -49,10 +49,10 @@ call_goes bus d n space p q s t (Some met) h = goes bus (instr.Flow (flow.Bcc co
 
 pub return_goes : {S : Type 0} (bus : Bus S) (target : ℕ) (space : Space) (p : Plain) (s : S)
     → run bus (read_operand_of space (address_register p 7) 4) s ≡ (Ok target, s)
-    → Goes bus (instr.Flow flow.Rts) 1 space p s true (record (raised p) { pc = target }) s
+    → Goes bus (instr.Flow flow.Rts) 1 space p s true (record (stack_raised p) { pc = target }) s
 unfolding row_of perform_flow_of rts_of
 return_goes bus target space p s read =
-    goes bus (instr.Flow flow.Rts) p.pc space (past 1 p) (record (raised p) { pc = target }) true s s (rw (run, read) refl)
+    goes bus (instr.Flow flow.Rts) p.pc space (past 1 p) (record (stack_raised p) { pc = target }) true s s (rw (run, read) refl)
 
 pub link_goes : {S : Type 0} (bus : Bus S) (n d : ℕ) (space : Space) (p q : Plain) (s t : S) (r : Option Bool)
     → IfSome r (λ met. run bus (link_of n (sign_extended Word d) space (past 2 p)) s ≡ (went met q, t))

@@ -19,7 +19,7 @@ use Rattle.mb_ea.specs.declared.addresses.Target.{Target}
 use Rattle.mb_ea.specs.declared.addresses.Target.TheVariants.{Reg, Memory}
 use Rattle.mb_ea.specs.Addresses.{sum}
 use Rattle.mb_ea.specs.Reading.{read_operand_of}
-use Rattle.mb_ea.specs.Resolve.{resolve_of, stepped}
+use Rattle.mb_ea.specs.Resolve.{resolve_of, step_over_of}
 use Rattle.mb_writes.specs.Writing.{write_operand_of}
 use Rattle.mb_meaning.specs.Attempt.{past}
 use Rattle.mb_meaning.specs.Ends.{Rowed, carried}
@@ -98,7 +98,7 @@ Fetches bus size ea space p s target value q =
     (word_at : ℕ) → run bus (fetch_operand_of size ea word_at space p) s ≡ (Ok (record { target = target; value = value; plain = q }), s)
 
 pub place_found : {S : Type 0} (bus : Bus S) (size : Size) (place : Place) (space : Space) (p : Plain) (s : S)
-    → Finds bus size (place_ea place) space p s (place_at place size p) (stepped (place_ea place) size p)
+    → Finds bus size (place_ea place) space p s (place_at place size p) (step_over_of (place_ea place) size p)
 unfolding resolve_of
 place_found bus size (place.At n) space p s word_at = refl
 place_found bus size (place.Up n) space p s word_at = refl
@@ -215,10 +215,10 @@ takes_register bus t size r space p s valid =
 pub takes_memory : {S : Type 0} (bus : Bus S) (t : Taking) (size : Size) (place : Place) (value : ℕ) (space : Space) (p : Plain) (s : S)
     → IsInstr (taking_of t size (place_ea place))
     → run bus (read_operand_of space (place_at place size p) (bytes_of size)) s ≡ (Ok value, s)
-    → Goes bus (taking_of t size (place_ea place)) 1 space p s false (taken_by t size value (stepped (place_ea place) size (past 1 p))) s
+    → Goes bus (taking_of t size (place_ea place)) 1 space p s false (taken_by t size value (step_over_of (place_ea place) size (past 1 p))) s
 takes_memory bus t size place value space p s valid read =
     let moved = past 1 p in
-    let after = stepped (place_ea place) size moved in
+    let after = step_over_of (place_ea place) size moved in
     let here = subst (λ (at : ℕ). run bus (read_operand_of space at (bytes_of size)) s ≡ (Ok value, s)) (sym (same_place place size 1 p)) read in
     one_goes bus (taking_of t size (place_ea place)) space p (taken_by t size value after) s s
     (takes bus t size (place_ea place) (Memory (place_at place size moved)) value p.pc space moved after s (has_register t size (place_ea place) valid)
@@ -251,10 +251,10 @@ pub puts_memory : {S : Type 0} (bus : Bus S) (t : Putting) (size : Size) (place 
     → IsInstr (putting_of t size (place_ea place))
     → run bus (write_operand_of space (place_at place size p) (bytes_of size) (put_value t size p)) s ≡ (Ok tt, u)
     → Goes bus (putting_of t size (place_ea place)) 1 space p s false
-    (move_flags size (put_value t size p) (stepped (place_ea place) size (past 1 p))) u
+    (move_flags size (put_value t size p) (step_over_of (place_ea place) size (past 1 p))) u
 puts_memory bus t size place space p s u valid put =
     let moved = past 1 p in
-    let after = stepped (place_ea place) size moved in
+    let after = step_over_of (place_ea place) size moved in
     let there = subst (λ (at : ℕ). run bus (write_operand_of space at (bytes_of size) (put_value t size p)) s ≡ (Ok tt, u))
     (sym (same_place place size 1 p)) put in
     let here = subst (λ (value : ℕ). run bus (write_operand_of space (place_at place size moved) (bytes_of size) value) s ≡ (Ok tt, u)) (sym (same_put t size 1 p)) there in

@@ -15,7 +15,7 @@ use Rattle.mb_alu.specs.declared.conditions.Flagged.{Flagged}
 use Rattle.mb_ea.specs.declared.addresses.Target.TheVariants.{Reg}
 use Rattle.mb_ea.specs.Addresses.{sum}
 use Rattle.mb_ea.specs.Reading.{read_operand_of}
-use Rattle.mb_ea.specs.Resolve.{stepped}
+use Rattle.mb_ea.specs.Resolve.{step_over_of}
 use Rattle.mb_writes.specs.Writing.{write_operand_of}
 use Rattle.mb_meaning.specs.Attempt.{past}
 use Rattle.mb_meaning.specs.Ends.{carried}
@@ -122,7 +122,7 @@ no_number (place.At n) = refl
 no_number (place.Up n) = refl
 no_number (place.Down n) = refl
 
-same_codes : (place : Place) (size : Size) (p : Plain) → (stepped (place_ea place) size p).ccr ≡ p.ccr
+same_codes : (place : Place) (size : Size) (p : Plain) → (step_over_of (place_ea place) size p).ccr ≡ p.ccr
 same_codes (place.At n) size p = refl
 same_codes (place.Up n) size p = refl
 same_codes (place.Down n) size p = refl
@@ -132,10 +132,10 @@ pub updates_memory : {S : Type 0} (bus : Bus S) (u : Update) (size : Size) (plac
     → run bus (read_operand_of space (place_at place size p) (bytes_of size)) s ≡ (Ok value, s)
     → run bus (write_operand_of space (place_at place size p) (bytes_of size) (updated_by u size value p).value) s ≡ (Ok tt, t)
     → Goes bus (update_of u size (place_ea place)) 1 space p s false
-    (record (stepped (place_ea place) size (past 1 p)) { ccr = (updated_by u size value p).ccr }) t
+    (record (step_over_of (place_ea place) size (past 1 p)) { ccr = (updated_by u size value p).ccr }) t
 updates_memory bus u size place value space p s t valid read put =
     let moved = past 1 p in
-    let after = stepped (place_ea place) size moved in
+    let after = step_over_of (place_ea place) size moved in
     let at = same_place place size 1 p in
     let same = same_update u size value 1 p in
     let here = subst (λ (n : ℕ). run bus (read_operand_of space n (bytes_of size)) s ≡ (Ok value, s)) (sym at) read in

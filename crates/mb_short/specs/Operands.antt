@@ -8,7 +8,7 @@ use Rattle.mb_instr.specs.Registers.{data_register, address_register, with_addre
 use Rattle.mb_alu.specs.declared.bitwise.LogicKind.TheVariants.{And, Or}
 use Rattle.mb_alu.specs.Logic.{logic_of}
 use Rattle.mb_alu.specs.Sums.{compare_of}
-use Rattle.mb_ea.specs.Addresses.{sum, difference, step_of}
+use Rattle.mb_ea.specs.Addresses.{sum, difference, increment_of}
 use Rattle.mb_meaning.specs.Arithmetic.{added, subtracted}
 use Rattle.mb_meaning.specs.Moves.{move_flags}
 use Rattle.mb_meaning.specs.Unary.{put_in_register_of}
@@ -26,7 +26,7 @@ use Rattle.mb_short.specs.Moved.{moved_to}
 abbrev pub place_at : Place → Size → Plain → ℕ
 place_at (place.At n) size p = address_register p n
 place_at (place.Up n) size p = address_register p n
-place_at (place.Down n) size p = difference (address_register p n) (step_of size n)
+place_at (place.Down n) size p = difference (address_register p n) (increment_of size n)
 
 -- all of a register
 abbrev pub register_value : Register → Plain → ℕ

@@ -5,8 +5,8 @@ ghost use Rattle.mb_instr.specs.declared.size.Size.TheVariants.{Word};
 ghost use Rattle.mb_instr.specs.Operands.{lower};
 ghost use Rattle.mb_instr.specs.Registers.{address_register};
 ghost use Rattle.mb_instr.specs.Sizes.{sign_extended};
-ghost use Rattle.mb_ea.specs.Addresses.{sum, step_of};
-ghost use Rattle.mb_ea.specs.Resolve.{stepped};
+ghost use Rattle.mb_ea.specs.Addresses.{sum, increment_of};
+ghost use Rattle.mb_ea.specs.Resolve.{step_over_of};
 ghost use Rattle.mb_meaning.specs.Attempt.{past};
 ghost use Rattle.mb_table.specs.Forms.{place_ea};
 ghost use Rattle.mb_short.specs.Operands.{place_at};
@@ -16,8 +16,8 @@ use mb_table::Place;
 
 /// How far `(An)+` and `-(An)` step: A7 stays even.
 #[inline(always)]
-fn step(size: Size, register: u8) -> u32
-    ensures { result ≡ step_of size register }
+fn increment(size: Size, register: u8) -> u32
+    ensures { result ≡ increment_of size register }
 {
     if size == Size::Byte && register == 7 {
         2
@@ -35,7 +35,7 @@ pub(crate) fn address(place: Place, size: Size, plain: &Plain) -> u32
     match place {
         Place::At(n) => plain.a[n as usize],
         Place::Up(n) => plain.a[n as usize],
-        Place::Down(n) => plain.a[n as usize].wrapping_sub(step(size, n)),
+        Place::Down(n) => plain.a[n as usize].wrapping_sub(increment(size, n)),
     }
 }
 
@@ -43,12 +43,14 @@ pub(crate) fn address(place: Place, size: Size, plain: &Plain) -> u32
 #[inline(always)]
 pub(crate) fn step_over(place: Place, size: Size, plain: &mut Plain)
     requires { lower (place_ea place) < 8 }
-    ensures { plain.new ≡ stepped (place_ea place) size plain.old }
+    ensures { plain.new ≡ step_over_of (place_ea place) size plain.old }
 {
     match place {
         Place::At(_) => {}
-        Place::Up(n) => plain.a[n as usize] = plain.a[n as usize].wrapping_add(step(size, n)),
-        Place::Down(n) => plain.a[n as usize] = plain.a[n as usize].wrapping_sub(step(size, n)),
+        Place::Up(n) => plain.a[n as usize] = plain.a[n as usize].wrapping_add(increment(size, n)),
+        Place::Down(n) => plain.a[n as usize] = plain.a[n as usize].wrapping_sub(increment(
+            size, n,
+        )),
     }
 }
 

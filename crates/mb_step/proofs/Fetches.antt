@@ -12,7 +12,7 @@ use Rattle.mb_decode.specs.declared.front.Decoded.{Decoded}
 use Rattle.mb_decode.specs.declared.front.Decoded.TheVariants.{Whole}
 use Rattle.mb_decode.specs.Decodes.{decode_of}
 use Rattle.mb_ea.specs.Reading.{refused_in}
-use Rattle.mb_meaning.specs.Attempt.{NoInstruction, Unfetched, Found, illegal, found_of, fetched_of, judged}
+use Rattle.mb_meaning.specs.Attempt.{NoInstruction, Unfetched, FoundInstr, illegal, found_of, fetched_of, by_decoded}
 use Rattle.mb_instr.specs.declared.counts.TheConstants.{MOST_WORDS}
 use Rattle.mb_processor.specs.Raise.{Stepped, refuse_of}
 use Rattle.mb_processor.specs.Step.{finish_unread_of, unfound_of, execute_of, execute_next_of}
@@ -25,7 +25,7 @@ Answered bus space at s answer t = bus (Fetch space at) s ≡ (answer, t)
 -- a word came, and what follows goes by what the words are now
 fetched : {S : Type 0} (bus : Bus S) (m n : ℕ) (space : Space) (at : ℕ) (words : List ℕ) (word : ℕ) (s t : S) (now : List ℕ) (d : Decoded) → m ≡ suc n
     → Answered bus space at s (Ok word) t → now ≡ words ++ word ∷ [] → d ≡ decode_of now
-    → run bus (found_of m space at words) s ≡ run bus (judged d (found_of n space ((at + 2) % 2 ^ 32) now)) t
+    → run bus (found_of m space at words) s ≡ run bus (by_decoded d (found_of n space ((at + 2) % 2 ^ 32) now)) t
 unfolding found_of
 fetched bus m n space at words word s t now d e h w k = rw (e, found_of, h, k, w) refl
 
@@ -49,7 +49,7 @@ abbrev pub seeking : {S : Type 0} → Bus S → Cpu → Space → ℕ → ℕ �
 seeking bus cpu space m at words s = run bus (sought_of cpu (found_of m space at words)) s
 
 -- what is answered by an answer of the fetch
-abbrev pub seek : {S : Type 0} → Bus S → Cpu → Found × S → Sought × S
+abbrev pub seek : {S : Type 0} → Bus S → Cpu → FoundInstr × S → Sought × S
 seek bus cpu found = run bus (sought_of cpu (Return found.0)) found.1
 
 -- the answer where the step has ended
@@ -59,7 +59,7 @@ ending stepped = ((Err stepped.0.0, stepped.0.1), stepped.1)
 pub seeking_on : {S : Type 0} (bus : Bus S) (cpu : Cpu) (m n : ℕ) (space : Space) (at : ℕ) (words : List ℕ) (word : ℕ) (s t : S) (now : List ℕ) (d : Decoded)
     → m ≡ suc n → Answered bus space at s (Ok word) t → now ≡ words ++ word ∷ [] → d ≡ decode_of now
     → seeking bus cpu space m at words s
-    ≡ run bus (sought_of cpu (judged d (found_of n space ((at + 2) % 2 ^ 32) now))) t
+    ≡ run bus (sought_of cpu (by_decoded d (found_of n space ((at + 2) % 2 ^ 32) now))) t
 seeking_on bus cpu m n space at words word s t now d e h w k = ap (seek bus cpu) (fetched bus m n space at words word s t now d e h w k)
 
 -- `q` is the same processor, as the code has it then
@@ -84,26 +84,26 @@ unfolding unfound_of
 seeking_none bus cpu q vector t stepped k r = ap ending (rw (sym k) r)
 
 -- an instruction was found
-pub seeking_whole : {S : Type 0} (bus : Bus S) (cpu q : Cpu) (more : Routine Found) (t : S) (d : Decoded) (i : Instr) (n : ℕ)
+pub seeking_whole : {S : Type 0} (bus : Bus S) (cpu q : Cpu) (more : Routine FoundInstr) (t : S) (d : Decoded) (i : Instr) (n : ℕ)
     → d ≡ Whole i n → q ≡ cpu
-    → run bus (sought_of cpu (judged d more)) t ≡ ((Ok (i, n), q), t)
+    → run bus (sought_of cpu (by_decoded d more)) t ≡ ((Ok (i, n), q), t)
 seeking_whole bus cpu q more t d i n h k = rw (h, k) refl
 
 -- what the words are so far
-pub seeking_judged : {S : Type 0} (bus : Bus S) (cpu : Cpu) (more : Routine Found) (t : S) (now : List ℕ) (d : Decoded) → d ≡ decode_of now
-    → run bus (sought_of cpu (judged (decode_of now) more)) t ≡ run bus (sought_of cpu (judged d more)) t
+pub seeking_judged : {S : Type 0} (bus : Bus S) (cpu : Cpu) (more : Routine FoundInstr) (t : S) (now : List ℕ) (d : Decoded) → d ≡ decode_of now
+    → run bus (sought_of cpu (by_decoded (decode_of now) more)) t ≡ run bus (sought_of cpu (by_decoded d more)) t
 seeking_judged bus cpu more t now d h = rw (sym h) refl
 
 -- ---- all words, which are carried out once they are an instruction
 
 -- what is done with an answer of the fetch
-abbrev pub doing : {S : Type 0} → Bus S → Cpu → Found × S → Stepped × S
+abbrev pub doing : {S : Type 0} → Bus S → Cpu → FoundInstr × S → Stepped × S
 doing bus cpu found = run bus (found_executed cpu (Return found.0)) found.1
 
 -- what follows the first word, by what it is found to begin with
 pub begun_as : {S : Type 0} (bus : Bus S) (cpu : Cpu) (first : ℕ) (s : S) (found d : Decoded) → found ≡ decode_of (first ∷ []) → found ≡ d
-    → run bus (found_executed cpu (judged (decode_of (first ∷ [])) (behind cpu first))) s ≡ run bus (found_executed cpu (judged d (behind cpu first))) s
-begun_as bus cpu first s found d e h = ap (λ (x : Decoded). run bus (found_executed cpu (judged x (behind cpu first))) s) (sym e ∙ h)
+    → run bus (found_executed cpu (by_decoded (decode_of (first ∷ [])) (behind cpu first))) s ≡ run bus (found_executed cpu (by_decoded d (behind cpu first))) s
+begun_as bus cpu first s found d e h = ap (λ (x : Decoded). run bus (found_executed cpu (by_decoded x (behind cpu first))) s) (sym e ∙ h)
 
 -- it begins no instruction
 pub begins_none : {S : Type 0} (bus : Bus S) (cpu : Cpu) (vector : ℕ) (t : S)
@@ -112,8 +112,8 @@ unfolding unfound_of
 begins_none bus cpu vector t = refl
 
 -- it is an instruction
-pub is_whole : {S : Type 0} (bus : Bus S) (cpu : Cpu) (more : Routine Found) (t : S) (d : Decoded) (i : Instr) (n : ℕ) → d ≡ Whole i n
-    → run bus (found_executed cpu (judged d more)) t ≡ run bus (execute_of i n cpu) t
+pub is_whole : {S : Type 0} (bus : Bus S) (cpu : Cpu) (more : Routine FoundInstr) (t : S) (d : Decoded) (i : Instr) (n : ℕ) → d ≡ Whole i n
+    → run bus (found_executed cpu (by_decoded d more)) t ≡ run bus (execute_of i n cpu) t
 is_whole bus cpu more t d i n h = rw (h) refl
 
 -- what follows an answer: the instruction is carried out, or the step has ended
@@ -121,22 +121,22 @@ abbrev pub carried : {S : Type 0} → Bus S → Result (Instr × ℕ) Finish →
 carried bus (Ok found) cpu s = run bus (execute_of found.0 found.1 cpu) s
 carried bus (Err end) cpu s = ((end, cpu), s)
 
-carried_on : {S : Type 0} (bus : Bus S) (cpu : Cpu) (answer : Found) (s : S)
+carried_on : {S : Type 0} (bus : Bus S) (cpu : Cpu) (answer : FoundInstr) (s : S)
     → doing bus cpu (answer, s) ≡ carried bus (seek bus cpu (answer, s)).0.0 (seek bus cpu (answer, s)).0.1 (seek bus cpu (answer, s)).1
 carried_on bus cpu (Ok found) s = refl
 carried_on bus cpu (Err end) s = refl
 
 -- more words were sought, with this answer
-sought : {S : Type 0} (bus : Bus S) (cpu q : Cpu) (more : Routine Found) (s t : S) (answer : Result (Instr × ℕ) Finish)
+sought : {S : Type 0} (bus : Bus S) (cpu q : Cpu) (more : Routine FoundInstr) (s t : S) (answer : Result (Instr × ℕ) Finish)
     → run bus (sought_of cpu more) s ≡ ((answer, q), t) → run bus (found_executed cpu more) s ≡ carried bus answer q t
 sought bus cpu q more s t answer h =
     carried_on bus cpu (run bus more s).0 (run bus more s).1
     ∙ ap (λ (found : Sought × _). carried bus found.0.0 found.0.1 found.1) h
 
 -- what follows the first two words, by what these are
-abbrev pub by_two : Cpu → ℕ → ℕ → Routine Found
+abbrev pub by_two : Cpu → ℕ → ℕ → Routine FoundInstr
 by_two cpu first second =
-    judged (decode_of (first ∷ second ∷ []))
+    by_decoded (decode_of (first ∷ second ∷ []))
     (found_of (MOST_WORDS - 2) (space_of cpu) (((cpu.regs.pc + 2) % 2 ^ 32 + 2) % 2 ^ 32) (first ∷ second ∷ []))
 
 -- it has more words: the second came, and what the two are, or begin, was sought, with this answer
@@ -194,7 +194,7 @@ unequal a b h = grind (arith, nat_tests)
 pub first_word : {S : Type 0} (bus : Bus S) (cpu : Cpu) (space : Space) (word : ℕ) (s t : S) (d : Decoded)
     → cpu.regs.pc % 2 ≢ 1 → space ≡ space_of cpu → Answered bus space cpu.regs.pc s (Ok word) t → d ≡ decode_of (word ∷ [])
     → run bus (execute_next_of cpu) s
-    ≡ run bus (found_executed cpu (judged d (behind cpu word))) t
+    ≡ run bus (found_executed cpu (by_decoded d (behind cpu word))) t
 first_word bus cpu space word s t d even k h e =
     begun bus cpu s _ refl (unequal (cpu.regs.pc % 2) 1 even)
     ∙ ap (doing bus cpu) (fetched bus MOST_WORDS (MOST_WORDS - 1) (space_of cpu) cpu.regs.pc [] word s t (word ∷ []) d refl (rw (sym k) h) refl e)
@@ -279,7 +279,7 @@ pub seeking_came : {S : Type 0} (bus : Bus S) (cpu q : Cpu) (m n : ℕ) (space w
     (now : List ℕ) (d : Decoded) → m ≡ suc n → word_space ≡ space → run bus (word_of cpu word_space at) s ≡ ((Ok word, q), t)
     → now ≡ words ++ word ∷ [] → d ≡ decode_of now
     → seeking bus cpu space m at words s
-    ≡ run bus (sought_of cpu (judged d (found_of n space ((at + 2) % 2 ^ 32) now))) t
+    ≡ run bus (sought_of cpu (by_decoded d (found_of n space ((at + 2) % 2 ^ 32) now))) t
 seeking_came bus cpu q m n space word_space at words word s t now d e k h w j =
     seeking_on bus cpu m n space at words word s t now d e (rw (sym k) (word_came bus cpu q word_space at word s t h)) w j
 

@@ -10,7 +10,7 @@ use Rattle.mb_instr.specs.Registers.{plain_of, with_plain}
 use Rattle.mb_model.specs.declared.processor.Cpu.{Cpu}
 use Rattle.mb_model.specs.Status.{space_of}
 use Rattle.mb_decode.specs.declared.front.Decoded.{Decoded}
-use Rattle.mb_meaning.specs.Attempt.{judged}
+use Rattle.mb_meaning.specs.Attempt.{by_decoded}
 use Rattle.mb_meaning.specs.Ends.{Performed, closed}
 use Rattle.mb_meaning.specs.Rows.{row_of, perform_of}
 use Rattle.mb_processor.specs.SystemEnds.{with_registers}
@@ -43,7 +43,7 @@ executed bus cpu (instr.System i) n flow q s t h = absurd (let e = ap (λ (r : P
 -- by itself
 alone_went : {S : Type 0} (bus : Bus S) (cpu : Cpu) (first : ℕ) (m : Option Instr) (flow : Bool) (q : Plain) (s t : S)
     → IfSome m (IsAlone first) → GoesBy bus m 1 (space_of cpu) (plain_of cpu.regs) s flow q t
-    → run bus (found_executed cpu (judged (alone first) (behind cpu first))) s ≡ after bus cpu flow q t
+    → run bus (found_executed cpu (by_decoded (alone first) (behind cpu first))) s ≡ after bus cpu flow q t
 alone_went bus cpu first None flow q s t right h = absurd h
 alone_went bus cpu first (Some i) flow q s t right h =
     is_whole bus cpu (behind cpu first) s (alone first) i 1 right.0 ∙ executed bus cpu i 1 flow q s t h
@@ -52,16 +52,16 @@ alone_went bus cpu first (Some i) flow q s t right h =
 with_went : {S : Type 0} (bus : Bus S) (cpu : Cpu) (first word : ℕ) (m : Option Instr) (flow : Bool) (q : Plain) (s t : S)
     → IfSome m (IsWith first word) → bus (Call.Fetch (space_of cpu) ((cpu.regs.pc + 2) % 2 ^ 32)) s ≡ (Ok word, s)
     → GoesBy bus m 2 (space_of cpu) (plain_of cpu.regs) s flow q t
-    → run bus (found_executed cpu (judged (alone first) (behind cpu first))) s ≡ after bus cpu flow q t
+    → run bus (found_executed cpu (by_decoded (alone first) (behind cpu first))) s ≡ after bus cpu flow q t
 with_went bus cpu first word None flow q s t right came h = absurd h
 with_went bus cpu first word (Some i) flow q s t right came h =
-    ap (λ (d : Decoded). run bus (found_executed cpu (judged d (behind cpu first))) s) right.0
+    ap (λ (d : Decoded). run bus (found_executed cpu (by_decoded d (behind cpu first))) s) right.0
     ∙ two_words bus cpu (space_of cpu) first word s s i refl came right.1
     ∙ executed bus cpu i 2 flow q s t h
 
 pub went : {S : Type 0} (bus : Bus S) (cpu : Cpu) (first : ℕ) (short : Short) (flow : Bool) (q : Plain) (s t : S)
     → IsShort first short → IsDone bus short (space_of cpu) (plain_of cpu.regs) s flow q t
-    → run bus (found_executed cpu (judged (alone first) (behind cpu first))) s ≡ after bus cpu flow q t
+    → run bus (found_executed cpu (by_decoded (alone first) (behind cpu first))) s ≡ after bus cpu flow q t
 unfolding IsShort plain_of
 went bus cpu first short flow q s t right (inl h) = alone_went bus cpu first (meaning short) flow q s t right.0 h
 went bus cpu first short flow q s t right (inr (word, range, came, h)) =
@@ -72,13 +72,13 @@ pub went_apart : {S : Type 0} (bus : Bus S) (cpu value : Cpu) (before now : Plai
     (stepped : Stepped × S) → with_registers before cpu ≡ value → length before.a ≡ 8 → before.ccr < 32 → IsShort first short
     → IsDone bus short (space_of cpu) before s flow now t
     → run bus (trace_if_of finish.Went (is_due cpu.regs.sr flow) before.pc (with_registers now cpu)) t ≡ stepped
-    → run bus (found_executed value (judged (alone first) (behind value first))) s ≡ stepped
+    → run bus (found_executed value (by_decoded (alone first) (behind value first))) s ≡ stepped
 unfolding with_plain
 went_apart bus cpu value before now first short flow s t stepped k len less right done h =
     let whole = with_registers before cpu in
     let by_space = subst (λ (space : Space). IsDone bus short space before s flow now t) (same_space before cpu) done in
     let by_plain = subst (λ (p : Plain). IsDone bus short (space_of whole) p s flow now t) (sym (plain_again before cpu len less)) by_space in
-    ap (λ (c : Cpu). run bus (found_executed c (judged (alone first) (behind c first))) s) (sym k)
+    ap (λ (c : Cpu). run bus (found_executed c (by_decoded (alone first) (behind c first))) s) (sym k)
     ∙ went bus whole first short flow now s t right by_plain
     ∙ ap (λ (b : Bool). run bus (trace_if_of finish.Went b before.pc (with_registers now whole)) t) (sym (same_due before cpu flow))
     ∙ ap (λ (c : Cpu). run bus (trace_if_of finish.Went (is_due cpu.regs.sr flow) before.pc c) t) (registers_over before now cpu)

@@ -7,7 +7,7 @@ use Rattle.mb_model.specs.declared.processor.Cpu.{Cpu}
 use Rattle.mb_model.specs.Status.{space_of}
 use Rattle.mb_processor.specs.declared.Finish.{Finish}
 use Rattle.mb_ea.specs.Reading.{refused_in}
-use Rattle.mb_meaning.specs.Attempt.{Found, found_of}
+use Rattle.mb_meaning.specs.Attempt.{FoundInstr, found_of}
 use Rattle.mb_instr.specs.declared.counts.TheConstants.{MOST_WORDS}
 use Rattle.mb_processor.specs.Raise.{Stepped}
 use Rattle.mb_processor.specs.Step.{execute_of, unfound_of, finish_unread_of}
@@ -27,7 +27,7 @@ abbrev pub Sought : Type 0
 Sought = Result (Instr × ℕ) Finish × Cpu
 
 -- where none is found, the step ends
-abbrev pub sought_of : Cpu → Routine Found → Routine Sought
+abbrev pub sought_of : Cpu → Routine FoundInstr → Routine Sought
 sought_of cpu found = caught found
     (λ unfound. Then (unfound_of unfound cpu) (λ (ended, after). Return (Err ended, after)))
     (λ found. Return (Ok found, cpu))
@@ -38,9 +38,9 @@ sought_by (Ok n) i = Ok (i, n)
 sought_by (Err end) i = Err end
 
 -- the words behind the first
-abbrev pub behind : Cpu → ℕ → Routine Found
+abbrev pub behind : Cpu → ℕ → Routine FoundInstr
 behind cpu word = found_of (MOST_WORDS - 1) (space_of cpu) ((cpu.regs.pc + 2) % 2 ^ 32) (word ∷ [])
 
 -- an instruction is carried out once it is found
-abbrev pub found_executed : Cpu → Routine Found → Routine Stepped
+abbrev pub found_executed : Cpu → Routine FoundInstr → Routine Stepped
 found_executed cpu found = caught found (λ unfound. unfound_of unfound cpu) (λ (i, n). execute_of i n cpu)

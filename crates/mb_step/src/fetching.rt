@@ -6,7 +6,7 @@ ghost use Rattle.mb_instr.specs.Codes.{IsInstr};
 ghost use Rattle.mb_model.specs.Status.{space_of};
 ghost use Rattle.mb_decode.specs.declared.front.Decoded.TheVariants.{More};
 ghost use Rattle.mb_decode.specs.Decodes.{decode_of};
-ghost use Rattle.mb_meaning.specs.Attempt.{found_of, judged};
+ghost use Rattle.mb_meaning.specs.Attempt.{found_of, by_decoded};
 ghost use Rattle.mb_processor.specs.Step.{execute_next_of};
 ghost use Rattle.mb_table.specs.FirstWords.{alone};
 ghost use Rattle.mb_table.specs.Short.{IsShort};
@@ -125,7 +125,7 @@ fn decode_three<P: Port>(
     port: &mut P,
 ) -> Result<u8, Finish>
     requires { third_at % 2 ≡ 0 }
-    ensures means { run P.bus (sought_of processor.old (judged (decode_of (first ∷ second ∷ third ∷ []))
+    ensures means { run P.bus (sought_of processor.old (by_decoded (decode_of (first ∷ second ∷ third ∷ []))
         (found_of (MOST_WORDS - 3) (space_of processor.old) ((third_at + 2) % 2 ^ 32) (first ∷ second ∷ third ∷ []))))
         (P.world port.old)
         ≡ ((sought_by result longer.new.instruction, processor.new), P.world port.new) }
@@ -204,7 +204,7 @@ fn decode_longer<P: Port>(
 ) -> Result<u8, Finish>
     requires even { second_at % 2 ≡ 0 }
     requires more { alone first ≡ More }
-    ensures means { run P.bus (sought_of processor.old (judged (decode_of (first ∷ second ∷ []))
+    ensures means { run P.bus (sought_of processor.old (by_decoded (decode_of (first ∷ second ∷ []))
         (found_of (MOST_WORDS - 2) (space_of processor.old) ((second_at + 2) % 2 ^ 32) (first ∷ second ∷ []))))
         (P.world port.old)
         ≡ ((sought_by result longer.new.instruction, processor.new), P.world port.new) }
@@ -245,7 +245,7 @@ fn find_longer<P: Port>(
 ) -> Result<u8, Finish>
     requires even { second_at % 2 ≡ 0 }
     requires more { alone first ≡ More }
-    ensures means { run P.bus (sought_of processor.old (judged (decode_of (first ∷ second ∷ []))
+    ensures means { run P.bus (sought_of processor.old (by_decoded (decode_of (first ∷ second ∷ []))
         (found_of (MOST_WORDS - 2) (space_of processor.old) ((second_at + 2) % 2 ^ 32) (first ∷ second ∷ []))))
         (P.world port.old)
         ≡ ((sought_by result longer.new.instruction, processor.new), P.world port.new) }
@@ -281,7 +281,8 @@ fn execute_short<P: Port, const COPY: usize>(
     requires even { processor.old.regs.pc % 2 ≡ 0 }
     requires short { IsShort first short.now }
     ensures done { IfSome result (λ end.
-        run P.bus (found_executed processor.old (judged (alone first) (behind processor.old first))) (P.world port.old)
+        run P.bus (found_executed processor.old (by_decoded (alone first) (behind processor.old first)))
+        (P.world port.old)
         ≡ ((end, processor.new), P.world port.new)) }
     ensures undone { IfNone result (processor.new ≡ processor.old) }
     ensures same { IfNone result (P.world port.new ≡ P.world port.old) }
@@ -307,7 +308,7 @@ fn execute_first<P: Port>(
     port: &mut P,
 ) -> Finish
     requires { processor.old.regs.pc % 2 ≡ 0 }
-    ensures means { run P.bus (found_executed processor.old (judged (alone first) (behind processor.old first)))
+    ensures means { run P.bus (found_executed processor.old (by_decoded (alone first) (behind processor.old first)))
         (P.world port.old) ≡ ((result, processor.new), P.world port.new) }
     ensures busy { result ≢ Finish.Idle }
     ensures rest { P.rest port.new ≡ P.rest port.old }

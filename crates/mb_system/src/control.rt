@@ -4,7 +4,7 @@ ghost use Rattle.std.specs.Prelude.{◌≡◌, ◌<◌, bit_and, IfErr};
 ghost use Rattle.mb_port.specs.Routine.{run};
 ghost use Rattle.mb_instr.specs.Control.{kept_bits};
 ghost use Rattle.mb_processor.specs.SystemEnds.{system_carried_by};
-ghost use Rattle.mb_processor.specs.Control.{named_control};
+ghost use Rattle.mb_processor.specs.Control.{named_control_in};
 ghost use Rattle.mb_processor.specs.Control.{control_value_of, set_control_of, move_to_control_of, move_from_control_of, movec_of};
 ghost use Rattle.mb_system.specs.Ends.{SystemEnds};
 
@@ -18,7 +18,7 @@ use mb_writes::Ended;
 /// The control register that a word names in its other bits.
 #[inline(always)]
 fn named_control(word: u16) -> Option<ControlRegister>
-    ensures { result ≡ named_control word }
+    ensures { result ≡ named_control_in word }
 {
     ControlRegister::of(word & 0xfff)
 }

@@ -14,7 +14,7 @@ use Rattle.mb_instr.specs.Registers.{data_register}
 use Rattle.mb_fields.specs.Fields.{field_get_of, field_put_of}
 use Rattle.mb_ea.specs.Addresses.{sum}
 use Rattle.mb_meaning.specs.Ends.{Carried}
-use Rattle.mb_meaning.specs.BitFields.{named_by, offset_of, width_of, is_change, field_after, field_done}
+use Rattle.mb_meaning.specs.BitFields.{field_register_in, field_offset_of, field_width_of, is_change, field_after, field_done}
 use Rattle.mb_meaning.specs.BitFields.{bytes_before, bytes_held, field_in_memory_of, bit_field_of}
 use Rattle.mb_tells.proofs.Longs.{sum_long}
 use Rattle.mb_tells.proofs.Ranges.{IsFormed}
@@ -25,14 +25,14 @@ module _ {S : Type 0} (x : Guarded S) (space : Space) (g : Guards x space) {move
   in_memory_tells : (kind : FieldKind) (word address : ℕ) (p : Plain) → RowTells x space p moves (field_in_memory_of kind word address space p)
   unfolding field_in_memory_of
   in_memory_tells kind word address p =
-      let offset = offset_of word p in
-      let width = width_of word p in
+      let offset = field_offset_of word p in
+      let width = field_width_of word p in
       let first = sum address (bytes_before offset) in
       let held = bytes_held offset width in
       let lt = sum_long address (bytes_before offset) in
       row_reading x space (reading_tells x space g first held lt) (λ bytes read.
       let old = field_get_of bytes (8 * held) (offset % 8) width in
-      let new = field_after kind width old (data_register p (named_by word)) in
+      let new = field_after kind width old (data_register p (field_register_in word)) in
       let done : Carried = record { flow = false; plain = field_done kind word old p } in
       tells_choose (is_change kind) _ _
       (λ e. row_writing x space tt (λ written. done) (writing_tells x space g first held (field_put_of bytes (8 * held) (offset % 8) width new) lt))

@@ -11,7 +11,7 @@ use Rattle.mb_instr.specs.declared.operand.Ea.{Ea}
 use Rattle.mb_instr.specs.declared.kinds.Branch.{Branch}
 use Rattle.mb_instr.specs.declared.kinds.Condition.{Condition}
 use Rattle.mb_instr.specs.Registers.{address_register}
-use Rattle.mb_meaning.specs.Operands.{lowered}
+use Rattle.mb_meaning.specs.Operands.{stack_lowered}
 use Rattle.mb_meaning.specs.Flow.{target_of, is_call, call_of, go_if_met_of, branch_of, jmp_of, jsr_of}
 use Rattle.mb_tells.proofs.Longs.{lowered_long}
 use Rattle.mb_tells.proofs.Ranges.{IsFormed}
@@ -22,7 +22,7 @@ module _ {S : Type 0} (x : Guarded S) (space : Space) (g : Guards x space) {move
   call_tells : (target : ℕ) (p : Plain) → AreLongs p.a → RowTells x space p moves (call_of target space p)
   unfolding call_of
   call_tells target p longs =
-      let after = record (lowered p) { pc = target } in
+      let after = record (stack_lowered p) { pc = target } in
       pushing_tells x space g p.pc (address_register after 7) (record { flow = true; plain = after }) (lowered_long p longs)
 
   pub branch_tells : (c : Condition) (d : Branch) (word_at : ℕ) (p : Plain) → AreLongs p.a → RowTells x space p moves (branch_of c d word_at space p)

@@ -9,20 +9,20 @@ use Rattle.mb_instr.specs.declared.registers.Plain.{Plain}
 use Rattle.mb_ea.specs.Reading.{refused_in}
 use Rattle.mb_writes.specs.declared.ends.Ended.TheVariants as ended
 use Rattle.mb_writes.specs.declared.transfers.Movem.{Movem}
-use Rattle.mb_meaning.specs.Ends.{Carried, Stopped, Cut, Stop, restored, ending}
+use Rattle.mb_meaning.specs.Ends.{Carried, OtherEnd, Cut, Stop, restored, ending}
 use Rattle.mb_tells.specs.Guarded.{Guarded, Guards, Goes, IsLine}
 use Rattle.mb_laws.specs.Tree.{tree_of}
-use Rattle.mb_tells.specs.Left.{line_completing}
+use Rattle.mb_tells.specs.Left.{completing_line}
 use Rattle.mb_instr.specs.declared.kinds.LineMove.{LineMove}
 use Rattle.mb_instr.specs.declared.kinds.LineMove.TheVariants as line_move
 use Rattle.mb_instr.specs.Registers.{address_register}
-use Rattle.mb_meaning.specs.Lines.{line_at, move_line_of, past_line, past_lines, destination_in, move16_absolute_of, move16_post_of}
+use Rattle.mb_meaning.specs.Lines.{line_address, move_line_of, past_line, past_lines, destination_in, move16_absolute_of, move16_post_of}
 use Rattle.mb_tells.specs.Laws.{AreLongs}
 use Rattle.mb_tells.proofs.Longs.{address_long}
 use Rattle.mb_tells.proofs.Resumed.{closed_end}
 use Rattle.mb_tells.proofs.Parts.{RowTells, Reads, row_reading}
 
-line_is : (at : ℕ) → at < 2 ^ 32 → IsLine (line_at at)
+line_is : (at : ℕ) → at < 2 ^ 32 → IsLine (line_address at)
 line_is at h = (omega arith, omega arith)
 
 module _ {S : Type 0} (x : Guarded S) (space : Space) (g : Guards x space) where
@@ -41,7 +41,7 @@ module _ {S : Type 0} (x : Guarded S) (space : Space) (g : Guards x space) where
   pub line_written_tells : {p : Plain} {moves : Movem → Type 0} (at : ℕ) (line : List ℕ) (done : Carried) → IsLine at → length line ≡ 4
       → RowTells x space p moves (ending (λ fault. ended.LineFault fault line) done.plain (write_line space at line) >> Return (Ok done))
   line_written_tells {p = p} at line done is four =
-      let stop_by : Fault → Cut Stopped = λ fault. Stop (record { ended = ended.LineFault fault line; plain = done.plain }) in
+      let stop_by : Fault → Cut OtherEnd = λ fault. Stop (record { ended = ended.LineFault fault line; plain = done.plain }) in
       tells_bind (ending (λ fault. ended.LineFault fault line) done.plain (write_line space at line)) (λ written. Return (Ok done))
       (tells_failing stop_by (write_line space at line)
       (tells_write_line g.refuses space at line (record {
@@ -55,7 +55,7 @@ module _ {S : Type 0} (x : Guarded S) (space : Space) (g : Guards x space) where
                 done,
                 refl,
                 closed_end stop_by (restored p) (λ (written : Unit {0}). done) (tree_of (write_line space at line))
-                    ∙ ap (λ (a : ℕ). tree_of (line_completing space a line done)) (sym here),
+                    ∙ ap (λ (a : ℕ). tree_of (completing_line space a line done)) (sym here),
               ),
             );
       })))
@@ -67,8 +67,8 @@ module _ {S : Type 0} (x : Guarded S) (space : Space) (g : Guards x space) where
       → RowTells x space before moves (move_line_of from to space after)
   unfolding move_line_of
   moved_tells from to before after comes goes =
-      row_reading x space (line_read_tells (line_at from) (line_at from) (line_is from comes)) (λ line four.
-      line_written_tells (line_at to) line (record { flow = false; plain = after }) (line_is to goes) four)
+      row_reading x space (line_read_tells (line_address from) (line_address from) (line_is from comes)) (λ line four.
+      line_written_tells (line_address to) line (record { flow = false; plain = after }) (line_is to goes) four)
 
   pub move16_absolute_tells : {moves : Movem → Type 0} (kind : LineMove) (n place : ℕ) (p : Plain) → place < 2 ^ 32 → AreLongs p.a
       → RowTells x space p moves (move16_absolute_of kind n place space p)

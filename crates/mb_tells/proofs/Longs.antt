@@ -13,7 +13,7 @@ use Rattle.mb_ea.specs.Addresses.{sum, difference}
 use Rattle.mb_writes.specs.declared.transfers.Transfer.{Transfer}
 use Rattle.mb_writes.specs.declared.transfers.Movem.{Movem}
 use Rattle.mb_writes.specs.Transfers.{placed, transfers_of}
-use Rattle.mb_meaning.specs.Operands.{lowered}
+use Rattle.mb_meaning.specs.Operands.{stack_lowered}
 use Rattle.mb_tells.specs.Laws.{AreLongs}
 
 -- a target in memory has an address
@@ -56,8 +56,8 @@ pub with_long : (p : Plain) (n value : ℕ) → AreLongs p.a → value < 2 ^ 32 
 with_long p n value h lt = All-set (λ v. v < 2 ^ 32) p.a n value lt h
 
 -- the top of the stack with one more long
-pub lowered_long : (p : Plain) → AreLongs p.a → address_register (lowered p) 7 < 2 ^ 32
-lowered_long p h = address_long (lowered p) 7 (with_long p 7 _ h (difference_long (address_register p 7) 4))
+pub lowered_long : (p : Plain) → AreLongs p.a → address_register (stack_lowered p) 7 < 2 ^ 32
+lowered_long p h = address_long (stack_lowered p) 7 (with_long p 7 _ h (difference_long (address_register p 7) 4))
 
 -- each transfer has an address
 abbrev pub HaveAddresses : List Transfer → Type 0

@@ -8,7 +8,7 @@ use Rattle.mb_instr.specs.declared.operand.Ea.{Ea}
 use Rattle.mb_instr.specs.declared.registers.Plain.{Plain}
 use Rattle.mb_writes.specs.declared.transfers.Movem.{Movem}
 use Rattle.mb_meaning.specs.Operands.{behind_of}
-use Rattle.mb_meaning.specs.Moves.{move_flags, move_operand_of, movea_of, lea_of, move_to_ccr_of, move_from_ccr_of, byte_of, scc_of}
+use Rattle.mb_meaning.specs.Moves.{move_flags, move_operand_of, movea_of, lea_of, move_to_ccr_of, move_from_ccr_of, condition_byte, scc_of}
 use Rattle.mb_meaning.specs.Conditions.{is_met}
 use Rattle.mb_tells.specs.Guarded.{Guarded, Guards}
 use Rattle.mb_tells.specs.Laws.{AreLongs}
@@ -49,4 +49,4 @@ module _ {S : Type 0} (x : Guarded S) (space : Space) (g : Guards x space) {move
   unfolding scc_of
   scc_tells c ea word_at p is longs =
       row_reading x space (resolve_tells x space g ea Byte word_at p is longs) (λ to found.
-      storing_tells x space g to.target Byte (byte_of (is_met c p.ccr)) to.plain found.0)
+      storing_tells x space g to.target Byte (condition_byte (is_met c p.ccr)) to.plain found.0)

@@ -15,7 +15,7 @@ use Rattle.mb_instr.specs.Sizes.{bytes_of}
 use Rattle.mb_instr.specs.Registers.{address_register}
 use Rattle.mb_ea.specs.declared.addresses.Target.{Target}
 use Rattle.mb_ea.specs.declared.addresses.Target.TheVariants.{Reg, Memory, Value}
-use Rattle.mb_ea.specs.Addresses.{sum, step_of}
+use Rattle.mb_ea.specs.Addresses.{sum, increment_of}
 use Rattle.mb_ea.specs.Reading.{read_operand_of}
 use Rattle.mb_ea.specs.Resolve.{indirect_of, full_of, parts_of, indexed_of, in_memory, Resolved, resolve_of}
 use Rattle.mb_writes.specs.declared.ends.WriteFault.{WriteFault}
@@ -88,9 +88,9 @@ module _ {S : Type 0} (x : Guarded S) (space : Space) (g : Guards x space) where
   resolve_tells (An n) size word_at p is longs = reads_none x space _ (tt, longs)
   resolve_tells (Ind n) size word_at p is longs = reads_none x space _ (address_long p n longs, longs)
   resolve_tells (Post n) size word_at p is longs =
-      reads_none x space _ (address_long p n longs, with_long p n _ longs (sum_long (address_register p n) (step_of size n)))
+      reads_none x space _ (address_long p n longs, with_long p n _ longs (sum_long (address_register p n) (increment_of size n)))
   resolve_tells (Pre n) size word_at p is longs =
-      let lt = difference_long (address_register p n) (step_of size n) in
+      let lt = difference_long (address_register p n) (increment_of size n) in
       reads_none x space _ (lt, with_long p n _ longs lt)
   resolve_tells (Disp n d) size word_at p is longs = reads_none x space _ (sum_long (address_register p n) _, longs)
   resolve_tells (Index n e) size word_at p is longs = in_memory_tells (address_register p n) e p longs

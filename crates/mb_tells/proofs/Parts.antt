@@ -12,7 +12,7 @@ use Rattle.mb_writes.specs.declared.ends.WriteFault.{WriteFault}
 use Rattle.mb_writes.specs.declared.ends.Ended.TheVariants as ended
 use Rattle.mb_writes.specs.declared.transfers.Movem.{Movem}
 use Rattle.mb_writes.specs.Writing.{write_pieces_of}
-use Rattle.mb_meaning.specs.Ends.{Carried, Stopped, Cut, Unread, Stop, Rowed, restored, restoring, reading, writing}
+use Rattle.mb_meaning.specs.Ends.{Carried, OtherEnd, Cut, Unread, Stop, Rowed, restored, restoring, reading, writing}
 use Rattle.mb_tells.specs.Guarded.{Guarded, quiet}
 use Rattle.mb_tells.specs.Left.{Left, Answered, IsRest, SameCalls, Telling}
 use Rattle.mb_tells.proofs.Resumed.{goes_to_end}
@@ -35,7 +35,7 @@ abbrev pub Writes : {S A : Type 0} → Guarded S → Space → A → Routine (Re
 Writes x space a m = Telling x x.serving m (StoreLeft x space a) (λ b s. x.serving s)
 
 -- what is left of an instruction that began with these registers, where its row was cut short
-abbrev pub RowLeft : {S : Type 0} → Guarded S → Space → Plain → (Movem → Type 0) → Fact S Carried (Cut Stopped)
+abbrev pub RowLeft : {S : Type 0} → Guarded S → Space → Plain → (Movem → Type 0) → Fact S Carried (Cut OtherEnd)
 RowLeft x space before moves rest t cut = Left x space before moves (restoring before rest) t (restored before cut)
 
 -- the row of such an instruction
@@ -47,7 +47,7 @@ abbrev pub Tail : {S : Type 0} → Guarded S → Space → Plain → (Movem → 
 Tail x space before moves m = Telling x x.serving m (RowLeft x space before moves) (λ done s. x.serving s)
 
 -- a part that is never refused a call
-abbrev pub Calm : {S A : Type 0} → Guarded S → Routine (Result A (Cut Stopped)) → Type 0
+abbrev pub Calm : {S A : Type 0} → Guarded S → Routine (Result A (Cut OtherEnd)) → Type 0
 Calm x m = Telling x x.serving m (λ rest t e. ⊥) (λ a s. x.serving s)
 
 -- what is known of an answer
@@ -116,9 +116,9 @@ module _ {S : Type 0} (x : Guarded S) (space : Space) where
   pub calm_sure : {A : Type 0} {m : Routine A} → Ends x.lawful x.allowed x.bus x.serving m (λ a s. x.serving s) → Calm x (sure m)
   calm_sure {m = m} h = tells_sure m h
 
-  pub calm_then : {A B : Type 0} {m : Routine (Result A (Cut Stopped))} {n : Routine (Result B (Cut Stopped))} → Calm x m → Calm x n → Calm x (m >> n)
+  pub calm_then : {A B : Type 0} {m : Routine (Result A (Cut OtherEnd))} {n : Routine (Result B (Cut OtherEnd))} → Calm x m → Calm x n → Calm x (m >> n)
   calm_then {m = m} {n} h more = tells_bind m (λ a. n) h (λ a. more)
 
-  pub tail_then : {A : Type 0} {p : Plain} {moves : Movem → Type 0} {m : Routine (Result A (Cut Stopped))} {f : A → Routine Rowed}
+  pub tail_then : {A : Type 0} {p : Plain} {moves : Movem → Type 0} {m : Routine (Result A (Cut OtherEnd))} {f : A → Routine Rowed}
       → Calm x m → ((a : A) → Tail x space p moves (f a)) → Tail x space p moves (m >>= f)
   tail_then {m = m} {f} h more = tells_bind m f (tells_weaker m h (λ s q. q) (λ rest t e never. absurd never) (λ a t q. q)) more

@@ -8,7 +8,7 @@ use Rattle.mb_tells.specs.Laws.{AreLongs}
 use Rattle.mb_instr.specs.declared.size.Size.TheVariants.{Word, Long}
 use Rattle.mb_instr.specs.Sizes.{bytes_of}
 use Rattle.mb_instr.specs.Registers.{address_register}
-use Rattle.mb_meaning.specs.Returns.{rts_of, rtd_of, word_raised, rtr_of}
+use Rattle.mb_meaning.specs.Returns.{rts_of, rtd_of, stack_raised_by_word, rtr_of}
 use Rattle.mb_tells.proofs.Longs.{address_long, with_long, sum_long}
 use Rattle.mb_tells.proofs.Parts.{RowTells, row_reading, row_done}
 use Rattle.mb_tells.proofs.Operands.{reading_tells}
@@ -27,6 +27,6 @@ module _ {S : Type 0} (x : Guarded S) (space : Space) (g : Guards x space) {move
   pub rtr_tells : (p : Plain) → AreLongs p.a → RowTells x space p moves (rtr_of space p)
   unfolding rtr_of
   rtr_tells p longs =
-      let above = address_long (word_raised p) 7 (with_long p 7 _ longs (sum_long (address_register p 7) 2)) in
+      let above = address_long (stack_raised_by_word p) 7 (with_long p 7 _ longs (sum_long (address_register p 7) 2)) in
       row_reading x space (reading_tells x space g (address_register p 7) (bytes_of Word) (address_long p 7 longs)) (λ codes read.
-      row_reading x space (reading_tells x space g (address_register (word_raised p) 7) (bytes_of Long) above) (λ target found. row_done x space _))
+      row_reading x space (reading_tells x space g (address_register (stack_raised_by_word p) 7) (bytes_of Long) above) (λ target found. row_done x space _))

@@ -6,7 +6,7 @@ use Rattle.mb_instr.specs.declared.operand.Ea.{Ea}
 use Rattle.mb_instr.specs.declared.registers.Plain.{Plain}
 use Rattle.mb_instr.specs.Registers.{address_register}
 use Rattle.mb_writes.specs.declared.transfers.Movem.{Movem}
-use Rattle.mb_meaning.specs.Operands.{lowered}
+use Rattle.mb_meaning.specs.Operands.{stack_lowered}
 use Rattle.mb_meaning.specs.Stack.{pea_of, linked, link_of, unlk_of}
 use Rattle.mb_tells.specs.Guarded.{Guarded, Guards}
 use Rattle.mb_tells.specs.Laws.{AreLongs}
@@ -19,14 +19,14 @@ module _ {S : Type 0} (x : Guarded S) (space : Space) (g : Guards x space) {move
   pub pea_tells : (ea : Ea) (word_at : ℕ) (p : Plain) → IsFormed ea → AreLongs p.a → RowTells x space p moves (pea_of ea word_at space p)
   unfolding pea_of
   pea_tells ea word_at p is longs =
-      let after = lowered p in
+      let after = stack_lowered p in
       row_reading x space (address_tells x space g Long ea word_at p is longs) (λ place found.
       pushing_tells x space g place (address_register after 7) (record { flow = false; plain = after }) (lowered_long p longs))
 
   pub link_tells : (n displacement : ℕ) (p : Plain) → AreLongs p.a → RowTells x space p moves (link_of n displacement space p)
   unfolding link_of
   link_tells n displacement p longs =
-      let low = lowered p in
+      let low = stack_lowered p in
       pushing_tells x space g (address_register low n) (address_register low 7) (record { flow = false; plain = linked n displacement low })
       (lowered_long p longs)
 

@@ -32,7 +32,7 @@ use Rattle.mb_ea.specs.Addresses.{sum, difference}
 use Rattle.mb_instr.specs.Shapes.{operands_at}
 use Rattle.mb_instr.specs.Rows.{move_row, arith_row, flow_row}
 use Rattle.mb_meaning.specs.Arithmetic.{added, subtracted, added_extended, subtracted_extended, address_moved, address_compared}
-use Rattle.mb_meaning.specs.Unary.{negated, negated_extended, complemented, tested}
+use Rattle.mb_meaning.specs.Unary.{negated, negated_extended, complemented, tst_effect}
 use Rattle.mb_meaning.specs.Shifts.{shifted_by_one}
 use Rattle.mb_meaning.specs.Products.{multiply_word_of, divide_word_of, multiply_long_of, divide_long_of}
 use Rattle.mb_ea.specs.Reading.{refused_in}
@@ -41,7 +41,7 @@ use Rattle.mb_writes.specs.declared.ends.Ended.TheVariants as ended
 use Rattle.mb_writes.specs.declared.transfers.Movem.{Movem}
 use Rattle.mb_meaning.specs.Ends.{Performed, restored}
 use Rattle.mb_meaning.specs.Rows.{perform_move_of, perform_arith_of, perform_flow_of, row_of, perform_of}
-use Rattle.mb_meaning.specs.Attempt.{Unfound, NoInstruction, Unfetched, end_without, Found, judged, found_of, fetched_of, past, attempt_of}
+use Rattle.mb_meaning.specs.Attempt.{Unfound, NoInstruction, Unfetched, end_without, FoundInstr, by_decoded, found_of, fetched_of, past, attempt_of}
 use Rattle.mb_instr.specs.declared.counts.TheConstants.{MOST_WORDS}
 use Rattle.mb_tells.specs.Guarded.{Guarded, Guards, Goes, quiet}
 use Rattle.mb_tells.specs.Left.{Answered, LeftBy, Telling, Row, Attempt}
@@ -161,7 +161,7 @@ module _ {S : Type 0} (x : Guarded S) (space : Space) (g : Guards x space) where
       modifying_tells x space g (complemented size) size ea word_at p (formed size ea is.are_words) longs
   perform_arith_tells (arithmetic.Clr size ea) word_at p is words longs = clr_tells x space g size ea word_at p (formed size ea is.are_words) longs
   perform_arith_tells (arithmetic.Tst size ea) word_at p is words longs =
-      taking_tells x space g (tested size) size ea word_at p (formed size ea is.are_words) longs
+      taking_tells x space g (tst_effect size) size ea word_at p (formed size ea is.are_words) longs
   perform_arith_tells (arithmetic.ExtW register) word_at p is words longs = row_done x space _
   perform_arith_tells (arithmetic.ExtL register) word_at p is words longs = row_done x space _
   perform_arith_tells (arithmetic.ExtbL register) word_at p is words longs = row_done x space _
@@ -229,10 +229,10 @@ module _ {S : Type 0} (x : Guarded S) (space : Space) (g : Guards x space) where
   unfolding perform_of
   perform_tells i at p is longs = tells_failing (restored p) (row_of i at space p) (row_tells i at p is longs)
 
-  unfoldable pub Founds : Routine Found → Type 0
+  unfoldable pub Founds : Routine FoundInstr → Type 0
   Founds m = Telling x (quiet x) m (FoundLeft x) (λ found s. quiet x s × IsInstr found.0)
 
-  judged_tells : (d : Decoded) (m : Routine Found) → IfWhole d (λ i n. IsInstr i) → Founds m → Founds (judged d m)
+  judged_tells : (d : Decoded) (m : Routine FoundInstr) → IfWhole d (λ i n. IsInstr i) → Founds m → Founds (by_decoded d m)
   unfolding Founds
   judged_tells decoded.More m is h = h
   judged_tells (decoded.Whole i n) m is h = tells_ok _ (λ s q. (q, is))
@@ -243,7 +243,7 @@ module _ {S : Type 0} (x : Guarded S) (space : Space) (g : Guards x space) where
   found_tells zero at words are even lt = tells_err _
   found_tells (suc n) at words are even lt =
       tells_bind {mid = λ word s. quiet x s × (word < 2 ^ 16)} (failing (λ fault. Unfetched (refused_in at fault)) (fetch space at))
-      (λ word. judged (decode_of (words ++ word ∷ [])) (found_of n space ((at + 2) % 2 ^ 32) (words ++ word ∷ [])))
+      (λ word. by_decoded (decode_of (words ++ word ∷ [])) (found_of n space ((at + 2) % 2 ^ 32) (words ++ word ∷ [])))
       (tells_failing (λ fault. Unfetched (refused_in at fault)) (fetch space at) (tells_fetch g.refuses space at (record {
         lawfully = λ s q. g.fetches at s q.0 even lt;
         well = λ s word q yes e.
@@ -257,7 +257,7 @@ module _ {S : Type 0} (x : Guarded S) (space : Space) (g : Guards x space) where
       (found_tells n ((at + 2) % 2 ^ 32) (words ++ word ∷ []) more (omega arith) (omega arith))))
 
   -- no instruction was found, and none of the registers changed
-  none_found : (p : Plain) (n : Movem → Type 0) (rest : Routine Found) (f : Instr × ℕ → Routine Performed) (g : Unfound → Routine Performed)
+  none_found : (p : Plain) (n : Movem → Type 0) (rest : Routine FoundInstr) (f : Instr × ℕ → Routine Performed) (g : Unfound → Routine Performed)
       (t : S) (e : Unfound) → FoundLeft x rest t e → LeftBy x space p n (Then rest (λ r. either r g f)) t (end_without e) p
   unfolding FoundLeft
   none_found p n rest f g t (Unfetched refused) told = (told.0, (told.1, refl))

@@ -19,7 +19,7 @@ use Rattle.mb_writes.specs.declared.transfers.Transfer.{Transfer}
 use Rattle.mb_writes.specs.Transfers.{transfers_of}
 use Rattle.mb_writes.specs.Writing.{write_operand_of}
 use Rattle.mb_writes.specs.Moving.{Halfway, refused_at, stored_of, store_all_of, loaded_of, load_all_of, stepped_of, transfer_of}
-use Rattle.mb_meaning.specs.Ends.{Carried, Stopped, Cut, Stop, restored, restoring, carried}
+use Rattle.mb_meaning.specs.Ends.{Carried, OtherEnd, Cut, Stop, restored, restoring, carried}
 use Rattle.mb_meaning.specs.Moves.{movem_by, transferring, movem_of}
 use Rattle.mb_tells.specs.Guarded.{Guarded, Guards, quiet}
 use Rattle.mb_tells.specs.Left.{Answered, Resumes, Telling}
@@ -138,7 +138,7 @@ module _ {S : Type 0} (x : Guarded S) (space : Space) (g : Guards x space) where
   movem_tells is_load size ea mask word_at p is in_range longs =
       row_reading x space (address_tells x space g size ea word_at p in_range longs) (λ place found.
       let m = movem_by is_load size ea mask in
-      let stop_by : Halfway → Cut Stopped = λ halfway. Stop (record { ended = ended.Movem halfway.fault; plain = halfway.plain }) in
+      let stop_by : Halfway → Cut OtherEnd = λ halfway. Stop (record { ended = ended.Movem halfway.fault; plain = halfway.plain }) in
       tells_bind (transferring (transfer_of m place 0 space p)) (λ moved. Return (carried moved))
       (tells_failing stop_by (transfer_of m place 0 space p)
       (tells_weaker (transfer_of m place 0 space p) (transfer_tells is_load size ea mask place 0 p found) (λ s q. q)

@@ -18,7 +18,7 @@ use Rattle.mb_writes.specs.declared.ends.WriteFault.{WriteFault}
 use Rattle.mb_writes.specs.declared.ends.MovemFault.{MovemFault}
 use Rattle.mb_writes.specs.Writing.{write_pieces_of}
 use Rattle.mb_writes.specs.Moving.{Halfway, transfer_of}
-use Rattle.mb_meaning.specs.Ends.{Carried, Stopped, Performed}
+use Rattle.mb_meaning.specs.Ends.{Carried, OtherEnd, Performed}
 use Rattle.mb_tells.specs.Guarded.{Guarded, IsPlaced, quiet}
 
 -- The routines make the same calls, whatever is answered, and end alike: they do the same over every bus.
@@ -36,26 +36,26 @@ abbrev pub Answered : {S A : Type 0} → Guarded S → Routine A → S → Fault
 Answered x rest t fault = (c : Call) × (first_call rest ≡ Some c) × IsFault c (answer_in (x.bus c t)) fault
 
 -- a part whose fault ends the instruction so, with these registers
-abbrev pub ending : {A E : Type 0} → (E → Ended) → Plain → Routine (Result A E) → Routine (Result A Stopped)
+abbrev pub ending : {A E : Type 0} → (E → Ended) → Plain → Routine (Result A E) → Routine (Result A OtherEnd)
 ending how after m = failing (λ fault. record { ended = how fault; plain = after }) m
 
 -- what is left where a write was refused: these pieces are written, and the instruction is carried out
-abbrev pub completing : Space → ℕ → List Pend → Carried → Routine Performed
-completing space first pieces done =
+abbrev pub completing_writes : Space → ℕ → List Pend → Carried → Routine Performed
+completing_writes space first pieces done =
     ending (λ refused. ended.WriteFault refused) done.plain (write_pieces_of space first pieces) >> Return (Ok done)
 
 -- what is left where the write of a line was refused: it is written, and the instruction is carried out
-abbrev pub line_completing : Space → ℕ → List ℕ → Carried → Routine Performed
-line_completing space at line done =
+abbrev pub completing_line : Space → ℕ → List ℕ → Carried → Routine Performed
+completing_line space at line done =
     ending (λ fault. ended.LineFault fault line) done.plain (write_line space at line) >> Return (Ok done)
 
 -- transfers, of which a refused one ends the instruction with what was loaded so far
-abbrev pub transferring : Routine (Result Plain Halfway) → Routine (Result Plain Stopped)
+abbrev pub transferring : Routine (Result Plain Halfway) → Routine (Result Plain OtherEnd)
 transferring m = failing (λ halfway. record { ended = ended.Movem halfway.fault; plain = halfway.plain }) m
 
 -- a MOVEM from a transfer on, whose first one is at `first`
-abbrev pub moving : Movem → ℕ → ℕ → Space → Plain → Routine Performed
-moving m first done space p =
+abbrev pub completing_transfers : Movem → ℕ → ℕ → Space → Plain → Routine Performed
+completing_transfers m first done space p =
     transferring (transfer_of m first done space p) >>= λ moved. Return (Ok (record { flow = false; plain = moved }))
 
 -- The instruction has written nothing, and its registers are as before: it can begin again.
@@ -80,7 +80,7 @@ pub record IsRest (pieces : List Pend) : Type 0 where
 -- The rest is to write the pieces that the fault names, and no more.
 abbrev pub Completes : Space → Routine Performed → WriteFault → Plain → Type 0
 Completes space rest refused after = IsRest refused.rest.items × (done : Carried) × (done.plain ≡ after)
-    × SameCalls rest (completing space refused.first refused.rest.items done)
+    × SameCalls rest (completing_writes space refused.first refused.rest.items done)
 
 -- A refused write that names no piece wrote none, and the instruction begins again.
 abbrev pub WriteLeft : {S : Type 0} → Guarded S → Space → Plain → Routine Performed → S → WriteFault → Plain
@@ -91,14 +91,15 @@ WriteLeft x space before rest t refused after =
 -- The rest is to write the line of four longs, at the fault's address, and no more.
 abbrev pub CompletesLine : Space → Routine Performed → Fault → List ℕ → Plain → Type 0
 CompletesLine space rest fault line after = (length line ≡ 4) × (done : Carried) × (done.plain ≡ after)
-    × SameCalls rest (line_completing space fault.at line done)
+    × SameCalls rest (completing_line space fault.at line done)
 
 -- The rest is the MOVEM from the refused transfer on, with the registers that it has now. It begins at the refused
 -- piece of that transfer: the pieces before it stand, so that the transfer can be done again from its first byte.
 abbrev pub Continues : {S : Type 0} → Guarded S → Space → (Movem → Type 0) → Routine Performed → S → MovemFault
     → Plain → Type 0
 Continues x space moves rest t refused after = (m : Movem) × moves m
-    × Resumes (λ c answer. x.stands c answer t) (tree_of (moving m refused.first refused.done space after))
+    × Resumes (λ c answer. x.stands c answer t)
+    (tree_of (completing_transfers m refused.first refused.done space after))
     (tree_of rest)
 
 -- What each end says of the rest, for an instruction that began with the registers `before`, and has the registers
@@ -117,7 +118,7 @@ LeftBy x space before moves rest t (ended.LineFault fault line) after = Answered
 LeftBy x space before moves rest t (ended.Movem refused) after = Answered x rest t refused.fault
     × Continues x space moves rest t refused after
 
-abbrev pub Left : {S : Type 0} → Guarded S → Space → Plain → (Movem → Type 0) → Fact S Carried Stopped
+abbrev pub Left : {S : Type 0} → Guarded S → Space → Plain → (Movem → Type 0) → Fact S Carried OtherEnd
 Left x space before moves rest t stop = LeftBy x space before moves rest t stop.ended stop.plain
 
 -- The routine tells this of a refused call. It begins in a state of `before`, and where it answers, of `after`.

@@ -10,7 +10,7 @@ use Rattle.mb_instr.specs.Sizes.{bytes_of}
 use Rattle.mb_instr.specs.Registers.{data_register}
 use Rattle.mb_alu.specs.Conditions.{conditions_of}
 use Rattle.mb_ea.specs.Addresses.{sum}
-use Rattle.mb_meaning.specs.Ends.{carried, stopped}
+use Rattle.mb_meaning.specs.Ends.{carried, ended_otherwise}
 use Rattle.mb_meaning.specs.Traps.{out_of_bounds}
 use Rattle.mb_meaning.specs.Bounds.{is_below, is_above, check_bound_of, chk_of, compare_bounds_of, cmp2_of, check_carry_of, chk2_of}
 use Rattle.mb_twins.specs.Twins.{SameRead}
@@ -21,7 +21,7 @@ use Rattle.mb_twins.proofs.Flow.{either_same}
 checked_same : (x : Setting) (size : Size) (bound value : ℕ) (p : Plain) → SameRowed x (check_bound_of size bound value p) (check_bound_of size bound value p)
 unfolding check_bound_of
 checked_same x size bound value p =
-    either_same x (is_below size value || is_above size bound value) (stopped out_of_bounds _) (carried p) ((refl, inr (inl refl)), refl) refl
+    either_same x (is_below size value || is_above size bound value) (ended_otherwise out_of_bounds _) (carried p) ((refl, inr (inl refl)), refl) refl
 
 pub chk_twins : (x : Setting) (n : ℕ) (size : Size) (ea : Ea) (word_at : ℕ) (p : Plain)
     → Rows x (chk_of n size ea word_at x.here p) (chk_of n size ea word_at x.there p)
@@ -45,7 +45,7 @@ cmp2_twins x size ea w word_at p = then_twins x (SameCut x) (reading_twins x (bo
 
 checked_carry_same : (x : Setting) (p : Plain) → SameRowed x (check_carry_of p) (check_carry_of p)
 unfolding check_carry_of
-checked_carry_same x p = either_same x (conditions_of p.ccr).c (stopped out_of_bounds p) (carried p) ((refl, inr (inl refl)), refl) refl
+checked_carry_same x p = either_same x (conditions_of p.ccr).c (ended_otherwise out_of_bounds p) (carried p) ((refl, inr (inl refl)), refl) refl
 
 pub chk2_twins : (x : Setting) (size : Size) (ea : Ea) (w word_at : ℕ) (p : Plain)
     → Rows x (chk2_of size ea w word_at x.here p) (chk2_of size ea w word_at x.there p)

@@ -13,7 +13,7 @@ use Rattle.mb_instr.specs.Sizes.{low_of}
 use Rattle.mb_instr.specs.Registers.{data_register, address_register}
 use Rattle.mb_meaning.specs.Ends.{Rowed, carried, jumped}
 use Rattle.mb_meaning.specs.Conditions.{is_met}
-use Rattle.mb_meaning.specs.Operands.{lowered}
+use Rattle.mb_meaning.specs.Operands.{stack_lowered}
 use Rattle.mb_meaning.specs.Flow.{target_of, is_call, call_of, go_if_met_of, branch_of, count_down_of, go_if_counted_of, dbcc_of, jmp_of, jsr_of}
 use Rattle.mb_twins.proofs.Parts.{SameCut, SameRowed, Rows, then_twins, reading_twins}
 use Rattle.mb_twins.proofs.Operands.{address_twins, pushing_twins}
@@ -21,7 +21,7 @@ use Rattle.mb_twins.proofs.Operands.{address_twins, pushing_twins}
 call_twins : (x : Setting) (target : ℕ) (p : Plain) → Rows x (call_of target x.here p) (call_of target x.there p)
 unfolding call_of
 call_twins x target p =
-    let after = record (lowered p) { pc = target } in
+    let after = record (stack_lowered p) { pc = target } in
     then_twins x (SameCut x) (pushing_twins x p.pc (address_register after 7) after) (λ done. returned refl)
 
 -- one of two ends

@@ -7,7 +7,7 @@ use Rattle.mb_instr.specs.declared.kinds.LineMove.{LineMove}
 use Rattle.mb_instr.specs.declared.kinds.LineMove.TheVariants as line
 use Rattle.mb_instr.specs.declared.registers.Plain.{Plain}
 use Rattle.mb_instr.specs.Registers.{address_register}
-use Rattle.mb_meaning.specs.Lines.{line_at, move_line_of, past_line, move16_absolute_of, past_lines, destination_in, move16_post_of}
+use Rattle.mb_meaning.specs.Lines.{line_address, move_line_of, past_line, move16_absolute_of, past_lines, destination_in, move16_post_of}
 use Rattle.mb_twins.specs.Twins.{SameRead}
 use Rattle.mb_twins.proofs.Parts.{SameCut, Rows, then_twins, failing_twins, reading_twins}
 
@@ -15,9 +15,9 @@ line_twins : (x : Setting) (from to : ℕ) (after : Plain) → Rows x (move_line
 unfolding move_line_of
 line_twins x from to after =
     then_twins x (SameCut x)
-    (reading_twins x (failing_twins x (SameFault x) (SameRead x) (λ e f h. record { fault = h; first = refl }) (twin_read_line x (line_at from))))
+    (reading_twins x (failing_twins x (SameFault x) (SameRead x) (λ e f h. record { fault = h; first = refl }) (twin_read_line x (line_address from))))
     (λ line. then_twins x (SameCut x)
-    (failing_twins x (SameFault x) (SameCut x) (λ e f h. ((h, refl), refl)) (twin_write_line x (line_at to) line))
+    (failing_twins x (SameFault x) (SameCut x) (λ e f h. ((h, refl), refl)) (twin_write_line x (line_address to) line))
     (λ done. returned refl))
 
 pub move16_absolute_twins : (x : Setting) (kind : LineMove) (n place : ℕ) (p : Plain)

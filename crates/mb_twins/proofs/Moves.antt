@@ -9,7 +9,7 @@ use Rattle.mb_instr.specs.declared.kinds.Condition.{Condition}
 use Rattle.mb_instr.specs.declared.registers.Plain.{Plain}
 use Rattle.mb_meaning.specs.Operands.{behind_of}
 use Rattle.mb_meaning.specs.Conditions.{is_met}
-use Rattle.mb_meaning.specs.Moves.{move_flags, move_operand_of, movea_of, lea_of, move_to_ccr_of, move_from_ccr_of, byte_of, scc_of}
+use Rattle.mb_meaning.specs.Moves.{move_flags, move_operand_of, movea_of, lea_of, move_to_ccr_of, move_from_ccr_of, condition_byte, scc_of}
 use Rattle.mb_twins.proofs.Parts.{SameCut, Rows, then_twins, reading_twins}
 use Rattle.mb_twins.proofs.Operands.{resolve_twins, operand_twins, address_twins, storing_twins}
 
@@ -36,7 +36,7 @@ pub scc_twins : (x : Setting) (c : Condition) (ea : Ea) (word_at : ℕ) (p : Pla
 unfolding scc_of
 scc_twins x c ea word_at p =
     then_twins x (SameCut x) (reading_twins x (resolve_twins x ea Byte word_at p)) (λ to.
-    storing_twins x to.target Byte (byte_of (is_met c p.ccr)) to.plain)
+    storing_twins x to.target Byte (condition_byte (is_met c p.ccr)) to.plain)
 
 pub movea_twins : (x : Setting) (size : Size) (n : ℕ) (source : Ea) (word_at : ℕ) (p : Plain)
     → Rows x (movea_of size n source word_at x.here p) (movea_of size n source word_at x.there p)

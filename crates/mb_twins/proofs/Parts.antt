@@ -8,11 +8,11 @@ use Rattle.mb_laws.proofs.Between.{twins_bind_same}
 use Rattle.mb_instr.specs.declared.registers.Plain.{Plain}
 use Rattle.mb_ea.specs.declared.reading.ReadFault.{ReadFault}
 use Rattle.mb_writes.specs.declared.ends.WriteFault.{WriteFault}
-use Rattle.mb_meaning.specs.Ends.{Stopped, Cut, Unread, Stop, Rowed, restored, reading, writing}
+use Rattle.mb_meaning.specs.Ends.{OtherEnd, Cut, Unread, Stop, Rowed, restored, reading, writing}
 use Rattle.mb_twins.specs.Twins.{SameRead, SameWrite, SameStop}
 
 -- both rows were cut short alike
-abbrev pub SameCut : Setting → Cut Stopped → Cut Stopped → Type 0
+abbrev pub SameCut : Setting → Cut OtherEnd → Cut OtherEnd → Type 0
 SameCut x (Unread f) (Unread g) = SameRead x f g
 SameCut x (Stop a) (Stop b) = SameStop x a b
 SameCut x _ _ = ⊥
@@ -26,7 +26,7 @@ abbrev pub Rows : Setting → Routine Rowed → Routine Rowed → Type 1
 Rows x m n = Twin (between x) Rowed Rowed (SameRowed x) m n
 
 -- instructions that began with the same registers end alike, where their rows were cut short alike
-pub restored_same : (x : Setting) (before : Plain) (c d : Cut Stopped) → SameCut x c d → SameStop x (restored before c) (restored before d)
+pub restored_same : (x : Setting) (before : Plain) (c d : Cut OtherEnd) → SameCut x c d → SameStop x (restored before c) (restored before d)
 restored_same x before (Unread f) (Unread g) h = (h, refl)
 restored_same x before (Stop a) (Stop b) h = h
 restored_same x before (Unread f) (Stop b) h = absurd h
@@ -45,7 +45,7 @@ abbrev pub Writes : {A : Type 0} → Setting → Routine (Result A WriteFault) �
 Writes x m n = TwinParts x (SameWrite x) m n
 
 -- a part whose fault cuts the row short
-abbrev pub Stages : {A : Type 0} → Setting → Routine (Result A (Cut Stopped)) → Routine (Result A (Cut Stopped)) → Type 1
+abbrev pub Stages : {A : Type 0} → Setting → Routine (Result A (Cut OtherEnd)) → Routine (Result A (Cut OtherEnd)) → Type 1
 Stages x m n = TwinParts x (SameCut x) m n
 
 -- a part, and what follows from its answer

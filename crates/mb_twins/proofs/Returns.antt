@@ -6,7 +6,7 @@ use Rattle.mb_instr.specs.declared.size.Size.TheVariants.{Word, Long}
 use Rattle.mb_instr.specs.declared.registers.Plain.{Plain}
 use Rattle.mb_instr.specs.Sizes.{bytes_of}
 use Rattle.mb_instr.specs.Registers.{address_register}
-use Rattle.mb_meaning.specs.Returns.{rts_of, rtd_of, word_raised, rtr_of}
+use Rattle.mb_meaning.specs.Returns.{rts_of, rtd_of, stack_raised_by_word, rtr_of}
 use Rattle.mb_twins.proofs.Parts.{SameCut, Rows, then_twins, reading_twins}
 use Rattle.mb_twins.proofs.Operands.{read_twins}
 
@@ -24,4 +24,4 @@ pub rtr_twins : (x : Setting) (p : Plain) → Rows x (rtr_of x.here p) (rtr_of x
 unfolding rtr_of
 rtr_twins x p =
     then_twins x (SameCut x) (reading_twins x (read_twins x (address_register p 7) (bytes_of Word))) (λ codes.
-    then_twins x (SameCut x) (reading_twins x (read_twins x (address_register (word_raised p) 7) (bytes_of Long))) (λ target. returned refl))
+    then_twins x (SameCut x) (reading_twins x (read_twins x (address_register (stack_raised_by_word p) 7) (bytes_of Long))) (λ target. returned refl))

@@ -6,7 +6,7 @@ use Rattle.mb_instr.specs.declared.size.Size.TheVariants.{Long}
 use Rattle.mb_instr.specs.declared.operand.Ea.{Ea}
 use Rattle.mb_instr.specs.declared.registers.Plain.{Plain}
 use Rattle.mb_instr.specs.Registers.{address_register}
-use Rattle.mb_meaning.specs.Operands.{lowered}
+use Rattle.mb_meaning.specs.Operands.{stack_lowered}
 use Rattle.mb_meaning.specs.Stack.{pea_of, linked, link_of, unlk_of}
 use Rattle.mb_twins.proofs.Parts.{SameCut, Rows, then_twins, reading_twins}
 use Rattle.mb_twins.proofs.Operands.{read_twins, address_twins, pushing_twins}
@@ -14,14 +14,14 @@ use Rattle.mb_twins.proofs.Operands.{read_twins, address_twins, pushing_twins}
 pub pea_twins : (x : Setting) (ea : Ea) (word_at : ℕ) (p : Plain) → Rows x (pea_of ea word_at x.here p) (pea_of ea word_at x.there p)
 unfolding pea_of
 pea_twins x ea word_at p =
-    let after = lowered p in
+    let after = stack_lowered p in
     then_twins x (SameCut x) (reading_twins x (address_twins x Long ea word_at p)) (λ place.
     then_twins x (SameCut x) (pushing_twins x place (address_register after 7) after) (λ done. returned refl))
 
 pub link_twins : (x : Setting) (n displacement : ℕ) (p : Plain) → Rows x (link_of n displacement x.here p) (link_of n displacement x.there p)
 unfolding link_of
 link_twins x n displacement p =
-    let low = lowered p in
+    let low = stack_lowered p in
     let after = linked n displacement low in
     then_twins x (SameCut x) (pushing_twins x (address_register low n) (address_register low 7) after) (λ done. returned refl)
 

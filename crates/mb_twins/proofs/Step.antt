@@ -33,7 +33,7 @@ use Rattle.mb_ea.specs.Addresses.{sum, difference}
 use Rattle.mb_instr.specs.Shapes.{operands_at}
 use Rattle.mb_instr.specs.Rows.{move_row, arith_row, flow_row}
 use Rattle.mb_meaning.specs.Arithmetic.{added, subtracted, added_extended, subtracted_extended, address_moved, address_compared}
-use Rattle.mb_meaning.specs.Unary.{negated, negated_extended, complemented, tested}
+use Rattle.mb_meaning.specs.Unary.{negated, negated_extended, complemented, tst_effect}
 use Rattle.mb_meaning.specs.Shifts.{shifted_by_one}
 use Rattle.mb_meaning.specs.Products.{multiply_word_of, divide_word_of, multiply_long_of, divide_long_of}
 use Rattle.mb_instr.specs.Registers.{data_register}
@@ -42,7 +42,7 @@ use Rattle.mb_fields.specs.Packing.{pack_of, unpk_of}
 use Rattle.mb_meaning.specs.Decimals.{negate_decimal_of}
 use Rattle.mb_meaning.specs.Rows.{perform_move_of, perform_arith_of, perform_flow_of, row_of, perform_of}
 use Rattle.mb_meaning.specs.Ends.{Performed}
-use Rattle.mb_meaning.specs.Attempt.{Unfound, end_without, Found, judged, found_of, fetched_of, past, attempt_of}
+use Rattle.mb_meaning.specs.Attempt.{Unfound, end_without, FoundInstr, by_decoded, found_of, fetched_of, past, attempt_of}
 use Rattle.mb_instr.specs.declared.counts.TheConstants.{MOST_WORDS}
 use Rattle.mb_twins.specs.Twins.{SameEnd, SameStop, SamePerformed, MayRefuse}
 use Rattle.mb_twins.proofs.Parts.{SameCut, Rows, restored_same, failing_twins}
@@ -113,7 +113,7 @@ perform_arith_twins x (arith.Neg size ea) word_at p = modifying_twins x (negated
 perform_arith_twins x (arith.Negx size ea) word_at p = modifying_twins x (negated_extended size) size ea word_at p
 perform_arith_twins x (arith.Not size ea) word_at p = modifying_twins x (complemented size) size ea word_at p
 perform_arith_twins x (arith.Clr size ea) word_at p = clr_twins x size ea word_at p
-perform_arith_twins x (arith.Tst size ea) word_at p = taking_twins x (tested size) size ea word_at p (λ value q. refl)
+perform_arith_twins x (arith.Tst size ea) word_at p = taking_twins x (tst_effect size) size ea word_at p (λ value q. refl)
 perform_arith_twins x (arith.ExtW register) word_at p = returned refl
 perform_arith_twins x (arith.ExtL register) word_at p = returned refl
 perform_arith_twins x (arith.ExtbL register) word_at p = returned refl
@@ -194,11 +194,11 @@ SameUnfound x e f = SameEnd x (end_without e) (end_without f)
 abbrev pub SameFound : Instr × ℕ → Instr × ℕ → Type 0
 SameFound found other = (found ≡ other) × IsInstr other.0
 
-abbrev pub Founds : Setting → Routine Found → Routine Found → Type 1
-Founds x m n = Twin (between x) Found Found (Results SameFound (SameUnfound x)) m n
+abbrev pub Founds : Setting → Routine FoundInstr → Routine FoundInstr → Type 1
+Founds x m n = Twin (between x) FoundInstr FoundInstr (Results SameFound (SameUnfound x)) m n
 
-judged_twins : (x : Setting) (d : Decoded) (m n : Routine Found) → x.refuses ≡ true → IfWhole d (λ i k. IsInstr i) → Founds x m n
-    → Founds x (judged d m) (judged d n)
+judged_twins : (x : Setting) (d : Decoded) (m n : Routine FoundInstr) → x.refuses ≡ true → IfWhole d (λ i k. IsInstr i) → Founds x m n
+    → Founds x (by_decoded d m) (by_decoded d n)
 judged_twins x More m n h is w = w
 judged_twins x (Whole i k) m n h is w = returned (refl, is)
 judged_twins x Illegal m n h is w = returned (h, refl, inr (inl refl))
@@ -211,8 +211,8 @@ unfolding found_of
 found_twins x zero at words h are = returned (h, refl, inr (inl refl))
 found_twins x (suc n) at words h are =
     let next : ℕ = (at + 2) % 2 ^ 32 in
-    let behind : Space → ℕ → Routine Found =
-    λ space word. judged (decode_of (words ++ word ∷ [])) (found_of n space next (words ++ word ∷ [])) in
+    let behind : Space → ℕ → Routine FoundInstr =
+    λ space word. by_decoded (decode_of (words ++ word ∷ [])) (found_of n space next (words ++ word ∷ [])) in
     twins_bind (between x) SameWord (SameUnfound x) SameFound _ _ (behind x.here) (behind x.there)
     (twins_failing (between x) SameWord (SameFault x) (SameUnfound x) _ _ _ _ (λ e f same. record { fault = same; first = refl }) (twin_fetch x at))
     (λ word other same.

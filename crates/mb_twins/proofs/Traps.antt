@@ -5,7 +5,7 @@ use Rattle.mb_laws.specs.Between.{Setting}
 use Rattle.mb_instr.specs.declared.kinds.Condition.{Condition}
 use Rattle.mb_instr.specs.declared.kinds.Condition.TheVariants.{OverflowSet}
 use Rattle.mb_instr.specs.declared.registers.Plain.{Plain}
-use Rattle.mb_meaning.specs.Ends.{carried, stopped}
+use Rattle.mb_meaning.specs.Ends.{carried, ended_otherwise}
 use Rattle.mb_meaning.specs.Conditions.{is_met}
 use Rattle.mb_meaning.specs.Traps.{conditional_trap, trap_of, trapcc_of, trapv_of}
 use Rattle.mb_twins.proofs.Flow.{either_same}
@@ -17,7 +17,7 @@ trap_same x number p lt = ((refl, inr (inr (inr (omega arith, omega arith)))), r
 
 pub trapcc_same : (x : Setting) (c : Condition) (p : Plain) → SameRowed x (trapcc_of c p) (trapcc_of c p)
 unfolding trapcc_of
-trapcc_same x c p = either_same x (is_met c p.ccr) (stopped conditional_trap p) (carried p) ((refl, inr (inr (inl refl))), refl) refl
+trapcc_same x c p = either_same x (is_met c p.ccr) (ended_otherwise conditional_trap p) (carried p) ((refl, inr (inr (inl refl))), refl) refl
 
 pub trapv_same : (x : Setting) (p : Plain) → SameRowed x (trapv_of p) (trapv_of p)
 unfolding trapv_of

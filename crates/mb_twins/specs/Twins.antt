@@ -14,7 +14,7 @@ use Rattle.mb_writes.specs.declared.ends.WriteFault.{WriteFault}
 use Rattle.mb_writes.specs.declared.ends.MovemFault.{MovemFault}
 use Rattle.mb_writes.specs.declared.ends.Ended.{Ended}
 use Rattle.mb_writes.specs.declared.ends.Ended.TheVariants as ended
-use Rattle.mb_meaning.specs.Ends.{Stopped, Performed}
+use Rattle.mb_meaning.specs.Ends.{OtherEnd, Performed}
 use Rattle.mb_meaning.specs.Rows.{perform_of}
 use Rattle.mb_meaning.specs.Attempt.{attempt_of}
 
@@ -59,7 +59,7 @@ SameEnd x (ended.Movem f) (ended.Movem g) = SameTransfer x f g
 SameEnd x _ _ = ⊥
 
 -- both ended so, with the same registers
-abbrev pub SameStop : Setting → Stopped → Stopped → Type 0
+abbrev pub SameStop : Setting → OtherEnd → OtherEnd → Type 0
 SameStop x a b = SameEnd x a.ended b.ended × (a.plain ≡ b.plain)
 
 -- both were carried out alike, or ended alike

@@ -4,7 +4,7 @@ use Rattle.std.proofs.Common.{inl, inr}
 use Rattle.std.specs.Prelude.{◌⊎◌}
 use Rattle.std.proofs.lemmas.Bool.{cases_Bool, cases_eq, false≢true}
 use Rattle.mb_port.specs.declared.types.Space.{Space}
-use Rattle.mb_walk.specs.Descriptors.{with_used, with_modified, marked, takes_writes, page_descriptor, entry_at, page_table_bytes}
+use Rattle.mb_walk.specs.Descriptors.{with_used, with_modified, marked, page_takes_writes, page_descriptor, entry_at, page_table_bytes}
 use Rattle.mb_walk.specs.Laws.{unmarked}
 
 -- a bit that is set stays, and one that is not set is added
@@ -69,11 +69,11 @@ page_entry_aligned true d index = omega arith
 page_entry_aligned false d index = omega arith
 
 takes_same : (d m : ℕ) (protected : Bool) (space : Space) → unmarked m ≡ unmarked d
-    → takes_writes (page_descriptor m) protected space ≡ takes_writes (page_descriptor d) protected space
+    → page_takes_writes (page_descriptor m) protected space ≡ page_takes_writes (page_descriptor d) protected space
 takes_same d m protected space e = rw (bit_2 d m e, bit_7 d m e) refl
 
 pub marked_marks : (d : ℕ) (protected : Bool) (space : Space) (write : Bool) → Marks d (marked d protected space write)
-marked_marks d protected space write = elim (cases_Bool (write && takes_writes (page_descriptor d) protected space)) [
+marked_marks d protected space write = elim (cases_Bool (write && page_takes_writes (page_descriptor d) protected space)) [
   | inl h ↦
       let u = used_marks d in
       let m = (modified_marks (with_used d) u.used).0 in
@@ -90,11 +90,11 @@ written_again : (again write : Bool) → (again ≡ false) ⊎ (again ≡ write)
 written_again again write (inl unwritten) h = absurd (false≢true (sym unwritten ∙ h))
 written_again again write (inr same) h = sym same ∙ h
 
-marked_by_both : (d : ℕ) (protected : Bool) (space : Space) (write : Bool) → (write && takes_writes (page_descriptor d) protected space) ≡ true
+marked_by_both : (d : ℕ) (protected : Bool) (space : Space) (write : Bool) → (write && page_takes_writes (page_descriptor d) protected space) ≡ true
     → marked d protected space write ≡ with_modified (with_used d)
 marked_by_both d protected space write h = rw h refl
 
-marked_by_one : (d : ℕ) (protected : Bool) (space : Space) (write : Bool) → (write && takes_writes (page_descriptor d) protected space) ≡ false
+marked_by_one : (d : ℕ) (protected : Bool) (space : Space) (write : Bool) → (write && page_takes_writes (page_descriptor d) protected space) ≡ false
     → marked d protected space write ≡ with_used d
 marked_by_one d protected space write h = rw h refl
 
@@ -106,11 +106,11 @@ pub marked_again : (d m : ℕ) (protected : Bool) (space : Space) (write again :
     → m ≡ marked d protected space write → marked m protected space again ≡ m
 marked_again d m protected space write again which e =
     let marks : Marks d m = subst (λ (n : ℕ). Marks d n) (sym e) (marked_marks d protected space write) in
-    elim (cases_Bool (again && takes_writes (page_descriptor m) protected space)) [
+    elim (cases_Bool (again && page_takes_writes (page_descriptor m) protected space)) [
       | inl h ↦
-          let parts = both again (takes_writes (page_descriptor m) protected space) h in
-          let takes : takes_writes (page_descriptor d) protected space ≡ true = sym (takes_same d m protected space marks.same) ∙ parts.1 in
-          let both_so = and_true write (takes_writes (page_descriptor d) protected space) (written_again again write which parts.0) takes in
+          let parts = both again (page_takes_writes (page_descriptor m) protected space) h in
+          let takes : page_takes_writes (page_descriptor d) protected space ≡ true = sym (takes_same d m protected space marks.same) ∙ parts.1 in
+          let both_so = and_true write (page_takes_writes (page_descriptor d) protected space) (written_again again write which parts.0) takes in
           let is : m ≡ with_modified (with_used d) = e ∙ marked_by_both d protected space write both_so in
           let modified : m / 2 ^ 4 % 2 ≡ 1 = subst (λ (n : ℕ). n / 2 ^ 4 % 2 ≡ 1) (sym is) (modified_marks (with_used d) (used_marks d).used).1 in
           marked_by_both m protected space again h ∙ ap with_modified (used_before m marks.used) ∙ modified_before m modified

@@ -68,13 +68,13 @@ is_user User = true
 is_user Super = false
 
 -- does a page, reached with write protection above it or not, take writes from a space
-abbrev pub takes_writes : PageDescriptor → Bool → Space → Bool
-takes_writes d protected space = not (protected || d.protected) && not (d.supervisor && is_user space)
+abbrev pub page_takes_writes : PageDescriptor → Bool → Space → Bool
+page_takes_writes d protected space = not (protected || d.protected) && not (d.supervisor && is_user space)
 
 -- the long of a page's descriptor once it is marked used, and modified where a write is made that it takes
 abbrev pub marked : ℕ → Bool → Space → Bool → ℕ
 marked long protected space write =
-    if write && takes_writes (page_descriptor long) protected space then with_modified (with_used long)
+    if write && page_takes_writes (page_descriptor long) protected space then with_modified (with_used long)
     else with_used long
 
 -- the frame of a page of 4 KiB: that of its descriptor, or where pages have 8 KiB the half of it that bit 12 of the

@@ -9,7 +9,7 @@ use Rattle.mb_instr.specs.Sizes.{bytes_of}
 use Rattle.mb_writes.specs.declared.transfers.Movem.{Movem}
 use Rattle.mb_writes.specs.declared.transfers.MovemMode.{MovemMode}
 use Rattle.mb_writes.specs.declared.transfers.Transfer.{Transfer}
-use Rattle.mb_writes.specs.Transfers.{is_set, set_bits, count_of, number_of, step_of, placed, transfers_of, AreTransfers}
+use Rattle.mb_writes.specs.Transfers.{is_set, set_bits, count_of, number_of, transfer_step, placed, transfers_of, AreTransfers}
 
 -- the bit, as it is computed
 low_bit : (n : ℕ) → bit_and n 1 ≡ n % 2
@@ -108,7 +108,7 @@ length-placed step at (r ∷ rs) = ap (λ n. suc n) (length-placed step ((at + s
 pub length-transfers : (m : Movem) (ea : ℕ) → length (transfers_of m ea) ≡ count_of m.mask
 unfolding transfers_of
 length-transfers m ea =
-    length-placed (step_of m.mode (bytes_of m.size)) ea (map (number_of m.mode) (set_bits m.mask 0 16))
+    length-placed (transfer_step m.mode (bytes_of m.size)) ea (map (number_of m.mode) (set_bits m.mask 0 16))
     ∙ length-map (set_bits m.mask 0 16) (number_of m.mode)
 
 pub are_after : (n : ℕ) (ts : List Transfer) → AreTransfers ts → AreTransfers (drop n ts)

@@ -63,10 +63,10 @@ abbrev pub registers_of : Movem → List ℕ
 registers_of m = map (number_of m.mode) (set_bits m.mask 0 16)
 
 -- from one transfer's address to the next one's, modulo 2^32: down for -(An)
-abbrev pub step_of : MovemMode → ℕ → ℕ
-step_of Control bytes = bytes
-step_of (Post n) bytes = bytes
-step_of (Pre n) bytes = 2 ^ 32 - bytes
+abbrev pub transfer_step : MovemMode → ℕ → ℕ
+transfer_step Control bytes = bytes
+transfer_step (Post n) bytes = bytes
+transfer_step (Pre n) bytes = 2 ^ 32 - bytes
 
 -- each with its address
 abbrev pub placed : ℕ → ℕ → List ℕ → List Transfer
@@ -75,11 +75,11 @@ placed step at (r ∷ rs) = record { register = r; at = at } ∷ placed step ((a
 
 -- the transfers of a MOVEM in the manual's order, the first at `ea`
 unfoldable pub transfers_of : Movem → ℕ → List Transfer
-transfers_of m ea = placed (step_of m.mode (bytes_of m.size)) ea (registers_of m)
+transfers_of m ea = placed (transfer_step m.mode (bytes_of m.size)) ea (registers_of m)
 
 -- the address of the one behind the first `done` of them
 abbrev pub transfer_at : Movem → (ea done : ℕ) → ℕ
-transfer_at m ea done = (ea + done * step_of m.mode (bytes_of m.size)) % 2 ^ 32
+transfer_at m ea done = (ea + done * transfer_step m.mode (bytes_of m.size)) % 2 ^ 32
 
 -- a transfer with so many before it is there
 abbrev pub StandsBehind : Movem → (ea done at : ℕ) → Type 0

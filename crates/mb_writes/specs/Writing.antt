@@ -61,13 +61,13 @@ write_apart_of space at Long value = do
   write_pieces_of space at (parts_of (apart ((at + 2) % 2 ^ 32) 3) 3 value)
 
 -- where the first of them is
-abbrev pub first_of : List Pend → ℕ
-first_of [] = 0
-first_of (p ∷ ps) = p.at
+abbrev pub first_address : List Pend → ℕ
+first_address [] = 0
+first_address (p ∷ ps) = p.at
 
 -- what a refused write left
 unfoldable pub complete_of : Space → List Pend → Routine (Result (Unit {0}) WriteFault)
-complete_of space pending = write_pieces_of space (first_of pending) pending
+complete_of space pending = write_pieces_of space (first_address pending) pending
 
 -- The list is the end of the other, and not empty.
 pub record IsLeft (rest pending : List Pend) : Type 0 where

@@ -2,7 +2,7 @@
 
 ghost use Rattle.std.specs.Prelude.{◌≡◌, ◌<◌, ◌≤◌, length};
 ghost use Rattle.mb_instr.specs.Sizes.{bytes_of};
-ghost use Rattle.mb_writes.specs.Transfers.{movem_in, transfers_of, step_of, number_of, count_of, IsMode, AreTransfers};
+ghost use Rattle.mb_writes.specs.Transfers.{movem_in, transfers_of, transfer_step, number_of, count_of, IsMode, AreTransfers};
 ghost use Rattle.mb_writes.specs.Transfers.{transfer_at, StandsBehind};
 
 use arrayvec::ArrayVec;
@@ -68,7 +68,7 @@ impl Movem {
 
     /// From one transfer's address to the next one's.
     fn step(&self) -> u32
-        ensures { result ≡ step_of self.now.mode (bytes_of self.now.size) }
+        ensures { result ≡ transfer_step self.now.mode (bytes_of self.now.size) }
     {
         let bytes = u32::from(self.size.bytes());
         match self.mode {

@@ -1,13 +1,13 @@
 //! Frames as they stand in memory.
 
 ghost use Rattle.std.specs.Prelude.{◌<◌};
-ghost use Rattle.mb_frames.specs.Layout.{offset_of};
+ghost use Rattle.mb_frames.specs.Layout.{vector_offset_of};
 
 use mb_frames::{Access, Frame, from_bytes, to_bytes};
 use std::process::Abort;
 
 fn stands_as(rt: &impl Abort, frame: &Frame, bytes: &[u8])
-    requires { offset_of frame.now < 0x1000 }
+    requires { vector_offset_of frame.now < 0x1000 }
 {
     assert!(rt; to_bytes(frame).as_slice() == bytes);
     assert!(rt; from_bytes(bytes) == Some(*frame));

@@ -15,7 +15,7 @@ use Rattle.vm_meaning.specs.Native.{NativeState, Ran}
 use Rattle.vm_machine.specs.declared.class.Class.{Class}
 use Rattle.vm_machine.specs.declared.class.Class.TheVariants as class
 use Rattle.vm_machine.specs.Bus.{guest_bus}
-use Rattle.vm_machine.specs.Turns.{counted, world_of}
+use Rattle.vm_machine.specs.Turns.{tallied, world_of}
 use Rattle.vm_machine.specs.Seats.{Seat, end_of, guested_on, IsSame, IsSeated, Takes}
 use Rattle.vm_step.specs.Taking.{IsLeft}
 use Rattle.vm_step.proofs.Retire.{off_arrived, off_ticked}
@@ -94,7 +94,7 @@ stands g b ram is seated =
 pub record Assists (b h : Seat) (ram next : List ℕ) (c : Class) : Type 0 where
   pub class : assisted (level_on b) b.cpu ≡ Some c
   pub means : guested_on h next ≡ ended_at b.steps (run guest_bus (rest_in Whole (level_on b) b.cpu) (world_of (guested_on b ram)))
-  pub tally : h.tally ≡ counted c b.tally
+  pub tally : h.tally ≡ tallied c b.tally
   pub same : IsSame b h
   pub within : OnlyBetween b.base (end_of b) ram next
 

@@ -11,7 +11,7 @@ use Rattle.mb_model.specs.Keeping.{rule_a, nothing_kept}
 use Rattle.mb_devices.specs.Devices.{idle}
 use Rattle.mb_processor.specs.SystemEnds.{with_registers}
 use Rattle.mb_machine.specs.World.{World}
-use Rattle.mb_machine.specs.Bus.{with_register}
+use Rattle.mb_machine.specs.Bus.{after_set_mmu}
 use Rattle.mb_machine.specs.Machine.{reset_with, with_cpu}
 use Rattle.mb_board.specs.Beside.{Beside, beside}
 use Rattle.mb_board.specs.State.{BoardState, board_at_reset, machine_in, with_machine, no_registers}
@@ -25,9 +25,9 @@ root_kept root whole small = and_high_mask 32 9 (omega arith) root small ∙ (le
 
 -- the three registers that are not 0
 written : (root size : ℕ) (ram : List ℕ) → root % 512 ≡ 0 → root < 2 ^ 32
-    → with_register rule_a Urp root (with_register rule_a Dtt0 0x00FFA000 (with_register rule_a Tc 0x8000 (reset_with rule_a size ram).world))
+    → after_set_mmu rule_a Urp root (after_set_mmu rule_a Dtt0 0x00FFA000 (after_set_mmu rule_a Tc 0x8000 (reset_with rule_a size ram).world))
     ≡ record { ram = ram; mmu = native_mmu root; devices = idle size; kept = nothing_kept rule_a }
-unfolding with_register reset_with
+unfolding after_set_mmu reset_with
 written root size ram whole small =
     ap (λ (urp : ℕ). (let w : World = record {
       ram = ram;
@@ -47,16 +47,16 @@ with_state b w c awake world steps state before = rw world (rw steps (rw state (
 
 pub is_ready : (root size : ℕ) (ram : List ℕ) (plain : Plain) (a b c d e : BoardState) → root % 512 ≡ 0 → root < 2 ^ 32
     → a ≡ board_at_reset (reset_with rule_a size ram)
-    → Sets a b (with_register rule_a Tc 0x8000 a.world) → Sets b c (with_register rule_a Dtt0 0x00FFA000 b.world)
-    → Sets c d (with_register rule_a Urp root c.world)
+    → Sets a b (after_set_mmu rule_a Tc 0x8000 a.world) → Sets b c (after_set_mmu rule_a Dtt0 0x00FFA000 b.world)
+    → Sets c d (after_set_mmu rule_a Urp root c.world)
     → e ≡ with_machine d (with_cpu (machine_in d) (with_registers plain native_cpu))
     → e ≡ board_at_reset (ready root size ram plain)
 unfolding reset_with
 is_ready root size ram plain a b c d e whole small reset one two three set =
     let first = ap (λ (s : BoardState). s.world) reset in
     let world : d.world ≡ record { ram = ram; mmu = native_mmu root; devices = idle size; kept = nothing_kept rule_a } =
-    three.world ∙ ap (with_register rule_a Urp root) (two.world ∙ ap (with_register rule_a Dtt0 0x00FFA000)
-    (one.world ∙ ap (with_register rule_a Tc 0x8000) first)) ∙ written root size ram whole small in
+    three.world ∙ ap (after_set_mmu rule_a Urp root) (two.world ∙ ap (after_set_mmu rule_a Dtt0 0x00FFA000)
+    (one.world ∙ ap (after_set_mmu rule_a Tc 0x8000) first)) ∙ written root size ram whole small in
     let rest : beside d ≡ beside a = three.rest ∙ two.rest ∙ one.rest in
     let steps : d.steps ≡ 0 = ap (λ (x : Beside). x.steps) rest ∙ ap (λ (s : BoardState). s.steps) reset in
     let state : d.state ≡ Running = ap (λ (x : Beside). x.state) rest ∙ ap (λ (s : BoardState). s.state) reset in

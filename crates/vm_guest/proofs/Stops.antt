@@ -32,9 +32,9 @@ use Rattle.vm_machine.specs.declared.limits.TheConstants.{MOST_REFILLS}
 use Rattle.vm_machine.specs.Classes.{class_at_first}
 use Rattle.vm_machine.specs.Exits.{is_refusal, class_of_vector, frame_access, handed_by, rest_by_frame}
 use Rattle.vm_machine.specs.Turns.{Guested, Tally, Turned, world_of, guest_begun, guest_later, step_class_at_first, refills_of_step}
-use Rattle.vm_machine.specs.Turns.{counted, with_refills, exits}
+use Rattle.vm_machine.specs.Turns.{tallied, with_refills, exits}
 use Rattle.vm_machine.specs.Turns.{marks_of, turn_of}
-use Rattle.vm_machine.specs.Seats.{Seat, end_of, machine_on, moved, shadow_on, guested_on, turned_on, IsSame, IsSeated, OnlyWithin, Takes}
+use Rattle.vm_machine.specs.Seats.{Seat, end_of, machine_on, board_entry, shadow_on, guested_on, turned_on, IsSame, IsSeated, OnlyWithin, Takes}
 use Rattle.vm_machine.proofs.TurnLaws.{nothing_turned}
 use Rattle.vm_held.specs.Truth.{Fine}
 use Rattle.vm_mirror.specs.Related.{mapping}
@@ -62,8 +62,8 @@ use Rattle.vm_guest.proofs.Seated.{begun_seated, only_within}
 
 -- what holds of the class of a step that the board leaves
 record Leaves (c : Class) : Type 0 where
-  pub retired : (t : Tally) → (counted c t).retired ≡ t.retired
-  pub exits : (t : Tally) → exits (counted c t) ≡ exits t + 1
+  pub retired : (t : Tally) → (tallied c t).retired ≡ t.retired
+  pub exits : (t : Tally) → exits (tallied c t) ≡ exits t + 1
   pub refills : (n : ℕ) (t : Tally) → with_refills c n t ≡ t
   pub marks : (before after : Cpu) → marks_of c before after ≡ []
 
@@ -96,7 +96,7 @@ TurnAs g ram native k m b counts v f = (seat : Seat) (next : List ℕ)
     → let w = world_of (guested_on m b.world.ram) in refilled_at w (read_by_frame (space_of m.cpu) f) ≡ None
     → guested_on seat next ≡ guest_later (machine_on m b.world.ram)
     (run guest_bus (rest_by_frame v (frame_access f) (level_of m.devices) m.cpu (handed_by b.cpu.regs f)) w)
-    → seat.tally ≡ counted (class_of_vector v) m.tally → IsSame m seat → IsSeated seat next → OnlyWithin m b.world.ram next
+    → seat.tally ≡ tallied (class_of_vector v) m.tally → IsSame m seat → IsSeated seat next → OnlyWithin m b.world.ram next
     → Takes (k + 1) (scene g ram native) (scene seat next counts)
 
 pub stopped_by : (g : Seat) (ram : List ℕ) (native : NativeState) (k : ℕ) (e : RunEnd) (after : BoardState) (counts : NativeState) (v : ℕ)
@@ -316,7 +316,7 @@ module _ (g s : Seat) (ram : List ℕ) (board : BoardState) (native counts : Nat
           record { count = o.count ∙ left.within.count; below = o.below ∙ left.within.below; above = o.above ∙ left.within.above }
 
       module _ (f : Frame) (reads : IsFrameOf after f) (seat : Seat) (next : List ℕ) (means : guested_on seat next ≡ left_by v f after s)
-          (tally : seat.tally ≡ counted (class_of_vector v) s.tally) (same : IsSame s seat) (seated : IsSeated seat next)
+          (tally : seat.tally ≡ tallied (class_of_vector v) s.tally) (same : IsSame s seat) (seated : IsSeated seat next)
           (within : OnlyBetween s.base (end_of s) after.world.ram next) where
         same_mid : IsSame mid seat
         same_mid = record { script = same.script; base = same.base; size = same.size; area = same.area }
@@ -364,7 +364,7 @@ module _ (g s : Seat) (ram : List ℕ) (board : BoardState) (native counts : Nat
             midway_ends g ram native k n mid board.world.ram counts m (inl full) seat next later
             (means ∙ ap (λ (x : ℕ). ended_at x rest) steps
             ∙ ap (λ (x : Stepped × Guest). ended_at (s.steps - 1 + 1) x) (whole ∙ ap (λ (x : Guest). run guest_bus (step_of level s.cpu) x) world))
-            (tally ∙ sym (out.refills n (counted (class_of_vector v) s.tally)) ∙ ap (λ (c : Class). with_refills c n (counted c s.tally)) class_is)
+            (tally ∙ sym (out.refills n (tallied (class_of_vector v) s.tally)) ∙ ap (λ (c : Class). with_refills c n (tallied c s.tally)) class_is)
             same_mid seated (within_both next within)
             (let a = left.counts in let t = ap (λ (x : Tally). x.retired) tally ∙ out.retired s.tally in omega arith)
             (i.trail_is ∙ ap (trail counts.trail) (marks ∙ sym (out.marks s.cpu seat.cpu) ∙ ap (λ (c : Class). marks_of c s.cpu seat.cpu) class_is))
@@ -437,9 +437,9 @@ refilled_begins g s x ram native k n b counts v f next stopped few reads fine so
 
 -- the board still stands for it: each entry that it had is there
 moved_more : (base : ℕ) (o p : Option (ℕ × Bool)) → ((entry : ℕ × Bool) → o ≡ Some entry → p ≡ Some entry) → (entry : ℕ × Bool)
-    → moved base o ≡ Some entry → moved base p ≡ Some entry
+    → board_entry base o ≡ Some entry → board_entry base p ≡ Some entry
 moved_more base None p more entry e = absurd (let z : ⊥ = cc in z)
-moved_more base (Some own) p more entry e = ap (moved base) (more own refl) ∙ e
+moved_more base (Some own) p more entry e = ap (board_entry base) (more own refl) ∙ e
 
 pub refilled_ready : (g s y : Seat) (ram : List ℕ) (native : NativeState) (k n : ℕ) (b : BoardState) (counts : NativeState) (v : ℕ) (f : Frame)
     (later : BoardState) → IsStopped g ram native k n s b counts v → IsFrameOf b f → Fine s.size (world_of (guested_on s b.world.ram))

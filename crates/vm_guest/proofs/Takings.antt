@@ -13,7 +13,7 @@ use Rattle.vm_machine.specs.declared.class.Class.{Class}
 use Rattle.vm_machine.specs.declared.class.Class.TheVariants.{Entered, Idle, Traced}
 use Rattle.vm_machine.specs.Bus.{guest_bus}
 use Rattle.vm_machine.specs.Classes.{is_traced}
-use Rattle.vm_machine.specs.Turns.{Guested, Tally, Turned, world_of, guest_stepped, refills_of_step, counted, with_refills, exits, marks_of, by_class, advanced}
+use Rattle.vm_machine.specs.Turns.{Guested, Tally, Turned, world_of, guest_stepped, refills_of_step, tallied, with_refills, exits, marks_of, by_class, advanced}
 use Rattle.vm_machine.specs.Turns.{turn_of}
 use Rattle.vm_machine.specs.Seats.{Seat, end_of, guested_on, turned_on, IsSame, IsSeated, Takes}
 use Rattle.vm_machine.proofs.TurnLaws.{going_turn, nothing_turned}
@@ -30,8 +30,8 @@ use Rattle.vm_guest.proofs.Seated.{only_within}
 -- such a class: no board counts its steps, and they have no marks
 record Aside (c : Class) : Type 0 where
   pub marks : (before after : Cpu) → marks_of c before after ≡ []
-  pub retired : (t : Tally) → (counted c t).retired ≡ t.retired
-  pub exits : (t : Tally) → exits (counted c t) ≡ exits t
+  pub retired : (t : Tally) → (tallied c t).retired ≡ t.retired
+  pub exits : (t : Tally) → exits (tallied c t) ≡ exits t
   pub refills : (n : ℕ) (t : Tally) → with_refills c n t ≡ t
 
 aside_by : (a b t : Bool) (c : Class) → cond a (Some Entered) (cond b (Some Idle) (cond t (Some Traced) None)) ≡ Some c → Aside c
@@ -62,7 +62,7 @@ advanced_is g ram c h =
 pub assisted_takes : (g h : Seat) (ram next : List ℕ) (native : NativeState) (c : Class) → takes_steps g.state ≡ true → let b = begun_seat g in
     assisted (level_on b) g.cpu ≡ Some c
     → guested_on h next ≡ ended_at b.steps (run guest_bus (step_of (level_on b) b.cpu) (world_of (guested_on b ram)))
-    → h.tally ≡ counted c g.tally → IsSame g h → IsSeated g ram → IsSeated h next → OnlyBetween g.base (end_of g) ram next
+    → h.tally ≡ tallied c g.tally → IsSame g h → IsSeated g ram → IsSeated h next → OnlyBetween g.base (end_of g) ram next
     → Takes 1 (scene g ram native) (scene h next native)
 unfolding trail
 assisted_takes g h ram next native c goes class means tally same seated after within =
@@ -76,8 +76,8 @@ assisted_takes g h ram next native c goes class means tally same seated after wi
       turned =
           ap (λ (q : Guested). of q h.tally []) guest
           ∙ ap (λ (n : Tally). of (guest_stepped g.script (guested_on g ram)) n []) tally
-          ∙ ap (λ (n : Tally). of (guest_stepped g.script (guested_on g ram)) n []) (sym (so.refills refills (counted c g.tally)))
-          ∙ ap (λ (marks : List Plain). of (guest_stepped g.script (guested_on g ram)) (with_refills c refills (counted c g.tally)) marks)
+          ∙ ap (λ (n : Tally). of (guest_stepped g.script (guested_on g ram)) n []) (sym (so.refills refills (tallied c g.tally)))
+          ∙ ap (λ (marks : List Plain). of (guest_stepped g.script (guested_on g ram)) (with_refills c refills (tallied c g.tally)) marks)
           (sym (so.marks g.cpu (guest_stepped g.script (guested_on g ram)).machine.cpu))
           ∙ one_step g.script t c refills (guest_stepped g.script (guested_on g ram)) goes (advanced_is g ram c class);
       same = same;
@@ -105,8 +105,8 @@ idle_takes g ram native n seated going takes tried quiet due =
     } in
     let of : (steps idle : ℕ) → Seat = λ k i. record g { devices = d; steps = k; tally = record g.tally { idle = i } } in
     let steps : g.steps + suc n ≡ g.steps + 1 + n = omega arith in
-    let counted : g.tally.idle + suc n ≡ g.tally.idle + (n + 1) = omega arith in
+    let tallied : g.tally.idle + suc n ≡ g.tally.idle + (n + 1) = omega arith in
     let same : idle_seat g (suc n) d ≡ idled_on n (begun_seat g) =
-    ap (λ (k : ℕ). of k (g.tally.idle + suc n)) steps ∙ ap (of (g.steps + 1 + n)) counted in
+    ap (λ (k : ℕ). of k (g.tally.idle + suc n)) steps ∙ ap (of (g.steps + 1 + n)) tallied in
     subst (λ (k : ℕ). Takes k (scene g ram native) (scene (idled_on n (begun_seat g)) ram native)) (let e : suc n ≡ n + 1 = omega arith in e)
     (subst (λ (s : Seat). Takes (suc n) (scene g ram native) (scene s ram native)) same (idle_steps_take g ram native n seated idle quiet due))

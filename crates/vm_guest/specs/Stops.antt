@@ -15,7 +15,7 @@ use Rattle.vm_machine.specs.Refills.{refilled_at, begun_again}
 use Rattle.vm_machine.specs.declared.limits.TheConstants.{MOST_REFILLS}
 use Rattle.vm_machine.specs.Classes.{class_at_first}
 use Rattle.vm_machine.specs.Exits.{class_of_vector, frame_access, handed_by, rest_by_frame}
-use Rattle.vm_machine.specs.Turns.{counted, world_of}
+use Rattle.vm_machine.specs.Turns.{tallied, world_of}
 use Rattle.vm_machine.specs.Seats.{Seat, end_of, guested_on, IsSame, IsSeated, Takes}
 use Rattle.vm_held.specs.Truth.{Fine}
 use Rattle.vm_step.specs.Reads.{read_by_frame}
@@ -65,7 +65,7 @@ pub record IsStopped (g : Seat) (ram : List ℕ) (native : NativeState) (k n : �
       ≡ run guest_bus (step_of level s.cpu) w)
   pub turn : (f : Frame) → IsFrameOf b f → let w = world_of (guested_on s b.world.ram) in
       (n ≡ MOST_REFILLS) ⊎ (refilled_at w (read_by_frame (space_of s.cpu) f) ≡ None) → (seat : Seat) (next : List ℕ)
-      → guested_on seat next ≡ left_by vector f b s → seat.tally ≡ counted (class_of_vector vector) s.tally
+      → guested_on seat next ≡ left_by vector f b s → seat.tally ≡ tallied (class_of_vector vector) s.tally
       → IsSame s seat → IsSeated seat next → OnlyBetween s.base (end_of s) b.world.ram next
       → Takes (k + 1) (scene g ram native) (scene seat next counts)
 

@@ -1,7 +1,7 @@
 //! How many steps of each class a guest has taken.
 
 ghost use Rattle.std.specs.Prelude.{◌≡◌, ◌+◌, ◌<◌, ◌^◌};
-ghost use Rattle.vm_machine.specs.Turns.{counted, no_steps, steps_in};
+ghost use Rattle.vm_machine.specs.Turns.{tallied, no_steps, steps_in};
 ghost use Rattle.vm_guest.specs.Counting.{tally_in, with_idle, with_retired};
 
 use vm_machine::Class;
@@ -42,7 +42,7 @@ impl Counts {
     /// One more step of a class.
     pub(crate) fn add(&mut self, class: Class)
         requires { steps_in (tally_in self.old) + 1 < 2 ^ 64 }
-        ensures { tally_in self.new ≡ counted class (tally_in self.old) }
+        ensures { tally_in self.new ≡ tallied class (tally_in self.old) }
     {
         match class {
             Class::Entered => self.entered += 1,

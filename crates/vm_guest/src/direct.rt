@@ -11,7 +11,7 @@ ghost use Rattle.mb_board.specs.Beside.{but_ram};
 ghost use Rattle.mb_board.specs.Fits.{FitsAlong};
 ghost use Rattle.mb_board.specs.State.{ran_to};
 ghost use Rattle.vm_machine.specs.Exits.{class_of_vector as class_of, frame_access};
-ghost use Rattle.vm_machine.specs.Turns.{counted, steps_in};
+ghost use Rattle.vm_machine.specs.Turns.{tallied, steps_in};
 ghost use Rattle.vm_machine.specs.Seats.{end_of, guested_on, IsSame, IsSeated, Takes};
 ghost use Rattle.vm_step.specs.Lawful.{LeavesLawful};
 ghost use Rattle.vm_guest.specs.Memory.{OnlyBetween};
@@ -144,7 +144,7 @@ impl Guest {
         requires seated { IsSeated self.old board.old.world.ram }
         ensures means { guested_on self.new board.new.world.ram
             ≡ left_by vector frame.now board.old self.old }
-        ensures tally { self.new.tally ≡ counted (class_of vector) self.old.tally }
+        ensures tally { self.new.tally ≡ tallied (class_of vector) self.old.tally }
         ensures steps { self.new.steps ≡ self.old.steps }
         ensures going { IsGoing self.new }
         ensures same { IsSame self.old self.new }

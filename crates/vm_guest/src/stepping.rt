@@ -5,7 +5,7 @@ ghost use Rattle.mb_port.specs.Routine.{run};
 ghost use Rattle.mb_processor.specs.Raise.{by_its_end};
 ghost use Rattle.mb_board.specs.Beside.{but_ram};
 ghost use Rattle.vm_machine.specs.Bus.{guest_bus};
-ghost use Rattle.vm_machine.specs.Turns.{counted, steps_in, world_of};
+ghost use Rattle.vm_machine.specs.Turns.{tallied, steps_in, world_of};
 ghost use Rattle.vm_machine.specs.Seats.{end_of, guested_on, IsSame, IsSeated};
 ghost use Rattle.vm_guest.specs.Memory.{OnlyBetween};
 ghost use Rattle.vm_guest.specs.Rests.{rest_in, IsLawfulRest};
@@ -95,7 +95,7 @@ impl Guest {
         ensures means { guested_on self.new board.new.world.ram ≡ ended_at self.old.steps
             (run guest_bus (rest_in rest.now level self.old.cpu)
             (world_of (guested_on self.old board.old.world.ram))) }
-        ensures tally { self.new.tally ≡ counted class self.old.tally }
+        ensures tally { self.new.tally ≡ tallied class self.old.tally }
         ensures steps { self.new.steps ≡ self.old.steps }
         ensures going { IsGoing self.new }
         ensures same { IsSame self.old self.new }

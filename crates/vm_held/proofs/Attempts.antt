@@ -9,9 +9,9 @@ use Rattle.mb_ea.specs.declared.reading.ReadFault.{ReadFault}
 use Rattle.mb_writes.specs.declared.transfers.Movem.{Movem}
 use Rattle.mb_writes.specs.declared.ends.Ended.{Ended}
 use Rattle.mb_writes.specs.declared.ends.Ended.TheVariants as ended
-use Rattle.mb_meaning.specs.Ends.{Stopped, Performed}
+use Rattle.mb_meaning.specs.Ends.{OtherEnd, Performed}
 use Rattle.mb_meaning.specs.Rows.{perform_of}
-use Rattle.mb_meaning.specs.Attempt.{Unfound, NoInstruction, Unfetched, Found, found_none, fetched_of, past}
+use Rattle.mb_meaning.specs.Attempt.{Unfound, NoInstruction, Unfetched, FoundInstr, found_none, fetched_of, past}
 use Rattle.mb_attempts.proofs.Attempts.{attempts_perform, attempts_find_none}
 use Rattle.mb_tells.specs.Laws.{HasLongs, moves, moves_fetched}
 use Rattle.vm_machine.specs.Guests.{Guest}
@@ -47,7 +47,7 @@ module _ (space : Space) (size : ℕ) (p : Plain) (g : Guest) (longs : HasLongs 
       → let q = perform_of i p.pc space (past n p) in Outcome (run held_bus q g) (run guest_bus q g)
   row_outcome i n is fetched =
       let law = rows_go_on space size i p.pc (past n p) g is longs sound in
-      let named : (m : Movem) → moves i m → Fetched m = λ m moved. (i, n, ap (λ (r : Found × Guest). r.0) fetched, moved) in (
+      let named : (m : Movem) → moves i m → Fetched m = λ m moved. (i, n, ap (λ (r : FoundInstr × Guest). r.0) fetched, moved) in (
         elim law.0 [
           | inl allowed ↦ inl allowed
           | inr (stop, ends, goes) ↦ inr (stop, ends, goes_on_by space (moves i) Fetched named g _ stop.ended stop.plain _ goes)
@@ -56,20 +56,20 @@ module _ (space : Space) (size : ℕ) (p : Plain) (g : Guest) (longs : HasLongs 
       )
 
   -- by what the held guest fetched, and the guest itself
-  by_fetch : (r : Found) → run held_bus (fetched_of space p.pc) g ≡ (r, g)
+  by_fetch : (r : FoundInstr) → run held_bus (fetched_of space p.pc) g ≡ (r, g)
       → ((run guest_bus (fetched_of space p.pc) g ≡ (r, g)) × IsFound r) ⊎ ((refused : ReadFault) × (r ≡ Err (Unfetched refused)))
       → Outcome (by_held space p g) (by_guest space p g)
   by_fetch (Ok (i, n)) held (inl (own, is)) =
       outcomes _ _ _ _ (attempts_perform held_bus space p g g i n held) (attempts_perform guest_bus space p g g i n own) (row_outcome i n is held)
-  by_fetch (Ok (i, n)) held (inr (refused, is)) = absurd (let z : (let o : Found = Ok (i, n) in o) ≡ Err (Unfetched refused) = is in let y : ⊥ = cc in y)
+  by_fetch (Ok (i, n)) held (inr (refused, is)) = absurd (let z : (let o : FoundInstr = Ok (i, n) in o) ≡ Err (Unfetched refused) = is in let y : ⊥ = cc in y)
   by_fetch (Err (NoInstruction vector)) held (inl (own, is)) =
       let none : Unfound = NoInstruction vector in
       outcomes _ _ _ _ (attempts_find_none held_bus space p g g none held) (attempts_find_none guest_bus space p g g none own) (inl (refl, tt, refl), sound)
   by_fetch (Err (NoInstruction vector)) held (inr (refused, is)) =
-      absurd (let z : (let o : Found = Err (NoInstruction vector) in o) ≡ Err (Unfetched refused) = is in let y : ⊥ = cc in y)
+      absurd (let z : (let o : FoundInstr = Err (NoInstruction vector) in o) ≡ Err (Unfetched refused) = is in let y : ⊥ = cc in y)
   by_fetch (Err (Unfetched refused)) held (inl (own, is)) = absurd is
   by_fetch (Err (Unfetched refused)) held (inr (other, is)) =
-      let stop : Stopped = record { ended = ended.ReadFault refused; plain = p } in
+      let stop : OtherEnd = record { ended = ended.ReadFault refused; plain = p } in
       let e : by_held space p g ≡ (found_none (Unfetched refused) p, g) = attempts_find_none held_bus space p g g (Unfetched refused) held in
       subst (λ (a : Performed × Guest). Outcome a (by_guest space p g)) (sym e) (inr (stop, refl, refl), sound)
 
@@ -77,7 +77,7 @@ pub attempts_go_on : AttemptsGoOn
 attempts_go_on space size p g longs lt sound =
     let held = run held_bus (fetched_of space p.pc) g in
     let (still, outcome) = fetches_go_on space size p.pc g lt sound in
-    let at : held ≡ (held.0, g) = ap (λ (h : Guest). (let q : Found × Guest = (held.0, h) in q)) still in
+    let at : held ≡ (held.0, g) = ap (λ (h : Guest). (let q : FoundInstr × Guest = (held.0, h) in q)) still in
     by_fetch space size p g longs sound held.0 at (elim outcome [
       | inl (own, is) ↦ inl (own ∙ at, is)
       | inr refused ↦ inr refused

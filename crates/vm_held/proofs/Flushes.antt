@@ -12,7 +12,7 @@ use Rattle.mb_model.proofs.Found.{find_yes, find_no, flushed_stays}
 use Rattle.mb_machine.specs.World.{World}
 use Rattle.vm_shadow.specs.Shadows.{Shadowed, nothing, dropped}
 use Rattle.vm_machine.specs.Guests.{Guest, Truthful}
-use Rattle.vm_machine.specs.Bus.{dropped_all, after_flush}
+use Rattle.vm_machine.specs.Bus.{dropped_all, shadow_after_flush}
 use Rattle.vm_held.specs.Truth.{Fine}
 use Rattle.vm_held.proofs.Accesses.{truthful_less}
 
@@ -94,7 +94,7 @@ dropped_truthful size what g ram fine =
     (old, ap (entry_in space page) list ∙ flushed_stays what space page kept stays)) fine.sound.truthful
 
 pub flush_truthful : (size : ℕ) (what : Flush) (g : Guest) → Fine size g
-    → Truthful size (record { world = record g.world { kept = flushed what g.world.kept }; shadow = after_flush what g.world.kept g.shadow })
+    → Truthful size (record { world = record g.world { kept = flushed what g.world.kept }; shadow = shadow_after_flush what g.world.kept g.shadow })
 flush_truthful size All g fine = nothing_truthful size (record g.world { kept = flushed All g.world.kept })
 flush_truthful size AllLocal g fine = dropped_truthful size AllLocal g g.world.ram fine
 flush_truthful size (Page space page) g fine = dropped_truthful size (Page space page) g g.world.ram fine

@@ -23,7 +23,7 @@ use Rattle.mb_model.proofs.Found.{filled_same}
 use Rattle.vm_shadow.specs.Shadows.{Shadowed, is_at, nothing, room_for, filled}
 use Rattle.vm_shadow.specs.Slots.{is_full_for}
 use Rattle.vm_machine.specs.Guests.{Guest, ref, allows, placed_at, IsReference}
-use Rattle.vm_machine.specs.Bus.{gone_settled, without_kept, is_split, is_in_ram, is_writable, put}
+use Rattle.vm_machine.specs.Bus.{gone_settled, without_kept, is_split, is_in_ram, is_writable, put_entry_of}
 use Rattle.vm_held.specs.Truth.{Fine, AccessesKeepTruth}
 use Rattle.vm_held.proofs.Keys.{number_is, is_not}
 use Rattle.vm_held.proofs.Stages.{translated_by}
@@ -89,7 +89,7 @@ put_fine size g r p fine c whole room =
     }
 
 putting_fine : (size : ℕ) (g : Guest) (r : Reference) (o : Option ℕ) → Fine size g → ((p : ℕ) → o ≡ Some p → Carried g.world r p)
-    → Fine size (record g { shadow = put g.world r g.shadow o })
+    → Fine size (record g { shadow = put_entry_of g.world r g.shadow o })
 putting_fine size g r None fine c = fine
 putting_fine size g r (Some p) fine c =
     let page = is_in_ram (length g.world.ram) p in
@@ -108,7 +108,7 @@ putting_fine size g r (Some p) fine c =
 -- ---- the whole
 
 abbrev Whole : ℕ → Reference → Guest → Settled → Option ℕ × World → Type 0
-Whole size r g s t = Fine size (record { world = t.1; shadow = put t.1 r (without_kept (gone_settled g.world r s) g.shadow) t.0 })
+Whole size r g s t = Fine size (record { world = t.1; shadow = put_entry_of t.1 r (without_kept (gone_settled g.world r s) g.shadow) t.0 })
 
 filled_one : Kept → Guest → KeptLists
 filled_one k g = filled_in 256 k (list_of 0 g.world.kept) ∷ []

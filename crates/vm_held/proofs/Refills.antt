@@ -24,9 +24,9 @@ use Rattle.mb_ea.specs.declared.reading.ReadFault.{ReadFault}
 use Rattle.mb_writes.specs.declared.transfers.Movem.{Movem}
 use Rattle.mb_writes.specs.declared.ends.Ended.{Ended as End}
 use Rattle.mb_writes.specs.declared.ends.Ended.TheVariants as ended
-use Rattle.mb_meaning.specs.Ends.{Carried as Done, Stopped as Stop, Performed}
+use Rattle.mb_meaning.specs.Ends.{Carried as Done, OtherEnd as Stop, Performed}
 use Rattle.mb_meaning.specs.Rows.{perform_of, row_of}
-use Rattle.mb_meaning.specs.Attempt.{Unfound, NoInstruction, Unfetched, Found, fetched_of, past}
+use Rattle.mb_meaning.specs.Attempt.{Unfound, NoInstruction, Unfetched, FoundInstr, fetched_of, past}
 use Rattle.mb_attempts.proofs.Attempts.{attempts_perform, attempts_find_none}
 use Rattle.mb_twins.specs.Twins.{SamePerformed, MayRefuse}
 use Rattle.mb_twins.proofs.Step.{SameFound, SameUnfound, fetched_twins, perform_twins}
@@ -50,7 +50,7 @@ use Rattle.vm_shadow.specs.Shadows.{Shadowed, is_at, nothing, room_for, filled}
 use Rattle.vm_shadow.specs.Slots.{is_full_for}
 use Rattle.vm_shadow.proofs.Held.{at_is, at_self}
 use Rattle.vm_machine.specs.Guests.{Guest, lets, allows, allows_any, allows_call, placed_at, IsReference}
-use Rattle.vm_machine.specs.Bus.{gone, without_kept, is_split, is_in_ram, is_writable, puts, put, accessed, shadow_after, guest_bus}
+use Rattle.vm_machine.specs.Bus.{gone, without_kept, is_split, is_in_ram, is_writable, puts_entry, put_entry_of, accessed, shadow_after, guest_bus}
 use Rattle.vm_machine.specs.Held.{plain_bus, or_refused, held_bus}
 use Rattle.vm_machine.specs.Refills.{told_by, read_in, denied_read, shows_nothing, can_refill, after_access, refilled_at}
 use Rattle.vm_machine.proofs.Judged.{allowed_accesses_are_still}
@@ -192,13 +192,13 @@ module _ (size : ℕ) (g : Guest) (r : Reference) (is : IsReference r) (fine : F
   abbrev new : Shadowed
   new = filled r.space page (page_of can.place) writable g.shadow
 
-  put_there : puts after r g.shadow can.place ≡ true
+  put_there : puts_entry after r g.shadow can.place ≡ true
   put_there = rw (can.in_ram, can.whole, denied) refl
 
   shadow_is : h.shadow ≡ new
   shadow_is =
-      ap (λ (k : Option Kept). put after r (without_kept k g.shadow) (translated rule_k r g.world).0) can.none
-      ∙ ap (put after r g.shadow) can.leads
+      ap (λ (k : Option Kept). put_entry_of after r (without_kept k g.shadow) (translated rule_k r g.world).0) can.none
+      ∙ ap (put_entry_of after r g.shadow) can.leads
       ∙ ap (λ (b : Bool). cond b new g.shadow) put_there
 
   entry_is : h.shadow.entries r.space page ≡ Some (page_of can.place, writable)
@@ -501,7 +501,7 @@ left_read space size g now before after moves rest (ended.Movem refused) r c fir
 
 -- ---- a fetch
 
-found_left : (space : Space) (size : ℕ) (g now : Guest) (rest : Routine Found) (y : Unfound) (f : ReadFault) (c : Call) → y ≡ Unfetched f
+found_left : (space : Space) (size : ℕ) (g now : Guest) (rest : Routine FoundInstr) (y : Unfound) (f : ReadFault) (c : Call) → y ≡ Unfetched f
     → first_call rest ≡ Some c → IsLawful space 0 size c → allows_call c now.shadow ≡ false → FoundLeft (held_guard space size g) rest now y
     → (reference_of c ≡ Some (told_by f.fault)) × (now ≡ g)
 unfolding FoundLeft
@@ -513,7 +513,7 @@ found_left space size g now rest (Unfetched y) f c e first l no_leave (answered,
       unwritten,
     )
 
-abbrev SameFetch : Space → Found → Found → Type 0
+abbrev SameFetch : Space → FoundInstr → FoundInstr → Type 0
 SameFetch space = Results SameFound (SameUnfound (faultless true space))
 
 fetch_tells : (space : Space) (size pc : ℕ) (g : Guest) → pc < 2 ^ 32 → Sound size g
@@ -544,11 +544,11 @@ attempt_by_fetch : (space : Space) (p : Plain) (g h : Guest) → run guest_bus (
     → by_guest space p h ≡ by_guest space p g
 attempt_by_fetch space p g h e = by_found_one (run guest_bus (fetched_of space p.pc) g).0 refl
   where
-    at : (f : Found) → (run guest_bus (fetched_of space p.pc) g).0 ≡ f
+    at : (f : FoundInstr) → (run guest_bus (fetched_of space p.pc) g).0 ≡ f
         → run guest_bus (fetched_of space p.pc) g ≡ (f, (run guest_bus (fetched_of space p.pc) g).1)
-    at f same = ap (λ (x : Found). (let q : Found × Guest = (x, (run guest_bus (fetched_of space p.pc) g).1) in q)) same
+    at f same = ap (λ (x : FoundInstr). (let q : FoundInstr × Guest = (x, (run guest_bus (fetched_of space p.pc) g).1) in q)) same
 
-    by_found_one : (f : Found) → (run guest_bus (fetched_of space p.pc) g).0 ≡ f → by_guest space p h ≡ by_guest space p g
+    by_found_one : (f : FoundInstr) → (run guest_bus (fetched_of space p.pc) g).0 ≡ f → by_guest space p h ≡ by_guest space p g
     by_found_one (Ok (i, n)) same =
         attempts_perform guest_bus space p h (run guest_bus (fetched_of space p.pc) g).1 i n (e ∙ at (Ok (i, n)) same)
         ∙ sym (attempts_perform guest_bus space p g (run guest_bus (fetched_of space p.pc) g).1 i n (at (Ok (i, n)) same))
@@ -556,8 +556,8 @@ attempt_by_fetch space p g h e = by_found_one (run guest_bus (fetched_of space p
         attempts_find_none guest_bus space p h (run guest_bus (fetched_of space p.pc) g).1 unfound (e ∙ at (Err unfound) same)
         ∙ sym (attempts_find_none guest_bus space p g (run guest_bus (fetched_of space p.pc) g).1 unfound (at (Err unfound) same))
 
-found_not_denied : (i : Instr) (n : ℕ) (k : Found) (y : Unfound) → k ≡ Ok (i, n) → k ≡ Err y → ⊥
-found_not_denied i n k y e f = let z : (let o : Found = Ok (i, n) in o) ≡ Err y = sym e ∙ f in let w : ⊥ = cc in w
+found_not_denied : (i : Instr) (n : ℕ) (k : FoundInstr) (y : Unfound) → k ≡ Ok (i, n) → k ≡ Err y → ⊥
+found_not_denied i n k y e f = let z : (let o : FoundInstr = Ok (i, n) in o) ≡ Err y = sym e ∙ f in let w : ⊥ = cc in w
 
 -- ---- an attempt
 
@@ -566,7 +566,7 @@ module _ (space : Space) (size : ℕ) (p : Plain) (g : Guest) (longs : HasLongs 
   abbrev Again_ : Guest → Type 0
   Again_ h = IsAhead size g h × BeginsAgain space p g h
 
-  abbrev fetch : Routine Found
+  abbrev fetch : Routine FoundInstr
   fetch = fetched_of space p.pc
 
   abbrev FetchDenial : Type 1
@@ -602,7 +602,7 @@ module _ (space : Space) (size : ℕ) (p : Plain) (g : Guest) (longs : HasLongs 
             ]
       ]
     where
-      unclean : (k : Found) (f : ReadFault) → k ≡ Err (Unfetched f) → SameFetch space k k → ⊥
+      unclean : (k : FoundInstr) (f : ReadFault) → k ≡ Err (Unfetched f) → SameFetch space k k → ⊥
       unclean (Ok found) f e same = let z : ⊥ = cc in z
       unclean (Err (NoInstruction vector)) f e same = let z : ⊥ = cc in z
       unclean (Err (Unfetched refused)) f e same = let z : false ≡ true = same.fault.0 in let y : ⊥ = cc in y
@@ -635,14 +635,15 @@ module _ (space : Space) (size : ℕ) (p : Plain) (g : Guest) (longs : HasLongs 
               let ahead = is_ahead size g r is fine denied refill in
               let stays : moved Then_.world.kept Then_.shadow g ≡ Then_ =
               sym (ap (λ (w : World). (let h : Guest = record { world = w; shadow = Then_.shadow } in h)) ahead.world) in
-              let none : FetchDenial → ⊥ = λ f. found_not_denied i n (run held_bus fetch g).0 f.value (ap (λ (q : Found × Guest). q.0) held_found) f.ended in
+              let none : FetchDenial
+              → ⊥ = λ f. found_not_denied i n (run held_bus fetch g).0 f.value (ap (λ (q : FoundInstr × Guest). q.0) held_found) f.ended in
               let found_there : run guest_bus fetch Then_ ≡ (Ok (i, n), Then_) =
               elim (meant space size g fetch (FoundLeft (held_guard space size g)) _ (SameFetch space) r is fine denied refill
               (fetch_tells space size p.pc g lt fine.sound) (λ f. absurd (none f))) [
                 | inl (f, same) ↦ absurd (none f)
                 | inr (clean, own, other) ↦
-                    other ∙ ap (λ (q : Found × Guest). (let x : Found × Guest = (q.0, moved Then_.world.kept Then_.shadow q.1) in x)) held_found
-                    ∙ ap (λ (h : Guest). (let x : Found × Guest = (Ok (i, n), h) in x)) stays
+                    other ∙ ap (λ (q : FoundInstr × Guest). (let x : FoundInstr × Guest = (q.0, moved Then_.world.kept Then_.shadow q.1) in x)) held_found
+                    ∙ ap (λ (h : Guest). (let x : FoundInstr × Guest = (Ok (i, n), h) in x)) stays
               ] in
               let same_row : run guest_bus row Then_ ≡ run guest_bus row g =
               elim (meant space size g row RowLeft after (SamePerformed (faultless false space)) r is fine denied refill tells told) [
@@ -653,7 +654,7 @@ module _ (space : Space) (size : ℕ) (p : Plain) (g : Guest) (longs : HasLongs 
                 record {
                   attempt = attempts_perform guest_bus space p Then_ Then_ i n found_there ∙ same_row
                       ∙ sym (attempts_perform guest_bus space p g g i n own_found);
-                  fetch = inr (i, n, un, ap (λ (q : Found × Guest). q.0) own_found, ap (λ (q : Found × Guest). q.0) found_there);
+                  fetch = inr (i, n, un, ap (λ (q : FoundInstr × Guest). q.0) own_found, ap (λ (q : FoundInstr × Guest). q.0) found_there);
                 },
               )
         ]
@@ -667,19 +668,19 @@ module _ (space : Space) (size : ℕ) (p : Plain) (g : Guest) (longs : HasLongs 
   by_instr (instr.Flow i) n is held own reads = row_denied (instr.Flow i) n is tt tt held own reads
   by_instr (instr.System i) n is held own reads = absurd (let z : None ≡ Some r = reads in let y : ⊥ = cc in y)
 
-  by_fetch : (f : Found) → run held_bus fetch g ≡ (f, g)
+  by_fetch : (f : FoundInstr) → run held_bus fetch g ≡ (f, g)
       → ((run guest_bus fetch g ≡ (f, g)) × IsFound f) ⊎ ((refused : ReadFault) × (f ≡ Err (Unfetched refused)))
       → denied_read (by_held space p g).0 ≡ Some r → Again_ Then_
   by_fetch (Ok (i, n)) held (inl (own, is)) reads =
       by_instr i n is held own (sym (ap (λ (q : Performed × Guest). denied_read q.0) (attempts_perform held_bus space p g g i n held)) ∙ reads)
   by_fetch (Ok (i, n)) held (inr (refused, is)) reads =
-      absurd (let z : (let o : Found = Ok (i, n) in o) ≡ Err (Unfetched refused) = is in let y : ⊥ = cc in y)
+      absurd (let z : (let o : FoundInstr = Ok (i, n) in o) ≡ Err (Unfetched refused) = is in let y : ⊥ = cc in y)
   by_fetch (Err (NoInstruction vector)) held own reads =
       let none : None ≡ Some r =
       sym (ap (λ (q : Performed × Guest). denied_read q.0) (attempts_find_none held_bus space p g g (NoInstruction vector) held)) ∙ reads in
       absurd (let y : ⊥ = cc in y)
   by_fetch (Err (Unfetched refused)) held own reads =
-      unfetched refused (ap (λ (q : Found × Guest). q.0) held)
+      unfetched refused (ap (λ (q : FoundInstr × Guest). q.0) held)
       (same_Some (told_by refused.fault) r
       (sym (ap (λ (q : Performed × Guest). denied_read q.0) (attempts_find_none held_bus space p g g (Unfetched refused) held)) ∙ reads))
 
@@ -687,7 +688,7 @@ module _ (space : Space) (size : ℕ) (p : Plain) (g : Guest) (longs : HasLongs 
   attempt_again reads =
       let (still, outcome) = fetches_go_on space size p.pc g lt fine.sound in
       let held = run held_bus fetch g in
-      let at : held ≡ (held.0, g) = ap (λ (h : Guest). (let q : Found × Guest = (held.0, h) in q)) still in
+      let at : held ≡ (held.0, g) = ap (λ (h : Guest). (let q : FoundInstr × Guest = (held.0, h) in q)) still in
       by_fetch held.0 at (elim outcome [
         | inl (own, is) ↦ inl (own ∙ at, is)
         | inr refused ↦ inr refused

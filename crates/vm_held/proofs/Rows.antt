@@ -21,12 +21,12 @@ use Rattle.mb_ea.specs.declared.reading.ReadFault.{ReadFault}
 use Rattle.mb_writes.specs.declared.ends.Ended.{Ended as End}
 use Rattle.mb_writes.specs.declared.ends.Ended.TheVariants as ended
 use Rattle.mb_meaning.specs.Ends.{Performed}
-use Rattle.mb_meaning.specs.Attempt.{Unfound, NoInstruction, Unfetched, Found, judged, found_of, fetched_of}
+use Rattle.mb_meaning.specs.Attempt.{Unfound, NoInstruction, Unfetched, FoundInstr, by_decoded, found_of, fetched_of}
 use Rattle.mb_instr.specs.declared.counts.TheConstants.{MOST_WORDS}
 use Rattle.mb_meaning.specs.Rows.{perform_of, row_of}
 use Rattle.mb_twins.specs.Twins.{SameEnd, SamePerformed, MayRefuse}
 use Rattle.mb_twins.proofs.Step.{SameFound, SameUnfound, fetched_twins, perform_twins}
-use Rattle.mb_tells.specs.Left.{LeftBy, completing, line_completing, moving}
+use Rattle.mb_tells.specs.Left.{LeftBy, completing_writes, completing_line, completing_transfers}
 use Rattle.mb_tells.specs.Laws.{moves, HasLongs}
 use Rattle.mb_tells.proofs.Step.{FoundLeft, Founds, fetched_tells, perform_tells}
 use Rattle.mb_decode.specs.declared.front.Decoded.{Decoded}
@@ -134,14 +134,14 @@ module _ (space : Space) (size : ℕ) (g : Guest) (s : Sound size g) where
   abbrev Still : {A : Type 0} → Routine A → Type 0
   Still m = (run held_bus m g).1 ≡ g
 
-  judged_still : (d : Decoded) (m : Routine Found) → Still m → Still (judged d m)
+  judged_still : (d : Decoded) (m : Routine FoundInstr) → Still m → Still (by_decoded d m)
   judged_still decoded.More m h = h
   judged_still (decoded.Whole i n) m h = refl
   judged_still decoded.Illegal m h = refl
   judged_still decoded.LineA m h = refl
   judged_still decoded.LineF m h = refl
 
-  tried_still : (r : Result ℕ Unfound) (f : ℕ → Routine Found) → ((word : ℕ) → Still (f word)) → Still (tried r f)
+  tried_still : (r : Result ℕ Unfound) (f : ℕ → Routine FoundInstr) → ((word : ℕ) → Still (f word)) → Still (tried r f)
   tried_still (Ok word) f h = h word
   tried_still (Err e) f h = refl
 
@@ -151,13 +151,13 @@ module _ (space : Space) (size : ℕ) (g : Guest) (s : Sound size g) where
   found_still (suc n) at words even lt =
       let q = held_bus (Fetch space at) g in
       let how : Fault → Unfound = λ fault. Unfetched (refused_in at fault) in
-      let next : ℕ → Routine Found = λ word. judged (decode_of (words ++ word ∷ [])) (found_of n space ((at + 2) % 2 ^ 32) (words ++ word ∷ [])) in
+      let next : ℕ → Routine FoundInstr = λ word. by_decoded (decode_of (words ++ word ∷ [])) (found_of n space ((at + 2) % 2 ^ 32) (words ++ word ∷ [])) in
       let same : q.1 ≡ g = held_leaves size space (Fetch space at) g s (refl, lt, even) tt in
       subst (λ (h : Guest). (run held_bus (tried (other_fault how (q.0)) next) h).1 ≡ g) (sym same)
       (tried_still (other_fault how (q.0)) next (λ word.
       judged_still (decode_of (words ++ word ∷ [])) _ (found_still n ((at + 2) % 2 ^ 32) (words ++ word ∷ []) (omega arith) (omega arith))))
 
-  chosen_still : (b : Bool) (m n : Routine Found) → (b ≡ true → Still m) → (b ≡ false → Still n) → Still (choose b m n)
+  chosen_still : (b : Bool) (m n : Routine FoundInstr) → (b ≡ true → Still m) → (b ≡ false → Still n) → Still (choose b m n)
   chosen_still true m n h k = h refl
   chosen_still false m n h k = k refl
 
@@ -170,15 +170,15 @@ module _ (space : Space) (size : ℕ) (g : Guest) (s : Sound size g) where
 
 -- ---- the laws
 
-denied_fetch : (space : Space) (size : ℕ) (g : Guest) (rest : Routine Found) (now : Guest) (e : Unfound) → FoundLeft (held_guard space size g) rest now e
-    → (k : Found) → k ≡ Err e
+denied_fetch : (space : Space) (size : ℕ) (g : Guest) (rest : Routine FoundInstr) (now : Guest) (e : Unfound) → FoundLeft (held_guard space size g) rest now e
+    → (k : FoundInstr) → k ≡ Err e
     → (refused : ReadFault) × (k ≡ Err (Unfetched refused))
 unfolding FoundLeft
 denied_fetch space size g rest now (Unfetched f) told k is = (f, is)
 denied_fetch space size g rest now (NoInstruction vector) told k is = absurd told
 
-found_is : (space : Space) (size : ℕ) (g h : Guest) (k : Found) → Results SameFound (SameUnfound (faultless true space)) k k
-    → After space size g (fetched_of space 0) (λ (rest : Routine Found) (t : Guest) (e : Unfound). Unit {0}) (λ found (h : Guest). (Sound size h × (h ≡ g))
+found_is : (space : Space) (size : ℕ) (g h : Guest) (k : FoundInstr) → Results SameFound (SameUnfound (faultless true space)) k k
+    → After space size g (fetched_of space 0) (λ (rest : Routine FoundInstr) (t : Guest) (e : Unfound). Unit {0}) (λ found (h : Guest). (Sound size h × (h ≡ g))
     × IsInstr found.0) (λ a b. Unit {0}) k h → IsFound k
 found_is space size g h (Ok found) same after = after.1
 found_is space size g h (Err (NoInstruction vector)) same after = tt
@@ -188,7 +188,7 @@ pub fetches_go_on : FetchesGoOn
 unfolding Founds FoundLeft
 fetches_go_on space size pc g lt s =
     let guard = held_guard space size g in
-    let Same : Found → Found → Type 0 = Results SameFound (SameUnfound (faultless true space)) in (
+    let Same : FoundInstr → FoundInstr → Type 0 = Results SameFound (SameUnfound (faultless true space)) in (
       fetched_still space size g s pc lt,
       elim (goes_on_by space size g (fetched_of space pc) (FoundLeft guard) (λ found h. (Sound size h × (h ≡ g)) × IsInstr found.0) Same
           true (λ h. Sound size h × (h ≡ g)) (fetched_tells guard space (held_guards space size g) pc lt) (fetched_twins (faultless true space) pc refl)
@@ -196,7 +196,7 @@ fetches_go_on space size pc g lt s =
             | inl (own, same, after, sound) ↦
                 inl (own, found_is space size g ((run held_bus (fetched_of space pc) g).1) ((run held_bus (fetched_of space pc) g).0) same after)
             | inr (rest, now, e, is, own, told, sound) ↦
-                inr (denied_fetch space size g rest now e told ((run held_bus (fetched_of space pc) g).0) (ap (λ (q : Found × Guest). q.0) is))
+                inr (denied_fetch space size g rest now e told ((run held_bus (fetched_of space pc) g).0) (ap (λ (q : FoundInstr × Guest). q.0) is))
           ],
     )
 
@@ -207,11 +207,11 @@ row_goes_on : (space : Space) (size : ℕ) (i : Instr) (p : Plain) (begun now : 
 row_goes_on space size i p begun now rest (ended.ReadFault f) after whole s e (answer, again) = again.0
 row_goes_on space size i p begun now rest (ended.WriteFault f) after whole s e (answer, inl (again, none)) = inl (again.0, none)
 row_goes_on space size i p begun now rest (ended.WriteFault f) after whole s e (answer, inr (some, done, plain, same)) =
-    inr (some, done, plain, e ∙ same_over guest_bus rest (completing space f.first f.rest.items done) now same)
+    inr (some, done, plain, e ∙ same_over guest_bus rest (completing_writes space f.first f.rest.items done) now same)
 row_goes_on space size i p begun now rest (ended.LineFault fault line) after whole s e (answer, (four, done, plain, same)) =
-    (four, done, plain, e ∙ same_over guest_bus rest (line_completing space fault.at line done) now same)
+    (four, done, plain, e ∙ same_over guest_bus rest (completing_line space fault.at line done) now same)
 row_goes_on space size i p begun now rest (ended.Movem f) after whole s e (answer, (m, is, resumes)) =
-    (m, is, e ∙ resumed space size begun now (moving m f.first f.done space after) rest s resumes)
+    (m, is, e ∙ resumed space size begun now (completing_transfers m f.first f.done space after) rest s resumes)
 row_goes_on space size i p begun now rest (ended.Done flow) after whole s e left = absurd left
 row_goes_on space size i p begun now rest (ended.Trap vector) after whole s e left = absurd left
 row_goes_on space size i p begun now rest (ended.Refused vector) after whole s e left = absurd left

@@ -1,11 +1,11 @@
 -- Each call of the guest keeps its shadow truthful.
 use Rattle.std.proofs.Common.{length, subst, sym, ◌≡◌, ℕ, ◌^◌, ◌<◌, Bool, true, false, [], ◌∷◌, refl, ap, ◌∙◌, Option, Some, None}
 use Rattle.mb_port.specs.Routine.{Call, Fetch, Read, Write, ReadLine, WriteLine, Probe, Get, Put, ReadMmu, FlushKept, Test, ResetDevices, SetMmu}
-use Rattle.mb_model.specs.Keeping.{list_of, Apart, KeptLists, rule_k, flushed, dropped}
+use Rattle.mb_model.specs.Keeping.{list_of, Apart, KeptLists, rule_k, flushed, after_ptest}
 use Rattle.mb_walk.specs.Memory.{AreBytes}
 use Rattle.mb_machine.specs.World.{World, HasBytes}
 use Rattle.mb_machine.specs.Access.{translated, matched, or_off, untranslated, by_match, settled, root_of}
-use Rattle.mb_machine.specs.Bus.{bus_of, fetching_of, reading_of, writing_of, tested, with_register, tested_by}
+use Rattle.mb_machine.specs.Bus.{bus_of, fetching_of, reading_of, writing_of, tested, after_set_mmu, tested_by}
 use Rattle.mb_machine.specs.Laws.{IsBeneath, IsWhole}
 use Rattle.mb_machine.proofs.Bytes.{bus-bytes}
 use Rattle.mb_machine.proofs.Beneath.{calls_stand_beneath, places_stand_beneath, sizes_stay}
@@ -19,7 +19,7 @@ use Rattle.mb_walk.proofs.Again.{searches_mark}
 use Rattle.mb_machine.specs.declared.reference.Reference.{Reference}
 use Rattle.mb_model.specs.Pages.{page_of, has_big_pages, other_half}
 use Rattle.vm_shadow.specs.Shadows.{Shadowed, nothing}
-use Rattle.vm_machine.specs.Bus.{accessed, after_flush, after_drop, after_test, shadow_after}
+use Rattle.vm_machine.specs.Bus.{accessed, shadow_after_flush, shadow_after_drop, shadow_after_test, shadow_after}
 use Rattle.vm_held.specs.Truth.{CallsKeepTruth, Fine}
 use Rattle.vm_held.proofs.Puts.{accesses_keep_truth}
 use Rattle.vm_held.proofs.Flushes.{flush_truthful, IsOneList, flushed_kept, dropped_truthful, nothing_truthful}
@@ -84,8 +84,8 @@ unseen size g value fine =
     }
 
 register_fine : (size : ℕ) (g : Guest) (which : MmuReg) (value : ℕ) → Fine size g
-    → Fine size (record { world = with_register rule_k which value g.world; shadow = shadow_after (SetMmu which value) g.world g.shadow })
-unfolding with_register shadow_after
+    → Fine size (record { world = after_set_mmu rule_k which value g.world; shadow = shadow_after (SetMmu which value) g.world g.shadow })
+unfolding after_set_mmu shadow_after
 register_fine size g Tc value fine = forgotten size g _ fine
 register_fine size g Itt0 value fine = forgotten size g _ fine
 register_fine size g Itt1 value fine = forgotten size g _ fine
@@ -163,7 +163,7 @@ unfolding bus_of
 set_fine size g which value fine = register_fine size g which value fine
 
 flush_fine : (size : ℕ) (g : Guest) (what : Flush) → Fine size g
-    → Fine size (record { world = record g.world { kept = flushed what g.world.kept }; shadow = after_flush what g.world.kept g.shadow })
+    → Fine size (record { world = record g.world { kept = flushed what g.world.kept }; shadow = shadow_after_flush what g.world.kept g.shadow })
 flush_fine size g what fine =
     let k = flushed_kept what g.world.kept (kept_of size g fine) in
     record {
@@ -173,39 +173,39 @@ flush_fine size g what fine =
     }
 
 flushed_fine : (size : ℕ) (g : Guest) (what : Flush) → Fine size g
-    → Fine size (record { world = (bus_of rule_k (FlushKept what) g.world).1; shadow = after_flush what g.world.kept g.shadow })
+    → Fine size (record { world = (bus_of rule_k (FlushKept what) g.world).1; shadow = shadow_after_flush what g.world.kept g.shadow })
 unfolding bus_of
 flushed_fine size g what fine = flush_fine size g what fine
 
 -- PTEST drops a page, or both halves of one
 drop_fine : (size : ℕ) (g : Guest) (big : Bool) (space : Space) (page : ℕ) → Fine size g → Fine size (record {
-  world = record g.world { kept = dropped big space page g.world.kept };
-  shadow = after_drop big space page g.world.kept g.shadow;
+  world = record g.world { kept = after_ptest big space page g.world.kept };
+  shadow = shadow_after_drop big space page g.world.kept g.shadow;
 })
 drop_fine size g false space page fine = flush_fine size g (Page space page) fine
 drop_fine size g true space page fine =
     let one : Guest = record {
       world = record g.world { kept = flushed (Page space page) g.world.kept };
-      shadow = after_flush (Page space page) g.world.kept g.shadow;
+      shadow = shadow_after_flush (Page space page) g.world.kept g.shadow;
     } in
     flush_fine size one (Page space (other_half page)) (flush_fine size g (Page space page) fine)
 
 test_fine : (size : ℕ) (g : Guest) (space : Space) (page : ℕ) (write : Bool) (o : Option Bool) → Fine size g → Fine size (record {
   world = (tested_by g.world space page write o).1;
-  shadow = after_test (has_big_pages g.world.mmu) o space page g.world.kept g.shadow;
+  shadow = shadow_after_test (has_big_pages g.world.mmu) o space page g.world.kept g.shadow;
 })
 test_fine size g space page write (Some protected) fine = fine
 test_fine size g space page write None fine =
     let big = has_big_pages g.world.mmu in
     let only = searches_mark g.world.ram (root_of g.world.mmu space) space page write big fine.sound.bytes in
-    let without : World = record g.world { kept = dropped big space page g.world.kept } in
-    fine_behind size without (tested_by g.world space page write None).1 (after_drop big space page g.world.kept g.shadow)
+    let without : World = record g.world { kept = after_ptest big space page g.world.kept } in
+    fine_behind size without (tested_by g.world space page write None).1 (shadow_after_drop big space page g.world.kept g.shadow)
     (drop_fine size g big space page fine) (record { mmu = refl; kept = refl }) (only.size ∙ fine.sound.count) only.bytes
 
 tested_fine : (size : ℕ) (g : Guest) (space : Space) (at : ℕ) (write : Bool) → Fine size g
     → Fine size (record {
       world = (bus_of rule_k (Test space at write) g.world).1;
-      shadow = after_test (has_big_pages g.world.mmu) (matched false g.world.mmu space (page_of at)) space (page_of at) g.world.kept g.shadow;
+      shadow = shadow_after_test (has_big_pages g.world.mmu) (matched false g.world.mmu space (page_of at)) space (page_of at) g.world.kept g.shadow;
     })
 unfolding bus_of tested
 tested_fine size g space at write fine = test_fine size g space (page_of at) write (matched false g.world.mmu space (page_of at)) fine

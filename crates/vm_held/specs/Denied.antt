@@ -9,10 +9,10 @@ use Rattle.mb_ea.specs.declared.reading.ReadFault.{ReadFault}
 use Rattle.mb_writes.specs.declared.transfers.Movem.{Movem}
 use Rattle.mb_writes.specs.declared.ends.Ended.{Ended}
 use Rattle.mb_writes.specs.declared.ends.Ended.TheVariants as ended
-use Rattle.mb_meaning.specs.Ends.{Carried, Stopped, Performed, End, closed}
+use Rattle.mb_meaning.specs.Ends.{Carried, OtherEnd, Performed, End, closed}
 use Rattle.mb_meaning.specs.Rows.{perform_of}
-use Rattle.mb_meaning.specs.Attempt.{Found, NoInstruction, Unfetched, fetched_of, attempt_of}
-use Rattle.mb_tells.specs.Left.{completing, line_completing, moving, IsRest}
+use Rattle.mb_meaning.specs.Attempt.{FoundInstr, NoInstruction, Unfetched, fetched_of, attempt_of}
+use Rattle.mb_tells.specs.Left.{completing_writes, completing_line, completing_transfers, IsRest}
 use Rattle.mb_tells.specs.Laws.{HasLongs, moves, moves_fetched}
 use Rattle.vm_machine.specs.Guests.{Guest}
 use Rattle.vm_machine.specs.Bus.{guest_bus}
@@ -56,12 +56,12 @@ GoesOn space moves begun now (ended.ReadFault refused) after whole = now ≡ beg
 GoesOn space moves begun now (ended.WriteFault refused) after whole =
     ((now ≡ begun) × (refused.rest.items ≡ []))
     ⊎ (IsRest refused.rest.items × (done : Carried) × (done.plain ≡ after)
-    × (whole ≡ run guest_bus (completing space refused.first refused.rest.items done) now))
+    × (whole ≡ run guest_bus (completing_writes space refused.first refused.rest.items done) now))
 GoesOn space moves begun now (ended.LineFault fault line) after whole =
     (length line ≡ 4) × (done : Carried) × (done.plain ≡ after)
-    × (whole ≡ run guest_bus (line_completing space fault.at line done) now)
+    × (whole ≡ run guest_bus (completing_line space fault.at line done) now)
 GoesOn space moves begun now (ended.Movem refused) after whole =
-    (m : Movem) × moves m × (whole ≡ run guest_bus (moving m refused.first refused.done space after) now)
+    (m : Movem) × moves m × (whole ≡ run guest_bus (completing_transfers m refused.first refused.done space after) now)
 GoesOn space moves begun now (ended.Done flow) after whole = ⊥
 GoesOn space moves begun now (ended.Trap vector) after whole = ⊥
 GoesOn space moves begun now (ended.Refused vector) after whole = ⊥
@@ -73,7 +73,7 @@ IsAllowed begun (performed, now) own =
 
 -- Or the held one was denied a call, and its end says how the guest's own goes on.
 abbrev pub IsDenied : Space → (Movem → Type 0) → Guest → Performed × Guest → Performed × Guest → Type 0
-IsDenied space moves begun (performed, now) own = (stop : Stopped) × (performed ≡ Err stop)
+IsDenied space moves begun (performed, now) own = (stop : OtherEnd) × (performed ≡ Err stop)
     × GoesOn space moves begun now stop.ended stop.plain own
 
 -- ---- an instruction
@@ -87,7 +87,7 @@ RowsGoOn = (space : Space) (size : ℕ) (i : Instr) (at : ℕ) (p : Plain) (g : 
 -- ---- a fetch
 
 -- what a fetch finds where no word was denied: an instruction of the table, or none
-abbrev pub IsFound : Found → Type 0
+abbrev pub IsFound : FoundInstr → Type 0
 IsFound (Ok (i, _)) = IsInstr i
 IsFound (Err (NoInstruction vector)) = Unit {0}
 IsFound (Err (Unfetched refused)) = ⊥

@@ -5,7 +5,7 @@ use Rattle.mb_port.specs.declared.types.Space.{Space}
 use Rattle.mb_instr.specs.declared.instruction.Instr.{Instr}
 use Rattle.mb_instr.specs.declared.instruction.Instr.TheVariants as instr
 use Rattle.mb_instr.specs.declared.registers.Plain.{Plain}
-use Rattle.mb_meaning.specs.Attempt.{Found, fetched_of}
+use Rattle.mb_meaning.specs.Attempt.{FoundInstr, fetched_of}
 use Rattle.mb_tells.specs.Laws.{HasLongs}
 use Rattle.vm_machine.specs.Guests.{Guest}
 use Rattle.vm_machine.specs.Bus.{guest_bus}
@@ -30,7 +30,7 @@ IsUnprivileged (instr.System i) = ⊥
 IsUnprivileged _ = Unit {0}
 
 -- the guest's own fetch
-abbrev pub own_fetch : Space → Plain → Guest → Found × Guest
+abbrev pub own_fetch : Space → Plain → Guest → FoundInstr × Guest
 own_fetch space p g = run guest_bus (fetched_of space p.pc) g
 
 -- The guest's own attempt comes to the same from there. So does its whole fetch, or it finds the same instruction.

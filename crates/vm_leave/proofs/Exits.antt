@@ -22,7 +22,7 @@ use Rattle.mb_processor.specs.Step.{by_page_size, movem_words, finish_unread_of,
 use Rattle.mb_attempts.specs.Attempts.{IsUntraced}
 use Rattle.mb_machine.specs.World.{World}
 use Rattle.mb_machine.specs.Bus.{bus_of}
-use Rattle.mb_machine.specs.Enters.{IsOpen, HasRoom}
+use Rattle.mb_machine.specs.Enters.{IsUntranslated, HasRoom}
 use Rattle.mb_machine.proofs.Bytes.{bytes-overwritten}
 use Rattle.mb_machine.proofs.Enters.{enters_stacked, frames_are_bytes}
 use Rattle.vm_shadow.specs.declared.area.TheConstants.{AREA_BYTES}
@@ -30,7 +30,7 @@ use Rattle.vm_mirror.specs.Laws.{board_bus}
 use Rattle.vm_mirror.proofs.Ready.{stays_ready}
 use Rattle.vm_leave.specs.Exits.{writing_exit, left, BoardLeaves, FramesLeaveReady}
 
-module _ (b : World) (small : has_big_pages b.mmu ≡ false) (o : IsOpen b.mmu) where
+module _ (b : World) (small : has_big_pages b.mmu ≡ false) (o : IsUntranslated b.mmu) where
   access_entered : (pc : ℕ) (access : Access) (cpu : Cpu) → HasRoom b (access_cause pc access) cpu
       → run board_bus (access_error_of pc access cpu) b ≡ left (record { cause = access_cause pc access; cpu = cpu }) b
   unfolding access_error_of

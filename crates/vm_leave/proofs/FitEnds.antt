@@ -24,7 +24,7 @@ use Rattle.mb_ea.specs.Addresses.{sum, difference}
 use Rattle.mb_instr.specs.Shapes.{operands_at}
 use Rattle.mb_instr.specs.Rows.{move_row, arith_row, flow_row}
 use Rattle.mb_meaning.specs.Arithmetic.{added, subtracted, added_extended, subtracted_extended, address_moved, address_compared}
-use Rattle.mb_meaning.specs.Unary.{negated, negated_extended, complemented, tested}
+use Rattle.mb_meaning.specs.Unary.{negated, negated_extended, complemented, tst_effect}
 use Rattle.mb_meaning.specs.Shifts.{shifted_by_one}
 use Rattle.mb_meaning.specs.Products.{multiply_word_of, divide_word_of, multiply_long_of, divide_long_of}
 use Rattle.mb_ea.specs.Reading.{refused_in}
@@ -42,15 +42,15 @@ use Rattle.mb_decode.specs.Decodes.{decode_of}
 use Rattle.mb_alu.specs.declared.width.Width.TheVariants as width
 use Rattle.mb_alu.specs.declared.quotients.Divided.{Divided}
 use Rattle.mb_alu.specs.declared.quotients.Divided.TheVariants.{Done, Overflow, ZeroDivide}
-use Rattle.mb_meaning.specs.Products.{divided_by_word, divided_by_long, width_of, dividend_of, is_signed}
+use Rattle.mb_meaning.specs.Products.{divided_by_word, divided_by_long, width_in, dividend_of, is_signed}
 use Rattle.mb_alu.specs.Products.{div_of}
-use Rattle.mb_meaning.specs.Ends.{Stopped, Cut, Unread, Stop, Performed, restored, closed}
+use Rattle.mb_meaning.specs.Ends.{OtherEnd, Cut, Unread, Stop, Performed, restored, closed}
 use Rattle.mb_writes.specs.declared.transfers.Movem.{Movem}
 use Rattle.mb_writes.specs.Transfers.{movem_in}
 use Rattle.mb_meaning.specs.Moves.{movem_by}
 use Rattle.mb_processor.specs.Step.{long_of, movem_words}
 use Rattle.mb_meaning.specs.Rows.{perform_move_of, perform_arith_of, perform_flow_of, row_of, perform_of}
-use Rattle.mb_meaning.specs.Attempt.{Unfound, NoInstruction, Unfetched, found_none, Found, judged, found_of, fetched_of, past, attempt_of}
+use Rattle.mb_meaning.specs.Attempt.{Unfound, NoInstruction, Unfetched, found_none, FoundInstr, by_decoded, found_of, fetched_of, past, attempt_of}
 use Rattle.mb_instr.specs.declared.counts.TheConstants.{MOST_WORDS}
 use Rattle.mb_attempts.specs.Attempts.{NoOther}
 use Rattle.mb_tells.specs.Laws.{AreLongs, HasLongs, is_movem}
@@ -88,7 +88,7 @@ module _ (i : Instr) where
   word_divided_fits signed n value p fit = divided_word_fits n (div_of signed width.Word value (data_register p n) p.ccr) p fit
 
   long_divided_fits : (word value : ℕ) (p : Plain) → IsFit p → IsAnswer any (CutFits i) (divide_long_of word value p)
-  long_divided_fits word value p fit = divided_long_fits word (div_of (is_signed word) (width_of word) value (dividend_of word p) p.ccr) p fit
+  long_divided_fits word value p fit = divided_long_fits word (div_of (is_signed word) (width_in word) value (dividend_of word p) p.ccr) p fit
 
 -- ---- a line a row
 
@@ -178,7 +178,7 @@ module _ (i : Instr) (space : Space) where
       modifying_fits i space (complemented size) size ea word_at p (formed size ea is.are_words) fit
   perform_arith_fits (arithmetic.Clr size ea) word_at p is words fit = clr_fits i space size ea word_at p (formed size ea is.are_words) fit
   perform_arith_fits (arithmetic.Tst size ea) word_at p is words fit =
-      taking_fits i space (tested size) size ea word_at p (formed size ea is.are_words) fit (λ value q f. tt)
+      taking_fits i space (tst_effect size) size ea word_at p (formed size ea is.are_words) fit (λ value q f. tt)
   perform_arith_fits (arithmetic.ExtW register) word_at p is words fit = row_done i _
   perform_arith_fits (arithmetic.ExtL register) word_at p is words fit = row_done i _
   perform_arith_fits (arithmetic.ExtbL register) word_at p is words fit = row_done i _
@@ -263,7 +263,7 @@ unfolding perform_of
 perform_fits i space size at p g s is words fit =
     in_other_words any (CutFits i) (StopFits i) (restored p) (run held_bus (row_of i at space p) g).0 (row_fits i space size at p g s is words fit) by_cut
   where
-    by_cut : (c : Cut Stopped) → CutFits i c → StopFits i (restored p c)
+    by_cut : (c : Cut OtherEnd) → CutFits i c → StopFits i (restored p c)
     by_cut (Unread refused) h = (h, fit.1)
     by_cut (Stop stop) h = h
 
@@ -273,7 +273,7 @@ UnfoundFits : Unfound → Type 0
 UnfoundFits (NoInstruction vector) = Unit {0}
 UnfoundFits (Unfetched refused) = ReadFits refused
 
-judged_fits : (d : Decoded) (m : Routine Found) → Answers any UnfoundFits m → Answers any UnfoundFits (judged d m)
+judged_fits : (d : Decoded) (m : Routine FoundInstr) → Answers any UnfoundFits m → Answers any UnfoundFits (by_decoded d m)
 unfolding UnfoundFits
 judged_fits decoded.More m h = h
 judged_fits (decoded.Whole i n) m h = answers_ok _ tt
@@ -294,7 +294,7 @@ fetched_fits space pc h = answers_choose (pc % 2 == 1) (answers_err _ tt) (found
 
 module _ (space : Space) (size : ℕ) (p : Plain) (g : Guest) (i : Instr) (longs : HasLongs p) (counter : IsLong p.pc) (sound : Sound size g) where
   -- by what was fetched, from the guest as it is
-  by_found : (r : Found) (h : Guest) → h ≡ g → IsAnswer any UnfoundFits r → ((n : ℕ) (k : Instr) → r ≡ Ok (k, n) → IsInstr k) → NoOther i r
+  by_found : (r : FoundInstr) (h : Guest) → h ≡ g → IsAnswer any UnfoundFits r → ((n : ℕ) (k : Instr) → r ≡ Ok (k, n) → IsInstr k) → NoOther i r
       → IsAnswer any (StopFits i)
       (run held_bus (either r (λ unfound. Return (found_none unfound p)) (λ found. perform_of found.0 p.pc space (past found.1 p))) h).0
   unfolding UnfoundFits
@@ -305,7 +305,7 @@ module _ (space : Space) (size : ℕ) (p : Plain) (g : Guest) (i : Instr) (longs
   by_found (Err (NoInstruction vector)) h same fits is other = (tt, counter)
   by_found (Err (Unfetched refused)) h same fits is other = (fits, counter)
 
-  found_instr : (r : Found) → IsFound r → (n : ℕ) (k : Instr) → r ≡ Ok (k, n) → IsInstr k
+  found_instr : (r : FoundInstr) → IsFound r → (n : ℕ) (k : Instr) → r ≡ Ok (k, n) → IsInstr k
   found_instr r is n k e = subst IsFound e is
 
   attempt_fits : NoOther i (run held_bus (fetched_of space p.pc) g).0 → IsAnswer any (StopFits i) (run held_bus (attempt_of space p) g).0
@@ -316,7 +316,7 @@ module _ (space : Space) (size : ℕ) (p : Plain) (g : Guest) (i : Instr) (longs
       by_found found.0 found.1 goes.0 ((fetched_fits space p.pc counter).are g)
       (elim goes.1 [
         | inl both ↦ found_instr found.0 both.1
-        | inr (refused, is) ↦ λ n k e. absurd (let a : Found = Err (Unfetched refused) in let b : Found = Ok (k, n) in let c : a ≡ b = sym is ∙ e in
+        | inr (refused, is) ↦ λ n k e. absurd (let a : FoundInstr = Err (Unfetched refused) in let b : FoundInstr = Ok (k, n) in let c : a ≡ b = sym is ∙ e in
             let z : ⊥ = cc in z)
       ]) other
 

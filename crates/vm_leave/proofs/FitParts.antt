@@ -19,14 +19,14 @@ use Rattle.mb_frames.specs.AccessFields.{piece_of}
 use Rattle.mb_ea.specs.declared.addresses.Target.{Target}
 use Rattle.mb_ea.specs.declared.addresses.Target.TheVariants.{Reg, Memory, Value}
 use Rattle.mb_ea.specs.declared.reading.ReadFault.{ReadFault}
-use Rattle.mb_ea.specs.Addresses.{sum, step_of}
+use Rattle.mb_ea.specs.Addresses.{sum, increment_of}
 use Rattle.mb_ea.specs.Reading.{read_pieces_of, refused_in, read_cut_of, read_operand_of}
 use Rattle.mb_ea.specs.Resolve.{parts_of, indirect_of, full_of, indexed_of, Resolved, in_memory, resolve_of}
 use Rattle.mb_writes.specs.declared.ends.WriteFault.{WriteFault}
 use Rattle.mb_writes.specs.declared.ends.Ended.TheVariants as ended
 use Rattle.mb_writes.specs.Writing as writes
 use Rattle.mb_writes.specs.Writing.{part_of, pending_of, left_by, write_pieces_of, write_operand_of, apart, write_apart_of}
-use Rattle.mb_meaning.specs.Ends.{Carried, Stopped, Cut, Unread, Stop, Rowed, reading, writing}
+use Rattle.mb_meaning.specs.Ends.{Carried, OtherEnd, Cut, Unread, Stop, Rowed, reading, writing}
 use Rattle.mb_meaning.specs.Operands.{load_of, store_of, Fetched, fetch_operand_of, find_address_of, finish_with_of, push_of}
 use Rattle.mb_writes.specs.Checked.{probe_pieces_of, probe_operand_of}
 use Rattle.mb_meaning.specs.Peripheral.{read_apart_of}
@@ -47,10 +47,10 @@ ReadFits r = IsLong r.fault.at × IsLong r.first
 abbrev pub WriteFits : WriteFault → Type 0
 WriteFits r = IsLong r.fault.at × IsLong r.first × HaveAddresses r.rest.items
 
-abbrev pub StopFits : Instr → Stopped → Type 0
+abbrev pub StopFits : Instr → OtherEnd → Type 0
 StopFits i s = EndFits i s.ended × IsLong s.plain.pc
 
-abbrev pub CutFits : Instr → Cut Stopped → Type 0
+abbrev pub CutFits : Instr → Cut OtherEnd → Type 0
 CutFits i (Unread r) = ReadFits r
 CutFits i (Stop s) = StopFits i s
 
@@ -181,9 +181,9 @@ module _ (space : Space) where
   resolve_fits (An n) size word_at p is fit = answers_ok _ (tt, fit)
   resolve_fits (Ind n) size word_at p is fit = answers_ok _ (address_long p n fit.0, fit)
   resolve_fits (Post n) size word_at p is fit =
-      answers_ok _ (address_long p n fit.0, (with_long p n _ fit.0 (sum_long (address_register p n) (step_of size n)), fit.1))
+      answers_ok _ (address_long p n fit.0, (with_long p n _ fit.0 (sum_long (address_register p n) (increment_of size n)), fit.1))
   resolve_fits (Pre n) size word_at p is fit =
-      let lt = difference_long (address_register p n) (step_of size n) in
+      let lt = difference_long (address_register p n) (increment_of size n) in
       answers_ok _ (lt, (with_long p n _ fit.0 lt, fit.1))
   resolve_fits (Disp n d) size word_at p is fit = answers_ok _ (sum_long (address_register p n) _, fit)
   resolve_fits (Index n e) size word_at p is fit = in_memory_fits (address_register p n) e p fit

@@ -36,22 +36,22 @@ use Rattle.mb_writes.specs.declared.transfers.Transfer.{Transfer}
 use Rattle.mb_writes.specs.Transfers.{is_set, set_bits, count_of, mask_in, movem_in, transfers_of}
 use Rattle.mb_writes.specs.Moving.{Halfway, refused_at, stored_of, store_all_of, loaded_of, load_all_of, transfer_of}
 use Rattle.mb_writes.proofs.Bits.{length-transfers}
-use Rattle.mb_meaning.specs.Ends.{Unread, Stop, Rowed, carried, jumped, stopped, reading, ending}
-use Rattle.mb_meaning.specs.Operands.{lowered, behind_of, place_of}
-use Rattle.mb_meaning.specs.Moves.{move_flags, move_operand_of, movea_of, lea_of, move_to_ccr_of, move_from_ccr_of, byte_of, scc_of, movem_by, movem_of}
+use Rattle.mb_meaning.specs.Ends.{Unread, Stop, Rowed, carried, jumped, ended_otherwise, reading, ending}
+use Rattle.mb_meaning.specs.Operands.{stack_lowered, behind_of, place_of}
+use Rattle.mb_meaning.specs.Moves.{move_flags, move_operand_of, movea_of, lea_of, move_to_ccr_of, move_from_ccr_of, condition_byte, scc_of, movem_by, movem_of}
 use Rattle.mb_meaning.specs.Stack.{pea_of, linked, link_of, unlk_of}
 use Rattle.mb_meaning.specs.Peripheral.{load_peripheral_of, store_peripheral_of, movep_of}
-use Rattle.mb_meaning.specs.Lines.{line_at, move_line_of, past_line, past_lines, destination_in, move16_absolute_of, move16_post_of}
+use Rattle.mb_meaning.specs.Lines.{line_address, move_line_of, past_line, past_lines, destination_in, move16_absolute_of, move16_post_of}
 use Rattle.mb_meaning.specs.Modifying.{modify_of}
 use Rattle.mb_meaning.specs.Arithmetic.{Pair, fetch_pair_of, combine_of, compare_pair_of, combine_either_way_of, chain_of, quick_to, combine_quick_of, take_of}
 use Rattle.mb_meaning.specs.Unary.{clr_of}
 use Rattle.mb_meaning.specs.Bits.{bit_size, change_bit_of, bit_row_of}
 use Rattle.mb_meaning.specs.Decimals.{paired, decimal_of, repack_of}
-use Rattle.mb_meaning.specs.BitFields.{offset_of, width_of, is_change, bytes_before, bytes_held, field_done, field_in_memory_of, bit_field_of}
-use Rattle.mb_meaning.specs.Locked.{test_and_set_of, tas_in_memory, tas_of, pointer_by, cas_equal, cas_at, cas_of, cas2_equal, cas2_of}
+use Rattle.mb_meaning.specs.BitFields.{field_offset_of, field_width_of, is_change, bytes_before, bytes_held, field_done, field_in_memory_of, bit_field_of}
+use Rattle.mb_meaning.specs.Locked.{test_and_set_of, tas_in_memory, tas_of, pointer_in, cas_equal, cas_at, cas_of, cas2_equal, cas2_of}
 use Rattle.mb_meaning.specs.Conditions.{is_met}
 use Rattle.mb_meaning.specs.Flow.{target_of, is_call, call_of, go_if_met_of, branch_of, count_down_of, go_if_counted_of, dbcc_of, jmp_of, jsr_of}
-use Rattle.mb_meaning.specs.Returns.{rts_of, rtd_of, word_raised, rtr_of}
+use Rattle.mb_meaning.specs.Returns.{rts_of, rtd_of, stack_raised_by_word, rtr_of}
 use Rattle.mb_meaning.specs.Traps.{out_of_bounds, trap_of, trapcc_of, trapv_of}
 use Rattle.mb_meaning.specs.Bounds.{is_below, is_above, check_bound_of, chk_of, compare_bounds_of, check_carry_of, cmp2_of, chk2_of}
 use Rattle.mb_processor.specs.Step.{movem_words}
@@ -196,7 +196,7 @@ module _ (i : Instr) (space : Space) where
   unfolding scc_of
   scc_fits c ea word_at p is fit =
       row_reading i (resolve_fits space ea Byte word_at p is fit) (λ to found.
-      storing_fits space i to.target Byte (byte_of (is_met c p.ccr)) to.plain found.0 found.1.1)
+      storing_fits space i to.target Byte (condition_byte (is_met c p.ccr)) to.plain found.0 found.1.1)
 
   pub movem_fits : (is_load : Bool) (size : Size) (ea : Ea) (mask word_at : ℕ) (p : Plain) → IsLong (movem_words i)
       → movem_in (movem_words i) ≡ movem_by is_load size ea mask → IsFormed ea → IsFit p
@@ -217,13 +217,13 @@ module _ (i : Instr) (space : Space) where
   unfolding pea_of
   pea_fits ea word_at p is fit =
       row_reading i (address_fits space Long ea word_at p is fit) (λ place found.
-      let after = lowered p in
+      let after = stack_lowered p in
       pushing_fits space i place (address_register after 7) (record { flow = false; plain = after }) (lowered_long p fit.0) fit.1)
 
   pub link_fits : (n displacement : ℕ) (p : Plain) → IsFit p → Row i (link_of n displacement space p)
   unfolding link_of
   link_fits n displacement p fit =
-      let low = lowered p in
+      let low = stack_lowered p in
       pushing_fits space i (address_register low n) (address_register low 7) (record { flow = false; plain = linked n displacement low })
       (lowered_long p fit.0) fit.1
 
@@ -341,9 +341,9 @@ module _ (i : Instr) (space : Space) where
   field_in_memory_fits : (kind : FieldKind) (word address : ℕ) (p : Plain) → IsFit p → Row i (field_in_memory_of kind word address space p)
   unfolding field_in_memory_of
   field_in_memory_fits kind word address p fit =
-      let first = sum address (bytes_before (offset_of word p)) in
-      let lt = sum_long address (bytes_before (offset_of word p)) in
-      row_reading i (read_fits space first (bytes_held (offset_of word p) (width_of word p)) lt) (λ bytes read.
+      let first = sum address (bytes_before (field_offset_of word p)) in
+      let lt = sum_long address (bytes_before (field_offset_of word p)) in
+      row_reading i (read_fits space first (bytes_held (field_offset_of word p) (field_width_of word p)) lt) (λ bytes read.
       answers_choose (is_change kind)
       (row_writing i _ (subst IsLong (sym (field_pc kind word _ p)) fit.1) (put_fits space first _ _ lt) (λ written. row_done i _)) (row_done i _))
 
@@ -382,8 +382,8 @@ module _ (i : Instr) (space : Space) where
   unfolding cas2_of
   cas2_fits size first second p words longs =
       let len = bytes_of size in
-      row_reading i (probe_fits space (register_of p (pointer_by first)) len (register_long p (pointer_by first) words longs)) (λ places u.
-      row_reading i (probe_fits space (register_of p (pointer_by second)) len (register_long p (pointer_by second) words longs)) (λ others v.
+      row_reading i (probe_fits space (register_of p (pointer_in first)) len (register_long p (pointer_in first) words longs)) (λ places u.
+      row_reading i (probe_fits space (register_of p (pointer_in second)) len (register_long p (pointer_in second) words longs)) (λ others v.
       row_sure i (λ one. row_sure i (λ two.
       answers_choose (cas2_equal size first second one two p)
       (answers_then (answers_then (answers_sure _) (λ done w. answers_sure _)) (λ done w. row_done i _)) (row_done i _)))))
@@ -393,7 +393,7 @@ module _ (i : Instr) (space : Space) where
   call_fits : (target : ℕ) (p : Plain) → IsLong target → IsFit p → Row i (call_of target space p)
   unfolding call_of
   call_fits target p h fit =
-      let after = record (lowered p) { pc = target } in
+      let after = record (stack_lowered p) { pc = target } in
       pushing_fits space i p.pc (address_register after 7) (record { flow = true; plain = after }) (lowered_long p fit.0) h
 
   pub branch_fits : (c : Condition) (d : Branch) (word_at : ℕ) (p : Plain) → IsFit p → Row i (branch_of c d word_at space p)
@@ -429,7 +429,7 @@ module _ (i : Instr) (space : Space) where
   pub rtr_fits : (p : Plain) → IsFit p → Row i (rtr_of space p)
   unfolding rtr_of
   rtr_fits p fit =
-      let up = word_raised p in
+      let up = stack_raised_by_word p in
       row_reading i (read_fits space (address_register p 7) (bytes_of Word) (address_long p 7 fit.0)) (λ codes u.
       row_reading i (read_fits space (address_register up 7) (bytes_of Long) (address_long up 7 (with_long p 7 _ fit.0 (sum_long (address_register p 7) 2))))
       (λ target v. row_done i _))
@@ -451,11 +451,11 @@ module _ (i : Instr) (space : Space) where
   checked_fits size bound value p fit =
       let below = is_below size value in
       let codes = ccr_of (record (conditions_of p.ccr) { n = below }) in
-      ends_if (below || is_above size bound value) (stopped out_of_bounds (record p { ccr = codes })) (carried p) (tt, fit.1) tt
+      ends_if (below || is_above size bound value) (ended_otherwise out_of_bounds (record p { ccr = codes })) (carried p) (tt, fit.1) tt
 
   checked_carry_fits : (p : Plain) → IsFit p → IsAnswer any (CutFits i) (check_carry_of p)
   unfolding check_carry_of
-  checked_carry_fits p fit = ends_if (conditions_of p.ccr).c (stopped out_of_bounds p) (carried p) (tt, fit.1) tt
+  checked_carry_fits p fit = ends_if (conditions_of p.ccr).c (ended_otherwise out_of_bounds p) (carried p) (tt, fit.1) tt
 
   pub chk_fits : (n : ℕ) (size : Size) (ea : Ea) (word_at : ℕ) (p : Plain) → IsFormed ea → IsFit p → Row i (chk_of n size ea word_at space p)
   unfolding chk_of
@@ -483,7 +483,7 @@ module _ (i : Instr) (space : Space) where
 
   -- lines, of a sound guest
 
-  line_is : (at : ℕ) → IsLong at → IsLine (line_at at)
+  line_is : (at : ℕ) → IsLong at → IsLine (line_address at)
   line_is at h = (omega arith, omega arith)
 
   line_fits : (size from to : ℕ) (after : Plain) (g : Guest) → Sound size g → IsLong from → IsLong to → IsLong after.pc
@@ -491,17 +491,18 @@ module _ (i : Instr) (space : Space) where
   unfolding move_line_of
   line_fits size from to after g s comes goes pc =
       let first = line_is from comes in
-      let m = reading (failing (refused_in (line_at from)) (read_line space (line_at from))) in
-      let got : IsAnswer AreLongs FaultFits (run held_bus (read_line space (line_at from)) g).0 = line_reading_fits size space (line_at from) g s first in
-      let told = in_other_words AreLongs FaultFits ReadFits (refused_in (line_at from)) (run held_bus (read_line space (line_at from)) g).0 got
+      let m = reading (failing (refused_in (line_address from)) (read_line space (line_address from))) in
+      let got : IsAnswer AreLongs FaultFits (run held_bus (read_line space (line_address from)) g).0 = line_reading_fits size space
+      (line_address from) g s first in
+      let told = in_other_words AreLongs FaultFits ReadFits (refused_in (line_address from)) (run held_bus (read_line space (line_address from)) g).0 got
       (λ e k. (k, first.1)) in
       let cut = in_other_words AreLongs ReadFits (CutFits i) (λ refused. Unread refused)
-      (run held_bus (failing (refused_in (line_at from)) (read_line space (line_at from))) g).0 told (λ e k. k) in
+      (run held_bus (failing (refused_in (line_address from)) (read_line space (line_address from))) g).0 told (λ e k. k) in
       goes_on {P = AreLongs} {Q = any} {F = CutFits i}
-      (λ line. ending (λ fault. ended.LineFault fault line) after (write_line space (line_at to) line) >> Return (carried after))
+      (λ line. ending (λ fault. ended.LineFault fault line) after (write_line space (line_address to) line) >> Return (carried after))
       (run held_bus m g).0 (run held_bus m g).1 cut (λ line longs.
       answers_then (answers_failing (λ fault. Stop (record { ended = ended.LineFault fault line; plain = after }))
-      (line_writing_fits space (line_at to) line (line_is to goes)) (λ e k. ((k, longs), pc))) (λ done u. row_done i _))
+      (line_writing_fits space (line_address to) line (line_is to goes)) (λ e k. ((k, longs), pc))) (λ done u. row_done i _))
 
   pub move16_absolute_fits : (size : ℕ) (kind : LineMove) (n place : ℕ) (p : Plain) (g : Guest) → Sound size g → IsLong place → IsFit p
       → IsAnswer any (CutFits i) (run held_bus (move16_absolute_of kind n place space p) g).0

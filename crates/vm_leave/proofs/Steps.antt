@@ -16,7 +16,7 @@ use Rattle.mb_processor.specs.declared.Finish.TheVariants as finish
 use Rattle.mb_meaning.specs.Ends.{Carried, Performed, closed}
 use Rattle.mb_processor.specs.SystemEnds.{with_registers}
 use Rattle.mb_meaning.specs.Rows.{privileged, perform_of, row_of}
-use Rattle.mb_meaning.specs.Attempt.{Found, found_none, fetched_of, past, attempt_of}
+use Rattle.mb_meaning.specs.Attempt.{FoundInstr, found_none, fetched_of, past, attempt_of}
 use Rattle.mb_processor.specs.Raise.{Stepped, is_due}
 use Rattle.mb_processor.specs.Step.{finish_instruction_of, interrupt_mask, step_of, rank}
 use Rattle.mb_attempts.specs.Attempts.{is_attempted, IsUntraced, NoOther, fetched_by, attempted_by, finished_by}
@@ -83,11 +83,11 @@ done_finish bus i f before after t h = rw (never_due before f h) refl
 -- ---- the instruction
 
 -- the instruction that was found; where none was, any other
-abbrev pub instr_in : Found → Instr
+abbrev pub instr_in : FoundInstr → Instr
 instr_in (Ok found) = found.0
 instr_in (Err unfound) = instr.Flow flow.Nop
 
-pub in_it : (found : Found) → NoOther (instr_in found) found
+pub in_it : (found : FoundInstr) → NoOther (instr_in found) found
 in_it (Ok found) = refl
 in_it (Err unfound) = tt
 
@@ -99,7 +99,7 @@ all_attempted (instr.Flow i) cpu h = refl
 all_attempted (instr.System i) cpu h = ap not h
 
 -- else a privileged one ends its attempt so
-found_attempted : {S : Type 0} (bus : Bus S) (cpu : Cpu) (r : Found × S) → let p = plain_of cpu.regs in
+found_attempted : {S : Type 0} (bus : Bus S) (cpu : Cpu) (r : FoundInstr × S) → let p = plain_of cpu.regs in
     (is_attempted (instr_in r.0) cpu ≡ true)
     ⊎ ((closed (run bus (either r.0 (λ unfound. Return (found_none unfound p)) (λ found. perform_of found.0 p.pc (space_of cpu) (past found.1 p)))
     r.1).0).0
@@ -117,7 +117,7 @@ unfolding attempt_of plain_of
 attempted_or bus cpu s = found_attempted bus cpu (run bus (fetched_of (space_of cpu) cpu.regs.pc) s)
 
 -- the same one was found on both
-no_other_by : (x : Site) (i : Instr) (a k : Found) → SameFound (setting x) a k → NoOther i k → NoOther i a
+no_other_by : (x : Site) (i : Instr) (a k : FoundInstr) → SameFound (setting x) a k → NoOther i k → NoOther i a
 no_other_by x i (Ok d) (Ok e) same h = ap (λ (f : Instr × ℕ). f.0) same ∙ h
 no_other_by x i (Ok d) (Err e) same h = absurd same
 no_other_by x i (Err d) (Ok e) same h = absurd same
@@ -159,9 +159,9 @@ module _ (x : Site) (board guest : Cpu) (b : World) (g : Guest) (m : Mirrored x 
       let native : run board_bus (fetched_of (space_of board) board.regs.pc) b ≡ run board_bus (fetched_of User guest.regs.pc) b =
       ap (λ (s : Space). run board_bus (fetched_of s board.regs.pc) b) (user_space board m.user)
       ∙ ap (λ (n : ℕ). run board_bus (fetched_of User n) b) counter in
-      subst (λ (f : Found × World). NoOther i f.0) (sym native)
+      subst (λ (f : FoundInstr × World). NoOther i f.0) (sym native)
       (no_other_by x i ((run board_bus (fetched_of User guest.regs.pc) b).0) ((run held_bus (fetched_of x.space guest.regs.pc) g).0)
-      (fetches_stay x guest.regs.pc b g m.counter r).0 (subst (λ (f : Found × Guest). NoOther i f.0) here h))
+      (fetches_stay x guest.regs.pc b g m.counter r).0 (subst (λ (f : FoundInstr × Guest). NoOther i f.0) here h))
 
   -- the board's step is the finish of its attempt's end
   native : (level : ℕ) (i : Instr) → rank level ≤ interrupt_mask board → NoOther i (fetched_by held_bus guest g).0

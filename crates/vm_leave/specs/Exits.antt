@@ -18,7 +18,7 @@ use Rattle.mb_processor.specs.Raise.{Stepped, traces_all, is_due, with_ct, acces
 use Rattle.mb_processor.specs.Step.{finish_instruction_of, movem_words, is_flow}
 use Rattle.mb_attempts.specs.Attempts.{IsUntraced}
 use Rattle.mb_machine.specs.World.{World}
-use Rattle.mb_machine.specs.Enters.{IsOpen, HasRoom, stacked_on, at_handler}
+use Rattle.mb_machine.specs.Enters.{IsUntranslated, HasRoom, stacked_on, at_handler}
 use Rattle.vm_machine.specs.Guests.{Guest}
 use Rattle.vm_mirror.specs.Related.{Site, Related}
 use Rattle.vm_mirror.specs.Laws.{board_bus}
@@ -85,7 +85,7 @@ IsEnd _ = Unit {0}
 -- 4 KiB, and nothing else of the board changes.
 abbrev pub BoardLeaves : Type 0
 BoardLeaves = (b : World) (i : Instr) (end : Ended) (before after : Cpu) → IsUntraced before → IsEnd end
-    → has_big_pages b.mmu ≡ false → IsOpen b.mmu → let e = exit_of i end before after in HasRoom b e.cause e.cpu
+    → has_big_pages b.mmu ≡ false → IsUntranslated b.mmu → let e = exit_of i end before after in HasRoom b e.cause e.cpu
     → run board_bus (finish_instruction_of i end before after) b ≡ left e b
 
 -- the frame of an exit lies below the guest

@@ -15,7 +15,7 @@ use Rattle.mb_attempts.specs.Attempts.{IsUntraced, NoOther, fetched_by}
 use Rattle.mb_twins.specs.Twins.{SameEnd}
 use Rattle.mb_tells.specs.Laws.{HasLongs}
 use Rattle.mb_machine.specs.World.{World}
-use Rattle.mb_machine.specs.Enters.{IsOpen, HasRoom}
+use Rattle.mb_machine.specs.Enters.{IsUntranslated, HasRoom}
 use Rattle.vm_machine.specs.Guests.{Guest}
 use Rattle.vm_machine.specs.Bus.{guest_bus}
 use Rattle.vm_machine.specs.Held.{held_bus}
@@ -58,7 +58,7 @@ pub record LeavesBy (x : Site) (level : ℕ) (i : Instr) (board : Cpu) (b : Worl
   pub stays : Stays x b g world now
   -- it enters the exception of that end, from the same registers, and nothing else changes
   pub by : let (_, after) = end in let e = exit_of i ended board (with_registers after board) in
-      IsOpen world.mmu → HasRoom world e.cause e.cpu
+      IsUntranslated world.mmu → HasRoom world e.cause e.cpu
       → run board_bus (step_of level board) b ≡ left e world
 
 -- Else the board's step is the entry of the exception of the same end, of the same instruction. (Where none was

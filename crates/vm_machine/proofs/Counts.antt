@@ -7,14 +7,14 @@ use Rattle.mb_model.specs.declared.processor.Cpu.{Cpu}
 use Rattle.mb_machine.specs.Machine.{Entries, begun, takes_steps, reset_with}
 use Rattle.vm_machine.specs.declared.class.Class.{Class}
 use Rattle.vm_machine.specs.declared.class.Class.TheVariants.{Entered, Idle, Traced, Privileged, Denied, Trapped, Retired}
-use Rattle.vm_machine.specs.Turns.{Tally, Turned, counted, with_refills, steps_in, marks_of, class_of_step, refills_of_step, guest_stepped, advanced, turn_of}
-use Rattle.vm_machine.specs.Turns.{prepared, unmarked, exits}
+use Rattle.vm_machine.specs.Turns.{Tally, Turned, tallied, with_refills, steps_in, marks_of, class_of_step, refills_of_step, guest_stepped, advanced, turn_of}
+use Rattle.vm_machine.specs.Turns.{prepared, without_marks, exits}
 use Rattle.vm_machine.specs.Laws.{CountsAreSteps, MarksAreOfRetired, MarksAppend}
 use Rattle.vm_machine.proofs.TurnLaws.{halted_turn, going_turn, nothing_turned, turns_add, turn_front}
 
 -- ---- one step
 
-one_more : (class : Class) (t : Tally) → steps_in (counted class t) ≡ steps_in t + 1
+one_more : (class : Class) (t : Tally) → steps_in (tallied class t) ≡ steps_in t + 1
 one_more Entered t = omega arith
 one_more Idle t = omega arith
 one_more Traced t = omega arith
@@ -36,7 +36,7 @@ refills_aside Denied n t = (refl, refl, refl)
 refills_aside Trapped n t = (refl, refl, refl)
 
 -- what a class adds to the retired ones and to the marks
-both_more : (class : Class) (t : Tally) (before after : Cpu) → (counted class t).retired * 2 ≡ t.retired * 2 + length (marks_of class before after)
+both_more : (class : Class) (t : Tally) (before after : Cpu) → (tallied class t).retired * 2 ≡ t.retired * 2 + length (marks_of class before after)
 both_more Entered t before after = omega arith
 both_more Idle t before after = omega arith
 both_more Traced t before after = omega arith
@@ -56,7 +56,7 @@ unfolding advanced guest_stepped begun
 step_counts script t =
     let class = class_of_step script t.guest in
     let e = one_more class t.tally in
-    let f = (refills_aside class (refills_of_step script t.guest) (counted class t.tally)).0 in omega arith
+    let f = (refills_aside class (refills_of_step script t.guest) (tallied class t.tally)).0 in omega arith
 
 abbrev Doubled : Turned → Turned → Type 0
 Doubled t u = u.tally.retired * 2 + length t.marks ≡ t.tally.retired * 2 + length u.marks
@@ -67,7 +67,7 @@ step_doubles script t =
     let class = class_of_step script t.guest in
     let more = marks_of class t.guest.machine.cpu (guest_stepped script t.guest).machine.cpu in
     let e = both_more class t.tally t.guest.machine.cpu (guest_stepped script t.guest).machine.cpu in
-    let r = (refills_aside class (refills_of_step script t.guest) (counted class t.tally)).1 in
+    let r = (refills_aside class (refills_of_step script t.guest) (tallied class t.tally)).1 in
     let f : length (t.marks ++ more) ≡ length t.marks + length more = length-append t.marks more in omega arith
 
 turn_counts : (script : Entries) (n : ℕ) (t : Turned) → AsMany t (turn_of script n t)
@@ -106,10 +106,10 @@ counts_are_steps contents script size n = let e = turn_counts script n (prepared
 
 -- behind no step the marks are those of the run
 marks_from_start : (script : Entries) (n : ℕ) (t : Turned) → t.marks ≡ []
-    → turn_of script (n - 0) (unmarked (turn_of script 0 t)) ≡ turn_of script n t
+    → turn_of script (n - 0) (without_marks (turn_of script 0 t)) ≡ turn_of script n t
 marks_from_start script n t e =
-    ap (λ (k : ℕ). turn_of script k (unmarked (turn_of script 0 t))) (let z : n - 0 ≡ n = omega arith in z)
-    ∙ ap (λ (u : Turned). turn_of script n (unmarked u)) (nothing_turned script t)
+    ap (λ (k : ℕ). turn_of script k (without_marks (turn_of script 0 t))) (let z : n - 0 ≡ n = omega arith in z)
+    ∙ ap (λ (u : Turned). turn_of script n (without_marks u)) (nothing_turned script t)
     ∙ ap (λ (marks : List Plain). turn_of script n (record t { marks = marks })) (sym e)
 
 pub marks_are_of_retired : MarksAreOfRetired
@@ -119,10 +119,10 @@ marks_are_of_retired contents script size n =
     let f = ap (λ (u : Turned). length u.marks) (marks_from_start script n p refl) in omega arith
 
 -- marks of a turn that began with others
-marks_behind : (script : Entries) (n : ℕ) (t : Turned) → (turn_of script n t).marks ≡ t.marks ++ (turn_of script n (unmarked t)).marks
+marks_behind : (script : Entries) (n : ℕ) (t : Turned) → (turn_of script n t).marks ≡ t.marks ++ (turn_of script n (without_marks t)).marks
 marks_behind script n t =
     ap (λ (marks : List Plain). (turn_of script n (record t { marks = marks })).marks) (sym (append-nil t.marks))
-    ∙ ap (λ (u : Turned). u.marks) (turn_front script n t.marks (unmarked t))
+    ∙ ap (λ (u : Turned). u.marks) (turn_front script n t.marks (without_marks t))
 
 pub marks_append : MarksAppend
 marks_append contents script size k n few =
@@ -132,4 +132,5 @@ marks_append contents script size k n few =
     ∙ ap (λ (m : ℕ). (turn_of script m p).marks) (let e : n ≡ k + (n - k) = omega arith in e)
     ∙ ap (λ (u : Turned). u.marks) (turns_add script k (n - k) p)
     ∙ marks_behind script (n - k) at
-    ∙ ap (λ (marks : List Plain). marks ++ (turn_of script (n - k) (unmarked at)).marks) (sym (ap (λ (u : Turned). u.marks) (marks_from_start script k p refl)))
+    ∙ ap (λ (marks : List Plain). marks
+    ++ (turn_of script (n - k) (without_marks at)).marks) (sym (ap (λ (u : Turned). u.marks) (marks_from_start script k p refl)))

@@ -18,7 +18,7 @@ use Rattle.mb_processor.specs.declared.Finish.TheVariants as finish
 use Rattle.mb_meaning.specs.Ends.{Performed}
 use Rattle.mb_processor.specs.SystemEnds.{with_registers}
 use Rattle.mb_processor.specs.Entry.{enter_of}
-use Rattle.mb_meaning.specs.Attempt.{Found}
+use Rattle.mb_meaning.specs.Attempt.{FoundInstr}
 use Rattle.mb_processor.specs.Raise.{Stepped, Raised, is_due, traces_all, access_cause, ends_step, access_error_of, unchecked_of, raised, raise_of}
 use Rattle.mb_processor.specs.Raise.{trace_if_of, raise_trap_of, refuse_of}
 use Rattle.mb_processor.specs.Step.{finish_unread_of, finish_unfinished_of, unbegun_of, finish_unwritten_of, finish_unwritten_line_of, finish_untransferred_of, finish_instruction_of, is_flow}
@@ -107,11 +107,11 @@ finished_tells bus i cpu (Err stop, t) h = finish_tells bus i stop.ended cpu (wi
 -- ---- a step
 
 -- the instruction that was found; where none was, any
-abbrev found_instr : Found → Instr
+abbrev found_instr : FoundInstr → Instr
 found_instr (Ok found) = found.0
 found_instr (Err unfound) = instr.Flow flow.Nop
 
-no_other : (f : Found) → NoOther (found_instr f) f
+no_other : (f : FoundInstr) → NoOther (found_instr f) f
 no_other (Ok found) = refl
 no_other (Err unfound) = tt
 

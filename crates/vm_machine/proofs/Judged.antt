@@ -15,7 +15,7 @@ use Rattle.mb_machine.specs.World.{World}
 use Rattle.mb_machine.specs.Access.{settled, by_settled, translated}
 use Rattle.vm_shadow.specs.Shadows.{Shadowed, filled}
 use Rattle.vm_machine.specs.Guests.{Guest, Truthful, ref, lets, allows, may, placed_at}
-use Rattle.vm_machine.specs.Bus.{gone_settled, without_kept, is_split, is_in_ram, is_writable, put, guest_bus}
+use Rattle.vm_machine.specs.Bus.{gone_settled, without_kept, is_split, is_in_ram, is_writable, put_entry_of, guest_bus}
 use Rattle.vm_machine.specs.Classes.{class_of_attempt}
 use Rattle.vm_machine.specs.Laws.{AllowedAccessesAreStill, AttemptsAreJudged}
 
@@ -44,7 +44,7 @@ last_not true false c h = refl
 last_not false b c h = refl
 
 -- nothing is put where the shadow allows
-puts_nothing : (w : World) (r : Reference) (at : ℕ) (shadow : Shadowed) → allows shadow r ≡ true → put w r shadow (Some at) ≡ shadow
+puts_nothing : (w : World) (r : Reference) (at : ℕ) (shadow : Shadowed) → allows shadow r ≡ true → put_entry_of w r shadow (Some at) ≡ shadow
 puts_nothing w r at shadow h =
     ap (λ (b : Bool). cond b (filled r.space (page_of r.at) (page_of at) (is_writable w r.space (page_of r.at)) shadow) shadow)
     (last_not (is_in_ram (length w.ram) at) (not (is_split w.mmu r.space (page_of r.at))) (allows shadow r) h)
@@ -55,7 +55,7 @@ allowed_accesses_are_still size g r truthful is allowed =
     let entry = g.shadow.entries r.space (page_of r.at) in
     let (place, known) = settled_by size g r.code r.space r.at r.write truthful is.at is.on_data entry refl allowed in record {
       shadow =
-          ap (λ (s : Settled). (let t = by_settled rule_k g.world r s in put t.1 r (without_kept (gone_settled g.world r s) g.shadow) t.0)) known
+          ap (λ (s : Settled). (let t = by_settled rule_k g.world r s in put_entry_of t.1 r (without_kept (gone_settled g.world r s) g.shadow) t.0)) known
           ∙ puts_nothing g.world r place g.shadow allowed;
       world = ap (λ (s : Settled). (by_settled rule_k g.world r s).1) known;
     }

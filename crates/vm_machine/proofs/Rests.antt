@@ -20,11 +20,11 @@ use Rattle.mb_writes.specs.Moving.{Halfway, transfer_of}
 use Rattle.mb_writes.specs.Writing.{left_by, write_pieces_of}
 use Rattle.mb_processor.specs.declared.Finish.{Finish}
 use Rattle.mb_processor.specs.declared.Finish.TheVariants as finish
-use Rattle.mb_meaning.specs.Ends.{Carried, Stopped, Performed}
+use Rattle.mb_meaning.specs.Ends.{Carried, OtherEnd, Performed}
 use Rattle.mb_processor.specs.SystemEnds.{with_registers}
 use Rattle.mb_processor.specs.Raise.{Stepped, traces_all, is_due, cause_at, raise_of, raise_trap_of, trace_if_of, access_error_of, with_ct}
 use Rattle.mb_processor.specs.Step.{finish_unfinished_of, finish_unwritten_of, finish_unwritten_line_of, finish_untransferred_of, movem_words, finish_instruction_of, is_flow, step_of}
-use Rattle.mb_tells.specs.Left.{completing, line_completing, moving}
+use Rattle.mb_tells.specs.Left.{completing_writes, completing_line, completing_transfers}
 use Rattle.mb_attempts.specs.Attempts.{IsUntraced, attempted_by, finished_by}
 use Rattle.mb_attempts.proofs.Attempts.{attempt_then_finish}
 use Rattle.vm_meaning.specs.Finishes.{finish_trap_of, finish_writes_of, finish_line_of, finish_movem_of, moved_on, at_next}
@@ -98,7 +98,7 @@ unfolding with_plain
 same_space p cpu = ap (λ (n : ℕ). if n % 2 == 1 then Super else User) (same_high cpu.regs.sr p.ccr)
 
 -- a refused write's fault, as the end of the instruction
-abbrev refusing_write : Carried → WriteFault → Stopped
+abbrev refusing_write : Carried → WriteFault → OtherEnd
 refusing_write done refused = record { ended = ended.WriteFault refused; plain = done.plain }
 
 -- by what the writes answered
@@ -116,7 +116,7 @@ written_finish bus i before done h (Err refused) t (p, ps, e) =
     ∙ ap (λ (due : Bool). run bus (finish_unfinished_of due refused cpu) t) (never_due before (is_flow i) h)
 
 pub writes_are_finished : {S : Type 0} (bus : Bus S) (i : Instr) (before : Cpu) (first : ℕ) (pending : List Pend) (done : Carried) (s : S) → IsUntraced before
-    → finished_by bus i before (run bus (completing (space_of before) first pending done) s)
+    → finished_by bus i before (run bus (completing_writes (space_of before) first pending done) s)
     ≡ run bus (finish_writes_of pending first (with_registers done.plain before)) s
 unfolding finish_writes_of
 writes_are_finished bus i before first pending done s h =
@@ -129,12 +129,12 @@ writes_are_finished bus i before first pending done s h =
 
 pub denied_writes_go_on : {S : Type 0} → DeniedWritesGoOn S
 denied_writes_go_on bus level cpu s t i first pieces done b e =
-    step_is bus level cpu s i (run bus (completing (space_of cpu) first pieces done) t) b e
+    step_is bus level cpu s i (run bus (completing_writes (space_of cpu) first pieces done) t) b e
     ∙ writes_are_finished bus i cpu first pieces done t b.untraced
 
 -- ---- a line
 
-abbrev refusing_line : List ℕ → Carried → Fault → Stopped
+abbrev refusing_line : List ℕ → Carried → Fault → OtherEnd
 refusing_line line done fault = record { ended = ended.LineFault fault line; plain = done.plain }
 
 lined_finish : {S : Type 0} (bus : Bus S) (i : Instr) (before : Cpu) (line : List ℕ) (done : Carried) → IsUntraced before
@@ -149,7 +149,7 @@ lined_finish bus i before line done h (Err fault) t =
     ap (λ (due : Bool). run bus (finish_unwritten_line_of due fault line (with_registers done.plain before)) t) h.all
 
 pub lines_are_finished : {S : Type 0} (bus : Bus S) (i : Instr) (before : Cpu) (at : ℕ) (line : List ℕ) (done : Carried) (s : S) → IsUntraced before
-    → finished_by bus i before (run bus (line_completing (space_of before) at line done) s)
+    → finished_by bus i before (run bus (completing_line (space_of before) at line done) s)
     ≡ run bus (finish_line_of at line (with_registers done.plain before)) s
 unfolding finish_line_of
 lines_are_finished bus i before at line done s h =
@@ -162,7 +162,7 @@ lines_are_finished bus i before at line done s h =
 
 pub denied_lines_go_on : {S : Type 0} → DeniedLinesGoOn S
 denied_lines_go_on bus level cpu s t i at line done b e =
-    step_is bus level cpu s i (run bus (line_completing (space_of cpu) at line done) t) b e
+    step_is bus level cpu s i (run bus (completing_line (space_of cpu) at line done) t) b e
     ∙ lines_are_finished bus i cpu at line done t b.untraced
 
 -- ---- a MOVEM
@@ -186,7 +186,7 @@ moved_finish bus i before now h on (Err half) t =
     (sym on.pc))
 
 pub movems_are_finished : {S : Type 0} (bus : Bus S) (i : Instr) (before now : Cpu) (ea done next : ℕ) (s : S) → IsUntraced before → HandsOn before now
-    → finished_by bus i before (run bus (moving (movem_in (movem_words i)) ea done (space_of before) (at_next next now)) s)
+    → finished_by bus i before (run bus (completing_transfers (movem_in (movem_words i)) ea done (space_of before) (at_next next now)) s)
     ≡ run bus (finish_movem_of (movem_words i) ea done next now) s
 unfolding finish_movem_of
 movems_are_finished bus i before now ea done next s h on =
@@ -196,5 +196,5 @@ movems_are_finished bus i before now ea done next s h on =
 
 pub denied_transfers_go_on : {S : Type 0} → DeniedTransfersGoOn S
 denied_transfers_go_on bus level cpu now s t i ea done next b on e =
-    step_is bus level cpu s i (run bus (moving (movem_in (movem_words i)) ea done (space_of cpu) (at_next next now)) t) b e
+    step_is bus level cpu s i (run bus (completing_transfers (movem_in (movem_words i)) ea done (space_of cpu) (at_next next now)) t) b e
     ∙ movems_are_finished bus i cpu now ea done next t b.untraced on

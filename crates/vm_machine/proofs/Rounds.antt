@@ -6,7 +6,7 @@ use Rattle.std.proofs.lemmas.Bool.{cases_Bool, cases_lt}
 use Rattle.std.proofs.lemmas.Bool.Decides.{nat_tests}
 use Rattle.mb_instr.specs.declared.registers.Plain.{Plain}
 use Rattle.mb_machine.specs.Machine.{Entries, begun, takes_steps}
-use Rattle.vm_machine.specs.Turns.{Turned, unmarked, guest_stepped, advanced, turn_of}
+use Rattle.vm_machine.specs.Turns.{Turned, without_marks, guest_stepped, advanced, turn_of}
 use Rattle.vm_machine.specs.Rounds.{Member, left, is_done, opened, closed_by, turn_in, Hosted, members_after, round, all_done, left_of_all}
 use Rattle.vm_machine.specs.Rounds.{rounds, host_run, whole_turn, WholeTurns}
 use Rattle.vm_machine.specs.Laws.{RoundsEnd}
@@ -148,9 +148,9 @@ AllAlong (m ∷ ms) (k ∷ ks) = Along m k × AllAlong ms ks
 AllAlong _ _ = ⊥
 
 -- marks before a turn have no part in it
-unmarked_turn : (script : Entries) (n : ℕ) (t : Turned) (m : Member) → closed_by (turn_of script n (unmarked t)) m ≡ closed_by (turn_of script n t) m
+unmarked_turn : (script : Entries) (n : ℕ) (t : Turned) (m : Member) → closed_by (turn_of script n (without_marks t)) m ≡ closed_by (turn_of script n t) m
 unmarked_turn script n t m =
-    ap (λ (x : Turned). closed_by x m) (sym (turn_front script n t.marks (unmarked t)))
+    ap (λ (x : Turned). closed_by x m) (sym (turn_front script n t.marks (without_marks t)))
     ∙ ap (λ (marks : List Plain). closed_by (turn_of script n (record t { marks = marks })) m) (append-nil t.marks)
 
 turn_more : (m : Member) (n k : ℕ) → closed_by (turn_of m.script k (opened (after_turn m n))) (after_turn m n) ≡ after_turn m (n + k)

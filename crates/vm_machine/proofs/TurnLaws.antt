@@ -3,7 +3,7 @@ use Rattle.std.proofs.Common.{◌≡◌, ◌∙◌, ℕ, zero, suc, ◌+◌, Lis
 use Rattle.std.proofs.lemmas.Bool.{cases_Bool}
 use Rattle.mb_instr.specs.declared.registers.Plain.{Plain}
 use Rattle.mb_machine.specs.Machine.{Entries, takes_steps}
-use Rattle.vm_machine.specs.Turns.{Turned, marks_of, counted, with_refills, class_of_step, refills_of_step, guest_stepped, advanced, turn_of}
+use Rattle.vm_machine.specs.Turns.{Turned, marks_of, tallied, with_refills, class_of_step, refills_of_step, guest_stepped, advanced, turn_of}
 use Rattle.vm_machine.specs.Laws.{HaltedTurnsStay, TurnsAdd, MarksStayBefore}
 
 -- a turn that begins halted or off changes nothing
@@ -44,7 +44,7 @@ unfolding advanced
 advanced_front script front t =
     ap (λ (marks : List Plain). record {
       guest = guest_stepped script t.guest;
-      tally = with_refills (class_of_step script t.guest) (refills_of_step script t.guest) (counted (class_of_step script t.guest) t.tally);
+      tally = with_refills (class_of_step script t.guest) (refills_of_step script t.guest) (tallied (class_of_step script t.guest) t.tally);
       marks = marks;
     })
     (append_assoc front t.marks (marks_of (class_of_step script t.guest) t.guest.machine.cpu (guest_stepped script t.guest).machine.cpu))

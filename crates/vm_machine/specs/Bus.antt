@@ -52,21 +52,21 @@ dropped_all what (k ∷ kept) shadow =
     dropped_all what kept (if covers what k then dropped k.space k.page shadow else shadow)
 
 -- PFLUSHA removes all entries and tables, any other flush the entry of each kept entry that goes.
-abbrev pub after_flush : Flush → KeptLists → Shadowed → Shadowed
-after_flush All kept shadow = nothing
-after_flush what kept shadow = dropped_all what (list_of 0 kept) shadow
+abbrev pub shadow_after_flush : Flush → KeptLists → Shadowed → Shadowed
+shadow_after_flush All kept shadow = nothing
+shadow_after_flush what kept shadow = dropped_all what (list_of 0 kept) shadow
 
 -- PTEST drops the kept entries of its page, and of the other half of it where pages have 8 KiB,
-abbrev pub after_drop : Bool → Space → ℕ → KeptLists → Shadowed → Shadowed
-after_drop false space page kept shadow = after_flush (Page space page) kept shadow
-after_drop true space page kept shadow =
-    after_flush (Page space (other_half page)) (flushed (Page space page) kept)
-    (after_flush (Page space page) kept shadow)
+abbrev pub shadow_after_drop : Bool → Space → ℕ → KeptLists → Shadowed → Shadowed
+shadow_after_drop false space page kept shadow = shadow_after_flush (Page space page) kept shadow
+shadow_after_drop true space page kept shadow =
+    shadow_after_flush (Page space (other_half page)) (flushed (Page space page) kept)
+    (shadow_after_flush (Page space page) kept shadow)
 
 -- where no transparent register matches.
-abbrev pub after_test : Bool → Option Bool → Space → ℕ → KeptLists → Shadowed → Shadowed
-after_test big (Some protected) space page kept shadow = shadow
-after_test big None space page kept shadow = after_drop big space page kept shadow
+abbrev pub shadow_after_test : Bool → Option Bool → Space → ℕ → KeptLists → Shadowed → Shadowed
+shadow_after_test big (Some protected) space page kept shadow = shadow
+shadow_after_test big None space page kept shadow = shadow_after_drop big space page kept shadow
 
 -- ---- Put: the shadow gains the entry of an access
 
@@ -95,15 +95,15 @@ is_writable w space page = is_to (settled rule_k w.mmu w.kept (writing_of space 
 
 -- An access that leads to this physical address puts an entry: its page is one of RAM and not split, and the shadow
 -- does not allow the access.
-abbrev pub puts : World → Reference → Shadowed → ℕ → Bool
-puts w r shadow at =
+abbrev pub puts_entry : World → Reference → Shadowed → ℕ → Bool
+puts_entry w r shadow at =
     is_in_ram (length w.ram) at && (not (is_split w.mmu r.space (page_of r.at)) && not (allows shadow r))
 
 -- The entry's frame is the access's. Where the area is full for it, all entries and tables go first.
-abbrev pub put : World → Reference → Shadowed → Option ℕ → Shadowed
-put w r shadow None = shadow
-put w r shadow (Some at) =
-    if puts w r shadow at
+abbrev pub put_entry_of : World → Reference → Shadowed → Option ℕ → Shadowed
+put_entry_of w r shadow None = shadow
+put_entry_of w r shadow (Some at) =
+    if puts_entry w r shadow at
     then filled r.space (page_of r.at) (page_of at) (is_writable w r.space (page_of r.at)) shadow else shadow
 
 -- ---- the bus
@@ -111,7 +111,8 @@ put w r shadow (Some at) =
 -- What an access makes of the shadow: first the kept entry that its fill drops takes its own entry along, and then the
 -- access puts an entry, by the world that its translation leaves.
 abbrev pub accessed : Reference → World → Shadowed → Shadowed
-accessed r w shadow = let (at, after) = translated rule_k r w in put after r (without_kept (gone w r) shadow) at
+accessed r w shadow =
+    let (at, after) = translated rule_k r w in put_entry_of after r (without_kept (gone w r) shadow) at
 
 -- a call that translates nothing leaves the shadow
 abbrev pub shadow_by : Option Reference → World → Shadowed → Shadowed
@@ -121,10 +122,10 @@ shadow_by None w shadow = shadow
 -- What each call makes of the shadow, in the world before it. A MOVEC that forgets removes all entries and tables.
 unfoldable pub shadow_after : Call → World → Shadowed → Shadowed
 shadow_after (SetMmu which value) w shadow = if rule_k.forgets which then nothing else shadow
-shadow_after (FlushKept what) w shadow = after_flush what w.kept shadow
+shadow_after (FlushKept what) w shadow = shadow_after_flush what w.kept shadow
 shadow_after (Test space at write) w shadow =
     let page = page_of at in
-    after_test (has_big_pages w.mmu) (matched false w.mmu space page) space page w.kept shadow
+    shadow_after_test (has_big_pages w.mmu) (matched false w.mmu space page) space page w.kept shadow
 shadow_after c w shadow = shadow_by (reference_of c) w shadow
 
 -- The bus of a guest: what it answers, and what it makes of the world, is its machine's by the rule of guests.

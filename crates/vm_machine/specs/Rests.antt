@@ -14,7 +14,7 @@ use Rattle.mb_meaning.specs.Ends.{Carried}
 use Rattle.mb_processor.specs.SystemEnds.{with_registers}
 use Rattle.mb_processor.specs.Raise.{Stepped, cause_at}
 use Rattle.mb_processor.specs.Step.{movem_words, finish_instruction_of, interrupt_mask, step_of, rank}
-use Rattle.mb_tells.specs.Left.{completing, line_completing, moving}
+use Rattle.mb_tells.specs.Left.{completing_writes, completing_line, completing_transfers}
 use Rattle.mb_attempts.specs.Attempts.{IsUntraced, NoOther, is_attempted, fetched_by, attempted_by}
 use Rattle.vm_meaning.specs.declared.left.LeftOver.{LeftOver}
 use Rattle.vm_meaning.specs.declared.left.LeftOver.TheVariants.{Again, Writes, Line, Movem}
@@ -77,14 +77,14 @@ pub record Begins {S : Type 0} (bus : Bus S) (level : ℕ) (cpu : Cpu) (s : S) (
 abbrev pub DeniedWritesGoOn : Type 0 → Type 0
 DeniedWritesGoOn S = (bus : Bus S) (level : ℕ) (cpu : Cpu) (s t : S) (i : Instr) (first : ℕ) (pieces : List Pend)
     (done : Carried) → Begins bus level cpu s i
-    → attempted_by bus cpu s ≡ run bus (completing (space_of cpu) first pieces done) t
+    → attempted_by bus cpu s ≡ run bus (completing_writes (space_of cpu) first pieces done) t
     → run bus (step_of level cpu) s ≡ run bus (finish_writes_of pieces first (with_registers done.plain cpu)) t
 
 -- The same with the line of a MOVE16,
 abbrev pub DeniedLinesGoOn : Type 0 → Type 0
 DeniedLinesGoOn S = (bus : Bus S) (level : ℕ) (cpu : Cpu) (s t : S) (i : Instr) (at : ℕ) (line : List ℕ)
     (done : Carried) → Begins bus level cpu s i
-    → attempted_by bus cpu s ≡ run bus (line_completing (space_of cpu) at line done) t
+    → attempted_by bus cpu s ≡ run bus (completing_line (space_of cpu) at line done) t
     → run bus (step_of level cpu) s ≡ run bus (finish_line_of at line (with_registers done.plain cpu)) t
 
 -- and with a MOVEM from a transfer on. The processor handed on has the registers of now, but the MOVEM's own PC.
@@ -97,5 +97,5 @@ abbrev pub DeniedTransfersGoOn : Type 0 → Type 0
 DeniedTransfersGoOn S = (bus : Bus S) (level : ℕ) (cpu now : Cpu) (s t : S) (i : Instr) (ea done next : ℕ)
     → Begins bus level cpu s i → HandsOn cpu now
     → attempted_by bus cpu s
-    ≡ run bus (moving (movem_in (movem_words i)) ea done (space_of cpu) (at_next next now)) t
+    ≡ run bus (completing_transfers (movem_in (movem_words i)) ea done (space_of cpu) (at_next next now)) t
     → run bus (step_of level cpu) s ≡ run bus (finish_movem_of (movem_words i) ea done next now) t

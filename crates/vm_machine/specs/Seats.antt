@@ -23,13 +23,14 @@ use Rattle.vm_machine.specs.declared.limits.TheConstants.{MONITOR_BYTES}
 -- ---- frames of the guest and of the board
 
 -- an entry with the board's frame for the guest's, whose RAM begins at a place
-abbrev pub moved : ℕ → Option (ℕ × Bool) → Option (ℕ × Bool)
-moved base None = None
-moved base (Some (frame, writable)) = Some (page_of base + frame, writable)
+abbrev pub board_entry : ℕ → Option (ℕ × Bool) → Option (ℕ × Bool)
+board_entry base None = None
+board_entry base (Some (frame, writable)) = Some (page_of base + frame, writable)
 
 -- a guest's shadow with the board's frames
 abbrev pub on_board : ℕ → Shadowed → Shadowed
-on_board base shadow = record { entries = λ space page. moved base (shadow.entries space page); tables = shadow.tables }
+on_board base shadow =
+    record { entries = λ space page. board_entry base (shadow.entries space page); tables = shadow.tables }
 
 -- an entry with the guest's frame for the board's
 abbrev pub own_entry : ℕ → Option (ℕ × Bool) → Option (ℕ × Bool)

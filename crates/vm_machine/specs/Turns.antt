@@ -90,14 +90,14 @@ no_steps = record {
 }
 
 -- with one more step of a class
-abbrev pub counted : Class → Tally → Tally
-counted Retired t = record t { retired = t.retired + 1 }
-counted Privileged t = record t { privileged = t.privileged + 1 }
-counted Trapped t = record t { trapped = t.trapped + 1 }
-counted Denied t = record t { denied = t.denied + 1 }
-counted Traced t = record t { traced = t.traced + 1 }
-counted Entered t = record t { entered = t.entered + 1 }
-counted Idle t = record t { idle = t.idle + 1 }
+abbrev pub tallied : Class → Tally → Tally
+tallied Retired t = record t { retired = t.retired + 1 }
+tallied Privileged t = record t { privileged = t.privileged + 1 }
+tallied Trapped t = record t { trapped = t.trapped + 1 }
+tallied Denied t = record t { denied = t.denied + 1 }
+tallied Traced t = record t { traced = t.traced + 1 }
+tallied Entered t = record t { entered = t.entered + 1 }
+tallied Idle t = record t { idle = t.idle + 1 }
 
 -- a retired step that began again so often is a refilled one too
 abbrev pub with_refills : Class → ℕ → Tally → Tally
@@ -129,7 +129,7 @@ pub record Turned : Type 0 where
 abbrev pub by_class : Class → (refills : ℕ) → Guested → Turned → Turned
 by_class class refills after t = record {
   guest = after;
-  tally = with_refills class refills (counted class t.tally);
+  tally = with_refills class refills (tallied class t.tally);
   marks = t.marks ++ marks_of class t.guest.machine.cpu after.machine.cpu;
 }
 
@@ -155,10 +155,10 @@ abbrev pub tally_of : Contents → Entries → (size n : ℕ) → Tally
 tally_of contents script size n = (turn_of script n (prepared contents size)).tally
 
 -- before a turn whose marks are asked for alone
-abbrev pub unmarked : Turned → Turned
-unmarked t = record t { marks = [] }
+abbrev pub without_marks : Turned → Turned
+without_marks t = record t { marks = [] }
 
 -- The marks of the steps k + 1 to n.
 abbrev pub marks_between : Contents → Entries → (size k n : ℕ) → List Plain
 marks_between contents script size k n =
-    (turn_of script (n - k) (unmarked (turn_of script k (prepared contents size)))).marks
+    (turn_of script (n - k) (without_marks (turn_of script k (prepared contents size)))).marks

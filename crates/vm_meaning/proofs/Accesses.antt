@@ -9,7 +9,7 @@ use Rattle.mb_machine.specs.declared.reference.Settled.TheVariants.{Unsettled}
 use Rattle.mb_machine.specs.World.{World}
 use Rattle.mb_model.specs.Pages.{page_of}
 use Rattle.mb_machine.specs.Access.{settled, by_match, by_entry, by_settled, known, marks, through, translated, untranslated}
-use Rattle.vm_meaning.specs.Free.{rule_free, holding}
+use Rattle.vm_meaning.specs.Free.{rule_free, with_class_entry}
 use Rattle.vm_meaning.specs.Laws.{AccessesUseOrSearch}
 
 by_table : (r : Reference) (w : World) → untranslated w.mmu r ≡ None
@@ -49,9 +49,9 @@ settled_so r w s h e = by_table r w h ∙ ap (λ (s : Settled). by_settled rule_
 pub accesses-use_or_search : AccessesUseOrSearch
 accesses-use_or_search r w h = record {
   uses = λ k of unmarked.
-      settled_so r (holding (Some k) w) (known (through k r)) h (match_of r k w.kept of ∙ entry_used k r unmarked)
-      ∙ by_known (holding (Some k) w) r (through k r);
-  marked = λ k of mark. settled_so r (holding (Some k) w) Unsettled h (match_of r k w.kept of ∙ entry_marked k r mark);
-  other = λ k of. settled_so r (holding (Some k) w) Unsettled h (match_other r k w.kept of);
-  none = settled_so r (holding None w) Unsettled h (match_none r w.kept);
+      settled_so r (with_class_entry (Some k) w) (known (through k r)) h (match_of r k w.kept of ∙ entry_used k r unmarked)
+      ∙ by_known (with_class_entry (Some k) w) r (through k r);
+  marked = λ k of mark. settled_so r (with_class_entry (Some k) w) Unsettled h (match_of r k w.kept of ∙ entry_marked k r mark);
+  other = λ k of. settled_so r (with_class_entry (Some k) w) Unsettled h (match_other r k w.kept of);
+  none = settled_so r (with_class_entry None w) Unsettled h (match_none r w.kept);
 }

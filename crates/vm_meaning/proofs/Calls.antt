@@ -19,8 +19,8 @@ use Rattle.mb_machine.specs.World.{World}
 use Rattle.mb_machine.specs.Places.{taken, stored, checked, taken_line, stored_line}
 use Rattle.mb_model.specs.Pages.{page_of, has_big_pages}
 use Rattle.mb_machine.specs.Access.{matched, search_for, settled, by_match, by_entry, untranslated, searched, translated, by_settled, by_found}
-use Rattle.mb_machine.specs.Bus.{bus_of, reading_of, writing_of, fetching_of, read_at, read_by, written_at, written_by, tested, tested_by, with_register}
-use Rattle.vm_meaning.specs.Free.{IsKept, StandIn, rule_free, holding, FreeCall, WorldWithin}
+use Rattle.mb_machine.specs.Bus.{bus_of, reading_of, writing_of, fetching_of, read_at, read_by, written_at, written_by, tested, tested_by, after_set_mmu}
+use Rattle.vm_meaning.specs.Free.{IsKept, StandIn, rule_free, with_class_entry, FreeCall, WorldWithin}
 use Rattle.vm_meaning.proofs.Blind.{IsBlind, IsBlindStore, taken-blind, taken_line-blind, checked-blind, stored-blind, stored_line-blind}
 use Rattle.vm_meaning.proofs.Blind.{read-blind, write-blind, get-blind, put-blind, blind-kept}
 use Rattle.vm_meaning.proofs.KeptLemmas.{kept-behind, flushed-follows, dropped-follows, movec-adds_none, filled-is, filled-first, filled-behind, found-again, found-is_kept}
@@ -145,8 +145,8 @@ unfolding tested
 tested_met w held space page write stand = tested_by_met w held space page write (matched false w.mmu space page) stand
 
 set_met : (rule : Rule) (which : MmuReg) (value : ℕ) (w : World) (held : KeptLists) → StandIn w.kept held
-    → WorldWithin (with_register rule which value w) (with_register rule_free which value (record w { kept = [] ∷ held }))
-unfolding with_register
+    → WorldWithin (after_set_mmu rule which value w) (after_set_mmu rule_free which value (record w { kept = [] ∷ held }))
+unfolding after_set_mmu
 set_met rule which value w held stand =
     record { same = refl; kept = λ k h. kept-behind [] held k (stand k (movec-adds_none rule which w.kept k h)) }
 
@@ -154,7 +154,7 @@ set_met rule which value w held stand =
 record Followed (rule : Rule) (c : Call) (w : World) (held : KeptLists) : Type 0 where
   entry : Option Kept
   stands : IfSome entry (λ k. IsKept k held)
-  met : Met (bus_of rule c w) (bus_of rule_free c (holding entry (record w { kept = held })))
+  met : Met (bus_of rule c w) (bus_of rule_free c (with_class_entry entry (record w { kept = held })))
 
 followed : (rule : Rule) (c : Call) (w : World) (held : KeptLists) → StandIn w.kept held → Followed rule c w held
 unfolding bus_of
@@ -224,7 +224,7 @@ pub calls-are_free : (rule : Rule) → MayFollow WorldWithin any_call (bus_of ru
 calls-are_free rule = record {
   call = λ c w free h lawful.
       let f = followed rule c w free.kept h.kept in
-      let after = (bus_of rule_free c (holding f.entry (record w { kept = free.kept }))).1 in
+      let after = (bus_of rule_free c (with_class_entry f.entry (record w { kept = free.kept }))).1 in
       subst (λ (t : World). (u : World) × FreeCall c t ((bus_of rule c w).0) u × WorldWithin ((bus_of rule c w).1) u) (sym h.same)
       (after, (f.entry, f.stands, ap (λ (a : Answer c). (a, after)) f.met.answer), f.met.world);
 }

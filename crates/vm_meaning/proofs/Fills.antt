@@ -13,7 +13,7 @@ use Rattle.mb_machine.specs.World.{World}
 use Rattle.mb_machine.specs.Places.{taken, stored, checked, taken_line, stored_line}
 use Rattle.mb_machine.specs.Access.{search_for, searched, translated, by_settled, by_found}
 use Rattle.mb_machine.specs.Bus.{bus_of, reading_of, writing_of, fetching_of, read_at, read_by, written_at, written_by}
-use Rattle.vm_meaning.specs.Free.{IsKept, rule_free, holding}
+use Rattle.vm_meaning.specs.Free.{IsKept, rule_free, with_class_entry}
 use Rattle.vm_meaning.specs.Laws.{IsFound, Searches, FreeBoardsFill}
 use Rattle.vm_meaning.proofs.KeptLemmas.{filled-first}
 use Rattle.vm_meaning.proofs.Blind.{IsBlind, IsBlindStore, taken-blind, taken_line-blind, checked-blind, stored-blind, stored_line-blind}
@@ -21,34 +21,34 @@ use Rattle.vm_meaning.proofs.Blind.{read-blind, write-blind, blind-kept}
 
 module _ (entry : Option Kept) (w : World) (k : Kept) (r : Reference) where
   found_fills : (ram : List ℕ) (status : ℕ) (f : Found) → f ≡ Entry k status
-      → IsKept k (by_found rule_free (record (holding entry w) { ram = ram }) r f).1.kept
+      → IsKept k (by_found rule_free (record (with_class_entry entry w) { ram = ram }) r f).1.kept
   found_fills ram status f e =
-      subst (λ (f : Found). IsKept k (by_found rule_free (record (holding entry w) { ram = ram }) r f).1.kept) (sym e)
+      subst (λ (f : Found). IsKept k (by_found rule_free (record (with_class_entry entry w) { ram = ram }) r f).1.kept) (sym e)
       (filled-first rule_free r.code k (option_to_list entry) w.kept refl)
 
-  searched_fills : IsFound w k r → IsKept k (searched rule_free (holding entry w) r).1.kept
+  searched_fills : IsFound w k r → IsKept k (searched rule_free (with_class_entry entry w) r).1.kept
   unfolding searched
   searched_fills (status, e) =
       let s = search_for w r in found_fills s.ram status s.found e
 
-  translated_fills : Searches entry w r → IsFound w k r → IsKept k (translated rule_free r (holding entry w)).1.kept
+  translated_fills : Searches entry w r → IsFound w k r → IsKept k (translated rule_free r (with_class_entry entry w)).1.kept
   unfolding translated
   translated_fills h f =
-      subst (λ (s : Settled). IsKept k (by_settled rule_free (holding entry w) r s).1.kept) (sym h) (searched_fills f)
+      subst (λ (s : Settled). IsKept k (by_settled rule_free (with_class_entry entry w) r s).1.kept) (sym h) (searched_fills f)
 
   -- what follows leaves what is kept
   then_fills : {A : Type 0} (g : Option ℕ → World → A × World) → ((o : Option ℕ) → IsBlind (g o)) → Searches entry w r → IsFound w k r
-      → let x = translated rule_free r (holding entry w) in IsKept k (g x.0 x.1).1.kept
+      → let x = translated rule_free r (with_class_entry entry w) in IsKept k (g x.0 x.1).1.kept
   then_fills g blind h f =
-      let x = translated rule_free r (holding entry w) in
+      let x = translated rule_free r (with_class_entry entry w) in
       subst (λ (kept : KeptLists). IsKept k kept) (sym (blind-kept (g x.0) (blind x.0) x.1)) (translated_fills h f)
 
   read_fills : {A : Type 0} (len : ℕ) (take : Place → World → Option A × World) → ((place : Place) → IsBlind (take place))
-      → Searches entry w r → IsFound w k r → IsKept k (read_by rule_free r len take (holding entry w)).1.kept
+      → Searches entry w r → IsFound w k r → IsKept k (read_by rule_free r len take (with_class_entry entry w)).1.kept
   read_fills len take blind h f = then_fills (read_at r len take) (read-blind r len take blind) h f
 
   write_fills : (len : ℕ) (store : Place → World → Option World) → ((place : Place) → IsBlindStore (store place))
-      → Searches entry w r → IsFound w k r → IsKept k (written_by rule_free r len store (holding entry w)).1.kept
+      → Searches entry w r → IsFound w k r → IsKept k (written_by rule_free r len store (with_class_entry entry w)).1.kept
   write_fills len store blind h f = then_fills (written_at r len store) (write-blind r len store blind) h f
 
 pub free-boards_fill : FreeBoardsFill

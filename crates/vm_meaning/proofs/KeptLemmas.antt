@@ -10,7 +10,7 @@ use Rattle.mb_port.specs.declared.types.Flush.TheVariants.{All, Page}
 use Rattle.mb_port.specs.declared.types.MmuReg.{MmuReg}
 use Rattle.mb_model.specs.declared.kept.Kept.{Kept}
 use Rattle.mb_model.specs.Keeping.{Rule, KeptLists, list_of, is_of, without, room_for, filled_in, flushed_in, covers, filled, flushed, after_movec}
-use Rattle.mb_model.specs.Keeping.{is_half_of, dropped}
+use Rattle.mb_model.specs.Keeping.{is_half_of, after_ptest}
 use Rattle.mb_model.specs.Pages.{other_half}
 use Rattle.vm_meaning.specs.Free.{IsKept, StandIn}
 
@@ -120,7 +120,7 @@ not_page : (a b : Bool) → (a || (false && b)) ≡ false → a ≡ false
 not_page false b h = refl
 not_page true b h = absurd (false≢true (sym h))
 
-pub dropped-is : (big : Bool) (space : Space) (page : ℕ) (kept : KeptLists) (k : Kept) → IsKept k (dropped big space page kept)
+pub dropped-is : (big : Bool) (space : Space) (page : ℕ) (kept : KeptLists) (k : Kept) → IsKept k (after_ptest big space page kept)
     → IsKept k kept × (is_half_of big space page k ≡ false)
 dropped-is false space page kept k h =
     let one = flushed-is (Page space page) kept k h in
@@ -131,7 +131,7 @@ dropped-is true space page kept k h =
     (one.0, no_half (is_of space page k) (is_of space (other_half page) k) one.1 two.1)
 
 pub dropped-keeps : (big : Bool) (space : Space) (page : ℕ) (kept : KeptLists) (k : Kept) → IsKept k kept → is_half_of big space page k ≡ false
-    → IsKept k (dropped big space page kept)
+    → IsKept k (after_ptest big space page kept)
 dropped-keeps false space page kept k there h =
     flushed-keeps (Page space page) kept k there (not_page (is_of space page k) (is_of space (other_half page) k) h)
 dropped-keeps true space page kept k there h =
@@ -139,7 +139,7 @@ dropped-keeps true space page kept k there h =
     flushed-keeps (Page space (other_half page)) (flushed (Page space page) kept) k (flushed-keeps (Page space page) kept k there both.0) both.1
 
 pub dropped-follows : (big : Bool) (space : Space) (page : ℕ) (kept held : KeptLists) → StandIn kept held
-    → StandIn (dropped big space page kept) (dropped big space page held)
+    → StandIn (after_ptest big space page kept) (after_ptest big space page held)
 dropped-follows big space page kept held stand k h =
     let parts = dropped-is big space page kept k h in
     dropped-keeps big space page held k (stand k parts.0) parts.1

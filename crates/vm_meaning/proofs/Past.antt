@@ -6,7 +6,7 @@ use Rattle.mb_port.specs.declared.types.Space.{Space}
 use Rattle.mb_port.specs.declared.types.Place.{Place}
 use Rattle.mb_port.specs.declared.types.Flush.{Flush}
 use Rattle.mb_model.specs.declared.kept.Kept.{Kept}
-use Rattle.mb_model.specs.Keeping.{KeptLists, covers, filled, flushed, dropped, is_half_of}
+use Rattle.mb_model.specs.Keeping.{KeptLists, covers, filled, flushed, after_ptest, is_half_of}
 use Rattle.mb_walk.specs.declared.found.Found.{Found}
 use Rattle.mb_walk.specs.declared.found.Found.TheVariants.{Entry, Invalid, BusError}
 use Rattle.mb_machine.specs.declared.reference.Reference.{Reference}
@@ -15,8 +15,8 @@ use Rattle.mb_machine.specs.World.{World}
 use Rattle.mb_machine.specs.Places.{taken, stored, checked, taken_line, stored_line}
 use Rattle.mb_model.specs.Pages.{page_of, has_big_pages}
 use Rattle.mb_machine.specs.Access.{matched, search_for, untranslated, settled, searched, translated, by_match, by_settled, by_found}
-use Rattle.mb_machine.specs.Bus.{bus_of, reading_of, writing_of, fetching_of, read_at, read_by, written_at, written_by, tested, tested_by, with_register}
-use Rattle.vm_meaning.specs.Free.{IsKept, rule_free, holding}
+use Rattle.mb_machine.specs.Bus.{bus_of, reading_of, writing_of, fetching_of, read_at, read_by, written_at, written_by, tested, tested_by, after_set_mmu}
+use Rattle.vm_meaning.specs.Free.{IsKept, rule_free, with_class_entry}
 use Rattle.vm_meaning.proofs.Blind.{IsBlind, IsBlindStore, taken-blind, taken_line-blind, checked-blind, stored-blind, stored_line-blind}
 use Rattle.vm_meaning.proofs.Blind.{read-blind, write-blind, get-blind, put-blind, blind-kept}
 use Rattle.vm_meaning.proofs.Accesses.{accesses-use_or_search}
@@ -74,7 +74,7 @@ found_past r w ram k Invalid free found = none_past r w k Invalid found (λ stat
 found_past r w ram k BusError free found = none_past r w k BusError found (λ status e. absurd (cc))
 
 searched_past : (r : Reference) (w : World) (k : Kept) → untranslated w.mmu r ≡ None
-    → IsPast r w (searched rule_free (holding None w) r).1.kept k
+    → IsPast r w (searched rule_free (with_class_entry None w) r).1.kept k
 unfolding searched
 searched_past r w k free =
     let s = search_for w r in found_past r w s.ram k s.found free refl
@@ -84,11 +84,11 @@ settled_kept true r w = refl
 settled_kept false r w = refl
 
 matched_past : (r : Reference) (w : World) (k : Kept) (protected : Bool) → untranslated w.mmu r ≡ Some protected
-    → IsPast r w (translated rule_free r (holding None w)).1.kept k
+    → IsPast r w (translated rule_free r (with_class_entry None w)).1.kept k
 matched_past r w k protected e =
-    let one = by_match_of r (holding None w) (Some protected) e in
-    let kept : (translated rule_free r (holding None w)).1.kept ≡ [] ∷ w.kept =
-    ap (λ (x : Option ℕ × World). x.1.kept) one ∙ settled_kept (protected && r.write) r (holding None w) in
+    let one = by_match_of r (with_class_entry None w) (Some protected) e in
+    let kept : (translated rule_free r (with_class_entry None w)).1.kept ≡ [] ∷ w.kept =
+    ap (λ (x : Option ℕ × World). x.1.kept) one ∙ settled_kept (protected && r.write) r (with_class_entry None w) in
     subst (λ (kept : KeptLists). IsPast r w kept k) (sym kept) (
       λ h. inl (not_in_front w.kept k h),
       λ h. elim h [
@@ -100,12 +100,12 @@ matched_past r w k protected e =
     )
 
 translated_by_past : (r : Reference) (w : World) (k : Kept) (o : Option Bool) → untranslated w.mmu r ≡ o
-    → IsPast r w (translated rule_free r (holding None w)).1.kept k
+    → IsPast r w (translated rule_free r (with_class_entry None w)).1.kept k
 translated_by_past r w k (Some protected) e = matched_past r w k protected e
 translated_by_past r w k None e =
     subst (λ (x : Option ℕ × World). IsPast r w x.1.kept k) (sym (each_access-searches r w e)) (searched_past r w k e)
 
-translated_past : (r : Reference) (w : World) (k : Kept) → IsPast r w (translated rule_free r (holding None w)).1.kept k
+translated_past : (r : Reference) (w : World) (k : Kept) → IsPast r w (translated rule_free r (with_class_entry None w)).1.kept k
 translated_past r w k = translated_by_past r w k (untranslated w.mmu r) refl
 
 -- ---- what follows it
@@ -114,9 +114,9 @@ abbrev AccessPast : Reference → World → KeptLists → Kept → Type 0
 AccessPast r w kept k = IsKept k kept ↔ ((IsKept k w.kept × (false ≡ false)) ⊎ SearchesOut w k r)
 
 then_past : {A : Type 0} (g : Option ℕ → World → A × World) → ((o : Option ℕ) → IsBlind (g o)) → (r : Reference) (w : World) (k : Kept)
-    → AccessPast r w (g (translated rule_free r (holding None w)).0 (translated rule_free r (holding None w)).1).1.kept k
+    → AccessPast r w (g (translated rule_free r (with_class_entry None w)).0 (translated rule_free r (with_class_entry None w)).1).1.kept k
 then_past g blind r w k =
-    let x = translated rule_free r (holding None w) in
+    let x = translated rule_free r (with_class_entry None w) in
     let p = translated_past r w k in
     subst (λ (kept : KeptLists). AccessPast r w kept k) (sym (blind-kept (g x.0) (blind x.0) x.1)) (
       λ h. elim (p.0 h) [ inl there ↦ inl (there, refl) | inr out ↦ inr out ],
@@ -124,17 +124,17 @@ then_past g blind r w k =
     )
 
 read_past : {A : Type 0} (r : Reference) (len : ℕ) (take : Place → World → Option A × World) (w : World) (k : Kept)
-    → ((place : Place) → IsBlind (take place)) → AccessPast r w (read_by rule_free r len take (holding None w)).1.kept k
+    → ((place : Place) → IsBlind (take place)) → AccessPast r w (read_by rule_free r len take (with_class_entry None w)).1.kept k
 read_past r len take w k blind = then_past (read_at r len take) (read-blind r len take blind) r w k
 
 write_past : (r : Reference) (len : ℕ) (store : Place → World → Option World) (w : World) (k : Kept)
-    → ((place : Place) → IsBlindStore (store place)) → AccessPast r w (written_by rule_free r len store (holding None w)).1.kept k
+    → ((place : Place) → IsBlindStore (store place)) → AccessPast r w (written_by rule_free r len store (with_class_entry None w)).1.kept k
 write_past r len store w k blind = then_past (written_at r len store) (write-blind r len store blind) r w k
 
 -- ---- calls without a reference
 
 abbrev OtherPast : Bool → World → KeptLists → Kept → Type 0
-OtherPast dropped w kept k = IsKept k kept ↔ ((IsKept k w.kept × (dropped ≡ false)) ⊎ ⊥)
+OtherPast after_ptest w kept k = IsKept k kept ↔ ((IsKept k w.kept × (after_ptest ≡ false)) ⊎ ⊥)
 
 still_past : (w : World) (kept : KeptLists) (k : Kept) → kept ≡ [] ∷ w.kept → OtherPast false w kept k
 still_past w kept k e = subst (λ (kept : KeptLists). OtherPast false w kept k) (sym e) (
@@ -152,7 +152,7 @@ flushed_past what w k = (
 )
 
 dropped_past : (big : Bool) (space : Space) (page : ℕ) (w : World) (k : Kept)
-    → OtherPast (is_half_of big space page k) w (dropped big space page ([] ∷ w.kept)) k
+    → OtherPast (is_half_of big space page k) w (after_ptest big space page ([] ∷ w.kept)) k
 dropped_past big space page w k = (
   λ h. let there = dropped-is big space page ([] ∷ w.kept) k h in inl (not_in_front w.kept k there.0, there.1),
   λ h. elim h [
@@ -162,18 +162,18 @@ dropped_past big space page w k = (
 )
 
 tested_by_past : (w : World) (space : Space) (page : ℕ) (write : Bool) (o : Option Bool) (k : Kept)
-    → OtherPast (is_none o && is_half_of (has_big_pages w.mmu) space page k) w (tested_by (holding None w) space page write o).1.kept k
+    → OtherPast (is_none o && is_half_of (has_big_pages w.mmu) space page k) w (tested_by (with_class_entry None w) space page write o).1.kept k
 tested_by_past w space page write (Some protected) k = still_past w ([] ∷ w.kept) k refl
 tested_by_past w space page write None k = dropped_past (has_big_pages w.mmu) space page w k
 
 tested_past : (w : World) (space : Space) (page : ℕ) (write : Bool) (k : Kept)
     → OtherPast (is_none (matched false w.mmu space page) && is_half_of (has_big_pages w.mmu) space page k) w
-    (tested space page write (holding None w)).1.kept k
+    (tested space page write (with_class_entry None w)).1.kept k
 unfolding tested
 tested_past w space page write k = tested_by_past w space page write (matched false w.mmu space page) k
 
-set_past : (which : _) (value : ℕ) (w : World) (k : Kept) → OtherPast false w (with_register rule_free which value (holding None w)).kept k
-unfolding with_register
+set_past : (which : _) (value : ℕ) (w : World) (k : Kept) → OtherPast false w (after_set_mmu rule_free which value (with_class_entry None w)).kept k
+unfolding after_set_mmu
 set_past which value w k = still_past w ([] ∷ w.kept) k refl
 
 pub past-is_searched_out : PastIsWhatWasSearchedOut
@@ -187,11 +187,11 @@ past-is_searched_out (WriteLine space at line) w k =
     write_past (writing_of space at) 16 (λ place. stored_line place line) w k (λ place. stored_line-blind place line)
 past-is_searched_out (Probe space p) w k = read_past (writing_of space p.at) p.len checked w k checked-blind
 past-is_searched_out (Get place) w k =
-    still_past w (taken place (holding None w)).1.kept k
-    (blind-kept (λ u. (unwrap_or (taken place u).0 0, (taken place u).1)) (get-blind place) (holding None w))
+    still_past w (taken place (with_class_entry None w)).1.kept k
+    (blind-kept (λ u. (unwrap_or (taken place u).0 0, (taken place u).1)) (get-blind place) (with_class_entry None w))
 past-is_searched_out (Put place value) w k =
-    still_past w (unwrap_or (stored place value (holding None w)) (holding None w)).kept k
-    (blind-kept {A = Unit {0}} (λ u. (tt, unwrap_or (stored place value u) u)) (put-blind place value) (holding None w))
+    still_past w (unwrap_or (stored place value (with_class_entry None w)) (with_class_entry None w)).kept k
+    (blind-kept {A = Unit {0}} (λ u. (tt, unwrap_or (stored place value u) u)) (put-blind place value) (with_class_entry None w))
 past-is_searched_out ReadMmu w k = still_past w ([] ∷ w.kept) k refl
 past-is_searched_out (SetMmu which value) w k = set_past which value w k
 past-is_searched_out (FlushKept what) w k = flushed_past what w k

@@ -7,7 +7,7 @@ use Rattle.mb_port.specs.declared.types.Place.{Place}
 use Rattle.mb_port.specs.declared.types.MmuReg.{MmuReg}
 use Rattle.mb_port.specs.declared.types.Flush.{Flush}
 use Rattle.mb_model.specs.declared.kept.Kept.{Kept}
-use Rattle.mb_model.specs.Keeping.{KeptLists, covers, flushed, dropped, is_half_of}
+use Rattle.mb_model.specs.Keeping.{KeptLists, covers, flushed, after_ptest, is_half_of}
 use Rattle.mb_walk.specs.declared.found.Found.{Found}
 use Rattle.mb_walk.specs.declared.found.Found.TheVariants.{Entry, Invalid, BusError}
 use Rattle.mb_machine.specs.declared.reference.Reference.{Reference}
@@ -17,7 +17,7 @@ use Rattle.mb_machine.specs.World.{World}
 use Rattle.mb_machine.specs.Places.{taken, stored, checked, taken_line, stored_line}
 use Rattle.mb_model.specs.Pages.{page_of, has_big_pages}
 use Rattle.mb_machine.specs.Access.{matched, search_for, settled, searched, translated, by_settled, by_found}
-use Rattle.mb_machine.specs.Bus.{bus_of, reading_of, writing_of, fetching_of, read_at, read_by, written_at, written_by, tested, tested_by, with_register}
+use Rattle.mb_machine.specs.Bus.{bus_of, reading_of, writing_of, fetching_of, read_at, read_by, written_at, written_by, tested, tested_by, after_set_mmu}
 use Rattle.vm_meaning.specs.Free.{IsKept, rule_free}
 use Rattle.vm_meaning.specs.Laws.{IsFound, KeepsFound, FreeBoardsKeep}
 use Rattle.vm_meaning.proofs.KeptLemmas.{empty, head_or_tail, kept-behind, flushed-is, flushed-keeps, dropped-is, dropped-keeps, filled-is, filled-behind}
@@ -101,9 +101,9 @@ write_keeps r len store w xs blind are =
 -- ---- the calls
 
 -- what it keeps of what was kept, where it drops by this test
-record Stays (dropped : Bool) (k : Kept) (w after : World) : Type 0 where
-  stays : IsKept k w.kept → dropped ≡ false → IsKept k after.kept
-  only : IsKept k after.kept → IsKept k w.kept × (dropped ≡ false)
+record Stays (after_ptest : Bool) (k : Kept) (w after : World) : Type 0 where
+  stays : IsKept k w.kept → after_ptest ≡ false → IsKept k after.kept
+  only : IsKept k after.kept → IsKept k w.kept × (after_ptest ≡ false)
 
 unchanged : (k : Kept) (w after : World) (xs : List Kept) → AreKept xs w.kept → after.kept ≡ xs ∷ w.kept → Stays false k w after
 unchanged k w after xs are same = record {
@@ -121,7 +121,7 @@ after_flush what k w after xs are same = record {
 }
 
 after_drop : (big : Bool) (space : Space) (page : ℕ) (k : Kept) (w after : World) (xs : List Kept) → AreKept xs w.kept
-    → after.kept ≡ dropped big space page (xs ∷ w.kept) → Stays (is_half_of big space page k) k w after
+    → after.kept ≡ after_ptest big space page (xs ∷ w.kept) → Stays (is_half_of big space page k) k w after
 after_drop big space page k w after xs are same = record {
   stays = λ h d. subst (λ (kept : KeptLists). IsKept k kept) (sym same) (dropped-keeps big space page (xs ∷ w.kept) k (kept-behind xs w.kept k h) d);
   only = λ h.
@@ -142,9 +142,9 @@ unfolding tested
 tested_stays k w xs space page write are = tested_by_stays k w xs space page write (matched false w.mmu space page) are
 
 set_stays : (k : Kept) (w : World) (xs : List Kept) (which : MmuReg) (value : ℕ) → AreKept xs w.kept
-    → Stays false k w (with_register rule_free which value (record w { kept = xs ∷ w.kept }))
-unfolding with_register
-set_stays k w xs which value are = unchanged k w (with_register rule_free which value (record w { kept = xs ∷ w.kept })) xs are refl
+    → Stays false k w (after_set_mmu rule_free which value (record w { kept = xs ∷ w.kept }))
+unfolding after_set_mmu
+set_stays k w xs which value are = unchanged k w (after_set_mmu rule_free which value (record w { kept = xs ∷ w.kept })) xs are refl
 
 kept_or_found : (r : Reference) (w : World) (k : Kept) → IsKept k w.kept ⊎ IsFound w k r → (IsKept k w.kept × (false ≡ false)) ⊎ IsFound w k r
 kept_or_found r w k (inl h) = inl (h, refl)

@@ -24,7 +24,7 @@ use Rattle.mb_processor.specs.declared.entering.Entered.{Entered}
 use Rattle.mb_processor.specs.declared.entering.Entered.TheVariants as entered
 use Rattle.mb_processor.specs.declared.Finish.{Finish}
 use Rattle.mb_processor.specs.declared.Finish.TheVariants as finish
-use Rattle.mb_meaning.specs.Attempt.{NoInstruction, Unfetched, Found, fetched_of, past}
+use Rattle.mb_meaning.specs.Attempt.{NoInstruction, Unfetched, FoundInstr, fetched_of, past}
 use Rattle.mb_meaning.specs.Ends.{closing}
 use Rattle.mb_processor.specs.Entry.{enter_of}
 use Rattle.mb_processor.specs.Raise.{Stepped, Raised, access_cause, access_error_of, ends_step, unchecked_of, raised, raise_of, raise_last_of, with_ct}
@@ -181,7 +181,7 @@ executed_stays bus (instr.Arith i) n cpu s h = unprivileged_stays bus (instr.Ari
 executed_stays bus (instr.Flow i) n cpu s h = unprivileged_stays bus (instr.Flow i) n cpu s h
 executed_stays bus (instr.System i) n cpu s h = in_user_mode bus i n cpu (is_supervisor cpu.regs.sr) s h
 
-found_stays : {S : Type 0} (bus : Bus S) (cpu : Cpu) (found : Found) (s : S) → is_supervisor cpu.regs.sr ≡ false
+found_stays : {S : Type 0} (bus : Bus S) (cpu : Cpu) (found : FoundInstr) (s : S) → is_supervisor cpu.regs.sr ≡ false
     → Stays (run bus (either found (λ unfound. unfound_of unfound cpu) (λ found. execute_of found.0 found.1 cpu)) s).0
 unfolding unfound_of finish_unread_of
 found_stays bus cpu (Ok found) s h = executed_stays bus found.0 found.1 cpu s h

@@ -27,8 +27,8 @@ abbrev pub rule_free : Rule
 rule_free = record rule_k { forgets = λ register. false }
 
 -- a world with this entry alone in the class, or with none; all that was kept stands behind it
-abbrev pub holding : Option Kept → World → World
-holding entry w = record w { kept = option_to_list entry ∷ w.kept }
+abbrev pub with_class_entry : Option Kept → World → World
+with_class_entry entry w = record w { kept = option_to_list entry ∷ w.kept }
 
 -- What a call may answer and leave. Before it, any entry that is kept may be taken into the class, or none. So an
 -- access may use any kept entry of its page and space, or search; what it searches out is kept beside all others, and
@@ -36,7 +36,7 @@ holding entry w = record w { kept = option_to_list entry ∷ w.kept }
 abbrev pub FreeCall : Steps World
 FreeCall c w answer after =
     (entry : Option Kept) × IfSome entry (λ k. IsKept k w.kept)
-    × (bus_of rule_free c (holding entry w) ≡ (answer, after))
+    × (bus_of rule_free c (with_class_entry entry w) ≡ (answer, after))
 
 -- ---- free runs
 

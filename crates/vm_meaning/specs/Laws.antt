@@ -13,7 +13,7 @@ use Rattle.mb_model.specs.Pages.{page_of, has_big_pages}
 use Rattle.mb_machine.specs.Access.{matched, marks, search_for, searched, settled, through, translated, untranslated}
 use Rattle.mb_machine.specs.Bus.{bus_of, reference_of}
 use Rattle.mb_machine.specs.Machine.{Entries, Machine, reset_with, run_of}
-use Rattle.vm_meaning.specs.Free.{IsKept, rule_free, holding, FreeCall, FreeRun, WorldWithin, Within, IsFreeRun}
+use Rattle.vm_meaning.specs.Free.{IsKept, rule_free, with_class_entry, FreeCall, FreeRun, WorldWithin, Within, IsFreeRun}
 
 -- ---- every run is free
 
@@ -38,12 +38,12 @@ RunsFromResetAreFree = (rule : Rule) (script : Entries) (n size : ℕ) (ram : Li
 -- used, but for a write that marks the page; else the tables are searched.
 pub record UsesOrSearches (r : Reference) (w : World) : Type 0 where
   pub uses : (k : Kept) → is_of r.space (page_of r.at) k ≡ true → marks k r ≡ false
-      → translated rule_free r (holding (Some k) w) ≡ (through k r, holding (Some k) w)
+      → translated rule_free r (with_class_entry (Some k) w) ≡ (through k r, with_class_entry (Some k) w)
   pub marked : (k : Kept) → is_of r.space (page_of r.at) k ≡ true → marks k r ≡ true
-      → translated rule_free r (holding (Some k) w) ≡ searched rule_free (holding (Some k) w) r
+      → translated rule_free r (with_class_entry (Some k) w) ≡ searched rule_free (with_class_entry (Some k) w) r
   pub other : (k : Kept) → is_of r.space (page_of r.at) k ≡ false
-      → translated rule_free r (holding (Some k) w) ≡ searched rule_free (holding (Some k) w) r
-  pub none : translated rule_free r (holding None w) ≡ searched rule_free (holding None w) r
+      → translated rule_free r (with_class_entry (Some k) w) ≡ searched rule_free (with_class_entry (Some k) w) r
+  pub none : translated rule_free r (with_class_entry None w) ≡ searched rule_free (with_class_entry None w) r
 
 abbrev pub AccessesUseOrSearch : Type 0
 AccessesUseOrSearch = (r : Reference) (w : World) → untranslated w.mmu r ≡ None → UsesOrSearches r w
@@ -75,10 +75,10 @@ FreeBoardsKeep = (c : Call) (w after : World) (answer : Answer c) → FreeCall c
 
 -- The reference is searched for, with this entry taken into the class: nothing that is known settles where it leads.
 abbrev pub Searches : Option Kept → World → Reference → Type 0
-Searches entry w r = settled rule_free w.mmu (holding entry w).kept r ≡ Unsettled
+Searches entry w r = settled rule_free w.mmu (with_class_entry entry w).kept r ≡ Unsettled
 
 -- What a call searched out is kept after it.
 abbrev pub FreeBoardsFill : Type 0
 FreeBoardsFill = (c : Call) (w : World) (entry : Option Kept) (k : Kept)
     → IfSome (reference_of c) (λ r. Searches entry w r → IsFound w k r
-    → let (_, after) = bus_of rule_free c (holding entry w) in IsKept k after.kept)
+    → let (_, after) = bus_of rule_free c (with_class_entry entry w) in IsKept k after.kept)

@@ -7,18 +7,18 @@ abbrev pub numbers_of : Plain → List ℕ
 numbers_of p = p.d ++ p.a ++ p.pc ∷ p.ccr ∷ []
 
 -- the sum with one more number
-abbrev pub with_number : ℕ → ℕ → ℕ
-with_number t x = (31 * t + x) % 2 ^ 64
+abbrev pub sum_with : ℕ → ℕ → ℕ
+sum_with t x = (31 * t + x) % 2 ^ 64
 
-abbrev pub with_numbers : ℕ → List ℕ → ℕ
-with_numbers t [] = t
-with_numbers t (x ∷ xs) = with_numbers (with_number t x) xs
+abbrev pub sum_with_all : ℕ → List ℕ → ℕ
+sum_with_all t [] = t
+sum_with_all t (x ∷ xs) = sum_with_all (sum_with t x) xs
 
 -- The trail: the sum with the marks of steps, which are of each the registers at its beginning and then those at its
 -- end.
 unfoldable pub trail : ℕ → List Plain → ℕ
 trail t [] = t
-trail t (p ∷ marks) = trail (with_numbers t (numbers_of p)) marks
+trail t (p ∷ marks) = trail (sum_with_all t (numbers_of p)) marks
 
 -- ---- in base 31
 

@@ -12,7 +12,7 @@ use Rattle.mb_machine.specs.World.{World}
 use Rattle.mb_machine.specs.Access.{untranslated, marks, search_for, searched, translated}
 use Rattle.mb_machine.specs.Bus.{bus_of, reference_of}
 use Rattle.mb_machine.specs.Machine.{Machine, Contents, Entries, begun, one_later, takes_steps, start, asked_of}
-use Rattle.vm_meaning.specs.Free.{IsKept, rule_free, holding}
+use Rattle.vm_meaning.specs.Free.{IsKept, rule_free, with_class_entry}
 use Rattle.vm_meaning.specs.Laws.{drops, IsFound}
 
 -- ---- the run that searches at each access
@@ -20,7 +20,7 @@ use Rattle.vm_meaning.specs.Laws.{drops, IsFound}
 -- What is searched out is kept beside all others, and never used. So what is kept is the past: what searches have found
 -- since the last flush or PTEST that covers it.
 unfoldable pub searching_bus : Bus World
-searching_bus c w = bus_of rule_free c (holding None w)
+searching_bus c w = bus_of rule_free c (with_class_entry None w)
 
 -- a step over that bus
 abbrev pub searching_step : Entries → Machine → Machine
@@ -83,7 +83,7 @@ Tidy contents script size n = IsTidyRun script n (start rule_free contents size)
 -- Each access that no transparent register and no clear bit E decides searches.
 abbrev pub EachAccessSearches : Type 0
 EachAccessSearches = (r : Reference) (w : World) → untranslated w.mmu r ≡ None
-    → translated rule_free r (holding None w) ≡ searched rule_free (holding None w) r
+    → translated rule_free r (with_class_entry None w) ≡ searched rule_free (with_class_entry None w) r
 
 -- A reference searches the entry out.
 pub record SearchesOut (w : World) (k : Kept) (r : Reference) : Type 0 where

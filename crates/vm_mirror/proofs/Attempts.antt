@@ -8,7 +8,7 @@ use Rattle.mb_laws.specs.Between.{between, call_here, IsThere}
 use Rattle.mb_laws.specs.Twin.{MeetsOn, AlikeOn, Twin, Results}
 use Rattle.mb_laws.proofs.Twinned.{twins_meet}
 use Rattle.mb_laws.proofs.TwinTrees.{met_meets_on}
-use Rattle.mb_meaning.specs.Attempt.{Found, attempt_of, fetched_of}
+use Rattle.mb_meaning.specs.Attempt.{FoundInstr, attempt_of, fetched_of}
 use Rattle.mb_twins.specs.Twins.{SamePerformed}
 use Rattle.mb_twins.proofs.Step.{SameFound as TwinFound, SameUnfound, attempt_twins, fetched_twins, perform_twins, may_refuse}
 use Rattle.mb_tells.proofs.Step.{attempt_tells, Founds, fetched_tells, perform_tells}
@@ -95,7 +95,7 @@ attempts_stay x p b g longs lt r =
     ((attempt_tells (never_refusing x) User (board_guards x) p b longs lt).lawfully b (((g, r), tt), refl))
 
 -- the twins of a fetch say that the table has what is found, too
-same_found : (x : Site) (a b : Found) → Results TwinFound (SameUnfound (setting x)) a b → SameFound (setting x) a b
+same_found : (x : Site) (a b : FoundInstr) → Results TwinFound (SameUnfound (setting x)) a b → SameFound (setting x) a b
 same_found x (Ok found) (Ok other) same = same.0
 same_found x (Ok found) (Err e) same = absurd same
 same_found x (Err e) (Ok other) same = absurd same

@@ -19,7 +19,7 @@ use Rattle.vm_shadow.specs.declared.area.TheConstants.{AREA_BYTES}
 use Rattle.vm_shadow.proofs.Alone.{tables_are_of_the_area}
 use Rattle.vm_machine.specs.Guests.{Guest, ref, lets, allows, placed_at}
 use Rattle.vm_mirror.specs.Related.{Site, Related, mapping}
-use Rattle.vm_machine.specs.Seats.{moved}
+use Rattle.vm_machine.specs.Seats.{board_entry}
 use Rattle.vm_mirror.proofs.Quiet.{wanted, Quiet, Translates}
 use Rattle.vm_held.specs.Sound.{Sound}
 use Rattle.vm_mirror.proofs.Translated.{board_translates}
@@ -42,13 +42,13 @@ related_after x b after g r q = subst (λ (w : World). Related x w g) (sym q.sam
 })
 
 -- what the board's tables map is the guest's entry, moved
-pub entry_moved : (x : Site) (b : World) (g : Guest) (page : ℕ) → Related x b g → mapping x b.ram page ≡ moved x.base (g.shadow.entries x.space page)
+pub entry_moved : (x : Site) (b : World) (g : Guest) (page : ℕ) → Related x b g → mapping x b.ram page ≡ board_entry x.base (g.shadow.entries x.space page)
 entry_moved x b g page r = ap (λ (s : Shadowed). s.entries x.space page) r.shadow
 
 -- ---- an access
 
 pub access : (x : Site) (b : World) (g : Guest) (code : Bool) (at : ℕ) (write : Bool) → Related x b g → at < 2 ^ 32
-    → Translates x b (wanted (moved x.base (g.shadow.entries x.space (page_of at))) at write) (translated rule_a (ref code User at write) b)
+    → Translates x b (wanted (board_entry x.base (g.shadow.entries x.space (page_of at))) at write) (translated rule_a (ref code User at write) b)
 access x b g code at write r l =
     subst (λ (o : Option (ℕ × Bool)). Translates x b (wanted o at write) (translated rule_a (ref code User at write) b))
     (entry_moved x b g (page_of at) r) (board_translates x rule_a b g code at write r l)
@@ -76,7 +76,7 @@ allowed_by x b g code at write r l side (Some (frame, writable)) s h =
       place = placed_at frame at;
       inside = omega arith;
       offset = omega arith;
-      board = a.answer ∙ ap (λ (o : Option (ℕ × Bool)). wanted (moved x.base o) at write) s
+      board = a.answer ∙ ap (λ (o : Option (ℕ × Bool)). wanted (board_entry x.base o) at write) s
           ∙ ap (λ (v : Bool). cond v (Some (placed_at (x.base / 4096 + frame) at)) None) h
           ∙ ap (λ (p : ℕ). Some p) (place_moved x.base frame at whole);
       after = related_after x b (translated rule_a (ref code User at write) b).1 g r a.quiet;
@@ -92,11 +92,11 @@ refused_by : (x : Site) (b : World) (g : Guest) (code : Bool) (at : ℕ) (write 
     → Translates x b None (translated rule_a (ref code User at write) b)
 refused_by x b g code at write r l None s h =
     let a = access x b g code at write r l in
-    record { answer = a.answer ∙ ap (λ (o : Option (ℕ × Bool)). wanted (moved x.base o) at write) s; quiet = a.quiet }
+    record { answer = a.answer ∙ ap (λ (o : Option (ℕ × Bool)). wanted (board_entry x.base o) at write) s; quiet = a.quiet }
 refused_by x b g code at write r l (Some (frame, writable)) s h =
     let a = access x b g code at write r l in
     record {
-      answer = a.answer ∙ ap (λ (o : Option (ℕ × Bool)). wanted (moved x.base o) at write) s
+      answer = a.answer ∙ ap (λ (o : Option (ℕ × Bool)). wanted (board_entry x.base o) at write) s
           ∙ ap (λ (v : Bool). cond v (Some (placed_at (x.base / 4096 + frame) at)) None) h;
       quiet = a.quiet;
     }

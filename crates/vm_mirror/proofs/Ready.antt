@@ -23,7 +23,7 @@ use Rattle.vm_shadow.specs.declared.area.TheConstants.{AREA_BYTES}
 use Rattle.vm_shadow.proofs.Alone.{tables_are_of_the_area}
 use Rattle.vm_machine.specs.Guests.{ref}
 use Rattle.vm_mirror.specs.Related.{mapping}
-use Rattle.vm_machine.specs.Seats.{moved, on_board}
+use Rattle.vm_machine.specs.Seats.{board_entry, on_board}
 use Rattle.vm_mirror.specs.Ready.{native_mmu, NativeTranslation, EntersUntranslated, StartsFlushed, StaysReady, OnBoard}
 use Rattle.vm_held.proofs.Stages.{translated_by}
 
@@ -91,7 +91,7 @@ stays_ready x b after g r bytes size same area mmu kept =
 
 -- ---- the shadow's calls
 
-moved_if : (base : ℕ) (b : Bool) (o q : Option (ℕ × Bool)) → moved base (cond b o q) ≡ cond b (moved base o) (moved base q)
+moved_if : (base : ℕ) (b : Bool) (o q : Option (ℕ × Bool)) → board_entry base (cond b o q) ≡ cond b (board_entry base o) (board_entry base q)
 moved_if base true o q = refl
 moved_if base false o q = refl
 
@@ -99,7 +99,7 @@ two_ext : (f h : Entries) → ((space : Space) (page : ℕ) → f space page ≡
 two_ext f h e = fun_ext (λ space. fun_ext (λ page. e space page))
 
 room_moved : (base : ℕ) (full : Bool) (shadow : Shadowed) (of : Space) (number : ℕ)
-    → moved base ((cond full nothing shadow).entries of number) ≡ (cond full nothing (on_board base shadow)).entries of number
+    → board_entry base ((cond full nothing shadow).entries of number) ≡ (cond full nothing (on_board base shadow)).entries of number
 room_moved base true shadow of number = refl
 room_moved base false shadow of number = refl
 
@@ -112,20 +112,20 @@ same_shadow f h e t =
     ap (λ (n : Entries). (let a : Shadowed = record { entries = n; tables = f.tables } in a)) (two_ext f.entries h.entries e)
     ∙ ap (λ (n : List Table). (let a : Shadowed = record { entries = h.entries; tables = n } in a)) t
 
-some_moved : (base : ℕ) (o : Option (ℕ × Bool)) → is_some (moved base o) ≡ is_some o
+some_moved : (base : ℕ) (o : Option (ℕ × Bool)) → is_some (board_entry base o) ≡ is_some o
 some_moved base None = refl
 some_moved base (Some (frame, writable)) = refl
 
 has_moved : (base : ℕ) (f : Entries) (space : Space) (first n : ℕ)
-    → has_entry (λ space page. moved base (f space page)) space first n ≡ has_entry f space first n
+    → has_entry (λ space page. board_entry base (f space page)) space first n ≡ has_entry f space first n
 unfolding has_entry
 has_moved base f space first zero = refl
 has_moved base f space first (suc n) =
-    ap (λ (b : Bool). b || has_entry (λ space page. moved base (f space page)) space first n) (some_moved base (f space (first + n)))
+    ap (λ (b : Bool). b || has_entry (λ space page. board_entry base (f space page)) space first n) (some_moved base (f space (first + n)))
     ∙ ap (λ (b : Bool). is_some (f space (first + n)) || b) (has_moved base f space first n)
 
 -- the board's entries need the tables that the guest's need
-needed_moved : (base : ℕ) (f : Entries) (table : Table) → is_needed (λ space page. moved base (f space page)) table ≡ is_needed f table
+needed_moved : (base : ℕ) (f : Entries) (table : Table) → is_needed (λ space page. board_entry base (f space page)) table ≡ is_needed f table
 needed_moved base f (Pointers space index) = has_moved base f space (2 ^ 13 * index) (2 ^ 13)
 needed_moved base f (Pages space index) = has_moved base f space (2 ^ 6 * index) (2 ^ 6)
 

@@ -5,7 +5,7 @@ use Rattle.mb_port.specs.declared.types.Space.TheVariants.{User}
 use Rattle.mb_instr.specs.declared.registers.Plain.{Plain}
 use Rattle.mb_machine.specs.World.{World}
 use Rattle.mb_meaning.specs.Ends.{Performed}
-use Rattle.mb_meaning.specs.Attempt.{Found, end_without, attempt_of, fetched_of}
+use Rattle.mb_meaning.specs.Attempt.{FoundInstr, end_without, attempt_of, fetched_of}
 use Rattle.mb_twins.specs.Twins.{SamePerformed, SameEnd}
 use Rattle.mb_tells.specs.Laws.{HasLongs}
 use Rattle.mb_laws.specs.Between.{Setting, Equal}
@@ -36,7 +36,7 @@ AttemptsStay = (x : Site) (p : Plain) (b : World) (g : Guest) → HasLongs p →
     SamePerformed (setting x) performed held × Stays x b g u h
 
 -- the same instruction, or why there is none
-abbrev pub SameFound : Setting → Found → Found → Type 0
+abbrev pub SameFound : Setting → FoundInstr → FoundInstr → Type 0
 SameFound x = Results Equal (λ e f. SameEnd x (end_without e) (end_without f))
 
 -- The board fetches what the held guest fetches: the same instruction, or the same end.

@@ -11,7 +11,7 @@ use Rattle.mb_machine.specs.World.{World}
 use Rattle.mb_machine.specs.declared.reference.Reference.{Reference}
 use Rattle.vm_shadow.specs.Shadows.{Shadowed, filled, dropped}
 use Rattle.vm_machine.specs.Guests.{allows}
-use Rattle.vm_machine.specs.Bus.{dropped_all, is_in_ram, is_split, is_writable, put}
+use Rattle.vm_machine.specs.Bus.{dropped_all, is_in_ram, is_split, is_writable, put_entry_of}
 
 entry_first : (ks : List Kept) (place : ℕ) (k : Kept) → slice_get ks place ≡ Some k → drop place ks ≡ k ∷ drop (place + 1) ks
 entry_first ks place k h =
@@ -41,10 +41,10 @@ so_put here split allowed h s a = rw (h, s, a) refl
 -- an access that puts an entry, as the code finds it
 pub put_is : (w : World) (r : Reference) (shadow : Shadowed) (place : Option ℕ) (at : ℕ) → place ≡ Some at → is_in_ram (length w.ram) at ≡ true
     → is_split w.mmu r.space (page_of r.at) ≡ false → allows shadow r ≡ false → {page frame : ℕ} → {writable : Bool} → page ≡ page_of r.at → frame ≡ page_of at
-    → writable ≡ is_writable w r.space (page_of r.at) → put w r shadow place ≡ filled r.space page frame writable shadow
+    → writable ≡ is_writable w r.space (page_of r.at) → put_entry_of w r shadow place ≡ filled r.space page frame writable shadow
 put_is w r shadow place at is here whole new {page = page} {frame = frame} p f b =
     let new_one = filled r.space (page_of r.at) (page_of at) (is_writable w r.space (page_of r.at)) shadow in
-    ap (put w r shadow) is
+    ap (put_entry_of w r shadow) is
     ∙ ap (λ (so : Bool). if so then new_one else shadow)
     (so_put (is_in_ram (length w.ram) at) (is_split w.mmu r.space (page_of r.at)) (allows shadow r) here whole new)
     ∙ ap (λ (n : ℕ). filled r.space n (page_of at) (is_writable w r.space (page_of r.at)) shadow) (sym p)

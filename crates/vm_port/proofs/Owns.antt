@@ -7,7 +7,7 @@ use Rattle.vm_shadow.specs.declared.table.Table.{Table}
 use Rattle.vm_shadow.specs.declared.table.Table.TheVariants.{Pointers, Pages}
 use Rattle.vm_shadow.specs.Slots.{is_full_for, tables_for}
 use Rattle.vm_shadow.specs.Shadows.{Shadowed, Entries, nothing, is_at, room_for, filled, dropped, has_entry, is_needed}
-use Rattle.vm_machine.specs.Seats.{moved, on_board, own, own_entry}
+use Rattle.vm_machine.specs.Seats.{board_entry, on_board, own, own_entry}
 use Rattle.vm_machine.specs.Guests.{allows, lets}
 use Rattle.mb_machine.specs.declared.reference.Reference.{Reference}
 use Rattle.mb_model.specs.Pages.{page_of}
@@ -88,7 +88,7 @@ own_keeps : (base : ℕ) → Keeps (own_entry base)
 own_keeps base None = refl
 own_keeps base (Some (frame, writable)) = refl
 
-moved_keeps : (base : ℕ) → Keeps (moved base)
+moved_keeps : (base : ℕ) → Keeps (board_entry base)
 moved_keeps base None = refl
 moved_keeps base (Some (frame, writable)) = refl
 
@@ -108,7 +108,7 @@ own_dropped base shadow space page = each_dropped (own_entry base) (own_keeps ba
 
 -- ---- each entry leads to the guest's part
 
-own_moved : (base : ℕ) (e : Option (ℕ × Bool)) → own_entry base (moved base e) ≡ e
+own_moved : (base : ℕ) (e : Option (ℕ × Bool)) → own_entry base (board_entry base e) ≡ e
 own_moved base None = refl
 own_moved base (Some (frame, writable)) = own_frame base frame writable
 
@@ -121,19 +121,19 @@ placed_by : (base : ℕ) (shadow own_shadow : Shadowed) → shadow ≡ on_board 
 placed_by base shadow own_shadow e = e ∙ ap (on_board base) (sym (own_on_board base own_shadow) ∙ ap (own base) (sym e))
 
 pub placed_nothing : (base : ℕ) → IsPlaced base nothing
-placed_nothing base = placed_by base nothing nothing (sym (each_nothing (moved base) (moved_keeps base)))
+placed_nothing base = placed_by base nothing nothing (sym (each_nothing (board_entry base) (moved_keeps base)))
 
 pub placed_filled : (base : ℕ) (shadow : Shadowed) (space : Space) (page frame : ℕ) (writable : Bool) → IsPlaced base shadow
     → IsPlaced base (filled space page (page_of base + frame) writable shadow)
 placed_filled base shadow space page frame writable e =
     placed_by base (filled space page (page_of base + frame) writable shadow) (filled space page frame writable (own base shadow))
     (ap (filled space page (page_of base + frame) writable) e
-    ∙ sym (each_filled (moved base) (moved_keeps base) space page frame (page_of base + frame) writable (own base shadow) refl))
+    ∙ sym (each_filled (board_entry base) (moved_keeps base) space page frame (page_of base + frame) writable (own base shadow) refl))
 
 pub placed_dropped : (base : ℕ) (shadow : Shadowed) (space : Space) (page : ℕ) → IsPlaced base shadow → IsPlaced base (dropped space page shadow)
 placed_dropped base shadow space page e =
     placed_by base (dropped space page shadow) (dropped space page (own base shadow))
-    (ap (dropped space page) e ∙ sym (each_dropped (moved base) (moved_keeps base) space page (own base shadow)))
+    (ap (dropped space page) e ∙ sym (each_dropped (board_entry base) (moved_keeps base) space page (own base shadow)))
 
 -- ---- what the shadow allows
 

@@ -21,11 +21,11 @@ use Rattle.mb_machine.specs.declared.reference.Reference.{Reference}
 use Rattle.mb_machine.specs.declared.reference.Settled.TheVariants.{Unsettled}
 use Rattle.mb_machine.specs.World.{World}
 use Rattle.mb_machine.specs.Access.{settled, translated}
-use Rattle.mb_machine.specs.Bus.{bus_of, with_register}
+use Rattle.mb_machine.specs.Bus.{bus_of, after_set_mmu}
 use Rattle.mb_model.specs.Pages.{page_of}
 use Rattle.vm_shadow.specs.Shadows.{Shadowed, nothing, dropped, is_at}
 use Rattle.vm_machine.specs.Guests.{Guest, Truthful, IsReference, ref}
-use Rattle.vm_machine.specs.Bus.{without_kept, gone, put, after_flush, shadow_after}
+use Rattle.vm_machine.specs.Bus.{without_kept, gone, put_entry_of, shadow_after_flush, shadow_after}
 use Rattle.vm_held.specs.Truth.{Fine}
 use Rattle.vm_held.proofs.Accesses.{found_fine, after_found, one_filled, truthful_less}
 use Rattle.vm_held.proofs.Puts.{accesses_keep_truth}
@@ -91,24 +91,24 @@ module _ (size : ℕ) (ram : List ℕ) (mmu : Mmu) (devices : DeviceState) (kept
 
   -- the shadow is truthful once an access has left this, and it has put its entry
   abbrev Access : Reference → Option ℕ × World → Shadowed → Type 0
-  Access r q s = Truthful size (record { world = q.1; shadow = put q.1 r s q.0 })
+  Access r q s = Truthful size (record { world = q.1; shadow = put_entry_of q.1 r s q.0 })
 
   pub accessed_truthful : (r : Reference) (place : Option ℕ) (w : World) (after : List Kept) (s : Shadowed) → IsReference r
       → (place, w) ≡ translated rule_k r g.world → w.kept ≡ after ∷ [] → s ≡ without_kept (gone g.world r) shadow
-      → IsTruthful size w.mmu after (put w r s place)
+      → IsTruthful size w.mmu after (put_entry_of w r s place)
   accessed_truthful r place w after s is means e h =
-      whatever size (record { world = w; shadow = put w r s place }) after e
+      whatever size (record { world = w; shadow = put_entry_of w r s place }) after e
       (subst (λ (q : Option ℕ × World). Access r q s) (sym means)
       (subst (Access r (translated rule_k r g.world)) (sym h) (accesses_keep_truth size r g is fine).sound.truthful))
 
   -- after a flush
-  pub flushed_truthful : (what : Flush) → IsTruthful size mmu (flushed_in what kept) (after_flush what (kept ∷ []) shadow)
+  pub flushed_truthful : (what : Flush) → IsTruthful size mmu (flushed_in what kept) (shadow_after_flush what (kept ∷ []) shadow)
   flushed_truthful what =
-      whatever size (record { world = record g.world { kept = flushed_in what kept ∷ [] }; shadow = after_flush what (kept ∷ []) shadow })
+      whatever size (record { world = record g.world { kept = flushed_in what kept ∷ [] }; shadow = shadow_after_flush what (kept ∷ []) shadow })
       (flushed_in what kept) refl (flush_truthful size what g fine)
 
   set_truthful : (which : MmuReg) (value : ℕ)
-      → Truthful size (record { world = with_register rule_k which value g.world; shadow = if rule_k.forgets which then nothing else shadow })
+      → Truthful size (record { world = after_set_mmu rule_k which value g.world; shadow = if rule_k.forgets which then nothing else shadow })
   unfolding bus_of shadow_after
   set_truthful which value = (calls_keep_truth size (SetMmu which value) g tt fine).sound.truthful
 
@@ -116,11 +116,11 @@ module _ (size : ℕ) (ram : List ℕ) (mmu : Mmu) (devices : DeviceState) (kept
   pub register_truthful : (which : MmuReg) (value : ℕ) (after : List Kept) (s : Shadowed) → after_movec rule_k which (kept ∷ []) ≡ after ∷ []
       → s ≡ (if rule_k.forgets which then nothing else shadow)
       → IsTruthful size (with_mmu_register mmu which (bit_and value (kept_bits (control.Mmu which)))) after s
-  unfolding with_register
+  unfolding after_set_mmu
   register_truthful which value after s e h =
       let register = with_mmu_register mmu which (bit_and value (kept_bits (control.Mmu which))) in
       whatever size (record { world = record g.world { mmu = register; kept = after_movec rule_k which (kept ∷ []) }; shadow = s }) after e
-      (subst (λ (s : Shadowed). Truthful size (record { world = with_register rule_k which value g.world; shadow = s })) (sym h) (set_truthful which value))
+      (subst (λ (s : Shadowed). Truthful size (record { world = after_set_mmu rule_k which value g.world; shadow = s })) (sym h) (set_truthful which value))
 
 -- once an entry is dropped
 pub dropped_truthful : (size : ℕ) (mmu : Mmu) (kept : List Kept) (shadow : Shadowed) (space : Space) (page : ℕ) → IsTruthful size mmu kept shadow

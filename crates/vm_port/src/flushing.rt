@@ -3,11 +3,11 @@
 
 ghost use Rattle.std.specs.Prelude.{◌≡◌, ◌<◌, ◌^◌, false, if◌then◌else◌};
 ghost use Rattle.vm_shadow.specs.Shadows.{nothing, dropped};
-ghost use Rattle.mb_model.specs.Keeping.{rule_k, flushed, dropped as dropped_halves, after_movec, covers, NamesPages};
+ghost use Rattle.mb_model.specs.Keeping.{rule_k, flushed, after_ptest as dropped_halves, after_movec, covers, NamesPages};
 ghost use Rattle.mb_model.specs.Pages.{page_of as page_number, has_big_pages as has_big};
 ghost use Rattle.mb_machine.specs.Access.{matched};
-ghost use Rattle.mb_machine.specs.Bus.{tested, with_register};
-ghost use Rattle.vm_machine.specs.Bus.{dropped_all, after_flush, after_drop, after_test};
+ghost use Rattle.mb_machine.specs.Bus.{tested, after_set_mmu};
+ghost use Rattle.vm_machine.specs.Bus.{dropped_all, shadow_after_flush, shadow_after_drop, shadow_after_test};
 
 use crate::port::GuestPort;
 use mb_instr::ControlRegister;
@@ -47,7 +47,7 @@ impl<R: Ram> GuestPort<'_, R> {
 
     /// What a flush makes of the shadow.
     fn leave(&mut self, what: Flush)
-        ensures shadow { tables_of self.new ≡ after_flush what (world_of self.old).kept (tables_of self.old) }
+        ensures shadow { tables_of self.new ≡ shadow_after_flush what (world_of self.old).kept (tables_of self.old) }
         ensures world { world_of self.new ≡ world_of self.old }
         ensures beyond { beyond_of self.new ≡ beyond_of self.old }
     {
@@ -61,7 +61,7 @@ impl<R: Ram> GuestPort<'_, R> {
     pub(crate) fn flushed(&mut self, what: Flush)
         ensures world { world_of self.new
             ≡ record (world_of self.old) { kept = flushed what (world_of self.old).kept } }
-        ensures shadow { tables_of self.new ≡ after_flush what (world_of self.old).kept (tables_of self.old) }
+        ensures shadow { tables_of self.new ≡ shadow_after_flush what (world_of self.old).kept (tables_of self.old) }
         ensures beyond { beyond_of self.new ≡ beyond_of self.old }
     {
         let _ = self.size();
@@ -75,7 +75,7 @@ impl<R: Ram> GuestPort<'_, R> {
         ensures world { world_of self.new
             ≡ record (world_of self.old) { kept = dropped_halves big space page (world_of self.old).kept } }
         ensures shadow { tables_of self.new
-            ≡ after_drop big space page (world_of self.old).kept (tables_of self.old) }
+            ≡ shadow_after_drop big space page (world_of self.old).kept (tables_of self.old) }
         ensures beyond { beyond_of self.new ≡ beyond_of self.old }
     {
         self.flushed(Flush::Page(space, page));
@@ -104,9 +104,9 @@ impl<R: Ram> GuestPort<'_, R> {
     }
 
     /// Sets a register of translation.
-    #[tactic(auto, unfolding(mb_machine::specs::Bus::with_register))]
+    #[tactic(auto, unfolding(mb_machine::specs::Bus::after_set_mmu))]
     pub(crate) fn set_register(&mut self, which: MmuReg, value: u32)
-        ensures world { world_of self.new ≡ with_register rule_k which value (world_of self.old) }
+        ensures world { world_of self.new ≡ after_set_mmu rule_k which value (world_of self.old) }
         ensures shadow { tables_of self.new ≡ (if rule_k.forgets which then nothing else tables_of self.old) }
         ensures beyond { beyond_of self.new ≡ beyond_of self.old }
     {
@@ -121,7 +121,7 @@ impl<R: Ram> GuestPort<'_, R> {
     pub(crate) fn tested(&mut self, space: Space, at: u32, write: bool) -> u32
         ensures means { (result, world_of self.new) ≡ tested space (page_number at) write (world_of self.old) }
         ensures shadow { tables_of self.new
-            ≡ after_test (has_big (world_of self.old).mmu)
+            ≡ shadow_after_test (has_big (world_of self.old).mmu)
             (matched false (world_of self.old).mmu space (page_number at)) space (page_number at)
             (world_of self.old).kept (tables_of self.old) }
         ensures beyond { beyond_of self.new ≡ beyond_of self.old }

@@ -5,7 +5,7 @@ ghost use Rattle.mb_model.specs.Keeping.{rule_k, entry_for};
 ghost use Rattle.mb_model.specs.Pages.{page_of as page_number, offset_of};
 ghost use Rattle.mb_machine.specs.Access.{by_entry as by_kept_entry, searched, settled, translated, LeadsTo};
 ghost use Rattle.vm_machine.specs.Guests.{IsReference};
-ghost use Rattle.vm_machine.specs.Bus.{gone_settled, without_kept, gone, put, accessed};
+ghost use Rattle.vm_machine.specs.Bus.{gone_settled, without_kept, gone, put_entry_of, accessed};
 ghost use Rattle.vm_machine.specs.Bus.{is_in_ram, is_split, is_writable};
 ghost use Rattle.vm_port.specs.Stands.{IsTruthful};
 
@@ -114,8 +114,8 @@ impl<R: Ram> GuestPort<'_, R> {
     /// not allow it.
     fn put_entry(&mut self, r: Reference, place: Option<u32>)
         requires truthful { IsTruthful self.old.size self.old.registers.now self.old.tlb.now
-            (put (world_of self.old) r (tables_of self.old) place) }
-        ensures shadow { tables_of self.new ≡ put (world_of self.old) r (tables_of self.old) place }
+            (put_entry_of (world_of self.old) r (tables_of self.old) place) }
+        ensures shadow { tables_of self.new ≡ put_entry_of (world_of self.old) r (tables_of self.old) place }
         ensures world { world_of self.new ≡ world_of self.old }
         ensures beyond { beyond_of self.new ≡ beyond_of self.old }
     {

@@ -9,7 +9,7 @@ use Rattle.mb_model.specs.declared.kept.Kept.{Kept}
 use Rattle.mb_walk.specs.declared.found.Found.{Found}
 use Rattle.mb_walk.specs.declared.found.Found.TheVariants.{Entry, Invalid}
 use Rattle.mb_walk.specs.Memory.{number_at, with_number, AreBytes}
-use Rattle.mb_walk.specs.Descriptors.{table_descriptor, page_descriptor, entry_at, root_index, pointer_index, page_index, with_modified, marked, takes_writes}
+use Rattle.mb_walk.specs.Descriptors.{table_descriptor, page_descriptor, entry_at, root_index, pointer_index, page_index, with_modified, marked, page_takes_writes}
 use Rattle.mb_walk.specs.Descriptors.{kept_of, resident_status}
 use Rattle.mb_walk.specs.Search.{Searched, Level, and_below, is_inside, descended, ended, search_of}
 use Rattle.mb_walk.proofs.LongLemmas.{long_back}
@@ -43,7 +43,7 @@ module _ (ram : List ℕ) (bytes : AreBytes ram) (p : ℕ) (room : p + 4 ≤ len
   level_stops r = stops ram p inside r
 
 marked_before : (d : ℕ) (protected : Bool) (space : Space) (write : Bool) → d / 2 ^ 3 % 2 ≡ 1 → d / 2 ^ 4 % 2 ≡ 1 → marked d protected space write ≡ d
-marked_before d protected space write u m = elim (cases_Bool (write && takes_writes (page_descriptor d) protected space)) [
+marked_before d protected space write u m = elim (cases_Bool (write && page_takes_writes (page_descriptor d) protected space)) [
   | inl b ↦ rw (b, used_before d u) (modified d m)
   | inr b ↦ rw b (used_before d u)
 ]

@@ -9,7 +9,7 @@ use Rattle.mb_script.specs.declared.turn.Turn.{Turn}
 use Rattle.mb_model.specs.Keeping.{rule_k}
 use Rattle.mb_machine.specs.Machine.{Entries, Machine, run_of, takes_steps}
 use Rattle.vm_meaning.specs.Native.{NativeState}
-use Rattle.vm_machine.specs.Turns.{Tally, Turned, turn_of, unmarked}
+use Rattle.vm_machine.specs.Turns.{Tally, Turned, turn_of, without_marks}
 use Rattle.vm_machine.specs.Rounds.{Member, Hosted, left, left_of_all, opened, closed_by, turn_in, whole_turn}
 use Rattle.vm_machine.proofs.ByRule.{turns_by_rule}
 use Rattle.vm_machine.proofs.TurnLaws.{halted_turn, nothing_turned, turns_add, turn_front}
@@ -23,9 +23,9 @@ use Rattle.vm_slices.proofs.Turns.{after_steps, left_going, left_still, steps_le
 -- ---- two turns of a guest are one
 
 -- marks before a turn have no part in it
-unmarked_turn : (script : Entries) (n : ℕ) (t : Turned) (m : Member) → closed_by (turn_of script n (unmarked t)) m ≡ closed_by (turn_of script n t) m
+unmarked_turn : (script : Entries) (n : ℕ) (t : Turned) (m : Member) → closed_by (turn_of script n (without_marks t)) m ≡ closed_by (turn_of script n t) m
 unmarked_turn script n t m =
-    ap (λ (x : Turned). closed_by x m) (sym (turn_front script n t.marks (unmarked t)))
+    ap (λ (x : Turned). closed_by x m) (sym (turn_front script n t.marks (without_marks t)))
     ∙ ap (λ (marks : List Plain). closed_by (turn_of script n (record t { marks = marks })) m) (append-nil t.marks)
 
 steps_add : (m : Member) (n k : ℕ) → after_steps (after_steps m n) k ≡ after_steps m (n + k)

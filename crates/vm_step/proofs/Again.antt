@@ -16,7 +16,7 @@ use Rattle.vm_machine.specs.Guests.{Guest}
 use Rattle.vm_machine.specs.Bus.{guest_bus}
 use Rattle.vm_machine.specs.Refills.{begun_again}
 use Rattle.vm_machine.specs.Classes.{class_at_first}
-use Rattle.vm_machine.specs.Turns.{Guested, Turned, Tally, world_of, guest_begun, guest_later, counted, with_refills, exits, by_class, marks_of, advanced}
+use Rattle.vm_machine.specs.Turns.{Guested, Turned, Tally, world_of, guest_begun, guest_later, tallied, with_refills, exits, by_class, marks_of, advanced}
 use Rattle.vm_machine.specs.Turns.{guest_processed, guest_stepped, class_of_step, step_class_at_first, refills_of_step, turn_of}
 use Rattle.vm_machine.specs.declared.class.Class.TheVariants as class
 use Rattle.vm_machine.proofs.Counts.{refills_aside}
@@ -121,8 +121,8 @@ midway_ends g ram native k n mid now counts m end seat next later means tally sa
     ]) comes in
     let turned : turned_on seat next (m.turn.marks ++ marks) ≡ turn_of g.script (k + 1) (turned_on g ram []) =
     same_turn (turned_on seat next (m.turn.marks ++ marks)) (by_class class_there n later_there m.turn) guest
-    (tally ∙ ap (λ (x : Tally). with_refills class n (counted class x)) m.tally
-    ∙ ap (λ (x : Class). with_refills x n (counted x m.turn.tally)) (sym class_is))
+    (tally ∙ ap (λ (x : Tally). with_refills class n (tallied class x)) m.tally
+    ∙ ap (λ (x : Class). with_refills x n (tallied x m.turn.tally)) (sym class_is))
     (ap (λ (x : List Plain). m.turn.marks ++ x) marks_is)
     ∙ sym advances ∙ sym (nothing_turned g.script (advanced g.script m.turn)) ∙ sym (going_turn g.script 0 m.turn m.goes)
     ∙ ap (turn_of g.script 1) m.taken ∙ sym (turns_add g.script k 1 (turned_on g ram [])) in
@@ -221,7 +221,7 @@ midway_takes g ram native k n mid now counts m none seat next later takes =
     ∙ ap (λ (i : ℕ). by_class class i (guest_stepped g.script start) t) refills
     ∙ ap (λ (q : Guested). by_class class 0 q t) stepped_is in
     let guest : guested_on seat next ≡ stepped = ap (λ (x : Turned). x.guest) one in
-    let tally : seat.tally ≡ counted class mid.tally = ap (λ (x : Turned). x.tally) one ∙ no_refills class (counted class mid.tally) in
+    let tally : seat.tally ≡ tallied class mid.tally = ap (λ (x : Turned). x.tally) one ∙ no_refills class (tallied class mid.tally) in
     let marks : takes.marks ≡ marks_of class mid.cpu seat.cpu =
     ap (λ (x : Turned). x.marks) one ∙ ap (λ (q : Guested). marks_of class mid.cpu q.machine.cpu) (sym guest) in
     let aside = refills_aside class n seat.tally in

@@ -26,14 +26,14 @@ use Rattle.mb_writes.specs.declared.transfers.Movem.{Movem}
 use Rattle.mb_meaning.specs.Ends.{Performed, closed}
 use Rattle.mb_meaning.specs.Attempt.{fetched_of}
 use Rattle.mb_processor.specs.SystemEnds.{with_registers}
-use Rattle.mb_processor.specs.Entry.{frames_of, frame_of, frame_with, has_address, settled}
+use Rattle.mb_processor.specs.Entry.{frames_of, frame_of, frame_with, has_address, handler_regs}
 use Rattle.mb_processor.specs.Step.{interrupt_mask, step_of, rank}
 use Rattle.mb_devices.specs.Devices.{DeviceState, ticked, level_of}
 use Rattle.mb_machine.specs.World.{World}
 use Rattle.mb_machine.specs.declared.reference.Reference.{Reference}
 use Rattle.mb_machine.specs.Access.{untranslated}
 use Rattle.mb_machine.specs.Machine.{Machine, begun, arrived, state_after, takes_steps, asked}
-use Rattle.mb_machine.specs.Enters.{IsOpen, HasRoom, supervising}
+use Rattle.mb_machine.specs.Enters.{IsUntranslated, HasRoom, supervising}
 use Rattle.mb_attempts.specs.Attempts.{IsUntraced, NoOther, fetched_by}
 use Rattle.mb_walk.proofs.Parts.{drop-over}
 use Rattle.mb_processor.specs.Raise.{Stepped}
@@ -94,7 +94,7 @@ pub record Entered (e : Exit) (top : ℕ) (r : Regs) : Type 0 where
 
 entered_by : (e : Exit) (b : World) → is_master e.cpu.regs.sr ≡ false → (frames_of e.cause e.cpu.regs).second ≡ None
     → Entered e (frames_of e.cause e.cpu.regs).first.at (left e b).0.1.regs
-unfolding settled
+unfolding handler_regs
 entered_by e b master one =
     let f = frames_of e.cause e.cpu.regs in
     rw one (rw master (record { d = refl; a = refl; usp = refl; isp = refl }))
@@ -143,7 +143,7 @@ begins bytes rest f e =
 -- ---- the board's step
 
 -- the translation that the monitor sets leaves supervisor operands alone
-open_by : (root : ℕ) (mmu : Mmu) → mmu ≡ native_mmu root → IsOpen mmu
+open_by : (root : ℕ) (mmu : Mmu) → mmu ≡ native_mmu root → IsUntranslated mmu
 open_by root mmu h = λ at write l. subst (λ (m : Mmu). untranslated m (supervising at write) ≡ Some false) (sym h) (native_translation root at false write l).1
 
 -- The exception that the board enters, and what is known of it.

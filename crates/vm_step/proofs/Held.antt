@@ -11,7 +11,7 @@ use Rattle.mb_instr.specs.declared.registers.Plain.{Plain}
 use Rattle.mb_writes.specs.declared.ends.Ended.{Ended}
 use Rattle.mb_writes.specs.declared.ends.Ended.TheVariants as ended
 use Rattle.mb_writes.specs.declared.transfers.Movem.{Movem}
-use Rattle.mb_meaning.specs.Ends.{Carried, Stopped, Performed, closed}
+use Rattle.mb_meaning.specs.Ends.{Carried, OtherEnd, Performed, closed}
 use Rattle.mb_meaning.specs.Attempt.{attempt_of}
 use Rattle.mb_tells.specs.Guarded.{Guarded}
 use Rattle.mb_tells.specs.Left.{LeftBy}
@@ -44,7 +44,7 @@ left_is_denied x space before moves rest t (ended.WriteFault refused) after h = 
 left_is_denied x space before moves rest t (ended.LineFault fault line) after h = refl
 left_is_denied x space before moves rest t (ended.Movem refused) after h = refl
 
-abbrev AttemptFact : Space → ℕ → Plain → Guest → Fact Guest Carried Stopped
+abbrev AttemptFact : Space → ℕ → Plain → Guest → Fact Guest Carried OtherEnd
 AttemptFact space size p g rest t stop =
     (before : Plain) × (record before { pc = p.pc } ≡ p)
     × LeftBy (held_guard space size g) space before (moves_fetched held_bus space p.pc g) rest t stop.ended stop.plain

@@ -10,7 +10,7 @@ use Rattle.mb_port.specs.declared.types.Space.{Space}
 use Rattle.mb_writes.specs.declared.ends.Ended.{Ended}
 use Rattle.mb_writes.specs.declared.ends.Ended.TheVariants as ended
 use Rattle.mb_meaning.specs.Ends.{Performed, closed}
-use Rattle.mb_meaning.specs.Attempt.{Found}
+use Rattle.mb_meaning.specs.Attempt.{FoundInstr}
 use Rattle.mb_processor.specs.Raise.{Stepped, interrupt_of}
 use Rattle.mb_processor.specs.declared.Finish.TheVariants as finish
 use Rattle.mb_processor.specs.Step.{interrupt_mask, unfound_of, execute_of, execute_next_of, step_of, rank}
@@ -133,7 +133,7 @@ step_by_fetch level cpu g h masked going same =
     (choose cpu.stopped (Return (finish.Idle, cpu)) (execute_next_of cpu)) h
     (not_above (interrupt_mask cpu) (rank level) masked)
     ∙ chosen guest_bus cpu.stopped (Return (finish.Idle, cpu)) (execute_next_of cpu) h going
-    ∙ ap (λ (r : Found × Guest). run guest_bus (either r.0 (λ unfound. unfound_of unfound cpu) (λ found. execute_of found.0 found.1 cpu)) r.1) same
+    ∙ ap (λ (r : FoundInstr × Guest). run guest_bus (either r.0 (λ unfound. unfound_of unfound cpu) (λ found. execute_of found.0 found.1 cpu)) r.1) same
     ∙ sym (chosen guest_bus (nat_lt (interrupt_mask cpu) (rank level)) (interrupt_of level cpu)
     (choose cpu.stopped (Return (finish.Idle, cpu)) (execute_next_of cpu)) g
     (not_above (interrupt_mask cpu) (rank level) masked)
@@ -148,7 +148,7 @@ always_attempted (instr.System i) cpu h = absurd h
 abbrev Comes : ℕ → Cpu → Guest → Guest → Type 0
 Comes level cpu g h = run guest_bus (step_of level cpu) h ≡ run guest_bus (step_of level cpu) g
 
-found_is : (f : Found) (i : Instr) (n : ℕ) → f ≡ Ok (i, n) → NoOther i f
+found_is : (f : FoundInstr) (i : Instr) (n : ℕ) → f ≡ Ok (i, n) → NoOther i f
 found_is f i n e = subst (NoOther i) (sym e) refl
 
 comes_by : (level : ℕ) (cpu : Cpu) (g h : Guest) → rank level ≤ interrupt_mask cpu → cpu.stopped ≡ false → BeginsAgain (space_of cpu) (plain_of cpu.regs) g h

@@ -14,14 +14,14 @@ use Rattle.mb_writes.specs.declared.transfers.Movem.{Movem}
 use Rattle.mb_writes.specs.declared.ends.Ended.{Ended}
 use Rattle.mb_writes.specs.declared.ends.Ended.TheVariants as ended
 use Rattle.mb_writes.specs.Transfers.{movem_in}
-use Rattle.mb_meaning.specs.Ends.{Carried, Stopped, Performed, closed}
+use Rattle.mb_meaning.specs.Ends.{Carried, OtherEnd, Performed, closed}
 use Rattle.mb_processor.specs.SystemEnds.{with_registers}
-use Rattle.mb_meaning.specs.Attempt.{Unfound, NoInstruction, Unfetched, end_without, Found, found_none}
+use Rattle.mb_meaning.specs.Attempt.{Unfound, NoInstruction, Unfetched, end_without, FoundInstr, found_none}
 use Rattle.mb_processor.specs.Raise.{Stepped, cause_at}
 use Rattle.mb_processor.specs.Step.{finish_instruction_of, interrupt_mask, movem_words, step_of, rank}
 use Rattle.mb_attempts.specs.Attempts.{IsUntraced, NoOther, is_attempted, fetched_by, finished_by}
 use Rattle.mb_attempts.proofs.Attempts.{attempts_find_none, attempt_then_finish}
-use Rattle.mb_tells.specs.Left.{IsRest, completing, moving}
+use Rattle.mb_tells.specs.Left.{IsRest, completing_writes, completing_transfers}
 use Rattle.mb_tells.specs.Laws.{moves_fetched}
 use Rattle.mb_writes.specs.declared.ends.WriteFault.{WriteFault}
 use Rattle.mb_writes.specs.declared.ends.MovemFault.{MovemFault}
@@ -97,15 +97,16 @@ module _ (size level : ℕ) (guest : Cpu) (g : Guest) (i : Instr) (plain : IsUnt
   abbrev own : Stepped × Guest
   own = run guest_bus (step_of level guest) g
 
-  abbrev Fetched : Found × Guest
+  abbrev Fetched : FoundInstr × Guest
   Fetched = fetched_by held_bus guest g
 
   fetch : (Fetched.1 ≡ g) × (((fetched_by guest_bus guest g ≡ Fetched) × IsFound Fetched.0) ⊎ ((refused : ReadFault) × (Fetched.0 ≡ Err (Unfetched refused))))
   unfolding plain_of
   fetch = fetches_go_on space size guest.regs.pc g regs.counter sound
 
-  at_fetch : (f : Found) → Fetched.0 ≡ f → Fetched ≡ (f, g)
-  at_fetch f e = ap (λ (a : Found). (let q : Found × Guest = (a, Fetched.1) in q)) e ∙ ap (λ (h : Guest). (let q : Found × Guest = (f, h) in q)) fetch.0
+  at_fetch : (f : FoundInstr) → Fetched.0 ≡ f → Fetched ≡ (f, g)
+  at_fetch f e = ap (λ (a : FoundInstr). (let q : FoundInstr × Guest = (a, Fetched.1) in q)) e
+      ∙ ap (λ (h : Guest). (let q : FoundInstr × Guest = (f, h) in q)) fetch.0
 
   -- an attempt that found no instruction did not begin
   none_begun : (unfound : Unfound) → Fetched.0 ≡ Err unfound → IsBegun (closed (by_held space p g).0).0 → ⊥
@@ -114,7 +115,7 @@ module _ (size level : ℕ) (guest : Cpu) (g : Guest) (i : Instr) (plain : IsUnt
       let is : by_held space p g ≡ (found_none unfound p, g) = attempts_find_none held_bus space p g g unfound (at_fetch (Err unfound) e) in
       unbegun unfound (subst (λ (q : Performed × Guest). IsBegun (closed q.0).0) is h)
 
-  attempted_by_found : (f : Found) → Fetched.0 ≡ f → IsBegun (closed (by_held space p g).0).0 → is_attempted i guest ≡ true
+  attempted_by_found : (f : FoundInstr) → Fetched.0 ≡ f → IsBegun (closed (by_held space p g).0).0 → is_attempted i guest ≡ true
   attempted_by_found (Err unfound) e h = absurd (none_begun unfound e h)
   attempted_by_found (Ok (j, n)) e h =
       let same : j ≡ i = subst (NoOther i) e other in
@@ -128,7 +129,7 @@ module _ (size level : ℕ) (guest : Cpu) (g : Guest) (i : Instr) (plain : IsUnt
     masked = masked;
     untraced = plain;
     found = elim fetch.1 [
-      | inl (same, is) ↦ subst (λ (q : Found × Guest). NoOther i q.0) (sym same) other
+      | inl (same, is) ↦ subst (λ (q : FoundInstr × Guest). NoOther i q.0) (sym same) other
       | inr (refused, e) ↦ absurd (none_begun (Unfetched refused) e h)
     ];
     attempted = attempted_by_found Fetched.0 refl h;
@@ -140,7 +141,7 @@ module _ (size level : ℕ) (guest : Cpu) (g : Guest) (i : Instr) (plain : IsUnt
     subst (NoOther i) e other,
     elim fetch.1 [
       | inl (same, is) ↦ subst IsFound e is
-      | inr (refused, none) ↦ absurd (let z : (let o : Found = Err (Unfetched refused) in o) ≡ Ok (j, n) = sym none ∙ e in let y : ⊥ = cc in y)
+      | inr (refused, none) ↦ absurd (let z : (let o : FoundInstr = Err (Unfetched refused) in o) ≡ Ok (j, n) = sym none ∙ e in let y : ⊥ = cc in y)
     ],
   )
 
@@ -179,7 +180,7 @@ module _ (size level : ℕ) (guest : Cpu) (g : Guest) (i : Instr) (plain : IsUnt
   -- a call was denied: the step is what was left
   written : (f : WriteFault) (items : List Pend) (after : Plain) (now : Guest) (done : Carried) → Begins guest_bus level guest g i → IsRest items
       → done.plain ≡ after
-      → by_guest space p g ≡ run guest_bus (completing space f.first items done) now
+      → by_guest space p g ≡ run guest_bus (completing_writes space f.first items done) now
       → own ≡ run guest_bus (rest_by (left_pieces items f.first) level guest after) now
   unfolding rest_by
   written f [] after now done b some same whole = absurd (let h = some.some in omega arith)
@@ -188,7 +189,7 @@ module _ (size level : ℕ) (guest : Cpu) (g : Guest) (i : Instr) (plain : IsUnt
       ∙ ap (λ (q : Plain). run guest_bus (finish_writes_of (piece ∷ pieces) f.first (with_registers q guest)) now) same
 
   transferred : (f : MovemFault) (after : Plain) (now : Guest) (m : Movem) → Begins guest_bus level guest g i → IsTidy after → movem_in (movem_words i) ≡ m
-      → by_guest space p g ≡ run guest_bus (moving m f.first f.done space after) now
+      → by_guest space p g ≡ run guest_bus (completing_transfers m f.first f.done space after) now
       → own ≡ run guest_bus (finish_movem_of (movem_words i) f.first f.done after.pc (with_registers (own_counter guest after) guest)) now
   transferred f after now m b tidy is whole =
       let q = own_counter guest after in
@@ -197,8 +198,8 @@ module _ (size level : ℕ) (guest : Cpu) (g : Guest) (i : Instr) (plain : IsUnt
         pc = with_counter q guest ∙ same_counter guest;
         others = λ r. registers_over q r guest;
       })
-      (whole ∙ ap (λ (n : Movem). run guest_bus (moving n f.first f.done space after) now) (sym is)
-      ∙ ap (λ (r : Plain). run guest_bus (moving (movem_in (movem_words i)) f.first f.done space r) now) (sym (next_is guest after tidy)))
+      (whole ∙ ap (λ (n : Movem). run guest_bus (completing_transfers n f.first f.done space after) now) (sym is)
+      ∙ ap (λ (r : Plain). run guest_bus (completing_transfers (movem_in (movem_words i)) f.first f.done space r) now) (sym (next_is guest after tidy)))
 
   -- the words of the instruction name the MOVEM that was fetched
   named : (m : Movem) → moves_fetched held_bus space p.pc g m → movem_in (movem_words i) ≡ m
@@ -228,9 +229,9 @@ module _ (size level : ℕ) (guest : Cpu) (g : Guest) (i : Instr) (plain : IsUnt
   denied (Ok done, now) b eight d never = absurd (never refl)
   denied (Err stop, now) b eight (other, is, goes) never =
       denied_end stop.ended stop.plain now b (λ m fetched. eight_tidy stop.plain (eight m fetched))
-      (subst (λ (s : Stopped). GoesOn space (moves_fetched held_bus space p.pc g) g now s.ended s.plain (by_guest space p g)) (same_stop stop other is) goes)
+      (subst (λ (s : OtherEnd). GoesOn space (moves_fetched held_bus space p.pc g) g now s.ended s.plain (by_guest space p g)) (same_stop stop other is) goes)
     where
-      same_stop : (a b : Stopped) → (let x : Performed = Err a in let y : Performed = Err b in x ≡ y) → b ≡ a
+      same_stop : (a b : OtherEnd) → (let x : Performed = Err a in let y : Performed = Err b in x ≡ y) → b ≡ a
       same_stop a b e = cc
 
   pub goes_on : Goal (by_held space p g)

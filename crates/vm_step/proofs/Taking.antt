@@ -28,7 +28,7 @@ use Rattle.vm_machine.specs.Guests.{Guest, Truthful}
 use Rattle.vm_mirror.specs.Related.{Site, AllAgree, mapping}
 use Rattle.vm_mirror.specs.Ready.{native_mmu}
 use Rattle.vm_meaning.specs.declared.RunEnd.TheVariants.{Counted, Exit}
-use Rattle.vm_machine.specs.Turns.{Guested, Turned, Tally, world_of, guest_begun, guest_later, counted, with_refills, exits, marks_of, by_class, advanced}
+use Rattle.vm_machine.specs.Turns.{Guested, Turned, Tally, world_of, guest_begun, guest_later, tallied, with_refills, exits, marks_of, by_class, advanced}
 use Rattle.vm_machine.specs.Turns.{turn_of, step_class_at_first}
 use Rattle.mb_machine.specs.declared.reference.Reference.{Reference}
 use Rattle.mb_machine.specs.World.{World}
@@ -127,7 +127,7 @@ is_counted x k r after t g e b = elim b.end [
 ]
 
 pub batches_take : BatchesTake
-batches_take g c world steps state native before k s bytes small running seven cpu set stretch counted has =
+batches_take g c world steps state native before k s bytes small running seven cpu set stretch tallied has =
     let ram = world.ram in
     let x = site_of g in
     let guest = guested_on g ram in
@@ -136,7 +136,7 @@ batches_take g c world steps state native before k s bytes small running seven c
     let t = turned_on g ram [] in
     let ready = boards_are_ready x c world steps state guest cpu set refl seven (stands_of g ram s bytes small) in
     let b = runs_are_batches x g.script k r t refl ready.0 ready.1 (goes g.state running) stretch in
-    let (all, done) = is_counted x k r after t g counted b in
+    let (all, done) = is_counted x k r after t g tallied b in
     let u = turn_of g.script b.retired t in
     let v = stepped_by g.script b.retired guest in
     let is_v : u.guest ≡ v = b.guest in
@@ -189,20 +189,20 @@ is_exit x k v r after t g e b = elim b.end [
 ]
 
 -- an exit counts one more exception of the turn
-by_vector : (a b : Bool) (t : Tally) → exits (counted (cond a class.Denied (cond b class.Privileged class.Trapped)) t) ≡ exits t + 1
+by_vector : (a b : Bool) (t : Tally) → exits (tallied (cond a class.Denied (cond b class.Privileged class.Trapped)) t) ≡ exits t + 1
 by_vector true b t = omega arith
 by_vector false true t = omega arith
 by_vector false false t = omega arith
 
-exit_counts : (v : ℕ) (t : Tally) → exits (counted (class_of_vector v) t) ≡ exits t + 1
+exit_counts : (v : ℕ) (t : Tally) → exits (tallied (class_of_vector v) t) ≡ exits t + 1
 exit_counts v t = by_vector (v == ACCESS_ERROR) (is_refusal v) t
 
-exit_keeps_by : (a b : Bool) (t : Tally) → (counted (cond a class.Denied (cond b class.Privileged class.Trapped)) t).retired ≡ t.retired
+exit_keeps_by : (a b : Bool) (t : Tally) → (tallied (cond a class.Denied (cond b class.Privileged class.Trapped)) t).retired ≡ t.retired
 exit_keeps_by true b t = refl
 exit_keeps_by false true t = refl
 exit_keeps_by false false t = refl
 
-exit_keeps : (v : ℕ) (t : Tally) → (counted (class_of_vector v) t).retired ≡ t.retired
+exit_keeps : (v : ℕ) (t : Tally) → (tallied (class_of_vector v) t).retired ≡ t.retired
 exit_keeps v t = exit_keeps_by (v == ACCESS_ERROR) (is_refusal v) t
 
 no_marks_by : (a b : Bool) (before after : Cpu) → marks_of (cond a class.Denied (cond b class.Privileged class.Trapped)) before after ≡ []
@@ -403,8 +403,8 @@ exits_take g c world steps state native before k v s bytes small running seven c
         marks = b.marks;
         turned = same_turned (turned_on seat next b.marks) later (e ∙ ap (λ (q : Guested). with_rest q (level_of begun)) same
             ∙ ap (λ (l : ℕ). with_rest opened l) level_w ∙ ap rest_at (sym is_w))
-            (tally ∙ ap (λ (q : Tally). counted (class_of_vector h.vector) q) (sym b.tally)
-            ∙ sym (no_refills (class_of_vector h.vector) (counted (class_of_vector h.vector) u.tally)))
+            (tally ∙ ap (λ (q : Tally). tallied (class_of_vector h.vector) q) (sym b.tally)
+            ∙ sym (no_refills (class_of_vector h.vector) (tallied (class_of_vector h.vector) u.tally)))
             (sym (ap (λ (l : List Plain). u.marks ++ l) (no_marks h.vector u.guest.machine.cpu (rest_at u.guest).machine.cpu) ∙ nothing_more u.marks
             ∙ b.marked))
             ∙ sym (turn_is (sym again_is ∙ last));

@@ -25,11 +25,11 @@ use Rattle.mb_writes.specs.declared.transfers.MovemMode.TheVariants.{Control, Po
 use Rattle.mb_writes.specs.declared.transfers.Transfer.{Transfer}
 use Rattle.mb_writes.specs.Transfers.{transfers_of}
 use Rattle.mb_writes.specs.Moving.{Halfway, refused_at, loaded_of, load_all_of, store_all_of, stepped_of, storing, transfer_of}
-use Rattle.mb_meaning.specs.Ends.{Performed, Rowed, Stopped, Cut, Unread, Stop, restored, carried}
+use Rattle.mb_meaning.specs.Ends.{Performed, Rowed, OtherEnd, Cut, Unread, Stop, restored, carried}
 use Rattle.mb_meaning.specs.Moves.{movem_by, movem_of, transferring}
 use Rattle.mb_meaning.specs.Operands.{find_address_of}
 use Rattle.mb_meaning.specs.Rows.{perform_of, row_of, perform_move_of}
-use Rattle.mb_meaning.specs.Attempt.{Found, past, fetched_of, attempt_of}
+use Rattle.mb_meaning.specs.Attempt.{FoundInstr, past, fetched_of, attempt_of}
 use Rattle.mb_attempts.proofs.Attempts.{attempts_perform}
 use Rattle.mb_tells.specs.Laws.{moves, moves_fetched}
 use Rattle.vm_step.proofs.Registers.{IsTidy}
@@ -150,7 +150,7 @@ module _ {S : Type 0} (bus : Bus S) (m : Movem) (space : Space) (first : ℕ) wh
 
 module _ {S : Type 0} (bus : Bus S) (space : Space) where
   placed_eight : (m : Movem) (p : Plain) → IsEight p → (answer : Result ℕ ReadFault) (u : S)
-      → CutsEight (run bus (tried (other_fault (λ refused. (let cut : Cut Stopped = Unread refused in cut)) answer)
+      → CutsEight (run bus (tried (other_fault (λ refused. (let cut : Cut OtherEnd = Unread refused in cut)) answer)
       (λ place. transferring (transfer_of m place 0 space p) >>= λ moved. Return (carried moved))) u).0
   placed_eight m p e (Ok place) u =
       let q = run bus (transfer_of m place 0 space p) u in moved_eight bus m space place q.0 q.1 (transfers_eight bus m space place 0 p e u)
@@ -176,6 +176,6 @@ module _ {S : Type 0} (bus : Bus S) (space : Space) where
   pub attempts_eight : (p : Plain) (u : S) (m : Movem) → moves_fetched bus space p.pc u m → IsEight p → StopsEight (run bus (attempt_of space p) u).0
   attempts_eight p u m (i, n, found, is) e =
       let q = run bus (fetched_of space p.pc) u in
-      let at : q ≡ (Ok (i, n), q.1) = ap (λ (a : Found). (let o : Found × S = (a, q.1) in o)) found in
+      let at : q ≡ (Ok (i, n), q.1) = ap (λ (a : FoundInstr). (let o : FoundInstr × S = (a, q.1) in o)) found in
       subst (λ (r : Performed × S). StopsEight r.0) (sym (attempts_perform bus space p u q.1 i n at))
       (rows_eight i m p.pc (past n p) is (record { registers = e.registers; codes = e.codes }) q.1)

@@ -8,7 +8,7 @@ use Rattle.mb_frames.specs.declared.pend.Pend.{Pend}
 use Rattle.mb_writes.specs.declared.transfers.Movem.{Movem}
 use Rattle.mb_writes.specs.declared.ends.Ended.{Ended}
 use Rattle.mb_writes.specs.declared.ends.Ended.TheVariants as ended
-use Rattle.mb_meaning.specs.Ends.{Stopped, Performed, closed}
+use Rattle.mb_meaning.specs.Ends.{OtherEnd, Performed, closed}
 use Rattle.mb_twins.specs.Twins.{IsTrap, IsRefusal, SameEnd}
 use Rattle.mb_tells.specs.Left.{AreOwn as ArePieces, IsRest}
 use Rattle.mb_instr.specs.Operands.{more}
@@ -112,7 +112,7 @@ usual_end x space moves g (Err stop, now) own there same (inl (is, none, left)) 
     by_end x space moves g now there stop.ended stop.plain own same (inl none)
 usual_end x space moves g (Err stop, now) own there same (inr (other, is, goes)) =
     by_end x space moves g now there stop.ended stop.plain own same
-    (inr (subst (λ (s : Stopped). GoesOn space moves g now s.ended s.plain own) (same_stop stop other is) goes))
+    (inr (subst (λ (s : OtherEnd). GoesOn space moves g now s.ended s.plain own) (same_stop stop other is) goes))
   where
-    same_stop : (a b : Stopped) → (let x : Performed = Err a in let y : Performed = Err b in x ≡ y) → b ≡ a
+    same_stop : (a b : OtherEnd) → (let x : Performed = Err a in let y : Performed = Err b in x ≡ y) → b ≡ a
     same_stop a b e = cc

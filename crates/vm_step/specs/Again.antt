@@ -14,7 +14,7 @@ use Rattle.vm_machine.specs.Bus.{guest_bus}
 use Rattle.vm_machine.specs.Refills.{begun_again}
 use Rattle.vm_machine.specs.declared.limits.TheConstants.{MOST_REFILLS}
 use Rattle.vm_machine.specs.Classes.{class_at_first}
-use Rattle.vm_machine.specs.Turns.{Turned, world_of, guest_begun, guest_later, counted, with_refills, exits}
+use Rattle.vm_machine.specs.Turns.{Turned, world_of, guest_begun, guest_later, tallied, with_refills, exits}
 use Rattle.vm_machine.specs.Turns.{marks_of, turn_of}
 use Rattle.vm_machine.specs.Seats.{Seat, machine_on, guested_on, turned_on, IsSeated, IsSame, OnlyWithin, Takes}
 use Rattle.vm_held.specs.Truth.{Fine}
@@ -77,7 +77,7 @@ MidwayEnds = (g : Seat) (ram : List ℕ) (native : NativeState) (k n : ℕ) (mid
     (n ≡ MOST_REFILLS) ⊎ (begun_again mid.cpu w ≡ None)
     → (seat : Seat) (next : List ℕ) (later : NativeState)
     → guested_on seat next ≡ guest_later (machine_on mid now) (run guest_bus (step_of level mid.cpu) w)
-    → seat.tally ≡ with_refills class n (counted class mid.tally)
+    → seat.tally ≡ with_refills class n (tallied class mid.tally)
     → IsSame mid seat → IsSeated seat next → OnlyWithin mid now next
     → later.retired + mid.tally.retired ≡ counts.retired + seat.tally.retired
     → later.trail ≡ trail counts.trail (marks_of class mid.cpu seat.cpu)

@@ -23,7 +23,7 @@ use Rattle.vm_machine.specs.Refills.{refilled_at, begun_again}
 use Rattle.vm_held.specs.Truth.{Fine}
 use Rattle.vm_machine.specs.Classes.{class_at_first}
 use Rattle.vm_mirror.specs.Related.{Site}
-use Rattle.vm_machine.specs.Turns.{world_of, guest_begun, guest_later, counted, step_class_at_first}
+use Rattle.vm_machine.specs.Turns.{world_of, guest_begun, guest_later, tallied, step_class_at_first}
 use Rattle.vm_machine.specs.Exits.{class_of_vector, frame_access, handed_by, rest_by_frame}
 use Rattle.vm_meaning.specs.declared.RunEnd.TheVariants.{Counted, Exit}
 use Rattle.vm_meaning.specs.Native.{NativeState, Ran, about_to_run, user_run}
@@ -132,7 +132,7 @@ pub record IsLeft (g : Seat) (ram : List ℕ) (native : NativeState) (k : ℕ) (
       → guested_on seat next ≡ guest_later b.machine
       (run guest_bus (rest_by_frame vector (frame_access frame) (level_of begun) mid.cpu
       (handed_by after.machine.cpu.regs frame)) (world_of b))
-      → seat.tally ≡ counted (class_of_vector vector) mid.tally → IsSame mid seat → IsSeated seat next
+      → seat.tally ≡ tallied (class_of_vector vector) mid.tally → IsSame mid seat → IsSeated seat next
       → OnlyWithin mid after.machine.world.ram next
       → Takes (retired + 1) (record { guest = g; ram = ram; native = native })
       (record { guest = seat; ram = next; native = after.native })

@@ -17,8 +17,8 @@ use Rattle.mb_machine.specs.World.{World}
 use Rattle.mb_machine.specs.Places.{taken, stored, checked, taken_line, stored_line}
 use Rattle.mb_machine.specs.Access.{matched, search_for, settled, by_match, untranslated, searched, translated, by_settled, by_found}
 use Rattle.mb_machine.specs.Access.{marks, through}
-use Rattle.mb_machine.specs.Bus.{bus_of, reading_of, writing_of, fetching_of, read_at, read_by, written_at, written_by, tested, tested_by, with_register}
-use Rattle.vm_meaning.specs.Free.{IsKept, StandIn, rule_free, holding, WorldWithin}
+use Rattle.mb_machine.specs.Bus.{bus_of, reading_of, writing_of, fetching_of, read_at, read_by, written_at, written_by, tested, tested_by, after_set_mmu}
+use Rattle.vm_meaning.specs.Free.{IsKept, StandIn, rule_free, with_class_entry, WorldWithin}
 use Rattle.vm_meaning.proofs.Blind.{IsBlind, IsBlindStore, taken-blind, taken_line-blind, checked-blind, stored-blind, stored_line-blind}
 use Rattle.vm_meaning.proofs.Blind.{read-blind, write-blind, get-blind, put-blind, blind-kept}
 use Rattle.vm_meaning.proofs.Accesses.{accesses-use_or_search}
@@ -80,25 +80,25 @@ in_front entry kept held is stand x (suc class, h) = stand x (class, h)
 
 led_by : (t : World) (held : KeptLists) (r : Reference) (k : Kept) (f : Found) → IsKept k t.kept → StandIn t.kept held
     → through k r ≡ (by_found rule_free (record t { kept = [] ∷ held }) r f).0
-    → Met (through k r, holding (Some k) t) (by_found rule_free (record t { kept = [] ∷ held }) r f)
+    → Met (through k r, with_class_entry (Some k) t) (by_found rule_free (record t { kept = [] ∷ held }) r f)
 led_by t held r k (Entry e status) there stand place =
     record { answer = sym place; world = record { same = refl; kept = filled_adds r.code e k t.kept held there stand } }
 led_by t held r k Invalid there stand place =
-    record { answer = sym place; world = behind (holding (Some k) t) held (in_front (Some k) t.kept held there stand) }
+    record { answer = sym place; world = behind (with_class_entry (Some k) t) held (in_front (Some k) t.kept held there stand) }
 led_by t held r k BusError there stand place =
-    record { answer = sym place; world = behind (holding (Some k) t) held (in_front (Some k) t.kept held there stand) }
+    record { answer = sym place; world = behind (with_class_entry (Some k) t) held (in_front (Some k) t.kept held there stand) }
 
 -- what was found, in memory that no mark changed
 led_in : (t : World) (held : KeptLists) (r : Reference) (k : Kept) (ram : List ℕ) (f : Found) → t.ram ≡ ram → IsKept k t.kept → StandIn t.kept held
     → through k r ≡ (by_found rule_free (record t { ram = ram; kept = [] ∷ held }) r f).0
-    → Met (through k r, holding (Some k) t) (by_found rule_free (record t { ram = ram; kept = [] ∷ held }) r f)
+    → Met (through k r, with_class_entry (Some k) t) (by_found rule_free (record t { ram = ram; kept = [] ∷ held }) r f)
 led_in t held r k ram f still there stand =
     subst (λ (ram : List ℕ). through k r ≡ (by_found rule_free (record t { ram = ram; kept = [] ∷ held }) r f).0
-    → Met (through k r, holding (Some k) t) (by_found rule_free (record t { ram = ram; kept = [] ∷ held }) r f)) still
+    → Met (through k r, with_class_entry (Some k) t) (by_found rule_free (record t { ram = ram; kept = [] ∷ held }) r f)) still
     (led_by t held r k f there stand)
 
 led_met : (t : World) (held : KeptLists) (r : Reference) (k : Kept) → IsKept k t.kept → StandIn t.kept held → LeadsThere r (record t { kept = held }) k
-    → Met (through k r, holding (Some k) t) (searched rule_free (record t { kept = [] ∷ held }) r)
+    → Met (through k r, with_class_entry (Some k) t) (searched rule_free (record t { kept = [] ∷ held }) r)
 unfolding searched
 led_met t held r k there stand a =
     let s = search_for t r in
@@ -108,7 +108,7 @@ led_met t held r k there stand a =
 
 abbrev TranslationMeets : Reference → World → KeptLists → Option Kept → Type 0
 TranslationMeets r t held entry =
-    Met (translated rule_free r (holding entry t)) (translated rule_free r (record t { kept = [] ∷ held }))
+    Met (translated rule_free r (with_class_entry entry t)) (translated rule_free r (record t { kept = [] ∷ held }))
 
 pub by_match_of : (r : Reference) (w : World) (o : Option Bool) → untranslated w.mmu r ≡ o
     → translated rule_free r w ≡ by_settled rule_free w r (by_match rule_free w.kept r o)
@@ -124,22 +124,22 @@ protected_met false r w held stand = record { answer = refl; world = behind w he
 matched_met : (r : Reference) (t : World) (held : KeptLists) (entry : Option Kept) (protected : Bool) → StandIn (option_to_list entry ∷ t.kept) held
     → untranslated t.mmu r ≡ Some protected → TranslationMeets r t held entry
 matched_met r t held entry protected stand e =
-    let one = by_match_of r (holding entry t) (Some protected) e in
+    let one = by_match_of r (with_class_entry entry t) (Some protected) e in
     let two = by_match_of r (record t { kept = [] ∷ held }) (Some protected) e in
-    let settled_to = by_settled rule_free (holding entry t) r (by_match rule_free (option_to_list entry ∷ t.kept) r (Some protected)) in
+    let settled_to = by_settled rule_free (with_class_entry entry t) r (by_match rule_free (option_to_list entry ∷ t.kept) r (Some protected)) in
     subst (λ (x : Option ℕ × World). Met x (translated rule_free r (record t { kept = [] ∷ held }))) (sym one)
     (subst (λ (y : Option ℕ × World). Met settled_to y) (sym two)
-    (protected_met (protected && r.write) r (holding entry t) held stand))
+    (protected_met (protected && r.write) r (with_class_entry entry t) held stand))
 
 -- both search
 search_met : (r : Reference) (t : World) (held : KeptLists) (entry : Option Kept) → StandIn (option_to_list entry ∷ t.kept) held
     → untranslated t.mmu r ≡ None
-    → translated rule_free r (holding entry t) ≡ searched rule_free (holding entry t) r → TranslationMeets r t held entry
+    → translated rule_free r (with_class_entry entry t) ≡ searched rule_free (with_class_entry entry t) r → TranslationMeets r t held entry
 search_met r t held entry stand e one =
     let two = (accesses-use_or_search r (record t { kept = held }) e).none in
     subst (λ (x : Option ℕ × World). Met x (translated rule_free r (record t { kept = [] ∷ held }))) (sym one)
-    (subst (λ (y : Option ℕ × World). Met (searched rule_free (holding entry t) r) y) (sym two)
-    (searched_met (holding entry t) held r stand))
+    (subst (λ (y : Option ℕ × World). Met (searched rule_free (with_class_entry entry t) r) y) (sym two)
+    (searched_met (with_class_entry entry t) held r stand))
 
 table_met : (r : Reference) (t : World) (held : KeptLists) (entry : Option Kept) → IfSome entry (λ k. IsKept k t.kept) → StandIn t.kept held
     → IfSome entry (λ k. OneWayReference (Some r) (record t { kept = held })) → untranslated t.mmu r ≡ None → TranslationMeets r t held entry
@@ -155,7 +155,7 @@ table_met r t held (Some k) is stand tidy e =
             let two = (accesses-use_or_search r (record t { kept = held }) e).none in
             let there_too = tidy e k (record { kept = stand k is; of = of; used = unmarked }) in
             subst (λ (x : Option ℕ × World). Met x (translated rule_free r (record t { kept = [] ∷ held }))) (sym (ways.uses k of unmarked))
-            (subst (λ (y : Option ℕ × World). Met (through k r, holding (Some k) t) y) (sym two)
+            (subst (λ (y : Option ℕ × World). Met (through k r, with_class_entry (Some k) t) y) (sym two)
             (led_met t held r k is stand there_too))
       ]
       | inr other ↦ search_met r t held (Some k) there e (ways.other k other)
@@ -190,16 +190,16 @@ then_met g blind x y m =
 
 read_met : {A : Type 0} (r : Reference) (len : ℕ) (take : Place → World → Option A × World) (t : World) (held : KeptLists) (entry : Option Kept)
     → ((place : Place) → IsBlind (take place)) → TranslationMeets r t held entry
-    → Met (read_by rule_free r len take (holding entry t)) (read_by rule_free r len take (record t { kept = [] ∷ held }))
+    → Met (read_by rule_free r len take (with_class_entry entry t)) (read_by rule_free r len take (record t { kept = [] ∷ held }))
 read_met r len take t held entry blind m =
-    then_met (read_at r len take) (read-blind r len take blind) (translated rule_free r (holding entry t))
+    then_met (read_at r len take) (read-blind r len take blind) (translated rule_free r (with_class_entry entry t))
     (translated rule_free r (record t { kept = [] ∷ held })) m
 
 write_met : (r : Reference) (len : ℕ) (store : Place → World → Option World) (t : World) (held : KeptLists) (entry : Option Kept)
     → ((place : Place) → IsBlindStore (store place)) → TranslationMeets r t held entry
-    → Met (written_by rule_free r len store (holding entry t)) (written_by rule_free r len store (record t { kept = [] ∷ held }))
+    → Met (written_by rule_free r len store (with_class_entry entry t)) (written_by rule_free r len store (record t { kept = [] ∷ held }))
 write_met r len store t held entry blind m =
-    then_met (written_at r len store) (write-blind r len store blind) (translated rule_free r (holding entry t))
+    then_met (written_at r len store) (write-blind r len store blind) (translated rule_free r (with_class_entry entry t))
     (translated rule_free r (record t { kept = [] ∷ held })) m
 
 tested_by_met : (w : World) (held : KeptLists) (space : Space) (page : ℕ) (write : Bool) (o : Option Bool) → StandIn w.kept held
@@ -219,14 +219,14 @@ unfolding tested
 tested_met w held space page write stand = tested_by_met w held space page write (matched false w.mmu space page) stand
 
 set_met : (which : MmuReg) (value : ℕ) (w : World) (held : KeptLists) → StandIn w.kept held
-    → WorldWithin (with_register rule_free which value w) (with_register rule_free which value (record w { kept = [] ∷ held }))
-unfolding with_register
+    → WorldWithin (after_set_mmu rule_free which value w) (after_set_mmu rule_free which value (record w { kept = [] ∷ held }))
+unfolding after_set_mmu
 set_met which value w held stand = record { same = refl; kept = λ k h. kept-behind [] held k (stand k h) }
 
 -- Where no entry is taken into the class both search, whether the call has one way or not.
 pub called : (c : Call) (t : World) (held : KeptLists) (entry : Option Kept) → IfSome entry (λ k. IsKept k t.kept) → StandIn t.kept held
     → IfSome entry (λ k. IsOneWayCall c (record t { kept = held }))
-    → Met (bus_of rule_free c (holding entry t)) (bus_of rule_free c (record t { kept = [] ∷ held }))
+    → Met (bus_of rule_free c (with_class_entry entry t)) (bus_of rule_free c (record t { kept = [] ∷ held }))
 unfolding bus_of
 called (Fetch space at) t held entry is stand tidy =
     let r = fetching_of space at in read_met r 2 taken t held entry taken-blind (translated_met r t held entry is stand tidy)
@@ -243,15 +243,15 @@ called (WriteLine space at line) t held entry is stand tidy =
 called (Probe space p) t held entry is stand tidy =
     let r = writing_of space p.at in read_met r p.len checked t held entry checked-blind (translated_met r t held entry is stand tidy)
 called (Get place) t held entry is stand tidy =
-    blind_met (λ u. (unwrap_or (taken place u).0 0, (taken place u).1)) (get-blind place) (holding entry t) (record t { kept = [] ∷ held })
-    (behind (holding entry t) held (in_front entry t.kept held is stand))
+    blind_met (λ u. (unwrap_or (taken place u).0 0, (taken place u).1)) (get-blind place) (with_class_entry entry t) (record t { kept = [] ∷ held })
+    (behind (with_class_entry entry t) held (in_front entry t.kept held is stand))
 called (Put place value) t held entry is stand tidy =
-    blind_met (λ u. (tt, unwrap_or (stored place value u) u)) (put-blind place value) (holding entry t) (record t { kept = [] ∷ held })
-    (behind (holding entry t) held (in_front entry t.kept held is stand))
+    blind_met (λ u. (tt, unwrap_or (stored place value u) u)) (put-blind place value) (with_class_entry entry t) (record t { kept = [] ∷ held })
+    (behind (with_class_entry entry t) held (in_front entry t.kept held is stand))
 called ReadMmu t held entry is stand tidy =
-    record { answer = refl; world = behind (holding entry t) held (in_front entry t.kept held is stand) }
+    record { answer = refl; world = behind (with_class_entry entry t) held (in_front entry t.kept held is stand) }
 called (SetMmu which value) t held entry is stand tidy =
-    record { answer = refl; world = set_met which value (holding entry t) held (in_front entry t.kept held is stand) }
+    record { answer = refl; world = set_met which value (with_class_entry entry t) held (in_front entry t.kept held is stand) }
 called (FlushKept what) t held entry is stand tidy =
     let there = in_front entry t.kept held is stand in
     record {
@@ -262,7 +262,7 @@ called (FlushKept what) t held entry is stand tidy =
       };
     }
 called (Test space at write) t held entry is stand tidy =
-    tested_met (holding entry t) held space (page_of at) write (in_front entry t.kept held is stand)
+    tested_met (with_class_entry entry t) held space (page_of at) write (in_front entry t.kept held is stand)
 called ResetDevices t held entry is stand tidy =
     let there = in_front entry t.kept held is stand in
     record { answer = refl; world = record { same = refl; kept = λ k h. kept-behind [] held k (there k h) } }
@@ -273,7 +273,7 @@ if_some (Some k) P h = h
 
 from_same : (c : Call) (t : World) (held : KeptLists) (a : Answer c) (u : World) → StandIn t.kept held
     → IsOneWayCall c (record t { kept = held }) → (entry : Option Kept) → IfSome entry (λ k. IsKept k t.kept)
-    → bus_of rule_free c (holding entry t) ≡ (a, u)
+    → bus_of rule_free c (with_class_entry entry t) ≡ (a, u)
     → ((searching_bus c (record t { kept = held })).0 ≡ a) × WorldWithin u (searching_bus c (record t { kept = held })).1
 unfolding searching_bus
 from_same c t held a u stand tidy entry is e =

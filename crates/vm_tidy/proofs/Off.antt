@@ -13,23 +13,23 @@ use Rattle.mb_processor.specs.Step.{step_of}
 use Rattle.mb_machine.specs.declared.reference.Reference.{Reference}
 use Rattle.mb_machine.specs.World.{World}
 use Rattle.mb_machine.specs.Access.{matched, is_translating, or_off, untranslated, translated}
-use Rattle.mb_machine.specs.Bus.{bus_of, reference_of, fetching_of, reading_of, writing_of, tested, tested_by, with_register}
+use Rattle.mb_machine.specs.Bus.{bus_of, reference_of, fetching_of, reading_of, writing_of, tested, tested_by, after_set_mmu}
 use Rattle.mb_machine.specs.Machine.{Entries, Machine, begun, start, reset_with, asked_of}
 use Rattle.mb_machine.specs.Laws.{IsBeneath}
 use Rattle.mb_machine.proofs.Refusals.{translated-beside}
 use Rattle.mb_machine.proofs.Beneath.{calls_stand_beneath, places_stand_beneath}
-use Rattle.vm_meaning.specs.Free.{rule_free, holding}
+use Rattle.vm_meaning.specs.Free.{rule_free, with_class_entry}
 use Rattle.vm_meaning.specs.Tidy.{searching_bus, searching_step, IsTidyReference, IsTidyCall}
 use Rattle.vm_tidy.specs.Off.{is_tc, sets_tc, OffRunsAreTidy, OffIsTidy}
 
 -- ---- a call leaves TC
 
-accessed : (r : Reference) (w after : World) → IsBeneath (translated rule_free r (holding None w)).1 after → after.mmu.tc ≡ w.mmu.tc
+accessed : (r : Reference) (w after : World) → IsBeneath (translated rule_free r (with_class_entry None w)).1 after → after.mmu.tc ≡ w.mmu.tc
 accessed r w after h =
-    ap (λ (mmu : Mmu). mmu.tc) h.mmu ∙ ap (λ (mmu : Mmu). mmu.tc) (translated-beside rule_free r (holding None w)).mmu
+    ap (λ (mmu : Mmu). mmu.tc) h.mmu ∙ ap (λ (mmu : Mmu). mmu.tc) (translated-beside rule_free r (with_class_entry None w)).mmu
 
-set_leaves : (which : MmuReg) (value : ℕ) (w : World) → is_tc which ≡ false → (with_register rule_free which value w).mmu.tc ≡ w.mmu.tc
-unfolding with_register
+set_leaves : (which : MmuReg) (value : ℕ) (w : World) → is_tc which ≡ false → (after_set_mmu rule_free which value w).mmu.tc ≡ w.mmu.tc
+unfolding after_set_mmu
 set_leaves Tc value w h = absurd (cc)
 set_leaves Itt0 value w h = refl
 set_leaves Itt1 value w h = refl
@@ -47,25 +47,25 @@ tested_leaves : (w : World) (space : Space) (page : ℕ) (write : Bool) → (tes
 unfolding tested
 tested_leaves w space page write = tested_by_leaves w space page write (matched false w.mmu space page)
 
-placed : (w after : World) → IsBeneath (holding None w) after → after.mmu.tc ≡ w.mmu.tc
+placed : (w after : World) → IsBeneath (with_class_entry None w) after → after.mmu.tc ≡ w.mmu.tc
 placed w after h = ap (λ (mmu : Mmu). mmu.tc) h.mmu
 
 call_leaves : (c : Call) (w : World) → sets_tc c ≡ false → (searching_bus c w).1.mmu.tc ≡ w.mmu.tc
 unfolding searching_bus bus_of
-call_leaves (Fetch space at) w h = accessed (fetching_of space at) w _ (calls_stand_beneath rule_free (Fetch space at) (holding None w))
-call_leaves (Read space p) w h = accessed (reading_of space p.at) w _ (calls_stand_beneath rule_free (Read space p) (holding None w))
+call_leaves (Fetch space at) w h = accessed (fetching_of space at) w _ (calls_stand_beneath rule_free (Fetch space at) (with_class_entry None w))
+call_leaves (Read space p) w h = accessed (reading_of space p.at) w _ (calls_stand_beneath rule_free (Read space p) (with_class_entry None w))
 call_leaves (Write space p value) w h =
-    accessed (writing_of space p.at) w _ (calls_stand_beneath rule_free (Write space p value) (holding None w))
-call_leaves (ReadLine space at) w h = accessed (reading_of space at) w _ (calls_stand_beneath rule_free (ReadLine space at) (holding None w))
+    accessed (writing_of space p.at) w _ (calls_stand_beneath rule_free (Write space p value) (with_class_entry None w))
+call_leaves (ReadLine space at) w h = accessed (reading_of space at) w _ (calls_stand_beneath rule_free (ReadLine space at) (with_class_entry None w))
 call_leaves (WriteLine space at line) w h =
-    accessed (writing_of space at) w _ (calls_stand_beneath rule_free (WriteLine space at line) (holding None w))
-call_leaves (Probe space p) w h = accessed (writing_of space p.at) w _ (calls_stand_beneath rule_free (Probe space p) (holding None w))
-call_leaves (Get place) w h = placed w _ (places_stand_beneath rule_free place 0 (holding None w)).0
-call_leaves (Put place value) w h = placed w _ (places_stand_beneath rule_free place value (holding None w)).1
+    accessed (writing_of space at) w _ (calls_stand_beneath rule_free (WriteLine space at line) (with_class_entry None w))
+call_leaves (Probe space p) w h = accessed (writing_of space p.at) w _ (calls_stand_beneath rule_free (Probe space p) (with_class_entry None w))
+call_leaves (Get place) w h = placed w _ (places_stand_beneath rule_free place 0 (with_class_entry None w)).0
+call_leaves (Put place value) w h = placed w _ (places_stand_beneath rule_free place value (with_class_entry None w)).1
 call_leaves ReadMmu w h = refl
-call_leaves (SetMmu which value) w h = set_leaves which value (holding None w) h
+call_leaves (SetMmu which value) w h = set_leaves which value (with_class_entry None w) h
 call_leaves (FlushKept what) w h = refl
-call_leaves (Test space at write) w h = tested_leaves (holding None w) space (page_of at) write
+call_leaves (Test space at write) w h = tested_leaves (with_class_entry None w) space (page_of at) write
 call_leaves ResetDevices w h = refl
 
 abbrev IsOff : World → Type 0

@@ -28,7 +28,7 @@ use Rattle.mb_processor.specs.Spaces.{flush_beside_of, pflush_of}
 use Rattle.mb_processor.specs.Step.{finish_instruction_of, execute_supervised_of, execute_unprivileged_of, execute_of, execute_next_of, step_of}
 use Rattle.mb_processor.specs.System.{perform_system_of}
 use Rattle.mb_machine.specs.Access.{untranslated, through, by_entry, settled, searched, translated}
-use Rattle.mb_machine.specs.Bus.{with_register, bus_of}
+use Rattle.mb_machine.specs.Bus.{after_set_mmu, bus_of}
 use Rattle.mb_machine.specs.Machine.{reset_with, begun, state_after, stepping, run_of}
 use Rattle.mb_machine.specs.Places.{stand_of, taken, stored}
 use Rattle.vm_meaning.specs.Tidy.{searching_bus}
@@ -42,7 +42,7 @@ translation_on_images = tt
 -- what the machine and its bus unfold
 unfoldable pub machine_on_images : ⊤
 unfolding piece_len split_of at_reset idle sent ticked level_of register_at
-    with_register bus_of reset_with begun state_after stepping run_of stand_of taken stored
+    after_set_mmu bus_of reset_with begun state_after stepping run_of stand_of taken stored
 machine_on_images = tt
 
 -- what fetched words unfold

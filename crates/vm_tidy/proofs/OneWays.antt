@@ -17,7 +17,7 @@ use Rattle.mb_machine.specs.World.{World}
 use Rattle.mb_machine.specs.Access.{search_for, untranslated, searched, translated, by_settled, by_found, admits, marks, through}
 use Rattle.mb_machine.specs.Bus.{reference_of}
 use Rattle.mb_machine.specs.Machine.{begun, asked_of}
-use Rattle.vm_meaning.specs.Free.{IsKept, rule_free, holding}
+use Rattle.vm_meaning.specs.Free.{IsKept, rule_free, with_class_entry}
 use Rattle.vm_meaning.proofs.Accesses.{accesses-use_or_search}
 use Rattle.vm_meaning.specs.Tidy.{searching_bus, searching_step, Counts, Agrees, IsTidyReference}
 use Rattle.vm_tidy.specs.Least.{LeadsThere, OneWayReference, SameByAny, OneWayIsLeast, TidyCallsAreOneWay, TidyRunsAreOneWay}
@@ -44,7 +44,8 @@ unfolding searched
 agreeing_leads r w k a =
     let s = search_for w r in
     record {
-      place = place_of r (record (holding None w) { ram = s.ram }) k s.found a.entry a.status a.found (through_same a.entry k r a.frame a.same_w a.same_s);
+      place = place_of r (record (with_class_entry None w) { ram = s.ram }) k s.found a.entry a.status a.found
+          (through_same a.entry k r a.frame a.same_w a.same_s);
       still = a.still;
     }
 
@@ -83,11 +84,11 @@ found_ram w r (Entry k status) = refl
 found_ram w r Invalid = refl
 found_ram w r BusError = refl
 
-searched_ram : (r : Reference) (w : World) (entry : Option Kept) → (searched rule_free (holding entry w) r).1.ram ≡ (search_for w r).ram
+searched_ram : (r : Reference) (w : World) (entry : Option Kept) → (searched rule_free (with_class_entry entry w) r).1.ram ≡ (search_for w r).ram
 unfolding searched
 searched_ram r w entry =
     let s = search_for w r in
-    found_ram (record (holding entry w) { ram = s.ram }) r s.found
+    found_ram (record (with_class_entry entry w) { ram = s.ram }) r s.found
 
 found_place : (v w : World) (r : Reference) (f : Found) → (by_found rule_free v r f).0 ≡ (by_found rule_free w r f).0
 found_place v w r (Entry k status) = refl
@@ -95,15 +96,15 @@ found_place v w r Invalid = refl
 found_place v w r BusError = refl
 
 searched_place : (r : Reference) (w : World) (entry : Option Kept)
-    → (searched rule_free (holding entry w) r).0 ≡ (searched rule_free (holding None w) r).0
+    → (searched rule_free (with_class_entry entry w) r).0 ≡ (searched rule_free (with_class_entry None w) r).0
 unfolding searched
 searched_place r w entry =
     let s = search_for w r in
-    found_place (record (holding entry w) { ram = s.ram }) (record (holding None w) { ram = s.ram }) r s.found
+    found_place (record (with_class_entry entry w) { ram = s.ram }) (record (with_class_entry None w) { ram = s.ram }) r s.found
 
 -- where both search
 search_same : (r : Reference) (w : World) (entry : Option Kept) → untranslated w.mmu r ≡ None
-    → translated rule_free r (holding entry w) ≡ searched rule_free (holding entry w) r → SameByAny r w entry
+    → translated rule_free r (with_class_entry entry w) ≡ searched rule_free (with_class_entry entry w) r → SameByAny r w entry
 search_same r w entry e one =
     let two = (accesses-use_or_search r w e).none in
     record {
@@ -113,7 +114,7 @@ search_same r w entry e one =
     }
 
 use_same : (r : Reference) (w : World) (k : Kept) → untranslated w.mmu r ≡ None
-    → translated rule_free r (holding (Some k) w) ≡ (through k r, holding (Some k) w) → LeadsThere r w k → SameByAny r w (Some k)
+    → translated rule_free r (with_class_entry (Some k) w) ≡ (through k r, with_class_entry (Some k) w) → LeadsThere r w k → SameByAny r w (Some k)
 use_same r w k e one leads =
     let two = (accesses-use_or_search r w e).none in
     record {
@@ -133,14 +134,14 @@ settled_ram false w r = refl
 
 matched_same : (r : Reference) (w : World) (entry : Option Kept) (protected : Bool) → untranslated w.mmu r ≡ Some protected → SameByAny r w entry
 matched_same r w entry protected e =
-    let one = by_match_of r (holding entry w) (Some protected) e in
-    let two = by_match_of r (holding None w) (Some protected) e in
+    let one = by_match_of r (with_class_entry entry w) (Some protected) e in
+    let two = by_match_of r (with_class_entry None w) (Some protected) e in
     let b = protected && r.write in
     record {
-      place = ap (λ (x : Option ℕ × World). x.0) one ∙ settled_place b (holding entry w) (holding None w) r
+      place = ap (λ (x : Option ℕ × World). x.0) one ∙ settled_place b (with_class_entry entry w) (with_class_entry None w) r
           ∙ sym (ap (λ (x : Option ℕ × World). x.0) two);
-      memory = ap (λ (x : Option ℕ × World). x.1.ram) one ∙ settled_ram b (holding entry w) r
-          ∙ sym (ap (λ (x : Option ℕ × World). x.1.ram) two ∙ settled_ram b (holding None w) r);
+      memory = ap (λ (x : Option ℕ × World). x.1.ram) one ∙ settled_ram b (with_class_entry entry w) r
+          ∙ sym (ap (λ (x : Option ℕ × World). x.1.ram) two ∙ settled_ram b (with_class_entry None w) r);
     }
 
 same_by : (r : Reference) (w : World) (entry : Option Kept) (o : Option Bool) → untranslated w.mmu r ≡ o → OneWayReference (Some r) w

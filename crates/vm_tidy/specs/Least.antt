@@ -8,7 +8,7 @@ use Rattle.mb_machine.specs.World.{World}
 use Rattle.mb_machine.specs.Access.{untranslated, search_for, searched, through, translated}
 use Rattle.mb_machine.specs.Bus.{reference_of}
 use Rattle.mb_machine.specs.Machine.{Entries, Machine}
-use Rattle.vm_meaning.specs.Free.{IsKept, rule_free, holding, FreeCall, FreeRun, WorldWithin, Within}
+use Rattle.vm_meaning.specs.Free.{IsKept, rule_free, with_class_entry, FreeCall, FreeRun, WorldWithin, Within}
 use Rattle.vm_meaning.specs.Tidy.{searching_bus, searching_run, Counts, IsTidyCall, IsTidyRun}
 use Rattle.vm_tidy.specs.Runs.{AlongRun}
 
@@ -16,7 +16,7 @@ use Rattle.vm_tidy.specs.Runs.{AlongRun}
 
 -- The entry leads where a search leads, or refuses where it does, and the search changes no byte.
 pub record LeadsThere (r : Reference) (w : World) (k : Kept) : Type 0 where
-  pub place : let (found, _) = searched rule_free (holding None w) r in through k r ≡ found
+  pub place : let (found, _) = searched rule_free (with_class_entry None w) r in through k r ≡ found
   pub still : (search_for w r).ram ≡ w.ram
 
 -- Where the tables decide, each entry that counts leads there.
@@ -29,10 +29,10 @@ IsOneWayCall c w = OneWayReference (reference_of c) w
 
 -- The same place and the same memory with this entry taken into the class, or none, as where none is.
 pub record SameByAny (r : Reference) (w : World) (entry : Option Kept) : Type 0 where
-  pub place : let (used, _) = translated rule_free r (holding entry w) in
-      let (found, _) = translated rule_free r (holding None w) in used ≡ found
-  pub memory : let (_, after) = translated rule_free r (holding entry w) in
-      let (_, alone) = translated rule_free r (holding None w) in after.ram ≡ alone.ram
+  pub place : let (used, _) = translated rule_free r (with_class_entry entry w) in
+      let (found, _) = translated rule_free r (with_class_entry None w) in used ≡ found
+  pub memory : let (_, after) = translated rule_free r (with_class_entry entry w) in
+      let (_, alone) = translated rule_free r (with_class_entry None w) in after.ram ≡ alone.ram
 
 -- ---- a run
 

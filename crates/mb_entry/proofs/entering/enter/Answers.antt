@@ -2,7 +2,7 @@ use Rattle.std.proofs.Common.{◌≡◌, sym, ap, ◌∙◌, inr}
 use Rattle.mb_port.specs.Routine.{run}
 use Rattle.mb_model.specs.declared.processor.Cpu.{Cpu}
 use Rattle.mb_processor.specs.Entry as entry
-use Rattle.mb_processor.specs.Entry.{frames_of, settled, put_frames_of}
+use Rattle.mb_processor.specs.Entry.{frames_of, handler_regs, put_frames_of}
 use Rattle.mb_entry.specs.Places.{places_seen}
 use Rattle.mb_entry.specs.Stacks.{frames_seen}
 use Rattle.mb_entry.proofs.Faulted.{of_the_fault, both_halted, halted_stays}
@@ -27,5 +27,5 @@ returns-in-Ok-clause-halts g c =
       between = g.P.Port.world c.check_frames.new.port;
       checked = rw (sym is) c.in-Ok.ensures.means;
       unread = rw (sym is, sym put) unread;
-      regs = ap (λ (cpu : Cpu). cpu.regs) same ∙ c.settle.ensures ∙ ap (λ (f : entry.Frames). settled c.args.cause.now f c.args.cpu.now.regs) is;
+      regs = ap (λ (cpu : Cpu). cpu.regs) same ∙ c.set_handler_regs.ensures ∙ ap (λ (f : entry.Frames). handler_regs c.args.cause.now f c.args.cpu.now.regs) is;
     }))
