@@ -1,5 +1,5 @@
 -- Reading words from left to right.
-use Rattle.std.specs.Prelude.{◌≡◌, ℕ, ◌+◌, ◌*◌, ◌/◌, ◌%◌, ◌^◌, Bool, ◌==◌, List, [], ◌∷◌}
+use Rattle.std.specs.Prelude.{◌≡◌, ℕ, ◌+◌, ◌*◌, Bool, ◌==◌, List, [], ◌∷◌}
 use Rattle.std.specs.Prelude.{Result, Ok, Err, Some, None, if◌then◌else◌}
 use denote.Ref.{Bor}
 use Rattle.mb_instr.specs.declared.size.Size.{Size}
@@ -18,6 +18,7 @@ use Rattle.mb_instr.specs.declared.kinds.TrapOperand.TheVariants as trap
 use Rattle.mb_instr.specs.declared.opcode.Opcode.{Opcode}
 use Rattle.mb_instr.specs.Sizes.{size_of}
 use Rattle.mb_instr.specs.Rules.{holds}
+use Rattle.mb_instr.specs.FurtherWords.{extension_word}
 use Rattle.mb_instr.specs.Operands.{is_full, allows}
 use Rattle.mb_decode.specs.declared.reading.Stop.{Stop}
 use Rattle.mb_decode.specs.declared.reading.Stop.TheVariants.{More, Illegal}
@@ -70,15 +71,14 @@ wide_at width = if width == 2 then word_at else if width == 3 then long_at else 
 -- what follows a full extension word: the base displacement, then the outer displacement
 unfoldable pub full_at : ℕ → Reader Ext
 full_at w = do
-  bd ← wide_at (w / 2 ^ 4 % 4)
-  od ← wide_at (w % 4)
+  bd ← wide_at (extension_word w).base_width
+  od ← wide_at (extension_word w).outer_width
   give (Full w bd od)
 
--- bit 8 of the extension word says which format
 unfoldable pub ext_at : Reader Ext
 ext_at = do
   w ← word_at
-  if w / 2 ^ 8 % 2 == 0 then give (Brief w) else when_legal (is_full w) (full_at w)
+  if (extension_word w).is_full == 0 then give (Brief w) else when_legal (is_full w) (full_at w)
 
 -- a byte immediate takes a whole word
 unfoldable pub immediate_at : Size → Reader ℕ

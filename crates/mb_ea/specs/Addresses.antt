@@ -1,11 +1,12 @@
 -- Addresses: steps, displacements and indices.
-use Rattle.std.specs.Prelude.{ℕ, ⊤, ◌+◌, ◌-◌, ◌*◌, ◌/◌, ◌%◌, ◌^◌, ◌<◌, ◌&&◌, ◌==◌, if◌then◌else◌}
+use Rattle.std.specs.Prelude.{ℕ, ⊤, ◌+◌, ◌-◌, ◌*◌, ◌%◌, ◌^◌, ◌<◌, ◌&&◌, ◌==◌, if◌then◌else◌}
 use Rattle.mb_instr.specs.declared.size.Size.{Size}
 use Rattle.mb_instr.specs.declared.size.Size.TheVariants.{Word}
 use Rattle.mb_instr.specs.declared.registers.Plain.{Plain}
 use Rattle.mb_instr.specs.Sizes.{bytes_of, values_of, sign_extended}
 use Rattle.mb_instr.specs.Operands.{is_byte}
 use Rattle.mb_instr.specs.Registers.{data_register, address_register}
+use Rattle.mb_instr.specs.FurtherWords.{extension_word}
 use Rattle.mb_ea.specs.declared.addresses.Target.{Target}
 use Rattle.mb_ea.specs.declared.addresses.Target.TheVariants.{Reg, Memory, Value}
 
@@ -20,18 +21,20 @@ difference a b = (a + (2 ^ 32 - b)) % 2 ^ 32
 abbrev pub increment_of : Size → ℕ → ℕ
 increment_of size n = if is_byte size && (n == 7) then 2 else bytes_of size
 
--- the index register of an extension word: bit 15 says an address register, bits 14 to 12 are its number
+-- the index register of an extension word
 abbrev pub index_register : ℕ → Plain → ℕ
 index_register w p =
-    if w / 2 ^ 15 == 1 then address_register p (w / 2 ^ 12 % 8) else data_register p (w / 2 ^ 12 % 8)
+    let e = extension_word w in
+    if e.is_address == 1 then address_register p e.register else data_register p e.register
 
--- bit 11 says that the whole register is the index; else its low word is, with its sign
+-- the whole register, or its low word with its sign
 abbrev pub index_value : ℕ → Plain → ℕ
-index_value w p = if w / 2 ^ 11 % 2 == 1 then index_register w p else sign_extended Word (index_register w p)
+index_value w p =
+    if (extension_word w).is_long == 1 then index_register w p else sign_extended Word (index_register w p)
 
--- bits 10 and 9 say the scale: 1, 2, 4 or 8
+-- 1, 2, 4 or 8 times
 unfoldable pub index_of : ℕ → Plain → ℕ
-index_of w p = (index_value w p * 2 ^ (w / 2 ^ 9 % 4)) % 2 ^ 32
+index_of w p = (index_value w p * 2 ^ (extension_word w).scale) % 2 ^ 32
 
 -- a full word's displacement as it counts: of width 2 a word, of width 3 a long; 0 where there is none
 abbrev pub displacement_of : ℕ → ℕ → ℕ

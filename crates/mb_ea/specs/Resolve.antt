@@ -1,5 +1,5 @@
 -- The addressing modes.
-use Rattle.std.specs.Prelude.{ℕ, ◌+◌, ◌/◌, ◌%◌, ◌^◌, ◌==◌, nat_lt, Result, Ok, Err, if◌then◌else◌}
+use Rattle.std.specs.Prelude.{ℕ, ◌+◌, ◌==◌, nat_lt, Result, Ok, Err, if◌then◌else◌}
 use Rattle.mb_port.specs.Routine.{Routine, Return, ◌>>=◌, choose}
 use Rattle.mb_port.specs.declared.types.Space.{Space}
 use Rattle.mb_ea.specs.declared.reading.ReadFault.{ReadFault}
@@ -13,19 +13,20 @@ use Rattle.mb_instr.specs.declared.operand.Ext.TheVariants.{Brief, Full}
 use Rattle.mb_instr.specs.declared.registers.Plain.{Plain}
 use Rattle.mb_instr.specs.Sizes.{low_of, sign_extended}
 use Rattle.mb_instr.specs.Registers.{address_register, with_address_register}
+use Rattle.mb_instr.specs.FurtherWords.{extension_word}
 use Rattle.mb_ea.specs.declared.addresses.Target.{Target}
 use Rattle.mb_ea.specs.declared.addresses.Target.TheVariants.{Reg, Memory, Value}
 use Rattle.mb_ea.specs.declared.resolving.Parts.{Parts}
 use Rattle.mb_ea.specs.Reading.{read_operand_of}
 use Rattle.mb_ea.specs.Addresses.{sum, difference, increment_of, index_of, displacement_of}
 
--- what a full extension word spells: bit 7 leaves the base out, bit 6 the index
+-- what a full extension word spells
 abbrev pub parts_of : ℕ → ℕ → ℕ → ℕ → Plain → Parts
-parts_of base w bd od p = record {
-  base = if w / 2 ^ 7 % 2 == 1 then 0 else base;
-  displacement = displacement_of (w / 2 ^ 4 % 4) bd;
-  index = if w / 2 ^ 6 % 2 == 1 then 0 else index_of w p;
-  outer = displacement_of (w % 4) od;
+parts_of base w bd od p = let e = extension_word w in record {
+  base = if e.leaves_base == 1 then 0 else base;
+  displacement = displacement_of e.base_width bd;
+  index = if e.leaves_index == 1 then 0 else index_of w p;
+  outer = displacement_of e.outer_width od;
 }
 
 -- the address, where it is the long that stands in memory and an outer displacement
@@ -38,8 +39,9 @@ indirect_of space at outer = do
 -- counts after
 unfoldable pub full_of : ℕ → Parts → Space → Routine (Result ℕ ReadFault)
 full_of w parts space =
-    choose (w % 8 == 0) (Return (Ok (sum (sum parts.base parts.displacement) parts.index)))
-    (choose (nat_lt (w % 8) 4) (indirect_of space (sum (sum parts.base parts.displacement) parts.index) parts.outer)
+    let kind = (extension_word w).indirection in
+    choose (kind == 0) (Return (Ok (sum (sum parts.base parts.displacement) parts.index)))
+    (choose (nat_lt kind 4) (indirect_of space (sum (sum parts.base parts.displacement) parts.index) parts.outer)
     (indirect_of space (sum parts.base parts.displacement) (sum parts.index parts.outer)))
 
 -- a base with an index

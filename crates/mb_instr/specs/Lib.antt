@@ -3,6 +3,7 @@ pub mod Kinds
 pub mod Control
 pub mod Rules
 pub mod Opcodes
+pub mod FurtherWords
 pub mod Operands
 pub mod Shapes
 pub mod Rows

@@ -13,6 +13,7 @@ use Rattle.mb_instr.specs.declared.operand.OperandClass.TheVariants.{All, Data, 
 use Rattle.mb_instr.specs.declared.operand.OperandClass.TheVariants.{DataAlterableOrPc, MemoryAlterable, Control}
 use Rattle.mb_instr.specs.declared.operand.OperandClass.TheVariants.{ControlAlterable, StoreList, LoadList}
 use Rattle.mb_instr.specs.declared.operand.OperandClass.TheVariants.{FieldSource, FieldTarget}
+use Rattle.mb_instr.specs.FurtherWords.{extension_word}
 
 -- memory that has one address
 abbrev pub is_control : ℕ → ℕ → Bool
@@ -85,16 +86,19 @@ fits_width width v = if width == 2 then nat_lt v 65536 else if width == 3 then t
 -- a full word's forms: bit 3 is 0, a base displacement is named, and so is a kind of indirection
 abbrev pub is_full : ℕ → Bool
 is_full w =
-    (w / 2 ^ 3 % 2 == 0) && not (w / 2 ^ 4 % 4 == 0) &&
-    (if w / 2 ^ 6 % 2 == 0 then not (w % 8 == 4) else nat_lt (w % 8) 4)
+    let e = extension_word w in
+    (w / 2 ^ 3 % 2 == 0) && not (e.base_width == 0) &&
+    (if e.leaves_index == 0 then not (e.indirection == 4) else nat_lt e.indirection 4)
 
 abbrev pub is_ext : Ext → Bool
-is_ext (Brief w) = w / 2 ^ 8 % 2 == 0
-is_ext (Full w bd od) = not (w / 2 ^ 8 % 2 == 0) && is_full w && fits_width (w / 2 ^ 4 % 4) bd && fits_width (w % 4) od
+is_ext (Brief w) = (extension_word w).is_full == 0
+is_ext (Full w bd od) =
+    let e = extension_word w in
+    not (e.is_full == 0) && is_full w && fits_width e.base_width bd && fits_width e.outer_width od
 
 abbrev pub ext : Ext → List ℕ
 ext (Brief w) = w ∷ []
-ext (Full w bd od) = w ∷ wide (w / 2 ^ 4 % 4) bd ++ wide (w % 4) od
+ext (Full w bd od) = w ∷ wide (extension_word w).base_width bd ++ wide (extension_word w).outer_width od
 
 abbrev pub is_immediate : Size → ℕ → Bool
 is_immediate size.Byte v = nat_lt v 65536

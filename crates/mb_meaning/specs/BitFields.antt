@@ -17,18 +17,17 @@ use Rattle.mb_ea.specs.Reading.{read_operand_of}
 use Rattle.mb_writes.specs.Writing.{write_operand_of}
 use Rattle.mb_meaning.specs.Ends.{Rowed, carried, reading, writing}
 use Rattle.mb_meaning.specs.Operands.{find_address_of}
-
--- the data register in bits 14 to 12
-abbrev pub field_register_in : ℕ → ℕ
-field_register_in word = word / 2 ^ 12 % 8
+use Rattle.mb_instr.specs.FurtherWords.{field_word}
 
 -- the offset: where bit 11 is 1, the data register in bits 8 to 6, else bits 10 to 6
 abbrev pub field_offset_of : ℕ → Plain → ℕ
-field_offset_of word p = if word / 2 ^ 11 % 2 == 1 then data_register p (word / 2 ^ 6 % 8) else word / 2 ^ 6 % 32
+field_offset_of word p =
+    let f = field_word word in if f.offset_is_register then data_register p f.offset_register else f.offset
 
 -- the width modulo 32: where bit 5 is 1, of the data register in bits 2 to 0, else bits 4 to 0
 abbrev pub width_bits : ℕ → Plain → ℕ
-width_bits word p = if word / 2 ^ 5 % 2 == 1 then data_register p (word % 8) % 32 else word % 32
+width_bits word p =
+    let f = field_word word in if f.width_is_register then data_register p f.width_register % 32 else f.width
 
 -- the width, 0 meaning 32
 abbrev pub field_width_of : ℕ → Plain → ℕ
@@ -83,8 +82,8 @@ with_result _ n offset width old p = p
 unfoldable pub field_done : FieldKind → ℕ → ℕ → Plain → Plain
 field_done kind word old p =
     let width = field_width_of word p in
-    let seen = field_seen kind width old (data_register p (field_register_in word)) in
-    record (with_result kind (field_register_in word) (field_offset_of word p) width old p) {
+    let seen = field_seen kind width old (data_register p (field_word word).register) in
+    record (with_result kind (field_word word).register (field_offset_of word p) width old p) {
       ccr = field_flags width seen p.ccr;
     }
 
@@ -96,7 +95,7 @@ field_in_register_of kind word n p =
     let width = field_width_of word p in
     let turned = rotate_left w32 (data_register p n) (field_offset_of word p) in
     let old = field_get_of turned 32 0 width in
-    let new = field_after kind width old (data_register p (field_register_in word)) in
+    let new = field_after kind width old (data_register p (field_word word).register) in
     let changed = rotate_right w32 (field_put_of turned 32 0 width new) (field_offset_of word p) in
     let done = field_done kind word old p in
     if is_change kind then with_data_register done n changed else done
@@ -120,7 +119,7 @@ field_in_memory_of kind word address space p =
     let held = bytes_held offset width in do
       bytes ← reading (read_operand_of space first held)
       let old = field_get_of bytes (8 * held) (offset % 8) width
-      let new = field_after kind width old (data_register p (field_register_in word))
+      let new = field_after kind width old (data_register p (field_word word).register)
       let changed = field_put_of bytes (8 * held) (offset % 8) width new
       let done = field_done kind word old p
       choose (is_change kind)

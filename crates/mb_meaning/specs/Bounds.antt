@@ -8,6 +8,7 @@ use Rattle.mb_instr.specs.declared.operand.Ea.{Ea}
 use Rattle.mb_instr.specs.declared.registers.Plain.{Plain}
 use Rattle.mb_instr.specs.Sizes.{bytes_of, low_of, sign_extended}
 use Rattle.mb_instr.specs.Registers.{data_register, register_of}
+use Rattle.mb_instr.specs.FurtherWords.{register_word}
 use Rattle.mb_alu.specs.declared.conditions.Conditions.{Conditions}
 use Rattle.mb_alu.specs.Conditions.{conditions_of, ccr_of}
 use Rattle.mb_alu.specs.Signs.{signed_of}
@@ -15,7 +16,7 @@ use Rattle.mb_ea.specs.declared.reading.ReadFault.{ReadFault}
 use Rattle.mb_ea.specs.Addresses.{sum, difference}
 use Rattle.mb_ea.specs.Reading.{read_operand_of}
 use Rattle.mb_meaning.specs.Ends.{Rowed, carried, ended_otherwise, reading}
-use Rattle.mb_meaning.specs.Operands.{fetch_operand_of, find_address_of, named_register_in}
+use Rattle.mb_meaning.specs.Operands.{fetch_operand_of, find_address_of}
 use Rattle.mb_meaning.specs.Traps.{out_of_bounds}
 
 -- ---- one bound
@@ -76,7 +77,7 @@ compare_bounds_of size ea w word_at space p = do
   place ← find_address_of size ea word_at space p
   lower ← read_operand_of space place (bytes_of size)
   upper ← read_operand_of space (sum place (bytes_of size)) (bytes_of size)
-  Return (Ok (compared size lower upper (named_register_in w) p))
+  Return (Ok (compared size lower upper (register_word w).register p))
 
 -- CMP2
 unfoldable pub cmp2_of : Size → Ea → ℕ → ℕ → Space → Plain → Routine Rowed

@@ -1,5 +1,5 @@
 -- MOVE16.
-use Rattle.std.specs.Prelude.{ℕ, ◌*◌, ◌/◌, ◌%◌, ◌^◌, ◌==◌, if◌then◌else◌}
+use Rattle.std.specs.Prelude.{ℕ, ◌*◌, ◌/◌, ◌^◌, ◌==◌, if◌then◌else◌}
 use Rattle.mb_port.specs.Routine.{Routine, Return, ◌>>=◌, ◌>>◌, failing, read_line, write_line}
 use Rattle.mb_port.specs.declared.types.Space.{Space}
 use Rattle.mb_instr.specs.declared.kinds.LineMove.{LineMove}
@@ -10,6 +10,7 @@ use Rattle.mb_ea.specs.Addresses.{sum}
 use Rattle.mb_ea.specs.Reading.{refused_in}
 use Rattle.mb_writes.specs.declared.ends.Ended.TheVariants as ended
 use Rattle.mb_meaning.specs.Ends.{Rowed, carried, ending, reading}
+use Rattle.mb_instr.specs.FurtherWords.{line_word}
 
 -- the line of 16 bytes that has an address: the address with its low four bits clear
 abbrev pub line_address : ℕ → ℕ
@@ -37,12 +38,8 @@ move16_absolute_of line.AbsoluteToIndirect n place space p = move_line_of place 
 abbrev pub past_lines : ℕ → ℕ → Plain → Plain
 past_lines x y p = if x == y then past_line x p else past_line y (past_line x p)
 
--- the register of the destination, in bits 14 to 12 of the word
-abbrev pub destination_in : ℕ → ℕ
-destination_in word = word / 2 ^ 12 % 8
-
 -- MOVE16 (Ax)+,(Ay)+
 unfoldable pub move16_post_of : ℕ → ℕ → Space → Plain → Routine Rowed
 move16_post_of x word space p =
-    let y = destination_in word in
+    let y = (line_word word).destination in
     move_line_of (address_register p x) (address_register p y) space (past_lines x y p)

@@ -1,5 +1,5 @@
 -- TAS, CAS and CAS2: operands that are checked for writing before they are read.
-use Rattle.std.specs.Prelude.{ℕ, ◌/◌, ◌%◌, ◌^◌, ◌==◌, ◌&&◌, bit_or, if◌then◌else◌}
+use Rattle.std.specs.Prelude.{ℕ, ◌^◌, ◌==◌, ◌&&◌, bit_or, if◌then◌else◌}
 use Rattle.std.specs.Prelude.{Bool}
 use Rattle.mb_port.specs.Routine.{Routine, Return, ◌>>=◌, ◌>>◌, choose, sure}
 use Rattle.mb_port.specs.declared.types.Space.{Space}
@@ -19,6 +19,7 @@ use Rattle.mb_writes.specs.Checked.{probe_operand_of, get_operand_of, put_operan
 use Rattle.mb_meaning.specs.Ends.{Rowed, carried, reading}
 use Rattle.mb_meaning.specs.Operands.{with_low, place_of}
 use Rattle.mb_meaning.specs.Modifying.{modify_of}
+use Rattle.mb_instr.specs.FurtherWords.{swap_word}
 
 -- ---- TAS
 
@@ -44,30 +45,19 @@ tas_of ea word_at space p = do
 
 -- ---- CAS and CAS2
 
--- the data registers that a word names: Dc is compared, Du is the update
-abbrev pub compared_in : ℕ → ℕ
-compared_in word = word % 8
-
-abbrev pub update_in : ℕ → ℕ
-update_in word = word / 2 ^ 6 % 8
-
--- the register of the operand's address, of all sixteen, in bits 15 to 12
-abbrev pub pointer_in : ℕ → ℕ
-pointer_in word = word / 2 ^ 12
-
 -- the condition codes of the operand less Dc
 abbrev pub cas_codes : Size → ℕ → ℕ → Plain → ℕ
-cas_codes size word value p = compare_of size (data_register p (compared_in word)) value p.ccr
+cas_codes size word value p = compare_of size (data_register p (swap_word word).compared) value p.ccr
 
 -- Dc with the operand in its low bytes
 abbrev pub cas_loaded : Size → ℕ → ℕ → Plain → Plain
 cas_loaded size word value p =
-    let n = compared_in word in
+    let n = (swap_word word).compared in
     with_data_register p n (with_low size (data_register p n) value)
 
 -- Dc and the operand are the same
 abbrev pub cas_equal : Size → ℕ → ℕ → Plain → Bool
-cas_equal size word value p = low_of size (data_register p (compared_in word)) == value
+cas_equal size word value p = low_of size (data_register p (swap_word word).compared) == value
 
 -- Du goes to the places of an operand that is the same as Dc. Else Dc takes the operand, and nothing is written.
 unfoldable pub cas_at : Size → ℕ → ℕ → Space → Plain → Routine Rowed
@@ -76,7 +66,7 @@ cas_at size word address space p = do
   value ← sure (get_operand_of places)
   let after = record p { ccr = cas_codes size word value p }
   choose (cas_equal size word value p)
-      (sure (put_operand_of places (bytes_of size) (data_register p (update_in word))) >> Return (carried after))
+      (sure (put_operand_of places (bytes_of size) (data_register p (swap_word word).update)) >> Return (carried after))
       (Return (carried (cas_loaded size word value after)))
 
 -- CAS
@@ -97,12 +87,13 @@ cas2_codes size first second one two p =
 -- then operand 2. Else both are loaded; a register that is Dc of both takes operand 1.
 unfoldable pub cas2_of : Size → ℕ → ℕ → Space → Plain → Routine Rowed
 cas2_of size first second space p = do
-  places ← reading (probe_operand_of space (register_of p (pointer_in first)) (bytes_of size))
-  others ← reading (probe_operand_of space (register_of p (pointer_in second)) (bytes_of size))
+  places ← reading (probe_operand_of space (register_of p (swap_word first).pointer) (bytes_of size))
+  others ← reading (probe_operand_of space (register_of p (swap_word second).pointer) (bytes_of size))
   one ← sure (get_operand_of places)
   two ← sure (get_operand_of others)
   let after = record p { ccr = cas2_codes size first second one two p }
   choose (cas2_equal size first second one two p)
-      (sure (put_operand_of places (bytes_of size) (data_register p (update_in first)))
-      >> sure (put_operand_of others (bytes_of size) (data_register p (update_in second))) >> Return (carried after))
+      (sure (put_operand_of places (bytes_of size) (data_register p (swap_word first).update))
+      >> sure (put_operand_of others (bytes_of size) (data_register p (swap_word second).update))
+      >> Return (carried after))
       (Return (carried (cas_loaded size first one (cas_loaded size second two after))))

@@ -1,5 +1,5 @@
 -- Operands: what stands there, and what is put there.
-use Rattle.std.specs.Prelude.{ℕ, ◌+◌, ◌-◌, ◌*◌, ◌/◌, ◌^◌, length, Result, Ok}
+use Rattle.std.specs.Prelude.{ℕ, ◌+◌, ◌-◌, ◌*◌, length, Result, Ok}
 use Rattle.mb_port.specs.Routine.{Routine, Return, ◌>>=◌, ◌>>◌}
 use Rattle.mb_port.specs.declared.types.Space.{Space}
 use Rattle.mb_instr.specs.declared.size.Size.{Size}
@@ -17,11 +17,6 @@ use Rattle.mb_ea.specs.Resolve.{resolve_of}
 use Rattle.mb_writes.specs.declared.ends.WriteFault.{WriteFault}
 use Rattle.mb_writes.specs.Writing.{write_operand_of}
 use Rattle.mb_meaning.specs.Ends.{Rowed, Cut, OtherEnd, carried, writing}
-
--- the register of all sixteen that an instruction's second word names: bit 15 says an address register, bits 14 to 12
--- are its number
-abbrev pub named_register_in : ℕ → ℕ
-named_register_in word = word / 2 ^ 12
 
 -- the address of the words behind those of an operand
 abbrev pub behind_of : Size → Ea → ℕ → ℕ

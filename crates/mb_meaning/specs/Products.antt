@@ -1,5 +1,5 @@
 -- Multiplication and division.
-use Rattle.std.specs.Prelude.{ℕ, ◌+◌, ◌*◌, ◌/◌, ◌%◌, ◌^◌, ◌==◌, Bool, if◌then◌else◌}
+use Rattle.std.specs.Prelude.{ℕ, ◌+◌, ◌*◌, ◌/◌, ◌%◌, ◌^◌, Bool, if◌then◌else◌}
 use Rattle.mb_instr.specs.declared.registers.Plain.{Plain}
 use Rattle.mb_instr.specs.declared.vectors.TheConstants.{ZERO_DIVIDE}
 use Rattle.mb_instr.specs.Registers.{data_register, with_data_register}
@@ -10,6 +10,7 @@ use Rattle.mb_alu.specs.declared.quotients.Divided.TheVariants.{Done, ZeroDivide
 use Rattle.mb_alu.specs.Products.{mul_of, div_of}
 use Rattle.mb_writes.specs.declared.ends.Ended.TheVariants as ended
 use Rattle.mb_meaning.specs.Ends.{Rowed, carried, ended_otherwise}
+use Rattle.mb_instr.specs.FurtherWords.{pair_word}
 
 -- ---- by words
 
@@ -36,20 +37,6 @@ divide_word_of signed n value p = divided_by_word n (div_of signed Word value (d
 
 -- ---- by longs: the word behind the first is `0lll sw00 0000 0hhh`
 
--- the register of the low long, or of the quotient
-abbrev pub low_register_in : ℕ → ℕ
-low_register_in word = word / 2 ^ 12 % 8
-
--- the register of the high long, or of the remainder
-abbrev pub high_register_in : ℕ → ℕ
-high_register_in word = word % 8
-
-abbrev pub is_signed : ℕ → Bool
-is_signed word = word / 2 ^ 11 % 2 == 1
-
-abbrev pub is_wide : ℕ → Bool
-is_wide word = word / 2 ^ 10 % 2 == 1
-
 -- two registers, of which the second stands where both are one
 abbrev pub with_two : Plain → ℕ → ℕ → ℕ → ℕ → Plain
 with_two p n value m other = with_data_register (with_data_register p n value) m other
@@ -57,14 +44,14 @@ with_two p n value m other = with_data_register (with_data_register p n value) m
 -- MULU.L and MULS.L with a product of 32 bits
 abbrev pub multiply_to_long_of : ℕ → ℕ → Plain → Plain
 multiply_to_long_of word value p =
-    let product = mul_of (is_signed word) Long value (data_register p (low_register_in word)) p.ccr in
-    record (with_data_register p (low_register_in word) product.value) { ccr = product.ccr }
+    let product = mul_of (pair_word word).is_signed Long value (data_register p (pair_word word).low) p.ccr in
+    record (with_data_register p (pair_word word).low product.value) { ccr = product.ccr }
 
 -- the same with a product of 64 bits: the register of the low long is written first
 abbrev pub multiply_to_wide_of : ℕ → ℕ → Plain → Plain
 multiply_to_wide_of word value p =
-    let product = mul_of (is_signed word) Wide value (data_register p (low_register_in word)) p.ccr in
-    record (with_two p (low_register_in word) (product.value % 2 ^ 32) (high_register_in word)
+    let product = mul_of (pair_word word).is_signed Wide value (data_register p (pair_word word).low) p.ccr in
+    record (with_two p (pair_word word).low (product.value % 2 ^ 32) (pair_word word).high
     (product.value / 2 ^ 32)) {
       ccr = product.ccr;
     }
@@ -72,25 +59,25 @@ multiply_to_wide_of word value p =
 -- MULU.L and MULS.L
 abbrev pub multiply_long_of : ℕ → ℕ → Plain → Rowed
 multiply_long_of word value p =
-    carried (if is_wide word then multiply_to_wide_of word value p else multiply_to_long_of word value p)
+    carried (if (pair_word word).is_wide then multiply_to_wide_of word value p else multiply_to_long_of word value p)
 
 -- the dividend: 64 bits in two registers, or 32 in one
 abbrev pub dividend_of : ℕ → Plain → ℕ
-dividend_of word p = if is_wide word
-    then data_register p (high_register_in word) * 2 ^ 32 + data_register p (low_register_in word)
-    else data_register p (low_register_in word)
+dividend_of word p = if (pair_word word).is_wide
+    then data_register p (pair_word word).high * 2 ^ 32 + data_register p (pair_word word).low
+    else data_register p (pair_word word).low
 
 abbrev pub width_in : ℕ → Width
-width_in word = if is_wide word then Wide else Long
+width_in word = if (pair_word word).is_wide then Wide else Long
 
 -- the register of the remainder is written first
 abbrev pub divided_by_long : ℕ → Divided → Plain → Rowed
 divided_by_long word (Done quotient remainder ccr) p =
-    carried (record (with_two p (high_register_in word) remainder (low_register_in word) quotient) { ccr = ccr })
+    carried (record (with_two p (pair_word word).high remainder (pair_word word).low quotient) { ccr = ccr })
 divided_by_long word (Overflow ccr) p = carried (record p { ccr = ccr })
 divided_by_long word (ZeroDivide ccr) p = zero_divided ccr p
 
 -- DIVUL.L, DIVSL.L, DIVU.L and DIVS.L
 abbrev pub divide_long_of : ℕ → ℕ → Plain → Rowed
 divide_long_of word value p =
-    divided_by_long word (div_of (is_signed word) (width_in word) value (dividend_of word p) p.ccr) p
+    divided_by_long word (div_of (pair_word word).is_signed (width_in word) value (dividend_of word p) p.ccr) p

@@ -4,8 +4,9 @@ ghost use Rattle.std.specs.Prelude.{◌≡◌, ◌<◌, OnErr, IfOk};
 ghost use Rattle.mb_port.specs.Routine.{run};
 ghost use Rattle.mb_instr.specs.Sizes.{values_of};
 ghost use Rattle.mb_instr.specs.Operands.{IsEa, IsInMemory, IsDestination};
+ghost use Rattle.mb_instr.specs.FurtherWords.{register_word};
 ghost use Rattle.mb_ea.specs.Addresses.{IsTarget, IsMemory, IsPlace};
-ghost use Rattle.mb_meaning.specs.Operands.{behind_of, named_register_in, with_low, load_of, fetch_operand_of, find_address_of};
+ghost use Rattle.mb_meaning.specs.Operands.{behind_of, with_low, load_of, fetch_operand_of, find_address_of};
 ghost use Rattle.mb_meaning.specs.Operands.{place_of, finish_with_of, push_of};
 ghost use Rattle.mb_operands.specs.Fetched.{fetched, pushed, IsOperand};
 ghost use Rattle.mb_operands.specs.Endings.{IsUnfinished, carried_by};
@@ -29,7 +30,7 @@ pub struct Operand {
 /// are its number.
 #[inline(always)]
 pub fn named_register(word: u16) -> u8
-    ensures value { result ≡ named_register_in word }
+    ensures value { result ≡ (register_word word).register }
     ensures range { result < 16 }
 {
     (word >> 12) as u8

@@ -3,7 +3,8 @@
 ghost use Rattle.std.specs.Prelude.{◌≡◌, ◌<◌, ◌≤◌, ◌+◌, ◌-◌, ◌*◌, ◌%◌, ◌^◌};
 ghost use Rattle.mb_port.specs.Routine.{run};
 ghost use Rattle.mb_instr.specs.Operands.{IsEa, IsData};
-ghost use Rattle.mb_meaning.specs.BitFields.{field_register_in, field_offset_of, width_bits, field_width_of, is_change, field_after};
+ghost use Rattle.mb_instr.specs.FurtherWords.{field_word};
+ghost use Rattle.mb_meaning.specs.BitFields.{field_offset_of, width_bits, field_width_of, is_change, field_after};
 ghost use Rattle.mb_meaning.specs.BitFields.{field_flags, field_seen, field_signed, with_result, field_done};
 ghost use Rattle.mb_meaning.specs.BitFields.{field_in_register_of, field_in_memory_of, bytes_before, bytes_held};
 ghost use Rattle.mb_meaning.specs.BitFields.{bit_field_of};
@@ -20,7 +21,7 @@ use mb_writes::{Ended, write_operand};
 /// The number of the data register that the word names.
 #[inline(always)]
 fn field_register(word: u16) -> usize
-    ensures value { result ≡ field_register_in word }
+    ensures value { result ≡ (field_word word).register }
     ensures range { result < 8 }
 {
     (word >> 12 & 7) as usize

@@ -4,8 +4,9 @@ ghost use Rattle.std.specs.Prelude.{◌≡◌, ◌<◌};
 ghost use Rattle.mb_port.specs.Routine.{run};
 ghost use Rattle.mb_instr.specs.Operands.{IsEa, IsInMemory, IsData};
 ghost use Rattle.mb_instr.specs.Sizes.{values_of};
+ghost use Rattle.mb_instr.specs.FurtherWords.{swap_word};
 ghost use Rattle.mb_meaning.specs.Operands.{place_of};
-ghost use Rattle.mb_meaning.specs.Locked.{test_and_set_of, tas_of, compared_in, update_in, pointer_in};
+ghost use Rattle.mb_meaning.specs.Locked.{test_and_set_of, tas_of};
 ghost use Rattle.mb_meaning.specs.Locked.{cas_codes, cas_loaded, cas_equal, cas_of};
 ghost use Rattle.mb_meaning.specs.Locked.{cas2_codes, cas2_equal, cas2_of};
 ghost use Rattle.mb_operands.specs.Endings.{carried_by};
@@ -77,7 +78,7 @@ pub(crate) fn tas<P: Port>(
 /// The number of the data register Dc.
 #[inline(always)]
 fn compared(word: u16) -> usize
-    ensures value { result ≡ compared_in word }
+    ensures value { result ≡ (swap_word word).compared }
     ensures range { result < 8 }
 {
     (word & 7) as usize
@@ -86,7 +87,7 @@ fn compared(word: u16) -> usize
 /// The number of the data register Du.
 #[inline(always)]
 fn update(word: u16) -> usize
-    ensures value { result ≡ update_in word }
+    ensures value { result ≡ (swap_word word).update }
     ensures range { result < 8 }
 {
     (word >> 6 & 7) as usize
@@ -95,7 +96,7 @@ fn update(word: u16) -> usize
 /// The number of the register that holds the operand's address, of all sixteen.
 #[inline(always)]
 fn pointer(word: u16) -> u8
-    ensures value { result ≡ pointer_in word }
+    ensures value { result ≡ (swap_word word).pointer }
     ensures range { result < 16 }
 {
     (word >> 12) as u8

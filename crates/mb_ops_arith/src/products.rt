@@ -1,11 +1,11 @@
 //! Multiplication and division.
 
 ghost use Rattle.std.specs.Prelude.{◌≡◌, ◌<◌, ◌^◌};
+ghost use Rattle.mb_instr.specs.FurtherWords.{pair_word};
 ghost use Rattle.mb_alu.specs.Products.{IsBounded};
 ghost use Rattle.mb_alu.specs.declared.width.Width.TheVariants as width;
 ghost use Rattle.mb_meaning.specs.Ends.{carried};
 ghost use Rattle.mb_meaning.specs.Products.{multiply_word_of, divided_by_word, divide_word_of};
-ghost use Rattle.mb_meaning.specs.Products.{low_register_in, high_register_in, is_signed, is_wide};
 ghost use Rattle.mb_meaning.specs.Products.{multiply_to_long_of, multiply_to_wide_of, multiply_long_of};
 ghost use Rattle.mb_meaning.specs.Products.{dividend_of, width_in, divided_by_long, divide_long_of};
 ghost use Rattle.mb_operands.specs.Endings.{carried_by};
@@ -81,7 +81,7 @@ pub(crate) fn divide_word(
 /// The register of the low long, or of the quotient.
 #[inline(always)]
 fn low_register(word: u16) -> usize
-    ensures value { result ≡ low_register_in word }
+    ensures value { result ≡ (pair_word word).low }
     ensures range { result < 8 }
 {
     (word >> 12 & 7) as usize
@@ -90,7 +90,7 @@ fn low_register(word: u16) -> usize
 /// The register of the high long, or of the remainder.
 #[inline(always)]
 fn high_register(word: u16) -> usize
-    ensures value { result ≡ high_register_in word }
+    ensures value { result ≡ (pair_word word).high }
     ensures range { result < 8 }
 {
     (word & 7) as usize
@@ -99,7 +99,7 @@ fn high_register(word: u16) -> usize
 /// Whether the numbers are signed.
 #[inline(always)]
 fn is_signed(word: u16) -> bool
-    ensures { result ≡ is_signed word }
+    ensures { result ≡ (pair_word word).is_signed }
 {
     word >> 11 & 1 == 1
 }
@@ -107,7 +107,7 @@ fn is_signed(word: u16) -> bool
 /// Whether the product or the dividend has 64 bits.
 #[inline(always)]
 fn is_wide(word: u16) -> bool
-    ensures { result ≡ is_wide word }
+    ensures { result ≡ (pair_word word).is_wide }
 {
     word >> 10 & 1 == 1
 }

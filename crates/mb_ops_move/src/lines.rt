@@ -2,7 +2,8 @@
 
 ghost use Rattle.std.specs.Prelude.{◌≡◌, ◌<◌, ◌%◌};
 ghost use Rattle.mb_port.specs.Routine.{run};
-ghost use Rattle.mb_meaning.specs.Lines.{line_address, move_line_of, past_line, past_lines, destination_in};
+ghost use Rattle.mb_instr.specs.FurtherWords.{line_word};
+ghost use Rattle.mb_meaning.specs.Lines.{line_address, move_line_of, past_line, past_lines};
 ghost use Rattle.mb_meaning.specs.Lines.{move16_absolute_of, move16_post_of};
 ghost use Rattle.mb_operands.specs.Endings.{carried_by};
 
@@ -105,7 +106,7 @@ fn step_past_lines(x: u8, y: u8, plain: &mut Plain)
 /// The register of the destination, in bits 14 to 12 of the word.
 #[inline(always)]
 fn destination(word: u16) -> u8
-    ensures value { result ≡ destination_in word }
+    ensures value { result ≡ (line_word word).destination }
     ensures register { result < 8 }
 {
     (word >> 12 & 7) as u8

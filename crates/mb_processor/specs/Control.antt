@@ -1,5 +1,5 @@
 -- MOVEC.
-use Rattle.std.specs.Prelude.{ℕ, ◌%◌, ◌^◌, bit_and, Bool, Option, Some, None}
+use Rattle.std.specs.Prelude.{ℕ, bit_and, Bool, Option, Some, None}
 use Rattle.mb_port.specs.Routine.{Routine, Return, Then, choose, mmu, set_mmu}
 use Rattle.mb_port.specs.Registers.{mmu_register}
 use Rattle.mb_instr.specs.Registers.{plain_of, register_of, with_register}
@@ -10,12 +10,12 @@ use Rattle.mb_instr.specs.declared.control.ControlRegister.{ControlRegister}
 use Rattle.mb_instr.specs.declared.control.ControlRegister.TheVariants as control
 use Rattle.mb_instr.specs.declared.vectors.TheConstants.{ILLEGAL}
 use Rattle.mb_instr.specs.Control.{control_of, kept_bits}
-use Rattle.mb_meaning.specs.Operands.{named_register_in}
+use Rattle.mb_instr.specs.FurtherWords.{control_word, register_word}
 use Rattle.mb_processor.specs.SystemEnds.{SystemRowed, with_registers, completing, system_ended_otherwise}
 
 -- the control register that a word names in its other bits
 abbrev pub named_control_in : ℕ → Option ControlRegister
-named_control_in word = control_of (word % 2 ^ 12)
+named_control_in word = control_of (control_word word).code
 
 -- what a control register holds; those of the memory management unit stand at the bus
 unfoldable pub control_value_of : ControlRegister → Cpu → Routine ℕ
@@ -62,4 +62,4 @@ moving_control None to_control n cpu = Return (system_ended_otherwise not_carrie
 
 -- MOVEC
 unfoldable pub movec_of : Bool → ℕ → Cpu → Routine SystemRowed
-movec_of to_control word cpu = moving_control (named_control_in word) to_control (named_register_in word) cpu
+movec_of to_control word cpu = moving_control (named_control_in word) to_control (register_word word).register cpu

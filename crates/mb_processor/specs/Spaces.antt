@@ -19,9 +19,10 @@ use Rattle.mb_ea.specs.Reading.{read_operand_of}
 use Rattle.mb_ea.specs.Resolve.{resolve_of}
 use Rattle.mb_model.specs.declared.processor.Cpu.{Cpu}
 use Rattle.mb_model.specs.Pages.{page_of, has_big_pages, other_half}
-use Rattle.mb_meaning.specs.Operands.{named_register_in, with_low, place_of, finish_with_of}
+use Rattle.mb_meaning.specs.Operands.{with_low, place_of, finish_with_of}
 use Rattle.mb_meaning.specs.Ends.{reading}
 use Rattle.mb_processor.specs.SystemEnds.{SystemRowed, completed, with_registers, finish_row_of}
+use Rattle.mb_instr.specs.FurtherWords.{register_word}
 
 -- the space of a function code, by its bit 2
 abbrev pub function_space : ℕ → Space
@@ -46,17 +47,13 @@ move_in_of size target n p cpu = do
   value ← reading (read_operand_of (function_space cpu.sfc) (place_of target) (bytes_of size))
   Return (completed (with_registers (load_register_of size n value p) cpu))
 
--- bit 11 of the word says to memory
-abbrev pub is_store : ℕ → Bool
-is_store word = word / 2 ^ 11 % 2 == 1
-
 -- MOVES: a memory indirection of its address reads in supervisor space, whatever the function codes say. Only the
 -- operand itself goes by SFC or DFC.
 unfoldable pub moves_of : Size → Ea → ℕ → ℕ → Cpu → Routine SystemRowed
 moves_of size ea word word_at cpu = do
   to ← reading (resolve_of ea size word_at Super (plain_of cpu.regs))
-  choose (is_store word) (move_out_of size to.target (named_register_in word) to.plain cpu)
-      (move_in_of size to.target (named_register_in word) to.plain cpu)
+  choose (register_word word).is_store (move_out_of size to.target (register_word word).register to.plain cpu)
+      (move_in_of size to.target (register_word word).register to.plain cpu)
 
 -- ---- pages
 

@@ -257,7 +257,8 @@ puts_memory bus t size place space p s u valid put =
     let after = step_over_of (place_ea place) size moved in
     let there = subst (λ (at : ℕ). run bus (write_operand_of space at (bytes_of size) (put_value t size p)) s ≡ (Ok tt, u))
     (sym (same_place place size 1 p)) put in
-    let here = subst (λ (value : ℕ). run bus (write_operand_of space (place_at place size moved) (bytes_of size) value) s ≡ (Ok tt, u)) (sym (same_put t size 1 p)) there in
+    let here = subst (λ (value : ℕ). run bus (write_operand_of space (place_at place size moved) (bytes_of size) value) s ≡ (Ok tt, u))
+    (sym (same_put t size 1 p)) there in
     let row = puts bus t size (place_ea place) (place_at place size moved) p.pc space moved after s u (has_source t size (place_ea place) valid)
     (place_found bus size place space moved s) here in
     one_goes bus (putting_of t size (place_ea place)) space p (move_flags size (put_value t size p) after) s u

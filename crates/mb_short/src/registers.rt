@@ -94,7 +94,8 @@ fn carry_out<P: Port, const COPY: usize>(short: &Short, at: u32, space: Space, p
             multiply_word(false, register, Size::Word.low(plain.d[source as usize]), plain),
         Short::MultiplySigned { register, source } =>
             multiply_word(true, register, Size::Word.low(plain.d[source as usize]), plain),
-        Short::ShiftRightLong { register, count } => shift_by(ShiftKind::Logical, false, Size::Long, count, register, plain),
+        Short::ShiftRightLong { register, count } =>
+            shift_by(ShiftKind::Logical, false, Size::Long, count, register, plain),
         Short::AddQuickLong { register, quick } => combine_into(ADD, Size::Long, u32::from(quick), register, plain),
         Short::SubtractQuickLong { register, quick } =>
             combine_into(SUBTRACT, Size::Long, u32::from(quick), register, plain),

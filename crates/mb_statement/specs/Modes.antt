@@ -1,5 +1,5 @@
 -- Operands as they are written, by the operands that instructions have.
-use Rattle.std.specs.Prelude.{ℕ, ◌+◌, ◌-◌, ◌/◌, ◌%◌, ◌^◌, ◌==◌, ℤ, pos, Bool, false, nat_lt, if◌then◌else◌}
+use Rattle.std.specs.Prelude.{ℕ, ◌+◌, ◌-◌, ◌%◌, ◌^◌, ◌==◌, ℤ, pos, Bool, false, nat_lt, if◌then◌else◌}
 use Rattle.std.specs.Prelude.{Option, Some, None}
 use Rattle.mb_alu.specs.Signs.{signed_of}
 use Rattle.mb_instr.specs.declared.size.Size.{Size}
@@ -10,6 +10,7 @@ use Rattle.mb_instr.specs.declared.operand.Ea.TheVariants.{AbsW, AbsL, PcDisp, P
 use Rattle.mb_instr.specs.declared.operand.Ext.{Ext}
 use Rattle.mb_instr.specs.declared.operand.Ext.TheVariants.{Brief, Full}
 use Rattle.mb_instr.specs.Sizes.{sign_extended}
+use Rattle.mb_instr.specs.FurtherWords.{extension_word}
 use Rattle.mb_syntax.specs.declared.mode.Width.TheVariants as width
 use Rattle.mb_syntax.specs.declared.mode.Width.{Width}
 use Rattle.mb_syntax.specs.declared.mode.Scale.{Scale}
@@ -37,14 +38,13 @@ abbrev pub scale_of : ℕ → Scale
 scale_of bits =
     if bits == 0 then scale.One else if bits == 1 then scale.Two else if bits == 2 then scale.Four else scale.Eight
 
--- `rnnn lkk. .... ....`
 unfoldable pub index_of : Bool → ℕ → Index
-index_of is_dropped w = record {
-  is_address = w / 2 ^ 15 == 1;
-  register = w / 2 ^ 12 % 8;
+index_of is_dropped w = let e = extension_word w in record {
+  is_address = e.is_address == 1;
+  register = e.register;
   is_dropped = is_dropped;
-  width = width_of (w / 2 ^ 11 % 2);
-  scale = scale_of (w / 2 ^ 9 % 4);
+  width = width_of e.is_long;
+  scale = scale_of e.scale;
 }
 
 -- a displacement with the width that a field says: 2 for a word, 3 for a long, else there is none
@@ -65,27 +65,27 @@ abbrev pub base_displacement : ℕ → Base → ℕ → ℕ → Option (Displace
 base_displacement place base.Pc field d = distance_of place field d
 base_displacement place _ field d = displacement_of field d
 
--- bit 7 drops the base
 abbrev pub address_base : ℕ → ℕ → Base
-address_base w n = if w / 2 ^ 7 % 2 == 1 then base.NoAddress n else base.Address n
+address_base w n = if (extension_word w).leaves_base == 1 then base.NoAddress n else base.Address n
 
 abbrev pub pc_base : ℕ → Base
-pc_base w = if w / 2 ^ 7 % 2 == 1 then base.NoPc else base.Pc
+pc_base w = if (extension_word w).leaves_base == 1 then base.NoPc else base.Pc
 
 -- an index that is dropped stands before the place where the address is read
 abbrev pub indirection_of : ℕ → Indirection
 indirection_of w =
-    if w % 8 == 0 then indirection.Direct else if nat_lt (w % 8) 4 then indirection.PreIndexed
+    let kind = (extension_word w).indirection in
+    if kind == 0 then indirection.Direct else if nat_lt kind 4 then indirection.PreIndexed
     else indirection.PostIndexed
 
--- `rnnn lkk1 BIbb 0iii` and its displacements, of which the first word stands at the place
+-- a full extension word and its displacements, of which the first word stands at the place
 unfoldable pub full_of : ℕ → Base → ℕ → ℕ → ℕ → FullForm ℤ
-full_of place from w bd od = record {
-  displacement = base_displacement place from (w / 2 ^ 4 % 4) bd;
+full_of place from w bd od = let e = extension_word w in record {
+  displacement = base_displacement place from e.base_width bd;
   base = from;
-  index = index_of (w / 2 ^ 6 % 2 == 1) w;
+  index = index_of (e.leaves_index == 1) w;
   indirection = indirection_of w;
-  outer = displacement_of (w % 4) od;
+  outer = displacement_of e.outer_width od;
 }
 
 -- The number of an immediate of the size. A byte has a whole word, which is $FF80 to $FFFF where it is negative.

@@ -1,5 +1,5 @@
 -- Statements as they are listed: the statement of an instruction, by the table of instructions.
-use Rattle.std.specs.Prelude.{ℕ, zero, suc, ◌+◌, ◌-◌, ◌*◌, ◌/◌, ◌%◌, ◌^◌, ◌==◌, ℤ, pos, Bool, true, false}
+use Rattle.std.specs.Prelude.{ℕ, zero, suc, ◌+◌, ◌-◌, ◌*◌, ◌%◌, ◌^◌, ◌==◌, ℤ, pos, Bool, true, false}
 use Rattle.std.specs.Prelude.{nat_lt, if◌then◌else◌, List, [], ◌∷◌, Option, Some, None, codes}
 use Rattle.mb_alu.specs.Signs.{signed_of}
 use Rattle.mb_instr.specs.declared.size.Size.{Size}
@@ -50,6 +50,7 @@ use Rattle.mb_statement.specs.Names.{branch_name, set_name, loop_name, trap_name
 use Rattle.mb_statement.specs.Names.{invalidate_name, push_name, flush_name, product_name, quotient_name}
 use Rattle.mb_statement.specs.Names.{remainder_name}
 use Rattle.mb_statement.specs.Names.{test_name}
+use Rattle.mb_instr.specs.FurtherWords.{pair_word, swap_word, register_word, field_word, control_word, line_word}
 
 -- the name of an operation, its size where one is written, and its operands
 pub record Statement : Type 0 where
@@ -155,9 +156,9 @@ field_number is_register n e = if is_register then field_part.Data n else field_
 
 -- `0nnn Oooo ooWw wwww`; a width of 32 is spelled 0
 unfoldable pub field_of : ℕ → BitField ℤ
-field_of w = record {
-  offset = field_number (w / 2 ^ 11 % 2 == 1) (w / 2 ^ 6 % 8) (w / 2 ^ 6 % 32);
-  width = field_number (w / 2 ^ 5 % 2 == 1) (w % 8) (if w % 32 == 0 then 32 else w % 32);
+field_of w = let f = field_word w in record {
+  offset = field_number f.offset_is_register f.offset_register f.offset;
+  width = field_number f.width_is_register f.width_register (if f.width == 0 then 32 else f.width);
 }
 
 -- a bit field of an operand in an instruction at an address
@@ -222,18 +223,15 @@ alone n at s ea = sized n s (sized_place at s ea ∷ [])
 
 -- `0lll sw00 0000 0hhh`
 unfoldable pub product : Operand ℤ → ℕ → Statement
-product ea w =
-    if w / 2 ^ 10 % 2 == 1
-    then sized (product_name (w / 2 ^ 11 % 2 == 1)) size.Long (ea ∷ operand.Pair (w % 8) (w / 2 ^ 12 % 8) ∷ [])
-    else sized (product_name (w / 2 ^ 11 % 2 == 1)) size.Long (ea ∷ data_operand (w / 2 ^ 12 % 8) ∷ [])
+product ea w = let f = pair_word w in
+    if f.is_wide then sized (product_name f.is_signed) size.Long (ea ∷ operand.Pair f.high f.low ∷ [])
+    else sized (product_name f.is_signed) size.Long (ea ∷ data_operand f.low ∷ [])
 
 unfoldable pub quotient : Operand ℤ → ℕ → Statement
-quotient ea w =
-    if w / 2 ^ 10 % 2 == 1
-    then sized (quotient_name (w / 2 ^ 11 % 2 == 1)) size.Long (ea ∷ operand.Pair (w % 8) (w / 2 ^ 12 % 8) ∷ [])
-    else if w / 2 ^ 12 % 8 == w % 8
-    then sized (quotient_name (w / 2 ^ 11 % 2 == 1)) size.Long (ea ∷ data_operand (w % 8) ∷ [])
-    else sized (remainder_name (w / 2 ^ 11 % 2 == 1)) size.Long (ea ∷ operand.Pair (w % 8) (w / 2 ^ 12 % 8) ∷ [])
+quotient ea w = let f = pair_word w in
+    if f.is_wide then sized (quotient_name f.is_signed) size.Long (ea ∷ operand.Pair f.high f.low ∷ [])
+    else if f.low == f.high then sized (quotient_name f.is_signed) size.Long (ea ∷ data_operand f.high ∷ [])
+    else sized (remainder_name f.is_signed) size.Long (ea ∷ operand.Pair f.high f.low ∷ [])
 
 unfoldable pub branching : ℕ → Condition → Branch → Statement
 branching at c (branch.Byte d) = sized (branch_name c) size.Byte (target size.Byte at d ∷ [])
@@ -257,7 +255,7 @@ move_statement at (move.LinkL a d) = sized (codes "LINK") size.Long
 move_statement at (move.LinkW a d) = plain (codes "LINK") (address_operand a ∷ immediate (signed_of size.Word d) ∷ [])
 move_statement at (move.Move s d e) = sized (codes "MOVE") s (sized_place at s e ∷ place at 1 d ∷ [])
 move_statement at (move.Move16Abs k a l) = plain (codes "MOVE16") (moved k a l)
-move_statement at (move.Move16Post x w) = plain (codes "MOVE16") (post x ∷ post (w / 2 ^ 12 % 8) ∷ [])
+move_statement at (move.Move16Post x w) = plain (codes "MOVE16") (post x ∷ post (line_word w).destination ∷ [])
 move_statement at (move.Movea s a e) = to_address (codes "MOVEA") at s a e
 move_statement at (move.MovemLoad s ea w) = sized (codes "MOVEM") s (place at 2 ea ∷ list w ∷ [])
 move_statement at (move.MovemStore s ea w) = sized (codes "MOVEM") s (list (mask_for ea w) ∷ place at 2 ea ∷ [])
@@ -282,13 +280,14 @@ arith_statement at (arith.AndiCcr w) = plain (codes "ANDI") (count w ∷ operand
 arith_statement at (arith.BitImm k ea w) = plain (bit_name k) (count w ∷ place at 2 ea ∷ [])
 arith_statement at (arith.BitReg d k ea) = plain (bit_name k) (data_operand d ∷ sized_place at size.Byte ea ∷ [])
 arith_statement at (arith.Cas s ea w) = sized (codes "CAS") s
-    (data_operand (w % 8) ∷ data_operand (w / 2 ^ 6 % 8) ∷ place at 2 ea ∷ [])
+    (data_operand (swap_word w).compared ∷ data_operand (swap_word w).update ∷ place at 2 ea ∷ [])
 arith_statement at (arith.Cas2 s w v) = sized (codes "CAS2") s
-    (operand.Pair (w % 8) (v % 8) ∷ operand.Pair (w / 2 ^ 6 % 8) (v / 2 ^ 6 % 8)
-    ∷ operand.IndirectPair (w / 2 ^ 12) (v / 2 ^ 12) ∷ [])
+    (operand.Pair (swap_word w).compared (swap_word v).compared ∷ operand.Pair (swap_word w).update (swap_word v).update
+    ∷ operand.IndirectPair (swap_word w).pointer (swap_word v).pointer ∷ [])
 arith_statement at (arith.Clr s ea) = alone (codes "CLR") at s ea
 arith_statement at (arith.Cmp d s ea) = sized (codes "CMP") s (sized_place at s ea ∷ data_operand d ∷ [])
-arith_statement at (arith.Cmp2 s ea w) = sized (codes "CMP2") s (place at 2 ea ∷ register (w / 2 ^ 12) ∷ [])
+arith_statement at (arith.Cmp2 s ea w) = sized (codes "CMP2") s
+    (place at 2 ea ∷ register (register_word w).register ∷ [])
 arith_statement at (arith.Cmpa a s ea) = to_address (codes "CMPA") at s a ea
 arith_statement at (arith.Cmpi s ea v) = adjust (codes "CMPI") at s v ea
 arith_statement at (arith.Cmpm x s y) = sized (codes "CMPM") s (post y ∷ post x ∷ [])
@@ -301,7 +300,7 @@ arith_statement at (arith.ExtL d) = sized (codes "EXT") size.Long (data_operand 
 arith_statement at (arith.ExtW d) = sized (codes "EXT") size.Word (data_operand d ∷ [])
 arith_statement at (arith.ExtbL d) = sized (codes "EXTB") size.Long (data_operand d ∷ [])
 arith_statement at (arith.Field k ea w) = plain (field_name k)
-    (field_operands k (w / 2 ^ 12 % 8) (field at ea w))
+    (field_operands k (field_word w).register (field at ea w))
 arith_statement at (arith.MulL ea w) = product (place at 2 ea) w
 arith_statement at (arith.MulW d g ea) = plain (product_name g) (place at 1 ea ∷ data_operand d ∷ [])
 arith_statement at (arith.Nbcd ea) = plain (codes "NBCD") (place at 1 ea ∷ [])
@@ -328,7 +327,7 @@ arith_statement at (arith.Unpk x m y w) = plain (codes "UNPK") (adjusted_pairs m
 unfoldable pub flow_statement : ℕ → Flow → Statement
 flow_statement at (flow.Bcc c d) = branching at c d
 flow_statement at (flow.Chk d s ea) = sized (codes "CHK") s (place at 1 ea ∷ data_operand d ∷ [])
-flow_statement at (flow.Chk2 s ea w) = sized (codes "CHK2") s (place at 2 ea ∷ register (w / 2 ^ 12) ∷ [])
+flow_statement at (flow.Chk2 s ea w) = sized (codes "CHK2") s (place at 2 ea ∷ register (register_word w).register ∷ [])
 flow_statement at (flow.Dbcc c d w) = plain (loop_name c) (data_operand d ∷ target size.Word at w ∷ [])
 flow_statement at (flow.Jmp ea) = plain (codes "JMP") (place at 1 ea ∷ [])
 flow_statement at (flow.Jsr ea) = plain (codes "JSR") (place at 1 ea ∷ [])
@@ -349,9 +348,9 @@ system_statement at (system.FromSr ea) = plain (codes "MOVE") (operand.Sr ∷ pl
 system_statement at (system.MoveUsp k a) = plain (codes "MOVE")
     (in_turn k (operand.Control control.Usp) (address_operand a))
 system_statement at (system.Movec k w) = plain (codes "MOVEC")
-    (in_turn k (register (w / 2 ^ 12)) (control_register (w % 2 ^ 12)))
+    (in_turn k (register (control_word w).register) (control_register (control_word w).code))
 system_statement at (system.Moves s ea w) = sized (codes "MOVES") s
-    (in_turn (w / 2 ^ 11 % 2 == 1) (register (w / 2 ^ 12)) (place at 2 ea))
+    (in_turn (register_word w).is_store (register (register_word w).register) (place at 2 ea))
 system_statement at (system.OriSr w) = plain (codes "ORI") (count w ∷ operand.Sr ∷ [])
 system_statement at (system.Pflush k a) = plain (flush_name k) (flush_operands k a)
 system_statement at (system.Ptest k a) = plain (test_name k) (indirect a ∷ [])

@@ -5,10 +5,11 @@ ghost use Rattle.mb_port.specs.Routine.{run};
 ghost use Rattle.mb_port.specs.Flushes.{NamesPage};
 ghost use Rattle.mb_instr.specs.Sizes.{values_of};
 ghost use Rattle.mb_instr.specs.Operands.{IsEa, IsInMemory, IsDestination};
+ghost use Rattle.mb_instr.specs.FurtherWords.{register_word};
 ghost use Rattle.mb_ea.specs.Addresses.{IsTarget, IsMemory, IsPlace};
 ghost use Rattle.mb_processor.specs.SystemEnds.{system_carried_by};
 ghost use Rattle.mb_system.specs.Ends.{SystemEnds};
-ghost use Rattle.mb_processor.specs.Spaces.{function_space, load_register_of, move_out_of, move_in_of, is_store, moves_of};
+ghost use Rattle.mb_processor.specs.Spaces.{function_space, load_register_of, move_out_of, move_in_of, moves_of};
 ghost use Rattle.mb_processor.specs.Spaces.{flushed_by, is_of_a_page as of_page, flush_beside_of, pflush_of, ptest_of};
 
 use crate::finishing::finish_row;
@@ -108,7 +109,7 @@ fn move_in<P: Port>(
 /// Bit 11 of the word says to memory.
 #[inline(always)]
 fn is_store(word: u16) -> bool
-    ensures { result ≡ is_store word }
+    ensures { result ≡ (register_word word).is_store }
 {
     word >> 11 & 1 == 1
 }

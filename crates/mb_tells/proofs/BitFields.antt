@@ -11,10 +11,11 @@ use Rattle.mb_instr.specs.declared.operand.Ea.{Ea}
 use Rattle.mb_instr.specs.declared.operand.Ea.TheVariants.{Dn}
 use Rattle.mb_instr.specs.declared.kinds.FieldKind.{FieldKind}
 use Rattle.mb_instr.specs.Registers.{data_register}
+use Rattle.mb_instr.specs.FurtherWords.{field_word}
 use Rattle.mb_fields.specs.Fields.{field_get_of, field_put_of}
 use Rattle.mb_ea.specs.Addresses.{sum}
 use Rattle.mb_meaning.specs.Ends.{Carried}
-use Rattle.mb_meaning.specs.BitFields.{field_register_in, field_offset_of, field_width_of, is_change, field_after, field_done}
+use Rattle.mb_meaning.specs.BitFields.{field_offset_of, field_width_of, is_change, field_after, field_done}
 use Rattle.mb_meaning.specs.BitFields.{bytes_before, bytes_held, field_in_memory_of, bit_field_of}
 use Rattle.mb_tells.proofs.Longs.{sum_long}
 use Rattle.mb_tells.proofs.Ranges.{IsFormed}
@@ -32,7 +33,7 @@ module _ {S : Type 0} (x : Guarded S) (space : Space) (g : Guards x space) {move
       let lt = sum_long address (bytes_before offset) in
       row_reading x space (reading_tells x space g first held lt) (λ bytes read.
       let old = field_get_of bytes (8 * held) (offset % 8) width in
-      let new = field_after kind width old (data_register p (field_register_in word)) in
+      let new = field_after kind width old (data_register p (field_word word).register) in
       let done : Carried = record { flow = false; plain = field_done kind word old p } in
       tells_choose (is_change kind) _ _
       (λ e. row_writing x space tt (λ written. done) (writing_tells x space g first held (field_put_of bytes (8 * held) (offset % 8) width new) lt))

@@ -16,7 +16,8 @@ use Rattle.mb_tells.specs.Left.{completing_line}
 use Rattle.mb_instr.specs.declared.kinds.LineMove.{LineMove}
 use Rattle.mb_instr.specs.declared.kinds.LineMove.TheVariants as line_move
 use Rattle.mb_instr.specs.Registers.{address_register}
-use Rattle.mb_meaning.specs.Lines.{line_address, move_line_of, past_line, past_lines, destination_in, move16_absolute_of, move16_post_of}
+use Rattle.mb_instr.specs.FurtherWords.{line_word}
+use Rattle.mb_meaning.specs.Lines.{line_address, move_line_of, past_line, past_lines, move16_absolute_of, move16_post_of}
 use Rattle.mb_tells.specs.Laws.{AreLongs}
 use Rattle.mb_tells.proofs.Longs.{address_long}
 use Rattle.mb_tells.proofs.Resumed.{closed_end}
@@ -81,5 +82,5 @@ module _ {S : Type 0} (x : Guarded S) (space : Space) (g : Guards x space) where
   pub move16_tells : {moves : Movem → Type 0} (m word : ℕ) (p : Plain) → AreLongs p.a → RowTells x space p moves (move16_post_of m word space p)
   unfolding move16_post_of
   move16_tells m word p longs =
-      let n = destination_in word in
+      let n = (line_word word).destination in
       moved_tells (address_register p m) (address_register p n) p (past_lines m n p) (address_long p m longs) (address_long p n longs)

@@ -20,12 +20,13 @@ use Rattle.mb_instr.specs.declared.operand.Ea.{Ea}
 use Rattle.mb_instr.specs.declared.operand.Ea.TheVariants.{Dn}
 use Rattle.mb_instr.specs.Sizes.{bytes_of}
 use Rattle.mb_instr.specs.Registers.{register_of, data_register}
+use Rattle.mb_instr.specs.FurtherWords.{swap_word}
 use Rattle.mb_ea.specs.Reading.{refused_in}
 use Rattle.mb_writes.specs.Writing.{part_of}
 use Rattle.mb_meaning.specs.Operands.{place_of}
 use Rattle.mb_writes.specs.Checked.{probe_pieces_of, probe_operand_of, get_places_of, get_operand_of, put_places_of, put_operand_of}
 use Rattle.mb_meaning.specs.Locked.{test_and_set_of, tas_in_memory, tas_of}
-use Rattle.mb_meaning.specs.Locked.{update_in, pointer_in, cas_equal, cas_at, cas_of, cas2_equal, cas2_of}
+use Rattle.mb_meaning.specs.Locked.{cas_equal, cas_at, cas_of, cas2_equal, cas2_of}
 use Rattle.mb_tells.specs.Guarded.{Goes, quiet}
 use Rattle.mb_tells.specs.Left.{Answered, Telling}
 use Rattle.mb_tells.proofs.Apart.{ArePlaced, split_placed}
@@ -118,7 +119,7 @@ module _ {S : Type 0} (x : Guarded S) (space : Space) (g : Guards x space) {move
       row_reading x space (probe_tells x space g address (bytes_of size) lt) (λ places may. row_tail x space (
       tail_then x space (get_calm x space g places may) (λ value.
       tells_choose (cas_equal size word value p) _ _
-      (λ e. tail_then x space (put_calm x space g places (bytes_of size) (data_register p (update_in word)) may) (λ done. tail_done x space _))
+      (λ e. tail_then x space (put_calm x space g places (bytes_of size) (data_register p (swap_word word).update) may) (λ done. tail_done x space _))
       (λ e. tail_done x space _))))
 
   pub cas_tells : (size : Size) (ea : Ea) (word word_at : ℕ) (p : Plain) → IsFormed ea → AreLongs p.a
@@ -132,12 +133,14 @@ module _ {S : Type 0} (x : Guarded S) (space : Space) (g : Guards x space) {move
   unfolding cas2_of
   cas2_tells size first second p words longs =
       let len = bytes_of size in
-      row_reading x space (probe_tells x space g (register_of p (pointer_in first)) len (register_long p (pointer_in first) words longs)) (λ ps may.
-      row_reading x space (probe_tells x space g (register_of p (pointer_in second)) len (register_long p (pointer_in second) words longs)) (λ qs free.
+      row_reading x space
+      (probe_tells x space g (register_of p (swap_word first).pointer) len (register_long p (swap_word first).pointer words longs)) (λ ps may.
+      row_reading x space
+      (probe_tells x space g (register_of p (swap_word second).pointer) len (register_long p (swap_word second).pointer words longs)) (λ qs free.
       row_tail x space (
       tail_then x space (get_calm x space g ps may) (λ one.
       tail_then x space (get_calm x space g qs free) (λ two.
       tells_choose (cas2_equal size first second one two p) _ _
-      (λ e. tail_then x space (calm_then x space (put_calm x space g ps len (data_register p (update_in first)) may)
-      (put_calm x space g qs len (data_register p (update_in second)) free)) (λ done. tail_done x space _))
+      (λ e. tail_then x space (calm_then x space (put_calm x space g ps len (data_register p (swap_word first).update) may)
+      (put_calm x space g qs len (data_register p (swap_word second).update) free)) (λ done. tail_done x space _))
       (λ e. tail_done x space _))))))

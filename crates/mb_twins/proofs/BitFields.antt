@@ -9,9 +9,10 @@ use Rattle.mb_instr.specs.declared.operand.Ea.TheVariants.{Dn}
 use Rattle.mb_instr.specs.declared.kinds.FieldKind.{FieldKind}
 use Rattle.mb_instr.specs.declared.registers.Plain.{Plain}
 use Rattle.mb_instr.specs.Registers.{data_register}
+use Rattle.mb_instr.specs.FurtherWords.{field_word}
 use Rattle.mb_fields.specs.Fields.{field_get_of, field_put_of}
 use Rattle.mb_ea.specs.Addresses.{sum}
-use Rattle.mb_meaning.specs.BitFields.{field_register_in, field_offset_of, field_width_of, is_change, field_after, field_done, bytes_before, bytes_held, field_in_memory_of, bit_field_of}
+use Rattle.mb_meaning.specs.BitFields.{field_offset_of, field_width_of, is_change, field_after, field_done, bytes_before, bytes_held, field_in_memory_of, bit_field_of}
 use Rattle.mb_twins.proofs.Parts.{SameCut, SameRowed, Rows, then_twins, reading_twins, writing_twins}
 use Rattle.mb_twins.proofs.Operands.{address_twins, read_twins, put_twins}
 
@@ -25,7 +26,7 @@ in_memory_twins x kind word address p =
     let held = bytes_held offset width in
     then_twins x (SameCut x) (reading_twins x (read_twins x first held)) (λ bytes.
     let old = field_get_of bytes (8 * held) (offset % 8) width in
-    let new = field_after kind width old (data_register p (field_register_in word)) in
+    let new = field_after kind width old (data_register p (field_word word).register) in
     twins_choose (between x) (SameRowed x) (is_change kind) _ _ _ _
     (then_twins x (SameCut x)
     (writing_twins x (field_done kind word old p) (put_twins x first held (field_put_of bytes (8 * held) (offset % 8) width new)))

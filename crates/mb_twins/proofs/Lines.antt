@@ -7,7 +7,8 @@ use Rattle.mb_instr.specs.declared.kinds.LineMove.{LineMove}
 use Rattle.mb_instr.specs.declared.kinds.LineMove.TheVariants as line
 use Rattle.mb_instr.specs.declared.registers.Plain.{Plain}
 use Rattle.mb_instr.specs.Registers.{address_register}
-use Rattle.mb_meaning.specs.Lines.{line_address, move_line_of, past_line, move16_absolute_of, past_lines, destination_in, move16_post_of}
+use Rattle.mb_instr.specs.FurtherWords.{line_word}
+use Rattle.mb_meaning.specs.Lines.{line_address, move_line_of, past_line, move16_absolute_of, past_lines, move16_post_of}
 use Rattle.mb_twins.specs.Twins.{SameRead}
 use Rattle.mb_twins.proofs.Parts.{SameCut, Rows, then_twins, failing_twins, reading_twins}
 
@@ -31,5 +32,5 @@ move16_absolute_twins x line.AbsoluteToIndirect n place p = line_twins x place (
 pub move16_twins : (x : Setting) (m word : ℕ) (p : Plain) → Rows x (move16_post_of m word x.here p) (move16_post_of m word x.there p)
 unfolding move16_post_of
 move16_twins x m word p =
-    let n = destination_in word in
+    let n = (line_word word).destination in
     line_twins x (address_register p m) (address_register p n) (past_lines m n p)

@@ -18,12 +18,13 @@ use Rattle.mb_instr.specs.declared.operand.Ea.TheVariants.{Dn}
 use Rattle.mb_instr.specs.declared.registers.Plain.{Plain}
 use Rattle.mb_instr.specs.Sizes.{bytes_of}
 use Rattle.mb_instr.specs.Registers.{register_of, data_register}
+use Rattle.mb_instr.specs.FurtherWords.{swap_word}
 use Rattle.mb_writes.specs.Writing.{part_of}
 use Rattle.mb_meaning.specs.Ends.{Rowed, Cut, OtherEnd, reading}
 use Rattle.mb_meaning.specs.Operands.{place_of}
 use Rattle.mb_writes.specs.Checked.{probe_pieces_of, probe_operand_of, get_places_of, get_operand_of, put_places_of, put_operand_of}
 use Rattle.mb_meaning.specs.Locked.{test_and_set_of, tas_in_memory, tas_of}
-use Rattle.mb_meaning.specs.Locked.{update_in, pointer_in, cas_equal, cas_at, cas_of, cas2_equal, cas2_of}
+use Rattle.mb_meaning.specs.Locked.{cas_equal, cas_at, cas_of, cas2_equal, cas2_of}
 use Rattle.mb_twins.specs.Twins.{SameRead}
 use Rattle.mb_twins.proofs.Parts.{SameCut, SameRowed, Rows, Stages, then_twins, reading_twins}
 use Rattle.mb_twins.proofs.Operands.{resolve_twins}
@@ -111,7 +112,7 @@ unfolding cas_at
 cas_at_twins x size word address p = locked_twins x address (bytes_of size) (λ ps qs e.
     then_twins x (SameCut x) (get_twins x ps qs e) (λ value.
     twins_choose (between x) (SameRowed x) (cas_equal size word value p) _ _ _ _
-    (then_twins x (SameCut x) (put_twins x ps qs (bytes_of size) (data_register p (update_in word)) e) (λ done. returned refl))
+    (then_twins x (SameCut x) (put_twins x ps qs (bytes_of size) (data_register p (swap_word word).update) e) (λ done. returned refl))
     (returned refl)))
 
 pub cas_twins : (x : Setting) (size : Size) (ea : Ea) (word word_at : ℕ) (p : Plain)
@@ -125,13 +126,13 @@ pub cas2_twins : (x : Setting) (size : Size) (first second : ℕ) (p : Plain) �
 unfolding cas2_of
 cas2_twins x size first second p =
     let len = bytes_of size in
-    locked_twins x (register_of p (pointer_in first)) len (λ ps qs e.
-    locked_twins x (register_of p (pointer_in second)) len (λ ps' qs' e'.
+    locked_twins x (register_of p (swap_word first).pointer) len (λ ps qs e.
+    locked_twins x (register_of p (swap_word second).pointer) len (λ ps' qs' e'.
     then_twins x (SameCut x) (get_twins x ps qs e) (λ one.
     then_twins x (SameCut x) (get_twins x ps' qs' e') (λ two.
     twins_choose (between x) (SameRowed x) (cas2_equal size first second one two p) _ _ _ _
     (then_twins x (SameCut x)
-    (then_twins x (SameCut x) (put_twins x ps qs len (data_register p (update_in first)) e)
-    (λ done. put_twins x ps' qs' len (data_register p (update_in second)) e'))
+    (then_twins x (SameCut x) (put_twins x ps qs len (data_register p (swap_word first).update) e)
+    (λ done. put_twins x ps' qs' len (data_register p (swap_word second).update) e'))
     (λ done. returned refl))
     (returned refl)))))

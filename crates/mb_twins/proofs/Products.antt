@@ -4,11 +4,12 @@ use Rattle.std.proofs.Common.{inl}
 use Rattle.mb_laws.specs.Between.{Setting}
 use Rattle.mb_instr.specs.Registers.{data_register}
 use Rattle.mb_instr.specs.declared.registers.Plain.{Plain}
+use Rattle.mb_instr.specs.FurtherWords.{pair_word}
 use Rattle.mb_alu.specs.declared.width.Width.TheVariants.{Word}
 use Rattle.mb_alu.specs.declared.quotients.Divided.{Divided}
 use Rattle.mb_alu.specs.declared.quotients.Divided.TheVariants.{Done, ZeroDivide, Overflow}
 use Rattle.mb_alu.specs.Products.{div_of}
-use Rattle.mb_meaning.specs.Products.{divided_by_word, divide_word_of, is_signed, width_in, dividend_of, divided_by_long, divide_long_of}
+use Rattle.mb_meaning.specs.Products.{divided_by_word, divide_word_of, width_in, dividend_of, divided_by_long, divide_long_of}
 use Rattle.mb_twins.proofs.Parts.{SameRowed}
 
 by_word_same : (x : Setting) (n : ℕ) (d : Divided) (p : Plain) → SameRowed x (divided_by_word n d p) (divided_by_word n d p)
@@ -27,4 +28,4 @@ by_long_same x word (ZeroDivide ccr) p = ((refl, inl refl), refl)
 
 pub long_divided_same : (x : Setting) (word value : ℕ) (p : Plain) → SameRowed x (divide_long_of word value p) (divide_long_of word value p)
 long_divided_same x word value p =
-    by_long_same x word (div_of (is_signed word) (width_in word) value (dividend_of word p) p.ccr) p
+    by_long_same x word (div_of (pair_word word).is_signed (width_in word) value (dividend_of word p) p.ccr) p

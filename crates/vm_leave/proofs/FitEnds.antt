@@ -42,7 +42,7 @@ use Rattle.mb_decode.specs.Decodes.{decode_of}
 use Rattle.mb_alu.specs.declared.width.Width.TheVariants as width
 use Rattle.mb_alu.specs.declared.quotients.Divided.{Divided}
 use Rattle.mb_alu.specs.declared.quotients.Divided.TheVariants.{Done, Overflow, ZeroDivide}
-use Rattle.mb_meaning.specs.Products.{divided_by_word, divided_by_long, width_in, dividend_of, is_signed}
+use Rattle.mb_meaning.specs.Products.{divided_by_word, divided_by_long, width_in, dividend_of}
 use Rattle.mb_alu.specs.Products.{div_of}
 use Rattle.mb_meaning.specs.Ends.{OtherEnd, Cut, Unread, Stop, Performed, restored, closed}
 use Rattle.mb_writes.specs.declared.transfers.Movem.{Movem}
@@ -52,6 +52,7 @@ use Rattle.mb_processor.specs.Step.{long_of, movem_words}
 use Rattle.mb_meaning.specs.Rows.{perform_move_of, perform_arith_of, perform_flow_of, row_of, perform_of}
 use Rattle.mb_meaning.specs.Attempt.{Unfound, NoInstruction, Unfetched, found_none, FoundInstr, by_decoded, found_of, fetched_of, past, attempt_of}
 use Rattle.mb_instr.specs.declared.counts.TheConstants.{MOST_WORDS}
+use Rattle.mb_instr.specs.FurtherWords.{pair_word}
 use Rattle.mb_attempts.specs.Attempts.{NoOther}
 use Rattle.mb_tells.specs.Laws.{AreLongs, HasLongs, is_movem}
 use Rattle.mb_tells.proofs.Ranges.{formed, formed_behind_word, formed_behind_immediate}
@@ -88,7 +89,7 @@ module _ (i : Instr) where
   word_divided_fits signed n value p fit = divided_word_fits n (div_of signed width.Word value (data_register p n) p.ccr) p fit
 
   long_divided_fits : (word value : ℕ) (p : Plain) → IsFit p → IsAnswer any (CutFits i) (divide_long_of word value p)
-  long_divided_fits word value p fit = divided_long_fits word (div_of (is_signed word) (width_in word) value (dividend_of word p) p.ccr) p fit
+  long_divided_fits word value p fit = divided_long_fits word (div_of (pair_word word).is_signed (width_in word) value (dividend_of word p) p.ccr) p fit
 
 -- ---- a line a row
 

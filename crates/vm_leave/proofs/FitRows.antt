@@ -22,6 +22,7 @@ use Rattle.mb_instr.specs.declared.registers.Plain.{Plain}
 use Rattle.mb_instr.specs.Operands.{address_number}
 use Rattle.mb_instr.specs.Sizes.{bytes_of, low_of, sign_extended}
 use Rattle.mb_instr.specs.Registers.{data_register, address_register, register_of, with_register, with_data_register, with_address_register}
+use Rattle.mb_instr.specs.FurtherWords.{line_word, swap_word}
 use Rattle.mb_alu.specs.declared.conditions.Flagged.{Flagged}
 use Rattle.mb_alu.specs.Conditions.{ccr_of, conditions_of}
 use Rattle.mb_ea.specs.declared.addresses.Target.TheVariants.{Reg}
@@ -41,14 +42,14 @@ use Rattle.mb_meaning.specs.Operands.{stack_lowered, behind_of, place_of}
 use Rattle.mb_meaning.specs.Moves.{move_flags, move_operand_of, movea_of, lea_of, move_to_ccr_of, move_from_ccr_of, condition_byte, scc_of, movem_by, movem_of}
 use Rattle.mb_meaning.specs.Stack.{pea_of, linked, link_of, unlk_of}
 use Rattle.mb_meaning.specs.Peripheral.{load_peripheral_of, store_peripheral_of, movep_of}
-use Rattle.mb_meaning.specs.Lines.{line_address, move_line_of, past_line, past_lines, destination_in, move16_absolute_of, move16_post_of}
+use Rattle.mb_meaning.specs.Lines.{line_address, move_line_of, past_line, past_lines, move16_absolute_of, move16_post_of}
 use Rattle.mb_meaning.specs.Modifying.{modify_of}
 use Rattle.mb_meaning.specs.Arithmetic.{Pair, fetch_pair_of, combine_of, compare_pair_of, combine_either_way_of, chain_of, quick_to, combine_quick_of, take_of}
 use Rattle.mb_meaning.specs.Unary.{clr_of}
 use Rattle.mb_meaning.specs.Bits.{bit_size, change_bit_of, bit_row_of}
 use Rattle.mb_meaning.specs.Decimals.{paired, decimal_of, repack_of}
 use Rattle.mb_meaning.specs.BitFields.{field_offset_of, field_width_of, is_change, bytes_before, bytes_held, field_done, field_in_memory_of, bit_field_of}
-use Rattle.mb_meaning.specs.Locked.{test_and_set_of, tas_in_memory, tas_of, pointer_in, cas_equal, cas_at, cas_of, cas2_equal, cas2_of}
+use Rattle.mb_meaning.specs.Locked.{test_and_set_of, tas_in_memory, tas_of, cas_equal, cas_at, cas_of, cas2_equal, cas2_of}
 use Rattle.mb_meaning.specs.Conditions.{is_met}
 use Rattle.mb_meaning.specs.Flow.{target_of, is_call, call_of, go_if_met_of, branch_of, count_down_of, go_if_counted_of, dbcc_of, jmp_of, jsr_of}
 use Rattle.mb_meaning.specs.Returns.{rts_of, rtd_of, stack_raised_by_word, rtr_of}
@@ -382,8 +383,8 @@ module _ (i : Instr) (space : Space) where
   unfolding cas2_of
   cas2_fits size first second p words longs =
       let len = bytes_of size in
-      row_reading i (probe_fits space (register_of p (pointer_in first)) len (register_long p (pointer_in first) words longs)) (λ places u.
-      row_reading i (probe_fits space (register_of p (pointer_in second)) len (register_long p (pointer_in second) words longs)) (λ others v.
+      row_reading i (probe_fits space (register_of p (swap_word first).pointer) len (register_long p (swap_word first).pointer words longs)) (λ places u.
+      row_reading i (probe_fits space (register_of p (swap_word second).pointer) len (register_long p (swap_word second).pointer words longs)) (λ others v.
       row_sure i (λ one. row_sure i (λ two.
       answers_choose (cas2_equal size first second one two p)
       (answers_then (answers_then (answers_sure _) (λ done w. answers_sure _)) (λ done w. row_done i _)) (row_done i _)))))
@@ -520,6 +521,6 @@ module _ (i : Instr) (space : Space) where
       → IsAnswer any (CutFits i) (run held_bus (move16_post_of m word space p) g).0
   unfolding move16_post_of
   move16_fits size m word p g s fit =
-      let n = destination_in word in
+      let n = (line_word word).destination in
       line_fits size (address_register p m) (address_register p n) (past_lines m n p) g s (address_long p m fit.0) (address_long p n fit.0)
       (subst IsLong (sym (lines_pc m n p)) fit.1)

@@ -67,12 +67,14 @@ pub returns-in-Some-clause-world : goal.returns-in-Some-clause-world
 returns-in-Some-clause-world g c =
     let m = c.args.self.now in
     let e = c.drop_page.ensures in
-    let (part, below, above) = around (g.R.Ram.bytes m.ram.now) (g.R.Ram.bytes c.drop_page.new.ram) m.base m.size m.shadow.now.area m.area e.outside.below e.outside.above in
+    let (part, below, above) =
+    around (g.R.Ram.bytes m.ram.now) (g.R.Ram.bytes c.drop_page.new.ram) m.base m.size m.shadow.now.area m.area e.outside.below e.outside.above in
     rw (part, c.fill.ensures.entries) refl
 
 pub returns-in-Some-clause-beyond : goal.returns-in-Some-clause-beyond
 returns-in-Some-clause-beyond g c =
     let m = c.args.self.now in
     let e = c.drop_page.ensures in
-    let (part, below, above) = around (g.R.Ram.bytes m.ram.now) (g.R.Ram.bytes c.drop_page.new.ram) m.base m.size m.shadow.now.area m.area e.outside.below e.outside.above in
+    let (part, below, above) =
+    around (g.R.Ram.bytes m.ram.now) (g.R.Ram.bytes c.drop_page.new.ram) m.base m.size m.shadow.now.area m.area e.outside.below e.outside.above in
     rw (e.rest, e.outside.size, below, above) refl

@@ -52,12 +52,14 @@ pub returns-clause-world : goal.returns-clause-world
 returns-clause-world g c =
     let m = c.args.self.now in
     let e = c.fill.ensures in
-    let (part, below, above) = around (g.R.Ram.bytes m.ram.now) (g.R.Ram.bytes c.fill.new.ram) m.base m.size m.shadow.now.area m.area e.outside.below e.outside.above in
+    let (part, below, above) =
+    around (g.R.Ram.bytes m.ram.now) (g.R.Ram.bytes c.fill.new.ram) m.base m.size m.shadow.now.area m.area e.outside.below e.outside.above in
     rw part refl
 
 pub returns-clause-beyond : goal.returns-clause-beyond
 returns-clause-beyond g c =
     let m = c.args.self.now in
     let e = c.fill.ensures in
-    let (part, below, above) = around (g.R.Ram.bytes m.ram.now) (g.R.Ram.bytes c.fill.new.ram) m.base m.size m.shadow.now.area m.area e.outside.below e.outside.above in
+    let (part, below, above) =
+    around (g.R.Ram.bytes m.ram.now) (g.R.Ram.bytes c.fill.new.ram) m.base m.size m.shadow.now.area m.area e.outside.below e.outside.above in
     rw (e.rest, e.outside.size, below, above) refl

@@ -17,7 +17,8 @@ returns-clause-laid g c = subst (λ (q : Slots). Laid (placed q) (g.R.Ram.bytes 
 pub returns-clause-full : goal.returns-clause-full
 returns-clause-full g c = subst (λ (q : Slots). UsedBut (pages_of c.args.space c.args.page) (placed q) (g.R.Ram.bytes c.set.new.ram)) (sym c.set.ensures.same)
     (full_put (placed c.args.self.now) (λ n. get_or c.set.new.self.counts n 0) _ _ c.args.space c.args.page c.args.slot c.args.long
-    c.requires.laid c.requires.page c.requires.stands c.requires.slot c.requires.long c.set.ensures.outside.size c.set.ensures.longs (counted g c) c.requires.full)
+    c.requires.laid c.requires.page c.requires.stands c.requires.slot c.requires.long c.set.ensures.outside.size c.set.ensures.longs (counted g c)
+    c.requires.full)
 
 pub returns-clause-entries : goal.returns-clause-entries
 returns-clause-entries g c =
