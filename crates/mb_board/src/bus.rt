@@ -10,6 +10,7 @@ ghost use Rattle.mb_board.specs.Arrivals.{IsNext};
 use crate::receiving::{Arrival, receive};
 use mb_devices::Devices;
 use mb_mmu::Translator;
+use mb_model::NON_MASKABLE;
 use mb_outside::Memory;
 use mb_port::Mmu;
 use mb_script::{MOST_BOARD, Script};
@@ -100,10 +101,10 @@ impl BoardBus {
 
     /// The interrupt level that a step is asked for, where an abort has arrived for it or has not.
     pub fn asked(&self, aborted: bool) -> u8
-        ensures means { result ≡ (if aborted then 7 else level_of self.now.devices) }
+        ensures means { result ≡ (if aborted then NON_MASKABLE else level_of self.now.devices) }
         ensures within { result < 8 }
     {
-        if aborted { 7 } else { self.level() }
+        if aborted { NON_MASKABLE } else { self.level() }
     }
 
     /// Whether the machine is to be switched off at the end of the step.

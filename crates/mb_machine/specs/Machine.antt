@@ -4,6 +4,7 @@ use Rattle.std.specs.Int.{from_bool}
 use Rattle.mb_port.specs.Routine.{run}
 use Rattle.mb_port.specs.declared.types.Mmu.{Mmu}
 use Rattle.mb_model.specs.declared.processor.Cpu.{Cpu}
+use Rattle.mb_model.specs.declared.status.TheConstants.{NON_MASKABLE}
 use Rattle.mb_model.specs.declared.outcome.RunState.{RunState}
 use Rattle.mb_model.specs.declared.outcome.RunState.TheVariants.{Running, Stopped, Halted, Off}
 use Rattle.mb_model.specs.Keeping.{Rule, nothing_kept}
@@ -95,7 +96,7 @@ aborts step ((at, what) ∷ script) = ((at == step) && is_abort what) || aborts 
 -- the interrupt level that the step of this number is asked for, with such devices once it has begun: an abort asks for
 -- level 7, in that step alone
 abbrev pub asked : Entries → (step : ℕ) → DeviceState → ℕ
-asked script step d = if aborts step script then 7 else level_of d
+asked script step d = if aborts step script then NON_MASKABLE else level_of d
 
 -- a step begins: what is due at its number is received, and the timer ticks. The first step has number 1
 unfoldable pub begun : Entries → Machine → Machine

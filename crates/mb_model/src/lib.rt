@@ -19,4 +19,4 @@ pub use outcome::{Outcome, RunState};
 pub use pages::{PAGE_SIZE, has_big_pages, other_half, page_of, page_size_by};
 pub use processor::Cpu;
 pub use rules::{CAPACITY, CLASSES, GUEST_CAPACITY, SIDE_CLASSES};
-pub use status::{STATUS_BITS, kept_status};
+pub use status::{NON_MASKABLE, STATUS_BITS, kept_status};

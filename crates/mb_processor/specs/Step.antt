@@ -16,6 +16,7 @@ use Rattle.mb_frames.specs.declared.pend.Pend.{Pend}
 use Rattle.mb_port.specs.declared.types.Fault.{Fault}
 use Rattle.mb_frames.specs.AccessFields.{no_fields, read_fields, write_fields, line_fields, access_fields}
 use Rattle.mb_model.specs.declared.processor.Cpu.{Cpu}
+use Rattle.mb_model.specs.declared.status.TheConstants.{NON_MASKABLE}
 use Rattle.mb_model.specs.Status.{space_of}
 use Rattle.mb_model.specs.Pages.{page_size_by}
 use Rattle.mb_ea.specs.declared.reading.ReadFault.{ReadFault}
@@ -181,9 +182,9 @@ execute_next_of cpu =
 abbrev pub interrupt_mask : Cpu → ℕ
 interrupt_mask cpu = cpu.regs.sr / 2 ^ 8 % 2 ^ 3
 
--- how high an interrupt of a level stands beside a mask: one of level 7 is above every mask
+-- how high an interrupt of a level stands beside a mask: one that is not masked is above every mask
 abbrev pub rank : ℕ → ℕ
-rank level = if level == 7 then 8 else level
+rank level = if level == NON_MASKABLE then 8 else level
 
 -- One step, with an interrupt of this level asked for, or of level 0 for none. Above the mask, or at level 7, it is
 -- entered, and the step has nothing else; a processor that is stopped idles.

@@ -8,16 +8,16 @@ ghost use Rattle.mb_processor.specs.Step.{Halts, interrupt_mask, rank, step_of};
 use crate::decoder::Decoder;
 use crate::fetching::execute_next;
 use crate::processor::Processor;
-use mb_model::Cpu;
+use mb_model::{Cpu, NON_MASKABLE};
 use mb_port::Port;
 use mb_processor::{Finish, StepEnd};
 
-/// How high an interrupt of a level stands beside a mask: one of level 7 is above every mask.
+/// How high an interrupt of a level stands beside a mask: one that is not masked is above every mask.
 #[inline(always)]
 pub fn rank(level: u8) -> u8
     ensures { result ≡ rank level }
 {
-    if level == 7 { 8 } else { level }
+    if level == NON_MASKABLE { 8 } else { level }
 }
 
 /// One step of the processor, with an interrupt of `level` asked for, or of level 0 for none.

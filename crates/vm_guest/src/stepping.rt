@@ -15,7 +15,7 @@ use crate::guest::Guest;
 use crate::rest::Rest;
 use mb_board::{Board, receive};
 use mb_devices::Devices;
-use mb_model::{Cpu, RunState};
+use mb_model::{Cpu, NON_MASKABLE, RunState};
 use mb_processor::StepEnd;
 use mb_walk::Ram;
 use vm_machine::Class;
@@ -54,7 +54,7 @@ impl Guest {
         self.steps += 1;
         self.devices.tick();
         if arrival.aborted {
-            7
+            NON_MASKABLE
         } else {
             self.devices.level()
         }

@@ -192,7 +192,7 @@ fn in_short_as_in_general(rt: HostRuntime) -> Result<(), AllocError> {
         let mut memory = operands(rt.alloc(), setting)?;
         let mut other = operands(rt.alloc(), setting)?;
         let alone = ALONE.iter().map(|first| [*first, 0x4E71, 0x4E71]);
-        let with_another = WITH_ANOTHER.iter().map(|first| [*first, 0x0002, 0x4E71]);
+        let with_another = WITH_ANOTHER.iter().map(|first| [*first, 0x0004, 0x4E71]);
         let of_three_words = OF_THREE_WORDS.iter().copied();
         for words in alone.chain(with_another).chain(of_three_words) {
             let general = take_step(setting, words, &mut decoder, &mut memory);
