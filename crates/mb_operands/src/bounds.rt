@@ -7,10 +7,11 @@ ghost use Rattle.mb_meaning.specs.Bounds.{compared_size, above};
 ghost use Rattle.mb_meaning.specs.Bounds.{bounds_codes, compared, compare_bounds_of};
 
 use crate::operands::{find_address, named_register};
+use crate::stream::Stream;
 use mb_alu::Conditions;
 use mb_ea::{ReadFault, read_value};
 use mb_instr::{Ea, Plain, Size};
-use mb_port::{Port, Space};
+use mb_port::Port;
 
 /// Of a data register the low bytes are compared, of an address register all of it.
 #[inline(always)]
@@ -65,20 +66,19 @@ pub fn compare_bounds<P: Port>(
     size: Size,
     ea: &Ea,
     word: u16,
-    word_at: u32,
-    space: Space,
+    stream: Stream,
     plain: &Plain,
     port: &mut P,
 ) -> Result<u8, ReadFault>
     requires operand { IsEa size ea.now }
     requires place { IsInMemory ea.now }
-    ensures means { run P.bus (compare_bounds_of size ea.now word word_at space plain.now) (P.world port.old)
+    ensures means { run P.bus (compare_bounds_of size ea.now word stream.at stream.space plain.now) (P.world port.old)
         ≡ (result, P.world port.new) }
     ensures rest { P.rest port.new ≡ P.rest port.old }
 {
-    let place = find_address(size, ea, word_at, space, plain, port)?;
-    let lower = read_value(space, place, size, port)?;
+    let place = find_address(size, ea, stream, plain, port)?;
+    let lower = read_value(stream.space, place, size, port)?;
     let behind = place.wrapping_add(u32::from(size.bytes()));
-    let upper = read_value(space, behind, size, port)?;
+    let upper = read_value(stream.space, behind, size, port)?;
     Ok(compare(size, lower, upper, named_register(word), plain))
 }

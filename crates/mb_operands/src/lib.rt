@@ -9,6 +9,7 @@ mod conditions;
 mod endings;
 mod memory;
 mod operands;
+mod stream;
 
 pub use bounds::compare_bounds;
 pub use conditions::is_met;
@@ -18,3 +19,4 @@ pub use operands::{
     Operand, behind, fetch_operand, find_address, finish_with, named_register, place, push,
     with_low,
 };
+pub use stream::Stream;

@@ -13,6 +13,7 @@ ghost use Rattle.mb_operands.specs.Endings.{IsUnfinished, carried_by};
 
 use crate::endings::Undone;
 use crate::memory::{read_memory, write_memory};
+use crate::stream::Stream;
 use mb_ea::{ReadFault, Target, find_target, resolve};
 use mb_instr::{Ea, Plain, Size};
 use mb_port::{Port, Space};
@@ -74,26 +75,25 @@ pub fn with_low(size: Size, old: u32, value: u32) -> u32
     old - size.low(old) + size.low(value)
 }
 
-/// Reads an operand. Its first extension word is at `word_at`.
+/// Reads an operand. Its first extension word is at `stream.at`.
 #[inline(always)]
 #[tactic(auto, unfolding(mb_meaning::specs::Operands::fetch_operand_of))]
 pub fn fetch_operand<P: Port>(
     size: Size,
     ea: &Ea,
-    word_at: u32,
-    space: Space,
+    stream: Stream,
     plain: &mut Plain,
     port: &mut P,
 ) -> Result<Operand, ReadFault>
     requires { IsEa size ea.now }
-    ensures means { run P.bus (fetch_operand_of size ea.now word_at space plain.old) (P.world port.old)
+    ensures means { run P.bus (fetch_operand_of size ea.now stream.at stream.space plain.old) (P.world port.old)
         ≡ (fetched result plain.new, P.world port.new) }
     ensures operand { IfOk result (IsOperand size) }
     ensures place { IsDestination ea.now → IfOk result (λ operand. IsPlace operand.target) }
     ensures rest { P.rest port.new ≡ P.rest port.old }
 {
-    let target = resolve(ea, size, plain, word_at, space, port)?;
-    let value = load(target, size, plain, space, port)?;
+    let target = resolve(ea, size, plain, stream.at, stream.space, port)?;
+    let value = load(target, size, plain, stream.space, port)?;
     Ok(Operand { target, value })
 }
 
@@ -115,18 +115,17 @@ pub fn place(target: Target) -> u32
 pub fn find_address<P: Port>(
     size: Size,
     ea: &Ea,
-    word_at: u32,
-    space: Space,
+    stream: Stream,
     plain: &Plain,
     port: &mut P,
 ) -> Result<u32, ReadFault>
     requires operand { IsEa size ea.now }
     requires place { IsInMemory ea.now }
-    ensures means { run P.bus (find_address_of size ea.now word_at space plain.now) (P.world port.old)
+    ensures means { run P.bus (find_address_of size ea.now stream.at stream.space plain.now) (P.world port.old)
         ≡ (result, P.world port.new) }
     ensures rest { P.rest port.new ≡ P.rest port.old }
 {
-    let target = find_target(ea, size, plain, word_at, space, port)?;
+    let target = find_target(ea, size, plain, stream.at, stream.space, port)?;
     Ok(place(target))
 }
 

@@ -14,7 +14,7 @@ use mb_alu::Conditions;
 use mb_ea::read_operand;
 use mb_fields::{field_first, field_get, field_put};
 use mb_instr::{Ea, FieldKind, Plain, Size};
-use mb_operands::{Undone, find_address, unread, unwritten};
+use mb_operands::{Stream, Undone, find_address, unread, unwritten};
 use mb_port::{Port, Space};
 use mb_writes::{Ended, write_operand};
 
@@ -297,15 +297,14 @@ pub(crate) fn bit_field<P: Port>(
     kind: FieldKind,
     ea: &Ea,
     word: u16,
-    word_at: u32,
-    space: Space,
+    stream: Stream,
     plain: &mut Plain,
     port: &mut P,
     ended: &mut Ended,
 ) -> Result<(), Undone>
     requires operand { IsEa Size.Long ea.now }
     requires place { IsData ea.now }
-    ensures means { run P.bus (bit_field_of kind ea.now word word_at space plain.old) (P.world port.old)
+    ensures means { run P.bus (bit_field_of kind ea.now word stream.at stream.space plain.old) (P.world port.old)
         ≡ (carried_by result ended.new plain.new, P.world port.new) }
     ensures rest { P.rest port.new ≡ P.rest port.old }
 {
@@ -313,8 +312,8 @@ pub(crate) fn bit_field<P: Port>(
         field_in_register(kind, word, n, plain);
         return Ok(());
     }
-    match find_address(Size::Long, ea, word_at, space, plain, port) {
-        Ok(address) => field_in_memory(kind, word, address, space, plain, port, ended),
+    match find_address(Size::Long, ea, stream, plain, port) {
+        Ok(address) => field_in_memory(kind, word, address, stream.space, plain, port, ended),
         Err(refused) => Err(unread(&refused, ended)),
     }
 }

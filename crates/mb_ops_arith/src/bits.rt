@@ -10,8 +10,8 @@ use crate::modifying::modify;
 use crate::operations::Change;
 use mb_alu::{Conditions, Flagged};
 use mb_instr::{BitKind, Ea, Plain, Size};
-use mb_operands::{Undone, fetch_operand, unread};
-use mb_port::{Port, Space};
+use mb_operands::{Stream, Undone, fetch_operand, unread};
+use mb_port::Port;
 use mb_writes::Ended;
 
 /// The size of the operand that the bit is one of.
@@ -85,19 +85,18 @@ pub(crate) fn change_bit(kind: BitKind, number: u32, size: Size, value: u32, ccr
 fn test_bit<P: Port>(
     number: u32,
     ea: &Ea,
-    word_at: u32,
-    space: Space,
+    stream: Stream,
     plain: &mut Plain,
     port: &mut P,
     ended: &mut Ended,
 ) -> Result<(), Undone>
     requires { IsEa Size.Byte ea.now }
-    ensures means { run P.bus (bit_row_of BitKind.Test number ea.now word_at space plain.old) (P.world port.old)
-        ≡ (carried_by result ended.new plain.new, P.world port.new) }
+    ensures means { run P.bus (bit_row_of BitKind.Test number ea.now stream.at stream.space plain.old)
+        (P.world port.old) ≡ (carried_by result ended.new plain.new, P.world port.new) }
     ensures rest { P.rest port.new ≡ P.rest port.old }
 {
     let size = bit_size(ea);
-    match fetch_operand(size, ea, word_at, space, plain, port) {
+    match fetch_operand(size, ea, stream, plain, port) {
         Ok(operand) => {
             plain.ccr = change_bit(BitKind::Test, number, size, operand.value, plain.ccr).ccr;
             Ok(())
@@ -106,34 +105,32 @@ fn test_bit<P: Port>(
     }
 }
 
-/// BTST, BCHG, BCLR and BSET. The operand's first extension word is at `word_at`.
+/// BTST, BCHG, BCLR and BSET. The operand's first extension word is at `stream.at`.
 #[inline(always)]
 #[tactic(auto, unfolding(mb_meaning::specs::Bits::bit_row_of))]
 pub(crate) fn bit_row<P: Port>(
     kind: BitKind,
     number: u32,
     ea: &Ea,
-    word_at: u32,
-    space: Space,
+    stream: Stream,
     plain: &mut Plain,
     port: &mut P,
     ended: &mut Ended,
 ) -> Result<(), Undone>
     requires operand { IsEa Size.Byte ea.now }
     requires destination { kind ≢ BitKind.Test → IsDestination ea.now }
-    ensures means { run P.bus (bit_row_of kind number ea.now word_at space plain.old) (P.world port.old)
+    ensures means { run P.bus (bit_row_of kind number ea.now stream.at stream.space plain.old) (P.world port.old)
         ≡ (carried_by result ended.new plain.new, P.world port.new) }
     ensures rest { P.rest port.new ≡ P.rest port.old }
 {
     match kind {
-        BitKind::Test => test_bit(number, ea, word_at, space, plain, port, ended),
+        BitKind::Test => test_bit(number, ea, stream, plain, port, ended),
         BitKind::Change | BitKind::Clear | BitKind::Set => {
             modify(
                 Change::Bit(kind, number),
                 bit_size(ea),
                 ea,
-                word_at,
-                space,
+                stream,
                 plain,
                 port,
                 ended,

@@ -7,8 +7,8 @@ ghost use Rattle.mb_meaning.specs.Bounds.{cmp2_of};
 ghost use Rattle.mb_operands.specs.Endings.{carried_by};
 
 use mb_instr::{Ea, Plain, Size};
-use mb_operands::{Undone, compare_bounds, unread};
-use mb_port::{Port, Space};
+use mb_operands::{Stream, Undone, compare_bounds, unread};
+use mb_port::Port;
 use mb_writes::Ended;
 
 /// CMP2; the word says which register is compared.
@@ -18,19 +18,18 @@ pub fn cmp2<P: Port>(
     size: Size,
     ea: &Ea,
     word: u16,
-    word_at: u32,
-    space: Space,
+    stream: Stream,
     plain: &mut Plain,
     port: &mut P,
     ended: &mut Ended,
 ) -> Result<(), Undone>
     requires operand { IsEa size ea.now }
     requires place { IsInMemory ea.now }
-    ensures means { run P.bus (cmp2_of size ea.now word word_at space plain.old) (P.world port.old)
+    ensures means { run P.bus (cmp2_of size ea.now word stream.at stream.space plain.old) (P.world port.old)
         ≡ (carried_by result ended.new plain.new, P.world port.new) }
     ensures rest { P.rest port.new ≡ P.rest port.old }
 {
-    match compare_bounds(size, ea, word, word_at, space, plain, port) {
+    match compare_bounds(size, ea, word, stream, plain, port) {
         Ok(ccr) => {
             plain.ccr = ccr;
             Ok(())

@@ -12,8 +12,8 @@ use mb_alu::Flagged;
 use mb_ea::resolve;
 use mb_fields::{abcd, nbcd, pack, sbcd, unpk};
 use mb_instr::{Ea, Plain, Size};
-use mb_operands::{Undone, fetch_operand, finish_with, unread};
-use mb_port::{Port, Space};
+use mb_operands::{Stream, Undone, fetch_operand, finish_with, unread};
+use mb_port::Port;
 use mb_writes::Ended;
 
 /// What ABCD and SBCD do with the source x and the destination y.
@@ -108,25 +108,24 @@ pub(crate) fn decimal<P: Port>(
     x: u8,
     in_memory: bool,
     y: u8,
-    word_at: u32,
-    space: Space,
+    stream: Stream,
     plain: &mut Plain,
     port: &mut P,
     ended: &mut Ended,
 ) -> Result<(), Undone>
     requires destination { x < 8 }
     requires source { y < 8 }
-    ensures means { run P.bus (decimal_of (decimal_operation operation) x in_memory y word_at space plain.old)
+    ensures means { run P.bus (decimal_of (decimal_operation operation) x in_memory y stream.at stream.space plain.old)
         (P.world port.old) ≡ (carried_by result ended.new plain.new, P.world port.new) }
     ensures rest { P.rest port.new ≡ P.rest port.old }
 {
     let from = paired(in_memory, y, Size::Byte);
-    let source = match fetch_operand(Size::Byte, &from, word_at, space, plain, port) {
+    let source = match fetch_operand(Size::Byte, &from, stream, plain, port) {
         Ok(source) => source,
         Err(refused) => return Err(unread(&refused, ended)),
     };
     let to = paired(in_memory, x, Size::Byte);
-    let destination = match fetch_operand(Size::Byte, &to, word_at, space, plain, port) {
+    let destination = match fetch_operand(Size::Byte, &to, stream, plain, port) {
         Ok(destination) => destination,
         Err(refused) => return Err(unread(&refused, ended)),
     };
@@ -136,7 +135,7 @@ pub(crate) fn decimal<P: Port>(
         destination.target,
         Size::Byte,
         result.value,
-        space,
+        stream.space,
         plain,
         port,
         ended,
@@ -152,8 +151,7 @@ pub(crate) fn repack<P: Port>(
     in_memory: bool,
     y: u8,
     adjust: u16,
-    word_at: u32,
-    space: Space,
+    stream: Stream,
     plain: &mut Plain,
     port: &mut P,
     ended: &mut Ended,
@@ -161,21 +159,21 @@ pub(crate) fn repack<P: Port>(
     requires destination { x < 8 }
     requires source { y < 8 }
     ensures means { run P.bus (repack_of (packing_operation operation) (packed_from operation) (packed_to operation)
-        x in_memory y adjust word_at space plain.old) (P.world port.old)
+        x in_memory y adjust stream.at stream.space plain.old) (P.world port.old)
         ≡ (carried_by result ended.new plain.new, P.world port.new) }
     ensures rest { P.rest port.new ≡ P.rest port.old }
 {
     let (from_size, to_size) = (operation.from_size(), operation.to_size());
     let from = paired(in_memory, y, from_size);
-    let source = match fetch_operand(from_size, &from, word_at, space, plain, port) {
+    let source = match fetch_operand(from_size, &from, stream, plain, port) {
         Ok(source) => source,
         Err(refused) => return Err(unread(&refused, ended)),
     };
     let to = paired(in_memory, x, to_size);
-    let target = match resolve(&to, to_size, plain, word_at, space, port) {
+    let target = match resolve(&to, to_size, plain, stream.at, stream.space, port) {
         Ok(target) => target,
         Err(refused) => return Err(unread(&refused, ended)),
     };
     let digits = operation.of(source.value, adjust);
-    finish_with(target, to_size, digits, space, plain, port, ended)
+    finish_with(target, to_size, digits, stream.space, plain, port, ended)
 }

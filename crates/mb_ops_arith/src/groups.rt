@@ -28,8 +28,8 @@ use crate::taking::{Effect, take};
 use crate::unary::{clr, combine_with_ccr, ext};
 use mb_alu::LogicKind;
 use mb_instr::{Arith, Ea, Plain, Size};
-use mb_operands::Undone;
-use mb_port::{Port, Space};
+use mb_operands::{Stream, Undone};
+use mb_port::Port;
 use mb_writes::Ended;
 
 const ADD: Operation = Operation::Sum(Sum::Add);
@@ -52,8 +52,7 @@ const EOR: Operation = Operation::Logic(LogicKind::Eor);
 #[tactic(auto, unfolding(mb_meaning::specs::Rows::perform_arith_of))]
 pub(crate) fn pair_row<P: Port>(
     instruction: &Arith,
-    at: u32,
-    space: Space,
+    stream: Stream,
     plain: &mut Plain,
     port: &mut P,
     ended: &mut Ended,
@@ -61,26 +60,26 @@ pub(crate) fn pair_row<P: Port>(
     requires row { IsInstr (instr.Arith instruction.now) }
     requires group { is_pair instruction.now ≡ true }
     ensures means { run P.bus
-        (perform_arith_of instruction.now (operands_at (arith_row instruction.now) at) space plain.old)
+        (perform_arith_of instruction.now (operands_at (arith_row instruction.now) stream.at) stream.space plain.old)
         (P.world port.old) ≡ (carried_by result ended.new plain.new, P.world port.new) }
     ensures rest { P.rest port.new ≡ P.rest port.old }
 {
-    let first_word = at.wrapping_add(2);
+    let first_word = Stream { at: stream.at.wrapping_add(2), ..stream };
     match *instruction {
         Arith::Add { register, to_memory, size, ref ea } =>
-            combine_either_way(ADD, register, to_memory, size, ea, first_word, space, plain, port, ended),
+            combine_either_way(ADD, register, to_memory, size, ea, first_word, plain, port, ended),
         Arith::Sub { register, to_memory, size, ref ea } =>
-            combine_either_way(SUB, register, to_memory, size, ea, first_word, space, plain, port, ended),
+            combine_either_way(SUB, register, to_memory, size, ea, first_word, plain, port, ended),
         Arith::And { register, to_memory, size, ref ea } =>
-            combine_either_way(AND, register, to_memory, size, ea, first_word, space, plain, port, ended),
+            combine_either_way(AND, register, to_memory, size, ea, first_word, plain, port, ended),
         Arith::Or { register, to_memory, size, ref ea } =>
-            combine_either_way(OR, register, to_memory, size, ea, first_word, space, plain, port, ended),
+            combine_either_way(OR, register, to_memory, size, ea, first_word, plain, port, ended),
         Arith::Eor { register, size, ref ea } =>
-            combine_either_way(EOR, register, true, size, ea, first_word, space, plain, port, ended),
+            combine_either_way(EOR, register, true, size, ea, first_word, plain, port, ended),
         Arith::Addx { x, size, in_memory, y } =>
-            chain(ADDX, size, in_memory, y, x, first_word, space, plain, port, ended),
+            chain(ADDX, size, in_memory, y, x, first_word, plain, port, ended),
         Arith::Subx { x, size, in_memory, y } =>
-            chain(SUBX, size, in_memory, y, x, first_word, space, plain, port, ended),
+            chain(SUBX, size, in_memory, y, x, first_word, plain, port, ended),
         _ => unreachable!(),
     }
 }
@@ -91,8 +90,7 @@ pub(crate) fn pair_row<P: Port>(
 #[tactic(auto, unfolding(mb_meaning::specs::Rows::perform_arith_of))]
 pub(crate) fn immediate_row<P: Port>(
     instruction: &Arith,
-    at: u32,
-    space: Space,
+    stream: Stream,
     plain: &mut Plain,
     port: &mut P,
     ended: &mut Ended,
@@ -100,26 +98,26 @@ pub(crate) fn immediate_row<P: Port>(
     requires row { IsInstr (instr.Arith instruction.now) }
     requires group { is_immediate instruction.now ≡ true }
     ensures means { run P.bus
-        (perform_arith_of instruction.now (operands_at (arith_row instruction.now) at) space plain.old)
+        (perform_arith_of instruction.now (operands_at (arith_row instruction.now) stream.at) stream.space plain.old)
         (P.world port.old) ≡ (carried_by result ended.new plain.new, P.world port.new) }
     ensures rest { P.rest port.new ≡ P.rest port.old }
 {
-    let first_word = at.wrapping_add(2);
+    let first_word = Stream { at: stream.at.wrapping_add(2), ..stream };
     match *instruction {
         Arith::Addi { size, ref ea, immediate } =>
-            return combine_immediate(ADD, immediate, size, ea, first_word, space, plain, port, ended),
+            return combine_immediate(ADD, immediate, size, ea, first_word, plain, port, ended),
         Arith::Subi { size, ref ea, immediate } =>
-            return combine_immediate(SUB, immediate, size, ea, first_word, space, plain, port, ended),
+            return combine_immediate(SUB, immediate, size, ea, first_word, plain, port, ended),
         Arith::Andi { size, ref ea, immediate } =>
-            return combine_immediate(AND, immediate, size, ea, first_word, space, plain, port, ended),
+            return combine_immediate(AND, immediate, size, ea, first_word, plain, port, ended),
         Arith::Ori { size, ref ea, immediate } =>
-            return combine_immediate(OR, immediate, size, ea, first_word, space, plain, port, ended),
+            return combine_immediate(OR, immediate, size, ea, first_word, plain, port, ended),
         Arith::Eori { size, ref ea, immediate } =>
-            return combine_immediate(EOR, immediate, size, ea, first_word, space, plain, port, ended),
+            return combine_immediate(EOR, immediate, size, ea, first_word, plain, port, ended),
         Arith::Addq { quick, size, ref ea } =>
-            return combine_quick(Sum::Add, quick, size, ea, first_word, space, plain, port, ended),
+            return combine_quick(Sum::Add, quick, size, ea, first_word, plain, port, ended),
         Arith::Subq { quick, size, ref ea } =>
-            return combine_quick(Sum::Subtract, quick, size, ea, first_word, space, plain, port, ended),
+            return combine_quick(Sum::Subtract, quick, size, ea, first_word, plain, port, ended),
         Arith::OriCcr { word } => combine_with_ccr(LogicKind::Or, word, plain),
         Arith::AndiCcr { word } => combine_with_ccr(LogicKind::And, word, plain),
         Arith::EoriCcr { word } => combine_with_ccr(LogicKind::Eor, word, plain),
@@ -134,8 +132,7 @@ pub(crate) fn immediate_row<P: Port>(
 #[tactic(auto, unfolding(mb_meaning::specs::Rows::perform_arith_of))]
 pub(crate) fn comparison_row<P: Port>(
     instruction: &Arith,
-    at: u32,
-    space: Space,
+    stream: Stream,
     plain: &mut Plain,
     port: &mut P,
     ended: &mut Ended,
@@ -143,24 +140,24 @@ pub(crate) fn comparison_row<P: Port>(
     requires row { IsInstr (instr.Arith instruction.now) }
     requires group { is_comparison instruction.now ≡ true }
     ensures means { run P.bus
-        (perform_arith_of instruction.now (operands_at (arith_row instruction.now) at) space plain.old)
+        (perform_arith_of instruction.now (operands_at (arith_row instruction.now) stream.at) stream.space plain.old)
         (P.world port.old) ≡ (carried_by result ended.new plain.new, P.world port.new) }
     ensures rest { P.rest port.new ≡ P.rest port.old }
 {
-    let first_word = at.wrapping_add(2);
-    let second_word = at.wrapping_add(4);
+    let first_word = Stream { at: stream.at.wrapping_add(2), ..stream };
+    let second_word = Stream { at: stream.at.wrapping_add(4), ..stream };
     match *instruction {
         Arith::Cmp { register, size, ref ea } =>
-            compare_with_register(size, ea, register, first_word, space, plain, port, ended),
+            compare_with_register(size, ea, register, first_word, plain, port, ended),
         Arith::Cmpi { size, ref ea, immediate } =>
-            compare_immediate(size, immediate, ea, first_word, space, plain, port, ended),
+            compare_immediate(size, immediate, ea, first_word, plain, port, ended),
         Arith::Cmpm { x, size, y } =>
-            compare_pair(size, &Ea::Post(y), &Ea::Post(x), first_word, space, plain, port, ended),
+            compare_pair(size, &Ea::Post(y), &Ea::Post(x), first_word, plain, port, ended),
         Arith::Cmp2 { size, ref ea, word } =>
-            cmp2(size, ea, word, second_word, space, plain, port, ended),
+            cmp2(size, ea, word, second_word, plain, port, ended),
         Arith::Cmpa { register, size, ref ea } =>
-            take(Effect::CompareAddress(register), size, ea, first_word, space, plain, port, ended),
-        Arith::Tst { size, ref ea } => take(Effect::Test, size, ea, first_word, space, plain, port, ended),
+            take(Effect::CompareAddress(register), size, ea, first_word, plain, port, ended),
+        Arith::Tst { size, ref ea } => take(Effect::Test, size, ea, first_word, plain, port, ended),
         _ => unreachable!(),
     }
 }
@@ -171,8 +168,7 @@ pub(crate) fn comparison_row<P: Port>(
 #[tactic(auto, unfolding(mb_meaning::specs::Rows::perform_arith_of))]
 pub(crate) fn register_result_row<P: Port>(
     instruction: &Arith,
-    at: u32,
-    space: Space,
+    stream: Stream,
     plain: &mut Plain,
     port: &mut P,
     ended: &mut Ended,
@@ -180,25 +176,25 @@ pub(crate) fn register_result_row<P: Port>(
     requires row { IsInstr (instr.Arith instruction.now) }
     requires group { is_register_result instruction.now ≡ true }
     ensures means { run P.bus
-        (perform_arith_of instruction.now (operands_at (arith_row instruction.now) at) space plain.old)
+        (perform_arith_of instruction.now (operands_at (arith_row instruction.now) stream.at) stream.space plain.old)
         (P.world port.old) ≡ (carried_by result ended.new plain.new, P.world port.new) }
     ensures rest { P.rest port.new ≡ P.rest port.old }
 {
-    let first_word = at.wrapping_add(2);
-    let second_word = at.wrapping_add(4);
+    let first_word = Stream { at: stream.at.wrapping_add(2), ..stream };
+    let second_word = Stream { at: stream.at.wrapping_add(4), ..stream };
     match *instruction {
         Arith::Adda { register, size, ref ea } =>
-            take(Effect::MoveAddress(Sum::Add, register), size, ea, first_word, space, plain, port, ended),
+            take(Effect::MoveAddress(Sum::Add, register), size, ea, first_word, plain, port, ended),
         Arith::Suba { register, size, ref ea } =>
-            take(Effect::MoveAddress(Sum::Subtract, register), size, ea, first_word, space, plain, port, ended),
+            take(Effect::MoveAddress(Sum::Subtract, register), size, ea, first_word, plain, port, ended),
         Arith::MulW { register, is_signed, ref ea } =>
-            take(Effect::MultiplyWord { is_signed, register }, Size::Word, ea, first_word, space, plain, port, ended),
+            take(Effect::MultiplyWord { is_signed, register }, Size::Word, ea, first_word, plain, port, ended),
         Arith::MulL { ref ea, word } =>
-            take(Effect::MultiplyLong(word), Size::Long, ea, second_word, space, plain, port, ended),
+            take(Effect::MultiplyLong(word), Size::Long, ea, second_word, plain, port, ended),
         Arith::DivW { register, is_signed, ref ea } =>
-            take(Effect::DivideWord { is_signed, register }, Size::Word, ea, first_word, space, plain, port, ended),
+            take(Effect::DivideWord { is_signed, register }, Size::Word, ea, first_word, plain, port, ended),
         Arith::DivL { ref ea, word } =>
-            take(Effect::DivideLong(word), Size::Long, ea, second_word, space, plain, port, ended),
+            take(Effect::DivideLong(word), Size::Long, ea, second_word, plain, port, ended),
         _ => unreachable!(),
     }
 }
@@ -209,8 +205,7 @@ pub(crate) fn register_result_row<P: Port>(
 #[tactic(auto, unfolding(mb_meaning::specs::Rows::perform_arith_of))]
 pub(crate) fn single_row<P: Port>(
     instruction: &Arith,
-    at: u32,
-    space: Space,
+    stream: Stream,
     plain: &mut Plain,
     port: &mut P,
     ended: &mut Ended,
@@ -218,22 +213,22 @@ pub(crate) fn single_row<P: Port>(
     requires row { IsInstr (instr.Arith instruction.now) }
     requires group { is_single instruction.now ≡ true }
     ensures means { run P.bus
-        (perform_arith_of instruction.now (operands_at (arith_row instruction.now) at) space plain.old)
+        (perform_arith_of instruction.now (operands_at (arith_row instruction.now) stream.at) stream.space plain.old)
         (P.world port.old) ≡ (carried_by result ended.new plain.new, P.world port.new) }
     ensures rest { P.rest port.new ≡ P.rest port.old }
 {
-    let first_word = at.wrapping_add(2);
+    let first_word = Stream { at: stream.at.wrapping_add(2), ..stream };
     match *instruction {
-        Arith::Neg { size, ref ea } => return modify(Change::Negate, size, ea, first_word, space, plain, port, ended),
+        Arith::Neg { size, ref ea } => return modify(Change::Negate, size, ea, first_word, plain, port, ended),
         Arith::Negx { size, ref ea } =>
-            return modify(Change::NegateExtended, size, ea, first_word, space, plain, port, ended),
+            return modify(Change::NegateExtended, size, ea, first_word, plain, port, ended),
         Arith::Not { size, ref ea } =>
-            return modify(Change::Complement, size, ea, first_word, space, plain, port, ended),
-        Arith::Clr { size, ref ea } => return clr(size, ea, first_word, space, plain, port, ended),
+            return modify(Change::Complement, size, ea, first_word, plain, port, ended),
+        Arith::Clr { size, ref ea } => return clr(size, ea, first_word, plain, port, ended),
         Arith::ShiftMem { kind, is_left, ref ea } =>
-            return modify(Change::ShiftWord { kind, is_left }, Size::Word, ea, first_word, space, plain, port, ended),
+            return modify(Change::ShiftWord { kind, is_left }, Size::Word, ea, first_word, plain, port, ended),
         Arith::Nbcd { ref ea } =>
-            return modify(Change::NegateDecimal, Size::Byte, ea, first_word, space, plain, port, ended),
+            return modify(Change::NegateDecimal, Size::Byte, ea, first_word, plain, port, ended),
         Arith::ExtW { register } => ext(Size::Byte, Size::Word, register, plain),
         Arith::ExtL { register } => ext(Size::Word, Size::Long, register, plain),
         Arith::ExtbL { register } => ext(Size::Byte, Size::Long, register, plain),
@@ -250,8 +245,7 @@ pub(crate) fn single_row<P: Port>(
 #[tactic(auto, unfolding(mb_meaning::specs::Rows::perform_arith_of))]
 pub(crate) fn bits_row<P: Port>(
     instruction: &Arith,
-    at: u32,
-    space: Space,
+    stream: Stream,
     plain: &mut Plain,
     port: &mut P,
     ended: &mut Ended,
@@ -259,18 +253,18 @@ pub(crate) fn bits_row<P: Port>(
     requires row { IsInstr (instr.Arith instruction.now) }
     requires group { is_bits instruction.now ≡ true }
     ensures means { run P.bus
-        (perform_arith_of instruction.now (operands_at (arith_row instruction.now) at) space plain.old)
+        (perform_arith_of instruction.now (operands_at (arith_row instruction.now) stream.at) stream.space plain.old)
         (P.world port.old) ≡ (carried_by result ended.new plain.new, P.world port.new) }
     ensures rest { P.rest port.new ≡ P.rest port.old }
 {
-    let first_word = at.wrapping_add(2);
-    let second_word = at.wrapping_add(4);
+    let first_word = Stream { at: stream.at.wrapping_add(2), ..stream };
+    let second_word = Stream { at: stream.at.wrapping_add(4), ..stream };
     match *instruction {
         Arith::BitReg { register, kind, ref ea } =>
-            bit_row(kind, plain.d[register as usize], ea, first_word, space, plain, port, ended),
+            bit_row(kind, plain.d[register as usize], ea, first_word, plain, port, ended),
         Arith::BitImm { kind, ref ea, word } =>
-            bit_row(kind, u32::from(word), ea, second_word, space, plain, port, ended),
-        Arith::Field { kind, ref ea, word } => bit_field(kind, ea, word, second_word, space, plain, port, ended),
+            bit_row(kind, u32::from(word), ea, second_word, plain, port, ended),
+        Arith::Field { kind, ref ea, word } => bit_field(kind, ea, word, second_word, plain, port, ended),
         _ => unreachable!(),
     }
 }
@@ -281,8 +275,7 @@ pub(crate) fn bits_row<P: Port>(
 #[tactic(auto, unfolding(mb_meaning::specs::Rows::perform_arith_of))]
 pub(crate) fn decimal_row<P: Port>(
     instruction: &Arith,
-    at: u32,
-    space: Space,
+    stream: Stream,
     plain: &mut Plain,
     port: &mut P,
     ended: &mut Ended,
@@ -290,20 +283,20 @@ pub(crate) fn decimal_row<P: Port>(
     requires row { IsInstr (instr.Arith instruction.now) }
     requires group { is_decimal instruction.now ≡ true }
     ensures means { run P.bus
-        (perform_arith_of instruction.now (operands_at (arith_row instruction.now) at) space plain.old)
+        (perform_arith_of instruction.now (operands_at (arith_row instruction.now) stream.at) stream.space plain.old)
         (P.world port.old) ≡ (carried_by result ended.new plain.new, P.world port.new) }
     ensures rest { P.rest port.new ≡ P.rest port.old }
 {
-    let first_word = at.wrapping_add(2);
+    let first_word = Stream { at: stream.at.wrapping_add(2), ..stream };
     match *instruction {
         Arith::Abcd { x, in_memory, y } =>
-            decimal(DecimalKind::Add, x, in_memory, y, first_word, space, plain, port, ended),
+            decimal(DecimalKind::Add, x, in_memory, y, first_word, plain, port, ended),
         Arith::Sbcd { x, in_memory, y } =>
-            decimal(DecimalKind::Subtract, x, in_memory, y, first_word, space, plain, port, ended),
+            decimal(DecimalKind::Subtract, x, in_memory, y, first_word, plain, port, ended),
         Arith::Pack { x, in_memory, y, word } =>
-            repack(PackingKind::Pack, x, in_memory, y, word, first_word, space, plain, port, ended),
+            repack(PackingKind::Pack, x, in_memory, y, word, first_word, plain, port, ended),
         Arith::Unpk { x, in_memory, y, word } =>
-            repack(PackingKind::Unpack, x, in_memory, y, word, first_word, space, plain, port, ended),
+            repack(PackingKind::Unpack, x, in_memory, y, word, first_word, plain, port, ended),
         _ => unreachable!(),
     }
 }
@@ -314,8 +307,7 @@ pub(crate) fn decimal_row<P: Port>(
 #[tactic(auto, unfolding(mb_meaning::specs::Rows::perform_arith_of))]
 pub(crate) fn locked_row<P: Port>(
     instruction: &Arith,
-    at: u32,
-    space: Space,
+    stream: Stream,
     plain: &mut Plain,
     port: &mut P,
     ended: &mut Ended,
@@ -323,16 +315,16 @@ pub(crate) fn locked_row<P: Port>(
     requires row { IsInstr (instr.Arith instruction.now) }
     requires group { is_locked instruction.now ≡ true }
     ensures means { run P.bus
-        (perform_arith_of instruction.now (operands_at (arith_row instruction.now) at) space plain.old)
+        (perform_arith_of instruction.now (operands_at (arith_row instruction.now) stream.at) stream.space plain.old)
         (P.world port.old) ≡ (carried_by result ended.new plain.new, P.world port.new) }
     ensures rest { P.rest port.new ≡ P.rest port.old }
 {
-    let first_word = at.wrapping_add(2);
-    let second_word = at.wrapping_add(4);
+    let first_word = Stream { at: stream.at.wrapping_add(2), ..stream };
+    let second_word = Stream { at: stream.at.wrapping_add(4), ..stream };
     match *instruction {
-        Arith::Tas { ref ea } => tas(ea, first_word, space, plain, port, ended),
-        Arith::Cas { size, ref ea, word } => cas(size, ea, word, second_word, space, plain, port, ended),
-        Arith::Cas2 { size, first, second } => cas2(size, first, second, space, plain, port, ended),
+        Arith::Tas { ref ea } => tas(ea, first_word, plain, port, ended),
+        Arith::Cas { size, ref ea, word } => cas(size, ea, word, second_word, plain, port, ended),
+        Arith::Cas2 { size, first, second } => cas2(size, first, second, stream.space, plain, port, ended),
         _ => unreachable!(),
     }
 }

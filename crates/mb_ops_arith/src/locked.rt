@@ -16,7 +16,7 @@ use crate::operations::Change;
 use mb_alu::{Flagged, LogicKind, compare, logic};
 use mb_ea::resolve;
 use mb_instr::{Ea, Plain, Size};
-use mb_operands::{Undone, place, unread, with_low};
+use mb_operands::{Stream, Undone, place, unread, with_low};
 use mb_port::{Port, Space};
 use mb_writes::{Ended, get_operand, probe_operand, put_operand};
 
@@ -36,15 +36,14 @@ pub(crate) fn test_and_set(value: u32, ccr: u8) -> Flagged
 #[tactic(auto, unfolding(mb_meaning::specs::Locked::tas_of, mb_meaning::specs::Locked::tas_in_memory))]
 pub(crate) fn tas<P: Port>(
     ea: &Ea,
-    word_at: u32,
-    space: Space,
+    stream: Stream,
     plain: &mut Plain,
     port: &mut P,
     ended: &mut Ended,
 ) -> Result<(), Undone>
     requires operand { IsEa Size.Byte ea.now }
     requires place { IsData ea.now }
-    ensures means { run P.bus (tas_of ea.now word_at space plain.old) (P.world port.old)
+    ensures means { run P.bus (tas_of ea.now stream.at stream.space plain.old) (P.world port.old)
         ≡ (carried_by result ended.new plain.new, P.world port.new) }
     ensures rest { P.rest port.new ≡ P.rest port.old }
 {
@@ -53,18 +52,17 @@ pub(crate) fn tas<P: Port>(
             Change::TestAndSet,
             Size::Byte,
             ea,
-            word_at,
-            space,
+            stream,
             plain,
             port,
             ended,
         );
     }
-    let target = match resolve(ea, Size::Byte, plain, word_at, space, port) {
+    let target = match resolve(ea, Size::Byte, plain, stream.at, stream.space, port) {
         Ok(target) => target,
         Err(refused) => return Err(unread(&refused, ended)),
     };
-    let places = match probe_operand(space, place(target), Size::Byte, port) {
+    let places = match probe_operand(stream.space, place(target), Size::Byte, port) {
         Ok(places) => places,
         Err(refused) => return Err(unread(&refused, ended)),
     };
@@ -134,23 +132,22 @@ pub(crate) fn cas<P: Port>(
     size: Size,
     ea: &Ea,
     word: u16,
-    word_at: u32,
-    space: Space,
+    stream: Stream,
     plain: &mut Plain,
     port: &mut P,
     ended: &mut Ended,
 ) -> Result<(), Undone>
     requires operand { IsEa size ea.now }
     requires place { IsInMemory ea.now }
-    ensures means { run P.bus (cas_of size ea.now word word_at space plain.old) (P.world port.old)
+    ensures means { run P.bus (cas_of size ea.now word stream.at stream.space plain.old) (P.world port.old)
         ≡ (carried_by result ended.new plain.new, P.world port.new) }
     ensures rest { P.rest port.new ≡ P.rest port.old }
 {
-    let target = match resolve(ea, size, plain, word_at, space, port) {
+    let target = match resolve(ea, size, plain, stream.at, stream.space, port) {
         Ok(target) => target,
         Err(refused) => return Err(unread(&refused, ended)),
     };
-    let places = match probe_operand(space, place(target), size, port) {
+    let places = match probe_operand(stream.space, place(target), size, port) {
         Ok(places) => places,
         Err(refused) => return Err(unread(&refused, ended)),
     };

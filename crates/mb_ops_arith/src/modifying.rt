@@ -10,8 +10,8 @@ ghost use Rattle.mb_operands.specs.Endings.{carried_by};
 use crate::operations::Change;
 use crate::unary::put_in_register;
 use mb_instr::{Ea, Plain, Size};
-use mb_operands::{Undone, fetch_operand, finish_with, unread};
-use mb_port::{Port, Space};
+use mb_operands::{Stream, Undone, fetch_operand, finish_with, unread};
+use mb_port::Port;
 use mb_writes::Ended;
 
 /// Reads an operand, wherever it stands, changes it, and writes it back.
@@ -21,19 +21,18 @@ fn modify_operand<P: Port>(
     change: Change,
     size: Size,
     ea: &Ea,
-    word_at: u32,
-    space: Space,
+    stream: Stream,
     plain: &mut Plain,
     port: &mut P,
     ended: &mut Ended,
 ) -> Result<(), Undone>
     requires operand { IsEa size ea.now }
     requires destination { IsDestination ea.now }
-    ensures means { run P.bus (modify_of (change_of change size) size ea.now word_at space plain.old) (P.world port.old)
-        ≡ (carried_by result ended.new plain.new, P.world port.new) }
+    ensures means { run P.bus (modify_of (change_of change size) size ea.now stream.at stream.space plain.old)
+        (P.world port.old) ≡ (carried_by result ended.new plain.new, P.world port.new) }
     ensures rest { P.rest port.new ≡ P.rest port.old }
 {
-    let operand = match fetch_operand(size, ea, word_at, space, plain, port) {
+    let operand = match fetch_operand(size, ea, stream, plain, port) {
         Ok(operand) => operand,
         Err(refused) => return Err(unread(&refused, ended)),
     };
@@ -43,14 +42,14 @@ fn modify_operand<P: Port>(
         operand.target,
         size,
         changed.value,
-        space,
+        stream.space,
         plain,
         port,
         ended,
     )
 }
 
-/// Reads an operand, changes it, and writes it back. Its first extension word is at `word_at`. A data register is
+/// Reads an operand, changes it, and writes it back. Its first extension word is at `stream.at`. A data register is
 /// changed where it is.
 #[inline(always)]
 #[tactic(auto, using(crate::proofs::WithoutBus::without_bus))]
@@ -58,16 +57,15 @@ pub(crate) fn modify<P: Port>(
     change: Change,
     size: Size,
     ea: &Ea,
-    word_at: u32,
-    space: Space,
+    stream: Stream,
     plain: &mut Plain,
     port: &mut P,
     ended: &mut Ended,
 ) -> Result<(), Undone>
     requires operand { IsEa size ea.now }
     requires destination { IsDestination ea.now }
-    ensures means { run P.bus (modify_of (change_of change size) size ea.now word_at space plain.old) (P.world port.old)
-        ≡ (carried_by result ended.new plain.new, P.world port.new) }
+    ensures means { run P.bus (modify_of (change_of change size) size ea.now stream.at stream.space plain.old)
+        (P.world port.old) ≡ (carried_by result ended.new plain.new, P.world port.new) }
     ensures rest { P.rest port.new ≡ P.rest port.old }
 {
     if let Ea::Dn(register) = *ea {
@@ -76,5 +74,5 @@ pub(crate) fn modify<P: Port>(
         put_in_register(register, size, changed, plain);
         return Ok(());
     }
-    modify_operand(change, size, ea, word_at, space, plain, port, ended)
+    modify_operand(change, size, ea, stream, plain, port, ended)
 }

@@ -16,8 +16,8 @@ use crate::operations::Operation;
 use mb_alu::compare;
 use mb_ea::ReadFault;
 use mb_instr::{Ea, Plain, Size};
-use mb_operands::{Operand, Undone, behind, fetch_operand, finish_with, unread};
-use mb_port::{Port, Space};
+use mb_operands::{Operand, Stream, Undone, behind, fetch_operand, finish_with, unread};
+use mb_port::Port;
 use mb_writes::Ended;
 
 /// Two operands that were read.
@@ -35,22 +35,24 @@ pub(crate) fn fetch_pair<P: Port>(
     size: Size,
     source: &Ea,
     destination: &Ea,
-    word_at: u32,
-    space: Space,
+    stream: Stream,
     plain: &mut Plain,
     port: &mut P,
 ) -> Result<Pair, ReadFault>
     requires source { IsEa size source.now }
     requires destination { IsEa size destination.now }
-    ensures means { run P.bus (fetch_pair_of size source.now destination.now word_at space plain.old) (P.world port.old)
-        ≡ (paired result plain.new, P.world port.new) }
+    ensures means { run P.bus (fetch_pair_of size source.now destination.now stream.at stream.space plain.old)
+        (P.world port.old) ≡ (paired result plain.new, P.world port.new) }
     ensures operand { IfOk result (λ pair. IsOperand size pair.destination) }
     ensures place { IsDestination destination.now → IfOk result (λ pair. IsPlace pair.destination.target) }
     ensures rest { P.rest port.new ≡ P.rest port.old }
 {
-    let from = fetch_operand(size, source, word_at, space, plain, port)?;
-    let behind = behind(size, source, word_at);
-    let to = fetch_operand(size, destination, behind, space, plain, port)?;
+    let from = fetch_operand(size, source, stream, plain, port)?;
+    let behind = Stream {
+        at: behind(size, source, stream.at),
+        ..stream
+    };
+    let to = fetch_operand(size, destination, behind, plain, port)?;
     Ok(Pair {
         source: from.value,
         destination: to,
@@ -65,8 +67,7 @@ fn combine<P: Port>(
     size: Size,
     source: &Ea,
     destination: &Ea,
-    word_at: u32,
-    space: Space,
+    stream: Stream,
     plain: &mut Plain,
     port: &mut P,
     ended: &mut Ended,
@@ -75,18 +76,26 @@ fn combine<P: Port>(
     requires destination { IsEa size destination.now }
     requires place { IsDestination destination.now }
     ensures means { run P.bus
-        (combine_of (operation_of operation size) size source.now destination.now word_at space plain.old)
+        (combine_of (operation_of operation size) size source.now destination.now stream.at stream.space plain.old)
         (P.world port.old) ≡ (carried_by result ended.new plain.new, P.world port.new) }
     ensures rest { P.rest port.new ≡ P.rest port.old }
 {
-    let pair = match fetch_pair(size, source, destination, word_at, space, plain, port) {
+    let pair = match fetch_pair(size, source, destination, stream, plain, port) {
         Ok(pair) => pair,
         Err(refused) => return Err(unread(&refused, ended)),
     };
     let to = pair.destination;
     let result = operation.apply(size, pair.source, to.value, plain.ccr);
     plain.ccr = result.ccr;
-    finish_with(to.target, size, result.value, space, plain, port, ended)
+    finish_with(
+        to.target,
+        size,
+        result.value,
+        stream.space,
+        plain,
+        port,
+        ended,
+    )
 }
 
 /// Compares a source with a destination, wherever they stand. Only the condition codes change.
@@ -96,20 +105,19 @@ pub(crate) fn compare_pair<P: Port>(
     size: Size,
     source: &Ea,
     destination: &Ea,
-    word_at: u32,
-    space: Space,
+    stream: Stream,
     plain: &mut Plain,
     port: &mut P,
     ended: &mut Ended,
 ) -> Result<(), Undone>
     requires source { IsEa size source.now }
     requires destination { IsEa size destination.now }
-    ensures means { run P.bus (compare_pair_of size source.now destination.now word_at space plain.old)
+    ensures means { run P.bus (compare_pair_of size source.now destination.now stream.at stream.space plain.old)
         (P.world port.old)
         ≡ (carried_by result ended.new plain.new, P.world port.new) }
     ensures rest { P.rest port.new ≡ P.rest port.old }
 {
-    let pair = match fetch_pair(size, source, destination, word_at, space, plain, port) {
+    let pair = match fetch_pair(size, source, destination, stream, plain, port) {
         Ok(pair) => pair,
         Err(refused) => return Err(unread(&refused, ended)),
     };
@@ -124,32 +132,22 @@ pub(crate) fn compare_with_register<P: Port>(
     size: Size,
     ea: &Ea,
     register: u8,
-    word_at: u32,
-    space: Space,
+    stream: Stream,
     plain: &mut Plain,
     port: &mut P,
     ended: &mut Ended,
 ) -> Result<(), Undone>
     requires operand { IsEa size ea.now }
     requires register { register < 8 }
-    ensures means { run P.bus (compare_pair_of size ea.now (Dn register) word_at space plain.old) (P.world port.old)
-        ≡ (carried_by result ended.new plain.new, P.world port.new) }
+    ensures means { run P.bus (compare_pair_of size ea.now (Dn register) stream.at stream.space plain.old)
+        (P.world port.old) ≡ (carried_by result ended.new plain.new, P.world port.new) }
     ensures rest { P.rest port.new ≡ P.rest port.old }
 {
     if let Some(value) = at_hand(size, ea, plain) {
         compare_with(size, value, register, plain);
         return Ok(());
     }
-    compare_pair(
-        size,
-        ea,
-        &Ea::Dn(register),
-        word_at,
-        space,
-        plain,
-        port,
-        ended,
-    )
+    compare_pair(size, ea, &Ea::Dn(register), stream, plain, port, ended)
 }
 
 /// CMPI: an immediate is compared with an operand.
@@ -159,32 +157,22 @@ pub(crate) fn compare_immediate<P: Port>(
     size: Size,
     immediate: u32,
     ea: &Ea,
-    word_at: u32,
-    space: Space,
+    stream: Stream,
     plain: &mut Plain,
     port: &mut P,
     ended: &mut Ended,
 ) -> Result<(), Undone>
     requires immediate { IsImmediate size immediate }
     requires operand { IsEa size ea.now }
-    ensures means { run P.bus (compare_pair_of size (Imm immediate) ea.now word_at space plain.old) (P.world port.old)
-        ≡ (carried_by result ended.new plain.new, P.world port.new) }
+    ensures means { run P.bus (compare_pair_of size (Imm immediate) ea.now stream.at stream.space plain.old)
+        (P.world port.old) ≡ (carried_by result ended.new plain.new, P.world port.new) }
     ensures rest { P.rest port.new ≡ P.rest port.old }
 {
     if let Ea::Dn(register) = *ea {
         compare_with(size, size.low(immediate), register, plain);
         return Ok(());
     }
-    compare_pair(
-        size,
-        &Ea::Imm(immediate),
-        ea,
-        word_at,
-        space,
-        plain,
-        port,
-        ended,
-    )
+    compare_pair(size, &Ea::Imm(immediate), ea, stream, plain, port, ended)
 }
 
 /// ADD, SUB, AND, OR and EOR of an operand that stands anywhere.
@@ -196,8 +184,7 @@ fn combine_operand<P: Port>(
     to_memory: bool,
     size: Size,
     ea: &Ea,
-    word_at: u32,
-    space: Space,
+    stream: Stream,
     plain: &mut Plain,
     port: &mut P,
     ended: &mut Ended,
@@ -206,19 +193,16 @@ fn combine_operand<P: Port>(
     requires destination { to_memory ≡ true → IsDestination ea.now }
     requires register { register < 8 }
     ensures means { run P.bus
-        (combine_either_way_of (operation_of operation size) register to_memory size ea.now word_at space plain.old)
+        (combine_either_way_of (operation_of operation size) register to_memory size ea.now
+        stream.at stream.space plain.old)
         (P.world port.old) ≡ (carried_by result ended.new plain.new, P.world port.new) }
     ensures rest { P.rest port.new ≡ P.rest port.old }
 {
     let register = Ea::Dn(register);
     if to_memory {
-        combine(
-            operation, size, &register, ea, word_at, space, plain, port, ended,
-        )
+        combine(operation, size, &register, ea, stream, plain, port, ended)
     } else {
-        combine(
-            operation, size, ea, &register, word_at, space, plain, port, ended,
-        )
+        combine(operation, size, ea, &register, stream, plain, port, ended)
     }
 }
 
@@ -231,8 +215,7 @@ pub(crate) fn combine_either_way<P: Port>(
     to_memory: bool,
     size: Size,
     ea: &Ea,
-    word_at: u32,
-    space: Space,
+    stream: Stream,
     plain: &mut Plain,
     port: &mut P,
     ended: &mut Ended,
@@ -241,7 +224,8 @@ pub(crate) fn combine_either_way<P: Port>(
     requires destination { to_memory ≡ true → IsDestination ea.now }
     requires register { register < 8 }
     ensures means { run P.bus
-        (combine_either_way_of (operation_of operation size) register to_memory size ea.now word_at space plain.old)
+        (combine_either_way_of (operation_of operation size) register to_memory size ea.now
+        stream.at stream.space plain.old)
         (P.world port.old) ≡ (carried_by result ended.new plain.new, P.world port.new) }
     ensures rest { P.rest port.new ≡ P.rest port.old }
 {
@@ -255,7 +239,7 @@ pub(crate) fn combine_either_way<P: Port>(
         return Ok(());
     }
     combine_operand(
-        operation, register, to_memory, size, ea, word_at, space, plain, port, ended,
+        operation, register, to_memory, size, ea, stream, plain, port, ended,
     )
 }
 
@@ -267,8 +251,7 @@ pub(crate) fn chain<P: Port>(
     in_memory: bool,
     source: u8,
     destination: u8,
-    word_at: u32,
-    space: Space,
+    stream: Stream,
     plain: &mut Plain,
     port: &mut P,
     ended: &mut Ended,
@@ -276,7 +259,7 @@ pub(crate) fn chain<P: Port>(
     requires source { source < 8 }
     requires destination { destination < 8 }
     ensures means { run P.bus
-        (chain_of (operation_of operation size) size in_memory source destination word_at space plain.old)
+        (chain_of (operation_of operation size) size in_memory source destination stream.at stream.space plain.old)
         (P.world port.old) ≡ (carried_by result ended.new plain.new, P.world port.new) }
     ensures rest { P.rest port.new ≡ P.rest port.old }
 {
@@ -286,8 +269,7 @@ pub(crate) fn chain<P: Port>(
             size,
             &Ea::Pre(source),
             &Ea::Pre(destination),
-            word_at,
-            space,
+            stream,
             plain,
             port,
             ended,
@@ -305,8 +287,7 @@ fn combine_operand_immediate<P: Port>(
     immediate: u32,
     size: Size,
     ea: &Ea,
-    word_at: u32,
-    space: Space,
+    stream: Stream,
     plain: &mut Plain,
     port: &mut P,
     ended: &mut Ended,
@@ -315,7 +296,7 @@ fn combine_operand_immediate<P: Port>(
     requires operand { IsEa size ea.now }
     requires destination { IsDestination ea.now }
     ensures means { run P.bus
-        (combine_of (operation_of operation size) size (Imm immediate) ea.now word_at space plain.old)
+        (combine_of (operation_of operation size) size (Imm immediate) ea.now stream.at stream.space plain.old)
         (P.world port.old) ≡ (carried_by result ended.new plain.new, P.world port.new) }
     ensures rest { P.rest port.new ≡ P.rest port.old }
 {
@@ -324,8 +305,7 @@ fn combine_operand_immediate<P: Port>(
         size,
         &Ea::Imm(immediate),
         ea,
-        word_at,
-        space,
+        stream,
         plain,
         port,
         ended,
@@ -340,8 +320,7 @@ pub(crate) fn combine_immediate<P: Port>(
     immediate: u32,
     size: Size,
     ea: &Ea,
-    word_at: u32,
-    space: Space,
+    stream: Stream,
     plain: &mut Plain,
     port: &mut P,
     ended: &mut Ended,
@@ -350,7 +329,7 @@ pub(crate) fn combine_immediate<P: Port>(
     requires operand { IsEa size ea.now }
     requires destination { IsDestination ea.now }
     ensures means { run P.bus
-        (combine_of (operation_of operation size) size (Imm immediate) ea.now word_at space plain.old)
+        (combine_of (operation_of operation size) size (Imm immediate) ea.now stream.at stream.space plain.old)
         (P.world port.old) ≡ (carried_by result ended.new plain.new, P.world port.new) }
     ensures rest { P.rest port.new ≡ P.rest port.old }
 {
@@ -358,7 +337,5 @@ pub(crate) fn combine_immediate<P: Port>(
         combine_into(operation, size, size.low(immediate), register, plain);
         return Ok(());
     }
-    combine_operand_immediate(
-        operation, immediate, size, ea, word_at, space, plain, port, ended,
-    )
+    combine_operand_immediate(operation, immediate, size, ea, stream, plain, port, ended)
 }

@@ -15,8 +15,8 @@ use crate::groups::{
     register_result_row, single_row,
 };
 use mb_instr::{Arith, Plain};
-use mb_operands::{Undone, put_back};
-use mb_port::{Port, Space};
+use mb_operands::{Stream, Undone, put_back};
+use mb_port::Port;
 use mb_writes::Ended;
 
 /// Carries out the instruction by its row, which one of the groups has.
@@ -24,83 +24,80 @@ use mb_writes::Ended;
 #[inline(always)]
 fn carry_out<P: Port>(
     instruction: &Arith,
-    at: u32,
-    space: Space,
+    stream: Stream,
     plain: &mut Plain,
     port: &mut P,
     ended: &mut Ended,
 ) -> Result<(), Undone>
     requires { IsInstr (instr.Arith instruction.now) }
     ensures means { run P.bus
-        (perform_arith_of instruction.now (operands_at (arith_row instruction.now) at) space plain.old)
+        (perform_arith_of instruction.now (operands_at (arith_row instruction.now) stream.at) stream.space plain.old)
         (P.world port.old) ≡ (carried_by result ended.new plain.new, P.world port.new) }
     ensures rest { P.rest port.new ≡ P.rest port.old }
 {
     match instruction {
         Arith::Add { .. } | Arith::Sub { .. } | Arith::And { .. } | Arith::Or { .. } | Arith::Eor { .. }
-        | Arith::Addx { .. } | Arith::Subx { .. } => pair_row(instruction, at, space, plain, port, ended),
+        | Arith::Addx { .. } | Arith::Subx { .. } => pair_row(instruction, stream, plain, port, ended),
         Arith::Addi { .. } | Arith::Subi { .. } | Arith::Andi { .. } | Arith::Ori { .. } | Arith::Eori { .. }
         | Arith::OriCcr { .. } | Arith::AndiCcr { .. } | Arith::EoriCcr { .. } | Arith::Addq { .. }
-        | Arith::Subq { .. } => immediate_row(instruction, at, space, plain, port, ended),
+        | Arith::Subq { .. } => immediate_row(instruction, stream, plain, port, ended),
         Arith::Cmp { .. } | Arith::Cmpi { .. } | Arith::Cmpm { .. } | Arith::Cmp2 { .. } | Arith::Cmpa { .. }
-        | Arith::Tst { .. } => comparison_row(instruction, at, space, plain, port, ended),
+        | Arith::Tst { .. } => comparison_row(instruction, stream, plain, port, ended),
         Arith::Adda { .. } | Arith::Suba { .. } | Arith::MulW { .. } | Arith::MulL { .. } | Arith::DivW { .. }
-        | Arith::DivL { .. } => register_result_row(instruction, at, space, plain, port, ended),
+        | Arith::DivL { .. } => register_result_row(instruction, stream, plain, port, ended),
         Arith::Neg { .. } | Arith::Negx { .. } | Arith::Not { .. } | Arith::Clr { .. } | Arith::ShiftMem { .. }
         | Arith::Nbcd { .. } | Arith::ExtW { .. } | Arith::ExtL { .. } | Arith::ExtbL { .. }
-        | Arith::ShiftReg { .. } => single_row(instruction, at, space, plain, port, ended),
+        | Arith::ShiftReg { .. } => single_row(instruction, stream, plain, port, ended),
         Arith::BitReg { .. } | Arith::BitImm { .. } | Arith::Field { .. } =>
-            bits_row(instruction, at, space, plain, port, ended),
+            bits_row(instruction, stream, plain, port, ended),
         Arith::Abcd { .. } | Arith::Sbcd { .. } | Arith::Pack { .. } | Arith::Unpk { .. } =>
-            decimal_row(instruction, at, space, plain, port, ended),
+            decimal_row(instruction, stream, plain, port, ended),
         Arith::Tas { .. } | Arith::Cas { .. } | Arith::Cas2 { .. } =>
-            locked_row(instruction, at, space, plain, port, ended),
+            locked_row(instruction, stream, plain, port, ended),
     }
 }
 
-/// Carries out an instruction that computes, which stands at `at`, on the registers in place. PC is past its words
-/// already. All accesses are made in `space`. Where it is not done, how it ended goes to `ended`; after a refused
-/// read the registers before the instruction count, and `plain` may have some that were stepped.
+/// Carries out an instruction that computes, which stands at `stream.at`, on the registers in place. PC is past its
+/// words already. Where it is not done, how it ended goes to `ended`; after a refused read the registers before the
+/// instruction count, and `plain` may have some that were stepped.
 #[inline(always)]
 pub fn perform_arith_in_place<P: Port>(
     instruction: &Arith,
-    at: u32,
-    space: Space,
+    stream: Stream,
     plain: &mut Plain,
     port: &mut P,
     ended: &mut Ended,
 ) -> Result<bool, Undone>
     requires { IsInstr (instr.Arith instruction.now) }
     ensures means { run P.bus
-        (perform_arith_of instruction.now (operands_at (arith_row instruction.now) at) space plain.old)
+        (perform_arith_of instruction.now (operands_at (arith_row instruction.now) stream.at) stream.space plain.old)
         (P.world port.old) ≡ (performed_by result ended.new plain.new, P.world port.new) }
     ensures rest { P.rest port.new ≡ P.rest port.old }
 {
-    match carry_out(instruction, at, space, plain, port, ended) {
+    match carry_out(instruction, stream, plain, port, ended) {
         Ok(()) => Ok(false),
         Err(undone) => Err(undone),
     }
 }
 
-/// Carries out an instruction that computes, which stands at `at`. PC is past its words already. All accesses are
-/// made in `space`. After a refused read the registers are as before.
+/// Carries out an instruction that computes, which stands at `stream.at`. PC is past its words already. After a
+/// refused read the registers are as before.
 pub fn perform_arith<P: Port>(
     instruction: &Arith,
-    at: u32,
+    stream: Stream,
     plain: &mut Plain,
-    space: Space,
     port: &mut P,
 ) -> Ended
     requires { IsInstr (instr.Arith instruction.now) }
     ensures means { run P.bus
         (closing (restoring plain.old
-        (perform_arith_of instruction.now (operands_at (arith_row instruction.now) at) space plain.old)))
+        (perform_arith_of instruction.now (operands_at (arith_row instruction.now) stream.at) stream.space plain.old)))
         (P.world port.old) ≡ ((result, plain.new), P.world port.new) }
     ensures unread { is_unread result ≡ true → plain.new ≡ plain.old }
     ensures rest { P.rest port.new ≡ P.rest port.old }
 {
     let before = *plain;
     let mut ended = Ended::Done { flow: false };
-    let done = perform_arith_in_place(instruction, at, space, plain, port, &mut ended);
+    let done = perform_arith_in_place(instruction, stream, plain, port, &mut ended);
     put_back(done, ended, &before, plain)
 }

@@ -10,8 +10,8 @@ ghost use Rattle.mb_operands.specs.Endings.{carried_by};
 use crate::modifying::modify;
 use crate::operations::{Change, Operation, Sum};
 use mb_instr::{Ea, Plain, Size};
-use mb_operands::Undone;
-use mb_port::{Port, Space};
+use mb_operands::{Stream, Undone};
+use mb_port::Port;
 use mb_writes::Ended;
 
 /// Of an address register all of it counts, and no condition code changes.
@@ -22,8 +22,7 @@ pub(crate) fn combine_quick<P: Port>(
     quick: u8,
     size: Size,
     ea: &Ea,
-    word_at: u32,
-    space: Space,
+    stream: Stream,
     plain: &mut Plain,
     port: &mut P,
     ended: &mut Ended,
@@ -32,7 +31,7 @@ pub(crate) fn combine_quick<P: Port>(
     requires destination { IsDestination ea.now }
     ensures means { run P.bus
         (combine_quick_of (sum_of sum size quick)
-        (λ address. moved_of sum address quick) size ea.now word_at space plain.old)
+        (λ address. moved_of sum address quick) size ea.now stream.at stream.space plain.old)
         (P.world port.old) ≡ (carried_by result ended.new plain.new, P.world port.new) }
     ensures rest { P.rest port.new ≡ P.rest port.old }
 {
@@ -45,7 +44,7 @@ pub(crate) fn combine_quick<P: Port>(
         }
         None => {
             let change = Change::By(Operation::Sum(sum), quick);
-            modify(change, size, ea, word_at, space, plain, port, ended)
+            modify(change, size, ea, stream, plain, port, ended)
         }
     }
 }

@@ -12,8 +12,8 @@ use crate::operations::Sum;
 use crate::products::{divide_long, divide_word, multiply_long, multiply_word};
 use mb_alu::{LogicKind, compare, logic};
 use mb_instr::{Ea, Plain, Size};
-use mb_operands::{Undone, fetch_operand, unread};
-use mb_port::{Port, Space};
+use mb_operands::{Stream, Undone, fetch_operand, unread};
+use mb_port::Port;
 use mb_writes::Ended;
 
 /// What becomes of an operand that is only read.
@@ -78,46 +78,44 @@ fn take_operand<P: Port>(
     effect: Effect,
     size: Size,
     ea: &Ea,
-    word_at: u32,
-    space: Space,
+    stream: Stream,
     plain: &mut Plain,
     port: &mut P,
     ended: &mut Ended,
 ) -> Result<(), Undone>
     requires operand { IsEa size ea.now }
     requires effect { IsEffect effect }
-    ensures means { run P.bus (take_of (effect_of effect size) size ea.now word_at space plain.old) (P.world port.old)
-        ≡ (carried_by result ended.new plain.new, P.world port.new) }
+    ensures means { run P.bus (take_of (effect_of effect size) size ea.now stream.at stream.space plain.old)
+        (P.world port.old) ≡ (carried_by result ended.new plain.new, P.world port.new) }
     ensures rest { P.rest port.new ≡ P.rest port.old }
 {
-    let operand = match fetch_operand(size, ea, word_at, space, plain, port) {
+    let operand = match fetch_operand(size, ea, stream, plain, port) {
         Ok(operand) => operand,
         Err(refused) => return Err(unread(&refused, ended)),
     };
     effect.apply(size, operand.value, plain, ended)
 }
 
-/// Reads an operand, whose first extension word is at `word_at`, and does by it what the effect says.
+/// Reads an operand, whose first extension word is at `stream.at`, and does by it what the effect says.
 #[inline(always)]
 #[tactic(auto, using(crate::proofs::WithoutBus::without_bus))]
 pub(crate) fn take<P: Port>(
     effect: Effect,
     size: Size,
     ea: &Ea,
-    word_at: u32,
-    space: Space,
+    stream: Stream,
     plain: &mut Plain,
     port: &mut P,
     ended: &mut Ended,
 ) -> Result<(), Undone>
     requires operand { IsEa size ea.now }
     requires effect { IsEffect effect }
-    ensures means { run P.bus (take_of (effect_of effect size) size ea.now word_at space plain.old) (P.world port.old)
-        ≡ (carried_by result ended.new plain.new, P.world port.new) }
+    ensures means { run P.bus (take_of (effect_of effect size) size ea.now stream.at stream.space plain.old)
+        (P.world port.old) ≡ (carried_by result ended.new plain.new, P.world port.new) }
     ensures rest { P.rest port.new ≡ P.rest port.old }
 {
     if let Some(value) = at_hand(size, ea, plain) {
         return effect.apply(size, value, plain, ended);
     }
-    take_operand(effect, size, ea, word_at, space, plain, port, ended)
+    take_operand(effect, size, ea, stream, plain, port, ended)
 }

@@ -9,8 +9,8 @@ ghost use Rattle.mb_operands.specs.Endings.{carried_by};
 use mb_alu::{Flagged, LogicKind, extend, logic};
 use mb_ea::resolve;
 use mb_instr::{Ea, Plain, Size};
-use mb_operands::{Undone, finish_with, unread, with_low};
-use mb_port::{Port, Space};
+use mb_operands::{Stream, Undone, finish_with, unread, with_low};
+use mb_port::Port;
 use mb_writes::Ended;
 
 /// The bits of the condition codes.
@@ -21,24 +21,23 @@ const CODES: u32 = 0x1F;
 pub(crate) fn clr<P: Port>(
     size: Size,
     ea: &Ea,
-    word_at: u32,
-    space: Space,
+    stream: Stream,
     plain: &mut Plain,
     port: &mut P,
     ended: &mut Ended,
 ) -> Result<(), Undone>
     requires operand { IsEa size ea.now }
     requires destination { IsDestination ea.now }
-    ensures means { run P.bus (clr_of size ea.now word_at space plain.old) (P.world port.old)
+    ensures means { run P.bus (clr_of size ea.now stream.at stream.space plain.old) (P.world port.old)
         ≡ (carried_by result ended.new plain.new, P.world port.new) }
     ensures rest { P.rest port.new ≡ P.rest port.old }
 {
-    let target = match resolve(ea, size, plain, word_at, space, port) {
+    let target = match resolve(ea, size, plain, stream.at, stream.space, port) {
         Ok(target) => target,
         Err(refused) => return Err(unread(&refused, ended)),
     };
     plain.ccr = logic(LogicKind::Pass, size, 0, 0, plain.ccr).ccr;
-    finish_with(target, size, 0, space, plain, port, ended)
+    finish_with(target, size, 0, stream.space, plain, port, ended)
 }
 
 /// Makes these the low bytes of a data register, and the condition codes.

@@ -10,8 +10,8 @@ ghost use Rattle.mb_operands.specs.Endings.{performed_by};
 use mb_alu::Conditions;
 use mb_instr::vectors::OUT_OF_BOUNDS;
 use mb_instr::{Ea, Plain, Size};
-use mb_operands::{Undone, compare_bounds, fetch_operand, trapped, unread};
-use mb_port::{Port, Space};
+use mb_operands::{Stream, Undone, compare_bounds, fetch_operand, trapped, unread};
+use mb_port::Port;
 use mb_writes::Ended;
 
 /// The signed value of the low bytes that count.
@@ -61,19 +61,18 @@ pub fn chk<P: Port>(
     register: u8,
     size: Size,
     ea: &Ea,
-    word_at: u32,
-    space: Space,
+    stream: Stream,
     plain: &mut Plain,
     port: &mut P,
     ended: &mut Ended,
 ) -> Result<bool, Undone>
     requires register { register < 8 }
     requires operand { IsEa size ea.now }
-    ensures means { run P.bus (chk_of register size ea.now word_at space plain.old) (P.world port.old)
+    ensures means { run P.bus (chk_of register size ea.now stream.at stream.space plain.old) (P.world port.old)
         ≡ (performed_by result ended.new plain.new, P.world port.new) }
     ensures rest { P.rest port.new ≡ P.rest port.old }
 {
-    match fetch_operand(size, ea, word_at, space, plain, port) {
+    match fetch_operand(size, ea, stream, plain, port) {
         Ok(bound) => check_bound(size, bound.value, plain.d[register as usize], plain, ended),
         Err(refused) => Err(unread(&refused, ended)),
     }
@@ -99,19 +98,18 @@ pub fn chk2<P: Port>(
     size: Size,
     ea: &Ea,
     word: u16,
-    word_at: u32,
-    space: Space,
+    stream: Stream,
     plain: &mut Plain,
     port: &mut P,
     ended: &mut Ended,
 ) -> Result<bool, Undone>
     requires operand { IsEa size ea.now }
     requires place { IsInMemory ea.now }
-    ensures means { run P.bus (chk2_of size ea.now word word_at space plain.old) (P.world port.old)
+    ensures means { run P.bus (chk2_of size ea.now word stream.at stream.space plain.old) (P.world port.old)
         ≡ (performed_by result ended.new plain.new, P.world port.new) }
     ensures rest { P.rest port.new ≡ P.rest port.old }
 {
-    match compare_bounds(size, ea, word, word_at, space, plain, port) {
+    match compare_bounds(size, ea, word, stream, plain, port) {
         Ok(ccr) => {
             plain.ccr = ccr;
             check_carry(plain, ended)

@@ -7,7 +7,7 @@ ghost use Rattle.mb_meaning.specs.Flow.{branch_displacement_of, target_of, is_ca
 ghost use Rattle.mb_operands.specs.Endings.{performed_by};
 
 use mb_instr::{Branch, Condition, Plain, Size};
-use mb_operands::{Undone, is_met, push};
+use mb_operands::{Stream, Undone, is_met, push};
 use mb_port::{Port, Space};
 use mb_writes::Ended;
 
@@ -96,19 +96,18 @@ pub fn go_if_met(condition: Condition, target: u32, plain: &mut Plain) -> bool
 pub fn branch<P: Port>(
     condition: Condition,
     branch: Branch,
-    word_at: u32,
-    space: Space,
+    stream: Stream,
     plain: &mut Plain,
     port: &mut P,
     ended: &mut Ended,
 ) -> Result<bool, Undone>
-    ensures means { run P.bus (branch_of condition branch word_at space plain.old) (P.world port.old)
+    ensures means { run P.bus (branch_of condition branch stream.at stream.space plain.old) (P.world port.old)
         ≡ (performed_by result ended.new plain.new, P.world port.new) }
     ensures rest { P.rest port.new ≡ P.rest port.old }
 {
-    let target = target(word_at, branch);
+    let target = target(stream.at, branch);
     if is_call(condition) {
-        call(target, space, plain, port, ended)
+        call(target, stream.space, plain, port, ended)
     } else {
         Ok(go_if_met(condition, target, plain))
     }

@@ -8,8 +8,8 @@ ghost use Rattle.mb_operands.specs.Endings.{performed_by};
 
 use crate::branches::call;
 use mb_instr::{Ea, Plain, Size};
-use mb_operands::{Undone, find_address, unread};
-use mb_port::{Port, Space};
+use mb_operands::{Stream, Undone, find_address, unread};
+use mb_port::Port;
 use mb_writes::Ended;
 
 /// JMP: to the address of the operand.
@@ -17,19 +17,18 @@ use mb_writes::Ended;
 #[tactic(auto, unfolding(mb_meaning::specs::Flow::jmp_of))]
 pub fn jmp<P: Port>(
     ea: &Ea,
-    word_at: u32,
-    space: Space,
+    stream: Stream,
     plain: &mut Plain,
     port: &mut P,
     ended: &mut Ended,
 ) -> Result<bool, Undone>
     requires operand { IsEa Size.Long ea.now }
     requires place { IsInMemory ea.now }
-    ensures means { run P.bus (jmp_of ea.now word_at space plain.old) (P.world port.old)
+    ensures means { run P.bus (jmp_of ea.now stream.at stream.space plain.old) (P.world port.old)
         ≡ (performed_by result ended.new plain.new, P.world port.new) }
     ensures rest { P.rest port.new ≡ P.rest port.old }
 {
-    match find_address(Size::Long, ea, word_at, space, plain, port) {
+    match find_address(Size::Long, ea, stream, plain, port) {
         Ok(target) => {
             plain.pc = target;
             Ok(true)
@@ -43,20 +42,19 @@ pub fn jmp<P: Port>(
 #[tactic(auto, unfolding(mb_meaning::specs::Flow::jsr_of))]
 pub fn jsr<P: Port>(
     ea: &Ea,
-    word_at: u32,
-    space: Space,
+    stream: Stream,
     plain: &mut Plain,
     port: &mut P,
     ended: &mut Ended,
 ) -> Result<bool, Undone>
     requires operand { IsEa Size.Long ea.now }
     requires place { IsInMemory ea.now }
-    ensures means { run P.bus (jsr_of ea.now word_at space plain.old) (P.world port.old)
+    ensures means { run P.bus (jsr_of ea.now stream.at stream.space plain.old) (P.world port.old)
         ≡ (performed_by result ended.new plain.new, P.world port.new) }
     ensures rest { P.rest port.new ≡ P.rest port.old }
 {
-    match find_address(Size::Long, ea, word_at, space, plain, port) {
-        Ok(target) => call(target, space, plain, port, ended),
+    match find_address(Size::Long, ea, stream, plain, port) {
+        Ok(target) => call(target, stream.space, plain, port, ended),
         Err(refused) => Err(unread(&refused, ended)),
     }
 }

@@ -8,8 +8,8 @@ ghost use Rattle.mb_operands.specs.Endings.{carried_by};
 
 use mb_ea::resolve;
 use mb_instr::{Condition, Ea, Plain, Size};
-use mb_operands::{Undone, fetch_operand, finish_with, is_met, unread};
-use mb_port::{Port, Space};
+use mb_operands::{Stream, Undone, fetch_operand, finish_with, is_met, unread};
+use mb_port::Port;
 use mb_writes::Ended;
 
 /// MOVE to CCR: a word is read, and its low five bits are the condition codes.
@@ -17,18 +17,17 @@ use mb_writes::Ended;
 #[tactic(auto, unfolding(mb_meaning::specs::Moves::move_to_ccr_of))]
 pub fn move_to_ccr<P: Port>(
     ea: &Ea,
-    word_at: u32,
-    space: Space,
+    stream: Stream,
     plain: &mut Plain,
     port: &mut P,
     ended: &mut Ended,
 ) -> Result<(), Undone>
     requires { IsEa Size.Word ea.now }
-    ensures means { run P.bus (move_to_ccr_of ea.now word_at space plain.old) (P.world port.old)
+    ensures means { run P.bus (move_to_ccr_of ea.now stream.at stream.space plain.old) (P.world port.old)
         ≡ (carried_by result ended.new plain.new, P.world port.new) }
     ensures rest { P.rest port.new ≡ P.rest port.old }
 {
-    match fetch_operand(Size::Word, ea, word_at, space, plain, port) {
+    match fetch_operand(Size::Word, ea, stream, plain, port) {
         Ok(operand) => {
             plain.ccr = (operand.value % 32) as u8;
             Ok(())
@@ -42,24 +41,23 @@ pub fn move_to_ccr<P: Port>(
 #[tactic(auto, unfolding(mb_meaning::specs::Moves::move_from_ccr_of))]
 pub fn move_from_ccr<P: Port>(
     ea: &Ea,
-    word_at: u32,
-    space: Space,
+    stream: Stream,
     plain: &mut Plain,
     port: &mut P,
     ended: &mut Ended,
 ) -> Result<(), Undone>
     requires operand { IsEa Size.Word ea.now }
     requires destination { IsDestination ea.now }
-    ensures means { run P.bus (move_from_ccr_of ea.now word_at space plain.old) (P.world port.old)
+    ensures means { run P.bus (move_from_ccr_of ea.now stream.at stream.space plain.old) (P.world port.old)
         ≡ (carried_by result ended.new plain.new, P.world port.new) }
     ensures rest { P.rest port.new ≡ P.rest port.old }
 {
     let codes = u32::from(plain.ccr % 32);
-    let target = match resolve(ea, Size::Word, plain, word_at, space, port) {
+    let target = match resolve(ea, Size::Word, plain, stream.at, stream.space, port) {
         Ok(target) => target,
         Err(refused) => return Err(unread(&refused, ended)),
     };
-    finish_with(target, Size::Word, codes, space, plain, port, ended)
+    finish_with(target, Size::Word, codes, stream.space, plain, port, ended)
 }
 
 /// A byte of ones, or of zeros.
@@ -76,22 +74,21 @@ fn condition_byte(met: bool) -> u32
 pub fn scc<P: Port>(
     condition: Condition,
     ea: &Ea,
-    word_at: u32,
-    space: Space,
+    stream: Stream,
     plain: &mut Plain,
     port: &mut P,
     ended: &mut Ended,
 ) -> Result<(), Undone>
     requires operand { IsEa Size.Byte ea.now }
     requires destination { IsDestination ea.now }
-    ensures means { run P.bus (scc_of condition ea.now word_at space plain.old) (P.world port.old)
+    ensures means { run P.bus (scc_of condition ea.now stream.at stream.space plain.old) (P.world port.old)
         ≡ (carried_by result ended.new plain.new, P.world port.new) }
     ensures rest { P.rest port.new ≡ P.rest port.old }
 {
     let byte = condition_byte(is_met(condition, plain.ccr));
-    let target = match resolve(ea, Size::Byte, plain, word_at, space, port) {
+    let target = match resolve(ea, Size::Byte, plain, stream.at, stream.space, port) {
         Ok(target) => target,
         Err(refused) => return Err(unread(&refused, ended)),
     };
-    finish_with(target, Size::Byte, byte, space, plain, port, ended)
+    finish_with(target, Size::Byte, byte, stream.space, plain, port, ended)
 }

@@ -11,7 +11,7 @@ ghost use Rattle.mb_ops_move.specs.Transfers.{ending};
 
 use crate::transfers::transfer_at_once;
 use mb_instr::{Ea, Plain, Size};
-use mb_operands::{Undone, find_address, left_undone, unread};
+use mb_operands::{Stream, Undone, find_address, left_undone, unread};
 use mb_port::{Port, Space};
 use mb_writes::{Ended, Movem, MovemMode, transfer};
 
@@ -67,19 +67,18 @@ pub fn movem<P: Port>(
     size: Size,
     ea: &Ea,
     mask: u16,
-    word_at: u32,
-    space: Space,
+    stream: Stream,
     plain: &mut Plain,
     port: &mut P,
     ended: &mut Ended,
 ) -> Result<(), Undone>
     requires operand { IsEa size ea.now }
     requires place { IsInMemory ea.now }
-    ensures means { run P.bus (movem_of is_load size ea.now mask word_at space plain.old) (P.world port.old)
+    ensures means { run P.bus (movem_of is_load size ea.now mask stream.at stream.space plain.old) (P.world port.old)
         ≡ (carried_by result ended.new plain.new, P.world port.new) }
     ensures rest { P.rest port.new ≡ P.rest port.old }
 {
-    let place = match find_address(size, ea, word_at, space, plain, port) {
+    let place = match find_address(size, ea, stream, plain, port) {
         Ok(place) => place,
         Err(refused) => return Err(unread(&refused, ended)),
     };
@@ -89,8 +88,8 @@ pub fn movem<P: Port>(
         mode: mode(size, ea),
         mask,
     };
-    match transfer_at_once(&movem, place, space, plain, port) {
+    match transfer_at_once(&movem, place, stream.space, plain, port) {
         None => Ok(()),
-        Some(done) => transfer_slowly(&movem, place, done, space, plain, port, ended),
+        Some(done) => transfer_slowly(&movem, place, done, stream.space, plain, port, ended),
     }
 }

@@ -9,8 +9,8 @@ ghost use Rattle.mb_operands.specs.Endings.{carried_by};
 use mb_alu::{LogicKind, extend, logic};
 use mb_ea::resolve;
 use mb_instr::{Ea, Plain, Size};
-use mb_operands::{Undone, behind, fetch_operand, find_address, finish_with, unread};
-use mb_port::{Port, Space};
+use mb_operands::{Stream, Undone, behind, fetch_operand, find_address, finish_with, unread};
+use mb_port::Port;
 use mb_writes::Ended;
 
 /// MOVEQ: the byte, sign-extended.
@@ -32,8 +32,7 @@ pub fn move_operand<P: Port>(
     size: Size,
     destination: &Ea,
     from: &Ea,
-    word_at: u32,
-    space: Space,
+    stream: Stream,
     plain: &mut Plain,
     port: &mut P,
     ended: &mut Ended,
@@ -41,21 +40,21 @@ pub fn move_operand<P: Port>(
     requires target { IsEa size destination.now }
     requires destination { IsDestination destination.now }
     requires source { IsEa size from.now }
-    ensures means { run P.bus (move_operand_of size destination.now from.now word_at space plain.old) (P.world port.old)
-        ≡ (carried_by result ended.new plain.new, P.world port.new) }
+    ensures means { run P.bus (move_operand_of size destination.now from.now stream.at stream.space plain.old)
+        (P.world port.old) ≡ (carried_by result ended.new plain.new, P.world port.new) }
     ensures rest { P.rest port.new ≡ P.rest port.old }
 {
-    let source = match fetch_operand(size, from, word_at, space, plain, port) {
+    let source = match fetch_operand(size, from, stream, plain, port) {
         Ok(source) => source,
         Err(refused) => return Err(unread(&refused, ended)),
     };
-    let target_word_at = behind(size, from, word_at);
-    let target = match resolve(destination, size, plain, target_word_at, space, port) {
+    let target_word_at = behind(size, from, stream.at);
+    let target = match resolve(destination, size, plain, target_word_at, stream.space, port) {
         Ok(target) => target,
         Err(refused) => return Err(unread(&refused, ended)),
     };
     plain.ccr = logic(LogicKind::Pass, size, source.value, 0, plain.ccr).ccr;
-    finish_with(target, size, source.value, space, plain, port, ended)
+    finish_with(target, size, source.value, stream.space, plain, port, ended)
 }
 
 /// MOVEA: the source, read at its size, goes to the whole register with its sign.
@@ -65,19 +64,18 @@ pub fn movea<P: Port>(
     size: Size,
     register: u8,
     from: &Ea,
-    word_at: u32,
-    space: Space,
+    stream: Stream,
     plain: &mut Plain,
     port: &mut P,
     ended: &mut Ended,
 ) -> Result<(), Undone>
     requires source { IsEa size from.now }
     requires register { register < 8 }
-    ensures means { run P.bus (movea_of size register from.now word_at space plain.old) (P.world port.old)
+    ensures means { run P.bus (movea_of size register from.now stream.at stream.space plain.old) (P.world port.old)
         ≡ (carried_by result ended.new plain.new, P.world port.new) }
     ensures rest { P.rest port.new ≡ P.rest port.old }
 {
-    match fetch_operand(size, from, word_at, space, plain, port) {
+    match fetch_operand(size, from, stream, plain, port) {
         Ok(source) => {
             plain.a[register as usize] = size.sign_extend(source.value);
             Ok(())
@@ -92,8 +90,7 @@ pub fn movea<P: Port>(
 pub fn lea<P: Port>(
     register: u8,
     ea: &Ea,
-    word_at: u32,
-    space: Space,
+    stream: Stream,
     plain: &mut Plain,
     port: &mut P,
     ended: &mut Ended,
@@ -101,11 +98,11 @@ pub fn lea<P: Port>(
     requires operand { IsEa Size.Long ea.now }
     requires place { IsInMemory ea.now }
     requires register { register < 8 }
-    ensures means { run P.bus (lea_of register ea.now word_at space plain.old) (P.world port.old)
+    ensures means { run P.bus (lea_of register ea.now stream.at stream.space plain.old) (P.world port.old)
         ≡ (carried_by result ended.new plain.new, P.world port.new) }
     ensures rest { P.rest port.new ≡ P.rest port.old }
 {
-    match find_address(Size::Long, ea, word_at, space, plain, port) {
+    match find_address(Size::Long, ea, stream, plain, port) {
         Ok(place) => {
             plain.a[register as usize] = place;
             Ok(())

@@ -7,7 +7,7 @@ ghost use Rattle.mb_meaning.specs.Stack.{pea_of, link_of, unlk_of};
 ghost use Rattle.mb_operands.specs.Endings.{carried_by};
 
 use mb_instr::{Ea, Plain, Size};
-use mb_operands::{Undone, find_address, push, read_memory, unread};
+use mb_operands::{Stream, Undone, find_address, push, read_memory, unread};
 use mb_port::{Port, Space};
 use mb_writes::Ended;
 
@@ -16,24 +16,23 @@ use mb_writes::Ended;
 #[tactic(auto, unfolding(mb_meaning::specs::Stack::pea_of))]
 pub fn pea<P: Port>(
     ea: &Ea,
-    word_at: u32,
-    space: Space,
+    stream: Stream,
     plain: &mut Plain,
     port: &mut P,
     ended: &mut Ended,
 ) -> Result<(), Undone>
     requires operand { IsEa Size.Long ea.now }
     requires place { IsInMemory ea.now }
-    ensures means { run P.bus (pea_of ea.now word_at space plain.old) (P.world port.old)
+    ensures means { run P.bus (pea_of ea.now stream.at stream.space plain.old) (P.world port.old)
         ≡ (carried_by result ended.new plain.new, P.world port.new) }
     ensures rest { P.rest port.new ≡ P.rest port.old }
 {
-    let place = match find_address(Size::Long, ea, word_at, space, plain, port) {
+    let place = match find_address(Size::Long, ea, stream, plain, port) {
         Ok(place) => place,
         Err(refused) => return Err(unread(&refused, ended)),
     };
     plain.a[7] = plain.a[7].wrapping_sub(4);
-    push(place, plain.a[7], space, plain, port, ended)
+    push(place, plain.a[7], stream.space, plain, port, ended)
 }
 
 /// LINK: the register is pushed, A7 itself with its new value, and becomes A7, which then moves by the displacement.

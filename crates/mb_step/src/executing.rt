@@ -17,7 +17,7 @@ use crate::raising::{is_due, refuse, trace_if};
 use crate::returning::rte;
 use mb_instr::{Instr, Plain, System};
 use mb_model::Cpu;
-use mb_operands::Undone;
+use mb_operands::{Stream, Undone};
 use mb_port::Port;
 use mb_processor::Finish;
 use mb_system::perform_system;
@@ -127,10 +127,13 @@ fn execute_unprivileged<P: Port>(
     processor.before = processor.plain;
     let at = processor.plain.pc;
     processor.plain.pc = at.wrapping_add(2 * u32::from(length));
+    let stream = Stream {
+        at,
+        space: processor.cpu.space(),
+    };
     let done = perform_in_place(
         instruction,
-        at,
-        processor.cpu.space(),
+        stream,
         &mut processor.plain,
         port,
         &mut processor.ended,

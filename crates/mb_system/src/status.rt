@@ -13,7 +13,7 @@ use mb_alu::{LogicKind, logic};
 use mb_ea::resolve;
 use mb_instr::{Ea, Size};
 use mb_model::{Cpu, kept_status};
-use mb_operands::fetch_operand;
+use mb_operands::{Stream, fetch_operand};
 use mb_port::{Port, Space};
 use mb_writes::Ended;
 
@@ -54,7 +54,11 @@ pub(crate) fn move_to_status<P: Port>(
     ensures rest { P.rest port.new ≡ P.rest port.old }
 {
     let mut plain = cpu.regs.plain();
-    match fetch_operand(Size::Word, ea, word_at, Space::Super, &mut plain, port) {
+    let stream = Stream {
+        at: word_at,
+        space: Space::Super,
+    };
+    match fetch_operand(Size::Word, ea, stream, &mut plain, port) {
         Ok(operand) => {
             cpu.regs.set_plain(&plain);
             set_status(operand.value, cpu);
