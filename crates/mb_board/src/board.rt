@@ -242,7 +242,7 @@ impl Board {
     pub fn step(&mut self, script: &Script) -> StepEnd
         requires room { self.old.steps + 1 < 2 ^ 32 }
         requires takes_steps { takes_steps self.old.state ≡ true }
-        ensures ended { result ≡ step_end (stepping rule_a script.now (machine_in self.old)).0 }
+        ensures ended { let (finish, _) = stepping rule_a script.now (machine_in self.old) in result ≡ step_end finish }
         ensures after { machine_in self.new ≡ stepped rule_a script.now (machine_in self.old) }
         ensures before { self.new.before ≡ self.old.before }
         ensures ram { length self.new.world.ram ≡ length self.old.world.ram }

@@ -15,7 +15,7 @@ use std::alloc::Global;
 #[tactic(auto, using(mb_walk::proofs::MemoryLemmas::writes))]
 fn put_chunk(ram: &mut [u8], chunk: &Chunk)
     requires lies { LiesBelow (length ram.old) (content_of chunk.now) }
-    ensures after { ram.new ≡ overwritten ram.old (content_of chunk.now).0 (content_of chunk.now).1 }
+    ensures after { let (at, bytes) = content_of chunk.now in ram.new ≡ overwritten ram.old at bytes }
     ensures size { length ram.new ≡ length ram.old }
 {
     if !chunk.bytes().is_empty() {

@@ -26,13 +26,13 @@ impl Chunk {
 
     /// The address of the first byte.
     pub fn at(&self) -> u32
-        ensures { result ≡ (content_of self.now).0 }
+        ensures { let (at, _) = content_of self.now in result ≡ at }
     {
         self.at
     }
 
     pub fn bytes(&self) -> &[u8]
-        ensures { result.now ≡ (content_of self.now).1 }
+        ensures { let (_, bytes) = content_of self.now in result.now ≡ bytes }
     {
         &self.bytes
     }

@@ -82,8 +82,8 @@ impl SessionGuest {
 
     /// Its image and its script.
     pub fn into_parts(self) -> (Image, Script)
-        ensures image { contents_of result.0 ≡ self.image }
-        ensures script { result.1 ≡ self.script }
+        ensures image { let (image, _) = result in contents_of image ≡ self.image }
+        ensures script { let (_, script) = result in script ≡ self.script }
     {
         (self.image, self.script)
     }
