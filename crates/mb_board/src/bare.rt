@@ -117,6 +117,7 @@ impl Core {
         requires room { self.old.steps + limit < 2 ^ 32 }
         ensures within { result ≤ limit }
         ensures means { self.new ≡ run_of rule_a [] result self.old }
+        ensures state { self.new.state ≡ self.old.state }
         ensures counted { self.new.steps ≡ self.old.steps + result }
         ensures ram { length self.new.world.ram ≡ length self.old.world.ram }
     {
@@ -131,6 +132,7 @@ impl Core {
         requires { self.old.steps + limit < 2 ^ 32 }
         ensures within { result ≤ limit }
         ensures means { self.new ≡ run_of rule_a [] result self.old }
+        ensures state { self.new.state ≡ self.old.state }
         ensures counted { self.new.steps ≡ self.old.steps + result }
         ensures ram { length self.new.world.ram ≡ length self.old.world.ram }
     {
@@ -145,14 +147,18 @@ impl Core {
         ensures counted { takes_steps self.new.state ≡ true → self.new.steps ≡ self.old.steps + steps }
         ensures ram { length self.new.world.ram ≡ length self.old.world.ram }
     {
+        if !self.takes_steps() {
+            return;
+        }
         let mut left = steps;
         while left > 0 {
-            if !self.takes_steps() {
-                return;
-            }
             self.step_alone();
             left -= 1;
-            left -= self.idle_on(left);
+            match self.state {
+                RunState::Running => {}
+                RunState::Stopped => left -= self.idle_on(left),
+                RunState::Halted | RunState::Off => return,
+            }
         }
     }
 

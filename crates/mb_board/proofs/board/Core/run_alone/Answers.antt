@@ -1,16 +1,29 @@
-use Rattle.std.proofs.Common.{◌∙◌, ◌-◌, [], sym, ap, arith}
+use Rattle.std.proofs.Common.{rules, ◌≡◌, ◌∙◌, ◌-◌, [], false, sym, ap, arith}
 use Rattle.mb_model.specs.Keeping.{rule_a}
-use Rattle.mb_machine.specs.Machine.{Machine, run_of}
+use Rattle.mb_machine.specs.Machine.{Machine, run_of, takes_steps}
 use Rattle.mb_board.proofs.Runs.{run_of-split, run_of-step, run_of-still, run_of-zero, stepped-by}
 use Rattle.mb_board.proofs.board.Core.run_alone.Goals as goal
 
 pub returns-then-not-takes_steps-clause-means : goal.returns-then-not-takes_steps-clause-means
 returns-then-not-takes_steps-clause-means c =
-    sym (run_of-still rule_a [] c.loop-left.left c.loop-left.self (sym c.takes_steps.ensures ∙ c.if-not-takes_steps.true)) ∙ c.loop-left.invariant.run
+    sym (run_of-still rule_a [] c.args.steps c.args.self.now (sym c.takes_steps.ensures ∙ c.if-not-takes_steps.true))
+
+pub loop-left-preserved-in-Running : goal.loop-left-preserved-in-Running
+loop-left-preserved-in-Running c =
+    let after = stepped-by rule_a [] c.loop-left.self c.step_alone.result c.step_alone.new.self c.step_alone.ensures.means in
+    let left = c.loop-left.left - 1 in
+    let so_far = c.loop-left.invariant.counted in
+    let stepped = c.step_alone.ensures.counted in
+    record {
+      run = ap (λ (m : Machine). run_of rule_a [] left m) after
+          ∙ sym (run_of-step rule_a [] c.loop-left.left left c.loop-left.self (omega arith) c.loop-left.invariant.takes) ∙ c.loop-left.invariant.run;
+      takes = ap (λ (m : Machine). takes_steps m.state) (sym c.self.view_is) ∙ ap takes_steps c.in-Running.is;
+      counted = omega (arith, so_far, stepped);
+      ram = c.step_alone.ensures.ram ∙ c.loop-left.invariant.ram;
+    }
 
 pub loop-left-preserved : goal.loop-left-preserved
 loop-left-preserved c =
-    let going = sym c.takes_steps.ensures ∙ c.if-not-takes_steps.false in
     let after = stepped-by rule_a [] c.loop-left.self c.step_alone.result c.step_alone.new.self c.step_alone.ensures.means in
     let idle = c.idle_on-left.result in
     let left = c.loop-left.left - 1 in
@@ -21,10 +34,21 @@ loop-left-preserved c =
     record {
       run = ap (λ (m : Machine). run_of rule_a [] (left - idle) m) c.idle_on-left.ensures.means
           ∙ run_of-split rule_a [] idle (left - idle) left c.step_alone.new.self (omega arith) ∙ ap (λ (m : Machine). run_of rule_a [] left m) after
-          ∙ sym (run_of-step rule_a [] c.loop-left.left left c.loop-left.self (omega arith) going) ∙ c.loop-left.invariant.run;
+          ∙ sym (run_of-step rule_a [] c.loop-left.left left c.loop-left.self (omega arith) c.loop-left.invariant.takes) ∙ c.loop-left.invariant.run;
+      takes = ap takes_steps c.idle_on-left.ensures.state
+          ∙ ap (λ (m : Machine). takes_steps m.state) (sym c.self.view_is) ∙ ap takes_steps c.in-Stopped.is;
       counted = omega (arith, few, so_far, stepped, idled);
       ram = c.idle_on-left.ensures.ram ∙ c.step_alone.ensures.ram ∙ c.loop-left.invariant.ram;
     }
+
+pub returns-in-Halted-clause-means : goal.returns-in-Halted-clause-means
+returns-in-Halted-clause-means c =
+    let after = stepped-by rule_a [] c.loop-left.self c.step_alone.result c.step_alone.new.self c.step_alone.ensures.means in
+    let left = c.loop-left.left - 1 in
+    let still : takes_steps c.self.inside.state ≡ false = search rules in
+    sym (run_of-still rule_a [] left c.step_alone.new.self (ap (λ (m : Machine). takes_steps m.state) (sym c.self.view_is) ∙ still))
+    ∙ ap (λ (m : Machine). run_of rule_a [] left m) after
+    ∙ sym (run_of-step rule_a [] c.loop-left.left left c.loop-left.self (omega arith) c.loop-left.invariant.takes) ∙ c.loop-left.invariant.run
 
 pub returns-clause-means : goal.returns-clause-means
 returns-clause-means c =
