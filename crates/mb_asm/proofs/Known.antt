@@ -229,7 +229,6 @@ even_known at operation end known is =
 
 instruction_known : (scope : Scope) (operation : Operation) (end : Option ℕ) → is_some scope.at ≡ true
     → behind_instruction scope operation ≡ Ok end → is_some end ≡ true
-unfolding behind_instruction
 instruction_known scope operation end known is =
     let len = meant (length_by (bytes_at scope.line operation.name) operation.size (values_of scope operation.operands)) in
     let a = bound len (λ n. Ok (onward scope.at n)) end is in
@@ -292,7 +291,7 @@ admitted_named layout line label found a b x is =
 
 operation_known : (symbols : List Symbol) (layout : Layout) (line : List ℕ) (label : Option Name) (operation : Operation) (laid : Laid)
     → IsKnown layout → judged_operation symbols layout line label operation ≡ Ok laid → OperationKnown layout line operation
-unfolding judged_operation laid_to next_at label_value address_behind
+unfolding judged_operation laid_to next_at address_behind
 operation_known symbols layout line label operation laid known is =
     let found = directive_in line operation in
     let scope = scope_of symbols layout line found in
@@ -315,7 +314,6 @@ operation_known symbols layout line label operation laid known is =
     }
 
 added_known : (symbols : List Symbol) (symbol : Symbol) → All HasValue symbols → HasValue symbol → All HasValue (with_symbol symbols symbol)
-unfolding with_symbol
 added_known symbols symbol all one =
     elim (is_some (value_in symbols symbol.name)) as (λ b. All HasValue (if b then symbols else symbols ++ symbol ∷ [])) [
       | true ↦ all
@@ -330,7 +328,7 @@ labelled_known symbols line (Some name) value all one = added_known symbols (rec
 statement_known : (symbols : List Symbol) (layout : Layout) (line : List ℕ) (label : Option Name) (operation : Option Operation) (laid : Laid)
     → IsKnown layout → judged_statement symbols layout line (record { label = label; operation = operation }) ≡ Ok laid
     → IsKnown (after_statement layout line (Some (record { label = label; operation = operation })))
-unfolding next_at label_value
+unfolding next_at
 statement_known symbols layout line label None laid known is = record {
   at = known.at;
   symbols = labelled_known layout.symbols line label (option_map pos layout.at) known.symbols (mapped_known pos layout.at known.at);

@@ -51,7 +51,6 @@ nothing (Some x) e = absurd (true≢false e)
 pub added : {S : Type 0} (symbols after : HashMap (Bor (List ℕ)) SymbolValue S) (name : Bor (List ℕ)) (value : SymbolValue)
     → is_some (get same_name symbols name) ≡ false → after.entries ≡ insert_entry same_name symbols.entries name value
     → symbols_said after ≡ with_symbol (symbols_said symbols) (symbol_said (name, value))
-unfolding with_symbol
 added symbols after name value absent is =
     let none : get same_name symbols name ≡ None = nothing (get same_name symbols name) absent in
     let unknown : value_in (symbols_said symbols) name.now ≡ None = found symbols name ∙ ap number_in none in

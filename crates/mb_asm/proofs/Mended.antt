@@ -69,7 +69,6 @@ chosen_stays false c ss ts more others same s m = rw (← same) m
 
 label_stays : (ss ts : List Symbol) (line : List ℕ) (label : Option Name) (u v : Option ℤ) → SymbolsStay ss ts → Stays u v
     → SymbolsStay (with_label ss line label u) (with_label ts line label v)
-unfolding with_symbol
 label_stays ss ts line None u v s p = s
 label_stays ss ts line (Some name) u v s p =
     let bytes = bytes_at line name in
@@ -93,7 +92,7 @@ value_stays before after line operation (Some directive.Even) p = map_stays pos 
 statement_stays : (before after : Layout) (line : List ℕ) (label : Option Name) (operation : Option Operation) → LayoutStays before after
     → LayoutStays (after_statement before line (Some (record { label = label; operation = operation })))
     (after_statement after line (Some (record { label = label; operation = operation })))
-unfolding next_at label_value
+unfolding next_at
 statement_stays before after line label None p = record {
   at = p.at;
   symbols = label_stays before.symbols after.symbols line label (option_map pos before.at) (option_map pos after.at) p.symbols

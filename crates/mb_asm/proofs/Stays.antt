@@ -249,7 +249,6 @@ even_stays a b operation p =
 
 instruction_stays : (line : List ℕ) (ss ts : List Symbol) (a b : Option ℕ) (operation : Operation) → Stays a b
     → GivenStays (behind_instruction (scope_at ss line a) operation) (behind_instruction (scope_at ts line b) operation)
-unfolding behind_instruction
 instruction_stays line ss ts a b operation p =
     rw (length_by_same (value_or_one (scope_at ss line a)) (value_or_one (scope_at ts line b)) (bytes_at line operation.name) operation.size operation.operands)
     (front_stays (meant (length_by (bytes_at line operation.name) operation.size (values_of (scope_at ts line b) operation.operands)))
@@ -583,7 +582,6 @@ fills_known line ss ts a y s p = record {
 
 out_more : (line : List ℕ) (ss ts : List Symbol) (a b : Option ℕ) (operation : Operation) → SymbolsStay ss ts → Stays a b
     → has_out (scope_at ss line a) operation ≡ true → has_out (scope_at ts line b) operation ≡ true
-unfolding has_out
 out_more line ss ts a b operation s p h =
     let name = bytes_at line operation.name in
     let os = operation.operands in
@@ -597,7 +595,7 @@ out_faulty (Ok i) h = absurd cc
 
 out_known : (line : List ℕ) (ss ts : List Symbol) (a : Option ℕ) (y : ℕ) (operation : Operation) → SymbolsStay ss ts → Stays a (Some y)
     → has_out (scope_at ss line a) operation ≡ true → is_err (bytes_there (scope_at ts line (Some y)) operation y) ≡ true
-unfolding has_out bytes_there
+unfolding bytes_there
 out_known line ss ts a y operation s p h =
     let name = bytes_at line operation.name in
     let os = operation.operands in
@@ -666,7 +664,7 @@ allowed_stay (Err k) (Err l) false s = s
 
 instruction_bytes_stay : (line : List ℕ) (ss ts : List Symbol) (a b : Option ℕ) (operation : Operation) → SymbolsStay ss ts → Stays a b
     → BytesStay (instruction_bytes (scope_at ss line a) operation) (instruction_bytes (scope_at ts line b) operation)
-unfolding instruction_bytes known_address
+unfolding instruction_bytes
 instruction_bytes_stay line ss ts a b operation s p =
     let t = has_flaw flaw.Unknown (scope_at ss line a) in
     let u = has_flaw flaw.Unknown (scope_at ts line b) in

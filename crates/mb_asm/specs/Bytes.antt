@@ -74,7 +74,7 @@ abbrev pub instr_bytes : Instr → List ℕ
 instr_bytes i = flat_map (big_bytes 2) (words_of (row i))
 
 -- the address of an instruction, where all that its numbers rest on is known
-unfoldable pub known_address : Scope → Operation → Option ℕ
+abbrev pub known_address : Scope → Operation → Option ℕ
 known_address scope operation = if have_flaw flaw.Unknown scope operation.operands then None else scope.at
 
 -- an instruction at the address
@@ -90,7 +90,7 @@ is_out (Err fault.Range) = true
 is_out _ = false
 
 -- a number of an operation that is known is out of its range, whatever those are that are not
-unfoldable pub has_out : Scope → Operation → Bool
+abbrev pub has_out : Scope → Operation → Bool
 has_out scope operation =
     is_out (meaning (bytes_at scope.line operation.name) operation.size (map (filled scope) operation.operands)
     (unwrap_or scope.at 0 % 2 ^ 32))

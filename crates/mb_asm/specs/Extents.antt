@@ -125,7 +125,7 @@ behind_even at operation = do
 
 -- Instructions
 
-unfoldable pub behind_instruction : Scope → Operation → Result (Option ℕ) AsmKind
+abbrev pub behind_instruction : Scope → Operation → Result (Option ℕ) AsmKind
 behind_instruction scope operation = do
   len ← meant (length_by (bytes_at scope.line operation.name) operation.size (values_of scope operation.operands))
   Ok (onward scope.at len)

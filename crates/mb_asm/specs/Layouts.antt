@@ -38,7 +38,7 @@ abbrev pub operation_value : Layout → List ℕ → Operation → Option Direct
 operation_value layout line operation (Some directive.Equ) = if_known (equ_value (earlier layout line) operation)
 operation_value layout line operation _ = option_map pos layout.at
 
-unfoldable pub label_value : Layout → List ℕ → Option Operation → Option ℤ
+abbrev pub label_value : Layout → List ℕ → Option Operation → Option ℤ
 label_value layout line None = option_map pos layout.at
 label_value layout line (Some operation) = operation_value layout line operation (directive_in line operation)
 
@@ -56,7 +56,7 @@ abbrev pub front_of : List ℕ → List ℕ
 front_of line = take (unwrap_or (position is_blank line) (length line)) line
 
 -- the label that can be read in a line whose statement is wrong: what stands before its first blank is one
-unfoldable pub label_in : List ℕ → Option Name
+abbrev pub label_in : List ℕ → Option Name
 label_in line = option_and_then (λ (statement : Statement). statement.label) (statement_in (front_of line))
 
 abbrev pub after_statement : Layout → List ℕ → Option Statement → Layout

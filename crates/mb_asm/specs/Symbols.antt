@@ -14,5 +14,5 @@ value_in [] name = None
 value_in (symbol ∷ symbols) name = if bytes_eq name symbol.name then Some symbol.value else value_in symbols name
 
 -- The first symbol of a name counts.
-unfoldable pub with_symbol : List Symbol → Symbol → List Symbol
+abbrev pub with_symbol : List Symbol → Symbol → List Symbol
 with_symbol symbols symbol = if is_some (value_in symbols symbol.name) then symbols else symbols ++ symbol ∷ []

@@ -221,7 +221,6 @@ fn behind_even(at: Option<u64>, operation: &Operation) -> Result<Option<u64>, As
     Ok(even_from(at))
 }
 
-#[tactic(auto, unfolding(crate::specs::Extents::behind_instruction))]
 fn behind_instruction(
     alloc: Global,
     scope: &Scope,

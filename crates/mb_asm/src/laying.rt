@@ -69,7 +69,6 @@ fn equ_label(layout: &Layout, line: &[u8], operation: &Operation) -> SymbolValue
 }
 
 /// The value of a label.
-#[tactic(auto, unfolding(crate::specs::Layouts::label_value))]
 fn label_value(layout: &Layout, line: &[u8], operation: &Option<Operation>) -> SymbolValue
     ensures { result.number
         ≡ label_value (layout_said layout.now) line.now (option_map operation_said operation.now) }
@@ -123,7 +122,6 @@ fn front_of(line: &[u8]) -> &[u8]
 }
 
 /// The label that can be read in a line whose statement is wrong.
-#[tactic(auto, unfolding(crate::specs::Layouts::label_in))]
 fn label_in(alloc: Global, line: &[u8]) -> Result<Option<Name>, AllocError>
     requires { length line.now < 2 ^ 31 }
     ensures { IfOk result (λ label. label ≡ label_in line.now) }

@@ -22,7 +22,7 @@ pub(crate) fn value_in(symbols: &Symbols, name: &[u8]) -> Option<Option<i64>>
 }
 
 /// Adds a symbol, unless there is one of the name.
-#[tactic(auto, using(crate::proofs::Lookups::found), unfolding(crate::specs::Symbols::with_symbol))]
+#[tactic(auto, using(crate::proofs::Lookups::found))]
 pub(crate) fn add_symbol<'t>(
     symbols: &mut Symbols<'t>,
     name: &'t [u8],

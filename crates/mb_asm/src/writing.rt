@@ -162,7 +162,6 @@ fn instr_bytes(alloc: Global, instruction: &Instr) -> Result<Vec<u8>, AllocError
 }
 
 /// The address of an instruction, where all that its numbers rest on is known.
-#[tactic(auto, unfolding(crate::specs::Bytes::known_address))]
 fn known_address(scope: &Scope, operation: &Operation) -> Option<u64>
     ensures { result ≡ known_address (scope_said scope.now) (operation_said operation.now) }
 {
@@ -200,7 +199,6 @@ fn is_out(meaning: &Result<Instr, MeansFault>) -> bool
 }
 
 /// Whether a number of an operation that is known is out of its range, whatever those are that are not.
-#[tactic(auto, unfolding(crate::specs::Bytes::has_out))]
 fn has_out(alloc: Global, scope: &Scope, operation: &Operation) -> Result<bool, AllocError>
     ensures { IfOk result (λ out. out ≡ has_out (scope_said scope.now) (operation_said operation.now)) }
 {

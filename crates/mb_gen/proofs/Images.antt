@@ -35,7 +35,6 @@ image_made taken chunks a b c x y z e fa fb fc ex ey ez =
 -- ---- sizes
 
 length-program : (taken : List ℕ) → length (words_of (program taken)) ≤ 2 * length taken + 15
-unfolding program
 length-program taken =
     omega (
       arith,
@@ -58,7 +57,6 @@ image-lies taken few =
     (All-cons P code (counter ∷ []) (λ some. program-lies taken few) (All-cons P counter [] (λ some. lit≤ tt) (All-nil P)))
 
 guest-is : (taken : List ℕ) → length taken ≤ 2000 → IsGuest (guest_of taken)
-unfolding guest_of
 guest-is taken few = record { ram = (lit≤ tt, lit≤ tt, refl); image = image-lies taken few }
 
 -- ---- guests
@@ -79,7 +77,7 @@ share : GuestAtStart → ℕ
 share guest = guest.ram + AREA_BYTES
 
 share-of : (taken : List ℕ) → share (guest_of taken) ≡ 131072
-unfolding guest_of share
+unfolding share
 share-of taken = refl
 
 shares : (n : ℕ) (g : Generator) → sum_by share (guests_from n g) ≡ 131072 * n

@@ -17,17 +17,14 @@ stepped_alike : (increment state : ℕ) → (state * multiplier % 2 ^ 64 + incre
 stepped_alike increment state = mod-add-mod (state * multiplier) (2 ^ 64) increment
 
 pub next_alike : (g : Lcg) → generator_seen (kit.next 64 multiplier_64 g) ≡ next (generator_seen g)
-unfolding next
 next_alike g = ap (λ (s : ℕ). let made : Generator = record { state = s; increment = g.increment } in made) (stepped_alike g.increment g.state)
 
 pub drawn_alike : (g : Lcg) → (pcg32 g).0 ≡ draw_at (generator_seen g).state
-unfolding draw_at
 drawn_alike g = refl
 
 -- ---- seeds
 
 step_alike : (state : ℕ) → pcg32_step state ≡ (draw_at (stepped seeding_increment state), stepped seeding_increment state)
-unfolding draw_at
 step_alike state = ap (λ (n : ℕ). (output_xsh_rr n, n)) (stepped_alike seeding_increment state)
 
 -- the bytes of the first n words, the lowest of each first
@@ -50,7 +47,6 @@ folded_lt x by lt =
 
 -- a draw has 32 bits
 pub draw_lt : (state : ℕ) → draw_at state < 2 ^ 32
-unfolding draw_at
 draw_lt state = folded_lt (bit_xor (state / 2 ^ 18) state / 2 ^ 27 % 2 ^ 32) (state / 2 ^ 59) (omega arith)
 
 read_again : (n : ℕ) → n < 2 ^ 32 → u32_at (to_le_bytes w32 n) 0 ≡ n
@@ -83,7 +79,6 @@ begun_of s i t j e f =
     ∙ ap (λ (n : ℕ). begun t (bit_or n 1)) f
 
 pub seeded_alike : (seed : ℕ) → generator_seen (pcg32_of_seed (pcg32_seed 16 seed)) ≡ seeded seed
-unfolding seeded
 seeded_alike seed =
     let lt = λ (n : ℕ). draw_lt (expanded n seed) in
     let words = seed_alike seed in

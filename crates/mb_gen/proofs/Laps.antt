@@ -38,7 +38,6 @@ one_more i draw g h before bytes all lt drawn moved added so_far =
 
 -- no draws are left, and the end of the lap is added
 pub lap_done : (taken : List ℕ) → picks taken ++ bytes_of send.words ++ bytes_of count_down.words ≡ bytes_of (words_of (lap taken))
-unfolding lap
 lap_done taken =
     let tail = send ∷ count_down ∷ [] in
     append_assoc (picks taken) (bytes_of send.words) (bytes_of count_down.words)
@@ -74,7 +73,6 @@ length-picks (draw ∷ taken) =
     omega (arith, length-append (picked draw).words (words_of (map picked taken)), few-picked draw, length-picks taken)
 
 pub length-lap : (taken : List ℕ) → length (words_of (lap taken)) ≤ 2 * length taken + 5
-unfolding lap
 length-lap taken =
     omega (
       arith,

@@ -19,7 +19,6 @@ way_back-le taken few = omega (arith, length-lap taken)
 
 pub whole : (taken : List ℕ) → bytes_of (words_of (program taken))
     ≡ bytes_of enter.words ++ (lap_bytes taken ++ (bytes_of (repeat (way_back taken)).words ++ bytes_of switch_off.words))
-unfolding program
 whole taken =
     let rest = repeat (way_back taken) ∷ switch_off ∷ [] in
     ap (λ (t : List ℕ). bytes_of enter.words ++ t)

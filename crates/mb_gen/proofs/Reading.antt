@@ -25,13 +25,11 @@ two : (a b : Spelled) → IsRead a → IsRead b → All IsRead (a ∷ b ∷ [])
 two a b ha hb = All-cons IsRead a (b ∷ []) ha (All-cons IsRead b [] hb (All-nil IsRead))
 
 lap-read : (draws : List ℕ) → All (λ draw. draw < 2 ^ 32) draws → All IsRead (lap draws)
-unfolding lap
 lap-read draws h =
     All-append IsRead (map picked draws) (send ∷ count_down ∷ []) (picked-read draws h)
     (two send count_down (spelled-read send send-spelled) (spelled-read count_down count_down-spelled))
 
 program-read : (draws : List ℕ) → All (λ draw. draw < 2 ^ 32) draws → length draws ≤ 2000 → All IsRead (program draws)
-unfolding program
 program-read draws h few =
     let back = way_back draws in
     let some : 0 < back = omega arith in
@@ -45,7 +43,6 @@ length-picked [] = refl
 length-picked (draw ∷ draws) = ap suc (length-picked draws)
 
 program-length : (draws : List ℕ) → length (program draws) ≡ length draws + 5
-unfolding program lap
 program-length draws =
     omega (
       arith,

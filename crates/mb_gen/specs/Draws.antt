@@ -13,11 +13,11 @@ multiplier = 6364136223846793005
 abbrev pub stepped : ℕ → ℕ → ℕ
 stepped increment state = (state * multiplier + increment) % 2 ^ 64
 
-unfoldable pub next : Generator → Generator
+abbrev pub next : Generator → Generator
 next generator = record generator { state = stepped generator.increment generator.state }
 
 -- The draw at a state: 32 bits of it with higher ones folded over them, rotated by the number in the highest five.
-unfoldable pub draw_at : ℕ → ℕ
+abbrev pub draw_at : ℕ → ℕ
 draw_at state = rotate_right w32 (bit_xor (state / 2 ^ 18) state / 2 ^ 27 % 2 ^ 32) (state / 2 ^ 59)
 
 -- so many draws, in order
@@ -52,5 +52,5 @@ abbrev pub begun : ℕ → ℕ → Generator
 begun state increment = next (record { state = (state + increment) % 2 ^ 64; increment = increment })
 
 -- The first two words of a seed are a state, the next two an increment, which is made odd.
-unfoldable pub seeded : ℕ → Generator
+abbrev pub seeded : ℕ → Generator
 seeded seed = begun (long_of (word 1 seed) (word 2 seed)) (bit_or (long_of (word 3 seed) (word 4 seed)) 1)

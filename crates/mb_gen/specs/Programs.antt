@@ -15,14 +15,14 @@ abbrev pub longs_of : List ℕ → List ℕ
 longs_of longs = flat_map (big_bytes 4) longs
 
 -- a lap: what is picked, and then a byte is sent and a long in memory counted down; the branch back comes behind it
-unfoldable pub lap : List ℕ → List Spelled
+abbrev pub lap : List ℕ → List Spelled
 lap draws = map picked draws ++ send ∷ count_down ∷ []
 
 -- from the displacement of the branch, the second word behind a lap, back to the lap's first word
 abbrev pub way_back : List ℕ → ℕ
 way_back draws = 2 * (length (words_of (lap draws)) + 1)
 
-unfoldable pub program : List ℕ → List Spelled
+abbrev pub program : List ℕ → List Spelled
 program draws = enter ∷ lap draws ++ repeat (way_back draws) ∷ switch_off ∷ []
 
 -- the initial stack pointer and the first instruction's address, the program, and how many laps there are

@@ -9,7 +9,7 @@ use Rattle.mb_gen.specs.Programs.{image}
 use Rattle.mb_gen.specs.declared.program.TheConstants.{PICKS}
 
 -- a guest of 64 KiB with more steps than its program takes, at whose terminal nothing arrives
-unfoldable pub guest_of : List ℕ → GuestAtStart
+abbrev pub guest_of : List ℕ → GuestAtStart
 guest_of taken = record { image = image taken; script = []; ram = RAM; steps = STEPS }
 
 -- so many guests, each with the next 2,000 draws

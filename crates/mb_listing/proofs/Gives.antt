@@ -1,5 +1,5 @@
 -- Each listed text gives its words.
-use Rattle.std.proofs.Common.{◌≡◌, ◌∙◌, ℕ, suc, zero, ◌+◌, ◌*◌, ◌<◌, ◌≤◌, ◌^◌, List, [], ◌∷◌, length, ap, sym, refl}
+use Rattle.std.proofs.Common.{◌≡◌, ◌∙◌, ℕ, suc, zero, ◌+◌, ◌*◌, ◌<◌, ◌≤◌, ◌^◌, List, [], ◌∷◌, length, ap, refl}
 use Rattle.std.proofs.Common.{take, drop, arith, length-drop}
 use Rattle.std.specs.Prelude.{◌==◌, ◌&&◌, Bool, true, false, if◌then◌else◌, slice_index, Result, Ok, Err, All}
 use Rattle.std.specs.Str.{bytes_eq}
@@ -41,7 +41,6 @@ image at bytes (Err fault) e = absurd (cc)
 -- a text that gives words
 given : (at : ℕ) (words text : List ℕ) → gives at words text ≡ true
     → GivesItsWords (record { at = at; words = words; text = text })
-unfolding gives
 given at words text e = image at (bytes_of words) (assembled (source_at at text)) e
 
 -- ---- what is so of each text that gives its words, and of one word as a number, is so of each line
@@ -55,7 +54,6 @@ module _ (P : Line → Type 0) (at first : ℕ)
   by_test words text false e = number
 
   by_statement : (words text : List ℕ) → P (line_by at first words text)
-  unfolding line_by
   by_statement words text = by_test words text (gives at words text) refl
 
   line_read_so : (words : List ℕ) (read : Decoded) → P (line_read at first words read)
@@ -65,7 +63,6 @@ module _ (P : Line → Type 0) (at first : ℕ)
 line_at_so : (P : Line → Type 0) (at : ℕ) (words : List ℕ)
     → ((these text : List ℕ) → gives at these text ≡ true → P (record { at = at; words = these; text = text }))
     → P (data_line at (slice_index words 0)) → P (line_at at words)
-unfolding line_at
 line_at_so P at words listed number =
     line_read_so P at (slice_index words 0) listed number words (decode_of words)
 

@@ -53,7 +53,6 @@ parts_of digits text = ap org_line
 -- the two lines of a text at an address
 pub source_lines : (at : ℕ) (text : List ℕ) → at < 2 ^ 32 → IsPlain text
     → numbered (source_at at text) ≡ numbered_line 1 (org_line (hex8 at)) ∷ numbered_line 2 (32 ∷ text) ∷ []
-unfolding source_at
 source_lines at text h plain =
     let digits = hex8 at in
     let line : List ℕ = 32 ∷ text in

@@ -19,7 +19,7 @@ abbrev pub bytes_of : List ℕ → List ℕ
 bytes_of words = flat_map (λ word. word / 256 ∷ word % 256 ∷ []) words
 
 -- the source of a text at an address: ` ORG $` and the address, and on the next line a blank and the text
-unfoldable pub source_at : ℕ → List ℕ → List ℕ
+abbrev pub source_at : ℕ → List ℕ → List ℕ
 source_at at text = codes " ORG $" ++ hex8 at ++ 10 ∷ 32 ∷ text ++ 10 ∷ []
 
 -- one chunk, at the address, of just these bytes
@@ -32,7 +32,7 @@ is_image_of at bytes (Ok contents) = is_one_chunk at bytes contents
 is_image_of at bytes (Err fault) = false
 
 -- Assembled at the address, the text gives just these words.
-unfoldable pub gives : ℕ → List ℕ → List ℕ → Bool
+abbrev pub gives : ℕ → List ℕ → List ℕ → Bool
 gives at words text = is_image_of at (bytes_of words) (assembled (source_at at text))
 
 -- ---- lines
@@ -48,7 +48,7 @@ abbrev pub data_line : ℕ → ℕ → Line
 data_line at word = record { at = at; words = word ∷ []; text = codes "DC.W " ++ number word }
 
 -- The text of the words' statement, where it gives just these words; else the first word alone.
-unfoldable pub line_by : ℕ → ℕ → List ℕ → List ℕ → Line
+abbrev pub line_by : ℕ → ℕ → List ℕ → List ℕ → Line
 line_by at first words text =
     if gives at words text then record { at = at; words = words; text = text } else data_line at first
 
@@ -57,11 +57,11 @@ line_read at first words (Whole i n) = line_by at first (take n words) (statemen
 line_read at first words _ = data_line at first
 
 -- The line at an address by the words that begin there, as far as memory has them; there is one at least.
-unfoldable pub line_at : ℕ → List ℕ → Line
+abbrev pub line_at : ℕ → List ℕ → Line
 line_at at words = line_read at (slice_index words 0) words (decode_of words)
 
 -- the address, the words in digits, and the text
-unfoldable pub line_text : Line → List ℕ
+abbrev pub line_text : Line → List ℕ
 line_text line = hex8 line.at ++ 32 ∷ digits (bytes_of line.words) ++ 32 ∷ line.text ++ 10 ∷ []
 
 -- ---- the listing

@@ -68,7 +68,6 @@ fn data_line(at: u32, words: &[u16]) -> Line<'_>
 }
 
 /// The line at an address by the words that begin there, as far as memory has them.
-#[tactic(auto, unfolding(crate::specs::Listing::line_at, crate::specs::Listing::line_by))]
 pub(crate) fn line_at(alloc: Global, at: u32, words: &[u16]) -> Result<Line<'_>, Memory>
     requires some { 0 < length words.now }
     requires few { length words.now ≤ MOST_WORDS }
@@ -93,7 +92,6 @@ pub(crate) fn line_at(alloc: Global, at: u32, words: &[u16]) -> Result<Line<'_>,
 }
 
 /// The address, the words in digits, and the text.
-#[tactic(auto, unfolding(crate::specs::Listing::line_text))]
 pub(crate) fn line_text(line: &Line) -> LineText
     requires few { length line.now.words.now ≤ MOST_WORDS }
     requires short { array_vec_len line.now.text ≤ 301 }

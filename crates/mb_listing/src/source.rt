@@ -32,7 +32,6 @@ pub(crate) fn bytes_of(words: &[u16]) -> Bytes
 }
 
 /// The source of a text at an address.
-#[tactic(auto, unfolding(crate::specs::Listing::source_at))]
 fn source_at(at: u32, text: &[u8]) -> LineText
     requires { length text.now ≤ 301 }
     ensures source { result.items ≡ source_at at text.now }
@@ -58,7 +57,6 @@ fn is_one_chunk(at: u32, bytes: &[u8], chunks: &[Chunk]) -> bool
 }
 
 /// Whether the text, assembled at the address, gives just these words.
-#[tactic(auto, unfolding(crate::specs::Listing::gives))]
 pub(crate) fn gives(alloc: Global, at: u32, words: &[u16], text: &[u8]) -> Result<bool, Memory>
     requires words { length words.now ≤ MOST_WORDS }
     requires text { length text.now ≤ 301 }

@@ -74,11 +74,11 @@ abbrev pub branch_conditions : List NameOf
 branch_conditions = called (codes "RA") condition.True ∷ called (codes "SR") condition.False ∷ tested
 
 -- the same text but for the case of its letters
-unfoldable pub same_letters : List ℕ → List ℕ → Bool
+abbrev pub same_letters : List ℕ → List ℕ → Bool
 same_letters a b = str_eq_ignore_ascii_case a b
 
 -- the endings of a line's name, in capital letters, each with the condition that it says
-unfoldable pub endings : Ending → List NameOf
+abbrev pub endings : Ending → List NameOf
 endings ending.Plain = called [] condition.True ∷ []
 endings ending.Condition = conditions
 endings ending.Branch = branch_conditions

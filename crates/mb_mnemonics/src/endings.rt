@@ -36,7 +36,6 @@ static BRANCHES: [NameOf; 16] = names![
 ];
 
 /// The endings of a line's name, each with the condition that it says.
-#[tactic(auto, unfolding(crate::specs::Lines::endings))]
 fn endings(ending: Ending) -> &'static [NameOf]
     ensures { map name_of result.now ≡ endings ending }
 {
@@ -48,7 +47,6 @@ fn endings(ending: Ending) -> &'static [NameOf]
 }
 
 /// Whether two texts are the same but for the case of their letters.
-#[tactic(auto, unfolding(crate::specs::Lines::same_letters))]
 fn same_letters(text: &[u8], other: &[u8]) -> bool
     ensures { result ≡ same_letters text.now other.now }
 {

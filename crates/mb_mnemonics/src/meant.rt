@@ -10,7 +10,6 @@ use crate::row::Row;
 use mb_instr::{Arith, Branch, Ea, Flow, Instr, Move, System, TrapOperand};
 
 /// `rnnn k000 0000 0000`.
-#[tactic(auto, unfolding(crate::specs::Words::bounds))]
 fn bounds(k: bool, names: &Named) -> u16
     ensures { result ≡ bounds k names.now }
 {
@@ -18,7 +17,6 @@ fn bounds(k: bool, names: &Named) -> u16
 }
 
 /// `0000 000u uu00 0ccc`.
-#[tactic(auto, unfolding(crate::specs::Words::swap))]
 fn swap(names: &Named) -> u16
     ensures { result ≡ swap names.now }
 {
@@ -26,7 +24,6 @@ fn swap(names: &Named) -> u16
 }
 
 /// `rnnn 000u uu00 0ccc`.
-#[tactic(auto, unfolding(crate::specs::Words::swap_pair))]
 fn swap_pair(names: &Named) -> u16
     ensures { result ≡ swap_pair names.now }
 {
@@ -36,7 +33,6 @@ fn swap_pair(names: &Named) -> u16
 }
 
 /// `0lll sw00 0000 0hhh`.
-#[tactic(auto, unfolding(crate::specs::Words::long_pair))]
 fn long_pair(is_signed: bool, is_wide: bool, names: &Named) -> u16
     ensures { result ≡ long_pair is_signed is_wide names.now }
 {
@@ -46,7 +42,6 @@ fn long_pair(is_signed: bool, is_wide: bool, names: &Named) -> u16
 }
 
 /// `rnnn` and the code of a control register.
-#[tactic(auto, unfolding(crate::specs::Words::control))]
 fn control(names: &Named, code: u16) -> u16
     ensures { result ≡ control names.now code }
 {
@@ -54,7 +49,6 @@ fn control(names: &Named, code: u16) -> u16
 }
 
 /// `0nnn Oooo ooWw wwww`.
-#[tactic(auto, unfolding(crate::specs::Words::field_word))]
 fn field_word(names: &Named, bits: u16) -> u16
     ensures { result ≡ field_word names.now bits }
 {
@@ -62,7 +56,6 @@ fn field_word(names: &Named, bits: u16) -> u16
 }
 
 /// A list of registers as it is spelled: before `-(An)` in the other order, with A7 first.
-#[tactic(auto, unfolding(crate::specs::Words::list_for))]
 fn list_for(ea: &Ea, list: u16) -> u16
     ensures { result ≡ list_for ea.now list }
 {

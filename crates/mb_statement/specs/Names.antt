@@ -33,27 +33,27 @@ tested_ending condition.GreaterThan = codes "GT"
 tested_ending condition.LessOrEqual = codes "LE"
 
 -- a branch always is BRA, and one never goes on as BSR
-unfoldable pub branch_name : Condition → List ℕ
+abbrev pub branch_name : Condition → List ℕ
 branch_name condition.True = codes "BRA"
 branch_name condition.False = codes "BSR"
 branch_name c = codes "B" ++ tested_ending c
 
-unfoldable pub set_name : Condition → List ℕ
+abbrev pub set_name : Condition → List ℕ
 set_name c = codes "S" ++ tested_ending c
 
-unfoldable pub loop_name : Condition → List ℕ
+abbrev pub loop_name : Condition → List ℕ
 loop_name c = codes "DB" ++ tested_ending c
 
-unfoldable pub trap_name : Condition → List ℕ
+abbrev pub trap_name : Condition → List ℕ
 trap_name c = codes "TRAP" ++ tested_ending c
 
-unfoldable pub bit_name : BitKind → List ℕ
+abbrev pub bit_name : BitKind → List ℕ
 bit_name bit.Test = codes "BTST"
 bit_name bit.Change = codes "BCHG"
 bit_name bit.Clear = codes "BCLR"
 bit_name bit.Set = codes "BSET"
 
-unfoldable pub shift_name : ShiftKind → Bool → List ℕ
+abbrev pub shift_name : ShiftKind → Bool → List ℕ
 shift_name shift.Arithmetic true = codes "ASL"
 shift_name shift.Arithmetic false = codes "ASR"
 shift_name shift.Logical true = codes "LSL"
@@ -63,7 +63,7 @@ shift_name shift.RotateExtended false = codes "ROXR"
 shift_name shift.Rotate true = codes "ROL"
 shift_name shift.Rotate false = codes "ROR"
 
-unfoldable pub field_name : FieldKind → List ℕ
+abbrev pub field_name : FieldKind → List ℕ
 field_name field.Test = codes "BFTST"
 field_name field.ExtractUnsigned = codes "BFEXTU"
 field_name field.Change = codes "BFCHG"
@@ -73,36 +73,36 @@ field_name field.FindFirst = codes "BFFFO"
 field_name field.Set = codes "BFSET"
 field_name field.Insert = codes "BFINS"
 
-unfoldable pub invalidate_name : CacheScope → List ℕ
+abbrev pub invalidate_name : CacheScope → List ℕ
 invalidate_name scope.Line = codes "CINVL"
 invalidate_name scope.Page = codes "CINVP"
 invalidate_name scope.All = codes "CINVA"
 
-unfoldable pub push_name : CacheScope → List ℕ
+abbrev pub push_name : CacheScope → List ℕ
 push_name scope.Line = codes "CPUSHL"
 push_name scope.Page = codes "CPUSHP"
 push_name scope.All = codes "CPUSHA"
 
-unfoldable pub flush_name : FlushKind → List ℕ
+abbrev pub flush_name : FlushKind → List ℕ
 flush_name flush.LocalPage = codes "PFLUSHN"
 flush_name flush.Page = codes "PFLUSH"
 flush_name flush.AllLocal = codes "PFLUSHAN"
 flush_name flush.All = codes "PFLUSHA"
 
 -- signed or not
-unfoldable pub product_name : Bool → List ℕ
+abbrev pub product_name : Bool → List ℕ
 product_name true = codes "MULS"
 product_name false = codes "MULU"
 
-unfoldable pub quotient_name : Bool → List ℕ
+abbrev pub quotient_name : Bool → List ℕ
 quotient_name true = codes "DIVS"
 quotient_name false = codes "DIVU"
 
 -- by a dividend of 32 bits, where the remainder has a register of its own
-unfoldable pub remainder_name : Bool → List ℕ
+abbrev pub remainder_name : Bool → List ℕ
 remainder_name true = codes "DIVSL"
 remainder_name false = codes "DIVUL"
 
-unfoldable pub test_name : Bool → List ℕ
+abbrev pub test_name : Bool → List ℕ
 test_name true = codes "PTESTR"
 test_name false = codes "PTESTW"

@@ -13,6 +13,6 @@ unfoldable pub number : ℕ → List ℕ
 number n = 36 ∷ last_digits 16 n
 
 -- the same, with `-` before the `$` of a negative number; negsuc n is -(n + 1)
-unfoldable pub signed : ℤ → List ℕ
+abbrev pub signed : ℤ → List ℕ
 signed (pos n) = number n
 signed (negsuc n) = 45 ∷ number (suc n)

@@ -147,7 +147,7 @@ unfoldable pub one_among : ℕ → ℕ → Operand ℤ
 one_among mask zero = operand.List mask
 one_among mask (suc n) = if mask == 2 ^ n then register n else one_among mask n
 
-unfoldable pub list : ℕ → Operand ℤ
+abbrev pub list : ℕ → Operand ℤ
 list mask = one_among mask 16
 
 -- bit 5 says that a register's number stands there
@@ -222,23 +222,23 @@ abbrev pub alone : List ℕ → ℕ → Size → Ea → Statement
 alone n at s ea = sized n s (sized_place at s ea ∷ [])
 
 -- `0lll sw00 0000 0hhh`
-unfoldable pub product : Operand ℤ → ℕ → Statement
+abbrev pub product : Operand ℤ → ℕ → Statement
 product ea w = let f = pair_word w in
     if f.is_wide then sized (product_name f.is_signed) size.Long (ea ∷ operand.Pair f.high f.low ∷ [])
     else sized (product_name f.is_signed) size.Long (ea ∷ data_operand f.low ∷ [])
 
-unfoldable pub quotient : Operand ℤ → ℕ → Statement
+abbrev pub quotient : Operand ℤ → ℕ → Statement
 quotient ea w = let f = pair_word w in
     if f.is_wide then sized (quotient_name f.is_signed) size.Long (ea ∷ operand.Pair f.high f.low ∷ [])
     else if f.low == f.high then sized (quotient_name f.is_signed) size.Long (ea ∷ data_operand f.high ∷ [])
     else sized (remainder_name f.is_signed) size.Long (ea ∷ operand.Pair f.high f.low ∷ [])
 
-unfoldable pub branching : ℕ → Condition → Branch → Statement
+abbrev pub branching : ℕ → Condition → Branch → Statement
 branching at c (branch.Byte d) = sized (branch_name c) size.Byte (target size.Byte at d ∷ [])
 branching at c (branch.Word d) = sized (branch_name c) size.Word (target size.Word at d ∷ [])
 branching at c (branch.Long d) = sized (branch_name c) size.Long (target size.Long at d ∷ [])
 
-unfoldable pub trapping : Condition → TrapOperand → Statement
+abbrev pub trapping : Condition → TrapOperand → Statement
 trapping c trap.Nothing = plain (trap_name c) []
 trapping c (trap.Word w) = sized (trap_name c) size.Word (count w ∷ [])
 trapping c (trap.Long l) = sized (trap_name c) size.Long (count l ∷ [])

@@ -42,7 +42,7 @@ numbered is_address n = letter_code is_address ∷ (48 + n % 8) ∷ []
 abbrev pub general : ℕ → List ℕ
 general n = numbered (not (nat_lt n 8)) n
 
-unfoldable pub control_text : ControlRegister → List ℕ
+abbrev pub control_text : ControlRegister → List ℕ
 control_text control.Sfc = codes "SFC"
 control_text control.Dfc = codes "DFC"
 control_text control.Cacr = codes "CACR"
@@ -59,7 +59,7 @@ control_text control.Vbr = codes "VBR"
 control_text control.Msp = codes "MSP"
 control_text control.Isp = codes "ISP"
 
-unfoldable pub caches_text : Caches → List ℕ
+abbrev pub caches_text : Caches → List ℕ
 caches_text caches.Neither = codes "NC"
 caches_text caches.Data = codes "DC"
 caches_text caches.Instruction = codes "IC"
@@ -86,7 +86,7 @@ scale_text scale.Eight = codes "*8"
 abbrev pub dropped_text : Bool → List ℕ
 dropped_text is_dropped = if is_dropped then codes "Z" else []
 
-unfoldable pub index_text : Index → List ℕ
+abbrev pub index_text : Index → List ℕ
 index_text i = dropped_text i.is_dropped ++ numbered i.is_address i.register ++ width_text i.width ++ scale_text i.scale
 
 abbrev pub base_text : Base → List ℕ
@@ -134,10 +134,10 @@ abbrev pub asks_full : FullForm ℤ → Bool
 asks_full f = not (is_direct f.indirection) || is_some f.displacement || is_dropped_base f.base
 
 -- an index that the form has anyway is left out, where something else asks for the full form
-unfoldable pub is_left_out : FullForm ℤ → Bool
+abbrev pub is_left_out : FullForm ℤ → Bool
 is_left_out f = is_no_index f.index && asks_full f
 
-unfoldable pub behind_base_text : FullForm ℤ → List ℕ
+abbrev pub behind_base_text : FullForm ℤ → List ℕ
 behind_base_text f = if is_left_out f then [] else codes "," ++ index_text f.index
 
 -- `(bd,An,Xn)`, `([bd,An,Xn],od)` or `([bd,An],Xn,od)`
@@ -175,7 +175,7 @@ abbrev pub field_number_text : FieldNumber ℤ → List ℕ
 field_number_text (field_number.Data n) = numbered false n
 field_number_text (field_number.Number e) = signed e
 
-unfoldable pub field_text : BitField ℤ → List ℕ
+abbrev pub field_text : BitField ℤ → List ℕ
 field_text f = codes "{" ++ field_number_text f.offset ++ codes ":" ++ field_number_text f.width ++ codes "}"
 
 -- register n stands in a list
@@ -201,7 +201,7 @@ unfoldable pub listed_below : ℕ → ℕ → List ℕ
 listed_below mask zero = []
 listed_below mask (suc n) = listed_below mask n ++ listed mask n
 
-unfoldable pub list_text : ℕ → List ℕ
+abbrev pub list_text : ℕ → List ℕ
 list_text mask = listed_below mask 16
 
 unfoldable pub operand_text : Operand ℤ → List ℕ

@@ -9,7 +9,6 @@ ghost use Rattle.mb_statement.specs.Names.{remainder_name, test_name};
 use mb_instr::{BitKind, CacheScope, Condition, FieldKind, FlushKind, ShiftKind};
 
 /// A branch always is BRA, and one never goes on as BSR.
-#[tactic(auto, unfolding(crate::specs::Names::branch_name))]
 pub(crate) fn branch_name(condition: Condition) -> &'static [u8]
     ensures name { result.now ≡ branch_name condition }
     ensures short { length result.now ≤ 8 }
@@ -34,7 +33,6 @@ pub(crate) fn branch_name(condition: Condition) -> &'static [u8]
     }
 }
 
-#[tactic(auto, unfolding(crate::specs::Names::set_name))]
 pub(crate) fn set_name(condition: Condition) -> &'static [u8]
     ensures name { result.now ≡ set_name condition }
     ensures short { length result.now ≤ 8 }
@@ -59,7 +57,6 @@ pub(crate) fn set_name(condition: Condition) -> &'static [u8]
     }
 }
 
-#[tactic(auto, unfolding(crate::specs::Names::loop_name))]
 pub(crate) fn loop_name(condition: Condition) -> &'static [u8]
     ensures name { result.now ≡ loop_name condition }
     ensures short { length result.now ≤ 8 }
@@ -84,7 +81,6 @@ pub(crate) fn loop_name(condition: Condition) -> &'static [u8]
     }
 }
 
-#[tactic(auto, unfolding(crate::specs::Names::trap_name))]
 pub(crate) fn trap_name(condition: Condition) -> &'static [u8]
     ensures name { result.now ≡ trap_name condition }
     ensures short { length result.now ≤ 8 }
@@ -109,7 +105,6 @@ pub(crate) fn trap_name(condition: Condition) -> &'static [u8]
     }
 }
 
-#[tactic(auto, unfolding(crate::specs::Names::bit_name))]
 pub(crate) fn bit_name(kind: BitKind) -> &'static [u8]
     ensures name { result.now ≡ bit_name kind }
     ensures short { length result.now ≤ 8 }
@@ -122,7 +117,6 @@ pub(crate) fn bit_name(kind: BitKind) -> &'static [u8]
     }
 }
 
-#[tactic(auto, unfolding(crate::specs::Names::shift_name))]
 pub(crate) fn shift_name(kind: ShiftKind, is_left: bool) -> &'static [u8]
     ensures name { result.now ≡ shift_name kind is_left }
     ensures short { length result.now ≤ 8 }
@@ -139,7 +133,6 @@ pub(crate) fn shift_name(kind: ShiftKind, is_left: bool) -> &'static [u8]
     }
 }
 
-#[tactic(auto, unfolding(crate::specs::Names::field_name))]
 pub(crate) fn field_name(kind: FieldKind) -> &'static [u8]
     ensures name { result.now ≡ field_name kind }
     ensures short { length result.now ≤ 8 }
@@ -156,7 +149,6 @@ pub(crate) fn field_name(kind: FieldKind) -> &'static [u8]
     }
 }
 
-#[tactic(auto, unfolding(crate::specs::Names::invalidate_name))]
 pub(crate) fn invalidate_name(scope: CacheScope) -> &'static [u8]
     ensures name { result.now ≡ invalidate_name scope }
     ensures short { length result.now ≤ 8 }
@@ -168,7 +160,6 @@ pub(crate) fn invalidate_name(scope: CacheScope) -> &'static [u8]
     }
 }
 
-#[tactic(auto, unfolding(crate::specs::Names::push_name))]
 pub(crate) fn push_name(scope: CacheScope) -> &'static [u8]
     ensures name { result.now ≡ push_name scope }
     ensures short { length result.now ≤ 8 }
@@ -180,7 +171,6 @@ pub(crate) fn push_name(scope: CacheScope) -> &'static [u8]
     }
 }
 
-#[tactic(auto, unfolding(crate::specs::Names::flush_name))]
 pub(crate) fn flush_name(kind: FlushKind) -> &'static [u8]
     ensures name { result.now ≡ flush_name kind }
     ensures short { length result.now ≤ 8 }
@@ -193,7 +183,6 @@ pub(crate) fn flush_name(kind: FlushKind) -> &'static [u8]
     }
 }
 
-#[tactic(auto, unfolding(crate::specs::Names::product_name))]
 pub(crate) fn product_name(is_signed: bool) -> &'static [u8]
     ensures name { result.now ≡ product_name is_signed }
     ensures short { length result.now ≤ 8 }
@@ -204,7 +193,6 @@ pub(crate) fn product_name(is_signed: bool) -> &'static [u8]
     }
 }
 
-#[tactic(auto, unfolding(crate::specs::Names::quotient_name))]
 pub(crate) fn quotient_name(is_signed: bool) -> &'static [u8]
     ensures name { result.now ≡ quotient_name is_signed }
     ensures short { length result.now ≤ 8 }
@@ -216,7 +204,6 @@ pub(crate) fn quotient_name(is_signed: bool) -> &'static [u8]
 }
 
 /// By a dividend of 32 bits, where the remainder has a register of its own.
-#[tactic(auto, unfolding(crate::specs::Names::remainder_name))]
 pub(crate) fn remainder_name(is_signed: bool) -> &'static [u8]
     ensures name { result.now ≡ remainder_name is_signed }
     ensures short { length result.now ≤ 8 }
@@ -227,7 +214,6 @@ pub(crate) fn remainder_name(is_signed: bool) -> &'static [u8]
     }
 }
 
-#[tactic(auto, unfolding(crate::specs::Names::test_name))]
 pub(crate) fn test_name(is_read: bool) -> &'static [u8]
     ensures name { result.now ≡ test_name is_read }
     ensures short { length result.now ≤ 8 }

@@ -51,7 +51,6 @@ pub fn push_number(line: &mut LineText, value: u64)
 }
 
 /// The same, with `-` before the `$` of a negative number.
-#[tactic(auto, unfolding(crate::specs::Numbers::signed))]
 pub(crate) fn push_signed(line: &mut LineText, value: i64)
     requires { array_vec_len line.old + 18 ≤ 512 }
     ensures pushed { line.new.items ≡ line.old.items ++ signed value }

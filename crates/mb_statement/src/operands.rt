@@ -178,7 +178,6 @@ fn one_among(mask: u16, n: u8) -> Operand<i64>
     }
 }
 
-#[tactic(auto, unfolding(crate::specs::Statements::list))]
 pub(crate) fn list(mask: u16) -> Operand<i64>
     ensures { result ≡ statements.list mask }
 {

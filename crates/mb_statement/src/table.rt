@@ -105,7 +105,6 @@ fn alone(name: &'static [u8], at: u32, size: Size, ea: &Ea) -> Statement
 }
 
 /// `0lll sw00 0000 0hhh`.
-#[tactic(auto, unfolding(crate::specs::Statements::product))]
 fn product(operand: Operand<i64>, word: u16) -> Statement
     ensures statement { statement_said result ≡ statements.product operand word }
     ensures short { length result.name.now ≤ 8 }
@@ -121,7 +120,6 @@ fn product(operand: Operand<i64>, word: u16) -> Statement
 }
 
 /// The same; hhh is the remainder's register.
-#[tactic(auto, unfolding(crate::specs::Statements::quotient))]
 fn quotient(operand: Operand<i64>, word: u16) -> Statement
     ensures statement { statement_said result ≡ statements.quotient operand word }
     ensures short { length result.name.now ≤ 8 }
@@ -143,7 +141,6 @@ fn quotient(operand: Operand<i64>, word: u16) -> Statement
     }
 }
 
-#[tactic(auto, unfolding(crate::specs::Statements::branching))]
 fn branching(at: u32, condition: Condition, displacement: Branch) -> Statement
     ensures statement { statement_said result ≡ statements.branching at condition displacement }
     ensures short { length result.name.now ≤ 8 }
@@ -164,7 +161,6 @@ fn branching(at: u32, condition: Condition, displacement: Branch) -> Statement
     }
 }
 
-#[tactic(auto, unfolding(crate::specs::Statements::trapping))]
 fn trapping(condition: Condition, operand: TrapOperand) -> Statement
     ensures statement { statement_said result ≡ statements.trapping condition operand }
     ensures short { length result.name.now ≤ 8 }

@@ -49,7 +49,6 @@ fn push_general(line: &mut LineText, n: u8)
     push_numbered(line, n >= 8, n);
 }
 
-#[tactic(auto, unfolding(crate::specs::Texts::control_text))]
 fn control_text(register: ControlRegister) -> &'static [u8]
     ensures text { result.now ≡ control_text register }
     ensures short { length result.now ≤ 5 }
@@ -73,7 +72,6 @@ fn control_text(register: ControlRegister) -> &'static [u8]
     }
 }
 
-#[tactic(auto, unfolding(crate::specs::Texts::caches_text))]
 fn caches_text(caches: Caches) -> &'static [u8]
     ensures text { result.now ≡ caches_text caches }
     ensures short { length result.now ≤ 2 }
@@ -119,7 +117,6 @@ fn scale_text(scale: Scale) -> &'static [u8]
     }
 }
 
-#[tactic(auto, unfolding(crate::specs::Texts::index_text))]
 fn push_index(line: &mut LineText, index: Index)
     requires { array_vec_len line.old + 7 ≤ 512 }
     ensures pushed { line.new.items ≡ line.old.items ++ index_text index }
@@ -201,14 +198,12 @@ pub fn asks_full(form: &FullForm<i64>) -> bool
 }
 
 /// An index that the form has anyway is left out, where something else asks for the full form.
-#[tactic(auto, unfolding(crate::specs::Texts::is_left_out))]
 fn is_left_out(form: &FullForm<i64>) -> bool
     ensures { result ≡ is_left_out form.now }
 {
     is_no_index(form.index) && asks_full(form)
 }
 
-#[tactic(auto, unfolding(crate::specs::Texts::behind_base_text))]
 fn push_behind_base(line: &mut LineText, form: &FullForm<i64>)
     requires { array_vec_len line.old + 8 ≤ 512 }
     ensures pushed { line.new.items ≡ line.old.items ++ behind_base_text form.now }
@@ -350,7 +345,6 @@ fn push_field_number(line: &mut LineText, number: &FieldNumber<i64>)
 }
 
 /// `{o:w}`.
-#[tactic(auto, unfolding(crate::specs::Texts::field_text))]
 fn push_field(line: &mut LineText, field: &BitField<i64>)
     requires { array_vec_len line.old + 39 ≤ 512 }
     ensures pushed { line.new.items ≡ line.old.items ++ field_text field.now }
@@ -417,7 +411,6 @@ fn push_listed_below(line: &mut LineText, mask: u16, n: u8)
     }
 }
 
-#[tactic(auto, unfolding(crate::specs::Texts::list_text))]
 fn push_list(line: &mut LineText, mask: u16)
     requires { array_vec_len line.old + 48 ≤ 512 }
     ensures pushed { line.new.items ≡ line.old.items ++ list_text mask }
