@@ -104,7 +104,6 @@ full_cases w ws mid t brief full =
     (rw (brief, full, a.0, b.0) refl, record { parts = rw (t.parts, a.1.parts, b.1.parts) (simp append_assoc); rest_words = b.1.rest_words })))
 
 ext_cases : (ws : List ℕ) → AreWords ws → FoundExt ws (ext_at ws)
-unfolding ext_at
 ext_cases ws h = after word_at _ ws (FoundExt ws) (λ e. tt) (λ w mid e.
     let a = word_found ws w mid h e in
     branch (w / 2 ^ 8 % 2 == 0) _ _ mid (FoundExt ws) (λ t. (t, a.1)) (λ f.

@@ -37,7 +37,6 @@ use Rattle.mb_decode.proofs.Fields.{not_immediate_memory}
 
 pub movep_read : (d : ℕ) (k : Bool) (s : Size) (a w : ℕ) (rest : List ℕ) → not_byte s ≡ true →
     line_0 (op 0 d 1 (flag k * 2 + long_bit s) 1 a) (w ∷ rest) ≡ Ok (Move (move.Movep d k s a w), rest)
-unfolding line_0 odd_0 movep_0
 movep_read d true size.Word a w rest h = next _ _ _ _ _ (word_read w rest)
 movep_read d true size.Long a w rest h = next _ _ _ _ _ (word_read w rest)
 movep_read d false size.Word a w rest h = next _ _ _ _ _ (word_read w rest)
@@ -52,7 +51,6 @@ bit_class_address bit_of.Set m r h = not_address size.Byte m r h
 
 pub bit_reg_read : (d : ℕ) (k : BitKind) (ea : Ea) (rest : List ℕ) → takes (bit_class k) size.Byte ea ≡ true →
     line_0 (op 0 d 1 (bit_bits k) (mode ea) (lower ea)) (more size.Byte ea ++ rest) ≡ Ok (Arith (arith_of.BitReg d k ea), rest)
-unfolding line_0 odd_0 bit_register_0
 bit_reg_read d k ea rest h =
     let e = bit_kind_is k in
     let class = bit_class_address k _ _ (taken _ _ ea h).0 in
@@ -60,7 +58,7 @@ bit_reg_read d k ea rest h =
 
 pub bit_imm_read : (k : BitKind) (ea : Ea) (w : ℕ) (rest : List ℕ) → takes (bit_class_immediate k) size.Byte ea ≡ true →
     line_0 (op 0 4 0 (bit_bits k) (mode ea) (lower ea)) (w ∷ more size.Byte ea ++ rest) ≡ Ok (Arith (arith_of.BitImm k ea w), rest)
-unfolding line_0 even_0 bit_0
+unfolding even_0
 bit_imm_read k ea w rest h =
     let e = bit_kind_is k in
     rw e (next _ _ _ _ _ (word_ea_read rule.Any (bit_class_immediate k) size.Byte 0 4 0 (bit_bits k) w ea rest h))
@@ -68,7 +66,7 @@ bit_imm_read k ea w rest h =
 -- CMP2 and CHK2: bit 11 of the word tells which
 bounds_again : (s : Size) (ea : Ea) (w : ℕ) (rest : List ℕ) → (holds rule.RegisterAndBit w && takes Control s ea) ≡ true →
     line_0 (op 0 (size_bits s) 0 3 (mode ea) (lower ea)) (w ∷ more s ea ++ rest) ≡ Ok (bounds_instr s w ea, rest)
-unfolding line_0 even_0 bounds_0
+unfolding even_0
 bounds_again size.Byte ea w rest h = next _ _ _ _ _ (word_ea_read rule.RegisterAndBit Control size.Byte 0 0 0 3 w ea rest h)
 bounds_again size.Word ea w rest h = next _ _ _ _ _ (word_ea_read rule.RegisterAndBit Control size.Word 0 1 0 3 w ea rest h)
 bounds_again size.Long ea w rest h = next _ _ _ _ _ (word_ea_read rule.RegisterAndBit Control size.Long 0 2 0 3 w ea rest h)
@@ -111,7 +109,7 @@ cas_memory s ea w h =
 
 pub cas_read : (s : Size) (ea : Ea) (w : ℕ) (rest : List ℕ) → (holds rule.Swap w && takes MemoryAlterable s ea) ≡ true →
     line_0 (op 0 (5 + size_bits s) 0 3 (mode ea) (lower ea)) (w ∷ more s ea ++ rest) ≡ Ok (Arith (arith_of.Cas s ea w), rest)
-unfolding line_0 even_0 cas_0
+unfolding even_0 cas_0
 cas_read size.Byte ea w rest h =
     unmet _ _ _ _ (cas_memory size.Byte ea w h) ∙ next _ _ _ _ _ (word_ea_read rule.Swap MemoryAlterable size.Byte 0 5 0 3 w ea rest h)
 cas_read size.Word ea w rest h =
@@ -121,7 +119,7 @@ cas_read size.Long ea w rest h =
 
 pub cas2_read : (s : Size) (w v : ℕ) (rest : List ℕ) → (not_byte s && holds rule.SwapPair w && holds rule.SwapPair v) ≡ true →
     line_0 (op 0 (5 + size_bits s) 0 3 7 4) (w ∷ v ∷ rest) ≡ Ok (Arith (arith_of.Cas2 s w v), rest)
-unfolding line_0 even_0 cas_0 cas2_0
+unfolding even_0 cas_0 cas2_0
 cas2_read size.Byte w v rest h = absurd cc
 cas2_read size.Word w v rest h =
     let p = and_is (holds rule.SwapPair w) (holds rule.SwapPair v) h in
@@ -134,7 +132,7 @@ cas2_read size.Long w v rest h =
 pub immediate_again : (n : ℕ) (s : Size) (ea : Ea) (v : ℕ) (rest : List ℕ) → (is_immediate s v && takes DataAlterable s ea) ≡ true → (n == 4) ≡ false →
     (n == 6) ≡ false → (n == 7) ≡ false →
     line_0 (op 0 n 0 (size_bits s) (mode ea) (lower ea)) ((immediate s v ++ more s ea) ++ rest) ≡ Ok (immediate_instr n s v ea, rest)
-unfolding line_0 even_0 immediate_0
+unfolding even_0
 immediate_again n s ea v rest h n4 n6 n7 =
     let class = (taken DataAlterable s ea (and_is (is_immediate s v) (takes DataAlterable s ea) h).1).0 in
     let size = not_three s in
@@ -143,22 +141,22 @@ immediate_again n s ea v rest h n4 n6 n7 =
 
 pub ccr_again : (n w : ℕ) (rest : List ℕ) → (n == 4) ≡ false → (n == 6) ≡ false → (n == 7) ≡ false → ((n == 2) || (n == 3)) ≡ false →
     line_0 (op 0 n 0 0 7 4) (w ∷ rest) ≡ Ok (to_ccr_instr n w, rest)
-unfolding line_0 even_0 immediate_0 status_0
+unfolding even_0 status_0
 ccr_again n w rest n4 n6 n7 other = rw (n4, n6, n7, other) (next _ _ _ _ _ (word_read w rest))
 
 pub sr_again : (n w : ℕ) (rest : List ℕ) → (n == 4) ≡ false → (n == 6) ≡ false → (n == 7) ≡ false → ((n == 2) || (n == 3)) ≡ false →
     line_0 (op 0 n 0 1 7 4) (w ∷ rest) ≡ Ok (to_sr_instr n w, rest)
-unfolding line_0 even_0 immediate_0 status_0
+unfolding even_0 status_0
 sr_again n w rest n4 n6 n7 other = rw (n4, n6, n7, other) (next _ _ _ _ _ (word_read w rest))
 
 pub cmpi_read : (s : Size) (ea : Ea) (v : ℕ) (rest : List ℕ) → (is_immediate s v && takes DataAlterableOrPc s ea) ≡ true →
     line_0 (op 0 6 0 (size_bits s) (mode ea) (lower ea)) ((immediate s v ++ more s ea) ++ rest) ≡ Ok (Arith (arith_of.Cmpi s ea v), rest)
-unfolding line_0 even_0 cmpi_0
+unfolding even_0
 cmpi_read s ea v rest h = unmet _ _ _ _ (not_three s) ∙ next _ _ _ _ _ (immediate_ea_read DataAlterableOrPc 0 6 0 s v ea rest h)
 
 pub moves_read : (s : Size) (ea : Ea) (w : ℕ) (rest : List ℕ) → (holds rule.RegisterAndBit w && takes MemoryAlterable s ea) ≡ true →
     line_0 (op 0 7 0 (size_bits s) (mode ea) (lower ea)) (w ∷ more s ea ++ rest) ≡ Ok (System (system.Moves s ea w), rest)
-unfolding line_0 even_0 moves_0
+unfolding even_0
 moves_read s ea w rest h =
     let size = not_three s in
     rw size (by_size_read s _ _ ∙ next _ _ _ _ _ (word_ea_read rule.RegisterAndBit MemoryAlterable s 0 7 0 (size_bits s) w ea rest h))
@@ -169,18 +167,15 @@ movep_size : (n : ℕ) → n < 4 → n ≡ flag (nat_lt 1 n) * 2 + long_bit (siz
 movep_size n h = under_4 (λ n. n ≡ flag (nat_lt 1 n) * 2 + long_bit (size_of_bit (n % 2))) refl refl refl refl n h
 
 movep_0_shape : (p : Opcode) → IsOpcode p → p.line ≡ 0 → p.bit ≡ 1 → p.mode ≡ 1 → Shape row p (movep_0 p)
-unfolding movep_0
 movep_0_shape p is line bit mode =
     let fields = op_is p 0 p.upper 1 _ 1 p.lower line refl bit (movep_size p.size is.size) mode refl in
     made_row _ p _ _ (guarded _ p _ _ (not_byte_of_bit (p.size % 2) (omega arith)) (word_shape p _ fields)) (λ w. refl)
 
 bit_register_0_shape : (p : Opcode) → IsOpcode p → p.line ≡ 0 → p.bit ≡ 1 → Shape row p (bit_register_0 p)
-unfolding bit_register_0
 bit_register_0_shape p is line bit =
     made_row _ p _ _ (ea_shape p (bit_class (bit_kind p.size)) size.Byte 0 p.upper 1 _ is line refl bit (bit_kind_of p.size is.size)) (λ ea. refl)
 
 odd_0_shape : (p : Opcode) → IsOpcode p → p.line ≡ 0 → p.bit ≡ 1 → Shape row p (odd_0 p)
-unfolding odd_0
 odd_0_shape p is line bit = equal row p p.mode 1 _ _ (λ mode. movep_0_shape p is line bit mode) (λ n. bit_register_0_shape p is line bit)
 
 cas_field : (n : ℕ) → n < 8 → 5 ≤ n → n ≡ 5 + size_bits (cas_size n)
@@ -205,7 +200,6 @@ bounds_cases s w ea false e h =
     record { legal = both (rw all refl) p.1; opcode = refl; words = refl }
 
 bounds_0_shape : (p : Opcode) → IsOpcode p → p.line ≡ 0 → p.bit ≡ 0 → p.size ≡ 3 → Shape row p (bounds_0 p)
-unfolding bounds_0
 bounds_0_shape p is line bit size = by_size_shape row p p.upper _ (λ s e.
     made_row_if (word_ea_row rule.RegisterAndBit Control s 0 (size_bits s) 0 3) p _ _
     (word_ea_shape p rule.RegisterAndBit Control s 0 (size_bits s) 0 3 is line (sym e) bit size)
@@ -264,22 +258,18 @@ status_0_shape p is line low ne bit m r =
     equal row p p.size 1 _ _ (λ size. made_row _ p _ _ (word_shape p _ (op_is p 0 p.upper 0 1 7 4 line refl bit size m r)) rows.1) (λ n. none row p)))
 
 immediate_0_shape : (p : Opcode) → IsOpcode p → p.line ≡ 0 → p.upper < 6 → p.upper ≢ 4 → p.bit ≡ 0 → Shape row p (immediate_0 p)
-unfolding immediate_0
 immediate_0_shape p is line low ne bit = equals row p p.mode 7 p.lower 4 _ _
     (λ m r. status_0_shape p is line low ne bit m r)
     (made_row _ p _ _ (immediate_ea_shape p DataAlterable 0 p.upper 0 is line refl bit) (immediate_row p.upper is.upper low ne))
 
 cmpi_0_shape : (p : Opcode) → IsOpcode p → p.line ≡ 0 → p.upper ≡ 6 → p.bit ≡ 0 → Shape row p (cmpi_0 p)
-unfolding cmpi_0
 cmpi_0_shape p is line upper bit = made_row _ p _ _ (immediate_ea_shape p DataAlterableOrPc 0 6 0 is line upper bit) (λ x. refl)
 
 moves_0_shape : (p : Opcode) → IsOpcode p → p.line ≡ 0 → p.upper ≡ 7 → p.bit ≡ 0 → Shape row p (moves_0 p)
-unfolding moves_0
 moves_0_shape p is line upper bit = by_size_shape row p p.size _ (λ s e.
     made_row _ p _ _ (word_ea_shape p rule.RegisterAndBit MemoryAlterable s 0 7 0 (size_bits s) is line upper bit (sym e)) (λ x. refl))
 
 bit_0_shape : (p : Opcode) → IsOpcode p → p.line ≡ 0 → p.upper ≡ 4 → p.bit ≡ 0 → Shape row p (bit_0 p)
-unfolding bit_0
 bit_0_shape p is line upper bit = made_row _ p _ _
     (word_ea_shape p rule.Any (bit_class_immediate (bit_kind p.size)) size.Byte 0 4 0 _ is line upper bit (bit_kind_of p.size is.size))
     (λ x. refl)
@@ -294,5 +284,4 @@ even_0_shape p is line bit =
     equal row p p.upper 7 _ _ (λ u. moves_0_shape p is line u bit) (λ n7. let up = is.upper in immediate_0_shape p is line (omega arith) n4 bit))))
 
 pub line_0_shape : (p : Opcode) → IsOpcode p → p.line ≡ 0 → Shape row p (line_0 p)
-unfolding line_0
 line_0_shape p is line = equal row p p.bit 1 _ _ (λ bit. odd_0_shape p is line bit) (λ n. let below = is.bit in even_0_shape p is line (omega arith))

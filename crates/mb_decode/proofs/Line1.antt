@@ -48,7 +48,7 @@ move_read s d e rest h =
 
 pub movea_read : (s : Size) (a : ℕ) (ea : Ea) (rest : List ℕ) → (not_byte s && takes All s ea) ≡ true →
     line_move (op (move_bits s) a 0 1 (mode ea) (lower ea)) (more s ea ++ rest) ≡ Ok (Move (move.Movea s a ea), rest)
-unfolding line_move movea_at
+unfolding line_move
 movea_read size.Byte a ea rest h = absurd cc
 movea_read size.Word a ea rest h = next _ _ _ _ _ (ea_read All size.Word 3 a 0 1 ea rest h)
 movea_read size.Long a ea rest h = next _ _ _ _ _ (ea_read All size.Long 2 a 0 1 ea rest h)
@@ -80,7 +80,6 @@ move_shape p s is line = only row p (allows_move s p) _ (λ legal.
     })
 
 movea_shape : (p : Opcode) (s : Size) → IsOpcode p → p.line ≡ move_bits s → p.bit ≡ 0 → p.size ≡ 1 → Shape row p (movea_at s p)
-unfolding movea_at
 movea_shape p s is line bit size = only row p (not_byte s) _ (λ ok.
     made_row _ p _ _ (guarded _ p _ _ ok (ea_shape p All s _ p.upper 0 1 is line refl bit size)) (λ ea. refl))
 

@@ -54,7 +54,6 @@ count_again false n h = quick_again n h
 
 pub shift_read : (n : ℕ) (l : Bool) (s : Size) (i : Bool) (k : ShiftKind) (r : ℕ) (rest : List ℕ) → ((i || is_quick n) && true) ≡ true →
     line_14 (op 14 (count_field i n) (flag l) (size_bits s) (flag i * 4 + shift_bits k) r) rest ≡ Ok (Arith (arith_of.ShiftReg n l s i k r), rest)
-unfolding line_14 shift_14
 shift_read n l s i k r rest h =
     let size = not_three s in
     let by = shift_by i k in
@@ -65,7 +64,6 @@ shift_read n l s i k r rest h =
 
 pub shift_mem_read : (k : ShiftKind) (l : Bool) (ea : Ea) (rest : List ℕ) → takes MemoryAlterable size.Word ea ≡ true →
     line_14 (op 14 (shift_bits k) (flag l) 3 (mode ea) (lower ea)) (more size.Word ea ++ rest) ≡ Ok (Arith (arith_of.ShiftMem k l ea), rest)
-unfolding line_14 shift_mem_14
 shift_mem_read k l ea rest h =
     let low = shift_low k in
     let as_kind = shift_kind_is k in
@@ -74,7 +72,6 @@ shift_mem_read k l ea rest h =
 
 pub field_read : (k : FieldKind) (ea : Ea) (w : ℕ) (rest : List ℕ) → (holds (field_rule k) w && takes (field_class k) size.Long ea) ≡ true →
     line_14 (op 14 (4 + field_bits k / 2) (field_bits k % 2) 3 (mode ea) (lower ea)) (w ∷ more size.Long ea ++ rest) ≡ Ok (Arith (arith_of.Field k ea w), rest)
-unfolding line_14 field_14
 field_read field.Test ea w rest h = next _ _ _ _ _ (word_ea_read rule.FieldAlone FieldSource size.Long 14 4 0 3 w ea rest h)
 field_read field.ExtractUnsigned ea w rest h = next _ _ _ _ _ (word_ea_read rule.Field FieldSource size.Long 14 4 1 3 w ea rest h)
 field_read field.Change ea w rest h = next _ _ _ _ _ (word_ea_read rule.FieldAlone FieldTarget size.Long 14 5 0 3 w ea rest h)
@@ -98,14 +95,12 @@ shift_mode : (n : ℕ) → n < 8 → n ≡ flag (nat_lt 3 n) * 4 + shift_bits (s
 shift_mode n h = under_8 (λ n. n ≡ flag (nat_lt 3 n) * 4 + shift_bits (shift_kind (n % 4))) refl refl refl refl refl refl refl refl n h
 
 shift_14_shape : (p : Opcode) → IsOpcode p → p.line ≡ 14 → Shape row p (shift_14 p)
-unfolding shift_14
 shift_14_shape p is line = by_size_shape row p p.size _ (λ s e.
     let count = count_fits (nat_lt 3 p.mode) p.upper is.upper in
     given_when p _ _ _ refl (count_legal (nat_lt 3 p.mode) p.upper is.upper)
     (op_is p 14 _ _ _ _ p.lower line count (flag_of p.bit is.bit) (sym e) (shift_mode p.mode is.mode) refl))
 
 shift_mem_14_shape : (p : Opcode) → IsOpcode p → p.line ≡ 14 → p.size ≡ 3 → p.upper < 4 → Shape row p (shift_mem_14 p)
-unfolding shift_mem_14
 shift_mem_14_shape p is line wide low =
     made_row _ p _ _ (ea_shape p MemoryAlterable size.Word 14 _ _ 3 is line (shift_kind_of p.upper low) (flag_of p.bit is.bit) wide) (λ ea. refl)
 
@@ -113,7 +108,6 @@ field_bits_of : (n : ℕ) → n < 8 → field_bits (field_kind n) ≡ n
 field_bits_of n h = under_8 (λ n. field_bits (field_kind n) ≡ n) refl refl refl refl refl refl refl refl n h
 
 field_14_shape : (p : Opcode) → IsOpcode p → p.line ≡ 14 → p.size ≡ 3 → 4 ≤ p.upper → Shape row p (field_14 p)
-unfolding field_14
 field_14_shape p is line wide high =
     let up = is.upper in
     let below = is.bit in
@@ -123,7 +117,6 @@ field_14_shape p is line wide high =
     made_row _ p _ _ (word_ea_shape p (field_rule (field_kind_in p)) (field_class (field_kind_in p)) size.Long 14 _ _ 3 is line upper bit wide) (λ x. refl)
 
 pub line_14_shape : (p : Opcode) → IsOpcode p → p.line ≡ 14 → Shape row p (line_14 p)
-unfolding line_14
 line_14_shape p is line = equal row p p.size 3 _ _
     (λ size. below row p p.upper 4 _ _ (λ low. shift_mem_14_shape p is line size low) (λ high. field_14_shape p is line size high))
     (λ n. shift_14_shape p is line)

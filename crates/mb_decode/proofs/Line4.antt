@@ -34,23 +34,23 @@ use Rattle.mb_decode.proofs.Fields.{and_false, test_holds}
 -- NEGX, CLR, NEG, NOT
 pub unary_again : (n : ℕ) (s : Size) (ea : Ea) (rest : List ℕ) → takes DataAlterable s ea ≡ true → nat_lt n 4 ≡ true →
     line_4 (op 4 n 0 (size_bits s) (mode ea) (lower ea)) (more s ea ++ rest) ≡ Ok (unary_instr n s ea, rest)
-unfolding line_4 even_4 unary_4
+unfolding line_4 even_4
 unary_again n s ea rest h low = let size = not_three s in rw (low, size) (next _ _ _ _ _ (sized_read DataAlterable 4 n 0 s ea rest h))
 
 -- MOVE from and to the status registers
 pub status_again : (n : ℕ) (ea : Ea) (rest : List ℕ) → takes (status_class n) size.Word ea ≡ true → nat_lt n 4 ≡ true →
     line_4 (op 4 n 0 3 (mode ea) (lower ea)) (more size.Word ea ++ rest) ≡ Ok (status_instr n ea, rest)
-unfolding line_4 even_4 status_4
+unfolding line_4 even_4
 status_again n ea rest h low = rw low (next _ _ _ _ _ (ea_read (status_class n) size.Word 4 n 0 3 ea rest h))
 
 pub tst_read : (s : Size) (ea : Ea) (rest : List ℕ) → takes All s ea ≡ true →
     line_4 (op 4 5 0 (size_bits s) (mode ea) (lower ea)) (more s ea ++ rest) ≡ Ok (Arith (arith_of.Tst s ea), rest)
-unfolding line_4 even_4 tst_4
+unfolding line_4 even_4
 tst_read s ea rest h = unmet _ _ _ _ (not_three s) ∙ next _ _ _ _ _ (sized_read All 4 5 0 s ea rest h)
 
 pub tas_read : (ea : Ea) (rest : List ℕ) → takes DataAlterable size.Byte ea ≡ true →
     line_4 (op 4 5 0 3 (mode ea) (lower ea)) (more size.Byte ea ++ rest) ≡ Ok (Arith (arith_of.Tas ea), rest)
-unfolding line_4 even_4 tst_4
+unfolding line_4 even_4
 tas_read ea rest h = next _ _ _ _ _ (ea_read DataAlterable size.Byte 4 5 0 3 ea rest h)
 
 lea_operand : (a m : ℕ) → (m == 0) ≡ false → ((a == 4) && (m == 0)) ≡ false
@@ -69,56 +69,56 @@ extb_read d rest = refl
 
 pub mul_read : (ea : Ea) (w : ℕ) (rest : List ℕ) → (holds rule.LongPair w && takes Data size.Long ea) ≡ true →
     line_4 (op 4 6 0 0 (mode ea) (lower ea)) (w ∷ more size.Long ea ++ rest) ≡ Ok (Arith (arith_of.MulL ea w), rest)
-unfolding line_4 even_4 long_pair_4
+unfolding line_4 even_4
 mul_read ea w rest h = next _ _ _ _ _ (word_ea_read rule.LongPair Data size.Long 4 6 0 0 w ea rest h)
 
 pub div_read : (ea : Ea) (w : ℕ) (rest : List ℕ) → (holds rule.LongPair w && takes Data size.Long ea) ≡ true →
     line_4 (op 4 6 0 1 (mode ea) (lower ea)) (w ∷ more size.Long ea ++ rest) ≡ Ok (Arith (arith_of.DivL ea w), rest)
-unfolding line_4 even_4 long_pair_4
+unfolding line_4 even_4
 div_read ea w rest h = next _ _ _ _ _ (word_ea_read rule.LongPair Data size.Long 4 6 0 1 w ea rest h)
 
 pub link_long_read : (a d : ℕ) (rest : List ℕ) → line_4 (op 4 4 0 0 1 a) (long_words d ++ rest) ≡ Ok (Move (move.LinkL a d), rest)
-unfolding line_4 even_4 nbcd_4
+unfolding line_4 even_4
 link_long_read a d rest = next _ _ _ _ _ (long_read d rest)
 
 pub nbcd_read : (ea : Ea) (rest : List ℕ) → takes DataAlterable size.Byte ea ≡ true →
     line_4 (op 4 4 0 0 (mode ea) (lower ea)) (more size.Byte ea ++ rest) ≡ Ok (Arith (arith_of.Nbcd ea), rest)
-unfolding line_4 even_4 nbcd_4
+unfolding line_4 even_4
 nbcd_read ea rest h =
     unmet _ _ _ _ (not_address size.Byte (mode ea) (lower ea) (taken DataAlterable size.Byte ea h).0) ∙
     next _ _ _ _ _ (ea_read DataAlterable size.Byte 4 4 0 0 ea rest h)
 
 pub pea_read : (ea : Ea) (rest : List ℕ) → takes Control size.Long ea ≡ true →
     line_4 (op 4 4 0 1 (mode ea) (lower ea)) (more size.Long ea ++ rest) ≡ Ok (Move (move.Pea ea), rest)
-unfolding line_4 even_4 pea_4
+unfolding line_4 even_4
 pea_read ea rest h =
     unmet _ _ _ _ (not_register_control size.Long (mode ea) (lower ea) (taken Control size.Long ea h).0) ∙
     next _ _ _ _ _ (ea_read Control size.Long 4 4 0 1 ea rest h)
 
 pub jsr_read : (ea : Ea) (rest : List ℕ) → takes Control size.Long ea ≡ true →
     line_4 (op 4 7 0 2 (mode ea) (lower ea)) (more size.Long ea ++ rest) ≡ Ok (Flow (flow.Jsr ea), rest)
-unfolding line_4 even_4 jump_4
+unfolding line_4 even_4
 jsr_read ea rest h = next _ _ _ _ _ (ea_read Control size.Long 4 7 0 2 ea rest h)
 
 pub jmp_read : (ea : Ea) (rest : List ℕ) → takes Control size.Long ea ≡ true →
     line_4 (op 4 7 0 3 (mode ea) (lower ea)) (more size.Long ea ++ rest) ≡ Ok (Flow (flow.Jmp ea), rest)
-unfolding line_4 even_4 jump_4
+unfolding line_4 even_4
 jmp_read ea rest h = next _ _ _ _ _ (ea_read Control size.Long 4 7 0 3 ea rest h)
 
 pub chk_read : (d : ℕ) (s : Size) (ea : Ea) (rest : List ℕ) → (not_byte s && takes Data s ea) ≡ true →
     line_4 (op 4 d 1 (chk_bits s) (mode ea) (lower ea)) (more s ea ++ rest) ≡ Ok (Flow (flow.Chk d s ea), rest)
-unfolding line_4 odd_4 chk_4
+unfolding line_4 odd_4
 chk_read d size.Byte ea rest h = absurd cc
 chk_read d size.Word ea rest h = next _ _ _ _ _ (ea_read Data size.Word 4 d 1 2 ea rest h)
 chk_read d size.Long ea rest h = next _ _ _ _ _ (ea_read Data size.Long 4 d 1 0 ea rest h)
 
 pub swap_read : (d : ℕ) (rest : List ℕ) → line_4 (op 4 4 0 1 0 d) rest ≡ Ok (Move (move.Swap d), rest)
-unfolding line_4 even_4 pea_4
+unfolding line_4 even_4
 swap_read d rest = refl
 
 pub movem_load_read : (s : Size) (ea : Ea) (w : ℕ) (rest : List ℕ) → (not_byte s && takes LoadList s ea) ≡ true →
     line_4 (op 4 6 0 (2 + long_bit s) (mode ea) (lower ea)) (w ∷ more s ea ++ rest) ≡ Ok (Move (move.MovemLoad s ea w), rest)
-unfolding line_4 even_4 movem_load_4
+unfolding line_4 even_4
 movem_load_read size.Byte ea w rest h = absurd cc
 movem_load_read size.Word ea w rest h = next _ _ _ _ _ (word_ea_read rule.Any LoadList size.Word 4 6 0 2 w ea rest h)
 movem_load_read size.Long ea w rest h = next _ _ _ _ _ (word_ea_read rule.Any LoadList size.Long 4 6 0 3 w ea rest h)
@@ -204,13 +204,11 @@ movec_read false w rest h = next _ _ _ _ _ (ruled_read rule.Control w rest h)
 -- ---- what is read
 
 nbcd_4_shape : (p : Opcode) → IsOpcode p → p.line ≡ 4 → p.upper ≡ 4 → p.bit ≡ 0 → p.size ≡ 0 → Shape row p (nbcd_4 p)
-unfolding nbcd_4
 nbcd_4_shape p is line upper bit f =
     equal row p p.mode 1 _ _ (λ mode. made_row _ p _ _ (long_shape p _ (op_is p 4 4 0 0 1 p.lower line upper bit f mode refl)) (λ d. refl)) (λ n.
     made_row _ p _ _ (ea_shape p DataAlterable size.Byte 4 4 0 0 is line upper bit f) (λ ea. refl))
 
 pea_4_shape : (p : Opcode) → IsOpcode p → p.line ≡ 4 → p.upper ≡ 4 → p.bit ≡ 0 → p.size ≡ 1 → Shape row p (pea_4 p)
-unfolding pea_4
 pea_4_shape p is line upper bit f =
     equal row p p.mode 0 _ _ (λ mode. given p _ _ refl (op_is p 4 4 0 1 0 p.lower line upper bit f mode refl)) (λ n.
     made_row _ p _ _ (ea_shape p Control size.Long 4 4 0 1 is line upper bit f) (λ ea. refl))
@@ -282,7 +280,6 @@ abbrev UnaryRow : ℕ → Type 0
 UnaryRow n = (x : Size × Ea) → row (unary_instr n x.0 x.1) ≡ sized_row DataAlterable 4 n 0 x
 
 unary_4_shape : (p : Opcode) → IsOpcode p → p.line ≡ 4 → p.upper < 4 → p.bit ≡ 0 → Shape row p (unary_4 p)
-unfolding unary_4
 unary_4_shape p is line low bit =
     made_row _ p _ _ (sized_shape p DataAlterable 4 p.upper 0 is line refl bit) (under_4 UnaryRow (λ x. refl) (λ x. refl) (λ x. refl) (λ x. refl) p.upper low)
 
@@ -290,13 +287,11 @@ abbrev StatusRow : ℕ → Type 0
 StatusRow n = (ea : Ea) → row (status_instr n ea) ≡ at_ea (status_class n) size.Word 4 n 0 3 ea
 
 status_4_shape : (p : Opcode) → IsOpcode p → p.line ≡ 4 → p.upper < 4 → p.bit ≡ 0 → p.size ≡ 3 → Shape row p (status_4 p)
-unfolding status_4
 status_4_shape p is line low bit f =
     made_row _ p _ _ (ea_shape p (status_class p.upper) size.Word 4 p.upper 0 3 is line refl bit f)
     (under_4 StatusRow (λ ea. refl) (λ ea. refl) (λ ea. refl) (λ ea. refl) p.upper low)
 
 tst_4_shape : (p : Opcode) → IsOpcode p → p.line ≡ 4 → p.upper ≡ 5 → p.bit ≡ 0 → Shape row p (tst_4 p)
-unfolding tst_4
 tst_4_shape p is line upper bit =
     equal row p p.size 3 _ _ (λ f. made_row _ p _ _ (ea_shape p DataAlterable size.Byte 4 5 0 3 is line upper bit f) (λ ea. refl)) (λ n.
     made_row _ p _ _ (sized_shape p All 4 5 0 is line upper bit) (λ x. refl))
@@ -305,13 +300,11 @@ abbrev LongPairRow : ℕ → Type 0
 LongPairRow n = (x : ℕ × Ea) → row (long_pair_instr n x.0 x.1) ≡ word_ea_row rule.LongPair Data size.Long 4 6 0 n x
 
 long_pair_4_shape : (p : Opcode) → IsOpcode p → p.line ≡ 4 → p.upper ≡ 6 → p.bit ≡ 0 → p.size < 2 → Shape row p (long_pair_4 p)
-unfolding long_pair_4
 long_pair_4_shape p is line upper bit low =
     made_row _ p _ _ (word_ea_shape p rule.LongPair Data size.Long 4 6 0 p.size is line upper bit refl)
     (under_2 LongPairRow (λ x. refl) (λ x. refl) p.size low)
 
 movem_load_4_shape : (p : Opcode) → IsOpcode p → p.line ≡ 4 → p.upper ≡ 6 → p.bit ≡ 0 → 2 ≤ p.size → Shape row p (movem_load_4 p)
-unfolding movem_load_4
 movem_load_4_shape p is line upper bit high =
     let long_words = size_of_bit (p.size % 2) in
     made_row _ p _ _ (guarded _ p _ _ (not_byte_of_bit (p.size % 2) (omega arith))
@@ -321,7 +314,6 @@ abbrev JumpRow : ℕ → Type 0
 JumpRow n = 2 ≤ n → (ea : Ea) → row (jump_instr n ea) ≡ at_ea Control size.Long 4 7 0 n ea
 
 jump_4_shape : (p : Opcode) → IsOpcode p → p.line ≡ 4 → p.upper ≡ 7 → p.bit ≡ 0 → 2 ≤ p.size → Shape row p (jump_4 p)
-unfolding jump_4
 jump_4_shape p is line upper bit high =
     made_row _ p _ _ (ea_shape p Control size.Long 4 7 0 p.size is line upper bit refl)
     (under_4 JumpRow (λ z. absurd (omega arith)) (λ z. absurd (omega arith)) (λ z ea. refl) (λ z ea. refl) p.size is.size high)
@@ -339,7 +331,6 @@ chk_field : (n : ℕ) → n < 4 → ChkField n
 chk_field n h = under_4 ChkField (λ a b. (refl, refl)) (λ a b. absurd (a refl)) (λ a b. (refl, refl)) (λ a b. absurd (b refl)) n h
 
 chk_4_shape : (p : Opcode) → IsOpcode p → p.line ≡ 4 → p.bit ≡ 1 → p.size ≢ 1 → p.size ≢ 3 → Shape row p (chk_4 p)
-unfolding chk_4
 chk_4_shape p is line bit one three =
     let f = chk_field p.size is.size one three in
     made_row _ p _ _ (guarded _ p _ _ f.0 (ea_shape p Data (chk_size p.size) 4 p.upper 1 _ is line refl bit f.1)) (λ ea. refl)

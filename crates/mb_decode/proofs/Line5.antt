@@ -37,7 +37,6 @@ byte_of n = omega arith
 -- ADDQ and SUBQ
 pub quick_read : (n q : ℕ) (s : Size) (ea : Ea) (rest : List ℕ) → (is_quick q && takes Alterable s ea) ≡ true →
     line_5 (op 5 (q % 8) n (size_bits s) (mode ea) (lower ea)) (more s ea ++ rest) ≡ Ok (quick_instr n q s ea, rest)
-unfolding line_5 quick_5
 quick_read n q s ea rest h =
     let p = and_is (is_quick q) (takes Alterable s ea) h in
     let size = not_three s in
@@ -46,7 +45,7 @@ quick_read n q s ea rest h =
 
 pub scc_read : (c : Condition) (ea : Ea) (rest : List ℕ) → takes DataAlterable size.Byte ea ≡ true →
     line_5 (on_condition 5 c 3 (mode ea) (lower ea)) (more size.Byte ea ++ rest) ≡ Ok (Move (move.Scc c ea), rest)
-unfolding line_5 conditional_5
+unfolding conditional_5
 scc_read c ea rest h =
     let class = (taken DataAlterable size.Byte ea h).0 in
     let first = not_address size.Byte (mode ea) (lower ea) class in
@@ -55,7 +54,7 @@ scc_read c ea rest h =
     rw (first, second, same) (next _ _ _ _ _ (ea_read DataAlterable size.Byte 5 _ _ 3 ea rest h))
 
 pub dbcc_read : (c : Condition) (d w : ℕ) (rest : List ℕ) → line_5 (on_condition 5 c 3 1 d) (w ∷ rest) ≡ Ok (Flow (flow.Dbcc c d w), rest)
-unfolding line_5 conditional_5
+unfolding conditional_5
 dbcc_read c d w rest = let same = condition_is c in rw same (next _ _ _ _ _ (word_read w rest))
 
 trap_high : (o : TrapOperand) → nat_lt 1 (trap_lower o) ≡ true
@@ -65,7 +64,7 @@ trap_high trap.Nothing = refl
 
 pub trapcc_read : (c : Condition) (o : TrapOperand) (rest : List ℕ) →
     line_5 (on_condition 5 c 3 7 (trap_lower o)) (trap_words o ++ rest) ≡ Ok (Flow (flow.Trapcc c o), rest)
-unfolding line_5 conditional_5
+unfolding conditional_5
 trapcc_read c o rest =
     let high = trap_high o in
     let same = condition_is c in
@@ -73,7 +72,6 @@ trapcc_read c o rest =
 
 pub bcc_read : (c : Condition) (d : Branch) (rest : List ℕ) → is_branch d ≡ true →
     line_6 (on_condition 6 c (branch_byte d / 64) (branch_byte d / 8 % 8) (branch_byte d % 8)) (branch_words d ++ rest) ≡ Ok (Flow (flow.Bcc c d), rest)
-unfolding line_6
 bcc_read c d rest h = let same = condition_is c in rw (byte_of (branch_byte d), same) (next _ _ _ _ _ (branch_read d rest h))
 
 pub moveq_read : (d n : ℕ) (rest : List ℕ) → line_7 (op 7 d 0 (n / 64) (n / 8 % 8) (n % 8)) rest ≡ Ok (Move (move.Moveq d n), rest)
@@ -107,14 +105,12 @@ quick_row : (n : ℕ) → n < 2 → QuickRow n
 quick_row n h = under_2 QuickRow (λ q s ea. refl) (λ q s ea. refl) n h
 
 quick_5_shape : (p : Opcode) → IsOpcode p → p.line ≡ 5 → Shape row p (quick_5 p)
-unfolding quick_5
 quick_5_shape p is line =
     made_row _ p _ _
     (guarded _ p _ _ (is_quick_of p.upper is.upper) (sized_shape p Alterable 5 _ p.bit is line (quick_field p.upper is.upper) refl))
     (λ x. quick_row p.bit is.bit (quick_value p.upper) x.0 x.1)
 
 pub line_5_shape : (p : Opcode) → IsOpcode p → p.line ≡ 5 → Shape row p (line_5 p)
-unfolding line_5
 line_5_shape p is line =
     let on = condition_fields p.upper p.bit is.upper is.bit in
     equal row p p.size 3 _ _ (λ size. conditional_5_shape p (condition_of p.upper p.bit) is on line size) (λ n. quick_5_shape p is line)
@@ -133,7 +129,6 @@ low_byte_of p n is e =
     record { size = omega arith; mode = omega arith; lower = omega arith }
 
 pub line_6_shape : (p : Opcode) → IsOpcode p → p.line ≡ 6 → Shape row p (line_6 p)
-unfolding line_6
 line_6_shape p is line = record {
   found = λ ws h. after (branch_at (low_byte p)) _ ws (Found row p ws) (λ e. tt) (λ d rest e.
       let f = subst (FoundBranch (low_byte p) ws) e (branch_cases (low_byte p) ws h) in

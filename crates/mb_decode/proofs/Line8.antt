@@ -30,7 +30,6 @@ use Rattle.mb_decode.proofs.Fields.{not_byte_of_bit, under_2, under_4, not_three
 -- OR and AND
 pub logic_again : (n d : ℕ) (k : Bool) (s : Size) (ea : Ea) (rest : List ℕ) → takes (side (source_class n) k) s ea ≡ true →
     line_8 (op n d (flag k) (size_bits s) (mode ea) (lower ea)) (more s ea ++ rest) ≡ Ok (binary_instr n d k s ea, rest)
-unfolding line_8 binary_at
 logic_again n d true s ea rest h =
     let size = not_three s in
     let memory = not_register s (mode ea) (lower ea) (taken MemoryAlterable s ea h).0 in
@@ -40,7 +39,6 @@ logic_again n d false s ea rest h = let size = not_three s in rw size (next _ _ 
 -- SUB and ADD
 pub sum_again : (n d : ℕ) (k : Bool) (s : Size) (ea : Ea) (rest : List ℕ) → takes (side (source_class n) k) s ea ≡ true →
     line_9 (op n d (flag k) (size_bits s) (mode ea) (lower ea)) (more s ea ++ rest) ≡ Ok (binary_instr n d k s ea, rest)
-unfolding line_9 binary_at
 sum_again n d true s ea rest h =
     let size = not_three s in
     let memory = not_register s (mode ea) (lower ea) (taken MemoryAlterable s ea h).0 in
@@ -49,41 +47,35 @@ sum_again n d false s ea rest h = let size = not_three s in rw size (next _ _ _ 
 
 pub address_again : (n a : ℕ) (s : Size) (ea : Ea) (rest : List ℕ) → (not_byte s && takes All s ea) ≡ true →
     line_9 (op n a (long_bit s) 3 (mode ea) (lower ea)) (more s ea ++ rest) ≡ Ok (address_instr n a s ea, rest)
-unfolding line_9 address_at
 address_again n a size.Byte ea rest h = absurd cc
 address_again n a size.Word ea rest h = next _ _ _ _ _ (ea_read All size.Word n a 0 3 ea rest h)
 address_again n a size.Long ea rest h = next _ _ _ _ _ (ea_read All size.Long n a 1 3 ea rest h)
 
 pub extended_again : (n x : ℕ) (s : Size) (m : Bool) (y : ℕ) (rest : List ℕ) →
     line_9 (op n x 1 (size_bits s) (flag m) y) rest ≡ Ok (extended_instr n x s m y, rest)
-unfolding line_9 extended_at
 extended_again n x s true y rest = let size = not_three s in rw size (by_size_read s _ _)
 extended_again n x s false y rest = let size = not_three s in rw size (by_size_read s _ _)
 
 -- DIVU and DIVS, MULU and MULS
 pub product_again : (n d : ℕ) (g : Bool) (ea : Ea) (rest : List ℕ) → takes Data size.Word ea ≡ true →
     line_8 (op n d (flag g) 3 (mode ea) (lower ea)) (more size.Word ea ++ rest) ≡ Ok (product_instr n d g ea, rest)
-unfolding line_8 product_at
 product_again n d g ea rest h = let signed = flag_is g in rw signed (next _ _ _ _ _ (ea_read Data size.Word n d (flag g) 3 ea rest h))
 
 -- SBCD and ABCD
 pub decimal_again : (n x : ℕ) (m : Bool) (y : ℕ) (rest : List ℕ) → line_8 (op n x 1 0 (flag m) y) rest ≡ Ok (decimal_instr n x m y, rest)
-unfolding line_8 pair_8
 decimal_again n x true y rest = refl
 decimal_again n x false y rest = refl
 
 pub pack_read : (x : ℕ) (m : Bool) (y w : ℕ) (rest : List ℕ) → line_8 (op 8 x 1 1 (flag m) y) (w ∷ rest) ≡ Ok (Arith (arith_of.Pack x m y w), rest)
-unfolding line_8 pair_8 packed_8
 pack_read x true y w rest = next _ _ _ _ _ (word_read w rest)
 pack_read x false y w rest = next _ _ _ _ _ (word_read w rest)
 
 pub unpk_read : (x : ℕ) (m : Bool) (y w : ℕ) (rest : List ℕ) → line_8 (op 8 x 1 2 (flag m) y) (w ∷ rest) ≡ Ok (Arith (arith_of.Unpk x m y w), rest)
-unfolding line_8 pair_8 packed_8
 unpk_read x true y w rest = next _ _ _ _ _ (word_read w rest)
 unpk_read x false y w rest = next _ _ _ _ _ (word_read w rest)
 
 pub exg_read : (x : ℕ) (k : Exchange) (y : ℕ) (rest : List ℕ) → line_8 (op 12 x 1 (exchange_bits k) (exchange_mode k) y) rest ≡ Ok (Move (move.Exg x k y), rest)
-unfolding line_8 pair_8 exchange_12
+unfolding exchange_12
 exg_read x exchange.Data y rest = refl
 exg_read x exchange.Address y rest = refl
 exg_read x exchange.DataAddress y rest = refl
@@ -91,23 +83,19 @@ exg_read x exchange.DataAddress y rest = refl
 -- CMPA
 pub cmpa_read : (a : ℕ) (s : Size) (ea : Ea) (rest : List ℕ) → (not_byte s && takes All s ea) ≡ true →
     line_11 (op 11 a (long_bit s) 3 (mode ea) (lower ea)) (more s ea ++ rest) ≡ Ok (Arith (arith_of.Cmpa a s ea), rest)
-unfolding line_11 address_at
 cmpa_read a size.Byte ea rest h = absurd cc
 cmpa_read a size.Word ea rest h = next _ _ _ _ _ (ea_read All size.Word 11 a 0 3 ea rest h)
 cmpa_read a size.Long ea rest h = next _ _ _ _ _ (ea_read All size.Long 11 a 1 3 ea rest h)
 
 pub cmp_read : (d : ℕ) (s : Size) (ea : Ea) (rest : List ℕ) → takes All s ea ≡ true →
     line_11 (op 11 d 0 (size_bits s) (mode ea) (lower ea)) (more s ea ++ rest) ≡ Ok (Arith (arith_of.Cmp d s ea), rest)
-unfolding line_11 cmp_11
 cmp_read d s ea rest h = unmet _ _ _ _ (not_three s) ∙ next _ _ _ _ _ (sized_read All 11 d 0 s ea rest h)
 
 pub cmpm_read : (x : ℕ) (s : Size) (y : ℕ) (rest : List ℕ) → line_11 (op 11 x 1 (size_bits s) 1 y) rest ≡ Ok (Arith (arith_of.Cmpm x s y), rest)
-unfolding line_11 eor_11
 cmpm_read x s y rest = unmet _ _ _ _ (not_three s) ∙ by_size_read s _ _
 
 pub eor_read : (d : ℕ) (s : Size) (ea : Ea) (rest : List ℕ) → takes DataAlterable s ea ≡ true →
     line_11 (op 11 d 1 (size_bits s) (mode ea) (lower ea)) (more s ea ++ rest) ≡ Ok (Arith (arith_of.Eor d s ea), rest)
-unfolding line_11 eor_11
 eor_read d s ea rest h =
     let size = not_three s in
     let operand = not_address s (mode ea) (lower ea) (taken DataAlterable s ea h).0 in
@@ -135,7 +123,6 @@ lt_of : (m n : ℕ) → nat_lt m n ≡ true → m < n
 lt_of m n h = grind (arith, nat_tests)
 
 binary_shape : (p : Opcode) → IsOpcode p → BinaryRow p.line → Shape row p (binary_at p)
-unfolding binary_at
 binary_shape p is rows = made_row _ p _ _
     (sized_shape p (side (source_class p.line) (p.bit == 1)) p.line p.upper _ is refl refl (flag_of p.bit is.bit))
     (λ x. rows p.upper (p.bit == 1) x.0 x.1)
@@ -144,19 +131,16 @@ bit_size : (n : ℕ) → n < 2 → n ≡ long_bit (size_of_bit n)
 bit_size n h = under_2 (λ n. n ≡ long_bit (size_of_bit n)) refl refl n h
 
 address_shape : (p : Opcode) → IsOpcode p → AddressRow p.line → p.size ≡ 3 → Shape row p (address_at p)
-unfolding address_at
 address_shape p is rows f = made_row _ p _ _
     (guarded _ p _ _ (not_byte_of_bit p.bit is.bit) (ea_shape p All (size_of_bit p.bit) p.line p.upper _ 3 is refl refl (bit_size p.bit is.bit) f))
     (λ ea. rows p.upper (size_of_bit p.bit) ea)
 
 extended_shape : (p : Opcode) → IsOpcode p → ExtendedRow p.line → p.bit ≡ 1 → p.mode < 2 → Shape row p (extended_at p)
-unfolding extended_at
 extended_shape p is rows bit low = by_size_shape row p p.size _ (λ s e.
     given p _ _ (rows p.upper s (p.mode == 1) p.lower)
     (op_is p p.line p.upper 1 _ _ p.lower refl refl bit (sym e) (flag_of p.mode low) refl))
 
 product_shape : (p : Opcode) → IsOpcode p → ProductRow p.line → p.size ≡ 3 → Shape row p (product_at p)
-unfolding product_at
 product_shape p is rows f = made_row _ p _ _
     (ea_shape p Data size.Word p.line p.upper _ 3 is refl refl (flag_of p.bit is.bit) f) (λ ea. rows p.upper (p.bit == 1) ea)
 
@@ -167,7 +151,6 @@ packed_row : (n : ℕ) → n < 4 → PackedRow n
 packed_row n h = under_4 PackedRow (λ a b. absurd (a refl)) (λ a b x m y w. refl) (λ a b x m y w. refl) (λ a b. absurd (b refl)) n h
 
 packed_8_shape : (p : Opcode) → IsOpcode p → p.line ≡ 8 → p.bit ≡ 1 → p.mode < 2 → p.size ≢ 0 → p.size ≢ 3 → Shape row p (packed_8 p)
-unfolding packed_8
 packed_8_shape p is line bit low n0 n3 = made_row _ p _ _
     (word_shape p _ (op_is p 8 p.upper 1 p.size _ p.lower line refl bit refl (flag_of p.mode low) refl))
     (λ w. packed_row p.size is.size n0 n3 p.upper (p.mode == 1) p.lower w)
@@ -180,7 +163,6 @@ exchange_12_shape p line bit =
     (equals row p p.size 2 p.mode 1 _ _ (λ size mode. given p _ _ refl (op_is p 12 p.upper 1 2 1 p.lower line refl bit size mode refl)) (none row p)))
 
 pair_8_shape : (p : Opcode) → IsOpcode p → DecimalRow p.line → (p.line ≢ 8 → p.line ≡ 12) → p.bit ≡ 1 → p.mode < 2 → p.size ≢ 3 → Shape row p (pair_8 p)
-unfolding pair_8
 pair_8_shape p is decimals lines bit low n3 =
     equal row p p.size 0 _ _ (λ f.
     given p _ _ (decimals p.upper (p.mode == 1) p.lower) (op_is p p.line p.upper 1 0 _ p.lower refl refl bit f (flag_of p.mode low) refl)) (λ n0.
@@ -202,7 +184,6 @@ pub record LogicRows (n : ℕ) : Type 0 where
   pub lines : n ≢ 8 → n ≡ 12
 
 pub line_8_shape : (p : Opcode) → IsOpcode p → LogicRows p.line → Shape row p (line_8 p)
-unfolding line_8
 line_8_shape p is rows =
     equal row p p.size 3 _ _ (λ f. product_shape p is rows.product f) (λ n3.
     either row p (has_registers p) _ _
@@ -215,25 +196,21 @@ pub record SumRows (n : ℕ) : Type 0 where
   pub extended : ExtendedRow n
 
 pub line_9_shape : (p : Opcode) → IsOpcode p → SumRows p.line → Shape row p (line_9 p)
-unfolding line_9
 line_9_shape p is rows =
     equal row p p.size 3 _ _ (λ f. address_shape p is rows.address f) (λ n.
     either row p (has_registers p) _ _
     (λ e. let r = registers_of p e in extended_shape p is rows.extended r.bit r.low) (λ e. binary_shape p is rows.binary))
 
 cmp_11_shape : (p : Opcode) → IsOpcode p → p.line ≡ 11 → p.bit ≡ 0 → Shape row p (cmp_11 p)
-unfolding cmp_11
 cmp_11_shape p is line bit = made_row _ p _ _ (sized_shape p All 11 p.upper 0 is line refl bit) (λ x. refl)
 
 eor_11_shape : (p : Opcode) → IsOpcode p → p.line ≡ 11 → p.bit ≡ 1 → Shape row p (eor_11 p)
-unfolding eor_11
 eor_11_shape p is line bit =
     equal row p p.mode 1 _ _ (λ mode.
     by_size_shape row p p.size _ (λ s e. given p _ _ refl (op_is p 11 p.upper 1 _ 1 p.lower line refl bit (sym e) mode refl))) (λ n.
     made_row _ p _ _ (sized_shape p DataAlterable 11 p.upper 1 is line refl bit) (λ x. refl))
 
 pub line_11_shape : (p : Opcode) → IsOpcode p → p.line ≡ 11 → AddressRow p.line → Shape row p (line_11 p)
-unfolding line_11
 line_11_shape p is line rows =
     equal row p p.size 3 _ _ (λ f. address_shape p is rows f) (λ n.
     equal row p p.bit 0 _ _ (λ bit. cmp_11_shape p is line bit) (λ n. let below = is.bit in eor_11_shape p is line (omega arith)))

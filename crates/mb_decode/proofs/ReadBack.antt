@@ -62,7 +62,6 @@ full_read w bd od rest hb ho =
     rw append_assoc (next _ _ _ _ _ (wide_read (w / 2 ^ 4 % 4) bd (wide (w % 4) od ++ rest) hb) ∙ next _ _ _ _ _ (wide_read (w % 4) od rest ho))
 
 pub ext_read : (e : Ext) (rest : List ℕ) → is_ext e ≡ true → ext_at (ext e ++ rest) ≡ Ok (e, rest)
-unfolding ext_at
 ext_read (Brief w) rest h = next _ _ _ _ _ (word_read w rest) ∙ rw h refl
 ext_read (Full w bd od) rest h =
     let a = and_is (not (w / 2 ^ 8 % 2 == 0) && is_full w && fits_width (w / 2 ^ 4 % 4) bd) (fits_width (w % 4) od) h in

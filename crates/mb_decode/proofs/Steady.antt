@@ -206,13 +206,11 @@ full_steady w =
     (always _ _ (wide_steady _) (λ bd. made_readable _ _ (wide_steady _) (wide_readable _)))
 
 ext_steady : Steady ext_at
-unfolding ext_at
 ext_steady =
     then_steady _ _ word_steady (λ w. cond_steady (w / 2 ^ 8 % 2 == 0) _ _ (give_steady _) (cond_steady (is_full w) _ _ (full_steady w) illegal_steady))
     (word_ends _ 0 (omega arith) (give_readable (Brief 0)))
 
 ext_readable : Readable ext_at
-unfolding ext_at
 ext_readable = word_then_readable _ 0 (omega arith) (give_readable (Brief 0))
 
 pub immediate_steady : (s : Size) → Steady (immediate_at s)

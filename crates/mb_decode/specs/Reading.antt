@@ -75,7 +75,7 @@ full_at w = do
   od ← wide_at (extension_word w).outer_width
   give (Full w bd od)
 
-unfoldable pub ext_at : Reader Ext
+abbrev pub ext_at : Reader Ext
 ext_at = do
   w ← word_at
   if (extension_word w).is_full == 0 then give (Brief w) else when_legal (is_full w) (full_at w)

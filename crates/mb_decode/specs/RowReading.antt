@@ -45,15 +45,15 @@ is_immediate_field p = (p.mode == 7) && (p.lower == 4)
 -- ---- line 0: immediates, bits, CAS and CMP2
 
 -- 0000 ddd1 ks00 1aaa
-unfoldable pub movep_0 : Opcode → Reader Instr
+abbrev pub movep_0 : Opcode → Reader Instr
 movep_0 p = made word_at (λ w. Move (move.Movep p.upper (nat_lt 1 p.size) (size_of_bit (p.size % 2)) p.lower w))
 
 -- 0000 ddd1 kkmm mrrr
-unfoldable pub bit_register_0 : Opcode → Reader Instr
+abbrev pub bit_register_0 : Opcode → Reader Instr
 bit_register_0 p =
     made (ea_at (bit_class (bit_kind p.size)) size.Byte p) (λ ea. Arith (arith.BitReg p.upper (bit_kind p.size) ea))
 
-unfoldable pub odd_0 : Opcode → Reader Instr
+abbrev pub odd_0 : Opcode → Reader Instr
 odd_0 p = if p.mode == 1 then movep_0 p else bit_register_0 p
 
 -- bit 11 of the word tells CMP2 from CHK2
@@ -62,7 +62,7 @@ bounds_instr s w ea = if w / 2 ^ 11 % 2 == 0 then Arith (arith.Cmp2 s ea w) else
 
 -- size 3: CMP2 and CHK2 have their size in bits 10 and 9, CAS and CAS2 too
 -- 0000 0ss0 11mm mrrr
-unfoldable pub bounds_0 : Opcode → Reader Instr
+abbrev pub bounds_0 : Opcode → Reader Instr
 bounds_0 p = by_size p.upper (λ s. made (word_ea_at rule.RegisterAndBit Control s p) (λ (w, ea). bounds_instr s w ea))
 
 -- the size that CAS has in bits 10 and 9
@@ -110,23 +110,23 @@ status_0 p =
     if p.size == 1 then made word_at (λ w. to_sr_instr p.upper w) else illegal
 
 -- 0000 kkk0 ssmm mrrr
-unfoldable pub immediate_0 : Opcode → Reader Instr
+abbrev pub immediate_0 : Opcode → Reader Instr
 immediate_0 p =
     if is_immediate_field p then status_0 p else
     made (immediate_ea_at DataAlterable p) (λ (s, v, ea). immediate_instr p.upper s v ea)
 
 -- 0000 1100 ssmm mrrr
-unfoldable pub cmpi_0 : Opcode → Reader Instr
+abbrev pub cmpi_0 : Opcode → Reader Instr
 cmpi_0 p = made (immediate_ea_at DataAlterableOrPc p) (λ (s, v, ea). Arith (arith.Cmpi s ea v))
 
 -- 0000 1110 ssmm mrrr
-unfoldable pub moves_0 : Opcode → Reader Instr
+abbrev pub moves_0 : Opcode → Reader Instr
 moves_0 p =
     by_size p.size
     (λ s. made (word_ea_at rule.RegisterAndBit MemoryAlterable s p) (λ (w, ea). System (system.Moves s ea w)))
 
 -- 0000 1000 kkmm mrrr
-unfoldable pub bit_0 : Opcode → Reader Instr
+abbrev pub bit_0 : Opcode → Reader Instr
 bit_0 p =
     made (word_ea_at rule.Any (bit_class_immediate (bit_kind p.size)) size.Byte p)
     (λ (w, ea). Arith (arith.BitImm (bit_kind p.size) ea w))
@@ -138,7 +138,7 @@ even_0 p =
     if p.upper == 6 then cmpi_0 p else
     if p.upper == 7 then moves_0 p else immediate_0 p
 
-unfoldable pub line_0 : Opcode → Reader Instr
+abbrev pub line_0 : Opcode → Reader Instr
 line_0 p = if p.bit == 1 then odd_0 p else even_0 p
 
 -- ---- lines 1 to 3: MOVE and MOVEA
@@ -159,7 +159,7 @@ move_at s p = when_legal (allows_move s p) (do
   give (Move (move.Move s destination source)))
 
 -- 00ss aaa0 01mm mrrr
-unfoldable pub movea_at : Size → Opcode → Reader Instr
+abbrev pub movea_at : Size → Opcode → Reader Instr
 movea_at s p = when_legal (not_byte s) (made (ea_at All s p) (λ ea. Move (move.Movea s p.upper ea)))
 
 unfoldable pub line_move : Opcode → Reader Instr
@@ -175,7 +175,7 @@ unary_instr n s ea =
     if n == 2 then Arith (arith.Neg s ea) else Arith (arith.Not s ea)
 
 -- 0100 0kk0 ssmm mrrr
-unfoldable pub unary_4 : Opcode → Reader Instr
+abbrev pub unary_4 : Opcode → Reader Instr
 unary_4 p = made (sized_at DataAlterable p) (λ (s, ea). unary_instr p.upper s ea)
 
 -- MOVE from SR, from CCR, to CCR, to SR
@@ -189,17 +189,17 @@ status_instr n ea =
     if n == 2 then Move (move.ToCcr ea) else System (system.ToSr ea)
 
 -- 0100 0kk0 11mm mrrr
-unfoldable pub status_4 : Opcode → Reader Instr
+abbrev pub status_4 : Opcode → Reader Instr
 status_4 p = made (ea_at (status_class p.upper) size.Word p) (λ ea. status_instr p.upper ea)
 
 -- 0100 1000 00mm mrrr; LINK.L is 0100 1000 0000 1aaa
-unfoldable pub nbcd_4 : Opcode → Reader Instr
+abbrev pub nbcd_4 : Opcode → Reader Instr
 nbcd_4 p =
     if p.mode == 1 then made long_at (λ d. Move (move.LinkL p.lower d)) else
     made (ea_at DataAlterable size.Byte p) (λ ea. Arith (arith.Nbcd ea))
 
 -- 0100 1000 01mm mrrr; SWAP is 0100 1000 0100 0ddd
-unfoldable pub pea_4 : Opcode → Reader Instr
+abbrev pub pea_4 : Opcode → Reader Instr
 pea_4 p =
     if p.mode == 0 then give (Move (move.Swap p.lower)) else
     made (ea_at Control size.Long p) (λ ea. Move (move.Pea ea))
@@ -217,7 +217,7 @@ movem_store_4 p =
 
 -- TST of the fourth size is TAS
 -- 0100 1010 ssmm mrrr
-unfoldable pub tst_4 : Opcode → Reader Instr
+abbrev pub tst_4 : Opcode → Reader Instr
 tst_4 p =
     if p.size == 3 then made (ea_at DataAlterable size.Byte p) (λ ea. Arith (arith.Tas ea)) else
     made (sized_at All p) (λ (s, ea). Arith (arith.Tst s ea))
@@ -226,11 +226,11 @@ abbrev pub long_pair_instr : ℕ → ℕ → Ea → Instr
 long_pair_instr n w ea = if n == 0 then Arith (arith.MulL ea w) else Arith (arith.DivL ea w)
 
 -- 0100 1100 0kmm mrrr
-unfoldable pub long_pair_4 : Opcode → Reader Instr
+abbrev pub long_pair_4 : Opcode → Reader Instr
 long_pair_4 p = made (word_ea_at rule.LongPair Data size.Long p) (λ (w, ea). long_pair_instr p.size w ea)
 
 -- 0100 1100 1smm mrrr
-unfoldable pub movem_load_4 : Opcode → Reader Instr
+abbrev pub movem_load_4 : Opcode → Reader Instr
 movem_load_4 p =
     made (word_ea_at rule.Any LoadList (size_of_bit (p.size % 2)) p)
     (λ (w, ea). Move (move.MovemLoad (size_of_bit (p.size % 2)) ea w))
@@ -239,7 +239,7 @@ abbrev pub jump_instr : ℕ → Ea → Instr
 jump_instr n ea = if n == 2 then Flow (flow.Jsr ea) else Flow (flow.Jmp ea)
 
 -- 0100 1110 1kmm mrrr
-unfoldable pub jump_4 : Opcode → Reader Instr
+abbrev pub jump_4 : Opcode → Reader Instr
 jump_4 p = made (ea_at Control size.Long p) (λ ea. jump_instr p.size ea)
 
 -- $4E70 to $4E77
@@ -291,7 +291,7 @@ abbrev pub chk_size : ℕ → Size
 chk_size n = if n == 0 then size.Long else size.Word
 
 -- 0100 ddd1 s0mm mrrr
-unfoldable pub chk_4 : Opcode → Reader Instr
+abbrev pub chk_4 : Opcode → Reader Instr
 chk_4 p = made (ea_at Data (chk_size p.size) p) (λ ea. Flow (flow.Chk p.upper (chk_size p.size) ea))
 
 unfoldable pub odd_4 : Opcode → Reader Instr
@@ -315,14 +315,14 @@ abbrev pub quick_instr : ℕ → ℕ → Size → Ea → Instr
 quick_instr n q s ea = if n == 0 then Arith (arith.Addq q s ea) else Arith (arith.Subq q s ea)
 
 -- 0101 qqqk ssmm mrrr
-unfoldable pub quick_5 : Opcode → Reader Instr
+abbrev pub quick_5 : Opcode → Reader Instr
 quick_5 p = made (sized_at Alterable p) (λ (s, ea). quick_instr p.bit (quick_value p.upper) s ea)
 
-unfoldable pub line_5 : Opcode → Reader Instr
+abbrev pub line_5 : Opcode → Reader Instr
 line_5 p = if p.size == 3 then conditional_5 (condition_of p.upper p.bit) p else quick_5 p
 
 -- 0110 cccc bbbb bbbb
-unfoldable pub line_6 : Opcode → Reader Instr
+abbrev pub line_6 : Opcode → Reader Instr
 line_6 p = made (branch_at (low_byte p)) (λ d. Flow (flow.Bcc (condition_of p.upper p.bit) d))
 
 -- 0111 ddd0 nnnn nnnn
@@ -342,7 +342,7 @@ binary_instr line d k s ea =
     if line == 12 then Arith (arith.And d k s ea) else Arith (arith.Add d k s ea)
 
 -- llll dddk ssmm mrrr
-unfoldable pub binary_at : Opcode → Reader Instr
+abbrev pub binary_at : Opcode → Reader Instr
 binary_at p =
     made (sized_at (side (source_class p.line) (p.bit == 1)) p)
     (λ (s, ea). binary_instr p.line p.upper (p.bit == 1) s ea)
@@ -354,7 +354,7 @@ address_instr line a s ea =
     if line == 11 then Arith (arith.Cmpa a s ea) else Arith (arith.Adda a s ea)
 
 -- llll aaas 11mm mrrr
-unfoldable pub address_at : Opcode → Reader Instr
+abbrev pub address_at : Opcode → Reader Instr
 address_at p = made (ea_at All (size_of_bit p.bit) p) (λ ea. address_instr p.line p.upper (size_of_bit p.bit) ea)
 
 -- SUBX, ADDX
@@ -362,7 +362,7 @@ abbrev pub extended_instr : ℕ → ℕ → Size → Bool → ℕ → Instr
 extended_instr line x s m y = if line == 9 then Arith (arith.Subx x s m y) else Arith (arith.Addx x s m y)
 
 -- llll xxx1 ss00 kyyy
-unfoldable pub extended_at : Opcode → Reader Instr
+abbrev pub extended_at : Opcode → Reader Instr
 extended_at p = by_size p.size (λ s. give (extended_instr p.line p.upper s (p.mode == 1) p.lower))
 
 -- DIVU and DIVS, MULU and MULS
@@ -370,7 +370,7 @@ abbrev pub product_instr : ℕ → ℕ → Bool → Ea → Instr
 product_instr line d g ea = if line == 8 then Arith (arith.DivW d g ea) else Arith (arith.MulW d g ea)
 
 -- llll dddg 11mm mrrr
-unfoldable pub product_at : Opcode → Reader Instr
+abbrev pub product_at : Opcode → Reader Instr
 product_at p = made (ea_at Data size.Word p) (λ ea. product_instr p.line p.upper (p.bit == 1) ea)
 
 -- SBCD, ABCD
@@ -382,7 +382,7 @@ abbrev pub packed_instr : ℕ → ℕ → Bool → ℕ → ℕ → Instr
 packed_instr n x m y w = if n == 1 then Arith (arith.Pack x m y w) else Arith (arith.Unpk x m y w)
 
 -- 1000 xxx1 kk00 kyyy
-unfoldable pub packed_8 : Opcode → Reader Instr
+abbrev pub packed_8 : Opcode → Reader Instr
 packed_8 p = made word_at (λ w. packed_instr p.size p.upper (p.mode == 1) p.lower w)
 
 -- 1100 xxx1 kkkk kyyy
@@ -396,33 +396,33 @@ exchange_12 p =
 abbrev pub has_registers : Opcode → Bool
 has_registers p = (p.bit == 1) && nat_lt p.mode 2
 
-unfoldable pub pair_8 : Opcode → Reader Instr
+abbrev pub pair_8 : Opcode → Reader Instr
 pair_8 p =
     if p.size == 0 then give (decimal_instr p.line p.upper (p.mode == 1) p.lower) else
     if p.line == 8 then packed_8 p else exchange_12 p
 
-unfoldable pub line_8 : Opcode → Reader Instr
+abbrev pub line_8 : Opcode → Reader Instr
 line_8 p =
     if p.size == 3 then product_at p else
     if has_registers p then pair_8 p else binary_at p
 
-unfoldable pub line_9 : Opcode → Reader Instr
+abbrev pub line_9 : Opcode → Reader Instr
 line_9 p =
     if p.size == 3 then address_at p else
     if has_registers p then extended_at p else binary_at p
 
 -- 1011 ddd0 ssmm mrrr
-unfoldable pub cmp_11 : Opcode → Reader Instr
+abbrev pub cmp_11 : Opcode → Reader Instr
 cmp_11 p = made (sized_at All p) (λ (s, ea). Arith (arith.Cmp p.upper s ea))
 
 -- CMPM stands where EOR has no operand
 -- 1011 ddd1 ssmm mrrr; CMPM is 1011 xxx1 ss00 1yyy
-unfoldable pub eor_11 : Opcode → Reader Instr
+abbrev pub eor_11 : Opcode → Reader Instr
 eor_11 p =
     if p.mode == 1 then by_size p.size (λ s. give (Arith (arith.Cmpm p.upper s p.lower))) else
     made (sized_at DataAlterable p) (λ (s, ea). Arith (arith.Eor p.upper s ea))
 
-unfoldable pub line_11 : Opcode → Reader Instr
+abbrev pub line_11 : Opcode → Reader Instr
 line_11 p =
     if p.size == 3 then address_at p else
     if p.bit == 0 then cmp_11 p else eor_11 p
@@ -435,12 +435,12 @@ shift_count by_register field = if by_register then field else quick_value field
 
 -- mode 4 and above: the count is in a register
 -- 1110 nnnl ssik kddd
-unfoldable pub shift_14 : Opcode → Reader Instr
+abbrev pub shift_14 : Opcode → Reader Instr
 shift_14 p = by_size p.size (λ s. give (Arith (arith.ShiftReg
     (shift_count (nat_lt 3 p.mode) p.upper) (p.bit == 1) s (nat_lt 3 p.mode) (shift_kind (p.mode % 4)) p.lower)))
 
 -- 1110 0kkl 11mm mrrr
-unfoldable pub shift_mem_14 : Opcode → Reader Instr
+abbrev pub shift_mem_14 : Opcode → Reader Instr
 shift_mem_14 p =
     made (ea_at MemoryAlterable size.Word p) (λ ea. Arith (arith.ShiftMem (shift_kind p.upper) (p.bit == 1) ea))
 
@@ -449,12 +449,12 @@ abbrev pub field_kind_in : Opcode → FieldKind
 field_kind_in p = field_kind (p.upper % 4 * 2 + p.bit)
 
 -- 1110 1kkk 11mm mrrr
-unfoldable pub field_14 : Opcode → Reader Instr
+abbrev pub field_14 : Opcode → Reader Instr
 field_14 p =
     made (word_ea_at (field_rule (field_kind_in p)) (field_class (field_kind_in p)) size.Long p)
     (λ (w, ea). Arith (arith.Field (field_kind_in p) ea w))
 
-unfoldable pub line_14 : Opcode → Reader Instr
+abbrev pub line_14 : Opcode → Reader Instr
 line_14 p = if p.size == 3 then (if nat_lt p.upper 4 then shift_mem_14 p else field_14 p) else shift_14 p
 
 -- ---- line 15: caches, translation and MOVE16

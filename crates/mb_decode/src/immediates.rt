@@ -13,7 +13,7 @@ use mb_instr::{
 };
 
 /// MOVEP.
-#[tactic(auto, unfolding(crate::specs::Reading::reads_then, crate::specs::RowReading::movep_0))]
+#[tactic(auto, unfolding(crate::specs::Reading::reads_then))]
 fn movep(op: Opcode, words: &[u16]) -> Reading<'_, Instr>
     requires { IsOpcode op }
     ensures { Gives result (movep_0 op words.now) }
@@ -30,7 +30,7 @@ fn movep(op: Opcode, words: &[u16]) -> Reading<'_, Instr>
 }
 
 /// The bit instructions with the number in a register.
-#[tactic(auto, unfolding(crate::specs::Reading::reads_then, crate::specs::RowReading::bit_register_0))]
+#[tactic(auto, unfolding(crate::specs::Reading::reads_then))]
 fn bit_register(op: Opcode, words: &[u16]) -> Reading<'_, Instr>
     requires { IsOpcode op }
     ensures { Gives result (bit_register_0 op words.now) }
@@ -53,7 +53,7 @@ fn bounds_instr(size: Size, word: u16, ea: Ea) -> Instr
 }
 
 /// CMP2 and CHK2.
-#[tactic(auto, unfolding(crate::specs::Reading::reads_then, crate::specs::RowReading::bounds_0))]
+#[tactic(auto, unfolding(crate::specs::Reading::reads_then))]
 fn bounds(op: Opcode, words: &[u16]) -> Reading<'_, Instr>
     requires { IsOpcode op }
     ensures { Gives result (bounds_0 op words.now) }
@@ -198,7 +198,7 @@ fn status(op: Opcode, words: &[u16]) -> Reading<'_, Instr>
 }
 
 /// ORI, ANDI, SUBI, ADDI and EORI.
-#[tactic(auto, unfolding(crate::specs::Reading::reads_then, crate::specs::RowReading::immediate_0))]
+#[tactic(auto, unfolding(crate::specs::Reading::reads_then))]
 fn immediate(op: Opcode, words: &[u16]) -> Reading<'_, Instr>
     requires { IsOpcode op }
     ensures { Gives result (immediate_0 op words.now) }
@@ -211,7 +211,7 @@ fn immediate(op: Opcode, words: &[u16]) -> Reading<'_, Instr>
 }
 
 /// CMPI.
-#[tactic(auto, unfolding(crate::specs::Reading::reads_then, crate::specs::RowReading::cmpi_0))]
+#[tactic(auto, unfolding(crate::specs::Reading::reads_then))]
 fn cmpi(op: Opcode, words: &[u16]) -> Reading<'_, Instr>
     requires { IsOpcode op }
     ensures { Gives result (cmpi_0 op words.now) }
@@ -226,7 +226,7 @@ fn cmpi(op: Opcode, words: &[u16]) -> Reading<'_, Instr>
 }
 
 /// MOVES.
-#[tactic(auto, unfolding(crate::specs::Reading::reads_then, crate::specs::RowReading::moves_0))]
+#[tactic(auto, unfolding(crate::specs::Reading::reads_then))]
 fn moves(op: Opcode, words: &[u16]) -> Reading<'_, Instr>
     requires { IsOpcode op }
     ensures { Gives result (moves_0 op words.now) }
@@ -240,7 +240,7 @@ fn moves(op: Opcode, words: &[u16]) -> Reading<'_, Instr>
 }
 
 /// The bit instructions with the number in a word.
-#[tactic(auto, unfolding(crate::specs::Reading::reads_then, crate::specs::RowReading::bit_0))]
+#[tactic(auto, unfolding(crate::specs::Reading::reads_then))]
 fn bit_immediate(op: Opcode, words: &[u16]) -> Reading<'_, Instr>
     requires { IsOpcode op }
     ensures { Gives result (bit_0 op words.now) }
@@ -251,7 +251,7 @@ fn bit_immediate(op: Opcode, words: &[u16]) -> Reading<'_, Instr>
 }
 
 /// Bit 8 set.
-#[tactic(auto, unfolding(crate::specs::Reading::reads_then, crate::specs::RowReading::odd_0))]
+#[tactic(auto, unfolding(crate::specs::Reading::reads_then))]
 fn odd(op: Opcode, words: &[u16]) -> Reading<'_, Instr>
     requires { IsOpcode op }
     ensures { Gives result (odd_0 op words.now) }
@@ -280,7 +280,7 @@ fn even(op: Opcode, words: &[u16]) -> Reading<'_, Instr>
 }
 
 /// The rows of line 0.
-#[tactic(auto, unfolding(crate::specs::Reading::reads_then, crate::specs::RowReading::line_0))]
+#[tactic(auto, unfolding(crate::specs::Reading::reads_then))]
 pub fn line_0(op: Opcode, words: &[u16]) -> Reading<'_, Instr>
     requires { IsOpcode op }
     ensures { Gives result (line_0 op words.now) }

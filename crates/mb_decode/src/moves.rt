@@ -45,7 +45,7 @@ fn move_row(size: Size, op: Opcode, words: &[u16]) -> Reading<'_, Instr>
 }
 
 /// MOVEA.
-#[tactic(auto, unfolding(crate::specs::Reading::reads_then, crate::specs::RowReading::movea_at))]
+#[tactic(auto, unfolding(crate::specs::Reading::reads_then))]
 fn movea(size: Size, op: Opcode, words: &[u16]) -> Reading<'_, Instr>
     requires { IsOpcode op }
     ensures { Gives result (movea_at size op words.now) }

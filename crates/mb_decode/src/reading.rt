@@ -79,7 +79,7 @@ fn full(first: u16, words: &[u16]) -> Reading<'_, Ext>
 }
 
 #[inline(always)]
-#[tactic(auto, unfolding(crate::specs::Reading::reads_then, crate::specs::Reading::ext_at))]
+#[tactic(auto, unfolding(crate::specs::Reading::reads_then))]
 fn extension(words: &[u16]) -> Reading<'_, Ext>
     ensures { Gives result (ext_at words.now) }
 {

@@ -33,7 +33,7 @@ index_value w p =
     if (extension_word w).is_long == 1 then index_register w p else sign_extended Word (index_register w p)
 
 -- 1, 2, 4 or 8 times
-unfoldable pub index_of : ℕ → Plain → ℕ
+abbrev pub index_of : ℕ → Plain → ℕ
 index_of w p = (index_value w p * 2 ^ (extension_word w).scale) % 2 ^ 32
 
 -- a full word's displacement as it counts: of width 2 a word, of width 3 a long; 0 where there is none

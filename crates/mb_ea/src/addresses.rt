@@ -56,7 +56,6 @@ fn index_value(word: u16, plain: &Plain) -> u32
 
 /// The index that an extension word spells, scaled.
 #[inline(always)]
-#[tactic(auto, unfolding(crate::specs::Addresses::index_of))]
 pub(crate) fn index(word: u16, plain: &Plain) -> u32
     ensures { result ≡ index_of word plain.now }
 {

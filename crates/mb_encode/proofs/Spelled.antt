@@ -55,7 +55,6 @@ not_chosen true v h e = cc
 not_chosen false v h e = cc
 
 pub spelled : (r : Row) (w : List ℕ) → written r ≡ Some w → AreWords w → Spells r w
-unfolding written
 spelled r w e fit =
     let c = chosen (r.legal && is_opcode r.opcode) (words_of r) w e in
     let p = and_is r.legal (is_opcode r.opcode) c.0 in
@@ -65,7 +64,6 @@ spelled r w e fit =
     }
 
 pub not_spelled : (r : Row) → written r ≡ None → Has r → ⊥
-unfolding written
 not_spelled r e h = not_chosen (r.legal && is_opcode r.opcode) (words_of r) (both h.legal (is_opcode_of r.opcode h.fields)) e
 
 -- the words of a slice are words

@@ -11,5 +11,5 @@ Gives view (Ok x) words = words ≡ Some (view x)
 Gives view (Err e) words = words ≡ None
 
 -- the words of a row that has the value
-unfoldable pub written : Row → Option (List ℕ)
+abbrev pub written : Row → Option (List ℕ)
 written r = if r.legal && is_opcode r.opcode then Some (words_of r) else None

@@ -121,7 +121,6 @@ all_found machines host k left is none =
 -- ---- what is found and what is said
 
 all_compared : (guests : List GuestAtStart) → same_each (map (outcome_by rule_a) guests) (map (outcome_by rule_k) guests) ≡ map is_same guests
-unfolding is_same
 all_compared [] = refl
 all_compared (g ∷ guests) = ap (λ rest. is_same g ∷ rest) (all_compared guests)
 

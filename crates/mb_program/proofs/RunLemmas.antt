@@ -31,7 +31,6 @@ all_left g =
     none
 
 ended_so : (g : GuestAtStart) → seen_machine (machine_at_end (member_at_start g)) ≡ outcome_by rule_k g
-unfolding outcome_by
 ended_so g = ap (λ n. seen_machine (run_of rule_k g.script n (start rule_k g.image g.ram))) (all_left g)
 
 all_ended : (guests : List GuestAtStart) → map seen_machine (map machine_at_end (map member_at_start guests)) ≡ map (outcome_by rule_k) guests
@@ -52,7 +51,6 @@ shown_so guests before after begun ended =
 -- ---- what is counted
 
 tally_so : (g : GuestAtStart) → tally_at_end (member_at_start g) ≡ tally_by g
-unfolding tally_by
 tally_so g = ap (λ n. (turn_of g.script n (prepared g.image g.ram)).tally) (all_left g)
 
 all_tallied : (guests : List GuestAtStart) → map tally_at_end (map member_at_start guests) ≡ tallies_by guests
@@ -85,7 +83,6 @@ exits_sum (m ∷ members) = ap (λ (n : ℕ). exits m.tally + n) (exits_sum memb
 -- the turns that are named, and then the rounds
 marked_so : (s : Ordered) (slice : ℕ) (before turned : List Member) → before ≡ map member_at_start s.session.guests → slice ≡ s.session.slice
     → turned ≡ (after_order s.order before).members → (after_order s.order before).marks ++ (after_rounds slice turned).marks ≡ (hosted_by s).marks
-unfolding hosted_by
 marked_so s slice before turned begun same is =
     ap (λ ms. (after_order s.order before).marks ++ (after_rounds slice ms).marks) is
     ∙ ap (λ (n : ℕ). (after_order s.order before).marks ++ (after_rounds n (after_order s.order before).members).marks) same

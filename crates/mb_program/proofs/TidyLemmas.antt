@@ -23,7 +23,6 @@ use Rattle.mb_program.proofs.SessionLemmas.{asked_so, compare_known, some_differ
 
 -- a tidy guest shows the same on the board and under the monitor
 tidy_is_same : (guest : GuestAtStart) → IsTidyGuest guest → is_same guest ≡ true
-unfolding is_same outcome_by
 tidy_is_same guest tidy =
     (seen_decides (outcome_by rule_a guest) (outcome_by rule_k guest)).1
     (rules-show_the_same rule_a rule_k guest.image guest.script guest.ram guest.steps tidy)

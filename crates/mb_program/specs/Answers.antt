@@ -106,19 +106,19 @@ abbrev pub source_why : source_fault.Fault → FileWhy
 source_why fault = Line fault.number (Source fault.kind)
 
 -- the image that bytes are, for so many bytes of RAM, or why they are refused
-unfoldable pub image_in : (size : ℕ) → Text → Result Contents FileWhy
+abbrev pub image_in : (size : ℕ) → Text → Result Contents FileWhy
 image_in size bytes = result_map_both (λ image. image) image_why (records_of bytes size)
 
 -- the script that bytes are
-unfoldable pub script_in : Text → Result Entries FileWhy
+abbrev pub script_in : Text → Result Entries FileWhy
 script_in bytes = result_map_both (λ script. script) line_why (script_of bytes)
 
 -- the image whose source bytes are
-unfoldable pub source_in : Text → Result Contents FileWhy
+abbrev pub source_in : Text → Result Contents FileWhy
 source_in bytes = result_map_both (λ image. image) source_why (assembled bytes)
 
 -- the session that bytes are
-unfoldable pub session_in : Text → Result Plan FileWhy
+abbrev pub session_in : Text → Result Plan FileWhy
 session_in bytes = result_map_both (λ plan. plan) line_why (session_of bytes)
 
 -- a file is refused for its reason, or the course goes on by what it holds
@@ -138,7 +138,7 @@ reads_if_named held_in (Some file) otherwise next = reads_as held_in file next
 -- ---- machines
 
 -- what a machine shows, by a rule of keeping, after its steps, or fewer where it halts or is switched off
-unfoldable pub outcome_by : Rule → GuestAtStart → Seen
+abbrev pub outcome_by : Rule → GuestAtStart → Seen
 outcome_by rule guest = seen_machine (run_of rule guest.script guest.steps (start rule guest.image guest.ram))
 
 abbrev pub guest_by : Run → Contents → Entries → GuestAtStart
@@ -238,7 +238,7 @@ host_course name = reads_session name (λ s. ends (host_answer s))
 -- ---- compare
 
 -- whether a guest shows the same on the board and under the monitor
-unfoldable pub is_same : GuestAtStart → Bool
+abbrev pub is_same : GuestAtStart → Bool
 is_same guest = same_seen (outcome_by rule_a guest) (outcome_by rule_k guest)
 
 abbrev pub compared_text : ℕ → Bool → Text

@@ -10,7 +10,7 @@ use Rattle.vm_slices.specs.Places.{HostState, members_in}
 use Rattle.mb_program.specs.declared.bare_machine.BareMachine.{BareMachine}
 
 -- what a machine will show after its steps
-unfoldable pub outcome_ahead : BareMachine → Seen
+abbrev pub outcome_ahead : BareMachine → Seen
 outcome_ahead m = seen_machine (run_of rule_a m.script m.steps (machine_in m.board))
 
 -- of each pair of outcomes, in their order, whether they are the same

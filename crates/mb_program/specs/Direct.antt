@@ -22,7 +22,7 @@ unordered session = record { session = session; order = [] }
 -- ---- the steps of a guest
 
 -- How many of each class a guest takes alone, from its start and with nothing in its shadow.
-unfoldable pub tally_by : GuestAtStart → Tally
+abbrev pub tally_by : GuestAtStart → Tally
 tally_by guest = tally_of guest.image guest.script guest.ram guest.steps
 
 abbrev pub tallies_by : List GuestAtStart → List Tally
@@ -49,7 +49,7 @@ counts_line i t = codes "guest " ++ decimal i
 
 -- all guests after the turns that are named and then their rounds, with the marks of their retired steps, one turn
 -- after the other
-unfoldable pub hosted_by : Ordered → Hosted
+abbrev pub hosted_by : Ordered → Hosted
 hosted_by s = after_session s.order s.session.slice (map member_at_start s.session.guests)
 
 -- What is counted once all guests have run.

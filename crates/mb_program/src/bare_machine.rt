@@ -31,7 +31,6 @@ impl BareMachine {
     ghost use Rattle.mb_program.specs.Compares.{outcome_ahead};
 
     /// A guest of a session by itself.
-    #[tactic(auto, unfolding(crate::specs::Answers::outcome_by, crate::specs::Compares::outcome_ahead))]
     pub(crate) fn prepare(alloc: Global, guest: &SessionGuest) -> Result<BareMachine, Memory>
         requires { IsGuest guest.now }
         ensures { IfOk result (λ machine. outcome_ahead machine ≡ outcome_by rule_a guest.now) }
@@ -46,7 +45,6 @@ impl BareMachine {
     }
 
     /// Takes its steps, and tells whether it then shows the same as the guest of this number.
-    #[tactic(auto, unfolding(crate::specs::Compares::outcome_ahead))]
     pub(crate) fn is_same_as(self, host: &Host, number: u8) -> bool
         requires { (1 ≤ number) × (number ≤ length (members_in host.now)) }
         ensures { IfSome (numbered number (shown_of (members_in host.now)))

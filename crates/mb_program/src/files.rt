@@ -111,7 +111,6 @@ fn load_file<F: Shelf>(alloc: Global, shelf: &mut F, name: &str) -> Result<Loade
 }
 
 /// Reads the image of a file, for so many bytes of RAM.
-#[tactic(auto, unfolding(crate::specs::Answers::image_in))]
 pub(crate) fn image_file<F: Shelf>(
     alloc: Global,
     shelf: &mut F,
@@ -132,7 +131,6 @@ pub(crate) fn image_file<F: Shelf>(
 }
 
 /// Reads the script of a file.
-#[tactic(auto, unfolding(crate::specs::Answers::script_in))]
 fn script_file<F: Shelf>(alloc: Global, shelf: &mut F, name: &str) -> Result<Script, End>
     ensures reads { Reads script_in (λ script. script) (shelf_seen F.Shelf shelf.old)
         (shelf_seen F.Shelf shelf.new) name.now result }
@@ -164,7 +162,6 @@ pub(crate) fn script_if_named<F: Shelf>(
 }
 
 /// Reads the plan of a session file.
-#[tactic(auto, unfolding(crate::specs::Answers::session_in))]
 pub(crate) fn session_file<F: Shelf>(
     alloc: Global,
     shelf: &mut F,
@@ -184,7 +181,6 @@ pub(crate) fn session_file<F: Shelf>(
 }
 
 /// Assembles the source of a file.
-#[tactic(auto, unfolding(crate::specs::Answers::source_in))]
 pub(crate) fn source_file<F: Shelf>(alloc: Global, shelf: &mut F, name: &str) -> Result<Image, End>
     ensures reads { Reads source_in contents_of (shelf_seen F.Shelf shelf.old)
         (shelf_seen F.Shelf shelf.new) name.now result }

@@ -60,7 +60,6 @@ pub(crate) fn start_board(alloc: Global, image: &Image, size: u32) -> Result<Boa
 }
 
 /// A board with a machine on it after its steps.
-#[tactic(auto, unfolding(crate::specs::Answers::outcome_by))]
 fn run_board(alloc: Global, guest: &SessionGuest) -> Result<Board, Memory>
     requires { IsGuest guest.now }
     ensures after { IfOk result (λ board. seen_machine (machine_in board) ≡ outcome_by rule_a guest.now) }

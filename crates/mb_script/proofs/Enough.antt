@@ -27,7 +27,6 @@ begins_by_six [] = refl
 begins_by_six (a ∷ words) = refl
 
 turn_words_by_six : (words : List (List ℕ)) → turn_words_of (take 6 words) ≡ turn_words_of words
-unfolding turn_words_of
 turn_words_by_six [] = refl
 turn_words_by_six (a ∷ []) = refl
 turn_words_by_six (a ∷ b ∷ []) = refl

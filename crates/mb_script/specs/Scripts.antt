@@ -37,7 +37,7 @@ written_by (form, rest) =
     else None
 
 -- what stands behind `at STEP`: `abort`, or one of the others
-unfoldable pub written_as : List ℕ → Option Written
+abbrev pub written_as : List ℕ → Option Written
 written_as words =
     if bytes_eq words (codes "abort") then Some Abort else option_and_then written_by (cut_at_space words)
 
@@ -49,7 +49,7 @@ abbrev pub behind_at : List ℕ × List ℕ → Option Parts
 behind_at (first, words) = if bytes_eq first (codes "at") then option_and_then with_step (cut_at_space words) else None
 
 -- a line `at STEP` and what is due, with single spaces between the words
-unfoldable pub parts_of : List ℕ → Option Parts
+abbrev pub parts_of : List ℕ → Option Parts
 parts_of line = option_and_then behind_at (cut_at_space line)
 
 -- 1 to 4,294,967,295
@@ -91,7 +91,7 @@ abbrev pub not_before : ℕ → Entry → Result Entry LineWhy
 not_before last entry = if nat_lt entry.step last then Err why.Order else Ok entry
 
 -- what a line says behind a line of the step `last`
-unfoldable pub entry_after : ℕ → List ℕ → Result Entry LineWhy
+abbrev pub entry_after : ℕ → List ℕ → Result Entry LineWhy
 entry_after last line = entry_of line >>= not_before last
 
 -- each input with the step

@@ -84,15 +84,15 @@ abbrev pub argument_in : List ℕ → List ℕ → Result (List ℕ) LineWhy
 argument_in keyword line = ok_or (argument_of keyword (words_of line)) why.Word
 
 -- `session 1` or `session 2`
-unfoldable pub session_line : List ℕ → Result ℕ LineWhy
+abbrev pub session_line : List ℕ → Result ℕ LineWhy
 session_line line = argument_in (codes "session") line >>= λ word. ok_or (version_of word) why.Number
 
 -- `board KIB`
-unfoldable pub board_line : List ℕ → Result ℕ LineWhy
+abbrev pub board_line : List ℕ → Result ℕ LineWhy
 board_line line = argument_in (codes "board") line >>= λ word. ok_or (board_of word) why.Number
 
 -- `slice N`
-unfoldable pub slice_line : List ℕ → Result ℕ LineWhy
+abbrev pub slice_line : List ℕ → Result ℕ LineWhy
 slice_line line = argument_in (codes "slice") line >>= λ word. ok_or (slice_of word) why.Number
 
 -- there are at most sixteen guests
@@ -100,7 +100,7 @@ abbrev pub unless_sixteen : ℕ → Guest → Result Guest LineWhy
 unless_sixteen count guest = if count == MOST_GUESTS then Err why.Many else Ok guest
 
 -- a guest behind so many others
-unfoldable pub guest_line : ℕ → List ℕ → Result Guest LineWhy
+abbrev pub guest_line : ℕ → List ℕ → Result Guest LineWhy
 guest_line count line = guest_of (words_of line) >>= unless_sixteen count
 
 -- ---- turns
@@ -115,7 +115,7 @@ abbrev pub ends_guests : (version : ℕ) → List ℕ → Bool
 ends_guests version line = (version == 2) && begins_turn (words_of line)
 
 -- `turn I N`
-unfoldable pub turn_words_of : List (List ℕ) → Option (List ℕ × List ℕ)
+abbrev pub turn_words_of : List (List ℕ) → Option (List ℕ × List ℕ)
 turn_words_of (first ∷ guest ∷ steps ∷ []) = if bytes_eq first (codes "turn") then Some (guest, steps) else None
 turn_words_of _ = None
 
@@ -132,7 +132,7 @@ turn_of count words = do
   Ok (record { guest = guest; steps = steps })
 
 -- the turn in a line
-unfoldable pub turn_line : (count : ℕ) → List ℕ → Result Turn LineWhy
+abbrev pub turn_line : (count : ℕ) → List ℕ → Result Turn LineWhy
 turn_line count line = turn_of count (words_of line)
 
 -- ---- all lines

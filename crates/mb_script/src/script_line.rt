@@ -79,7 +79,6 @@ fn is_word(characters: &[u8]) -> bool
 }
 
 /// The words of a line `at STEP ..`.
-#[tactic(auto, unfolding(crate::specs::Scripts::parts_of))]
 fn parts_of(line: &[u8]) -> Option<Parts<'_>>
     ensures given { option_map parts_said result ≡ parts_of line.now }
     ensures short { IfSome result (λ parts. written_len parts.written + 1 ≤ length line.now) }
@@ -97,7 +96,6 @@ fn parts_of(line: &[u8]) -> Option<Parts<'_>>
 }
 
 /// What stands behind `at STEP `.
-#[tactic(auto, unfolding(crate::specs::Scripts::written_as))]
 fn written_as(words: &[u8]) -> Option<Written<'_>>
     ensures given { option_map written_said result ≡ written_as words.now }
     ensures short { IfSome result (λ written. written_len written ≤ length words.now) }

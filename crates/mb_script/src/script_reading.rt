@@ -51,7 +51,6 @@ fn entries_of(alloc: Global, text: &[u8]) -> Result<Vec<(u32, Input)>, LineFault
 }
 
 /// What a line says behind a line of the step `last`.
-#[tactic(auto, unfolding(crate::specs::Scripts::entry_after))]
 fn entry_after(alloc: Global, last: u32, line: Line) -> Result<Entry, LineFault>
     ensures given { Gives entry_said result (read_by (entry_after last) (line_said line.entry)) }
     ensures later { IfOk result (λ entry. last ≤ entry.step) }

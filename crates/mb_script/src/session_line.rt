@@ -26,7 +26,6 @@ struct Fields<'a> {
 }
 
 /// The number in a line `session 1` or `session 2`.
-#[tactic(auto, unfolding(crate::specs::Sessions::session_line))]
 pub(crate) fn version(alloc: Global, line: &[u8]) -> Result<u32, Refusal>
     ensures { GivesAlone (λ version. version) result (session_line line.now) }
 {
@@ -35,7 +34,6 @@ pub(crate) fn version(alloc: Global, line: &[u8]) -> Result<u32, Refusal>
 }
 
 /// The number in a line `board KIB`.
-#[tactic(auto, unfolding(crate::specs::Sessions::board_line))]
 pub(crate) fn board(alloc: Global, line: &[u8]) -> Result<u32, Refusal>
     ensures given { GivesAlone (λ kib. kib) result (board_line line.now) }
     ensures in_range { IfOk result IsBoard }
@@ -45,7 +43,6 @@ pub(crate) fn board(alloc: Global, line: &[u8]) -> Result<u32, Refusal>
 }
 
 /// The number in a line `slice N`.
-#[tactic(auto, unfolding(crate::specs::Sessions::slice_line))]
 pub(crate) fn slice(alloc: Global, line: &[u8]) -> Result<u32, Refusal>
     ensures given { GivesAlone (λ steps. steps) result (slice_line line.now) }
     ensures in_range { IfOk result (λ steps. 1 ≤ steps) }
@@ -55,7 +52,7 @@ pub(crate) fn slice(alloc: Global, line: &[u8]) -> Result<u32, Refusal>
 }
 
 /// The guest in a line, behind so many others.
-#[tactic(auto, using(crate::proofs::Enough::guest_by_six), unfolding(crate::specs::Sessions::guest_line))]
+#[tactic(auto, using(crate::proofs::Enough::guest_by_six))]
 pub(crate) fn guest(alloc: Global, count: usize, line: &[u8]) -> Result<GuestPlan, Refusal>
     ensures given { GivesAlone guest_said result (guest_line count line.now) }
     ensures ram { IfOk result (λ guest. IsRam (guest_said guest).ram) }
@@ -82,7 +79,7 @@ pub(crate) fn ends_guests(alloc: Global, version: u32, line: &[u8]) -> Result<bo
 }
 
 /// The turn in a line, of one of so many guests.
-#[tactic(auto, using(crate::proofs::Enough::turn_by_six), unfolding(crate::specs::Sessions::turn_line))]
+#[tactic(auto, using(crate::proofs::Enough::turn_by_six))]
 pub(crate) fn turn(alloc: Global, count: u8, line: &[u8]) -> Result<Turn, Refusal>
     ensures given { GivesAlone (λ turn. turn) result (turn_line count line.now) }
     ensures number { IfOk result (IsTurnOf count) }
@@ -264,7 +261,6 @@ fn begins_turn(words: &[&[u8]]) -> bool
 }
 
 /// `turn I N`.
-#[tactic(auto, unfolding(crate::specs::Sessions::turn_words_of))]
 fn turn_words_of<'a>(words: &[&'a [u8]]) -> Option<(&'a [u8], &'a [u8])>
     ensures { option_map cut_said result ≡ turn_words_of (map bytes_said words.now) }
 {

@@ -58,7 +58,6 @@ record_inside ram number so_far next said e inside =
     taken_inside ram so_far next said (chosen so_far.ended _ _ next (chosen (not (counts_right so_far said)) _ _ next e)) inside
 
 line_inside : (ram : ℕ) (so_far next : Reading) (line : Line) → after_line ram so_far line ≡ Ok next → Within ram so_far.contents → Within ram next.contents
-unfolding after_line
 line_inside ram so_far next line e inside =
     let said = bound (at_line line.number (record_of line.characters)) (λ r. after_record ram line.number so_far r) next e in
     record_inside ram line.number so_far next said.0 said.2 inside
@@ -75,7 +74,7 @@ ended true x y fault e = same x y e
 ended false x y fault e = absurd cc
 
 pub records_inside : (text : List ℕ) (ram : ℕ) (contents : List (ℕ × List ℕ)) → records_of text ram ≡ Ok contents → All (LiesBelow ram) contents
-unfolding records_of at_end
+unfolding records_of
 records_inside text ram contents e =
     let last = bound (after_lines ram beginning (numbered text)) at_end contents e in
     subst (Within ram) (ended last.0.ended last.0.contents contents _ last.2)

@@ -200,7 +200,7 @@ line_read : (ram number at : ℕ) (so_far : Reading) (bytes : List ℕ) → leng
     → so_far.ended ≡ false
     → after_line ram so_far (record { number = number; characters = codes "S3" ++ encode_upper (whole at bytes) })
     ≡ Ok (record { contents = so_far.contents ++ (at, bytes) ∷ []; ended = false })
-unfolding after_line after_record with_record
+unfolding after_record with_record
 line_read ram number at so_far bytes short fits addressed inside running =
     rw (record_read at bytes short fits addressed, running, all_inside ram at bytes inside) refl
 
@@ -223,7 +223,7 @@ pieces_read : (n ram number at : ℕ) (so_far : Reading) (bytes rest : List ℕ)
     → (0 < length bytes → at + length bytes ≤ 2 ^ 32) → LiesBelow ram (at, bytes)
     → after_lines ram so_far (text_lines number (data_lines n at bytes ++ rest))
     ≡ after_lines ram (record { contents = so_far.contents ++ pieces n at bytes; ended = false }) (text_lines (number + n) rest)
-unfolding pieces data_line
+unfolding pieces
 pieces_read zero ram number at so_far bytes rest running count fits addressed inside =
     let none : so_far.contents ++ [] ≡ so_far.contents = append-nil so_far.contents in
     rw (none, ← running) (ap (λ (k : ℕ). after_lines ram so_far (text_lines k rest)) (omega arith))
@@ -285,12 +285,12 @@ chunks_read ram number so_far (content ∷ contents) rest running fits inside =
 -- ---- the whole text
 
 header_read : (ram number : ℕ) → after_line ram beginning (record { number = number; characters = codes "S0030000FC" }) ≡ Ok beginning
-unfolding hex_on_literals record_of meaning_of said_by after_line after_record with_record
+unfolding hex_on_literals record_of meaning_of said_by after_record with_record
 header_read ram number = refl
 
 end_read : (ram number : ℕ) (so_far : Reading) → so_far.ended ≡ false
     → after_line ram so_far (record { number = number; characters = codes "S70500000000FA" }) ≡ Ok (record { contents = so_far.contents; ended = true })
-unfolding hex_on_literals record_of meaning_of said_by after_line after_record with_record
+unfolding hex_on_literals record_of meaning_of said_by after_record with_record
 end_read ram number so_far running = rw running refl
 
 plain_literal : (line : List ℕ) → list_all (λ c. ltb 13 c) line ≡ true → IsPlain line
@@ -298,7 +298,7 @@ plain_literal line h k d lt = ltb-true 13 (get_or line k d) (AllPass-from_list_a
 
 text_read : (contents : List (ℕ × List ℕ)) (ram : ℕ) → AllByRecursion IsContent contents → AllByRecursion (LiesBelow ram) contents
     → records_of (text_of contents) ram ≡ Ok (flat_map pieces_of contents)
-unfolding records_of text_of at_end
+unfolding records_of text_of
 text_read contents ram fits inside =
     let middle = flat_map chunk_lines contents in
     let header = codes "S0030000FC" in

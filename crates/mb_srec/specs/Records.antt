@@ -123,7 +123,7 @@ at_line number (Ok x) = Ok x
 at_line number (Err reason) = Err (fault.Line number reason)
 
 -- what a line makes of what the lines before gave
-unfoldable pub after_line : ℕ → Reading → Line → Result Reading Fault
+abbrev pub after_line : ℕ → Reading → Line → Result Reading Fault
 after_line ram so_far line = do
   said ← at_line line.number (record_of line.characters)
   after_record ram line.number so_far said
@@ -134,7 +134,7 @@ after_lines ram so_far (line ∷ lines) = do
   next ← after_line ram so_far line
   after_lines ram next lines
 
-unfoldable pub at_end : Reading → Result (List (ℕ × List ℕ)) Fault
+abbrev pub at_end : Reading → Result (List (ℕ × List ℕ)) Fault
 at_end so_far = if so_far.ended then Ok so_far.contents else Err fault.NoEnd
 
 -- The data records of a text in their order, or the first fault in order of lines, for a RAM of this size.

@@ -15,7 +15,7 @@ abbrev pub line_feed : List ℕ
 line_feed = 10 ∷ []
 
 -- the S3 record of some bytes
-unfoldable pub data_line : ℕ → List ℕ → List ℕ
+abbrev pub data_line : ℕ → List ℕ → List ℕ
 data_line at bytes = codes "S3" ++ encode_upper (counted at bytes ++ checksum_of (counted at bytes) ∷ []) ++ line_feed
 
 -- so many S3 records of 16 bytes, the last with what is left

@@ -35,7 +35,7 @@ pub fn read_image(alloc: Global, text: &[u8], ram: u32) -> Result<Image, ImageFa
     image_of(alloc, text, ram)
 }
 
-#[tactic(auto, unfolding(crate::specs::Records::records_of, crate::specs::Records::at_end))]
+#[tactic(auto, unfolding(crate::specs::Records::records_of))]
 fn image_of(alloc: Global, text: &[u8], ram: u32) -> Result<Image, ImageFault>
     requires { length text.now < 2 ^ 31 }
     ensures { Gives contents_of result (records_of text.now ram) }
@@ -63,7 +63,6 @@ fn read_lines(alloc: Global, text: &[u8], ram: u32) -> Result<Reading, ImageFaul
 }
 
 impl Reading {
-    #[tactic(auto, unfolding(crate::specs::Records::after_line))]
     fn read_line(&mut self, alloc: Global, line: Line, ram: u32) -> Result<(), ImageFault>
         ensures { Gives (λ _. so_far self.new) result (after_line ram (so_far self.old) (line_said line.entry)) }
     {

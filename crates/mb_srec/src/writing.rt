@@ -44,7 +44,6 @@ fn push_chunk(alloc: Global, text: &mut Vec<u8>, chunk: &Chunk) -> Result<(), Me
     Ok(())
 }
 
-#[tactic(auto, unfolding(crate::specs::Written::data_line))]
 fn push_data(alloc: Global, text: &mut Vec<u8>, at: u32, data: &[u8]) -> Result<(), Memory>
     requires { length «data».now ≤ 16 }
     ensures { OnOk result (text.new.items ≡ text.old.items ++ data_line at «data».now) }

@@ -50,7 +50,7 @@ list_behind mask (word.Register only _ ∷ word.Slash ∷ words) = range only on
 list_behind mask (word.Register only _ ∷ words) = range only only >>= λ more. Some (bit_or mask more, words)
 list_behind _ _ = None
 
-unfoldable pub list_at : List Word → Option (ℕ × List Word)
+abbrev pub list_at : List Word → Option (ℕ × List Word)
 list_at words = list_behind 0 words
 
 abbrev pub as_list : ℕ × List Word → Operand Sum × List Word
@@ -91,7 +91,7 @@ pair (register.Data first) (register.Data second) = Some (operand.Pair first sec
 pair _ _ = None
 
 -- what stands behind `Dh:`
-unfoldable pub pair_behind : Register → List Word → Option (Operand Sum × List Word)
+abbrev pub pair_behind : Register → List Word → Option (Operand Sum × List Word)
 pair_behind first (word.Register second _ ∷ words) = option_map (with_rest words) (pair first second)
 pair_behind first _ = None
 

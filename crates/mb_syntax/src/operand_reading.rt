@@ -142,7 +142,6 @@ fn pair(first: Register, second: Register) -> Option<Operand<Expression>>
 }
 
 /// What stands behind `Dh:`.
-#[tactic(auto, unfolding(crate::specs::Operands::pair_behind))]
 fn pair_behind(first: Register, words: &[Word]) -> Option<(Operand<Expression>, &[Word])>
     ensures { option_map read_said result ≡ pair_behind first words.now }
 {
@@ -323,7 +322,7 @@ fn slash_at(words: &[Word]) -> Option<&[Word]>
 /// Registers and ranges of registers, parted by `/`.
 #[rattlefmt::skip]
 #[tactic(auto, using(crate::proofs::Lists::list_more, crate::proofs::Lists::list_ends,
-    crate::proofs::Lists::list_fails), unfolding(crate::specs::Operands::list_at))]
+    crate::proofs::Lists::list_fails))]
 fn list_at(mut words: &[Word]) -> Option<(u16, &[Word])>
     ensures { option_map read_said result ≡ list_at words.entry.now }
 {

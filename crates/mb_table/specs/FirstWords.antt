@@ -10,5 +10,5 @@ abbrev pub alone : ℕ → Decoded
 alone first = decode_of (first ∷ [])
 
 -- what is known of a word is right
-unfoldable pub IsKnown : Known → Type 0
+abbrev pub IsKnown : Known → Type 0
 IsKnown k = (k.decoded ≡ alone k.first) × IfWhole k.decoded (λ i n. IsInstr i)

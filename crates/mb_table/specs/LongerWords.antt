@@ -5,5 +5,5 @@ use Rattle.mb_decode.specs.Decodes.{decode_of, IfWhole}
 use Rattle.mb_table.specs.declared.longer_words.Longer.{Longer}
 
 -- what is kept is what its words decode to
-unfoldable pub IsRight : Longer → Type 0
+abbrev pub IsRight : Longer → Type 0
 IsRight e = (e.decoded ≡ decode_of (e.first ∷ e.second ∷ [])) × IfWhole e.decoded (λ i n. IsInstr i)

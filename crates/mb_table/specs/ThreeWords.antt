@@ -6,5 +6,5 @@ use Rattle.mb_decode.specs.Decodes.{decode_of}
 use Rattle.mb_table.specs.declared.three_words.Three.{Three}
 
 -- what is kept is what its words decode to, where it is known
-unfoldable pub IsRight : Three → Type 0
+abbrev pub IsRight : Three → Type 0
 IsRight e = IfSome e.instruction (λ i. (decode_of (e.first ∷ e.second ∷ e.third ∷ []) ≡ Whole i 3) × IsInstr i)

@@ -54,7 +54,6 @@ fn within(place: u16) -> usize
 }
 
 /// A first word, decoded.
-#[tactic(auto, unfolding(crate::specs::FirstWords::IsKnown))]
 fn decoded(first: u16) -> Known
     ensures right { IsKnown result }
     ensures word { result.first ≡ first }
@@ -88,7 +87,6 @@ impl FirstWords {
 
     /// What a first word alone begins with: an instruction of one word, or less than a whole one, or none.
     #[inline(always)]
-    #[tactic(auto, unfolding(crate::specs::FirstWords::IsKnown))]
     pub fn of(&mut self, first: u16) -> &Decoded
         ensures means { result.now ≡ alone first }
         ensures valid { IfWhole result.now (λ i n. IsInstr i) }

@@ -48,7 +48,6 @@ fn slot(first: u16, second: u16) -> usize
 }
 
 /// Two words 0, decoded: every place begins with them.
-#[tactic(auto, unfolding(crate::specs::LongerWords::IsRight))]
 fn zeros() -> Longer
     ensures { IsRight result }
 {
@@ -60,7 +59,6 @@ fn zeros() -> Longer
 }
 
 /// Keeps in its place what two words begin with.
-#[tactic(auto, unfolding(crate::specs::LongerWords::IsRight))]
 fn put(kept: &mut Longer, first: u16, second: u16, decoded: Decoded)
     requires means { decoded ≡ decode_of (first ∷ second ∷ []) }
     requires valid { IfWhole decoded (λ i n. IsInstr i) }
@@ -82,7 +80,6 @@ impl LongerWords {
 
     /// What the two words begin with, where it is kept.
     #[inline(always)]
-    #[tactic(auto, unfolding(crate::specs::LongerWords::IsRight))]
     pub fn find(&self, first: u16, second: u16) -> Option<&Decoded>
         ensures means { IfSome result (λ d. d.now ≡ decode_of (first ∷ second ∷ [])) }
         ensures valid { IfSome result (λ d. IfWhole d.now (λ i n. IsInstr i)) }

@@ -58,7 +58,6 @@ fn slot(first: u16, second: u16, third: u16) -> usize
 }
 
 /// Keeps an instruction in its place.
-#[tactic(auto, unfolding(crate::specs::ThreeWords::IsRight))]
 fn put(kept: &mut Three, first: u16, second: u16, third: u16, instruction: &Instr)
     requires means { decode_of (first ∷ second ∷ third ∷ []) ≡ Whole instruction.now 3 }
     requires valid { IsInstr instruction.now }
@@ -74,7 +73,6 @@ fn put(kept: &mut Three, first: u16, second: u16, third: u16, instruction: &Inst
 
 impl ThreeWords {
     /// Nothing kept. It takes all the memory that it will need.
-    #[tactic(auto, unfolding(crate::specs::ThreeWords::IsRight))]
     pub fn new(alloc: Global) -> Result<ThreeWords, AllocError> {
         let slots = vec![in alloc; NOTHING; SLOTS]?;
         Ok(ThreeWords { slots })
@@ -82,7 +80,6 @@ impl ThreeWords {
 
     /// The instruction that the three words are, where it is kept.
     #[inline(always)]
-    #[tactic(auto, unfolding(crate::specs::ThreeWords::IsRight))]
     pub fn find(&self, first: u16, second: u16, third: u16) -> Option<&Instr>
         ensures means { IfSome result (λ i. decode_of (first ∷ second ∷ third ∷ []) ≡ Whole i.now 3) }
         ensures valid { IfSome result (λ i. IsInstr i.now) }

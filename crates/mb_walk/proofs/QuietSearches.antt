@@ -18,7 +18,7 @@ use Rattle.mb_walk.proofs.LongLemmas.{long_same, long_other, long_back, long_sma
 use Rattle.mb_walk.proofs.Marks.{Marks, used_marks, used_before, marked_marks, page_entry_aligned}
 use Rattle.mb_walk.proofs.Again.{inside_so, outside, stops, goes, left, paged_left, pointed_outside, pointed_invalid, pointed_page, ended_outside, ended_page}
 use Rattle.mb_walk.proofs.Again.{ended_indirect, ended_invalid, leaves, pointers}
-use Rattle.mb_walk.specs.Quiet.{used_table, below_used, used_page, used_behind, used_entry, found_used}
+use Rattle.mb_walk.specs.Quiet.{used_table, below_used, used_page, used_entry, found_used}
 
 -- ---- what a search leaves is marked
 
@@ -164,7 +164,7 @@ data Ends_ (ram : List ℕ) (q : ℕ) (space : Space) (page : ℕ) (protected bi
       → used_entry ram q space page protected big ≡ used_page (number_at ram p 4) space page protected big → Ends_ ram q space page protected big
 
 leaf_ends : (ram : List ℕ) (q : ℕ) (space : Space) (page : ℕ) (protected big : Bool) → q % 4 ≡ 0 → Ends_ ram q space page protected big
-unfolding used_entry used_behind
+unfolding used_entry
 leaf_ends ram q space page protected big a = elim (cases_Bool (is_inside ram q)) [
   | inr h ↦ nowhere BusError bus_error (ended_outside ram q space page protected false big h) (rw h refl)
   | inl h ↦ elim (cases_Bool (page_descriptor (number_at ram q 4)).resident) [

@@ -26,7 +26,7 @@ used_page long space page protected big =
     then Some (kept_of (page_descriptor long) protected space page big) else None
 
 -- behind an indirect descriptor
-unfoldable pub used_behind : List ℕ → ℕ → Space → ℕ → Bool → Bool → Option Kept
+abbrev pub used_behind : List ℕ → ℕ → Space → ℕ → Bool → Bool → Option Kept
 used_behind ram place space page protected big =
     if is_inside ram place then used_page (number_at ram place 4) space page protected big else None
 

@@ -50,7 +50,6 @@ fn used_page(long: u32, space: Space, page: u32, protected: bool, big: bool) -> 
 }
 
 /// The same, behind an indirect descriptor.
-#[tactic(auto, unfolding(crate::specs::Quiet::used_behind))]
 fn used_behind<R: Ram>(
     ram: &R,
     place: u32,

@@ -11,7 +11,7 @@ use Rattle.mb_writes.specs.Laws.{with_back}
 
 pub put_is_complete : {S : Type 0} (bus : Bus S) (space : Space) (at len value : ℕ) (s : S) → 1 ≤ len →
     run bus (write_operand_of space at len value) s ≡ run bus (complete_of space (pending_of at len value)) s
-unfolding write_operand_of complete_of pending_of split_of
+unfolding write_operand_of pending_of split_of
 put_is_complete bus space at zero value s h = absurd (omega arith)
 put_is_complete bus space at (suc len) value s h = refl
 

@@ -66,7 +66,7 @@ first_address [] = 0
 first_address (p ∷ ps) = p.at
 
 -- what a refused write left
-unfoldable pub complete_of : Space → List Pend → Routine (Result (Unit {0}) WriteFault)
+abbrev pub complete_of : Space → List Pend → Routine (Result (Unit {0}) WriteFault)
 complete_of space pending = write_pieces_of space (first_address pending) pending
 
 -- The list is the end of the other, and not empty.

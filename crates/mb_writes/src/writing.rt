@@ -92,7 +92,6 @@ pub fn write_pieces<P: Port>(
 ///
 /// At most three pieces. A refused one is left again, with those after it; `first` is then the address of
 /// the first piece that was handed in.
-#[tactic(auto, unfolding(crate::specs::Writing::complete_of))]
 pub fn complete<P: Port>(pending: &[Pend], space: Space, port: &mut P) -> Result<(), WriteFault>
     requires few { length pending.now ≤ 3 }
     requires pieces { ArePending pending.now }
