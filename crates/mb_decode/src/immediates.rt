@@ -1,4 +1,5 @@
 //! Line 0: immediates, single bits, MOVEP, MOVES, and CMP2, CHK2, CAS, CAS2.
+#![tactic(auto, unfolding(crate::specs::Reading::reads_then))]
 
 ghost use Rattle.std.specs.Prelude.{◌≡◌, ◌<◌};
 ghost use Rattle.mb_instr.specs.Opcodes.{IsOpcode};
@@ -13,7 +14,6 @@ use mb_instr::{
 };
 
 /// MOVEP.
-#[tactic(auto, unfolding(crate::specs::Reading::reads_then))]
 fn movep(op: Opcode, words: &[u16]) -> Reading<'_, Instr>
     requires { IsOpcode op }
     ensures { Gives result (movep_0 op words.now) }
@@ -30,7 +30,6 @@ fn movep(op: Opcode, words: &[u16]) -> Reading<'_, Instr>
 }
 
 /// The bit instructions with the number in a register.
-#[tactic(auto, unfolding(crate::specs::Reading::reads_then))]
 fn bit_register(op: Opcode, words: &[u16]) -> Reading<'_, Instr>
     requires { IsOpcode op }
     ensures { Gives result (bit_register_0 op words.now) }
@@ -53,7 +52,6 @@ fn bounds_instr(size: Size, word: u16, ea: Ea) -> Instr
 }
 
 /// CMP2 and CHK2.
-#[tactic(auto, unfolding(crate::specs::Reading::reads_then))]
 fn bounds(op: Opcode, words: &[u16]) -> Reading<'_, Instr>
     requires { IsOpcode op }
     ensures { Gives result (bounds_0 op words.now) }
@@ -198,7 +196,6 @@ fn status(op: Opcode, words: &[u16]) -> Reading<'_, Instr>
 }
 
 /// ORI, ANDI, SUBI, ADDI and EORI.
-#[tactic(auto, unfolding(crate::specs::Reading::reads_then))]
 fn immediate(op: Opcode, words: &[u16]) -> Reading<'_, Instr>
     requires { IsOpcode op }
     ensures { Gives result (immediate_0 op words.now) }
@@ -211,7 +208,6 @@ fn immediate(op: Opcode, words: &[u16]) -> Reading<'_, Instr>
 }
 
 /// CMPI.
-#[tactic(auto, unfolding(crate::specs::Reading::reads_then))]
 fn cmpi(op: Opcode, words: &[u16]) -> Reading<'_, Instr>
     requires { IsOpcode op }
     ensures { Gives result (cmpi_0 op words.now) }
@@ -226,7 +222,6 @@ fn cmpi(op: Opcode, words: &[u16]) -> Reading<'_, Instr>
 }
 
 /// MOVES.
-#[tactic(auto, unfolding(crate::specs::Reading::reads_then))]
 fn moves(op: Opcode, words: &[u16]) -> Reading<'_, Instr>
     requires { IsOpcode op }
     ensures { Gives result (moves_0 op words.now) }
@@ -240,7 +235,6 @@ fn moves(op: Opcode, words: &[u16]) -> Reading<'_, Instr>
 }
 
 /// The bit instructions with the number in a word.
-#[tactic(auto, unfolding(crate::specs::Reading::reads_then))]
 fn bit_immediate(op: Opcode, words: &[u16]) -> Reading<'_, Instr>
     requires { IsOpcode op }
     ensures { Gives result (bit_0 op words.now) }
@@ -251,7 +245,6 @@ fn bit_immediate(op: Opcode, words: &[u16]) -> Reading<'_, Instr>
 }
 
 /// Bit 8 set.
-#[tactic(auto, unfolding(crate::specs::Reading::reads_then))]
 fn odd(op: Opcode, words: &[u16]) -> Reading<'_, Instr>
     requires { IsOpcode op }
     ensures { Gives result (odd_0 op words.now) }
@@ -280,7 +273,6 @@ fn even(op: Opcode, words: &[u16]) -> Reading<'_, Instr>
 }
 
 /// The rows of line 0.
-#[tactic(auto, unfolding(crate::specs::Reading::reads_then))]
 pub fn line_0(op: Opcode, words: &[u16]) -> Reading<'_, Instr>
     requires { IsOpcode op }
     ensures { Gives result (line_0 op words.now) }

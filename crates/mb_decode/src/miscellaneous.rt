@@ -1,4 +1,5 @@
 //! Line 4: one operand, none, jumps, and what governs the processor.
+#![tactic(auto, unfolding(crate::specs::Reading::reads_then))]
 
 ghost use Rattle.std.specs.Prelude.{◌≡◌, ◌<◌};
 ghost use Rattle.mb_instr.specs.Opcodes.{IsOpcode};
@@ -25,7 +26,6 @@ fn unary_instr(upper: u8, size: Size, ea: Ea) -> Instr
 }
 
 /// NEGX, CLR, NEG and NOT.
-#[tactic(auto, unfolding(crate::specs::Reading::reads_then))]
 fn unary(op: Opcode, words: &[u16]) -> Reading<'_, Instr>
     requires { IsOpcode op }
     ensures { Gives result (unary_4 op words.now) }
@@ -57,7 +57,6 @@ fn status_instr(upper: u8, ea: Ea) -> Instr
 }
 
 /// MOVE from SR, from CCR, to CCR and to SR.
-#[tactic(auto, unfolding(crate::specs::Reading::reads_then))]
 fn status(op: Opcode, words: &[u16]) -> Reading<'_, Instr>
     requires { IsOpcode op }
     ensures { Gives result (status_4 op words.now) }
@@ -67,7 +66,6 @@ fn status(op: Opcode, words: &[u16]) -> Reading<'_, Instr>
 }
 
 /// NBCD, and LINK with a long.
-#[tactic(auto, unfolding(crate::specs::Reading::reads_then))]
 fn nbcd(op: Opcode, words: &[u16]) -> Reading<'_, Instr>
     requires { IsOpcode op }
     ensures { Gives result (nbcd_4 op words.now) }
@@ -86,7 +84,6 @@ fn nbcd(op: Opcode, words: &[u16]) -> Reading<'_, Instr>
 }
 
 /// PEA and SWAP.
-#[tactic(auto, unfolding(crate::specs::Reading::reads_then))]
 fn pea(op: Opcode, words: &[u16]) -> Reading<'_, Instr>
     requires { IsOpcode op }
     ensures { Gives result (pea_4 op words.now) }
@@ -125,7 +122,6 @@ fn movem_store(op: Opcode, words: &[u16]) -> Reading<'_, Instr>
 }
 
 /// TST and TAS.
-#[tactic(auto, unfolding(crate::specs::Reading::reads_then))]
 fn tst(op: Opcode, words: &[u16]) -> Reading<'_, Instr>
     requires { IsOpcode op }
     ensures { Gives result (tst_4 op words.now) }
@@ -149,7 +145,6 @@ fn long_pair_instr(field: u8, word: u16, ea: Ea) -> Instr
 }
 
 /// MULU, MULS, DIVU and DIVS of longs.
-#[tactic(auto, unfolding(crate::specs::Reading::reads_then))]
 fn long_pair(op: Opcode, words: &[u16]) -> Reading<'_, Instr>
     requires { IsOpcode op }
     ensures { Gives result (long_pair_4 op words.now) }
@@ -160,7 +155,6 @@ fn long_pair(op: Opcode, words: &[u16]) -> Reading<'_, Instr>
 }
 
 /// MOVEM from memory.
-#[tactic(auto, unfolding(crate::specs::Reading::reads_then))]
 fn movem_load(op: Opcode, words: &[u16]) -> Reading<'_, Instr>
     requires { IsOpcode op }
     ensures { Gives result (movem_load_4 op words.now) }
@@ -181,7 +175,6 @@ fn jump_instr(field: u8, ea: Ea) -> Instr
 }
 
 /// JSR and JMP.
-#[tactic(auto, unfolding(crate::specs::Reading::reads_then))]
 fn jump(op: Opcode, words: &[u16]) -> Reading<'_, Instr>
     requires { IsOpcode op }
     ensures { Gives result (jump_4 op words.now) }
@@ -302,7 +295,6 @@ fn chk_size(field: u8) -> Size
 }
 
 /// CHK.
-#[tactic(auto, unfolding(crate::specs::Reading::reads_then))]
 fn chk(op: Opcode, words: &[u16]) -> Reading<'_, Instr>
     requires { IsOpcode op }
     ensures { Gives result (chk_4 op words.now) }

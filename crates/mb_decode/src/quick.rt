@@ -1,4 +1,5 @@
 //! Lines 5 to 7: quick values, conditions and branches.
+#![tactic(auto, unfolding(crate::specs::Reading::reads_then))]
 
 ghost use Rattle.std.specs.Prelude.{◌≡◌, ◌<◌};
 ghost use Rattle.mb_instr.specs.Opcodes.{IsOpcode};
@@ -62,7 +63,6 @@ fn quick_instr(bit: u8, quick: u8, size: Size, ea: Ea) -> Instr
 }
 
 /// ADDQ and SUBQ.
-#[tactic(auto, unfolding(crate::specs::Reading::reads_then))]
 fn quick(op: Opcode, words: &[u16]) -> Reading<'_, Instr>
     requires { IsOpcode op }
     ensures { Gives result (quick_5 op words.now) }
@@ -72,7 +72,6 @@ fn quick(op: Opcode, words: &[u16]) -> Reading<'_, Instr>
 }
 
 /// The rows of line 5.
-#[tactic(auto, unfolding(crate::specs::Reading::reads_then))]
 pub fn line_5(op: Opcode, words: &[u16]) -> Reading<'_, Instr>
     requires { IsOpcode op }
     ensures { Gives result (line_5 op words.now) }
@@ -85,7 +84,6 @@ pub fn line_5(op: Opcode, words: &[u16]) -> Reading<'_, Instr>
 }
 
 /// Bcc.
-#[tactic(auto, unfolding(crate::specs::Reading::reads_then))]
 pub fn line_6(op: Opcode, words: &[u16]) -> Reading<'_, Instr>
     requires { IsOpcode op }
     ensures { Gives result (line_6 op words.now) }

@@ -1,4 +1,5 @@
 //! Lines 8, 9, 11, 12 and 13: a register and an operand, or two registers.
+#![tactic(auto, unfolding(crate::specs::Reading::reads_then))]
 
 ghost use Rattle.std.specs.Prelude.{◌≡◌, ◌<◌};
 ghost use Rattle.mb_instr.specs.Opcodes.{IsOpcode};
@@ -55,7 +56,6 @@ fn binary_instr(line: u8, register: u8, to_memory: bool, size: Size, ea: Ea) -> 
 }
 
 /// OR, SUB, AND and ADD.
-#[tactic(auto, unfolding(crate::specs::Reading::reads_then))]
 fn binary(op: Opcode, words: &[u16]) -> Reading<'_, Instr>
     requires { IsOpcode op }
     ensures { Gives result (binary_at op words.now) }
@@ -78,7 +78,6 @@ fn address_instr(line: u8, register: u8, size: Size, ea: Ea) -> Instr
 }
 
 /// SUBA, CMPA and ADDA.
-#[tactic(auto, unfolding(crate::specs::Reading::reads_then))]
 fn address(op: Opcode, words: &[u16]) -> Reading<'_, Instr>
     requires { IsOpcode op }
     ensures { Gives result (address_at op words.now) }
@@ -109,7 +108,6 @@ fn extended_instr(line: u8, x: u8, size: Size, in_memory: bool, y: u8) -> Instr
 }
 
 /// SUBX and ADDX.
-#[tactic(auto, unfolding(crate::specs::Reading::reads_then))]
 fn extended(op: Opcode, words: &[u16]) -> Reading<'_, Instr>
     requires { IsOpcode op }
     ensures { Gives result (extended_at op words.now) }
@@ -140,7 +138,6 @@ fn product_instr(line: u8, register: u8, is_signed: bool, ea: Ea) -> Instr
 }
 
 /// DIVU, DIVS, MULU and MULS of words.
-#[tactic(auto, unfolding(crate::specs::Reading::reads_then))]
 fn product(op: Opcode, words: &[u16]) -> Reading<'_, Instr>
     requires { IsOpcode op }
     ensures { Gives result (product_at op words.now) }
@@ -181,7 +178,6 @@ fn packed_instr(field: u8, x: u8, in_memory: bool, y: u8, word: u16) -> Instr
 }
 
 /// PACK and UNPK.
-#[tactic(auto, unfolding(crate::specs::Reading::reads_then))]
 fn packed(op: Opcode, words: &[u16]) -> Reading<'_, Instr>
     requires { IsOpcode op }
     ensures { Gives result (packed_8 op words.now) }
@@ -215,7 +211,6 @@ fn has_registers(op: Opcode) -> bool
 }
 
 /// Two registers, in lines 8 and 12.
-#[tactic(auto, unfolding(crate::specs::Reading::reads_then))]
 fn pair(op: Opcode, words: &[u16]) -> Reading<'_, Instr>
     requires { IsOpcode op }
     ensures { Gives result (pair_8 op words.now) }
@@ -228,7 +223,6 @@ fn pair(op: Opcode, words: &[u16]) -> Reading<'_, Instr>
 }
 
 /// The rows of lines 8 and 12.
-#[tactic(auto, unfolding(crate::specs::Reading::reads_then))]
 pub fn line_8(op: Opcode, words: &[u16]) -> Reading<'_, Instr>
     requires { IsOpcode op }
     ensures { Gives result (line_8 op words.now) }
@@ -243,7 +237,6 @@ pub fn line_8(op: Opcode, words: &[u16]) -> Reading<'_, Instr>
 }
 
 /// The rows of lines 9 and 13.
-#[tactic(auto, unfolding(crate::specs::Reading::reads_then))]
 pub fn line_9(op: Opcode, words: &[u16]) -> Reading<'_, Instr>
     requires { IsOpcode op }
     ensures { Gives result (line_9 op words.now) }
@@ -258,7 +251,6 @@ pub fn line_9(op: Opcode, words: &[u16]) -> Reading<'_, Instr>
 }
 
 /// CMP.
-#[tactic(auto, unfolding(crate::specs::Reading::reads_then))]
 fn cmp(op: Opcode, words: &[u16]) -> Reading<'_, Instr>
     requires { IsOpcode op }
     ensures { Gives result (cmp_11 op words.now) }
@@ -269,7 +261,6 @@ fn cmp(op: Opcode, words: &[u16]) -> Reading<'_, Instr>
 }
 
 /// EOR and CMPM.
-#[tactic(auto, unfolding(crate::specs::Reading::reads_then))]
 fn eor(op: Opcode, words: &[u16]) -> Reading<'_, Instr>
     requires { IsOpcode op }
     ensures { Gives result (eor_11 op words.now) }
@@ -287,7 +278,6 @@ fn eor(op: Opcode, words: &[u16]) -> Reading<'_, Instr>
 }
 
 /// The rows of line 11.
-#[tactic(auto, unfolding(crate::specs::Reading::reads_then))]
 pub fn line_11(op: Opcode, words: &[u16]) -> Reading<'_, Instr>
     requires { IsOpcode op }
     ensures { Gives result (line_11 op words.now) }

@@ -1,4 +1,5 @@
 //! Line 14: shifts, rotates and bit fields.
+#![tactic(auto, unfolding(crate::specs::Reading::reads_then))]
 
 ghost use Rattle.std.specs.Prelude.{◌≡◌, ◌<◌};
 ghost use Rattle.mb_instr.specs.Opcodes.{IsOpcode};
@@ -21,7 +22,6 @@ fn shift_count(by_register: bool, field: u8) -> u8
 }
 
 /// The shifts of a register.
-#[tactic(auto, unfolding(crate::specs::Reading::reads_then))]
 fn shift(op: Opcode, words: &[u16]) -> Reading<'_, Instr>
     requires { IsOpcode op }
     ensures { Gives result (shift_14 op words.now) }
@@ -42,7 +42,6 @@ fn shift(op: Opcode, words: &[u16]) -> Reading<'_, Instr>
 }
 
 /// The shifts of a word in memory.
-#[tactic(auto, unfolding(crate::specs::Reading::reads_then))]
 fn shift_memory(op: Opcode, words: &[u16]) -> Reading<'_, Instr>
     requires { IsOpcode op }
     ensures { Gives result (shift_mem_14 op words.now) }
@@ -61,7 +60,6 @@ fn field_kind_in(op: Opcode) -> FieldKind
 }
 
 /// The bit fields.
-#[tactic(auto, unfolding(crate::specs::Reading::reads_then))]
 fn field(op: Opcode, words: &[u16]) -> Reading<'_, Instr>
     requires { IsOpcode op }
     ensures { Gives result (field_14 op words.now) }
@@ -72,7 +70,6 @@ fn field(op: Opcode, words: &[u16]) -> Reading<'_, Instr>
 }
 
 /// The rows of line 14.
-#[tactic(auto, unfolding(crate::specs::Reading::reads_then))]
 pub fn line_14(op: Opcode, words: &[u16]) -> Reading<'_, Instr>
     requires { IsOpcode op }
     ensures { Gives result (line_14 op words.now) }

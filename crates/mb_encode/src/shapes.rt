@@ -1,4 +1,5 @@
 //! What rows of the table have in common.
+#![tactic(auto, unfolding(crate::specs::Spellings::row_of))]
 
 ghost use Rattle.std.specs.Prelude.{◌≡◌};
 ghost use Rattle.mb_instr.specs.Operands.{mode, lower};
@@ -67,7 +68,6 @@ impl Head {
 }
 
 /// A first word alone.
-#[tactic(auto, unfolding(crate::specs::Spellings::row_of))]
 pub fn bare(opcode: Opcode) -> Spelling
     ensures { row_of result ≡ bare opcode }
 {
@@ -79,7 +79,6 @@ pub fn bare(opcode: Opcode) -> Spelling
 }
 
 /// A first word and a word.
-#[tactic(auto, unfolding(crate::specs::Spellings::row_of))]
 pub fn with_word(opcode: Opcode, word: u16) -> Spelling
     ensures { row_of result ≡ with_word opcode word }
 {
@@ -91,7 +90,6 @@ pub fn with_word(opcode: Opcode, word: u16) -> Spelling
 }
 
 /// A first word and a long.
-#[tactic(auto, unfolding(crate::specs::Spellings::row_of))]
 pub fn with_long(opcode: Opcode, value: u32) -> Spelling
     ensures { row_of result ≡ with_long opcode value }
 {
@@ -103,7 +101,6 @@ pub fn with_long(opcode: Opcode, value: u32) -> Spelling
 }
 
 /// A first word and a word with fixed bits.
-#[tactic(auto, unfolding(crate::specs::Spellings::row_of))]
 pub fn with_ruled(rule: WordRule, opcode: Opcode, word: u16) -> Spelling
     ensures { row_of result ≡ with_ruled rule opcode word }
 {
@@ -115,7 +112,6 @@ pub fn with_ruled(rule: WordRule, opcode: Opcode, word: u16) -> Spelling
 }
 
 /// A first word and its operand.
-#[tactic(auto, unfolding(crate::specs::Spellings::row_of))]
 pub fn at_ea(class: OperandClass, size: Size, head: Head, ea: Ea) -> Spelling
     ensures { row_of result ≡ at_ea class size head.line head.upper head.bit head.size ea }
 {
@@ -127,7 +123,6 @@ pub fn at_ea(class: OperandClass, size: Size, head: Head, ea: Ea) -> Spelling
 }
 
 /// A first word, a word with fixed bits, and the operand.
-#[tactic(auto, unfolding(crate::specs::Spellings::row_of))]
 pub fn word_ea(
     rule: WordRule,
     class: OperandClass,
@@ -146,7 +141,6 @@ pub fn word_ea(
 }
 
 /// A first word with its size, an immediate of the size, and the operand.
-#[tactic(auto, unfolding(crate::specs::Spellings::row_of))]
 pub fn immediate_ea(class: OperandClass, upper: u8, size: Size, immediate: u32, ea: Ea) -> Spelling
     ensures { row_of result ≡ immediate_ea class 0 upper 0 size immediate ea }
 {
@@ -158,7 +152,6 @@ pub fn immediate_ea(class: OperandClass, upper: u8, size: Size, immediate: u32, 
 }
 
 /// A row for some values alone.
-#[tactic(auto, unfolding(crate::specs::Spellings::row_of))]
 pub fn when(test: bool, row: Spelling) -> Spelling
     ensures { row_of result ≡ when test (row_of row) }
 {

@@ -1,4 +1,5 @@
 //! The control registers.
+#![tactic(auto, unfolding(crate::specs::Control::is_control_code))]
 
 ghost use Rattle.std.specs.Prelude.{◌≡◌, true, Some, IfSome};
 ghost use Rattle.mb_instr.specs.Control.{code_of, control_of, is_control_code, kept_bits};
@@ -22,7 +23,6 @@ pub enum ControlRegister {
 impl ControlRegister {
     /// Its code in the word behind MOVEC.
     #[inline(always)]
-    #[tactic(auto, unfolding(crate::specs::Control::is_control_code))]
     pub fn code(self) -> u16
         ensures value { result ≡ code_of self }
         ensures decoded { is_control_code result ≡ true }
@@ -49,7 +49,6 @@ impl ControlRegister {
 
     /// The register with a code, if one has it.
     #[inline(always)]
-    #[tactic(auto, unfolding(crate::specs::Control::is_control_code))]
     pub fn of(code: u16) -> Option<ControlRegister>
         ensures value { result ≡ control_of code }
         ensures coded { IfSome result (λ register. code_of register ≡ code) }
@@ -76,7 +75,6 @@ impl ControlRegister {
     }
 
     /// Whether a register has the code.
-    #[tactic(auto, unfolding(crate::specs::Control::is_control_code))]
     pub fn has_code(code: u16) -> bool
         ensures { result ≡ is_control_code code }
     {

@@ -1,4 +1,5 @@
 //! The table of instructions, by the parts of a statement.
+#![tactic(auto, unfolding(crate::specs::Meant::meant))]
 
 ghost use Rattle.std.specs.Prelude.{◌≡◌};
 ghost use Rattle.mb_mnemonics.specs.Code.{arith_in, flow_in, move_in, system_in};
@@ -67,7 +68,6 @@ fn list_for(ea: &Ea, list: u16) -> u16
 
 /// The instruction of a row, if it moves values.
 #[rattlefmt::skip]
-#[tactic(auto, unfolding(crate::specs::Meant::meant))]
 fn move_of(row: Row, parts: &Parts) -> Option<Move>
     ensures { result ≡ move_in (meant row parts.now) }
 {
@@ -98,7 +98,6 @@ fn move_of(row: Row, parts: &Parts) -> Option<Move>
 
 /// The instruction of a row, if it computes.
 #[rattlefmt::skip]
-#[tactic(auto, unfolding(crate::specs::Meant::meant))]
 fn arith_of(row: Row, parts: &Parts) -> Option<Arith>
     ensures { result ≡ arith_in (meant row parts.now) }
 {
@@ -165,7 +164,6 @@ fn arith_of(row: Row, parts: &Parts) -> Option<Arith>
 
 /// The instruction of a row, if it is privileged.
 #[rattlefmt::skip]
-#[tactic(auto, unfolding(crate::specs::Meant::meant))]
 fn system_of(row: Row, parts: &Parts) -> Option<System>
     ensures { result ≡ system_in (meant row parts.now) }
 {
@@ -192,7 +190,6 @@ fn system_of(row: Row, parts: &Parts) -> Option<System>
 
 /// The instruction of a row that changes the flow; NOP where it is of another family.
 #[rattlefmt::skip]
-#[tactic(auto, unfolding(crate::specs::Meant::meant))]
 fn flow_of(row: Row, parts: &Parts) -> Flow
     ensures { result ≡ flow_in (meant row parts.now) }
 {

@@ -1,4 +1,5 @@
 //! Instructions that compute, by groups of the table, each by its row.
+#![tactic(auto, unfolding(mb_meaning::specs::Rows::perform_arith_of))]
 
 ghost use Rattle.std.specs.Prelude.{◌≡◌, true};
 ghost use Rattle.mb_port.specs.Routine.{run};
@@ -49,7 +50,6 @@ const EOR: Operation = Operation::Logic(LogicKind::Eor);
 /// Two operands are combined.
 #[rattlefmt::skip]
 #[inline(always)]
-#[tactic(auto, unfolding(mb_meaning::specs::Rows::perform_arith_of))]
 pub(crate) fn pair_row<P: Port>(
     instruction: &Arith,
     stream: Stream,
@@ -87,7 +87,6 @@ pub(crate) fn pair_row<P: Port>(
 /// A number in the instruction is combined with an operand, or with the condition codes.
 #[rattlefmt::skip]
 #[inline(always)]
-#[tactic(auto, unfolding(mb_meaning::specs::Rows::perform_arith_of))]
 pub(crate) fn immediate_row<P: Port>(
     instruction: &Arith,
     stream: Stream,
@@ -129,7 +128,6 @@ pub(crate) fn immediate_row<P: Port>(
 /// Operands are compared, and only the condition codes change.
 #[rattlefmt::skip]
 #[inline(always)]
-#[tactic(auto, unfolding(mb_meaning::specs::Rows::perform_arith_of))]
 pub(crate) fn comparison_row<P: Port>(
     instruction: &Arith,
     stream: Stream,
@@ -165,7 +163,6 @@ pub(crate) fn comparison_row<P: Port>(
 /// An operand is read, and the result goes to a register.
 #[rattlefmt::skip]
 #[inline(always)]
-#[tactic(auto, unfolding(mb_meaning::specs::Rows::perform_arith_of))]
 pub(crate) fn register_result_row<P: Port>(
     instruction: &Arith,
     stream: Stream,
@@ -202,7 +199,6 @@ pub(crate) fn register_result_row<P: Port>(
 /// One operand is changed.
 #[rattlefmt::skip]
 #[inline(always)]
-#[tactic(auto, unfolding(mb_meaning::specs::Rows::perform_arith_of))]
 pub(crate) fn single_row<P: Port>(
     instruction: &Arith,
     stream: Stream,
@@ -242,7 +238,6 @@ pub(crate) fn single_row<P: Port>(
 /// A bit, or a field of bits.
 #[rattlefmt::skip]
 #[inline(always)]
-#[tactic(auto, unfolding(mb_meaning::specs::Rows::perform_arith_of))]
 pub(crate) fn bits_row<P: Port>(
     instruction: &Arith,
     stream: Stream,
@@ -272,7 +267,6 @@ pub(crate) fn bits_row<P: Port>(
 /// Two operands of decimal digits.
 #[rattlefmt::skip]
 #[inline(always)]
-#[tactic(auto, unfolding(mb_meaning::specs::Rows::perform_arith_of))]
 pub(crate) fn decimal_row<P: Port>(
     instruction: &Arith,
     stream: Stream,
@@ -304,7 +298,6 @@ pub(crate) fn decimal_row<P: Port>(
 /// Operands are read and written in one.
 #[rattlefmt::skip]
 #[inline(always)]
-#[tactic(auto, unfolding(mb_meaning::specs::Rows::perform_arith_of))]
 pub(crate) fn locked_row<P: Port>(
     instruction: &Arith,
     stream: Stream,

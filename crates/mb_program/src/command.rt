@@ -1,4 +1,5 @@
 //! The commands.
+#![tactic(auto, unfolding(crate::specs::Answers::course_of))]
 
 ghost use Rattle.std.specs.Prelude.{◌≡◌, Some, map, string_bytes};
 ghost use Rattle.vm_meaning.specs.Native.{NativeState};
@@ -26,7 +27,6 @@ use mb_words::{Asm, Bare, Command, Dis, SessionFile, WordsFault, read_words};
 use std::alloc::Global;
 
 /// `bare`: reads the image and then the script, runs the machine and writes its outcome.
-#[tactic(auto, unfolding(crate::specs::Answers::course_of))]
 fn run_bare<F: Shelf, O: Sink>(alloc: Global, run: &Bare, shelf: &mut F, out: &mut O) -> End
     ensures ends { (native : NativeState) → CourseEnds (course_of (bare (run_said run.now)))
         (around_of F.Shelf O.Sink shelf.old shelf.new out.old out.new native native) result }
@@ -40,7 +40,6 @@ fn run_bare<F: Shelf, O: Sink>(alloc: Global, run: &Bare, shelf: &mut F, out: &m
 }
 
 /// `asm`: reads the source, assembles it and writes the image as S-records.
-#[tactic(auto, unfolding(crate::specs::Answers::course_of))]
 fn run_asm<F: Shelf, O: Sink>(alloc: Global, asm: &Asm, shelf: &mut F, out: &mut O) -> End
     ensures ends { (native : NativeState) → CourseEnds (course_of (assembly (source_said asm.now)))
         (around_of F.Shelf O.Sink shelf.old shelf.new out.old out.new native native) result }
@@ -54,7 +53,6 @@ fn run_asm<F: Shelf, O: Sink>(alloc: Global, asm: &Asm, shelf: &mut F, out: &mut
 }
 
 /// `dis`: reads the image and writes the listing of an excerpt of the memory that it opens with.
-#[tactic(auto, unfolding(crate::specs::Answers::course_of))]
 fn run_dis<F: Shelf, O: Sink>(alloc: Global, dis: &Dis, shelf: &mut F, out: &mut O) -> End
     ensures ends { (native : NativeState) → CourseEnds (course_of (disassembly (excerpt_said dis.now)))
         (around_of F.Shelf O.Sink shelf.old shelf.new out.old out.new native native) result }
@@ -68,7 +66,6 @@ fn run_dis<F: Shelf, O: Sink>(alloc: Global, dis: &Dis, shelf: &mut F, out: &mut
 }
 
 /// `host`: reads the session and the files of its guests, runs them all under the monitor and writes their outcomes.
-#[tactic(auto, unfolding(crate::specs::Answers::course_of))]
 fn run_host<F: Shelf, O: Sink>(
     alloc: Global,
     session: &SessionFile,
@@ -90,7 +87,6 @@ fn run_host<F: Shelf, O: Sink>(
 
 /// `compare`: reads the session and the files of its guests, runs each of them on a board of its own and all under the
 /// monitor, and writes of each whether it shows the same.
-#[tactic(auto, unfolding(crate::specs::Answers::course_of))]
 fn run_compare<F: Shelf, O: Sink>(
     alloc: Global,
     session: &SessionFile,
