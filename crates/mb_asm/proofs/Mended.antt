@@ -12,10 +12,10 @@ use Rattle.mb_asm.specs.declared.directive.Directive.TheVariants as directive
 use Rattle.mb_asm.specs.declared.fault.AsmKind.{AsmKind}
 use Rattle.mb_asm.specs.Extents.{address_behind, directive_in, equ_value}
 use Rattle.mb_asm.specs.Laws.{FaultyBeforeMended, FaultyBehindMended, FoundStays, LayoutStays, Stays, SymbolsStay}
-use Rattle.mb_asm.specs.Layouts.{Layout, after_line, after_lines, after_statement, beginning, earlier, if_known, label_in, label_value, next_at}
+use Rattle.mb_asm.specs.Layouts.{Layout, after_line, after_lines, after_statement, beginning, earlier, if_known, label_in, next_at}
 use Rattle.mb_asm.specs.Layouts.{operation_value}
 use Rattle.mb_asm.specs.Layouts.{with_label}
-use Rattle.mb_asm.specs.Symbols.{Symbol, value_in, with_symbol}
+use Rattle.mb_asm.specs.Symbols.{Symbol, value_in}
 use Rattle.mb_asm.specs.Texts.{symbols_of}
 use Rattle.mb_asm.proofs.Stays.{GivenStays, behind_stays, equ_stays, faulty_stays, found_same, map_stays}
 

@@ -36,7 +36,7 @@ use Rattle.mb_asm.specs.declared.fault.AsmKind.{AsmKind}
 use Rattle.mb_asm.specs.declared.fault.AsmKind.TheVariants as kind
 use Rattle.mb_asm.specs.declared.value.Flaw.TheVariants as flaw
 use Rattle.mb_asm.specs.Bytes.{operation_bytes, instr_bytes, has_out, is_out, bytes_there, dc_bytes, directive_bytes, instruction_bytes, item_bytes, items_bytes}
-use Rattle.mb_asm.specs.Bytes.{plain_bytes, known_address, bytes_where_known}
+use Rattle.mb_asm.specs.Bytes.{plain_bytes, bytes_where_known}
 use Rattle.mb_asm.specs.Bytes.{text_bytes, unit_bytes, unit_range}
 use Rattle.mb_asm.specs.Code.{admitted, laid_to}
 use Rattle.mb_asm.specs.Directives.{only_of, plain_of, unit_of}

@@ -1,6 +1,6 @@
 //! Where the bytes of an operation end.
 
-ghost use Rattle.std.specs.Prelude.{◌≡◌, ◌+◌, ◌-◌, ◌*◌, ◌≤◌, ◌≤ℤ◌, IfOk, IfSome, negsuc, option_map, pos};
+ghost use Rattle.std.specs.Prelude.{◌≡◌, ◌-◌, ◌*◌, ◌≤◌, ◌≤ℤ◌, IfOk, IfSome, negsuc, pos};
 ghost use Rattle.mb_asm.specs.Scopes.{scope_said};
 ghost use Rattle.mb_syntax.specs.Answers.{operation_said};
 ghost use Rattle.mb_asm.specs.Answers.{GivesAlone};

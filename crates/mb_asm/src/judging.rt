@@ -11,7 +11,7 @@ ghost use Rattle.mb_asm.specs.Laids.{laid_said};
 ghost use Rattle.mb_asm.specs.Results.{refuse};
 ghost use Rattle.mb_asm.specs.Code.{admitted, laid_to};
 ghost use Rattle.mb_asm.specs.Judged.{ends_past, equ_checked, has_no_name, is_address, is_again, is_misplaced};
-ghost use Rattle.mb_asm.specs.Judged.{is_odd, judged_line, judged_by, judged_label, judged_operation, reaches_past};
+ghost use Rattle.mb_asm.specs.Judged.{judged_line, judged_by, judged_label, judged_operation, reaches_past};
 ghost use Rattle.mb_asm.specs.Judged.{reads_earlier, scope_of, wants_label, address_or_zero};
 ghost use Rattle.mb_asm.specs.declared.value.Flaw.TheVariants as flaw;
 ghost use Rattle.mb_asm.specs.Values.{have_flaw};

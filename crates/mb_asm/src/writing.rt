@@ -8,7 +8,7 @@ ghost use Rattle.mb_mnemonics.specs.Ranges.{values};
 ghost use Rattle.mb_asm.specs.Scopes.{scope_said};
 ghost use Rattle.mb_syntax.specs.Answers.{operation_said};
 ghost use Rattle.mb_asm.specs.Answers.{GivesAlone};
-ghost use Rattle.mb_asm.specs.Bytes.{operation_bytes, instr_bytes, dc_bytes, directive_bytes, has_out, instruction_bytes, is_out};
+ghost use Rattle.mb_asm.specs.Bytes.{operation_bytes, instr_bytes, dc_bytes, has_out, instruction_bytes, is_out};
 ghost use Rattle.mb_asm.specs.Bytes.{bytes_there, item_bytes, items_bytes, known_address, bytes_where_known, text_bytes};
 ghost use Rattle.mb_asm.specs.Bytes.{unit_bytes};
 ghost use Rattle.mb_asm.specs.Bytes.{unit_range};

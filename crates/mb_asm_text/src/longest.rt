@@ -1,6 +1,6 @@
 //! The longest token at a place.
 
-ghost use Rattle.std.specs.Prelude.{◌≡◌, ◌+◌, ◌<◌, ◌≤◌, ◌^◌, ◌==◌, ◌∷◌, if◌then◌else◌, None, Some, IfNone, IfSome, length};
+ghost use Rattle.std.specs.Prelude.{◌≡◌, ◌+◌, ◌<◌, ◌^◌, ◌==◌, ◌∷◌, None, Some, IfNone, IfSome, length};
 ghost use Rattle.mb_asm_text.specs.Cut.{IsLongest, NoneBegins};
 ghost use Rattle.mb_asm_text.specs.Kinds.{starts_comment};
 ghost use Rattle.mb_asm_text.specs.Front.{Finds, character_found, digits_found, text_found};

@@ -1,6 +1,6 @@
 //! The translations that the board keeps.
 
-ghost use Rattle.std.specs.Prelude.{◌≡◌, ◌<◌, ◌+◌, ◌%◌, ◌^◌, IfOk, IfSome, if◌then◌else◌};
+ghost use Rattle.std.specs.Prelude.{◌≡◌, ◌<◌, ◌+◌, ◌%◌, IfOk, IfSome, if◌then◌else◌};
 ghost use Rattle.mb_model.specs.Keeping.{NamesPages, entry_for, entry_in, filled, filled_in, flushed, flushed_in};
 ghost use Rattle.mb_model.specs.Keeping.{nothing_kept};
 ghost use Rattle.mb_model.specs.Keeping.{rule_a};

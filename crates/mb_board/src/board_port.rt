@@ -1,6 +1,5 @@
 //! The board as a bus and as memory: its inner bus, with all else of it left alone.
 
-ghost use Rattle.std.specs.Prelude.{◌≡◌};
 ghost use Rattle.mb_port.specs.declared.types.Place.{Place};
 ghost use Rattle.mb_model.specs.Keeping.{rule_a};
 ghost use Rattle.mb_machine.specs.World.{World};

@@ -1,6 +1,6 @@
 //! The calls of the bus.
 
-ghost use Rattle.std.specs.Prelude.{◌≡◌, ℕ, length};
+ghost use Rattle.std.specs.Prelude.{ℕ, length};
 ghost use Rattle.mb_model.specs.Keeping.{rule_a};
 ghost use Rattle.mb_machine.specs.World.{World};
 ghost use Rattle.mb_machine.specs.Places.{HasPlace};

@@ -1,6 +1,6 @@
 //! Physical places: RAM, and the registers of the devices.
 
-ghost use Rattle.std.specs.Prelude.{◌≡◌, ℕ, ◌+◌, ◌%◌, ◌<◌, ◌≤◌, ◌≢◌, ◌^◌, List, length, IfSome};
+ghost use Rattle.std.specs.Prelude.{◌≡◌, ◌+◌, ◌<◌, ◌≤◌, ◌≢◌, ◌^◌, length, IfSome};
 ghost use Rattle.mb_walk.specs.Memory.{number_at as number_of, with_number};
 ghost use Rattle.mb_machine.specs.World.{World};
 ghost use Rattle.mb_machine.specs.Places.{in_ram, stored, taken, takes_writes, stored_line, taken_line, Stores};

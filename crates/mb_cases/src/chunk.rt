@@ -1,6 +1,6 @@
 //! Bytes in RAM.
 
-ghost use Rattle.std.specs.Prelude.{◌≡◌, ◌+◌, ◌≤◌, ◌↔◌, vec_len, length, IsSome, IfSome};
+ghost use Rattle.std.specs.Prelude.{◌≡◌, ◌+◌, ◌≤◌, ◌↔◌, vec_len, IsSome, IfSome};
 ghost use Rattle.mb_cases.specs.declared.chunk.TheConstants.{RAM_SIZE};
 
 /// Bytes that stand in RAM one after the other.

@@ -1,6 +1,6 @@
 //! A file as cases.
 
-ghost use Rattle.std.specs.Prelude.{◌≡◌, ◌+◌, ◌<◌, ◌^◌, ◌↔◌, length, vec_len, IfOk, IsTrue};
+ghost use Rattle.std.specs.Prelude.{◌≡◌, ◌+◌, ◌<◌, ◌^◌, length, vec_len, IfOk};
 ghost use Rattle.mb_cases.specs.Files.{count_of, is_case};
 
 use crate::case::Case;

@@ -1,6 +1,6 @@
 //! A case on a board, step by step.
 
-ghost use Rattle.std.specs.Prelude.{◌≡◌, ◌+◌, ◌≤◌, ◌↔◌, length, replicate, IsNone, []};
+ghost use Rattle.std.specs.Prelude.{◌≡◌, ◌+◌, ◌↔◌, length, replicate, IsNone, []};
 ghost use Rattle.mb_walk.specs.Memory.{overwritten};
 ghost use Rattle.mb_model.specs.Keeping.{rule_a};
 ghost use Rattle.mb_machine.specs.Machine.{reset_with, run_of, seen_machine, with_contents};

@@ -1,7 +1,5 @@
 //! Readers of what stands behind the first word.
 
-ghost use Rattle.std.specs.Prelude.{◌≡◌};
-ghost use Rattle.mb_instr.specs.Operands.{allows};
 ghost use Rattle.mb_decode.specs.Reading.{Gives, word_at, long_at, wide_at, full_at, ext_at, immediate_at, operand_at};
 ghost use Rattle.mb_decode.specs.Reading.{ruled_at, ea_at, sized_at, word_ea_at, immediate_ea_at};
 ghost use Rattle.mb_decode.specs.Reading.{branch_at, trap_operand_at};

@@ -1,6 +1,6 @@
 //! The row of a first word.
 
-ghost use Rattle.std.specs.Prelude.{◌≡◌, ◌<◌};
+ghost use Rattle.std.specs.Prelude.{◌<◌};
 ghost use Rattle.mb_instr.specs.Opcodes.{IsOpcode};
 ghost use Rattle.mb_decode.specs.Reading.{Gives};
 ghost use Rattle.mb_decode.specs.RowReading.{low_line, high_line, row_at};

@@ -3,7 +3,7 @@
 ghost use Rattle.std.specs.Prelude.{◌≡◌, ◌<◌, ◌≤◌, ◌^◌, ◌↔◌, length, is_some, IfOk, IfSome, IsNone, None};
 ghost use Rattle.std.specs.Int.{from_bool};
 ghost use Rattle.mb_devices.specs.Devices.{passed, IsNotDue};
-ghost use Rattle.mb_devices.specs.Devices.{timer_counted, has_received, idle, level_of, oldest, received, reset_of, sent, started, ticked, without_oldest};
+ghost use Rattle.mb_devices.specs.Devices.{idle, level_of, oldest, received, reset_of, sent, started, ticked, without_oldest};
 ghost use Rattle.mb_devices.specs.Registers.{powered, read_of, register_at, status_of, write_of};
 
 use crate::register::Register;

@@ -1,6 +1,6 @@
 //! Addresses: steps, displacements and indices.
 
-ghost use Rattle.std.specs.Prelude.{◌≡◌, ◌<◌, ◌^◌};
+ghost use Rattle.std.specs.Prelude.{◌≡◌, ◌<◌};
 ghost use Rattle.mb_ea.specs.Addresses.{increment_of, index_register, index_value, index_of, displacement_of};
 
 use mb_instr::{Plain, Size};

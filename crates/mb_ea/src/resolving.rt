@@ -2,7 +2,7 @@
 
 ghost use Rattle.std.specs.Prelude.{◌≡◌, ◌<◌, OnErr, IfOk};
 ghost use Rattle.mb_port.specs.Routine.{run};
-ghost use Rattle.mb_instr.specs.Operands.{IsExt, IsEa, IsInMemory, IsDestination};
+ghost use Rattle.mb_instr.specs.Operands.{IsEa, IsInMemory, IsDestination};
 ghost use Rattle.mb_ea.specs.Addresses.{IsTarget, IsMemory, IsPlace};
 ghost use Rattle.mb_ea.specs.Resolve.{parts_of, indirect_of, full_of, indexed_of, step_over_of, resolve_of, resolved};
 

@@ -1,13 +1,12 @@
 //! Lines of the listing.
 
-ghost use Rattle.std.specs.Prelude.{◌≡◌, ◌+◌, ◌*◌, ◌<◌, ◌≤◌, ◌++◌, IfOk, codes, length, slice_index, take};
+ghost use Rattle.std.specs.Prelude.{◌≡◌, ◌+◌, ◌<◌, ◌≤◌, ◌++◌, IfOk, codes, length, slice_index, take};
 ghost use Rattle.arrayvec.specs.ArrayVec.{array_vec_len};
-ghost use Rattle.mb_report.specs.Digits.{digits};
 ghost use Rattle.mb_statement.specs.Numbers.{number};
 ghost use Rattle.mb_statement.specs.Statements.{statement_of};
 ghost use Rattle.mb_statement.specs.Texts.{statement_text};
 ghost use Rattle.mb_listing.specs.Answers.{line_said};
-ghost use Rattle.mb_listing.specs.Listing.{data_line, line_at, line_by, line_text};
+ghost use Rattle.mb_listing.specs.Listing.{data_line, line_at, line_text};
 ghost use Rattle.mb_instr.specs.declared.counts.TheConstants.{MOST_WORDS};
 
 use crate::source::{bytes_of, gives};

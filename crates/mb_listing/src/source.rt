@@ -1,6 +1,6 @@
 //! What the assembler makes of a text.
 
-ghost use Rattle.std.specs.Prelude.{◌≡◌, ◌+◌, ◌*◌, ◌≤◌, ◌++◌, IfOk, length};
+ghost use Rattle.std.specs.Prelude.{◌≡◌, ◌*◌, ◌≤◌, IfOk, length};
 ghost use Rattle.arrayvec.specs.ArrayVec.{array_vec_len};
 ghost use Rattle.mb_srec.specs.Image.{all_contents};
 ghost use Rattle.mb_listing.specs.Listing.{bytes_of, source_at, is_one_chunk, gives};

@@ -1,6 +1,6 @@
 //! Where a reference leads, as far as no table is searched.
 
-ghost use Rattle.std.specs.Prelude.{◌≡◌, ◌/◌, ◌<◌, ◌^◌, IfOk, IfSome, true};
+ghost use Rattle.std.specs.Prelude.{◌≡◌, ◌/◌, ◌<◌, IfOk, IfSome, true};
 ghost use Rattle.mb_port.specs.Flushes.{NamesPage};
 ghost use Rattle.mb_port.specs.Registers.{with_mmu_register};
 ghost use Rattle.mb_model.specs.Keeping.{NamesPages, entry_for, filled, flushed, rule_a};

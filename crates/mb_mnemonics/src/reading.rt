@@ -1,10 +1,10 @@
 //! The operands that a line takes, and what they say.
 
-ghost use Rattle.std.specs.Prelude.{◌≡◌, ◌<◌, ◌≤◌, ◌^◌, IfSome, option_map};
+ghost use Rattle.std.specs.Prelude.{◌≡◌, ◌<◌, ◌≤◌, IfSome};
 ghost use Rattle.mb_mnemonics.specs.Ranges.{values};
-ghost use Rattle.mb_mnemonics.specs.Operands.{takes_mode, takes_field, takes_control, takes_pair, takes_operand};
+ghost use Rattle.mb_mnemonics.specs.Operands.{takes_mode, takes_field, takes_control, takes_operand};
 ghost use Rattle.mb_mnemonics.specs.Operands.{takes_operands};
-ghost use Rattle.mb_mnemonics.specs.Operands.{operand_words, operands_words, nothing, no_names, name_at, with_register};
+ghost use Rattle.mb_mnemonics.specs.Operands.{operand_words, nothing, name_at, with_register};
 ghost use Rattle.mb_mnemonics.specs.Operands.{with_both};
 ghost use Rattle.mb_mnemonics.specs.Operands.{list_of, field_part, field_bits, with_displacement};
 ghost use Rattle.mb_mnemonics.specs.Operands.{with_number, with_value};

@@ -1,6 +1,6 @@
 //! Multiplication and division.
 
-ghost use Rattle.std.specs.Prelude.{◌≡◌, ◌<◌, ◌^◌};
+ghost use Rattle.std.specs.Prelude.{◌≡◌, ◌<◌};
 ghost use Rattle.mb_instr.specs.FurtherWords.{pair_word};
 ghost use Rattle.mb_alu.specs.Products.{IsBounded};
 ghost use Rattle.mb_alu.specs.declared.width.Width.TheVariants as width;

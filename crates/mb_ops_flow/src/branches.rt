@@ -1,6 +1,6 @@
 //! BRA, BSR and Bcc.
 
-ghost use Rattle.std.specs.Prelude.{◌≡◌, ◌<◌, ◌^◌};
+ghost use Rattle.std.specs.Prelude.{◌≡◌, ◌<◌};
 ghost use Rattle.mb_port.specs.Routine.{run};
 ghost use Rattle.mb_meaning.specs.Ends.{went};
 ghost use Rattle.mb_meaning.specs.Flow.{branch_displacement_of, target_of, is_call, call_of, go_if_met_of, branch_of};

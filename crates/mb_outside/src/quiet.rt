@@ -3,7 +3,7 @@
 ghost use Rattle.std.specs.Prelude.{◌≡◌, ◌-◌, true, false, None, length, is_err, IfOk, IfSome, min, Ok};
 ghost use Rattle.mb_outside.specs.Counts.{count_after};
 ghost use Rattle.mb_outside.specs.Shelf.{GivesPiece, ShelfCause};
-ghost use Rattle.mb_outside.specs.Sink.{Grows, TakesSome, SinkCause};
+ghost use Rattle.mb_outside.specs.Sink.{TakesSome, SinkCause};
 ghost use Rattle.mb_outside.specs.Stored.{stored_or_empty};
 
 use crate::memory::{bytes_of, copy_piece};

@@ -1,7 +1,6 @@
 //! The files of a command, read whole and by what they are.
 
-ghost use Rattle.std.specs.Prelude.{◌≡◌, ◌≤◌, ◌*◌, All, IfOk, [], string_bytes};
-ghost use Rattle.mb_outside.specs.Counts.{Rose};
+ghost use Rattle.std.specs.Prelude.{◌≡◌, All, IfOk, []};
 ghost use Rattle.mb_srec.specs.Image.{IsAddressed, LiesBelow, contents_of};
 ghost use Rattle.mb_script.specs.Answers.{plan_said};
 ghost use Rattle.mb_script.specs.Plan.{IsInRange};

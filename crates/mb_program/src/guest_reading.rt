@@ -1,6 +1,6 @@
 //! The files of machines and of sessions.
 
-ghost use Rattle.std.specs.Prelude.{◌≡◌, ◌<◌, ◌≤◌, ◌*◌, ◌%◌, [], All, IfOk, length, map};
+ghost use Rattle.std.specs.Prelude.{◌≡◌, ◌<◌, ◌*◌, [], All, IfOk, length, map};
 ghost use Rattle.mb_script.specs.Answers.{guest_said};
 ghost use Rattle.mb_script.specs.Plan.{AreRams, IsRam, IsTurnOf};
 ghost use Rattle.mb_words.specs.Words.{run_said};

@@ -1,6 +1,6 @@
 //! The guests of a session under the monitor.
 
-ghost use Rattle.std.specs.Prelude.{◌≡◌, ◌^◌, ◌<◌, ◌≤◌, All, length};
+ghost use Rattle.std.specs.Prelude.{◌≡◌, ◌<◌, All, length};
 ghost use Rattle.mb_script.specs.Plan.{IsTurnOf};
 ghost use Rattle.mb_outside.specs.Prints.{Prints};
 ghost use Rattle.mb_report.specs.Text.{outcome_text};

@@ -1,6 +1,6 @@
 //! Branches and loops.
 
-ghost use Rattle.std.specs.Prelude.{◌≡◌, ◌<◌, ◌^◌, IfSome, IfNone};
+ghost use Rattle.std.specs.Prelude.{◌≡◌, ◌<◌, IfSome, IfNone};
 ghost use Rattle.mb_instr.specs.declared.kinds.Branch.TheVariants as displacement_in;
 ghost use Rattle.mb_instr.specs.declared.instruction.Instr.TheVariants as instr;
 ghost use Rattle.mb_instr.specs.declared.instruction.Flow.TheVariants as flow_row;

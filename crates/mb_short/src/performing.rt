@@ -1,6 +1,6 @@
 //! The instruction of a short form, carried out at once.
 
-ghost use Rattle.std.specs.Prelude.{◌≡◌, ◌+◌, ◌%◌, ◌^◌, ◌<◌, IfSome, IfNone};
+ghost use Rattle.std.specs.Prelude.{◌≡◌, ◌%◌, ◌^◌, ◌<◌, IfSome, IfNone};
 ghost use Rattle.mb_instr.specs.Codes.{IsInstr};
 ghost use Rattle.mb_table.specs.Short.{meaning, meaning_with};
 ghost use Rattle.mb_short.specs.Taken.{Comes, IsDone};

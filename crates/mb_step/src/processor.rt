@@ -1,7 +1,7 @@
 //! The processor as steps work on it.
 
 ghost use Rattle.std.specs.Prelude.{◌≡◌, length};
-ghost use Rattle.mb_instr.specs.Registers.{is_supervisor, plain_of};
+ghost use Rattle.mb_instr.specs.Registers.{plain_of};
 ghost use Rattle.mb_model.specs.Status.{space_of};
 ghost use Rattle.mb_processor.specs.Step.{interrupt_mask};
 

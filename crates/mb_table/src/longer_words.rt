@@ -1,6 +1,6 @@
 //! What two words begin with, where they came lately.
 
-ghost use Rattle.std.specs.Prelude.{◌≡◌, ◌<◌, [], ◌∷◌, IfSome, IfOk, length, All};
+ghost use Rattle.std.specs.Prelude.{◌≡◌, ◌<◌, [], ◌∷◌, IfSome, length, All};
 ghost use Rattle.mb_instr.specs.Codes.{IsInstr};
 ghost use Rattle.mb_decode.specs.Decodes.{decode_of, IfWhole};
 ghost use Rattle.mb_table.specs.LongerWords.{IsRight};

@@ -1,6 +1,6 @@
 //! Instructions of three words that were decoded lately.
 
-ghost use Rattle.std.specs.Prelude.{◌≡◌, ◌<◌, [], ◌∷◌, IfSome, IfOk, length, All};
+ghost use Rattle.std.specs.Prelude.{◌≡◌, ◌<◌, [], ◌∷◌, IfSome, length, All};
 ghost use Rattle.mb_instr.specs.Codes.{IsInstr};
 ghost use Rattle.mb_decode.specs.declared.front.Decoded.TheVariants.{Whole};
 ghost use Rattle.mb_decode.specs.Decodes.{decode_of};

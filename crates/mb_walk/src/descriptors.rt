@@ -1,6 +1,6 @@
 //! The descriptors of the translation tables.
 
-ghost use Rattle.std.specs.Prelude.{◌≡◌, ◌<◌, ◌*◌, ◌/◌, ◌%◌, ◌^◌};
+ghost use Rattle.std.specs.Prelude.{◌≡◌, ◌<◌};
 ghost use Rattle.mb_walk.specs.Descriptors.{table_descriptor, page_descriptor, with_bit as bit_set};
 
 use mb_model::page_of;

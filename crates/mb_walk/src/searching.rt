@@ -1,9 +1,8 @@
 //! The search through three levels of tables.
 
-ghost use Rattle.std.specs.Prelude.{◌≡◌, ℕ, ◌+◌, ◌*◌, ◌/◌, ◌%◌, ◌<◌, ◌≤◌, ◌^◌, ◌⊎◌, length, IfErr};
-ghost use Rattle.mb_walk.specs.Memory.{number_at, with_number};
+ghost use Rattle.std.specs.Prelude.{◌≡◌, ◌+◌, ◌*◌, ◌/◌, ◌%◌, ◌<◌, ◌≤◌, ◌^◌, ◌⊎◌, length, IfErr};
 ghost use Rattle.mb_walk.specs.Descriptors.{entry_at, marked, resident_status, shown_of, with_used as used};
-ghost use Rattle.mb_walk.specs.Descriptors.{is_user, frame_for as in_half, page_table_bytes, page_index};
+ghost use Rattle.mb_walk.specs.Descriptors.{frame_for as in_half, page_table_bytes, page_index};
 ghost use Rattle.mb_model.specs.Keeping.{NamesPages};
 ghost use Rattle.mb_model.specs.Pages.{page_of as page_number};
 ghost use Rattle.mb_walk.specs.Search.{OnEntry};

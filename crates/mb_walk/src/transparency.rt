@@ -1,6 +1,6 @@
 //! The transparent translation registers.
 
-ghost use Rattle.std.specs.Prelude.{◌≡◌, ◌/◌};
+ghost use Rattle.std.specs.Prelude.{◌≡◌};
 ghost use Rattle.mb_model.specs.Pages.{page_of};
 ghost use Rattle.mb_walk.specs.Transparent.{transparent_register, transparent_of, matches as does_match};
 

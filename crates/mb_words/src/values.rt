@@ -1,6 +1,6 @@
 //! What a value of the command line says by itself.
 
-ghost use Rattle.std.specs.Prelude.{◌≡◌, ◌*◌, ◌%◌, ◌^◌, ◌<◌, ◌≤◌, IfSome, option_map};
+ghost use Rattle.std.specs.Prelude.{◌≡◌, ◌*◌, ◌%◌, ◌<◌, IfSome, option_map};
 ghost use Rattle.mb_forms.specs.Said.{text_said};
 ghost use Rattle.mb_words.specs.Values.{IsGuestCount, IsRam, digit_of, file_said, guests_of, hex_of, if_given, name_of};
 ghost use Rattle.mb_words.specs.Values.{number_of, ram_of, ranged, word_address_of};

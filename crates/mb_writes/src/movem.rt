@@ -1,8 +1,8 @@
 //! MOVEM: its transfers, one after the other.
 
-ghost use Rattle.std.specs.Prelude.{◌≡◌, ◌+◌, ◌<◌, ◌≤◌, ◌/◌, ◌%◌, ◌^◌, drop, length};
+ghost use Rattle.std.specs.Prelude.{◌≡◌, ◌+◌, ◌<◌, ◌≤◌, drop, length};
 ghost use Rattle.mb_port.specs.Routine.{run};
-ghost use Rattle.mb_writes.specs.Transfers.{movem_in, mask_in, transfers_of, count_of, IsMode, AreTransfers};
+ghost use Rattle.mb_writes.specs.Transfers.{movem_in, mask_in, count_of, IsMode, AreTransfers};
 ghost use Rattle.mb_writes.specs.Moving.{stored_of, store_all_of, loaded_of, load_all_of, stepped_of, transfer_of, halfway};
 
 use crate::ends::MovemFault;

@@ -1,12 +1,12 @@
 //! Writes of operands.
 
-ghost use Rattle.std.specs.Prelude.{◌≡◌, ◌<◌, ◌≤◌, ◌^◌, ◌*◌, [], ◌∷◌, length, IfErr};
+ghost use Rattle.std.specs.Prelude.{◌≡◌, ◌<◌, ◌≤◌, ◌*◌, [], ◌∷◌, length, IfErr};
 ghost use Rattle.mb_port.specs.Routine.{run};
 ghost use Rattle.mb_port.specs.Pieces.{ArePieces, IsPiece};
 ghost use Rattle.mb_frames.specs.AccessFields.{piece_of};
-ghost use Rattle.mb_instr.specs.Sizes.{bytes_of, low_of};
+ghost use Rattle.mb_instr.specs.Sizes.{bytes_of};
 ghost use Rattle.mb_writes.specs.Writing.{part_of, parts_of, pending_of, ArePending, IsLeft};
-ghost use Rattle.mb_writes.specs.Writing.{left_by, write_pieces_of, write_operand_of, apart, write_apart_of, complete_of};
+ghost use Rattle.mb_writes.specs.Writing.{left_by, write_pieces_of, write_operand_of, write_apart_of, complete_of};
 
 use crate::ends::WriteFault;
 use arrayvec::ArrayVec;

@@ -1,6 +1,6 @@
 -- Images of a whole RAM.
 use Rattle.std.proofs.Common.{◌≡◌, ℕ, List, [], ◌∷◌, length, arith}
-use Rattle.std.specs.Prelude.{◌+◌, ◌≤◌, All, slice_range}
+use Rattle.std.specs.Prelude.{◌+◌, All, slice_range}
 use Rattle.std.proofs.lemmas.List.Elements.{All-cons, All-nil}
 use Rattle.mb_walk.proofs.Parts.{length-part}
 use Rattle.mb_srec.specs.Image.{LiesBelow}

@@ -1,7 +1,7 @@
 //! Machines run by images: access errors with pages, kept translations, exceptions, scripts. What stands in memory
 //! afterwards was worked out by hand.
 
-ghost use Rattle.std.specs.Prelude.{◌≡◌, ◌<◌, ◌≤◌, ◌^◌, length, IfOk, IfSome};
+ghost use Rattle.std.specs.Prelude.{◌≡◌, ◌<◌, length, IfOk};
 
 use crate::shown::{Chunk, Frame, RESET, Shown, VECTOR, first_missing};
 use mb_board::Board;

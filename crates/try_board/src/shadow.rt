@@ -1,6 +1,6 @@
 //! Fills by hand.
 
-ghost use Rattle.std.specs.Prelude.{◌≡◌, ◌+◌, ◌≤◌, ◌<◌, ◌^◌, length};
+ghost use Rattle.std.specs.Prelude.{◌≡◌, ◌+◌, ◌<◌, ◌^◌, length};
 ghost use Rattle.vm_shadow.specs.Area.{Maps};
 
 use Space::{Super, User};

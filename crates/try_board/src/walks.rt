@@ -1,7 +1,6 @@
 //! Walks worked by hand, with each kind of descriptor.
 
-ghost use Rattle.std.specs.Prelude.{◌≡◌, ◌+◌, ◌≤◌, ◌<◌, ◌^◌, length};
-ghost use Rattle.mb_walk.specs.Memory.{number_at, with_number};
+ghost use Rattle.std.specs.Prelude.{◌≡◌, ◌<◌, length};
 
 use Space::{Super, User};
 use mb_model::Kept;

@@ -4,7 +4,6 @@ ghost use Rattle.std.specs.Prelude.{◌≡◌, ◌+◌, ◌*◌, ◌<◌, ◌≤
 ghost use Rattle.mb_instr.specs.Registers.{plain_of};
 ghost use Rattle.mb_walk.specs.Memory.{AreBytes};
 ghost use Rattle.mb_devices.specs.Devices.{IsNotDue};
-ghost use Rattle.mb_frames.specs.declared.frame.Frame.{Frame as FrameValue};
 ghost use Rattle.mb_machine.specs.Machine.{takes_steps};
 ghost use Rattle.mb_board.specs.Arrivals.{IsNext};
 ghost use Rattle.mb_board.specs.Beside.{but_ram};

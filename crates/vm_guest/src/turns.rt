@@ -3,8 +3,7 @@
 ghost use Rattle.std.specs.Prelude.{◌≡◌, ◌+◌, ◌*◌, ◌^◌, ◌<◌, ◌≤◌, [], true, false};
 ghost use Rattle.mb_model.specs.Keeping.{rule_k};
 ghost use Rattle.mb_machine.specs.Machine.{run_of, takes_steps};
-ghost use Rattle.vm_machine.specs.Turns.{turn_of};
-ghost use Rattle.vm_machine.specs.Seats.{guested_on, machine_on, turned_on, IsSame, IsSeated, OnlyWithin, Takes};
+ghost use Rattle.vm_machine.specs.Seats.{machine_on, IsSeated, Takes};
 ghost use Rattle.vm_guest.specs.Turns.{end_by, scene, GoesOnFreely, IsGoing};
 
 use crate::guest::Guest;

@@ -22,7 +22,7 @@ use Rattle.vm_shadow.specs.Shadows.{Shadowed, nothing}
 use Rattle.vm_machine.specs.Bus.{accessed, shadow_after_flush, shadow_after_drop, shadow_after_test, shadow_after}
 use Rattle.vm_held.specs.Truth.{CallsKeepTruth, Fine}
 use Rattle.vm_held.proofs.Puts.{accesses_keep_truth}
-use Rattle.vm_held.proofs.Flushes.{flush_truthful, IsOneList, flushed_kept, dropped_truthful, nothing_truthful}
+use Rattle.vm_held.proofs.Flushes.{flush_truthful, IsOneList, flushed_kept, nothing_truthful}
 use Rattle.vm_machine.specs.Guests.{Guest, ref, IsReference}
 
 -- ---- registers and tests

@@ -1,6 +1,6 @@
 //! A guest's bus: what it is made of, and what stands between its calls.
 
-ghost use Rattle.std.specs.Prelude.{◌≡◌, ℕ, ◌+◌, ◌%◌, ◌≤◌, ◌<◌, ◌^◌, length};
+ghost use Rattle.std.specs.Prelude.{◌≡◌, ◌+◌, ◌%◌, ◌≤◌, ◌<◌, ◌^◌, length};
 ghost use Rattle.vm_shadow.specs.Mapped.{shadowed};
 ghost use Rattle.vm_shadow.specs.declared.area.TheConstants.{AREA_BYTES};
 ghost use Rattle.vm_shadow.specs.Area.{Maps};

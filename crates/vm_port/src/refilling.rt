@@ -1,7 +1,6 @@
 //! Reads that the shadow denied, filled and put before their instruction begins again.
 
-ghost use Rattle.std.specs.Prelude.{◌≡◌, ◌<◌, ◌^◌, Some, true, false, if◌then◌else◌, IfSome};
-ghost use Rattle.mb_model.specs.Pages.{page_of as page_number, offset_of};
+ghost use Rattle.std.specs.Prelude.{◌≡◌, ◌<◌, ◌^◌, Some, true, false, if◌then◌else◌};
 ghost use Rattle.vm_machine.specs.Guests.{IsReference};
 ghost use Rattle.vm_machine.specs.Refills.{after_access, can_refill};
 ghost use Rattle.vm_port.specs.Quiet.{seen, refills_seen};

@@ -1,6 +1,6 @@
 //! The slots of an area as linked nodes.
 
-ghost use Rattle.std.specs.Prelude.{◌≡◌, ℕ, ◌+◌, ◌<◌, ◌≤◌, ◌==◌, true, List, [], ◌∷◌, ◌++◌, length, vec_len, IfOk};
+ghost use Rattle.std.specs.Prelude.{◌≡◌, ℕ, ◌+◌, ◌<◌, ◌≤◌, ◌==◌, true, List, [], ◌∷◌, ◌++◌, length, IfOk};
 ghost use Rattle.vm_shadow.specs.Area.{updated, one};
 ghost use Rattle.vm_shadow.specs.Chains.{times};
 ghost use Rattle.vm_shadow.specs.Links.{links_of, order, Sized, Sound};

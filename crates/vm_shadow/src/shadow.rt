@@ -3,7 +3,7 @@
 ghost use Rattle.std.specs.Prelude.{◌≡◌, ℕ, ◌+◌, ◌*◌, ◌/◌, ◌%◌, ◌^◌, ◌==◌, ◌≤◌, ◌<◌, [], length};
 ghost use Rattle.std.specs.Prelude.{IfOk, MatchOption, None, Some};
 ghost use Rattle.vm_shadow.specs.Slots.{placed, number_of, with_table, tables_for, Has, Once};
-ghost use Rattle.vm_shadow.specs.Slots.{is_full_for as full_for, pages_of, pointers_of};
+ghost use Rattle.vm_shadow.specs.Slots.{is_full_for as full_for, pages_of};
 ghost use Rattle.vm_shadow.specs.Shadows.{nothing, room_for, filled, dropped, with_entry};
 ghost use Rattle.vm_shadow.specs.Mapped.{mapped, root_of, shadowed, BothStand};
 ghost use Rattle.vm_shadow.specs.Area.{OutsideStays, longs, updated, in_root as root_place, in_slot as slot_place, entry_of};

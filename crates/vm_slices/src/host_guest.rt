@@ -2,7 +2,7 @@
 
 ghost use Rattle.std.specs.Prelude.{◌≡◌, ◌+◌, ◌*◌, ◌%◌, ◌^◌, ◌<◌, ◌≤◌, [], ◌∷◌, length, IfOk};
 ghost use Rattle.vm_shadow.specs.declared.area.TheConstants.{AREA_BYTES};
-ghost use Rattle.vm_machine.specs.Seats.{end_of, IsSame, IsSeated, OnlyWithin};
+ghost use Rattle.vm_machine.specs.Seats.{IsSame, IsSeated, OnlyWithin};
 ghost use Rattle.vm_machine.specs.declared.limits.TheConstants.{MONITOR_BYTES};
 ghost use Rattle.vm_machine.specs.Rounds.{left, is_done, turn_in};
 ghost use Rattle.vm_guest.specs.Memory.{OnlyBetween};
