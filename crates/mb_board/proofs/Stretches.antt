@@ -4,8 +4,7 @@ use Rattle.std.specs.Prelude.{Some, None, slice_get}
 use Rattle.std.proofs.lemmas.Bool.{cases_Bool, cases_lt}
 use Rattle.std.proofs.lemmas.List.{drop_all}
 use Rattle.std.proofs.lemmas.Option.{get_or_from_slice_get, slice_get_within}
-use Rattle.mb_script.specs.declared.input.Input.{Input}
-use Rattle.mb_script.specs.declared.input.Input.TheVariants.{Abort}
+use Rattle.mb_script.specs.declared.entry.Entry.{Entry}
 use Rattle.mb_script.specs.Script.{IsScript}
 use Rattle.mb_port.specs.Routine.{run}
 use Rattle.mb_model.specs.Keeping.{Rule}
@@ -15,18 +14,18 @@ use Rattle.mb_machine.specs.Bus.{bus_of}
 use Rattle.mb_machine.specs.Machine.{Entries, Machine, aborts, arrived, begun, processed, run_of, stepped, stepping, takes_steps, with_devices, with_finish}
 use Rattle.mb_machine.proofs.Asked.{asked_devices}
 use Rattle.vm_meaning.specs.Batches.{IsQuietAt, NothingArrives}
-use Rattle.mb_board.specs.Arrivals.{due_at, IsNext}
+use Rattle.mb_board.specs.Arrivals.{due_at, no_entry, IsNext}
 use Rattle.mb_board.proofs.Due.{aborts-past, arrived-past, later-from, none-outside}
 use Rattle.mb_board.proofs.Runs.{run_of-step, run_of-still}
 
 -- ---- what is next
 
 -- the next entry stays the next one up to its step
-pub before-next : (script : Entries) (taken next n : ℕ) (entry : ℕ × Input) → IsScript script → IsNext script taken next → slice_get script next ≡ Some entry
-    → n ≤ entry.0 - taken - 1 → IsNext script (taken + n) next
+pub before-next : (script : Entries) (taken next n : ℕ) (entry : Entry) → IsScript script → IsNext script taken next → slice_get script next ≡ Some entry
+    → n ≤ entry.step - taken - 1 → IsNext script (taken + n) next
 before-next script taken next n entry is at got few =
     let within = slice_get_within script next entry got in
-    let here : due_at script next ≡ entry.0 = ap (λ (e : ℕ × Input). e.0) (get_or_from_slice_get script next entry (0, Abort) got) in
+    let here : due_at script next ≡ entry.step = ap (λ (e : Entry). e.step) (get_or_from_slice_get script next entry no_entry got) in
     let open_yet : taken < due_at script next = at.later next (omega arith) within in record {
       within = at.within;
       past = λ place less. let h = at.past place less in omega arith;

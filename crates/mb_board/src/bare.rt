@@ -29,7 +29,7 @@ fn before_entry(script: &Script, next: u32, taken: u32, limit: u32) -> u32
 {
     let _ = script.count();
     match script.entry(next) {
-        Some((due, _)) => limit.min(due - taken - 1),
+        Some(entry) => limit.min(entry.step - taken - 1),
         None => limit,
     }
 }

@@ -26,7 +26,7 @@ pub fn place_behind(script: &Script, step: u32) -> u32
     while low < high {
         let middle = low + (high - low) / 2;
         match script.entry(middle) {
-            Some((due, _)) if due <= step => low = middle + 1,
+            Some(entry) if entry.step <= step => low = middle + 1,
             _ => high = middle,
         }
     }
@@ -43,7 +43,7 @@ fn is_due(script: &Script, taken: u32, next: u32) -> bool
 {
     let _ = script.count();
     match script.entry(next) {
-        Some((due, _)) if due == taken + 1 => true,
+        Some(entry) if entry.step == taken + 1 => true,
         _ => false,
     }
 }
@@ -74,8 +74,8 @@ fn receive_due(devices: &mut Devices, script: &Script, taken: u32, next: u32) ->
     let mut aborted = false;
     for place in next..script.count() {
         match script.entry(place) {
-            Some((due, input)) if due == taken + 1 => {
-                aborted = take_in(devices, input, aborted);
+            Some(entry) if entry.step == taken + 1 => {
+                aborted = take_in(devices, entry.input, aborted);
             }
             _ => {
                 return Arrival {

@@ -172,7 +172,7 @@ shown-taken_in Abort d = refl
 shown-arrived : (step : ℕ) (script : Entries) (d : DeviceState) → (arrived step script d).ram ≡ d.ram
 shown-arrived step [] d = refl
 shown-arrived step (entry ∷ script) d =
-    shown-arrived step script _ ∙ shown-either (entry.0 == step) _ _ d.ram (shown-taken_in entry.1 d) refl
+    shown-arrived step script _ ∙ shown-either (entry.step == step) _ _ d.ram (shown-taken_in entry.input d) refl
 
 shown-begun : (script : Entries) (m : Machine) → size_of (begun script m).world ≡ size_of m.world
 unfolding begun

@@ -70,7 +70,7 @@ with_devices m devices = record m { world = record m.world { devices = devices }
 
 -- ---- a step
 
--- the entries of a script: steps, each with what arrives at it
+-- the entries of a script
 abbrev pub Entries : Type 0
 Entries = scripts.Entries
 
@@ -82,7 +82,7 @@ taken_in input.Abort d = d
 -- the devices once they have received, in order, what arrives at a step
 abbrev pub arrived : ℕ → Entries → DeviceState → DeviceState
 arrived step [] d = d
-arrived step ((at, what) ∷ script) d = arrived step script (if at == step then taken_in what d else d)
+arrived step (entry ∷ script) d = arrived step script (if entry.step == step then taken_in entry.input d else d)
 
 abbrev pub is_abort : Input → Bool
 is_abort (input.Byte byte) = false
@@ -91,7 +91,7 @@ is_abort input.Abort = true
 -- an abort arrives at a step
 abbrev pub aborts : ℕ → Entries → Bool
 aborts step [] = false
-aborts step ((at, what) ∷ script) = ((at == step) && is_abort what) || aborts step script
+aborts step (entry ∷ script) = ((entry.step == step) && is_abort entry.input) || aborts step script
 
 -- the interrupt level that the step of this number is asked for, with such devices once it has begun: an abort asks for
 -- level 7, in that step alone

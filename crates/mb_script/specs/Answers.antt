@@ -6,9 +6,9 @@ use Rattle.mb_script.specs.declared.fault.LineFault.TheVariants.{Memory, Line}
 use Rattle.mb_script.specs.declared.fault.LineWhy.{LineWhy}
 use Rattle.mb_script.specs.declared.fault.Refusal.{Refusal}
 use Rattle.mb_script.specs.declared.fault.Refusal.TheVariants as refusal
-use Rattle.mb_script.specs.declared.entry.Due.{Due}
-use Rattle.mb_script.specs.declared.entry.Due.TheVariants as due
-use Rattle.mb_script.specs.declared.entry.Entry.{Entry}
+use Rattle.mb_script.specs.declared.arrival.Due.{Due}
+use Rattle.mb_script.specs.declared.arrival.Due.TheVariants as due
+use Rattle.mb_script.specs.declared.arrival.Arrival.{Arrival}
 use Rattle.mb_script.specs.declared.input.Input.{Input}
 use Rattle.mb_script.specs.declared.input.Input.TheVariants as input
 use Rattle.mb_script.specs.declared.script_line.Parts.{Parts}
@@ -70,8 +70,8 @@ abbrev pub due_said : Due → List Input
 due_said (due.Bytes bytes) = scripts.typed bytes.items
 due_said due.Abort = input.Abort ∷ []
 
-abbrev pub entry_said : Entry → scripts.Entry
-entry_said entry = record { step = entry.step; inputs = due_said entry.due }
+abbrev pub arrival_said : Arrival → scripts.Arrival
+arrival_said arrival = record { step = arrival.step; inputs = due_said arrival.due }
 
 abbrev pub bytes_said : Bor (List ℕ) → List ℕ
 bytes_said word = word.now

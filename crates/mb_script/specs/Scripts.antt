@@ -8,6 +8,7 @@ use Rattle.hex.specs.Hex.{decode_of}
 use Rattle.mb_lines.specs.Lines.{Line}
 use Rattle.mb_script.specs.declared.fault.LineWhy.{LineWhy}
 use Rattle.mb_script.specs.declared.fault.LineWhy.TheVariants as why
+use Rattle.mb_script.specs.declared.entry.Entry.{Entry}
 use Rattle.mb_script.specs.declared.input.Input.{Input}
 use Rattle.mb_script.specs.declared.input.Input.TheVariants as input
 use Rattle.mb_script.specs.Faults.{Fault}
@@ -74,37 +75,41 @@ inputs_of (WithLineFeed characters) = option_map (λ text. typed (text ++ 10 ∷
 inputs_of Abort = Some (input.Abort ∷ [])
 
 -- What arrives at a step.
-pub record Entry : Type 0 where
+pub record Arrival : Type 0 where
   pub step : ℕ
   pub inputs : List Input
 
 -- what a line says by itself
-unfoldable pub entry_of : List ℕ → Result Entry LineWhy
-entry_of line = do
+unfoldable pub arrival_of : List ℕ → Result Arrival LineWhy
+arrival_of line = do
   parts ← ok_or (parts_of line) why.Word
   step ← ok_or (step_of parts.step) why.Number
   inputs ← ok_or (inputs_of parts.written) why.Digits
   Ok (record { step = step; inputs = inputs })
 
 -- a step is not smaller than that of the line before
-abbrev pub not_before : ℕ → Entry → Result Entry LineWhy
-not_before last entry = if nat_lt entry.step last then Err why.Order else Ok entry
+abbrev pub not_before : ℕ → Arrival → Result Arrival LineWhy
+not_before last arrival = if nat_lt arrival.step last then Err why.Order else Ok arrival
 
 -- what a line says behind a line of the step `last`
-abbrev pub entry_after : ℕ → List ℕ → Result Entry LineWhy
-entry_after last line = entry_of line >>= not_before last
+abbrev pub arrival_after : ℕ → List ℕ → Result Arrival LineWhy
+arrival_after last line = arrival_of line >>= not_before last
 
--- each input with the step
+-- an input at a step
+abbrev pub entry_at : ℕ → Input → Entry
+entry_at step one = record { step = step; input = one }
+
+-- each of the inputs
 abbrev pub at_step : ℕ → List Input → Entries
-at_step step inputs = map (λ one. (step, one)) inputs
+at_step step inputs = map (entry_at step) inputs
 
 -- the entries of all lines behind a line of the step `last`
 abbrev pub entries_after : ℕ → List Line → Result Entries Fault
 entries_after last [] = Ok []
 entries_after last (line ∷ lines) = do
-  entry ← read_by (entry_after last) line
-  later ← entries_after entry.step lines
-  Ok (at_step entry.step entry.inputs ++ later)
+  arrival ← read_by (arrival_after last) line
+  later ← entries_after arrival.step lines
+  Ok (at_step arrival.step arrival.inputs ++ later)
 
 -- The entries of a script's text, or the first fault in order of lines.
 unfoldable pub script_of : List ℕ → Result Entries Fault

@@ -1,18 +1,12 @@
-//! What is due at a step.
+//! An entry of a script.
 
-ghost use Rattle.std.specs.Prelude.{◌≤◌};
+use crate::input::Input;
 
-/// What a line lets arrive.
-#[derive(Drop)]
-pub(crate) enum Due {
-    Bytes(Vec<u8>),
-    Abort,
-}
-
-/// What arrives at a step.
-#[derive(Drop)]
-pub(crate) struct Entry {
-    pub(crate) step: u32,
-    pub(crate) due: Due,
-    ghost from_one: { 1 ≤ step },
+/// What arrives, and before which step.
+#[derive(Clone, Copy, Debug, PartialEq, Eq)]
+pub struct Entry {
+    /// The step before which it arrives, from 1.
+    pub step: u32,
+    /// What arrives.
+    pub input: Input,
 }

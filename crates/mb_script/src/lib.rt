@@ -6,6 +6,7 @@
 //! share: comments, and how a line's fault is told. The lines of a text are those of `mb_lines`.
 #![tactic(auto)]
 
+mod arrival;
 mod entry;
 mod fault;
 mod input;
@@ -20,6 +21,7 @@ mod sizes;
 mod statement;
 mod turn;
 
+pub use entry::Entry;
 pub use fault::{LineFault, LineWhy};
 pub use input::Input;
 pub use plan::{GuestPlan, SessionPlan};

@@ -2,15 +2,15 @@
 
 ghost use Rattle.std.specs.Prelude.{◌≡◌, slice_get};
 
-use crate::input::Input;
+use crate::entry::Entry;
 use std::marker::Model;
 
-/// What arrives, and before which step: a list of steps with inputs.
+/// What arrives, and before which step: a list of entries.
 ///
 /// Steps count from 1 and never fall, and there are fewer than 2^32 entries.
 #[derive(Debug, Drop)]
 pub struct Script {
-    entries: Vec<(u32, Input)>,
+    entries: Vec<Entry>,
 }
 
 impl Model for Script {
@@ -27,7 +27,7 @@ impl Script {
     ghost use Rattle.std.specs.Prelude.{length};
     ghost use Rattle.mb_script.specs.Script.{IsScript};
 
-    pub fn new(entries: Vec<(u32, Input)>) -> Script
+    pub fn new(entries: Vec<Entry>) -> Script
         requires { IsScript entries.items }
         ensures { result ≡ entries.items }
     {
@@ -42,8 +42,8 @@ impl Script {
         self.entries.len() as u32
     }
 
-    /// The step and the input of the entry at a place. Places count from 0.
-    pub fn entry(&self, place: u32) -> Option<(u32, Input)>
+    /// The entry at a place. Places count from 0.
+    pub fn entry(&self, place: u32) -> Option<Entry>
         ensures { result ≡ slice_get self.now place }
     {
         self.entries.get(place as usize).copied()

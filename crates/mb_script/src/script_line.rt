@@ -7,10 +7,10 @@ ghost use Rattle.std.specs.Result.{result_ok};
 ghost use Rattle.hex.specs.Hex.{decode_of};
 ghost use Rattle.mb_script.specs.declared.fault.LineWhy.TheVariants as why;
 ghost use Rattle.mb_script.specs.Words.{cut_at_space, is_space, is_word};
-ghost use Rattle.mb_script.specs.Scripts.{entry_of, inputs_of, is_printable, parts_of, printable, step_of, written_as};
-ghost use Rattle.mb_script.specs.Answers.{GivesAlone, cut_said, due_said, entry_said, parts_said, written_len, written_said};
+ghost use Rattle.mb_script.specs.Scripts.{arrival_of, inputs_of, is_printable, parts_of, printable, step_of, written_as};
+ghost use Rattle.mb_script.specs.Answers.{GivesAlone, arrival_said, cut_said, due_said, parts_said, written_len, written_said};
 
-use crate::entry::{Due, Entry};
+use crate::arrival::{Arrival, Due};
 use crate::fault::{LineWhy, Refusal};
 use crate::number::number_of;
 use hex::FromHexError;
@@ -36,11 +36,11 @@ struct Parts<'a> {
     written: Written<'a>,
 }
 
-/// The entry that stands in a line.
-#[tactic(auto, unfolding(crate::specs::Scripts::entry_of))]
-pub(crate) fn entry_of(alloc: Global, line: &[u8]) -> Result<Entry, Refusal>
-    ensures given { GivesAlone entry_said result (entry_of line.now) }
-    ensures short { IfOk result (λ entry. length (due_said entry.due) ≤ length line.now) }
+/// What arrives by a line.
+#[tactic(auto, unfolding(crate::specs::Scripts::arrival_of))]
+pub(crate) fn arrival_of(alloc: Global, line: &[u8]) -> Result<Arrival, Refusal>
+    ensures given { GivesAlone arrival_said result (arrival_of line.now) }
+    ensures short { IfOk result (λ arrival. length (due_said arrival.due) ≤ length line.now) }
 {
     let Some(parts) = parts_of(line) else {
         return Err(Refusal::Why(LineWhy::Word));
@@ -49,7 +49,7 @@ pub(crate) fn entry_of(alloc: Global, line: &[u8]) -> Result<Entry, Refusal>
         return Err(Refusal::Why(LineWhy::Number));
     };
     let due = due_of(alloc, parts.written)?;
-    Ok(Entry { step, due })
+    Ok(Arrival { step, due })
 }
 
 /// What comes before the first space, and what comes after it.

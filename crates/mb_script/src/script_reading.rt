@@ -4,14 +4,15 @@ ghost use Rattle.std.specs.Prelude.{◌≡◌, ◌<◌, ◌≤◌, ◌^◌, ◌+
 ghost use Rattle.mb_lines.specs.Answers.{line_said};
 ghost use Rattle.mb_script.specs.Lines.{read_by};
 ghost use Rattle.mb_script.specs.Script.{IsInOrder, IsScript};
-ghost use Rattle.mb_script.specs.Scripts.{at_step, entry_after, script_of, typed};
-ghost use Rattle.mb_script.specs.Answers.{Faults, Gives, due_said, entry_said};
+ghost use Rattle.mb_script.specs.Scripts.{arrival_after, at_step, script_of, typed};
+ghost use Rattle.mb_script.specs.Answers.{Faults, Gives, arrival_said, due_said};
 
-use crate::entry::{Due, Entry};
+use crate::arrival::{Arrival, Due};
+use crate::entry::Entry;
 use crate::fault::{LineFault, LineWhy, Refusal};
 use crate::input::Input;
 use crate::script::Script;
-use crate::script_line::entry_of;
+use crate::script_line::arrival_of;
 use crate::statement::next_statement;
 use mb_lines::{Line, Lines};
 use std::alloc::{AllocError, Global};
@@ -34,7 +35,7 @@ pub fn read_script(alloc: Global, text: &[u8]) -> Result<Script, LineFault>
 
 /// The entries of all lines.
 #[tactic(auto, unfolding(crate::specs::Scripts::script_of))]
-fn entries_of(alloc: Global, text: &[u8]) -> Result<Vec<(u32, Input)>, LineFault>
+fn entries_of(alloc: Global, text: &[u8]) -> Result<Vec<Entry>, LineFault>
     requires { length text.now < 2 ^ 31 }
     ensures given { Gives (λ entries. entries.items) result (script_of text.now) }
     ensures lawful { IfOk result (λ entries. IsScript entries.items) }
@@ -43,29 +44,29 @@ fn entries_of(alloc: Global, text: &[u8]) -> Result<Vec<(u32, Input)>, LineFault
     let mut last = 0;
     let mut lines = Lines::new(text);
     while let Some(line) = next_statement(&mut lines) {
-        let entry = entry_after(alloc, last, line)?;
-        last = entry.step;
-        push_due(&mut entries, entry.step, &entry.due)?;
+        let arrival = arrival_after(alloc, last, line)?;
+        last = arrival.step;
+        push_due(&mut entries, arrival.step, &arrival.due)?;
     }
     Ok(entries)
 }
 
 /// What a line says behind a line of the step `last`.
-fn entry_after(alloc: Global, last: u32, line: Line) -> Result<Entry, LineFault>
-    ensures given { Gives entry_said result (read_by (entry_after last) (line_said line.entry)) }
-    ensures later { IfOk result (λ entry. last ≤ entry.step) }
-    ensures short { IfOk result (λ entry. length (due_said entry.due) ≤ length line.entry.characters.now) }
+fn arrival_after(alloc: Global, last: u32, line: Line) -> Result<Arrival, LineFault>
+    ensures given { Gives arrival_said result (read_by (arrival_after last) (line_said line.entry)) }
+    ensures later { IfOk result (λ arrival. last ≤ arrival.step) }
+    ensures short { IfOk result (λ arrival. length (due_said arrival.due) ≤ length line.entry.characters.now) }
 {
-    match entry_of(alloc, line.characters) {
-        Ok(entry) if entry.step < last => Err(Refusal::Why(LineWhy::Order).at(line.number)),
-        Ok(entry) => Ok(entry),
+    match arrival_of(alloc, line.characters) {
+        Ok(arrival) if arrival.step < last => Err(Refusal::Why(LineWhy::Order).at(line.number)),
+        Ok(arrival) => Ok(arrival),
         Err(refusal) => Err(refusal.at(line.number)),
     }
 }
 
 /// Adds what is due at a step.
 #[tactic(auto, using(crate::proofs::Order::pushed))]
-fn push_due(entries: &mut Vec<(u32, Input)>, step: u32, due: &Due) -> Result<(), AllocError>
+fn push_due(entries: &mut Vec<Entry>, step: u32, due: &Due) -> Result<(), AllocError>
     requires from_one { 1 ≤ step }
     requires in_order { IsInOrder step entries.old.items }
     ensures entries { OnOk result (entries.new.items ≡ entries.old.items ++ at_step step (due_said due.now)) }
@@ -74,7 +75,10 @@ fn push_due(entries: &mut Vec<(u32, Input)>, step: u32, due: &Due) -> Result<(),
     match due {
         Due::Bytes(bytes) => push_all(entries, step, bytes),
         Due::Abort => {
-            entries.push((step, Input::Abort))?;
+            entries.push(Entry {
+                step,
+                input: Input::Abort,
+            })?;
             Ok(())
         }
     }
@@ -82,14 +86,17 @@ fn push_due(entries: &mut Vec<(u32, Input)>, step: u32, due: &Due) -> Result<(),
 
 /// Adds each byte with the step.
 #[tactic(auto, using(crate::proofs::Order::pushed, crate::proofs::Order::entry_pushed))]
-fn push_all(entries: &mut Vec<(u32, Input)>, step: u32, bytes: &[u8]) -> Result<(), AllocError>
+fn push_all(entries: &mut Vec<Entry>, step: u32, bytes: &[u8]) -> Result<(), AllocError>
     requires from_one { 1 ≤ step }
     requires in_order { IsInOrder step entries.old.items }
     ensures entries { OnOk result (entries.new.items ≡ entries.old.items ++ at_step step (typed bytes.now)) }
     ensures in_order { IsInOrder step entries.new.items }
 {
     for &byte in bytes {
-        entries.push((step, Input::Byte(byte)))?;
+        entries.push(Entry {
+            step,
+            input: Input::Byte(byte),
+        })?;
     }
     Ok(())
 }

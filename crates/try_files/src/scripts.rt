@@ -1,17 +1,24 @@
 //! Scripts and session files, and what is wrong with others.
 
 use mb_script::Input::{Abort, Byte};
-use mb_script::{Input, LineFault, LineWhy, Script, SessionPlan, Turn, read_script, read_session};
+use mb_script::{
+    Entry, Input, LineFault, LineWhy, Script, SessionPlan, Turn, read_script, read_session,
+};
 use std::alloc::{AllocError, Global};
 use std::test::Fail;
 
+/// Steps, each with what arrives.
 type Entries<'a> = &'a [(u32, Input)];
+
+const fn entry((step, input): (u32, Input)) -> Entry {
+    Entry { step, input }
+}
 
 fn has_entries(script: &Script, want: Entries) -> bool {
     let count = script.count();
     let same = (0..count)
         .zip(want)
-        .all(|(place, entry)| script.entry(place) == Some(*entry));
+        .all(|(place, want)| script.entry(place) == Some(entry(*want)));
     count as usize == want.len() && same && script.entry(count) == None
 }
 
@@ -123,7 +130,7 @@ fn reads_every_printable_byte(rt: HostRuntime) -> Result<(), Fail> {
     let script = read_script(rt.alloc(), &text)?;
     assert!(rt; script.count() == 95);
     for byte in 0x20..=0x7E {
-        assert!(rt; script.entry(u32::from(byte - 0x20)) == Some((1, Byte(byte))));
+        assert!(rt; script.entry(u32::from(byte - 0x20)) == Some(entry((1, Byte(byte)))));
     }
     assert!(rt; script.entry(95) == None);
     Ok(())

@@ -4,11 +4,10 @@ use Rattle.std.specs.Prelude.{Some, None, slice_get}
 use Rattle.std.proofs.lemmas.Option.{get_or_from_slice_get}
 use Rattle.std.proofs.lemmas.List.{drop_all}
 use Rattle.std.proofs.lemmas.Bool.{cases_lt}
-use Rattle.mb_script.specs.declared.input.Input.{Input}
-use Rattle.mb_script.specs.declared.input.Input.TheVariants.{Abort}
+use Rattle.mb_script.specs.declared.entry.Entry.{Entry}
 use Rattle.mb_script.specs.Script.{IsScript}
 use Rattle.mb_machine.specs.Machine.{Entries, arrived, aborts}
-use Rattle.mb_board.specs.Arrivals.{due_at, IsNext}
+use Rattle.mb_board.specs.Arrivals.{due_at, no_entry, IsNext}
 use Rattle.mb_board.proofs.Due.{aborts-past, arrived-past, none-outside}
 use Rattle.vm_meaning.specs.Batches.{NothingArrives}
 use Rattle.vm_guest.specs.Counting.{NoneDue}
@@ -20,18 +19,18 @@ none_due script taken next n is at before place within = elim (cases_lt place ne
   | inl past ↦ inl (at.past place past)
   | inr behind ↦ inr (elim (cases_lt next place) [
     | inl less ↦ let first = before (omega arith) in
-        let later : due_at script next ≤ due_at script place = is.in_order next place (0, Abort) less within in omega arith
+        let later : due_at script next ≤ due_at script place = is.in_order next place no_entry less within in omega arith
     | inr same ↦ let e : next ≡ place = omega arith in let first = before (omega arith) in let d : due_at script next ≡ due_at script place =
         ap (λ (p : ℕ). due_at script p) e in omega arith
   ])
 ]
 
-pub until_entry : (script : Entries) (taken next n : ℕ) (entry : ℕ × Input) → IsScript script → IsNext script taken next → slice_get script next ≡ Some entry
-    → n ≤ entry.0 - taken - 1 → NoneDue script taken n
+pub until_entry : (script : Entries) (taken next n : ℕ) (entry : Entry) → IsScript script → IsNext script taken next → slice_get script next ≡ Some entry
+    → n ≤ entry.step - taken - 1 → NoneDue script taken n
 until_entry script taken next n entry is at got few =
     none_due script taken next n is at
     (λ within.
-    let here : due_at script next ≡ entry.0 = ap (λ (e : ℕ × Input). e.0) (get_or_from_slice_get script next entry (0, Abort) got) in
+    let here : due_at script next ≡ entry.step = ap (λ (e : Entry). e.step) (get_or_from_slice_get script next entry no_entry got) in
     let later : taken < due_at script next = at.later next (omega arith) within in omega arith)
 
 -- nor where there is none

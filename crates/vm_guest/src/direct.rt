@@ -55,7 +55,7 @@ fn more_steps(script: &Script, next: u32, taken: u32, devices: &Devices, limit: 
 {
     let _ = script.count();
     let before_entry = match script.entry(next) {
-        Some((due, _)) => limit.min(due - taken - 1),
+        Some(entry) => limit.min(entry.step - taken - 1),
         None => limit,
     };
     if devices.period() == 0 {

@@ -66,15 +66,15 @@ other_step taken (Some next) e n h a b = not_there taken next e n h a b
 none_arrives : (script : Entries) (taken : ℕ) (next : Option ℕ) (n : ℕ) (d : DeviceState) → NoneBetween script taken next → taken < n → IsEarlier n next
     → arrived n script d ≡ d
 none_arrives [] taken next n d h a b = refl
-none_arrives (e ∷ script) taken next n d h a b =
-    ap (λ (test : Bool). arrived n script (cond test (taken_in e.1 d) d)) (other_step taken next e.0 n h.0 a b)
+none_arrives (entry ∷ script) taken next n d h a b =
+    ap (λ (test : Bool). arrived n script (cond test (taken_in entry.input d) d)) (other_step taken next entry.step n h.0 a b)
     ∙ none_arrives script taken next n d h.1 a b
 
 none_aborts : (script : Entries) (taken : ℕ) (next : Option ℕ) (n : ℕ) → NoneBetween script taken next → taken < n → IsEarlier n next
     → aborts n script ≡ false
 none_aborts [] taken next n h a b = refl
-none_aborts (e ∷ script) taken next n h a b =
-    ap (λ (test : Bool). (test && is_abort e.1) || aborts n script) (other_step taken next e.0 n h.0 a b)
+none_aborts (entry ∷ script) taken next n h a b =
+    ap (λ (test : Bool). (test && is_abort entry.input) || aborts n script) (other_step taken next entry.step n h.0 a b)
     ∙ none_aborts script taken next n h.1 a b
 
 -- no step of the stretch is that of the next entry

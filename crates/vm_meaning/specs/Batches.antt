@@ -53,7 +53,8 @@ IsFrom (Some next) step = next ≤ step
 -- Each entry of the script is of a step that is taken, or from the next entry on.
 abbrev pub NoneBetween : Entries → (taken : ℕ) → (next : Option ℕ) → Type 0
 NoneBetween [] taken next = Unit {0}
-NoneBetween ((step, _) ∷ script) taken next = ((step ≤ taken) ⊎ IsFrom next step) × NoneBetween script taken next
+NoneBetween (entry ∷ script) taken next =
+    ((entry.step ≤ taken) ⊎ IsFrom next entry.step) × NoneBetween script taken next
 
 -- Of a timer that stands still or has ticks left, so many more steps are quiet.
 abbrev pub BatchesAreQuiet : Type 0

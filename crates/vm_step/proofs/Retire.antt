@@ -171,10 +171,10 @@ off_taken Abort d = refl
 
 pub off_arrived : (n : ℕ) (script : Entries) (d : DeviceState) → (arrived n script d).off ≡ d.off
 off_arrived n [] d = refl
-off_arrived n (entry ∷ script) d = off_arrived n script (cond (entry.0 == n) (taken_in entry.1 d) d) ∙ off_if (entry.0 == n)
+off_arrived n (entry ∷ script) d = off_arrived n script (cond (entry.step == n) (taken_in entry.input d) d) ∙ off_if (entry.step == n)
   where
-    off_if : (b : Bool) → (cond b (taken_in entry.1 d) d).off ≡ d.off
-    off_if true = off_taken entry.1 d
+    off_if : (b : Bool) → (cond b (taken_in entry.input d) d).off ≡ d.off
+    off_if true = off_taken entry.input d
     off_if false = refl
 
 -- on and awake, it goes on

@@ -20,15 +20,15 @@ loop-place-init c =
 pub returns-in_default-clause-means : goal.returns-in_default-clause-means
 returns-in_default-clause-means c =
     let kept = c.loop-place.invariant in
-    let later = later-behind c.args.script.now c.loop-place.place c.args.taken (c.in-Some.due, c.in-Some.input)
-    c.count-place-end.ensures.lawful (sym c.entry.ensures ∙ c.in-Some.is) c.if-due-taken.false kept.later in
+    let later = later-behind c.args.script.now c.loop-place.place c.args.taken c.in-Some.entry
+    c.count-place-end.ensures.lawful (sym c.entry.ensures ∙ c.in-Some.is) c.if-entry-taken.false kept.later in
     sym (arrived-none c.args.script.now c.loop-place.place (c.args.taken + 1) c.loop-place.devices later) ∙ kept.rest
 
 pub returns-in_default-clause-aborted : goal.returns-in_default-clause-aborted
 returns-in_default-clause-aborted c =
     let kept = c.loop-place.invariant in
-    let later = later-behind c.args.script.now c.loop-place.place c.args.taken (c.in-Some.due, c.in-Some.input)
-    c.count-place-end.ensures.lawful (sym c.entry.ensures ∙ c.in-Some.is) c.if-due-taken.false kept.later in
+    let later = later-behind c.args.script.now c.loop-place.place c.args.taken c.in-Some.entry
+    c.count-place-end.ensures.lawful (sym c.entry.ensures ∙ c.in-Some.is) c.if-entry-taken.false kept.later in
     let left = aborts-none c.args.script.now c.loop-place.place (c.args.taken + 1) later in
     sym (so_far-none c.loop-place.aborted (aborts (c.args.taken + 1) (drop c.loop-place.place c.args.script.now)) left) ∙ kept.so_far
 
@@ -38,8 +38,8 @@ returns-in_default-clause-next c =
     record {
       within = omega arith;
       past = kept.past;
-      later = later-behind c.args.script.now c.loop-place.place c.args.taken (c.in-Some.due, c.in-Some.input)
-          c.count-place-end.ensures.lawful (sym c.entry.ensures ∙ c.in-Some.is) c.if-due-taken.false kept.later;
+      later = later-behind c.args.script.now c.loop-place.place c.args.taken c.in-Some.entry
+          c.count-place-end.ensures.lawful (sym c.entry.ensures ∙ c.in-Some.is) c.if-entry-taken.false kept.later;
     }
 
 pub returns-in_default-2-clause-means : goal.returns-in_default-2-clause-means
@@ -58,15 +58,15 @@ pub loop-place-preserved : goal.loop-place-preserved
 loop-place-preserved c =
     let kept = c.loop-place.invariant in
     let got = sym c.entry.ensures ∙ c.in-Some.is in
-    let now = c.if-due-taken.true in
+    let now = c.if-entry-taken.true in
     record {
       rest = ap (λ (d : DeviceState). arrived (c.args.taken + 1) (drop (c.loop-place.place + 1) c.args.script.now) d) c.take_in-aborted.ensures.devices
-          ∙ sym (arrived-next c.args.script.now c.loop-place.place (c.args.taken + 1) (c.in-Some.due, c.in-Some.input) c.loop-place.devices got now)
+          ∙ sym (arrived-next c.args.script.now c.loop-place.place (c.args.taken + 1) c.in-Some.entry c.loop-place.devices got now)
           ∙ kept.rest;
-      so_far = so_far-next c.args.script.now c.loop-place.place (c.args.taken + 1) (c.in-Some.due, c.in-Some.input) c.loop-place.aborted
+      so_far = so_far-next c.args.script.now c.loop-place.place (c.args.taken + 1) c.in-Some.entry c.loop-place.aborted
           c.take_in-aborted.result got now c.take_in-aborted.ensures.aborted
           ∙ kept.so_far;
-      past = past-through c.args.script.now c.loop-place.place (c.args.taken + 1) (c.in-Some.due, c.in-Some.input)
+      past = past-through c.args.script.now c.loop-place.place (c.args.taken + 1) c.in-Some.entry
           c.count-place-end.ensures.lawful got (omega arith);
       later = λ k le lt. kept.later k (omega arith) lt;
     }

@@ -8,7 +8,7 @@ returns-then-period-eq0-clause-none c = elim c.match-entry.branch [
   | in-Some w ↦
       let few = w.min-before_entry.ensures in
       let is = w.before_entry-is in
-      until_entry c.args.script.now c.args.taken c.args.next c.match-entry.before_entry (w.in-Some.due, w.in-Some.field-0-1) c.count.ensures.lawful
+      until_entry c.args.script.now c.args.taken c.args.next c.match-entry.before_entry w.in-Some.entry c.count.ensures.lawful
       c.requires (sym c.entry.ensures ∙ w.in-Some.is) (omega arith)
   | in-None w ↦
       behind_all c.args.script.now c.args.taken c.args.next c.match-entry.before_entry c.count.ensures.lawful c.requires (sym c.entry.ensures ∙ w.in-None.is)
@@ -19,7 +19,7 @@ returns-else-period-eq0-clause-none c = elim c.match-entry.branch [
   | in-Some w ↦
       let few = w.min-before_entry.ensures in
       let is = w.before_entry-is in
-      until_entry c.args.script.now c.args.taken c.args.next c.min.result (w.in-Some.due, w.in-Some.field-0-1) c.count.ensures.lawful c.requires
+      until_entry c.args.script.now c.args.taken c.args.next c.min.result w.in-Some.entry c.count.ensures.lawful c.requires
       (sym c.entry.ensures ∙ w.in-Some.is) (omega arith)
   | in-None w ↦
       behind_all c.args.script.now c.args.taken c.args.next c.min.result c.count.ensures.lawful c.requires (sym c.entry.ensures ∙ w.in-None.is)
