@@ -178,7 +178,6 @@ org_known scope operation end known named is =
 
 equ_known : (scope : Scope) (operation : Operation) (value : Option ℤ) → AllKnown scope
     → have_flaw flaw.Nameless scope operation.operands ≡ false → equ_value scope operation ≡ Ok value → is_some value ≡ true
-unfolding equ_value
 equ_known scope operation value known named is =
     let a = bound (no_size operation.size) (λ none. only_value scope operation.operands >>= ranged equ_long) value is in
     let b = bound (only_value scope operation.operands) (ranged equ_long) value a.1.1 in
@@ -190,7 +189,6 @@ onward_known (Some known) n e = refl
 
 ds_known : (scope : Scope) (operation : Operation) (end : Option ℕ) → AllKnown scope
     → have_flaw flaw.Nameless scope operation.operands ≡ false → behind_ds scope operation ≡ Ok end → is_some end ≡ true
-unfolding behind_ds
 ds_known scope operation end known named is =
     let reached = λ (unit : ℕ) (count : Option ℕ). option_and_then (λ n. onward scope.at (unit * n)) count in
     let a = bound (ok_or (unit_of operation.size) kind.Operand)
@@ -220,7 +218,6 @@ dc_known at operation end known is =
 
 even_known : (at : Option ℕ) (operation : Operation) (end : Option ℕ) → is_some at ≡ true → behind_even at operation ≡ Ok end
     → is_some end ≡ true
-unfolding behind_even
 even_known at operation end known is =
     let a = bound (no_size operation.size) (λ none. refuse (not (is_empty operation.operands)) kind.Operand >>= λ no_operand. Ok (even_from at)) end is in
     let b = bound (refuse (not (is_empty operation.operands)) kind.Operand) (λ no_operand. Ok (even_from at)) end a.1.1 in
@@ -282,7 +279,6 @@ record OperationKnown (layout : Layout) (line : List ℕ) (operation : Operation
 
 admitted_named : (layout : Layout) (line : List ℕ) (label : Option Name) (found : Option Directive) (a b : Bool) (x : Unit {0})
     → admitted layout line label found (a || b) ≡ Ok x → b ≡ false
-unfolding admitted
 admitted_named layout line label found a b x is =
     let again = λ (named : Unit {0}). refuse (is_again layout line label) kind.Twice in
     let c = bound (refuse (wants_label label found) kind.Syntax) (λ labelled. refuse (a || b) kind.Name >>= again) x is in
@@ -291,7 +287,7 @@ admitted_named layout line label found a b x is =
 
 operation_known : (symbols : List Symbol) (layout : Layout) (line : List ℕ) (label : Option Name) (operation : Operation) (laid : Laid)
     → IsKnown layout → judged_operation symbols layout line label operation ≡ Ok laid → OperationKnown layout line operation
-unfolding judged_operation laid_to next_at address_behind
+unfolding judged_operation next_at address_behind
 operation_known symbols layout line label operation laid known is =
     let found = directive_in line operation in
     let scope = scope_of symbols layout line found in

@@ -186,7 +186,6 @@ org_stays line ss ts a b operation s p =
 
 pub equ_stays : (line : List ℕ) (ss ts : List Symbol) (a b : Option ℕ) (operation : Operation) → SymbolsStay ss ts → Stays a b
     → GivenStays (equ_value (scope_at ss line a) operation) (equ_value (scope_at ts line b) operation)
-unfolding equ_value
 equ_stays line ss ts a b operation s p =
     front_stays (no_size operation.size) (λ none. only_value (scope_at ss line a) operation.operands >>= ranged equ_long)
     (λ none. only_value (scope_at ts line b) operation.operands >>= ranged equ_long)
@@ -212,7 +211,6 @@ units_stay a b unit (Err e) t p s = rw p refl
 
 ds_stays : (line : List ℕ) (ss ts : List Symbol) (a b : Option ℕ) (operation : Operation) → SymbolsStay ss ts → Stays a b
     → GivenStays (behind_ds (scope_at ss line a) operation) (behind_ds (scope_at ts line b) operation)
-unfolding behind_ds
 ds_stays line ss ts a b operation s p =
     front_stays (ok_or (unit_of operation.size) kind.Operand)
     (λ unit. only_value (scope_at ss line a) operation.operands >>= λ value. ranged ds_count value >>= λ count. Ok (units_on a unit count))
@@ -240,7 +238,6 @@ dc_stays a b operation p =
     (λ some. behind_items unit b operation.operands) (λ some. items_stay unit a b operation.operands p))
 
 even_stays : (a b : Option ℕ) (operation : Operation) → Stays a b → GivenStays (behind_even a operation) (behind_even b operation)
-unfolding behind_even
 even_stays a b operation p =
     front_stays (no_size operation.size) (λ none. refuse (not (is_empty operation.operands)) kind.Operand >>= λ no_operand. Ok (even_from a))
     (λ none. refuse (not (is_empty operation.operands)) kind.Operand >>= λ no_operand. Ok (even_from b))
@@ -524,7 +521,6 @@ nothing_first r = record {
 there_same : (line : List ℕ) (ss ts : List Symbol) (a b : Option ℕ) (operation : Operation) (x : ℕ)
     → values_of (scope_at ss line a) operation.operands ≡ values_of (scope_at ts line b) operation.operands
     → bytes_there (scope_at ss line a) operation x ≡ bytes_there (scope_at ts line b) operation x
-unfolding bytes_there
 there_same line ss ts a b operation x same =
     ap (λ (values : List (Operand ℤ)). meant (meaning (bytes_at line operation.name) operation.size values (x % 2 ^ 32)) >>= λ i. Ok (instr_bytes i)) same
 
@@ -595,7 +591,6 @@ out_faulty (Ok i) h = absurd cc
 
 out_known : (line : List ℕ) (ss ts : List Symbol) (a : Option ℕ) (y : ℕ) (operation : Operation) → SymbolsStay ss ts → Stays a (Some y)
     → has_out (scope_at ss line a) operation ≡ true → is_err (bytes_there (scope_at ts line (Some y)) operation y) ≡ true
-unfolding bytes_there
 out_known line ss ts a y operation s p h =
     let name = bytes_at line operation.name in
     let os = operation.operands in
@@ -664,7 +659,6 @@ allowed_stay (Err k) (Err l) false s = s
 
 instruction_bytes_stay : (line : List ℕ) (ss ts : List Symbol) (a b : Option ℕ) (operation : Operation) → SymbolsStay ss ts → Stays a b
     → BytesStay (instruction_bytes (scope_at ss line a) operation) (instruction_bytes (scope_at ts line b) operation)
-unfolding instruction_bytes
 instruction_bytes_stay line ss ts a b operation s p =
     let t = has_flaw flaw.Unknown (scope_at ss line a) in
     let u = has_flaw flaw.Unknown (scope_at ts line b) in
@@ -707,7 +701,6 @@ again_stays before after line (Some name) p h =
 
 admitted_stays : (before after : Layout) (line : List ℕ) (label : Option Name) (found : Option Directive) (b c : Bool) → LayoutStays before after
     → (b ≡ true → c ≡ true) → ErrStays (admitted before line label found b) (admitted after line label found c)
-unfolding admitted
 admitted_stays before after line label found b c p m =
     let w = refuse (wants_label label found) kind.Syntax in
     let r = refuse b kind.Name in
@@ -787,7 +780,6 @@ placed_stays a b end later label found x y p q more =
 laid_stays : (line : List ℕ) (ss ts : List Symbol) (a b end later : Option ℕ) (label : Option Name) (found : Option Directive) (operation : Operation)
     → SymbolsStay ss ts → Stays a b → Stays end later
     → ErrStays (laid_to end (scope_at ss line a) label found operation) (laid_to later (scope_at ts line b) label found operation)
-unfolding laid_to
 laid_stays line ss ts a b end later label found operation s p q =
     let r = equ_checked (scope_at ss line a) operation found in
     let t = equ_checked (scope_at ts line b) operation found in
@@ -843,7 +835,6 @@ operation_stays symbols more before after line label operation s p =
 
 label_stays : (before after : Layout) (line : List ℕ) (label : Option Name) → LayoutStays before after
     → ErrStays (judged_label before line label) (judged_label after line label)
-unfolding judged_label
 label_stays before after line label p =
     let r = refuse (is_again before line label) kind.Twice in
     let t = refuse (is_again after line label) kind.Twice in

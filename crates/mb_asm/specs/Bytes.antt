@@ -78,7 +78,7 @@ abbrev pub known_address : Scope → Operation → Option ℕ
 known_address scope operation = if have_flaw flaw.Unknown scope operation.operands then None else scope.at
 
 -- an instruction at the address
-unfoldable pub bytes_there : Scope → Operation → ℕ → Result (List ℕ) AsmKind
+abbrev pub bytes_there : Scope → Operation → ℕ → Result (List ℕ) AsmKind
 bytes_there scope operation at = do
   i ← meant (meaning (bytes_at scope.line operation.name) operation.size (values_of scope operation.operands)
       (at % 2 ^ 32))
@@ -100,7 +100,7 @@ abbrev pub bytes_where_known : Scope → Operation → Option ℕ → Result (Li
 bytes_where_known scope operation None = refuse (has_out scope operation) kind.Range >>= λ known. Ok []
 bytes_where_known scope operation (Some at) = bytes_there scope operation at
 
-unfoldable pub instruction_bytes : Scope → Operation → Result (List ℕ) AsmKind
+abbrev pub instruction_bytes : Scope → Operation → Result (List ℕ) AsmKind
 instruction_bytes scope operation = do
   written ← bytes_where_known scope operation (known_address scope operation)
   narrow ← refuse (have_flaw flaw.Wide scope operation.operands) kind.Range

@@ -17,14 +17,14 @@ abbrev pub with_front : List ℕ → Result (List ℕ) AsmKind → Result (List 
 with_front front later = later >>= λ more. Ok (front ++ more)
 
 -- what is looked for before the operands
-unfoldable pub admitted : Layout → List ℕ → Option Name → Option Directive → Bool → Result (Unit {0}) AsmKind
+abbrev pub admitted : Layout → List ℕ → Option Name → Option Directive → Bool → Result (Unit {0}) AsmKind
 admitted layout line label found unknown = do
   labelled ← refuse (wants_label label found) kind.Syntax
   named ← refuse unknown kind.Name
   refuse (is_again layout line label) kind.Twice
 
 -- what is written by an operation that ends at the address
-unfoldable pub laid_to : Option ℕ → Scope → Option Name → Option Directive → Operation → Result Laid AsmKind
+abbrev pub laid_to : Option ℕ → Scope → Option Name → Option Directive → Operation → Result Laid AsmKind
 laid_to end scope label found operation = do
   value ← equ_checked scope operation found
   written ← operation_bytes scope operation

@@ -69,7 +69,7 @@ abbrev pub equ_long : ℤ → Option ℤ
 equ_long value =
     if int_le (least range.Long) value && int_le value (greatest range.Long) then Some value else None
 
-unfoldable pub equ_value : Scope → Operation → Result (Option ℤ) AsmKind
+abbrev pub equ_value : Scope → Operation → Result (Option ℤ) AsmKind
 equ_value scope operation = do
   none ← no_size operation.size
   value ← only_value scope operation.operands
@@ -81,7 +81,7 @@ abbrev pub ds_count : ℤ → Option ℕ
 ds_count (pos n) = number range.Long (pos n)
 ds_count (negsuc n) = None
 
-unfoldable pub behind_ds : Scope → Operation → Result (Option ℕ) AsmKind
+abbrev pub behind_ds : Scope → Operation → Result (Option ℕ) AsmKind
 behind_ds scope operation = do
   unit ← ok_or (unit_of operation.size) kind.Operand
   value ← only_value scope operation.operands
@@ -117,7 +117,7 @@ behind_dc at operation = do
 abbrev pub even_from : Option ℕ → Option ℕ
 even_from at = option_map (λ known. min (known + known % 2) PAST) at
 
-unfoldable pub behind_even : Option ℕ → Operation → Result (Option ℕ) AsmKind
+abbrev pub behind_even : Option ℕ → Operation → Result (Option ℕ) AsmKind
 behind_even at operation = do
   none ← no_size operation.size
   no_operand ← refuse (not (is_empty operation.operands)) kind.Operand

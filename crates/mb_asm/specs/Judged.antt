@@ -110,7 +110,7 @@ judged_operation symbols layout line label operation =
     (address_behind (earlier layout line) operation)
 
 -- a label alone
-unfoldable pub judged_label : Layout → List ℕ → Option Name → Result Laid AsmKind
+abbrev pub judged_label : Layout → List ℕ → Option Name → Result Laid AsmKind
 judged_label layout line label = do
   first ← refuse (is_again layout line label) kind.Twice
   placed ← refuse (is_address label None && is_past (address_or_zero layout.at)) kind.Place

@@ -86,7 +86,6 @@ fn behind_org(scope: &Scope, operation: &Operation) -> Result<Option<u64>, AsmKi
 }
 
 /// A value of 32 bits, with or without a sign.
-#[tactic(auto, unfolding(crate::specs::Extents::equ_value))]
 pub(crate) fn equ_value(scope: &Scope, operation: &Operation) -> Result<Option<i64>, AsmKind>
     ensures value { result ≡ equ_value (scope_said scope.now) (operation_said operation.now) }
     ensures least { IfOk result (λ found. IfSome found (λ value. negsuc 2147483647 ≤ℤ value)) }
@@ -124,7 +123,6 @@ fn ds_count(value: i64) -> Option<u32>
     number(Range::Long, value)
 }
 
-#[tactic(auto, unfolding(crate::specs::Extents::behind_ds))]
 fn behind_ds(scope: &Scope, operation: &Operation) -> Result<Option<u64>, AsmKind>
     ensures value { result ≡ behind_ds (scope_said scope.now) (operation_said operation.now) }
     ensures most { IfOk result (λ at. IfSome at (λ known. known ≤ PAST)) }
@@ -209,7 +207,6 @@ fn even_from(at: Option<u64>) -> Option<u64>
     Some(known.saturating_add(known % 2).min(PAST))
 }
 
-#[tactic(auto, unfolding(crate::specs::Extents::behind_even))]
 fn behind_even(at: Option<u64>, operation: &Operation) -> Result<Option<u64>, AsmKind>
     ensures value { result ≡ behind_even at (operation_said operation.now) }
     ensures most { IfOk result (λ at. IfSome at (λ known. known ≤ PAST)) }

@@ -151,7 +151,6 @@ fn equ_checked(
 }
 
 /// What is looked for before the operands.
-#[tactic(auto, unfolding(crate::specs::Code::admitted))]
 fn admitted(
     layout: &Layout,
     line: &[u8],
@@ -168,7 +167,6 @@ fn admitted(
 }
 
 /// What is written by an operation that ends at the address.
-#[tactic(auto, unfolding(crate::specs::Code::laid_to))]
 fn laid_to(
     alloc: Global,
     end: Option<u64>,
@@ -267,7 +265,6 @@ fn is_nameless(next: Result<Option<u64>, AsmKind>, scope: &Scope, operation: &Op
 }
 
 /// A label alone.
-#[tactic(auto, unfolding(crate::specs::Judged::judged_label))]
 fn judged_label(
     alloc: Global,
     layout: &Layout,

@@ -172,7 +172,6 @@ fn known_address(scope: &Scope, operation: &Operation) -> Option<u64>
 }
 
 /// An instruction at the address.
-#[tactic(auto, unfolding(crate::specs::Bytes::bytes_there))]
 fn bytes_there(
     alloc: Global,
     scope: &Scope,
@@ -225,7 +224,6 @@ fn bytes_where_known(
     }
 }
 
-#[tactic(auto, unfolding(crate::specs::Bytes::instruction_bytes))]
 fn instruction_bytes(
     alloc: Global,
     scope: &Scope,

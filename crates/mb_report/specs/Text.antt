@@ -51,7 +51,7 @@ pub data Shown : Type 0 where
   long : ℕ → Shown
 
 -- a name and a value
-unfoldable pub line_text : List ℕ × Shown → List ℕ
+abbrev pub line_text : List ℕ × Shown → List ℕ
 line_text (name, number n) = count_line name n
 line_text (name, word w) = word_line name w
 line_text (name, bytes shown) = bytes_text name shown
@@ -112,7 +112,7 @@ is_zero row = list_all (λ byte. byte == 0) row
 abbrev pub memory_line : ℕ → List ℕ → List ℕ
 memory_line at row = if is_zero row then [] else word_line (hex8 at) (digits row)
 
-unfoldable pub memory_text : List ℕ → List ℕ
+abbrev pub memory_text : List ℕ → List ℕ
 memory_text ram = all_rows memory_line 16 ram
 
 -- the whole text of a guest's outcome

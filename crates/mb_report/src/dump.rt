@@ -73,7 +73,6 @@ fn write_memory_row<O: Sink>(text: &mut Buffered, out: &mut O, address: u32, row
 }
 
 /// Writes the rows of 16 bytes of a memory that are not all zero.
-#[tactic(auto, unfolding(crate::specs::Text::memory_text))]
 pub(crate) fn write_memory<O: Sink>(text: &mut Buffered, out: &mut O, ram: &[u8])
     requires { length ram.now ≤ 2 ^ 32 }
     ensures { Buffers text.old text.new (O.taken out.old) (O.taken out.new) (O.faults out.old) (O.faults out.new)

@@ -132,7 +132,6 @@ fn lines<'a>(guest: u8, o: &'a Outcome<'a>) -> [Line<'a>; 43]
 }
 
 /// Writes a line, and the rows of bytes that belong to it.
-#[tactic(auto, unfolding(crate::specs::Text::line_text))]
 fn write_line<O: Sink>(text: &mut Buffered, out: &mut O, line: &Line)
     ensures { Buffers text.old text.new (O.taken out.old) (O.taken out.new) (O.faults out.old) (O.faults out.new)
         (line_text (line_of line.now)) }

@@ -43,7 +43,6 @@ placed None x y e = (refl, same x y e)
 placed (Some at) x y e = absurd cc
 
 taken_inside : (ram : ℕ) (so_far next : Reading) (said : Record) → with_record ram so_far said ≡ Ok next → Within ram so_far.contents → Within ram next.contents
-unfolding with_record
 taken_inside ram so_far next Header e inside = subst (λ (r : Reading). Within ram r.contents) (same so_far next e) inside
 taken_inside ram so_far next (Data at bytes) e inside =
     let there = placed (first_outside ram at bytes) _ next e in
@@ -53,7 +52,6 @@ taken_inside ram so_far next End e inside = subst (λ (r : Reading). Within ram 
 
 record_inside : (ram number : ℕ) (so_far next : Reading) (said : Record) → after_record ram number so_far said ≡ Ok next → Within ram so_far.contents
     → Within ram next.contents
-unfolding after_record
 record_inside ram number so_far next said e inside =
     taken_inside ram so_far next said (chosen so_far.ended _ _ next (chosen (not (counts_right so_far said)) _ _ next e)) inside
 

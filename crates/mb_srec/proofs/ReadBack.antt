@@ -23,8 +23,8 @@ use Rattle.mb_srec.specs.Faults.{Fault}
 use Rattle.mb_srec.specs.declared.kind.Kind.TheVariants.{S3}
 use Rattle.mb_srec.specs.Image.{LiesBelow, byte_of, byte_at}
 use Rattle.mb_lines.specs.Results.{◌>>=◌}
-use Rattle.mb_srec.specs.Records.{Data, Reading, checksum_of, summed, has_its_length, has_its_checksum, said_by, meaning_of, record_of}
-use Rattle.mb_srec.specs.Records.{after_record, with_record, after_line, after_lines, beginning, at_end, records_of}
+use Rattle.mb_srec.specs.Records.{Data, Reading, checksum_of, summed, has_its_length, has_its_checksum, said_by, record_of}
+use Rattle.mb_srec.specs.Records.{after_line, after_lines, beginning, at_end, records_of}
 use Rattle.mb_srec.specs.Written.{IsContent, SameBytes, counted, data_line, data_lines, chunk_lines, header_line, end_line, text_of}
 use Rattle.mb_srec.proofs.Outside.{all_inside}
 
@@ -164,7 +164,6 @@ whole_checksum at bytes =
     eq-eqb _ _ (last-push front last ∙ sym (ap checksum_of (summed-push front last)))
 
 whole_said : (at : ℕ) (bytes : List ℕ) → at < 2 ^ 32 → said_by S3 (whole at bytes) ≡ Data at bytes
-unfolding said_by
 whole_said at bytes fits =
     let front = counted at bytes in
     let last = checksum_of front in
@@ -175,7 +174,6 @@ whole_said at bytes fits =
 
 record_read : (at : ℕ) (bytes : List ℕ) → length bytes ≤ 16 → IsBytes bytes → at < 2 ^ 32
     → record_of (codes "S3" ++ encode_upper (whole at bytes)) ≡ Ok (Data at bytes)
-unfolding record_of meaning_of
 record_read at bytes short fits addressed =
     rw (
       decode_of-encode_upper (whole at bytes) (bytes-whole at bytes short fits),
@@ -200,7 +198,6 @@ line_read : (ram number at : ℕ) (so_far : Reading) (bytes : List ℕ) → leng
     → so_far.ended ≡ false
     → after_line ram so_far (record { number = number; characters = codes "S3" ++ encode_upper (whole at bytes) })
     ≡ Ok (record { contents = so_far.contents ++ (at, bytes) ∷ []; ended = false })
-unfolding after_record with_record
 line_read ram number at so_far bytes short fits addressed inside running =
     rw (record_read at bytes short fits addressed, running, all_inside ram at bytes inside) refl
 
@@ -285,12 +282,12 @@ chunks_read ram number so_far (content ∷ contents) rest running fits inside =
 -- ---- the whole text
 
 header_read : (ram number : ℕ) → after_line ram beginning (record { number = number; characters = codes "S0030000FC" }) ≡ Ok beginning
-unfolding hex_on_literals record_of meaning_of said_by after_record with_record
+unfolding hex_on_literals
 header_read ram number = refl
 
 end_read : (ram number : ℕ) (so_far : Reading) → so_far.ended ≡ false
     → after_line ram so_far (record { number = number; characters = codes "S70500000000FA" }) ≡ Ok (record { contents = so_far.contents; ended = true })
-unfolding hex_on_literals record_of meaning_of said_by after_record with_record
+unfolding hex_on_literals
 end_read ram number so_far running = rw running refl
 
 plain_literal : (line : List ℕ) → list_all (λ c. ltb 13 c) line ≡ true → IsPlain line

@@ -52,7 +52,7 @@ abbrev pub data_of : Kind → List ℕ → List ℕ
 data_of kind bytes = drop (1 + address_len kind) (summed bytes)
 
 -- what bytes of the right length and checksum say
-unfoldable pub said_by : Kind → List ℕ → Record
+abbrev pub said_by : Kind → List ℕ → Record
 said_by S0 bytes = Header
 said_by S1 bytes = Data (address_of S1 bytes) (data_of S1 bytes)
 said_by S2 bytes = Data (address_of S2 bytes) (data_of S2 bytes)
@@ -63,7 +63,7 @@ said_by S7 bytes = End
 said_by S8 bytes = End
 said_by S9 bytes = End
 
-unfoldable pub meaning_of : Kind → List ℕ → Result Record RecordWhy
+abbrev pub meaning_of : Kind → List ℕ → Result Record RecordWhy
 meaning_of kind bytes =
     if not (has_its_length kind bytes) then Err why.Length
     else if not (has_its_checksum bytes) then Err why.Sum
@@ -74,7 +74,7 @@ abbrev pub kind_at : ℕ → ℕ → Option Kind
 kind_at letter digit = if letter == 83 then kind_of digit else None
 
 -- what a line says by itself
-unfoldable pub record_of : List ℕ → Result Record RecordWhy
+abbrev pub record_of : List ℕ → Result Record RecordWhy
 record_of (letter ∷ digit ∷ digits) = do
   kind ← ok_or (kind_at letter digit) why.Kind
   bytes ← ok_or (bytes_of digits) why.Digits
@@ -103,7 +103,7 @@ abbrev pub unless_outside : {A : Type 0} → Option ℕ → A → Result A Fault
 unless_outside None next = Ok next
 unless_outside (Some at) next = Err (fault.Outside at)
 
-unfoldable pub with_record : ℕ → Reading → Record → Result Reading Fault
+abbrev pub with_record : ℕ → Reading → Record → Result Reading Fault
 with_record ram so_far Header = Ok so_far
 with_record ram so_far (Data at bytes) =
     unless_outside (first_outside ram at bytes)
@@ -112,7 +112,7 @@ with_record ram so_far (Count number) = Ok so_far
 with_record ram so_far End = Ok (record { contents = so_far.contents; ended = true })
 
 -- what a line's record makes of what the lines before gave
-unfoldable pub after_record : ℕ → ℕ → Reading → Record → Result Reading Fault
+abbrev pub after_record : ℕ → ℕ → Reading → Record → Result Reading Fault
 after_record ram number so_far said =
     if not (counts_right so_far said) then Err (fault.Line number why.Count)
     else if so_far.ended then Err (fault.Line number why.After)

@@ -71,7 +71,6 @@ impl Reading {
     }
 
     /// Adds what a line says, unless a count is wrong or the end came before.
-    #[tactic(auto, unfolding(crate::specs::Records::after_record))]
     fn add(&mut self, number: u32, found: Record, ram: u32) -> Result<(), ImageFault>
         ensures { Gives (λ _. so_far self.new) result (after_record ram number (so_far self.old) (said found)) }
     {
@@ -99,7 +98,6 @@ impl Reading {
         }
     }
 
-    #[tactic(auto, unfolding(crate::specs::Records::with_record))]
     fn take(&mut self, found: Record, ram: u32) -> Result<(), ImageFault>
         ensures { Gives (λ _. so_far self.new) result (with_record ram (so_far self.old) (said found)) }
     {

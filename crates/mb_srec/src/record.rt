@@ -42,7 +42,6 @@ impl From<AllocError> for RecordFault {
 }
 
 /// The record that stands in a line.
-#[tactic(auto, unfolding(crate::specs::Records::record_of))]
 pub(crate) fn record_of(alloc: Global, line: &[u8]) -> Result<Record, RecordFault>
     ensures { GivesAlone said result (record_of line.now) }
 {
@@ -70,7 +69,6 @@ fn bytes_of(alloc: Global, digits: &[u8]) -> Result<Vec<u8>, RecordFault>
 }
 
 /// What a record with these bytes, from its count byte to its checksum, says.
-#[tactic(auto, unfolding(crate::specs::Records::meaning_of))]
 fn meaning_of(alloc: Global, kind: Kind, bytes: &[u8]) -> Result<Record, RecordFault>
     ensures { GivesAlone said result (meaning_of kind bytes.now) }
 {
@@ -85,7 +83,6 @@ fn meaning_of(alloc: Global, kind: Kind, bytes: &[u8]) -> Result<Record, RecordF
 }
 
 /// What bytes of the right length and checksum say.
-#[tactic(auto, unfolding(crate::specs::Records::said_by))]
 fn said_by(alloc: Global, kind: Kind, bytes: &[u8]) -> Result<Record, RecordFault>
     requires { IsTrue (has_its_length kind bytes.now) }
     ensures { GivesAlone said result (Ok (said_by kind bytes.now)) }

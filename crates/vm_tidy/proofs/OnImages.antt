@@ -57,12 +57,14 @@ rows_on_images = tt
 
 -- what their operands and condition codes unfold
 unfoldable pub operands_on_images : ⊤
-unfolding conditions_of ccr_of extend_of moved_of logic_of read_cut_of read_operand_of resolve_of part_of pending_of write_operand_of load_of store_of fetch_operand_of find_address_of finish_with_of
+unfolding conditions_of ccr_of extend_of moved_of logic_of read_cut_of read_operand_of resolve_of part_of pending_of write_operand_of
+    load_of store_of fetch_operand_of find_address_of finish_with_of
 operands_on_images = tt
 
 -- what they do
 unfoldable pub instructions_on_images : ⊤
-unfolding set_control_of move_to_control_of movec_of moveq_of move_operand_of lea_of perform_move_of row_of perform_of flush_beside_of pflush_of perform_system_of
+unfolding set_control_of move_to_control_of movec_of moveq_of move_operand_of lea_of perform_move_of row_of perform_of
+    flush_beside_of pflush_of perform_system_of
 instructions_on_images = tt
 
 -- what a step unfolds
