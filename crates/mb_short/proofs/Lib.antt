@@ -1,5 +1,6 @@
 pub mod Operands
 pub mod Updates
+pub mod Copies
 pub mod Moves
 pub mod Goings
 pub mod Flows

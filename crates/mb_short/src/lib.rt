@@ -9,6 +9,7 @@
 mod addresses;
 mod branches;
 mod changing;
+mod copying;
 mod performing;
 mod places;
 mod putting;

@@ -8,6 +8,7 @@ ghost use Rattle.mb_short.specs.Taken.{Comes, IsDone};
 use crate::addresses::load_near;
 use crate::branches::{branch, branch_far, turn};
 use crate::changing::change_register;
+use crate::copying::copy_near;
 use crate::putting::{put_memory, put_near};
 use crate::registers::perform_in_registers;
 use crate::stack::{call_far, call_near, link, return_from, unlink};
@@ -45,6 +46,7 @@ fn perform_pair<P: Port>(short: &Short, space: Space, plain: &mut Plain, port: &
         Short::TakeNear { taking, size, base } => take_near(taking, size, base, word, space, plain, port),
         Short::PutNear { putting, size, base } => put_near(putting, size, base, word, space, plain, port),
         Short::UpdateNear { update, size, base } => update_near(update, size, base, word, space, plain, port),
+        Short::CopyNear { size, base, place } => copy_near(size, base, place, word, space, plain, port),
         Short::AddressNear { register, base } => load_near(register, base, word, space, plain, port),
         Short::CallFar => call_far(word, space, plain, port),
         Short::Link { register } => link(register, word, space, plain, port),

@@ -21,6 +21,8 @@ use Rattle.mb_instr.proofs.Words.{AreWords-cons, AreWords-nil}
 use Rattle.mb_decode.specs.declared.front.Decoded.{Decoded}
 use Rattle.mb_decode.specs.declared.front.Decoded.TheVariants.{Whole, More}
 use Rattle.mb_decode.specs.Decodes.{decode_of, Decodes, BeginsWith, IfWhole, AllDecoded, ReadAgain}
+use Rattle.mb_table.specs.declared.forms.Place.{Place}
+use Rattle.mb_table.specs.declared.forms.Place.TheVariants as place
 use Rattle.mb_table.specs.declared.forms.Taking.{Taking}
 use Rattle.mb_table.specs.declared.forms.Taking.TheVariants as taking
 use Rattle.mb_table.specs.declared.forms.Putting.{Putting}
@@ -30,7 +32,7 @@ use Rattle.mb_table.specs.declared.forms.Update.TheVariants as update
 use Rattle.mb_table.specs.declared.short.Short.{Short}
 use Rattle.mb_table.specs.declared.short.Short.TheVariants as short
 use Rattle.mb_table.specs.FirstWords.{alone}
-use Rattle.mb_table.specs.Forms.{taking_of, putting_of, update_of}
+use Rattle.mb_table.specs.Forms.{place_ea, taking_of, putting_of, update_of, copy_of}
 use Rattle.mb_table.specs.Short.{meaning, meaning_with, IsAlone, IsWith, IsShort}
 
 -- ---- a word by itself
@@ -130,6 +132,11 @@ update_displaced (update.SubtractQuick n) size m = record { legal = λ d e. refl
 update_displaced update.Negate size m = record { legal = λ d e. refl; opcode = λ d e. refl; second = λ d. refl }
 update_displaced update.Complement size m = record { legal = λ d e. refl; opcode = λ d e. refl; second = λ d. refl }
 
+copy_displaced : (size : Size) (m : ℕ) (place : Place) → IsDisplaced (λ d. copy_of size (place_ea place) (Disp m d))
+copy_displaced size m (place.At n) = record { legal = λ d e. refl; opcode = λ d e. refl; second = λ d. refl }
+copy_displaced size m (place.Up n) = record { legal = λ d e. refl; opcode = λ d e. refl; second = λ d. refl }
+copy_displaced size m (place.Down n) = record { legal = λ d e. refl; opcode = λ d e. refl; second = λ d. refl }
+
 address_displaced : (n m : ℕ) → IsDisplaced (λ d. instr.Move (move.Lea n (Disp m d)))
 address_displaced n m = record { legal = λ d e. refl; opcode = λ d e. refl; second = λ d. refl }
 
@@ -160,6 +167,9 @@ with_any first second i (short.PutNear t size m) all again r r' more e h d k =
     (e ∙ ap (λ (j : Instr). Whole j 2) h) d k
 with_any first second i (short.UpdateNear t size m) all again r r' more e h d k =
     any_second (λ d. update_of t size (Disp m d)) first second (update_displaced t size m) all again r r' more
+    (e ∙ ap (λ (j : Instr). Whole j 2) h) d k
+with_any first second i (short.CopyNear size m place) all again r r' more e h d k =
+    any_second (λ d. copy_of size (place_ea place) (Disp m d)) first second (copy_displaced size m place) all again r r' more
     (e ∙ ap (λ (j : Instr). Whole j 2) h) d k
 with_any first second i (short.AddressNear n m) all again r r' more e h d k =
     any_second (λ d. instr.Move (move.Lea n (Disp m d))) first second (address_displaced n m) all again r r' more

@@ -62,6 +62,10 @@ update_of (update.SubtractQuick quick) size ea = instr.Arith (arith.Subq quick s
 update_of update.Negate size ea = instr.Arith (arith.Neg size ea)
 update_of update.Complement size ea = instr.Arith (arith.Not size ea)
 
+-- the instruction that moves an operand to this one
+abbrev pub copy_of : Size → (to : Ea) → (from : Ea) → Instr
+copy_of size to from = instr.Move (move.Move size to from)
+
 -- the instruction that changes this data register
 abbrev pub change_of : Change → Size → ℕ → Instr
 change_of change.Clear size n = instr.Arith (arith.Clr size (Dn n))

@@ -16,7 +16,7 @@ use Rattle.mb_decode.specs.Decodes.{decode_of}
 use Rattle.mb_table.specs.declared.short.Short.{Short}
 use Rattle.mb_table.specs.declared.short.Short.TheVariants as short
 use Rattle.mb_table.specs.FirstWords.{alone}
-use Rattle.mb_table.specs.Forms.{register_ea, place_ea, taking_of, putting_of, update_of, change_of}
+use Rattle.mb_table.specs.Forms.{register_ea, place_ea, taking_of, putting_of, update_of, copy_of, change_of}
 
 -- the instruction of one word that a short form is
 abbrev pub meaning : Short → Option Instr
@@ -60,6 +60,7 @@ meaning_with d (short.Loop c n) = Some (instr.Flow (flow.Dbcc c n d))
 meaning_with d (short.TakeNear taking size m) = Some (taking_of taking size (Disp m d))
 meaning_with d (short.PutNear putting size m) = Some (putting_of putting size (Disp m d))
 meaning_with d (short.UpdateNear update size m) = Some (update_of update size (Disp m d))
+meaning_with d (short.CopyNear size m place) = Some (copy_of size (place_ea place) (Disp m d))
 meaning_with d (short.AddressNear n m) = Some (instr.Move (move.Lea n (Disp m d)))
 meaning_with d short.CallFar = Some (instr.Flow (flow.Bcc condition.False (branch.Word d)))
 meaning_with d (short.Link n) = Some (instr.Move (move.LinkW n d))

@@ -247,6 +247,23 @@ fn short_pair(second: u16, instruction: &Instr) -> Short
     }
 }
 
+/// The form of what moves an operand that the second word displaces to one that needs no further word.
+#[rattlefmt::skip]
+fn copy_near(second: u16, instruction: &Instr) -> Short
+    ensures with { IfSome (meaning_with second result) (λ i. instruction.now ≡ i) }
+    ensures alone { meaning result ≡ None }
+{
+    let Instr::Move(Move::Move { size, destination, source: Ea::Disp(base, d) }) = *instruction else {
+        return Short::Other;
+    };
+    match destination {
+        Ea::Ind(n) if d == second => Short::CopyNear { size, base, place: Place::At(n) },
+        Ea::Post(n) if d == second => Short::CopyNear { size, base, place: Place::Up(n) },
+        Ea::Pre(n) if d == second => Short::CopyNear { size, base, place: Place::Down(n) },
+        _ => Short::Other,
+    }
+}
+
 /// The form of an instruction that reads, writes or changes an operand which the second word displaces.
 #[rattlefmt::skip]
 fn near_by_operand(second: u16, instruction: &Instr) -> Short
@@ -276,6 +293,10 @@ pub(crate) fn short_with(second: u16, instruction: &Instr) -> Short
     ensures alone { meaning result ≡ None }
 {
     match short_pair(second, instruction) {
+        Short::Other => {}
+        found => return found,
+    }
+    match copy_near(second, instruction) {
         Short::Other => near_by_operand(second, instruction),
         found => found,
     }

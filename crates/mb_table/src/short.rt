@@ -158,6 +158,12 @@ pub enum Short {
         size: Size,
         base: u8,
     },
+    /// An operand `(d16,An)` is moved to one in memory; the second word is the displacement.
+    CopyNear {
+        size: Size,
+        base: u8,
+        place: Place,
+    },
     /// A data register changes.
     Change {
         change: Change,

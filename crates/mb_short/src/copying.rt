@@ -1,0 +1,45 @@
+//! Operands in memory that are moved to others in memory.
+
+ghost use Rattle.std.specs.Prelude.{◌≡◌, IfSome, IfNone};
+ghost use Rattle.mb_instr.specs.declared.operand.Ea.TheVariants.{Disp};
+ghost use Rattle.mb_instr.specs.Codes.{IsInstr};
+ghost use Rattle.mb_table.specs.Forms.{copy_of, place_ea};
+ghost use Rattle.mb_short.specs.Taken.{Goes};
+
+use crate::places::{address, near, pass_two, step_over};
+use crate::registers::test;
+use mb_instr::{Plain, Size};
+use mb_operands::{read_at_once, write_at_once};
+use mb_port::{Port, Space};
+use mb_table::Place;
+
+/// A MOVE at PC of an operand (d16,An), whose displacement is the second word, where both are known at once. Else
+/// nothing has changed.
+#[inline(always)]
+#[tactic(auto, using(crate::proofs::Copies::copying))]
+pub(crate) fn copy_near<P: Port>(
+    size: Size,
+    base: u8,
+    place: Place,
+    displacement: u16,
+    space: Space,
+    plain: &mut Plain,
+    port: &mut P,
+) -> Option<bool>
+    requires { IsInstr (copy_of size (place_ea place) (Disp base displacement)) }
+    ensures done { IfSome result (λ flow. Goes P.bus (copy_of size (place_ea place) (Disp base displacement)) 2 space
+        plain.old (P.world port.old) flow plain.new (P.world port.new)) }
+    ensures undone { IfNone result (plain.new ≡ plain.old) }
+    ensures same { IfNone result (P.world port.new ≡ P.world port.old) }
+    ensures rest { P.rest port.new ≡ P.rest port.old }
+{
+    let value = read_at_once(space, near(base, displacement, plain), size, port)?;
+    if write_at_once(space, address(place, size, plain), size, value, port) {
+        pass_two(plain);
+        step_over(place, size, plain);
+        test(size, value, plain);
+        Some(false)
+    } else {
+        None
+    }
+}
