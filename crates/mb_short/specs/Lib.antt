@@ -1,3 +1,4 @@
+pub mod Always
 pub mod Moved
 pub mod Operands
 pub mod Updates

@@ -1,6 +1,6 @@
 //! LEA.
 
-ghost use Rattle.std.specs.Prelude.{◌≡◌, ◌<◌, IfSome, IfNone};
+ghost use Rattle.std.specs.Prelude.{◌<◌, false};
 ghost use Rattle.mb_instr.specs.declared.operand.Ea.TheVariants.{Disp};
 ghost use Rattle.mb_instr.specs.declared.instruction.Instr.TheVariants as instr;
 ghost use Rattle.mb_instr.specs.declared.instruction.Move.TheVariants as move_row;
@@ -20,15 +20,12 @@ pub(crate) fn load_near<P: Port>(
     space: Space,
     plain: &mut Plain,
     port: &P,
-) -> Option<bool>
+)
     requires register { register < 8 }
     requires base { base < 8 }
-    ensures done { IfSome result (λ flow.
-        Goes P.bus (instr.Move (move_row.Lea register (Disp base displacement))) 2 space plain.old
-        (P.world port.now) flow plain.new (P.world port.now)) }
-    ensures undone { IfNone result (plain.new ≡ plain.old) }
+    ensures { Goes P.bus (instr.Move (move_row.Lea register (Disp base displacement))) 2 space plain.old
+        (P.world port.now) false plain.new (P.world port.now) }
 {
     plain.a[register as usize] = near(base, displacement, plain);
     pass_two(plain);
-    Some(false)
 }

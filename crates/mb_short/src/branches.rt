@@ -1,9 +1,10 @@
 //! Branches and loops.
 
-ghost use Rattle.std.specs.Prelude.{◌≡◌, ◌<◌, IfSome, IfNone};
+ghost use Rattle.std.specs.Prelude.{◌≡◌, ◌<◌, not, is_some, IfSome, IfNone};
 ghost use Rattle.mb_instr.specs.declared.kinds.Branch.TheVariants as displacement_in;
 ghost use Rattle.mb_instr.specs.declared.instruction.Instr.TheVariants as instr;
 ghost use Rattle.mb_instr.specs.declared.instruction.Flow.TheVariants as flow_row;
+ghost use Rattle.mb_meaning.specs.Flow.{is_call};
 ghost use Rattle.mb_short.specs.Taken.{Goes};
 
 use mb_instr::{Branch, Condition, Plain};
@@ -24,6 +25,7 @@ pub(crate) fn branch<P: Port>(
         Goes P.bus (instr.Flow (flow_row.Bcc condition (displacement_in.Byte displacement))) 1 space plain.old
         (P.world port.now) flow plain.new (P.world port.now)) }
     ensures undone { IfNone result (plain.new ≡ plain.old) }
+    ensures always { is_some result ≡ not (is_call condition) }
 {
     if is_call(condition) {
         return None;
@@ -48,6 +50,7 @@ pub(crate) fn branch_far<P: Port>(
         Goes P.bus (instr.Flow (flow_row.Bcc condition (displacement_in.Word displacement))) 2 space plain.old
         (P.world port.now) flow plain.new (P.world port.now)) }
     ensures undone { IfNone result (plain.new ≡ plain.old) }
+    ensures always { is_some result ≡ not (is_call condition) }
 {
     if is_call(condition) {
         return None;

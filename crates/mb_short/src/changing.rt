@@ -1,6 +1,6 @@
 //! Data registers that change by themselves, by a number in the instruction, or by another data register.
 
-ghost use Rattle.std.specs.Prelude.{◌≡◌, ◌<◌, IfSome, IfNone};
+ghost use Rattle.std.specs.Prelude.{◌≡◌, ◌<◌, false};
 ghost use Rattle.mb_port.specs.Routine.{run};
 ghost use Rattle.mb_instr.specs.Codes.{IsInstr};
 ghost use Rattle.mb_instr.specs.Registers.{data_register};
@@ -115,14 +115,12 @@ pub(crate) fn change_register<P: Port>(
     space: Space,
     plain: &mut Plain,
     port: &P,
-) -> Option<bool>
+)
     requires { IsInstr (change_of change size register) }
-    ensures done { IfSome result (λ flow. Goes P.bus (change_of change size register) 1 space plain.old
-        (P.world port.now) flow plain.new (P.world port.now)) }
-    ensures undone { IfNone result (plain.new ≡ plain.old) }
+    ensures { Goes P.bus (change_of change size register) 1 space plain.old (P.world port.now) false plain.new
+        (P.world port.now) }
 {
     let at = plain.pc;
     pass_one(plain);
     carry_out(change, size, register, at, space, plain, port);
-    Some(false)
 }

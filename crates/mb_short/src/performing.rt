@@ -1,8 +1,9 @@
 //! The instruction of a short form, carried out at once.
 
-ghost use Rattle.std.specs.Prelude.{◌≡◌, ◌%◌, ◌^◌, ◌<◌, IfSome, IfNone};
+ghost use Rattle.std.specs.Prelude.{◌≡◌, ◌%◌, ◌^◌, ◌<◌, true, IsSome, IfSome, IfNone};
 ghost use Rattle.mb_instr.specs.Codes.{IsInstr};
 ghost use Rattle.mb_table.specs.Short.{meaning, meaning_with};
+ghost use Rattle.mb_short.specs.Always.{asks_nothing, is_of_registers_by_parts};
 ghost use Rattle.mb_short.specs.Taken.{Comes, IsDone};
 
 use crate::addresses::load_near;
@@ -47,7 +48,10 @@ fn perform_pair<P: Port>(short: &Short, space: Space, plain: &mut Plain, port: &
         Short::PutNear { putting, size, base } => put_near(putting, size, base, word, space, plain, port),
         Short::UpdateNear { update, size, base } => update_near(update, size, base, word, space, plain, port),
         Short::CopyNear { size, base, place } => copy_near(size, base, place, word, space, plain, port),
-        Short::AddressNear { register, base } => load_near(register, base, word, space, plain, port),
+        Short::AddressNear { register, base } => {
+            load_near(register, base, word, space, plain, port);
+            Some(false)
+        }
         Short::CallFar => call_far(word, space, plain, port),
         Short::Link { register } => link(register, word, space, plain, port),
         _ => None,
@@ -66,14 +70,21 @@ fn perform_rarer<P: Port>(short: &Short, space: Space, plain: &mut Plain, port: 
         IsDone P.bus short.now space plain.old (P.world port.old) flow plain.new (P.world port.new)) }
     ensures undone { IfNone result (plain.new ≡ plain.old) }
     ensures same { IfNone result (P.world port.new ≡ P.world port.old) }
+    ensures always { is_of_registers_by_parts short.now ≡ true → IsSome result }
     ensures rest { P.rest port.new ≡ P.rest port.old }
 {
     match *short {
-        Short::TakeRegister { taking, size, register } => take_register(taking, size, register, space, plain, port),
+        Short::TakeRegister { taking, size, register } => {
+            take_register(taking, size, register, space, plain, port);
+            Some(false)
+        }
         Short::TakeMemory { taking, size, place } => take_memory(taking, size, place, space, plain, port),
         Short::PutMemory { putting, size, place } => put_memory(putting, size, place, space, plain, port),
         Short::UpdateMemory { update, size, place } => update_memory(update, size, place, space, plain, port),
-        Short::Change { change, size, register } => change_register(change, size, register, space, plain, port),
+        Short::Change { change, size, register } => {
+            change_register(change, size, register, space, plain, port);
+            Some(false)
+        }
         Short::Return => return_from(space, plain, port),
         Short::Call { displacement } => call_near(displacement, space, plain, port),
         Short::Unlink { register } => unlink(register, space, plain, port),
@@ -101,6 +112,7 @@ pub fn perform_short<P: Port, const COPY: usize>(
         IsDone P.bus short.now space plain.old (P.world port.old) flow plain.new (P.world port.new)) }
     ensures undone { IfNone result (plain.new ≡ plain.old) }
     ensures same { IfNone result (P.world port.new ≡ P.world port.old) }
+    ensures always { asks_nothing short.now ≡ true → IsSome result }
     ensures rest { P.rest port.new ≡ P.rest port.old }
 {
     match *short {

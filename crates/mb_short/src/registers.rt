@@ -1,9 +1,10 @@
 //! Forms of one word with names of their own, whose operands are registers or stand in the word.
 
-ghost use Rattle.std.specs.Prelude.{◌≡◌, ◌<◌, true, false, IfSome, IfNone};
+ghost use Rattle.std.specs.Prelude.{◌≡◌, ◌<◌, true, false, is_some, IfSome, IfNone};
 ghost use Rattle.mb_instr.specs.Codes.{IsInstr};
 ghost use Rattle.mb_meaning.specs.Moves.{move_flags, swap_of};
 ghost use Rattle.mb_table.specs.Short.{meaning};
+ghost use Rattle.mb_short.specs.Always.{is_of_registers};
 ghost use Rattle.mb_short.specs.Moved.{moved_to};
 ghost use Rattle.mb_short.specs.Taken.{GoesBy, RowBy};
 
@@ -78,6 +79,7 @@ fn carry_out<P: Port, const COPY: usize>(short: &Short, at: u32, space: Space, p
     ensures done { result ≡ true
         → RowBy P.bus (meaning short.now) at space plain.old (P.world port.now) plain.new }
     ensures undone { result ≡ false → plain.new ≡ plain.old }
+    ensures always { result ≡ is_of_registers short.now }
 {
     match *short {
         Short::MoveQuick { register, immediate } => moveq(register, immediate, plain),
@@ -126,6 +128,7 @@ pub(crate) fn perform_in_registers<P: Port, const COPY: usize>(
     ensures done { IfSome result (λ flow. GoesBy P.bus (meaning short.now) 1 space plain.old (P.world port.now) flow
         plain.new (P.world port.now)) }
     ensures undone { IfNone result (plain.new ≡ plain.old) }
+    ensures always { is_some result ≡ is_of_registers short.now }
 {
     let at = plain.pc;
     plain.pc = at.wrapping_add(2);

@@ -1,6 +1,6 @@
 //! Operands that are only read.
 
-ghost use Rattle.std.specs.Prelude.{◌≡◌, ◌<◌, IfSome, IfNone};
+ghost use Rattle.std.specs.Prelude.{◌≡◌, ◌<◌, false, IfSome, IfNone};
 ghost use Rattle.mb_instr.specs.declared.operand.Ea.TheVariants.{Disp};
 ghost use Rattle.mb_instr.specs.Codes.{IsInstr};
 ghost use Rattle.mb_instr.specs.Operands.{lower};
@@ -62,16 +62,14 @@ pub(crate) fn take_register<P: Port>(
     space: Space,
     plain: &mut Plain,
     port: &P,
-) -> Option<bool>
+)
     requires { IsInstr (taking_of taking size (register_ea register)) }
-    ensures done { IfSome result (λ flow. Goes P.bus (taking_of taking size (register_ea register)) 1 space plain.old
-        (P.world port.now) flow plain.new (P.world port.now)) }
-    ensures undone { IfNone result (plain.new ≡ plain.old) }
+    ensures { Goes P.bus (taking_of taking size (register_ea register)) 1 space plain.old (P.world port.now) false
+        plain.new (P.world port.now) }
 {
     let value = size.low(value_of(register, plain));
     pass_one(plain);
     take(taking, size, value, plain);
-    Some(false)
 }
 
 /// An instruction at PC that reads memory, where the operand is known at once. Else nothing has changed.
