@@ -1,5 +1,5 @@
 -- What is known of a reference, by how the memory management unit translates.
-use Rattle.std.proofs.Common.{◌≡◌, ℕ, Bool, true, false, refl, ap}
+use Rattle.std.proofs.Common.{◌≡◌, ℕ, Bool, true, false, refl, ap, subst}
 use Rattle.std.specs.Prelude.{Option, Some, None, ◌||◌, ◌&&◌, ◌/◌, ◌^◌, ◌==◌, bit_or, not}
 use Rattle.mb_port.specs.declared.types.Mmu.{Mmu}
 use Rattle.mb_port.specs.declared.types.Space.{Space}
@@ -10,8 +10,9 @@ use Rattle.mb_machine.specs.declared.reference.Reference.{Reference}
 use Rattle.mb_machine.specs.declared.reference.Settled.TheVariants.{To}
 use Rattle.mb_model.specs.Pages.{page_of}
 use Rattle.mb_machine.specs.Access.{untranslated, settled, matched, or_off, by_match, by_entry, is_translating}
-use Rattle.mb_mmu.specs.declared.modes.Mode.TheVariants.{Direct, Tables, UserTables}
-use Rattle.mb_mmu.specs.Modes.{is_enabled, has_transparent, serves_user, has_user, mode_by, mode_of}
+use Rattle.mb_mmu.specs.declared.modes.Mode.{Mode}
+use Rattle.mb_mmu.specs.declared.modes.Mode.TheVariants.{Direct, Tables, UserTables, Registers}
+use Rattle.mb_mmu.specs.Modes.{is_enabled, has_transparent, is_off, serves_user, has_user, mode_by, mode_of}
 
 -- ---- no transparent register is on
 
@@ -131,4 +132,28 @@ pub user-settled : (rule : Rule) (mmu : Mmu) (kept : KeptLists) (r : Reference) 
 unfolding settled
 user-settled rule mmu kept r h space = ap (λ (o : Option Bool). by_match rule kept r o) (user_translated mmu r h space)
 
-pub ruleset modes = (direct-settled, tables-settled, user-settled)
+-- ---- all off
+
+abbrev pub is_direct : Mode → Bool
+is_direct Direct = true
+is_direct Tables = false
+is_direct UserTables = false
+is_direct Registers = false
+
+off_mode : (transparent user translating : Bool)
+    → not (transparent || translating) ≡ is_direct (mode_by transparent user translating)
+off_mode true true translating = refl
+off_mode true false true = refl
+off_mode true false false = refl
+off_mode false user true = refl
+off_mode false user false = refl
+
+off_by : (transparent user translating : Bool) (mode : Mode) → mode_by transparent user translating ≡ mode
+    → not (transparent || translating) ≡ is_direct mode
+off_by transparent user translating mode h =
+    subst (λ (m : Mode). not (transparent || translating) ≡ is_direct m) h (off_mode transparent user translating)
+
+pub off-mode : (mmu : Mmu) (mode : Mode) → mode_of mmu ≡ mode → is_off mmu ≡ is_direct mode
+off-mode mmu mode h = off_by (has_transparent mmu) (has_user mmu) (is_translating mmu) mode h
+
+pub ruleset modes = (direct-settled, tables-settled, user-settled, off-mode)

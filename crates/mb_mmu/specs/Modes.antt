@@ -13,6 +13,10 @@ is_enabled register = register / 2 ^ 15 % 2 == 1
 abbrev pub has_transparent : Mmu → Bool
 has_transparent mmu = is_enabled mmu.itt0 || is_enabled mmu.itt1 || is_enabled mmu.dtt0 || is_enabled mmu.dtt1
 
+-- translation is off, and so is each transparent register
+abbrev pub is_off : Mmu → Bool
+is_off mmu = not (has_transparent mmu || is_translating mmu)
+
 -- a register that is on serves user space: its S field, bits 14 and 13, is not the supervisor's alone
 abbrev pub serves_user : ℕ → Bool
 serves_user register = is_enabled register && not (register / 2 ^ 13 % 4 == 1)

@@ -8,6 +8,7 @@ ghost use Rattle.mb_model.specs.Pages.{page_of as page_number};
 ghost use Rattle.mb_machine.specs.Access.{by_entry as by_kept_entry};
 ghost use Rattle.mb_machine.specs.declared.reference.Reference.{Reference};
 ghost use Rattle.mb_machine.specs.declared.reference.Settled.TheVariants.{To};
+ghost use Rattle.mb_mmu.specs.Modes.{is_off};
 ghost use Rattle.mb_mmu.specs.State.{at_reset, settled_by};
 ghost use Rattle.mb_mmu.specs.Sound.{IsAccess, LeadsIntoRam};
 
@@ -174,7 +175,7 @@ impl Translator {
         }
     }
 
-    /// What is known of an access without a search. One that leads into RAM leads there at once from then on.
+    /// What is known of an access without a search. Where it leads is remembered for `place`, if the page lies in RAM.
     #[inline(always)]
     pub fn settle(&mut self, r: Reference) -> Settled
         requires { IsAccess r }
@@ -188,11 +189,12 @@ impl Translator {
         settled
     }
 
-    /// Whether each reference leads to its own address.
+    /// Whether translation is off, and so is each transparent register: then each reference leads to its own address.
     #[inline(always)]
     #[tactic(auto, using(crate::proofs::Modal::modes))]
     pub fn is_direct(&self) -> bool
-        ensures { result ≡ true → (r : Reference) → settled_by self.now r ≡ To r.at }
+        ensures off { result ≡ is_off self.now.mmu }
+        ensures direct { result ≡ true → (r : Reference) → settled_by self.now r ≡ To r.at }
     {
         matches!(self.mode, Mode::Direct)
     }
