@@ -1,6 +1,6 @@
 //! Exceptions in a step: how each is entered, and what follows where its frame has no place.
 
-ghost use Rattle.std.specs.Prelude.{◌≡◌, ◌≢◌, ◌<◌};
+ghost use Rattle.std.specs.Prelude.{◌≡◌, ◌≢◌, ◌<◌, ◌||◌};
 ghost use Rattle.mb_port.specs.Routine.{run};
 ghost use Rattle.mb_instr.specs.Registers.{with_plain};
 ghost use Rattle.mb_processor.specs.SystemEnds.{with_registers};
@@ -52,9 +52,10 @@ pub(crate) fn has_ct(access: &Access) -> bool
     access.ssw >> 13 & 1 == 1
 }
 
-/// The fields with CT, where a trace is due.
+/// The fields with CT, where a trace is due. A return by their frame then asks for it.
 pub(crate) fn with_ct(due: bool, access: Access) -> Access
-    ensures { result ≡ with_ct due access }
+    ensures value { result ≡ with_ct due access }
+    ensures asks { has_ct result ≡ (due || has_ct access) }
 {
     let mut access = access;
     if due {

@@ -5,4 +5,4 @@ use Rattle.mb_step.proofs.raising.unchecked.Goals as goal
 pub returns-clause-means : goal.returns-clause-means
 unfolding unchecked_of
 returns-clause-means g c =
-    rw (sym (c.with_ct-fields.ensures ∙ ap (with_ct c.args.is_trace) (c.check_fields.ensures 0))) c.access_error.ensures.means
+    rw (sym (c.with_ct-fields.ensures.value ∙ ap (with_ct c.args.is_trace) (c.check_fields.ensures 0))) c.access_error.ensures.means
