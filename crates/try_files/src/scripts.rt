@@ -1,5 +1,6 @@
 //! Scripts and session files, and what is wrong with others.
 
+use Due::{Aborted, Typed};
 use mb_script::Input::{Abort, Byte};
 use mb_script::{
     Entry, Input, LineFault, LineWhy, Script, SessionPlan, Turn, read_script, read_session,
@@ -7,19 +8,38 @@ use mb_script::{
 use std::alloc::{AllocError, Global};
 use std::test::Fail;
 
-/// Steps, each with what arrives.
-type Entries<'a> = &'a [(u32, Input)];
+/// What arrives at a step.
+enum Due<'a> {
+    Typed(u32, &'a [u8]),
+    Aborted(u32),
+}
 
-const fn entry((step, input): (u32, Input)) -> Entry {
+const fn entry(step: u32, input: Input) -> Entry {
     Entry { step, input }
 }
 
-fn has_entries(script: &Script, want: Entries) -> bool {
-    let count = script.count();
-    let same = (0..count)
-        .zip(want)
-        .all(|(place, want)| script.entry(place) == Some(entry(*want)));
-    count as usize == want.len() && same && script.entry(count) == None
+/// The place behind the entries of what is due, where the script has them from a place on.
+fn behind(script: &Script, place: u32, due: &Due) -> Option<u32> {
+    match due {
+        Due::Typed(step, bytes) => {
+            let are_there = (place..=u32::MAX).zip(bytes.iter()).all(|(place, byte)| script.entry(
+                place,
+            ) == Some(entry(*step, Byte(*byte))));
+            are_there.then_some(place.checked_add(u32::try_from(bytes.len()).ok()?)?)
+        }
+        Due::Aborted(step) => (script.entry(place) == Some(entry(*step, Abort))).then_some(
+            place.checked_add(1)?,
+        ),
+    }
+}
+
+/// Whether what is due at steps is all that the script has.
+fn has_all(script: &Script, want: &[Due]) -> bool {
+    let mut place = Some(0);
+    for due in want {
+        place = place.and_then(|place| behind(script, place, due));
+    }
+    place == Some(script.count()) && script.entry(script.count()) == None
 }
 
 /// The bytes from $21 to $7E.
@@ -32,92 +52,42 @@ const ALL_PRINTABLE: &[u8] =
 
 #[test]
 fn reads_scripts(rt: HostRuntime) -> Result<(), Fail> {
-    let table: [(&[u8], Entries); 18] = [
+    let table: [(&[u8], &[Due]); 18] = [
         (b"", &[]),
         (b"\n\r\n# at x\n#\n", &[]),
         (
             b"at 1 hex 000102030405060708090A0B0C0D0E0F10",
-            &[
-                (1, Byte(0)),
-                (1, Byte(1)),
-                (1, Byte(2)),
-                (1, Byte(3)),
-                (1, Byte(4)),
-                (1, Byte(5)),
-                (1, Byte(6)),
-                (1, Byte(7)),
-                (1, Byte(8)),
-                (1, Byte(9)),
-                (1, Byte(10)),
-                (1, Byte(11)),
-                (1, Byte(12)),
-                (1, Byte(13)),
-                (1, Byte(14)),
-                (1, Byte(15)),
-                (1, Byte(16)),
-            ],
+            &[Typed(
+                1,
+                &[0, 1, 2, 3, 4, 5, 6, 7, 8, 9, 10, 11, 12, 13, 14, 15, 16],
+            )],
         ),
-        (
-            b"at 7 hex aAfF0d\n",
-            &[(7, Byte(0xAA)), (7, Byte(0xFF)), (7, Byte(0x0D))],
-        ),
-        (b"at 5 text ls\n", &[(5, Byte(b'l')), (5, Byte(b's'))]),
-        (
-            b"at 5 line ls\r\n",
-            &[(5, Byte(b'l')), (5, Byte(b's')), (5, Byte(10))],
-        ),
-        (b"at 5 line \n", &[(5, Byte(10))]),
+        (b"at 7 hex aAfF0d\n", &[Typed(7, b"\xAA\xFF\r")]),
+        (b"at 5 text ls\n", &[Typed(5, b"ls")]),
+        (b"at 5 line ls\r\n", &[Typed(5, b"ls\n")]),
+        (b"at 5 line \n", &[Typed(5, b"\n")]),
         (b"at 5 text ", &[]),
-        (
-            b"at 5 text  a \n",
-            &[(5, Byte(b' ')), (5, Byte(b'a')), (5, Byte(b' '))],
-        ),
-        (
-            b"at 5 text # hex\n",
-            &[
-                (5, Byte(b'#')),
-                (5, Byte(b' ')),
-                (5, Byte(b'h')),
-                (5, Byte(b'e')),
-                (5, Byte(b'x')),
-            ],
-        ),
+        (b"at 5 text  a \n", &[Typed(5, b" a ")]),
+        (b"at 5 text # hex\n", &[Typed(5, b"# hex")]),
         (
             b"at 9 hex 41\n# between\n\nat 9 line \nat 10 text B",
-            &[(9, Byte(0x41)), (9, Byte(10)), (10, Byte(0x42))],
+            &[Typed(9, b"A\n"), Typed(10, b"B")],
         ),
-        (b"at 0000000000000000000005 hex 41\n", &[(5, Byte(0x41))]),
-        (b"at 4294967295 hex 41\n", &[(4_294_967_295, Byte(0x41))]),
-        (
-            b"at 1 text at\r\nat 1 text at",
-            &[
-                (1, Byte(b'a')),
-                (1, Byte(b't')),
-                (1, Byte(b'a')),
-                (1, Byte(b't')),
-            ],
-        ),
-        (b"at 1 text \r\nat 2 line \r\n", &[(2, Byte(10))]),
-        (b"at 3 text \nat 3 text ~\n", &[(3, Byte(b'~'))]),
-        (b"at 1 abort", &[(1, Abort)]),
+        (b"at 0000000000000000000005 hex 41\n", &[Typed(5, b"A")]),
+        (b"at 4294967295 hex 41\n", &[Typed(4_294_967_295, b"A")]),
+        (b"at 1 text at\r\nat 1 text at", &[Typed(1, b"atat")]),
+        (b"at 1 text \r\nat 2 line \r\n", &[Typed(2, b"\n")]),
+        (b"at 3 text \nat 3 text ~\n", &[Typed(3, b"~")]),
+        (b"at 1 abort", &[Aborted(1)]),
         (
             b"at 9 hex 41\nat 9 abort\r\nat 9 abort\n\nat 9 text abort",
-            &[
-                (9, Byte(0x41)),
-                (9, Abort),
-                (9, Abort),
-                (9, Byte(b'a')),
-                (9, Byte(b'b')),
-                (9, Byte(b'o')),
-                (9, Byte(b'r')),
-                (9, Byte(b't')),
-            ],
+            &[Typed(9, b"A"), Aborted(9), Aborted(9), Typed(9, b"abort")],
         ),
     ];
     for (text, want) in table {
         assert!(rt; text.len() < 1000);
         let script = read_script(rt.alloc(), text)?;
-        assert!(rt; has_entries(&script, want), "{text:?}");
+        assert!(rt; has_all(&script, want), "{text:?}");
     }
     Ok(())
 }
@@ -130,7 +100,7 @@ fn reads_every_printable_byte(rt: HostRuntime) -> Result<(), Fail> {
     let script = read_script(rt.alloc(), &text)?;
     assert!(rt; script.count() == 95);
     for byte in 0x20..=0x7E {
-        assert!(rt; script.entry(u32::from(byte - 0x20)) == Some(entry((1, Byte(byte)))));
+        assert!(rt; script.entry(u32::from(byte - 0x20)) == Some(entry(1, Byte(byte))));
     }
     assert!(rt; script.entry(95) == None);
     Ok(())
