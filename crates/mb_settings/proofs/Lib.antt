@@ -1,0 +1,4 @@
+pub mod Registers
+pub mod Control
+pub mod Status
+pub mod Entries
