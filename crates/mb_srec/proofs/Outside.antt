@@ -26,3 +26,5 @@ some_outside ram at (byte ∷ next ∷ bytes) some h =
 pub none_outside : (ram at : ℕ) (bytes : List ℕ) → length bytes ≡ 0 → first_outside ram at bytes ≡ None
 none_outside ram at [] h = refl
 none_outside ram at (byte ∷ bytes) h = absurd (omega arith)
+
+pub ruleset bounds = (all_inside, some_outside, none_outside)

@@ -127,7 +127,7 @@ fn record_at(alloc: Global, number: u32, line: &[u8]) -> Result<Record, ImageFau
 }
 
 /// The first address not below `ram`, of bytes of which the first is at the address.
-#[tactic(auto, using(crate::proofs::Outside::all_inside, crate::proofs::Outside::some_outside, crate::proofs::Outside::none_outside))]
+#[tactic(auto, using(crate::proofs::Outside::bounds))]
 fn first_outside(ram: u32, at: u32, bytes: &[u8]) -> Option<u32>
     ensures { result ≡ first_outside ram at bytes.now }
 {
