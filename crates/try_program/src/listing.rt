@@ -459,83 +459,15 @@ fn check_rows(rt: &impl Abort, alloc: Global, rows: &[Row]) -> Result<(), Fail> 
 }
 
 #[test]
-fn statements_a_first(rt: HostRuntime) -> Result<(), Fail> {
-    check_rows(&rt, rt.alloc(), &A_FIRST)
-}
-
-#[test]
-fn statements_a_rest(rt: HostRuntime) -> Result<(), Fail> {
-    check_rows(&rt, rt.alloc(), &A_REST)
-}
-
-#[test]
-fn statements_b_first(rt: HostRuntime) -> Result<(), Fail> {
-    check_rows(&rt, rt.alloc(), &B_FIRST)
-}
-
-#[test]
-fn statements_b_rest(rt: HostRuntime) -> Result<(), Fail> {
-    check_rows(&rt, rt.alloc(), &B_REST)
-}
-
-#[test]
-fn statements_c_first(rt: HostRuntime) -> Result<(), Fail> {
-    check_rows(&rt, rt.alloc(), &C_FIRST)
-}
-
-#[test]
-fn statements_c_rest(rt: HostRuntime) -> Result<(), Fail> {
-    check_rows(&rt, rt.alloc(), &C_REST)
-}
-
-#[test]
-fn statements_d_and_e(rt: HostRuntime) -> Result<(), Fail> {
-    check_rows(&rt, rt.alloc(), &D_AND_E)
-}
-
-#[test]
-fn statements_j_and_l(rt: HostRuntime) -> Result<(), Fail> {
-    check_rows(&rt, rt.alloc(), &J_AND_L)
-}
-
-#[test]
-fn statements_m_first(rt: HostRuntime) -> Result<(), Fail> {
-    check_rows(&rt, rt.alloc(), &M_FIRST)
-}
-
-#[test]
-fn statements_m_second(rt: HostRuntime) -> Result<(), Fail> {
-    check_rows(&rt, rt.alloc(), &M_SECOND)
-}
-
-#[test]
-fn statements_m_rest(rt: HostRuntime) -> Result<(), Fail> {
-    check_rows(&rt, rt.alloc(), &M_REST)
-}
-
-#[test]
-fn statements_n_to_p(rt: HostRuntime) -> Result<(), Fail> {
-    check_rows(&rt, rt.alloc(), &N_TO_P)
-}
-
-#[test]
-fn statements_r(rt: HostRuntime) -> Result<(), Fail> {
-    check_rows(&rt, rt.alloc(), &R)
-}
-
-#[test]
-fn statements_s_to_u(rt: HostRuntime) -> Result<(), Fail> {
-    check_rows(&rt, rt.alloc(), &S_TO_U)
-}
-
-#[test]
-fn modes(rt: HostRuntime) -> Result<(), Fail> {
-    check_rows(&rt, rt.alloc(), &MODES)
-}
-
-#[test]
-fn byte_immediates(rt: HostRuntime) -> Result<(), Fail> {
-    check_rows(&rt, rt.alloc(), &BYTES)
+fn statements(rt: HostRuntime) -> Result<(), Fail> {
+    let tables: [&[Row]; 16] = [
+        &A_FIRST, &A_REST, &B_FIRST, &B_REST, &C_FIRST, &C_REST, &D_AND_E, &J_AND_L, &M_FIRST,
+        &M_SECOND, &M_REST, &N_TO_P, &R, &S_TO_U, &MODES, &BYTES,
+    ];
+    for rows in tables {
+        check_rows(&rt, rt.alloc(), rows)?;
+    }
+    Ok(())
 }
 
 #[test]

@@ -373,163 +373,162 @@ fn the_whole_text_is_written(rt: HostRuntime) {
     assert!(rt; ran.diag.bytes().is_empty());
 }
 
+/// Words that are refused, by what is wrong with them.
+const REFUSED: [(&str, &[&str]); 6] = [
+    (
+        "other commands",
+        &[
+            "mbx",
+            "mbx bare",
+            "mbx help",
+            "mbx -",
+            "mbx --",
+            "mbx --help",
+            "mbx -h",
+            "mbx --version",
+            "mbx -V",
+            "mbx help bare",
+            "mbx bare help",
+            "mbx asm",
+            "mbx asm ",
+            "mbx asm a.s b.s",
+            "mbx asm a.s --ram 64",
+            "mbx asm --help",
+            "mbx asm -",
+            "mbx Bare hello.s19 --ram 64 --steps 10",
+            "mbx bar hello.s19 --ram 64 --steps 10",
+            "mbx host",
+            "mbx host ",
+            "mbx host hello.s19 hello.s19",
+            "mbx host hello.s19 --ram 64 --steps 10",
+            "mbx compare",
+            "mbx compare --slice 1 hello.s19",
+            "mbx  hello.s19 --ram 64 --steps 10",
+            "bare hello.s19 --ram 64 --steps 10",
+            "mbx --ram 64 bare hello.s19 --steps 10",
+            "mbx -- bare hello.s19 --ram 64 --steps 10",
+            "mbx bäre hello.s19 --ram 64 --steps 10",
+        ],
+    ),
+    (
+        "missing and extra words",
+        &[
+            "mbx bare hello.s19",
+            "mbx bare hello.s19 --ram 64",
+            "mbx bare hello.s19 --steps 10",
+            "mbx bare --ram 64 --steps 10",
+            "mbx bare hello.s19 --ram 64 --steps 10 hello.s19",
+            "mbx bare hello.s19 hello.s19 --ram 64 --steps 10",
+            "mbx bare hello.s19 --ram 64 --steps 10 ",
+            "mbx bare  --ram 64 --steps 10",
+            "mbx bare --ram 64 --steps 10 -- ",
+            "mbx bare hello.s19 --ram 64 --steps",
+            "mbx bare hello.s19 --steps 10 --ram",
+            "mbx bare hello.s19 --ram --steps 10",
+            "mbx bare hello.s19 --ram -- 64 --steps 10",
+            "mbx bare hello.s19 --ram= --steps=10",
+            "mbx bare hello.s19 --ram=64 --steps=",
+            "mbx bare hello.s19 --ram  --steps 10",
+            "mbx bare hello.s19 --ram 64 --ram 64 --steps 10",
+            "mbx bare hello.s19 --ram=64 --ram=64 --steps 10",
+            "mbx bare hello.s19 --ram 64 --steps 10 --steps 10",
+        ],
+    ),
+    (
+        "other options",
+        &[
+            "mbx bare - --ram 64 --steps 10",
+            "mbx bare hello.s19 --ram - --steps 10",
+            "mbx bare hello.s19 - --ram 64 --steps 10",
+            "mbx bare hello.s19 --ram 64 --steps 10 -",
+            "mbx bare -hello.s19 --ram 64 --steps 10",
+            "mbx bare -h --ram 64 --steps 10",
+            "mbx bare --hello.s19 --ram 64 --steps 10",
+            "mbx bare hello.s19 --ram 64 --steps 10 --help",
+            "mbx bare hello.s19 --ram 64 --steps 10 -h",
+            "mbx bare --help",
+            "mbx bare --version",
+            "mbx bare hello.s19 --ram 64 --steps 10 --version",
+            "mbx bare hello.s19 --ram 64 --steps 10 -V",
+            "mbx bare hello.s19 -ram 64 --steps 10",
+            "mbx bare hello.s19 --ra 64 --steps 10",
+            "mbx bare hello.s19 --ram 64 --step 10",
+            "mbx bare hello.s19 --RAM 64 --steps 10",
+            "mbx bare --image hello.s19 --ram 64 --steps 10",
+            "mbx bare --IMAGE=hello.s19 --ram 64 --steps 10",
+            "mbx bare hello.s19 ---ram 64 --steps 10",
+            "mbx bare hello.s19 --=64 --steps 10",
+            "mbx bare hello.s19 –ram 64 --steps 10",
+        ],
+    ),
+    (
+        "words of a script",
+        &[
+            "mbx bare hello.s19 --ram 64 --steps 10 --script",
+            "mbx bare hello.s19 --ram 64 --steps 10 --script=",
+            "mbx bare hello.s19 --ram 64 --steps 10 --script ",
+            "mbx bare hello.s19 --ram 64 --steps 10 --script -",
+            "mbx bare hello.s19 --ram 64 --steps 10 --script -- typed.txt",
+            "mbx bare hello.s19 --ram 64 --steps 10 --script typed.txt typed.txt",
+            "mbx bare hello.s19 --ram 64 --steps 10 --script typed.txt --script=typed.txt",
+            "mbx bare --ram 64 --steps 10 --script typed.txt",
+            "mbx bare hello.s19 --ram 64 --script typed.txt",
+            "mbx bare hello.s19 --ram 64 --steps 10 --scrip typed.txt",
+        ],
+    ),
+    (
+        "words behind two hyphens",
+        &[
+            "mbx bare --ram 64 --steps 10 --",
+            "mbx bare hello.s19 --ram 64 -- --steps 10",
+            "mbx bare hello.s19 --ram 64 --steps 10 -- --",
+            "mbx bare --ram 64 --steps 10 -- hello.s19 hello.s19",
+        ],
+    ),
+    (
+        "numbers",
+        &[
+            "mbx bare hello.s19 --ram 63 --steps 10",
+            "mbx bare hello.s19 --ram 65 --steps 10",
+            "mbx bare hello.s19 --ram 0 --steps 10",
+            "mbx bare hello.s19 --ram 16448 --steps 10",
+            "mbx bare hello.s19 --ram 00000000064 --steps 10",
+            "mbx bare hello.s19 --ram 64k --steps 10",
+            "mbx bare hello.s19 --ram +64 --steps 10",
+            "mbx bare hello.s19 --ram=+64 --steps 10",
+            "mbx bare hello.s19 --ram -64 --steps 10",
+            "mbx bare hello.s19 --ram=-64 --steps 10",
+            "mbx bare hello.s19 --ram 0x40 --steps 10",
+            "mbx bare hello.s19 --ram==64 --steps 10",
+            "mbx bare hello.s19 --ram=64=64 --steps 10",
+            "mbx bare hello.s19 --ram 64 --steps 4294967296",
+            "mbx bare hello.s19 --ram 64 --steps 99999999999",
+            "mbx bare hello.s19 --ram 64 --steps 00000000010",
+            "mbx bare hello.s19 --ram 64 --steps ten",
+            "mbx bare hello.s19 --ram 64 --steps 1.5",
+            "mbx bare hello.s19 --ram 64 --steps ١٠",
+        ],
+    ),
+];
+
 /// The words of each line are refused, and nothing is written to out.
-fn check_refused(rt: &impl Abort, alloc: Global, lines: &[&str]) {
+fn check_refused(rt: &impl Abort, alloc: Global, what: &str, lines: &[&str]) {
     for line in lines {
         let ran = run_text(alloc, line, HELLO, NOTHING).expect(rt, "ample memory");
-        assert!(rt; ran.status == 2, "{line}");
+        assert!(rt; ran.status == 2, "{what}: {line}");
         assert!(rt;
             ran.diag.bytes() == b"mbx: words refused\n".as_slice(),
-            "{line}"
+            "{what}: {line}"
         );
-        assert!(rt; ran.out.bytes().is_empty(), "{line}");
+        assert!(rt; ran.out.bytes().is_empty(), "{what}: {line}");
     }
 }
 
 #[test]
-fn other_commands_are_refused(rt: HostRuntime) {
-    let refused: [&str; 30] = [
-        "mbx",
-        "mbx bare",
-        "mbx help",
-        "mbx -",
-        "mbx --",
-        "mbx --help",
-        "mbx -h",
-        "mbx --version",
-        "mbx -V",
-        "mbx help bare",
-        "mbx bare help",
-        "mbx asm",
-        "mbx asm ",
-        "mbx asm a.s b.s",
-        "mbx asm a.s --ram 64",
-        "mbx asm --help",
-        "mbx asm -",
-        "mbx Bare hello.s19 --ram 64 --steps 10",
-        "mbx bar hello.s19 --ram 64 --steps 10",
-        "mbx host",
-        "mbx host ",
-        "mbx host hello.s19 hello.s19",
-        "mbx host hello.s19 --ram 64 --steps 10",
-        "mbx compare",
-        "mbx compare --slice 1 hello.s19",
-        "mbx  hello.s19 --ram 64 --steps 10",
-        "bare hello.s19 --ram 64 --steps 10",
-        "mbx --ram 64 bare hello.s19 --steps 10",
-        "mbx -- bare hello.s19 --ram 64 --steps 10",
-        "mbx bäre hello.s19 --ram 64 --steps 10",
-    ];
-    check_refused(&rt, rt.alloc(), &refused);
-}
-
-#[test]
-fn missing_and_extra_words_are_refused(rt: HostRuntime) {
-    let refused: [&str; 19] = [
-        "mbx bare hello.s19",
-        "mbx bare hello.s19 --ram 64",
-        "mbx bare hello.s19 --steps 10",
-        "mbx bare --ram 64 --steps 10",
-        "mbx bare hello.s19 --ram 64 --steps 10 hello.s19",
-        "mbx bare hello.s19 hello.s19 --ram 64 --steps 10",
-        "mbx bare hello.s19 --ram 64 --steps 10 ",
-        "mbx bare  --ram 64 --steps 10",
-        "mbx bare --ram 64 --steps 10 -- ",
-        "mbx bare hello.s19 --ram 64 --steps",
-        "mbx bare hello.s19 --steps 10 --ram",
-        "mbx bare hello.s19 --ram --steps 10",
-        "mbx bare hello.s19 --ram -- 64 --steps 10",
-        "mbx bare hello.s19 --ram= --steps=10",
-        "mbx bare hello.s19 --ram=64 --steps=",
-        "mbx bare hello.s19 --ram  --steps 10",
-        "mbx bare hello.s19 --ram 64 --ram 64 --steps 10",
-        "mbx bare hello.s19 --ram=64 --ram=64 --steps 10",
-        "mbx bare hello.s19 --ram 64 --steps 10 --steps 10",
-    ];
-    check_refused(&rt, rt.alloc(), &refused);
-}
-
-#[test]
-fn other_options_are_refused(rt: HostRuntime) {
-    let refused: [&str; 22] = [
-        "mbx bare - --ram 64 --steps 10",
-        "mbx bare hello.s19 --ram - --steps 10",
-        "mbx bare hello.s19 - --ram 64 --steps 10",
-        "mbx bare hello.s19 --ram 64 --steps 10 -",
-        "mbx bare -hello.s19 --ram 64 --steps 10",
-        "mbx bare -h --ram 64 --steps 10",
-        "mbx bare --hello.s19 --ram 64 --steps 10",
-        "mbx bare hello.s19 --ram 64 --steps 10 --help",
-        "mbx bare hello.s19 --ram 64 --steps 10 -h",
-        "mbx bare --help",
-        "mbx bare --version",
-        "mbx bare hello.s19 --ram 64 --steps 10 --version",
-        "mbx bare hello.s19 --ram 64 --steps 10 -V",
-        "mbx bare hello.s19 -ram 64 --steps 10",
-        "mbx bare hello.s19 --ra 64 --steps 10",
-        "mbx bare hello.s19 --ram 64 --step 10",
-        "mbx bare hello.s19 --RAM 64 --steps 10",
-        "mbx bare --image hello.s19 --ram 64 --steps 10",
-        "mbx bare --IMAGE=hello.s19 --ram 64 --steps 10",
-        "mbx bare hello.s19 ---ram 64 --steps 10",
-        "mbx bare hello.s19 --=64 --steps 10",
-        "mbx bare hello.s19 –ram 64 --steps 10",
-    ];
-    check_refused(&rt, rt.alloc(), &refused);
-}
-
-#[test]
-fn words_of_a_script_are_refused(rt: HostRuntime) {
-    let refused: [&str; 10] = [
-        "mbx bare hello.s19 --ram 64 --steps 10 --script",
-        "mbx bare hello.s19 --ram 64 --steps 10 --script=",
-        "mbx bare hello.s19 --ram 64 --steps 10 --script ",
-        "mbx bare hello.s19 --ram 64 --steps 10 --script -",
-        "mbx bare hello.s19 --ram 64 --steps 10 --script -- typed.txt",
-        "mbx bare hello.s19 --ram 64 --steps 10 --script typed.txt typed.txt",
-        "mbx bare hello.s19 --ram 64 --steps 10 --script typed.txt --script=typed.txt",
-        "mbx bare --ram 64 --steps 10 --script typed.txt",
-        "mbx bare hello.s19 --ram 64 --script typed.txt",
-        "mbx bare hello.s19 --ram 64 --steps 10 --scrip typed.txt",
-    ];
-    check_refused(&rt, rt.alloc(), &refused);
-}
-
-#[test]
-fn words_behind_two_hyphens_are_refused(rt: HostRuntime) {
-    let refused: [&str; 4] = [
-        "mbx bare --ram 64 --steps 10 --",
-        "mbx bare hello.s19 --ram 64 -- --steps 10",
-        "mbx bare hello.s19 --ram 64 --steps 10 -- --",
-        "mbx bare --ram 64 --steps 10 -- hello.s19 hello.s19",
-    ];
-    check_refused(&rt, rt.alloc(), &refused);
-}
-
-#[test]
-fn numbers_are_refused(rt: HostRuntime) {
-    let refused: [&str; 19] = [
-        "mbx bare hello.s19 --ram 63 --steps 10",
-        "mbx bare hello.s19 --ram 65 --steps 10",
-        "mbx bare hello.s19 --ram 0 --steps 10",
-        "mbx bare hello.s19 --ram 16448 --steps 10",
-        "mbx bare hello.s19 --ram 00000000064 --steps 10",
-        "mbx bare hello.s19 --ram 64k --steps 10",
-        "mbx bare hello.s19 --ram +64 --steps 10",
-        "mbx bare hello.s19 --ram=+64 --steps 10",
-        "mbx bare hello.s19 --ram -64 --steps 10",
-        "mbx bare hello.s19 --ram=-64 --steps 10",
-        "mbx bare hello.s19 --ram 0x40 --steps 10",
-        "mbx bare hello.s19 --ram==64 --steps 10",
-        "mbx bare hello.s19 --ram=64=64 --steps 10",
-        "mbx bare hello.s19 --ram 64 --steps 4294967296",
-        "mbx bare hello.s19 --ram 64 --steps 99999999999",
-        "mbx bare hello.s19 --ram 64 --steps 00000000010",
-        "mbx bare hello.s19 --ram 64 --steps ten",
-        "mbx bare hello.s19 --ram 64 --steps 1.5",
-        "mbx bare hello.s19 --ram 64 --steps ١٠",
-    ];
-    check_refused(&rt, rt.alloc(), &refused);
+fn other_words_are_refused(rt: HostRuntime) {
+    for (what, lines) in REFUSED {
+        check_refused(&rt, rt.alloc(), what, lines);
+    }
 }
 
 #[test]
@@ -587,71 +586,7 @@ fn words_name_other_files(rt: HostRuntime) -> Result<(), Fail> {
     Ok(())
 }
 
-#[test]
-fn files_are_refused(rt: HostRuntime) -> Result<(), Fail> {
-    let malformed: [(&[u8], &str); 23] = [
-        (b"", "no end"),
-        (b"S104000001FA\n", "no end"),
-        (b"S10B00000001000000000400EE\nS9030000FC\n", "line 1: sum"),
-        (b"S5030001FB\nS9030000FC\n", "line 1: count"),
-        (b"s9030000FC\n", "line 1: kind"),
-        (b"S", "line 1: kind"),
-        (b"S4030000FC\n", "line 1: kind"),
-        (b"hello\n", "line 1: kind"),
-        (b" \nS9030000FC\n", "line 1: kind"),
-        (b"S9", "line 1: length"),
-        (b"S1FF0000\nS9030000FC\n", "line 1: length"),
-        (b"S103000001FA\nS9030000FC\n", "line 1: length"),
-        (b"\n\r\nS10200FD\nS9030000FC\n", "line 3: length"),
-        (b"S904000005F6\n", "line 1: length"),
-        (b"S9030000FC \n", "line 1: digits"),
-        (b"S10400000GFA\nS9030000FC\n", "line 1: digits"),
-        (b"S9030000F\n", "line 1: digits"),
-        (b"S9030000FC\r", "line 1: digits"),
-        (b"S9030000FC\r\r\n", "line 1: digits"),
-        (b"S9030000FC\nS104000001FA\n", "line 2: after"),
-        (b"S104000001FA\nS9030000FC\nS9030000FC\n", "line 3: after"),
-        (b"S20501000000F9\nS9030000FC\n", "outside 00010000"),
-        (b"S105FFFF0102F9\nS9030000FC\n", "outside 00010000"),
-    ];
-    for (text, why) in malformed {
-        let ran = run_text(rt.alloc(), HELLO_WORDS, text, NOTHING).expect(&rt, "ample memory");
-        let line = format!(in rt.alloc(); "mbx: hello.s19 {why}\n")?;
-        assert!(rt; ran.status == 3, "{why}");
-        assert!(rt; ran.diag.bytes() == line.as_bytes());
-        assert!(rt; ran.out.bytes().is_empty(), "{why}");
-    }
-    Ok(())
-}
-
-#[test]
-fn scripts_are_refused(rt: HostRuntime) -> Result<(), Fail> {
-    let malformed: [(&[u8], &str); 9] = [
-        (b"at 5 hex 4\n", "line 1: digits"),
-        (b"at 5 text \t\n", "line 1: digits"),
-        (b"\n# typed\r\nat 0 text a\n", "line 3: number"),
-        (b"at 4294967296 line \n", "line 1: number"),
-        (b"at 2 text a\nat 1 text b\n", "line 2: order"),
-        (b"at 5 text", "line 1: word"),
-        (b"at 5  text a\n", "line 1: word"),
-        (b"at 1 text a\nat 1 hex 4142\nAT 1 text b\n", "line 3: word"),
-        (HELLO, "line 1: word"),
-    ];
-    for (text, why) in malformed {
-        let ran = run_both(rt.alloc(), SCRIPT_WORDS, HELLO, text, NOTHING).expect(
-            &rt,
-            "ample memory",
-        );
-        let line = format!(in rt.alloc(); "mbx: typed.txt {why}\n")?;
-        assert!(rt; ran.status == 3, "{why}");
-        assert!(rt; ran.diag.bytes() == line.as_bytes());
-        assert!(rt; ran.out.bytes().is_empty(), "{why}");
-    }
-    Ok(())
-}
-
-/// A run that ends at one of its files.
-#[derive(Drop)]
+/// A run that ends at one of its files, or at its words: its status and its line of diag.
 struct Ending<'a> {
     words: &'a str,
     image: &'a [u8],
@@ -660,53 +595,102 @@ struct Ending<'a> {
     line: &'a [u8],
 }
 
+/// An image that is malformed.
+macro_rules! image {
+    ($image:expr, $line:literal) => {
+        Ending { words: HELLO_WORDS, image: $image, script: b"", status: 3, line: $line }
+    };
+}
+
+/// A script that is malformed.
+macro_rules! script {
+    ($script:expr, $line:literal) => {
+        Ending { words: SCRIPT_WORDS, image: HELLO, script: $script, status: 3, line: $line }
+    };
+}
+
+#[rattlefmt::skip]
+const ENDINGS: [Ending; 38] = [
+    image!(b"", b"mbx: hello.s19 no end\n"),
+    image!(b"S104000001FA\n", b"mbx: hello.s19 no end\n"),
+    image!(b"S10B00000001000000000400EE\nS9030000FC\n", b"mbx: hello.s19 line 1: sum\n"),
+    image!(b"S5030001FB\nS9030000FC\n", b"mbx: hello.s19 line 1: count\n"),
+    image!(b"s9030000FC\n", b"mbx: hello.s19 line 1: kind\n"),
+    image!(b"S", b"mbx: hello.s19 line 1: kind\n"),
+    image!(b"S4030000FC\n", b"mbx: hello.s19 line 1: kind\n"),
+    image!(b"hello\n", b"mbx: hello.s19 line 1: kind\n"),
+    image!(b" \nS9030000FC\n", b"mbx: hello.s19 line 1: kind\n"),
+    image!(b"S9", b"mbx: hello.s19 line 1: length\n"),
+    image!(b"S1FF0000\nS9030000FC\n", b"mbx: hello.s19 line 1: length\n"),
+    image!(b"S103000001FA\nS9030000FC\n", b"mbx: hello.s19 line 1: length\n"),
+    image!(b"\n\r\nS10200FD\nS9030000FC\n", b"mbx: hello.s19 line 3: length\n"),
+    image!(b"S904000005F6\n", b"mbx: hello.s19 line 1: length\n"),
+    image!(b"S9030000FC \n", b"mbx: hello.s19 line 1: digits\n"),
+    image!(b"S10400000GFA\nS9030000FC\n", b"mbx: hello.s19 line 1: digits\n"),
+    image!(b"S9030000F\n", b"mbx: hello.s19 line 1: digits\n"),
+    image!(b"S9030000FC\r", b"mbx: hello.s19 line 1: digits\n"),
+    image!(b"S9030000FC\r\r\n", b"mbx: hello.s19 line 1: digits\n"),
+    image!(b"S9030000FC\nS104000001FA\n", b"mbx: hello.s19 line 2: after\n"),
+    image!(b"S104000001FA\nS9030000FC\nS9030000FC\n", b"mbx: hello.s19 line 3: after\n"),
+    image!(b"S20501000000F9\nS9030000FC\n", b"mbx: hello.s19 outside 00010000\n"),
+    image!(b"S105FFFF0102F9\nS9030000FC\n", b"mbx: hello.s19 outside 00010000\n"),
+    script!(b"at 5 hex 4\n", b"mbx: typed.txt line 1: digits\n"),
+    script!(b"at 5 text \t\n", b"mbx: typed.txt line 1: digits\n"),
+    script!(b"\n# typed\r\nat 0 text a\n", b"mbx: typed.txt line 3: number\n"),
+    script!(b"at 4294967296 line \n", b"mbx: typed.txt line 1: number\n"),
+    script!(b"at 2 text a\nat 1 text b\n", b"mbx: typed.txt line 2: order\n"),
+    script!(b"at 5 text", b"mbx: typed.txt line 1: word\n"),
+    script!(b"at 5  text a\n", b"mbx: typed.txt line 1: word\n"),
+    script!(b"at 1 text a\nat 1 hex 4142\nAT 1 text b\n", b"mbx: typed.txt line 3: word\n"),
+    script!(HELLO, b"mbx: typed.txt line 1: word\n"),
+    Ending {
+        words: SCRIPT_WORDS,
+        image: b"",
+        script: b"at 5 hex 4\n",
+        status: 3,
+        line: b"mbx: hello.s19 no end\n",
+    },
+    Ending {
+        words: "mbx bare --script other.txt hello.s19 --ram 64 --steps 10",
+        image: b"",
+        script: b"",
+        status: 3,
+        line: b"mbx: hello.s19 no end\n",
+    },
+    Ending {
+        words: "mbx bare hello.s19 --ram 64 --steps 10 --script other.txt",
+        image: HELLO,
+        script: b"",
+        status: 5,
+        line: b"mbx: other.txt cannot be read\n",
+    },
+    Ending {
+        words: "mbx bare other.s19 --ram 64 --steps 10 --script typed.txt",
+        image: HELLO,
+        script: b"at 5 hex 4\n",
+        status: 5,
+        line: b"mbx: other.s19 cannot be read\n",
+    },
+    Ending {
+        words: "mbx bare other.s19 --ram 64 --steps 10 --script other.txt",
+        image: HELLO,
+        script: b"",
+        status: 5,
+        line: b"mbx: other.s19 cannot be read\n",
+    },
+    Ending {
+        words: "mbx bare hello.s19 --ram 63 --steps 10 --script typed.txt",
+        image: b"",
+        script: b"at 5 hex 4\n",
+        status: 2,
+        line: b"mbx: words refused\n",
+    },
+];
+
+/// A file that is malformed or cannot be read ends the run; of two such files, the first does.
 #[test]
-fn the_first_file_ends_the_run(rt: HostRuntime) {
-    let endings: [Ending; 6] = [
-        Ending {
-            words: SCRIPT_WORDS,
-            image: b"",
-            script: b"at 5 hex 4\n",
-            status: 3,
-            line: b"mbx: hello.s19 no end\n",
-        },
-        Ending {
-            words: "mbx bare --script other.txt hello.s19 --ram 64 --steps 10",
-            image: b"",
-            script: b"",
-            status: 3,
-            line: b"mbx: hello.s19 no end\n",
-        },
-        Ending {
-            words: "mbx bare hello.s19 --ram 64 --steps 10 --script other.txt",
-            image: HELLO,
-            script: b"",
-            status: 5,
-            line: b"mbx: other.txt cannot be read\n",
-        },
-        Ending {
-            words: "mbx bare other.s19 --ram 64 --steps 10 --script typed.txt",
-            image: HELLO,
-            script: b"at 5 hex 4\n",
-            status: 5,
-            line: b"mbx: other.s19 cannot be read\n",
-        },
-        Ending {
-            words: "mbx bare other.s19 --ram 64 --steps 10 --script other.txt",
-            image: HELLO,
-            script: b"",
-            status: 5,
-            line: b"mbx: other.s19 cannot be read\n",
-        },
-        Ending {
-            words: "mbx bare hello.s19 --ram 63 --steps 10 --script typed.txt",
-            image: b"",
-            script: b"at 5 hex 4\n",
-            status: 2,
-            line: b"mbx: words refused\n",
-        },
-    ];
-    for ending in endings.iter() {
+fn a_file_ends_the_run(rt: HostRuntime) {
+    for ending in ENDINGS.iter() {
         let ran = run_both(
             rt.alloc(),
             ending.words,
@@ -715,25 +699,20 @@ fn the_first_file_ends_the_run(rt: HostRuntime) {
             NOTHING,
         )
         .expect(&rt, "ample memory");
-        assert!(rt; ran.status == ending.status, "{}", ending.words);
-        assert!(rt; ran.diag.bytes() == ending.line, "{}", ending.words);
-        assert!(rt; ran.out.bytes().is_empty(), "{}", ending.words);
+        assert!(rt; ran.status == ending.status, "{:?}", ending.line);
+        assert!(rt; ran.diag.bytes() == ending.line, "{:?}", ending.line);
+        assert!(rt; ran.out.bytes().is_empty(), "{:?}", ending.line);
     }
 }
 
 #[test]
-fn an_image_has_a_greatest_length(rt: HostRuntime) -> Result<(), Fail> {
+fn a_file_has_a_greatest_length(rt: HostRuntime) -> Result<(), Fail> {
     let long = vec![in rt.alloc(); b'\n'; 67_108_865]?;
     let none = Vec::new(rt.alloc());
     let ran = run(rt.alloc(), HELLO_WORDS, long, none, NOTHING).expect(&rt, "ample memory");
     assert!(rt; ran.status == 3);
     assert!(rt; ran.diag.bytes() == b"mbx: hello.s19 too long\n".as_slice());
     assert!(rt; ran.out.bytes().is_empty());
-    Ok(())
-}
-
-#[test]
-fn a_script_has_a_greatest_length(rt: HostRuntime) -> Result<(), Fail> {
     let image = Vec::from_slice(rt.alloc(), HELLO)?;
     let long = vec![in rt.alloc(); b'\n'; 67_108_865]?;
     let ran = run(rt.alloc(), SCRIPT_WORDS, image, long, NOTHING).expect(&rt, "ample memory");
