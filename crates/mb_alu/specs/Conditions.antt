@@ -10,6 +10,6 @@ is_set n place = n / 2 ^ place % 2 == 1
 unfoldable pub conditions_of : ℕ → Conditions
 conditions_of ccr = record { x = is_set ccr 4; n = is_set ccr 3; z = is_set ccr 2; v = is_set ccr 1; c = is_set ccr 0 }
 
-unfoldable pub ccr_of : Conditions → ℕ
+abbrev pub ccr_of : Conditions → ℕ
 ccr_of codes =
     from_bool codes.x * 16 + from_bool codes.n * 8 + from_bool codes.z * 4 + from_bool codes.v * 2 + from_bool codes.c

@@ -6,5 +6,5 @@ use Rattle.mb_alu.specs.declared.conditions.Flagged.{Flagged}
 use Rattle.mb_alu.specs.Logic.{moved_of}
 
 -- x extended to a long; at a shorter size its low bytes count
-unfoldable pub extend_of : Size → Size → ℕ → ℕ → Flagged
+abbrev pub extend_of : Size → Size → ℕ → ℕ → Flagged
 extend_of from to x ccr = moved_of to (sign_extended from x) ccr

@@ -17,7 +17,7 @@ combined Not x y = 2 ^ 32 - 1 - x
 combined Pass x y = x
 
 -- a value with N and Z by it, V and C clear, and X as it was
-unfoldable pub moved_of : Size → ℕ → ℕ → Flagged
+abbrev pub moved_of : Size → ℕ → ℕ → Flagged
 moved_of size value ccr = record {
   value = low_of size value;
   ccr = ccr_of (record {
@@ -29,5 +29,5 @@ moved_of size value ccr = record {
   });
 }
 
-unfoldable pub logic_of : LogicKind → Size → ℕ → ℕ → ℕ → Flagged
+abbrev pub logic_of : LogicKind → Size → ℕ → ℕ → ℕ → Flagged
 logic_of kind size x y ccr = moved_of size (combined kind x y) ccr

@@ -47,7 +47,7 @@ result_codes m value overflow ccr = record {
   c = false;
 }
 
-unfoldable pub mul_of : Bool → Width → ℕ → ℕ → ℕ → Product
+abbrev pub mul_of : Bool → Width → ℕ → ℕ → ℕ → Product
 mul_of signed width x y ccr =
     let product = product_of signed width x y in
     let value = modulo (long_values width) product in
@@ -90,7 +90,7 @@ has_quotient signed width divisor dividend =
     fits signed (short_values width) (quotient_of signed width divisor dividend)
 
 -- a divisor of 0 clears C; a quotient that does not fit sets V and clears C; else there is a result
-unfoldable pub div_of : Bool → Width → ℕ → ℕ → ℕ → Divided
+abbrev pub div_of : Bool → Width → ℕ → ℕ → ℕ → Divided
 div_of signed width divisor dividend ccr =
     if divisor % short_values width == 0 then ZeroDivide (ccr_of (record (conditions_of ccr) { c = false }))
     else if not (has_quotient signed width divisor dividend)

@@ -75,6 +75,6 @@ shift_flagged size end = record {
   });
 }
 
-unfoldable pub shift_of : ShiftKind → Bool → Size → ℕ → ℕ → ℕ → Flagged
+abbrev pub shift_of : ShiftKind → Bool → Size → ℕ → ℕ → ℕ → Flagged
 shift_of kind left size count x ccr =
     shift_flagged size (shifted kind left size count (low_of size x) (conditions_of ccr).x)

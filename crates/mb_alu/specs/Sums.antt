@@ -18,7 +18,7 @@ zero_of size value ccr extended = is_zero size value && (not extended || (condit
 
 -- y + x, and X where extended: carry is that the unsigned sum reaches the number of values, overflow
 -- that the signed sum leaves the signed range
-unfoldable pub add_of : Size → ℕ → ℕ → ℕ → Bool → Flagged
+abbrev pub add_of : Size → ℕ → ℕ → ℕ → Bool → Flagged
 add_of size x y ccr extended =
     let sum = low_of size y + low_of size x + carry_in extended ccr in
     let signed_sum = signed_of size y +ℤ signed_of size x +ℤ pos (carry_in extended ccr) in
@@ -54,12 +54,12 @@ difference_codes size x y ccr extended =
       c = borrow;
     }
 
-unfoldable pub sub_of : Size → ℕ → ℕ → ℕ → Bool → Flagged
+abbrev pub sub_of : Size → ℕ → ℕ → ℕ → Bool → Flagged
 sub_of size x y ccr extended = record {
   value = difference_of size x y ccr extended;
   ccr = ccr_of (difference_codes size x y ccr extended);
 }
 
 -- the condition codes of y - x, with X as it was
-unfoldable pub compare_of : Size → ℕ → ℕ → ℕ → ℕ
+abbrev pub compare_of : Size → ℕ → ℕ → ℕ → ℕ
 compare_of size x y ccr = ccr_of (record (difference_codes size x y ccr false) { x = (conditions_of ccr).x })

@@ -22,7 +22,6 @@ pub enum LogicKind {
 
 /// A value with the flags of a move: N and Z by the value, V and C clear, X as before.
 #[inline(always)]
-#[tactic(auto, unfolding(crate::specs::Logic::moved_of))]
 pub(crate) fn moved(size: Size, value: u32, ccr: u8) -> Flagged
     ensures means { result ≡ moved_of size value ccr }
     ensures bound { result.value < values_of size }
@@ -55,7 +54,6 @@ fn combine(kind: LogicKind, x: u32, y: u32) -> u32
 
 /// `y` and `x` combined bit by bit, or `x` alone. X stays.
 #[inline(always)]
-#[tactic(auto, unfolding(crate::specs::Logic::logic_of))]
 pub fn logic(kind: LogicKind, size: Size, x: u32, y: u32, ccr: u8) -> Flagged
     ensures means { result ≡ logic_of kind size x y ccr }
     ensures bound { result.value < values_of size }

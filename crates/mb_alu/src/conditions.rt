@@ -45,7 +45,6 @@ impl Conditions {
 
     /// The condition code register: X, N, Z, V and C in bits 4 to 0.
     #[inline(always)]
-    #[tactic(auto, unfolding(crate::specs::Conditions::ccr_of))]
     pub fn ccr(self) -> u8
         ensures { result ≡ ccr_of self }
     {

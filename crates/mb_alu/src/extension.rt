@@ -11,7 +11,6 @@ use mb_instr::Size;
 /// `x` of the size `from` as a number of the size `to` with the same sign; to a shorter size it is
 /// cut. X stays.
 #[inline(always)]
-#[tactic(auto, unfolding(crate::specs::Extend::extend_of))]
 pub fn extend(from: Size, to: Size, x: u32, ccr: u8) -> Flagged
     ensures means { result ≡ extend_of from to x ccr }
     ensures bound { result.value < values_of to }

@@ -30,7 +30,6 @@ fn overflow(signed: bool, width: Width, product: Whole) -> bool
 
 /// `x` times `y`. At [`Width::Long`] the high half of the product is cut, and V says that it mattered.
 #[inline(always)]
-#[tactic(auto, unfolding(crate::specs::Products::mul_of))]
 pub fn mul(signed: bool, width: Width, x: u32, y: u32, ccr: u8) -> Product
     ensures means { result ≡ mul_of signed width x y ccr }
     ensures bound { result.value < long_values width }

@@ -46,7 +46,6 @@ fn done(width: Width, quotient: Whole, remainder: Whole, ccr: u8) -> Divided
 
 /// `dividend` by `divisor`. The quotient is cut towards zero, and the remainder has the dividend's
 /// sign. After an overflow N and Z are as before, after a division by zero all but C.
-#[tactic(auto, unfolding(crate::specs::Products::div_of))]
 pub fn div(signed: bool, width: Width, divisor: u32, dividend: u64, ccr: u8) -> Divided
     ensures means { result ≡ div_of signed width divisor dividend ccr }
     ensures bound { IsBounded width result }

@@ -276,7 +276,6 @@ impl Shifting {
 /// `x` shifted or rotated by `count` bits. C is the last bit that leaves; where none does it is 0, or X
 /// for a rotate with X. V says that the sign changed on the way of an arithmetic shift to the left.
 #[inline(always)]
-#[tactic(auto, unfolding(crate::specs::Shifts::shift_of))]
 pub fn shift(kind: ShiftKind, left: bool, size: Size, count: u8, x: u32, ccr: u8) -> Flagged
     requires { count < 64 }
     ensures means { result ≡ shift_of kind left size count x ccr }

@@ -10,7 +10,6 @@ use mb_instr::Size;
 
 /// `y + x`, and X where `extended` (`ADDX`). X becomes the carry.
 #[inline(always)]
-#[tactic(auto, unfolding(crate::specs::Sums::add_of))]
 pub fn add(size: Size, x: u32, y: u32, ccr: u8, extended: bool) -> Flagged
     ensures means { result ≡ add_of size x y ccr extended }
     ensures bound { result.value < values_of size }
@@ -58,7 +57,6 @@ fn difference(size: Size, x: u32, y: u32, ccr: u8, extended: bool) -> (u32, Cond
 
 /// `y - x`, less X where `extended` (`SUBX`, and `NEGX` with `y` 0). X becomes the borrow.
 #[inline(always)]
-#[tactic(auto, unfolding(crate::specs::Sums::sub_of))]
 pub fn sub(size: Size, x: u32, y: u32, ccr: u8, extended: bool) -> Flagged
     ensures means { result ≡ sub_of size x y ccr extended }
     ensures bound { result.value < values_of size }
@@ -72,7 +70,6 @@ pub fn sub(size: Size, x: u32, y: u32, ccr: u8, extended: bool) -> Flagged
 
 /// The condition codes of `y - x`. X stays.
 #[inline(always)]
-#[tactic(auto, unfolding(crate::specs::Sums::compare_of))]
 pub fn compare(size: Size, x: u32, y: u32, ccr: u8) -> u8
     ensures { result ≡ compare_of size x y ccr }
 {

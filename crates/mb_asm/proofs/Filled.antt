@@ -37,7 +37,7 @@ use Rattle.mb_mnemonics.specs.declared.pattern.Pattern.TheVariants as pattern
 use Rattle.mb_mnemonics.specs.declared.range.Range.{Range}
 use Rattle.mb_mnemonics.specs.declared.range.Range.TheVariants as range
 use Rattle.mb_mnemonics.specs.Lines.{Entry, condition_by}
-use Rattle.mb_mnemonics.specs.Means.{Form, form_among, form_by, form_of, is_instr, is_named, meaning, meaning_by, said, size_by, told}
+use Rattle.mb_mnemonics.specs.Means.{Form, form_among, form_by, is_instr, is_named, meaning, meaning_by, said, size_by, told}
 use Rattle.mb_mnemonics.specs.Meant.{meant}
 use Rattle.mb_mnemonics.specs.Modes.{base_displacement, brief, displacement_words, ea_of, from_pc, full, full_word, is_word, mode_words, outer_of, plain}
 use Rattle.mb_mnemonics.specs.Modes.{with_base, immediate_words, lower_of}
@@ -68,7 +68,6 @@ abbrev pub IsTarget : ℕ → ℕ → ℤ → ℤ → Type 0
 IsTarget i j u v = ((i ≡ j) × (u ≡ v)) ⊎ (u ≡ near_at i)
 
 number_one : (r : Range) → is_some (number r (pos 1)) ≡ true
-unfolding number
 number_one range.Byte = refl
 number_one range.Word = refl
 number_one range.Long = refl
@@ -84,7 +83,6 @@ number_near r u v (inl e) h = rw e h
 number_near r u v (inr e) h = rw e (number_one r)
 
 long_near : (n : ℕ) → n < 4294967296 → is_some (number range.Long (pos n)) ≡ true
-unfolding number
 long_near n h =
     let e : nat_le n 4294967295 ≡ true = grind (arith, nat_tests) in
     rw e refl
@@ -115,7 +113,6 @@ same_is m n h = grind (arith, nat_tests)
 
 reached : (s : Size) (i c : ℕ) → c ≤ 60
     → displacement s ((i + c) % 4294967296) (near_at i) ≡ Some (low_of s ((4294967300 - c) % 4294967296))
-unfolding displacement
 reached s i c h =
     let d = (4294967300 - c) % 4294967296 in
     let e : (sign_extended s d == d) ≡ true = same_is (sign_extended s d) d (extended s c h) in
@@ -127,7 +124,6 @@ displacement_near s i j c u v h (inl e) k = rw (e.0, e.1) k
 displacement_near s i j c u v h (inr e) k = rw (e, reached s i c h) refl
 
 branch_reached : (s : Size) (i : ℕ) → is_some (branch s i (near_at i)) ≡ true
-unfolding branch
 branch_reached size.Byte i = rw (reached size.Byte i 2 (omega arith)) refl
 branch_reached size.Word i = rw (reached size.Word i 2 (omega arith)) refl
 branch_reached size.Long i = rw (reached size.Long i 2 (omega arith)) refl
@@ -266,7 +262,6 @@ based_near i j c f g base.NoPc t small fills h = plain_near i j f g t.displaceme
 full_near : (i j c : ℕ) (f g : Marked → ℤ) (t : FullForm Sum) → c ≤ 60 → Fills i j f g
     → is_some (full ((j + c) % 4294967296) (valued_form g (marked_form t))) ≡ true
     → is_some (full ((i + c) % 4294967296) (valued_form f (marked_form t))) ≡ true
-unfolding full
 full_near i j c f g t small fills h =
     let a = valued_form f (marked_form t) in
     let b = valued_form g (marked_form t) in
@@ -277,7 +272,6 @@ full_near i j c f g t small fills h =
 ea_near : (s : Size) (i j c : ℕ) (f g : Marked → ℤ) (m : Mode Sum) → c ≤ 60 → Fills i j f g
     → is_some (ea_of s ((j + c) % 4294967296) (valued_mode g (marked_mode m))) ≡ true
     → is_some (ea_of s ((i + c) % 4294967296) (valued_mode f (marked_mode m))) ≡ true
-unfolding ea_of
 ea_near s i j c f g (mode.Displaced n e) small fills h =
     map_some (λ d. Disp n d) (λ d. Disp n d) (number range.Displacement16 (f (mark false e))) (number range.Displacement16 (g (mark false e)))
     (number_near range.Displacement16 (f (mark false e)) (g (mark false e)) (fills.number e)) h
@@ -344,7 +338,6 @@ value_near : (p : Pattern) (s : Size) (i j : ℕ) (f g : Marked → ℤ) (m : Mo
     → takes_operand p s (operand.Mode (valued_mode g (marked_mode m))) ≡ true
     → is_some (with_value p s j (valued_mode g (marked_mode m)) b) ≡ true
     → is_some (with_value p s i (valued_mode f (marked_mode m)) a) ≡ true
-unfolding takes_operand
 value_near pattern.Immediate s i j f g m a b fills takes h =
     let u = value_of (valued_mode f (marked_mode m)) in
     let v = value_of (valued_mode g (marked_mode m)) in
@@ -382,7 +375,6 @@ mode_near : (p : Pattern) (s : Size) (i j c : ℕ) (f g : Marked → ℤ) (m : M
     → takes_operand p s (operand.Mode (valued_mode g (marked_mode m))) ≡ true
     → is_some (with_mode p s j ((j + c) % 4294967296) (valued_mode g (marked_mode m)) b) ≡ true
     → is_some (with_mode p s i ((i + c) % 4294967296) (valued_mode f (marked_mode m)) a) ≡ true
-unfolding with_mode
 mode_near (pattern.Mode class) s i j c f g m a b small fills takes h =
     map_some (λ x. record a { ea = x }) (λ x. record b { ea = x }) (ea_of s ((i + c) % 4294967296) (valued_mode f (marked_mode m)))
     (ea_of s ((j + c) % 4294967296) (valued_mode g (marked_mode m))) (ea_near s i j c f g m small fills) h
@@ -414,7 +406,6 @@ marked_field t = record { offset = marked_number t.offset; width = marked_number
 
 bits_near : (i j : ℕ) (f g : Marked → ℤ) (t : BitField Sum) → Fills i j f g → is_some (field_bits (valued_field g (marked_field t))) ≡ true
     → is_some (field_bits (valued_field f (marked_field t))) ≡ true
-unfolding field_bits
 bits_near i j f g t fills h =
     two_some (λ o w. o * 2 ^ 6 + w) (λ o w. o * 2 ^ 6 + w) (field_part range.Offset (valued_number f (marked_number t.offset)))
     (field_part range.Offset (valued_number g (marked_number t.offset))) (field_part range.Width (valued_number f (marked_number t.width)))
@@ -425,7 +416,6 @@ operand_near : (p : Pattern) (s : Size) (i j c : ℕ) (f g : Marked → ℤ) (o 
     → takes_operand p s (valued g (marked o)) ≡ true
     → is_some (with_operand p s j ((j + c) % 4294967296) (valued g (marked o)) b) ≡ true
     → is_some (with_operand p s i ((i + c) % 4294967296) (valued f (marked o)) a) ≡ true
-unfolding with_operand
 operand_near p s i j c f g (operand.Mode m) a b small fills takes h = mode_near p s i j c f g m a b small fills takes h
 operand_near p s i j c f g (operand.Field m t) a b small fills takes h =
     two_some (λ w x. record a { ea = x; word = w }) (λ w x. record b { ea = x; word = w }) (field_bits (valued_field f (marked_field t)))
@@ -459,7 +449,6 @@ mode_few s (mode.PcIndexed e x) = omega arith
 mode_few s _ = zero-le
 
 words_few : (p : Pattern) (s : Size) (o : Operand ℤ) → operand_words p s o ≤ 5
-unfolding operand_words
 words_few (pattern.Mode class) s (operand.Mode m) = mode_few s m
 words_few (pattern.Source class) s (operand.Mode m) = mode_few s m
 words_few (pattern.Memory class) s (operand.Mode m) = mode_few s m
@@ -532,7 +521,6 @@ if_some false x y e = absurd cc
 
 line_form : (l : Entry) (name : List ℕ) (letter : Option SizeLetter) (os : List (Operand ℤ)) (t : Form) → is_short l ≡ true
     → form_by l name letter os ≡ Some t → IsForm t os
-unfolding form_by
 line_form l name letter os t short h =
     let c = chained (λ x. option_map (form_at l x) (size_by l letter os)) (condition_by l name) t h in
     let s = mapped (form_at l c.0) (size_by l letter os) t c.1.1 in
@@ -555,7 +543,6 @@ le_is m n h = grind (arith, nat_tests)
 
 said_near : (t : Form) (i j : ℕ) (f g : Marked → ℤ) (os : List (Operand Sum)) → IsForm t (map (valued g) (map marked os)) → Fills i j f g
     → is_some (said t (map (valued g) (map marked os)) j) ≡ true → is_some (said t (map (valued f) (map marked os)) i) ≡ true
-unfolding said
 said_near t i j f g os form fills h =
     let both = and_is (nat_le (length t.entry.operands) 3) (nat_le t.entry.words 2) form.short in
     let a = le_is (length t.entry.operands) 3 both.0 in
@@ -590,7 +577,6 @@ formed_out (Some t) e i j f g os form fills h =
 pub out_stays : (name : List ℕ) (letter : Option SizeLetter) (os : List (Operand Sum)) (i j : ℕ) (f g : Marked → ℤ) → Fills i j f g
     → is_out (meaning name letter (map (valued f) (map marked os)) i) ≡ true
     → is_out (meaning name letter (map (valued g) (map marked os)) j) ≡ true
-unfolding meaning form_of
 out_stays name letter os i j f g fills h =
     let vs = map (valued g) (map marked os) in
     let e = if is_named lines name then fault.Operand else fault.Name in

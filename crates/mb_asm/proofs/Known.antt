@@ -39,7 +39,7 @@ use Rattle.mb_asm.specs.Layouts.{Layout, after_line, after_lines, after_statemen
 use Rattle.mb_asm.specs.Results.{refuse}
 use Rattle.mb_asm.specs.Symbols.{Symbol, value_in, with_symbol}
 use Rattle.mb_asm.proofs.Parts.{judged_parts}
-use Rattle.mb_asm.specs.Texts.{Chunks, Fault, assembled, at_line, chunks_from, finished, no_chunks, symbols_of, with_laid}
+use Rattle.mb_asm.specs.Texts.{Chunks, Fault, at_line, chunks_from, finished, no_chunks, symbols_of, with_laid}
 use Rattle.mb_asm.specs.Values.{Scope, has_flaw, have_flaw, in_operand, is_long, is_nameless, signed_value, sum_behind, term_value, value_of, values_of}
 use Rattle.mb_asm.specs.Values.{with_sign}
 
@@ -151,7 +151,6 @@ given_some scope operands (Some terms) value known named given is =
 -- the value of the one operand is known
 only_some : (scope : Scope) (operands : List (Operand Sum)) (value : Option ℤ) → AllKnown scope
     → have_flaw flaw.Nameless scope operands ≡ false → only_value scope operands ≡ Ok value → is_some value ≡ true
-unfolding only_value
 only_some scope operands value known named is = given_some scope operands (only_of operands) value known named refl is
 
 same_some : {A : Type 0} (x : Option A) (y : Option A) → is_some x ≡ true → x ≡ y → is_some y ≡ true
@@ -170,7 +169,6 @@ ranged_some says (Some value) said known is =
 
 org_known : (scope : Scope) (operation : Operation) (end : Option ℕ) → AllKnown scope
     → have_flaw flaw.Nameless scope operation.operands ≡ false → behind_org scope operation ≡ Ok end → is_some end ≡ true
-unfolding behind_org
 org_known scope operation end known named is =
     let a = bound (no_size operation.size) (λ none. only_value scope operation.operands >>= ranged org_address) end is in
     let b = bound (only_value scope operation.operands) (ranged org_address) end a.1.1 in
@@ -209,7 +207,6 @@ items_known unit at (item ∷ items) end known is =
     ] is
 
 dc_known : (at : Option ℕ) (operation : Operation) (end : Option ℕ) → is_some at ≡ true → behind_dc at operation ≡ Ok end → is_some end ≡ true
-unfolding behind_dc
 dc_known at operation end known is =
     let a = bound (ok_or (unit_of operation.size) kind.Operand)
     (λ unit. refuse (is_empty operation.operands) kind.Operand >>= λ some. behind_items unit at operation.operands) end is in
@@ -287,7 +284,7 @@ admitted_named layout line label found a b x is =
 
 operation_known : (symbols : List Symbol) (layout : Layout) (line : List ℕ) (label : Option Name) (operation : Operation) (laid : Laid)
     → IsKnown layout → judged_operation symbols layout line label operation ≡ Ok laid → OperationKnown layout line operation
-unfolding judged_operation next_at address_behind
+unfolding address_behind
 operation_known symbols layout line label operation laid known is =
     let found = directive_in line operation in
     let scope = scope_of symbols layout line found in
@@ -324,7 +321,6 @@ labelled_known symbols line (Some name) value all one = added_known symbols (rec
 statement_known : (symbols : List Symbol) (layout : Layout) (line : List ℕ) (label : Option Name) (operation : Option Operation) (laid : Laid)
     → IsKnown layout → judged_statement symbols layout line (record { label = label; operation = operation }) ≡ Ok laid
     → IsKnown (after_statement layout line (Some (record { label = label; operation = operation })))
-unfolding next_at
 statement_known symbols layout line label None laid known is = record {
   at = known.at;
   symbols = labelled_known layout.symbols line label (option_map pos layout.at) known.symbols (mapped_known pos layout.at known.at);
@@ -338,7 +334,6 @@ statement_known symbols layout line label (Some operation) laid known is =
 
 line_known : (symbols : List Symbol) (layout : Layout) (line : List ℕ) (statement : Option Statement) (laid : Laid)
     → IsKnown layout → judged_line symbols layout line statement ≡ Ok laid → IsKnown (after_statement layout line statement)
-unfolding judged_line
 line_known symbols layout line None laid known is = absurd cc
 line_known symbols layout line (Some statement) laid known is =
     statement_known symbols layout line statement.label statement.operation laid known is
@@ -362,7 +357,6 @@ finished_is (Ok chunks) image is = (chunks, refl)
 finished_is (Err fault) image is = absurd cc
 
 pub image_known : ImageLeavesNothingUnknown
-unfolding assembled
 image_known text image lines others is same =
     let symbols = symbols_of (numbered text) in
     let all = finished_is (chunks_from symbols beginning no_chunks (numbered text)) image is in

@@ -12,7 +12,7 @@ use Rattle.mb_asm.specs.declared.directive.Directive.TheVariants as directive
 use Rattle.mb_asm.specs.declared.fault.AsmKind.{AsmKind}
 use Rattle.mb_asm.specs.Extents.{address_behind, directive_in, equ_value}
 use Rattle.mb_asm.specs.Laws.{FaultyBeforeMended, FaultyBehindMended, FoundStays, LayoutStays, Stays, SymbolsStay}
-use Rattle.mb_asm.specs.Layouts.{Layout, after_line, after_lines, after_statement, beginning, earlier, if_known, label_in, next_at}
+use Rattle.mb_asm.specs.Layouts.{Layout, after_line, after_lines, after_statement, beginning, earlier, if_known, label_in}
 use Rattle.mb_asm.specs.Layouts.{operation_value}
 use Rattle.mb_asm.specs.Layouts.{with_label}
 use Rattle.mb_asm.specs.Symbols.{Symbol, value_in}
@@ -92,7 +92,6 @@ value_stays before after line operation (Some directive.Even) p = map_stays pos 
 statement_stays : (before after : Layout) (line : List ℕ) (label : Option Name) (operation : Option Operation) → LayoutStays before after
     → LayoutStays (after_statement before line (Some (record { label = label; operation = operation })))
     (after_statement after line (Some (record { label = label; operation = operation })))
-unfolding next_at
 statement_stays before after line label None p = record {
   at = p.at;
   symbols = label_stays before.symbols after.symbols line label (option_map pos before.at) (option_map pos after.at) p.symbols

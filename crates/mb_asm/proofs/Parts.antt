@@ -25,7 +25,6 @@ pub judged_parts : (layout : Layout) (line : List ℕ) (label : Option Name) (op
     (next : Result (Option ℕ) AsmKind) → judged_by layout line label operation found scope next
     ≡ (admitted layout line label found (has_no_name next || have_flaw flaw.Nameless scope operation.operands)
     >>= λ first. next >>= λ end. laid_to end scope label found operation)
-unfolding judged_by
 judged_parts layout line label operation found scope next =
     three (wants_label label found) (has_no_name next || have_flaw flaw.Nameless scope operation.operands) (is_again layout line label) kind.Syntax kind.Name
     kind.Twice (λ first. next >>= λ end. laid_to end scope label found operation)

@@ -45,7 +45,7 @@ use Rattle.mb_asm.specs.Extents.{behind_org, ds_count, directive_in, equ_value, 
 use Rattle.mb_asm.specs.Extents.{onward}
 use Rattle.mb_asm.specs.declared.addresses.TheConstants.{PAST}
 use Rattle.mb_asm.specs.Extents.{ranged}
-use Rattle.mb_asm.specs.Judged.{Laid, ends_past, equ_checked, has_no_name, is_address, is_again, is_misplaced, is_odd, is_past, judged_line, judged_by}
+use Rattle.mb_asm.specs.Judged.{Laid, ends_past, equ_checked, has_no_name, is_address, is_again, is_misplaced, is_odd, is_past, judged_by}
 use Rattle.mb_asm.specs.Judged.{judged_label}
 use Rattle.mb_asm.specs.Judged.{judged_operation, judged_statement, address_or_zero, reaches_past, reads_earlier, wants_label}
 use Rattle.mb_asm.specs.Kinds.{meant}
@@ -163,7 +163,6 @@ narrow_stays line ss ts a b terms s p =
 
 only_stays : (line : List ℕ) (ss ts : List Symbol) (a b : Option ℕ) (operands : List (Operand Sum)) → SymbolsStay ss ts → Stays a b
     → GivenStays (only_value (scope_at ss line a) operands) (only_value (scope_at ts line b) operands)
-unfolding only_value
 only_stays line ss ts a b operands s p =
     front_stays (ok_or (only_of operands) kind.Operand) (narrow_value (scope_at ss line a)) (narrow_value (scope_at ts line b))
     (λ terms. narrow_stays line ss ts a b terms s p)
@@ -177,7 +176,6 @@ ranged_stays says (Err e) t p = rw p refl
 
 org_stays : (line : List ℕ) (ss ts : List Symbol) (a b : Option ℕ) (operation : Operation) → SymbolsStay ss ts → Stays a b
     → GivenStays (behind_org (scope_at ss line a) operation) (behind_org (scope_at ts line b) operation)
-unfolding behind_org
 org_stays line ss ts a b operation s p =
     front_stays (no_size operation.size) (λ none. only_value (scope_at ss line a) operation.operands >>= ranged org_address)
     (λ none. only_value (scope_at ts line b) operation.operands >>= ranged org_address)
@@ -229,7 +227,6 @@ items_stay unit a b (item ∷ items) p =
     ]
 
 dc_stays : (a b : Option ℕ) (operation : Operation) → Stays a b → GivenStays (behind_dc a operation) (behind_dc b operation)
-unfolding behind_dc
 dc_stays a b operation p =
     front_stays (ok_or (unit_of operation.size) kind.Operand)
     (λ unit. refuse (is_empty operation.operands) kind.Operand >>= λ some. behind_items unit a operation.operands)
@@ -332,7 +329,6 @@ value_ranged says (Some v) y p = rw p (same_stays (ranged says (Some v)))
 
 unit_faulty : (unit : ℕ) (line : List ℕ) (ss ts : List Symbol) (a b : Option ℕ) (terms : Sum) → SymbolsStay ss ts → Stays a b
     → ErrStays (unit_bytes unit (scope_at ss line a) terms) (unit_bytes unit (scope_at ts line b) terms)
-unfolding unit_bytes
 unit_faulty unit line ss ts a b terms s p =
     let r = narrow_value (scope_at ss line a) terms in
     let t = narrow_value (scope_at ts line b) terms in
@@ -344,7 +340,6 @@ unit_faulty unit line ss ts a b terms s p =
     (err_by (ranged says x) (ranged says y) (value_ranged says x y (given_by r t x y given is there))) (λ u v i j h. h))
 
 unit_length : (unit : ℕ) (scope : Scope) (terms : Sum) (x : List ℕ) → unit_bytes unit scope terms ≡ Ok x → length x ≡ unit
-unfolding unit_bytes
 unit_length unit scope terms x is =
     let says = number (unit_range unit) in
     let last = λ (spelled : Option ℕ). written (big_bytes unit (unwrap_or spelled 0)) in
@@ -366,7 +361,6 @@ plain_stays unit line ss ts a b (Some terms) s p = record {
 
 item_stays : (unit : ℕ) (line : List ℕ) (ss ts : List Symbol) (a b : Option ℕ) (item : Operand Sum) → SymbolsStay ss ts → Stays a b
     → BytesStay (item_bytes unit (scope_at ss line a) item) (item_bytes unit (scope_at ts line b) item)
-unfolding item_bytes
 item_stays unit line ss ts a b (operand.Text text) s p = same_bytes (Ok (text_bytes line text))
 item_stays unit line ss ts a b item s p = plain_stays unit line ss ts a b (plain_of item) s p
 
@@ -403,7 +397,6 @@ items_bytes_stay unit line ss ts a b (item ∷ items) s p =
 
 dc_bytes_stay : (line : List ℕ) (ss ts : List Symbol) (a b : Option ℕ) (operation : Operation) → SymbolsStay ss ts → Stays a b
     → BytesStay (dc_bytes (scope_at ss line a) operation) (dc_bytes (scope_at ts line b) operation)
-unfolding dc_bytes
 dc_bytes_stay line ss ts a b operation s p =
     front_bytes (ok_or (unit_of operation.size) kind.Operand) (λ unit. items_bytes unit (scope_at ss line a) operation.operands)
     (λ unit. items_bytes unit (scope_at ts line b) operation.operands)
@@ -680,7 +673,6 @@ bytes_by scope operation None = instruction_bytes scope operation
 
 bytes_stay : (line : List ℕ) (ss ts : List Symbol) (a b : Option ℕ) (operation : Operation) → SymbolsStay ss ts → Stays a b
     → BytesStay (operation_bytes (scope_at ss line a) operation) (operation_bytes (scope_at ts line b) operation)
-unfolding operation_bytes
 bytes_stay line ss ts a b operation s p =
     elim (directive_in line operation) as (λ found. BytesStay (bytes_by (scope_at ss line a) operation found) (bytes_by (scope_at ts line b) operation found)) [
       | None ↦ instruction_bytes_stay line ss ts a b operation s p
@@ -820,7 +812,6 @@ judged_by_stays before after line ss ts label found operation next later s p q =
 operation_stays : (symbols more : List Symbol) (before after : Layout) (line : List ℕ) (label : Option Name) (operation : Operation)
     → SymbolsStay symbols more → LayoutStays before after
     → ErrStays (judged_operation symbols before line label operation) (judged_operation more after line label operation)
-unfolding judged_operation
 operation_stays symbols more before after line label operation s p =
     let found = directive_in line operation in
     let next = address_behind (earlier before line) operation in
@@ -855,7 +846,6 @@ statement_stays symbols more before after line label None s p = label_stays befo
 statement_stays symbols more before after line label (Some operation) s p = operation_stays symbols more before after line label operation s p
 
 pub faulty_stays : FaultyStaysFaulty
-unfolding judged_line
 faulty_stays symbols more before after line None s p h = refl
 faulty_stays symbols more before after line (Some statement) s p h =
     statement_stays symbols more before after line statement.label statement.operation s p h

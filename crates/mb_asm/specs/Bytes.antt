@@ -41,7 +41,7 @@ abbrev pub text_bytes : List ℕ → Name → List ℕ
 text_bytes line text = slice_range line (text.start + 1) (text.end - 1)
 
 -- a value as a unit of so many bytes; one that is not known counts as 0
-unfoldable pub unit_bytes : ℕ → Scope → Sum → Result (List ℕ) AsmKind
+abbrev pub unit_bytes : ℕ → Scope → Sum → Result (List ℕ) AsmKind
 unit_bytes unit scope terms = do
   value ← narrow_value scope terms
   spelled ← ranged (number (unit_range unit)) value
@@ -51,7 +51,7 @@ abbrev pub plain_bytes : ℕ → Scope → Option Sum → Result (List ℕ) AsmK
 plain_bytes unit scope (Some terms) = unit_bytes unit scope terms
 plain_bytes unit scope None = Err kind.Operand
 
-unfoldable pub item_bytes : ℕ → Scope → Operand Sum → Result (List ℕ) AsmKind
+abbrev pub item_bytes : ℕ → Scope → Operand Sum → Result (List ℕ) AsmKind
 item_bytes unit scope (operand.Text text) = Ok (text_bytes scope.line text)
 item_bytes unit scope item = plain_bytes unit scope (plain_of item)
 
@@ -62,7 +62,7 @@ items_bytes unit scope (item ∷ items) = do
   later ← items_bytes unit scope items
   Ok (first ++ later)
 
-unfoldable pub dc_bytes : Scope → Operation → Result (List ℕ) AsmKind
+abbrev pub dc_bytes : Scope → Operation → Result (List ℕ) AsmKind
 dc_bytes scope operation = do
   unit ← ok_or (unit_of operation.size) kind.Operand
   items_bytes unit scope operation.operands
@@ -111,7 +111,7 @@ directive_bytes scope operation directive.Dc = dc_bytes scope operation
 directive_bytes scope operation _ = Ok []
 
 -- ORG, EQU, DS and EVEN write nothing.
-unfoldable pub operation_bytes : Scope → Operation → Result (List ℕ) AsmKind
+abbrev pub operation_bytes : Scope → Operation → Result (List ℕ) AsmKind
 operation_bytes scope operation = elim (directive_in scope.line operation) [
   | Some directive ↦ directive_bytes scope operation directive
   | None ↦ instruction_bytes scope operation

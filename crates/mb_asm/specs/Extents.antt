@@ -39,7 +39,7 @@ unfoldable pub narrow_value : Scope → Sum → Result (Option ℤ) AsmKind
 narrow_value scope terms = if has_flaw flaw.Wide scope terms then Err kind.Range else Ok (value_of scope terms)
 
 -- the value of the one operand of ORG, EQU or DS
-unfoldable pub only_value : Scope → List (Operand Sum) → Result (Option ℤ) AsmKind
+abbrev pub only_value : Scope → List (Operand Sum) → Result (Option ℤ) AsmKind
 only_value scope operands = ok_or (only_of operands) kind.Operand >>= narrow_value scope
 
 -- What a value says, where it is in range. One that is not known says nothing, and that is no fault.
@@ -57,7 +57,7 @@ abbrev pub org_address : ℤ → Option ℕ
 org_address (pos n) = Some (min n PAST)
 org_address (negsuc n) = None
 
-unfoldable pub behind_org : Scope → Operation → Result (Option ℕ) AsmKind
+abbrev pub behind_org : Scope → Operation → Result (Option ℕ) AsmKind
 behind_org scope operation = do
   none ← no_size operation.size
   value ← only_value scope operation.operands
@@ -106,7 +106,7 @@ behind_items unit at [] = Ok at
 behind_items unit at (item ∷ items) = ok_or (behind_item at (item_len unit item)) kind.Operand >>=
     λ next. behind_items unit next items
 
-unfoldable pub behind_dc : Option ℕ → Operation → Result (Option ℕ) AsmKind
+abbrev pub behind_dc : Option ℕ → Operation → Result (Option ℕ) AsmKind
 behind_dc at operation = do
   unit ← ok_or (unit_of operation.size) kind.Operand
   some ← refuse (is_empty operation.operands) kind.Operand

@@ -88,7 +88,7 @@ equ_checked scope operation _ = Ok tt
 
 -- An operation that is a directive or none, by what it reads its symbols in and the address behind it. In this order
 -- the kinds of faults are looked for; what has no such operands comes before what is out of its range.
-unfoldable pub judged_by : Layout → List ℕ → Option Name → Operation → Option Directive → Scope
+abbrev pub judged_by : Layout → List ℕ → Option Name → Operation → Option Directive → Scope
     → Result (Option ℕ) AsmKind → Result Laid AsmKind
 judged_by layout line label operation found scope next = do
   labelled ← refuse (wants_label label found) kind.Syntax
@@ -103,7 +103,7 @@ judged_by layout line label operation found scope next = do
   Ok (record { bytes = written; next = address_or_zero end })
 
 -- an operation in the line, with the symbols of all lines
-unfoldable pub judged_operation : List Symbol → Layout → List ℕ → Option Name → Operation → Result Laid AsmKind
+abbrev pub judged_operation : List Symbol → Layout → List ℕ → Option Name → Operation → Result Laid AsmKind
 judged_operation symbols layout line label operation =
     let found = directive_in line operation in
     judged_by layout line label operation found (scope_of symbols layout line found)
@@ -123,6 +123,6 @@ judged_statement symbols layout line statement = elim statement.operation [
 ]
 
 -- The statement of a line, which may be none.
-unfoldable pub judged_line : List Symbol → Layout → List ℕ → Option Statement → Result Laid AsmKind
+abbrev pub judged_line : List Symbol → Layout → List ℕ → Option Statement → Result Laid AsmKind
 judged_line symbols layout line (Some statement) = judged_statement symbols layout line statement
 judged_line symbols layout line None = Err kind.Syntax

@@ -47,7 +47,7 @@ with_label symbols line None value = symbols
 with_label symbols line (Some name) value = with_symbol symbols (record { name = bytes_at line name; value = value })
 
 -- An address behind a line of which no extent is known is not known.
-unfoldable pub next_at : Layout → List ℕ → Option Operation → Option ℕ
+abbrev pub next_at : Layout → List ℕ → Option Operation → Option ℕ
 next_at layout line None = layout.at
 next_at layout line (Some operation) = if_known (address_behind (earlier layout line) operation)
 

@@ -44,7 +44,7 @@ abbrev pub with_bytes : Chunks → List ℕ → Chunks
 with_bytes chunks bytes = record { whole = chunks.whole; at = chunks.at; bytes = chunks.bytes ++ bytes }
 
 -- A gap is left where the address behind a statement is not where its bytes end.
-unfoldable pub with_laid : Chunks → ℕ → Laid → Chunks
+abbrev pub with_laid : Chunks → ℕ → Laid → Chunks
 with_laid chunks at laid =
     let more = with_bytes chunks laid.bytes in
     if laid.next == at + length laid.bytes then more else with_next_chunk more laid.next
@@ -65,5 +65,5 @@ finished (Ok chunks) = Ok (all_chunks chunks)
 finished (Err fault) = Err fault
 
 -- The image of a text.
-unfoldable pub assembled : List ℕ → Result (List (ℕ × List ℕ)) Fault
+abbrev pub assembled : List ℕ → Result (List (ℕ × List ℕ)) Fault
 assembled text = finished (chunks_from (symbols_of (numbered text)) beginning no_chunks (numbered text))

@@ -34,7 +34,6 @@ pub fn assemble(alloc: Global, text: &[u8]) -> Result<Image, AsmFault>
     image_of(alloc, text)
 }
 
-#[tactic(auto, unfolding(crate::specs::Texts::assembled))]
 fn image_of(alloc: Global, text: &[u8]) -> Result<Image, AsmFault>
     requires { length text.now < 2 ^ 31 }
     ensures given { Gives contents_of result (assembled text.now) }

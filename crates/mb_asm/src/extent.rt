@@ -49,7 +49,6 @@ pub(crate) fn narrow_value(scope: &Scope, expression: &Expression) -> Result<Opt
 }
 
 /// The value of the one operand of ORG, EQU or DS.
-#[tactic(auto, unfolding(crate::specs::Extents::only_value))]
 fn only_value(scope: &Scope, operands: &[Operand<Expression>]) -> Result<Option<i64>, AsmKind>
     ensures { result ≡ only_value (scope_said scope.now) operands.now }
 {
@@ -69,7 +68,6 @@ fn org_address(value: i64) -> Option<u64>
     Some((value as u64).min(PAST))
 }
 
-#[tactic(auto, unfolding(crate::specs::Extents::behind_org))]
 fn behind_org(scope: &Scope, operation: &Operation) -> Result<Option<u64>, AsmKind>
     ensures value { result ≡ behind_org (scope_said scope.now) (operation_said operation.now) }
     ensures most { IfOk result (λ at. IfSome at (λ known. known ≤ PAST)) }
@@ -184,7 +182,6 @@ fn behind_items(
     Ok(next)
 }
 
-#[tactic(auto, unfolding(crate::specs::Extents::behind_dc))]
 fn behind_dc(at: Option<u64>, operation: &Operation) -> Result<Option<u64>, AsmKind>
     requires { IfSome at (λ known. known ≤ PAST) }
     ensures value { result ≡ behind_dc at (operation_said operation.now) }

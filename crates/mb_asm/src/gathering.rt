@@ -44,7 +44,6 @@ impl Chunks {
 
     /// Adds what a statement at the address writes. A gap is left where the address behind it is not where its bytes
     /// end.
-    #[tactic(auto, unfolding(crate::specs::Texts::with_laid))]
     pub(crate) fn add(&mut self, alloc: Global, at: u64, laid: &Laid) -> Result<(), AllocError>
         requires end { self.old.at + length self.old.bytes.items ≡ at }
         requires inside { at + length laid.now.bytes.items ≤ END }

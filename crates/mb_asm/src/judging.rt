@@ -200,7 +200,6 @@ fn reaches_past(at: u64, bytes: &[u8]) -> bool
 }
 
 /// An operation in the line, with the symbols of all lines.
-#[tactic(auto, unfolding(crate::specs::Judged::judged_operation, crate::specs::Layouts::next_at))]
 fn judged_operation(
     alloc: Global,
     symbols: &Symbols,
@@ -285,7 +284,6 @@ fn judged_label(
 }
 
 /// What the statement of a line writes, or the first fault that the line has.
-#[tactic(auto, unfolding(crate::specs::Judged::judged_line, crate::specs::Layouts::next_at))]
 pub(crate) fn judged_line(
     alloc: Global,
     symbols: &Symbols,

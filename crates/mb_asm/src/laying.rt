@@ -83,7 +83,6 @@ fn label_value(layout: &Layout, line: &[u8], operation: &Option<Operation>) -> S
 }
 
 /// The address behind an operation; behind one of which no extent is known it is not known.
-#[tactic(auto, unfolding(crate::specs::Layouts::next_at))]
 fn next_at(
     alloc: Global,
     layout: &Layout,

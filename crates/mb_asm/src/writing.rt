@@ -70,7 +70,6 @@ fn spelled_bytes(alloc: Global, unit: u8, spelled: u32) -> Result<Vec<u8>, Alloc
 }
 
 /// A value as a unit of so many bytes; one that is not known counts as 0.
-#[tactic(auto, unfolding(crate::specs::Bytes::unit_bytes))]
 fn unit_bytes(
     alloc: Global,
     unit: u8,
@@ -90,7 +89,6 @@ fn unit_bytes(
     Ok(spelled_bytes(alloc, unit, spelled)?)
 }
 
-#[tactic(auto, unfolding(crate::specs::Bytes::item_bytes))]
 fn item_bytes(
     alloc: Global,
     unit: u8,
@@ -126,7 +124,6 @@ fn items_bytes(
     Ok(bytes)
 }
 
-#[tactic(auto, unfolding(crate::specs::Bytes::dc_bytes))]
 fn dc_bytes(alloc: Global, scope: &Scope, operation: &Operation) -> Result<Vec<u8>, Refusal>
     ensures { GivesAlone (λ bytes. bytes.items) result
         (dc_bytes (scope_said scope.now) (operation_said operation.now)) }
@@ -241,7 +238,6 @@ fn instruction_bytes(
 }
 
 /// The bytes that an operation writes, with the symbols of all lines.
-#[tactic(auto, unfolding(crate::specs::Bytes::operation_bytes))]
 pub(crate) fn operation_bytes(
     alloc: Global,
     scope: &Scope,

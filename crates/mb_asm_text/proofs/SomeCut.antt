@@ -97,5 +97,4 @@ goes_on (suc fuel) line place tokens room inside cut =
 
 -- every line has a cut
 pub some_cut : (line : List ℕ) → IsCut line (cut_of line)
-unfolding cut_of
 some_cut line = goes_on (length line) line 0 [] (omega arith) (omega arith) refl

@@ -40,5 +40,5 @@ cut_from (suc most) line place tokens =
     else cut_behind place tokens (cut_from most line) (front_found (place == 0) (drop place line))
 
 -- The one cut of a line, as the law says. A line has no more tokens than bytes.
-unfoldable pub cut_of : List ℕ → Result (List Token) ℕ
+abbrev pub cut_of : List ℕ → Result (List Token) ℕ
 cut_of line = cut_from (length line) line 0 []

@@ -47,7 +47,7 @@ fn class_of(code: bool, page: u32) -> usize
 }
 
 /// Makes an entry the newest of a set.
-#[tactic(auto, using(mb_model::proofs::KeepingLemmas::places), unfolding(mb_model::specs::Keeping::filled_in))]
+#[tactic(auto, using(mb_model::proofs::KeepingLemmas::places))]
 fn fill_set(set: &mut Set, k: Kept)
     ensures { set.new.items ≡ filled_in CAPACITY k set.old.items }
 {

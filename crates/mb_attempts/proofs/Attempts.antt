@@ -14,10 +14,10 @@ use Rattle.mb_model.specs.Status.{space_of}
 use Rattle.mb_processor.specs.declared.Finish.TheVariants as finish
 use Rattle.mb_meaning.specs.Ends.{Carried, OtherEnd, Performed}
 use Rattle.mb_processor.specs.SystemEnds.{with_registers}
-use Rattle.mb_meaning.specs.Rows.{row_of, perform_of}
-use Rattle.mb_meaning.specs.Attempt.{Unfound, NoInstruction, Unfetched, found_none, FoundInstr, fetched_of, past, attempt_of}
+use Rattle.mb_meaning.specs.Rows.{perform_of}
+use Rattle.mb_meaning.specs.Attempt.{Unfound, NoInstruction, Unfetched, found_none, FoundInstr, fetched_of, past}
 use Rattle.mb_processor.specs.Raise.{is_due, trace_if_of, interrupt_of, refuse_of}
-use Rattle.mb_processor.specs.Step.{finish_instruction_of, execute_supervised_of, execute_unprivileged_of, execute_of, unfound_of, execute_next_of, interrupt_mask, rank, step_of}
+use Rattle.mb_processor.specs.Step.{execute_supervised_of, execute_of, unfound_of, execute_next_of, interrupt_mask, rank}
 use Rattle.mb_attempts.specs.Attempts.{AttemptsPerform, AttemptsFindNone, is_attempted, NoOther, finished_by, AttemptThenFinish, IsUntraced, UntracedStepsGo}
 
 -- ---- an attempt
@@ -28,11 +28,9 @@ carrying bus space p r =
     run bus (either r.0 (λ unfound. Return (found_none unfound p)) (λ found. perform_of found.0 p.pc space (past found.1 p))) r.1
 
 pub attempts_perform : {S : Type 0} → AttemptsPerform S
-unfolding attempt_of
 attempts_perform bus space p s t i n h = ap (carrying bus space p) h
 
 pub attempts_find_none : {S : Type 0} → AttemptsFindNone S
-unfolding attempt_of
 attempts_find_none bus space p s t unfound h = ap (carrying bus space p) h
 
 -- ---- a step
@@ -53,7 +51,6 @@ in_user_mode bus cpu t i n true h = absurd (cc h)
 executed : {S : Type 0} (bus : Bus S) (i : Instr) (n : ℕ) (cpu : Cpu) (t : S) → is_attempted i cpu ≡ true
     → run bus (execute_of i n cpu) t
     ≡ finished_by bus i cpu (run bus (perform_of i (plain_of cpu.regs).pc (space_of cpu) (past n (plain_of cpu.regs))) t)
-unfolding execute_of execute_unprivileged_of perform_of row_of finish_instruction_of
 executed bus (instr.Move i) n cpu t k = refl
 executed bus (instr.Arith i) n cpu t k = refl
 executed bus (instr.Flow i) n cpu t k = refl
@@ -62,7 +59,6 @@ executed bus (instr.System i) n cpu t k = in_user_mode bus cpu t i n (is_supervi
 -- where none was found, the end without one is finished, as any instruction's
 none_found : {S : Type 0} (bus : Bus S) (i : Instr) (unfound : Unfound) (cpu : Cpu) (p : Plain) (t : S)
     → run bus (unfound_of unfound cpu) t ≡ finished_by bus i cpu (found_none unfound p, t)
-unfolding unfound_of finish_instruction_of
 none_found bus i (NoInstruction vector) cpu p t = refl
 none_found bus i (Unfetched refused) cpu p t = refl
 
@@ -78,7 +74,6 @@ by_found bus cpu i (Ok (j, n), t) h k =
 by_found bus cpu i (Err unfound, t) h k = none_found bus i unfound cpu (plain_of cpu.regs) t
 
 pub attempt_then_finish : {S : Type 0} → AttemptThenFinish S
-unfolding step_of execute_next_of attempt_of plain_of
 attempt_then_finish bus level cpu s i masked going other k =
     chosen bus (nat_lt (interrupt_mask cpu) (rank level)) (interrupt_of level cpu) (choose cpu.stopped (Return (finish.Idle, cpu)) (execute_next_of cpu)) s
     (not_above (rank level) (interrupt_mask cpu) masked)
@@ -93,7 +88,6 @@ none_due cpu flow untraced = rw (untraced.all, untraced.flow) refl
 -- what was carried out is finished with no exception
 finished_done : {S : Type 0} (bus : Bus S) (i : Instr) (cpu : Cpu) (q : Performed × S) (t : S) (done : Carried) → IsUntraced cpu → q ≡ (Ok done, t)
     → finished_by bus i cpu q ≡ ((finish.Went, with_registers done.plain cpu), t)
-unfolding finish_instruction_of
 finished_done bus i cpu q t done untraced e =
     ap (finished_by bus i cpu) e
     ∙ ap (λ (due : Bool). run bus (trace_if_of finish.Went due cpu.regs.pc (with_registers done.plain cpu)) t) (none_due cpu done.flow untraced)
@@ -106,7 +100,6 @@ goes_on : {S : Type 0} (bus : Bus S) (cpu : Cpu) (done : Carried) (t : S) (r : F
     → carrying bus (space_of cpu) (plain_of cpu.regs) r ≡ (Ok done, t)
     → run bus (either r.0 (λ unfound. unfound_of unfound cpu) (λ found. execute_of found.0 found.1 cpu)) r.1
     ≡ ((finish.Went, with_registers done.plain cpu), t)
-unfolding perform_of row_of
 goes_on bus cpu done t (Ok (instr.Move i, n), u) untraced e =
     executed bus (instr.Move i) n cpu u refl ∙ finished_done bus (instr.Move i) cpu _ t done untraced e
 goes_on bus cpu done t (Ok (instr.Arith i, n), u) untraced e =
@@ -117,7 +110,6 @@ goes_on bus cpu done t (Ok (instr.System i, n), u) untraced e = absurd (not_done
 goes_on bus cpu done t (Err unfound, u) untraced e = absurd (not_done _ done u t e)
 
 pub untraced_steps_go : {S : Type 0} → UntracedStepsGo S
-unfolding step_of execute_next_of attempt_of plain_of
 untraced_steps_go bus level cpu s t done masked untraced e =
     chosen bus (nat_lt (interrupt_mask cpu) (rank level)) (interrupt_of level cpu) (choose cpu.stopped (Return (finish.Idle, cpu)) (execute_next_of cpu)) s
     (not_above (rank level) (interrupt_mask cpu) masked)

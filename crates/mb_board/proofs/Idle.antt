@@ -12,7 +12,7 @@ use Rattle.mb_processor.specs.declared.Finish.TheVariants as finish
 use Rattle.mb_processor.specs.Raise.{Stepped, interrupt_of}
 use Rattle.mb_processor.specs.Step.{interrupt_mask, execute_next_of, rank, step_of}
 use Rattle.mb_machine.specs.Bus.{bus_of}
-use Rattle.mb_machine.specs.Machine.{Machine, begun, run_of, state_after, stepped, stepping, takes_steps, with_finish}
+use Rattle.mb_machine.specs.Machine.{Machine, run_of, state_after, stepped, takes_steps, with_finish}
 use Rattle.vm_meaning.proofs.Batches.{one_tick}
 use Rattle.mb_board.specs.Idle.{IsHeld}
 use Rattle.mb_board.proofs.Runs.{run_of-step}
@@ -31,13 +31,11 @@ not_above mask level h = grind (arith, nat_tests)
 
 -- the processor has nothing to do
 idles : (level : ℕ) (cpu : Cpu) → rank level ≤ interrupt_mask cpu → cpu.stopped ≡ true → step_of level cpu ≡ Return (finish.Idle, cpu)
-unfolding step_of
 idles level cpu masked stopped =
     chosen (nat_lt (interrupt_mask cpu) (rank level)) cpu.stopped (interrupt_of level cpu) (Return (finish.Idle, cpu)) (execute_next_of cpu)
     (not_above (interrupt_mask cpu) (rank level) masked) stopped
 
 stays_stopped : (cpu : Cpu) (d : DeviceState) → d.off ≡ false → cpu.stopped ≡ true → state_after finish.Idle cpu d ≡ Stopped
-unfolding state_after
 stays_stopped cpu d on stopped = second d.off cpu.stopped Off Stopped Running on stopped
 
 off_by : (a b : Bool) (d e f : DeviceState) → e.off ≡ d.off → f.off ≡ d.off → (cond a d (cond b e f)).off ≡ d.off
@@ -55,7 +53,6 @@ idled k d m = record m { world = record m.world { devices = d }; steps = m.steps
 
 idle_step : (rule : Rule) (m : Machine) → IsHeld m → rank (level_of (ticked m.world.devices)) ≤ interrupt_mask m.cpu
     → stepped rule [] m ≡ idled 1 (ticked m.world.devices) m
-unfolding stepping begun
 idle_step rule m held masked =
     let d = ticked m.world.devices in
     let of : RunState → Machine = λ s. record m { world = record m.world { devices = d }; steps = m.steps + 1; state = s } in

@@ -11,7 +11,7 @@ use Rattle.mb_model.specs.Keeping.{Rule}
 use Rattle.mb_devices.specs.Devices.{DeviceState, ticked}
 use Rattle.mb_processor.specs.Step.{step_of}
 use Rattle.mb_machine.specs.Bus.{bus_of}
-use Rattle.mb_machine.specs.Machine.{Entries, Machine, aborts, arrived, begun, processed, run_of, stepped, stepping, takes_steps, with_devices, with_finish}
+use Rattle.mb_machine.specs.Machine.{Entries, Machine, aborts, arrived, processed, run_of, stepped, takes_steps, with_devices, with_finish}
 use Rattle.mb_machine.proofs.Asked.{asked_devices}
 use Rattle.vm_meaning.specs.Batches.{IsQuietAt, NothingArrives}
 use Rattle.mb_board.specs.Arrivals.{due_at, no_entry, IsNext}
@@ -56,7 +56,6 @@ none-between script taken next n at behind k more less =
 
 -- a step at which nothing arrives is one without a script
 pub quiet-step : (rule : Rule) (script : Entries) (m : Machine) → IsQuietAt script (m.steps + 1) → stepped rule script m ≡ stepped rule [] m
-unfolding stepping begun
 quiet-step rule script m quiet =
     let at : DeviceState → Machine = λ d. with_devices m (ticked d) in
     let b = at m.world.devices in
@@ -65,7 +64,6 @@ quiet-step rule script m quiet =
     (asked_devices script (m.steps + 1) b.world.devices quiet.unaborted)
 
 steps-after : (rule : Rule) (script : Entries) (m : Machine) → (stepped rule script m).steps ≡ m.steps + 1
-unfolding stepping begun
 steps-after rule script m = refl
 
 rest-of : (rule : Rule) (script : Entries) (n : ℕ) (m : Machine) → NothingArrives script m.steps (suc n) → NothingArrives script (stepped rule [] m).steps n

@@ -62,7 +62,6 @@ impl BoardBus {
 impl Core {
     /// Takes one step, with what arrives at it. The script's entries from `next` on are of steps that were not taken
     /// yet, and it goes behind those of this one.
-    #[tactic(auto, unfolding(mb_machine::specs::Machine::stepping, mb_machine::specs::Machine::begun))]
     pub(crate) fn step_on(&mut self, script: &Script, next: &mut u32) -> Finish
         requires room { self.old.steps + 1 < 2 ^ 32 }
         requires behind { IsNext script.now self.old.steps next.old }
@@ -83,7 +82,6 @@ impl Core {
 
     /// One step at which nothing arrives.
     #[inline(always)]
-    #[tactic(auto, unfolding(vm_meaning::specs::Native::user_step, mb_machine::specs::Machine::stepping, mb_machine::specs::Machine::begun))]
     fn step_alone(&mut self) -> Finish
         requires { self.old.steps + 1 < 2 ^ 32 }
         ensures means { (result, self.new) ≡ stepping rule_a [] self.old }

@@ -147,7 +147,6 @@ impl Core {
 
     /// One step at which nothing arrives, and which is not counted.
     #[inline(always)]
-    #[tactic(auto, unfolding(vm_meaning::specs::Native::user_step, mb_machine::specs::Machine::stepping, mb_machine::specs::Machine::begun))]
     pub(crate) fn step_uncounted<const COPY: usize>(&mut self) -> Finish
         ensures means { (result, self.new) ≡ user_step self.old }
         ensures steps { self.new.steps ≡ self.old.steps }

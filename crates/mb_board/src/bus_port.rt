@@ -11,7 +11,6 @@ use mb_instr::ControlRegister;
 use mb_machine::Reference;
 use mb_port::{Fault, Flush, Mmu, MmuReg, Piece, Place, Port, Space};
 
-#[tactic(auto, unfolding(mb_machine::specs::Bus::bus_of))]
 impl Port for BoardBus {
     ghost World = { World };
 
@@ -131,7 +130,6 @@ impl Port for BoardBus {
         *self.translator.mmu()
     }
 
-    #[tactic(auto, unfolding(mb_machine::specs::Bus::bus_of, mb_machine::specs::Bus::after_set_mmu))]
     fn set_mmu(&mut self, which: MmuReg, value: u32) {
         self.translator
             .set_mmu(which, value & ControlRegister::Mmu(which).kept_bits());

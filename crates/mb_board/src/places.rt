@@ -80,7 +80,6 @@ impl BoardBus {
     }
 
     /// The four longs of a line. `None` where the line is not in RAM.
-    #[tactic(auto, unfolding(mb_machine::specs::Places::taken_line))]
     pub fn take_line(&self, place: Place) -> Option<[u32; 4]>
         requires { place.len ≡ 16 }
         ensures { (result, self.now) ≡ taken_line place self.now }
@@ -98,7 +97,6 @@ impl BoardBus {
     }
 
     /// Writes them. `None` where the line is not in RAM, and nothing has changed.
-    #[tactic(auto, unfolding(mb_machine::specs::Places::stored_line))]
     pub fn store_line(&mut self, place: Place, line: [u32; 4]) -> Option<()>
         requires { place.len ≡ 16 }
         ensures stored { Stores (stored_line place line self.old) self.old self.new result }

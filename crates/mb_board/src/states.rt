@@ -20,7 +20,6 @@ pub fn takes_steps(state: RunState) -> bool
 
 /// The state after a step that ended so, by whether STOP holds the processor that it left, and by the devices.
 #[inline(never)]
-#[tactic(auto, unfolding(mb_machine::specs::Machine::state_after))]
 fn state_by(finish: Finish, stopped: bool, devices: &Devices) -> RunState
     ensures { (cpu : Cpu) → cpu.stopped ≡ stopped → result ≡ state_after finish cpu devices.now }
 {
@@ -40,7 +39,6 @@ fn state_by(finish: Finish, stopped: bool, devices: &Devices) -> RunState
 
 /// The same. Nearly every step leaves the machine running, so that is asked first.
 #[inline(always)]
-#[tactic(auto, unfolding(mb_machine::specs::Machine::state_after))]
 pub(crate) fn state_of(finish: Finish, stopped: bool, devices: &Devices) -> RunState
     ensures { (cpu : Cpu) → cpu.stopped ≡ stopped → result ≡ state_after finish cpu devices.now }
 {

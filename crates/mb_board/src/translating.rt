@@ -18,7 +18,6 @@ use mb_walk::{Found, search, transparent};
 impl BoardBus {
     /// Points 4 and 5: the tables are searched, and what is found is kept. The reference is given by its fields.
     #[inline(never)]
-    #[tactic(auto, unfolding(mb_machine::specs::Access::searched))]
     fn searched(&mut self, code: bool, space: Space, at: u32, write: bool) -> Option<u32>
         ensures means { (result, self.new) ≡ searched rule_a self.old
             (record { code = code; space = space; at = at; write = write }) }
@@ -87,7 +86,6 @@ impl BoardBus {
     }
 
     /// PTEST of the page of an address: MMUSR then.
-    #[tactic(auto, unfolding(mb_machine::specs::Bus::tested))]
     pub fn tested(&mut self, space: Space, at: u32, write: bool) -> u32
         ensures means { (result, self.new) ≡ tested space (page_number at) write self.old }
         ensures size { length self.new.ram ≡ length self.old.ram }

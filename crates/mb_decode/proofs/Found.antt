@@ -117,7 +117,6 @@ lt_true a b h = grind (arith, nat_tests)
 
 pub immediate_found : (s : Size) (ws : List ℕ) (v : ℕ) (rest : List ℕ) → AreWords ws → immediate_at s ws ≡ Ok (v, rest) →
     (is_immediate s v ≡ true) × Takes ws (immediate s v) rest
-unfolding immediate_at
 immediate_found size.Byte ws v rest h e = let a = word_found ws v rest h e in (lt_true v 65536 a.0, a.1)
 immediate_found size.Word ws v rest h e = let a = word_found ws v rest h e in (lt_true v 65536 a.0, a.1)
 immediate_found size.Long ws v rest h e = (refl, long_found ws v rest h e)

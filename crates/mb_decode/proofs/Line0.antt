@@ -58,7 +58,6 @@ bit_reg_read d k ea rest h =
 
 pub bit_imm_read : (k : BitKind) (ea : Ea) (w : ℕ) (rest : List ℕ) → takes (bit_class_immediate k) size.Byte ea ≡ true →
     line_0 (op 0 4 0 (bit_bits k) (mode ea) (lower ea)) (w ∷ more size.Byte ea ++ rest) ≡ Ok (Arith (arith_of.BitImm k ea w), rest)
-unfolding even_0
 bit_imm_read k ea w rest h =
     let e = bit_kind_is k in
     rw e (next _ _ _ _ _ (word_ea_read rule.Any (bit_class_immediate k) size.Byte 0 4 0 (bit_bits k) w ea rest h))
@@ -66,7 +65,6 @@ bit_imm_read k ea w rest h =
 -- CMP2 and CHK2: bit 11 of the word tells which
 bounds_again : (s : Size) (ea : Ea) (w : ℕ) (rest : List ℕ) → (holds rule.RegisterAndBit w && takes Control s ea) ≡ true →
     line_0 (op 0 (size_bits s) 0 3 (mode ea) (lower ea)) (w ∷ more s ea ++ rest) ≡ Ok (bounds_instr s w ea, rest)
-unfolding even_0
 bounds_again size.Byte ea w rest h = next _ _ _ _ _ (word_ea_read rule.RegisterAndBit Control size.Byte 0 0 0 3 w ea rest h)
 bounds_again size.Word ea w rest h = next _ _ _ _ _ (word_ea_read rule.RegisterAndBit Control size.Word 0 1 0 3 w ea rest h)
 bounds_again size.Long ea w rest h = next _ _ _ _ _ (word_ea_read rule.RegisterAndBit Control size.Long 0 2 0 3 w ea rest h)
@@ -109,7 +107,6 @@ cas_memory s ea w h =
 
 pub cas_read : (s : Size) (ea : Ea) (w : ℕ) (rest : List ℕ) → (holds rule.Swap w && takes MemoryAlterable s ea) ≡ true →
     line_0 (op 0 (5 + size_bits s) 0 3 (mode ea) (lower ea)) (w ∷ more s ea ++ rest) ≡ Ok (Arith (arith_of.Cas s ea w), rest)
-unfolding even_0 cas_0
 cas_read size.Byte ea w rest h =
     unmet _ _ _ _ (cas_memory size.Byte ea w h) ∙ next _ _ _ _ _ (word_ea_read rule.Swap MemoryAlterable size.Byte 0 5 0 3 w ea rest h)
 cas_read size.Word ea w rest h =
@@ -119,7 +116,7 @@ cas_read size.Long ea w rest h =
 
 pub cas2_read : (s : Size) (w v : ℕ) (rest : List ℕ) → (not_byte s && holds rule.SwapPair w && holds rule.SwapPair v) ≡ true →
     line_0 (op 0 (5 + size_bits s) 0 3 7 4) (w ∷ v ∷ rest) ≡ Ok (Arith (arith_of.Cas2 s w v), rest)
-unfolding even_0 cas_0 cas2_0
+unfolding cas2_0
 cas2_read size.Byte w v rest h = absurd cc
 cas2_read size.Word w v rest h =
     let p = and_is (holds rule.SwapPair w) (holds rule.SwapPair v) h in
@@ -132,7 +129,6 @@ cas2_read size.Long w v rest h =
 pub immediate_again : (n : ℕ) (s : Size) (ea : Ea) (v : ℕ) (rest : List ℕ) → (is_immediate s v && takes DataAlterable s ea) ≡ true → (n == 4) ≡ false →
     (n == 6) ≡ false → (n == 7) ≡ false →
     line_0 (op 0 n 0 (size_bits s) (mode ea) (lower ea)) ((immediate s v ++ more s ea) ++ rest) ≡ Ok (immediate_instr n s v ea, rest)
-unfolding even_0
 immediate_again n s ea v rest h n4 n6 n7 =
     let class = (taken DataAlterable s ea (and_is (is_immediate s v) (takes DataAlterable s ea) h).1).0 in
     let size = not_three s in
@@ -141,22 +137,18 @@ immediate_again n s ea v rest h n4 n6 n7 =
 
 pub ccr_again : (n w : ℕ) (rest : List ℕ) → (n == 4) ≡ false → (n == 6) ≡ false → (n == 7) ≡ false → ((n == 2) || (n == 3)) ≡ false →
     line_0 (op 0 n 0 0 7 4) (w ∷ rest) ≡ Ok (to_ccr_instr n w, rest)
-unfolding even_0 status_0
 ccr_again n w rest n4 n6 n7 other = rw (n4, n6, n7, other) (next _ _ _ _ _ (word_read w rest))
 
 pub sr_again : (n w : ℕ) (rest : List ℕ) → (n == 4) ≡ false → (n == 6) ≡ false → (n == 7) ≡ false → ((n == 2) || (n == 3)) ≡ false →
     line_0 (op 0 n 0 1 7 4) (w ∷ rest) ≡ Ok (to_sr_instr n w, rest)
-unfolding even_0 status_0
 sr_again n w rest n4 n6 n7 other = rw (n4, n6, n7, other) (next _ _ _ _ _ (word_read w rest))
 
 pub cmpi_read : (s : Size) (ea : Ea) (v : ℕ) (rest : List ℕ) → (is_immediate s v && takes DataAlterableOrPc s ea) ≡ true →
     line_0 (op 0 6 0 (size_bits s) (mode ea) (lower ea)) ((immediate s v ++ more s ea) ++ rest) ≡ Ok (Arith (arith_of.Cmpi s ea v), rest)
-unfolding even_0
 cmpi_read s ea v rest h = unmet _ _ _ _ (not_three s) ∙ next _ _ _ _ _ (immediate_ea_read DataAlterableOrPc 0 6 0 s v ea rest h)
 
 pub moves_read : (s : Size) (ea : Ea) (w : ℕ) (rest : List ℕ) → (holds rule.RegisterAndBit w && takes MemoryAlterable s ea) ≡ true →
     line_0 (op 0 7 0 (size_bits s) (mode ea) (lower ea)) (w ∷ more s ea ++ rest) ≡ Ok (System (system.Moves s ea w), rest)
-unfolding even_0
 moves_read s ea w rest h =
     let size = not_three s in
     rw size (by_size_read s _ _ ∙ next _ _ _ _ _ (word_ea_read rule.RegisterAndBit MemoryAlterable s 0 7 0 (size_bits s) w ea rest h))
@@ -220,7 +212,6 @@ cas2_0_shape p s e = only row p (not_byte s) _ (λ ok. record {
 })
 
 cas_0_shape : (p : Opcode) → IsOpcode p → p.line ≡ 0 → p.bit ≡ 0 → p.size ≡ 3 → 5 ≤ p.upper → Shape row p (cas_0 p)
-unfolding cas_0
 cas_0_shape p is line bit size high =
     let upper = cas_field p.upper is.upper high in
     equals row p p.mode 7 p.lower 4 _ _
@@ -249,7 +240,6 @@ status_row n h = under_8 (λ n. n < 6 → n ≢ 2 → n ≢ 3 → n ≢ 4 → St
     (λ a b c d. absurd (d refl)) (λ a b c d. (λ w. refl, λ w. refl)) (λ a b c d. absurd (omega arith)) (λ a b c d. absurd (omega arith)) n h
 
 status_0_shape : (p : Opcode) → IsOpcode p → p.line ≡ 0 → p.upper < 6 → p.upper ≢ 4 → p.bit ≡ 0 → p.mode ≡ 7 → p.lower ≡ 4 → Shape row p (status_0 p)
-unfolding status_0
 status_0_shape p is line low ne bit m r =
     either row p ((p.upper == 2) || (p.upper == 3)) _ _ (λ e. none row p) (λ e.
     let q = or_false (p.upper == 2) (p.upper == 3) e in
@@ -275,7 +265,6 @@ bit_0_shape p is line upper bit = made_row _ p _ _
     (λ x. refl)
 
 even_0_shape : (p : Opcode) → IsOpcode p → p.line ≡ 0 → p.bit ≡ 0 → Shape row p (even_0 p)
-unfolding even_0
 even_0_shape p is line bit =
     equal row p p.upper 4 _ _ (λ u. bit_0_shape p is line u bit) (λ n4.
     equal row p p.size 3 _ _ (λ s. below row p p.upper 4 _ _

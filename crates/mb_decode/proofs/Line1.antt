@@ -36,7 +36,6 @@ move_mode_fits p is = let bit = is.bit in let size = is.size in omega arith
 
 pub move_read : (s : Size) (d e : Ea) (rest : List ℕ) → (takes All s e && takes DataAlterable s d) ≡ true →
     line_move (op (move_bits s) (lower d) (mode d / 4) (mode d % 4) (mode e) (lower e)) ((more s e ++ more s d) ++ rest) ≡ Ok (Move (move.Move s d e), rest)
-unfolding line_move move_at
 move_read s d e rest h =
     let p = and_is (takes All s e) (takes DataAlterable s d) h in
     let source = taken All s e p.0 in
@@ -48,7 +47,6 @@ move_read s d e rest h =
 
 pub movea_read : (s : Size) (a : ℕ) (ea : Ea) (rest : List ℕ) → (not_byte s && takes All s ea) ≡ true →
     line_move (op (move_bits s) a 0 1 (mode ea) (lower ea)) (more s ea ++ rest) ≡ Ok (Move (move.Movea s a ea), rest)
-unfolding line_move
 movea_read size.Byte a ea rest h = absurd cc
 movea_read size.Word a ea rest h = next _ _ _ _ _ (ea_read All size.Word 3 a 0 1 ea rest h)
 movea_read size.Long a ea rest h = next _ _ _ _ _ (ea_read All size.Long 2 a 0 1 ea rest h)
@@ -56,7 +54,6 @@ movea_read size.Long a ea rest h = next _ _ _ _ _ (ea_read All size.Long 2 a 0 1
 -- ---- what is read
 
 move_shape : (p : Opcode) (s : Size) → IsOpcode p → p.line ≡ move_bits s → Shape row p (move_at s p)
-unfolding move_at
 move_shape p s is line = only row p (allows_move s p) _ (λ legal.
     let ok = and_is (allows All s p.mode p.lower) (allows DataAlterable s (move_mode p) p.upper) legal in
     record {
@@ -84,7 +81,6 @@ movea_shape p s is line bit size = only row p (not_byte s) _ (λ ok.
     made_row _ p _ _ (guarded _ p _ _ ok (ea_shape p All s _ p.upper 0 1 is line refl bit size)) (λ ea. refl))
 
 pub line_move_shape : (p : Opcode) → IsOpcode p → 1 ≤ p.line → p.line < 4 → Shape row p (line_move p)
-unfolding line_move
 line_move_shape p is low high =
     let line = sym (move_bits_of p.line high low) in
     let bit = is.bit in

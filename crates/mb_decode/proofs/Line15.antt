@@ -29,40 +29,34 @@ use Rattle.mb_decode.proofs.Fields.{flush_low}
 
 pub cinv_read : (c : Caches) (s : CacheScope) (a : ℕ) (rest : List ℕ) →
     line_15 (op 15 2 0 (caches_bits c) (scope_bits s) a) rest ≡ Ok (System (system.Cinv c s a), rest)
-unfolding line_15 caches_15
 cinv_read c scope.Line a rest = let same = caches_kind_is c in rw same refl
 cinv_read c scope.Page a rest = let same = caches_kind_is c in rw same refl
 cinv_read c scope.All a rest = let same = caches_kind_is c in rw same refl
 
 pub cpush_read : (c : Caches) (s : CacheScope) (a : ℕ) (rest : List ℕ) →
     line_15 (op 15 2 0 (caches_bits c) (4 + scope_bits s) a) rest ≡ Ok (System (system.Cpush c s a), rest)
-unfolding line_15 caches_15
 cpush_read c scope.Line a rest = let same = caches_kind_is c in rw same refl
 cpush_read c scope.Page a rest = let same = caches_kind_is c in rw same refl
 cpush_read c scope.All a rest = let same = caches_kind_is c in rw same refl
 
 pub pflush_read : (k : FlushKind) (a : ℕ) (rest : List ℕ) → line_15 (op 15 2 1 0 (flush_bits k) a) rest ≡ Ok (System (system.Pflush k a), rest)
-unfolding line_15 translation_15
 pflush_read k a rest =
     let low = flush_low k in
     let same = flush_kind_is k in
     rw (low, same) refl
 
 pub ptest_read : (k : Bool) (a : ℕ) (rest : List ℕ) → line_15 (op 15 2 1 1 (flag k * 4 + 1) a) rest ≡ Ok (System (system.Ptest k a), rest)
-unfolding line_15 translation_15
 ptest_read true a rest = refl
 ptest_read false a rest = refl
 
 pub move16_abs_read : (k : LineMove) (a l : ℕ) (rest : List ℕ) → line_15 (op 15 3 0 0 (line_bits k) a) (long_words l ++ rest)
     ≡ Ok (Move (move.Move16Abs k a l), rest)
-unfolding line_15 lines_15
 move16_abs_read k a l rest =
     let low = line_low k in
     let same = line_kind_is k in
     rw (low, same) (next _ _ _ _ _ (long_read l rest))
 
 pub move16_post_read : (x w : ℕ) (rest : List ℕ) → holds rule.Line w ≡ true → line_15 (op 15 3 0 0 4 x) (w ∷ rest) ≡ Ok (Move (move.Move16Post x w), rest)
-unfolding line_15 lines_15
 move16_post_read x w rest h = next _ _ _ _ _ (ruled_read rule.Line w rest h)
 
 -- ---- what is read
@@ -93,11 +87,9 @@ caches_cases p (Some s) is line upper bit e =
 caches_cases p None is line upper bit e = none row p
 
 caches_15_shape : (p : Opcode) → IsOpcode p → p.line ≡ 15 → p.upper ≡ 2 → p.bit ≡ 0 → Shape row p (caches_15 p)
-unfolding caches_15
 caches_15_shape p is line upper bit = caches_cases p (scope_kind (p.mode % 4)) is line upper bit (scope_is (p.mode % 4) (omega arith))
 
 translation_15_shape : (p : Opcode) → IsOpcode p → p.line ≡ 15 → p.upper ≡ 2 → p.bit ≡ 1 → Shape row p (translation_15 p)
-unfolding translation_15
 translation_15_shape p is line upper bit =
     equal row p p.size 0 _ _ (λ size. below row p p.mode 4 _ _
     (λ low. given p _ _ refl (op_is p 15 2 1 0 _ p.lower line upper bit size (flush_kind_of p.mode low) refl)) (λ high. none row p)) (λ n.
@@ -105,7 +97,6 @@ translation_15_shape p is line upper bit =
     (equals row p p.size 1 p.mode 5 _ _ (λ size mode. given p _ _ refl (op_is p 15 2 1 1 5 p.lower line upper bit size mode refl)) (none row p)))
 
 lines_15_shape : (p : Opcode) → p.line ≡ 15 → p.upper ≡ 3 → p.bit ≡ 0 → p.size ≡ 0 → Shape row p (lines_15 p)
-unfolding lines_15
 lines_15_shape p line upper bit size =
     below row p p.mode 4 _ _ (λ low.
     made_row _ p _ _ (long_shape p _ (op_is p 15 3 0 0 _ p.lower line upper bit size (line_kind_of p.mode low) refl)) (λ l. refl)) (λ n.
@@ -113,7 +104,6 @@ lines_15_shape p line upper bit size =
     (λ mode. made_row _ p _ _ (ruled_shape p _ rule.Line (op_is p 15 3 0 0 4 p.lower line upper bit size mode refl)) (λ w. refl)) (λ n. none row p))
 
 pub line_15_shape : (p : Opcode) → IsOpcode p → p.line ≡ 15 → Shape row p (line_15 p)
-unfolding line_15
 line_15_shape p is line =
     equal row p p.upper 2 _ _ (λ u.
     equal row p p.bit 0 _ _ (λ bit. caches_15_shape p is line u bit) (λ n.

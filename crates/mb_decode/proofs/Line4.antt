@@ -34,23 +34,19 @@ use Rattle.mb_decode.proofs.Fields.{and_false, test_holds}
 -- NEGX, CLR, NEG, NOT
 pub unary_again : (n : ℕ) (s : Size) (ea : Ea) (rest : List ℕ) → takes DataAlterable s ea ≡ true → nat_lt n 4 ≡ true →
     line_4 (op 4 n 0 (size_bits s) (mode ea) (lower ea)) (more s ea ++ rest) ≡ Ok (unary_instr n s ea, rest)
-unfolding line_4 even_4
 unary_again n s ea rest h low = let size = not_three s in rw (low, size) (next _ _ _ _ _ (sized_read DataAlterable 4 n 0 s ea rest h))
 
 -- MOVE from and to the status registers
 pub status_again : (n : ℕ) (ea : Ea) (rest : List ℕ) → takes (status_class n) size.Word ea ≡ true → nat_lt n 4 ≡ true →
     line_4 (op 4 n 0 3 (mode ea) (lower ea)) (more size.Word ea ++ rest) ≡ Ok (status_instr n ea, rest)
-unfolding line_4 even_4
 status_again n ea rest h low = rw low (next _ _ _ _ _ (ea_read (status_class n) size.Word 4 n 0 3 ea rest h))
 
 pub tst_read : (s : Size) (ea : Ea) (rest : List ℕ) → takes All s ea ≡ true →
     line_4 (op 4 5 0 (size_bits s) (mode ea) (lower ea)) (more s ea ++ rest) ≡ Ok (Arith (arith_of.Tst s ea), rest)
-unfolding line_4 even_4
 tst_read s ea rest h = unmet _ _ _ _ (not_three s) ∙ next _ _ _ _ _ (sized_read All 4 5 0 s ea rest h)
 
 pub tas_read : (ea : Ea) (rest : List ℕ) → takes DataAlterable size.Byte ea ≡ true →
     line_4 (op 4 5 0 3 (mode ea) (lower ea)) (more size.Byte ea ++ rest) ≡ Ok (Arith (arith_of.Tas ea), rest)
-unfolding line_4 even_4
 tas_read ea rest h = next _ _ _ _ _ (ea_read DataAlterable size.Byte 4 5 0 3 ea rest h)
 
 lea_operand : (a m : ℕ) → (m == 0) ≡ false → ((a == 4) && (m == 0)) ≡ false
@@ -58,74 +54,61 @@ lea_operand a m h = and_false (a == 4) (m == 0) h
 
 pub lea_read : (a : ℕ) (ea : Ea) (rest : List ℕ) → takes Control size.Long ea ≡ true →
     line_4 (op 4 a 1 3 (mode ea) (lower ea)) (more size.Long ea ++ rest) ≡ Ok (Move (move.Lea a ea), rest)
-unfolding line_4 odd_4 lea_4
 lea_read a ea rest h =
     let operand = lea_operand a (mode ea) (not_register_control size.Long (mode ea) (lower ea) (taken Control size.Long ea h).0) in
     unmet _ _ _ _ operand ∙ next _ _ _ _ _ (ea_read Control size.Long 4 a 1 3 ea rest h)
 
 pub extb_read : (d : ℕ) (rest : List ℕ) → line_4 (op 4 4 1 3 0 d) rest ≡ Ok (Arith (arith_of.ExtbL d), rest)
-unfolding line_4 odd_4 lea_4
 extb_read d rest = refl
 
 pub mul_read : (ea : Ea) (w : ℕ) (rest : List ℕ) → (holds rule.LongPair w && takes Data size.Long ea) ≡ true →
     line_4 (op 4 6 0 0 (mode ea) (lower ea)) (w ∷ more size.Long ea ++ rest) ≡ Ok (Arith (arith_of.MulL ea w), rest)
-unfolding line_4 even_4
 mul_read ea w rest h = next _ _ _ _ _ (word_ea_read rule.LongPair Data size.Long 4 6 0 0 w ea rest h)
 
 pub div_read : (ea : Ea) (w : ℕ) (rest : List ℕ) → (holds rule.LongPair w && takes Data size.Long ea) ≡ true →
     line_4 (op 4 6 0 1 (mode ea) (lower ea)) (w ∷ more size.Long ea ++ rest) ≡ Ok (Arith (arith_of.DivL ea w), rest)
-unfolding line_4 even_4
 div_read ea w rest h = next _ _ _ _ _ (word_ea_read rule.LongPair Data size.Long 4 6 0 1 w ea rest h)
 
 pub link_long_read : (a d : ℕ) (rest : List ℕ) → line_4 (op 4 4 0 0 1 a) (long_words d ++ rest) ≡ Ok (Move (move.LinkL a d), rest)
-unfolding line_4 even_4
 link_long_read a d rest = next _ _ _ _ _ (long_read d rest)
 
 pub nbcd_read : (ea : Ea) (rest : List ℕ) → takes DataAlterable size.Byte ea ≡ true →
     line_4 (op 4 4 0 0 (mode ea) (lower ea)) (more size.Byte ea ++ rest) ≡ Ok (Arith (arith_of.Nbcd ea), rest)
-unfolding line_4 even_4
 nbcd_read ea rest h =
     unmet _ _ _ _ (not_address size.Byte (mode ea) (lower ea) (taken DataAlterable size.Byte ea h).0) ∙
     next _ _ _ _ _ (ea_read DataAlterable size.Byte 4 4 0 0 ea rest h)
 
 pub pea_read : (ea : Ea) (rest : List ℕ) → takes Control size.Long ea ≡ true →
     line_4 (op 4 4 0 1 (mode ea) (lower ea)) (more size.Long ea ++ rest) ≡ Ok (Move (move.Pea ea), rest)
-unfolding line_4 even_4
 pea_read ea rest h =
     unmet _ _ _ _ (not_register_control size.Long (mode ea) (lower ea) (taken Control size.Long ea h).0) ∙
     next _ _ _ _ _ (ea_read Control size.Long 4 4 0 1 ea rest h)
 
 pub jsr_read : (ea : Ea) (rest : List ℕ) → takes Control size.Long ea ≡ true →
     line_4 (op 4 7 0 2 (mode ea) (lower ea)) (more size.Long ea ++ rest) ≡ Ok (Flow (flow.Jsr ea), rest)
-unfolding line_4 even_4
 jsr_read ea rest h = next _ _ _ _ _ (ea_read Control size.Long 4 7 0 2 ea rest h)
 
 pub jmp_read : (ea : Ea) (rest : List ℕ) → takes Control size.Long ea ≡ true →
     line_4 (op 4 7 0 3 (mode ea) (lower ea)) (more size.Long ea ++ rest) ≡ Ok (Flow (flow.Jmp ea), rest)
-unfolding line_4 even_4
 jmp_read ea rest h = next _ _ _ _ _ (ea_read Control size.Long 4 7 0 3 ea rest h)
 
 pub chk_read : (d : ℕ) (s : Size) (ea : Ea) (rest : List ℕ) → (not_byte s && takes Data s ea) ≡ true →
     line_4 (op 4 d 1 (chk_bits s) (mode ea) (lower ea)) (more s ea ++ rest) ≡ Ok (Flow (flow.Chk d s ea), rest)
-unfolding line_4 odd_4
 chk_read d size.Byte ea rest h = absurd cc
 chk_read d size.Word ea rest h = next _ _ _ _ _ (ea_read Data size.Word 4 d 1 2 ea rest h)
 chk_read d size.Long ea rest h = next _ _ _ _ _ (ea_read Data size.Long 4 d 1 0 ea rest h)
 
 pub swap_read : (d : ℕ) (rest : List ℕ) → line_4 (op 4 4 0 1 0 d) rest ≡ Ok (Move (move.Swap d), rest)
-unfolding line_4 even_4
 swap_read d rest = refl
 
 pub movem_load_read : (s : Size) (ea : Ea) (w : ℕ) (rest : List ℕ) → (not_byte s && takes LoadList s ea) ≡ true →
     line_4 (op 4 6 0 (2 + long_bit s) (mode ea) (lower ea)) (w ∷ more s ea ++ rest) ≡ Ok (Move (move.MovemLoad s ea w), rest)
-unfolding line_4 even_4
 movem_load_read size.Byte ea w rest h = absurd cc
 movem_load_read size.Word ea w rest h = next _ _ _ _ _ (word_ea_read rule.Any LoadList size.Word 4 6 0 2 w ea rest h)
 movem_load_read size.Long ea w rest h = next _ _ _ _ _ (word_ea_read rule.Any LoadList size.Long 4 6 0 3 w ea rest h)
 
 pub movem_read : (s : Size) (ea : Ea) (w : ℕ) (rest : List ℕ) → (not_byte s && takes StoreList s ea) ≡ true →
     line_4 (op 4 4 0 (2 + long_bit s) (mode ea) (lower ea)) (w ∷ more s ea ++ rest) ≡ Ok (Move (move.MovemStore s ea w), rest)
-unfolding line_4 even_4 movem_store_4
 movem_read size.Byte ea w rest h = absurd cc
 movem_read size.Word ea w rest h =
     unmet _ _ _ _ (not_register_store size.Word (mode ea) (lower ea) (taken StoreList size.Word ea h).0) ∙
@@ -135,15 +118,12 @@ movem_read size.Long ea w rest h =
     next _ _ _ _ _ (word_ea_read rule.Any StoreList size.Long 4 4 0 3 w ea rest h)
 
 pub ext_word_read : (d : ℕ) (rest : List ℕ) → line_4 (op 4 4 0 2 0 d) rest ≡ Ok (Arith (arith_of.ExtW d), rest)
-unfolding line_4 even_4 movem_store_4
 ext_word_read d rest = refl
 
 pub ext_long_read : (d : ℕ) (rest : List ℕ) → line_4 (op 4 4 0 3 0 d) rest ≡ Ok (Arith (arith_of.ExtL d), rest)
-unfolding line_4 even_4 movem_store_4
 ext_long_read d rest = refl
 
 pub trap_read : (v : ℕ) (rest : List ℕ) → (nat_lt v 16 && true) ≡ true → line_4 (op 4 7 0 1 (v / 8) (v % 8)) rest ≡ Ok (Flow (flow.Trap v), rest)
-unfolding line_4 even_4 system_4
 trap_read v rest h =
     let below = test_holds (nat_lt v 16) h in
     let low : nat_lt (v / 8) 2 ≡ true = grind (arith, nat_tests) in
@@ -151,53 +131,41 @@ trap_read v rest h =
     rw (low, same) refl
 
 pub link_word_read : (a d : ℕ) (rest : List ℕ) → line_4 (op 4 7 0 1 2 a) (d ∷ rest) ≡ Ok (Move (move.LinkW a d), rest)
-unfolding line_4 even_4 system_4
 link_word_read a d rest = next _ _ _ _ _ (word_read d rest)
 
 pub unlk_read : (a : ℕ) (rest : List ℕ) → line_4 (op 4 7 0 1 3 a) rest ≡ Ok (Move (move.Unlk a), rest)
-unfolding line_4 even_4 system_4
 unlk_read a rest = refl
 
 pub move_usp_read : (k : Bool) (a : ℕ) (rest : List ℕ) → line_4 (op 4 7 0 1 (4 + flag k) a) rest ≡ Ok (System (system.MoveUsp k a), rest)
-unfolding line_4 even_4 system_4
 move_usp_read true a rest = refl
 move_usp_read false a rest = refl
 
 pub reset_read : (rest : List ℕ) → line_4 (op 4 7 0 1 6 0) rest ≡ Ok (System system.Reset, rest)
-unfolding line_4 even_4 system_4 single_4
 reset_read rest = refl
 
 pub nop_read : (rest : List ℕ) → line_4 (op 4 7 0 1 6 1) rest ≡ Ok (Flow flow.Nop, rest)
-unfolding line_4 even_4 system_4 single_4
 nop_read rest = refl
 
 pub stop_read : (w : ℕ) (rest : List ℕ) → line_4 (op 4 7 0 1 6 2) (w ∷ rest) ≡ Ok (System (system.Stop w), rest)
-unfolding line_4 even_4 system_4 single_4
 stop_read w rest = next _ _ _ _ _ (word_read w rest)
 
 pub rtd_read : (d : ℕ) (rest : List ℕ) → line_4 (op 4 7 0 1 6 4) (d ∷ rest) ≡ Ok (Flow (flow.Rtd d), rest)
-unfolding line_4 even_4 system_4 single_4
 rtd_read d rest = next _ _ _ _ _ (word_read d rest)
 
 pub rte_read : (rest : List ℕ) → line_4 (op 4 7 0 1 6 3) rest ≡ Ok (System system.Rte, rest)
-unfolding line_4 even_4 system_4 single_4
 rte_read rest = refl
 
 pub rts_read : (rest : List ℕ) → line_4 (op 4 7 0 1 6 5) rest ≡ Ok (Flow flow.Rts, rest)
-unfolding line_4 even_4 system_4 single_4
 rts_read rest = refl
 
 pub trapv_read : (rest : List ℕ) → line_4 (op 4 7 0 1 6 6) rest ≡ Ok (Flow flow.Trapv, rest)
-unfolding line_4 even_4 system_4 single_4
 trapv_read rest = refl
 
 pub rtr_read : (rest : List ℕ) → line_4 (op 4 7 0 1 6 7) rest ≡ Ok (Flow flow.Rtr, rest)
-unfolding line_4 even_4 system_4 single_4
 rtr_read rest = refl
 
 pub movec_read : (k : Bool) (w : ℕ) (rest : List ℕ) → holds rule.Control w ≡ true →
     line_4 (op 4 7 0 1 7 (2 + flag k)) (w ∷ rest) ≡ Ok (System (system.Movec k w), rest)
-unfolding line_4 even_4 system_4 movec_4
 movec_read true w rest h = next _ _ _ _ _ (ruled_read rule.Control w rest h)
 movec_read false w rest h = next _ _ _ _ _ (ruled_read rule.Control w rest h)
 
@@ -220,7 +188,6 @@ extend_row : (n : ℕ) → n < 4 → ExtendRow n
 extend_row n h = under_4 ExtendRow (λ z. absurd (omega arith)) (λ z. absurd (omega arith)) (λ z d. refl) (λ z d. refl) n h
 
 movem_store_4_shape : (p : Opcode) → IsOpcode p → p.line ≡ 4 → p.upper ≡ 4 → p.bit ≡ 0 → 2 ≤ p.size → Shape row p (movem_store_4 p)
-unfolding movem_store_4
 movem_store_4_shape p is line upper bit high =
     let long_words = size_of_bit (p.size % 2) in
     equal row p p.mode 0 _ _
@@ -229,7 +196,6 @@ movem_store_4_shape p is line upper bit high =
     (word_ea_shape p rule.Any StoreList long_words 4 4 0 _ is line upper bit (high_size p.size is.size high))) (λ x. refl))
 
 single_4_shape : (p : Opcode) → IsOpcode p → p.line ≡ 4 → p.upper ≡ 7 → p.bit ≡ 0 → p.size ≡ 1 → p.mode ≡ 6 → Shape row p (single_4 p)
-unfolding single_4
 single_4_shape p is line upper bit size mode =
     let low = is.lower in
     equal row p p.lower 0 _ _ (λ lower. given p _ _ refl (op_is p 4 7 0 1 6 0 line upper bit size mode lower)) (λ n0.
@@ -249,7 +215,6 @@ movec_field n h =
     under_8 MovecField (λ e. absurd cc) (λ e. absurd cc) (λ e. refl) (λ e. refl) (λ e. absurd cc) (λ e. absurd cc) (λ e. absurd cc) (λ e. absurd cc) n h
 
 movec_4_shape : (p : Opcode) → IsOpcode p → p.line ≡ 4 → p.upper ≡ 7 → p.bit ≡ 0 → p.size ≡ 1 → p.mode ≡ 7 → Shape row p (movec_4 p)
-unfolding movec_4
 movec_4_shape p is line upper bit size mode = only row p ((p.lower == 2) || (p.lower == 3)) _ (λ e.
     let fields = op_is p 4 7 0 1 7 _ line upper bit size mode (movec_field p.lower is.lower e) in
     made_row _ p _ _ (ruled_shape p _ rule.Control fields) (λ w. refl))
@@ -263,7 +228,6 @@ trap_below : (m r : ℕ) → m < 2 → r < 8 → nat_lt (m * 8 + r) 16 ≡ true
 trap_below m r hm hr = let below : m * 8 + r < 16 = omega arith in grind (arith, nat_tests)
 
 system_4_shape : (p : Opcode) → IsOpcode p → p.line ≡ 4 → p.upper ≡ 7 → p.bit ≡ 0 → p.size ≡ 1 → Shape row p (system_4 p)
-unfolding system_4
 system_4_shape p is line upper bit size =
     let low = is.lower in
     let high : p.mode ≡ (p.mode * 8 + p.lower) / 8 = omega arith in
@@ -319,7 +283,6 @@ jump_4_shape p is line upper bit high =
     (under_4 JumpRow (λ z. absurd (omega arith)) (λ z. absurd (omega arith)) (λ z ea. refl) (λ z ea. refl) p.size is.size high)
 
 lea_4_shape : (p : Opcode) → IsOpcode p → p.line ≡ 4 → p.bit ≡ 1 → p.size ≡ 3 → Shape row p (lea_4 p)
-unfolding lea_4
 lea_4_shape p is line bit f =
     equals row p p.upper 4 p.mode 0 _ _ (λ upper mode. given p _ _ refl (op_is p 4 4 1 3 0 p.lower line upper bit f mode refl))
     (made_row _ p _ _ (ea_shape p Control size.Long 4 p.upper 1 3 is line refl bit f) (λ ea. refl))
@@ -336,13 +299,11 @@ chk_4_shape p is line bit one three =
     made_row _ p _ _ (guarded _ p _ _ f.0 (ea_shape p Data (chk_size p.size) 4 p.upper 1 _ is line refl bit f.1)) (λ ea. refl)
 
 odd_4_shape : (p : Opcode) → IsOpcode p → p.line ≡ 4 → p.bit ≡ 1 → Shape row p (odd_4 p)
-unfolding odd_4
 odd_4_shape p is line bit =
     equal row p p.size 3 _ _ (λ f. lea_4_shape p is line bit f) (λ three.
     equal row p p.size 1 _ _ (λ f. none row p) (λ one. chk_4_shape p is line bit one three))
 
 even_4_shape : (p : Opcode) → IsOpcode p → p.line ≡ 4 → p.bit ≡ 0 → Shape row p (even_4 p)
-unfolding even_4
 even_4_shape p is line bit =
     let up = is.upper in
     below row p p.upper 4 _ _ (λ low.
@@ -358,6 +319,5 @@ even_4_shape p is line bit =
     equal row p p.size 1 _ _ (λ f. system_4_shape p is line u bit f) (λ n. none row p))))))
 
 pub line_4_shape : (p : Opcode) → IsOpcode p → p.line ≡ 4 → Shape row p (line_4 p)
-unfolding line_4
 line_4_shape p is line = equal row p p.bit 1 _ _ (λ bit. odd_4_shape p is line bit) (λ n.
     let below = is.bit in even_4_shape p is line (omega arith))

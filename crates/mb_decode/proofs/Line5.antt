@@ -75,7 +75,6 @@ pub bcc_read : (c : Condition) (d : Branch) (rest : List ℕ) → is_branch d �
 bcc_read c d rest h = let same = condition_is c in rw (byte_of (branch_byte d), same) (next _ _ _ _ _ (branch_read d rest h))
 
 pub moveq_read : (d n : ℕ) (rest : List ℕ) → line_7 (op 7 d 0 (n / 64) (n / 8 % 8) (n % 8)) rest ≡ Ok (Move (move.Moveq d n), rest)
-unfolding line_7
 moveq_read d n rest = rw (byte_of n) refl
 
 -- ---- what is read
@@ -139,7 +138,6 @@ line_6_shape p is line = record {
 }
 
 pub line_7_shape : (p : Opcode) → IsOpcode p → p.line ≡ 7 → Shape row p (line_7 p)
-unfolding line_7
 line_7_shape p is line =
     let low = low_byte_of p (low_byte p) is refl in
     only row p (p.bit == 0) _ (λ e. given p _ _ refl (op_is p 7 p.upper 0 _ _ _ line refl (eq_true p.bit 0 e) low.size low.mode low.lower))

@@ -75,7 +75,6 @@ unpk_read x true y w rest = next _ _ _ _ _ (word_read w rest)
 unpk_read x false y w rest = next _ _ _ _ _ (word_read w rest)
 
 pub exg_read : (x : ℕ) (k : Exchange) (y : ℕ) (rest : List ℕ) → line_8 (op 12 x 1 (exchange_bits k) (exchange_mode k) y) rest ≡ Ok (Move (move.Exg x k y), rest)
-unfolding exchange_12
 exg_read x exchange.Data y rest = refl
 exg_read x exchange.Address y rest = refl
 exg_read x exchange.DataAddress y rest = refl
@@ -156,7 +155,6 @@ packed_8_shape p is line bit low n0 n3 = made_row _ p _ _
     (λ w. packed_row p.size is.size n0 n3 p.upper (p.mode == 1) p.lower w)
 
 exchange_12_shape : (p : Opcode) → p.line ≡ 12 → p.bit ≡ 1 → Shape row p (exchange_12 p)
-unfolding exchange_12
 exchange_12_shape p line bit =
     equals row p p.size 1 p.mode 0 _ _ (λ size mode. given p _ _ refl (op_is p 12 p.upper 1 1 0 p.lower line refl bit size mode refl))
     (equals row p p.size 1 p.mode 1 _ _ (λ size mode. given p _ _ refl (op_is p 12 p.upper 1 1 1 p.lower line refl bit size mode refl))

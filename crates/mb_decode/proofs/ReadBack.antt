@@ -71,7 +71,6 @@ ext_read (Full w bd od) rest h =
     next _ _ _ _ _ (word_read w _) ∙ rw (n, c.1) (full_read w bd od rest b.1 a.1)
 
 pub immediate_read : (s : Size) (v : ℕ) (rest : List ℕ) → is_immediate s v ≡ true → immediate_at s (immediate s v ++ rest) ≡ Ok (v, rest)
-unfolding immediate_at
 immediate_read size.Byte v rest h = word_read v rest
 immediate_read size.Word v rest h = word_read v rest
 immediate_read size.Long v rest h = long_read v rest
@@ -126,7 +125,6 @@ sized_read class a b c s ea rest h = by_size_read s _ _ ∙ next _ _ _ _ _ (ea_r
 
 pub word_ea_read : (rule : WordRule) (class : OperandClass) (s : Size) (a b c f w : ℕ) (ea : Ea) (rest : List ℕ) → (holds rule w && takes class s ea) ≡ true →
     word_ea_at rule class s (op a b c f (mode ea) (lower ea)) (w ∷ more s ea ++ rest) ≡ Ok ((w, ea), rest)
-unfolding word_ea_at
 word_ea_read rule class s a b c f w ea rest h =
     let p = and_is (holds rule w) (takes class s ea) h in
     let q = taken class s ea p.1 in
@@ -134,7 +132,6 @@ word_ea_read rule class s a b c f w ea rest h =
 
 pub immediate_ea_read : (class : OperandClass) (a b c : ℕ) (s : Size) (v : ℕ) (ea : Ea) (rest : List ℕ) → (is_immediate s v && takes class s ea) ≡ true →
     immediate_ea_at class (op a b c (size_bits s) (mode ea) (lower ea)) ((immediate s v ++ more s ea) ++ rest) ≡ Ok ((s, v, ea), rest)
-unfolding immediate_ea_at
 immediate_ea_read class a b c s v ea rest h =
     let p = and_is (is_immediate s v) (takes class s ea) h in
     let q = taken class s ea p.1 in

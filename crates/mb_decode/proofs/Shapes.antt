@@ -258,7 +258,6 @@ word_ea_row r class s a b c f x = word_ea r class s a b c f x.0 x.1
 -- a word with fixed bits, and then an operand's words
 pub word_ea_shape : (p : Opcode) (r : WordRule) (class : OperandClass) (s : Size) (a b c f : ℕ) → IsOpcode p → p.line ≡ a → p.upper ≡ b → p.bit ≡ c →
     p.size ≡ f → Shape (word_ea_row r class s a b c f) p (word_ea_at r class s p)
-unfolding word_ea_at
 word_ea_shape p r class s a b c f is ha hb hc hf = record {
   found = λ ws h. branch (allows class s p.mode p.lower) _ _ ws (Found (word_ea_row r class s a b c f) p ws) (λ ok.
       after (ruled_at r) _ ws (Found (word_ea_row r class s a b c f) p ws) (λ e. tt) (λ w mid ew. let x = ruled_found r ws w mid h ew in
@@ -294,7 +293,6 @@ immediate_ea_of p class a b c s is ha hb hc hf = record {
 
 pub immediate_ea_shape : (p : Opcode) (class : OperandClass) (a b c : ℕ) → IsOpcode p → p.line ≡ a → p.upper ≡ b → p.bit ≡ c →
     Shape (immediate_ea_row class a b c) p (immediate_ea_at class p)
-unfolding immediate_ea_at
 immediate_ea_shape p class a b c is ha hb hc =
     by_size_shape (immediate_ea_row class a b c) p p.size _ (λ s e. immediate_ea_of p class a b c s is ha hb hc (sym e))
 

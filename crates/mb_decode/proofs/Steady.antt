@@ -17,7 +17,6 @@ use Rattle.mb_instr.specs.declared.rule.WordRule.{WordRule}
 use Rattle.mb_instr.specs.declared.rule.WordRule.TheVariants as rule
 use Rattle.mb_instr.specs.declared.opcode.Opcode.{Opcode}
 use Rattle.mb_instr.specs.Rules.{holds}
-use Rattle.mb_instr.specs.Control.{is_control_code}
 use Rattle.mb_instr.specs.Operands.{is_full, allows}
 use Rattle.mb_decode.specs.Reading.{long_at, wide_at, full_at, ext_at, immediate_at, operand_at, ruled_at, branch_at, trap_operand_at}
 use Rattle.mb_decode.proofs.ReadBack.{next}
@@ -214,13 +213,11 @@ ext_readable : Readable ext_at
 ext_readable = word_then_readable _ 0 (omega arith) (give_readable (Brief 0))
 
 pub immediate_steady : (s : Size) → Steady (immediate_at s)
-unfolding immediate_at
 immediate_steady size.Byte = word_steady
 immediate_steady size.Word = word_steady
 immediate_steady size.Long = long_steady
 
 pub immediate_readable : (s : Size) → Readable (immediate_at s)
-unfolding immediate_at
 immediate_readable size.Byte = word_readable
 immediate_readable size.Word = word_readable
 immediate_readable size.Long = long_readable
@@ -256,7 +253,6 @@ rule_word rule.Check = 2048
 rule_word _ = 0
 
 rule_word_is : (r : WordRule) → (holds r (rule_word r) ≡ true) × (rule_word r < 2 ^ 16)
-unfolding is_control_code
 rule_word_is rule.Any = (refl, omega arith)
 rule_word_is rule.RegisterAndBit = (refl, omega arith)
 rule_word_is rule.Compare = (refl, omega arith)

@@ -116,7 +116,6 @@ from_cases first ws (Err stop.More) e lt h = unfinished first ws lt h e
 from_cases first ws (Err stop.Illegal) e lt h = no_row_cases first ws (first / 2 ^ 12 == 10) (first / 2 ^ 12 == 15) refl refl (other first ws lt e)
 
 decodes_from : (first : ℕ) (ws : List ℕ) → first < 2 ^ 16 → AreWords ws → Decodes (first ∷ ws) (decode_from first ws)
-unfolding decode_from
 decodes_from first ws lt h = from_cases first ws (row_at (opcode_of first) ws) refl lt h
 
 pub decodes_of : (ws : List ℕ) → AreWords ws → Decodes ws (decode_of ws)
@@ -174,7 +173,6 @@ at_opcode p first ws r e h = subst (λ (q : Opcode). row_at q ws ≡ r) e h
 
 from_read : (first : ℕ) (ws : List ℕ) (i : Instr) (rest : List ℕ) → row_at (opcode_of first) ws ≡ read i rest →
     decode_from first ws ≡ Whole i (1 + (length ws - length rest))
-unfolding decode_from
 from_read first ws i rest e = ap (λ (r : Result (Instr × List ℕ) Stop). elim r [ Ok x ↦ Whole x.0 (1 + (length ws - length x.1)) | Err d ↦ at_stop first d ]) e
 
 again : (i : Instr) (first : ℕ) (others rest : List ℕ) → Codes i (first ∷ others) → decode_of (first ∷ others ++ rest) ≡ Whole i (length (first ∷ others))

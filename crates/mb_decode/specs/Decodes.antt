@@ -24,7 +24,7 @@ at_stop first stop.More = More
 at_stop first stop.Illegal = no_row first
 
 -- a first word, and the words behind it
-unfoldable pub decode_from : ℕ → List ℕ → Decoded
+abbrev pub decode_from : ℕ → List ℕ → Decoded
 decode_from first rest = elim (row_at (opcode_of first) rest) [
   | Ok (i, behind) ↦ Whole i (1 + (length rest - length behind))
   | Err e ↦ at_stop first e

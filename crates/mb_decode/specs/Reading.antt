@@ -81,7 +81,7 @@ ext_at = do
   if (extension_word w).is_full == 0 then give (Brief w) else when_legal (is_full w) (full_at w)
 
 -- a byte immediate takes a whole word
-unfoldable pub immediate_at : Size → Reader ℕ
+abbrev pub immediate_at : Size → Reader ℕ
 immediate_at size.Byte = word_at
 immediate_at size.Word = word_at
 immediate_at size.Long = long_at
@@ -125,14 +125,14 @@ unfoldable pub sized_at : OperandClass → Opcode → Reader (Size × Ea)
 sized_at class p = by_size p.size (λ s. made (ea_at class s p) (λ ea. (s, ea)))
 
 -- a word that the rule allows, and then the operand's words
-unfoldable pub word_ea_at : WordRule → OperandClass → Size → Opcode → Reader (ℕ × Ea)
+abbrev pub word_ea_at : WordRule → OperandClass → Size → Opcode → Reader (ℕ × Ea)
 word_ea_at rule class s p = when_legal (allows class s p.mode p.lower) (do
   w ← ruled_at rule
   ea ← operand_at s p.mode p.lower
   give (w, ea))
 
 -- an immediate, and then the operand's words, of the size in the size field
-unfoldable pub immediate_ea_at : OperandClass → Opcode → Reader (Size × ℕ × Ea)
+abbrev pub immediate_ea_at : OperandClass → Opcode → Reader (Size × ℕ × Ea)
 immediate_ea_at class p = by_size p.size (λ s. when_legal (allows class s p.mode p.lower) (do
   v ← immediate_at s
   ea ← operand_at s p.mode p.lower

@@ -77,7 +77,7 @@ cas2_0 s = when_legal (not_byte s) (do
   give (Arith (arith.Cas2 s w v)))
 
 -- 0000 1ss0 11mm mrrr
-unfoldable pub cas_0 : Opcode → Reader Instr
+abbrev pub cas_0 : Opcode → Reader Instr
 cas_0 p =
     if is_immediate_field p then cas2_0 (cas_size p.upper) else
     made (word_ea_at rule.Swap MemoryAlterable (cas_size p.upper) p)
@@ -103,7 +103,7 @@ to_sr_instr n w =
 
 -- ORI, ANDI and EORI to CCR and to SR stand where the others would have an immediate operand
 -- 0000 kkk0 0s11 1100
-unfoldable pub status_0 : Opcode → Reader Instr
+abbrev pub status_0 : Opcode → Reader Instr
 status_0 p =
     if (p.upper == 2) || (p.upper == 3) then illegal else
     if p.size == 0 then made word_at (λ w. to_ccr_instr p.upper w) else
@@ -131,7 +131,7 @@ bit_0 p =
     made (word_ea_at rule.Any (bit_class_immediate (bit_kind p.size)) size.Byte p)
     (λ (w, ea). Arith (arith.BitImm (bit_kind p.size) ea w))
 
-unfoldable pub even_0 : Opcode → Reader Instr
+abbrev pub even_0 : Opcode → Reader Instr
 even_0 p =
     if p.upper == 4 then bit_0 p else
     if p.size == 3 then (if nat_lt p.upper 4 then bounds_0 p else cas_0 p) else
@@ -152,7 +152,7 @@ allows_move s p = allows All s p.mode p.lower && allows DataAlterable s (move_mo
 
 -- the source's words stand before the destination's
 -- 00ss RRRM MMmm mrrr
-unfoldable pub move_at : Size → Opcode → Reader Instr
+abbrev pub move_at : Size → Opcode → Reader Instr
 move_at s p = when_legal (allows_move s p) (do
   source ← operand_at s p.mode p.lower
   destination ← operand_at s (move_mode p) p.upper
@@ -162,7 +162,7 @@ move_at s p = when_legal (allows_move s p) (do
 abbrev pub movea_at : Size → Opcode → Reader Instr
 movea_at s p = when_legal (not_byte s) (made (ea_at All s p) (λ ea. Move (move.Movea s p.upper ea)))
 
-unfoldable pub line_move : Opcode → Reader Instr
+abbrev pub line_move : Opcode → Reader Instr
 line_move p = if move_mode p == 1 then movea_at (move_size p.line) p else move_at (move_size p.line) p
 
 -- ---- line 4: one operand, and what has none
@@ -209,7 +209,7 @@ abbrev pub extend_instr : ℕ → ℕ → Instr
 extend_instr n d = if n == 2 then Arith (arith.ExtW d) else Arith (arith.ExtL d)
 
 -- 0100 1000 1smm mrrr; EXT is 0100 1000 1s00 0ddd
-unfoldable pub movem_store_4 : Opcode → Reader Instr
+abbrev pub movem_store_4 : Opcode → Reader Instr
 movem_store_4 p =
     if p.mode == 0 then give (extend_instr p.size p.lower) else
     made (word_ea_at rule.Any StoreList (size_of_bit (p.size % 2)) p)
@@ -244,7 +244,7 @@ jump_4 p = made (ea_at Control size.Long p) (λ ea. jump_instr p.size ea)
 
 -- $4E70 to $4E77
 -- 0100 1110 0111 0kkk
-unfoldable pub single_4 : Opcode → Reader Instr
+abbrev pub single_4 : Opcode → Reader Instr
 single_4 p =
     if p.lower == 0 then give (System system.Reset) else
     if p.lower == 1 then give (Flow flow.Nop) else
@@ -256,14 +256,14 @@ single_4 p =
 
 -- $4E78 to $4E7F
 -- 0100 1110 0111 101k
-unfoldable pub movec_4 : Opcode → Reader Instr
+abbrev pub movec_4 : Opcode → Reader Instr
 movec_4 p =
     when_legal ((p.lower == 2) || (p.lower == 3))
     (made (ruled_at rule.Control) (λ w. System (system.Movec (p.lower == 3) w)))
 
 -- $4E40 to $4E7F
 -- 0100 1110 01kk krrr
-unfoldable pub system_4 : Opcode → Reader Instr
+abbrev pub system_4 : Opcode → Reader Instr
 system_4 p =
     if nat_lt p.mode 2 then give (Flow (flow.Trap (p.mode * 8 + p.lower))) else
     if p.mode == 2 then made word_at (λ d. Move (move.LinkW p.lower d)) else
@@ -271,7 +271,7 @@ system_4 p =
     if p.mode == 6 then single_4 p else
     if p.mode == 7 then movec_4 p else give (System (system.MoveUsp (p.mode == 5) p.lower))
 
-unfoldable pub even_4 : Opcode → Reader Instr
+abbrev pub even_4 : Opcode → Reader Instr
 even_4 p =
     if nat_lt p.upper 4 then (if p.size == 3 then status_4 p else unary_4 p) else
     if p.upper == 4 then (if p.size == 0 then nbcd_4 p else if p.size == 1 then pea_4 p else movem_store_4 p) else
@@ -281,7 +281,7 @@ even_4 p =
 
 -- EXTB stands where LEA has no operand
 -- 0100 aaa1 11mm mrrr; EXTB is 0100 1001 1100 0ddd
-unfoldable pub lea_4 : Opcode → Reader Instr
+abbrev pub lea_4 : Opcode → Reader Instr
 lea_4 p =
     if (p.upper == 4) && (p.mode == 0) then give (Arith (arith.ExtbL p.lower)) else
     made (ea_at Control size.Long p) (λ ea. Move (move.Lea p.upper ea))
@@ -294,10 +294,10 @@ chk_size n = if n == 0 then size.Long else size.Word
 abbrev pub chk_4 : Opcode → Reader Instr
 chk_4 p = made (ea_at Data (chk_size p.size) p) (λ ea. Flow (flow.Chk p.upper (chk_size p.size) ea))
 
-unfoldable pub odd_4 : Opcode → Reader Instr
+abbrev pub odd_4 : Opcode → Reader Instr
 odd_4 p = if p.size == 3 then lea_4 p else if p.size == 1 then illegal else chk_4 p
 
-unfoldable pub line_4 : Opcode → Reader Instr
+abbrev pub line_4 : Opcode → Reader Instr
 line_4 p = if p.bit == 1 then odd_4 p else even_4 p
 
 -- ---- lines 5 to 7: quick values, conditions and branches
@@ -326,7 +326,7 @@ abbrev pub line_6 : Opcode → Reader Instr
 line_6 p = made (branch_at (low_byte p)) (λ d. Flow (flow.Bcc (condition_of p.upper p.bit) d))
 
 -- 0111 ddd0 nnnn nnnn
-unfoldable pub line_7 : Opcode → Reader Instr
+abbrev pub line_7 : Opcode → Reader Instr
 line_7 p = when_legal (p.bit == 0) (give (Move (move.Moveq p.upper (low_byte p))))
 
 -- ---- lines 8, 9, 11, 12 and 13: a register and an operand
@@ -386,7 +386,7 @@ abbrev pub packed_8 : Opcode → Reader Instr
 packed_8 p = made word_at (λ w. packed_instr p.size p.upper (p.mode == 1) p.lower w)
 
 -- 1100 xxx1 kkkk kyyy
-unfoldable pub exchange_12 : Opcode → Reader Instr
+abbrev pub exchange_12 : Opcode → Reader Instr
 exchange_12 p =
     if (p.size == 1) && (p.mode == 0) then give (Move (move.Exg p.upper exchange.Data p.lower)) else
     if (p.size == 1) && (p.mode == 1) then give (Move (move.Exg p.upper exchange.Address p.lower)) else
@@ -464,7 +464,7 @@ abbrev pub cached_instr : Bool → Caches → CacheScope → ℕ → Instr
 cached_instr push c s a = if push then System (system.Cpush c s a) else System (system.Cinv c s a)
 
 -- 1111 0100 kkop paaa
-unfoldable pub caches_15 : Opcode → Reader Instr
+abbrev pub caches_15 : Opcode → Reader Instr
 caches_15 p = elim (scope_kind (p.mode % 4)) [
   | Some s ↦ give (cached_instr (nat_lt 3 p.mode) (caches_kind p.size) s p.lower)
   | None ↦ illegal
@@ -472,7 +472,7 @@ caches_15 p = elim (scope_kind (p.mode % 4)) [
 
 -- PFLUSH and PTEST
 -- 1111 0101 0kkk kaaa
-unfoldable pub translation_15 : Opcode → Reader Instr
+abbrev pub translation_15 : Opcode → Reader Instr
 translation_15 p =
     if p.size == 0 then when_legal (nat_lt p.mode 4) (give (System (system.Pflush (flush_kind p.mode) p.lower))) else
     if (p.size == 1) && (p.mode == 1) then give (System (system.Ptest false p.lower)) else
@@ -480,12 +480,12 @@ translation_15 p =
 
 -- MOVE16
 -- 1111 0110 00kk kaaa
-unfoldable pub lines_15 : Opcode → Reader Instr
+abbrev pub lines_15 : Opcode → Reader Instr
 lines_15 p =
     if nat_lt p.mode 4 then made long_at (λ l. Move (move.Move16Abs (line_kind p.mode) p.lower l)) else
     if p.mode == 4 then made (ruled_at rule.Line) (λ w. Move (move.Move16Post p.lower w)) else illegal
 
-unfoldable pub line_15 : Opcode → Reader Instr
+abbrev pub line_15 : Opcode → Reader Instr
 line_15 p =
     if p.upper == 2 then (if p.bit == 0 then caches_15 p else translation_15 p) else
     if (p.upper == 3) && (p.bit == 0) && (p.size == 0) then lines_15 p else illegal

@@ -84,7 +84,7 @@ pub fn decode_into(first: u16, rest: &[u16], instruction: &mut Instr) -> Decodin
 
 /// Puts the instruction that a first word begins.
 #[inline(always)]
-#[tactic(auto, unfolding(crate::specs::Decodes::decode_from, crate::specs::Decodes::decode_of))]
+#[tactic(auto, unfolding(crate::specs::Decodes::decode_of))]
 fn put_from(first: u16, rest: &[u16], instruction: &mut Instr) -> Decoding
     ensures { told result instruction.new ≡ decode_of (first ∷ rest.now) }
 {

@@ -26,7 +26,7 @@ fn allows_move(size: Size, op: Opcode) -> bool
 }
 
 /// MOVE: the source's words stand before the destination's.
-#[tactic(auto, unfolding(crate::specs::Reading::reads_then, crate::specs::RowReading::move_at))]
+#[tactic(auto, unfolding(crate::specs::Reading::reads_then))]
 fn move_row(size: Size, op: Opcode, words: &[u16]) -> Reading<'_, Instr>
     requires { IsOpcode op }
     ensures { Gives result (move_at size op words.now) }
@@ -63,7 +63,7 @@ fn movea(size: Size, op: Opcode, words: &[u16]) -> Reading<'_, Instr>
 }
 
 /// The rows of lines 1 to 3.
-#[tactic(auto, unfolding(crate::specs::Reading::reads_then, crate::specs::RowReading::line_move))]
+#[tactic(auto, unfolding(crate::specs::Reading::reads_then))]
 pub fn line_move(op: Opcode, words: &[u16]) -> Reading<'_, Instr>
     requires { IsOpcode op }
     ensures { Gives result (line_move op words.now) }

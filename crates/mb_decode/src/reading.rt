@@ -92,7 +92,6 @@ fn extension(words: &[u16]) -> Reading<'_, Ext>
 }
 
 #[inline(always)]
-#[tactic(auto, unfolding(crate::specs::Reading::immediate_at))]
 fn immediate(size: Size, words: &[u16]) -> Reading<'_, u32>
     ensures { Gives result (immediate_at size words.now) }
 {
@@ -187,7 +186,7 @@ pub fn sized(class: OperandClass, op: Opcode, words: &[u16]) -> Reading<'_, (Siz
 
 /// A word that the rule allows, and then the words of an operand of the class.
 #[inline(always)]
-#[tactic(auto, unfolding(crate::specs::Reading::reads_then, crate::specs::Reading::word_ea_at))]
+#[tactic(auto, unfolding(crate::specs::Reading::reads_then))]
 pub fn word_ea(
     rule: WordRule,
     class: OperandClass,
@@ -207,7 +206,7 @@ pub fn word_ea(
 
 /// An immediate and an operand of the class, both of the size in the size field.
 #[inline(always)]
-#[tactic(auto, unfolding(crate::specs::Reading::reads_then, crate::specs::Reading::immediate_ea_at))]
+#[tactic(auto, unfolding(crate::specs::Reading::reads_then))]
 pub fn immediate_ea(class: OperandClass, op: Opcode, words: &[u16]) -> Reading<'_, (Size, u32, Ea)>
     ensures { Gives result (immediate_ea_at class op words.now) }
 {

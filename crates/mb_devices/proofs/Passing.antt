@@ -25,12 +25,10 @@ none_passes d = ap (λ (c : ℕ). record d { count = c }) (let e : d.count ≡ d
 
 -- a timer that stands still
 still_passes : (n : ℕ) (d : DeviceState) → (d.period == 0) ≡ true → ticks n d ≡ passed n d
-unfolding passed
 still_passes zero d h = rw h refl
 still_passes (suc n) d h = ap (ticks n) (still_tick d h) ∙ still_passes n d h ∙ rw h refl
 
 running_passes : (n : ℕ) (d : DeviceState) → (d.period == 0) ≡ false → n < d.count → ticks n d ≡ passed n d
-unfolding passed
 running_passes zero d h less = rw h (none_passes d)
 running_passes (suc n) d h less =
     let later : DeviceState = record d { count = d.count - 1 } in
@@ -48,11 +46,9 @@ all_pass n d due = elim (cases_Bool (d.period == 0)) [
 ]
 
 same_level : (d : DeviceState) (count : ℕ) → level_of (record d { count = count }) ≡ level_of d
-unfolding level_of
 same_level d count = refl
 
 pub level-passed : (n : ℕ) (d : DeviceState) → level_of (passed n d) ≡ level_of d
-unfolding passed
 level-passed n d = elim (cases_Bool (d.period == 0)) [
   | inl h ↦ rw h refl
   | inr h ↦ rw h (same_level d (d.count - n))

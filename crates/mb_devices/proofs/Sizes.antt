@@ -14,7 +14,6 @@ size-either true a b d e f = e
 size-either false a b d e f = f
 
 size-sent : (byte : ℕ) (d : DeviceState) → (sent byte d).ram ≡ d.ram
-unfolding sent
 size-sent byte d = size-either (nat_lt (length d.console) CONSOLE_ROOM) _ _ d refl refl
 
 size-powered : (value : ℕ) (d : DeviceState) → (powered value d).ram ≡ d.ram
@@ -28,11 +27,9 @@ unfolding ticked
 size-ticked d = size-either (d.period == 0) d (timer_counted d) d refl (size-counted d)
 
 pub size-idle : (ram : ℕ) → (idle ram).ram ≡ ram
-unfolding idle
 size-idle ram = refl
 
 pub size-reset : (d : DeviceState) → (reset_of d).ram ≡ d.ram
-unfolding reset_of
 size-reset d = refl
 
 size-read_register : (r : Option Register) (d : DeviceState) → (read_register r d).1.ram ≡ d.ram
@@ -58,11 +55,9 @@ size-write_register (Some Power) value d = size-powered value d
 size-write_register (Some Size) value d = refl
 
 pub size-read : (place : Place) (d : DeviceState) → (read_of place d).1.ram ≡ d.ram
-unfolding read_of
 size-read place d = size-read_register (register_at place) d
 
 pub size-write : (place : Place) (value : ℕ) (d : DeviceState) → (write_of place value d).1.ram ≡ d.ram
-unfolding write_of
 size-write place value d = size-write_register (register_at place) value d
 
 pub ruleset sizes = (size-idle, size-ticked, size-reset, size-read, size-write)

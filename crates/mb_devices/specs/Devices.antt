@@ -23,7 +23,7 @@ pub record DeviceState : Type 0 where
   pub off : Bool
 
 -- as a machine has them at its start
-unfoldable pub idle : (ram : ℕ) → DeviceState
+abbrev pub idle : (ram : ℕ) → DeviceState
 idle ram = record {
   ram = ram;
   queue = [];
@@ -43,7 +43,7 @@ abbrev pub has_received : DeviceState → Bool
 has_received d = not (length d.queue == 0)
 
 -- a byte arrives: it is queued, or dropped with an overrun
-unfoldable pub received : ℕ → DeviceState → DeviceState
+abbrev pub received : ℕ → DeviceState → DeviceState
 received byte d =
     if nat_lt (length d.queue) QUEUE_ROOM then record d { queue = d.queue ++ byte ∷ [] }
     else record d { overrun = true }
@@ -56,7 +56,7 @@ abbrev pub without_oldest : DeviceState → DeviceState
 without_oldest d = record d { queue = drop 1 d.queue }
 
 -- a byte is sent: the console keeps it, or counts it as lost. The count stands still at 2^64 - 1
-unfoldable pub sent : ℕ → DeviceState → DeviceState
+abbrev pub sent : ℕ → DeviceState → DeviceState
 sent byte d =
     if nat_lt (length d.console) CONSOLE_ROOM then record d { console = d.console ++ byte ∷ [] }
     else record d { lost = min (d.lost + 1) (2 ^ 64 - 1) }
@@ -87,16 +87,16 @@ abbrev pub IsNotDue : ℕ → DeviceState → Type 0
 IsNotDue n d = (d.period ≡ 0) ⊎ (n < d.count)
 
 -- so many ticks at once, none of which is due
-unfoldable pub passed : ℕ → DeviceState → DeviceState
+abbrev pub passed : ℕ → DeviceState → DeviceState
 passed n d = if d.period == 0 then d else record d { count = d.count - n }
 
 -- ---- interrupts, RESET
 
 -- the level that is asked for: 6 by the timer, 4 by a received byte where that is enabled, else 0
-unfoldable pub level_of : DeviceState → ℕ
+abbrev pub level_of : DeviceState → ℕ
 level_of d = if d.pending then 6 else if d.enabled && has_received d then 4 else 0
 
 -- the instruction RESET: the console stays
-unfoldable pub reset_of : DeviceState → DeviceState
+abbrev pub reset_of : DeviceState → DeviceState
 reset_of d =
     record d { queue = []; overrun = false; enabled = false; period = 0; count = 0; pending = false }

@@ -57,7 +57,7 @@ abbrev pub stands_at : Place → Register → Bool
 stands_at place r = (place.at == BASE + (register_row r).offset) && (place.len == (register_row r).size)
 
 -- the register of just that address and size
-unfoldable pub register_at : Place → Option Register
+abbrev pub register_at : Place → Option Register
 register_at place = find (stands_at place) registers
 
 -- what a read answers and what it leaves; none, and nothing changed, where there is no register
@@ -65,7 +65,7 @@ abbrev pub read_register : Option Register → DeviceState → Option ℕ × Dev
 read_register (Some r) d = (Some ((register_row r).value d), (register_row r).after_read d)
 read_register None d = (None, d)
 
-unfoldable pub read_of : Place → DeviceState → Option ℕ × DeviceState
+abbrev pub read_of : Place → DeviceState → Option ℕ × DeviceState
 read_of place d = read_register (register_at place) d
 
 -- the same of a write
@@ -73,5 +73,5 @@ abbrev pub write_register : Option Register → ℕ → DeviceState → Option (
 write_register (Some r) value d = (Some tt, (register_row r).written value d)
 write_register None value d = (None, d)
 
-unfoldable pub write_of : Place → ℕ → DeviceState → Option (Unit {0}) × DeviceState
+abbrev pub write_of : Place → ℕ → DeviceState → Option (Unit {0}) × DeviceState
 write_of place value d = write_register (register_at place) value d

@@ -49,7 +49,6 @@ impl Model for Devices {
 
 impl Devices {
     /// Idle devices of a board with so many bytes of RAM. They take here all the memory that they need.
-    #[tactic(auto, unfolding(crate::specs::Devices::idle))]
     pub fn new(alloc: Global, ram: u32) -> Result<Devices, Memory>
         ensures { IfOk result (λ devices. devices ≡ idle ram) }
     {
@@ -89,7 +88,6 @@ impl Devices {
     }
 
     /// The console keeps a byte, or counts it as lost.
-    #[tactic(auto, unfolding(crate::specs::Devices::sent))]
     fn send(&mut self, byte: u8)
         ensures { self.new ≡ sent byte self.old }
     {
@@ -102,7 +100,6 @@ impl Devices {
 
     /// Reads a register: bytes and longs in the low bits. `None` comes exactly where there is no
     /// register of just this address and size.
-    #[tactic(auto, unfolding(crate::specs::Registers::read_of))]
     pub fn read(&mut self, place: Place) -> Option<u32>
         ensures means { (result, self.new) ≡ read_of place self.old }
         ensures none { IsNone result ↔ (register_at place ≡ None) }
@@ -123,7 +120,6 @@ impl Devices {
 
     /// Writes a register; at a byte the low byte counts. A register that can only be read ignores it.
     /// `None` comes exactly where there is no register of just this address and size.
-    #[tactic(auto, unfolding(crate::specs::Registers::write_of))]
     pub fn write(&mut self, place: Place, value: u32) -> Option<()>
         ensures means { (result, self.new) ≡ write_of place value self.old }
         ensures none { IsNone result ↔ (register_at place ≡ None) }
@@ -159,7 +155,6 @@ impl Devices {
     }
 
     /// A byte arrives on the serial line. Where the queue is full it is dropped and overrun is set.
-    #[tactic(auto, unfolding(crate::specs::Devices::received))]
     pub fn receive(&mut self, byte: u8)
         ensures { self.new ≡ received byte self.old }
     {
@@ -185,7 +180,6 @@ impl Devices {
     }
 
     /// So many steps of the machine pass at once: the timer counts them, and does not come to 0.
-    #[tactic(auto, unfolding(crate::specs::Devices::passed))]
     pub fn pass(&mut self, n: u32)
         requires { IsNotDue n self.old }
         ensures { self.new ≡ passed n self.old }
@@ -197,7 +191,6 @@ impl Devices {
 
     /// The interrupt level that is asked for: 0, 4 or 6.
     #[inline(always)]
-    #[tactic(auto, unfolding(crate::specs::Devices::level_of))]
     pub fn level(&self) -> u8
         ensures means { result ≡ level_of self.now }
         ensures within { result ≤ 6 }
@@ -213,7 +206,6 @@ impl Devices {
 
     /// What the instruction RESET does: all but the console, its lost count and the power switch is
     /// as at the start.
-    #[tactic(auto, unfolding(crate::specs::Devices::reset_of))]
     pub fn reset(&mut self)
         ensures { self.new ≡ reset_of self.old }
     {
@@ -226,7 +218,6 @@ impl Devices {
     }
 
     /// The devices become as `new` makes them for the same RAM.
-    #[tactic(auto, unfolding(crate::specs::Devices::idle, crate::specs::Devices::reset_of))]
     pub fn restart(&mut self)
         ensures { self.new ≡ idle self.old.ram }
     {

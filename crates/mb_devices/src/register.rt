@@ -31,7 +31,6 @@ pub enum Register {
 
 impl Register {
     /// The register of just this address and size.
-    #[tactic(auto, unfolding(crate::specs::Registers::register_at))]
     pub(crate) fn at(place: Place) -> Option<Register>
         ensures register { result ≡ register_at place }
         ensures size { IfSome result (λ r. place.len ≡ (register_row r).size) }

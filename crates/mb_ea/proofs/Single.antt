@@ -12,15 +12,12 @@ use Rattle.mb_instr.specs.Sizes.{bytes_of}
 use Rattle.mb_ea.specs.Reading.{read_pieces_of, read_cut_of}
 
 piece_of_byte : (at : ℕ) → piece_len at 1 ≡ 1
-unfolding piece_len
 piece_of_byte at = grind (arith, nat_tests)
 
 piece_of_word : (at : ℕ) → at % 2 ≡ 0 → piece_len at 2 ≡ 2
-unfolding piece_len
 piece_of_word at h = grind (arith, nat_tests)
 
 piece_of_long : (at : ℕ) → at % 4 ≡ 0 → piece_len at 4 ≡ 4
-unfolding piece_len
 piece_of_long at h = grind (arith, nat_tests)
 
 -- the cut of an operand whose first piece is all of it
@@ -31,7 +28,6 @@ one_cut at n e =
     ∙ ap (λ k. record { at = at; len = suc n } ∷ cut 2 ((at + suc n) % 2 ^ 32) k) none
 
 pub one_piece : (size : Size) (at : ℕ) → at % bytes_of size ≡ 0 → split_of at (bytes_of size) ≡ record { at = at; len = bytes_of size } ∷ []
-unfolding split_of
 one_piece Byte at h = one_cut at 0 (piece_of_byte at)
 one_piece Word at h = one_cut at 1 (piece_of_word at h)
 one_piece Long at h = one_cut at 3 (piece_of_long at h)
@@ -43,7 +39,6 @@ same_answer bus k (Err e) s = refl
 
 pub single_read : {S : Type 0} (bus : Bus S) (space : Space) (at : ℕ) (size : Size) (s : S) → at % bytes_of size ≡ 0 →
     run bus (read_cut_of space at (bytes_of size)) s ≡ run bus (read space (record { at = at; len = bytes_of size })) s
-unfolding read_cut_of
 single_read bus space at size s h =
     ap (λ (ps : List Piece). run bus (read_pieces_of space ps 0) s) (one_piece size at h)
     ∙ same_answer bus (256 ^ bytes_of size) _ _

@@ -19,7 +19,7 @@ abbrev pub refused_in : ℕ → Fault → ReadFault
 refused_in first fault = record { fault = fault; first = first }
 
 -- the pieces of an operand of one to five bytes
-unfoldable pub read_cut_of : Space → ℕ → ℕ → Routine (Result ℕ Fault)
+abbrev pub read_cut_of : Space → ℕ → ℕ → Routine (Result ℕ Fault)
 read_cut_of space at len = read_pieces_of space (split_of at len) 0
 
 -- an operand of one to five bytes, whose refused piece is told with the operand's first byte

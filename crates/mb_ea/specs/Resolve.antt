@@ -37,7 +37,7 @@ indirect_of space at outer = do
 
 -- without indirection; preindexed, where the index counts before the long is read; postindexed, where it
 -- counts after
-unfoldable pub full_of : ℕ → Parts → Space → Routine (Result ℕ ReadFault)
+abbrev pub full_of : ℕ → Parts → Space → Routine (Result ℕ ReadFault)
 full_of w parts space =
     let kind = (extension_word w).indirection in
     choose (kind == 0) (Return (Ok (sum (sum parts.base parts.displacement) parts.index)))
@@ -45,7 +45,7 @@ full_of w parts space =
     (indirect_of space (sum parts.base parts.displacement) (sum parts.index parts.outer)))
 
 -- a base with an index
-unfoldable pub indexed_of : ℕ → Ext → Space → Plain → Routine (Result ℕ ReadFault)
+abbrev pub indexed_of : ℕ → Ext → Space → Plain → Routine (Result ℕ ReadFault)
 indexed_of base (Brief w) space p = Return (Ok (sum (sum base (sign_extended Byte w)) (index_of w p)))
 indexed_of base (Full w bd od) space p = full_of w (parts_of base w bd od p) space
 

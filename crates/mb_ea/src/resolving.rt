@@ -46,7 +46,6 @@ fn indirect<P: Port>(space: Space, at: u32, outer: u32, port: &mut P) -> Result<
 }
 
 /// The address that a full extension word with these parts spells.
-#[tactic(auto, unfolding(crate::specs::Resolve::full_of))]
 fn full<P: Port>(word: u16, parts: &Parts, space: Space, port: &mut P) -> Result<u32, ReadFault>
     ensures means { run P.bus (full_of word parts.now space) (P.world port.old) ≡ (result, P.world port.new) }
     ensures rest { P.rest port.new ≡ P.rest port.old }
@@ -61,7 +60,6 @@ fn full<P: Port>(word: u16, parts: &Parts, space: Space, port: &mut P) -> Result
 
 /// A base with an index.
 #[inline(always)]
-#[tactic(auto, unfolding(crate::specs::Resolve::indexed_of))]
 fn indexed<P: Port>(
     base: u32,
     ext: &Ext,

@@ -42,7 +42,7 @@ abbrev pub further_words : Further → List ℕ
 further_words f = before_words f ++ operand_words f
 
 -- the line of the table
-unfoldable pub row_of : Spelling → Row
+abbrev pub row_of : Spelling → Row
 row_of x = record {
   legal = x.is_legal && has_words x.further;
   opcode = x.opcode;

@@ -1,6 +1,4 @@
 //! What rows of the table have in common.
-#![tactic(auto, unfolding(crate::specs::Spellings::row_of))]
-
 ghost use Rattle.std.specs.Prelude.{◌≡◌};
 ghost use Rattle.mb_instr.specs.Operands.{mode, lower};
 ghost use Rattle.mb_instr.specs.Shapes.{op, on_condition, bare, with_word, with_long, with_ruled};

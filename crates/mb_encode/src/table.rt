@@ -64,7 +64,6 @@ fn exchange_mode(kind: Exchange) -> u8
 }
 
 /// MOVE, whose destination stands with its register before its mode, and whose source's words stand first.
-#[tactic(auto, unfolding(crate::specs::Spellings::row_of))]
 fn move_ea(size: Size, destination: Ea, source: Ea) -> Spelling
     ensures { row_of result ≡ move_row (moves.Move size destination source) }
 {
@@ -223,7 +222,6 @@ pub fn arith_row(i: &Arith) -> Spelling
 }
 
 /// CAS2.
-#[tactic(auto, unfolding(crate::specs::Spellings::row_of))]
 fn cas2(size: Size, first: u16, second: u16) -> Spelling
     ensures { row_of result ≡ arith_row (Cas2 size first second) }
 {
@@ -272,7 +270,6 @@ fn register_row(i: &Arith) -> Spelling
 }
 
 /// Bcc. A displacement byte 0 or $FF says that words follow.
-#[tactic(auto, unfolding(crate::specs::Spellings::row_of))]
 fn branch(condition: Condition, displacement: Branch) -> Spelling
     ensures { row_of result ≡ flow_row (Bcc condition displacement) }
 {

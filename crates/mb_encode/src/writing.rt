@@ -225,7 +225,6 @@ fn push_further(further: &Further, out: &mut Words)
 }
 
 /// The words, where the row has the values and they fit the bits.
-#[tactic(auto, unfolding(crate::specs::Spellings::row_of))]
 pub fn write(spelling: &Spelling) -> Result<Words, Unencodable>
     ensures { Gives (λ v. v.items) result (written (row_of spelling.now)) }
 {

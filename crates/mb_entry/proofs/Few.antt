@@ -3,7 +3,6 @@ use Rattle.std.proofs.Common.{◌≡◌, ℕ, zero, suc, ◌+◌, ◌-◌, ◌*�
 use Rattle.mb_port.specs.Pieces.{piece_len, cut}
 
 piece_some : (at left : ℕ) → 0 < left → 0 < piece_len at left
-unfolding piece_len
 piece_some at left h = grind arith
 
 -- no more pieces than bytes
@@ -18,11 +17,9 @@ no_more (suc n) at (suc left) =
 
 -- a piece at a multiple of 4: four bytes where there are so many; else at most one byte is left, of three
 aligned_long : (at left : ℕ) → at % 4 ≡ 0 → 4 ≤ left → piece_len at left ≡ 4
-unfolding piece_len
 aligned_long at left h k = grind arith
 
 aligned_short : (at left : ℕ) → at % 4 ≡ 0 → left < 4 → 0 < left → 4 * (left - piece_len at left) + 4 ≤ left + 5
-unfolding piece_len
 aligned_short at left h k some = grind arith
 
 four : (left : ℕ) → (4 ≤ left) ⊎ (left < 4)
@@ -46,7 +43,6 @@ aligned_few (suc n) at (suc left) h =
 
 -- a word at an even place, and then longs
 even_next : (at left : ℕ) → at % 4 ≡ 2 → 2 ≤ left → piece_len at left ≡ 2
-unfolding piece_len
 even_next at left h k = grind arith
 
 even_few : (n at left : ℕ) → at % 4 ≡ 2 → 4 * length (cut n at left) ≤ left + 7
@@ -60,7 +56,6 @@ even_few (suc n) at (suc (suc left)) h =
     omega arith
 
 odd_next : (at left : ℕ) → at % 2 ≡ 1 → piece_len at left ≡ 1
-unfolding piece_len
 odd_next at left h = grind arith
 
 even_parity : (at : ℕ) → at % 2 ≡ 0 → (at % 4 ≡ 0) ⊎ (at % 4 ≡ 2)

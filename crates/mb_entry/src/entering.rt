@@ -29,7 +29,6 @@ fn unstacked(fault: Fault, cause: &Cause, cpu: &mut Cpu) -> Entered
 }
 
 /// Goes where the table of vectors says.
-#[tactic(auto, unfolding(mb_processor::specs::Entry::go_to_handler_of))]
 fn go_to_handler<P: Port>(cause: &Cause, cpu: &mut Cpu, port: &mut P) -> Entered
     ensures means { run P.bus (go_to_handler_of cause.now cpu.old) (P.world port.old)
         ≡ ((result, cpu.new), P.world port.new) }
@@ -52,7 +51,6 @@ fn go_to_handler<P: Port>(cause: &Cause, cpu: &mut Cpu, port: &mut P) -> Entered
 ///
 /// The registers are changed in place, once the frames are written, so where a check is refused they need not be put
 /// back.
-#[tactic(auto, unfolding(mb_processor::specs::Entry::enter_of))]
 pub fn enter<P: Port>(cpu: &mut Cpu, port: &mut P, cause: &Cause) -> Entered
     requires { cause.now.level < 8 }
     ensures means { run P.bus (enter_of cause.now cpu.old) (P.world port.old)

@@ -109,7 +109,6 @@ fn bytes_behind(pend: &Pend) -> u32
 }
 
 /// The value of a piece where the memory's long has it.
-#[tactic(auto, unfolding(mb_port::specs::Pieces::laid))]
 fn memory_aligned(pend: &Pend) -> u32
     ensures { result ≡ memory_aligned pend.now }
 {
@@ -144,7 +143,6 @@ fn set_writeback_3(pend: &Pend, space: Space, access: &mut Access)
 }
 
 /// The fields where a fetch, a read or a locked check was refused, of an operand whose first byte is `first`.
-#[tactic(auto, unfolding(mb_frames::specs::AccessFields::read_fields))]
 pub fn read_fields(fault: &Fault, first: u32, page: u32) -> Access
     requires { 0 < page }
     ensures { result ≡ access_fields (AccessCase.Read fault.now first) page }
@@ -158,7 +156,6 @@ pub fn read_fields(fault: &Fault, first: u32, page: u32) -> Access
 }
 
 /// The fields where a write was refused. Its pieces are left as writebacks.
-#[tactic(auto, unfolding(mb_frames::specs::AccessFields::write_fields))]
 pub fn write_fields(refused: &WriteFault, page: u32) -> Access
     requires { 0 < page }
     ensures { result ≡
@@ -186,7 +183,6 @@ pub fn write_fields(refused: &WriteFault, page: u32) -> Access
 }
 
 /// The fields where the write of a line was refused.
-#[tactic(auto, unfolding(mb_frames::specs::AccessFields::line_fields))]
 pub fn line_fields(fault: &Fault, line: [u32; 4], page: u32) -> Access
     requires { 0 < page }
     ensures { result ≡ access_fields (AccessCase.Line fault.now line) page }
@@ -206,7 +202,6 @@ pub fn line_fields(fault: &Fault, line: [u32; 4], page: u32) -> Access
 
 /// The fields where a transfer of a MOVEM was refused. `words` are its operation and mask words, `next` is the address
 /// of the next instruction.
-#[tactic(auto, unfolding(mb_frames::specs::AccessFields::movem_fields))]
 pub fn movem_fields(refused: &MovemFault, words: u32, next: u32, page: u32) -> Access
     requires { 0 < page }
     ensures { result ≡ access_fields (refused_transfer refused.now words next) page }
@@ -224,7 +219,6 @@ pub fn movem_fields(refused: &MovemFault, words: u32, next: u32, page: u32) -> A
 }
 
 /// The fields where the check of a frame's piece was refused.
-#[tactic(auto, unfolding(mb_frames::specs::AccessFields::check_fields))]
 pub fn check_fields(fault: &Fault) -> Access
     ensures { (page : ℕ) → result ≡ access_fields (AccessCase.Check fault.now) page }
 {

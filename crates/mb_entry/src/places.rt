@@ -54,7 +54,7 @@ fn probe_bytes<P: Port>(
 }
 
 /// Checks a frame for writing. The answer is where its pieces stand.
-#[tactic(auto, unfolding(mb_processor::specs::Entry::probe_frame_of), using(crate::proofs::Few::at_most_seventeen))]
+#[tactic(auto, using(crate::proofs::Few::at_most_seventeen))]
 fn probe_frame<P: Port>(
     frame: &Stacked,
     port: &mut P,
@@ -87,7 +87,6 @@ fn probe_second<P: Port>(
 }
 
 /// Checks every piece of every frame for writing.
-#[tactic(auto, unfolding(mb_processor::specs::Entry::check_frames_of))]
 pub(crate) fn check_frames<P: Port>(frames: &Frames, port: &mut P) -> Result<Places, Fault>
     ensures means { run P.bus (check_frames_of (frames_seen frames.now)) (P.world port.old)
         ≡ (placed result, P.world port.new) }
@@ -141,7 +140,6 @@ fn put_second<P: Port>(second: &Option<Stacked>, places: &[Place], port: &mut P)
 }
 
 /// Writes the frames at their places.
-#[tactic(auto, unfolding(mb_processor::specs::Entry::put_frames_of))]
 pub(crate) fn put_frames<P: Port>(frames: &Frames, places: &Places, port: &mut P)
     requires first { AreOpen (P.exists (P.rest port.old)) (length frames.now.first.bytes.items) places.now.first.items }
     requires second { Covers (P.exists (P.rest port.old)) frames.now.second places.now.second.items }

@@ -13,7 +13,7 @@ use mb_port::Port;
 use mb_writes::{Ended, continue_movem};
 
 /// Goes on with a MOVEM by the fields of its access error, without a fetch.
-#[tactic(auto, unfolding(mb_processor::specs::Return::go_on_of), using(crate::proofs::Counts::count_few))]
+#[tactic(auto, using(crate::proofs::Counts::count_few))]
 fn go_on<P: Port>(access: &Access, cpu: &mut Cpu, port: &mut P) -> Ended
     requires { access.now.pd3 ≤ count_of (mask_in access.now.pd2) }
     ensures means { run P.bus (go_on_of access.now cpu.old) (P.world port.old)
@@ -39,7 +39,6 @@ fn go_on<P: Port>(access: &Access, cpu: &mut Cpu, port: &mut P) -> Ended
 ///
 /// Where a frame of an access error was taken, `held` becomes its fields and `at` its PC, also where a MOVEM went on
 /// and PC is behind it; else both stay.
-#[tactic(auto, unfolding(mb_processor::specs::Return::return_from_of, mb_processor::specs::Return::resumed_of))]
 pub fn return_held<P: Port>(cpu: &mut Cpu, port: &mut P, held: &mut Access, at: &mut u32) -> Ended
     ensures means { run P.bus (holding (record { access = held.old; pc = at.old }) (return_from_of cpu.old))
         (P.world port.old) ≡ ((result, cpu.new, record { access = held.new; pc = at.new }), P.world port.new) }

@@ -73,7 +73,6 @@ fn throwaway(sr: u16, cause: &Cause) -> Frame
 }
 
 /// A frame below the top of a stack.
-#[tactic(auto, unfolding(mb_processor::specs::Entry::stacked))]
 fn stack(frame: &Frame, top: u32) -> Stacked
     requires { vector_offset_of frame.now < 0x1000 }
     ensures { seen result ≡ stacked frame.now top }
@@ -118,7 +117,6 @@ pub(crate) fn frames_for(cause: &Cause, regs: &Regs) -> Frames
 }
 
 /// Makes the registers those of the handler, once the frames are written. PC is still the one that was stacked.
-#[tactic(auto, unfolding(mb_processor::specs::Entry::handler_regs))]
 pub(crate) fn set_handler_regs(cause: &Cause, frames: &Frames, regs: &mut Regs)
     requires { cause.now.level < 8 }
     ensures { regs.new ≡ handler_regs cause.now (frames_seen frames.now) regs.old }

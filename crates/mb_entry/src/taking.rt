@@ -40,7 +40,6 @@ struct Head {
 }
 
 /// Reads what a frame begins with.
-#[tactic(auto, unfolding(mb_processor::specs::Return::read_head_of))]
 fn read_head<P: Port>(at: u32, port: &mut P) -> Result<Head, ReadFault>
     ensures means { run P.bus (read_head_of at) (P.world port.old) ≡ (headed result, P.world port.new) }
     ensures rest { P.rest port.new ≡ P.rest port.old }
@@ -181,7 +180,6 @@ fn restore(format: u8, head: &Head, regs: &mut Regs)
 }
 
 /// Takes the frame of an access error, all of which is read before it is judged.
-#[tactic(auto, unfolding(mb_processor::specs::Return::take_access_of))]
 fn take_access<P: Port>(head: &Head, regs: &mut Regs, port: &mut P) -> Result<Option<Access>, Ended>
     ensures means { run P.bus (take_access_of (head_seen head.now) regs.old) (P.world port.old)
         ≡ (took result regs.new, P.world port.new) }
@@ -204,7 +202,6 @@ fn take_access<P: Port>(head: &Head, regs: &mut Regs, port: &mut P) -> Result<Op
 }
 
 /// Takes the frame that is returned by. The fields are those of an access error, where it is one's.
-#[tactic(auto, unfolding(mb_processor::specs::Return::take_frame_of))]
 fn take_frame<P: Port>(head: &Head, regs: &mut Regs, port: &mut P) -> Result<Option<Access>, Ended>
     ensures means { run P.bus (take_frame_of (head_seen head.now) regs.old) (P.world port.old)
         ≡ (took result regs.new, P.world port.new) }
@@ -228,7 +225,6 @@ fn take_frame<P: Port>(head: &Head, regs: &mut Regs, port: &mut P) -> Result<Opt
 }
 
 /// Takes the frame on the active stack, below a throwaway frame.
-#[tactic(auto, unfolding(mb_processor::specs::Return::take_second_of))]
 fn take_second<P: Port>(regs: &mut Regs, port: &mut P) -> Result<Option<Access>, Ended>
     ensures means { run P.bus (take_second_of regs.old) (P.world port.old)
         ≡ (took result regs.new, P.world port.new) }
@@ -245,7 +241,6 @@ fn take_second<P: Port>(regs: &mut Regs, port: &mut P) -> Result<Option<Access>,
 
 /// Takes a throwaway frame, and the one on the stack that it leads to. Where that is not taken, the throwaway frame and
 /// SR come back.
-#[tactic(auto, unfolding(mb_processor::specs::Return::take_throwaway_of))]
 fn take_throwaway<P: Port>(
     head: &Head,
     regs: &mut Regs,
@@ -275,7 +270,6 @@ fn take_throwaway<P: Port>(
 
 /// Takes the frame on the active stack, and below a throwaway frame another one. The registers are then as they were
 /// saved; where no frame is taken, as before. The fields are those of an access error, where the frame is one's.
-#[tactic(auto, unfolding(mb_processor::specs::Return::take_frames_of))]
 pub(crate) fn take_frames<P: Port>(regs: &mut Regs, port: &mut P) -> Result<Option<Access>, Ended>
     ensures means { run P.bus (take_frames_of regs.old) (P.world port.old) ≡ (took result regs.new, P.world port.new) }
     ensures lawful { IfOk result CanGoOn }

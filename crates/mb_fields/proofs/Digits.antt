@@ -4,7 +4,7 @@ use Rattle.std.specs.Prelude.{◌&&◌}
 use Rattle.std.proofs.lemmas.Bool.Decides.{nat_tests}
 use Rattle.std.specs.Int.{from_bool}
 use Rattle.mb_instr.specs.declared.size.Size.TheVariants.{Byte}
-use Rattle.mb_alu.specs.Conditions.{is_set, conditions_of, ccr_of}
+use Rattle.mb_alu.specs.Conditions.{is_set, conditions_of}
 use Rattle.mb_alu.specs.Signs.{is_negative, is_zero}
 use Rattle.mb_fields.specs.Decimals.{decimal_flagged, extend_bit, decimal_value, carry_bit, IsDecimal, IsDecimalSum, IsDecimalDifference, decimal_sum, abcd_of, sbcd_of, decimal_difference, borrows, modulo_256}
 use Rattle.mb_fields.proofs.Borrows.{extend_low, difference_is, borrows_is}
@@ -15,7 +15,7 @@ last_is x n z v true = grind (arith, nat_tests)
 last_is x n z v false = grind (arith, nat_tests)
 
 carry_is : (v : ℕ) (a : Bool) (ccr : ℕ) → carry_bit (decimal_flagged v a ccr).ccr ≡ from_bool a
-unfolding conditions_of ccr_of
+unfolding conditions_of
 carry_is v a ccr =
     ap (λ b. from_bool b) (last_is (from_bool a) (from_bool (is_negative Byte v)) (from_bool (is_zero Byte v && (conditions_of ccr).z)) 0 a)
 
@@ -36,7 +36,6 @@ difference_digits a b c d e p q r t l false false n f g h = grind (arith, nat_te
 
 -- the formula's sum of decimal digits is the decimal one
 pub sum_law : (x y ccr : ℕ) → IsDecimal x → IsDecimal y → IsDecimalSum x y ccr (abcd_of x y ccr)
-unfolding abcd_of
 sum_law x y ccr dx dy =
     let s : ℕ = decimal_sum x y ccr in
     let v : ℕ = (if nat_lt 159 s then s + 96 else s) % 256 in
@@ -48,7 +47,6 @@ sum_law x y ccr dx dy =
 
 -- the formula's difference of decimal digits is the decimal one
 pub difference_law : (x y ccr : ℕ) → x < 256 → y < 256 → IsDecimal x → IsDecimal y → IsDecimalDifference x y ccr (sbcd_of x y ccr)
-unfolding sbcd_of
 difference_law x y ccr p q dx dy =
     let v : Bool = borrows x y ccr in
     let u : Bool = nat_lt (y % 16) (x % 16 + extend_bit ccr) in

@@ -39,7 +39,7 @@ units_sum x y ccr = units_of x + units_of y + extend_bit ccr
 abbrev pub decimal_sum : ℕ → ℕ → ℕ → ℕ
 decimal_sum x y ccr = tens_of x + tens_of y + units_sum x y ccr + (if nat_lt 9 (units_sum x y ccr) then 6 else 0)
 
-unfoldable pub abcd_of : ℕ → ℕ → ℕ → Flagged
+abbrev pub abcd_of : ℕ → ℕ → ℕ → Flagged
 abcd_of x y ccr =
     let sum = decimal_sum x y ccr in
     let carry = nat_lt 159 sum in
@@ -63,13 +63,13 @@ decimal_difference x y ccr =
 abbrev pub borrows : ℕ → ℕ → ℕ → Bool
 borrows x y ccr = int_lt (pos y -ℤ pos x -ℤ pos (extend_bit ccr)) (pos 0)
 
-unfoldable pub sbcd_of : ℕ → ℕ → ℕ → Flagged
+abbrev pub sbcd_of : ℕ → ℕ → ℕ → Flagged
 sbcd_of x y ccr =
     let difference = decimal_difference x y ccr -ℤ (if borrows x y ccr then pos 96 else pos 0) in
     decimal_flagged (modulo_256 difference) (borrows x y ccr) ccr
 
 -- the difference from 0
-unfoldable pub nbcd_of : ℕ → ℕ → Flagged
+abbrev pub nbcd_of : ℕ → ℕ → Flagged
 nbcd_of y ccr = sbcd_of y 0 ccr
 
 -- ---- what the formulas come to for decimal digits

@@ -5,11 +5,11 @@ use Rattle.std.specs.Prelude.{ℕ, zero, suc, ◌+◌, ◌-◌, ◌*◌, ◌/◌
 abbrev pub bits_behind : ℕ → ℕ → ℕ → ℕ
 bits_behind bits offset width = bits - (offset + width)
 
-unfoldable pub field_get_of : ℕ → ℕ → ℕ → ℕ → ℕ
+abbrev pub field_get_of : ℕ → ℕ → ℕ → ℕ → ℕ
 field_get_of word bits offset width = word / 2 ^ bits_behind bits offset width % 2 ^ width
 
 -- what stands before the field, the low bits of the value, and what stands behind the field
-unfoldable pub field_put_of : ℕ → ℕ → ℕ → ℕ → ℕ → ℕ
+abbrev pub field_put_of : ℕ → ℕ → ℕ → ℕ → ℕ → ℕ
 field_put_of word bits offset width value =
     let rest = bits_behind bits offset width in
     (word / 2 ^ (rest + width) * 2 ^ width + value % 2 ^ width) * 2 ^ rest + word % 2 ^ rest

@@ -25,7 +25,6 @@ fn with_conditions(value: u8, carry: bool, ccr: u8) -> Flagged
 }
 
 /// `x + y + X`, two digits each. A carry of the tens goes to X and C.
-#[tactic(auto, unfolding(crate::specs::Decimals::abcd_of))]
 pub fn abcd(x: u8, y: u8, ccr: u8) -> Flagged
     ensures means { result ≡ abcd_of x y ccr }
     ensures bound { result.value < 2 ^ 8 }
@@ -41,7 +40,6 @@ pub fn abcd(x: u8, y: u8, ccr: u8) -> Flagged
 }
 
 /// `y - x - X`, two digits each. A borrow of the tens goes to X and C.
-#[tactic(auto, unfolding(crate::specs::Decimals::sbcd_of))]
 pub fn sbcd(x: u8, y: u8, ccr: u8) -> Flagged
     ensures means { result ≡ sbcd_of x y ccr }
     ensures bound { result.value < 2 ^ 8 }
@@ -59,7 +57,6 @@ pub fn sbcd(x: u8, y: u8, ccr: u8) -> Flagged
 
 /// `0 - y - X`, two digits each.
 #[inline(always)]
-#[tactic(auto, unfolding(crate::specs::Decimals::nbcd_of))]
 pub fn nbcd(y: u8, ccr: u8) -> Flagged
     ensures means { result ≡ nbcd_of y ccr }
     ensures bound { result.value < 2 ^ 8 }

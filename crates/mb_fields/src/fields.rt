@@ -12,7 +12,6 @@ fn ones(width: u8) -> u64
 }
 
 /// The field of `width` bits that stands behind the `offset` highest bits of a word of `bits` bits.
-#[tactic(auto, unfolding(crate::specs::Fields::field_get_of))]
 pub fn field_get(word: u64, bits: u8, offset: u8, width: u8) -> u32
     requires bits { bits ≤ 40 }
     requires word { word < 2 ^ bits }
@@ -26,7 +25,6 @@ pub fn field_get(word: u64, bits: u8, offset: u8, width: u8) -> u32
 }
 
 /// The word with another value in that field. Of the value the low `width` bits count.
-#[tactic(auto, unfolding(crate::specs::Fields::field_put_of))]
 pub fn field_put(word: u64, bits: u8, offset: u8, width: u8, value: u32) -> u64
     requires bits { bits ≤ 40 }
     requires word { word < 2 ^ bits }

@@ -4,7 +4,6 @@ ghost use Rattle.std.specs.Prelude.{◌≡◌};
 ghost use Rattle.mb_fields.specs.Packing.{pack_of, unpk_of};
 
 /// The byte of the two digits of `x + adjust`: bits 11 to 8 and 3 to 0.
-#[tactic(auto, unfolding(crate::specs::Packing::pack_of))]
 pub fn pack(x: u16, adjust: u16) -> u8
     ensures { result ≡ pack_of x adjust }
 {
@@ -13,7 +12,6 @@ pub fn pack(x: u16, adjust: u16) -> u8
 }
 
 /// The digits of `x` in bits 11 to 8 and 3 to 0, and `adjust` added to that.
-#[tactic(auto, unfolding(crate::specs::Packing::unpk_of))]
 pub fn unpk(x: u8, adjust: u16) -> u16
     ensures { result ≡ unpk_of x adjust }
 {

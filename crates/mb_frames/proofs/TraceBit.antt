@@ -7,7 +7,7 @@ use Rattle.mb_port.specs.declared.types.Space.{Space}
 use Rattle.mb_port.specs.declared.types.Space.TheVariants.{Super, User}
 use Rattle.mb_frames.specs.declared.frame.Access.{Access}
 use Rattle.mb_frames.specs.declared.pend.Pend.{Pend}
-use Rattle.mb_frames.specs.AccessFields.{AccessCase, Check, Line, Movem, Read, Write, access_bits, access_fields, bit_if, check_fields, is_other_page, line_fields, movem_fields, read_fields, size_code, status, transfer_modifier, transfer_type, with_writeback_1, with_writeback_2, with_writeback_3, write_fields}
+use Rattle.mb_frames.specs.AccessFields.{AccessCase, Check, Line, Movem, Read, Write, access_bits, access_fields, bit_if, is_other_page, size_code, status, transfer_modifier, transfer_type, with_writeback_1, with_writeback_2, with_writeback_3}
 use Rattle.mb_frames.specs.declared.status_bits.TheConstants.{MA, ATC, LK, RW}
 
 bit_if-le : (set : Bool) (bit : ℕ) → bit_if set bit ≤ bit
@@ -53,7 +53,6 @@ writebacks-ssw space (Some p) (Some q) None a = refl
 writebacks-ssw space (Some p) (Some q) (Some r) a = refl
 
 pub clear_from_ct : (case : AccessCase) (page : ℕ) → (access_fields case page).ssw < 2 ^ 13
-unfolding read_fields write_fields line_fields movem_fields check_fields
 clear_from_ct (Read fault first) page =
     omega (arith, status-lt fault (if fault.code then fault.at else first) page, bit_if-le fault.write LK)
 clear_from_ct (Write fault first rest) page =

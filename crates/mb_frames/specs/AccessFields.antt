@@ -97,7 +97,7 @@ with_writeback_3 space (Some p) a =
 
 -- A fetch, a read or a locked check was refused, of an operand whose first byte is `first`: RW, and LK for a
 -- locked check. The operand of a fetch is the word itself.
-unfoldable pub read_fields : Fault → (first page : ℕ) → Access
+abbrev pub read_fields : Fault → (first page : ℕ) → Access
 read_fields fault first page =
     let ea = if fault.code then fault.at else first in
     record no_fields {
@@ -108,7 +108,7 @@ read_fields fault first page =
 
 -- A write was refused: the first piece of `rest` is the refused one, the others come after it in order.
 -- Where `rest` is empty nothing is to be written.
-unfoldable pub write_fields : Fault → (first : ℕ) → (rest : List Pend) → (page : ℕ) → Access
+abbrev pub write_fields : Fault → (first : ℕ) → (rest : List Pend) → (page : ℕ) → Access
 write_fields fault first rest page =
     with_writeback_1 fault.space (slice_get rest 0)
     (with_writeback_2 fault.space (slice_get rest 1)
@@ -116,7 +116,7 @@ write_fields fault first rest page =
     (record no_fields { ea = first; ssw = status fault first page; fa = fault.at })))
 
 -- The write of a line was refused, whose four longs are these.
-unfoldable pub line_fields : Fault → (line : List ℕ) → (page : ℕ) → Access
+abbrev pub line_fields : Fault → (line : List ℕ) → (page : ℕ) → Access
 line_fields fault line page =
     record no_fields {
       ea = fault.at;
@@ -132,7 +132,7 @@ line_fields fault line page =
 
 -- A transfer of a MOVEM was refused, after `done` whole ones: the first of all is at `first`, this one at `start`.
 -- `words` are the operation and mask words, `next` is the address of the next instruction.
-unfoldable pub movem_fields : Fault → (first start done words next : ℕ) → (is_load : Bool) → (page : ℕ) → Access
+abbrev pub movem_fields : Fault → (first start done words next : ℕ) → (is_load : Bool) → (page : ℕ) → Access
 movem_fields fault first start done words next is_load page =
     record no_fields {
       ea = first;
@@ -144,7 +144,7 @@ movem_fields fault first start done words next is_load page =
     }
 
 -- The check of a frame's piece was refused: a write of supervisor data that is an operand of its own.
-unfoldable pub check_fields : Fault → Access
+abbrev pub check_fields : Fault → Access
 check_fields fault =
     record no_fields {
       ea = fault.at;

@@ -10,16 +10,7 @@ ghost use Rattle.mb_frames.specs.Worked.{WriteOfNothing, WritePastMemory, WriteW
 
 /// The fields of an access error are those of frames that were worked out by hand.
 #[rattlefmt::skip]
-#[tactic(auto, unfolding(
-    crate::specs::AccessFields::read_fields,
-    crate::specs::AccessFields::write_fields,
-    crate::specs::AccessFields::line_fields,
-    crate::specs::AccessFields::movem_fields,
-    crate::specs::AccessFields::check_fields,
-    mb_port::specs::Pieces::laid,
-    mb_port::specs::Pieces::span_of,
-    mb_port::specs::Pieces::weight_of,
-))]
+#[tactic(auto, unfolding(mb_port::specs::Pieces::span_of, mb_port::specs::Pieces::weight_of))]
 pub fn worked_frames()
     ensures other_fields_are_zero { OtherFieldsAreZero }
     ensures fetch_from_invalid_page { FetchFromInvalidPage }

@@ -19,7 +19,6 @@ use Rattle.mb_gen.proofs.Laps.{length-bytes, length-lap, length-draws}
 pub image_made : (taken : List ℕ) (chunks : List Chunk) (a b c : Chunk) (x y z : List ℕ) → chunks ≡ a ∷ b ∷ c ∷ [] →
     content_of a ≡ (0, x) → content_of b ≡ (0x400, y) → content_of c ≡ (0x7F00, z) →
     x ≡ longs_of (0x8000 ∷ 0x400 ∷ []) → y ≡ bytes_of (words_of (program taken)) → z ≡ longs_of (100 ∷ []) → all_contents chunks ≡ image taken
-unfolding image
 image_made taken chunks a b c x y z e fa fb fc ex ey ez =
     let start = longs_of (0x8000 ∷ 0x400 ∷ []) in
     let bytes = bytes_of (words_of (program taken)) in
@@ -47,7 +46,6 @@ program-lies : (taken : List ℕ) → length taken ≤ 2000 → 0x400 + length (
 program-lies taken few = omega (arith, length-bytes (words_of (program taken)), length-program taken)
 
 image-lies : (taken : List ℕ) → length taken ≤ 2000 → All (LiesBelow 65536) (image taken)
-unfolding image
 image-lies taken few =
     let start : ℕ × List ℕ = (0, longs_of (0x8000 ∷ 0x400 ∷ [])) in
     let code : ℕ × List ℕ = (0x400, bytes_of (words_of (program taken))) in
@@ -89,7 +87,6 @@ shares (suc n) g =
 -- ---- a session
 
 pub session-is : (seed guests : ℕ) → 1 ≤ guests → guests ≤ 16 → IsSession (generated seed guests)
-unfolding generated
 session-is seed guests some few = record {
   board = (omega arith, omega arith, omega arith);
   slice = lit≤ tt;
@@ -99,7 +96,7 @@ session-is seed guests some few = record {
 }
 
 pub session-filled : (seed guests : ℕ) → IsJustFilled (generated seed guests)
-unfolding generated share
+unfolding share
 session-filled seed guests = ap (λ (n : ℕ). 65536 + n) (shares guests (seeded seed))
 
 -- ---- one guest after the other
@@ -125,7 +122,6 @@ all_guests n i g all whole le so_far =
 pub session_made : (seed guests board : ℕ) (all : List GuestAtStart) (session : SessionAtStart) →
     session ≡ record { board = board; slice = 1000; guests = all } → board ≡ 65536 + 131072 * guests →
     all ≡ guests_from guests (seeded seed) → session ≡ generated seed guests
-unfolding generated
 session_made seed guests board all session e f g =
     e ∙ ap (λ (b : ℕ). let s : SessionAtStart = record { board = b; slice = 1000; guests = all } in s) f
     ∙ ap (λ (t : List GuestAtStart). let s : SessionAtStart = record { board = 65536 + 131072 * guests; slice = 1000; guests = t } in s) g

@@ -16,6 +16,5 @@ cases P false false false false false false false x0 x1 x2 x3 x4 x5 x6 x7 p0 p1 
 
 pub picked_is : (P : Spelled → Type 0) (kind d e h : ℕ) → P (moveq d (h % 256)) → P (add d e) → P (sub d e) → P (eor d e) → P (mulu d e) → P (lsr d e) →
     P (store d (place_of h)) → P (load d (place_of h)) → P (picked_by kind d e h)
-unfolding picked_by
 picked_is P kind d e h p0 p1 p2 p3 p4 p5 p6 p7 =
     cases P (kind == 0) (kind == 1) (kind == 2) (kind == 3) (kind == 4) (kind == 5) (kind == 6) _ _ _ _ _ _ _ _ p0 p1 p2 p3 p4 p5 p6 p7

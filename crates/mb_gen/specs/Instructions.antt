@@ -62,7 +62,7 @@ abbrev pub load : ℕ → ℕ → Spelled
 load d k = spelled (Move (move.Move Long (Dn d) (Disp 5 k))) ((0x202D + 512 * d) ∷ k ∷ [])
 
 -- one of eight instructions, with two numbers below 8 and a word
-unfoldable pub picked_by : (kind d e h : ℕ) → Spelled
+abbrev pub picked_by : (kind d e h : ℕ) → Spelled
 picked_by kind d e h =
     if kind == 0 then moveq d (h % 256)
     else if kind == 1 then add d e

@@ -26,7 +26,7 @@ abbrev pub program : List ℕ → List Spelled
 program draws = enter ∷ lap draws ++ repeat (way_back draws) ∷ switch_off ∷ []
 
 -- the initial stack pointer and the first instruction's address, the program, and how many laps there are
-unfoldable pub image : List ℕ → List (ℕ × List ℕ)
+abbrev pub image : List ℕ → List (ℕ × List ℕ)
 image draws =
     (0, longs_of (DATA ∷ ENTRY ∷ []))
     ∷ (ENTRY, bytes_of (words_of (program draws)))

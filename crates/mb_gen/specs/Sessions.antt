@@ -18,7 +18,7 @@ guests_from zero generator = []
 guests_from (suc n) generator = guest_of (draws PICKS generator) ∷ guests_from n (after PICKS generator)
 
 -- the session of a seed and a number of guests
-unfoldable pub generated : ℕ → ℕ → SessionAtStart
+abbrev pub generated : ℕ → ℕ → SessionAtStart
 generated seed guests =
     record { board = MONITOR_BYTES + GUEST_BYTES * guests; slice = SLICE; guests = guests_from guests (seeded seed) }
 

@@ -35,7 +35,7 @@ control_of code =
     if code == 0x807 then Some (Mmu Srp) else None
 
 -- whether a register has the code
-unfoldable pub is_control_code : ℕ → Bool
+abbrev pub is_control_code : ℕ → Bool
 is_control_code code = is_some (control_of code)
 
 -- the bits that each keeps of what is written to it

@@ -15,7 +15,7 @@ is_master sr = sr / 2 ^ 12 % 2 == 1
 abbrev pub active_stack : Regs → ℕ
 active_stack r = if is_supervisor r.sr then (if is_master r.sr then r.msp else r.isp) else r.usp
 
-unfoldable pub plain_of : Regs → Plain
+abbrev pub plain_of : Regs → Plain
 plain_of r = record { d = r.d; a = r.a ++ active_stack r ∷ []; pc = r.pc; ccr = r.sr % 2 ^ 5 }
 
 -- the status register with other condition codes
@@ -28,7 +28,7 @@ with_stack r top =
     if is_supervisor r.sr then (if is_master r.sr then record r { msp = top } else record r { isp = top })
     else record r { usp = top }
 
-unfoldable pub with_plain : Regs → Plain → Regs
+abbrev pub with_plain : Regs → Plain → Regs
 with_plain r p = record (with_stack r (slice_index p.a 7)) {
   d = p.d;
   a = take 7 p.a;

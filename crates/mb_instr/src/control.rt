@@ -1,6 +1,4 @@
 //! The control registers.
-#![tactic(auto, unfolding(crate::specs::Control::is_control_code))]
-
 ghost use Rattle.std.specs.Prelude.{◌≡◌, true, Some, IfSome};
 ghost use Rattle.mb_instr.specs.Control.{code_of, control_of, is_control_code, kept_bits};
 

@@ -113,7 +113,7 @@ impl Regs {
 
     /// The registers that user mode sees, with the active stack pointer as A7.
     #[inline(always)]
-    #[tactic(auto, unfolding(crate::specs::Registers::plain_of), using(crate::proofs::Arrays::seven_and_one))]
+    #[tactic(auto, using(crate::proofs::Arrays::seven_and_one))]
     pub fn plain(&self) -> Plain
         ensures { result ≡ plain_of self.now }
     {
@@ -129,7 +129,7 @@ impl Regs {
     /// Makes these the registers that user mode sees. Only the low five bits of `ccr` count; S and M,
     /// which choose the active stack pointer, stay.
     #[inline(always)]
-    #[tactic(auto, unfolding(crate::specs::Registers::with_plain), using(crate::proofs::Arrays::seven_of_eight))]
+    #[tactic(auto, using(crate::proofs::Arrays::seven_of_eight))]
     pub fn set_plain(&mut self, p: &Plain)
         ensures { self.new ≡ with_plain self.old p.now }
     {

@@ -8,10 +8,10 @@ use Rattle.mb_mnemonics.specs.declared.range.Range.TheVariants as range
 use Rattle.mb_mnemonics.specs.Ranges.{number}
 use Rattle.mb_asm.specs.Symbols.{Symbol}
 use Rattle.mb_asm.specs.Values.{Scope}
-use Rattle.mb_asm.specs.Extents.{address_behind, behind_dc, directive_in}
-use Rattle.mb_asm.specs.Bytes.{operation_bytes, dc_bytes, item_bytes, unit_bytes}
+use Rattle.mb_asm.specs.Extents.{address_behind, directive_in}
+use Rattle.mb_asm.specs.Bytes.{unit_bytes}
 use Rattle.mb_asm.specs.Layouts.{earlier}
-use Rattle.mb_asm.specs.Judged.{judged_line, judged_by, judged_operation}
+use Rattle.mb_asm.specs.Judged.{judged_line, judged_by}
 use Rattle.mb_asm.specs.Texts.{assembled}
 use Rattle.mb_statement.specs.Numbers.{last_digits}
 use Rattle.mb_listing.specs.Listing.{data_line, source_at}
@@ -24,20 +24,18 @@ use Rattle.mb_listing.proofs.Placed.{laid_by, number_narrow, number_sum, operati
 
 dc_behind_line : (at : ℕ) (digits : List ℕ) (value : ℕ) → at + 2 ≤ 4294967296
     → address_behind (earlier (placed at) (dc_line digits)) (operation_by (name_at 1 3) (Some letter.Word) value) ≡ Ok (Some (at + 2))
-unfolding address_behind behind_dc
+unfolding address_behind
 dc_behind_line at digits value inside =
     let least : min (at + 2) 4294967297 ≡ at + 2 = omega arith in
     rw least refl
 
 word_number : (value : ℕ) → value < 65536 → number range.Word (pos value) ≡ Some value
-unfolding number
 word_number value small =
     let test : nat_le value 65535 ≡ true = le-leb value 65535 (omega arith) in
     let same : value % 65536 ≡ value = omega arith in
     rw (test, same) refl
 
 word_bytes : (scope : Scope) (value : ℕ) → value < 65536 → unit_bytes 2 scope (number_sum value) ≡ Ok (value / 256 ∷ value % 256 ∷ [])
-unfolding unit_bytes
 word_bytes scope value small =
     let high : value / 256 % 256 ≡ value / 256 = omega arith in
     rw (number_narrow scope value, word_number value small, high) refl
@@ -46,7 +44,6 @@ dc_judged_by : (symbols : List Symbol) (at : ℕ) (digits : List ℕ) (value : �
     → judged_by (placed at) (dc_line digits) None (operation_by (name_at 1 3) (Some letter.Word) value)
     (directive_in (dc_line digits) (operation_by (name_at 1 3) (Some letter.Word) value))
     (record { symbols = symbols; line = dc_line digits; at = Some at }) (Ok (Some (at + 2))) ≡ Ok (laid_by (value / 256 ∷ value % 256 ∷ []) (at + 2))
-unfolding judged_by operation_bytes dc_bytes item_bytes
 dc_judged_by symbols at digits value small inside =
     let none : nat_lt 4294967296 (at + 2) ≡ false = le-ltb 4294967296 (at + 2) inside in
     rw (word_bytes (record { symbols = symbols; line = dc_line digits; at = Some at }) value small, none) refl
@@ -54,7 +51,6 @@ dc_judged_by symbols at digits value small inside =
 dc_judged : (symbols : List Symbol) (at : ℕ) (digits : List ℕ) (value : ℕ) → Spells digits value → value < 65536
     → at + 2 ≤ 4294967296
     → judged_line symbols (placed at) (dc_line digits) (statement_in (dc_line digits)) ≡ Ok (laid_by (value / 256 ∷ value % 256 ∷ []) (at + 2))
-unfolding judged_line judged_operation
 dc_judged symbols at digits value spells small inside =
     rw (dc_statement digits value spells (omega arith), dc_behind_line at digits value inside)
     (dc_judged_by symbols at digits value small inside)

@@ -18,7 +18,6 @@ pub record Spells (digits : List ℕ) (value : ℕ) : Type 0 where
   pub spelled : digits_behind 16 0 digits ≡ value
 
 value_by : (d : ℕ) (b : Bool) → nat_lt d 10 ≡ b → d < 16 → digit_value (cond b (48 + d) (65 + (d - 10))) ≡ d
-unfolding digit_value
 value_by d true e h = grind (arith, nat_tests)
 value_by d false e h = grind (arith, nat_tests)
 
@@ -114,5 +113,4 @@ last_spells most n h = record { some = last_some most n; all = last_all (suc mos
 
 -- a number is `$` and digits that spell it
 pub number_spells : (n : ℕ) → n < 2 ^ 64 → (number n ≡ 36 ∷ last_digits 16 n) × Spells (last_digits 16 n) n
-unfolding number
 number_spells n h = (refl, last_spells 15 n h)

@@ -25,7 +25,6 @@ dc_tokens end =
 
 pub org_cut : (digits : List ℕ) → 0 < length digits → list_all is_hexadecimal_digit digits ≡ true
     → cut_of (org_line digits) ≡ Ok (org_tokens (length (org_line digits)))
-unfolding cut_of
 org_cut digits some all =
     let line = org_line digits in
     let n = length digits in
@@ -38,7 +37,6 @@ org_cut digits some all =
 
 pub dc_cut : (digits : List ℕ) → 0 < length digits → list_all is_hexadecimal_digit digits ≡ true
     → cut_of (dc_line digits) ≡ Ok (dc_tokens (length (dc_line digits)))
-unfolding cut_of
 dc_cut digits some all =
     let line = dc_line digits in
     let n = length digits in

@@ -15,12 +15,11 @@ use Rattle.mb_syntax.specs.declared.mode.Mode.TheVariants as mode
 use Rattle.mb_syntax.specs.declared.operand.Operand.{Operand}
 use Rattle.mb_syntax.specs.declared.operand.Operand.TheVariants as operand
 use Rattle.mb_instr.specs.declared.kinds.Caches.TheVariants as caches
-use Rattle.mb_syntax.specs.Names.{register_of}
-use Rattle.mb_syntax.specs.Words.{digits_behind, name_word, word_of, words_of}
-use Rattle.mb_syntax.specs.Modes.{Sum, mode_at, sized_at}
-use Rattle.mb_syntax.specs.Sums.{expression_at, signed}
-use Rattle.mb_syntax.specs.Operands.{operand_at, place_at}
-use Rattle.mb_syntax.specs.Statements.{Statement, operation_named, operation_of, statement_of}
+use Rattle.mb_syntax.specs.Words.{digits_behind, word_of, words_of}
+use Rattle.mb_syntax.specs.Modes.{Sum}
+use Rattle.mb_syntax.specs.Sums.{signed}
+use Rattle.mb_syntax.specs.Operands.{operand_at}
+use Rattle.mb_syntax.specs.Statements.{Statement, statement_of}
 use Rattle.mb_syntax.specs.Lines.{statement_in}
 use Rattle.mb_listing.proofs.CutSteps.{token_by}
 use Rattle.mb_listing.proofs.LineCuts.{org_line, org_tokens, org_cut, dc_line, dc_tokens, dc_cut}
@@ -45,11 +44,11 @@ unfolding word_of
 blank_read line start end = refl
 
 org_name : (digits : List ℕ) → word_of (org_line digits) (token_by kind.Name 1 4) ≡ Some (word.Name (name_at 1 4))
-unfolding word_of name_word register_of
+unfolding word_of
 org_name digits = refl
 
 dc_name : (digits : List ℕ) → word_of (dc_line digits) (token_by kind.Name 1 3) ≡ Some (word.Cache caches.Data (name_at 1 3))
-unfolding word_of name_word register_of
+unfolding word_of
 dc_name digits = refl
 
 dc_dot : (digits : List ℕ) → word_of (dc_line digits) (token_by kind.Mark 3 4) ≡ Some word.Dot
@@ -57,7 +56,7 @@ unfolding word_of
 dc_dot digits = refl
 
 dc_size : (digits : List ℕ) → word_of (dc_line digits) (token_by kind.Name 4 5) ≡ Some (word.Letter letter.Word (name_at 4 5))
-unfolding word_of name_word register_of
+unfolding word_of
 dc_size digits = refl
 
 -- what the tokens say
@@ -98,12 +97,12 @@ statement_by name size value = record {
 }
 
 org_said : (digits : List ℕ) (value : ℕ) → statement_of (org_line digits) (org_said_words value) ≡ Some (statement_by (name_at 1 4) None value)
-unfolding statement_of operation_of operation_named operand_at place_at mode_at sized_at expression_at
+unfolding operand_at
 org_said digits value = refl
 
 dc_said : (digits : List ℕ) (value : ℕ)
     → statement_of (dc_line digits) (dc_said_words value) ≡ Some (statement_by (name_at 1 3) (Some letter.Word) value)
-unfolding statement_of operation_of operation_named operand_at place_at mode_at sized_at expression_at
+unfolding operand_at
 dc_said digits value = refl
 
 -- ` ORG $` and digits of a value

@@ -13,10 +13,9 @@ use Rattle.mb_syntax.specs.Statements.{Operation}
 use Rattle.mb_syntax.specs.Lines.{statement_in}
 use Rattle.mb_asm.specs.Symbols.{Symbol}
 use Rattle.mb_asm.specs.Values.{Scope, value_of}
-use Rattle.mb_asm.specs.Extents.{address_behind, behind_org, directive_in, narrow_value, only_value}
-use Rattle.mb_asm.specs.Bytes.{operation_bytes}
-use Rattle.mb_asm.specs.Layouts.{Layout, beginning, after_line, earlier, next_at}
-use Rattle.mb_asm.specs.Judged.{Laid, judged_line, judged_by, judged_operation}
+use Rattle.mb_asm.specs.Extents.{address_behind, behind_org, directive_in, narrow_value}
+use Rattle.mb_asm.specs.Layouts.{Layout, beginning, after_line, earlier}
+use Rattle.mb_asm.specs.Judged.{Laid, judged_line, judged_by}
 use Rattle.mb_asm.specs.Texts.{Chunks, assembled, chunks_from, finished, no_chunks, symbols_of, with_laid}
 use Rattle.mb_report.specs.Digits.{hex8}
 use Rattle.mb_listing.specs.Listing.{source_at}
@@ -48,7 +47,6 @@ laid_by written next = record { bytes = written; next = next }
 -- ---- ORG
 
 org_behind : (scope : Scope) (value : ℕ) → value ≤ 4294967295 → behind_org scope (operation_by (name_at 1 4) None value) ≡ Ok (Some value)
-unfolding behind_org only_value
 org_behind scope value small =
     let least : min value 4294967297 ≡ value = omega arith in
     rw (number_narrow scope value, least) refl
@@ -61,12 +59,10 @@ org_behind_line layout digits value small = org_behind (earlier layout (org_line
 org_judged_by : (digits : List ℕ) (value : ℕ) → value ≤ 4294967295
     → judged_by beginning (org_line digits) None (operation_by (name_at 1 4) None value)
     (directive_in (org_line digits) (operation_by (name_at 1 4) None value)) (earlier beginning (org_line digits)) (Ok (Some value)) ≡ Ok (laid_by [] value)
-unfolding judged_by operation_bytes
 org_judged_by digits value small = rw (le-ltb 4294967295 value small) refl
 
 org_judged : (symbols : List Symbol) (digits : List ℕ) (value : ℕ) → Spells digits value → value ≤ 4294967295
     → judged_line symbols beginning (org_line digits) (statement_in (org_line digits)) ≡ Ok (laid_by [] value)
-unfolding judged_line judged_operation
 org_judged symbols digits value spells small =
     rw (org_statement digits value spells small, org_behind_line beginning digits value small) (org_judged_by digits value small)
 
@@ -79,12 +75,10 @@ abbrev pub started : ℕ → Chunks
 started at = record { whole = []; at = at; bytes = [] }
 
 org_after : (digits : List ℕ) (value : ℕ) → Spells digits value → value ≤ 4294967295 → after_line beginning (numbered_line 1 (org_line digits)) ≡ placed value
-unfolding next_at
 org_after digits value spells small =
     rw (org_statement digits value spells small, org_behind_line beginning digits value small) refl
 
 org_chunks_by : (value : ℕ) (b : Bool) → (value == 0) ≡ b → with_laid no_chunks 0 (laid_by [] value) ≡ started value
-unfolding with_laid
 org_chunks_by value true e = let same : value ≡ 0 = eqb-true value 0 e in rw same refl
 org_chunks_by value false e = rw e refl
 
@@ -102,7 +96,6 @@ org_laid symbols digits value lines spells small =
 last_laid : (symbols : List Symbol) (at first : ℕ) (others : List ℕ) (line : Line)
     → judged_line symbols (placed at) line.characters (statement_in line.characters) ≡ Ok (laid_by (first ∷ others) (at + length (first ∷ others)))
     → finished (chunks_from symbols (placed at) (started at) (line ∷ [])) ≡ Ok ((at, first ∷ others) ∷ [])
-unfolding with_laid
 last_laid symbols at first others line laid =
     let whole : (at + length (first ∷ others) == at + length (first ∷ others)) ≡ true = eq-eqb _ _ refl in
     rw (laid, whole) refl
@@ -112,7 +105,6 @@ pub statement_placed : (at first : ℕ) (others text : List ℕ) → at < 2 ^ 32
     → ((symbols : List Symbol) → judged_line symbols (placed at) (32 ∷ text) (statement_in (32 ∷ text))
     ≡ Ok (laid_by (first ∷ others) (at + length (first ∷ others))))
     → assembled (source_at at text) ≡ Ok ((at, first ∷ others) ∷ [])
-unfolding assembled
 statement_placed at first others text inside plain laid =
     let lines : List Line = numbered_line 1 (org_line (hex8 at)) ∷ numbered_line 2 (32 ∷ text) ∷ [] in
     ap (λ (ls : List Line). finished (chunks_from (symbols_of ls) beginning no_chunks ls)) (source_lines at text inside plain)

@@ -23,7 +23,7 @@ use Rattle.mb_machine.specs.declared.reference.Settled.TheVariants.{To, Refused,
 use Rattle.mb_machine.specs.World.{World, HasBytes}
 use Rattle.mb_machine.specs.Places.{Stand, memory, register, nowhere, in_ram, taken, taken_at, stored, checked, with_longs, taken_line, stored_line}
 use Rattle.mb_machine.specs.Access.{matched, root_of, search_for, searched, settled, translated, by_settled, by_found}
-use Rattle.mb_machine.specs.Bus.{bus_of, fetching_of, reading_of, writing_of, fault_of, place_at, Take, Store, read_at, read_by, wrote, written_at, written_by, after_set_mmu, tested, tested_by}
+use Rattle.mb_machine.specs.Bus.{fetching_of, reading_of, writing_of, fault_of, place_at, Take, Store, read_at, read_by, wrote, written_at, written_by, after_set_mmu, tested_by}
 use Rattle.mb_machine.specs.Laws.{IsBeneath, CallsStandBeneath, PlacesStandBeneath, SizesStay}
 use Rattle.mb_machine.proofs.BusLemmas.{stored_memory, stored_register, wrote_devices}
 
@@ -55,11 +55,9 @@ module _ (P : Type 0) where
   taken_at_beneath nowhere place w = same_world w
 
   taken_beneath : (place : Place) (w : World) → Beneath P w (taken place w).1
-  unfolding taken
   taken_beneath place w = taken_at_beneath _ place w
 
   line_beneath : (place : Place) (w : World) → Beneath P w (taken_line place w).1
-  unfolding taken_line
   line_beneath place w = same_world w
 
   number_beneath : (w : World) (at len value : ℕ) → at + len ≤ length w.ram → Beneath P w (record w { ram = with_number w.ram at len value })
@@ -121,7 +119,7 @@ longs_count ram at (v ∷ vs) h =
 
 -- a line is four longs
 stored_line_beneath : (at : ℕ) (line : List ℕ) (w : World) → IfBeneath (length line ≡ 4) w (stored_line (place_at at 16) line w)
-unfolding IfBeneath stored_line
+unfolding IfBeneath
 stored_line_beneath at line w = elim (cases_Bool (in_ram (length w.ram) at 16)) [
   | inl h ↦
       let b : Beneath (length line ≡ 4) w (record w { ram = with_longs w.ram at line }) =
@@ -134,7 +132,7 @@ abbrev Any : Type 0
 Any = Unit {0}
 
 pub calls_stand_beneath : CallsStandBeneath
-unfolding bus_of Keeps
+unfolding Keeps
 calls_stand_beneath rule (Fetch space at) w = told (read_beneath Any rule (fetching_of space at) 2 taken w (taken_beneath Any))
 calls_stand_beneath rule (Read space p) w = told (read_beneath Any rule (reading_of space p.at) p.len taken w (taken_beneath Any))
 calls_stand_beneath rule (Write space p value) w =
@@ -146,7 +144,6 @@ calls_stand_beneath rule (Probe space p) w = told (read_beneath Any rule (writin
 calls_stand_beneath rule other w = tt
 
 pub places_stand_beneath : PlacesStandBeneath
-unfolding bus_of
 places_stand_beneath rule place value w =
     (told (taken_beneath Any place w), told (put_beneath Any (stored place value w) w (stored_beneath Any place value w)))
 
@@ -158,7 +155,6 @@ found_count rule w r Invalid = refl
 found_count rule w r BusError = refl
 
 searched_count : (rule : Rule) (w : World) (r : Reference) → HasBytes w → length (searched rule w r).1.ram ≡ length w.ram
-unfolding searched
 searched_count rule w r h =
     let s = search_for w r in
     found_count rule (record w { ram = s.ram }) r s.found
@@ -179,11 +175,10 @@ tested_count w space page write (Some protected) h = refl
 tested_count w space page write None h = (searches_mark w.ram (root_of w.mmu space) space page write (has_big_pages w.mmu) h.bytes).size
 
 register_count : (rule : Rule) (which : MmuReg) (value : ℕ) (w : World) → length (after_set_mmu rule which value w).ram ≡ length w.ram
-unfolding after_set_mmu
 register_count rule which value w = refl
 
 pub sizes_stay : SizesStay
-unfolding bus_of Keeps tested
+unfolding Keeps
 sizes_stay rule (Fetch space at) w h whole =
     (read_beneath Any rule (fetching_of space at) 2 taken w (taken_beneath Any)).size tt ∙ translated_count rule (fetching_of space at) w h
 sizes_stay rule (Read space p) w h whole =

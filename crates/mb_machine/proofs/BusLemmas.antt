@@ -7,7 +7,7 @@ use Rattle.mb_devices.specs.Devices.{DeviceState}
 use Rattle.mb_devices.specs.Registers.{register_at, read_register, read_of, write_register, write_of}
 use Rattle.mb_walk.specs.Memory.{number_at, with_number}
 use Rattle.mb_machine.specs.World.{World}
-use Rattle.mb_machine.specs.Places.{in_ram, stand_of, among_registers, taken, taken_at, stored, stored_at, takes_writes, is_somewhere}
+use Rattle.mb_machine.specs.Places.{in_ram, among_registers, taken, taken_at, stored, stored_at, takes_writes, is_somewhere}
 
 -- the world after its devices did something, with what they answered
 abbrev pub read_devices : World → Option ℕ × DeviceState → Option ℕ × World
@@ -19,7 +19,6 @@ wrote_devices w (None, devices) = None
 
 pub taken_memory : (w : World) (place : Place) → in_ram (length w.ram) place.at place.len ≡ true
     → taken place w ≡ (Some (number_at w.ram place.at place.len), w)
-unfolding taken stand_of
 taken_memory w place h = rw h refl
 
 among_read : (o : Option Register) (w : World) (place : Place) → taken_at (among_registers o) place w ≡ read_devices w (read_register o w.devices)
@@ -28,12 +27,10 @@ among_read None w place = refl
 
 pub taken_register : (w : World) (place : Place) → in_ram (length w.ram) place.at place.len ≡ false
     → taken place w ≡ read_devices w (read_of place w.devices)
-unfolding taken stand_of read_of
 taken_register w place h = rw h (among_read (register_at place) w place)
 
 pub stored_memory : (w : World) (place : Place) (value : ℕ) → in_ram (length w.ram) place.at place.len ≡ true
     → stored place value w ≡ Some (record w { ram = with_number w.ram place.at place.len value })
-unfolding stored stand_of
 stored_memory w place value h = rw h refl
 
 among_wrote : (o : Option Register) (w : World) (place : Place) (value : ℕ)
@@ -43,11 +40,9 @@ among_wrote None w place value = refl
 
 pub stored_register : (w : World) (place : Place) (value : ℕ) → in_ram (length w.ram) place.at place.len ≡ false
     → stored place value w ≡ wrote_devices w (write_of place value w.devices)
-unfolding stored stand_of write_of
 stored_register w place value h = rw h (among_wrote (register_at place) w place value)
 
 pub takes_memory : (size : ℕ) (place : Place) → in_ram size place.at place.len ≡ true → takes_writes size place ≡ true
-unfolding stand_of
 takes_memory size place h = rw h refl
 
 among_takes : (o : Option Register) → is_somewhere (among_registers o) ≡ is_some o
@@ -55,7 +50,6 @@ among_takes (Some r) = refl
 among_takes None = refl
 
 pub takes_register : (size : ℕ) (place : Place) → in_ram size place.at place.len ≡ false → takes_writes size place ≡ is_some (register_at place)
-unfolding stand_of
 takes_register size place h = rw h (among_takes (register_at place))
 
 pub ruleset reads = (taken_memory, taken_register)

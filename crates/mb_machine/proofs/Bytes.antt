@@ -73,7 +73,6 @@ bytes-descended ram place h =
 
 bytes-paged : (ram : List ℕ) (place : ℕ) (space : Space) (page : ℕ) (protected write big : Bool) → AreBytes ram
     → Marked (paged ram place space page protected write big)
-unfolding paged
 bytes-paged ram place space page protected write big h = record { bytes = bytes-with_number ram place 4 _ h }
 
 bytes-pointed : (ram : List ℕ) (place : ℕ) (space : Space) (page : ℕ) (protected write big : Bool) → AreBytes ram
@@ -102,7 +101,6 @@ bytes-and_below level next h rest = bytes-below level.ram level.descriptor next 
 
 marked-searched : (ram : List ℕ) (root : ℕ) (space : Space) (page : ℕ) (write big : Bool) → AreBytes ram
     → Marked (search_of ram root space page write big)
-unfolding search_of
 marked-searched ram root space page write big h =
     bytes-and_below _ _ (bytes-descended ram _ h) (λ ram pointer h.
     bytes-and_below _ _ (bytes-descended ram _ h) (λ ram leaf h. bytes-ended ram _ space page _ write big h))
@@ -119,7 +117,6 @@ by_found-bytes rule w r Invalid h = h
 by_found-bytes rule w r BusError h = h
 
 searched-bytes : (rule : Rule) (w : World) (r : Reference) → HasBytes w → HasBytes (searched rule w r).1
-unfolding searched
 searched-bytes rule w r h =
     let s = search_for w r in
     by_found-bytes rule (record w { ram = s.ram }) r s.found (record { bytes = bytes-searched w.ram _ _ _ _ _ h.bytes })
@@ -141,11 +138,9 @@ taken_at-bytes (register r) place w h = record { bytes = h.bytes }
 taken_at-bytes nowhere place w h = h
 
 taken-bytes : (place : Place) (w : World) → HasBytes w → HasBytes (taken place w).1
-unfolding taken
 taken-bytes place w h = taken_at-bytes _ place w h
 
 taken_line-bytes : (place : Place) (w : World) → HasBytes w → HasBytes (taken_line place w).1
-unfolding taken_line
 taken_line-bytes place w h = h
 
 -- a world, or none, of bytes
@@ -159,7 +154,6 @@ stored_at-bytes (register r) place value w h = record { bytes = h.bytes }
 stored_at-bytes nowhere place value w h = tt
 
 stored-bytes : (place : Place) (value : ℕ) (w : World) → HasBytes w → IfBytes (stored place value w)
-unfolding stored
 stored-bytes place value w h = stored_at-bytes _ place value w h
 
 if-bytes : (b : Bool) (w : World) → HasBytes w → IfBytes (if b then Some w else None)
@@ -167,7 +161,6 @@ if-bytes true w h = h
 if-bytes false w h = tt
 
 stored_line-bytes : (place : Place) (line : List ℕ) (w : World) → HasBytes w → IfBytes (stored_line place line w)
-unfolding stored_line
 stored_line-bytes place line w h =
     if-bytes _ (record w { ram = with_longs w.ram place.at line }) (record { bytes = bytes-with_longs w.ram place.at line h.bytes })
 
@@ -205,15 +198,12 @@ tested_by-bytes w space page write (Some protected) h = h
 tested_by-bytes w space page write None h = record { bytes = bytes-searched w.ram _ space page write _ h.bytes }
 
 tested-bytes : (space : Space) (page : ℕ) (write : Bool) (w : World) → HasBytes w → HasBytes (tested space page write w).1
-unfolding tested
 tested-bytes space page write w h = tested_by-bytes w space page write _ h
 
 registered-bytes : (rule : Rule) (which : MmuReg) (value : ℕ) (w : World) → HasBytes w → HasBytes (after_set_mmu rule which value w)
-unfolding after_set_mmu
 registered-bytes rule which value w h = record { bytes = h.bytes }
 
 pub bus-bytes : (rule : Rule) (c : Call) (w : World) → HasBytes w → HasBytes (bus_of rule c w).1
-unfolding bus_of
 bus-bytes rule (Fetch space at) w h = read_by-bytes rule _ _ taken w taken-bytes h
 bus-bytes rule (Read space p) w h = read_by-bytes rule _ _ taken w taken-bytes h
 bus-bytes rule (Write space p value) w h =

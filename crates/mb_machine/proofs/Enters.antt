@@ -18,7 +18,7 @@ use Rattle.mb_port.specs.declared.types.Fault.{Fault}
 use Rattle.mb_model.specs.Keeping.{Rule}
 use Rattle.mb_model.specs.declared.processor.Cpu.{Cpu}
 use Rattle.mb_ea.specs.Addresses.{sum}
-use Rattle.mb_ea.specs.Reading.{read_pieces_of, read_cut_of, read_operand_of, refused_in}
+use Rattle.mb_ea.specs.Reading.{read_pieces_of, read_operand_of, refused_in}
 use Rattle.mb_ea.specs.declared.reading.ReadFault.{ReadFault}
 use Rattle.mb_walk.specs.Memory.{AreBytes, number_at, overwritten, with_number}
 use Rattle.mb_walk.proofs.MemoryLemmas.{length-overwritten, overwritten-nothing}
@@ -26,13 +26,13 @@ use Rattle.mb_walk.proofs.LongLemmas.{number_bytes}
 use Rattle.mb_writes.specs.Checked.{probe_pieces_of}
 use Rattle.mb_processor.specs.declared.entering.Entered.TheVariants as entered
 use Rattle.mb_processor.specs.Entry as entry
-use Rattle.mb_processor.specs.Entry.{Stacked, Frames, frames_of, handler_regs, awake, put_bytes_of, probe_frame_of, probe_second_of, put_second_of, check_frames_of, put_frames_of, go_to_handler_of, enter_of, unstacked}
+use Rattle.mb_processor.specs.Entry.{Stacked, Frames, frames_of, handler_regs, awake, put_bytes_of, probe_second_of, put_second_of, check_frames_of, put_frames_of, go_to_handler_of, enter_of, unstacked}
 use Rattle.mb_machine.specs.World.{World}
 use Rattle.mb_machine.specs.Places.{in_ram, taken, checked}
 use Rattle.mb_machine.specs.Bus.{bus_of, place_at, fault_of, Take, faulting, read_at, read_by}
 use Rattle.mb_machine.proofs.BusLemmas.{taken_memory, stored_memory, takes_memory}
 use Rattle.mb_machine.specs.declared.reference.Reference.{Reference}
-use Rattle.mb_machine.specs.Access.{untranslated, translated, settled as settled_by, by_match, by_settled}
+use Rattle.mb_machine.specs.Access.{untranslated, translated, by_match, by_settled}
 use Rattle.mb_machine.specs.Enters.{supervising, IsUntranslated, HasRoom, stacked_on, at_handler, EntersStacked}
 use Rattle.mb_machine.proofs.Pieces.{piece_back, piece_fits, piece_some}
 use Rattle.mb_walk.proofs.Parts.{over-split}
@@ -48,7 +48,7 @@ checked_is w p len h =
 
 enters_untranslated : (rule : Rule) (w : World) (at : ℕ) (write : Bool) → untranslated w.mmu (supervising at write) ≡ Some false
     → translated rule (supervising at write) w ≡ (Some at, w)
-unfolding translated settled_by
+unfolding translated
 enters_untranslated rule w at write h =
     ap (λ (o : Option Bool). by_settled rule w (supervising at write) (by_match rule w.kept (supervising at write) o)) h
 
@@ -63,7 +63,7 @@ fields_are_bytes (f ∷ fs) =
     All-append (λ byte. byte < 2 ^ 8) (big_bytes f.size f.value) (bytes_of_fields fs) (number_bytes f.size f.value) (fields_are_bytes fs)
 
 pub frames_are_bytes : (c : Cause) (cpu : Cpu) → AreBytes (frames_of c cpu.regs).first.bytes
-unfolding frames_of entry.stacked frame_bytes
+unfolding frames_of frame_bytes
 frames_are_bytes c cpu = fields_are_bytes (fields_of (entry.frame_of cpu.regs.sr c))
 
 module _ (rule : Rule) where
@@ -71,7 +71,6 @@ module _ (rule : Rule) where
 
   probed : (b : World) (p : Piece) → IsUntranslated b.mmu → p.at < 2 ^ 32 → p.at + p.len ≤ length b.ram
       → (bus_of rule) (Probe Super p) b ≡ (Ok (place_at p.at p.len), b)
-  unfolding bus_of
   probed b p o l h =
       reads_found rule (supervising p.at true) p.len checked b b p.at (place_at p.at p.len) (enters_untranslated rule b p.at true (o p.at true l))
       (checked_is b p.at p.len (is_inside (length b.ram) p.at p.len h))
@@ -117,7 +116,6 @@ module _ (rule : Rule) where
 
   put_is : (b : World) (at len value : ℕ) → at + len ≤ length b.ram
       → (bus_of rule) (Put (place_at at len) value) b ≡ (tt, record b { ram = with_number b.ram at len value })
-  unfolding bus_of
   put_is b at len value h =
       ap (λ (o : Option World). (let q : Unit {0} × World =
       (tt, unwrap_or o b) in q)) (stored_memory b (place_at at len) value (is_inside (length b.ram) at len h))
@@ -156,12 +154,10 @@ module _ (rule : Rule) where
   -- ---- the vector
 
   long_alone : (at : ℕ) → at % 4 ≡ 0 → split_of at 4 ≡ record { at = at; len = 4 } ∷ []
-  unfolding split_of piece_len
   long_alone at h = let b : (at % 4 == 0) ≡ true = grind (arith, nat_tests) in rw b refl
 
   read_is : (b : World) (at : ℕ) → IsUntranslated b.mmu → at < 2 ^ 32 → at + 4 ≤ length b.ram
       → (bus_of rule) (Read Super (record { at = at; len = 4 })) b ≡ (Ok (number_at b.ram at 4), b)
-  unfolding bus_of
   read_is b at o l h =
       reads_found rule (supervising at false) 4 taken b b at (number_at b.ram at 4) (enters_untranslated rule b at false (o at false l))
       (taken_memory b (place_at at 4) (is_inside (length b.ram) at 4 h))
@@ -177,7 +173,6 @@ module _ (rule : Rule) where
         }),
         b,
       )
-  unfolding check_frames_of probe_frame_of
   checks b f o one fits small =
       let ps = cut (length f.first.bytes) f.first.at (length f.first.bytes) in
       let first : run (bus_of rule) (probe_pieces_of Super ps []) b ≡ (Ok (places_of ps), b) =
@@ -193,7 +188,6 @@ module _ (rule : Rule) where
             places_of (cut (length f.first.bytes) f.first.at (length f.first.bytes));
         second = [];
       })) b ≡ (tt, stacked_on b f)
-  unfolding put_frames_of
   writes b f one are fits small =
       ap (λ (q : Unit {0} × World). run (bus_of rule) (put_second_of f.second []) q.1)
       (puts (length f.first.bytes) b f.first.at (length f.first.bytes) f.first.bytes (omega arith) refl are fits small)
@@ -201,7 +195,7 @@ module _ (rule : Rule) where
 
   vector_is : (b : World) (at : ℕ) → IsUntranslated b.mmu → at < 2 ^ 32 → at % 4 ≡ 0 → at + 4 ≤ length b.ram
       → run (bus_of rule) (read_operand_of Super at 4) b ≡ (Ok (number_at b.ram at 4), b)
-  unfolding read_operand_of read_cut_of
+  unfolding read_operand_of
   vector_is b at o l even h =
       let value : 0 * 256 ^ 4 + number_at b.ram at 4 ≡ number_at b.ram at 4 = omega arith in
       let told : Result ℕ Fault × World → Result ℕ ReadFault × World = λ q. (other_fault (refused_in at) q.0, q.1) in
@@ -213,7 +207,6 @@ module _ (rule : Rule) where
   enters_by : (b : World) (c : Cause) (cpu : Cpu) → IsUntranslated b.mmu → HasRoom b c cpu
       → let after = stacked_on b (frames_of c cpu.regs) in
       run (bus_of rule) (enter_of c cpu) b ≡ ((entered.Done, at_handler after c cpu), after)
-  unfolding enter_of go_to_handler_of
   enters_by b c cpu o room =
       let f = frames_of c cpu.regs in
       let after = stacked_on b f in

@@ -10,7 +10,6 @@ use Rattle.mb_walk.proofs.LongLemmas.{one_back, two_back, four_back}
 
 -- a piece has 4, 2 or 1 bytes
 piece_cases : (P : ℕ → Type 0) (at left : ℕ) → 1 ≤ left → (4 ≤ left → P 4) → (2 ≤ left → P 2) → P 1 → P (piece_len at left)
-unfolding piece_len
 piece_cases P at left some four two one = elim (cases_Bool ((at % 4 == 0) && nat_le 4 left)) [
   | inl h ↦ rw h (four (le_of (at % 4 == 0) 4 left h))
   | inr h ↦ rw h (elim (cases_Bool ((at % 2 == 0) && nat_le 2 left)) [

@@ -51,11 +51,9 @@ taken_at-quiet (register r) place w h = absurd (cc)
 taken_at-quiet nowhere place w h = refl
 
 taken-quiet : (place : Place) (w : World) → (taken place w).0 ≡ None → (taken place w).1 ≡ w
-unfolding taken
 taken-quiet place w h = taken_at-quiet _ place w h
 
 taken_line-quiet : (place : Place) (w : World) → (taken_line place w).0 ≡ None → (taken_line place w).1 ≡ w
-unfolding taken_line
 taken_line-quiet place w h = refl
 
 -- ---- writes
@@ -78,7 +76,6 @@ write_refused r len store None w fault h = record { told = cc; left = refl }
 
 pub faults-tell : (rule : Rule) (c : Call) (w : World) (fault : Fault) → IsFault c (bus_of rule c w).0 fault
     → CallWasRefused rule c w fault (bus_of rule c w).1
-unfolding bus_of
 faults-tell rule (Fetch space at) w fault h = refused rule _ _ w _ fault (read_refused _ _ taken _ _ fault taken-quiet h)
 faults-tell rule (Read space p) w fault h = refused rule _ _ w _ fault (read_refused _ _ taken _ _ fault taken-quiet h)
 faults-tell rule (Write space p value) w fault h =
@@ -103,7 +100,6 @@ found_beside rule w u r Invalid h = h
 found_beside rule w u r BusError h = h
 
 searched_beside : (rule : Rule) (w : World) (r : Reference) → IsBeside w (searched rule w r).1
-unfolding searched
 searched_beside rule w r =
     let s = search_for w r in
     found_beside rule w (record w { ram = s.ram }) r s.found (record { mmu = refl; devices = refl })

@@ -18,12 +18,12 @@ use Rattle.mb_machine.specs.declared.reference.Reference.{Reference}
 use Rattle.mb_machine.specs.World.{World}
 use Rattle.mb_machine.specs.Places.{Stand, memory, register, nowhere, taken, taken_at, stored, stored_at, checked, taken_line, stored_line}
 use Rattle.mb_machine.specs.Access.{translated}
-use Rattle.mb_machine.specs.Bus.{bus_of, read_at, read_by, written_at, written_by, wrote, tested, tested_by, after_set_mmu}
+use Rattle.mb_machine.specs.Bus.{bus_of, read_at, read_by, written_at, written_by, wrote, tested, tested_by}
 use Rattle.mb_machine.proofs.Refusals.{translated-beside}
 use Rattle.mb_machine.specs.Laws.{ResetsShowTheSize, CallsLeaveTheSize, RunsLeaveTheSize}
 use Rattle.mb_script.specs.declared.input.Input.{Input}
 use Rattle.mb_script.specs.declared.input.Input.TheVariants.{Byte, Abort}
-use Rattle.mb_machine.specs.Machine.{Entries, Machine, arrived, begun, reset_with, run_of, stepped, stepping, takes_steps, asked_of, taken_in}
+use Rattle.mb_machine.specs.Machine.{Entries, Machine, arrived, begun, reset_with, run_of, stepped, takes_steps, asked_of, taken_in}
 
 abbrev size_of : World → ℕ
 size_of w = w.devices.ram
@@ -35,7 +35,6 @@ shown-either true a c n h g = h
 shown-either false a c n h g = g
 
 shown-sent : (byte : ℕ) (d : DeviceState) → (sent byte d).ram ≡ d.ram
-unfolding sent
 shown-sent byte d = shown-either (nat_lt (length d.console) CONSOLE_ROOM) _ _ d.ram refl refl
 
 shown-powered : (value : ℕ) (d : DeviceState) → (powered value d).ram ≡ d.ram
@@ -69,11 +68,9 @@ shown-taken_at (register r) place w = shown-after_read r w.devices
 shown-taken_at nowhere place w = refl
 
 shown-taken : (place : Place) (w : World) → size_of (taken place w).1 ≡ size_of w
-unfolding taken
 shown-taken place w = shown-taken_at _ place w
 
 shown-taken_line : (place : Place) (w : World) → size_of (taken_line place w).1 ≡ size_of w
-unfolding taken_line
 shown-taken_line place w = refl
 
 -- a world, or none, that shows the size
@@ -87,7 +84,6 @@ shown-stored_at (register r) place value w = shown-written r value w.devices
 shown-stored_at nowhere place value w = tt
 
 shown-stored : (place : Place) (value : ℕ) (w : World) → IfSize (size_of w) (stored place value w)
-unfolding stored
 shown-stored place value w = shown-stored_at _ place value w
 
 shown-if : (b : Bool) (w : World) (n : ℕ) → size_of w ≡ n → IfSize n (if b then Some w else None)
@@ -95,7 +91,6 @@ shown-if true w n h = h
 shown-if false w n h = tt
 
 shown-stored_line : (place : Place) (line : List ℕ) (w : World) → IfSize (size_of w) (stored_line place line w)
-unfolding stored_line
 shown-stored_line place line w = shown-if _ _ (size_of w) refl
 
 -- ---- the calls
@@ -135,11 +130,9 @@ shown-tested_by w space page write (Some protected) = refl
 shown-tested_by w space page write None = refl
 
 shown-tested : (space : Space) (page : ℕ) (write : Bool) (w : World) → size_of (tested space page write w).1 ≡ size_of w
-unfolding tested
 shown-tested space page write w = shown-tested_by w space page write _
 
 pub shown-bus : CallsLeaveTheSize
-unfolding bus_of after_set_mmu
 shown-bus rule (Fetch space at) w = shown-read_by rule _ _ taken w shown-taken
 shown-bus rule (Read space p) w = shown-read_by rule _ _ taken w shown-taken
 shown-bus rule (Write space p value) w =
@@ -162,7 +155,6 @@ leaves : (rule : Rule) → LeavesAlone size_of (bus_of rule)
 leaves rule = record { call = shown-bus rule }
 
 shown-received : (byte : ℕ) (d : DeviceState) → (received byte d).ram ≡ d.ram
-unfolding received
 shown-received byte d = shown-either (nat_lt (length d.queue) QUEUE_ROOM) _ _ d.ram refl refl
 
 shown-taken_in : (one : Input) (d : DeviceState) → (taken_in one d).ram ≡ d.ram
@@ -175,11 +167,9 @@ shown-arrived step (entry ∷ script) d =
     shown-arrived step script _ ∙ shown-either (entry.step == step) _ _ d.ram (shown-taken_in entry.input d) refl
 
 shown-begun : (script : Entries) (m : Machine) → size_of (begun script m).world ≡ size_of m.world
-unfolding begun
 shown-begun script m = size-ticked _ ∙ shown-arrived (m.steps + 1) script m.world.devices
 
 shown-stepped : (rule : Rule) (script : Entries) (m : Machine) → size_of (stepped rule script m).world ≡ size_of m.world
-unfolding stepping
 shown-stepped rule script m =
     let b = begun script m in
     run_leaves (leaves rule) (step_of (asked_of script b) b.cpu) b.world ∙ shown-begun script m

@@ -35,7 +35,7 @@ or_off mmu None = if is_translating mmu then None else Some false
 
 -- 1 and 2: a transparent register matches, or translation is off. The physical address is the logical one; told is
 -- whether writes are refused there
-unfoldable pub untranslated : Mmu → Reference → Option Bool
+abbrev pub untranslated : Mmu → Reference → Option Bool
 untranslated mmu r = or_off mmu (matched r.code mmu r.space (page_of r.at))
 
 -- ---- an entry
@@ -53,7 +53,7 @@ abbrev pub in_frame : Kept → ℕ → ℕ
 in_frame k at = PAGE_SIZE * k.frame + offset_of at
 
 -- the physical address through an entry; none where it refuses
-unfoldable pub through : Kept → Reference → Option ℕ
+abbrev pub through : Kept → Reference → Option ℕ
 through k r = if admits k r then Some (in_frame k r.at) else None
 
 -- ---- what is known without a search
@@ -69,7 +69,7 @@ known (Some at) = To at
 known None = Refused
 
 -- 3: a kept entry serves, but for a write that marks the page
-unfoldable pub by_entry : Reference → Option Kept → Settled
+abbrev pub by_entry : Reference → Option Kept → Settled
 by_entry r None = Unsettled
 by_entry r (Some k) = if marks k r then Unsettled else known (through k r)
 
@@ -78,7 +78,7 @@ by_match rule kept r (Some protected) = if protected && r.write then Refused els
 by_match rule kept r None = by_entry r (entry_for rule r.code r.space (page_of r.at) kept)
 
 -- A place, a refusal, or that a search is needed.
-unfoldable pub settled : Rule → Mmu → KeptLists → Reference → Settled
+abbrev pub settled : Rule → Mmu → KeptLists → Reference → Settled
 settled rule mmu kept r = by_match rule kept r (untranslated mmu r)
 
 -- ---- the search
@@ -104,7 +104,7 @@ by_found rule w r BusError = (None, w)
 abbrev pub by_search : Rule → World → Reference → Searched → Option ℕ × World
 by_search rule w r s = by_found rule (record w { ram = s.ram }) r s.found
 
-unfoldable pub searched : Rule → World → Reference → Option ℕ × World
+abbrev pub searched : Rule → World → Reference → Option ℕ × World
 searched rule w r = by_search rule w r (search_for w r)
 
 -- ---- the whole

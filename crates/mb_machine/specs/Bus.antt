@@ -89,7 +89,7 @@ written_by rule r len store w = let (at, after) = translated rule r w in written
 -- ---- registers and tests
 
 -- a register of the memory management unit is written: its bits are kept, and the rule says whether all is forgotten
-unfoldable pub after_set_mmu : Rule → MmuReg → ℕ → World → World
+abbrev pub after_set_mmu : Rule → MmuReg → ℕ → World → World
 after_set_mmu rule which value w = record w {
   mmu = with_mmu_register w.mmu which (bit_and value (kept_bits (control.Mmu which)));
   kept = after_movec rule which w.kept;
@@ -105,13 +105,13 @@ tested_by w space page write None =
 
 -- PTEST: unless a transparent register matches, the kept entries of the page are dropped, where pages have 8 KiB of
 -- both halves, and the tables are searched, whether translation is on or not. Nothing is kept.
-unfoldable pub tested : Space → ℕ → Bool → World → ℕ × World
+abbrev pub tested : Space → ℕ → Bool → World → ℕ × World
 tested space page write w = tested_by w space page write (matched false w.mmu space page)
 
 -- ---- the calls
 
 -- Each call. A line stands in RAM alone; `Get` and `Put` go to a place without translation.
-unfoldable pub bus_of : Rule → Bus World
+abbrev pub bus_of : Rule → Bus World
 bus_of rule (Fetch space at) w = read_by rule (fetching_of space at) 2 taken w
 bus_of rule (Read space p) w = read_by rule (reading_of space p.at) p.len taken w
 bus_of rule (Write space p value) w = written_by rule (writing_of space p.at) p.len (λ place. stored place value) w

@@ -99,7 +99,7 @@ abbrev pub asked : Entries → (step : ℕ) → DeviceState → ℕ
 asked script step d = if aborts step script then NON_MASKABLE else level_of d
 
 -- a step begins: what is due at its number is received, and the timer ticks. The first step has number 1
-unfoldable pub begun : Entries → Machine → Machine
+abbrev pub begun : Entries → Machine → Machine
 begun script m = with_devices m (ticked (arrived (m.steps + 1) script m.world.devices))
 
 -- the interrupt level that a step is asked for that has begun so
@@ -115,7 +115,7 @@ abbrev pub going : Cpu → DeviceState → RunState
 going cpu d = if d.off then Off else if cpu.stopped then Stopped else Running
 
 -- the state after a step that ended so: a step that halts leaves it halted, also where it switches off
-unfoldable pub state_after : Finish → Cpu → DeviceState → RunState
+abbrev pub state_after : Finish → Cpu → DeviceState → RunState
 state_after finish.Halted cpu d = Halted
 state_after _ cpu d = going cpu d
 
@@ -128,7 +128,7 @@ abbrev pub with_finish : Machine → Stepped × World → Finish × Machine
 with_finish m ((ended, cpu), w) = (ended, one_later m ended cpu w)
 
 -- one step: how it ended, and the machine after it
-unfoldable pub stepping : Rule → Entries → Machine → Finish × Machine
+abbrev pub stepping : Rule → Entries → Machine → Finish × Machine
 stepping rule script m = with_finish m (processed rule script (begun script m))
 
 -- the machine after one step

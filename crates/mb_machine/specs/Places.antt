@@ -22,7 +22,7 @@ abbrev pub among_registers : Option Register → Stand
 among_registers (Some r) = register r
 among_registers None = nowhere
 
-unfoldable pub stand_of : ℕ → Place → Stand
+abbrev pub stand_of : ℕ → Place → Stand
 stand_of size place = if in_ram size place.at place.len then memory else among_registers (register_at place)
 
 -- what reading there answers, with the world after it
@@ -39,10 +39,10 @@ stored_at (register r) place value w = Some (record w { devices = (register_row 
 stored_at nowhere place value w = None
 
 -- a read and a write of a physical piece, wherever it stands
-unfoldable pub taken : Place → World → Option ℕ × World
+abbrev pub taken : Place → World → Option ℕ × World
 taken place w = taken_at (stand_of (length w.ram) place) place w
 
-unfoldable pub stored : Place → ℕ → World → Option World
+abbrev pub stored : Place → ℕ → World → Option World
 stored place value w = stored_at (stand_of (length w.ram) place) place value w
 
 -- The world is what the write makes of it, or nothing took the write and it is as before.
@@ -74,10 +74,10 @@ abbrev pub with_longs : List ℕ → ℕ → List ℕ → List ℕ
 with_longs ram at [] = ram
 with_longs ram at (value ∷ values) = with_longs (with_number ram at 4 value) (at + 4) values
 
-unfoldable pub taken_line : Place → World → Option (List ℕ) × World
+abbrev pub taken_line : Place → World → Option (List ℕ) × World
 taken_line place w = ((if in_ram (length w.ram) place.at place.len then Some (line_at w.ram place.at) else None), w)
 
-unfoldable pub stored_line : Place → List ℕ → World → Option World
+abbrev pub stored_line : Place → List ℕ → World → Option World
 stored_line place line w =
     if in_ram (length w.ram) place.at place.len then Some (record w { ram = with_longs w.ram place.at line }) else None
 

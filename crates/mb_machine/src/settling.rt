@@ -12,7 +12,6 @@ use mb_walk::transparent;
 
 /// Points 1 and 2: whether writes are refused where the physical address is the logical one. `None` where it is not.
 #[inline(always)]
-#[tactic(auto, unfolding(crate::specs::Access::untranslated))]
 pub fn untranslated(mmu: &Mmu, r: Reference) -> Option<bool>
     ensures { result ≡ untranslated mmu.now r }
 {
@@ -46,7 +45,6 @@ pub fn marks(k: &Kept, r: Reference) -> bool
 
 /// The physical address through an entry. `None` where it refuses.
 #[inline(always)]
-#[tactic(auto, unfolding(crate::specs::Access::through))]
 pub fn through(k: &Kept, r: Reference) -> Option<u32>
     requires { NamesPages k.now }
     ensures place { result ≡ through k.now r }
@@ -61,7 +59,6 @@ pub fn through(k: &Kept, r: Reference) -> Option<u32>
 
 /// Point 3, and 5 of an entry that is kept.
 #[inline(always)]
-#[tactic(auto, unfolding(crate::specs::Access::by_entry))]
 pub fn by_entry(r: Reference, kept: Option<Kept>) -> Settled
     requires { IfSome kept NamesPages }
     ensures settled { result ≡ by_entry r kept }

@@ -40,14 +40,14 @@ pub record Pair : Type 0 where
   pub destination : Fetched
 
 -- Two operands are read, the source first. Its words stand before those of the destination.
-unfoldable pub fetch_pair_of : Size → Ea → Ea → ℕ → Space → Plain → Routine (Result Pair ReadFault)
+abbrev pub fetch_pair_of : Size → Ea → Ea → ℕ → Space → Plain → Routine (Result Pair ReadFault)
 fetch_pair_of size source destination word_at space p = do
   from ← fetch_operand_of size source word_at space p
   to ← fetch_operand_of size destination (behind_of size source word_at) space from.plain
   Return (Ok (record { source = from.value; destination = to }))
 
 -- What an operation makes of a source and a destination goes to the destination. An immediate is a source.
-unfoldable pub combine_of : (ℕ → ℕ → ℕ → Flagged) → Size → Ea → Ea → ℕ → Space → Plain → Routine Rowed
+abbrev pub combine_of : (ℕ → ℕ → ℕ → Flagged) → Size → Ea → Ea → ℕ → Space → Plain → Routine Rowed
 combine_of operation size source destination word_at space p = do
   pair ← reading (fetch_pair_of size source destination word_at space p)
   let to = pair.destination
@@ -55,7 +55,7 @@ combine_of operation size source destination word_at space p = do
   finish_with_of to.target size result.value space (record to.plain { ccr = result.ccr })
 
 -- A source is compared with a destination, and only the condition codes change.
-unfoldable pub compare_pair_of : Size → Ea → Ea → ℕ → Space → Plain → Routine Rowed
+abbrev pub compare_pair_of : Size → Ea → Ea → ℕ → Space → Plain → Routine Rowed
 compare_pair_of size source destination word_at space p = do
   pair ← reading (fetch_pair_of size source destination word_at space p)
   let to = pair.destination
@@ -89,7 +89,7 @@ combine_quick_of change moved size ea word_at space p =
 -- ---- operands that are only read
 
 -- An operand is read, and its value and the registers then say how the instruction ends.
-unfoldable pub take_of : (ℕ → Plain → Rowed) → Size → Ea → ℕ → Space → Plain → Routine Rowed
+abbrev pub take_of : (ℕ → Plain → Rowed) → Size → Ea → ℕ → Space → Plain → Routine Rowed
 take_of effect size ea word_at space p = do
   operand ← reading (fetch_operand_of size ea word_at space p)
   Return (effect operand.value operand.plain)

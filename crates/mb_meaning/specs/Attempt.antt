@@ -64,7 +64,7 @@ found_of (suc n) space at words = do
   by_decoded (decode_of (words ++ word ∷ [])) (found_of n space ((at + 2) % 2 ^ 32) (words ++ word ∷ []))
 
 -- The instruction that stands at PC. No word is fetched at an odd PC.
-unfoldable pub fetched_of : Space → ℕ → Routine FoundInstr
+abbrev pub fetched_of : Space → ℕ → Routine FoundInstr
 fetched_of space pc = choose (pc % 2 == 1) (Return (Err odd_counter)) (found_of MOST_WORDS space pc [])
 
 -- the registers with PC past so many words
@@ -79,5 +79,5 @@ attempted space p found =
 
 -- The attempt: an instruction is fetched at PC, decoded and carried out, all accesses in this space. A privileged one
 -- is not carried out.
-unfoldable pub attempt_of : Space → Plain → Routine Performed
+abbrev pub attempt_of : Space → Plain → Routine Performed
 attempt_of space p = attempted space p (fetched_of space p.pc)

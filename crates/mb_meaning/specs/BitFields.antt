@@ -79,7 +79,7 @@ with_result field.FindFirst n offset width old p = with_data_register p n (sum o
 with_result _ n offset width old p = p
 
 -- the registers after a row whose field was that
-unfoldable pub field_done : FieldKind → ℕ → ℕ → Plain → Plain
+abbrev pub field_done : FieldKind → ℕ → ℕ → Plain → Plain
 field_done kind word old p =
     let width = field_width_of word p in
     let seen = field_seen kind width old (data_register p (field_word word).register) in
@@ -90,7 +90,7 @@ field_done kind word old p =
 -- ---- a field in a data register, where it wraps round
 
 -- the register begins with its field where it is rotated by the offset, and is rotated back with the new one
-unfoldable pub field_in_register_of : FieldKind → ℕ → ℕ → Plain → Plain
+abbrev pub field_in_register_of : FieldKind → ℕ → ℕ → Plain → Plain
 field_in_register_of kind word n p =
     let width = field_width_of word p in
     let turned = rotate_left w32 (data_register p n) (field_offset_of word p) in
@@ -111,7 +111,7 @@ abbrev pub bytes_held : ℕ → ℕ → ℕ
 bytes_held offset width = (offset % 8 + width + 7) / 8
 
 -- exactly the bytes that hold the field are read and, where the row changes it, written
-unfoldable pub field_in_memory_of : FieldKind → ℕ → ℕ → Space → Plain → Routine Rowed
+abbrev pub field_in_memory_of : FieldKind → ℕ → ℕ → Space → Plain → Routine Rowed
 field_in_memory_of kind word address space p =
     let offset = field_offset_of word p in
     let width = field_width_of word p in
@@ -127,7 +127,7 @@ field_in_memory_of kind word address space p =
           (Return (carried done))
 
 -- BFTST, BFEXTU, BFCHG, BFEXTS, BFCLR, BFFFO, BFSET and BFINS
-unfoldable pub bit_field_of : FieldKind → Ea → ℕ → ℕ → Space → Plain → Routine Rowed
+abbrev pub bit_field_of : FieldKind → Ea → ℕ → ℕ → Space → Plain → Routine Rowed
 bit_field_of kind (Dn n) word word_at space p = Return (carried (field_in_register_of kind word n p))
 bit_field_of kind ea word word_at space p = do
   address ← reading (find_address_of Long ea word_at space p)

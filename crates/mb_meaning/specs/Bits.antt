@@ -43,7 +43,7 @@ change_bit_of kind number size value ccr =
     }
 
 -- BTST only reads its operand; the others write it back
-unfoldable pub bit_row_of : BitKind → ℕ → Ea → ℕ → Space → Plain → Routine Rowed
+abbrev pub bit_row_of : BitKind → ℕ → Ea → ℕ → Space → Plain → Routine Rowed
 bit_row_of Test number ea word_at space p = do
   operand ← reading (fetch_operand_of (bit_size ea) ea word_at space p)
   let tested = change_bit_of Test number (bit_size ea) operand.value operand.plain.ccr

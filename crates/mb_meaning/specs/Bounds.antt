@@ -30,7 +30,7 @@ abbrev pub is_above : Size → ℕ → ℕ → Bool
 is_above size bound value = int_lt (signed_of size bound) (signed_of size value)
 
 -- a value below 0 or above the bound traps; then N says whether it is below 0, and the other condition codes stay
-unfoldable pub check_bound_of : Size → ℕ → ℕ → Plain → Rowed
+abbrev pub check_bound_of : Size → ℕ → ℕ → Plain → Rowed
 check_bound_of size bound value p =
     if is_below size value || is_above size bound value
     then ended_otherwise out_of_bounds
@@ -38,7 +38,7 @@ check_bound_of size bound value p =
     else carried p
 
 -- CHK: the value is a data register's, and the operand is the bound
-unfoldable pub chk_of : ℕ → Size → Ea → ℕ → Space → Plain → Routine Rowed
+abbrev pub chk_of : ℕ → Size → Ea → ℕ → Space → Plain → Routine Rowed
 chk_of n size ea word_at space p = do
   bound ← reading (fetch_operand_of size ea word_at space p)
   Return (check_bound_of size bound.value (data_register bound.plain n) bound.plain)
@@ -66,13 +66,13 @@ bounds_codes size lower upper value codes = record codes {
 
 -- The condition codes of a register compared with two bounds. They are extended by their sign, which counts for an
 -- address register.
-unfoldable pub compared : Size → ℕ → ℕ → ℕ → Plain → ℕ
+abbrev pub compared : Size → ℕ → ℕ → ℕ → Plain → ℕ
 compared size lower upper n p =
     ccr_of (bounds_codes (compared_size size n) (sign_extended size lower) (sign_extended size upper) (register_of p n)
     (conditions_of p.ccr))
 
 -- The condition codes of CHK2 and CMP2. The bounds are two operands, the lower one first.
-unfoldable pub compare_bounds_of : Size → Ea → ℕ → ℕ → Space → Plain → Routine (Result ℕ ReadFault)
+abbrev pub compare_bounds_of : Size → Ea → ℕ → ℕ → Space → Plain → Routine (Result ℕ ReadFault)
 compare_bounds_of size ea w word_at space p = do
   place ← find_address_of size ea word_at space p
   lower ← read_operand_of space place (bytes_of size)
@@ -80,17 +80,17 @@ compare_bounds_of size ea w word_at space p = do
   Return (Ok (compared size lower upper (register_word w).register p))
 
 -- CMP2
-unfoldable pub cmp2_of : Size → Ea → ℕ → ℕ → Space → Plain → Routine Rowed
+abbrev pub cmp2_of : Size → Ea → ℕ → ℕ → Space → Plain → Routine Rowed
 cmp2_of size ea w word_at space p = do
   ccr ← reading (compare_bounds_of size ea w word_at space p)
   Return (carried (record p { ccr = ccr }))
 
 -- a value out of bounds, which C says, traps
-unfoldable pub check_carry_of : Plain → Rowed
+abbrev pub check_carry_of : Plain → Rowed
 check_carry_of p = if (conditions_of p.ccr).c then ended_otherwise out_of_bounds p else carried p
 
 -- CHK2
-unfoldable pub chk2_of : Size → Ea → ℕ → ℕ → Space → Plain → Routine Rowed
+abbrev pub chk2_of : Size → Ea → ℕ → ℕ → Space → Plain → Routine Rowed
 chk2_of size ea w word_at space p = do
   ccr ← reading (compare_bounds_of size ea w word_at space p)
   Return (check_carry_of (record p { ccr = ccr }))

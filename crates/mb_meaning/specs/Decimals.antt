@@ -24,7 +24,7 @@ paired false n = Dn n
 paired true n = Pre n
 
 -- ABCD and SBCD: the source's byte is read first, then the destination's, where the result goes
-unfoldable pub decimal_of : (ℕ → ℕ → ℕ → Flagged) → ℕ → Bool → ℕ → ℕ → Space → Plain → Routine Rowed
+abbrev pub decimal_of : (ℕ → ℕ → ℕ → Flagged) → ℕ → Bool → ℕ → ℕ → Space → Plain → Routine Rowed
 decimal_of operation x in_memory y word_at space p = do
   source ← reading (fetch_operand_of Byte (paired in_memory y) word_at space p)
   destination ← reading (fetch_operand_of Byte (paired in_memory x) word_at space source.plain)
@@ -33,7 +33,7 @@ decimal_of operation x in_memory y word_at space p = do
 
 -- PACK, from a word to a byte, and UNPK, from a byte to a word: the source is read, and its digits with the adjustment
 -- go to the destination, which is not read. No condition code changes.
-unfoldable pub repack_of : (ℕ → ℕ → ℕ) → Size → Size → ℕ → Bool → ℕ → ℕ → ℕ → Space → Plain → Routine Rowed
+abbrev pub repack_of : (ℕ → ℕ → ℕ) → Size → Size → ℕ → Bool → ℕ → ℕ → ℕ → Space → Plain → Routine Rowed
 repack_of operation from to x in_memory y adjust word_at space p = do
   source ← reading (fetch_operand_of from (paired in_memory y) word_at space p)
   destination ← reading (resolve_of (paired in_memory x) to word_at space source.plain)

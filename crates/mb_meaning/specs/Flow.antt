@@ -46,17 +46,17 @@ is_call condition.GreaterThan = false
 is_call condition.LessOrEqual = false
 
 -- the next instruction's address is pushed, and the flow goes to the target
-unfoldable pub call_of : ℕ → Space → Plain → Routine Rowed
+abbrev pub call_of : ℕ → Space → Plain → Routine Rowed
 call_of target space p =
     let after = record (stack_lowered p) { pc = target } in
     push_of p.pc (address_register after 7) space after >> Return (jumped after)
 
 -- to the target where the condition is met, else to the next instruction
-unfoldable pub go_if_met_of : Condition → ℕ → Plain → Rowed
+abbrev pub go_if_met_of : Condition → ℕ → Plain → Rowed
 go_if_met_of c target p = if is_met c p.ccr then jumped (record p { pc = target }) else carried p
 
 -- Bcc, with BRA for the condition T and BSR for F
-unfoldable pub branch_of : Condition → Branch → ℕ → Space → Plain → Routine Rowed
+abbrev pub branch_of : Condition → Branch → ℕ → Space → Plain → Routine Rowed
 branch_of c d word_at space p =
     choose (is_call c) (call_of (target_of word_at d) space p) (Return (go_if_met_of c (target_of word_at d) p))
 
@@ -67,24 +67,24 @@ count_down_of n p =
     with_data_register p n (with_low Word count (difference count 1))
 
 -- the count falls by one, and the flow goes to the target unless it fell to -1
-unfoldable pub go_if_counted_of : ℕ → ℕ → Plain → Rowed
+abbrev pub go_if_counted_of : ℕ → ℕ → Plain → Rowed
 go_if_counted_of n target p =
     let after = count_down_of n p in
     if low_of Word (data_register after n) == 2 ^ 16 - 1 then carried after else jumped (record after { pc = target })
 
 -- DBcc: to the next instruction where the condition is met, else one more turn where the count allows it
-unfoldable pub dbcc_of : Condition → ℕ → ℕ → ℕ → Plain → Rowed
+abbrev pub dbcc_of : Condition → ℕ → ℕ → ℕ → Plain → Rowed
 dbcc_of c n d word_at p =
     if is_met c p.ccr then carried p else go_if_counted_of n (target_of word_at (displacement.Word d)) p
 
 -- JMP: to the address of the operand
-unfoldable pub jmp_of : Ea → ℕ → Space → Plain → Routine Rowed
+abbrev pub jmp_of : Ea → ℕ → Space → Plain → Routine Rowed
 jmp_of ea word_at space p = do
   target ← reading (find_address_of Long ea word_at space p)
   Return (jumped (record p { pc = target }))
 
 -- JSR: the address is formed, then the next instruction's is pushed
-unfoldable pub jsr_of : Ea → ℕ → Space → Plain → Routine Rowed
+abbrev pub jsr_of : Ea → ℕ → Space → Plain → Routine Rowed
 jsr_of ea word_at space p = do
   target ← reading (find_address_of Long ea word_at space p)
   call_of target space p

@@ -17,7 +17,7 @@ abbrev pub line_address : ℕ → ℕ
 line_address address = address / 2 ^ 4 * 2 ^ 4
 
 -- a line is read, and then written; the registers are those after the instruction
-unfoldable pub move_line_of : ℕ → ℕ → Space → Plain → Routine Rowed
+abbrev pub move_line_of : ℕ → ℕ → Space → Plain → Routine Rowed
 move_line_of from to space after = do
   line ← reading (failing (refused_in (line_address from)) (read_line space (line_address from)))
   ending (λ fault. ended.LineFault fault line) after (write_line space (line_address to) line)
@@ -28,7 +28,7 @@ abbrev pub past_line : ℕ → Plain → Plain
 past_line n p = with_address_register p n (sum (address_register p n) 16)
 
 -- MOVE16 between (An)+ or (An) and an absolute address
-unfoldable pub move16_absolute_of : LineMove → ℕ → ℕ → Space → Plain → Routine Rowed
+abbrev pub move16_absolute_of : LineMove → ℕ → ℕ → Space → Plain → Routine Rowed
 move16_absolute_of line.PostToAbsolute n place space p = move_line_of (address_register p n) place space (past_line n p)
 move16_absolute_of line.AbsoluteToPost n place space p = move_line_of place (address_register p n) space (past_line n p)
 move16_absolute_of line.IndirectToAbsolute n place space p = move_line_of (address_register p n) place space p
@@ -39,7 +39,7 @@ abbrev pub past_lines : ℕ → ℕ → Plain → Plain
 past_lines x y p = if x == y then past_line x p else past_line y (past_line x p)
 
 -- MOVE16 (Ax)+,(Ay)+
-unfoldable pub move16_post_of : ℕ → ℕ → Space → Plain → Routine Rowed
+abbrev pub move16_post_of : ℕ → ℕ → Space → Plain → Routine Rowed
 move16_post_of x word space p =
     let y = (line_word word).destination in
     move_line_of (address_register p x) (address_register p y) space (past_lines x y p)

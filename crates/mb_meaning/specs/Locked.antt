@@ -28,7 +28,7 @@ abbrev pub test_and_set_of : ℕ → ℕ → Flagged
 test_and_set_of value ccr = record { value = bit_or value (2 ^ 7); ccr = (logic_of Pass Byte value 0 ccr).ccr }
 
 -- a locked byte, which is always written
-unfoldable pub tas_in_memory : ℕ → Space → Plain → Routine Rowed
+abbrev pub tas_in_memory : ℕ → Space → Plain → Routine Rowed
 tas_in_memory address space p = do
   places ← reading (probe_operand_of space address 1)
   value ← sure (get_operand_of places)
@@ -37,7 +37,7 @@ tas_in_memory address space p = do
   Return (carried (record p { ccr = result.ccr }))
 
 -- TAS: a data register is no memory
-unfoldable pub tas_of : Ea → ℕ → Space → Plain → Routine Rowed
+abbrev pub tas_of : Ea → ℕ → Space → Plain → Routine Rowed
 tas_of (Dn n) word_at space p = modify_of test_and_set_of Byte (Dn n) word_at space p
 tas_of ea word_at space p = do
   to ← reading (resolve_of ea Byte word_at space p)
@@ -60,7 +60,7 @@ abbrev pub cas_equal : Size → ℕ → ℕ → Plain → Bool
 cas_equal size word value p = low_of size (data_register p (swap_word word).compared) == value
 
 -- Du goes to the places of an operand that is the same as Dc. Else Dc takes the operand, and nothing is written.
-unfoldable pub cas_at : Size → ℕ → ℕ → Space → Plain → Routine Rowed
+abbrev pub cas_at : Size → ℕ → ℕ → Space → Plain → Routine Rowed
 cas_at size word address space p = do
   places ← reading (probe_operand_of space address (bytes_of size))
   value ← sure (get_operand_of places)
@@ -70,7 +70,7 @@ cas_at size word address space p = do
       (Return (carried (cas_loaded size word value after)))
 
 -- CAS
-unfoldable pub cas_of : Size → Ea → ℕ → ℕ → Space → Plain → Routine Rowed
+abbrev pub cas_of : Size → Ea → ℕ → ℕ → Space → Plain → Routine Rowed
 cas_of size ea word word_at space p = do
   to ← reading (resolve_of ea size word_at space p)
   cas_at size word (place_of to.target) space to.plain
@@ -85,7 +85,7 @@ cas2_codes size first second one two p =
 
 -- CAS2: both operands are checked, and then read. Where each is the same as its Dc, operand 1 is written first, and
 -- then operand 2. Else both are loaded; a register that is Dc of both takes operand 1.
-unfoldable pub cas2_of : Size → ℕ → ℕ → Space → Plain → Routine Rowed
+abbrev pub cas2_of : Size → ℕ → ℕ → Space → Plain → Routine Rowed
 cas2_of size first second space p = do
   places ← reading (probe_operand_of space (register_of p (swap_word first).pointer) (bytes_of size))
   others ← reading (probe_operand_of space (register_of p (swap_word second).pointer) (bytes_of size))

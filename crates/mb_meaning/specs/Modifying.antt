@@ -11,7 +11,7 @@ use Rattle.mb_meaning.specs.Operands.{fetch_operand_of, finish_with_of}
 
 -- An operand is read, the change makes of its value and the condition codes a value and condition codes, and the value
 -- goes back. The operand's first extension word is at `word_at`.
-unfoldable pub modify_of : (ℕ → ℕ → Flagged) → Size → Ea → ℕ → Space → Plain → Routine Rowed
+abbrev pub modify_of : (ℕ → ℕ → Flagged) → Size → Ea → ℕ → Space → Plain → Routine Rowed
 modify_of change size ea word_at space p = do
   operand ← reading (fetch_operand_of size ea word_at space p)
   let result = change operand.value operand.plain.ccr

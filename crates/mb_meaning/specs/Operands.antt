@@ -23,7 +23,7 @@ abbrev pub behind_of : Size → Ea → ℕ → ℕ
 behind_of size ea word_at = sum word_at (2 * length (more size ea))
 
 -- what stands there: the low bytes of a register, the bytes in memory, or the value itself
-unfoldable pub load_of : Target → Size → Space → Plain → Routine (Result ℕ ReadFault)
+abbrev pub load_of : Target → Size → Space → Plain → Routine (Result ℕ ReadFault)
 load_of (Reg n) size space p = Return (Ok (low_of size (register_of p n)))
 load_of (Memory at) size space p = read_operand_of space at (bytes_of size)
 load_of (Value v) size space p = Return (Ok v)
@@ -37,7 +37,7 @@ abbrev pub unreached_store : Plain → Routine (Result Plain WriteFault)
 unreached_store p = Return (Ok p)
 
 -- Puts a value there: in the low bytes of a register, the others staying, or in memory. No row stores to a value.
-unfoldable pub store_of : Target → Size → ℕ → Space → Plain → Routine (Result Plain WriteFault)
+abbrev pub store_of : Target → Size → ℕ → Space → Plain → Routine (Result Plain WriteFault)
 store_of (Reg n) size value space p = Return (Ok (with_register p n (with_low size (register_of p n) value)))
 store_of (Memory at) size value space p = write_operand_of space at (bytes_of size) value >> Return (Ok p)
 store_of (Value v) size value space p = unreached_store p
@@ -49,7 +49,7 @@ pub record Fetched : Type 0 where
   pub plain : Plain
 
 -- an operand is resolved, and then read
-unfoldable pub fetch_operand_of : Size → Ea → ℕ → Space → Plain → Routine (Result Fetched ReadFault)
+abbrev pub fetch_operand_of : Size → Ea → ℕ → Space → Plain → Routine (Result Fetched ReadFault)
 fetch_operand_of size ea word_at space p = do
   resolved ← resolve_of ea size word_at space p
   value ← load_of resolved.target size space resolved.plain
@@ -65,13 +65,13 @@ place_of (Memory at) = at
 place_of _ = unreached
 
 -- The address of an operand in memory, which is not read. `(An)+` and `-(An)` do not step here.
-unfoldable pub find_address_of : Size → Ea → ℕ → Space → Plain → Routine (Result ℕ ReadFault)
+abbrev pub find_address_of : Size → Ea → ℕ → Space → Plain → Routine (Result ℕ ReadFault)
 find_address_of size ea word_at space p = do
   resolved ← resolve_of ea size word_at space p
   Return (Ok (place_of resolved.target))
 
 -- The last part of an instruction: a value goes to its target. The registers are these but for that.
-unfoldable pub finish_with_of : Target → Size → ℕ → Space → Plain → Routine Rowed
+abbrev pub finish_with_of : Target → Size → ℕ → Space → Plain → Routine Rowed
 finish_with_of target size value space after = do
   done ← writing after (store_of target size value space after)
   Return (carried done)
@@ -84,5 +84,5 @@ abbrev pub stack_raised : Plain → Plain
 stack_raised p = with_address_register p 7 (sum (address_register p 7) 4)
 
 -- A long goes onto the stack, whose new top is given. After the instruction the registers are these.
-unfoldable pub push_of : ℕ → ℕ → Space → Plain → Routine (Result (Unit {0}) (Cut OtherEnd))
+abbrev pub push_of : ℕ → ℕ → Space → Plain → Routine (Result (Unit {0}) (Cut OtherEnd))
 push_of value top space after = writing after (write_operand_of space top 4 value)

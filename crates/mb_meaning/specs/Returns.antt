@@ -12,7 +12,7 @@ use Rattle.mb_meaning.specs.Ends.{Rowed, jumped, reading}
 use Rattle.mb_meaning.specs.Operands.{stack_raised}
 
 -- RTS: to the address on the stack, which is taken from it
-unfoldable pub rts_of : Space → Plain → Routine Rowed
+abbrev pub rts_of : Space → Plain → Routine Rowed
 rts_of space p = do
   target ← reading (read_operand_of space (address_register p 7) (bytes_of Long))
   Return (jumped (record (stack_raised p) { pc = target }))
@@ -22,7 +22,7 @@ abbrev pub deallocated : ℕ → Plain → Plain
 deallocated d p = with_address_register p 7 (sum (address_register p 7) (sign_extended Word d))
 
 -- RTD: the same, and then the displacement is added to the stack pointer
-unfoldable pub rtd_of : ℕ → Space → Plain → Routine Rowed
+abbrev pub rtd_of : ℕ → Space → Plain → Routine Rowed
 rtd_of d space p = do
   target ← reading (read_operand_of space (address_register p 7) (bytes_of Long))
   Return (jumped (record (deallocated d (stack_raised p)) { pc = target }))
@@ -32,7 +32,7 @@ abbrev pub stack_raised_by_word : Plain → Plain
 stack_raised_by_word p = with_address_register p 7 (sum (address_register p 7) 2)
 
 -- RTR: a word on the stack, whose low five bits are the condition codes, and behind it the address
-unfoldable pub rtr_of : Space → Plain → Routine Rowed
+abbrev pub rtr_of : Space → Plain → Routine Rowed
 rtr_of space p = do
   codes ← reading (read_operand_of space (address_register p 7) (bytes_of Word))
   target ← reading (read_operand_of space (address_register (stack_raised_by_word p) 7) (bytes_of Long))

@@ -155,7 +155,7 @@ perform_arith_of (arith.Cas2 size first second) word_at space p = cas2_of size f
 perform_arith_of (arith.Cmp2 size ea word) word_at space p = cmp2_of size ea word word_at space p
 
 -- What goes elsewhere.
-unfoldable pub perform_flow_of : Flow → ℕ → Space → Plain → Routine Rowed
+abbrev pub perform_flow_of : Flow → ℕ → Space → Plain → Routine Rowed
 perform_flow_of flow.Nop word_at space p = Return (carried p)
 perform_flow_of (flow.Bcc condition displacement) word_at space p = branch_of condition displacement word_at space p
 perform_flow_of (flow.Dbcc condition register displacement) word_at space p =
@@ -173,7 +173,7 @@ perform_flow_of (flow.Chk2 size ea word) word_at space p = chk2_of size ea word 
 
 -- What an instruction's row does, by its family. A row knows no more of the instruction's address than where the words
 -- of its operands begin. A privileged instruction is not carried out here.
-unfoldable pub row_of : Instr → ℕ → Space → Plain → Routine Rowed
+abbrev pub row_of : Instr → ℕ → Space → Plain → Routine Rowed
 row_of (instr.Move i) at space p = perform_move_of i (operands_at (move_row i) at) space p
 row_of (instr.Arith i) at space p = perform_arith_of i (operands_at (arith_row i) at) space p
 row_of (instr.Flow i) at space p = perform_flow_of i (operands_at (flow_row i) at) space p
@@ -181,5 +181,5 @@ row_of (instr.System i) at space p = Return (ended_otherwise privileged p)
 
 -- What an instruction does, all accesses in this space. `at` is its address; PC is past it. A part which reads and is
 -- refused leaves the registers, whatever the row.
-unfoldable pub perform_of : Instr → ℕ → Space → Plain → Routine Performed
+abbrev pub perform_of : Instr → ℕ → Space → Plain → Routine Performed
 perform_of i at space p = restoring p (row_of i at space p)

@@ -14,7 +14,7 @@ abbrev pub shift_count_of : Bool → ℕ → Plain → ℕ
 shift_count_of by_register count p = if by_register then data_register p count % 64 else count
 
 -- a shift or rotate of a data register
-unfoldable pub shift_register_of : ShiftKind → Bool → Size → ℕ → ℕ → Plain → Plain
+abbrev pub shift_register_of : ShiftKind → Bool → Size → ℕ → ℕ → Plain → Plain
 shift_register_of kind is_left size count register p =
     put_in_register_of register size (shift_of kind is_left size count (data_register p register) p.ccr) p
 

@@ -12,7 +12,7 @@ use Rattle.mb_meaning.specs.Ends.{Rowed, carried, reading}
 use Rattle.mb_meaning.specs.Operands.{find_address_of, stack_lowered, push_of}
 
 -- PEA: the address is formed, and then A7 falls and the address is stored there
-unfoldable pub pea_of : Ea → ℕ → Space → Plain → Routine Rowed
+abbrev pub pea_of : Ea → ℕ → Space → Plain → Routine Rowed
 pea_of ea word_at space p = do
   place ← reading (find_address_of Long ea word_at space p)
   let after = stack_lowered p
@@ -26,14 +26,14 @@ linked n displacement p =
     with_address_register (with_address_register p n frame) 7 (sum frame displacement)
 
 -- LINK: A7 falls, and An is stored there; of A7 itself its new value
-unfoldable pub link_of : ℕ → ℕ → Space → Plain → Routine Rowed
+abbrev pub link_of : ℕ → ℕ → Space → Plain → Routine Rowed
 link_of n displacement space p =
     let low = stack_lowered p in
     let after = linked n displacement low in
     push_of (address_register low n) (address_register low 7) space after >> Return (carried after)
 
 -- UNLK: A7 becomes An, the long there goes to An, and A7 is past it; A7 itself becomes the long
-unfoldable pub unlk_of : ℕ → Space → Plain → Routine Rowed
+abbrev pub unlk_of : ℕ → Space → Plain → Routine Rowed
 unlk_of n space p = do
   frame ← reading (read_operand_of space (address_register p n) 4)
   let past = with_address_register p 7 (sum (address_register p n) 4)

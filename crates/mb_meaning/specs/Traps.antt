@@ -20,13 +20,13 @@ abbrev pub numbered_trap : ℕ → Ended
 numbered_trap number = ended.Trap (FIRST_TRAP + number)
 
 -- TRAP
-unfoldable pub trap_of : ℕ → Plain → Rowed
+abbrev pub trap_of : ℕ → Plain → Rowed
 trap_of number p = ended_otherwise (numbered_trap number) p
 
 -- TRAPcc, whose operand is passed over: a trap where the condition is met
-unfoldable pub trapcc_of : Condition → Plain → Rowed
+abbrev pub trapcc_of : Condition → Plain → Rowed
 trapcc_of c p = if is_met c p.ccr then ended_otherwise conditional_trap p else carried p
 
 -- TRAPV: a trap on overflow
-unfoldable pub trapv_of : Plain → Rowed
+abbrev pub trapv_of : Plain → Rowed
 trapv_of p = trapcc_of OverflowSet p

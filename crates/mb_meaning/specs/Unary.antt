@@ -31,7 +31,7 @@ abbrev pub complemented : Size → ℕ → ℕ → Flagged
 complemented size value ccr = logic_of Not size value 0 ccr
 
 -- CLR: 0 is moved to the operand, which is not read
-unfoldable pub clr_of : Size → Ea → ℕ → Space → Plain → Routine Rowed
+abbrev pub clr_of : Size → Ea → ℕ → Space → Plain → Routine Rowed
 clr_of size ea word_at space p = do
   to ← reading (resolve_of ea size word_at space p)
   finish_with_of to.target size 0 space (move_flags size 0 to.plain)
@@ -46,9 +46,9 @@ put_in_register_of n size result p =
     record (with_data_register p n (with_low size (data_register p n) result.value)) { ccr = result.ccr }
 
 -- EXT and EXTB
-unfoldable pub ext_of : Size → Size → ℕ → Plain → Plain
+abbrev pub ext_of : Size → Size → ℕ → Plain → Plain
 ext_of from to register p = put_in_register_of register to (extend_of from to (data_register p register) p.ccr) p
 
 -- ORI, ANDI and EORI to CCR: the low five bits of the word count
-unfoldable pub combine_with_ccr_of : LogicKind → ℕ → Plain → Plain
+abbrev pub combine_with_ccr_of : LogicKind → ℕ → Plain → Plain
 combine_with_ccr_of kind word p = record p { ccr = (logic_of kind Byte word p.ccr p.ccr).value % 2 ^ 5 }

@@ -10,7 +10,7 @@ use Rattle.mb_model.specs.declared.pages.TheConstants.{PAGE_SIZE}
 use Rattle.mb_machine.specs.declared.reference.Reference.{Reference}
 use Rattle.mb_machine.specs.declared.reference.Settled.{Settled}
 use Rattle.mb_machine.specs.declared.reference.Settled.TheVariants.{To, Refused, Unsettled}
-use Rattle.mb_machine.specs.Access.{matched, or_off, untranslated, admits, marks, in_frame, through, known, by_entry, by_match, settled, LeadsTo}
+use Rattle.mb_machine.specs.Access.{matched, or_off, untranslated, admits, marks, in_frame, known, by_entry, by_match, settled, LeadsTo}
 use Rattle.mb_mmu.specs.State.{Translation, settled_by}
 use Rattle.mb_mmu.specs.MicroTlb.{entry_to}
 use Rattle.mb_mmu.specs.Sound.{LeadsIntoRam, IsTrueOf}
@@ -41,7 +41,6 @@ by_tests k r b false true = ap To (beside_frame k.frame r.at b)
 by_tests k r b false false = tt
 
 entry_beside : (r : Reference) (b : ℕ) (o : Option Kept) → Beside b (by_entry r o) (by_entry (moved r b) o)
-unfolding by_entry through
 entry_beside r b None = tt
 entry_beside r b (Some k) = by_tests k r b (marks k r) (admits k r)
 
@@ -59,7 +58,6 @@ match_beside rule kept r b None e =
 
 pub settled_beside : (rule : Rule) (mmu : Mmu) (kept : KeptLists) (r : Reference) (b : ℕ) → page_of b ≡ page_of r.at
     → Beside b (settled rule mmu kept r) (settled rule mmu kept (moved r b))
-unfolding settled untranslated
 settled_beside rule mmu kept r b e =
     subst (λ (page : ℕ). Beside b (settled rule mmu kept r) (by_match rule kept (moved r b) (or_off mmu (matched r.code mmu r.space page))))
     (sym e) (match_beside rule kept r b (untranslated mmu r) e)

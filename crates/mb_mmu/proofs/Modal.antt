@@ -30,7 +30,6 @@ all_off false false true d h = absurd (cc)
 all_off false false false true h = absurd (cc)
 
 no_match : (tt0 tt1 : ℕ) (space : Space) (page : ℕ) → is_enabled tt0 ≡ false → is_enabled tt1 ≡ false → transparent_of tt0 tt1 space page ≡ None
-unfolding transparent_of
 no_match tt0 tt1 space page h g = rw (h, g) refl
 
 no_match_of : (mmu : Mmu) (code : Bool) (space : Space) (page : ℕ) → has_transparent mmu ≡ false → matched code mmu space page ≡ None
@@ -54,7 +53,6 @@ no_user_register tt page h =
     within_first r.enabled (not (r.spaces == 1)) (bit_or (page / 2 ^ 12) r.ignored == bit_or r.base r.ignored) h
 
 no_user_match : (tt0 tt1 page : ℕ) → serves_user tt0 ≡ false → serves_user tt1 ≡ false → transparent_of tt0 tt1 User page ≡ None
-unfolding transparent_of
 no_user_match tt0 tt1 page h g = rw (no_user_register tt0 page h, no_user_register tt1 page g) refl
 
 no_user_match_of : (mmu : Mmu) (code : Bool) (page : ℕ) → has_user mmu ≡ false → matched code mmu User page ≡ None
@@ -101,35 +99,29 @@ on mmu (Some protected) h e = absurd (cc)
 on mmu None h e = rw h refl
 
 direct_untranslated : (mmu : Mmu) (r : Reference) → mode_of mmu ≡ Direct → untranslated mmu r ≡ Some false
-unfolding untranslated
 direct_untranslated mmu r h =
     let is = direct (has_transparent mmu) (has_user mmu) (is_translating mmu) h in
     off mmu (matched r.code mmu r.space (page_of r.at)) is.translates (no_match_of mmu r.code r.space (page_of r.at) is.unmatched)
 
 tables_translated : (mmu : Mmu) (r : Reference) → mode_of mmu ≡ Tables → untranslated mmu r ≡ None
-unfolding untranslated
 tables_translated mmu r h =
     let is = tables (has_transparent mmu) (has_user mmu) (is_translating mmu) h in
     on mmu (matched r.code mmu r.space (page_of r.at)) is.translates (no_match_of mmu r.code r.space (page_of r.at) is.unmatched)
 
 user_translated : (mmu : Mmu) (r : Reference) → mode_of mmu ≡ UserTables → r.space ≡ User → untranslated mmu r ≡ None
-unfolding untranslated
 user_translated mmu r h space =
     let is = user_tables (has_transparent mmu) (has_user mmu) (is_translating mmu) h in
     on mmu (matched r.code mmu r.space (page_of r.at)) is.translates (rw space (no_user_match_of mmu r.code (page_of r.at) is.unmatched))
 
 pub direct-settled : (rule : Rule) (mmu : Mmu) (kept : KeptLists) (r : Reference) → mode_of mmu ≡ Direct → settled rule mmu kept r ≡ To r.at
-unfolding settled
 direct-settled rule mmu kept r h = ap (λ (o : Option Bool). by_match rule kept r o) (direct_untranslated mmu r h)
 
 pub tables-settled : (rule : Rule) (mmu : Mmu) (kept : KeptLists) (r : Reference) → mode_of mmu ≡ Tables
     → settled rule mmu kept r ≡ by_entry r (entry_for rule r.code r.space (page_of r.at) kept)
-unfolding settled
 tables-settled rule mmu kept r h = ap (λ (o : Option Bool). by_match rule kept r o) (tables_translated mmu r h)
 
 pub user-settled : (rule : Rule) (mmu : Mmu) (kept : KeptLists) (r : Reference) → mode_of mmu ≡ UserTables → r.space ≡ User
     → settled rule mmu kept r ≡ by_entry r (entry_for rule r.code r.space (page_of r.at) kept)
-unfolding settled
 user-settled rule mmu kept r h space = ap (λ (o : Option Bool). by_match rule kept r o) (user_translated mmu r h space)
 
 -- ---- all off

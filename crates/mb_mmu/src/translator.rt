@@ -121,7 +121,6 @@ impl Translator {
     /// What is known of a reference where a transparent register may match it. It is given by its fields, so that it
     /// need not stand in memory where none may.
     #[inline(never)]
-    #[tactic(auto, unfolding(mb_machine::specs::Access::settled))]
     fn by_registers(&self, code: bool, space: Space, at: u32, write: bool) -> Settled
         ensures { result ≡ settled_by self.now (record { code = code; space = space; at = at; write = write }) }
     {

@@ -30,7 +30,7 @@ use Rattle.mb_mnemonics.proofs.Steps.{operand_step}
 use Rattle.mb_mnemonics.proofs.RowWords.{row_words}
 use Rattle.mb_mnemonics.proofs.Even.{table_even}
 use Rattle.mb_mnemonics.specs.Table.{lines}
-use Rattle.mb_mnemonics.specs.Means.{Form, size_by, form_by, form_among, form_of, is_named, said, told, is_instr, meaning_by, meaning, form_length}
+use Rattle.mb_mnemonics.specs.Means.{Form, size_by, form_by, form_among, is_named, said, told, is_instr, meaning_by, meaning, form_length}
 use Rattle.mb_mnemonics.specs.Means.{length_of_form, length_by}
 use Rattle.mb_mnemonics.specs.declared.fault.MeansFault.TheVariants as fault
 use Rattle.mb_syntax.specs.declared.statement.SizeLetter.TheVariants as of_letter
@@ -136,7 +136,6 @@ even_three l size.Long e =
 
 even_size : (l : Entry) (z : Sizes) (letter : Option SizeLetter) (s : Size) → size_in z letter ≡ Some s
     → even_at l (sizes_of z) ≡ true → is_even l s ≡ true
-unfolding size_in
 even_size l sizes.Unsized None s h e = let k : size.Long ≡ s = cc in even_one l size.Long s k e
 even_size l sizes.Unsized (Some x) s h e = absurd cc
 even_size l (sizes.Only x) None s h e = let k : x ≡ s = cc in even_one l x s k e
@@ -171,7 +170,6 @@ if_some false x y e = absurd cc
 
 line_form : (l : Entry) (name : List ℕ) (letter : Option SizeLetter) (os : List (Operand ℤ)) (f : Form)
     → even_at l (sizes_of l.sizes) ≡ true → form_by l name letter os ≡ Some f → IsForm f os
-unfolding form_by
 line_form l name letter os f e h =
     let c = chained (λ x. option_map (λ s. record { entry = l; condition = x; size = s }) (size_by l letter os)) (condition_by l name) f h in
     let s = mapped (λ s. form_at l c.0 s) (size_by l letter os) f c.1.1 in
@@ -234,7 +232,6 @@ sized_words r p s h = subst (λ y. length (further (row (meant r p)))
 
 form_words : (f : Form) (os : List (Operand ℤ)) (at : ℕ) (i : Instr) → IsForm f os → said f os at ≡ Some i
     → form_length f os ≡ 2 * length (words_of (row i))
-unfolding said
 form_words f os at i h e =
     let here = (at + (2 + 2 * f.entry.words)) % 2 ^ 32 in
     let p = mapped (λ p. meant f.entry.row p) (with_operands f.entry.operands f.size at here os (nothing f.size f.condition)) i e in
@@ -268,7 +265,6 @@ by_form (Some f) x os at n i h l m =
 
 pub length_of_words : (name : List ℕ) (letter : Option SizeLetter) (os : List (Operand ℤ)) (at n : ℕ) (i : Instr)
     → length_by name letter os ≡ Ok n → meaning name letter os at ≡ Ok i → n ≡ 2 * length (words_of (row i))
-unfolding length_by meaning form_of
 length_of_words name letter os at n i l m =
     by_form (form_among lines name letter os) (if is_named lines name then fault.Operand else fault.Name) os at n i
     (λ f h. form_is lines name letter os f table_even h) l m

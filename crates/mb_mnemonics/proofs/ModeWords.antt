@@ -136,7 +136,6 @@ ext_length f bd od =
 
 full_length : (place : ℕ) (f : FullForm ℤ) (e : Ext) → full place f ≡ Some e
     → length (ext e) ≡ 1 + displacement_words f.displacement + displacement_words (outer_of f)
-unfolding full
 full_length place f e h =
     let b = chained (λ bd. option_map (λ od. ext_is.Full (full_word f) bd od) (plain (outer_of f))) (base_displacement place f) e h in
     let o = mapped (λ od. ext_is.Full (full_word f) b.0 od) (plain (outer_of f)) e b.1.1 in
@@ -159,7 +158,7 @@ along : {A : Type 0} (s : Size) (n : ℕ) (f : A → Ea) (o : Option A) (a : Ea)
 along s n f o a h e = let m = mapped f o a e in subst (λ x. length (more s x) ≡ n) m.1.1 (h m.0)
 
 pub ea_words : (s : Size) (place : ℕ) (m : Mode ℤ) (a : Ea) → ea_of s place m ≡ Some a → length (more s a) ≡ mode_words s m
-unfolding ea_of mode_words
+unfolding mode_words
 ea_words s place (mode.Data n) a e = let h : ea.Dn n ≡ a = cc in subst (λ x. length (more s x) ≡ 0) h refl
 ea_words s place (mode.Address n) a e = let h : ea.An n ≡ a = cc in subst (λ x. length (more s x) ≡ 0) h refl
 ea_words s place (mode.Indirect n) a e = let h : ea.Ind n ≡ a = cc in subst (λ x. length (more s x) ≡ 0) h refl

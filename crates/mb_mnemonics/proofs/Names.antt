@@ -7,7 +7,7 @@ use Rattle.mb_syntax.specs.declared.statement.SizeLetter.{SizeLetter}
 use Rattle.mb_mnemonics.specs.declared.fault.MeansFault.TheVariants as fault
 use Rattle.mb_mnemonics.specs.Lines.{Entry, condition_by}
 use Rattle.mb_mnemonics.specs.Table.{lines}
-use Rattle.mb_mnemonics.specs.Means.{Form, form_by, form_among, form_of, is_named, said, told, is_instr, meaning_by, meaning}
+use Rattle.mb_mnemonics.specs.Means.{Form, form_by, form_among, is_named, said, told, is_instr, meaning_by, meaning}
 
 neither : (a b : Bool) → (a || b) ≡ false → (a ≡ false) × (b ≡ false)
 neither true b e = absurd cc
@@ -19,7 +19,6 @@ is_none (Some x) e = absurd cc
 
 not_by : (l : Entry) (name : List ℕ) (letter : Option SizeLetter) (os : List (Operand ℤ))
     → condition_by l name ≡ None → form_by l name letter os ≡ None
-unfolding form_by
 not_by l name letter os e = rw e refl
 
 not_among : (ls : List Entry) (name : List ℕ) (letter : Option SizeLetter) (os : List (Operand ℤ))
@@ -31,7 +30,6 @@ not_among (l ∷ ls) name letter os e =
 
 pub unnamed : (name : List ℕ) (letter : Option SizeLetter) (os : List (Operand ℤ)) (at : ℕ)
     → is_named lines name ≡ false → meaning name letter os at ≡ Err fault.Name
-unfolding meaning form_of
 unnamed name letter os at e = rw (not_among lines name letter os e, e) refl
 
 told_no_name : (o : Option Instr) → told o ≡ Err fault.Name → ⊥
@@ -49,5 +47,4 @@ by_name None false os at e = refl
 
 pub named_else : (name : List ℕ) (letter : Option SizeLetter) (os : List (Operand ℤ)) (at : ℕ)
     → meaning name letter os at ≡ Err fault.Name → is_named lines name ≡ false
-unfolding meaning form_of
 named_else name letter os at e = by_name (form_among lines name letter os) (is_named lines name) os at e

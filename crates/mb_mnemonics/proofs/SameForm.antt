@@ -60,7 +60,6 @@ takes_field_same f g p s _ = refl
 
 takes_same : {E : Type 0} (f g : E → ℤ) (p : Pattern) (s : Size) (o : Operand E)
     → takes_operand p s (valued f o) ≡ takes_operand p s (valued g o)
-unfolding takes_operand
 takes_same f g p s (operand.Mode m) = takes_mode_same f g p s m
 takes_same f g p s (operand.Field m b) = takes_field_same f g p s m
 takes_same f g p s _ = refl
@@ -101,13 +100,11 @@ mode_words_same f g s (mode.Immediate e) = refl
 mode_words_same f g s _ = refl
 
 target_words : (reach s : Size) (o t : Operand ℤ) → operand_words (pattern.Target reach) s o ≡ operand_words (pattern.Target reach) s t
-unfolding operand_words
 target_words size.Long s o t = refl
 target_words _ s o t = refl
 
 pub operand_words_same : {E : Type 0} (f g : E → ℤ) (p : Pattern) (s : Size) (o : Operand E)
     → operand_words p s (valued f o) ≡ operand_words p s (valued g o)
-unfolding operand_words
 operand_words_same f g p s (operand.Mode m) =
     elim p as (λ q. operand_words q s (operand.Mode (valued_mode f m)) ≡ operand_words q s (operand.Mode (valued_mode g m))) [
       | pattern.Mode class ↦ mode_words_same f g s m
@@ -142,7 +139,6 @@ size_by_same f g l letter os = elim (size_in l.sizes letter) as (λ o.
 
 form_by_same : {E : Type 0} (f g : E → ℤ) (l : Entry) (name : List ℕ) (letter : Option SizeLetter) (os : List (Operand E))
     → form_by l name letter (map (valued f) os) ≡ form_by l name letter (map (valued g) os)
-unfolding form_by
 form_by_same f g l name letter os = rw (size_by_same f g l letter os) refl
 
 form_among_same : {E : Type 0} (f g : E → ℤ) (ls : List Entry) (name : List ℕ) (letter : Option SizeLetter) (os : List (Operand E))
@@ -153,12 +149,10 @@ form_among_same f g (l ∷ ls) name letter os =
 
 pub form_of_same : {E : Type 0} (f g : E → ℤ) (name : List ℕ) (letter : Option SizeLetter) (os : List (Operand E))
     → form_of name letter (map (valued f) os) ≡ form_of name letter (map (valued g) os)
-unfolding form_of
 form_of_same f g name letter os = rw (form_among_same f g lines name letter os) refl
 
 pub length_by_same : {E : Type 0} (f g : E → ℤ) (name : List ℕ) (letter : Option SizeLetter) (os : List (Operand E))
     → length_by name letter (map (valued f) os) ≡ length_by name letter (map (valued g) os)
-unfolding length_by
 length_by_same f g name letter os = rw (form_of_same f g name letter os) (elim (form_of name letter (map (valued g) os)) as (λ r.
     length_of_form r (map (valued f) os) ≡ length_of_form r (map (valued g) os)) [
       | Err e ↦ refl

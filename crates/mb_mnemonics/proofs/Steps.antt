@@ -108,19 +108,16 @@ at_size : (t s : Size) (here : ℕ) (m : Mode ℤ) → same_size t s ≡ true �
 at_size t s here m h a e = rw (same_size_is t s h) (ea_words s here m a e)
 
 data_has_none : (t s : Size) (here : ℕ) (m : Mode ℤ) → is_data m ≡ true → (a : Ea) → ea_of s here m ≡ Some a → length (more t a) ≡ 0
-unfolding ea_of
 data_has_none t s here (mode.Data n) d a e = let h : ea.Dn n ≡ a = cc in subst (λ x. length (more t x) ≡ 0) h refl
 data_has_none t s here _ d a e = absurd cc
 
 target_words : (r s : Size) (o : Operand ℤ) → operand_words (pattern.Target r) s o ≡ target_own r
-unfolding operand_words
 target_words size.Byte s o = refl
 target_words size.Word s o = refl
 target_words size.Long s o = refl
 
 mode_step : (pat : Pattern) (t s : Size) (at here : ℕ) (m : Mode ℤ) (q p : Parts) → takes_mode pat s m ≡ true
     → (not (by_size pat) || same_size t s) ≡ true → with_mode pat s at here m q ≡ Some p → Step t s pat (operand.Mode m) q p
-unfolding with_mode operand_words
 mode_step (pattern.Mode c) t s at here m q p k b e = ea_step t s (pattern.Mode c) here (operand.Mode m) m q p refl refl refl (at_size t s here m b) e
 mode_step (pattern.Memory c) t s at here m q p k b e = ea_step t s (pattern.Memory c) here (operand.Mode m) m q p refl refl refl (at_size t s here m b) e
 mode_step pattern.DataMode t s at here m q p k b e = ea_step t s pattern.DataMode here (operand.Mode m) m q p refl refl refl (data_has_none t s here m k) e
@@ -189,7 +186,6 @@ field_step pat t s at here o q p m ws he hs ho hw b e =
 
 pub operand_step : (pat : Pattern) (t s : Size) (at here : ℕ) (o : Operand ℤ) (q p : Parts) → takes_operand pat s o ≡ true
     → (not (by_size pat) || same_size t s) ≡ true → with_operand pat s at here o q ≡ Some p → Step t s pat o q p
-unfolding takes_operand with_operand operand_words
 operand_step pat t s at here (operand.Mode m) q p k b e = mode_step pat t s at here m q p k b e
 operand_step (pattern.FieldMode c) t s at here (operand.Field m f) q p k b e =
     field_step (pattern.FieldMode c) t s at here (operand.Field m f) q p m (field_bits f) refl refl refl refl b e

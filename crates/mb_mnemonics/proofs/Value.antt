@@ -67,11 +67,9 @@ has_of r e =
     record { legal = b.0; fields = opcode_is r.opcode b.1; are_words = words_are (further r) a.1 }
 
 pub instr_is : (i : Instr) → IsInstr i → is_instr i ≡ true
-unfolding is_instr
 instr_is i h = value_of (row i) h
 
 pub is_no_instr : (i : Instr) → (IsInstr i → ⊥) → is_instr i ≡ false
-unfolding is_instr
 is_no_instr i not_one = elim (is_value (row i)) as (λ b. (is_value (row i) ≡ b) → b ≡ false) [
   | true ↦ λ e. absurd (not_one (has_of (row i) e))
   | false ↦ λ e. refl

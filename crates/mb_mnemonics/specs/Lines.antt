@@ -89,7 +89,7 @@ condition_in [] text = None
 condition_in (n ∷ ns) text = if same_letters n.name text then Some n.condition else condition_in ns text
 
 -- The condition that a name says by a line, where it is the line's: its stem and one of its endings, in either case.
-unfoldable pub condition_by : Entry → List ℕ → Option Condition
+abbrev pub condition_by : Entry → List ℕ → Option Condition
 condition_by l name =
     if nat_lt (length name) (length l.stem) then None
     else (if same_letters l.stem (take (length l.stem) name)

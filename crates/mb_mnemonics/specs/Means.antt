@@ -41,7 +41,7 @@ size_by l letter os = option_and_then
     (λ s. if takes_operands l.operands s os then Some s else None) (size_in l.sizes letter)
 
 -- a statement by a line
-unfoldable pub form_by : Entry → List ℕ → Option SizeLetter → List (Operand ℤ) → Option Form
+abbrev pub form_by : Entry → List ℕ → Option SizeLetter → List (Operand ℤ) → Option Form
 form_by l name letter os = option_and_then
     (λ c. option_map (λ s. record { entry = l; condition = c; size = s }) (size_by l letter os)) (condition_by l name)
 
@@ -56,12 +56,12 @@ is_named ls name = list_any (λ l. is_some (condition_by l name)) ls
 
 -- The form of a statement: no line has its name, or none of those that have it has its size and its operands. Numbers
 -- have no part in it.
-unfoldable pub form_of : List ℕ → Option SizeLetter → List (Operand ℤ) → Result Form MeansFault
+abbrev pub form_of : List ℕ → Option SizeLetter → List (Operand ℤ) → Result Form MeansFault
 form_of name letter os =
     ok_or (form_among lines name letter os) (if is_named lines name then fault.Operand else fault.Name)
 
 -- what a statement of the form at the address says
-unfoldable pub said : Form → List (Operand ℤ) → ℕ → Option Instr
+abbrev pub said : Form → List (Operand ℤ) → ℕ → Option Instr
 said f os at = option_map (λ p. meant f.entry.row p)
     (with_operands f.entry.operands f.size at ((at + (2 + 2 * f.entry.words)) % 2 ^ 32) os (nothing f.size f.condition))
 
@@ -73,7 +73,7 @@ are_words (w ∷ ws) = nat_lt w (2 ^ 16) && are_words ws
 abbrev pub is_value : Row → Bool
 is_value r = r.legal && is_opcode r.opcode && are_words (further r)
 
-unfoldable pub is_instr : Instr → Bool
+abbrev pub is_instr : Instr → Bool
 is_instr i = is_value (row i)
 
 -- what is said, where its row has it
@@ -88,7 +88,7 @@ meaning_by (Err e) os at = Err e
 -- The instruction that a statement at the address means: no line has its name, none of those has its size and operands,
 -- a number is out of its range, or the first line that has them says it. Registers are 0 to 7: at last the row decides
 -- whether it has the value.
-unfoldable pub meaning : List ℕ → Option SizeLetter → List (Operand ℤ) → ℕ → Result Instr MeansFault
+abbrev pub meaning : List ℕ → Option SizeLetter → List (Operand ℤ) → ℕ → Result Instr MeansFault
 meaning name letter os at = meaning_by (form_of name letter os) os at
 
 -- how many bytes the words of a form have
@@ -100,5 +100,5 @@ length_of_form (Ok f) os = Ok (form_length f os)
 length_of_form (Err e) os = Err e
 
 -- How many bytes the instruction of a statement has, whatever its numbers are.
-unfoldable pub length_by : List ℕ → Option SizeLetter → List (Operand ℤ) → Result ℕ MeansFault
+abbrev pub length_by : List ℕ → Option SizeLetter → List (Operand ℤ) → Result ℕ MeansFault
 length_by name letter os = length_of_form (form_of name letter os) os

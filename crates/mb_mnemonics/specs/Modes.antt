@@ -173,7 +173,7 @@ base_displacement place f = elim f.base [
 ]
 
 -- the extension words of a full form of which the first stands at the place
-unfoldable pub full : ℕ → FullForm ℤ → Option Ext
+abbrev pub full : ℕ → FullForm ℤ → Option Ext
 full place f =
     option_and_then (λ bd. option_map (λ od. Full (full_word f) bd od) (plain (outer_of f))) (base_displacement place f)
 
@@ -187,7 +187,7 @@ with_base base.NoPc e = ea.PcIndex e
 
 -- The operand of the size that a mode means whose first extension word stands at the place; none where a number is out
 -- of its range.
-unfoldable pub ea_of : Size → ℕ → Mode ℤ → Option Ea
+abbrev pub ea_of : Size → ℕ → Mode ℤ → Option Ea
 ea_of s place (Data n) = Some (ea.Dn n)
 ea_of s place (Address n) = Some (ea.An n)
 ea_of s place (Indirect n) = Some (ea.Ind n)

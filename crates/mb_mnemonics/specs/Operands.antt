@@ -107,7 +107,7 @@ takes_pair (pattern.Pairs place) = true
 takes_pair _ = false
 
 -- Whether an operand is of the pattern's form at the size. Numbers have no part in it.
-unfoldable pub takes_operand : Pattern → Size → Operand ℤ → Bool
+abbrev pub takes_operand : Pattern → Size → Operand ℤ → Bool
 takes_operand p s (operand.Mode m) = takes_mode p s m
 takes_operand p s (operand.Field m f) = takes_field p s m
 takes_operand p s operand.Sr = elim p [ pattern.Sr ↦ true | _ ↦ false ]
@@ -126,7 +126,7 @@ takes_operands (p ∷ ps) s (o ∷ os) = takes_operand p s o && takes_operands p
 takes_operands _ s _ = false
 
 -- how many words an operand of the pattern's form has of its own
-unfoldable pub operand_words : Pattern → Size → Operand ℤ → ℕ
+abbrev pub operand_words : Pattern → Size → Operand ℤ → ℕ
 operand_words (pattern.Mode class) s (operand.Mode m) = mode_words s m
 operand_words (pattern.Source class) s (operand.Mode m) = mode_words s m
 operand_words (pattern.Memory class) s (operand.Mode m) = mode_words s m
@@ -191,7 +191,7 @@ field_part r (field_number.Data n) = Some (2 ^ 5 + n % 8)
 field_part r (field_number.Number e) = number r e
 
 -- `0000 Oooo ooWw wwww`
-unfoldable pub field_bits : BitField ℤ → Option ℕ
+abbrev pub field_bits : BitField ℤ → Option ℕ
 field_bits f = option_and_then
     (λ o. option_map (λ w. o * 2 ^ 6 + w) (field_part range.Width f.width)) (field_part range.Offset f.offset)
 
@@ -236,7 +236,7 @@ with_value pattern.Absolute s at m parts =
 with_value _ s at m parts = Some parts
 
 -- what a mode says by its pattern, in a statement at the address, whose own words stand here
-unfoldable pub with_mode : Pattern → Size → ℕ → ℕ → Mode ℤ → Parts → Option Parts
+abbrev pub with_mode : Pattern → Size → ℕ → ℕ → Mode ℤ → Parts → Option Parts
 with_mode (pattern.Mode class) s at here m parts = with_ea s here m parts
 with_mode (pattern.Memory class) s at here m parts = with_ea s here m parts
 with_mode pattern.DataMode s at here m parts = with_ea s here m parts
@@ -257,7 +257,7 @@ with_pair _ n m parts = parts
 
 -- What an operand of the pattern's form says, beside what was said before, in a statement at the address, where the
 -- operand's own words stand here; none where a number is out of its range.
-unfoldable pub with_operand : Pattern → Size → ℕ → ℕ → Operand ℤ → Parts → Option Parts
+abbrev pub with_operand : Pattern → Size → ℕ → ℕ → Operand ℤ → Parts → Option Parts
 with_operand p s at here (operand.Mode m) parts = with_mode p s at here m parts
 with_operand p s at here (operand.Field m f) parts = option_and_then
     (λ w. option_map (λ a. record parts { ea = a; word = w }) (ea_of s here m)) (field_bits f)

@@ -45,7 +45,7 @@ values range.Offset = 2 ^ 5
 values range.Width = 2 ^ 5
 
 -- a number of the range, as it is spelled
-unfoldable pub number : Range → ℤ → Option ℕ
+abbrev pub number : Range → ℤ → Option ℕ
 number r e = if int_le (least r) e && int_le e (greatest r) then Some (modulo (values r) e) else None
 
 -- the range of an immediate of the size
@@ -59,7 +59,7 @@ abbrev pub distance : ℕ → ℤ → ℕ
 distance place target = (modulo (2 ^ 32) target + (2 ^ 32 - place)) % 2 ^ 32
 
 -- a displacement of the size from the place to the target: its low bytes, extended by their sign, say the distance
-unfoldable pub displacement : Size → ℕ → ℤ → Option ℕ
+abbrev pub displacement : Size → ℕ → ℤ → Option ℕ
 displacement size place target =
     if sign_extended size (distance place target) == distance place target
     then Some (low_of size (distance place target)) else None
@@ -71,6 +71,6 @@ is_reserved size.Word d = false
 is_reserved size.Long d = false
 
 -- the displacement of a branch whose first word stands at the address; it counts from the word behind
-unfoldable pub branch : Size → ℕ → ℤ → Option ℕ
+abbrev pub branch : Size → ℕ → ℤ → Option ℕ
 branch s at target = option_and_then
     (λ d. if is_reserved s d then None else Some d) (displacement s ((at + 2) % 2 ^ 32) target)

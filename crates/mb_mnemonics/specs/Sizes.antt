@@ -27,7 +27,7 @@ not_byte_size (Some size.Long) = Some size.Long
 not_byte_size _ = None
 
 -- The size of an operation whose name has this letter, or none. What has no size is as a long.
-unfoldable pub size_in : Sizes → Option SizeLetter → Option Size
+abbrev pub size_in : Sizes → Option SizeLetter → Option Size
 size_in Unsized None = Some size.Long
 size_in Unsized (Some l) = None
 size_in (Only s) None = Some s

@@ -69,7 +69,6 @@ fn condition_in(names: &[NameOf], text: &[u8]) -> Option<Condition>
 
 /// The condition that a name says by a line, where it is the line's: its stem and one of its endings, in either case.
 /// A name without a condition says T.
-#[tactic(auto, unfolding(crate::specs::Lines::condition_by))]
 pub(crate) fn condition_by(line: &Line, name: &[u8]) -> Option<Condition>
     ensures { result ≡ condition_by (entry_of line.now) name.now }
 {

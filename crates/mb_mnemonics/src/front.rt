@@ -29,7 +29,6 @@ struct Form {
 }
 
 /// A statement by a line.
-#[tactic(auto, unfolding(crate::specs::Means::form_by))]
 fn form_by(
     line: &'static Line,
     name: &[u8],
@@ -82,7 +81,6 @@ fn is_named(lines: &[Line], name: &[u8]) -> bool
 }
 
 /// The form of a statement.
-#[tactic(auto, unfolding(crate::specs::Means::form_of))]
 fn form_of(
     name: &[u8],
     letter: Option<SizeLetter>,
@@ -99,7 +97,6 @@ fn form_of(
 }
 
 /// What a statement of the form at the address says; none where a number is out of its range.
-#[tactic(auto, unfolding(crate::specs::Means::said))]
 fn said(form: &Form, operands: &[Operand<i64>], at: u32) -> Option<Instr>
     ensures { result ≡ said (form_said form.now) operands.now at }
 {
@@ -123,7 +120,6 @@ fn is_instr(instruction: &Instr) -> bool
 
 /// The instruction that a statement at the address means, of an operation's name, which may be in either case, its size
 /// and its operands. Targets of branches and of operands relative to the PC are addresses.
-#[tactic(auto, unfolding(crate::specs::Means::meaning))]
 pub fn instruction_of(
     name: &[u8],
     size: Option<SizeLetter>,
@@ -161,7 +157,6 @@ fn operands_words(patterns: &[Pattern], size: Size, operands: &[Operand<i64>]) -
 }
 
 /// How many bytes the instruction of a statement has, whatever its numbers are.
-#[tactic(auto, unfolding(crate::specs::Means::length_by))]
 pub fn length_of(
     name: &[u8],
     size: Option<SizeLetter>,

@@ -261,7 +261,6 @@ fn outer_displacement(form: &FullForm<i64>) -> Option<u32>
 }
 
 /// The extension words of a full form of which the first stands at the place.
-#[tactic(auto, unfolding(crate::specs::Modes::full))]
 fn full(place: u32, form: &FullForm<i64>) -> Option<Ext>
     ensures { result ≡ full place form.now }
 {
@@ -285,7 +284,6 @@ fn with_base(base: Base, ext: Ext) -> Ea
 
 /// The operand of the size that a mode means whose first extension word stands at the place; none where a number is
 /// out of its range.
-#[tactic(auto, unfolding(crate::specs::Modes::ea_of))]
 pub(crate) fn ea_of(size: Size, place: u32, mode: &Mode<i64>) -> Option<Ea>
     ensures { result ≡ ea_of size place mode.now }
 {

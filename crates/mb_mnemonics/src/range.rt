@@ -100,7 +100,6 @@ fn modulo(values: u64, number: i64) -> u32
 
 /// A number of the range, as it is spelled: in two's complement, a byte in a whole word; none where it is out of the
 /// range.
-#[tactic(auto, unfolding(crate::specs::Ranges::number))]
 pub fn number(range: Range, value: i64) -> Option<u32>
     ensures value { result ≡ number range value }
     ensures small { IfSome result (λ n. n < values range) }
@@ -120,7 +119,6 @@ fn distance(place: u32, target: i64) -> u32
 }
 
 /// A displacement of the size from the place to the target.
-#[tactic(auto, unfolding(crate::specs::Ranges::displacement))]
 pub(crate) fn displacement(size: Size, place: u32, target: i64) -> Option<u32>
     ensures value { result ≡ displacement size place target }
     ensures small { IfSome result (λ d. d < values_of size) }
@@ -141,7 +139,6 @@ fn is_reserved(size: Size, displacement: u32) -> bool
 }
 
 /// The displacement of a branch whose first word stands at the address.
-#[tactic(auto, unfolding(crate::specs::Ranges::branch))]
 pub(crate) fn branch(size: Size, at: u32, target: i64) -> Option<u32>
     ensures value { result ≡ branch size at target }
     ensures small { IfSome result (λ d. d < values_of size) }

@@ -80,7 +80,6 @@ fn takes_control(pattern: Pattern, register: ControlRegister) -> bool
 }
 
 /// Whether an operand is of the pattern's form at the size. Numbers have no part in it.
-#[tactic(auto, unfolding(crate::specs::Operands::takes_operand))]
 pub(crate) fn takes_operand(pattern: Pattern, size: Size, operand: &Operand<i64>) -> bool
     ensures { result ≡ takes_operand pattern size operand.now }
 {
@@ -114,7 +113,6 @@ pub(crate) fn takes_operands(patterns: &[Pattern], size: Size, operands: &[Opera
 }
 
 /// How many words an operand of the pattern's form has of its own.
-#[tactic(auto, unfolding(crate::specs::Operands::operand_words))]
 pub(crate) fn operand_words(pattern: Pattern, size: Size, operand: &Operand<i64>) -> u8
     ensures value { result ≡ operand_words pattern size operand.now }
     ensures few { result ≤ 5 }
@@ -227,7 +225,6 @@ fn field_part(range: Range, field: &FieldNumber<i64>) -> Option<u32>
 }
 
 /// `0000 Oooo ooWw wwww`.
-#[tactic(auto, unfolding(crate::specs::Operands::field_bits))]
 fn field_bits(field: &BitField<i64>) -> Option<u16>
     ensures { result ≡ field_bits field.now }
 {
@@ -334,7 +331,6 @@ fn with_value(
 }
 
 /// What a mode says by its pattern, in a statement at the address, where the mode's own words stand here.
-#[tactic(auto, unfolding(crate::specs::Operands::with_mode))]
 fn with_mode(
     pattern: Pattern,
     size: Size,
@@ -385,7 +381,6 @@ fn with_pair(pattern: Pattern, n: u8, m: u8, parts: Parts) -> Parts
 
 /// What an operand of the pattern's form says, beside what was said before, in a statement at the address, where the
 /// operand's own words stand here; none where a number is out of its range.
-#[tactic(auto, unfolding(crate::specs::Operands::with_operand))]
 pub(crate) fn with_operand(
     pattern: Pattern,
     size: Size,

@@ -37,7 +37,6 @@ fn letter_size(letter: SizeLetter) -> Option<Size>
 
 impl Sizes {
     /// The size of an operation whose name has this letter, or none.
-    #[tactic(auto, unfolding(crate::specs::Sizes::size_in))]
     pub(crate) fn size(self, letter: Option<SizeLetter>) -> Option<Size>
         ensures { result ≡ size_in self letter }
     {

@@ -123,7 +123,6 @@ append-apart (e ∷ kept) k a h =
     (append-none (is_of e.space e.page) kept k a.0 (is_of-sym e k ∙ parts.0), append-apart kept k a.1 parts.1)
 
 pub filled_in-apart : (capacity : ℕ) (k : Kept) (kept : List Kept) → Apart kept → Apart (filled_in capacity k kept)
-unfolding filled_in
 filled_in-apart capacity k kept a = append-apart (room_for capacity k kept) k (room-apart capacity k kept a) (room-none capacity k kept a)
 
 pub filter-none : (p q : Kept → Bool) (kept : List Kept) → find q kept ≡ None → find q (filter p kept) ≡ None

@@ -67,7 +67,6 @@ room_other capacity space page k ks n not_so = go (list_any (is_of k.space k.pag
 pub filled_other : (capacity : ℕ) (space : Space) (page : ℕ) (k : Kept) (ks : List Kept) → NotOf space page (displaced capacity k ks)
     → is_of space page k ≡ false
     → entry_in space page (filled_in capacity k ks) ≡ entry_in space page ks
-unfolding filled_in
 filled_other capacity space page k ks n not_so = last_other (is_of space page) (room_for capacity k ks) k not_so
     ∙ room_other capacity space page k ks n not_so
 
@@ -81,7 +80,6 @@ pub of_itself : (k : Kept) → is_of k.space k.page k ≡ true
 of_itself k = rw (space_self k.space, number_self k.page) refl
 
 pub filled_same : (capacity : ℕ) (k : Kept) (ks : List Kept) → Apart ks → entry_in k.space k.page (filled_in capacity k ks) ≡ Some k
-unfolding filled_in
 filled_same capacity k ks a =
     last_found (is_of k.space k.page) (room_for capacity k ks) k (room-none capacity k ks a) (of_itself k)
 

@@ -29,7 +29,6 @@ alone k n zero d h = n
 alone k n (suc i) d h = absurd (omega arith)
 
 pub filled_in-names : (capacity : ℕ) (k : Kept) (kept : List Kept) → NamesPages k → All NamesPages kept → All NamesPages (filled_in capacity k kept)
-unfolding filled_in
 filled_in-names capacity k kept n a = All-append NamesPages (room_for capacity k kept) (k ∷ []) (room-names capacity k kept a) (alone k n)
 
 pub flushed_in-names : (what : Flush) (kept : List Kept) → All NamesPages kept → All NamesPages (flushed_in what kept)

@@ -85,7 +85,7 @@ room_for capacity k kept =
     else if nat_le capacity (length kept) then drop 1 kept else kept
 
 -- the list of a class after a fill: the new entry comes last
-unfoldable pub filled_in : ℕ → Kept → List Kept → List Kept
+abbrev pub filled_in : ℕ → Kept → List Kept → List Kept
 filled_in capacity k kept = room_for capacity k kept ++ k ∷ []
 
 -- what is dropped by a flush

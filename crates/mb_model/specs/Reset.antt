@@ -8,5 +8,5 @@ abbrev pub regs_at_reset : ℕ → ℕ → Regs
 regs_at_reset isp pc =
     record { d = replicate 8 0; a = replicate 7 0; usp = 0; isp = isp; msp = 0; pc = pc; sr = 0x2700 }
 
-unfoldable pub at_reset : ℕ → ℕ → Cpu
+abbrev pub at_reset : ℕ → ℕ → Cpu
 at_reset isp pc = record { regs = regs_at_reset isp pc; vbr = 0; sfc = 0; dfc = 0; cacr = 0; stopped = false }

@@ -36,7 +36,6 @@ impl Cpu {
 
     /// The processor after reset, with the initial stack pointer and program counter: supervisor
     /// mode, interrupts masked, every other register 0.
-    #[tactic(auto, unfolding(crate::specs::Reset::at_reset))]
     pub fn at_reset(isp: u32, pc: u32) -> Cpu
         ensures { result ≡ at_reset isp pc }
     {

@@ -44,7 +44,6 @@ fn bounds_codes(size: Size, lower: u32, upper: u32, value: u32, codes: Condition
 
 /// The condition codes of a register compared with two bounds, which are extended by their sign.
 #[inline(always)]
-#[tactic(auto, unfolding(mb_meaning::specs::Bounds::compared))]
 fn compare(size: Size, lower: u32, upper: u32, register: u8, plain: &Plain) -> u8
     requires { register < 16 }
     ensures { result ≡ compared size lower upper register plain.now }
@@ -61,7 +60,6 @@ fn compare(size: Size, lower: u32, upper: u32, register: u8, plain: &Plain) -> u
 
 /// The condition codes of CHK2 and CMP2. The word names the register; the operand's own words are behind it.
 #[inline(always)]
-#[tactic(auto, unfolding(mb_meaning::specs::Bounds::compare_bounds_of))]
 pub fn compare_bounds<P: Port>(
     size: Size,
     ea: &Ea,

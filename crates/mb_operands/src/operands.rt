@@ -47,7 +47,6 @@ pub fn behind(size: Size, ea: &Ea, word_at: u32) -> u32
 
 /// What stands at a target.
 #[inline(always)]
-#[tactic(auto, unfolding(mb_meaning::specs::Operands::load_of))]
 fn load<P: Port>(
     target: Target,
     size: Size,
@@ -77,7 +76,6 @@ pub fn with_low(size: Size, old: u32, value: u32) -> u32
 
 /// Reads an operand. Its first extension word is at `stream.at`.
 #[inline(always)]
-#[tactic(auto, unfolding(mb_meaning::specs::Operands::fetch_operand_of))]
 pub fn fetch_operand<P: Port>(
     size: Size,
     ea: &Ea,
@@ -111,7 +109,6 @@ pub fn place(target: Target) -> u32
 
 /// The address of an operand in memory, which is not read. `(An)+` and `-(An)` do not step here.
 #[inline(always)]
-#[tactic(auto, unfolding(mb_meaning::specs::Operands::find_address_of))]
 pub fn find_address<P: Port>(
     size: Size,
     ea: &Ea,
@@ -131,7 +128,6 @@ pub fn find_address<P: Port>(
 
 /// The last part of an instruction: a value goes to its target.
 #[inline(always)]
-#[tactic(auto, unfolding(mb_meaning::specs::Operands::finish_with_of, mb_meaning::specs::Operands::store_of))]
 pub fn finish_with<P: Port>(
     target: Target,
     size: Size,
@@ -160,7 +156,6 @@ pub fn finish_with<P: Port>(
 
 /// Puts a long onto the stack, whose new top is `top`. The registers are those after the instruction.
 #[inline(always)]
-#[tactic(auto, unfolding(mb_meaning::specs::Operands::push_of))]
 pub fn push<P: Port>(
     value: u32,
     top: u32,

@@ -16,8 +16,8 @@ use Rattle.mb_ea.specs.declared.addresses.Target.{Target}
 use Rattle.mb_ea.specs.declared.addresses.Target.TheVariants.{Reg, Value}
 use Rattle.mb_ea.specs.Resolve.{resolve_of}
 use Rattle.mb_meaning.specs.Ends.{Rowed, carried}
-use Rattle.mb_meaning.specs.Operands.{behind_of, fetch_operand_of, load_of, store_of, finish_with_of}
-use Rattle.mb_meaning.specs.Arithmetic.{fetch_pair_of, combine_of, compare_pair_of, take_of}
+use Rattle.mb_meaning.specs.Operands.{behind_of, fetch_operand_of}
+use Rattle.mb_meaning.specs.Arithmetic.{combine_of, compare_pair_of, take_of}
 use Rattle.mb_meaning.specs.Modifying.{modify_of}
 use Rattle.mb_meaning.specs.Unary.{put_in_register_of}
 use Rattle.mb_ops_arith.specs.AtHand.{IsAtHand}
@@ -35,12 +35,12 @@ target_of size other = Value 0
 
 in_register_n : {S : Type 0} (bus : Bus S) (size : Size) (n word_at : ℕ) (space : Space) (p : Plain) (s : S) → n < 8
     → run bus (fetch_operand_of size (Dn n) word_at space p) s ≡ (Ok (record { target = Reg n; value = low_of size (data_register p n); plain = p }), s)
-unfolding fetch_operand_of load_of resolve_of
+unfolding resolve_of
 in_register_n bus size n word_at space p s h = rw (is_data n h) refl
 
 at_hand : {S : Type 0} (bus : Bus S) (size : Size) (ea : Ea) (value word_at : ℕ) (space : Space) (p : Plain) (s : S) → IsAtHand size ea p value
     → run bus (fetch_operand_of size ea word_at space p) s ≡ (Ok (record { target = target_of size ea; value = value; plain = p }), s)
-unfolding fetch_operand_of load_of resolve_of
+unfolding resolve_of
 at_hand bus size (Dn n) value word_at space p s h = rw (is_data n h.0, h.1) refl
 at_hand bus size (Imm v) value word_at space p s h = rw h refl
 at_hand bus size (An n) value word_at space p s h = absurd h
@@ -60,7 +60,6 @@ combined : {S : Type 0} (bus : Bus S) (operation : ℕ → ℕ → ℕ → Flagg
     (p : Plain) (s : S) → IsAtHand size source p value → register < 8
     → run bus (combine_of operation size source (Dn register) word_at space p) s
     ≡ (carried (put_in_register_of register size (operation value (low_of size (data_register p register)) p.ccr) p), s)
-unfolding combine_of fetch_pair_of finish_with_of store_of
 combined bus operation size source value register word_at space p s h k =
     let destination = in_register_n bus size register (behind_of size source word_at) space p s k in
     rw (run, at_hand bus size source value word_at space p s h, destination, is_data register k) refl
@@ -82,7 +81,6 @@ pub compared : {S : Type 0} (bus : Bus S) (size : Size) (source : Ea) (value reg
     → IsAtHand size source p value → register < 8
     → run bus (compare_pair_of size source (Dn register) word_at space p) s
     ≡ (carried (record p { ccr = compare_of size value (low_of size (data_register p register)) p.ccr }), s)
-unfolding compare_pair_of fetch_pair_of
 compared bus size source value register word_at space p s h k =
     let destination = in_register_n bus size register (behind_of size source word_at) space p s k in
     rw (run, at_hand bus size source value word_at space p s h, destination) refl
@@ -96,12 +94,10 @@ compared_immediate bus size value register word_at space p s k =
 pub modified : {S : Type 0} (bus : Bus S) (change : ℕ → ℕ → Flagged) (size : Size) (register word_at : ℕ) (space : Space) (p : Plain) (s : S)
     → register < 8 → run bus (modify_of change size (Dn register) word_at space p) s
     ≡ (carried (put_in_register_of register size (change (low_of size (data_register p register)) p.ccr) p), s)
-unfolding modify_of finish_with_of store_of
 modified bus change size register word_at space p s k = rw (run, in_register_n bus size register word_at space p s k, is_data register k) refl
 
 pub taken : {S : Type 0} (bus : Bus S) (effect : ℕ → Plain → Rowed) (size : Size) (ea : Ea) (value word_at : ℕ) (space : Space) (p : Plain) (s : S)
     → IsAtHand size ea p value → run bus (take_of effect size ea word_at space p) s ≡ (effect value p, s)
-unfolding take_of
 taken bus effect size ea value word_at space p s h = rw (run, at_hand bus size ea value word_at space p s h) refl
 
 pub ruleset without_bus = (combined_registers, combined_immediate, compared, compared_immediate, modified, taken)

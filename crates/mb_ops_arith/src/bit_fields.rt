@@ -197,7 +197,6 @@ fn put_result(kind: FieldKind, n: usize, offset: u32, width: u8, old: u32, plain
 
 /// What the row does with the registers, where this is its field.
 #[inline(always)]
-#[tactic(auto, unfolding(mb_meaning::specs::BitFields::field_done))]
 fn finish_field(kind: FieldKind, word: u16, old: u32, plain: &mut Plain)
     requires { old < 2 ^ field_width_of word plain.old }
     ensures { plain.new ≡ field_done kind word old plain.old }
@@ -212,7 +211,6 @@ fn finish_field(kind: FieldKind, word: u16, old: u32, plain: &mut Plain)
 
 /// A field in data register `n`, where it wraps round.
 #[inline(always)]
-#[tactic(auto, unfolding(mb_meaning::specs::BitFields::field_in_register_of))]
 fn field_in_register(kind: FieldKind, word: u16, n: u8, plain: &mut Plain)
     requires { n < 8 }
     ensures { plain.new ≡ field_in_register_of kind word n plain.old }
@@ -254,7 +252,6 @@ fn bytes_held(offset: u32, width: u8) -> u8
 
 /// A field in memory: exactly the bytes that hold it are read and, where the row changes it, written.
 #[inline(always)]
-#[tactic(auto, unfolding(mb_meaning::specs::BitFields::field_in_memory_of))]
 fn field_in_memory<P: Port>(
     kind: FieldKind,
     word: u16,
@@ -292,7 +289,6 @@ fn field_in_memory<P: Port>(
 
 /// BFTST, BFEXTU, BFCHG, BFEXTS, BFCLR, BFFFO, BFSET and BFINS.
 #[inline(always)]
-#[tactic(auto, unfolding(mb_meaning::specs::BitFields::bit_field_of))]
 pub(crate) fn bit_field<P: Port>(
     kind: FieldKind,
     ea: &Ea,

@@ -81,7 +81,6 @@ pub(crate) fn change_bit(kind: BitKind, number: u32, size: Size, value: u32, ccr
 
 /// BTST.
 #[inline(always)]
-#[tactic(auto, unfolding(mb_meaning::specs::Bits::bit_row_of))]
 fn test_bit<P: Port>(
     number: u32,
     ea: &Ea,
@@ -107,7 +106,6 @@ fn test_bit<P: Port>(
 
 /// BTST, BCHG, BCLR and BSET. The operand's first extension word is at `stream.at`.
 #[inline(always)]
-#[tactic(auto, unfolding(mb_meaning::specs::Bits::bit_row_of))]
 pub(crate) fn bit_row<P: Port>(
     kind: BitKind,
     number: u32,

@@ -13,7 +13,6 @@ use mb_writes::Ended;
 
 /// CMP2; the word says which register is compared.
 #[inline(always)]
-#[tactic(auto, unfolding(mb_meaning::specs::Bounds::cmp2_of))]
 pub fn cmp2<P: Port>(
     size: Size,
     ea: &Ea,

@@ -102,7 +102,6 @@ fn paired(in_memory: bool, register: u8, size: Size) -> Ea
 
 /// ABCD and SBCD: the source is read first.
 #[inline(always)]
-#[tactic(auto, unfolding(mb_meaning::specs::Decimals::decimal_of))]
 pub(crate) fn decimal<P: Port>(
     operation: DecimalKind,
     x: u8,
@@ -144,7 +143,6 @@ pub(crate) fn decimal<P: Port>(
 
 /// PACK and UNPK: the source is read first, and no condition code changes.
 #[inline(always)]
-#[tactic(auto, unfolding(mb_meaning::specs::Decimals::repack_of))]
 pub(crate) fn repack<P: Port>(
     operation: PackingKind,
     x: u8,

@@ -31,7 +31,6 @@ pub(crate) fn test_and_set(value: u32, ccr: u8) -> Flagged
 
 /// TAS. The byte is always written.
 #[inline(always)]
-#[tactic(auto, unfolding(mb_meaning::specs::Locked::tas_of, mb_meaning::specs::Locked::tas_in_memory))]
 pub(crate) fn tas<P: Port>(
     ea: &Ea,
     stream: Stream,
@@ -125,7 +124,6 @@ fn load_compared(size: Size, word: u16, value: u32, plain: &mut Plain)
 
 /// CAS.
 #[inline(always)]
-#[tactic(auto, unfolding(mb_meaning::specs::Locked::cas_of, mb_meaning::specs::Locked::cas_at))]
 pub(crate) fn cas<P: Port>(
     size: Size,
     ea: &Ea,
@@ -174,7 +172,6 @@ fn pair_codes(size: Size, first: u16, second: u16, one: u32, two: u32, plain: &P
 
 /// CAS2: both operands are checked and read. Where both are the same as theirs, operand 1 is written first.
 #[inline(always)]
-#[tactic(auto, unfolding(mb_meaning::specs::Locked::cas2_of))]
 pub(crate) fn cas2<P: Port>(
     size: Size,
     first: u16,

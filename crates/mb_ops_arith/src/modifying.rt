@@ -16,7 +16,6 @@ use mb_writes::Ended;
 
 /// Reads an operand, wherever it stands, changes it, and writes it back.
 #[inline(never)]
-#[tactic(auto, unfolding(mb_meaning::specs::Modifying::modify_of))]
 fn modify_operand<P: Port>(
     change: Change,
     size: Size,

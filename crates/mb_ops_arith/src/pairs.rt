@@ -30,7 +30,6 @@ pub(crate) struct Pair {
 
 /// Reads two operands, the source first. Its words stand before those of the destination.
 #[inline(always)]
-#[tactic(auto, unfolding(mb_meaning::specs::Arithmetic::fetch_pair_of))]
 pub(crate) fn fetch_pair<P: Port>(
     size: Size,
     source: &Ea,
@@ -61,7 +60,6 @@ pub(crate) fn fetch_pair<P: Port>(
 
 /// What the operation makes of a source and a destination goes to the destination.
 #[inline(always)]
-#[tactic(auto, unfolding(mb_meaning::specs::Arithmetic::combine_of))]
 fn combine<P: Port>(
     operation: Operation,
     size: Size,
@@ -100,7 +98,6 @@ fn combine<P: Port>(
 
 /// Compares a source with a destination, wherever they stand. Only the condition codes change.
 #[inline(never)]
-#[tactic(auto, unfolding(mb_meaning::specs::Arithmetic::compare_pair_of))]
 pub(crate) fn compare_pair<P: Port>(
     size: Size,
     source: &Ea,
@@ -207,8 +204,11 @@ fn combine_operand<P: Port>(
 }
 
 /// ADD, SUB, AND and OR: from a data register to an operand, or from the operand to the register.
+#[rattlefmt::skip]
 #[inline(always)]
-#[tactic(auto, using(crate::proofs::WithoutBus::without_bus), unfolding(mb_meaning::specs::Arithmetic::combine_either_way_of))]
+#[tactic(auto, using(crate::proofs::WithoutBus::without_bus), unfolding(
+    mb_meaning::specs::Arithmetic::combine_either_way_of,
+))]
 pub(crate) fn combine_either_way<P: Port>(
     operation: Operation,
     register: u8,

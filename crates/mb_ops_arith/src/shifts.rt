@@ -26,7 +26,6 @@ fn shift_count(by_register: bool, number: u8, plain: &Plain) -> u8
 }
 
 /// A shift or rotate of a data register.
-#[tactic(auto, unfolding(mb_meaning::specs::Shifts::shift_register_of))]
 pub(crate) fn shift_register(
     kind: ShiftKind,
     is_left: bool,

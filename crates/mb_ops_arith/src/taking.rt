@@ -73,7 +73,6 @@ impl Effect {
 
 /// Reads an operand, wherever it stands, and does by it what the effect says.
 #[inline(never)]
-#[tactic(auto, unfolding(mb_meaning::specs::Arithmetic::take_of))]
 fn take_operand<P: Port>(
     effect: Effect,
     size: Size,

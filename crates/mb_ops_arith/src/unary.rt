@@ -17,7 +17,6 @@ use mb_writes::Ended;
 const CODES: u32 = 0x1F;
 
 /// CLR: 0 is moved to the operand, which is not read.
-#[tactic(auto, unfolding(mb_meaning::specs::Unary::clr_of))]
 pub(crate) fn clr<P: Port>(
     size: Size,
     ea: &Ea,
@@ -53,7 +52,6 @@ pub fn put_in_register(register: u8, size: Size, flagged: Flagged, plain: &mut P
 
 /// EXT and EXTB.
 #[inline(always)]
-#[tactic(auto, unfolding(mb_meaning::specs::Unary::ext_of))]
 pub(crate) fn ext(from: Size, to: Size, register: u8, plain: &mut Plain)
     requires { register < 8 }
     ensures { plain.new ≡ ext_of from to register plain.old }
@@ -64,7 +62,6 @@ pub(crate) fn ext(from: Size, to: Size, register: u8, plain: &mut Plain)
 
 /// ORI, ANDI and EORI to CCR.
 #[inline(always)]
-#[tactic(auto, unfolding(mb_meaning::specs::Unary::combine_with_ccr_of))]
 pub(crate) fn combine_with_ccr(kind: LogicKind, word: u16, plain: &mut Plain)
     ensures { plain.new ≡ combine_with_ccr_of kind word plain.old }
 {

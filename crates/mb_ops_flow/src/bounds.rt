@@ -30,7 +30,6 @@ fn signed(size: Size, value: u32) -> i64
 
 /// A value below 0 or above the bound traps; then N says whether it is below 0, and the other condition codes stay.
 #[inline(always)]
-#[tactic(auto, unfolding(mb_meaning::specs::Bounds::check_bound_of))]
 fn check_bound(
     size: Size,
     bound: u32,
@@ -56,7 +55,6 @@ fn check_bound(
 
 /// CHK.
 #[inline(always)]
-#[tactic(auto, unfolding(mb_meaning::specs::Bounds::chk_of))]
 pub fn chk<P: Port>(
     register: u8,
     size: Size,
@@ -80,7 +78,6 @@ pub fn chk<P: Port>(
 
 /// A value out of bounds, which C says, traps.
 #[inline(always)]
-#[tactic(auto, unfolding(mb_meaning::specs::Bounds::check_carry_of))]
 fn check_carry(plain: &Plain, ended: &mut Ended) -> Result<bool, Undone>
     ensures means { performed_by result ended.new plain.now ≡ check_carry_of plain.now }
 {
@@ -93,7 +90,6 @@ fn check_carry(plain: &Plain, ended: &mut Ended) -> Result<bool, Undone>
 
 /// CHK2; the word says which register is compared.
 #[inline(always)]
-#[tactic(auto, unfolding(mb_meaning::specs::Bounds::chk2_of))]
 pub fn chk2<P: Port>(
     size: Size,
     ea: &Ea,

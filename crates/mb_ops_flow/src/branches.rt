@@ -58,7 +58,6 @@ pub fn is_call(condition: Condition) -> bool
 
 /// Pushes the next instruction's address and goes to the target.
 #[inline(always)]
-#[tactic(auto, unfolding(mb_meaning::specs::Flow::call_of))]
 pub(crate) fn call<P: Port>(
     target: u32,
     space: Space,
@@ -79,7 +78,6 @@ pub(crate) fn call<P: Port>(
 
 /// Goes to the target where the condition is met. The answer is whether it does.
 #[inline(always)]
-#[tactic(auto, unfolding(mb_meaning::specs::Flow::go_if_met_of))]
 pub fn go_if_met(condition: Condition, target: u32, plain: &mut Plain) -> bool
     ensures { went result plain.new ≡ go_if_met_of condition target plain.old }
 {
@@ -92,7 +90,6 @@ pub fn go_if_met(condition: Condition, target: u32, plain: &mut Plain) -> bool
 
 /// Bcc, with BRA for the condition T and BSR for F. The answer is whether it changed the flow of control.
 #[inline(always)]
-#[tactic(auto, unfolding(mb_meaning::specs::Flow::branch_of))]
 pub fn branch<P: Port>(
     condition: Condition,
     branch: Branch,

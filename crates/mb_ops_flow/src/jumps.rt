@@ -14,7 +14,6 @@ use mb_writes::Ended;
 
 /// JMP: to the address of the operand.
 #[inline(always)]
-#[tactic(auto, unfolding(mb_meaning::specs::Flow::jmp_of))]
 pub fn jmp<P: Port>(
     ea: &Ea,
     stream: Stream,
@@ -39,7 +38,6 @@ pub fn jmp<P: Port>(
 
 /// JSR: the address is formed, then the next instruction's is pushed.
 #[inline(always)]
-#[tactic(auto, unfolding(mb_meaning::specs::Flow::jsr_of))]
 pub fn jsr<P: Port>(
     ea: &Ea,
     stream: Stream,

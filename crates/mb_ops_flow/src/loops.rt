@@ -24,7 +24,6 @@ fn count_down(register: u8, plain: &mut Plain)
 
 /// Counts down, and goes to the target unless the count fell to -1. The answer is whether it does.
 #[inline(always)]
-#[tactic(auto, unfolding(mb_meaning::specs::Flow::go_if_counted_of))]
 fn go_if_counted(register: u8, target: u32, plain: &mut Plain) -> bool
     requires { register < 8 }
     ensures { went result plain.new ≡ go_if_counted_of register target plain.old }
@@ -40,7 +39,6 @@ fn go_if_counted(register: u8, target: u32, plain: &mut Plain) -> bool
 /// DBcc: to the next instruction where the condition is met, else one more turn where the count allows it. The answer
 /// is whether it changed the flow of control.
 #[inline(always)]
-#[tactic(auto, unfolding(mb_meaning::specs::Flow::dbcc_of))]
 pub fn dbcc(
     condition: Condition,
     register: u8,

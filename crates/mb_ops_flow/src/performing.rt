@@ -25,7 +25,6 @@ use mb_writes::Ended;
 /// otherwise.
 #[rattlefmt::skip]
 #[inline(always)]
-#[tactic(auto, unfolding(mb_meaning::specs::Rows::perform_flow_of))]
 fn carry_out<P: Port>(
     instruction: &Flow,
     stream: Stream,

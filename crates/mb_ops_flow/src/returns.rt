@@ -12,7 +12,6 @@ use mb_writes::Ended;
 
 /// RTS: to the address on the stack, which is taken from it.
 #[inline(always)]
-#[tactic(auto, unfolding(mb_meaning::specs::Returns::rts_of))]
 pub fn rts<P: Port>(
     space: Space,
     plain: &mut Plain,
@@ -35,7 +34,6 @@ pub fn rts<P: Port>(
 
 /// RTD: the same, and then the displacement is added to the stack pointer.
 #[inline(always)]
-#[tactic(auto, unfolding(mb_meaning::specs::Returns::rtd_of))]
 pub fn rtd<P: Port>(
     displacement: u16,
     space: Space,
@@ -60,7 +58,6 @@ pub fn rtd<P: Port>(
 
 /// RTR: a word on the stack, whose low five bits are the condition codes, and behind it the address.
 #[inline(always)]
-#[tactic(auto, unfolding(mb_meaning::specs::Returns::rtr_of))]
 pub fn rtr<P: Port>(
     space: Space,
     plain: &mut Plain,

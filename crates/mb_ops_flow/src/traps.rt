@@ -11,7 +11,6 @@ use mb_writes::Ended;
 
 /// TRAP.
 #[inline(always)]
-#[tactic(auto, unfolding(mb_meaning::specs::Traps::trap_of))]
 pub fn trap(number: u8, plain: &Plain, ended: &mut Ended) -> Result<bool, Undone>
     requires { number < 16 }
     ensures means { performed_by result ended.new plain.now ≡ trap_of number plain.now }
@@ -21,7 +20,6 @@ pub fn trap(number: u8, plain: &Plain, ended: &mut Ended) -> Result<bool, Undone
 
 /// TRAPcc, whose operand is passed over: a trap where the condition is met.
 #[inline(always)]
-#[tactic(auto, unfolding(mb_meaning::specs::Traps::trapcc_of))]
 pub fn trapcc(condition: Condition, plain: &Plain, ended: &mut Ended) -> Result<bool, Undone>
     ensures means { performed_by result ended.new plain.now ≡ trapcc_of condition plain.now }
 {
@@ -34,7 +32,6 @@ pub fn trapcc(condition: Condition, plain: &Plain, ended: &mut Ended) -> Result<
 
 /// TRAPV: a trap on overflow.
 #[inline(always)]
-#[tactic(auto, unfolding(mb_meaning::specs::Traps::trapv_of))]
 pub fn trapv(plain: &Plain, ended: &mut Ended) -> Result<bool, Undone>
     ensures means { performed_by result ended.new plain.now ≡ trapv_of plain.now }
 {

@@ -27,7 +27,6 @@ pub record IsLeft (m : Movem) (ea done from : ℕ) : Type 0 where
   pub count : done + length (set_bits m.mask from (16 - from)) ≡ count_of m.mask
 
 pub all_left : (m : Movem) (ea : ℕ) → ea < 2 ^ 32 → IsLeft m ea 0 0
-unfolding transfers_of
 all_left m ea small =
     let step = transfer_step m.mode (bytes_of m.size) in
     let first : ea ≡ (ea + 0 * step) % 2 ^ 32 = omega arith in
@@ -118,14 +117,12 @@ loaded_next {S = S} bus m ea space done bit n p q r value s at named read into t
 pub loads_left : {S : Type 0} (bus : Bus S) (m : Movem) (ea : ℕ) (space : Space) (done : ℕ) (p q : Plain) (s : S)
     → m.is_load ≡ true → AreLoaded bus m ea space done p q s
     → run bus (transfer_of m ea done space q) s ≡ run bus (transfer_of m ea 0 space p) s
-unfolding transfer_of transfers_of
 loads_left bus m ea space done p q s load told =
     rw load (ap (ended bus m ea) told)
 
 pub loads_done : {S : Type 0} (bus : Bus S) (m : Movem) (ea : ℕ) (space : Space) (done : ℕ) (p q r : Plain) (s : S)
     → m.is_load ≡ true → AreLoaded bus m ea space done p q s → IsAll m ea done → r ≡ stepped_of m.mode m.size ea done q
     → (Ok r, s) ≡ run bus (transfer_of m ea 0 space p) s
-unfolding transfer_of transfers_of
 loads_done bus m ea space done p q r s load told all stepped =
     let none = ap (λ (ts : List Transfer). run bus (load_all_of m space ea done ts q) s) (sym all.none) ∙ told in
     let count = ap (λ (n : ℕ). stepped_of m.mode m.size ea n q) (sym all.count) in
@@ -165,14 +162,12 @@ stored_next {S = S} bus m ea space done bit n p value s t u at named is put told
 pub stores_left : {S : Type 0} (bus : Bus S) (m : Movem) (ea : ℕ) (space : Space) (done : ℕ) (p : Plain) (s t : S)
     → m.is_load ≡ false → AreStored bus m ea space done p s t
     → run bus (transfer_of m ea done space p) t ≡ run bus (transfer_of m ea 0 space p) s
-unfolding transfer_of transfers_of
 stores_left {S = S} bus m ea space done p s t store told =
     rw store (ap (λ (x : Result (Unit {0}) MovemFault × S). ended bus m ea (stored bus p x)) told)
 
 pub stores_done : {S : Type 0} (bus : Bus S) (m : Movem) (ea : ℕ) (space : Space) (done : ℕ) (p r : Plain) (s t : S)
     → m.is_load ≡ false → AreStored bus m ea space done p s t → IsAll m ea done → r ≡ stepped_of m.mode m.size ea done p
     → (Ok r, t) ≡ run bus (transfer_of m ea 0 space p) s
-unfolding transfer_of transfers_of
 stores_done {S = S} bus m ea space done p r s t store told all stepped =
     let none = ap (λ (ts : List Transfer). run bus (store_all_of m space p ea done ts) t) (sym all.none) ∙ told in
     let count = ap (λ (n : ℕ). stepped_of m.mode m.size ea n p) (sym all.count) in

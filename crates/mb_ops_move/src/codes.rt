@@ -14,7 +14,6 @@ use mb_writes::Ended;
 
 /// MOVE to CCR: a word is read, and its low five bits are the condition codes.
 #[inline(always)]
-#[tactic(auto, unfolding(mb_meaning::specs::Moves::move_to_ccr_of))]
 pub fn move_to_ccr<P: Port>(
     ea: &Ea,
     stream: Stream,
@@ -38,7 +37,6 @@ pub fn move_to_ccr<P: Port>(
 
 /// MOVE from CCR: a word with X, N, Z, V and C in bits 4 to 0. The destination is not read.
 #[inline(always)]
-#[tactic(auto, unfolding(mb_meaning::specs::Moves::move_from_ccr_of))]
 pub fn move_from_ccr<P: Port>(
     ea: &Ea,
     stream: Stream,
@@ -70,7 +68,6 @@ fn condition_byte(met: bool) -> u32
 
 /// Scc: ones where the condition is met, else zeros. The destination is not read.
 #[inline(always)]
-#[tactic(auto, unfolding(mb_meaning::specs::Moves::scc_of))]
 pub fn scc<P: Port>(
     condition: Condition,
     ea: &Ea,

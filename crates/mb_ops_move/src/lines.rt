@@ -27,7 +27,6 @@ fn line_address(address: u32) -> u32
 
 /// Reads a line, and then writes it, whatever the registers after the instruction.
 #[inline(always)]
-#[tactic(auto, unfolding(mb_meaning::specs::Lines::move_line_of))]
 fn move_line<P: Port>(
     from: u32,
     to: u32,
@@ -61,7 +60,6 @@ fn step_past_line(register: u8, plain: &mut Plain)
 }
 
 /// MOVE16 between `(An)+` or `(An)` and an absolute address.
-#[tactic(auto, unfolding(mb_meaning::specs::Lines::move16_absolute_of))]
 pub fn move16_absolute<P: Port>(
     kind: LineMove,
     register: u8,
@@ -113,7 +111,6 @@ fn destination(word: u16) -> u8
 }
 
 /// MOVE16 `(Ax)+,(Ay)+`.
-#[tactic(auto, unfolding(mb_meaning::specs::Lines::move16_post_of))]
 pub fn move16_post<P: Port>(
     x: u8,
     word: u16,

@@ -61,7 +61,6 @@ fn transfer_slowly<P: Port>(
 }
 
 /// MOVEM: the transfers begin where the operand stands.
-#[tactic(auto, unfolding(mb_meaning::specs::Moves::movem_of))]
 pub fn movem<P: Port>(
     is_load: bool,
     size: Size,

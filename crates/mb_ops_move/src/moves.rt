@@ -15,7 +15,6 @@ use mb_writes::Ended;
 
 /// MOVEQ: the byte, sign-extended.
 #[inline(always)]
-#[tactic(auto, unfolding(mb_meaning::specs::Moves::moveq_of))]
 pub fn moveq(register: u8, immediate: u8, plain: &mut Plain)
     requires { register < 8 }
     ensures { plain.new ≡ moveq_of register immediate plain.old }
@@ -27,7 +26,6 @@ pub fn moveq(register: u8, immediate: u8, plain: &mut Plain)
 
 /// MOVE: the source is read before the destination's address is formed, and the pieces are written last.
 #[inline(always)]
-#[tactic(auto, unfolding(mb_meaning::specs::Moves::move_operand_of))]
 pub fn move_operand<P: Port>(
     size: Size,
     destination: &Ea,
@@ -59,7 +57,6 @@ pub fn move_operand<P: Port>(
 
 /// MOVEA: the source, read at its size, goes to the whole register with its sign.
 #[inline(always)]
-#[tactic(auto, unfolding(mb_meaning::specs::Moves::movea_of))]
 pub fn movea<P: Port>(
     size: Size,
     register: u8,
@@ -86,7 +83,6 @@ pub fn movea<P: Port>(
 
 /// LEA: the address of an operand, which is not read.
 #[inline(always)]
-#[tactic(auto, unfolding(mb_meaning::specs::Moves::lea_of))]
 pub fn lea<P: Port>(
     register: u8,
     ea: &Ea,

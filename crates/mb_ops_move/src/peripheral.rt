@@ -70,7 +70,6 @@ fn read_bytes<P: Port>(space: Space, at: u32, size: Size, port: &mut P) -> Resul
 }
 
 /// Reads an operand whose bytes stand at every second address, the highest first.
-#[tactic(auto, unfolding(mb_meaning::specs::Peripheral::read_apart_of))]
 fn read_apart<P: Port>(space: Space, at: u32, size: Size, port: &mut P) -> Result<u32, ReadFault>
     ensures means { run P.bus (read_apart_of space at size) (P.world port.old) ≡ (result, P.world port.new) }
     ensures rest { P.rest port.new ≡ P.rest port.old }
@@ -82,7 +81,6 @@ fn read_apart<P: Port>(space: Space, at: u32, size: Size, port: &mut P) -> Resul
 }
 
 /// The low word or the long of a data register is set by the bytes.
-#[tactic(auto, unfolding(mb_meaning::specs::Peripheral::load_peripheral_of))]
 fn load_peripheral<P: Port>(
     register: u8,
     size: Size,
@@ -112,7 +110,6 @@ fn load_peripheral<P: Port>(
 }
 
 /// The low word or the long of a data register is written byte by byte.
-#[tactic(auto, unfolding(mb_meaning::specs::Peripheral::store_peripheral_of))]
 fn store_peripheral<P: Port>(
     register: u8,
     size: Size,
@@ -134,7 +131,6 @@ fn store_peripheral<P: Port>(
 }
 
 /// MOVEP: from the address register plus the displacement on.
-#[tactic(auto, unfolding(mb_meaning::specs::Peripheral::movep_of))]
 pub fn movep<P: Port>(
     register: u8,
     is_store: bool,

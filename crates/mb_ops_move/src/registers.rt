@@ -19,7 +19,6 @@ fn exchange_registers(m: u8, n: u8, plain: &mut Plain)
 
 /// EXG: two data registers, two address registers, or a data and an address register.
 #[inline(always)]
-#[tactic(auto, unfolding(mb_meaning::specs::Moves::exg_of))]
 pub fn exg(x: u8, kind: Exchange, y: u8, plain: &mut Plain)
     requires { (x < 8) × (y < 8) }
     ensures { plain.new ≡ exg_of kind x y plain.old }
@@ -33,7 +32,6 @@ pub fn exg(x: u8, kind: Exchange, y: u8, plain: &mut Plain)
 
 /// SWAP: the halves of a data register change places.
 #[inline(always)]
-#[tactic(auto, unfolding(mb_meaning::specs::Moves::swap_of))]
 pub fn swap(register: u8, plain: &mut Plain)
     requires { register < 8 }
     ensures { plain.new ≡ swap_of register plain.old }

@@ -13,7 +13,6 @@ use mb_writes::Ended;
 
 /// PEA: the address of an operand is formed, and then pushed.
 #[inline(always)]
-#[tactic(auto, unfolding(mb_meaning::specs::Stack::pea_of))]
 pub fn pea<P: Port>(
     ea: &Ea,
     stream: Stream,
@@ -37,7 +36,6 @@ pub fn pea<P: Port>(
 
 /// LINK: the register is pushed, A7 itself with its new value, and becomes A7, which then moves by the displacement.
 #[inline(always)]
-#[tactic(auto, unfolding(mb_meaning::specs::Stack::link_of))]
 pub fn link<P: Port>(
     register: u8,
     displacement: u32,
@@ -62,7 +60,6 @@ pub fn link<P: Port>(
 
 /// UNLK: A7 becomes the register, which gets the long there, and rises. A7 itself becomes the long.
 #[inline(always)]
-#[tactic(auto, unfolding(mb_meaning::specs::Stack::unlk_of))]
 pub fn unlk<P: Port>(
     register: u8,
     space: Space,

@@ -30,15 +30,12 @@ cut_break i at left so_far all none h =
     sym (append-nil so_far) ∙ ap (λ more. so_far ++ more) (sym (cut_none (3 - i) at)) ∙ ap (λ n. so_far ++ cut (3 - i) at n) (sym none) ∙ h
 
 piece_is : (at left : ℕ) → 0 < left → IsPiece (record { at = at; len = piece_len at left })
-unfolding piece_len
 piece_is at left h = grind arith
 
 piece_fits : (at left : ℕ) → 0 < left → (0 < piece_len at left) × (piece_len at left ≤ left)
-unfolding piece_len
 piece_fits at left h = grind arith
 
 piece_longest : (at left len : ℕ) → IsPiece (record { at = at; len = len }) → len ≤ left → len ≤ piece_len at left
-unfolding piece_len
 piece_longest at left len h fits = grind arith
 
 is_longest : (at left : ℕ) → 0 < left → IsLongest at left (record { at = at; len = piece_len at left })
@@ -82,15 +79,15 @@ after at left = (at + piece_len at left) % 2 ^ 32
 
 -- Three pieces leave nothing of five bytes: at most four are left after the first, and two after the second.
 first : (at left : ℕ) → left ≤ 5 → (left_after at left ≤ 4) × (2 ≤ left_after at left → after at left % 2 ≡ 0)
-unfolding left_after after piece_len
+unfolding left_after after
 first at left h = grind arith
 
 second : (at left : ℕ) → left ≤ 4 → (2 ≤ left → at % 2 ≡ 0) → (left_after at left ≤ 2) × (2 ≤ left_after at left → after at left % 2 ≡ 0)
-unfolding left_after after piece_len
+unfolding left_after after
 second at left h even = grind arith
 
 third : (at left : ℕ) → left ≤ 2 → (2 ≤ left → at % 2 ≡ 0) → left_after at left ≡ 0
-unfolding left_after after piece_len
+unfolding left_after after
 third at left h even = grind arith
 
 -- what so many pieces of the cut leave

@@ -38,7 +38,7 @@ all_steps : Bool
 all_steps = below 4 (λ r. below 6 (λ left. below 5 (λ k. step_test r left k)))
 
 all_pass : all_steps ≡ true
-unfolding all_steps step_test may_stand below piece_len
+unfolding all_steps step_test may_stand below
 all_pass = refl
 
 passes : (r left k : ℕ) → r < 4 → left ≤ 5 → k < 5 → step_test r left k ≡ true
@@ -50,7 +50,6 @@ passes r left k a b c =
 
 -- the cut depends on the address modulo 4
 len_same : (at more left : ℕ) → at % 4 ≡ more % 4 → piece_len at left ≡ piece_len more left
-unfolding piece_len
 len_same at more left h = grind arith
 
 count_same : (n at more left : ℕ) → at % 4 ≡ more % 4 → length (cut n at left) ≡ length (cut n more left)

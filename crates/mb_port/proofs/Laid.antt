@@ -38,7 +38,6 @@ ones (suc (suc (suc (suc zero)))) h = refl
 ones (suc (suc (suc (suc (suc n))))) h = absurd (omega arith)
 
 pub unlaid_laid : (p : Piece) (value : ℕ) → unlaid p (laid p value) ≡ value % 2 ^ (8 * p.len)
-unfolding unlaid laid
 unlaid_laid p value =
     let k = 8 * p.len in
     let some : 0 < 2 ^ k = pow_pos k in
@@ -47,7 +46,6 @@ unlaid_laid p value =
 -- what `lay` computes, taken back
 pub unlaid_shifted : (p : Piece) (value m j : ℕ) → m ≡ 2 ^ (8 * p.len) - 1 → j ≡ 8 * (4 - p.at % 4 - p.len) → 8 * p.len + j ≤ 32
     → unlaid p (bit_and value m * 2 ^ j % 2 ^ 32) ≡ value % 2 ^ (8 * p.len)
-unfolding laid
 unlaid_shifted p value m j e f h =
     let laid_is : bit_and value m * 2 ^ j % 2 ^ 32 ≡ laid p value = mask_shifted value m (8 * p.len) j e h ∙ ap (λ n. value % 2 ^ (8 * p.len) * 2 ^ n) f in
     ap (unlaid p) laid_is ∙ unlaid_laid p value
@@ -102,7 +100,6 @@ two_even p h two = let even : p.at % 2 ≡ 0 = h.3 (omega arith) in omega arith
 
 pub laid_bytes : (p : Piece) (value : ℕ) → IsPiece p
     → bytes_high_first 4 (laid p value) ≡ replicate (p.at % 4) 0 ++ bytes_high_first p.len value ++ replicate (4 - p.at % 4 - p.len) 0
-unfolding laid
 laid_bytes p value h =
     stands (p.at % 4) p.len value (omega arith) h.0 (in_long p h) h.2 (two_even p h)
 
@@ -130,27 +127,23 @@ taken zero (suc (suc (suc (suc zero)))) long a b c d e = cells _ _ _ _ _ _ _ _ (
 taken zero (suc (suc (suc (suc (suc len))))) long a b c d e = absurd (omega arith)
 
 pub unlaid_bytes : (p : Piece) (long : ℕ) → IsPiece p → bytes_high_first p.len (unlaid p long) ≡ take p.len (drop (p.at % 4) (bytes_high_first 4 long))
-unfolding unlaid
 unlaid_bytes p long h = taken (p.at % 4) p.len long (omega arith) h.0 (in_long p h) h.2 (two_even p h)
 
 -- the same of what `lay` and `unlay` compute
 pub laid_shifted : (p : Piece) (value m j : ℕ) → IsPiece p → m ≡ 2 ^ (8 * p.len) - 1 → j ≡ 8 * (4 - p.at % 4 - p.len) → 8 * p.len + j ≤ 32
     → bytes_high_first 4 (bit_and value m * 2 ^ j % 2 ^ 32) ≡ replicate (p.at % 4) 0 ++ bytes_high_first p.len value ++ replicate (4 - p.at % 4 - p.len) 0
-unfolding laid
 laid_shifted p value m j is e f h =
     let laid_is : bit_and value m * 2 ^ j % 2 ^ 32 ≡ laid p value = mask_shifted value m (8 * p.len) j e h ∙ ap (λ n. value % 2 ^ (8 * p.len) * 2 ^ n) f in
     ap (bytes_high_first 4) laid_is ∙ laid_bytes p value is
 
 pub unlaid_shifted_bytes : (p : Piece) (long m j : ℕ) → IsPiece p → m ≡ 2 ^ (8 * p.len) - 1 → j ≡ 8 * (4 - p.at % 4 - p.len)
     → bytes_high_first p.len (bit_and (long / 2 ^ j) m) ≡ take p.len (drop (p.at % 4) (bytes_high_first 4 long))
-unfolding unlaid
 unlaid_shifted_bytes p long m j is e f =
     let unlaid_is : bit_and (long / 2 ^ j) m ≡ unlaid p long = shift_masked long m (8 * p.len) j e ∙ ap (λ n. long / 2 ^ n % 2 ^ (8 * p.len)) f in
     ap (bytes_high_first p.len) unlaid_is ∙ unlaid_bytes p long is
 
 pub unlaid_back : (p : Piece) (long m j : ℕ) → m ≡ 2 ^ (8 * p.len) - 1 → j ≡ 8 * (4 - p.at % 4 - p.len)
     → (value : ℕ) → long ≡ laid p value → bit_and (long / 2 ^ j) m ≡ value % 2 ^ (8 * p.len)
-unfolding unlaid
 unlaid_back p long m j e f value h =
     let unlaid_is : bit_and (long / 2 ^ j) m ≡ unlaid p long = shift_masked long m (8 * p.len) j e ∙ ap (λ n. long / 2 ^ n % 2 ^ (8 * p.len)) f in
     unlaid_is ∙ ap (unlaid p) h ∙ unlaid_laid p value

@@ -35,7 +35,6 @@ pub record IsSplit (at len : ℕ) (all : List Piece) : Type 0 where
   pub few : (1 ≤ length all) × (length all ≤ 3)
 
 cut_split : (at len : ℕ) → 1 ≤ len → len ≤ 5 → IsSplit at len (cut 3 at len)
-unfolding split_of IsFewest
 cut_split at len least most =
     let none = none_left at len most in
     let bytes = cut_bytes 3 at len none in

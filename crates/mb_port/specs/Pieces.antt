@@ -17,7 +17,7 @@ total [] = 0
 total (p ∷ ps) = p.len + total ps
 
 -- the length of the longest piece that begins here and fits into so many bytes
-unfoldable pub piece_len : ℕ → ℕ → ℕ
+abbrev pub piece_len : ℕ → ℕ → ℕ
 piece_len at left = if (at % 4 == 0) && nat_le 4 left then 4 else (if (at % 2 == 0) && nat_le 2 left then 2 else 1)
 
 -- the greedy cut into at most so many pieces
@@ -29,7 +29,7 @@ cut (suc n) at (suc left) =
     record { at = at; len = len } ∷ cut n ((at + len) % 2 ^ 32) (suc left - len)
 
 -- the greedy cut of an operand of one to five bytes
-unfoldable pub split_of : ℕ → ℕ → List Piece
+abbrev pub split_of : ℕ → ℕ → List Piece
 split_of at len = cut 3 at len
 
 -- the addresses of so many bytes, in order
@@ -55,7 +55,7 @@ IsGreedy at left [] = left ≡ 0
 IsGreedy at left (p ∷ ps) = IsLongest at left p × IsGreedy ((at + p.len) % 2 ^ 32) (left - p.len) ps
 
 -- No pieces that have these bytes in order are fewer.
-unfoldable pub IsFewest : List Piece → Type 0
+abbrev pub IsFewest : List Piece → Type 0
 IsFewest pieces =
     (others : List Piece) → ArePieces others → addresses_of others ≡ addresses_of pieces → length pieces ≤ length others
 
@@ -68,9 +68,9 @@ abbrev pub weight_of : Piece → ℕ
 weight_of p = 2 ^ (8 * (4 - p.at % 4 - p.len))
 
 -- the piece's value in its long: its bytes where they stand in memory, the rest 0
-unfoldable pub laid : Piece → ℕ → ℕ
+abbrev pub laid : Piece → ℕ → ℕ
 laid p value = value % span_of p * weight_of p
 
 -- the value whose bytes stand there
-unfoldable pub unlaid : Piece → ℕ → ℕ
+abbrev pub unlaid : Piece → ℕ → ℕ
 unlaid p long = long / weight_of p % span_of p

@@ -1,6 +1,6 @@
 //! The bus.
 
-ghost use Rattle.std.specs.Prelude.{◌≡◌, ℕ, ◌<◌, ◌%◌, ◌^◌, IfOk, IfSome, Ok, true, false};
+ghost use Rattle.std.specs.Prelude.{◌≡◌, ◌<◌, ◌%◌, ◌^◌, IfOk, IfSome, Ok, true, false};
 ghost use Rattle.mb_port.specs.Routine.{Bus, Call};
 ghost use Rattle.mb_port.specs.Pieces.{IsPiece};
 ghost use Rattle.mb_port.specs.Flushes.{NamesPage};

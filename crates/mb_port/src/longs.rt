@@ -26,7 +26,7 @@ fn mask(piece: Piece) -> u32
 
 /// The memory-aligned form of a value: the piece's bytes stand where its address modulo 4 puts them
 /// in a long, and the rest is 0. Bytes of `value` above the piece are ignored.
-#[tactic(auto, using(crate::proofs::Laid::laying), unfolding(crate::specs::Pieces::laid))]
+#[tactic(auto, using(crate::proofs::Laid::laying))]
 pub fn lay(piece: Piece, value: u32) -> u32
     requires { IsPiece piece }
     ensures meaning { result ≡ laid piece value }
@@ -38,7 +38,7 @@ pub fn lay(piece: Piece, value: u32) -> u32
 }
 
 /// The value whose bytes stand at the piece's place in a long. The other bytes are ignored.
-#[tactic(auto, using(crate::proofs::Laid::laying), unfolding(crate::specs::Pieces::unlaid))]
+#[tactic(auto, using(crate::proofs::Laid::laying))]
 pub fn unlay(piece: Piece, long: u32) -> u32
     requires { IsPiece piece }
     ensures meaning { result ≡ unlaid piece long }

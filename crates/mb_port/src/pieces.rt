@@ -8,7 +8,6 @@ use crate::types::Piece;
 use arrayvec::ArrayVec;
 
 /// The length of the longest piece that begins at `at` and fits into `left` bytes.
-#[tactic(auto, unfolding(crate::specs::Pieces::piece_len))]
 fn piece_len(at: u32, left: u8) -> u8
     requires { 0 < left }
     ensures value { result ≡ longest at left }
@@ -25,7 +24,7 @@ fn piece_len(at: u32, left: u8) -> u8
 
 /// The longest piece that begins at `at` and fits into `left` bytes: the first one of their greedy cut, whose rest is
 /// the cut of the bytes behind it.
-#[tactic(auto, using(crate::proofs::Cuts::cut_first), unfolding(crate::specs::Pieces::piece_len))]
+#[tactic(auto, using(crate::proofs::Cuts::cut_first))]
 pub fn first_piece(at: u32, left: u8) -> Piece
     requires { 0 < left }
     ensures piece { result ≡ record { at = at; len = longest at left } }
@@ -42,7 +41,7 @@ pub fn first_piece(at: u32, left: u8) -> Piece
 
 /// Cuts an operand of one to five bytes greedily into naturally aligned pieces of four, two or one
 /// byte, in order of address. Addresses wrap at 2^32.
-#[tactic(auto, using(crate::proofs::Cuts::cutting), unfolding(crate::specs::Pieces::split_of))]
+#[tactic(auto, using(crate::proofs::Cuts::cutting))]
 pub fn split(at: u32, len: u8) -> ArrayVec<Piece, 3>
     requires { (1 ≤ len) × (len ≤ 5) }
     ensures pieces { result.items ≡ split_of at len }

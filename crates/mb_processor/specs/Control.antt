@@ -18,7 +18,7 @@ abbrev pub named_control_in : ℕ → Option ControlRegister
 named_control_in word = control_of (control_word word).code
 
 -- what a control register holds; those of the memory management unit stand at the bus
-unfoldable pub control_value_of : ControlRegister → Cpu → Routine ℕ
+abbrev pub control_value_of : ControlRegister → Cpu → Routine ℕ
 control_value_of control.Sfc cpu = Return cpu.sfc
 control_value_of control.Dfc cpu = Return cpu.dfc
 control_value_of control.Cacr cpu = Return cpu.cacr
@@ -29,7 +29,7 @@ control_value_of control.Isp cpu = Return cpu.regs.isp
 control_value_of (control.Mmu which) cpu = Then mmu (λ registers. Return (mmu_register registers which))
 
 -- a control register holds this now
-unfoldable pub set_control_of : ControlRegister → ℕ → Cpu → Routine Cpu
+abbrev pub set_control_of : ControlRegister → ℕ → Cpu → Routine Cpu
 set_control_of control.Sfc value cpu = Return (record cpu { sfc = value })
 set_control_of control.Dfc value cpu = Return (record cpu { dfc = value })
 set_control_of control.Cacr value cpu = Return (record cpu { cacr = value })
@@ -40,12 +40,12 @@ set_control_of control.Isp value cpu = Return (record cpu { regs = record cpu.re
 set_control_of (control.Mmu which) value cpu = Then (set_mmu which value) (λ done. Return cpu)
 
 -- MOVEC to a control register: it keeps those bits of register n of all sixteen that it has
-unfoldable pub move_to_control_of : ControlRegister → ℕ → Cpu → Routine Cpu
+abbrev pub move_to_control_of : ControlRegister → ℕ → Cpu → Routine Cpu
 move_to_control_of register n cpu =
     set_control_of register (bit_and (register_of (plain_of cpu.regs) n) (kept_bits register)) cpu
 
 -- MOVEC from a control register: to all of register n
-unfoldable pub move_from_control_of : ControlRegister → ℕ → Cpu → Routine Cpu
+abbrev pub move_from_control_of : ControlRegister → ℕ → Cpu → Routine Cpu
 move_from_control_of register n cpu =
     Then (control_value_of register cpu)
     (λ value. Return (with_registers (with_register (plain_of cpu.regs) n value) cpu))
@@ -61,5 +61,5 @@ moving_control (Some register) to_control n cpu =
 moving_control None to_control n cpu = Return (system_ended_otherwise not_carried_out cpu)
 
 -- MOVEC
-unfoldable pub movec_of : Bool → ℕ → Cpu → Routine SystemRowed
+abbrev pub movec_of : Bool → ℕ → Cpu → Routine SystemRowed
 movec_of to_control word cpu = moving_control (named_control_in word) to_control (register_word word).register cpu

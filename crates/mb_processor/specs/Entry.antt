@@ -79,7 +79,7 @@ pub record Stacked : Type 0 where
   pub bytes : List ℕ
 
 -- a frame below the top of a stack
-unfoldable pub stacked : Frame → ℕ → Stacked
+abbrev pub stacked : Frame → ℕ → Stacked
 stacked f top = record { at = difference top (length (frame_bytes f)); bytes = frame_bytes f }
 
 -- the stack of a handler, which has S set: MSP where M is set, else ISP
@@ -109,14 +109,14 @@ with_second (Some s) r = record r { sr = without_master r.sr; isp = s.at }
 
 -- The registers once the frames are written: SR is the handler's, each stack that took a frame is lowered, and PC is
 -- the one that was stacked until the vector is read.
-unfoldable pub handler_regs : Cause → Frames → Regs → Regs
+abbrev pub handler_regs : Cause → Frames → Regs → Regs
 handler_regs c f r =
     with_second f.second (record (with_handler_stack r f.first.at) { sr = handler_sr c r.sr; pc = c.pc })
 
 -- ---- checking and writing
 
 -- The pieces of a frame are checked for writing in order, as they are cut greedily from its lowest address on.
-unfoldable pub probe_frame_of : Stacked → Routine (Result (List Place) Fault)
+abbrev pub probe_frame_of : Stacked → Routine (Result (List Place) Fault)
 probe_frame_of s = probe_pieces_of Super (cut (length s.bytes) s.at (length s.bytes)) []
 
 -- bytes go to the checked places, in order
@@ -139,14 +139,14 @@ pub record Places : Type 0 where
   pub second : List Place
 
 -- every piece of every frame is checked before any is written
-unfoldable pub check_frames_of : Frames → Routine (Result Places Fault)
+abbrev pub check_frames_of : Frames → Routine (Result Places Fault)
 check_frames_of f = do
   first ← probe_frame_of f.first
   second ← probe_second_of f.second
   Return (Ok (record { first = first; second = second }))
 
 -- the frames go to the checked places
-unfoldable pub put_frames_of : Frames → Places → Routine (Unit {0})
+abbrev pub put_frames_of : Frames → Places → Routine (Unit {0})
 put_frames_of f places = Then (put_bytes_of places.first f.first.bytes) (λ done. put_second_of f.second places.second)
 
 -- ---- the entry
@@ -162,7 +162,7 @@ unstacked (Some access) fault c cpu = (entered.DoubleFault, record cpu { regs = 
 unstacked None fault c cpu = (entered.Faulted fault, cpu)
 
 -- the new PC is a long in the table of vectors; where it can't be read the processor halts
-unfoldable pub go_to_handler_of : Cause → Cpu → Routine Entrance
+abbrev pub go_to_handler_of : Cause → Cpu → Routine Entrance
 go_to_handler_of c cpu =
     caught (read_operand_of Super (sum cpu.vbr (4 * c.vector)) 4)
     (λ refused. Return (entered.DoubleFault, cpu))
@@ -173,7 +173,7 @@ abbrev pub awake : Cpu → Cpu
 awake cpu = record cpu { stopped = false }
 
 -- The entry of an exception: SR is saved, the frames are checked, then written, and then the vector is read.
-unfoldable pub enter_of : Cause → Cpu → Routine Entrance
+abbrev pub enter_of : Cause → Cpu → Routine Entrance
 enter_of c cpu =
     let frames = frames_of c cpu.regs in
     caught (check_frames_of frames)

@@ -67,7 +67,7 @@ ends_step entered.Done = finish.Entered ACCESS_ERROR
 ends_step _ = finish.Halted
 
 -- An access error is entered with this PC and these fields. Where its own frame has no place the processor halts.
-unfoldable pub access_error_of : ℕ → Access → Cpu → Routine Stepped
+abbrev pub access_error_of : ℕ → Access → Cpu → Routine Stepped
 access_error_of pc access cpu =
     Then (enter_of (access_cause pc access) cpu) (λ (end, after). Return (ends_step end, after))
 
@@ -79,7 +79,7 @@ Raised = Result Cpu Stepped
 
 -- A check of a frame was refused: an access error is entered from the processor as it is kept for that, with its PC.
 -- CT is set where it was a trace's frame.
-unfoldable pub unchecked_of : Bool → Fault → Cpu → Routine Stepped
+abbrev pub unchecked_of : Bool → Fault → Cpu → Routine Stepped
 unchecked_of is_trace fault kept = access_error_of kept.regs.pc (with_ct is_trace (check_fields fault)) kept
 
 -- what follows an entry that came to this
@@ -91,7 +91,7 @@ raised is_trace kept entered.DoubleFault cpu = Return (Err (finish.Halted, cpu))
 
 -- An exception is entered: a trace, or any other one but an access error. `kept` is the processor as an access error
 -- in its place finds it.
-unfoldable pub raise_of : Bool → Cause → Cpu → Cpu → Routine Raised
+abbrev pub raise_of : Bool → Cause → Cpu → Cpu → Routine Raised
 raise_of is_trace c kept cpu = Then (enter_of c cpu) (λ (end, after). raised is_trace kept end after)
 
 -- the exception of this vector, which ends the step
@@ -104,7 +104,7 @@ abbrev pub interrupt_cause : ℕ → ℕ → Cause
 interrupt_cause level pc = record { vector = INTERRUPT + level; pc = pc; address = 0; access = None; level = level }
 
 -- The entry of an interrupt. Where its frames have no place no register has changed.
-unfoldable pub interrupt_of : ℕ → Cpu → Routine Stepped
+abbrev pub interrupt_of : ℕ → Cpu → Routine Stepped
 interrupt_of level cpu = raise_last_of (INTERRUPT + level) (raise_of false (interrupt_cause level cpu.regs.pc) cpu cpu)
 
 -- ---- exceptions of instructions
@@ -113,7 +113,7 @@ abbrev pub cause_at : ℕ → ℕ → ℕ → Cause
 cause_at vector pc address = record { vector = vector; pc = pc; address = address; access = None; level = 0 }
 
 -- Trace: the frame has the PC now, and the address of the instruction. It is the last exception of a step.
-unfoldable pub trace_of : ℕ → Cpu → Routine Stepped
+abbrev pub trace_of : ℕ → Cpu → Routine Stepped
 trace_of address cpu = raise_last_of TRACE (raise_of true (cause_at TRACE cpu.regs.pc address) cpu cpu)
 
 -- a trace of the instruction at an address, where it is due; else the step ends so
@@ -122,7 +122,7 @@ trace_if_of so_far due address cpu = choose due (trace_of address cpu) (Return (
 
 -- An instruction traps: the frame has the next PC, and the address of the instruction. T1 asks for a trace behind it,
 -- with the handler's PC. Where the frame has no place all registers are as before the instruction.
-unfoldable pub raise_trap_of : ℕ → Cpu → Cpu → Routine Stepped
+abbrev pub raise_trap_of : ℕ → Cpu → Cpu → Routine Stepped
 raise_trap_of vector before cpu =
     let at = before.regs.pc in
     caught (raise_of false (cause_at vector cpu.regs.pc at) before cpu)

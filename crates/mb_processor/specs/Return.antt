@@ -39,7 +39,7 @@ pub record Head : Type 0 where
   pub format : ℕ
 
 -- at an address: SR, PC and the format word, each an operand of its own; the low bits of the last do not count
-unfoldable pub read_head_of : ℕ → Routine (Result Head ReadFault)
+abbrev pub read_head_of : ℕ → Routine (Result Head ReadFault)
 read_head_of at = do
   sr ← read_operand_of Super (sum at SR_PLACE) (bytes_of Word)
   pc ← read_operand_of Super (sum at PC_PLACE) (bytes_of Long)
@@ -128,7 +128,7 @@ access_or_format_error a r =
     if continues a && not (can_continue a) then Err format_error else Ok (record { regs = r; access = Some a })
 
 -- $7: thirteen longs are behind the format word
-unfoldable pub take_access_of : Head → Regs → Routine (Result Taken Ended)
+abbrev pub take_access_of : Head → Regs → Routine (Result Taken Ended)
 take_access_of head r = do
   longs ← read_or_end (read_longs_of access_longs (sum (active_stack r) FIELDS_PLACE) [])
   Return (access_or_format_error (access_of_longs longs) (restore_of 7 head r))
@@ -138,27 +138,27 @@ abbrev pub plainly : Regs → Result Taken Ended
 plainly r = Ok (record { regs = r; access = None })
 
 -- the frame that is returned by: $0, $2, whose address is not read, or $7
-unfoldable pub take_frame_of : Head → Regs → Routine (Result Taken Ended)
+abbrev pub take_frame_of : Head → Regs → Routine (Result Taken Ended)
 take_frame_of head r =
     choose (head.format == 7) (take_access_of head r)
     (Return (if head.format == 0 then plainly (restore_of 0 head r) else
     if head.format == 2 then plainly (restore_of 2 head r) else Err format_error))
 
 -- the frame on the active stack below a throwaway frame
-unfoldable pub take_second_of : Regs → Routine (Result Taken Ended)
+abbrev pub take_second_of : Regs → Routine (Result Taken Ended)
 take_second_of r = do
   head ← read_or_end (read_head_of (active_stack r))
   take_frame_of head r
 
 -- $1: its SR, in which S has to be set, says which stack the frame is on that is returned by
-unfoldable pub take_throwaway_of : Head → Regs → Routine (Result Taken Ended)
+abbrev pub take_throwaway_of : Head → Regs → Routine (Result Taken Ended)
 take_throwaway_of head r =
     choose (is_supervisor head.sr)
     (take_second_of (record (drop_bytes_of (frame_length 1) r) { sr = head.sr }))
     (Return (Err format_error))
 
 -- the frame on the active stack, and below a throwaway frame another one
-unfoldable pub take_frames_of : Regs → Routine (Result Taken Ended)
+abbrev pub take_frames_of : Regs → Routine (Result Taken Ended)
 take_frames_of r = do
   head ← read_or_end (read_head_of (active_stack r))
   choose (head.format == 1) (take_throwaway_of head r) (take_frame_of head r)
@@ -183,13 +183,13 @@ continued a cpu (Ok p) = (done_with_flow, record cpu { regs = with_plain cpu.reg
 continued a cpu (Err half) = (ended.Movem half.fault, record cpu { regs = with_plain cpu.regs half.plain })
 
 -- A MOVEM goes on with the transfer that was refused, by the words and the address of its frame. Nothing is fetched.
-unfoldable pub go_on_of : Access → Cpu → Routine (Ended × Cpu)
+abbrev pub go_on_of : Access → Cpu → Routine (Ended × Cpu)
 go_on_of a cpu =
     Then (transfer_of (movem_in a.pd2) a.ea a.pd3 (space_of cpu) (plain_of cpu.regs))
     (λ moved. Return (continued a cpu moved))
 
 -- what follows once the frames were taken
-unfoldable pub resumed_of : Option Access → Cpu → Routine Returned
+abbrev pub resumed_of : Option Access → Cpu → Routine Returned
 resumed_of None cpu = Return (record { ended = done_with_flow; cpu = cpu; held = None })
 resumed_of (Some a) cpu =
     let held = Some (record { access = a; pc = cpu.regs.pc }) in
@@ -197,7 +197,7 @@ resumed_of (Some a) cpu =
     (λ (end, after). Return (record { ended = end; cpu = after; held = held }))
 
 -- RTE. Where it is not carried out all registers are as before.
-unfoldable pub return_from_of : Cpu → Routine Returned
+abbrev pub return_from_of : Cpu → Routine Returned
 return_from_of cpu =
     caught (take_frames_of cpu.regs)
     (λ ended. Return (record { ended = ended; cpu = cpu; held = None }))

@@ -37,19 +37,19 @@ load_register_of size n value p =
     else with_address_register p (n - 8) (sign_extended size value)
 
 -- to memory, in DFC's space. An address register that has stepped is stored with its new value.
-unfoldable pub move_out_of : Size → Target → ℕ → Plain → Cpu → Routine SystemRowed
+abbrev pub move_out_of : Size → Target → ℕ → Plain → Cpu → Routine SystemRowed
 move_out_of size target n p cpu =
     finish_row_of cpu (finish_with_of target size (register_of p n) (function_space cpu.dfc) p)
 
 -- from memory, in SFC's space. An address register that has stepped becomes what was read.
-unfoldable pub move_in_of : Size → Target → ℕ → Plain → Cpu → Routine SystemRowed
+abbrev pub move_in_of : Size → Target → ℕ → Plain → Cpu → Routine SystemRowed
 move_in_of size target n p cpu = do
   value ← reading (read_operand_of (function_space cpu.sfc) (place_of target) (bytes_of size))
   Return (completed (with_registers (load_register_of size n value p) cpu))
 
 -- MOVES: a memory indirection of its address reads in supervisor space, whatever the function codes say. Only the
 -- operand itself goes by SFC or DFC.
-unfoldable pub moves_of : Size → Ea → ℕ → ℕ → Cpu → Routine SystemRowed
+abbrev pub moves_of : Size → Ea → ℕ → ℕ → Cpu → Routine SystemRowed
 moves_of size ea word word_at cpu = do
   to ← reading (resolve_of ea size word_at Super (plain_of cpu.regs))
   choose (register_word word).is_store (move_out_of size to.target (register_word word).register to.plain cpu)
@@ -71,20 +71,20 @@ is_of_a_page kind.AllLocal = false
 is_of_a_page kind.All = false
 
 -- of the other half of a page of 8 KiB too, where the tables are of such pages
-unfoldable pub flush_beside_of : FlushKind → ℕ → Cpu → Routine Cpu
+abbrev pub flush_beside_of : FlushKind → ℕ → Cpu → Routine Cpu
 flush_beside_of kind page cpu =
     Then mmu (λ registers.
     let both = has_big_pages registers && is_of_a_page kind in
     Then (choose both (flush (flushed_by kind (other_half page) cpu)) (Return tt)) (λ done. Return cpu))
 
 -- PFLUSH
-unfoldable pub pflush_of : FlushKind → ℕ → Cpu → Routine Cpu
+abbrev pub pflush_of : FlushKind → ℕ → Cpu → Routine Cpu
 pflush_of kind n cpu =
     let page = page_of (address_register (plain_of cpu.regs) n) in
     Then (flush (flushed_by kind page cpu)) (λ done. flush_beside_of kind page cpu)
 
 -- PTEST: the page is tested in DFC's space, for a read or a write, and the answer becomes MMUSR
-unfoldable pub ptest_of : Bool → ℕ → Cpu → Routine Cpu
+abbrev pub ptest_of : Bool → ℕ → Cpu → Routine Cpu
 ptest_of is_read n cpu =
     Then (test (function_space cpu.dfc) (address_register (plain_of cpu.regs) n) (not is_read))
     (λ status. Then (set_mmu Mmusr status) (λ done. Return cpu))

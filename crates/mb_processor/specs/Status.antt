@@ -19,31 +19,31 @@ abbrev pub with_status : ℕ → Cpu → Cpu
 with_status value cpu = record cpu { regs = record cpu.regs { sr = kept_status value } }
 
 -- ANDI, ORI and EORI to SR
-unfoldable pub change_status_of : LogicKind → ℕ → Cpu → Cpu
+abbrev pub change_status_of : LogicKind → ℕ → Cpu → Cpu
 change_status_of kind word cpu = with_status (logic_of kind Word word cpu.regs.sr 0).value cpu
 
 -- MOVE to SR: a word is read, by the registers as the old S and M give them
-unfoldable pub move_to_status_of : Ea → ℕ → Cpu → Routine SystemRowed
+abbrev pub move_to_status_of : Ea → ℕ → Cpu → Routine SystemRowed
 move_to_status_of ea word_at cpu = do
   operand ← reading (fetch_operand_of Word ea word_at Super (plain_of cpu.regs))
   Return (redirected (with_status operand.value (with_registers operand.plain cpu)))
 
 -- MOVE from SR: the destination is not read
-unfoldable pub move_from_status_of : Ea → ℕ → Cpu → Routine SystemRowed
+abbrev pub move_from_status_of : Ea → ℕ → Cpu → Routine SystemRowed
 move_from_status_of ea word_at cpu = do
   to ← reading (resolve_of ea Word word_at Super (plain_of cpu.regs))
   finish_row_of cpu (finish_with_of to.target Word cpu.regs.sr Super to.plain)
 
 -- STOP: SR is loaded, and the processor stops
-unfoldable pub stop_of : ℕ → Cpu → Cpu
+abbrev pub stop_of : ℕ → Cpu → Cpu
 stop_of word cpu = record (with_status word cpu) { stopped = true }
 
 -- MOVE An to USP
-unfoldable pub move_to_usp_of : ℕ → Cpu → Cpu
+abbrev pub move_to_usp_of : ℕ → Cpu → Cpu
 move_to_usp_of n cpu = record cpu { regs = record cpu.regs { usp = address_register (plain_of cpu.regs) n } }
 
 -- MOVE USP to An
-unfoldable pub move_from_usp_of : ℕ → Cpu → Cpu
+abbrev pub move_from_usp_of : ℕ → Cpu → Cpu
 move_from_usp_of n cpu = with_registers (with_address_register (plain_of cpu.regs) n cpu.regs.usp) cpu
 
 -- MOVE USP

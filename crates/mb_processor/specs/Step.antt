@@ -49,14 +49,14 @@ finish_unread_of refused before =
 
 -- a write was refused of an operand that has pieces left: the instruction is otherwise complete, and CT says that a
 -- trace is due
-unfoldable pub finish_unfinished_of : Bool → WriteFault → Cpu → Routine Stepped
+abbrev pub finish_unfinished_of : Bool → WriteFault → Cpu → Routine Stepped
 finish_unfinished_of due refused cpu =
     by_page_size (λ page.
     let fields = write_fields refused.fault refused.first refused.rest.items page in
     access_error_of cpu.regs.pc (with_ct due fields) cpu)
 
 -- a write was refused of which nothing is left: all registers are as before
-unfoldable pub unbegun_of : WriteFault → Cpu → Routine Stepped
+abbrev pub unbegun_of : WriteFault → Cpu → Routine Stepped
 unbegun_of refused before =
     by_page_size (λ page. access_error_of before.regs.pc (write_fields refused.fault refused.first [] page) before)
 
@@ -65,7 +65,7 @@ finish_unwritten_of due refused [] before cpu = unbegun_of refused before
 finish_unwritten_of due refused (piece ∷ pieces) before cpu = finish_unfinished_of due refused cpu
 
 -- the write of a line was refused: the instruction is otherwise complete, and CT says that a trace is due
-unfoldable pub finish_unwritten_line_of : Bool → Fault → List ℕ → Cpu → Routine Stepped
+abbrev pub finish_unwritten_line_of : Bool → Fault → List ℕ → Cpu → Routine Stepped
 finish_unwritten_line_of due fault line cpu =
     by_page_size (λ page. access_error_of cpu.regs.pc (with_ct due (line_fields fault line page)) cpu)
 
@@ -80,7 +80,7 @@ movem_words i = long_of (words_of (row i))
 
 -- A transfer of a MOVEM was refused: what was loaded stays, and the frame has the PC of the instruction and the next
 -- one. CT says that a trace is due, of a MOVEM that stores alone.
-unfoldable pub finish_untransferred_of : Bool → MovemFault → ℕ → Cpu → Cpu → Routine Stepped
+abbrev pub finish_untransferred_of : Bool → MovemFault → ℕ → Cpu → Cpu → Routine Stepped
 finish_untransferred_of due refused words before cpu =
     by_page_size (λ page.
     let fields = access_fields (refused_transfer refused words cpu.regs.pc) page in
@@ -93,7 +93,7 @@ is_flow _ = false
 
 -- The finish of an instruction that ended so, by the processor before it and after it. Whether a trace is due is said
 -- by the bits before it.
-unfoldable pub finish_instruction_of : Instr → Ended → Cpu → Cpu → Routine Stepped
+abbrev pub finish_instruction_of : Instr → Ended → Cpu → Cpu → Routine Stepped
 finish_instruction_of i (ended.Done flow) before cpu =
     trace_if_of finish.Went (is_due before.regs.sr flow) before.regs.pc cpu
 finish_instruction_of i (ended.Trap vector) before cpu = raise_trap_of vector before cpu
@@ -117,7 +117,7 @@ abbrev pub is_due_by : Held → Cpu → Bool
 is_due_by held cpu = has_ct held.access || (continues held.access && traces_all cpu.regs.sr)
 
 -- A transfer of the MOVEM was refused again: a frame as the one that was taken.
-unfoldable pub finish_untransferred_again_of : Bool → MovemFault → Held → Cpu → Routine Stepped
+abbrev pub finish_untransferred_again_of : Bool → MovemFault → Held → Cpu → Routine Stepped
 finish_untransferred_again_of due refused held cpu =
     let old = held.access in
     by_page_size (λ page.
@@ -133,7 +133,7 @@ finish_return_of (ended.Movem refused) held before cpu =
     finish_untransferred_again_of (is_due before.regs.sr true) refused held cpu
 finish_return_of end held before cpu = finish_instruction_of (instr.System system.Rte) end before cpu
 
-unfoldable pub rte_of : Cpu → Routine Stepped
+abbrev pub rte_of : Cpu → Routine Stepped
 rte_of cpu =
     Then (holding nothing_held (return_from_of cpu)) (λ (end, after, held). finish_return_of end held cpu after)
 
@@ -144,7 +144,7 @@ abbrev pub beyond : ℕ → Cpu → Cpu
 beyond n cpu = record cpu { regs = record cpu.regs { pc = (cpu.regs.pc + 2 * n) % 2 ^ 32 } }
 
 -- a privileged instruction of so many words, in supervisor mode
-unfoldable pub execute_supervised_of : System → ℕ → Cpu → Routine Stepped
+abbrev pub execute_supervised_of : System → ℕ → Cpu → Routine Stepped
 execute_supervised_of system.Rte n cpu = rte_of cpu
 execute_supervised_of i n cpu =
     let moved = beyond n cpu in
@@ -152,25 +152,25 @@ execute_supervised_of i n cpu =
     (λ (end, after). finish_instruction_of (instr.System i) end cpu after)
 
 -- an instruction of so many words that is not privileged: it knows the space of its accesses alone
-unfoldable pub execute_unprivileged_of : Instr → ℕ → Cpu → Routine Stepped
+abbrev pub execute_unprivileged_of : Instr → ℕ → Cpu → Routine Stepped
 execute_unprivileged_of i n cpu =
     let p = plain_of cpu.regs in
     Then (closing (perform_of i p.pc (space_of cpu) (past n p)))
     (λ (end, after). finish_instruction_of i end cpu (with_registers after cpu))
 
 -- An instruction is carried out, and finished. A privileged one needs supervisor mode.
-unfoldable pub execute_of : Instr → ℕ → Cpu → Routine Stepped
+abbrev pub execute_of : Instr → ℕ → Cpu → Routine Stepped
 execute_of (instr.System i) n cpu =
     choose (is_supervisor cpu.regs.sr) (execute_supervised_of i n cpu) (refuse_of PRIVILEGED cpu)
 execute_of i n cpu = execute_unprivileged_of i n cpu
 
 -- no instruction was found
-unfoldable pub unfound_of : Unfound → Cpu → Routine Stepped
+abbrev pub unfound_of : Unfound → Cpu → Routine Stepped
 unfound_of (NoInstruction vector) cpu = refuse_of vector cpu
 unfound_of (Unfetched refused) cpu = finish_unread_of refused cpu
 
 -- An instruction is fetched at PC, one word at a time, and carried out.
-unfoldable pub execute_next_of : Cpu → Routine Stepped
+abbrev pub execute_next_of : Cpu → Routine Stepped
 execute_next_of cpu =
     caught (fetched_of (space_of cpu) cpu.regs.pc)
     (λ unfound. unfound_of unfound cpu)
@@ -188,7 +188,7 @@ rank level = if level == NON_MASKABLE then 8 else level
 
 -- One step, with an interrupt of this level asked for, or of level 0 for none. Above the mask, or at level 7, it is
 -- entered, and the step has nothing else; a processor that is stopped idles.
-unfoldable pub step_of : ℕ → Cpu → Routine Stepped
+abbrev pub step_of : ℕ → Cpu → Routine Stepped
 step_of level cpu =
     choose (nat_lt (interrupt_mask cpu) (rank level)) (interrupt_of level cpu)
     (choose cpu.stopped (Return (finish.Idle, cpu)) (execute_next_of cpu))

@@ -28,7 +28,7 @@ gone_back m = Then m (λ returned. Return (gone_by returned.ended returned.cpu))
 
 -- What a privileged instruction does in supervisor mode. The words of its operand begin at `word_at`; PC is past it.
 -- CINV and CPUSH do nothing more.
-unfoldable pub perform_system_of : System → ℕ → Cpu → Routine SystemRowed
+abbrev pub perform_system_of : System → ℕ → Cpu → Routine SystemRowed
 perform_system_of (system.AndiSr word) word_at cpu = Return (redirected (change_status_of logic.And word cpu))
 perform_system_of (system.OriSr word) word_at cpu = Return (redirected (change_status_of logic.Or word cpu))
 perform_system_of (system.EoriSr word) word_at cpu = Return (redirected (change_status_of logic.Eor word cpu))

@@ -262,7 +262,7 @@ compare_course name = reads_session name (λ s. ends (compare_answer s))
 -- ---- gen
 
 -- a guest's state, how many steps it took and how many bytes it sent, and D0
-unfoldable pub summary_line : ℕ → Seen → Text
+abbrev pub summary_line : ℕ → Seen → Text
 summary_line i seen = codes "guest " ++ decimal i
     ++ codes " " ++ state_word seen.state
     ++ codes " steps " ++ decimal seen.steps

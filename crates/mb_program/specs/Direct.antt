@@ -33,7 +33,7 @@ abbrev pub class_count : Text → ℕ → Text
 class_count name count = name ++ decimal count
 
 -- the line of a guest
-unfoldable pub counts_line : ℕ → Tally → Text
+abbrev pub counts_line : ℕ → Tally → Text
 counts_line i t = codes "guest " ++ decimal i
     ++ class_count (codes " retired ") t.retired
     ++ class_count (codes " privileged ") t.privileged

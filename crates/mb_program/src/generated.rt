@@ -22,7 +22,6 @@ use std::alloc::Global;
 use vm_slices::Host;
 
 /// Writes a guest's line of the summary.
-#[tactic(auto, unfolding(crate::specs::Answers::summary_line))]
 fn write_line<O: Sink>(guest: u8, o: &Outcome, out: &mut O) -> Result<(), SinkFault>
     ensures { Prints (O.taken out.old) (O.taken out.new) (O.faults out.old) (O.faults out.new)
         (summary_line guest (seen_of o.now)) result }

@@ -45,7 +45,7 @@ fn write_chunks(board: &mut Board, chunks: &[Chunk])
 }
 
 /// A board with an image in its RAM, after reset.
-#[tactic(auto, unfolding(mb_machine::specs::Machine::reset_with, mb_devices::specs::Devices::idle))]
+#[tactic(auto, unfolding(mb_machine::specs::Machine::reset_with))]
 pub(crate) fn start_board(alloc: Global, image: &Image, size: u32) -> Result<Board, Memory>
     requires size { (8 ≤ size) × (size ≤ MOST_BOARD_BYTES) }
     requires in_ram { All (LiesBelow size) (contents_of image.now) }

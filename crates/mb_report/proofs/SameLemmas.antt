@@ -87,7 +87,6 @@ state_decides Off Stopped = (λ h. cc, λ e. cc)
 state_decides Off Halted = (λ h. cc, λ e. cc)
 
 pub seen_decides : (a b : Seen) → Decides (same_seen a b) (a ≡ b)
-unfolding same_seen
 seen_decides a b =
     Decides-like _ (λ h. let x : Seen = record {
       cpu = a.cpu;

@@ -34,7 +34,7 @@ same_state Off Off = true
 same_state _ _ = false
 
 -- Two outcomes show the same in all.
-unfoldable pub same_seen : Seen → Seen → Bool
+abbrev pub same_seen : Seen → Seen → Bool
 same_seen a b =
     same_cpu a.cpu b.cpu && same_mmu a.mmu b.mmu
     && bytes_eq a.console b.console && (a.lost == b.lost) && bytes_eq a.queue b.queue && (a.ctrl == b.ctrl)

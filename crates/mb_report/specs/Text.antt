@@ -116,5 +116,5 @@ abbrev pub memory_text : List ℕ → List ℕ
 memory_text ram = all_rows memory_line 16 ram
 
 -- the whole text of a guest's outcome
-unfoldable pub outcome_text : ℕ → Seen → List ℕ
+abbrev pub outcome_text : ℕ → Seen → List ℕ
 outcome_text guest seen = flat_map line_text (lines_of guest seen) ++ memory_text seen.ram ++ codes "end\n"

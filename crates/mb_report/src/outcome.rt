@@ -157,7 +157,6 @@ fn write_lines<O: Sink>(text: &mut Buffered, out: &mut O, lines: &[Line])
 /// Writes the outcome text of the guest of this number, from its first line to `end`.
 ///
 /// RAM is at most 2^32 bytes, so that each address has eight digits.
-#[tactic(auto, unfolding(crate::specs::Text::outcome_text))]
 pub fn write_outcome<O: Sink>(guest: u8, o: &Outcome, out: &mut O) -> Result<(), SinkFault>
     requires { length (seen_of o.now).ram ≤ 2 ^ 32 }
     ensures { Prints (O.taken out.old) (O.taken out.new) (O.faults out.old) (O.faults out.new)

@@ -19,7 +19,7 @@ use Rattle.mb_writes.specs.Checked.{probe_pieces_of}
 use Rattle.mb_processor.specs.declared.entering.Cause.{Cause}
 use Rattle.mb_processor.specs.declared.entering.Entered.TheVariants as entered
 use Rattle.mb_processor.specs.Entry as entry
-use Rattle.mb_processor.specs.Entry.{Stacked, Frames, Entrance, stacked, is_interrupt, frame_of, throwaway_of, handler_stack, frames_of, handler_regs, awake, unstacked, put_bytes_of, probe_frame_of, probe_second_of, put_second_of, check_frames_of, put_frames_of, go_to_handler_of, enter_of}
+use Rattle.mb_processor.specs.Entry.{Stacked, Frames, Entrance, stacked, is_interrupt, frame_of, throwaway_of, handler_stack, frames_of, handler_regs, awake, unstacked, put_bytes_of, probe_second_of, put_second_of, check_frames_of, put_frames_of, go_to_handler_of}
 use Rattle.mb_returns.specs.Keeping.{Placing, Viewing, IsKept, Keeps}
 use Rattle.mb_returns.specs.Returns.{AreApart, IsSeen, SecondIsSeen, AreSeen, EntryIsSeen}
 use Rattle.mb_returns.proofs.Bytes.{frame_is_bytes}
@@ -39,7 +39,6 @@ frame_length-few : (f : Frame) → frame_length (format_of f) ≤ 60
 frame_length-few f = grind arith
 
 is_frame : (f : Frame) (top : ℕ) → IsFrameOn (stacked f top)
-unfolding stacked
 is_frame f top = record {
   at = omega arith;
   few = let e = length-frame_bytes f in let h = frame_length-few f in omega arith;
@@ -85,7 +84,6 @@ module _ (S : Type 0) (bus : Bus S) (place : Placing S) (view : Viewing S) (keep
       → (let rest : Result (List Place) Fault → Routine (Result entry.Places Fault) =
       λ r. tried r (λ second. Return (Ok (record { first = first; second = second }))) in
       (run bus (Then (probe_second_of o) rest) t).0 ≡ Ok places → AreChecked place (run bus (Then (probe_second_of o) rest) t).1 f places)
-  unfolding probe_frame_of
   by_second f None first places t there on at_first h =
       let e : places ≡ record { first = first; second = [] } = cc in
       subst (λ (p : entry.Places). AreChecked place t f p) (sym e) (record {
@@ -110,7 +108,6 @@ module _ (S : Type 0) (bus : Bus S) (place : Placing S) (view : Viewing S) (keep
 
   checks : (f : Frames) (places : entry.Places) (s : S) → IsFrameOn f.first → SecondIsFrame f.second
       → (run bus (check_frames_of f) s).0 ≡ Ok places → AreChecked place (run bus (check_frames_of f) s).1 f places
-  unfolding check_frames_of probe_frame_of
   checks f places s on more h = after_first f places s (run bus (probe_pieces_of Super (pieces_of f.first) []) s).0 refl on more h
 
   -- ---- writes
@@ -130,7 +127,6 @@ module _ (S : Type 0) (bus : Bus S) (place : Placing S) (view : Viewing S) (keep
 
   writes : (f : Frames) (places : entry.Places) (t : S) → IsFrameOn f.first → SecondIsFrame f.second → AreApart f.first f.second
       → AreChecked place t f places → AreSeen (view (run bus (put_frames_of f places) t).1) f
-  unfolding put_frames_of
   writes f places t on more apart h =
       let n = length f.first.bytes in
       let done = puts S bus place view keeps n f.first.at n places.first f.first.bytes t (omega arith) on.at on.bytes (omega arith)
@@ -161,7 +157,6 @@ module _ (S : Type 0) (bus : Bus S) (place : Placing S) (view : Viewing S) (keep
   either_still P (Err e) g f t h = h
 
   vector_keeps : (f : Frames) (c : Cause) (cpu : Cpu) (t : S) → AreSeen (view t) f → AreSeen (view (run bus (go_to_handler_of c cpu) t).1) f
-  unfolding go_to_handler_of
   vector_keeps f c cpu t h =
       let at = sum cpu.vbr (4 * c.vector) in
       let u = (run bus (read_operand_of Super at 4) t).1 in
@@ -193,7 +188,7 @@ second_is_frame true f top = is_frame f top
 second_is_frame false f top = tt
 
 pub entry_is_seen : (S : Type 0) → EntryIsSeen S
-unfolding enter_of frames_of
+unfolding frames_of
 entry_is_seen S bus place view c cpu s keeps lawful apart h =
     let r = cpu.regs in
     let f = frames_of c r in

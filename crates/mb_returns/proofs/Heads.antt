@@ -85,7 +85,7 @@ module _ (S : Type 0) (bus : Bus S) (place : Placing S) (view : Viewing S) (keep
 
   pub reads_head : (at : ℕ) (f : Frame) (s : S) → IsFrame f → Shows (view s) at (length (frame_bytes f)) (frame_bytes f)
       → Gives bus place view (read_head_of at) s (Ok (head_from f))
-  unfolding read_head_of word_at long_at
+  unfolding word_at long_at
   reads_head at f s lawful h =
       let b = frame_bytes f in
       let is = of_reads f b lawful.0 (frame_reads f lawful) in

@@ -4,14 +4,14 @@ use Rattle.std.proofs.lemmas.Bool.{cases_lt}
 use Rattle.std.proofs.lemmas.List.{get_or-drop}
 use Rattle.byteorder.specs.Endian.{big_number}
 use Rattle.mb_port.specs.Routine.{Bus, Probe, Put, run, tried, read}
-use Rattle.mb_port.specs.Pieces.{piece_len, cut, split_of}
+use Rattle.mb_port.specs.Pieces.{piece_len, cut}
 use Rattle.mb_port.specs.declared.types.Space.TheVariants.{Super}
 use Rattle.mb_port.specs.declared.types.Piece.{Piece}
 use Rattle.mb_port.specs.declared.types.Place.{Place}
 use Rattle.mb_port.specs.declared.types.Fault.{Fault}
 use Rattle.mb_port.proofs.Cuts.{cut_are}
 use Rattle.mb_ea.specs.Addresses.{sum}
-use Rattle.mb_ea.specs.Reading.{read_pieces_of, read_cut_of, read_operand_of}
+use Rattle.mb_ea.specs.Reading.{read_pieces_of, read_operand_of}
 use Rattle.mb_writes.specs.Checked.{probe_pieces_of}
 use Rattle.mb_processor.specs.Entry.{put_bytes_of}
 use Rattle.mb_returns.specs.Keeping.{Placing, Viewing, IsAddressed, Shows, IsKept, Keeps}
@@ -100,7 +100,7 @@ module _ (S : Type 0) (bus : Bus S) (place : Placing S) (view : Viewing S) (keep
       (after_read ps value p.len t (run bus (read Super p) s).0 (λ more u. reads_keep ps more u lawful.1))
 
   pub read_keeps : (at n : ℕ) (s : S) → at < 2 ^ 32 → IsKept place view s (run bus (read_operand_of Super at n) s).1
-  unfolding read_operand_of read_cut_of split_of
+  unfolding read_operand_of
   read_keeps at n s small = reads_keep (cut 3 at n) 0 s (cut_addressed 3 at n small)
 
   -- ---- writes

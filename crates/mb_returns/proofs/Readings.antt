@@ -3,13 +3,13 @@ use Rattle.std.proofs.Common.{◌≡◌, ℕ, ◌+◌, ◌-◌, ◌*◌, ◌%◌
 use Rattle.std.proofs.lemmas.List.{get_or-drop}
 use Rattle.byteorder.specs.Endian.{big_number}
 use Rattle.mb_port.specs.Routine.{Bus, Routine, Return, Then, run, tried, read}
-use Rattle.mb_port.specs.Pieces.{IsGreedy, piece_len, cut, split_of}
+use Rattle.mb_port.specs.Pieces.{IsGreedy, piece_len, cut}
 use Rattle.mb_port.specs.declared.types.Space.TheVariants.{Super}
 use Rattle.mb_port.specs.declared.types.Piece.{Piece}
 use Rattle.mb_port.specs.declared.types.Fault.{Fault}
 use Rattle.mb_port.proofs.Cuts.{cut_greedy, none_left}
 use Rattle.mb_ea.specs.Addresses.{sum}
-use Rattle.mb_ea.specs.Reading.{read_pieces_of, read_cut_of, read_operand_of}
+use Rattle.mb_ea.specs.Reading.{read_pieces_of, read_operand_of}
 use Rattle.mb_returns.specs.Keeping.{Placing, Viewing, IsAddressed, Shows, IsKept, Keeps}
 use Rattle.mb_returns.proofs.Numbers.{behind}
 
@@ -48,7 +48,6 @@ shown_behind view at n m bytes few h k l =
     ∙ h (m + k) (omega arith) ∙ ap (λ (x : ℕ). Some x) (sym (get_or-drop m bytes k 0))
 
 pub piece_fits : (at left : ℕ) → 0 < left → (0 < piece_len at left) × (piece_len at left ≤ left)
-unfolding piece_len
 piece_fits at left h = grind arith
 
 module _ (S : Type 0) (bus : Bus S) (place : Placing S) (view : Viewing S) (keeps : Keeps bus place view) where
@@ -82,7 +81,7 @@ module _ (S : Type 0) (bus : Bus S) (place : Placing S) (view : Viewing S) (keep
   -- an operand
   pub reads : (at n : ℕ) (bytes : List ℕ) (s : S) → n ≤ 5 → at < 2 ^ 32 → Shows (view s) at n bytes
       → Gives bus place view (read_operand_of Super at n) s (Ok (big_number n bytes))
-  unfolding read_operand_of read_cut_of split_of
+  unfolding read_operand_of
   reads at n bytes s few small h =
       let whole = reads_pieces (cut 3 at n) at n 0 bytes s (cut_greedy 3 at n (none_left at n few)) small h in
       let value : 0 * 256 ^ n + big_number n bytes ≡ big_number n bytes = omega arith in

@@ -15,8 +15,8 @@ use Rattle.mb_ea.specs.declared.reading.ReadFault.{ReadFault}
 use Rattle.mb_writes.specs.declared.ends.Ended.{Ended}
 use Rattle.mb_writes.specs.declared.ends.Ended.TheVariants as ended
 use Rattle.mb_processor.specs.declared.entering.Cause.{Cause}
-use Rattle.mb_processor.specs.Entry.{has_address, is_interrupt, supervised, with_mask, frame_with, frame_of, throwaway_of, thrown_sr, stacked, with_second, handler_regs, frames_of, Frames}
-use Rattle.mb_processor.specs.Return.{Head, Taken, read_head_of, read_longs_of, access_of_longs, continues, can_continue, restore_of, drop_bytes_of, format_error, read_or_end, access_or_format_error, take_access_of, take_frame_of, take_second_of, take_throwaway_of, take_frames_of}
+use Rattle.mb_processor.specs.Entry.{has_address, is_interrupt, supervised, with_mask, frame_with, frame_of, throwaway_of, thrown_sr, stacked, with_second, frames_of, Frames}
+use Rattle.mb_processor.specs.Return.{Head, Taken, read_head_of, read_longs_of, access_of_longs, continues, can_continue, restore_of, drop_bytes_of, format_error, read_or_end, access_or_format_error, take_frame_of, take_second_of, take_throwaway_of, take_frames_of}
 use Rattle.mb_returns.specs.Keeping.{Placing, Viewing, Shows, Keeps}
 use Rattle.mb_returns.specs.Returns.{IsLawful, AreSeen, taken_back, CanReturn, FramesAreTaken}
 use Rattle.mb_returns.proofs.Readings.{Gives, followed, at_once, shown_still, shown_behind}
@@ -76,7 +76,6 @@ module _ (S : Type 0) (bus : Bus S) (place : Placing S) (view : Viewing S) (keep
   frame_given : (f : Frame) (r : Regs) (s : S) → Returns f → IsFrame f → CanReturn (access_of f)
       → Shows (view s) (active_stack r) (length (frame_bytes f)) (frame_bytes f)
       → Gives bus place view (take_frame_of (head_from f) r) s (Ok (taken_by f r))
-  unfolding take_frame_of take_access_of
   frame_given (frame.Short sr pc offset) r s is lawful can h = at_once bus place view s _
   frame_given (frame.Throwaway sr pc offset) r s is lawful can h = absurd is
   frame_given (frame.Address sr pc offset address) r s is lawful can h = at_once bus place view s _
@@ -102,7 +101,6 @@ module _ (S : Type 0) (bus : Bus S) (place : Placing S) (view : Viewing S) (keep
   one_given : (f : Frame) (r : Regs) (s : S) → Returns f → IsFrame f → CanReturn (access_of f)
       → Shows (view s) (active_stack r) (length (frame_bytes f)) (frame_bytes f)
       → Gives bus place view (take_frames_of r) s (Ok (taken_by f r))
-  unfolding take_frames_of
   one_given f r s is lawful can h =
       let m = read_head_of (active_stack r) in
       let next : Result Head Ended → Routine (Result Taken Ended) =
@@ -121,7 +119,6 @@ module _ (S : Type 0) (bus : Bus S) (place : Placing S) (view : Viewing S) (keep
       → (let below : Regs = record (drop_bytes_of 8 r) { sr = kept_status sr } in
       Shows (view s) (active_stack below) (length (frame_bytes f)) (frame_bytes f)
       → Gives bus place view (take_frames_of r) s (Ok (taken_by f below)))
-  unfolding take_frames_of take_throwaway_of take_second_of
   two_given sr pc offset f r s is lawful thrown can super seen h =
       let low : Regs = record (drop_bytes_of 8 r) { sr = kept_status sr } in
       let above = frame.Throwaway sr pc offset in
@@ -222,7 +219,6 @@ module _ (S : Type 0) (bus : Bus S) (place : Placing S) (view : Viewing S) (keep
 
   pub by_cases : (i m : Bool) (s : S) → is_master cpu.regs.sr ≡ m → AreSeen (view s) (frames_by i m c cpu.regs) → IsBack (settled_by i m c cpu.regs) back.regs
       → (run bus (take_frames_of back.regs) s).0 ≡ Ok (taken_back c cpu back)
-  unfolding stacked
   by_cases false false s m seen h =
       let f = frame_of cpu.regs.sr c in
       let is = of_cause c.access cpu.regs.sr c in
@@ -286,7 +282,7 @@ module _ (S : Type 0) (bus : Bus S) (place : Placing S) (view : Viewing S) (keep
       ∙ ap (λ (x : Regs). (let q : Result Taken Ended = Ok (record { regs = x; access = c.access }) in q)) regs
 
 pub frames_are_taken : (S : Type 0) → FramesAreTaken S
-unfolding frames_of handler_regs
+unfolding frames_of
 frames_are_taken S bus place view c cpu back s keeps lawful seen h can =
     by_cases S bus place view keeps c cpu back lawful can (is_interrupt c) (is_master cpu.regs.sr) s refl seen
     (record { supervisor = h.supervisor; master = h.master; isp = h.isp; msp = h.msp })

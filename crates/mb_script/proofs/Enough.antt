@@ -9,7 +9,6 @@ argument_by_six keyword (a ∷ b ∷ []) = refl
 argument_by_six keyword (a ∷ b ∷ c ∷ words) = refl
 
 fields_by_six : (words : List (List ℕ)) → fields_of (take 6 words) ≡ fields_of words
-unfolding fields_of
 fields_by_six [] = refl
 fields_by_six (a ∷ []) = refl
 fields_by_six (a ∷ b ∷ []) = refl
@@ -19,7 +18,6 @@ fields_by_six (a ∷ b ∷ c ∷ d ∷ e ∷ []) = refl
 fields_by_six (a ∷ b ∷ c ∷ d ∷ e ∷ f ∷ words) = refl
 
 pub guest_by_six : (words : List (List ℕ)) → guest_of (take 6 words) ≡ guest_of words
-unfolding guest_of
 guest_by_six words = rw (fields_by_six words) refl
 
 pub begins_by_six : (words : List (List ℕ)) → begins_turn (take 6 words) ≡ begins_turn words
@@ -34,5 +32,4 @@ turn_words_by_six (a ∷ b ∷ c ∷ []) = refl
 turn_words_by_six (a ∷ b ∷ c ∷ d ∷ words) = refl
 
 pub turn_by_six : (count : ℕ) (words : List (List ℕ)) → turn_of count (take 6 words) ≡ turn_of count words
-unfolding turn_of
 turn_by_six count words = rw (turn_words_by_six words) refl

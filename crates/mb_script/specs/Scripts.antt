@@ -68,7 +68,7 @@ abbrev pub typed : List ℕ → List Input
 typed bytes = map input.Byte bytes
 
 -- hexadecimal digits of either case in pairs, or printable characters; a line has a LF at its end
-unfoldable pub inputs_of : Written → Option (List Input)
+abbrev pub inputs_of : Written → Option (List Input)
 inputs_of (Hex digits) = option_map typed (result_ok (decode_of digits))
 inputs_of (Text characters) = option_map typed (printable characters)
 inputs_of (WithLineFeed characters) = option_map (λ text. typed (text ++ 10 ∷ [])) (printable characters)
@@ -80,7 +80,7 @@ pub record Arrival : Type 0 where
   pub inputs : List Input
 
 -- what a line says by itself
-unfoldable pub arrival_of : List ℕ → Result Arrival LineWhy
+abbrev pub arrival_of : List ℕ → Result Arrival LineWhy
 arrival_of line = do
   parts ← ok_or (parts_of line) why.Word
   step ← ok_or (step_of parts.step) why.Number
@@ -112,5 +112,5 @@ entries_after last (line ∷ lines) = do
   Ok (at_step arrival.step arrival.inputs ++ later)
 
 -- The entries of a script's text, or the first fault in order of lines.
-unfoldable pub script_of : List ℕ → Result Entries Fault
+abbrev pub script_of : List ℕ → Result Entries Fault
 script_of text = entries_after 0 (statements_of text)

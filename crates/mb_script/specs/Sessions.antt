@@ -64,7 +64,7 @@ pub record Fields : Type 0 where
   pub script : List ℕ
 
 -- `guest RAM STEPS IMAGE SCRIPT`
-unfoldable pub fields_of : List (List ℕ) → Option Fields
+abbrev pub fields_of : List (List ℕ) → Option Fields
 fields_of (first ∷ ram ∷ steps ∷ image ∷ script ∷ []) =
     if bytes_eq first (codes "guest") && is_name image && is_name script
     then Some (record { ram = ram; steps = steps; image = image; script = script })
@@ -72,7 +72,7 @@ fields_of (first ∷ ram ∷ steps ∷ image ∷ script ∷ []) =
 fields_of _ = None
 
 -- the guest that a line's words name
-unfoldable pub guest_of : List (List ℕ) → Result Guest LineWhy
+abbrev pub guest_of : List (List ℕ) → Result Guest LineWhy
 guest_of words = do
   fields ← ok_or (fields_of words) why.Word
   ram ← ok_or (ram_of fields.ram) why.Number
@@ -124,7 +124,7 @@ abbrev pub guest_number_of : (count : ℕ) → List ℕ → Option ℕ
 guest_number_of count word = option_and_then (tested (λ n. nat_le 1 n && nat_le n count)) (number_of word)
 
 -- the turn that a line's words name, of one of so many guests
-unfoldable pub turn_of : (count : ℕ) → List (List ℕ) → Result Turn LineWhy
+abbrev pub turn_of : (count : ℕ) → List (List ℕ) → Result Turn LineWhy
 turn_of count words = do
   (guest_word, steps_word) ← ok_or (turn_words_of words) why.Word
   guest ← ok_or (guest_number_of count guest_word) why.Number
@@ -156,7 +156,7 @@ guests_after version count (line ∷ lines) =
     guests_after version (count + 1) lines >>= λ others. Ok (guest_before guest others))
 
 -- one guest or more
-unfoldable pub guests_of : (version past : ℕ) → List Line → Result (List Guest × List Line) Fault
+abbrev pub guests_of : (version past : ℕ) → List Line → Result (List Guest × List Line) Fault
 guests_of version past lines = do
   (guest, behind) ← due past (guest_line 0) lines
   others ← guests_after version 1 behind
@@ -171,7 +171,7 @@ turns_of count (line ∷ lines) = do
   Ok (turn ∷ later)
 
 -- a session, its board, its slice, its guests, and its turns; past is the number of the line after the last
-unfoldable pub plan_of : ℕ → List Line → Result Plan Fault
+abbrev pub plan_of : ℕ → List Line → Result Plan Fault
 plan_of past lines = do
   (version, behind_session) ← due past session_line lines
   (board, behind_board) ← due past board_line behind_session
@@ -181,5 +181,5 @@ plan_of past lines = do
   Ok (record { board = board; slice = slice; guests = guests; order = order })
 
 -- The plan of a session file, or the first fault in order of lines.
-unfoldable pub session_of : List ℕ → Result Plan Fault
+abbrev pub session_of : List ℕ → Result Plan Fault
 session_of text = plan_of (length (lines_in text) + 1) (statements_of text)

@@ -37,7 +37,6 @@ struct Parts<'a> {
 }
 
 /// What arrives by a line.
-#[tactic(auto, unfolding(crate::specs::Scripts::arrival_of))]
 pub(crate) fn arrival_of(alloc: Global, line: &[u8]) -> Result<Arrival, Refusal>
     ensures given { GivesAlone arrival_said result (arrival_of line.now) }
     ensures short { IfOk result (λ arrival. length (due_said arrival.due) ≤ length line.now) }
@@ -131,7 +130,6 @@ fn step_of(word: &[u8]) -> Option<u32>
 }
 
 /// What the line lets arrive.
-#[tactic(auto, unfolding(crate::specs::Scripts::inputs_of))]
 fn due_of(alloc: Global, written: Written) -> Result<Due, Refusal>
     ensures given { GivesAlone due_said result (ok_or (inputs_of (written_said written.entry)) why.Digits) }
     ensures short { IfOk result (λ due. length (due_said due) ≤ written_len written.entry + 1) }

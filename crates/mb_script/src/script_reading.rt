@@ -34,7 +34,6 @@ pub fn read_script(alloc: Global, text: &[u8]) -> Result<Script, LineFault>
 }
 
 /// The entries of all lines.
-#[tactic(auto, unfolding(crate::specs::Scripts::script_of))]
 fn entries_of(alloc: Global, text: &[u8]) -> Result<Vec<Entry>, LineFault>
     requires { length text.now < 2 ^ 31 }
     ensures given { Gives (λ entries. entries.items) result (script_of text.now) }

@@ -210,7 +210,6 @@ fn script_named(alloc: Global, name: &[u8]) -> Result<Option<String>, AllocError
 }
 
 /// `guest RAM STEPS IMAGE SCRIPT`.
-#[tactic(auto, unfolding(crate::specs::Sessions::fields_of))]
 fn fields_of<'a>(words: &[&'a [u8]]) -> Option<Fields<'a>>
     ensures given { option_map fields_said result ≡ fields_of (map bytes_said words.now) }
     ensures image { IfSome result (λ fields. IsTrue (is_name fields.image.now)) }
@@ -231,7 +230,6 @@ fn fields_of<'a>(words: &[&'a [u8]]) -> Option<Fields<'a>>
 }
 
 /// The guest that a line's words name.
-#[tactic(auto, unfolding(crate::specs::Sessions::guest_of))]
 fn guest_of(alloc: Global, words: &[&[u8]]) -> Result<GuestPlan, Refusal>
     ensures given { GivesAlone guest_said result (guest_of (map bytes_said words.now)) }
     ensures ram { IfOk result (λ guest. IsRam (guest_said guest).ram) }
@@ -283,7 +281,6 @@ fn guest_number_of(count: u8, word: &[u8]) -> Option<u8>
 }
 
 /// The turn that a line's words name, of one of so many guests.
-#[tactic(auto, unfolding(crate::specs::Sessions::turn_of))]
 fn turn_of(count: u8, words: &[&[u8]]) -> Result<Turn, Refusal>
     ensures given { GivesAlone (λ turn. turn) result (turn_of count (map bytes_said words.now)) }
     ensures number { IfOk result (IsTurnOf count) }

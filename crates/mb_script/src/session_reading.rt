@@ -6,7 +6,7 @@ ghost use Rattle.mb_lines.specs.Answers.{line_said};
 ghost use Rattle.mb_script.specs.Lines.{ahead, read_by, statements};
 ghost use Rattle.mb_script.specs.declared.sizes.TheConstants.{MOST_GUESTS};
 ghost use Rattle.mb_script.specs.Plan.{AreRams, IsBoard, IsInRange, IsRam, IsTurnOf};
-ghost use Rattle.mb_script.specs.Sessions.{guest_line, guests_after, guests_of, plan_of, session_of, turn_line, turns_of};
+ghost use Rattle.mb_script.specs.Sessions.{guest_line, guests_of, plan_of, session_of, turn_line, turns_of};
 ghost use Rattle.mb_script.specs.Sessions.{board_line, due, session_line, slice_line};
 ghost use Rattle.mb_script.specs.Answers.{Faults, Gives, guest_said, plan_said};
 
@@ -28,7 +28,6 @@ use std::alloc::Global;
 /// lines that begin with `#` are passed over, but counted. Of the faults only the first in order of
 /// lines is told, and of one line the first in the order of [`LineWhy`](crate::LineWhy); in a text that
 /// ends too early the line after the last one lacks a word.
-#[tactic(auto, unfolding(crate::specs::Sessions::session_of))]
 pub fn read_session(alloc: Global, text: &[u8]) -> Result<SessionPlan, LineFault>
     requires { length text.now < 2 ^ 31 }
     ensures plan { IfOk result (λ plan. session_of text.now ≡ Ok (plan_said plan)) }
@@ -39,7 +38,6 @@ pub fn read_session(alloc: Global, text: &[u8]) -> Result<SessionPlan, LineFault
 }
 
 /// The plan that is left to read.
-#[tactic(auto, unfolding(crate::specs::Sessions::plan_of))]
 fn plan_of(alloc: Global, lines: &mut Lines) -> Result<SessionPlan, LineFault>
     ensures given { Gives plan_said result (plan_of (past lines.old) (statements (left lines.old))) }
     ensures in_range { IfOk result (λ plan. IsInRange (plan_said plan)) }
@@ -85,7 +83,6 @@ fn slice(alloc: Global, lines: &mut Lines) -> Result<u32, LineFault>
 }
 
 /// One guest or more, and the line of the first turn, if there is one.
-#[tactic(auto, unfolding(crate::specs::Sessions::guests_of))]
 fn guests<'a>(
     alloc: Global,
     version: u32,

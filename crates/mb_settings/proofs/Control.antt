@@ -15,8 +15,6 @@ use Rattle.mb_instr.specs.Control.{kept_bits}
 use Rattle.mb_instr.specs.Registers.{plain_of, register_of, with_register}
 use Rattle.mb_model.specs.declared.processor.Cpu.{Cpu}
 use Rattle.mb_processor.specs.SystemEnds.{with_registers}
-use Rattle.mb_processor.specs.Control.{control_value_of, set_control_of, move_to_control_of, move_from_control_of}
-use Rattle.mb_machine.specs.Bus.{bus_of, after_set_mmu}
 use Rattle.mb_settings.specs.Control.{Fits, MachineKeepsRegisters, written_to, set_by, SetIsHeld, OthersStay}
 use Rattle.mb_settings.specs.Control.{SameRest, RestStays, HasRegisters, MovedIsReadBack}
 use Rattle.mb_settings.proofs.Registers.{register_again}
@@ -90,7 +88,6 @@ stays m which other v ne =
     ∙ sym (field m other)
 
 pub machine_keeps_registers : MachineKeepsRegisters
-unfolding bus_of after_set_mmu
 machine_keeps_registers rule = record {
   written = λ which value w fits. held w.mmu which (bit_and value (kept_bits (control.Mmu which))) ∙ fits;
   others = λ which other value w ne. stays w.mmu which other (bit_and value (kept_bits (control.Mmu which))) ne;
@@ -103,7 +100,6 @@ abbrev pair : {S : Type 0} → ℕ → S → ℕ × S
 pair n s = (n, s)
 
 pub set_is_held : {S : Type 0} → SetIsHeld S
-unfolding control_value_of set_control_of
 set_is_held bus control.Sfc value cpu s keeps fits = refl
 set_is_held bus control.Dfc value cpu s keeps fits = refl
 set_is_held bus control.Cacr value cpu s keeps fits = refl
@@ -116,7 +112,6 @@ set_is_held {S = S} bus (control.Mmu which) value cpu s keeps fits =
     ap (λ (n : ℕ). pair n (bus ReadMmu t).1) (keeps.written which value s fits) ∙ ap (λ (u : S). pair value u) (keeps.unchanged t)
 
 pub others_stay : {S : Type 0} → OthersStay S
-unfolding control_value_of set_control_of
 others_stay bus control.Sfc control.Sfc value cpu s keeps ne = absurd (ne refl)
 others_stay bus control.Sfc control.Dfc value cpu s keeps ne = refl
 others_stay bus control.Sfc control.Cacr value cpu s keeps ne = refl
@@ -184,7 +179,6 @@ others_stay bus (control.Mmu which) (control.Mmu other) value cpu s keeps ne =
     keeps.others which other value s (λ e. ne (ap (λ (w : MmuReg). control.Mmu w) e))
 
 pub rest_stays : {S : Type 0} → RestStays S
-unfolding set_control_of
 rest_stays bus control.Sfc value cpu s =
     record { data_registers = refl; address_registers = refl; counter = refl; status = refl; stopped = refl }
 rest_stays bus control.Dfc value cpu s =
@@ -214,7 +208,6 @@ same_registers before after same has = record {
 }
 
 pub moved_is_read_back : {S : Type 0} → MovedIsReadBack S
-unfolding move_to_control_of move_from_control_of
 moved_is_read_back {S = S} bus register n m cpu s keeps has small =
     let value = bit_and (register_of (plain_of cpu.regs) n) (kept_bits register) in
     let after : Cpu = (set_by bus register value cpu s).0 in

@@ -15,7 +15,7 @@ use Rattle.mb_processor.specs.declared.entering.Cause.{Cause}
 use Rattle.mb_processor.specs.declared.entering.Entered.{Entered}
 use Rattle.mb_processor.specs.declared.entering.Entered.TheVariants as entered
 use Rattle.mb_processor.specs.Entry.{is_interrupt, supervised, without_master, with_mask, frame_of, throwaway_of, Stacked, stacked, frames_of, with_second}
-use Rattle.mb_processor.specs.Entry.{handler_regs, Places, check_frames_of, put_frames_of, unstacked, go_to_handler_of, awake, enter_of}
+use Rattle.mb_processor.specs.Entry.{Places, check_frames_of, put_frames_of, unstacked, go_to_handler_of, awake}
 use Rattle.mb_settings.specs.Entries.{at_handler, EntryIsAtHandler, last_frame, HandlersAreSupervisors, HandlersTraceNothing, HandlersTraceNoFlow}
 use Rattle.mb_settings.specs.Entries.{HandlersHaveCodes, HandlersHaveMask, HandlersHaveMaster, HandlersHaveFrames}
 
@@ -115,7 +115,7 @@ status_by false true c r = refl
 status_by false false c r = refl
 
 status : (c : Cause) (cpu : Cpu) → (at_handler c cpu).regs.sr ≡ sr_by (is_interrupt c) (is_master cpu.regs.sr) c.level cpu.regs.sr
-unfolding handler_regs frames_of
+unfolding frames_of
 status c cpu = status_by (is_interrupt c) (is_master cpu.regs.sr) c cpu.regs
 
 top : (c : Cause) (cpu : Cpu) → c.level < 8 → (at_handler c cpu).regs.sr / 2 ^ 13 ≡ 1
@@ -157,7 +157,7 @@ stack_by false true c r = refl
 stack_by false false c r = refl
 
 pub have_frames : HandlersHaveFrames
-unfolding handler_regs frames_of
+unfolding frames_of
 have_frames c cpu small =
     let h = (at_handler c cpu).regs in
     ap (λ (s : Bool). cond s (cond (is_master h.sr) h.msp h.isp) h.usp) (supervisors c cpu small)
@@ -188,7 +188,6 @@ checked : {S : Type 0} (bus : Bus S) (c : Cause) (cpu : Cpu) (q : Result Places 
     → IsGoing (at_handler c cpu) (run bus (either q
     (λ fault. Return (unstacked c.access fault c (awake cpu)))
     (λ places. Then (put_frames_of (frames_of c cpu.regs) places) (λ done. go_to_handler_of c (at_handler c cpu)))) t).0
-unfolding go_to_handler_of
 checked bus c cpu (Ok places) t =
     let u = (run bus (put_frames_of (frames_of c cpu.regs) places) t).1 in
     let read = run bus (read_operand_of Super (sum cpu.vbr (4 * c.vector)) 4) u in
@@ -196,6 +195,5 @@ checked bus c cpu (Ok places) t =
 checked bus c cpu (Err fault) t = refused c.access fault c (awake cpu) (at_handler c cpu)
 
 pub entry_is_at_handler : {S : Type 0} → EntryIsAtHandler S
-unfolding enter_of
 entry_is_at_handler bus c cpu s =
     let check = run bus (check_frames_of (frames_of c cpu.regs)) s in checked bus c cpu check.0 check.1

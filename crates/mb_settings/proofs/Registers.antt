@@ -40,7 +40,6 @@ stack_by true false r top = refl
 stack_by false m r top = refl
 
 stack_again : (r : Regs) (p : Plain) → active_stack (with_plain r p) ≡ slice_index p.a 7
-unfolding with_plain
 stack_again r p =
     let q = with_stack r (slice_index p.a 7) in
     ap (λ (s : Bool). cond s (cond (is_master (with_ccr r.sr p.ccr)) q.msp q.isp) q.usp) (same_supervisor r.sr p.ccr)
@@ -51,7 +50,6 @@ abbrev of_parts : List ℕ → List ℕ → ℕ → ℕ → Plain
 of_parts d a pc ccr = record { d = d; a = a; pc = pc; ccr = ccr }
 
 pub plain_again : (r : Regs) (p : Plain) → length p.a ≡ 8 → p.ccr < 32 → plain_of (with_plain r p) ≡ p
-unfolding plain_of with_plain
 plain_again r p n less =
     ap (λ (top : ℕ). of_parts p.d (take 7 p.a ++ top ∷ []) p.pc (with_ccr r.sr p.ccr % 2 ^ 5)) (stack_again r p)
     ∙ ap (λ (a : List ℕ). of_parts p.d a p.pc (with_ccr r.sr p.ccr % 2 ^ 5)) (eight p.a n)
@@ -83,15 +81,12 @@ codes_by false p m v less = less
 -- ---- the registers of a processor
 
 pub eight_addresses : (r : Regs) → HasRegisters r → length (plain_of r).a ≡ 8
-unfolding plain_of
 eight_addresses r has = length-append r.a (active_stack r ∷ []) ∙ ap (λ (n : ℕ). n + 1) has.address_registers
 
 eight_data : (r : Regs) → HasRegisters r → length (plain_of r).d ≡ 8
-unfolding plain_of
 eight_data r has = has.data_registers
 
 five_codes : (r : Regs) → (plain_of r).ccr < 32
-unfolding plain_of
 five_codes r = omega arith
 
 -- register m of all sixteen
@@ -120,7 +115,6 @@ seven _ x n = absurd (omega arith)
 -- a processor whose own registers are put into it has as many, whatever its SR becomes
 pub has_again : (r : Regs) (sr : ℕ) → HasRegisters r
     → HasRegisters (let q = with_plain r (plain_of r) in record q { sr = sr })
-unfolding plain_of with_plain
 has_again r sr has = record {
   data_registers = has.data_registers;
   address_registers = seven r.a (active_stack r) has.address_registers;

@@ -7,16 +7,15 @@ use Rattle.mb_model.specs.declared.processor.Cpu.{Cpu}
 use Rattle.mb_model.specs.declared.status.TheConstants.{STATUS_BITS}
 use Rattle.mb_model.specs.Status.{kept_status}
 use Rattle.mb_ea.specs.Resolve.{resolve_of}
-use Rattle.mb_meaning.specs.Operands.{load_of, store_of, fetch_operand_of, finish_with_of, with_low}
+use Rattle.mb_meaning.specs.Operands.{with_low}
 use Rattle.mb_processor.specs.SystemEnds.{with_registers}
-use Rattle.mb_processor.specs.Control.{control_value_of}
-use Rattle.mb_processor.specs.Status.{with_status, move_to_status_of, move_from_status_of, move_to_usp_of, move_from_usp_of}
+use Rattle.mb_processor.specs.Status.{with_status, move_to_usp_of}
 use Rattle.mb_settings.specs.Control.{HasRegisters}
 use Rattle.mb_settings.specs.Status.{word_in, address_in, StatusIsKept, StatusIsReadBack, UspIsReadBack, UspIsControl}
 use Rattle.mb_settings.proofs.Registers.{register_again, address_again, has_again}
 
 pub status_is_kept : {S : Type 0} → StatusIsKept S
-unfolding move_to_status_of fetch_operand_of resolve_of load_of
+unfolding resolve_of
 status_is_kept bus n cpu s = refl
 
 -- the word that was put in the low half
@@ -31,7 +30,7 @@ abbrev between : ℕ → Cpu → Cpu
 between n cpu = with_status (word_in cpu n) (with_registers (plain_of cpu.regs) cpu)
 
 pub status_is_read_back : {S : Type 0} → StatusIsReadBack S
-unfolding move_to_status_of move_from_status_of fetch_operand_of finish_with_of resolve_of load_of store_of
+unfolding resolve_of
 status_is_read_back bus n m cpu s has small =
     let status = kept_status (word_in cpu n) in
     let r = (between n cpu).regs in
@@ -40,18 +39,14 @@ status_is_read_back bus n m cpu s has small =
     ∙ word_again old status (is_word (word_in cpu n))
 
 same_count : (n : ℕ) (cpu : Cpu) → HasRegisters cpu.regs → HasRegisters (move_to_usp_of n cpu).regs
-unfolding move_to_usp_of
 same_count n cpu has = record { data_registers = has.data_registers; address_registers = has.address_registers }
 
 usp_is : (n : ℕ) (cpu : Cpu) → (move_to_usp_of n cpu).regs.usp ≡ address_in cpu n
-unfolding move_to_usp_of
 usp_is n cpu = refl
 
 pub usp_is_read_back : UspIsReadBack
-unfolding move_from_usp_of
 usp_is_read_back n m cpu has small =
     let r = (move_to_usp_of n cpu).regs in address_again r m r.usp (same_count n cpu has) small ∙ usp_is n cpu
 
 pub usp_is_control : {S : Type 0} → UspIsControl S
-unfolding move_to_usp_of control_value_of
 usp_is_control bus n cpu s = refl

@@ -18,46 +18,40 @@ use Rattle.mb_instr.specs.declared.instruction.Flow.TheVariants as flow
 use Rattle.mb_instr.specs.declared.registers.Plain.{Plain}
 use Rattle.mb_meaning.specs.Attempt.{past}
 use Rattle.mb_meaning.specs.Ends.{Rowed, went}
-use Rattle.mb_meaning.specs.Flow.{branch_of, go_if_met_of, call_of, dbcc_of, target_of, is_call}
-use Rattle.mb_meaning.specs.Moves.{lea_of}
-use Rattle.mb_meaning.specs.Operands.{find_address_of, stack_raised}
-use Rattle.mb_meaning.specs.Returns.{rts_of}
-use Rattle.mb_meaning.specs.Rows.{row_of, perform_flow_of, perform_move_of}
-use Rattle.mb_meaning.specs.Stack.{link_of, unlk_of}
+use Rattle.mb_meaning.specs.Flow.{go_if_met_of, call_of, dbcc_of, target_of, is_call}
+use Rattle.mb_meaning.specs.Operands.{stack_raised}
+use Rattle.mb_meaning.specs.Rows.{perform_move_of}
+use Rattle.mb_meaning.specs.Stack.{link_of}
 use Rattle.mb_short.specs.Taken.{Goes}
 use Rattle.mb_short.proofs.Moves.{goes}
 
 pub branch_goes : {S : Type 0} (bus : Bus S) (c : Condition) (d : Branch) (n : ℕ) (space : Space) (p q : Plain) (met : Bool) (s : S)
     → is_call c ≡ false → went met q ≡ go_if_met_of c (target_of ((p.pc + 2) % 2 ^ 32) d) (past n p)
     → Goes bus (instr.Flow (flow.Bcc c d)) n space p s met q s
-unfolding row_of perform_flow_of branch_of
 branch_goes {S} bus c d n space p q met s e h =
     goes bus (instr.Flow (flow.Bcc c d)) p.pc space (past n p) q met s s (rw e (ap (λ (r : Rowed). (let x : Rowed × S = (r, s) in x)) (sym h)))
 
 pub loop_goes : {S : Type 0} (bus : Bus S) (c : Condition) (n d : ℕ) (space : Space) (p q : Plain) (met : Bool) (s : S)
     → went met q ≡ dbcc_of c n d ((p.pc + 2) % 2 ^ 32) (past 2 p) → Goes bus (instr.Flow (flow.Dbcc c n d)) 2 space p s met q s
-unfolding row_of perform_flow_of
 loop_goes {S} bus c n d space p q met s h =
     goes bus (instr.Flow (flow.Dbcc c n d)) p.pc space (past 2 p) q met s s (ap (λ (r : Rowed). (let x : Rowed × S = (r, s) in x)) (sym h))
 
 pub call_goes : {S : Type 0} (bus : Bus S) (d : Branch) (n : ℕ) (space : Space) (p q : Plain) (s t : S) (r : Option Bool)
     → IfSome r (λ met. run bus (call_of (target_of ((p.pc + 2) % 2 ^ 32) d) space (past n p)) s ≡ (went met q, t))
     → IfSome r (λ met. Goes bus (instr.Flow (flow.Bcc condition.False d)) n space p s met q t)
-unfolding row_of perform_flow_of branch_of
 call_goes bus d n space p q s t None h = h
 call_goes bus d n space p q s t (Some met) h = goes bus (instr.Flow (flow.Bcc condition.False d)) p.pc space (past n p) q met s t h
 
 pub return_goes : {S : Type 0} (bus : Bus S) (target : ℕ) (space : Space) (p : Plain) (s : S)
     → run bus (read_operand_of space (address_register p 7) 4) s ≡ (Ok target, s)
     → Goes bus (instr.Flow flow.Rts) 1 space p s true (record (stack_raised p) { pc = target }) s
-unfolding row_of perform_flow_of rts_of
 return_goes bus target space p s read =
     goes bus (instr.Flow flow.Rts) p.pc space (past 1 p) (record (stack_raised p) { pc = target }) true s s (rw (run, read) refl)
 
 pub link_goes : {S : Type 0} (bus : Bus S) (n d : ℕ) (space : Space) (p q : Plain) (s t : S) (r : Option Bool)
     → IfSome r (λ met. run bus (link_of n (sign_extended Word d) space (past 2 p)) s ≡ (went met q, t))
     → IfSome r (λ met. Goes bus (instr.Move (move.LinkW n d)) 2 space p s met q t)
-unfolding row_of perform_move_of
+unfolding perform_move_of
 link_goes bus n d space p q s t None h = h
 link_goes bus n d space p q s t (Some met) h = goes bus (instr.Move (move.LinkW n d)) p.pc space (past 2 p) q met s t h
 
@@ -65,7 +59,7 @@ pub unlink_goes : {S : Type 0} (bus : Bus S) (n value : ℕ) (space : Space) (p 
     → run bus (read_operand_of space (address_register p n) 4) s ≡ (Ok value, s)
     → Goes bus (instr.Move (move.Unlk n)) 1 space p s false
     (with_address_register (with_address_register (past 1 p) 7 (sum (address_register p n) 4)) n value) s
-unfolding row_of perform_move_of unlk_of
+unfolding perform_move_of
 unlink_goes bus n value space p s read =
     goes bus (instr.Move (move.Unlk n)) p.pc space (past 1 p)
     (with_address_register (with_address_register (past 1 p) 7 (sum (address_register p n) 4)) n value) false s s (rw (run, read) refl)
@@ -73,7 +67,7 @@ unlink_goes bus n value space p s read =
 pub address_goes : {S : Type 0} (bus : Bus S) (n m d : ℕ) (space : Space) (p : Plain) (s : S)
     → Goes bus (instr.Move (move.Lea n (Disp m d))) 2 space p s false
     (with_address_register (past 2 p) n (sum (address_register p m) (sign_extended Word d))) s
-unfolding row_of perform_move_of lea_of find_address_of resolve_of
+unfolding perform_move_of resolve_of
 address_goes bus n m d space p s =
     goes bus (instr.Move (move.Lea n (Disp m d))) p.pc space (past 2 p)
     (with_address_register (past 2 p) n (sum (address_register p m) (sign_extended Word d))) false s s refl

@@ -12,7 +12,6 @@ use Rattle.mb_instr.specs.Sizes.{low_of}
 use Rattle.mb_instr.specs.Registers.{data_register}
 use Rattle.mb_ea.specs.Resolve.{resolve_of}
 use Rattle.mb_meaning.specs.Ends.{Rowed, carried, went, restored}
-use Rattle.mb_meaning.specs.Operands.{fetch_operand_of, load_of, store_of, finish_with_of}
 use Rattle.mb_meaning.specs.Moves.{move_operand_of}
 use Rattle.mb_meaning.specs.Arithmetic.{take_of}
 use Rattle.mb_meaning.specs.Unary.{clr_of}
@@ -27,19 +26,18 @@ is_data n h = grind (arith, nat_tests)
 
 pub copied : {S : Type 0} (bus : Bus S) (size : Size) (n m word_at : ℕ) (space : Space) (p : Plain) (s : S) → n < 8 → m < 8
     → run bus (move_operand_of size (Dn n) (Dn m) word_at space p) s ≡ (carried (moved_to n size (low_of size (data_register p m)) p), s)
-unfolding move_operand_of fetch_operand_of load_of resolve_of finish_with_of store_of
+unfolding resolve_of
 copied bus size n m word_at space p s h k = rw (is_data m k, is_data n h) refl
 
 -- CLR
 pub cleared : {S : Type 0} (bus : Bus S) (size : Size) (n word_at : ℕ) (space : Space) (p : Plain) (s : S) → n < 8
     → run bus (clr_of size (Dn n) word_at space p) s ≡ (carried (moved_to n size 0 p), s)
-unfolding clr_of resolve_of finish_with_of store_of
+unfolding resolve_of
 cleared bus size n word_at space p s h = rw (is_data n h) refl
 
 -- a row that is carried out is its instruction
 pub goes : {S : Type 0} (bus : Bus S) (i : Instr) (at : ℕ) (space : Space) (p q : Plain) (flow : Bool) (s t : S)
     → run bus (row_of i at space p) s ≡ (went flow q, t) → run bus (perform_of i at space p) s ≡ (gone flow q, t)
-unfolding perform_of
 goes bus i at space p q flow s t h = ap (λ (x : Rowed × _). (other_fault (restored p) x.0, x.1)) h
 
 -- an operand in a data register is at hand

@@ -23,10 +23,10 @@ use Rattle.mb_ea.specs.Resolve.{resolve_of, step_over_of}
 use Rattle.mb_writes.specs.Writing.{write_operand_of}
 use Rattle.mb_meaning.specs.Attempt.{past}
 use Rattle.mb_meaning.specs.Ends.{Rowed, carried}
-use Rattle.mb_meaning.specs.Operands.{behind_of, fetch_operand_of, load_of, store_of, finish_with_of}
+use Rattle.mb_meaning.specs.Operands.{behind_of, fetch_operand_of}
 use Rattle.mb_meaning.specs.Moves.{move_operand_of, movea_of, move_flags}
-use Rattle.mb_meaning.specs.Arithmetic.{fetch_pair_of, combine_of, compare_pair_of, combine_either_way_of, take_of}
-use Rattle.mb_meaning.specs.Unary.{clr_of, put_in_register_of}
+use Rattle.mb_meaning.specs.Arithmetic.{combine_of, compare_pair_of, combine_either_way_of, take_of}
+use Rattle.mb_meaning.specs.Unary.{put_in_register_of}
 use Rattle.mb_meaning.specs.Rows.{row_of, perform_move_of, perform_arith_of}
 use Rattle.mb_table.specs.declared.forms.Place.{Place}
 use Rattle.mb_table.specs.declared.forms.Place.TheVariants as place
@@ -111,18 +111,17 @@ near_found bus size m d space p s word_at = refl
 
 pub data_fetched : {S : Type 0} (bus : Bus S) (size : Size) (n : ℕ) (space : Space) (p : Plain) (s : S) → n < 8
     → Fetches bus size (Dn n) space p s (Reg n) (low_of size (data_register p n)) p
-unfolding fetch_operand_of load_of resolve_of
+unfolding resolve_of
 data_fetched bus size n space p s h word_at = rw (is_data n h) refl
 
 address_fetched : {S : Type 0} (bus : Bus S) (size : Size) (n : ℕ) (space : Space) (p : Plain) (s : S)
     → Fetches bus size (An n) space p s (Reg (8 + n)) (low_of size (address_register p n)) p
-unfolding fetch_operand_of load_of resolve_of
+unfolding resolve_of
 address_fetched bus size n space p s word_at = rw (is_address n, less_eight n) refl
 
 pub memory_fetched : {S : Type 0} (bus : Bus S) (size : Size) (ea : Ea) (at value : ℕ) (space : Space) (p q : Plain) (s : S)
     → Finds bus size ea space p s at q → run bus (read_operand_of space at (bytes_of size)) s ≡ (Ok value, s)
     → Fetches bus size ea space p s (Memory at) value q
-unfolding fetch_operand_of load_of
 memory_fetched bus size ea at value space p q s found read word_at = rw (run, found word_at, read) refl
 
 -- ---- what is made of an operand's value
@@ -130,20 +129,18 @@ memory_fetched bus size ea at value space p q s found read word_at = rw (run, fo
 moved : {S : Type 0} (bus : Bus S) (size : Size) (n : ℕ) (ea : Ea) (target : Target) (value word_at : ℕ) (space : Space) (p q : Plain) (s : S)
     → n < 8 → Fetches bus size ea space p s target value q
     → run bus (move_operand_of size (Dn n) ea word_at space p) s ≡ (carried (moved_to n size value q), s)
-unfolding move_operand_of resolve_of finish_with_of store_of
+unfolding resolve_of
 moved bus size n ea target value word_at space p q s h fetched = rw (run, fetched word_at, is_data n h) refl
 
 moved_address : {S : Type 0} (bus : Bus S) (size : Size) (n : ℕ) (ea : Ea) (target : Target) (value word_at : ℕ) (space : Space) (p q : Plain)
     (s : S) → Fetches bus size ea space p s target value q
     → run bus (movea_of size n ea word_at space p) s ≡ (carried (with_address_register q n (sign_extended size value)), s)
-unfolding movea_of
 moved_address bus size n ea target value word_at space p q s fetched = rw (run, fetched word_at) refl
 
 combined : {S : Type 0} (bus : Bus S) (operation : ℕ → ℕ → ℕ → Flagged) (size : Size) (n : ℕ) (ea : Ea) (target : Target) (value word_at : ℕ)
     (space : Space) (p q : Plain) (s : S) → n < 8 → Fetches bus size ea space p s target value q
     → run bus (combine_of operation size ea (Dn n) word_at space p) s
     ≡ (carried (put_in_register_of n size (operation value (low_of size (data_register q n)) q.ccr) q), s)
-unfolding combine_of fetch_pair_of finish_with_of store_of
 combined bus operation size n ea target value word_at space p q s h fetched =
     let destination = data_fetched bus size n space q s h (behind_of size ea word_at) in
     rw (run, fetched word_at, destination, is_data n h) refl
@@ -152,7 +149,6 @@ compared : {S : Type 0} (bus : Bus S) (size : Size) (n : ℕ) (ea : Ea) (target 
     → n < 8 → Fetches bus size ea space p s target value q
     → run bus (compare_pair_of size ea (Dn n) word_at space p) s
     ≡ (carried (record q { ccr = compare_of size value (low_of size (data_register q n)) q.ccr }), s)
-unfolding compare_pair_of fetch_pair_of
 compared bus size n ea target value word_at space p q s h fetched =
     let destination = data_fetched bus size n space q s h (behind_of size ea word_at) in
     rw (run, fetched word_at, destination) refl
@@ -160,13 +156,12 @@ compared bus size n ea target value word_at space p q s h fetched =
 taken : {S : Type 0} (bus : Bus S) (effect : ℕ → Plain → Rowed) (size : Size) (ea : Ea) (target : Target) (value word_at : ℕ) (space : Space)
     (p q : Plain) (s : S) → Fetches bus size ea space p s target value q
     → run bus (take_of effect size ea word_at space p) s ≡ (effect value q, s)
-unfolding take_of
 taken bus effect size ea target value word_at space p q s fetched = rw (run, fetched word_at) refl
 
 takes : {S : Type 0} (bus : Bus S) (t : Taking) (size : Size) (ea : Ea) (target : Target) (value at : ℕ) (space : Space) (p q : Plain) (s : S)
     → HasRegister t → Fetches bus size ea space p s target value q
     → run bus (row_of (taking_of t size ea) at space p) s ≡ (carried (taken_by t size value q), s)
-unfolding row_of perform_move_of perform_arith_of combine_either_way_of
+unfolding perform_move_of perform_arith_of combine_either_way_of
 takes bus (take.Move n) size ea target value at space p q s h fetched = moved bus size n ea target value _ space p q s h fetched
 takes bus (take.MoveAddress n) size ea target value at space p q s h fetched = moved_address bus size n ea target value _ space p q s fetched
 takes bus (take.Add n) size ea target value at space p q s h fetched = combined bus _ size n ea target value _ space p q s h fetched
@@ -242,7 +237,7 @@ puts : {S : Type 0} (bus : Bus S) (t : Putting) (size : Size) (ea : Ea) (to at :
     → HasSource t → Finds bus size ea space p s to q
     → run bus (write_operand_of space to (bytes_of size) (put_value t size p)) s ≡ (Ok tt, u)
     → run bus (row_of (putting_of t size ea) at space p) s ≡ (carried (move_flags size (put_value t size p) q), u)
-unfolding row_of perform_move_of perform_arith_of move_operand_of clr_of finish_with_of store_of
+unfolding perform_move_of perform_arith_of
 puts bus (write.Data n) size ea to at space p q s u h found put = rw (run, data_fetched bus size n space p s h, found, put) refl
 puts bus (write.Address n) size ea to at space p q s u h found put = rw (run, address_fetched bus size n space p s, found, put) refl
 puts bus write.Zero size ea to at space p q s u h found put = rw (run, found, put) refl

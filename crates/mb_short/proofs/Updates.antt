@@ -19,8 +19,8 @@ use Rattle.mb_ea.specs.Resolve.{step_over_of}
 use Rattle.mb_writes.specs.Writing.{write_operand_of}
 use Rattle.mb_meaning.specs.Attempt.{past}
 use Rattle.mb_meaning.specs.Ends.{carried}
-use Rattle.mb_meaning.specs.Operands.{behind_of, fetch_operand_of, store_of, finish_with_of}
-use Rattle.mb_meaning.specs.Arithmetic.{fetch_pair_of, combine_of, combine_either_way_of, combine_quick_of}
+use Rattle.mb_meaning.specs.Operands.{behind_of, fetch_operand_of}
+use Rattle.mb_meaning.specs.Arithmetic.{combine_of, combine_either_way_of, combine_quick_of}
 use Rattle.mb_meaning.specs.Modifying.{modify_of}
 use Rattle.mb_meaning.specs.Rows.{row_of, perform_arith_of}
 use Rattle.mb_table.specs.declared.forms.Place.{Place}
@@ -78,7 +78,6 @@ combined : {S : Type 0} (bus : Bus S) (operation : ℕ → ℕ → ℕ → Flagg
     → run bus (fetch_operand_of size (Dn n) word_at space p) s ≡ (Ok (record { target = Reg n; value = source; plain = p }), s)
     → run bus (write_operand_of space to (bytes_of size) (operation source value p.ccr).value) s ≡ (Ok tt, t)
     → run bus (combine_of operation size (Dn n) ea word_at space p) s ≡ (carried (record q { ccr = (operation source value p.ccr).ccr }), t)
-unfolding combine_of fetch_pair_of finish_with_of store_of
 combined bus operation size n ea to value word_at space p q s t source h found same read from put =
     let at = behind_of size (Dn n) word_at in
     rw (run, from, memory_fetched bus size ea to value space p q s found read at, same, put) refl
@@ -88,7 +87,6 @@ modified : {S : Type 0} (bus : Bus S) (change : ℕ → ℕ → Flagged) (size :
     → run bus (read_operand_of space to (bytes_of size)) s ≡ (Ok value, s)
     → run bus (write_operand_of space to (bytes_of size) (change value p.ccr).value) s ≡ (Ok tt, t)
     → run bus (modify_of change size ea word_at space p) s ≡ (carried (record q { ccr = (change value p.ccr).ccr }), t)
-unfolding modify_of finish_with_of store_of
 modified bus change size ea to value word_at space p q s t found same read put =
     rw (run, memory_fetched bus size ea to value space p q s found read word_at, same, put) refl
 
@@ -97,7 +95,7 @@ updates : {S : Type 0} (bus : Bus S) (u : Update) (size : Size) (ea : Ea) (to va
     → run bus (read_operand_of space to (bytes_of size)) s ≡ (Ok value, s)
     → run bus (write_operand_of space to (bytes_of size) (updated_by u size value p).value) s ≡ (Ok tt, t)
     → run bus (row_of (update_of u size ea) at space p) s ≡ (carried (record q { ccr = (updated_by u size value p).ccr }), t)
-unfolding row_of perform_arith_of combine_either_way_of combine_quick_of
+unfolding perform_arith_of combine_either_way_of combine_quick_of
 updates bus (update.Add n) size ea to value at space p q s t h none found same read put =
     combined bus _ size n ea to value _ space p q s t _ h found same read (data_fetched bus size n space p s h _) put
 updates bus (update.Subtract n) size ea to value at space p q s t h none found same read put =

@@ -75,12 +75,10 @@ fn complement(size: Size, register: u8, plain: &mut Plain)
 #[rattlefmt::skip]
 #[inline(always)]
 #[tactic(auto, using(crate::proofs::Moves::rows), unfolding(
-    mb_meaning::specs::Rows::row_of,
     mb_meaning::specs::Rows::perform_arith_of,
     mb_meaning::specs::Arithmetic::combine_quick_of,
     mb_meaning::specs::Arithmetic::combine_either_way_of,
     mb_meaning::specs::Arithmetic::chain_of,
-    mb_meaning::specs::Shifts::shift_register_of,
 ))]
 fn carry_out<P: Port>(change: Change, size: Size, n: u8, at: u32, space: Space, plain: &mut Plain, port: &P)
     requires { IsInstr (change_of change size n) }

@@ -50,7 +50,6 @@ pub(crate) fn move_to(register: u8, size: Size, value: u32, plain: &mut Plain)
 
 /// The halves of a data register change places.
 #[inline(always)]
-#[tactic(auto, unfolding(mb_meaning::specs::Moves::swap_of))]
 fn swap(register: u8, plain: &mut Plain)
     requires { register < 8 }
     ensures { plain.new ≡ swap_of register plain.old }
@@ -66,13 +65,10 @@ fn swap(register: u8, plain: &mut Plain)
 #[rattlefmt::skip]
 #[inline(always)]
 #[tactic(auto, using(crate::proofs::Moves::rows), unfolding(
-    mb_meaning::specs::Rows::row_of,
     mb_meaning::specs::Rows::perform_move_of,
     mb_meaning::specs::Rows::perform_arith_of,
     mb_meaning::specs::Arithmetic::combine_quick_of,
     mb_meaning::specs::Arithmetic::combine_either_way_of,
-    mb_meaning::specs::Shifts::shift_register_of,
-    mb_meaning::specs::Unary::ext_of,
 ))]
 fn carry_out<P: Port, const COPY: usize>(short: &Short, at: u32, space: Space, plain: &mut Plain, port: &P) -> bool
     requires valid { IfSome (meaning short.now) IsInstr }

@@ -21,7 +21,6 @@ use mb_port::{Port, Space};
 /// Pushes the next instruction's address, at which PC is in `after`, and goes to the target, where that is done at
 /// once. Else nothing has changed.
 #[inline(always)]
-#[tactic(auto, unfolding(mb_meaning::specs::Flow::call_of, mb_meaning::specs::Operands::push_of))]
 fn call<P: Port>(
     target: u32,
     after: Plain,
@@ -108,7 +107,6 @@ pub(crate) fn return_from<P: Port>(space: Space, plain: &mut Plain, port: &P) ->
 /// Pushes a register and makes it the frame, from the registers in `after`, where that is done at once. Else nothing
 /// has changed.
 #[inline(always)]
-#[tactic(auto, unfolding(mb_meaning::specs::Stack::link_of, mb_meaning::specs::Operands::push_of))]
 fn push_frame<P: Port>(
     register: u8,
     displacement: u32,

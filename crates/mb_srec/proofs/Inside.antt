@@ -72,7 +72,6 @@ ended true x y fault e = same x y e
 ended false x y fault e = absurd cc
 
 pub records_inside : (text : List ℕ) (ram : ℕ) (contents : List (ℕ × List ℕ)) → records_of text ram ≡ Ok contents → All (LiesBelow ram) contents
-unfolding records_of
 records_inside text ram contents e =
     let last = bound (after_lines ram beginning (numbered text)) at_end contents e in
     subst (Within ram) (ended last.0.ended last.0.contents contents _ last.2)

@@ -295,7 +295,6 @@ plain_literal line h k d lt = ltb-true 13 (get_or line k d) (AllPass-from_list_a
 
 text_read : (contents : List (ℕ × List ℕ)) (ram : ℕ) → AllByRecursion IsContent contents → AllByRecursion (LiesBelow ram) contents
     → records_of (text_of contents) ram ≡ Ok (flat_map pieces_of contents)
-unfolding records_of text_of
 text_read contents ram fits inside =
     let middle = flat_map chunk_lines contents in
     let header = codes "S0030000FC" in

@@ -138,5 +138,5 @@ abbrev pub at_end : Reading → Result (List (ℕ × List ℕ)) Fault
 at_end so_far = if so_far.ended then Ok so_far.contents else Err fault.NoEnd
 
 -- The data records of a text in their order, or the first fault in order of lines, for a RAM of this size.
-unfoldable pub records_of : List ℕ → ℕ → Result (List (ℕ × List ℕ)) Fault
+abbrev pub records_of : List ℕ → ℕ → Result (List (ℕ × List ℕ)) Fault
 records_of text ram = after_lines ram beginning (numbered text) >>= at_end

@@ -33,7 +33,7 @@ abbrev pub end_line : List ℕ
 end_line = codes "S70500000000FA" ++ line_feed
 
 -- an empty header, the data, the end
-unfoldable pub text_of : List (ℕ × List ℕ) → List ℕ
+abbrev pub text_of : List (ℕ × List ℕ) → List ℕ
 text_of contents = header_line ++ flat_map chunk_lines contents ++ end_line
 
 -- the bytes of chunks at 32-bit addresses

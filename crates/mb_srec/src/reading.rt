@@ -35,7 +35,6 @@ pub fn read_image(alloc: Global, text: &[u8], ram: u32) -> Result<Image, ImageFa
     image_of(alloc, text, ram)
 }
 
-#[tactic(auto, unfolding(crate::specs::Records::records_of))]
 fn image_of(alloc: Global, text: &[u8], ram: u32) -> Result<Image, ImageFault>
     requires { length text.now < 2 ^ 31 }
     ensures { Gives contents_of result (records_of text.now ram) }

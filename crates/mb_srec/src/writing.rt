@@ -16,7 +16,6 @@ const RECORD_LEN: usize = 16;
 
 /// Writes an image as S-records with 32-bit addresses: an empty header, for each chunk records of 16
 /// bytes and one of the rest, and the end. Only memory may be wanting.
-#[tactic(auto, unfolding(crate::specs::Written::text_of))]
 pub fn write_records(alloc: Global, image: &Image) -> Result<Vec<u8>, Memory>
     requires { All IsAddressed (contents_of image.now) }
     ensures { IfOk result (λ text. text.items ≡ text_of (contents_of image.now)) }

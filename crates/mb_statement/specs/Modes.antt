@@ -38,7 +38,7 @@ abbrev pub scale_of : ℕ → Scale
 scale_of bits =
     if bits == 0 then scale.One else if bits == 1 then scale.Two else if bits == 2 then scale.Four else scale.Eight
 
-unfoldable pub index_of : Bool → ℕ → Index
+abbrev pub index_of : Bool → ℕ → Index
 index_of is_dropped w = let e = extension_word w in record {
   is_address = e.is_address == 1;
   register = e.register;
@@ -79,7 +79,7 @@ indirection_of w =
     else indirection.PostIndexed
 
 -- a full extension word and its displacements, of which the first word stands at the place
-unfoldable pub full_of : ℕ → Base → ℕ → ℕ → ℕ → FullForm ℤ
+abbrev pub full_of : ℕ → Base → ℕ → ℕ → ℕ → FullForm ℤ
 full_of place from w bd od = let e = extension_word w in record {
   displacement = base_displacement place from e.base_width bd;
   base = from;
@@ -105,7 +105,7 @@ pc_indexed place (Brief w) = mode.PcIndexed (target_of Byte place w) (index_of f
 pc_indexed place (Full w bd od) = mode.Full (full_of place (pc_base w) w bd od)
 
 -- the mode of an operand whose first extension word stands at the place
-unfoldable pub mode_of : ℕ → Ea → Mode ℤ
+abbrev pub mode_of : ℕ → Ea → Mode ℤ
 mode_of place (Dn n) = mode.Data n
 mode_of place (An n) = mode.Address n
 mode_of place (Ind n) = mode.Indirect n

@@ -9,7 +9,7 @@ last_digits (suc most) n =
     if nat_lt n 16 then hex_digit n ∷ [] else last_digits most (n / 16) ++ hex_digit (n % 16) ∷ []
 
 -- `$` and the digits; no number here has more than sixteen
-unfoldable pub number : ℕ → List ℕ
+abbrev pub number : ℕ → List ℕ
 number n = 36 ∷ last_digits 16 n
 
 -- the same, with `-` before the `$` of a negative number; negsuc n is -(n + 1)

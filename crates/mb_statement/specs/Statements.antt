@@ -155,7 +155,7 @@ abbrev pub field_number : Bool → ℕ → ℕ → FieldNumber ℤ
 field_number is_register n e = if is_register then field_part.Data n else field_part.Number (pos e)
 
 -- `0nnn Oooo ooWw wwww`; a width of 32 is spelled 0
-unfoldable pub field_of : ℕ → BitField ℤ
+abbrev pub field_of : ℕ → BitField ℤ
 field_of w = let f = field_word w in record {
   offset = field_number f.offset_is_register f.offset_register f.offset;
   width = field_number f.width_is_register f.width_register (if f.width == 0 then 32 else f.width);
@@ -246,7 +246,7 @@ trapping c (trap.Long l) = sized (trap_name c) size.Long (count l ∷ [])
 -- ---- the table
 
 -- A destination of MOVE is never relative to the PC, so the place of its words has no part in it.
-unfoldable pub move_statement : ℕ → Move → Statement
+abbrev pub move_statement : ℕ → Move → Statement
 move_statement at (move.Exg x k y) = plain (codes "EXG") (exchanged k x y)
 move_statement at (move.FromCcr ea) = plain (codes "MOVE") (operand.Ccr ∷ place at 1 ea ∷ [])
 move_statement at (move.Lea a ea) = plain (codes "LEA") (place at 1 ea ∷ address_operand a ∷ [])
@@ -324,7 +324,7 @@ arith_statement at (arith.Tas ea) = plain (codes "TAS") (place at 1 ea ∷ [])
 arith_statement at (arith.Tst s ea) = alone (codes "TST") at s ea
 arith_statement at (arith.Unpk x m y w) = plain (codes "UNPK") (adjusted_pairs m x y w)
 
-unfoldable pub flow_statement : ℕ → Flow → Statement
+abbrev pub flow_statement : ℕ → Flow → Statement
 flow_statement at (flow.Bcc c d) = branching at c d
 flow_statement at (flow.Chk d s ea) = sized (codes "CHK") s (place at 1 ea ∷ data_operand d ∷ [])
 flow_statement at (flow.Chk2 s ea w) = sized (codes "CHK2") s (place at 2 ea ∷ register (register_word w).register ∷ [])
@@ -339,7 +339,7 @@ flow_statement at (flow.Trap n) = plain (codes "TRAP") (count n ∷ [])
 flow_statement at (flow.Trapcc c o) = trapping c o
 flow_statement at flow.Trapv = plain (codes "TRAPV") []
 
-unfoldable pub system_statement : ℕ → System → Statement
+abbrev pub system_statement : ℕ → System → Statement
 system_statement at (system.AndiSr w) = plain (codes "ANDI") (count w ∷ operand.Sr ∷ [])
 system_statement at (system.Cinv c s a) = plain (invalidate_name s) (cache_operands s c a)
 system_statement at (system.Cpush c s a) = plain (push_name s) (cache_operands s c a)

@@ -141,7 +141,7 @@ abbrev pub behind_base_text : FullForm ℤ → List ℕ
 behind_base_text f = if is_left_out f then [] else codes "," ++ index_text f.index
 
 -- `(bd,An,Xn)`, `([bd,An,Xn],od)` or `([bd,An],Xn,od)`
-unfoldable pub full_text : FullForm ℤ → List ℕ
+abbrev pub full_text : FullForm ℤ → List ℕ
 full_text f = elim f.indirection [
   | indirection.Direct ↦
       codes "(" ++ first_text f.displacement ++ base_text f.base ++ behind_base_text f ++ codes ")"
@@ -153,7 +153,7 @@ full_text f = elim f.indirection [
       ++ outer_text f.outer ++ codes ")"
 ]
 
-unfoldable pub mode_text : Mode ℤ → List ℕ
+abbrev pub mode_text : Mode ℤ → List ℕ
 mode_text (mode.Data n) = numbered false n
 mode_text (mode.Address n) = numbered true n
 mode_text (mode.Indirect n) = codes "(" ++ numbered true n ++ codes ")"
@@ -204,7 +204,7 @@ listed_below mask (suc n) = listed_below mask n ++ listed mask n
 abbrev pub list_text : ℕ → List ℕ
 list_text mask = listed_below mask 16
 
-unfoldable pub operand_text : Operand ℤ → List ℕ
+abbrev pub operand_text : Operand ℤ → List ℕ
 operand_text (operand.Mode m) = mode_text m
 operand_text (operand.Field m f) = mode_text m ++ field_text f
 operand_text operand.Sr = codes "SR"

@@ -47,7 +47,6 @@ fn scale_of(bits: u16) -> Scale
 }
 
 /// `rnnn lkk. .... ....`.
-#[tactic(auto, unfolding(crate::specs::Modes::index_of))]
 fn index_of(is_dropped: bool, word: u16) -> Index
     ensures { result ≡ index_of is_dropped word }
 {
@@ -136,7 +135,6 @@ fn indirection_of(word: u16) -> Indirection
 }
 
 /// `rnnn lkk1 BIbb 0iii` and its displacements, of which the first word stands at the place.
-#[tactic(auto, unfolding(crate::specs::Modes::full_of))]
 fn full_of(place: u32, base: Base, word: u16, bd: u32, od: u32) -> FullForm<i64>
     ensures { result ≡ full_of place base word bd od }
 {
@@ -187,7 +185,6 @@ pub(crate) fn immediate_number(size: Size, value: u32) -> i64
 }
 
 /// The mode of an operand whose first extension word stands at the place.
-#[tactic(auto, unfolding(crate::specs::Modes::mode_of))]
 pub(crate) fn mode_of(place: u32, ea: &Ea) -> Mode<i64>
     ensures { result ≡ mode_of place ea.now }
 {

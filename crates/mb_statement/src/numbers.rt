@@ -40,7 +40,6 @@ fn push_digits(line: &mut LineText, most: u8, value: u64)
 }
 
 /// `$` and the digits.
-#[tactic(auto, unfolding(crate::specs::Numbers::number))]
 pub fn push_number(line: &mut LineText, value: u64)
     requires { array_vec_len line.old + 17 ≤ 512 }
     ensures pushed { line.new.items ≡ line.old.items ++ number value }

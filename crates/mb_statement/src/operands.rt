@@ -195,7 +195,6 @@ fn field_number(is_register: bool, n: u8, value: u8) -> FieldNumber<i64>
 }
 
 /// `0nnn Oooo ooWw wwww`; a width of 32 is spelled 0.
-#[tactic(auto, unfolding(crate::specs::Statements::field_of))]
 fn field_of(word: u16) -> BitField<i64>
     ensures { result ≡ statements.field_of word }
 {

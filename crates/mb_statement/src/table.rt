@@ -185,7 +185,6 @@ fn mask_for(ea: &Ea, mask: u16) -> u16
 
 /// A destination of MOVE is never relative to the PC, so the place of its words has no part in it.
 #[rattlefmt::skip]
-#[tactic(auto, unfolding(crate::specs::Statements::move_statement))]
 fn move_statement(at: u32, i: &Move) -> Statement
     ensures statement { statement_said result ≡ statements.move_statement at i.now }
     ensures short { length result.name.now ≤ 8 }
@@ -344,7 +343,6 @@ fn product_statement(at: u32, i: &Arith) -> Statement
 }
 
 #[rattlefmt::skip]
-#[tactic(auto, unfolding(crate::specs::Statements::flow_statement))]
 fn flow_statement(at: u32, i: &Flow) -> Statement
     ensures statement { statement_said result ≡ statements.flow_statement at i.now }
     ensures short { length result.name.now ≤ 8 }
@@ -372,7 +370,6 @@ fn flow_statement(at: u32, i: &Flow) -> Statement
 }
 
 #[rattlefmt::skip]
-#[tactic(auto, unfolding(crate::specs::Statements::system_statement))]
 fn system_statement(at: u32, i: &System) -> Statement
     ensures statement { statement_said result ≡ statements.system_statement at i.now }
     ensures short { length result.name.now ≤ 8 }

@@ -216,7 +216,6 @@ fn push_behind_base(line: &mut LineText, form: &FullForm<i64>)
 }
 
 /// `(bd,An,Xn)`, `([bd,An,Xn],od)` or `([bd,An],Xn,od)`.
-#[tactic(auto, unfolding(crate::specs::Texts::full_text))]
 fn push_full(line: &mut LineText, form: &FullForm<i64>)
     requires { array_vec_len line.old + 57 ≤ 512 }
     ensures pushed { line.new.items ≡ line.old.items ++ full_text form.now }
@@ -263,7 +262,6 @@ fn push_marked(line: &mut LineText, front: &[u8], n: u8, back: &[u8])
 }
 
 /// `(d,An,Xn)`.
-#[tactic(auto, unfolding(crate::specs::Texts::mode_text))]
 fn push_indexed(line: &mut LineText, register: u8, displacement: i64, index: Index)
     requires { array_vec_len line.old + 31 ≤ 512 }
     ensures pushed { line.new.items ≡ line.old.items ++ mode_text (Mode.Indexed register displacement index) }
@@ -277,7 +275,6 @@ fn push_indexed(line: &mut LineText, register: u8, displacement: i64, index: Ind
 }
 
 /// `(e,PC,Xn)`.
-#[tactic(auto, unfolding(crate::specs::Texts::mode_text))]
 fn push_pc_indexed(line: &mut LineText, target: i64, index: Index)
     requires { array_vec_len line.old + 31 ≤ 512 }
     ensures pushed { line.new.items ≡ line.old.items ++ mode_text (Mode.PcIndexed target index) }
@@ -290,7 +287,6 @@ fn push_pc_indexed(line: &mut LineText, target: i64, index: Index)
     line.push(b')');
 }
 
-#[tactic(auto, unfolding(crate::specs::Texts::mode_text))]
 fn push_mode(line: &mut LineText, mode: &Mode<i64>)
     requires { array_vec_len line.old + 57 ≤ 512 }
     ensures pushed { line.new.items ≡ line.old.items ++ mode_text mode.now }
@@ -419,7 +415,6 @@ fn push_list(line: &mut LineText, mask: u16)
     push_listed_below(line, mask, 16);
 }
 
-#[tactic(auto, unfolding(crate::specs::Texts::operand_text))]
 fn push_operand(line: &mut LineText, operand: &Operand<i64>)
     requires { array_vec_len line.old + 96 ≤ 512 }
     ensures pushed { line.new.items ≡ line.old.items ++ operand_text operand.now }

@@ -11,12 +11,11 @@ use Rattle.mb_processor.specs.declared.entering.Cause.{Cause}
 use Rattle.mb_processor.specs.declared.entering.Entered.TheVariants as entered
 use Rattle.mb_processor.specs.Entry.{Entrance, awake, enter_of}
 use Rattle.mb_processor.specs.SystemEnds.{with_registers}
-use Rattle.mb_processor.specs.Raise.{Stepped, traces_all, cause_at, access_error_of, unchecked_of, raised, raise_of, trace_if_of, raise_trap_of}
+use Rattle.mb_processor.specs.Raise.{Stepped, traces_all, cause_at, unchecked_of, raised, trace_if_of, raise_trap_of}
 
 -- an access error ends the stopped state itself
 pub unchecked_awake : {S : Type 0} (bus : Bus S) (is_trace : Bool) (fault : Fault) (cpu : Cpu) (s : S)
     → run bus (unchecked_of is_trace fault (awake cpu)) s ≡ run bus (unchecked_of is_trace fault cpu) s
-unfolding unchecked_of access_error_of enter_of
 unchecked_awake bus is_trace fault cpu s = refl
 
 -- a processor with other registers
@@ -45,7 +44,6 @@ pub trap_unchecked : {S : Type 0} (bus : Bus S) (vector : ℕ) (before left : Cp
     → left ≡ record before { regs = left.regs; stopped = false } → left.regs ≡ exchanged → back ≡ with_plain left.regs q
     → run bus (unchecked_of false fault (holding back left)) t ≡ stepped
     → run bus (raise_trap_of vector before (with_registers p before)) s ≡ stepped
-unfolding raise_trap_of raise_of
 trap_unchecked bus vector before left exchanged back p q c fault s t stepped e again is h o r k u =
     ap (entered_trap bus vector before)
     (ap (λ (x : Regs). run bus (enter_of (cause_at vector x.pc before.regs.pc) (holding x before)) s) (sym e)

@@ -12,10 +12,10 @@ use Rattle.mb_decode.specs.declared.front.Decoded.{Decoded}
 use Rattle.mb_decode.specs.declared.front.Decoded.TheVariants.{Whole}
 use Rattle.mb_decode.specs.Decodes.{decode_of}
 use Rattle.mb_ea.specs.Reading.{refused_in}
-use Rattle.mb_meaning.specs.Attempt.{NoInstruction, Unfetched, FoundInstr, illegal, found_of, fetched_of, by_decoded}
+use Rattle.mb_meaning.specs.Attempt.{NoInstruction, Unfetched, FoundInstr, illegal, found_of, by_decoded}
 use Rattle.mb_instr.specs.declared.counts.TheConstants.{MOST_WORDS}
 use Rattle.mb_processor.specs.Raise.{Stepped, refuse_of}
-use Rattle.mb_processor.specs.Step.{finish_unread_of, unfound_of, execute_of, execute_next_of}
+use Rattle.mb_processor.specs.Step.{finish_unread_of, execute_of, execute_next_of}
 use Rattle.mb_processor.specs.declared.Finish.{Finish}
 use Rattle.mb_step.specs.Fetching.{Sought, Word, sought_of, word_of, found_executed, behind}
 
@@ -66,13 +66,11 @@ seeking_on bus cpu m n space at words word s t now d e h w k = ap (seek bus cpu)
 pub seeking_without : {S : Type 0} (bus : Bus S) (cpu q : Cpu) (m n : ℕ) (space : Space) (at : ℕ) (words : List ℕ) (fault : Fault) (s t : S)
     (stepped : Stepped × S) → m ≡ suc n → Answered bus space at s (Err fault) t → q ≡ cpu → run bus (finish_unread_of (refused_in at fault) q) t ≡ stepped
     → seeking bus cpu space m at words s ≡ ending stepped
-unfolding unfound_of
 seeking_without bus cpu q m n space at words fault s t stepped e h k r =
     ap (seek bus cpu) (unfetched bus m n space at words fault s t e h) ∙ ap ending (rw (sym k) r)
 
 pub seeking_no_more : {S : Type 0} (bus : Bus S) (cpu q : Cpu) (m : ℕ) (space : Space) (at : ℕ) (words : List ℕ) (s : S) (stepped : Stepped × S)
     → m ≡ 0 → q ≡ cpu → run bus (refuse_of ILLEGAL q) s ≡ stepped → seeking bus cpu space m at words s ≡ ending stepped
-unfolding unfound_of
 seeking_no_more bus cpu q m space at words s stepped e k r =
     ap (seek bus cpu) (exhausted bus m space at words s e) ∙ ap ending (rw (sym k) r)
 
@@ -80,7 +78,6 @@ seeking_no_more bus cpu q m space at words s stepped e k r =
 pub seeking_none : {S : Type 0} (bus : Bus S) (cpu q : Cpu) (vector : ℕ) (t : S) (stepped : Stepped × S)
     → q ≡ cpu → run bus (refuse_of vector q) t ≡ stepped
     → run bus (sought_of cpu (Return (Err (NoInstruction vector)))) t ≡ ending stepped
-unfolding unfound_of
 seeking_none bus cpu q vector t stepped k r = ap ending (rw (sym k) r)
 
 -- an instruction was found
@@ -108,7 +105,6 @@ begun_as bus cpu first s found d e h = ap (λ (x : Decoded). run bus (found_exec
 -- it begins no instruction
 pub begins_none : {S : Type 0} (bus : Bus S) (cpu : Cpu) (vector : ℕ) (t : S)
     → run bus (found_executed cpu (Return (Err (NoInstruction vector)))) t ≡ run bus (refuse_of vector cpu) t
-unfolding unfound_of
 begins_none bus cpu vector t = refl
 
 -- it is an instruction
@@ -163,7 +159,6 @@ two_words bus cpu space first second s t i k h e =
 no_second_word : {S : Type 0} (bus : Bus S) (cpu : Cpu) (space : Space) (first : ℕ) (fault : Fault) (s t : S)
     → space ≡ space_of cpu → Answered bus space ((cpu.regs.pc + 2) % 2 ^ 32) s (Err fault) t
     → run bus (found_executed cpu (behind cpu first)) s ≡ run bus (finish_unread_of (refused_in ((cpu.regs.pc + 2) % 2 ^ 32) fault) cpu) t
-unfolding unfound_of
 no_second_word bus cpu space first fault s t k h =
     ap (doing bus cpu)
     (unfetched bus (MOST_WORDS - 1) (MOST_WORDS - 2) (space_of cpu) ((cpu.regs.pc + 2) % 2 ^ 32) (first ∷ []) fault s t refl (rw (sym k) h))
@@ -171,7 +166,6 @@ no_second_word bus cpu space first fault s t k h =
 -- at an odd PC nothing is fetched
 at_odd : {S : Type 0} (bus : Bus S) (cpu : Cpu) (s : S) (odd : Bool) → (cpu.regs.pc % 2 == 1) ≡ odd → odd ≡ true
     → run bus (execute_next_of cpu) s ≡ run bus (refuse_of ODD_COUNTER cpu) s
-unfolding execute_next_of fetched_of unfound_of
 at_odd bus cpu s odd e h = rw (e, h) refl
 
 equal : (a b : ℕ) → a ≡ b → (a == b) ≡ true
@@ -184,7 +178,6 @@ instruction_at_odd bus cpu s h = at_odd bus cpu s _ refl (equal (cpu.regs.pc % 2
 -- at an even PC it begins without a word
 begun : {S : Type 0} (bus : Bus S) (cpu : Cpu) (s : S) (odd : Bool) → (cpu.regs.pc % 2 == 1) ≡ odd → odd ≡ false
     → run bus (execute_next_of cpu) s ≡ run bus (found_executed cpu (found_of MOST_WORDS (space_of cpu) cpu.regs.pc [])) s
-unfolding execute_next_of fetched_of
 begun bus cpu s odd e h = rw (e, h) refl
 
 unequal : (a b : ℕ) → a ≢ b → (a == b) ≡ false
@@ -203,7 +196,6 @@ first_word bus cpu space word s t d even k h e =
 no_first_word : {S : Type 0} (bus : Bus S) (cpu : Cpu) (space : Space) (fault : Fault) (s t : S)
     → cpu.regs.pc % 2 ≢ 1 → space ≡ space_of cpu → Answered bus space cpu.regs.pc s (Err fault) t
     → run bus (execute_next_of cpu) s ≡ run bus (finish_unread_of (refused_in cpu.regs.pc fault) cpu) t
-unfolding unfound_of
 no_first_word bus cpu space fault s t even k h =
     begun bus cpu s _ refl (unequal (cpu.regs.pc % 2) 1 even)
     ∙ ap (doing bus cpu) (unfetched bus MOST_WORDS (MOST_WORDS - 1) (space_of cpu) cpu.regs.pc [] fault s t refl (rw (sym k) h))

@@ -4,7 +4,7 @@ use Rattle.mb_port.specs.Routine.{Bus, run}
 use Rattle.mb_instr.specs.declared.instruction.Instr.{Instr}
 use Rattle.mb_instr.specs.declared.registers.Plain.{Plain}
 use Rattle.std.specs.Prelude.{◌%◌, true, false}
-use Rattle.mb_instr.specs.Registers.{plain_of, with_plain}
+use Rattle.mb_instr.specs.Registers.{plain_of}
 use Rattle.mb_model.specs.declared.processor.Cpu.{Cpu}
 use Rattle.mb_model.specs.Status.{space_of}
 use Rattle.mb_writes.specs.declared.ends.Ended.{Ended}
@@ -25,7 +25,6 @@ use Rattle.mb_step.proofs.Registers.{same_space, same_due, registers_low, regist
 finish_left : (i : Instr) (done : Result Bool Undone) (end : Ended) (cpu : Cpu) (before now : Plain)
     → finish_instruction_of i (closed (performed_in_place done end before now)).0 cpu (with_registers (closed (performed_in_place done end before now)).1 cpu)
     ≡ finish_instruction_of i (end_of (with_end done end)) cpu (with_registers now cpu)
-unfolding finish_instruction_of
 finish_left i (Ok flow) end cpu before now = refl
 finish_left i (Err undone) (ends.Done flow) cpu before now = refl
 finish_left i (Err undone) (ends.Trap vector) cpu before now = refl
@@ -40,7 +39,6 @@ pub unprivileged_left : {S : Type 0} (bus : Bus S) (i : Instr) (n : ℕ) (cpu : 
     → run bus (perform_of i (plain_of cpu.regs).pc (space_of cpu) (past n (plain_of cpu.regs))) s
     ≡ (let r : Performed × S = (performed_in_place done end (past n (plain_of cpu.regs)) now, t) in r)
     → run bus (execute_unprivileged_of i n cpu) s ≡ run bus (finish_instruction_of i (end_of (with_end done end)) cpu (with_registers now cpu)) t
-unfolding execute_unprivileged_of
 unprivileged_left {S} bus i n cpu s t done end now h =
     ap (λ (r : Performed × S). run bus (finish_instruction_of i (closed r.0).0 cpu (with_registers (closed r.0).1 cpu)) r.1) h
     ∙ ap (λ m. run bus m t) (finish_left i done end cpu (past n (plain_of cpu.regs)) now)
@@ -91,7 +89,6 @@ pub done_left : {S : Type 0} (bus : Bus S) (i : Instr) (done : Result Bool Undon
     (stepped : Stepped × S) → done ≡ Ok flow
     → run bus (trace_if_of finish.Went (is_due cpu.regs.sr flow) before.pc (with_registers now cpu)) s ≡ stepped
     → run bus (finish_instruction_of i (end_of (with_end done end)) (with_registers before cpu) (with_registers now cpu)) s ≡ stepped
-unfolding finish_instruction_of with_plain
 done_left bus i done end flow cpu before now s stepped is h =
     ap (λ (d : Result Bool Undone). run bus (finish_instruction_of i (end_of (with_end d end)) (with_registers before cpu) (with_registers now cpu)) s) is
     ∙ ap (λ (b : Bool). run bus (trace_if_of finish.Went b before.pc (with_registers now cpu)) s) (sym (same_due before cpu flow)) ∙ h

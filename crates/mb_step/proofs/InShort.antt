@@ -6,17 +6,16 @@ use Rattle.mb_instr.specs.declared.instruction.Instr.{Instr}
 use Rattle.mb_instr.specs.declared.instruction.Instr.TheVariants as instr
 use Rattle.mb_instr.specs.declared.registers.Plain.{Plain}
 use Rattle.mb_instr.specs.Codes.{IsInstr}
-use Rattle.mb_instr.specs.Registers.{plain_of, with_plain}
+use Rattle.mb_instr.specs.Registers.{plain_of}
 use Rattle.mb_model.specs.declared.processor.Cpu.{Cpu}
 use Rattle.mb_model.specs.Status.{space_of}
 use Rattle.mb_decode.specs.declared.front.Decoded.{Decoded}
 use Rattle.mb_meaning.specs.Attempt.{by_decoded}
 use Rattle.mb_meaning.specs.Ends.{Performed, closed}
-use Rattle.mb_meaning.specs.Rows.{row_of, perform_of}
 use Rattle.mb_processor.specs.SystemEnds.{with_registers}
 use Rattle.mb_processor.specs.Raise.{Stepped, is_due, trace_if_of}
 use Rattle.mb_processor.specs.declared.Finish.TheVariants as finish
-use Rattle.mb_processor.specs.Step.{execute_of, execute_unprivileged_of, finish_instruction_of}
+use Rattle.mb_processor.specs.Step.{execute_of, finish_instruction_of}
 use Rattle.mb_table.specs.declared.short.Short.{Short}
 use Rattle.mb_table.specs.FirstWords.{alone}
 use Rattle.mb_table.specs.Short.{meaning, meaning_with, IsAlone, IsWith, IsShort}
@@ -34,7 +33,6 @@ finished bus cpu i r = run bus (finish_instruction_of i (closed r.0).0 cpu (with
 
 executed : {S : Type 0} (bus : Bus S) (cpu : Cpu) (i : Instr) (n : ℕ) (flow : Bool) (q : Plain) (s t : S)
     → Goes bus i n (space_of cpu) (plain_of cpu.regs) s flow q t → run bus (execute_of i n cpu) s ≡ after bus cpu flow q t
-unfolding execute_of execute_unprivileged_of finish_instruction_of perform_of row_of
 executed bus cpu (instr.Move i) n flow q s t h = ap (finished bus cpu (instr.Move i)) h
 executed bus cpu (instr.Arith i) n flow q s t h = ap (finished bus cpu (instr.Arith i)) h
 executed bus cpu (instr.Flow i) n flow q s t h = ap (finished bus cpu (instr.Flow i)) h
@@ -62,7 +60,6 @@ with_went bus cpu first word (Some i) flow q s t right came h =
 pub went : {S : Type 0} (bus : Bus S) (cpu : Cpu) (first : ℕ) (short : Short) (flow : Bool) (q : Plain) (s t : S)
     → IsShort first short → IsDone bus short (space_of cpu) (plain_of cpu.regs) s flow q t
     → run bus (found_executed cpu (by_decoded (alone first) (behind cpu first))) s ≡ after bus cpu flow q t
-unfolding IsShort plain_of
 went bus cpu first short flow q s t right (inl h) = alone_went bus cpu first (meaning short) flow q s t right.0 h
 went bus cpu first short flow q s t right (inr (word, range, came, h)) =
     with_went bus cpu first word (meaning_with word short) flow q s t (right.1 word range) came h
@@ -73,7 +70,6 @@ pub went_apart : {S : Type 0} (bus : Bus S) (cpu value : Cpu) (before now : Plai
     → IsDone bus short (space_of cpu) before s flow now t
     → run bus (trace_if_of finish.Went (is_due cpu.regs.sr flow) before.pc (with_registers now cpu)) t ≡ stepped
     → run bus (found_executed value (by_decoded (alone first) (behind value first))) s ≡ stepped
-unfolding with_plain
 went_apart bus cpu value before now first short flow s t stepped k len less right done h =
     let whole = with_registers before cpu in
     let by_space = subst (λ (space : Space). IsDone bus short space before s flow now t) (same_space before cpu) done in
@@ -95,11 +91,9 @@ with_valid first word None h = h
 with_valid first word (Some i) h = h.2
 
 pub valid : (first : ℕ) (short : Short) → IsShort first short → IfSome (meaning short) IsInstr
-unfolding IsShort
 valid first short right = alone_valid first (meaning short) right.0
 
 pub valid_with : (first : ℕ) (short : Short) → IsShort first short → (word : ℕ) → word < 2 ^ 16 → IfSome (meaning_with word short) IsInstr
-unfolding IsShort
 valid_with first short right word range = with_valid first word (meaning_with word short) (right.1 word range)
 
 -- the counter of a processor that works on the registers apart

@@ -37,24 +37,20 @@ same_master : (sr ccr : ℕ) → is_master (with_ccr sr ccr) ≡ is_master sr
 same_master sr ccr = ap (λ (n : ℕ). n % 2 == 1) (high12 sr ccr)
 
 pub same_space : (p : Plain) (cpu : Cpu) → space_of cpu ≡ space_of (with_registers p cpu)
-unfolding with_plain
 same_space p cpu = ap (λ (s : Bool). cond s Super User) (sym (same_supervisor cpu.regs.sr p.ccr))
 
 pub same_mask : (p : Plain) (cpu : Cpu) → interrupt_mask cpu ≡ interrupt_mask (with_registers p cpu)
-unfolding with_plain
 same_mask p cpu = ap (λ (n : ℕ). n % 2 ^ 3) (sym (high8 cpu.regs.sr p.ccr))
 
 pub mask_bits : (sr : ℕ) → bit_and (sr / 256) 7 ≡ sr / 2 ^ 8 % 2 ^ 3
 mask_bits sr = and_mask (sr / 256) 3
 
 pub same_due : (p : Plain) (cpu : Cpu) (flow : Bool) → is_due cpu.regs.sr flow ≡ is_due (with_registers p cpu).regs.sr flow
-unfolding with_plain
 same_due p cpu flow =
     ap (λ (n : ℕ). (n % 2 == 1) || ((cpu.regs.sr / 2 ^ 14 % 2 == 1) && flow)) (sym (high15 cpu.regs.sr p.ccr))
     ∙ ap (λ (n : ℕ). (with_ccr cpu.regs.sr p.ccr / 2 ^ 15 % 2 == 1) || ((n % 2 == 1) && flow)) (sym (high14 cpu.regs.sr p.ccr))
 
 pub same_counter : (p : Plain) (cpu : Cpu) → p.pc ≡ (with_registers p cpu).regs.pc
-unfolding with_plain
 same_counter p cpu = refl
 
 -- ---- what was put in is read back
@@ -73,7 +69,6 @@ stack_by true false r top = refl
 stack_by false m r top = refl
 
 stack_again : (r : Regs) (p : Plain) → active_stack (with_plain r p) ≡ slice_index p.a 7
-unfolding with_plain
 stack_again r p =
     let q = with_stack r (slice_index p.a 7) in
     ap (λ (s : Bool). cond s (cond (is_master (with_ccr r.sr p.ccr)) q.msp q.isp) q.usp) (same_supervisor r.sr p.ccr)
@@ -84,7 +79,6 @@ abbrev of_parts : List ℕ → List ℕ → ℕ → ℕ → Plain
 of_parts d a pc ccr = record { d = d; a = a; pc = pc; ccr = ccr }
 
 pub plain_again : (p : Plain) (cpu : Cpu) → length p.a ≡ 8 → p.ccr < 32 → plain_of (with_registers p cpu).regs ≡ p
-unfolding plain_of with_plain
 plain_again p cpu n less =
     let r = cpu.regs in
     ap (λ (top : ℕ). of_parts p.d (take 7 p.a ++ top ∷ []) p.pc (with_ccr r.sr p.ccr % 2 ^ 5)) (stack_again r p)
@@ -109,7 +103,6 @@ set_twice true false r t u d e a b pc at sr st = refl
 set_twice false m r t u d e a b pc at sr st = refl
 
 plain_over : (r : Regs) (q p : Plain) → with_plain (with_plain r q) p ≡ with_plain r p
-unfolding with_plain
 plain_over r q p =
     let s = is_supervisor r.sr in
     let m = is_master r.sr in
@@ -143,7 +136,6 @@ ccr_same : (sr : ℕ) → with_ccr sr (sr % 2 ^ 5) ≡ sr
 ccr_same sr = omega arith
 
 plain_same : (r : Regs) → length r.a ≡ 7 → with_plain r (plain_of r) ≡ r
-unfolding with_plain plain_of
 plain_same r h =
     let s = is_supervisor r.sr in
     let m = is_master r.sr in
@@ -155,7 +147,6 @@ plain_same r h =
     ∙ ap (λ (q : Regs). (let o : Regs = record q { d = r.d; a = r.a; pc = r.pc; sr = r.sr } in o)) (stack_same s m r)
 
 seven_of : (r : Regs) → length (plain_of r).a ≡ 8 → length r.a ≡ 7
-unfolding plain_of
 seven_of r h = let e = length-append r.a (active_stack r ∷ []) in omega (arith, e, h)
 
 pub registers_same : (p : Plain) (cpu : Cpu) → p ≡ plain_of cpu.regs → length p.a ≡ 8 → with_registers p cpu ≡ cpu
@@ -164,7 +155,6 @@ registers_same p cpu e h =
     ∙ ap (holding cpu) (plain_same cpu.regs (seven_of cpu.regs (sym (ap (λ (q : Plain). length q.a) e) ∙ h)))
 
 pub five_bits : (p : Plain) (r : Regs) → p ≡ plain_of r → p.ccr < 32
-unfolding plain_of
 five_bits p r e = subst (λ (q : Plain). q.ccr < 32) (sym e) (omega arith)
 
 -- of the condition codes five bits count
@@ -172,7 +162,6 @@ ccr_again : (sr ccr : ℕ) → with_ccr sr (ccr % 2 ^ 5) ≡ with_ccr sr ccr
 ccr_again sr ccr = omega arith
 
 pub registers_low : (p : Plain) (cpu : Cpu) → with_registers (record p { ccr = p.ccr % 32 }) cpu ≡ with_registers p cpu
-unfolding with_plain
 registers_low p cpu =
     let r = cpu.regs in
     ap (λ (n : ℕ). holding cpu (set_by (is_supervisor r.sr) (is_master r.sr) r (slice_index p.a 7) p.d (take 7 p.a) p.pc n)) (ccr_again r.sr p.ccr)

@@ -72,7 +72,6 @@ impl Processor {
 
     /// Carries out a privileged instruction of so many words. It needs supervisor mode.
     #[inline(never)]
-    #[tactic(auto, unfolding(mb_processor::specs::Step::execute_of))]
     pub(crate) fn execute_privileged<P: Port>(
         &mut self,
         system: &System,

@@ -25,7 +25,6 @@ use mb_writes::Ended;
 
 /// Carries out a privileged instruction of so many words in supervisor mode.
 #[inline(never)]
-#[tactic(auto, unfolding(mb_processor::specs::Step::execute_supervised_of, mb_processor::specs::Step::finish_instruction_of))]
 pub(crate) fn execute_supervised<P: Port>(
     system: &System,
     length: u8,
@@ -85,7 +84,6 @@ pub(crate) fn finish_done<P: Port>(
 /// Finishes an instruction that left these registers; those before it stand beside. Where it was not done, how it ended
 /// does too.
 #[inline(always)]
-#[tactic(auto, unfolding(mb_processor::specs::Step::finish_instruction_of))]
 fn finish_plain<P: Port>(
     instruction: &Instr,
     done: Result<bool, Undone>,
@@ -111,7 +109,6 @@ fn finish_plain<P: Port>(
 
 /// Carries out an instruction of so many words that is not privileged.
 #[inline(always)]
-#[tactic(auto, unfolding(mb_processor::specs::Step::execute_unprivileged_of))]
 fn execute_unprivileged<P: Port>(
     instruction: &Instr,
     length: u8,
@@ -153,7 +150,6 @@ fn execute_unprivileged<P: Port>(
 ///
 /// All families are inlined here, and it has one caller, so a step has them once.
 #[inline(always)]
-#[tactic(auto, unfolding(mb_processor::specs::Step::execute_of))]
 pub(crate) fn execute<P: Port>(
     instruction: &Instr,
     length: u8,

@@ -339,7 +339,6 @@ fn execute_first<P: Port>(
 /// Fetches the instruction that stands at PC and carries it out: by its short form, where that is done at once. No word
 /// is fetched behind those that the instruction needs, and none at an odd PC.
 #[inline(always)]
-#[tactic(auto, unfolding(mb_processor::specs::Step::execute_next_of))]
 pub(crate) fn execute_next<P: Port, const COPY: usize>(
     first_words: &mut FirstWords,
     shorts: &mut Shorts,

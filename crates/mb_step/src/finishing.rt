@@ -32,7 +32,6 @@ pub(crate) fn finish_unread<P: Port>(refused: &ReadFault, cpu: &mut Cpu, port: &
 
 /// After a refused write of which something is left. The instruction is otherwise complete.
 #[inline(never)]
-#[tactic(auto, unfolding(mb_processor::specs::Step::finish_unfinished_of))]
 pub(crate) fn finish_unfinished<P: Port>(
     due: bool,
     refused: &WriteFault,
@@ -50,7 +49,6 @@ pub(crate) fn finish_unfinished<P: Port>(
 
 /// After a refused write. Where nothing is left the instruction was not begun.
 #[inline(never)]
-#[tactic(auto, unfolding(mb_processor::specs::Step::unbegun_of))]
 fn finish_unwritten<P: Port>(
     due: bool,
     refused: &WriteFault,
@@ -78,7 +76,6 @@ fn finish_unwritten<P: Port>(
 
 /// After a refused write of a line. The instruction is otherwise complete.
 #[inline(never)]
-#[tactic(auto, unfolding(mb_processor::specs::Step::finish_unwritten_line_of))]
 fn finish_unwritten_line<P: Port>(
     due: bool,
     fault: &Fault,
@@ -113,7 +110,6 @@ fn movem_words(instruction: &Instr) -> u32
 
 /// After a refused transfer of a MOVEM. What was loaded stays.
 #[inline(never)]
-#[tactic(auto, unfolding(mb_processor::specs::Step::finish_untransferred_of))]
 fn finish_untransferred<P: Port>(
     due: bool,
     refused: &MovemFault,
@@ -143,7 +139,6 @@ fn is_flow(instruction: &Instr) -> bool
 
 /// Finishes an instruction that is not privileged, ended so and left these registers. The processor is as before it.
 #[inline(never)]
-#[tactic(auto, unfolding(mb_processor::specs::Step::finish_instruction_of))]
 pub(crate) fn finish_instruction<P: Port>(
     instruction: &Instr,
     ended: &Ended,

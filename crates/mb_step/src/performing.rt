@@ -20,7 +20,6 @@ use mb_writes::Ended;
 /// Where it is not done, how it ended goes to `ended`; after a refused read the registers before the instruction count,
 /// and `plain` may have some that were stepped.
 #[inline(always)]
-#[tactic(auto, unfolding(mb_meaning::specs::Rows::perform_of, mb_meaning::specs::Rows::row_of))]
 pub(crate) fn perform_in_place<P: Port>(
     instruction: &Instr,
     stream: Stream,

@@ -80,7 +80,6 @@ fn cause_at(vector: u8, pc: u32, address: u32) -> Cause
 /// Enters an access error: its frame of format $7 has this PC and these fields. Where the frame has no place,
 /// or the vector cannot be read, the processor halts.
 #[inline(never)]
-#[tactic(auto, unfolding(mb_processor::specs::Raise::access_error_of))]
 pub fn access_error<P: Port>(pc: u32, access: Access, cpu: &mut Cpu, port: &mut P) -> Finish
     ensures means { run P.bus (access_error_of pc access cpu.old) (P.world port.old)
         ≡ ((result, cpu.new), P.world port.new) }
@@ -103,7 +102,6 @@ pub fn access_error<P: Port>(pc: u32, access: Access, cpu: &mut Cpu, port: &mut 
 /// Enters the access error of a frame that has no place: `fault` is the one that its check was refused with. CT is set
 /// where it was a trace's. The processor is as an access error in its place finds it.
 #[inline(never)]
-#[tactic(auto, unfolding(mb_processor::specs::Raise::unchecked_of))]
 pub fn unchecked<P: Port>(is_trace: bool, fault: &Fault, cpu: &mut Cpu, port: &mut P) -> Finish
     ensures means { run P.bus (unchecked_of is_trace fault.now cpu.old) (P.world port.old)
         ≡ ((result, cpu.new), P.world port.new) }
@@ -116,7 +114,7 @@ pub fn unchecked<P: Port>(is_trace: bool, fault: &Fault, cpu: &mut Cpu, port: &m
 
 /// Enters an exception that is the last of its step, from the processor as it stands.
 #[inline(never)]
-#[tactic(auto, unfolding(mb_processor::specs::Raise::raise_of), using(crate::proofs::Entries::unchecked_awake))]
+#[tactic(auto, using(crate::proofs::Entries::unchecked_awake))]
 fn raise_last<P: Port>(is_trace: bool, cause: &Cause, cpu: &mut Cpu, port: &mut P) -> Finish
     requires { cause.now.level < 8 }
     ensures means { run P.bus (raise_last_of cause.now.vector (raise_of is_trace cause.now cpu.old cpu.old))
@@ -134,7 +132,6 @@ fn raise_last<P: Port>(is_trace: bool, cause: &Cause, cpu: &mut Cpu, port: &mut 
 
 /// Enters an interrupt.
 #[inline(never)]
-#[tactic(auto, unfolding(mb_processor::specs::Raise::interrupt_of))]
 pub(crate) fn interrupt<P: Port>(level: u8, cpu: &mut Cpu, port: &mut P) -> Finish
     requires { level < 8 }
     ensures means { run P.bus (interrupt_of level cpu.old) (P.world port.old)
@@ -154,7 +151,6 @@ pub(crate) fn interrupt<P: Port>(level: u8, cpu: &mut Cpu, port: &mut P) -> Fini
 
 /// Enters the trace of the instruction at `address`.
 #[inline(never)]
-#[tactic(auto, unfolding(mb_processor::specs::Raise::trace_of))]
 pub(crate) fn trace<P: Port>(address: u32, cpu: &mut Cpu, port: &mut P) -> Finish
     ensures means { run P.bus (trace_of address cpu.old) (P.world port.old)
         ≡ ((result, cpu.new), P.world port.new) }
@@ -187,7 +183,7 @@ pub(crate) fn trace_if<P: Port>(
 }
 
 /// Exchanges the registers that user mode sees with these, in place. Put back, they give the registers before.
-#[tactic(auto, unfolding(mb_instr::specs::Registers::with_plain), using(mb_instr::proofs::Arrays::seven_of_eight))]
+#[tactic(auto, using(mb_instr::proofs::Arrays::seven_of_eight))]
 fn exchange(plain: &mut Plain, regs: &mut Regs)
     ensures now { regs.new ≡ with_plain regs.old plain.old }
     ensures before { with_plain regs.new plain.new ≡ regs.old }
@@ -207,7 +203,6 @@ fn exchange(plain: &mut Plain, regs: &mut Regs)
 /// Enters the exception of an instruction that traps and left these registers, and behind it a trace, where T1 asks for
 /// one. Where the frame has no place, the registers before the instruction come back.
 #[inline(never)]
-#[tactic(auto, unfolding(mb_processor::specs::Raise::raise_trap_of, mb_processor::specs::Raise::raise_of))]
 pub(crate) fn raise_trap<P: Port>(
     vector: u8,
     plain: &mut Plain,

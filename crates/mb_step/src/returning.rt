@@ -29,7 +29,6 @@ fn is_due_by(held: &Held, cpu: &Cpu) -> bool
 
 /// After a transfer that was refused again: the frame is as the one that was taken.
 #[inline(never)]
-#[tactic(auto, unfolding(mb_processor::specs::Step::finish_untransferred_again_of))]
 fn finish_untransferred_again<P: Port>(
     due: bool,
     refused: &MovemFault,
@@ -50,7 +49,6 @@ fn finish_untransferred_again<P: Port>(
 
 /// RTE, in supervisor mode. Where it took no frame the processor is as it was.
 #[inline(never)]
-#[tactic(auto, unfolding(mb_processor::specs::Step::rte_of, mb_processor::specs::Step::finish_instruction_of))]
 pub(crate) fn rte<P: Port>(cpu: &mut Cpu, port: &mut P) -> Finish
     ensures means { run P.bus (rte_of cpu.old) (P.world port.old) ≡ ((result, cpu.new), P.world port.new) }
     ensures busy { result ≢ Finish.Idle }

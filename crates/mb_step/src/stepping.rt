@@ -29,7 +29,6 @@ pub fn rank(level: u8) -> u8
 /// Each `COPY` is a copy of its own of what a step does most often. Where a single place calls it, it is compiled into
 /// that place whole; so a loop whose steps are to be quick names one that no other place names.
 #[inline(always)]
-#[tactic(auto, unfolding(mb_processor::specs::Step::step_of))]
 pub fn step_in_place<P: Port, const COPY: usize>(
     decoder: &mut Decoder,
     processor: &mut Processor,

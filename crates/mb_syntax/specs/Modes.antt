@@ -50,7 +50,7 @@ with_width (value, words) =
     (record { value = value; width = width }, behind)
 
 -- `e`, `e.W` or `e.L`
-unfoldable pub sized_at : List Word → Option (SizedSum × List Word)
+abbrev pub sized_at : List Word → Option (SizedSum × List Word)
 sized_at words = option_map with_width (expression_at words)
 
 -- a long where it has no width of its own
@@ -97,7 +97,7 @@ index_of x given_width given_scale = record {
 }
 
 -- an index whose register stands before the words
-unfoldable pub index_behind : Register → List Word → Option (Index × List Word)
+abbrev pub index_behind : Register → List Word → Option (Index × List Word)
 index_behind given words = do
   x ← index_register given
   (width, behind_width) ← index_width x.is_dropped words
@@ -144,7 +144,7 @@ abbrev pub index_part : Bool → List Word → Option Index × List Word
 index_part is_first words = optional (part_place is_first words >>= index_at) words
 
 -- the parts, and what stands behind them
-unfoldable pub group_at : List Word → Group × List Word
+abbrev pub group_at : List Word → Group × List Word
 group_at words =
     let (displacement, behind_displacement) = optional (sized_at words) words in
     let none = not (is_some displacement) in
@@ -204,7 +204,7 @@ stepped (mode.Indirect n) (word.Plus ∷ words) = (mode.PostIncrement n, words)
 stepped direct words = (direct, words)
 
 -- what stands behind `(`, where no bracket follows
-unfoldable pub direct_at : List Word → Option (Mode Sum × List Word)
+abbrev pub direct_at : List Word → Option (Mode Sum × List Word)
 direct_at words = do
   let (group, behind) = group_at words
   rest ← close_at behind
@@ -234,7 +234,7 @@ abbrev pub outer_at : List Word → Option SizedSum × List Word
 outer_at words = optional (comma_at words >>= sized_at) words
 
 -- what stands behind `([`
-unfoldable pub indirect_at : List Word → Option (Mode Sum × List Word)
+abbrev pub indirect_at : List Word → Option (Mode Sum × List Word)
 indirect_at words = do
   let (parts, behind_parts) = group_at words
   rest ← close_square_at behind_parts
@@ -252,7 +252,7 @@ abbrev pub absolute : SizedSum × List Word → Mode Sum × List Word
 absolute (sized, words) = (mode.Absolute sized.value sized.width, words)
 
 -- an addressing mode, and what stands behind it
-unfoldable pub mode_at : List Word → Option (Mode Sum × List Word)
+abbrev pub mode_at : List Word → Option (Mode Sum × List Word)
 mode_at (word.Register (register.Data n) _ ∷ words) = Some (mode.Data n, words)
 mode_at (word.Register (register.Address n) _ ∷ words) = Some (mode.Address n, words)
 mode_at (word.Hash ∷ words) = option_map immediate (expression_at words)

@@ -71,7 +71,7 @@ numbered_register (first ∷ letter ∷ digit ∷ []) = if is_letter 90 first th
 numbered_register _ = None
 
 -- the register that a name says, in either case
-unfoldable pub register_of : List ℕ → Option Register
+abbrev pub register_of : List ℕ → Option Register
 register_of name =
     option_or (numbered_register name)
     (option_or (found_in named_registers name) (option_map Control (found_in control_registers name)))

@@ -33,7 +33,7 @@ abbrev pub mask_of : ℕ → ℕ → Option ℕ
 mask_of from to = if is_range from to then Some (2 ^ (to + 1) - 2 ^ from) else None
 
 -- `Xn-Xm`
-unfoldable pub range : Register → Register → Option ℕ
+abbrev pub range : Register → Register → Option ℕ
 range first last = do
   from ← general_of first
   to ← general_of last
@@ -75,7 +75,7 @@ close_brace_at (word.CloseBrace ∷ words) = Some words
 close_brace_at _ = None
 
 -- what stands behind `{`: `o:w}`
-unfoldable pub field_at : List Word → Option (BitField Sum × List Word)
+abbrev pub field_at : List Word → Option (BitField Sum × List Word)
 field_at words = do
   (offset, behind_offset) ← field_number_at words
   behind_colon ← colon_at behind_offset
@@ -105,7 +105,7 @@ colon_open_at (word.Colon ∷ word.Open ∷ words) = Some words
 colon_open_at _ = None
 
 -- what stands behind `(` in `(Rn):(Rn)`
-unfoldable pub indirect_pair_at : List Word → Option (Operand Sum × List Word)
+abbrev pub indirect_pair_at : List Word → Option (Operand Sum × List Word)
 indirect_pair_at words = do
   (first, behind_first) ← closed_register_at words
   behind_colon ← colon_open_at behind_first
@@ -123,7 +123,7 @@ behind_mode (found, word.OpenBrace ∷ words) = option_map (with_field found) (f
 behind_mode (found, words) = Some (operand.Mode found, words)
 
 -- an addressing mode, or one with a bit field
-unfoldable pub place_at : List Word → Option (Operand Sum × List Word)
+abbrev pub place_at : List Word → Option (Operand Sum × List Word)
 place_at words = mode_at words >>= behind_mode
 
 -- SR, CCR and the control registers
@@ -134,7 +134,7 @@ special_of (register.Control control) = Some (operand.Control control)
 special_of _ = None
 
 -- all words, the register that is the first of them, and what stands behind it: a pair, a register list or a mode
-unfoldable pub behind_register : List Word → Register → List Word → Option (Operand Sum × List Word)
+abbrev pub behind_register : List Word → Register → List Word → Option (Operand Sum × List Word)
 behind_register all first (word.Colon ∷ words) = pair_behind first words
 behind_register all first (word.Minus ∷ _) = option_map as_list (list_at all)
 behind_register all first (word.Slash ∷ _) = option_map as_list (list_at all)

@@ -52,14 +52,14 @@ abbrev pub takes_caches : List ℕ → Bool
 takes_caches name = is_some (found_in cache_operations name)
 
 -- an operation whose name stands before the words
-unfoldable pub operation_named : List ℕ → Name → List Word → Option Operation
+abbrev pub operation_named : List ℕ → Name → List Word → Option Operation
 operation_named line name words = do
   (size, behind) ← size_at words
   operands ← operands_behind (takes_caches (bytes_at line name)) behind
   Some (record { name = name; size = size; operands = operands })
 
 -- the operation that the words are, up to the line's end; no words are none
-unfoldable pub operation_of : List ℕ → List Word → Option (Option Operation)
+abbrev pub operation_of : List ℕ → List Word → Option (Option Operation)
 operation_of line [] = Some None
 operation_of line (first ∷ words) = name_of first >>= λ name. option_map Some (operation_named line name words)
 
@@ -77,7 +77,7 @@ behind_label line (word.Blank ∷ words) = operation_of line words
 behind_label line _ = None
 
 -- The statement that the words of a line are. A label begins in column 1, and a name never does.
-unfoldable pub statement_of : List ℕ → List Word → Option Statement
+abbrev pub statement_of : List ℕ → List Word → Option Statement
 statement_of line [] = Some (labelled None None)
 statement_of line (word.Blank ∷ words) = option_map (labelled None) (operation_of line words)
 statement_of line (first ∷ words) = do

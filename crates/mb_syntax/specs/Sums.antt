@@ -65,7 +65,7 @@ terms_at (word.Minus ∷ next ∷ words) = before true (term_of next) (terms_at 
 terms_at words = Some ([], words)
 
 -- an expression, and what stands behind it
-unfoldable pub expression_at : List Word → Option (List SignedTerm × List Word)
+abbrev pub expression_at : List Word → Option (List SignedTerm × List Word)
 expression_at (word.Minus ∷ next ∷ words) = before true (term_of next) (terms_at words)
 expression_at (next ∷ words) = before false (term_of next) (terms_at words)
 expression_at [] = None

@@ -14,7 +14,7 @@ use Rattle.mb_syntax.specs.Tables.{found_in}
 -- Numbers.
 
 -- the value of a hexadecimal digit of either case
-unfoldable pub digit_value : ℕ → ℕ
+abbrev pub digit_value : ℕ → ℕ
 digit_value digit = if is_digit digit then digit - 48 else if is_between 65 70 digit then digit - 55 else digit - 87
 
 -- the number that digits spell behind those that spell n
@@ -51,7 +51,7 @@ read_as reading (Some x) name other = reading x name
 read_as reading None name other = other
 
 -- a register, a size letter, a cache, or none of these
-unfoldable pub name_word : List ℕ → Name → Word
+abbrev pub name_word : List ℕ → Name → Word
 name_word bytes name =
     read_as word.Register (register_of bytes) name
     (read_as word.Letter (found_in size_letters bytes) name

@@ -1,10 +1,10 @@
 //! Reads addressing modes.
 
-ghost use Rattle.std.specs.Prelude.{◌≡◌, Some, List, option_map};
+ghost use Rattle.std.specs.Prelude.{◌≡◌, Some, option_map};
 ghost use Rattle.mb_syntax.specs.Sums.{expression_at};
 ghost use Rattle.mb_syntax.specs.Modes.{absolute, base_part, index_part, immediate, base_at, base_of, asks_full};
 ghost use Rattle.mb_syntax.specs.Modes.{brief_of, close_at, close_square_at, direct_at, direct_mode, displacement_of};
-ghost use Rattle.mb_syntax.specs.Modes.{full, group_at, index_at, index_behind, index_behind_brackets, index_of};
+ghost use Rattle.mb_syntax.specs.Modes.{full, group_at, index_at, index_behind, index_behind_brackets};
 ghost use Rattle.mb_syntax.specs.Modes.{index_register, index_width, indirect_at, mode_at, optional, outer_at};
 ghost use Rattle.mb_syntax.specs.Modes.{part_place, post_indexed, read_at, scale_at, scale_of, sized_at, stepped};
 ghost use Rattle.mb_syntax.specs.Modes.{width_at};
@@ -63,7 +63,6 @@ fn width_at(words: &[Word]) -> Option<(Width, &[Word])>
 }
 
 /// `e`, `e.W` or `e.L`.
-#[tactic(auto, unfolding(crate::specs::Modes::sized_at))]
 pub(crate) fn sized_at(alloc: Global, words: &[Word]) -> Result<(SizedSum, &[Word]), SyntaxFault>
     ensures { Gives read_said result (sized_at words.now) }
 {
@@ -155,7 +154,6 @@ fn index_at(words: &[Word]) -> Option<(Index, &[Word])>
 }
 
 /// An index whose register stands before the words.
-#[tactic(auto, unfolding(crate::specs::Modes::index_behind))]
 fn index_behind(register: Register, words: &[Word]) -> Option<(Index, &[Word])>
     ensures { option_map read_said result ≡ index_behind register words.now }
 {
@@ -250,7 +248,6 @@ fn index_part(is_first: bool, words: &[Word]) -> (Option<Index>, &[Word])
 }
 
 /// A displacement, a base and an index, each of which may be left out.
-#[tactic(auto, unfolding(crate::specs::Modes::group_at))]
 fn group_at(alloc: Global, words: &[Word]) -> Result<(Group, &[Word]), SyntaxFault>
     ensures { Gives read_said result (Some (group_at words.now)) }
 {
@@ -367,7 +364,6 @@ fn stepped(mode: Mode<Expression>, words: &[Word]) -> (Mode<Expression>, &[Word]
 }
 
 /// What stands behind `(`, where no bracket follows.
-#[tactic(auto, unfolding(crate::specs::Modes::direct_at))]
 fn direct_at(alloc: Global, words: &[Word]) -> Result<(Mode<Expression>, &[Word]), SyntaxFault>
     ensures { Gives read_said result (direct_at words.now) }
 {
@@ -407,7 +403,6 @@ fn outer_at(alloc: Global, words: &[Word]) -> Result<(Option<SizedSum>, &[Word])
 }
 
 /// What stands behind `([`.
-#[tactic(auto, unfolding(crate::specs::Modes::indirect_at))]
 fn indirect_at(alloc: Global, words: &[Word]) -> Result<(Mode<Expression>, &[Word]), SyntaxFault>
     ensures { Gives read_said result (indirect_at words.now) }
 {
@@ -446,7 +441,6 @@ fn bracketed(group: Group, index: Option<Index>, outer: Option<SizedSum>) -> Ful
 }
 
 /// An addressing mode, and what stands behind it.
-#[tactic(auto, unfolding(crate::specs::Modes::mode_at))]
 pub(crate) fn mode_at(
     alloc: Global,
     words: &[Word],

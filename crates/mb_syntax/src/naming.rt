@@ -1,9 +1,8 @@
 //! What names are read as.
 
-ghost use Rattle.std.specs.Prelude.{◌≡◌, Option, Some, None, option_map};
-ghost use Rattle.std.specs.Option.{is_some};
-ghost use Rattle.mb_syntax.specs.Names.{cache_names, cache_operations, control_registers, dropped, general};
-ghost use Rattle.mb_syntax.specs.Names.{named_registers, numbered_register, register_number, register_of};
+ghost use Rattle.std.specs.Prelude.{◌≡◌, Option, Some, None};
+ghost use Rattle.mb_syntax.specs.Names.{cache_names, dropped, general};
+ghost use Rattle.mb_syntax.specs.Names.{numbered_register, register_number, register_of};
 ghost use Rattle.mb_syntax.specs.Names.{size_letters};
 ghost use Rattle.mb_syntax.specs.Tables.{found_in};
 ghost use Rattle.mb_syntax.specs.Statements.{takes_caches};
@@ -66,7 +65,6 @@ const CACHE_OPERATIONS: [(&[u8], ()); 6] = [
 ];
 
 /// The register that a name says.
-#[tactic(auto, unfolding(crate::specs::Names::register_of))]
 pub(crate) fn register_of(name: &[u8]) -> Option<Register>
     ensures { result ≡ register_of name.now }
 {

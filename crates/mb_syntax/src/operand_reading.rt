@@ -63,7 +63,6 @@ fn bits(from: u8, to: u8) -> u16
 }
 
 /// `Xn-Xm`.
-#[tactic(auto, unfolding(crate::specs::Operands::range))]
 fn range(first: Register, last: Register) -> Option<u16>
     ensures { result ≡ range first last }
 {
@@ -116,7 +115,6 @@ fn close_brace_at(words: &[Word]) -> Option<&[Word]>
 }
 
 /// What stands behind `{`: `o:w}`.
-#[tactic(auto, unfolding(crate::specs::Operands::field_at))]
 fn field_at(alloc: Global, words: &[Word]) -> Result<(BitField<Expression>, &[Word]), SyntaxFault>
     ensures { Gives read_said result (field_at words.now) }
 {
@@ -177,7 +175,6 @@ fn colon_open_at(words: &[Word]) -> Option<&[Word]>
 }
 
 /// What stands behind `(` in `(Rn):(Rn)`.
-#[tactic(auto, unfolding(crate::specs::Operands::indirect_pair_at))]
 fn indirect_pair_at(words: &[Word]) -> Option<(Operand<Expression>, &[Word])>
     ensures { option_map read_said result ≡ indirect_pair_at words.now }
 {
@@ -188,7 +185,6 @@ fn indirect_pair_at(words: &[Word]) -> Option<(Operand<Expression>, &[Word])>
 }
 
 /// An addressing mode, or one with a bit field.
-#[tactic(auto, unfolding(crate::specs::Operands::place_at))]
 fn place_at(alloc: Global, words: &[Word]) -> Result<(Operand<Expression>, &[Word]), SyntaxFault>
     ensures { Gives read_said result (place_at words.now) }
 {
@@ -257,7 +253,6 @@ fn register_operand<'a>(
 }
 
 /// A pair, a register list or a mode.
-#[tactic(auto, unfolding(crate::specs::Operands::behind_register))]
 fn behind_register<'a>(
     alloc: Global,
     all: &'a [Word],

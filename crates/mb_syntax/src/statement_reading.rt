@@ -1,6 +1,6 @@
 //! Reads statements.
 
-ghost use Rattle.std.specs.Prelude.{◌≡◌, ◌<◌, ◌≤◌, ◌^◌, List, Result, option_map, length, ℕ};
+ghost use Rattle.std.specs.Prelude.{◌≡◌, ◌<◌, ◌^◌, List, Result, option_map, length, ℕ};
 ghost use Rattle.mb_asm_text.specs.declared.token.Token.{Token};
 ghost use Rattle.mb_asm_text.specs.Cut.{IsCut};
 ghost use Rattle.mb_syntax.specs.Statements.{behind_label, name_of, operands_behind, operation_named, operation_of};
@@ -85,7 +85,6 @@ fn operands_behind(
 }
 
 /// The operation whose name stands before the words.
-#[tactic(auto, unfolding(crate::specs::Statements::operation_named))]
 fn operation_named(
     alloc: Global,
     line: &[u8],
@@ -107,7 +106,6 @@ fn operation_named(
 }
 
 /// The operation that the words are, up to the line's end; no words are none.
-#[tactic(auto, unfolding(crate::specs::Statements::operation_of))]
 fn operation_of(
     alloc: Global,
     line: &[u8],
@@ -152,7 +150,6 @@ fn behind_label(
 }
 
 /// The statement that the words of a line are.
-#[tactic(auto, unfolding(crate::specs::Statements::statement_of))]
 fn statement_of(alloc: Global, line: &[u8], words: &[Word]) -> Result<Statement, SyntaxFault>
     ensures { Gives statement_said result (statement_of line.now words.now) }
 {

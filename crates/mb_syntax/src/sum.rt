@@ -98,7 +98,6 @@ fn next_term(words: &[Word]) -> Option<Option<(SignedTerm, &[Word])>>
 }
 
 /// An expression, and what stands behind it.
-#[tactic(auto, unfolding(crate::specs::Sums::expression_at))]
 pub(crate) fn expression_at(
     alloc: Global,
     words: &[Word],

@@ -3,7 +3,7 @@
 ghost use Rattle.std.specs.Prelude.{◌≡◌, ◌+◌, ◌*◌, ◌≤◌, IfOk};
 ghost use Rattle.mb_syntax.specs.Code.{narrow_number};
 ghost use Rattle.mb_syntax.specs.Tables.{found_in};
-ghost use Rattle.mb_syntax.specs.Words.{character_of, digit_value, digits_behind, marks, name_word};
+ghost use Rattle.mb_syntax.specs.Words.{character_of, digit_value, digits_behind, name_word};
 ghost use Rattle.mb_syntax.specs.Words.{number_of, number_word, word_of, words_of};
 
 use crate::naming::{caches_of, register_of, size_letter};
@@ -67,7 +67,6 @@ fn word_of(line: &[u8], token: &Token) -> Option<Word>
     }
 }
 
-#[tactic(auto, unfolding(crate::specs::Words::name_word))]
 fn name_word(text: &[u8], name: Name) -> Word
     ensures { result ≡ name_word text.now name }
 {
@@ -129,7 +128,6 @@ fn with_digit(base: u32, number: u32, digit: u8) -> Option<u32>
 }
 
 /// The value of a hexadecimal digit of either case.
-#[tactic(auto, unfolding(crate::specs::Words::digit_value))]
 fn digit_value(digit: u8) -> u8
     ensures { result ≡ digit_value digit }
 {

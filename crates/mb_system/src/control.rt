@@ -25,7 +25,6 @@ fn named_control(word: u16) -> Option<ControlRegister>
 
 /// What a control register holds; those of the memory management unit stand at the bus.
 #[inline(always)]
-#[tactic(auto, unfolding(mb_processor::specs::Control::control_value_of))]
 fn control_value<P: Port>(register: ControlRegister, cpu: &Cpu, port: &P) -> u32
     ensures { run P.bus (control_value_of register cpu.now) (P.world port.now) ≡ (result, P.world port.now) }
 {
@@ -43,7 +42,6 @@ fn control_value<P: Port>(register: ControlRegister, cpu: &Cpu, port: &P) -> u32
 
 /// Makes a control register hold what it keeps of a value.
 #[inline(always)]
-#[tactic(auto, unfolding(mb_processor::specs::Control::set_control_of))]
 fn set_control<P: Port>(register: ControlRegister, value: u32, cpu: &mut Cpu, port: &mut P)
     ensures means { run P.bus (set_control_of register (bit_and value (kept_bits register)) cpu.old)
         (P.world port.old) ≡ (cpu.new, P.world port.new) }
@@ -64,7 +62,6 @@ fn set_control<P: Port>(register: ControlRegister, value: u32, cpu: &mut Cpu, po
 
 /// MOVEC to a control register.
 #[inline(always)]
-#[tactic(auto, unfolding(mb_processor::specs::Control::move_to_control_of))]
 fn move_to_control<P: Port>(control: ControlRegister, register: u8, cpu: &mut Cpu, port: &mut P)
     requires { register < 16 }
     ensures means { run P.bus (move_to_control_of control register cpu.old) (P.world port.old)
@@ -77,7 +74,6 @@ fn move_to_control<P: Port>(control: ControlRegister, register: u8, cpu: &mut Cp
 
 /// MOVEC from a control register: to all of the other one.
 #[inline(always)]
-#[tactic(auto, unfolding(mb_processor::specs::Control::move_from_control_of))]
 fn move_from_control<P: Port>(control: ControlRegister, register: u8, cpu: &mut Cpu, port: &P)
     requires { register < 16 }
     ensures { run P.bus (move_from_control_of control register cpu.old) (P.world port.now)
@@ -91,7 +87,6 @@ fn move_from_control<P: Port>(control: ControlRegister, register: u8, cpu: &mut 
 
 /// MOVEC. A code that no control register has makes no instruction.
 #[inline(always)]
-#[tactic(auto, unfolding(mb_processor::specs::Control::movec_of))]
 pub(crate) fn movec<P: Port>(
     to_control: bool,
     word: u16,

@@ -22,7 +22,6 @@ use mb_writes::Ended;
 /// Carries out the instruction by its row. The answer is whether T0 asks for a trace after it, or how it ended
 /// otherwise.
 #[inline(always)]
-#[tactic(auto, unfolding(mb_processor::specs::System::perform_system_of))]
 fn carry_out<P: Port>(
     instruction: &System,
     at: u32,

@@ -48,7 +48,6 @@ fn load_register(size: Size, register: u8, value: u32, plain: &mut Plain)
 
 /// MOVES to memory, in DFC's space. The registers are those after the address was formed.
 #[inline(always)]
-#[tactic(auto, unfolding(mb_processor::specs::Spaces::move_out_of))]
 fn move_out<P: Port>(
     size: Size,
     target: Target,
@@ -79,7 +78,6 @@ fn move_out<P: Port>(
 
 /// MOVES from memory, in SFC's space. The registers are those after the address was formed.
 #[inline(always)]
-#[tactic(auto, unfolding(mb_processor::specs::Spaces::move_in_of))]
 fn move_in<P: Port>(
     size: Size,
     target: Target,
@@ -115,7 +113,6 @@ fn is_store(word: u16) -> bool
 
 /// MOVES. A memory indirection of its address is read in supervisor space; only the operand itself goes by SFC or DFC.
 #[inline(always)]
-#[tactic(auto, unfolding(mb_processor::specs::Spaces::moves_of))]
 pub(crate) fn moves<P: Port>(
     size: Size,
     ea: &Ea,
@@ -170,7 +167,6 @@ fn is_of_a_page(kind: FlushKind) -> bool
 
 /// PFLUSH of the other half of a page of 8 KiB, where the tables are of such pages.
 #[inline(always)]
-#[tactic(auto, unfolding(mb_processor::specs::Spaces::flush_beside_of))]
 fn flush_beside<P: Port>(kind: FlushKind, page: u32, cpu: &Cpu, port: &mut P)
     requires { page < 2 ^ 20 }
     ensures means { run P.bus (flush_beside_of kind page cpu.now) (P.world port.old) ≡ (cpu.now, P.world port.new) }
@@ -183,7 +179,6 @@ fn flush_beside<P: Port>(kind: FlushKind, page: u32, cpu: &Cpu, port: &mut P)
 
 /// PFLUSH.
 #[inline(always)]
-#[tactic(auto, unfolding(mb_processor::specs::Spaces::pflush_of))]
 pub(crate) fn pflush<P: Port>(kind: FlushKind, register: u8, cpu: &Cpu, port: &mut P)
     requires { register < 8 }
     ensures means { run P.bus (pflush_of kind register cpu.now) (P.world port.old) ≡ (cpu.now, P.world port.new) }
@@ -196,7 +191,6 @@ pub(crate) fn pflush<P: Port>(kind: FlushKind, register: u8, cpu: &Cpu, port: &m
 
 /// PTEST: the page is tested in DFC's space, and the answer becomes MMUSR.
 #[inline(always)]
-#[tactic(auto, unfolding(mb_processor::specs::Spaces::ptest_of))]
 pub(crate) fn ptest<P: Port>(is_read: bool, register: u8, cpu: &Cpu, port: &mut P)
     requires { register < 8 }
     ensures means { run P.bus (ptest_of is_read register cpu.now) (P.world port.old) ≡ (cpu.now, P.world port.new) }

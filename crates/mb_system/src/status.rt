@@ -27,7 +27,6 @@ fn set_status(value: u32, cpu: &mut Cpu)
 
 /// ANDI, ORI and EORI to SR.
 #[inline(always)]
-#[tactic(auto, unfolding(mb_processor::specs::Status::change_status_of))]
 pub(crate) fn change_status(kind: LogicKind, word: u16, cpu: &mut Cpu)
     ensures { cpu.new ≡ change_status_of kind word cpu.old }
 {
@@ -40,7 +39,6 @@ pub(crate) fn change_status(kind: LogicKind, word: u16, cpu: &mut Cpu)
 
 /// MOVE to SR: a word is read, by the registers as the old S and M give them.
 #[inline(always)]
-#[tactic(auto, unfolding(mb_processor::specs::Status::move_to_status_of))]
 pub(crate) fn move_to_status<P: Port>(
     ea: &Ea,
     word_at: u32,
@@ -70,7 +68,6 @@ pub(crate) fn move_to_status<P: Port>(
 
 /// MOVE from SR. The destination is not read.
 #[inline(always)]
-#[tactic(auto, unfolding(mb_processor::specs::Status::move_from_status_of))]
 pub(crate) fn move_from_status<P: Port>(
     ea: &Ea,
     word_at: u32,
@@ -103,7 +100,6 @@ pub(crate) fn move_from_status<P: Port>(
 
 /// STOP: SR is loaded, and the processor stops.
 #[inline(always)]
-#[tactic(auto, unfolding(mb_processor::specs::Status::stop_of))]
 pub(crate) fn stop(word: u16, cpu: &mut Cpu)
     ensures { cpu.new ≡ stop_of word cpu.old }
 {
@@ -113,7 +109,6 @@ pub(crate) fn stop(word: u16, cpu: &mut Cpu)
 
 /// MOVE An to USP.
 #[inline(always)]
-#[tactic(auto, unfolding(mb_processor::specs::Status::move_to_usp_of))]
 fn move_to_usp(register: u8, cpu: &mut Cpu)
     requires { register < 8 }
     ensures { cpu.new ≡ move_to_usp_of register cpu.old }
@@ -123,7 +118,6 @@ fn move_to_usp(register: u8, cpu: &mut Cpu)
 
 /// MOVE USP to An.
 #[inline(always)]
-#[tactic(auto, unfolding(mb_processor::specs::Status::move_from_usp_of))]
 fn move_from_usp(register: u8, cpu: &mut Cpu)
     requires { register < 8 }
     ensures { cpu.new ≡ move_from_usp_of register cpu.old }

@@ -47,7 +47,6 @@ if_none P m e = subst (λ (x : Option Instr). IfSome x P) (sym e) tt
 
 pub learnt : (first : ℕ) (d : Decoded) (s : Short) → d ≡ alone first → IfWhole d (λ i n. IsInstr i)
     → IfSome (meaning s) (λ i. d ≡ Whole i 1) → ((second : ℕ) → meaning_with second s ≡ None) → IsShort first s
-unfolding IsShort
 learnt first d s e valid h none =
     (alone_is first d (meaning s) e valid h, λ second range. if_none (IsWith first second) (meaning_with second s) (none second))
 
@@ -185,7 +184,6 @@ with_any first second i _ all again r r' more e h d k = tt
 pub learnt_with : (first second : ℕ) (i : Instr) (s : Short) → AllDecoded → ReadAgain → first < 2 ^ 16 → second < 2 ^ 16
     → alone first ≡ More → decode_of (first ∷ second ∷ []) ≡ Whole i 2 → IfSome (meaning_with second s) (λ j. i ≡ j)
     → meaning s ≡ None → IsShort first s
-unfolding IsShort
 learnt_with first second i s all again r r' more e h none =
     (if_none (IsAlone first) (meaning s) none, with_any first second i s all again r r' more e h)
 
@@ -203,7 +201,6 @@ kept forms at s range right all first =
     ]
 
 pub unknown : (first : ℕ) → IsShort first short.Unknown
-unfolding IsShort
 unknown first = (tt, λ second range. tt)
 
 all_unknown : (first n : ℕ) → slice_index_or (replicate n short.Unknown) first short.Unknown ≡ short.Unknown

@@ -75,7 +75,7 @@ abbrev pub IsWith : ℕ → ℕ → Instr → Type 0
 IsWith first second i = (alone first ≡ More) × (decode_of (first ∷ second ∷ []) ≡ Whole i 2) × IsInstr i
 
 -- the short form of a first word: with two words it is right whatever the second is
-unfoldable pub IsShort : ℕ → Short → Type 0
+abbrev pub IsShort : ℕ → Short → Type 0
 IsShort first s =
     IfSome (meaning s) (IsAlone first)
     × ((second : ℕ) → second < 2 ^ 16 → IfSome (meaning_with second s) (IsWith first second))

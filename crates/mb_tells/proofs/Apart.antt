@@ -24,7 +24,6 @@ Spread [] = Unit {0}
 Spread (p ∷ ps) = ApartFrom (piece_of p) ps × Spread ps
 
 short : (at left : ℕ) → piece_len at left ≤ 4
-unfolding piece_len
 short at left = grind arith
 
 -- so many bytes behind the first byte of a piece of at most so many, and before that byte comes again
@@ -67,11 +66,9 @@ cut_placed (suc n) at (suc left) h are =
     ((are.0, h), cut_placed n ((at + piece_len at (suc left)) % 2 ^ 32) (suc left - piece_len at (suc left)) (omega arith) are.1)
 
 pub split_placed : (at len : ℕ) → at < 2 ^ 32 → ArePlaced (split_of at len)
-unfolding split_of
 split_placed at len h = cut_placed 3 at len h (cut_are 3 at len)
 
 part_within : (value before_end len : ℕ) → part_of value before_end len < 2 ^ (8 * len)
-unfolding part_of
 part_within value before_end len = mod-lt (value / 2 ^ (8 * (before_end - len))) (pow_pos (8 * len))
 
 -- a number's parts are the pieces' own
@@ -81,7 +78,6 @@ parts_own (p ∷ ps) before_end value h =
     (record { placed = h.0; value = part_within value before_end p.len }, parts_own ps (before_end - p.len) value h.1)
 
 pub pending_own : (at len value : ℕ) → at < 2 ^ 32 → AreOwn (pending_of at len value)
-unfolding pending_of
 pending_own at len value h = parts_own (split_of at len) len value (split_placed at len h)
 
 pub parts_as_many : (pieces : List Piece) (before_end value : ℕ) → length (parts_of pieces before_end value) ≡ length pieces
@@ -95,10 +91,8 @@ cut_few (suc n) at (suc left) =
     let more = cut_few n ((at + piece_len at (suc left)) % 2 ^ 32) (suc left - piece_len at (suc left)) in omega arith
 
 pub pending_few : (at len value : ℕ) → length (pending_of at len value) ≤ 3
-unfolding pending_of split_of
 pending_few at len value =
     subst (λ (n : ℕ). n ≤ 3) (sym (parts_as_many (cut 3 at len) len value)) (cut_few 3 at len)
 
 pub pending_spread : (at len value : ℕ) → Spread (pending_of at len value)
-unfolding pending_of split_of
 pending_spread at len value = parts_spread 3 at len len value (omega arith)

@@ -26,7 +26,6 @@ module _ {S : Type 0} (x : Guarded S) (space : Space) (g : Guards x space) where
 
   pair_tells : (size : Size) (source destination : Ea) (word_at : ℕ) (p : Plain) → IsFormed source → IsFormed destination → AreLongs p.a
       → Reads x (λ (pair : Pair). IsFetched pair.destination) (fetch_pair_of size source destination word_at space p)
-  unfolding fetch_pair_of
   pair_tells size source destination word_at p comes goes longs =
       reads_then x space (fetched_tells x space g size source word_at p comes longs) (λ from read.
       reads_then x space (fetched_tells x space g size destination (behind_of size source word_at) from.plain goes read.1) (λ to found.
@@ -35,7 +34,6 @@ module _ {S : Type 0} (x : Guarded S) (space : Space) (g : Guards x space) where
 module _ {S : Type 0} (x : Guarded S) (space : Space) (g : Guards x space) {moves : Movem → Type 0} where
   pub combining_tells : (operation : ℕ → ℕ → ℕ → Flagged) (size : Size) (source destination : Ea) (word_at : ℕ) (p : Plain)
       → IsFormed source → IsFormed destination → AreLongs p.a → RowTells x space p moves (combine_of operation size source destination word_at space p)
-  unfolding combine_of
   combining_tells operation size source destination word_at p comes goes longs =
       row_reading x space (pair_tells x space g size source destination word_at p comes goes longs) (λ pair found.
       let to = pair.destination in
@@ -44,7 +42,6 @@ module _ {S : Type 0} (x : Guarded S) (space : Space) (g : Guards x space) {move
 
   pub comparing_tells : (size : Size) (source destination : Ea) (word_at : ℕ) (p : Plain) → IsFormed source → IsFormed destination → AreLongs p.a
       → RowTells x space p moves (compare_pair_of size source destination word_at space p)
-  unfolding compare_pair_of
   comparing_tells size source destination word_at p comes goes longs =
       row_reading x space (pair_tells x space g size source destination word_at p comes goes longs) (λ pair found. row_done x space _)
 
@@ -78,12 +75,10 @@ module _ {S : Type 0} (x : Guarded S) (space : Space) (g : Guards x space) {move
 
   pub taking_tells : (effect : ℕ → Plain → Rowed) (size : Size) (ea : Ea) (word_at : ℕ) (p : Plain) → IsFormed ea → AreLongs p.a
       → RowTells x space p moves (take_of effect size ea word_at space p)
-  unfolding take_of
   taking_tells effect size ea word_at p is longs =
       row_reading x space (fetched_tells x space g size ea word_at p is longs) (λ operand read. row_ends x space (effect operand.value operand.plain))
 
   pub clr_tells : (size : Size) (ea : Ea) (word_at : ℕ) (p : Plain) → IsFormed ea → AreLongs p.a → RowTells x space p moves (clr_of size ea word_at space p)
-  unfolding clr_of
   clr_tells size ea word_at p is longs =
       row_reading x space (resolve_tells x space g ea size word_at p is longs) (λ to found.
       storing_tells x space g to.target size 0 (move_flags size 0 to.plain) found.0)

@@ -24,7 +24,6 @@ use Rattle.mb_tells.proofs.Operands.{reading_tells, address_tells, writing_tells
 
 module _ {S : Type 0} (x : Guarded S) (space : Space) (g : Guards x space) {moves : Movem → Type 0} where
   in_memory_tells : (kind : FieldKind) (word address : ℕ) (p : Plain) → RowTells x space p moves (field_in_memory_of kind word address space p)
-  unfolding field_in_memory_of
   in_memory_tells kind word address p =
       let offset = field_offset_of word p in
       let width = field_width_of word p in
@@ -41,7 +40,6 @@ module _ {S : Type 0} (x : Guarded S) (space : Space) (g : Guards x space) {move
 
   pub field_row_tells : (kind : FieldKind) (ea : Ea) (word word_at : ℕ) (p : Plain) → IsFormed ea → AreLongs p.a
       → RowTells x space p moves (bit_field_of kind ea word word_at space p)
-  unfolding bit_field_of
   field_row_tells kind (Dn n) word word_at p is longs = row_done x space _
   field_row_tells kind ea word word_at p is longs =
       row_reading x space (address_tells x space g Long ea word_at p is longs) (λ address found. in_memory_tells kind word address p)

@@ -17,7 +17,6 @@ use Rattle.mb_tells.proofs.Modifying.{modifying_tells}
 module _ {S : Type 0} (x : Guarded S) (space : Space) (g : Guards x space) {moves : Movem → Type 0} where
   pub bit_row_tells : (kind : BitKind) (number : ℕ) (ea : Ea) (word_at : ℕ) (p : Plain) → IsFormed ea → AreLongs p.a
       → RowTells x space p moves (bit_row_of kind number ea word_at space p)
-  unfolding bit_row_of
   bit_row_tells bit.Test number ea word_at p is longs =
       row_reading x space (fetched_tells x space g (bit_size ea) ea word_at p is longs) (λ operand read. row_done x space _)
   bit_row_tells kind number ea word_at p is longs =

@@ -18,7 +18,6 @@ use Rattle.mb_tells.proofs.Operands.{reading_tells, fetched_tells, address_tells
 module _ {S : Type 0} (x : Guarded S) (space : Space) (g : Guards x space) where
   bounds_tells : (size : Size) (ea : Ea) (w word_at : ℕ) (p : Plain) → IsFormed ea → AreLongs p.a
       → Reads x (λ ccr. Unit {0}) (compare_bounds_of size ea w word_at space p)
-  unfolding compare_bounds_of
   bounds_tells size ea w word_at p is longs =
       reads_then x space (address_tells x space g size ea word_at p is longs) (λ place found.
       reads_then x space (reading_tells x space g place (bytes_of size) found) (λ lower read.
@@ -28,16 +27,13 @@ module _ {S : Type 0} (x : Guarded S) (space : Space) (g : Guards x space) where
 module _ {S : Type 0} (x : Guarded S) (space : Space) (g : Guards x space) {moves : Movem → Type 0} where
   pub chk_tells : (n : ℕ) (size : Size) (ea : Ea) (word_at : ℕ) (p : Plain) → IsFormed ea → AreLongs p.a
       → RowTells x space p moves (chk_of n size ea word_at space p)
-  unfolding chk_of
   chk_tells n size ea word_at p is longs =
       row_reading x space (fetched_tells x space g size ea word_at p is longs) (λ bound read. row_ends x space _)
 
   pub cmp2_tells : (size : Size) (ea : Ea) (w word_at : ℕ) (p : Plain) → IsFormed ea → AreLongs p.a
       → RowTells x space p moves (cmp2_of size ea w word_at space p)
-  unfolding cmp2_of
   cmp2_tells size ea w word_at p is longs = row_reading x space (bounds_tells x space g size ea w word_at p is longs) (λ ccr read. row_done x space _)
 
   pub chk2_tells : (size : Size) (ea : Ea) (w word_at : ℕ) (p : Plain) → IsFormed ea → AreLongs p.a
       → RowTells x space p moves (chk2_of size ea w word_at space p)
-  unfolding chk2_of
   chk2_tells size ea w word_at p is longs = row_reading x space (bounds_tells x space g size ea w word_at p is longs) (λ ccr read. row_ends x space _)

@@ -20,7 +20,6 @@ paired_formed false n = tt
 module _ {S : Type 0} (x : Guarded S) (space : Space) (g : Guards x space) {moves : Movem → Type 0} where
   pub decimal_tells : (operation : ℕ → ℕ → ℕ → Flagged) (to : ℕ) (in_memory : Bool) (from word_at : ℕ) (p : Plain) → AreLongs p.a
       → RowTells x space p moves (decimal_of operation to in_memory from word_at space p)
-  unfolding decimal_of
   decimal_tells operation to in_memory from word_at p longs =
       row_reading x space (fetched_tells x space g Byte (paired in_memory from) word_at p (paired_formed in_memory from) longs) (λ source read.
       row_reading x space (fetched_tells x space g Byte (paired in_memory to) word_at source.plain (paired_formed in_memory to) read.1)
@@ -30,7 +29,6 @@ module _ {S : Type 0} (x : Guarded S) (space : Space) (g : Guards x space) {move
 
   pub digits_tells : (operation : ℕ → ℕ → ℕ) (read written : Size) (to : ℕ) (in_memory : Bool) (from adjust word_at : ℕ) (p : Plain) → AreLongs p.a
       → RowTells x space p moves (repack_of operation read written to in_memory from adjust word_at space p)
-  unfolding repack_of
   digits_tells operation read written to in_memory from adjust word_at p longs =
       row_reading x space (fetched_tells x space g read (paired in_memory from) word_at p (paired_formed in_memory from) longs) (λ source comes.
       row_reading x space (resolve_tells x space g (paired in_memory to) written word_at source.plain (paired_formed in_memory to) comes.1)

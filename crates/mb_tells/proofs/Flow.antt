@@ -20,21 +20,17 @@ use Rattle.mb_tells.proofs.Operands.{address_tells, pushing_tells}
 
 module _ {S : Type 0} (x : Guarded S) (space : Space) (g : Guards x space) {moves : Movem → Type 0} where
   call_tells : (target : ℕ) (p : Plain) → AreLongs p.a → RowTells x space p moves (call_of target space p)
-  unfolding call_of
   call_tells target p longs =
       let after = record (stack_lowered p) { pc = target } in
       pushing_tells x space g p.pc (address_register after 7) (record { flow = true; plain = after }) (lowered_long p longs)
 
   pub branch_tells : (c : Condition) (d : Branch) (word_at : ℕ) (p : Plain) → AreLongs p.a → RowTells x space p moves (branch_of c d word_at space p)
-  unfolding branch_of
   branch_tells c d word_at p longs =
       tells_choose (is_call c) _ _ (λ e. call_tells (target_of word_at d) p longs) (λ e. row_ends x space (go_if_met_of c (target_of word_at d) p))
 
   pub jmp_tells : (ea : Ea) (word_at : ℕ) (p : Plain) → IsFormed ea → AreLongs p.a → RowTells x space p moves (jmp_of ea word_at space p)
-  unfolding jmp_of
   jmp_tells ea word_at p is longs = row_reading x space (address_tells x space g Long ea word_at p is longs) (λ target found. row_done x space _)
 
   pub jsr_tells : (ea : Ea) (word_at : ℕ) (p : Plain) → IsFormed ea → AreLongs p.a → RowTells x space p moves (jsr_of ea word_at space p)
-  unfolding jsr_of
   jsr_tells ea word_at p is longs =
       row_reading x space (address_tells x space g Long ea word_at p is longs) (λ target found. call_tells target p longs)

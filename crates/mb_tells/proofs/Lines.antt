@@ -66,21 +66,18 @@ module _ {S : Type 0} (x : Guarded S) (space : Space) (g : Guards x space) where
 
   moved_tells : {moves : Movem → Type 0} (from to : ℕ) (before after : Plain) → from < 2 ^ 32 → to < 2 ^ 32
       → RowTells x space before moves (move_line_of from to space after)
-  unfolding move_line_of
   moved_tells from to before after comes goes =
       row_reading x space (line_read_tells (line_address from) (line_address from) (line_is from comes)) (λ line four.
       line_written_tells (line_address to) line (record { flow = false; plain = after }) (line_is to goes) four)
 
   pub move16_absolute_tells : {moves : Movem → Type 0} (kind : LineMove) (n place : ℕ) (p : Plain) → place < 2 ^ 32 → AreLongs p.a
       → RowTells x space p moves (move16_absolute_of kind n place space p)
-  unfolding move16_absolute_of
   move16_absolute_tells line_move.PostToAbsolute n place p lt longs = moved_tells (address_register p n) place p (past_line n p) (address_long p n longs) lt
   move16_absolute_tells line_move.AbsoluteToPost n place p lt longs = moved_tells place (address_register p n) p (past_line n p) lt (address_long p n longs)
   move16_absolute_tells line_move.IndirectToAbsolute n place p lt longs = moved_tells (address_register p n) place p p (address_long p n longs) lt
   move16_absolute_tells line_move.AbsoluteToIndirect n place p lt longs = moved_tells place (address_register p n) p p lt (address_long p n longs)
 
   pub move16_tells : {moves : Movem → Type 0} (m word : ℕ) (p : Plain) → AreLongs p.a → RowTells x space p moves (move16_post_of m word space p)
-  unfolding move16_post_of
   move16_tells m word p longs =
       let n = (line_word word).destination in
       moved_tells (address_register p m) (address_register p n) p (past_lines m n p) (address_long p m longs) (address_long p n longs)

@@ -67,7 +67,7 @@ module _ {S : Type 0} (x : Guarded S) (space : Space) (g : Guards x space) where
       (λ is. probes_tell ps (places ++ place ∷ []) are.1 (one_more x places place may is)))
 
   probe_tells : (at len : ℕ) → at < 2 ^ 32 → Reads x (AreOpen x) (probe_operand_of space at len)
-  unfolding probe_operand_of AreOpen
+  unfolding AreOpen
   probe_tells at len h =
       tells_failing (refused_in at) (probe_pieces_of space (split_of at len) []) (probes_tell (split_of at len) [] (split_placed at len h) tt)
 
@@ -88,25 +88,21 @@ module _ {S : Type 0} (x : Guarded S) (space : Space) (g : Guards x space) where
       (λ done. puts_end ps (before_end - p.len) value h.1)
 
   get_calm : (ps : List Place) → AreOpen x ps → Calm x (sure (get_operand_of ps))
-  unfolding get_operand_of
   get_calm ps h = calm_sure x space (gets_end ps 0 h)
 
   put_calm : (ps : List Place) (len value : ℕ) → AreOpen x ps → Calm x (sure (put_operand_of ps len value))
-  unfolding put_operand_of
   put_calm ps len value h = calm_sure x space (puts_end ps len value h)
 
 module _ {S : Type 0} (x : Guarded S) (space : Space) (g : Guards x space) {moves : Movem → Type 0} where
   -- ---- rows
 
   tas_in_memory_tells : (address : ℕ) (before p : Plain) → address < 2 ^ 32 → RowTells x space before moves (tas_in_memory address space p)
-  unfolding tas_in_memory
   tas_in_memory_tells address before p lt =
       row_reading x space (probe_tells x space g address 1 lt) (λ places may. row_tail x space (
       tail_then x space (get_calm x space g places may) (λ value.
       tail_then x space (put_calm x space g places 1 (test_and_set_of value p.ccr).value may) (λ done. tail_done x space _))))
 
   pub tas_tells : (ea : Ea) (word_at : ℕ) (p : Plain) → IsFormed ea → AreLongs p.a → RowTells x space p moves (tas_of ea word_at space p)
-  unfolding tas_of
   tas_tells (Dn n) word_at p is longs = modifying_tells x space g test_and_set_of Byte (Dn n) word_at p tt longs
   tas_tells ea word_at p is longs =
       row_reading x space (resolve_tells x space g ea Byte word_at p is longs)
@@ -114,7 +110,6 @@ module _ {S : Type 0} (x : Guarded S) (space : Space) (g : Guards x space) {move
 
   cas_at_tells : (size : Size) (word address : ℕ) (before p : Plain) → address < 2 ^ 32
       → RowTells x space before moves (cas_at size word address space p)
-  unfolding cas_at
   cas_at_tells size word address before p lt =
       row_reading x space (probe_tells x space g address (bytes_of size) lt) (λ places may. row_tail x space (
       tail_then x space (get_calm x space g places may) (λ value.
@@ -124,13 +119,11 @@ module _ {S : Type 0} (x : Guarded S) (space : Space) (g : Guards x space) {move
 
   pub cas_tells : (size : Size) (ea : Ea) (word word_at : ℕ) (p : Plain) → IsFormed ea → AreLongs p.a
       → RowTells x space p moves (cas_of size ea word word_at space p)
-  unfolding cas_of
   cas_tells size ea word word_at p is longs =
       row_reading x space (resolve_tells x space g ea size word_at p is longs)
       (λ to found. cas_at_tells size word (place_of to.target) p to.plain (place_long to.target found.0))
 
   pub cas2_tells : (size : Size) (first second : ℕ) (p : Plain) → AreLongs p.d → AreLongs p.a → RowTells x space p moves (cas2_of size first second space p)
-  unfolding cas2_of
   cas2_tells size first second p words longs =
       let len = bytes_of size in
       row_reading x space

@@ -74,5 +74,4 @@ later_addresses (suc n) [] h = tt
 later_addresses (suc n) (t ∷ ts) h = later_addresses n ts h.1
 
 pub transfer_addresses : (m : Movem) (ea done : ℕ) → ea < 2 ^ 32 → HaveAddresses (drop done (transfers_of m ea))
-unfolding transfers_of
 transfer_addresses m ea done h = later_addresses done _ (placed_addresses _ ea _ h)

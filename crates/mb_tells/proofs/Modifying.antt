@@ -16,7 +16,6 @@ use Rattle.mb_tells.proofs.Operands.{fetched_tells, storing_tells}
 module _ {S : Type 0} (x : Guarded S) (space : Space) (g : Guards x space) {moves : Movem → Type 0} where
   pub modifying_tells : (change : ℕ → ℕ → Flagged) (size : Size) (ea : Ea) (word_at : ℕ) (p : Plain) → IsFormed ea → AreLongs p.a
       → RowTells x space p moves (modify_of change size ea word_at space p)
-  unfolding modify_of
   modifying_tells change size ea word_at p is longs =
       row_reading x space (fetched_tells x space g size ea word_at p is longs) (λ operand read.
       let result = change operand.value operand.plain.ccr in

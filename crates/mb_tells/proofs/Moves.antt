@@ -19,34 +19,28 @@ use Rattle.mb_tells.proofs.Operands.{resolve_tells, fetched_tells, address_tells
 module _ {S : Type 0} (x : Guarded S) (space : Space) (g : Guards x space) {moves : Movem → Type 0} where
   pub move_tells : (size : Size) (destination source : Ea) (word_at : ℕ) (p : Plain) → IsFormed destination → IsFormed source → AreLongs p.a
       → RowTells x space p moves (move_operand_of size destination source word_at space p)
-  unfolding move_operand_of
   move_tells size destination source word_at p goes comes longs =
       row_reading x space (fetched_tells x space g size source word_at p comes longs) (λ from read.
       row_reading x space (resolve_tells x space g destination size (behind_of size source word_at) from.plain goes read.1) (λ to found.
       storing_tells x space g to.target size from.value (move_flags size from.value to.plain) found.0))
 
   pub to_ccr_tells : (ea : Ea) (word_at : ℕ) (p : Plain) → IsFormed ea → AreLongs p.a → RowTells x space p moves (move_to_ccr_of ea word_at space p)
-  unfolding move_to_ccr_of
   to_ccr_tells ea word_at p is longs = row_reading x space (fetched_tells x space g Word ea word_at p is longs) (λ operand read. row_done x space _)
 
   pub movea_tells : (size : Size) (n : ℕ) (source : Ea) (word_at : ℕ) (p : Plain) → IsFormed source → AreLongs p.a
       → RowTells x space p moves (movea_of size n source word_at space p)
-  unfolding movea_of
   movea_tells size n source word_at p is longs =
       row_reading x space (fetched_tells x space g size source word_at p is longs) (λ from read. row_done x space _)
 
   pub lea_tells : (n : ℕ) (ea : Ea) (word_at : ℕ) (p : Plain) → IsFormed ea → AreLongs p.a → RowTells x space p moves (lea_of n ea word_at space p)
-  unfolding lea_of
   lea_tells n ea word_at p is longs = row_reading x space (address_tells x space g Long ea word_at p is longs) (λ place found. row_done x space _)
 
   pub from_ccr_tells : (ea : Ea) (word_at : ℕ) (p : Plain) → IsFormed ea → AreLongs p.a → RowTells x space p moves (move_from_ccr_of ea word_at space p)
-  unfolding move_from_ccr_of
   from_ccr_tells ea word_at p is longs =
       row_reading x space (resolve_tells x space g ea Word word_at p is longs) (λ to found.
       storing_tells x space g to.target Word (p.ccr % 2 ^ 5) to.plain found.0)
 
   pub scc_tells : (c : Condition) (ea : Ea) (word_at : ℕ) (p : Plain) → IsFormed ea → AreLongs p.a → RowTells x space p moves (scc_of c ea word_at space p)
-  unfolding scc_of
   scc_tells c ea word_at p is longs =
       row_reading x space (resolve_tells x space g ea Byte word_at p is longs) (λ to found.
       storing_tells x space g to.target Byte (condition_byte (is_met c p.ccr)) to.plain found.0)

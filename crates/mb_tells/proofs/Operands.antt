@@ -63,7 +63,6 @@ module _ {S : Type 0} (x : Guarded S) (space : Space) (g : Guards x space) where
   indirect_tells at outer h = reads_then x space (reading_tells at 4 h) (λ long is. reads_none x space (sum long outer) (sum_long long outer))
 
   full_tells : (base w bd od : ℕ) (p : Plain) → Reads x IsAddress (full_of w (parts_of base w bd od p) space)
-  unfolding full_of
   full_tells base w bd od p =
       let parts = parts_of base w bd od p in
       let at = sum parts.base parts.displacement in
@@ -73,7 +72,6 @@ module _ {S : Type 0} (x : Guarded S) (space : Space) (g : Guards x space) where
       (λ f. indirect_tells at (sum parts.index parts.outer) (sum_long parts.base parts.displacement)))
 
   indexed_tells : (base : ℕ) (e : Ext) (p : Plain) → Reads x IsAddress (indexed_of base e space p)
-  unfolding indexed_of
   indexed_tells base (Brief w) p = reads_none x space _ (sum_long _ _)
   indexed_tells base (Full w bd od) p = full_tells base w bd od p
 
@@ -103,21 +101,18 @@ module _ {S : Type 0} (x : Guarded S) (space : Space) (g : Guards x space) where
   -- ---- operands that are read
 
   pub load_tells : (target : Target) (size : Size) (p : Plain) → IsReached target → Reads x (λ v. Unit {0}) (load_of target size space p)
-  unfolding load_of
   load_tells (Reg n) size p h = reads_none x space _ tt
   load_tells (Memory at) size p h = reading_tells at (bytes_of size) h
   load_tells (Value v) size p h = reads_none x space _ tt
 
   pub fetched_tells : (size : Size) (ea : Ea) (word_at : ℕ) (p : Plain) → IsFormed ea → AreLongs p.a
       → Reads x IsFetched (fetch_operand_of size ea word_at space p)
-  unfolding fetch_operand_of
   fetched_tells size ea word_at p is longs =
       reads_then x space (resolve_tells ea size word_at p is longs) (λ resolved h.
       reads_then x space (load_tells resolved.target size resolved.plain h.0) (λ value u. reads_none x space _ h))
 
   pub address_tells : (size : Size) (ea : Ea) (word_at : ℕ) (p : Plain) → IsFormed ea → AreLongs p.a
       → Reads x IsAddress (find_address_of size ea word_at space p)
-  unfolding find_address_of
   address_tells size ea word_at p is longs =
       reads_then x space (resolve_tells ea size word_at p is longs) (λ resolved h. reads_none x space _ (place_long resolved.target h.0))
 
@@ -128,7 +123,6 @@ module _ {S : Type 0} (x : Guarded S) (space : Space) (g : Guards x space) where
       (λ rest t e told. (told.0, told.2 ∙ then_nothing (tree_of (write_pieces_of space e.first e.rest.items)), told.4)) (λ a t q. q)
 
   pub store_tells : (target : Target) (size : Size) (value : ℕ) (p : Plain) → IsReached target → Writes x space p (store_of target size value space p)
-  unfolding store_of
   store_tells (Reg n) size value p h = tells_ok _ (λ s q. q)
   store_tells (Memory at) size value p h =
       tells_bind (write_operand_of space at (bytes_of size) value) (λ done. Return (Ok p))
@@ -142,14 +136,12 @@ module _ {S : Type 0} (x : Guarded S) (space : Space) (g : Guards x space) where
 
   pub storing_tells : {p : Plain} {moves : Movem → Type 0} (target : Target) (size : Size) (value : ℕ) (after : Plain) → IsReached target
       → RowTells x space p moves (finish_with_of target size value space after)
-  unfolding finish_with_of
   storing_tells target size value after h =
       row_writing x space after (λ done. record { flow = false; plain = done }) (store_tells target size value after h)
 
   -- a long is pushed, and the instruction is carried out
   pub pushing_tells : {p : Plain} {moves : Movem → Type 0} (value top : ℕ) (done : Carried) → top < 2 ^ 32
       → RowTells x space p moves (push_of value top space done.plain >> Return (Ok done))
-  unfolding push_of
   pushing_tells value top done h = row_writing x space tt (λ pushed. done) (writing_tells top 4 value h)
 
   -- ---- pieces that are no operand's

@@ -49,7 +49,6 @@ BytesLeft x space rest t e = Answered x rest t e.fault
 
 module _ {S : Type 0} (x : Guarded S) (space : Space) (g : Guards x space) where
   read_apart_tells : (at : ℕ) (size : Size) → at < 2 ^ 32 → Reads x (λ v. Unit {0}) (read_apart_of space at size)
-  unfolding read_apart_of
   read_apart_tells at size h =
       tells_failing (refused_in at) (read_pieces_of space (apart at (bytes_of size)) 0)
       (tells_weaker _ (pieces_tell x space g (apart at (bytes_of size)) 0 (apart_placed at (bytes_of size) h)) (λ s q. q)
@@ -65,7 +64,7 @@ module _ {S : Type 0} (x : Guarded S) (space : Space) (g : Guards x space) where
 
   put_apart_tells : (at : ℕ) (size : Size) (value : ℕ) → at < 2 ^ 32
       → Telling x (quiet x) (write_apart_of space at size value) (BytesLeft x space) (λ done s. x.serving s)
-  unfolding write_apart_of BytesLeft
+  unfolding BytesLeft
   put_apart_tells at Byte value h = tells_weaker _ (bytes_tell at 1 value at h (omega arith)) (λ s q. q.0) (λ rest t e told. told) (λ a t q. q)
   put_apart_tells at Word value h = tells_weaker _ (bytes_tell at 2 value at h (omega arith)) (λ s q. q.0) (λ rest t e told. told) (λ a t q. q)
   put_apart_tells at Long value h =
@@ -98,12 +97,11 @@ module _ {S : Type 0} (x : Guarded S) (space : Space) (g : Guards x space) where
 
 module _ {S : Type 0} (x : Guarded S) (space : Space) (g : Guards x space) {moves : Movem → Type 0} where
   load_tells : (n : ℕ) (size : Size) (place : ℕ) (p : Plain) → place < 2 ^ 32 → RowTells x space p moves (load_peripheral_of n size place space p)
-  unfolding load_peripheral_of
   load_tells n size place p h =
       row_reading x space (read_apart_tells x space g place size h) (λ value read. storing_tells x space g (Reg n) size value p tt)
 
   store_tells : (n : ℕ) (size : Size) (place : ℕ) (p : Plain) → place < 2 ^ 32 → RowTells x space p moves (store_peripheral_of n size place space p)
-  unfolding store_peripheral_of BytesLeft
+  unfolding BytesLeft
   store_tells n size place p h =
       let m = write_apart_of space place size (data_register p n) in
       tells_bind (writing p m) (λ done. Return (carried p))
@@ -114,7 +112,6 @@ module _ {S : Type 0} (x : Guarded S) (space : Space) (g : Guards x space) {move
 
   pub movep_tells : (n : ℕ) (is_store : Bool) (size : Size) (address displacement : ℕ) (p : Plain)
       → RowTells x space p moves (movep_of n is_store size address displacement space p)
-  unfolding movep_of
   movep_tells n is_store size address displacement p =
       let place = sum (address_register p address) (sign_extended Word displacement) in
       let lt = sum_long (address_register p address) (sign_extended Word displacement) in

@@ -75,7 +75,6 @@ pieces_tell {S} x space g (p ∷ ps) value are =
 
 cut_tells : {S : Type 0} (x : Guarded S) (space : Space) (g : Guards x space) (at len : ℕ) → at < 2 ^ 32
     → let m = read_cut_of space at len in Telling x (quiet x) m (PartLeft x (λ fault. fault) m) (λ v s. quiet x s)
-unfolding read_cut_of
 cut_tells x space g at len h = pieces_tell x space g (split_of at len) 0 (split_placed at len h)
 
 -- an operand that is read

@@ -15,17 +15,14 @@ use Rattle.mb_tells.proofs.Operands.{reading_tells}
 
 module _ {S : Type 0} (x : Guarded S) (space : Space) (g : Guards x space) {moves : Movem → Type 0} where
   pub rts_tells : (p : Plain) → AreLongs p.a → RowTells x space p moves (rts_of space p)
-  unfolding rts_of
   rts_tells p longs =
       row_reading x space (reading_tells x space g (address_register p 7) (bytes_of Long) (address_long p 7 longs)) (λ target read. row_done x space _)
 
   pub rtd_tells : (d : ℕ) (p : Plain) → AreLongs p.a → RowTells x space p moves (rtd_of d space p)
-  unfolding rtd_of
   rtd_tells d p longs =
       row_reading x space (reading_tells x space g (address_register p 7) (bytes_of Long) (address_long p 7 longs)) (λ target read. row_done x space _)
 
   pub rtr_tells : (p : Plain) → AreLongs p.a → RowTells x space p moves (rtr_of space p)
-  unfolding rtr_of
   rtr_tells p longs =
       let above = address_long (stack_raised_by_word p) 7 (with_long p 7 _ longs (sum_long (address_register p 7) 2)) in
       row_reading x space (reading_tells x space g (address_register p 7) (bytes_of Word) (address_long p 7 longs)) (λ codes read.

@@ -17,19 +17,16 @@ use Rattle.mb_tells.proofs.Operands.{address_tells, reading_tells, pushing_tells
 
 module _ {S : Type 0} (x : Guarded S) (space : Space) (g : Guards x space) {moves : Movem → Type 0} where
   pub pea_tells : (ea : Ea) (word_at : ℕ) (p : Plain) → IsFormed ea → AreLongs p.a → RowTells x space p moves (pea_of ea word_at space p)
-  unfolding pea_of
   pea_tells ea word_at p is longs =
       let after = stack_lowered p in
       row_reading x space (address_tells x space g Long ea word_at p is longs) (λ place found.
       pushing_tells x space g place (address_register after 7) (record { flow = false; plain = after }) (lowered_long p longs))
 
   pub link_tells : (n displacement : ℕ) (p : Plain) → AreLongs p.a → RowTells x space p moves (link_of n displacement space p)
-  unfolding link_of
   link_tells n displacement p longs =
       let low = stack_lowered p in
       pushing_tells x space g (address_register low n) (address_register low 7) (record { flow = false; plain = linked n displacement low })
       (lowered_long p longs)
 
   pub unlk_tells : (n : ℕ) (p : Plain) → AreLongs p.a → RowTells x space p moves (unlk_of n space p)
-  unfolding unlk_of
   unlk_tells n p longs = row_reading x space (reading_tells x space g (address_register p n) 4 (address_long p n longs)) (λ frame read. row_done x space _)

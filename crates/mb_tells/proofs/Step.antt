@@ -68,7 +68,7 @@ use Rattle.mb_fields.specs.Packing.{pack_of, unpk_of}
 use Rattle.mb_meaning.specs.Decimals.{negate_decimal_of}
 
 -- an end of a part that fetches, at a refused call
-unfoldable pub FoundLeft : {S A : Type 0} → Guarded S → Fact S A Unfound
+abbrev pub FoundLeft : {S A : Type 0} → Guarded S → Fact S A Unfound
 FoundLeft x rest t (Unfetched refused) = Answered x rest t refused.fault × x.unwritten t
 FoundLeft x rest t (NoInstruction vector) = ⊥
 
@@ -202,7 +202,6 @@ module _ {S : Type 0} (x : Guarded S) (space : Space) (g : Guards x space) where
 
   perform_flow_tells : (i : Flow) (word_at : ℕ) (p : Plain) → IsInstr (instr.Flow i) → AreLongs p.a
       → RowTells x space p (λ m. ⊥) (perform_flow_of i word_at space p)
-  unfolding perform_flow_of
   perform_flow_tells flow.Nop word_at p is longs = row_done x space _
   perform_flow_tells (flow.Bcc condition displacement) word_at p is longs = branch_tells x space g condition displacement word_at p longs
   perform_flow_tells (flow.Dbcc condition register displacement) word_at p is longs = row_ends x space _
@@ -219,27 +218,24 @@ module _ {S : Type 0} (x : Guarded S) (space : Space) (g : Guards x space) where
       chk2_tells x space g size ea word word_at p (formed_behind_word size ea word is.are_words) longs
 
   row_tells : (i : Instr) (at : ℕ) (p : Plain) → IsInstr i → HasLongs p → RowTells x space p (moves i) (row_of i at space p)
-  unfolding row_of
   row_tells (instr.Move i) at p is longs = perform_move_tells i (operands_at (move_row i) at) p is longs.1
   row_tells (instr.Arith i) at p is longs = perform_arith_tells i (operands_at (arith_row i) at) p is longs.0 longs.1
   row_tells (instr.Flow i) at p is longs = perform_flow_tells i (operands_at (flow_row i) at) p is longs.1
   row_tells (instr.System i) at p is longs = tells_err _
 
   pub perform_tells : (i : Instr) (at : ℕ) (p : Plain) → IsInstr i → HasLongs p → Row x space p (moves i) (perform_of i at space p)
-  unfolding perform_of
   perform_tells i at p is longs = tells_failing (restored p) (row_of i at space p) (row_tells i at p is longs)
 
-  unfoldable pub Founds : Routine FoundInstr → Type 0
+  abbrev pub Founds : Routine FoundInstr → Type 0
   Founds m = Telling x (quiet x) m (FoundLeft x) (λ found s. quiet x s × IsInstr found.0)
 
   judged_tells : (d : Decoded) (m : Routine FoundInstr) → IfWhole d (λ i n. IsInstr i) → Founds m → Founds (by_decoded d m)
-  unfolding Founds
   judged_tells decoded.More m is h = h
   judged_tells (decoded.Whole i n) m is h = tells_ok _ (λ s q. (q, is))
   judged_tells _ m is h = tells_err _
 
   found_tells : (n at : ℕ) (words : List ℕ) → AreWords words → at % 2 ≡ 0 → at < 2 ^ 32 → Founds (found_of n space at words)
-  unfolding found_of Founds FoundLeft
+  unfolding found_of
   found_tells zero at words are even lt = tells_err _
   found_tells (suc n) at words are even lt =
       tells_bind {mid = λ word s. quiet x s × (word < 2 ^ 16)} (failing (λ fault. Unfetched (refused_in at fault)) (fetch space at))
@@ -259,7 +255,6 @@ module _ {S : Type 0} (x : Guarded S) (space : Space) (g : Guards x space) where
   -- no instruction was found, and none of the registers changed
   none_found : (p : Plain) (n : Movem → Type 0) (rest : Routine FoundInstr) (f : Instr × ℕ → Routine Performed) (g : Unfound → Routine Performed)
       (t : S) (e : Unfound) → FoundLeft x rest t e → LeftBy x space p n (Then rest (λ r. either r g f)) t (end_without e) p
-  unfolding FoundLeft
   none_found p n rest f g t (Unfetched refused) told = (told.0, (told.1, refl))
   none_found p n rest f g t (NoInstruction vector) told = absurd told
 
@@ -267,13 +262,11 @@ module _ {S : Type 0} (x : Guarded S) (space : Space) (g : Guards x space) where
   is_even n h = grind (arith, nat_tests)
 
   pub fetched_tells : (pc : ℕ) → pc < 2 ^ 32 → Founds (fetched_of space pc)
-  unfolding fetched_of Founds
   fetched_tells pc lt =
       tells_choose (pc % 2 == 1) _ _ (λ odd. tells_err _) (λ even. found_tells MOST_WORDS pc [] AreWords-nil (is_even pc even) lt)
 
   pub attempt_tells : (p : Plain) (s : S) → HasLongs p → p.pc < 2 ^ 32
       → Attempt x space p s (moves_fetched x.bus space p.pc s) (attempt_of space p)
-  unfolding attempt_of Founds
   attempt_tells p s longs lt =
       let these : Movem → Type 0 = moves_fetched x.bus space p.pc s in
       tells_caught (fetched_of space p.pc) (λ unfound. record { ended = end_without unfound; plain = p })

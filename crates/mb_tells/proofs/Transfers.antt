@@ -82,7 +82,7 @@ module _ {S : Type 0} (x : Guarded S) (space : Space) (g : Guards x space) where
   load_tells : (size : Size) (ea : Ea) (mask place done : ℕ) (p : Plain) → place < 2 ^ 32
       → let m = movem_by true size ea mask in
       Telling x (quiet x) (transfer_of m place done space p) (TransferLeft x space m) (λ moved s. x.serving s)
-  unfolding transfer_of TransferLeft LoadsLeft
+  unfolding TransferLeft LoadsLeft
   load_tells size ea mask place done p h =
       let m = movem_by true size ea mask in
       let ts = transfers_of m place in
@@ -102,7 +102,7 @@ module _ {S : Type 0} (x : Guarded S) (space : Space) (g : Guards x space) where
   store_tells : (size : Size) (ea : Ea) (mask place done : ℕ) (p : Plain) → place < 2 ^ 32
       → let m = movem_by false size ea mask in
       Telling x (quiet x) (transfer_of m place done space p) (TransferLeft x space m) (λ moved s. x.serving s)
-  unfolding transfer_of TransferLeft StoresLeft
+  unfolding TransferLeft StoresLeft
   store_tells size ea mask place done p h =
       let m = movem_by false size ea mask in
       let ts = transfers_of m place in
@@ -134,7 +134,7 @@ module _ {S : Type 0} (x : Guarded S) (space : Space) (g : Guards x space) where
 
   pub movem_tells : {moves : Movem → Type 0} (is_load : Bool) (size : Size) (ea : Ea) (mask word_at : ℕ) (p : Plain)
       → moves (movem_by is_load size ea mask) → IsFormed ea → AreLongs p.a → RowTells x space p moves (movem_of is_load size ea mask word_at space p)
-  unfolding movem_of TransferLeft
+  unfolding TransferLeft
   movem_tells is_load size ea mask word_at p is in_range longs =
       row_reading x space (address_tells x space g size ea word_at p in_range longs) (λ place found.
       let m = movem_by is_load size ea mask in

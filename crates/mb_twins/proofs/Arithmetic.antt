@@ -23,14 +23,12 @@ use Rattle.mb_twins.proofs.Modifying.{modifying_twins}
 
 pair_twins : (x : Setting) (size : Size) (source destination : Ea) (word_at : ℕ) (p : Plain)
     → Reads x (fetch_pair_of size source destination word_at x.here p) (fetch_pair_of size source destination word_at x.there p)
-unfolding fetch_pair_of
 pair_twins x size source destination word_at p =
     then_twins x (SameRead x) (operand_twins x size source word_at p) (λ from.
     then_twins x (SameRead x) (operand_twins x size destination (behind_of size source word_at) from.plain) (λ to. returned refl))
 
 pub combining_twins : (x : Setting) (operation : ℕ → ℕ → ℕ → Flagged) (size : Size) (source destination : Ea) (word_at : ℕ) (p : Plain)
     → Rows x (combine_of operation size source destination word_at x.here p) (combine_of operation size source destination word_at x.there p)
-unfolding combine_of
 combining_twins x operation size source destination word_at p =
     then_twins x (SameCut x) (reading_twins x (pair_twins x size source destination word_at p)) (λ pair.
     let to = pair.destination in
@@ -39,7 +37,6 @@ combining_twins x operation size source destination word_at p =
 
 pub comparing_twins : (x : Setting) (size : Size) (source destination : Ea) (word_at : ℕ) (p : Plain)
     → Rows x (compare_pair_of size source destination word_at x.here p) (compare_pair_of size source destination word_at x.there p)
-unfolding compare_pair_of
 comparing_twins x size source destination word_at p =
     then_twins x (SameCut x) (reading_twins x (pair_twins x size source destination word_at p)) (λ pair. returned refl)
 
@@ -76,13 +73,11 @@ quick_twins x change moved size ea word_at p = quick_to_twins x (address_number 
 pub taking_twins : (x : Setting) (effect : ℕ → Plain → Rowed) (size : Size) (ea : Ea) (word_at : ℕ) (p : Plain)
     → ((value : ℕ) (q : Plain) → SameRowed x (effect value q) (effect value q))
     → Rows x (take_of effect size ea word_at x.here p) (take_of effect size ea word_at x.there p)
-unfolding take_of
 taking_twins x effect size ea word_at p same =
     then_twins x (SameCut x) (reading_twins x (operand_twins x size ea word_at p)) (λ operand.
     returned (same operand.value operand.plain))
 
 pub clr_twins : (x : Setting) (size : Size) (ea : Ea) (word_at : ℕ) (p : Plain) → Rows x (clr_of size ea word_at x.here p) (clr_of size ea word_at x.there p)
-unfolding clr_of
 clr_twins x size ea word_at p =
     then_twins x (SameCut x) (reading_twins x (resolve_twins x ea size word_at p)) (λ to.
     storing_twins x to.target size 0 (move_flags size 0 to.plain))

@@ -18,7 +18,6 @@ use Rattle.mb_twins.proofs.Operands.{address_twins, read_twins, put_twins}
 
 in_memory_twins : (x : Setting) (kind : FieldKind) (word address : ℕ) (p : Plain)
     → Rows x (field_in_memory_of kind word address x.here p) (field_in_memory_of kind word address x.there p)
-unfolding field_in_memory_of
 in_memory_twins x kind word address p =
     let offset = field_offset_of word p in
     let width = field_width_of word p in
@@ -35,7 +34,6 @@ in_memory_twins x kind word address p =
 
 pub field_row_twins : (x : Setting) (kind : FieldKind) (ea : Ea) (word word_at : ℕ) (p : Plain)
     → Rows x (bit_field_of kind ea word word_at x.here p) (bit_field_of kind ea word word_at x.there p)
-unfolding bit_field_of
 field_row_twins x kind (Dn n) word word_at p = returned refl
 field_row_twins x kind ea word word_at p =
     then_twins x (SameCut x) (reading_twins x (address_twins x Long ea word_at p)) (λ address. in_memory_twins x kind word address p)

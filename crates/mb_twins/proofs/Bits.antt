@@ -13,7 +13,6 @@ use Rattle.mb_twins.proofs.Modifying.{modifying_twins}
 
 pub bit_row_twins : (x : Setting) (kind : BitKind) (number : ℕ) (ea : Ea) (word_at : ℕ) (p : Plain)
     → Rows x (bit_row_of kind number ea word_at x.here p) (bit_row_of kind number ea word_at x.there p)
-unfolding bit_row_of
 bit_row_twins x bit.Test number ea word_at p =
     then_twins x (SameCut x) (reading_twins x (operand_twins x (bit_size ea) ea word_at p)) (λ operand. returned refl)
 bit_row_twins x kind number ea word_at p = modifying_twins x (change_bit_of kind number (bit_size ea)) (bit_size ea) ea word_at p

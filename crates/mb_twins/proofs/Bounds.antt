@@ -19,20 +19,17 @@ use Rattle.mb_twins.proofs.Operands.{read_twins, operand_twins, address_twins}
 use Rattle.mb_twins.proofs.Flow.{either_same}
 
 checked_same : (x : Setting) (size : Size) (bound value : ℕ) (p : Plain) → SameRowed x (check_bound_of size bound value p) (check_bound_of size bound value p)
-unfolding check_bound_of
 checked_same x size bound value p =
     either_same x (is_below size value || is_above size bound value) (ended_otherwise out_of_bounds _) (carried p) ((refl, inr (inl refl)), refl) refl
 
 pub chk_twins : (x : Setting) (n : ℕ) (size : Size) (ea : Ea) (word_at : ℕ) (p : Plain)
     → Rows x (chk_of n size ea word_at x.here p) (chk_of n size ea word_at x.there p)
-unfolding chk_of
 chk_twins x n size ea word_at p =
     then_twins x (SameCut x) (reading_twins x (operand_twins x size ea word_at p)) (λ bound.
     returned (checked_same x size bound.value (data_register bound.plain n) bound.plain))
 
 bounds_twins : (x : Setting) (size : Size) (ea : Ea) (w word_at : ℕ) (p : Plain)
     → Reads x (compare_bounds_of size ea w word_at x.here p) (compare_bounds_of size ea w word_at x.there p)
-unfolding compare_bounds_of
 bounds_twins x size ea w word_at p =
     then_twins x (SameRead x) (address_twins x size ea word_at p) (λ place.
     then_twins x (SameRead x) (read_twins x place (bytes_of size)) (λ lower.
@@ -40,15 +37,12 @@ bounds_twins x size ea w word_at p =
 
 pub cmp2_twins : (x : Setting) (size : Size) (ea : Ea) (w word_at : ℕ) (p : Plain)
     → Rows x (cmp2_of size ea w word_at x.here p) (cmp2_of size ea w word_at x.there p)
-unfolding cmp2_of
 cmp2_twins x size ea w word_at p = then_twins x (SameCut x) (reading_twins x (bounds_twins x size ea w word_at p)) (λ ccr. returned refl)
 
 checked_carry_same : (x : Setting) (p : Plain) → SameRowed x (check_carry_of p) (check_carry_of p)
-unfolding check_carry_of
 checked_carry_same x p = either_same x (conditions_of p.ccr).c (ended_otherwise out_of_bounds p) (carried p) ((refl, inr (inl refl)), refl) refl
 
 pub chk2_twins : (x : Setting) (size : Size) (ea : Ea) (w word_at : ℕ) (p : Plain)
     → Rows x (chk2_of size ea w word_at x.here p) (chk2_of size ea w word_at x.there p)
-unfolding chk2_of
 chk2_twins x size ea w word_at p =
     then_twins x (SameCut x) (reading_twins x (bounds_twins x size ea w word_at p)) (λ ccr. returned (checked_carry_same x (record p { ccr = ccr })))

@@ -11,7 +11,6 @@ use Rattle.mb_twins.proofs.Operands.{resolve_twins, operand_twins, storing_twins
 
 pub decimal_twins : (x : Setting) (operation : ℕ → ℕ → ℕ → Flagged) (to : ℕ) (in_memory : Bool) (from word_at : ℕ) (p : Plain)
     → Rows x (decimal_of operation to in_memory from word_at x.here p) (decimal_of operation to in_memory from word_at x.there p)
-unfolding decimal_of
 decimal_twins x operation to in_memory from word_at p =
     then_twins x (SameCut x) (reading_twins x (operand_twins x Byte (paired in_memory from) word_at p)) (λ source.
     then_twins x (SameCut x) (reading_twins x (operand_twins x Byte (paired in_memory to) word_at source.plain)) (λ destination.
@@ -21,7 +20,6 @@ decimal_twins x operation to in_memory from word_at p =
 pub digits_twins : (x : Setting) (operation : ℕ → ℕ → ℕ) (read written : Size) (to : ℕ) (in_memory : Bool) (from adjust word_at : ℕ) (p : Plain)
     → Rows x (repack_of operation read written to in_memory from adjust word_at x.here p)
     (repack_of operation read written to in_memory from adjust word_at x.there p)
-unfolding repack_of
 digits_twins x operation read written to in_memory from adjust word_at p =
     then_twins x (SameCut x) (reading_twins x (operand_twins x read (paired in_memory from) word_at p)) (λ source.
     then_twins x (SameCut x) (reading_twins x (resolve_twins x (paired in_memory to) written word_at source.plain)) (λ destination.

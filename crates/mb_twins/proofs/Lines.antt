@@ -13,7 +13,6 @@ use Rattle.mb_twins.specs.Twins.{SameRead}
 use Rattle.mb_twins.proofs.Parts.{SameCut, Rows, then_twins, failing_twins, reading_twins}
 
 line_twins : (x : Setting) (from to : ℕ) (after : Plain) → Rows x (move_line_of from to x.here after) (move_line_of from to x.there after)
-unfolding move_line_of
 line_twins x from to after =
     then_twins x (SameCut x)
     (reading_twins x (failing_twins x (SameFault x) (SameRead x) (λ e f h. record { fault = h; first = refl }) (twin_read_line x (line_address from))))
@@ -23,14 +22,12 @@ line_twins x from to after =
 
 pub move16_absolute_twins : (x : Setting) (kind : LineMove) (n place : ℕ) (p : Plain)
     → Rows x (move16_absolute_of kind n place x.here p) (move16_absolute_of kind n place x.there p)
-unfolding move16_absolute_of
 move16_absolute_twins x line.PostToAbsolute n place p = line_twins x (address_register p n) place (past_line n p)
 move16_absolute_twins x line.AbsoluteToPost n place p = line_twins x place (address_register p n) (past_line n p)
 move16_absolute_twins x line.IndirectToAbsolute n place p = line_twins x (address_register p n) place p
 move16_absolute_twins x line.AbsoluteToIndirect n place p = line_twins x place (address_register p n) p
 
 pub move16_twins : (x : Setting) (m word : ℕ) (p : Plain) → Rows x (move16_post_of m word x.here p) (move16_post_of m word x.there p)
-unfolding move16_post_of
 move16_twins x m word p =
     let n = (line_word word).destination in
     line_twins x (address_register p m) (address_register p n) (past_lines m n p)

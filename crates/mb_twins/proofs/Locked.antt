@@ -52,7 +52,6 @@ pieces_twins x (piece ∷ pieces) ps qs e =
 probe_twins : (x : Setting) (at len : ℕ)
     → Twin (between x) (Result (List Place) (Cut OtherEnd)) (Result (List Place) (Cut OtherEnd)) (Results (AreRaised x) (SameCut x))
     (reading (probe_operand_of x.here at len)) (reading (probe_operand_of x.there at len))
-unfolding probe_operand_of
 probe_twins x at len =
     twins_failing (between x) (AreRaised x) (SameRead x) (SameCut x) _ _ _ _ (λ e f h. h)
     (twins_failing (between x) (AreRaised x) (SameFault x) (SameRead x) _ _ _ _ (λ e f h. record { fault = h; first = refl })
@@ -74,13 +73,11 @@ sure_twins : {A : Type 0} (x : Setting) {m n : Routine A} → Twin (between x) A
 sure_twins x w = twins_then_same (between x) (Results Equal (SameCut x)) _ _ _ _ w (λ a. returned refl)
 
 get_twins : (x : Setting) (ps qs : List Place) → AreRaised x ps qs → Stages x (sure (get_operand_of ps)) (sure (get_operand_of qs))
-unfolding get_operand_of
 get_twins x ps qs e =
     sure_twins x (subst (λ (l : List Place). Twin (between x) ℕ ℕ Equal (get_places_of l 0) (get_places_of qs 0)) (sym e) (places_twins x qs 0))
 
 put_twins : (x : Setting) (ps qs : List Place) (len value : ℕ) → AreRaised x ps qs
     → Stages x (sure (put_operand_of ps len value)) (sure (put_operand_of qs len value))
-unfolding put_operand_of
 put_twins x ps qs len value e =
     sure_twins x (subst (λ (l : List Place). Twin (between x) (Unit {0}) (Unit {0}) Equal (put_places_of l len value) (put_places_of qs len value)) (sym e)
     (put_places_twins x qs len value))
@@ -94,13 +91,11 @@ locked_twins x at len more = twins_bind (between x) (AreRaised x) (SameCut x) Eq
 -- ---- rows
 
 tas_in_memory_twins : (x : Setting) (address : ℕ) (p : Plain) → Rows x (tas_in_memory address x.here p) (tas_in_memory address x.there p)
-unfolding tas_in_memory
 tas_in_memory_twins x address p = locked_twins x address 1 (λ ps qs e.
     then_twins x (SameCut x) (get_twins x ps qs e) (λ value.
     then_twins x (SameCut x) (put_twins x ps qs 1 (test_and_set_of value p.ccr).value e) (λ done. returned refl)))
 
 pub tas_twins : (x : Setting) (ea : Ea) (word_at : ℕ) (p : Plain) → Rows x (tas_of ea word_at x.here p) (tas_of ea word_at x.there p)
-unfolding tas_of
 tas_twins x (Dn n) word_at p = modifying_twins x test_and_set_of Byte (Dn n) word_at p
 tas_twins x ea word_at p =
     then_twins x (SameCut x) (reading_twins x (resolve_twins x ea Byte word_at p))
@@ -108,7 +103,6 @@ tas_twins x ea word_at p =
 
 cas_at_twins : (x : Setting) (size : Size) (word address : ℕ) (p : Plain)
     → Rows x (cas_at size word address x.here p) (cas_at size word address x.there p)
-unfolding cas_at
 cas_at_twins x size word address p = locked_twins x address (bytes_of size) (λ ps qs e.
     then_twins x (SameCut x) (get_twins x ps qs e) (λ value.
     twins_choose (between x) (SameRowed x) (cas_equal size word value p) _ _ _ _
@@ -117,13 +111,11 @@ cas_at_twins x size word address p = locked_twins x address (bytes_of size) (λ 
 
 pub cas_twins : (x : Setting) (size : Size) (ea : Ea) (word word_at : ℕ) (p : Plain)
     → Rows x (cas_of size ea word word_at x.here p) (cas_of size ea word word_at x.there p)
-unfolding cas_of
 cas_twins x size ea word word_at p =
     then_twins x (SameCut x) (reading_twins x (resolve_twins x ea size word_at p))
     (λ to. cas_at_twins x size word (place_of to.target) to.plain)
 
 pub cas2_twins : (x : Setting) (size : Size) (first second : ℕ) (p : Plain) → Rows x (cas2_of size first second x.here p) (cas2_of size first second x.there p)
-unfolding cas2_of
 cas2_twins x size first second p =
     let len = bytes_of size in
     locked_twins x (register_of p (swap_word first).pointer) len (λ ps qs e.

@@ -11,7 +11,6 @@ use Rattle.mb_twins.proofs.Operands.{operand_twins, storing_twins}
 
 pub modifying_twins : (x : Setting) (change : ℕ → ℕ → Flagged) (size : Size) (ea : Ea) (word_at : ℕ) (p : Plain)
     → Rows x (modify_of change size ea word_at x.here p) (modify_of change size ea word_at x.there p)
-unfolding modify_of
 modifying_twins x change size ea word_at p =
     then_twins x (SameCut x) (reading_twins x (operand_twins x size ea word_at p)) (λ operand.
     let result = change operand.value operand.plain.ccr in

@@ -15,36 +15,30 @@ use Rattle.mb_twins.proofs.Operands.{resolve_twins, operand_twins, address_twins
 
 pub move_twins : (x : Setting) (size : Size) (destination source : Ea) (word_at : ℕ) (p : Plain)
     → Rows x (move_operand_of size destination source word_at x.here p) (move_operand_of size destination source word_at x.there p)
-unfolding move_operand_of
 move_twins x size destination source word_at p =
     then_twins x (SameCut x) (reading_twins x (operand_twins x size source word_at p)) (λ from.
     then_twins x (SameCut x) (reading_twins x (resolve_twins x destination size (behind_of size source word_at) from.plain)) (λ to.
     storing_twins x to.target size from.value (move_flags size from.value to.plain)))
 
 pub to_ccr_twins : (x : Setting) (ea : Ea) (word_at : ℕ) (p : Plain) → Rows x (move_to_ccr_of ea word_at x.here p) (move_to_ccr_of ea word_at x.there p)
-unfolding move_to_ccr_of
 to_ccr_twins x ea word_at p =
     then_twins x (SameCut x) (reading_twins x (operand_twins x Word ea word_at p)) (λ operand. returned refl)
 
 pub from_ccr_twins : (x : Setting) (ea : Ea) (word_at : ℕ) (p : Plain) → Rows x (move_from_ccr_of ea word_at x.here p) (move_from_ccr_of ea word_at x.there p)
-unfolding move_from_ccr_of
 from_ccr_twins x ea word_at p =
     then_twins x (SameCut x) (reading_twins x (resolve_twins x ea Word word_at p)) (λ to.
     storing_twins x to.target Word (p.ccr % 2 ^ 5) to.plain)
 
 pub scc_twins : (x : Setting) (c : Condition) (ea : Ea) (word_at : ℕ) (p : Plain) → Rows x (scc_of c ea word_at x.here p) (scc_of c ea word_at x.there p)
-unfolding scc_of
 scc_twins x c ea word_at p =
     then_twins x (SameCut x) (reading_twins x (resolve_twins x ea Byte word_at p)) (λ to.
     storing_twins x to.target Byte (condition_byte (is_met c p.ccr)) to.plain)
 
 pub movea_twins : (x : Setting) (size : Size) (n : ℕ) (source : Ea) (word_at : ℕ) (p : Plain)
     → Rows x (movea_of size n source word_at x.here p) (movea_of size n source word_at x.there p)
-unfolding movea_of
 movea_twins x size n source word_at p =
     then_twins x (SameCut x) (reading_twins x (operand_twins x size source word_at p)) (λ from. returned refl)
 
 pub lea_twins : (x : Setting) (n : ℕ) (ea : Ea) (word_at : ℕ) (p : Plain) → Rows x (lea_of n ea word_at x.here p) (lea_of n ea word_at x.there p)
-unfolding lea_of
 lea_twins x n ea word_at p =
     then_twins x (SameCut x) (reading_twins x (address_twins x Long ea word_at p)) (λ place. returned refl)

@@ -34,7 +34,6 @@ pieces_twins x [] value = returned refl
 pieces_twins x (p ∷ ps) value = then_twins x (SameFault x) (twin_read x p) (λ v. pieces_twins x ps (value * 256 ^ p.len + v))
 
 cut_twins : (x : Setting) (at len : ℕ) → TwinParts x (SameFault x) (read_cut_of x.here at len) (read_cut_of x.there at len)
-unfolding read_cut_of
 cut_twins x at len = pieces_twins x (split_of at len) 0
 
 pub read_twins : (x : Setting) (at len : ℕ) → Reads x (read_operand_of x.here at len) (read_operand_of x.there at len)
@@ -48,7 +47,6 @@ indirect_twins x at outer = then_twins x (SameRead x) (read_twins x at 4) (λ lo
 
 full_twins : (x : Setting) (base w bd od : ℕ) (p : Plain)
     → let parts = parts_of base w bd od p in Reads x (full_of w parts x.here) (full_of w parts x.there)
-unfolding full_of
 full_twins x base w bd od p =
     let parts = parts_of base w bd od p in
     twins_choose (between x) (Results Equal (SameRead x)) (w % 8 == 0) _ _ _ _ (returned refl)
@@ -57,7 +55,6 @@ full_twins x base w bd od p =
     (indirect_twins x (sum parts.base parts.displacement) (sum parts.index parts.outer)))
 
 indexed_twins : (x : Setting) (base : ℕ) (e : Ext) (p : Plain) → Reads x (indexed_of base e x.here p) (indexed_of base e x.there p)
-unfolding indexed_of
 indexed_twins x base (Brief w) p = returned refl
 indexed_twins x base (Full w bd od) p = full_twins x base w bd od p
 
@@ -75,21 +72,18 @@ resolve_twins x _ size word_at p = returned refl
 -- ---- operands that are read
 
 load_twins : (x : Setting) (target : Target) (size : Size) (p : Plain) → Reads x (load_of target size x.here p) (load_of target size x.there p)
-unfolding load_of
 load_twins x (Reg n) size p = returned refl
 load_twins x (Memory at) size p = read_twins x at (bytes_of size)
 load_twins x (Value v) size p = returned refl
 
 pub operand_twins : (x : Setting) (size : Size) (ea : Ea) (word_at : ℕ) (p : Plain)
     → Reads x (fetch_operand_of size ea word_at x.here p) (fetch_operand_of size ea word_at x.there p)
-unfolding fetch_operand_of
 operand_twins x size ea word_at p =
     then_twins x (SameRead x) (resolve_twins x ea size word_at p) (λ resolved.
     then_twins x (SameRead x) (load_twins x resolved.target size resolved.plain) (λ value. returned refl))
 
 pub address_twins : (x : Setting) (size : Size) (ea : Ea) (word_at : ℕ) (p : Plain)
     → Reads x (find_address_of size ea word_at x.here p) (find_address_of size ea word_at x.there p)
-unfolding find_address_of
 address_twins x size ea word_at p = then_twins x (SameRead x) (resolve_twins x ea size word_at p) (λ resolved. returned refl)
 
 -- ---- operands that are written
@@ -107,7 +101,6 @@ put_twins x at len value = write_all_twins x at (pending_of at len value)
 
 pub store_twins : (x : Setting) (target : Target) (size : Size) (value : ℕ) (p : Plain)
     → Writes x (store_of target size value x.here p) (store_of target size value x.there p)
-unfolding store_of
 store_twins x (Reg n) size value p = returned refl
 store_twins x (Memory at) size value p = then_twins x (SameWrite x) (put_twins x at (bytes_of size) value) (λ done. returned refl)
 store_twins x (Value v) size value p = returned refl
@@ -116,10 +109,8 @@ store_twins x (Value v) size value p = returned refl
 
 pub storing_twins : (x : Setting) (target : Target) (size : Size) (value : ℕ) (after : Plain)
     → Rows x (finish_with_of target size value x.here after) (finish_with_of target size value x.there after)
-unfolding finish_with_of
 storing_twins x target size value after =
     then_twins x (SameCut x) (writing_twins x after (store_twins x target size value after)) (λ done. returned refl)
 
 pub pushing_twins : (x : Setting) (value top : ℕ) (after : Plain) → Stages x (push_of value top x.here after) (push_of value top x.there after)
-unfolding push_of
 pushing_twins x value top after = writing_twins x after (put_twins x top 4 value)

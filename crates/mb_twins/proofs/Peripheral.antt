@@ -18,12 +18,10 @@ use Rattle.mb_twins.proofs.Parts.{SameCut, SameRowed, Rows, Reads, Writes, then_
 use Rattle.mb_twins.proofs.Operands.{pieces_twins, write_all_twins, storing_twins}
 
 read_apart_twins : (x : Setting) (at : ℕ) (size : Size) → Reads x (read_apart_of x.here at size) (read_apart_of x.there at size)
-unfolding read_apart_of
 read_apart_twins x at size =
     failing_twins x (SameFault x) (SameRead x) (λ e f h. record { fault = h; first = refl }) (pieces_twins x (apart at (bytes_of size)) 0)
 
 put_apart_twins : (x : Setting) (at : ℕ) (size : Size) (value : ℕ) → Writes x (write_apart_of x.here at size value) (write_apart_of x.there at size value)
-unfolding write_apart_of
 put_apart_twins x at Byte value = write_all_twins x at (parts_of (apart at 1) 1 value)
 put_apart_twins x at Word value = write_all_twins x at (parts_of (apart at 2) 2 value)
 put_apart_twins x at Long value =
@@ -34,19 +32,16 @@ put_apart_twins x at Long value =
 
 load_twins : (x : Setting) (n : ℕ) (size : Size) (place : ℕ) (p : Plain)
     → Rows x (load_peripheral_of n size place x.here p) (load_peripheral_of n size place x.there p)
-unfolding load_peripheral_of
 load_twins x n size place p =
     then_twins x (SameCut x) (reading_twins x (read_apart_twins x place size)) (λ value. storing_twins x (Reg n) size value p)
 
 store_twins : (x : Setting) (n : ℕ) (size : Size) (place : ℕ) (p : Plain)
     → Rows x (store_peripheral_of n size place x.here p) (store_peripheral_of n size place x.there p)
-unfolding store_peripheral_of
 store_twins x n size place p =
     then_twins x (SameCut x) (writing_twins x p (put_apart_twins x place size (data_register p n))) (λ done. returned refl)
 
 pub movep_twins : (x : Setting) (n : ℕ) (is_store : Bool) (size : Size) (address displacement : ℕ) (p : Plain)
     → Rows x (movep_of n is_store size address displacement x.here p) (movep_of n is_store size address displacement x.there p)
-unfolding movep_of
 movep_twins x n is_store size address displacement p =
     let place = sum (address_register p address) (sign_extended Word displacement) in
     twins_choose (between x) (SameRowed x) is_store _ _ _ _ (store_twins x n size place p) (load_twins x n size place p)

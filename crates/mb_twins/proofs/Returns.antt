@@ -11,17 +11,14 @@ use Rattle.mb_twins.proofs.Parts.{SameCut, Rows, then_twins, reading_twins}
 use Rattle.mb_twins.proofs.Operands.{read_twins}
 
 pub rts_twins : (x : Setting) (p : Plain) → Rows x (rts_of x.here p) (rts_of x.there p)
-unfolding rts_of
 rts_twins x p =
     then_twins x (SameCut x) (reading_twins x (read_twins x (address_register p 7) (bytes_of Long))) (λ target. returned refl)
 
 pub rtd_twins : (x : Setting) (d : ℕ) (p : Plain) → Rows x (rtd_of d x.here p) (rtd_of d x.there p)
-unfolding rtd_of
 rtd_twins x d p =
     then_twins x (SameCut x) (reading_twins x (read_twins x (address_register p 7) (bytes_of Long))) (λ target. returned refl)
 
 pub rtr_twins : (x : Setting) (p : Plain) → Rows x (rtr_of x.here p) (rtr_of x.there p)
-unfolding rtr_of
 rtr_twins x p =
     then_twins x (SameCut x) (reading_twins x (read_twins x (address_register p 7) (bytes_of Word))) (λ codes.
     then_twins x (SameCut x) (reading_twins x (read_twins x (address_register (stack_raised_by_word p) 7) (bytes_of Long))) (λ target. returned refl))

@@ -12,19 +12,16 @@ use Rattle.mb_twins.proofs.Parts.{SameCut, Rows, then_twins, reading_twins}
 use Rattle.mb_twins.proofs.Operands.{read_twins, address_twins, pushing_twins}
 
 pub pea_twins : (x : Setting) (ea : Ea) (word_at : ℕ) (p : Plain) → Rows x (pea_of ea word_at x.here p) (pea_of ea word_at x.there p)
-unfolding pea_of
 pea_twins x ea word_at p =
     let after = stack_lowered p in
     then_twins x (SameCut x) (reading_twins x (address_twins x Long ea word_at p)) (λ place.
     then_twins x (SameCut x) (pushing_twins x place (address_register after 7) after) (λ done. returned refl))
 
 pub link_twins : (x : Setting) (n displacement : ℕ) (p : Plain) → Rows x (link_of n displacement x.here p) (link_of n displacement x.there p)
-unfolding link_of
 link_twins x n displacement p =
     let low = stack_lowered p in
     let after = linked n displacement low in
     then_twins x (SameCut x) (pushing_twins x (address_register low n) (address_register low 7) after) (λ done. returned refl)
 
 pub unlk_twins : (x : Setting) (n : ℕ) (p : Plain) → Rows x (unlk_of n x.here p) (unlk_of n x.there p)
-unfolding unlk_of
 unlk_twins x n p = then_twins x (SameCut x) (reading_twins x (read_twins x (address_register p n) 4)) (λ frame. returned refl)

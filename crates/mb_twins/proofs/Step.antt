@@ -146,7 +146,6 @@ trap_number number legal = grind (arith, nat_tests)
 
 perform_flow_twins : (x : Setting) (i : Flow) (word_at : ℕ) (p : Plain) → IsInstr (instr.Flow i)
     → Rows x (perform_flow_of i word_at x.here p) (perform_flow_of i word_at x.there p)
-unfolding perform_flow_of
 perform_flow_twins x flow.Nop word_at p is = returned refl
 perform_flow_twins x (flow.Bcc condition displacement) word_at p is = branch_twins x condition displacement word_at p
 perform_flow_twins x (flow.Dbcc condition register displacement) word_at p is = returned (dbcc_same x condition register displacement word_at p)
@@ -162,7 +161,6 @@ perform_flow_twins x (flow.Chk register size ea) word_at p is = chk_twins x regi
 perform_flow_twins x (flow.Chk2 size ea word) word_at p is = chk2_twins x size ea word word_at p
 
 row_twins : (x : Setting) (i : Instr) (at : ℕ) (p : Plain) → IsInstr i → MayRefuse x i → Rows x (row_of i at x.here p) (row_of i at x.there p)
-unfolding row_of
 row_twins x (instr.Move i) at p is may = perform_move_twins x i (operands_at (move_row i) at) p
 row_twins x (instr.Arith i) at p is may = perform_arith_twins x i (operands_at (arith_row i) at) p
 row_twins x (instr.Flow i) at p is may = perform_flow_twins x i (operands_at (flow_row i) at) p is
@@ -176,7 +174,6 @@ Instrs x m n = Twin (between x) Performed Performed (SamePerformed x) m n
 
 pub perform_twins : (x : Setting) (i : Instr) (at : ℕ) (p : Plain) → IsInstr i → MayRefuse x i
     → Instrs x (perform_of i at x.here p) (perform_of i at x.there p)
-unfolding perform_of
 perform_twins x i at p is may = failing_twins x (SameCut x) (SameStop x) (restored_same x p) (row_twins x i at p is may)
 
 -- any instruction, where instructions may be refused
@@ -222,11 +219,9 @@ found_twins x (suc n) at words h are =
     (found_twins x n next (words ++ other ∷ []) h more)))
 
 pub fetched_twins : (x : Setting) (pc : ℕ) → x.refuses ≡ true → Founds x (fetched_of x.here pc) (fetched_of x.there pc)
-unfolding fetched_of
 fetched_twins x pc h = twins_choose (between x) _ (pc % 2 == 1) _ _ _ _ (returned (h, refl, inl refl)) (found_twins x MOST_WORDS pc [] h AreWords-nil)
 
 pub attempt_twins : (x : Setting) (p : Plain) → x.refuses ≡ true → Instrs x (attempt_of x.here p) (attempt_of x.there p)
-unfolding attempt_of
 attempt_twins x p h =
     let carry : Space → Instr × ℕ → Routine Performed = λ space found. perform_of found.0 p.pc space (past found.1 p) in
     twins_caught (between x) SameFound (SameUnfound x) (SamePerformed x) _ _ _ _ (carry x.here) (carry x.there) (fetched_twins x p.pc h)

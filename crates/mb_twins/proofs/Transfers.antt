@@ -46,7 +46,6 @@ stores_twins x m ea done p =
 
 transfer_twins : (x : Setting) (m : Movem) (ea done : ℕ) (p : Plain)
     → TwinParts x (SameHalfway x) (transfer_of m ea done x.here p) (transfer_of m ea done x.there p)
-unfolding transfer_of
 transfer_twins x m ea done p =
     then_twins x (SameHalfway x)
     (twins_choose (between x) (Results Equal (SameHalfway x)) m.is_load _ _ _ _
@@ -55,7 +54,6 @@ transfer_twins x m ea done p =
 
 pub movem_twins : (x : Setting) (is_load : Bool) (size : Size) (ea : Ea) (mask word_at : ℕ) (p : Plain)
     → Rows x (movem_of is_load size ea mask word_at x.here p) (movem_of is_load size ea mask word_at x.there p)
-unfolding movem_of
 movem_twins x is_load size ea mask word_at p =
     then_twins x (SameCut x) (reading_twins x (address_twins x size ea word_at p)) (λ place.
     then_twins x (SameCut x)

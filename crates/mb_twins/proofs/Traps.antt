@@ -12,13 +12,10 @@ use Rattle.mb_twins.proofs.Flow.{either_same}
 use Rattle.mb_twins.proofs.Parts.{SameRowed}
 
 pub trap_same : (x : Setting) (number : ℕ) (p : Plain) → number < 16 → SameRowed x (trap_of number p) (trap_of number p)
-unfolding trap_of
 trap_same x number p lt = ((refl, inr (inr (inr (omega arith, omega arith)))), refl)
 
 pub trapcc_same : (x : Setting) (c : Condition) (p : Plain) → SameRowed x (trapcc_of c p) (trapcc_of c p)
-unfolding trapcc_of
 trapcc_same x c p = either_same x (is_met c p.ccr) (ended_otherwise conditional_trap p) (carried p) ((refl, inr (inr (inl refl))), refl) refl
 
 pub trapv_same : (x : Setting) (p : Plain) → SameRowed x (trapv_of p) (trapv_of p)
-unfolding trapv_of
 trapv_same x p = trapcc_same x OverflowSet p

@@ -61,7 +61,7 @@ fault_at space at len code write = record { at = at; len = len; space = space; c
 abbrev pub unless_refused : {A : Type 0} → Memory → A × Memory → Fault → Result A Fault × Memory
 unless_refused m (answer, after) fault = if is_refused m fault.at fault.len then (Err fault, m) else (Ok answer, after)
 
-unfoldable pub vector_bus : Bus Memory
+abbrev pub vector_bus : Bus Memory
 vector_bus (Fetch space at) m = unless_refused m (value_at m (piece_at at 2), m) (fault_at space at 2 true false)
 vector_bus (Read space p) m = unless_refused m (value_at m p, m) (fault_at space p.at p.len false false)
 vector_bus (Write space p value) m = unless_refused m (tt, with_value m p value) (fault_at space p.at p.len false true)

@@ -74,7 +74,6 @@ impl VectorPort {
     }
 }
 
-#[tactic(auto, unfolding(crate::specs::VectorBus::vector_bus))]
 impl Port for VectorPort {
     ghost World = { Memory };
 

@@ -119,7 +119,6 @@ left ram q space page protected big v =
 
 pub paged_left : (ram : List ℕ) (q : ℕ) (space : Space) (page : ℕ) (protected write big : Bool)
     → paged ram q space page protected write big ≡ left ram q space page protected big (marked (number_at ram q 4) protected space write)
-unfolding paged
 paged_left ram q space page protected write big = refl
 
 -- what the end of a search leaves, and that it finds the same again
@@ -288,7 +287,6 @@ pointer_repeats space page write again big which =
 
 whole : (ram : List ℕ) (root : ℕ) (space : Space) (page : ℕ) (write again big : Bool) → AreBytes ram → (again ≡ false) ⊎ (again ≡ write)
     → Ends (λ r. search_of r root space page again big) ram (search_of ram root space page write big)
-unfolding search_of
 whole ram root space page write again big b which =
     level (entry_at root 512 (root_index page)) (pointers space page write big) (pointers space page again big) (omega arith)
     (pointer_repeats space page write again big which) ram b

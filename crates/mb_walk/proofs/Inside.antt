@@ -111,7 +111,6 @@ module _ (more : List ℕ) where
   ]
 
   whole : (ram : List ℕ) (root : ℕ) (space : Space) (page : ℕ) (write big : Bool) → Same (λ r. search_of r root space page write big) ram
-  unfolding search_of
   whole ram root space n write big =
       level (entry_at root 512 (root_index n)) (pointers space n write big)
       (λ ram pointer. level (entry_at pointer 512 (pointer_index n)) (leaves space n (table_descriptor pointer).protected write big)

@@ -93,7 +93,6 @@ module _ (at : ℕ) (aligned : at % 4 ≡ 0) where
 
   whole : (ram : List ℕ) (root : ℕ) (space : Space) (page : ℕ) (write big : Bool) → Out (met ram root page big)
       → Stays ram (search_of ram root space page write big)
-  unfolding met search_of
   whole ram root space page write big out =
       level (entry_at root 512 (root_index page)) (pointers space page write big)
       (λ ram pointer. let second = entry_at pointer 512 (pointer_index page) in

@@ -46,7 +46,6 @@ module _ (space : Space) (page : ℕ) where
   either_level false s t h k = k
 
   paged_names : (ram : List ℕ) (place : ℕ) (protected write big : Bool) → Named space page (paged ram place space page protected write big)
-  unfolding paged
   paged_names ram place protected write big = record { is = (refl, refl) }
 
   pointed_names : (ram : List ℕ) (place : ℕ) (protected write big : Bool) → Named space page (pointed ram place space page protected write big)
@@ -81,7 +80,6 @@ module _ (space : Space) (page : ℕ) where
   and_below_names level next e h = below_names level.ram level.descriptor next e.is (λ d. h level.ram d)
 
   named : (ram : List ℕ) (root : ℕ) (write big : Bool) → Named space page (search_of ram root space page write big)
-  unfolding search_of
   named ram root write big =
       and_below_names _ _ (descended_ends ram _) (λ ram pointer. and_below_names _ _ (descended_ends ram _) (λ ram leaf. ended_names ram _ _ write big))
 

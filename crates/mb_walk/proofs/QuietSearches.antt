@@ -302,7 +302,6 @@ pointers_used space page big r d b =
 pub met_is_used : (ram : List ℕ) (root : ℕ) (space : Space) (page : ℕ) (big : Bool) (k : Kept) (status : ℕ) → AreBytes ram
     → (search_of ram root space page false big).found ≡ Entry k status → (search_of ram root space page false big).ram ≡ ram
     → found_used ram root space page big ≡ Some k
-unfolding search_of found_used
 met_is_used ram root space page big k status b found still =
     let p = entry_at root 512 (root_index page) in
     let (first, e) = level_met ram p (pointers space page false big) k status (omega arith) b (pointers_used space page big) found still in
@@ -330,7 +329,6 @@ below_some (Some d) next k e = (d, refl, e)
 -- And where all on the way is marked, the search finds that and changes no byte.
 pub used_is_quiet : (ram : List ℕ) (root : ℕ) (space : Space) (page : ℕ) (big : Bool) (k : Kept) → AreBytes ram → found_used ram root space page big ≡ Some k
     → (status : ℕ) × (search_of ram root space page false big ≡ record { ram = ram; found = Entry k status })
-unfolding search_of found_used
 used_is_quiet ram root space page big k b e =
     let p = entry_at root 512 (root_index page) in
     let (d, first, e1) = below_some (used_table ram p) (λ pointer.

@@ -65,7 +65,7 @@ met_last ram place =
     if not d.resident && d.indirect then place ∷ indirection (number_at ram place 4) ∷ [] else place ∷ []
 
 -- of all
-unfoldable pub met : List ℕ → ℕ → ℕ → Bool → List ℕ
+abbrev pub met : List ℕ → ℕ → ℕ → Bool → List ℕ
 met ram root page big =
     let first = entry_at root TABLE_BYTES (root_index page) in
     met_and_below first (descended ram first) (λ ram pointer.

@@ -40,7 +40,7 @@ used_entry ram place space page protected big =
     else None
 
 -- What such a search for a read finds.
-unfoldable pub found_used : List ℕ → ℕ → Space → ℕ → Bool → Option Kept
+abbrev pub found_used : List ℕ → ℕ → Space → ℕ → Bool → Option Kept
 found_used ram root space page big =
     below_used (used_table ram (entry_at root TABLE_BYTES (root_index page))) (λ pointer.
     below_used (used_table ram (entry_at pointer TABLE_BYTES (pointer_index page))) (λ leaf.

@@ -43,7 +43,7 @@ descended ram place =
     else record { ram = ram; descriptor = Err BusError }
 
 -- the resident descriptor of the page at a place, which is marked
-unfoldable pub paged : List ℕ → ℕ → Space → ℕ → Bool → Bool → Bool → Searched
+abbrev pub paged : List ℕ → ℕ → Space → ℕ → Bool → Bool → Bool → Searched
 paged ram place space page protected write big =
     let long = marked (number_at ram place 4) protected space write in
     let kept = kept_of (page_descriptor long) protected space page big in
@@ -69,7 +69,7 @@ ended ram place space page protected write big =
 
 -- The search for a page of 4 KiB of a space from a root, for a write or not, through tables of big pages or not: memory
 -- once each descriptor that it met is marked, and what it found.
-unfoldable pub search_of : List ℕ → ℕ → Space → ℕ → Bool → Bool → Searched
+abbrev pub search_of : List ℕ → ℕ → Space → ℕ → Bool → Bool → Searched
 search_of ram root space page write big =
     and_below (descended ram (entry_at root TABLE_BYTES (root_index page))) (λ ram pointer.
     and_below (descended ram (entry_at pointer TABLE_BYTES (pointer_index page))) (λ ram leaf.

@@ -23,7 +23,7 @@ matches r space page =
     r.enabled && (admits_space r.spaces space && (bit_or (page / 2 ^ 12) r.ignored == bit_or r.base r.ignored))
 
 -- the write protection of the first of two registers that matches a page, where one does
-unfoldable pub transparent_of : ℕ → ℕ → Space → ℕ → Option Bool
+abbrev pub transparent_of : ℕ → ℕ → Space → ℕ → Option Bool
 transparent_of tt0 tt1 space page =
     if matches (transparent_register tt0) space page then Some (transparent_register tt0).protected
     else if matches (transparent_register tt1) space page then Some (transparent_register tt1).protected else None

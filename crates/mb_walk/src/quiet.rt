@@ -96,7 +96,6 @@ fn used_entry<R: Ram>(
 
 /// What a search for a read of this address finds, where each descriptor on the way is marked as used: so it changes no
 /// byte. `None` where it finds no page, or would mark a descriptor.
-#[tactic(auto, unfolding(crate::specs::Quiet::found_used))]
 pub fn quiet_search<R: Ram>(ram: &R, root: u32, space: Space, at: u32, big: bool) -> Option<Kept>
     ensures means { result ≡ found_used (R.bytes ram.now) root space (page_number at) big }
     ensures names { IfSome result (λ k. (k.space ≡ space) × (k.page ≡ page_number at) × NamesPages k) }

@@ -142,7 +142,7 @@ fn descend<R: Ram>(ram: &mut R, place: u32) -> Result<u32, Found>
 
 /// Marks the resident descriptor of a page.
 #[inline(always)]
-#[tactic(auto, using(crate::proofs::MemoryLemmas::lengths), unfolding(crate::specs::Search::paged))]
+#[tactic(auto, using(crate::proofs::MemoryLemmas::lengths))]
 fn reach<R: Ram>(ram: &mut R, place: u32, sought: Sought, protected: bool) -> Found
     requires aligned { place % 4 ≡ 0 }
     requires inside { place + 4 ≤ length (R.bytes ram.old) }
@@ -217,7 +217,6 @@ fn end<R: Ram>(ram: &mut R, place: u32, sought: Sought, protected: bool) -> Foun
 ///
 /// Each descriptor on the way is marked used, and the page's is marked modified where a write is made that it takes.
 /// The root's bits 8 to 0 are ignored.
-#[tactic(auto, unfolding(crate::specs::Search::search_of))]
 pub fn search<R: Ram>(
     ram: &mut R,
     root: u32,

@@ -52,7 +52,6 @@ impl TransparentRegister {
 /// The write protection of the first of two transparent registers that matches an address of a space. `None` where
 /// neither does.
 #[inline(always)]
-#[tactic(auto, unfolding(crate::specs::Transparent::transparent_of))]
 pub fn transparent(tt0: u32, tt1: u32, space: Space, at: u32) -> Option<bool>
     ensures { result ≡ transparent_of tt0 tt1 space (page_of at) }
 {

@@ -4,7 +4,7 @@ use Rattle.std.specs.Prelude.{slice_get}
 use Rattle.mb_instr.specs.Sizes.{bytes_of}
 use Rattle.mb_writes.specs.declared.transfers.Movem.{Movem}
 use Rattle.mb_writes.specs.declared.transfers.Transfer.{Transfer}
-use Rattle.mb_writes.specs.Transfers.{placed, transfer_step, registers_of, transfers_of, transfer_at, StandsBehind}
+use Rattle.mb_writes.specs.Transfers.{placed, transfer_step, registers_of, transfer_at, StandsBehind}
 
 -- each is a step further than the one before
 placed_at : (step at : ℕ) (registers : List ℕ) (k : ℕ) (t : Transfer) → at < 2 ^ 32
@@ -16,6 +16,5 @@ placed_at step at (r ∷ rs) (suc k) t small h =
     omega arith
 
 pub stands_behind : (m : Movem) (ea done at : ℕ) → ea < 2 ^ 32 → at ≡ transfer_at m ea done → StandsBehind m ea done at
-unfolding transfers_of
 stands_behind m ea done at small e t h =
     placed_at (transfer_step m.mode (bytes_of m.size)) ea (registers_of m) done t small h ∙ sym e

@@ -106,7 +106,6 @@ length-placed step at (r ∷ rs) = ap (λ n. suc n) (length-placed step ((at + s
 
 -- there are as many transfers as the mask names registers
 pub length-transfers : (m : Movem) (ea : ℕ) → length (transfers_of m ea) ≡ count_of m.mask
-unfolding transfers_of
 length-transfers m ea =
     length-placed (transfer_step m.mode (bytes_of m.size)) ea (map (number_of m.mode) (set_bits m.mask 0 16))
     ∙ length-map (set_bits m.mask 0 16) (number_of m.mode)

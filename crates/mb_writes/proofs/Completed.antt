@@ -1,7 +1,6 @@
 -- Lists of pending writes, completed in parts.
 use Rattle.std.proofs.Common.{◌≡◌, ℕ, zero, suc, ◌≤◌, List, [], ◌∷◌, ◌++◌, Result, Ok, Err, refl, arith}
 use Rattle.mb_port.specs.Routine.{Bus, Write, run, tried, other_fault, failing, ◌>>◌}
-use Rattle.mb_port.specs.Pieces.{split_of}
 use Rattle.mb_port.specs.declared.types.Space.{Space}
 use Rattle.mb_port.specs.declared.types.Fault.{Fault}
 use Rattle.mb_frames.specs.declared.pend.Pend.{Pend}
@@ -11,7 +10,7 @@ use Rattle.mb_writes.specs.Laws.{with_back}
 
 pub put_is_complete : {S : Type 0} (bus : Bus S) (space : Space) (at len value : ℕ) (s : S) → 1 ≤ len →
     run bus (write_operand_of space at len value) s ≡ run bus (complete_of space (pending_of at len value)) s
-unfolding write_operand_of pending_of split_of
+unfolding write_operand_of
 put_is_complete bus space at zero value s h = absurd (omega arith)
 put_is_complete bus space at (suc len) value s h = refl
 

@@ -21,7 +21,7 @@ probe_pieces_of space (p ∷ ps) places = do
   probe_pieces_of space ps (places ++ place ∷ [])
 
 -- The places of an operand, which are checked for writing. A refused check is told with the operand's first byte.
-unfoldable pub probe_operand_of : Space → ℕ → ℕ → Routine (Result (List Place) ReadFault)
+abbrev pub probe_operand_of : Space → ℕ → ℕ → Routine (Result (List Place) ReadFault)
 probe_operand_of space at len = failing (refused_in at) (probe_pieces_of space (split_of at len) [])
 
 -- Checked places are read in their order: the big-endian number that they spell, behind the value so far.
@@ -30,7 +30,7 @@ get_places_of [] value = Return value
 get_places_of (p ∷ ps) value = Then (get p) (λ x. get_places_of ps (value * 256 ^ p.len + x))
 
 -- what stands at an operand's places
-unfoldable pub get_operand_of : List Place → Routine ℕ
+abbrev pub get_operand_of : List Place → Routine ℕ
 get_operand_of places = get_places_of places 0
 
 -- Checked places are written in their order, each with its part of the number.
@@ -40,7 +40,7 @@ put_places_of (p ∷ ps) before_end value =
     Then (put p (part_of value before_end p.len)) (λ done. put_places_of ps (before_end - p.len) value)
 
 -- an operand of so many bytes goes to its places
-unfoldable pub put_operand_of : List Place → ℕ → ℕ → Routine (Unit {0})
+abbrev pub put_operand_of : List Place → ℕ → ℕ → Routine (Unit {0})
 put_operand_of places len value = put_places_of places len value
 
 -- ---- places

@@ -70,7 +70,7 @@ storing m ea done space p = do
   Return (Ok p)
 
 -- MOVEM from a transfer on: `done` of them were done before
-unfoldable pub transfer_of : Movem → ℕ → ℕ → Space → Plain → Routine (Result Plain Halfway)
+abbrev pub transfer_of : Movem → ℕ → ℕ → Space → Plain → Routine (Result Plain Halfway)
 transfer_of m ea done space p = do
   moved ← choose m.is_load (load_all_of m space ea done (drop done (transfers_of m ea)) p) (storing m ea done space p)
   Return (Ok (stepped_of m.mode m.size ea (length (transfers_of m ea)) moved))

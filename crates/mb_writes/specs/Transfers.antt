@@ -74,7 +74,7 @@ placed step at [] = []
 placed step at (r ∷ rs) = record { register = r; at = at } ∷ placed step ((at + step) % 2 ^ 32) rs
 
 -- the transfers of a MOVEM in the manual's order, the first at `ea`
-unfoldable pub transfers_of : Movem → ℕ → List Transfer
+abbrev pub transfers_of : Movem → ℕ → List Transfer
 transfers_of m ea = placed (transfer_step m.mode (bytes_of m.size)) ea (registers_of m)
 
 -- the address of the one behind the first `done` of them

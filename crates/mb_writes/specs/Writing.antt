@@ -13,7 +13,7 @@ use Rattle.mb_frames.specs.AccessFields.{piece_of}
 use Rattle.mb_writes.specs.declared.ends.WriteFault.{WriteFault}
 
 -- of a big-endian number, the `len` bytes that begin so many bytes before its end
-unfoldable pub part_of : ℕ → ℕ → ℕ → ℕ
+abbrev pub part_of : ℕ → ℕ → ℕ → ℕ
 part_of value before_end len = value / 2 ^ (8 * (before_end - len)) % 2 ^ (8 * len)
 
 -- each piece with its part of the number
@@ -23,7 +23,7 @@ parts_of (p ∷ ps) before_end value =
     record { at = p.at; len = p.len; value = part_of value before_end p.len } ∷ parts_of ps (before_end - p.len) value
 
 -- what is to be written for an operand of one to five bytes
-unfoldable pub pending_of : ℕ → ℕ → ℕ → List Pend
+abbrev pub pending_of : ℕ → ℕ → ℕ → List Pend
 pending_of at len value = parts_of (split_of at len) len value
 
 -- each has the place and length of a piece
@@ -53,7 +53,7 @@ apart at (suc n) = record { at = at; len = 1 } ∷ apart ((at + 2) % 2 ^ 32) n
 
 -- An operand whose bytes stand at every second address, each a piece. Of a long whose first byte is refused nothing is
 -- left to be written.
-unfoldable pub write_apart_of : Space → ℕ → Size → ℕ → Routine (Result (Unit {0}) WriteFault)
+abbrev pub write_apart_of : Space → ℕ → Size → ℕ → Routine (Result (Unit {0}) WriteFault)
 write_apart_of space at Byte value = write_pieces_of space at (parts_of (apart at 1) 1 value)
 write_apart_of space at Word value = write_pieces_of space at (parts_of (apart at 2) 2 value)
 write_apart_of space at Long value = do

@@ -40,7 +40,6 @@ fn probe_pieces<P: Port>(
 }
 
 /// Checks an operand for writing. The answer is where its pieces stand.
-#[tactic(auto, unfolding(crate::specs::Checked::probe_operand_of))]
 pub fn probe_operand<P: Port>(
     space: Space,
     at: u32,
@@ -80,7 +79,6 @@ fn get_places<P: Port>(places: &[Place], value: u64, len: u8, port: &mut P) -> u
 }
 
 /// Reads a checked operand.
-#[tactic(auto, unfolding(crate::specs::Checked::get_operand_of))]
 pub fn get_operand<P: Port>(places: &ArrayVec<Place, 3>, size: Size, port: &mut P) -> u32
     requires { AreOpen (P.exists (P.rest port.old)) (bytes_of size) places.now.items }
     ensures means { run P.bus (get_operand_of places.now.items) (P.world port.old) ≡ (result, P.world port.new) }
@@ -106,7 +104,6 @@ fn put_places<P: Port>(places: &[Place], before_end: u8, value: u32, port: &mut 
 }
 
 /// Writes a checked operand.
-#[tactic(auto, unfolding(crate::specs::Checked::put_operand_of))]
 pub fn put_operand<P: Port>(places: &ArrayVec<Place, 3>, size: Size, value: u32, port: &mut P)
     requires { AreOpen (P.exists (P.rest port.old)) (bytes_of size) places.now.items }
     ensures means { run P.bus (put_operand_of places.now.items (bytes_of size) value) (P.world port.old)

@@ -136,7 +136,6 @@ fn after(transfers: &[Transfer], done: u8) -> &[Transfer]
 /// Carries out a MOVEM whose first transfer is at `ea`, from the transfer after the first `done` on.
 ///
 /// At a fault what was loaded stays, and the address register of `(An)+` and `-(An)` is as it was.
-#[tactic(auto, unfolding(crate::specs::Moving::transfer_of))]
 pub fn transfer<P: Port>(
     movem: &Movem,
     ea: u32,

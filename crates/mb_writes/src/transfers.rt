@@ -98,7 +98,6 @@ impl Movem {
     }
 
     /// The transfers in their order, the first at `ea`.
-    #[tactic(auto, unfolding(crate::specs::Transfers::transfers_of))]
     pub(crate) fn transfers(&self, ea: u32) -> ArrayVec<Transfer, 16>
         ensures value { result.items ≡ transfers_of self.now ea }
         ensures registers { AreTransfers result.items }

@@ -15,7 +15,6 @@ use mb_instr::Size;
 use mb_port::{Fault, Piece, Port, Space, split};
 
 /// Of a number, the `len` bytes that begin `before_end` bytes before its end.
-#[tactic(auto, unfolding(crate::specs::Writing::part_of))]
 pub fn part(value: u64, before_end: u8, len: u8) -> u32
     requires { (before_end ≤ 5) × (len ≤ 4) }
     ensures { result ≡ part_of value before_end len }
@@ -197,7 +196,6 @@ fn byte_at(at: u32) -> Piece
 /// Writes an operand whose bytes stand at every second address, each a piece, the highest first.
 ///
 /// A refused byte is left with those after it, three at most: of a long whose first byte is refused nothing is left.
-#[tactic(auto, unfolding(crate::specs::Writing::write_apart_of))]
 pub fn write_apart<P: Port>(
     space: Space,
     at: u32,

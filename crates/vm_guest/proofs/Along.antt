@@ -21,7 +21,6 @@ use Rattle.vm_step.proofs.Retire.{retired_steps}
 use Rattle.mb_board.specs.Fits.{IsFit, FitsAlong}
 
 seven_of : (r : Regs) → length (plain_of r).a ≡ 8 → length r.a ≡ 7
-unfolding plain_of
 seven_of r h = let e = length-append r.a (active_stack r ∷ []) in omega arith
 
 fits_of : (p : Plain) → IsFit p → HasRegisters p
@@ -38,14 +37,12 @@ going_on false stopped h = refl
 
 -- what runs behind a step is on
 running_on : (f : Finish) (cpu : Cpu) (d : DeviceState) → state_after f cpu d ≡ Running → d.off ≡ false
-unfolding state_after
 running_on finish.Halted cpu d h = absurd (let z : ⊥ = cc in z)
 running_on finish.Went cpu d h = going_on d.off cpu.stopped h
 running_on finish.Idle cpu d h = going_on d.off cpu.stopped h
 running_on (finish.Entered v) cpu d h = going_on d.off cpu.stopped h
 
 stepped_on : (script : Entries) (g : Guested) → (guest_stepped script g).machine.state ≡ Running → (guest_stepped script g).machine.world.devices.off ≡ false
-unfolding guest_stepped
 stepped_on script g h =
     let r = guest_processed script (guest_begun script g) in running_on r.0.0 r.0.1 r.1.world.devices h
 

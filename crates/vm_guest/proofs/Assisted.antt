@@ -3,7 +3,7 @@ use Rattle.std.proofs.Common.{◌≡◌, ◌∙◌, ℕ, ◌≤◌, List, Bool, 
 use Rattle.mb_model.specs.declared.processor.Cpu.{Cpu}
 use Rattle.mb_model.specs.declared.outcome.RunState.TheVariants.{Running, Stopped, Off}
 use Rattle.mb_processor.specs.Step.{interrupt_mask, rank}
-use Rattle.mb_machine.specs.Machine.{begun, takes_steps}
+use Rattle.mb_machine.specs.Machine.{takes_steps}
 use Rattle.vm_machine.specs.declared.class.Class.{Class}
 use Rattle.vm_machine.specs.declared.class.Class.TheVariants.{Entered, Idle, Traced}
 use Rattle.vm_machine.specs.Guests.{Guest}
@@ -28,7 +28,6 @@ by_tests false false true r c h = inner Traced c h
 by_tests false false false r c h = absurd (let z : ⊥ = cc in z)
 
 pub assisted_class : (level : ℕ) (cpu : Cpu) (g : Guest) (c : Class) → assisted level cpu ≡ Some c → class_of level cpu g ≡ c
-unfolding class_of
 assisted_class level cpu g c h =
     by_tests (nat_lt (interrupt_mask cpu) (rank level)) cpu.stopped (is_traced cpu) (class_of_attempt cpu (refilled cpu g).guest) c h
 
@@ -77,12 +76,10 @@ idle_assisted level cpu h =
 -- the class of a guest's step that has begun
 pub class_begun : (g : Seat) (ram : List ℕ) (c : Class) → assisted (level_on (begun_seat g)) g.cpu ≡ Some c
     → class_of_step g.script (guested_on g ram) ≡ c
-unfolding class_of_step begun
 class_begun g ram c h = assisted_class (level_on (begun_seat g)) g.cpu _ c h
 
 pub tried_begun : (g : Seat) (ram : List ℕ) → assisted (level_on (begun_seat g)) g.cpu ≡ None
     → IsTried (step_class_at_first g.script (guested_on g ram))
-unfolding step_class_at_first begun
 tried_begun g ram h =
     let a = none_assisted (level_on (begun_seat g)) g.cpu h in
     tried_class (level_on (begun_seat g)) g.cpu _ a.masked a.awake a.untraced

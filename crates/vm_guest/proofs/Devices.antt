@@ -4,7 +4,6 @@ use Rattle.mb_devices.specs.Devices.{DeviceState, passed, IsNotDue}
 
 -- ticks switch nothing off
 pub off_passed : (n : ℕ) (d : DeviceState) → (passed n d).off ≡ d.off
-unfolding passed
 off_passed n d = off_if (d.period == 0)
   where
     off_if : (b : Bool) → (cond b d (record d { count = d.count - n })).off ≡ d.off
@@ -19,5 +18,4 @@ due_by true n few d within (inr less) = inr (omega arith)
 due_by false n few d within (inr less) = inr (omega arith)
 
 pub due_behind : (n few : ℕ) (d : DeviceState) → few ≤ n → IsNotDue n d → IsNotDue 0 (passed few d)
-unfolding passed
 due_behind n few d within due = due_by (d.period == 0) n few d within due

@@ -13,7 +13,6 @@ use Rattle.vm_machine.specs.Turns.{Guested}
 use Rattle.vm_guest.specs.Turns.{ended_at, state_by}
 
 state_is : (f : Finish) (cpu : Cpu) (d : DeviceState) → state_after f cpu d ≡ state_by (step_end f) cpu d
-unfolding state_after
 state_is finish.Went cpu d = refl
 state_is (finish.Entered v) cpu d = refl
 state_is finish.Idle cpu d = refl

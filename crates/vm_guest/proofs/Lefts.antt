@@ -13,5 +13,4 @@ by_case true l m is h = h
 by_case false l m is h = absurd (let z : ⊥ = cc in z)
 
 pub few_done : (a : Access) → continues a ≡ true → IsLawful (left_in a) → a.pd3 ≤ count_of (mask_in a.pd2)
-unfolding left_in
 few_done a goes h = by_case (continues a) (Movem a.pd2 a.ea a.pd3 a.pd1) _ goes h

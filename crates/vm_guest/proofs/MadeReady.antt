@@ -27,7 +27,7 @@ root_kept root whole small = and_high_mask 32 9 (omega arith) root small ∙ (le
 written : (root size : ℕ) (ram : List ℕ) → root % 512 ≡ 0 → root < 2 ^ 32
     → after_set_mmu rule_a Urp root (after_set_mmu rule_a Dtt0 0x00FFA000 (after_set_mmu rule_a Tc 0x8000 (reset_with rule_a size ram).world))
     ≡ record { ram = ram; mmu = native_mmu root; devices = idle size; kept = nothing_kept rule_a }
-unfolding after_set_mmu reset_with
+unfolding reset_with
 written root size ram whole small =
     ap (λ (urp : ℕ). (let w : World = record {
       ram = ram;

@@ -128,7 +128,6 @@ starts base size contents after cpu devices kept slots script tally big ram_is r
 
 -- it is running
 runs_at_reset : (isp pc size : ℕ) → Running ≡ going (at_reset isp pc) (idle size)
-unfolding at_reset idle
 runs_at_reset isp pc size = refl
 
 pub goes : (cpu : Cpu) (devices : DeviceState) (isp pc size : ℕ) → cpu ≡ at_reset isp pc → devices ≡ idle size → Running ≡ going cpu devices

@@ -8,7 +8,7 @@ use Rattle.mb_walk.specs.Memory.{AreBytes}
 use Rattle.mb_devices.specs.Devices.{DeviceState, idle, ticked, ticks, passed, IsNotDue}
 use Rattle.mb_devices.proofs.Passing.{ticks_pass}
 use Rattle.mb_processor.specs.SystemEnds.{with_registers}
-use Rattle.mb_machine.specs.Machine.{begun, takes_steps}
+use Rattle.mb_machine.specs.Machine.{takes_steps}
 use Rattle.mb_board.specs.Fits.{FitsAlong}
 use Rattle.mb_board.specs.State.{BoardState}
 use Rattle.vm_meaning.specs.declared.RunEnd.TheVariants.{Counted, Exit, Gone}
@@ -36,7 +36,6 @@ use Rattle.vm_guest.proofs.Assisted.{tried_begun}
 
 -- devices at a reset are on
 idle_on : (size : ℕ) → (idle size).off ≡ false
-unfolding idle
 idle_on size = refl
 
 -- so a board that is reset stands for it
@@ -85,7 +84,6 @@ module _ (g : Seat) (board : BoardState) (native : NativeState) (n : ℕ) (may :
       (stands_of g board.world.ram may.seated may.bytes may.small)
 
   stretch : IsStretch g.script (suc n) (guested_on g board.world.ram)
-  unfolding begun
   stretch =
       quiet_steps_are_tried (site_of g) g.script n (start_on g board native).machine (guested_on g board.world.ram) ready.0
       (wanted_along (site_of g) g.script (suc n) (start_on g board native) (guested_on g board.world.ram) ready.0 may.on may.fit)
@@ -98,7 +96,6 @@ module _ (g : Seat) (board : BoardState) (native : NativeState) (n : ℕ) (may :
   -- the devices behind retired steps
   devices_behind : (j : ℕ) → j ≤ n → AllRetired g.script (suc j) (guested_on g board.world.ram)
       → (stepped_by g.script (suc j) (guested_on g board.world.ram)).machine.world.devices ≡ ticks j (begun_seat g).devices
-  unfolding begun
   devices_behind j few all =
       (retired_steps_tick (site_of g) g.script j (start_on g board native).machine (guested_on g board.world.ram) ready.0 all
       (λ k more less. may.arrives k more (omega arith))).0
@@ -186,7 +183,6 @@ module _ (g : Seat) (board : BoardState) (native : NativeState) (n : ℕ) (may :
   -- the next step begins by one tick more
   next_begins : (j : ℕ) → j ≤ n → AllRetired g.script j (guested_on g board.world.ram)
       → (guest_begun g.script (stepped_by g.script j (guested_on g board.world.ram))).machine.world.devices ≡ passed j (begun_seat g).devices
-  unfolding begun
   next_begins zero few all = (ticks_pass zero (begun_seat g).devices (none_due n (begun_seat g).devices may.due)).at_once
   next_begins (suc j) few all =
       let d = (begun_seat g).devices in

@@ -143,12 +143,10 @@ none_again n cpu g e = none_by n cpu g (begun_again cpu g) e
 
 never_again : (script : Entries) (g : Guested) → refills_of_step script g ≡ 0 → let b = guest_begun script g in
     begun_again b.machine.cpu (world_of b) ≡ None
-unfolding refills_of_step
 never_again script g e = let b = guest_begun script g in none_again 30 b.machine.cpu (world_of b) e
 
 class_begins : (script : Entries) (start q : Guested) → guest_begun script start ≡ q
     → step_class_at_first script start ≡ class_at_first (asked_of script q.machine) q.machine.cpu (world_of q)
-unfolding step_class_at_first
 class_begins script start q e = ap (λ (p : Guested). class_at_first (asked_of script p.machine) p.machine.cpu (world_of p)) e
 
 untraced : (a b : Bool) → a ≡ false → b ≡ false → (a || b) ≡ false
@@ -189,7 +187,6 @@ module _ (g s : Seat) (ram : List ℕ) (board : BoardState) (native counts : Nat
       ∙ midway_begins g ram native k n mid board.world.ram counts m
 
   pub begun_is : begun_seat from ≡ s
-  unfolding begun
   begun_is =
       let devices : ticked (arrived (s.steps - 1 + 1) s.script from.devices) ≡ s.devices = ap (λ (q : Guested). q.machine.world.devices) begins in
       let steps : s.steps - 1 + 1 ≡ s.steps = (let some = underway.begun in omega arith) in

@@ -5,7 +5,7 @@ use Rattle.mb_instr.specs.declared.registers.Plain.{Plain}
 use Rattle.mb_model.specs.declared.processor.Cpu.{Cpu}
 use Rattle.mb_devices.specs.Devices.{passed, IsNotDue}
 use Rattle.mb_processor.specs.Step.{interrupt_mask, step_of, rank}
-use Rattle.mb_machine.specs.Machine.{Entries, begun, takes_steps}
+use Rattle.mb_machine.specs.Machine.{Entries, takes_steps}
 use Rattle.vm_meaning.specs.Batches.{NothingArrives}
 use Rattle.vm_meaning.specs.Marks.{trail}
 use Rattle.vm_meaning.specs.Native.{NativeState}
@@ -45,7 +45,6 @@ aside level cpu c h = aside_by (nat_lt (interrupt_mask cpu) (rank level)) cpu.st
 
 stepped_is : (g : Seat) (ram : List ℕ) → let b = begun_seat g in
     ended_at b.steps (run guest_bus (step_of (level_on b) b.cpu) (world_of (guested_on b ram))) ≡ guest_stepped g.script (guested_on g ram)
-unfolding guest_stepped begun
 stepped_is g ram = refl
 
 one_step : (script : Entries) (t : Turned) (c : Class) (n : ℕ) (after : Guested) → takes_steps t.guest.machine.state ≡ true
@@ -54,7 +53,6 @@ one_step script t c n after goes is = is ∙ sym (nothing_turned script (advance
 
 advanced_is : (g : Seat) (ram : List ℕ) (c : Class) → assisted (level_on (begun_seat g)) g.cpu ≡ Some c → let t = turned_on g ram [] in
     by_class c (refills_of_step g.script (guested_on g ram)) (guest_stepped g.script (guested_on g ram)) t ≡ advanced g.script t
-unfolding advanced
 advanced_is g ram c h =
     ap (λ (k : Class). by_class k (refills_of_step g.script (guested_on g ram)) (guest_stepped g.script (guested_on g ram)) (turned_on g ram []))
     (sym (class_begun g ram c h))
@@ -93,7 +91,6 @@ assisted_takes g h ram next native c goes class means tally same seated after wi
 pub idle_takes : (g : Seat) (ram : List ℕ) (native : NativeState) (n : ℕ) → IsSeated g ram → IsGoing g → takes_steps g.state ≡ true
     → assisted (level_on (begun_seat g)) g.cpu ≡ Some Idle → NothingArrives g.script (g.steps + 1) n → IsNotDue n (begun_seat g).devices
     → Takes (n + 1) (scene g ram native) (scene (idled_on n (begun_seat g)) ram native)
-unfolding begun
 idle_takes g ram native n seated going takes tried quiet due =
     let is = idle_assisted (level_on (begun_seat g)) g.cpu tried in
     let d = passed n (begun_seat g).devices in

@@ -76,7 +76,6 @@ fn handed(regs: &Regs, frame: &Frame) -> Plain
 
 impl Rest {
     /// What an access error left.
-    #[tactic(auto, unfolding(vm_machine::specs::Rests::rest_by))]
     fn of_access(left: LeftOver, after: Plain) -> Rest
         requires lawful { IsLawful left }
         ensures means { (level : ℕ) (cpu : CpuValue)

@@ -47,7 +47,6 @@ both_match kept r None = refl
 pub settled_at : (mmu : Mmu) (kept : KeptLists) (r : Reference) (u : Option Bool) (o : Option Kept) → untranslated mmu r ≡ u
     → entry_at_page kept r.space (page_of r.at) ≡ o
     → settled rule_k mmu kept r ≡ by_both r u o
-unfolding settled
 settled_at mmu kept r u o h e = both_match kept r (untranslated mmu r) ∙ ap (λ v. by_both r v (entry_at_page kept r.space (page_of r.at))) h
     ∙ ap (by_both r u) e
 
@@ -102,7 +101,6 @@ search_needed mmu kept r n =
 
 -- a translation without tables does not see whether it writes
 unread : (mmu : Mmu) (r : Reference) → untranslated mmu r ≡ None → untranslated mmu (ref r.code r.space r.at false) ≡ None
-unfolding untranslated
 unread mmu r h = h
 
 -- after a search that found an entry, the page of the search has no shadow entry
@@ -188,12 +186,11 @@ found_fine size g r ram BusError is fine n names count bytes = record {
 
 -- ---- how an access came to its place, as far as the page goes
 
-unfoldable pub Carried : World → Reference → ℕ → Type 0
+abbrev pub Carried : World → Reference → ℕ → Type 0
 Carried w r p = ((protected : Bool) × (untranslated w.mmu r ≡ Some protected) × (p ≡ r.at))
     ⊎ ((k : Kept) × (untranslated w.mmu r ≡ None) × (entry_at_page w.kept r.space (page_of r.at) ≡ Some k) × (admits k r ≡ true) × (p ≡ in_frame k r.at))
 
 pub went_through : (k : Kept) (r : Reference) (p : ℕ) → through k r ≡ Some p → (admits k r ≡ true) × (p ≡ in_frame k r.at)
-unfolding through
 went_through k r p h = elim (cases_Bool (admits k r)) [
   | inl is ↦ (is, same_Some p (in_frame k r.at) (sym h ∙ ap (λ (b : Bool). cond b (Some (in_frame k r.at)) None) is))
   | inr not_so ↦ absurd (let e : None ≡ Some p = sym (ap (λ (b : Bool). cond b (Some (in_frame k r.at)) None) not_so) ∙ h in let z : ⊥ = cc in z)
@@ -206,7 +203,6 @@ known_to None p h = absurd (let z : ⊥ = cc in z)
 pub carried_by : (w : World) (r : Reference) (p : ℕ) (u : Option Bool) (o : Option Kept) → untranslated w.mmu r ≡ u
     → entry_at_page w.kept r.space (page_of r.at) ≡ o
     → by_both r u o ≡ To p → Carried w r p
-unfolding Carried
 carried_by w r p (Some protected) o h e s = elim (cases_Bool (protected && r.write)) [
   | inl out ↦ absurd (let z : Refused ≡ To p = sym (ap (λ (b : Bool). cond b Refused (To r.at)) out) ∙ s in let y : ⊥ = cc in y)
   | inr goes ↦ inl (protected, h, let z : To r.at ≡ To p = sym (ap (λ (b : Bool). cond b Refused (To r.at)) goes) ∙ s in let y : p ≡ r.at = cc in y)
@@ -248,7 +244,6 @@ sides mmu space page h false false = refl
 pub side_none : (mmu : Mmu) (r : Reference) (other : Bool) (to : ℕ) (write : Bool) → page_of to ≡ page_of r.at → is_split mmu r.space (page_of r.at) ≡ false
     → untranslated mmu r ≡ None
     → untranslated mmu (ref other r.space to write) ≡ None
-unfolding untranslated
 side_none mmu r other to write same h u =
     ap (λ (page : ℕ). or_off mmu (matched other mmu r.space page)) same
     ∙ other_none mmu (matched r.code mmu r.space (page_of r.at)) (matched other mmu r.space (page_of r.at)) (sides mmu r.space (page_of r.at) h r.code other) u
@@ -256,7 +251,6 @@ side_none mmu r other to write same h u =
 side_some : (mmu : Mmu) (r : Reference) (other : Bool) (to : ℕ) (write protected : Bool) → page_of to ≡ page_of r.at
     → is_split mmu r.space (page_of r.at) ≡ false
     → untranslated mmu r ≡ Some protected → (also : Bool) × (untranslated mmu (ref other r.space to write) ≡ Some also)
-unfolding untranslated
 side_some mmu r other to write protected same h u =
     let (also, e) = other_some mmu (matched r.code mmu r.space (page_of r.at)) (matched other mmu r.space (page_of r.at)) protected
     (sides mmu r.space (page_of r.at) h r.code other) u in
@@ -272,7 +266,6 @@ admits_reads k r code to h = one k.w r.write (not (k.s && is_user r.space)) h
     one false write c h = h
 
 through_admitted : (k : Kept) (r : Reference) → admits k r ≡ true → through k r ≡ Some (in_frame k r.at)
-unfolding through
 through_admitted k r h = ap (λ (b : Bool). cond b (Some (in_frame k r.at)) None) h
 
 read_unmarked : (k : Kept) (code : Bool) (space : Space) (to : ℕ) → marks k (ref code space to false) ≡ false
@@ -288,7 +281,6 @@ same_place to at p e h = rw h (omega arith)
 pub reads_settled : (w : World) (r : Reference) (p : ℕ) → Carried w r p → is_split w.mmu r.space (page_of r.at) ≡ false → (other : Bool) (to : ℕ)
     → page_of to ≡ page_of r.at
     → settled rule_k w.mmu w.kept (ref other r.space to false) ≡ To (placed_at (p / 4096) to)
-unfolding Carried
 reads_settled w r p (inl (protected, u, e)) h other to same =
     let (also, v) = side_some w.mmu r other to false protected same h u in
     settled_at w.mmu w.kept (ref other r.space to false) (Some also) (entry_at_page w.kept r.space (page_of to)) v refl
@@ -326,7 +318,6 @@ whole_page page = omega arith
 pub writes_settled : (w : World) (r : Reference) (p : ℕ) → Carried w r p → is_split w.mmu r.space (page_of r.at) ≡ false
     → is_writable w r.space (page_of r.at) ≡ true
     → (to : ℕ) → page_of to ≡ page_of r.at → settled rule_k w.mmu w.kept (ref false r.space to true) ≡ To (placed_at (p / 4096) to)
-unfolding Carried untranslated
 writes_settled w r p (inl (protected, u, e)) h may to same =
     let base = 4096 * page_of r.at in
     let (also, v) = side_some w.mmu r false to true protected same h u in

@@ -18,7 +18,7 @@ use Rattle.mb_walk.specs.Memory.{number_at, with_number}
 use Rattle.mb_machine.specs.declared.reference.Reference.{Reference}
 use Rattle.mb_machine.specs.Places.{taken, stored, checked, line_at, taken_line}
 use Rattle.mb_model.specs.Pages.{page_of}
-use Rattle.mb_machine.specs.Bus.{bus_of, fault_of, place_at, fetching_of, reading_of, writing_of, Take, read_by}
+use Rattle.mb_machine.specs.Bus.{fault_of, place_at, fetching_of, reading_of, writing_of, Take, read_by}
 use Rattle.mb_tells.specs.Guarded.{Apart}
 use Rattle.mb_walk.proofs.Parts.{over-again, over-stands}
 use Rattle.mb_machine.proofs.BusLemmas.{taken_memory}
@@ -83,7 +83,6 @@ answered {A} size g code space at len write take Holds t l on_data fits side a e
 probe_inside : (space : Space) (size : ℕ) (p : Piece) (g : Guest) (place : Place) → Sound size g → IsLawful space 0 size (Probe space p)
     → allows_call (Probe space p) g.shadow ≡ true
     → (held_bus (Probe space p) g).0 ≡ Ok place → (0 ≤ place.at) × (place.at + place.len ≤ 0 + size) × (place.len ≡ p.len)
-unfolding bus_of
 probe_inside space size p g place s l may e =
     answered size g false space p.at p.len true checked (λ (q : Place). (0 ≤ q.at) × (q.at + q.len ≤ 0 + size)
     × (q.len ≡ p.len)) s.truthful l.1 (λ z. refl) (piece_fits p l.2)
@@ -92,7 +91,6 @@ probe_inside space size p g place s l may e =
 pub fetched_small : (space : Space) (size at word : ℕ) (g : Guest) → Sound size g → IsLawful space 0 size (Fetch space at)
     → allows_call (Fetch space at) g.shadow ≡ true
     → (held_bus (Fetch space at) g).0 ≡ Ok word → word < 2 ^ 16
-unfolding bus_of
 fetched_small space size at word g s l may e =
     answered size g true space at 2 false taken (λ (n : ℕ). n < 2 ^ 16) s.truthful l.1 (λ z. cc) (word_fits at l.2)
     (λ k h. (number_at g.world.ram k 2, taken_memory g.world (place_at k 2) (holds size g k 2 s h), word_small g.world.ram k s.bytes)) word e may
@@ -100,7 +98,6 @@ fetched_small space size at word g s l may e =
 four_read : (space : Space) (size at : ℕ) (line : List ℕ) (g : Guest) → Sound size g → IsLawful space 0 size (ReadLine space at)
     → allows_call (ReadLine space at) g.shadow ≡ true
     → (held_bus (ReadLine space at) g).0 ≡ Ok line → length line ≡ 4
-unfolding bus_of
 four_read space size at line g s l may e =
     answered size g false space at 16 false taken_line (λ (xs : List ℕ). length xs ≡ 4) s.truthful l.1 (λ z. refl) (line_fits at l.2)
     (λ k h. (line_at g.world.ram k, line_read g.world k (holds size g k 16 s h), refl)) line e may
@@ -120,7 +117,6 @@ same_frame frame other w v h = let a : ℕ × Bool = (frame, w) in let b : ℕ �
 
 pub write_to : (size : ℕ) (g : Guest) (space : Space) (p : Piece) (value frame : ℕ) → Sound size g → IsLawful space 0 size (Write space p value)
     → g.shadow.entries space (page_of p.at) ≡ Some (frame, true) → held_bus (Write space p value) g ≡ (Ok tt, wrote_guest g (placed_at frame p.at) p.len value)
-unfolding bus_of
 write_to size g space p value frame s l e =
     let may : allows g.shadow (ref false space p.at true) ≡ true = ap (λ (o : Option (ℕ × Bool)). lets o true) e in
     let here : Led size g false space p.at true = led size g false space p.at true s.truthful l.1 (λ z. refl) may in

@@ -13,7 +13,7 @@ use Rattle.mb_machine.specs.declared.reference.Reference.{Reference}
 use Rattle.mb_machine.specs.World.{World}
 use Rattle.mb_machine.specs.Places.{taken, stored, checked, taken_line, stored_line}
 use Rattle.mb_machine.specs.Access.{translated}
-use Rattle.mb_machine.specs.Bus.{bus_of, fetching_of, reading_of, writing_of, reference_of, read_at, written_at}
+use Rattle.mb_machine.specs.Bus.{fetching_of, reading_of, writing_of, reference_of, read_at, written_at}
 use Rattle.vm_meaning.proofs.Blind.{IsBlind, taken-blind, taken_line-blind, checked-blind, read-blind, stored-blind, stored_line-blind, write-blind, get-blind}
 use Rattle.vm_meaning.proofs.Blind.{put-blind}
 use Rattle.vm_shadow.specs.Shadows.{Shadowed}
@@ -80,7 +80,6 @@ module _ (size : ℕ) (kept : KeptLists) (shadow : Shadowed) where
   -- what the shadow allows does the same, whatever else is kept and allowed
   held_moved : (space : Space) (c : Call) (s : Guest) → Sound size s → Sound size (moved kept shadow s) → More s.shadow shadow → IsLawful space 0 size c
       → allows_call c s.shadow ≡ true → held_bus c (moved kept shadow s) ≡ answer_moved kept shadow (held_bus c s)
-  unfolding bus_of
   held_moved space (Fetch of at) s sound there more l may =
       access_moved s true of at false 2 (read_at (fetching_of of at) 2 taken) (read-blind (fetching_of of at) 2 taken taken-blind) sound there more l.1
       (λ z. cc) may

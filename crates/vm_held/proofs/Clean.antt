@@ -11,7 +11,6 @@ use Rattle.mb_writes.specs.declared.ends.Ended.TheVariants as ended
 use Rattle.mb_meaning.specs.Ends.{Performed}
 use Rattle.mb_twins.specs.Twins.{SamePerformed, SameEnd}
 use Rattle.mb_machine.specs.Places.{taken, checked, taken_line, stored, stored_line}
-use Rattle.mb_machine.specs.Bus.{bus_of}
 use Rattle.vm_machine.specs.Guests.{Guest, allows_call}
 use Rattle.vm_held.specs.Lawful.{IsLawful}
 use Rattle.vm_machine.specs.Held.{held_bus}
@@ -62,7 +61,6 @@ same_call free space ResetDevices e = absurd e
 answers : (free : Bool) (space : Space) (size : ℕ) (d : Call) (g : Guest) → Sound size g → IsThere (faultless free space) d
     → IsLawful space 0 size (call_here (faultless free space) d)
     → allows_call d g.shadow ≡ true → like (faultless free space) d ((held_bus (call_here (faultless free space) d) g).0) ((held_bus d g).0)
-unfolding bus_of
 answers free space size (Fetch of at) g s e l may =
     subst (λ (t : Space). allows_call (Fetch t at) g.shadow ≡ true
     → Results SameWord (SameFault (faultless free space)) ((held_bus (Fetch space at) g).0) ((held_bus (Fetch t at) g).0)) (sym e)

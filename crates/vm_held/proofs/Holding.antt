@@ -15,7 +15,7 @@ use Rattle.mb_machine.specs.World.{World}
 use Rattle.mb_machine.specs.Places.{in_ram, taken, stored, checked, line_at, taken_line, stored_line}
 use Rattle.mb_model.specs.Pages.{page_of}
 use Rattle.mb_machine.specs.Access.{translated}
-use Rattle.mb_machine.specs.Bus.{bus_of, place_at, Take, Store, read_by, written_by}
+use Rattle.mb_machine.specs.Bus.{place_at, Take, Store, read_by, written_by}
 use Rattle.mb_machine.proofs.Bytes.{bytes-with_number}
 use Rattle.mb_machine.proofs.BusLemmas.{taken_memory, stored_memory}
 use Rattle.mb_tells.specs.Guarded.{IsReading}
@@ -103,7 +103,6 @@ pub checked_reads : (size : ℕ) (g : Guest) (len : ℕ) → Sound size g → Re
 checked_reads size g len s p h = (place_at p len, checked_is g.world p len (holds size g p len s h))
 
 pub held_leaves : (size : ℕ) (space : Space) (c : Call) (g : Guest) → Sound size g → IsLawful space 0 size c → IsReading c → (held_bus c g).1 ≡ g
-unfolding bus_of
 held_leaves size space (Fetch of at) g s l r = read_leaves size g true of at 2 false taken s.truthful l.1 (λ z. cc) (word_fits at l.2) (taken_reads size g 2 s)
 held_leaves size space (Read of p) g s l r = read_leaves size g false of p.at p.len false taken s.truthful l.1 (λ z. refl) (piece_fits p l.2)
     (taken_reads size g p.len s)
@@ -178,7 +177,6 @@ line_writes size g line s p h = line_written g.world p line (holds size g p 16 s
 -- ---- every lawful call
 
 pub held_sound : (size : ℕ) (space : Space) (c : Call) (g : Guest) → Sound size g → IsLawful space 0 size c → Sound size (held_bus c g).1
-unfolding bus_of
 held_sound size space (Fetch of at) g s l = subst (Sound size) (sym (held_leaves size space (Fetch of at) g s l tt)) s
 held_sound size space (Read of p) g s l = subst (Sound size) (sym (held_leaves size space (Read of p) g s l tt)) s
 held_sound size space (Write of p value) g s l =

@@ -7,7 +7,7 @@ use Rattle.mb_port.specs.declared.types.Space.{Space}
 use Rattle.mb_port.specs.declared.types.Fault.{Fault}
 use Rattle.mb_machine.specs.World.{World}
 use Rattle.mb_machine.specs.Places.{stored, stored_line}
-use Rattle.mb_machine.specs.Bus.{bus_of, place_at, Store, written_by}
+use Rattle.mb_machine.specs.Bus.{place_at, Store, written_by}
 use Rattle.mb_machine.proofs.BusLemmas.{taken_memory, stored_memory}
 use Rattle.mb_model.specs.Keeping.{rule_k}
 use Rattle.vm_machine.specs.Guests.{Guest, ref, allows, placed_at}
@@ -34,7 +34,6 @@ write_only size g space at len store s l fits after side only =
     ]
 
 pub held_keeps : HeldKeeps
-unfolding bus_of
 held_keeps space size (Fetch of at) g s l = only_same g _ (held_leaves size space (Fetch of at) g s l tt)
 held_keeps space size (Read of p) g s l = only_same g _ (held_leaves size space (Read of p) g s l tt)
 held_keeps space size (Write of p value) g s l =

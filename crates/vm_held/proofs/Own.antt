@@ -33,7 +33,6 @@ left_alone c g e =
     ap (λ (s : Shadowed). (let q : Answer c × Guest = ((bus_of rule_k c g.world).0, record { world = (bus_of rule_k c g.world).1; shadow = s }) in q)) e
 
 pub guest_is_held : GuestIsHeld
-unfolding shadow_after
 guest_is_held space size (Fetch of at) g s l may =
     left_alone (Fetch of at) g (shadow_same size g true of at false s.truthful l.1 (λ z. cc) may)
     ∙ sym (held_is (allows g.shadow (fetching_of of at)) (plain_bus (Fetch of at) g) (fetching_of of at) 2 g may)

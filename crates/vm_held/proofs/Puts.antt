@@ -116,7 +116,7 @@ filled_one k g = filled_in 256 k (list_of 0 g.world.kept) ∷ []
 searched_carried : (size : ℕ) (g : Guest) (r : Reference) (ram : List ℕ) (f : Found) → Fine size g → settled rule_k g.world.mmu g.world.kept r ≡ Unsettled
     → OnEntry f (λ k. (k.space ≡ r.space) × (k.page ≡ page_of r.at)) → (p : ℕ) → (by_found rule_k (record g.world { ram = ram }) r f).0 ≡ Some p
     → Carried (after_found g r ram f).world r p
-unfolding Carried filled_one
+unfolding filled_one
 searched_carried size g r ram (Entry k status) fine n (s, q) p e =
     let (may, is) = went_through k r p e in
     inr (
@@ -133,7 +133,6 @@ searched_carried size g r ram BusError fine n names p e = absurd (let z : None �
 
 by_search_fine : (size : ℕ) (g : Guest) (r : Reference) → IsReference r → Fine size g → settled rule_k g.world.mmu g.world.kept r ≡ Unsettled
     → Whole size r g Unsettled (searched rule_k g.world r)
-unfolding searched
 by_search_fine size g r is fine n =
     let s = search_for g.world r in
     let big = has_big_pages g.world.mmu in
@@ -154,7 +153,6 @@ by_settled_fine size g r is fine Unsettled e = by_search_fine size g r is fine e
 -- how an access came to its place
 pub access_carried : (size : ℕ) (g : Guest) (r : Reference) → Fine size g → (s : Settled) → settled rule_k g.world.mmu g.world.kept r ≡ s
     → (p : ℕ) → (by_settled rule_k g.world r s).0 ≡ Some p → Carried (by_settled rule_k g.world r s).1 r p
-unfolding searched
 access_carried size g r fine (To q) e p h =
     subst (Carried g.world r) (same_Some q p h)
     (carried_by g.world r q (untranslated g.world.mmu r) (entry_at_page g.world.kept r.space (page_of r.at)) refl refl

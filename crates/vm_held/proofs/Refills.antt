@@ -25,14 +25,14 @@ use Rattle.mb_writes.specs.declared.transfers.Movem.{Movem}
 use Rattle.mb_writes.specs.declared.ends.Ended.{Ended as End}
 use Rattle.mb_writes.specs.declared.ends.Ended.TheVariants as ended
 use Rattle.mb_meaning.specs.Ends.{Carried as Done, OtherEnd as Stop, Performed}
-use Rattle.mb_meaning.specs.Rows.{perform_of, row_of}
+use Rattle.mb_meaning.specs.Rows.{perform_of}
 use Rattle.mb_meaning.specs.Attempt.{Unfound, NoInstruction, Unfetched, FoundInstr, fetched_of, past}
 use Rattle.mb_attempts.proofs.Attempts.{attempts_perform, attempts_find_none}
 use Rattle.mb_twins.specs.Twins.{SamePerformed, MayRefuse}
 use Rattle.mb_twins.proofs.Step.{SameFound, SameUnfound, fetched_twins, perform_twins}
 use Rattle.mb_tells.specs.Left.{Answered, LeftBy}
 use Rattle.mb_tells.specs.Laws.{HasLongs, moves}
-use Rattle.mb_tells.proofs.Step.{FoundLeft, Founds, fetched_tells, perform_tells}
+use Rattle.mb_tells.proofs.Step.{FoundLeft, fetched_tells, perform_tells}
 use Rattle.mb_model.specs.Keeping.{rule_k}
 use Rattle.mb_model.specs.Pages.{page_of}
 use Rattle.mb_model.specs.declared.kept.Kept.{Kept}
@@ -44,13 +44,13 @@ use Rattle.mb_machine.specs.declared.reference.Settled.{Settled}
 use Rattle.mb_machine.specs.declared.reference.Settled.TheVariants.{To, Refused, Unsettled}
 use Rattle.mb_machine.specs.World.{World}
 use Rattle.mb_machine.specs.Places.{taken, taken_line}
-use Rattle.mb_machine.specs.Access.{search_for, settled, by_found, searched, by_settled, translated}
-use Rattle.mb_machine.specs.Bus.{bus_of, fetching_of, reading_of, writing_of, reference_of, fault_of, read_at}
+use Rattle.mb_machine.specs.Access.{search_for, settled, by_found, by_settled, translated}
+use Rattle.mb_machine.specs.Bus.{fetching_of, reading_of, writing_of, reference_of, fault_of, read_at}
 use Rattle.vm_shadow.specs.Shadows.{Shadowed, is_at, nothing, room_for, filled}
 use Rattle.vm_shadow.specs.Slots.{is_full_for}
 use Rattle.vm_shadow.proofs.Held.{at_is, at_self}
 use Rattle.vm_machine.specs.Guests.{Guest, lets, allows, allows_any, allows_call, placed_at, IsReference}
-use Rattle.vm_machine.specs.Bus.{gone, without_kept, is_split, is_in_ram, is_writable, puts_entry, put_entry_of, accessed, shadow_after, guest_bus}
+use Rattle.vm_machine.specs.Bus.{gone, without_kept, is_split, is_in_ram, is_writable, puts_entry, put_entry_of, accessed, guest_bus}
 use Rattle.vm_machine.specs.Held.{plain_bus, or_refused, held_bus}
 use Rattle.vm_machine.specs.Refills.{told_by, read_in, denied_read, shows_nothing, can_refill, after_access, refilled_at}
 use Rattle.vm_machine.proofs.Judged.{allowed_accesses_are_still}
@@ -149,7 +149,6 @@ by_place g r reads (Some at, w) e h =
     }
 
 pub refillable : (g : Guest) (r : Reference) → can_refill g r ≡ true → Refillable g r
-unfolding can_refill
 refillable g r h =
     let (a, b) = both (not r.write) (shows_nothing g r (translated rule_k r g.world)) h in
     by_place g r (is_not r.write a) (translated rule_k r g.world) refl b
@@ -166,7 +165,6 @@ found_only w r ram Invalid = refl
 found_only w r ram BusError = refl
 
 settled_only : (w : World) (r : Reference) (s : Settled) → OnlyKept w (by_settled rule_k w r s).1
-unfolding searched
 settled_only w r (To at) = refl
 settled_only w r Refused = refl
 settled_only w r Unsettled =
@@ -239,7 +237,6 @@ module _ (size : ℕ) (g : Guest) (r : Reference) (is : IsReference r) (fine : F
       (access_carried size g r fine s refl can.place (sym (ap (λ (t : Option ℕ × World). t.0) t) ∙ can.leads))
 
   own_place : placed_at (page_of can.place) r.at ≡ can.place
-  unfolding Carried
   own_place = elim carried [
     | inl (protected, u, e) ↦ let x : can.place ≡ r.at = e in omega arith
     | inr (k, u, found, may, e) ↦ let x : can.place ≡ 4096 * k.frame + r.at % 4096 = e in omega arith
@@ -281,7 +278,6 @@ no_write : (size : ℕ) (c : Call) (g : Guest) (r : Reference) → r.write ≡ t
 no_write size c g r w is fine denied can = contradicts r.write w can.reads
 
 call_again : (size : ℕ) (c : Call) (g : Guest) (r : Reference) → reference_of c ≡ Some r → Again size c g r
-unfolding bus_of shadow_after
 call_again size (Fetch of at) g r e =
     subst (Again size (Fetch of at) g) (same_Some (fetching_of of at) r e)
     (λ is fine denied can. by_again size g (fetching_of of at) is fine denied can (read_at (fetching_of of at) 2 taken))
@@ -504,7 +500,6 @@ left_read space size g now before after moves rest (ended.Movem refused) r c fir
 found_left : (space : Space) (size : ℕ) (g now : Guest) (rest : Routine FoundInstr) (y : Unfound) (f : ReadFault) (c : Call) → y ≡ Unfetched f
     → first_call rest ≡ Some c → IsLawful space 0 size c → allows_call c now.shadow ≡ false → FoundLeft (held_guard space size g) rest now y
     → (reference_of c ≡ Some (told_by f.fault)) × (now ≡ g)
-unfolding FoundLeft
 found_left space size g now rest (NoInstruction vector) f c e first l no_leave told = absurd told
 found_left space size g now rest (Unfetched y) f c e first l no_leave (answered, unwritten) =
     let same : y ≡ f = cc in (
@@ -518,7 +513,6 @@ SameFetch space = Results SameFound (SameUnfound (faultless true space))
 
 fetch_tells : (space : Space) (size pc : ℕ) (g : Guest) → pc < 2 ^ 32 → Sound size g
     → Telling space size g (fetched_of space pc) (FoundLeft (held_guard space size g)) (λ found h. (Sound size h × (h ≡ g)) × IsInstr found.0) (SameFetch space)
-unfolding Founds
 fetch_tells space size pc g lt s =
     let tells = fetched_tells (held_guard space size g) space (held_guards space size g) pc lt in record {
       free = true;
@@ -662,7 +656,6 @@ module _ (space : Space) (size : ℕ) (p : Plain) (g : Guest) (longs : HasLongs 
   -- a privileged instruction is refused, and reads nothing
   by_instr : (i : Instr) (n : ℕ) → IsInstr i → run held_bus fetch g ≡ (Ok (i, n), g) → run guest_bus fetch g ≡ (Ok (i, n), g)
       → denied_read (run held_bus (perform_of i p.pc space (past n p)) g).0 ≡ Some r → Again_ Then_
-  unfolding perform_of row_of
   by_instr (instr.Move i) n is held own reads = row_denied (instr.Move i) n is tt tt held own reads
   by_instr (instr.Arith i) n is held own reads = row_denied (instr.Arith i) n is tt tt held own reads
   by_instr (instr.Flow i) n is held own reads = row_denied (instr.Flow i) n is tt tt held own reads

@@ -23,12 +23,12 @@ use Rattle.mb_writes.specs.declared.ends.Ended.TheVariants as ended
 use Rattle.mb_meaning.specs.Ends.{Performed}
 use Rattle.mb_meaning.specs.Attempt.{Unfound, NoInstruction, Unfetched, FoundInstr, by_decoded, found_of, fetched_of}
 use Rattle.mb_instr.specs.declared.counts.TheConstants.{MOST_WORDS}
-use Rattle.mb_meaning.specs.Rows.{perform_of, row_of}
+use Rattle.mb_meaning.specs.Rows.{perform_of}
 use Rattle.mb_twins.specs.Twins.{SameEnd, SamePerformed, MayRefuse}
 use Rattle.mb_twins.proofs.Step.{SameFound, SameUnfound, fetched_twins, perform_twins}
 use Rattle.mb_tells.specs.Left.{LeftBy, completing_writes, completing_line, completing_transfers}
 use Rattle.mb_tells.specs.Laws.{moves, HasLongs}
-use Rattle.mb_tells.proofs.Step.{FoundLeft, Founds, fetched_tells, perform_tells}
+use Rattle.mb_tells.proofs.Step.{FoundLeft, fetched_tells, perform_tells}
 use Rattle.mb_decode.specs.declared.front.Decoded.{Decoded}
 use Rattle.mb_decode.specs.declared.front.Decoded.TheVariants as decoded
 use Rattle.mb_decode.specs.Decodes.{decode_of}
@@ -165,7 +165,6 @@ module _ (space : Space) (size : ℕ) (g : Guest) (s : Sound size g) where
   is_even n h = grind (arith, nat_tests)
 
   pub fetched_still : (pc : ℕ) → pc < 2 ^ 32 → Still (fetched_of space pc)
-  unfolding fetched_of
   fetched_still pc lt = chosen_still (pc % 2 == 1) _ _ (λ odd. refl) (λ even. found_still MOST_WORDS pc [] (is_even pc even) lt)
 
 -- ---- the laws
@@ -173,7 +172,6 @@ module _ (space : Space) (size : ℕ) (g : Guest) (s : Sound size g) where
 denied_fetch : (space : Space) (size : ℕ) (g : Guest) (rest : Routine FoundInstr) (now : Guest) (e : Unfound) → FoundLeft (held_guard space size g) rest now e
     → (k : FoundInstr) → k ≡ Err e
     → (refused : ReadFault) × (k ≡ Err (Unfetched refused))
-unfolding FoundLeft
 denied_fetch space size g rest now (Unfetched f) told k is = (f, is)
 denied_fetch space size g rest now (NoInstruction vector) told k is = absurd told
 
@@ -185,7 +183,6 @@ found_is space size g h (Err (NoInstruction vector)) same after = tt
 found_is space size g h (Err (Unfetched refused)) same after = let z : false ≡ true = same.fault.0 in let y : ⊥ = cc in y
 
 pub fetches_go_on : FetchesGoOn
-unfolding Founds FoundLeft
 fetches_go_on space size pc g lt s =
     let guard = held_guard space size g in
     let Same : FoundInstr → FoundInstr → Type 0 = Results SameFound (SameUnfound (faultless true space)) in (
@@ -261,7 +258,6 @@ rows_by space size i at p g may is longs s =
     ]
 
 pub rows_go_on : RowsGoOn
-unfolding perform_of row_of
 rows_go_on space size (instr.Move i) at p g is longs s = rows_by space size (instr.Move i) at p g tt is longs s
 rows_go_on space size (instr.Arith i) at p g is longs s = rows_by space size (instr.Arith i) at p g tt is longs s
 rows_go_on space size (instr.Flow i) at p g is longs s = rows_by space size (instr.Flow i) at p g tt is longs s

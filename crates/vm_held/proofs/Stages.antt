@@ -20,15 +20,12 @@ use Rattle.mb_machine.proofs.BusLemmas.{takes_memory}
 
 pub settled_by : (rule : Rule) (mmu : Mmu) (kept : KeptLists) (r : Reference) (o : Option Kept) → untranslated mmu r ≡ None
     → entry_for rule r.code r.space (page_of r.at) kept ≡ o → settled rule mmu kept r ≡ by_entry r o
-unfolding settled
 settled_by rule mmu kept r o h e = ap (by_match rule kept r) h ∙ ap (by_entry r) e
 
 pub entry_used : (k : Kept) (r : Reference) → marks k r ≡ false → by_entry r (Some k) ≡ known (through k r)
-unfolding by_entry
 entry_used k r h = rw h refl
 
 pub entry_marked : (k : Kept) (r : Reference) → marks k r ≡ true → by_entry r (Some k) ≡ Unsettled
-unfolding by_entry
 entry_marked k r h = rw h refl
 
 pub by_known : (rule : Rule) (w : World) (r : Reference) (o : Option ℕ) → by_settled rule w r (known o) ≡ (o, w)
@@ -40,7 +37,6 @@ unfolding translated
 translated_by rule w r s e = ap (by_settled rule w r) e
 
 pub no_entry : (r : Reference) → by_entry r None ≡ Unsettled
-unfolding by_entry
 no_entry r = refl
 
 pub reads_found : {A : Type 0} (rule : Rule) (r : Reference) (len : ℕ) (take : Take A) (w u : World) (p : ℕ) (a : A)
@@ -65,12 +61,10 @@ pub paired : {A B : Type 0} (t : A × B) (a : A) → t.0 ≡ a → t ≡ (a, t.1
 paired {A} {B} t a e = ap (λ (o : A). (let p : A × B = (o, t.1) in p)) e
 
 pub line_read : (w : World) (p : ℕ) → in_ram (length w.ram) p 16 ≡ true → taken_line (place_at p 16) w ≡ (Some (line_at w.ram p), w)
-unfolding taken_line
 line_read w p h = rw h refl
 
 pub line_written : (w : World) (p : ℕ) (line : List ℕ) → in_ram (length w.ram) p 16 ≡ true
     → stored_line (place_at p 16) line w ≡ Some (record w { ram = with_longs w.ram p line })
-unfolding stored_line
 line_written w p line h = rw h refl
 
 pub checked_is : (w : World) (p len : ℕ) → in_ram (length w.ram) p len ≡ true → checked (place_at p len) w ≡ (Some (place_at p len), w)

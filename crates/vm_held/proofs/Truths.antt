@@ -5,7 +5,7 @@ use Rattle.mb_model.specs.Keeping.{list_of, Apart, KeptLists, rule_k, flushed, a
 use Rattle.mb_walk.specs.Memory.{AreBytes}
 use Rattle.mb_machine.specs.World.{World, HasBytes}
 use Rattle.mb_machine.specs.Access.{translated, matched, or_off, untranslated, by_match, settled, root_of}
-use Rattle.mb_machine.specs.Bus.{bus_of, fetching_of, reading_of, writing_of, tested, after_set_mmu, tested_by}
+use Rattle.mb_machine.specs.Bus.{bus_of, fetching_of, reading_of, writing_of, after_set_mmu, tested_by}
 use Rattle.mb_machine.specs.Laws.{IsBeneath, IsWhole}
 use Rattle.mb_machine.proofs.Bytes.{bus-bytes}
 use Rattle.mb_machine.proofs.Beneath.{calls_stand_beneath, places_stand_beneath, sizes_stay}
@@ -56,13 +56,11 @@ unseen_off mmu value (Some protected) = refl
 unseen_off mmu value None = refl
 
 unseen_by : (mmu : Mmu) (value : ℕ) (r : Reference) → untranslated (record mmu { mmusr = value }) r ≡ untranslated mmu r
-unfolding untranslated
 unseen_by mmu value r =
     unseen_off mmu value (matched r.code (record mmu { mmusr = value }) r.space (page_of r.at))
     ∙ ap (or_off mmu) (unseen_side mmu value r.code r.space (page_of r.at))
 
 unseen_settled : (mmu : Mmu) (value : ℕ) (kept : KeptLists) (r : Reference) → settled rule_k (record mmu { mmusr = value }) kept r ≡ settled rule_k mmu kept r
-unfolding settled
 unseen_settled mmu value kept r = ap (by_match rule_k kept r) (unseen_by mmu value r)
 
 unseen : (size : ℕ) (g : Guest) (value : ℕ) → Fine size g → Fine size (record g { world = record g.world { mmu = record g.world.mmu { mmusr = value } } })
@@ -85,7 +83,6 @@ unseen size g value fine =
 
 register_fine : (size : ℕ) (g : Guest) (which : MmuReg) (value : ℕ) → Fine size g
     → Fine size (record { world = after_set_mmu rule_k which value g.world; shadow = shadow_after (SetMmu which value) g.world g.shadow })
-unfolding after_set_mmu shadow_after
 register_fine size g Tc value fine = forgotten size g _ fine
 register_fine size g Itt0 value fine = forgotten size g _ fine
 register_fine size g Itt1 value fine = forgotten size g _ fine
@@ -154,12 +151,10 @@ is_writing space at l = record { at = l; on_data = λ h. refl }
 
 -- the calls that translate nothing
 unchanged_fine : (size : ℕ) (g : Guest) → Fine size g → Fine size (record { world = (bus_of rule_k ReadMmu g.world).1; shadow = g.shadow })
-unfolding bus_of
 unchanged_fine size g fine = fine
 
 set_fine : (size : ℕ) (g : Guest) (which : MmuReg) (value : ℕ) → Fine size g
     → Fine size (record { world = (bus_of rule_k (SetMmu which value) g.world).1; shadow = shadow_after (SetMmu which value) g.world g.shadow })
-unfolding bus_of
 set_fine size g which value fine = register_fine size g which value fine
 
 flush_fine : (size : ℕ) (g : Guest) (what : Flush) → Fine size g
@@ -174,7 +169,6 @@ flush_fine size g what fine =
 
 flushed_fine : (size : ℕ) (g : Guest) (what : Flush) → Fine size g
     → Fine size (record { world = (bus_of rule_k (FlushKept what) g.world).1; shadow = shadow_after_flush what g.world.kept g.shadow })
-unfolding bus_of
 flushed_fine size g what fine = flush_fine size g what fine
 
 -- PTEST drops a page, or both halves of one
@@ -207,16 +201,13 @@ tested_fine : (size : ℕ) (g : Guest) (space : Space) (at : ℕ) (write : Bool)
       world = (bus_of rule_k (Test space at write) g.world).1;
       shadow = shadow_after_test (has_big_pages g.world.mmu) (matched false g.world.mmu space (page_of at)) space (page_of at) g.world.kept g.shadow;
     })
-unfolding bus_of tested
 tested_fine size g space at write fine = test_fine size g space (page_of at) write (matched false g.world.mmu space (page_of at)) fine
 
 reset_fine : (size : ℕ) (g : Guest) → Fine size g → Fine size (record { world = (bus_of rule_k ResetDevices g.world).1; shadow = g.shadow })
-unfolding bus_of
 reset_fine size g fine = fine_behind size g.world (bus_of rule_k ResetDevices g.world).1 g.shadow fine (record { mmu = refl; kept = refl }) fine.sound.count
     fine.sound.bytes
 
 pub calls_keep_truth : CallsKeepTruth
-unfolding shadow_after
 calls_keep_truth size (Fetch space at) g l fine =
     let c = Fetch space at in fine_access size c g fine (fetching_of space at) (is_reading true space at l) tt (calls_stand_beneath rule_k c g.world)
 calls_keep_truth size (Read space p) g l fine =

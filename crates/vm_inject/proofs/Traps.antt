@@ -11,7 +11,7 @@ use Rattle.mb_processor.specs.declared.entering.Cause.{Cause}
 use Rattle.mb_processor.specs.declared.entering.Entered.TheVariants as entered
 use Rattle.mb_processor.specs.Entry.{Entrance, awake, enter_of}
 use Rattle.mb_processor.specs.SystemEnds.{with_registers}
-use Rattle.mb_processor.specs.Raise.{Stepped, unchecked_of, raised, raise_of}
+use Rattle.mb_processor.specs.Raise.{Stepped, unchecked_of, raised}
 use Rattle.mb_step.proofs.Entries.{unchecked_awake}
 use Rattle.vm_meaning.specs.Finishes.{finish_trap_of}
 
@@ -38,7 +38,6 @@ pub trap_unchecked : {S : Type 0} (bus : Bus S) (cause : Cause) (before : Plain)
     → left ≡ record cpu { regs = left.regs; stopped = false } → left.regs ≡ cpu.regs → back ≡ with_plain left.regs before
     → run bus (unchecked_of false fault (holding back left)) t ≡ stepped
     → run bus (finish_trap_of cause before cpu) s ≡ stepped
-unfolding finish_trap_of raise_of
 trap_unchecked bus cause before cpu left back fault s t stepped h others same k u =
     ap (entered_trap bus cause (with_registers before cpu)) h
     ∙ sym (unchecked_awake bus false fault (with_registers before cpu) t)

@@ -23,7 +23,6 @@ use mb_writes::{continue_movem, write_pieces};
 /// `before` are the registers before the instruction. Where the frame has no place they come back, and an access error
 /// is entered in its place, as in the manual's chapter on exception processing. `Halted` comes where that one's frame
 /// has no place either, or a vector cannot be read.
-#[tactic(auto, unfolding(vm_meaning::specs::Finishes::finish_trap_of, mb_processor::specs::Raise::raise_of))]
 pub fn finish_trap<P: Port>(cause: &Cause, before: &Plain, cpu: &mut Cpu, port: &mut P) -> StepEnd
     requires { cause.now.level < 8 }
     ensures means { by_its_end (run P.bus (finish_trap_of cause.now before.now cpu.old) (P.world port.old))
@@ -46,7 +45,6 @@ pub fn finish_trap<P: Port>(cause: &Cause, before: &Plain, cpu: &mut Cpu, port: 
 /// A refused piece is left with those after it, and an access error is entered whose frame names them as writebacks,
 /// and `first` as the first byte of their operand. PC is the next instruction's. `Halted` comes where that frame has no
 /// place, or vector 2 cannot be read.
-#[tactic(auto, unfolding(vm_meaning::specs::Finishes::finish_writes_of, mb_processor::specs::Step::finish_unfinished_of))]
 pub fn finish_writes<P: Port>(pending: &[Pend], first: u32, cpu: &mut Cpu, port: &mut P) -> StepEnd
     requires few { length pending.now ≤ 3 }
     requires pieces { ArePending pending.now }
@@ -68,7 +66,6 @@ pub fn finish_writes<P: Port>(pending: &[Pend], first: u32, cpu: &mut Cpu, port:
 ///
 /// A refused line is left whole, and an access error is entered whose frame has it. PC is the next instruction's.
 /// `Halted` comes where that frame has no place, or vector 2 cannot be read.
-#[tactic(auto, unfolding(vm_meaning::specs::Finishes::finish_line_of, mb_processor::specs::Step::finish_unwritten_line_of))]
 pub fn finish_line<P: Port>(at: u32, line: [u32; 4], cpu: &mut Cpu, port: &mut P) -> StepEnd
     requires { at % 16 ≡ 0 }
     ensures means { by_its_end (run P.bus (finish_line_of at line cpu.old) (P.world port.old))
@@ -91,7 +88,6 @@ pub fn finish_line<P: Port>(at: u32, line: [u32; 4], cpu: &mut Cpu, port: &mut P
 /// refused transfer leaves what was loaded, and an access error is entered whose frame tells how far the MOVEM came, as
 /// in the manual's chapter on the access error. `Halted` comes where that frame has no place, or vector 2 cannot be
 /// read.
-#[tactic(auto, unfolding(vm_meaning::specs::Finishes::finish_movem_of, mb_processor::specs::Step::finish_untransferred_of))]
 pub fn finish_movem<P: Port>(
     words: u32,
     ea: u32,

@@ -34,7 +34,6 @@ fn length_in(status: u16) -> u8
 }
 
 /// The piece of writeback 1, whose data are where the memory's long has them.
-#[tactic(auto, unfolding(mb_port::specs::Pieces::unlaid, mb_writes::specs::Writing::part_of))]
 fn first_pend(access: &Access) -> Pend
     requires { length_in access.now.wb1s ≢ 16 }
     ensures { result ≡ first_pend access.now }
@@ -46,7 +45,6 @@ fn first_pend(access: &Access) -> Pend
 }
 
 /// The pieces that are still to be written, in order.
-#[tactic(auto, unfolding(vm_meaning::specs::Frames::pending_in))]
 fn pending_in(access: &Access) -> ArrayVec<Pend, 3>
     requires { length_in access.now.wb1s ≢ 16 }
     ensures { result.items ≡ pending_in access.now }
@@ -77,7 +75,7 @@ fn pending_in(access: &Access) -> ArrayVec<Pend, 3>
 ///
 /// Of a MOVEM at most as many transfers are done as its mask names. The fields are those of the manual's chapter on the
 /// access error's frame.
-#[tactic(auto, unfolding(vm_meaning::specs::Frames::left_in), using(mb_entry::proofs::Counts::count_few))]
+#[tactic(auto, using(mb_entry::proofs::Counts::count_few))]
 pub fn left_in(access: &Access) -> LeftOver
     requires { continues access.now ≡ true → access.now.pd3 ≤ count_of (mask_in access.now.pd2) }
     ensures { result ≡ left_in access.now }

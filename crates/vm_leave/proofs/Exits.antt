@@ -18,10 +18,9 @@ use Rattle.mb_processor.specs.declared.Finish.TheVariants as finish
 use Rattle.mb_processor.specs.Entry.{Entrance, frames_of}
 use Rattle.mb_processor.specs.Raise.{Stepped, Raised, traces_all, is_due, ends_step, access_cause, access_error_of, cause_at, raised, raise_of, trace_if_of}
 use Rattle.mb_processor.specs.Raise.{raise_trap_of, refuse_of, with_ct}
-use Rattle.mb_processor.specs.Step.{by_page_size, movem_words, finish_unread_of, finish_unfinished_of, unbegun_of, finish_unwritten_of, finish_unwritten_line_of, finish_untransferred_of, is_flow, finish_instruction_of}
+use Rattle.mb_processor.specs.Step.{by_page_size, movem_words, finish_unread_of, finish_unwritten_of, is_flow}
 use Rattle.mb_attempts.specs.Attempts.{IsUntraced}
 use Rattle.mb_machine.specs.World.{World}
-use Rattle.mb_machine.specs.Bus.{bus_of}
 use Rattle.mb_machine.specs.Enters.{IsUntranslated, HasRoom}
 use Rattle.mb_machine.proofs.Bytes.{bytes-overwritten}
 use Rattle.mb_machine.proofs.Enters.{enters_stacked, frames_are_bytes}
@@ -33,7 +32,6 @@ use Rattle.vm_leave.specs.Exits.{writing_exit, left, BoardLeaves, FramesLeaveRea
 module _ (b : World) (small : has_big_pages b.mmu ≡ false) (o : IsUntranslated b.mmu) where
   access_entered : (pc : ℕ) (access : Access) (cpu : Cpu) → HasRoom b (access_cause pc access) cpu
       → run board_bus (access_error_of pc access cpu) b ≡ left (record { cause = access_cause pc access; cpu = cpu }) b
-  unfolding access_error_of
   access_entered pc access cpu room =
       ap (λ (q : Entrance × World). (let s : Stepped × World = ((ends_step q.0.0, q.0.1), q.1) in s))
       (enters_stacked rule_a b (access_cause pc access) cpu o room)
@@ -44,13 +42,11 @@ module _ (b : World) (small : has_big_pages b.mmu ≡ false) (o : IsUntranslated
   sized_entered : (pc : ℕ) (access : ℕ → Access) (cpu : Cpu) → HasRoom b (access_cause pc (access PAGE_SIZE)) cpu
       → run board_bus (by_page_size (λ page. access_error_of pc (access page) cpu)) b
       ≡ left (record { cause = access_cause pc (access PAGE_SIZE); cpu = cpu }) b
-  unfolding bus_of
   sized_entered pc access cpu room =
       ap (λ (page : ℕ). run board_bus (access_error_of pc (access page) cpu) b) by_page ∙ access_entered pc (access PAGE_SIZE) cpu room
 
   raise_entered : (is_trace : Bool) (c : Cause) (kept cpu : Cpu) → HasRoom b c cpu
       → let e = left (record { cause = c; cpu = cpu }) b in run board_bus (raise_of is_trace c kept cpu) b ≡ (Ok (e.0.1), e.1)
-  unfolding raise_of
   raise_entered is_trace c kept cpu room =
       ap (λ (q : Entrance × World). run board_bus (raised is_trace kept q.0.0 q.0.1) q.1) (enters_stacked rule_a b c cpu o room)
 
@@ -64,7 +60,6 @@ module _ (b : World) (small : has_big_pages b.mmu ≡ false) (o : IsUntranslated
 
   trap_entered : (vector : ℕ) (before after : Cpu) → IsUntraced before → let c = cause_at vector after.regs.pc before.regs.pc in HasRoom b c after
       → run board_bus (raise_trap_of vector before after) b ≡ left (record { cause = c; cpu = after }) b
-  unfolding raise_trap_of
   trap_entered vector before after plain room =
       let c = cause_at vector after.regs.pc before.regs.pc in
       let e = left (record { cause = c; cpu = after }) b in
@@ -76,14 +71,13 @@ module _ (b : World) (small : has_big_pages b.mmu ≡ false) (o : IsUntranslated
   write_entered : (due : Bool) (refused : WriteFault) (rest : List Pend) (before after : Cpu) → let e = writing_exit due refused rest before after in
       HasRoom b e.cause e.cpu
       → run board_bus (finish_unwritten_of due refused rest before after) b ≡ left e b
-  unfolding unbegun_of finish_unfinished_of
   write_entered due refused [] before after room =
       sized_entered before.regs.pc (λ page. write_fields refused.fault refused.first [] page) before room
   write_entered due refused (piece ∷ pieces) before after room =
       sized_entered after.regs.pc (λ page. with_ct due (write_fields refused.fault refused.first refused.rest.items page)) after room
 
 pub board_leaves : BoardLeaves
-unfolding finish_instruction_of finish_unread_of finish_unwritten_line_of finish_untransferred_of
+unfolding finish_unread_of
 board_leaves b i (ended.Done flow) before after plain end small o room = absurd end
 board_leaves b i (ended.Trap vector) before after plain end small o room = trap_entered b small o vector before after plain room
 board_leaves b i (ended.Refused vector) before after plain end small o room = refused_entered b small o vector before room

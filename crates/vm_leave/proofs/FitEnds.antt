@@ -220,7 +220,6 @@ module _ (i : Instr) (space : Space) where
       cmp2_fits i space size ea word word_at p (formed_behind_word size ea word is.are_words) fit
 
   perform_flow_fits : (row : Flow) (word_at : ℕ) (p : Plain) → IsInstr (instr.Flow row) → IsFit p → Row i (perform_flow_of row word_at space p)
-  unfolding perform_flow_of
   perform_flow_fits flow.Nop word_at p is fit = row_done i _
   perform_flow_fits (flow.Bcc condition displacement) word_at p is fit = branch_fits i space condition displacement word_at p fit
   perform_flow_fits (flow.Dbcc condition register displacement) word_at p is fit = dbcc_fits i space condition register displacement word_at p
@@ -250,7 +249,6 @@ movem_long i is = words_long (word_of (row i).opcode) (further (row i)) (opcode_
 
 row_fits : (i : Instr) (space : Space) (size at : ℕ) (p : Plain) (g : Guest) → Sound size g → IsInstr i → AreLongs p.d → IsFit p
     → IsAnswer any (CutFits i) (run held_bus (row_of i at space p) g).0
-unfolding row_of
 row_fits (instr.Move i) space size at p g s is words fit =
     perform_move_fits (instr.Move i) space size i (operands_at (move_row i) at) p g s (movem_long (instr.Move i) is)
     (λ m moved. words_name (instr.Move i) m is moved) is fit
@@ -260,7 +258,6 @@ row_fits (instr.System i) space size at p g s is words fit = (tt, fit.1)
 
 perform_fits : (i : Instr) (space : Space) (size at : ℕ) (p : Plain) (g : Guest) → Sound size g → IsInstr i → AreLongs p.d → IsFit p
     → IsAnswer any (StopFits i) (run held_bus (perform_of i at space p) g).0
-unfolding perform_of
 perform_fits i space size at p g s is words fit =
     in_other_words any (CutFits i) (StopFits i) (restored p) (run held_bus (row_of i at space p) g).0 (row_fits i space size at p g s is words fit) by_cut
   where
@@ -288,7 +285,7 @@ found_fits space (suc n) at words h =
     judged_fits (decode_of (words ++ word ∷ [])) _ (found_fits space n ((at + 2) % 2 ^ 32) (words ++ word ∷ []) (omega arith)))
 
 fetched_fits : (space : Space) (pc : ℕ) → IsLong pc → Answers any UnfoundFits (fetched_of space pc)
-unfolding fetched_of UnfoundFits
+unfolding UnfoundFits
 fetched_fits space pc h = answers_choose (pc % 2 == 1) (answers_err _ tt) (found_fits space MOST_WORDS pc [] h)
 
 -- ---- an attempt
@@ -310,7 +307,6 @@ module _ (space : Space) (size : ℕ) (p : Plain) (g : Guest) (i : Instr) (longs
   found_instr r is n k e = subst IsFound e is
 
   attempt_fits : NoOther i (run held_bus (fetched_of space p.pc) g).0 → IsAnswer any (StopFits i) (run held_bus (attempt_of space p) g).0
-  unfolding attempt_of
   attempt_fits other =
       let found = run held_bus (fetched_of space p.pc) g in
       let goes = fetches_go_on space size p.pc g counter sound in

@@ -20,7 +20,7 @@ use Rattle.mb_ea.specs.declared.addresses.Target.{Target}
 use Rattle.mb_ea.specs.declared.addresses.Target.TheVariants.{Reg, Memory, Value}
 use Rattle.mb_ea.specs.declared.reading.ReadFault.{ReadFault}
 use Rattle.mb_ea.specs.Addresses.{sum, increment_of}
-use Rattle.mb_ea.specs.Reading.{read_pieces_of, refused_in, read_cut_of, read_operand_of}
+use Rattle.mb_ea.specs.Reading.{read_pieces_of, refused_in, read_operand_of}
 use Rattle.mb_ea.specs.Resolve.{parts_of, indirect_of, full_of, indexed_of, Resolved, in_memory, resolve_of}
 use Rattle.mb_writes.specs.declared.ends.WriteFault.{WriteFault}
 use Rattle.mb_writes.specs.declared.ends.Ended.TheVariants as ended
@@ -114,11 +114,10 @@ module _ (space : Space) where
   pieces_fit (p ∷ ps) value h = answers_then (reading_fits space p h.0) (λ x u. pieces_fit ps (value * 256 ^ p.len + x) h.1)
 
   pub read_fits : (at len : ℕ) → IsLong at → Reads any (read_operand_of space at len)
-  unfolding read_operand_of read_cut_of split_of
+  unfolding read_operand_of
   read_fits at len h = answers_failing (refused_in at) (pieces_fit (split_of at len) 0 (cut_at 3 at len h)) (λ f k. (k, h))
 
   pub read_apart_fits : (at : ℕ) (size : Size) → IsLong at → Reads any (read_apart_of space at size)
-  unfolding read_apart_of
   read_apart_fits at size h = answers_failing (refused_in at) (pieces_fit (apart at (bytes_of size)) 0 (apart_at at (bytes_of size) h)) (λ f k. (k, h))
 
   probes_fit : (ps : List Piece) (places : List Place) → AreAt ps → Answers any FaultFits (probe_pieces_of space ps places)
@@ -126,7 +125,6 @@ module _ (space : Space) where
   probes_fit (p ∷ ps) places h = answers_then (probing_fits space p h.0) (λ place u. probes_fit ps (places ++ place ∷ []) h.1)
 
   pub probe_fits : (at len : ℕ) → IsLong at → Reads any (probe_operand_of space at len)
-  unfolding probe_operand_of split_of
   probe_fits at len h = answers_failing (refused_in at) (probes_fit (split_of at len) [] (cut_at 3 at len h)) (λ f k. (k, h))
 
   pub all_fit : (first : ℕ) (ps : List Pend) → IsLong first → HaveAddresses ps → Writes (write_pieces_of space first ps)
@@ -136,11 +134,10 @@ module _ (space : Space) where
       (λ done u. all_fit first ps h are.1)
 
   pub put_fits : (at len value : ℕ) → IsLong at → Writes (write_operand_of space at len value)
-  unfolding write_operand_of pending_of split_of
+  unfolding write_operand_of
   put_fits at len value h = all_fit at (pending_of at len value) h (pending_at (split_of at len) len value (cut_at 3 at len h))
 
   pub put_apart_fits : (at : ℕ) (size : Size) (value : ℕ) → IsLong at → Writes (write_apart_of space at size value)
-  unfolding write_apart_of
   put_apart_fits at Byte value h = all_fit at (writes.parts_of (apart at 1) 1 value) h (pending_at (apart at 1) 1 value (apart_at at 1 h))
   put_apart_fits at Word value h = all_fit at (writes.parts_of (apart at 2) 2 value) h (pending_at (apart at 2) 2 value (apart_at at 2 h))
   put_apart_fits at Long value h =
@@ -158,7 +155,6 @@ module _ (space : Space) where
   indirect_fits at outer h = answers_then (read_fits at 4 h) (λ long u. answers_ok (sum long outer) (sum_long long outer))
 
   full_fits : (base w bd od : ℕ) (p : Plain) → Reads IsLong (full_of w (parts_of base w bd od p) space)
-  unfolding full_of
   full_fits base w bd od p =
       let parts = parts_of base w bd od p in
       let at = sum parts.base parts.displacement in
@@ -167,7 +163,6 @@ module _ (space : Space) where
       (indirect_fits at (sum parts.index parts.outer) (sum_long parts.base parts.displacement)))
 
   indexed_fits : (base : ℕ) (e : Ext) (p : Plain) → Reads IsLong (indexed_of base e space p)
-  unfolding indexed_of
   indexed_fits base (Brief w) p = answers_ok _ (sum_long _ _)
   indexed_fits base (Full w bd od) p = full_fits base w bd od p
 
@@ -199,24 +194,20 @@ module _ (space : Space) where
   IsFetched f = IsReached f.target × IsFit f.plain
 
   load_fits : (target : Target) (size : Size) (p : Plain) → IsReached target → Reads any (load_of target size space p)
-  unfolding load_of
   load_fits (Reg n) size p h = answers_ok _ tt
   load_fits (Memory at) size p h = read_fits at (bytes_of size) h
   load_fits (Value v) size p h = answers_ok _ tt
 
   pub operand_fits : (size : Size) (ea : Ea) (word_at : ℕ) (p : Plain) → IsFormed ea → IsFit p → Reads IsFetched (fetch_operand_of size ea word_at space p)
-  unfolding fetch_operand_of
   operand_fits size ea word_at p is fit =
       answers_then (resolve_fits ea size word_at p is fit) (λ resolved h.
       answers_then (load_fits resolved.target size resolved.plain h.0) (λ value u. answers_ok _ h))
 
   pub address_fits : (size : Size) (ea : Ea) (word_at : ℕ) (p : Plain) → IsFormed ea → IsFit p → Reads IsLong (find_address_of size ea word_at space p)
-  unfolding find_address_of
   address_fits size ea word_at p is fit =
       answers_then (resolve_fits ea size word_at p is fit) (λ resolved h. answers_ok _ (place_long resolved.target h.0))
 
   store_fits : (target : Target) (size : Size) (value : ℕ) (p : Plain) → IsReached target → Writes (store_of target size value space p)
-  unfolding store_of
   store_fits (Reg n) size value p h = answers_ok _ tt
   store_fits (Memory at) size value p h = answers_then (put_fits at (bytes_of size) value h) (λ done u. answers_ok p tt)
   store_fits (Value v) size value p h = answers_ok _ tt
@@ -225,10 +216,8 @@ module _ (space : Space) where
 
   pub storing_fits : (i : Instr) (target : Target) (size : Size) (value : ℕ) (after : Plain) → IsReached target → IsLong after.pc
       → Row i (finish_with_of target size value space after)
-  unfolding finish_with_of
   storing_fits i target size value after h pc = row_writing i after pc (store_fits target size value after h) (λ done. row_done i _)
 
   pub pushing_fits : (i : Instr) (value top : ℕ) (done : Carried) → IsLong top → IsLong done.plain.pc
       → Row i (push_of value top space done.plain >> Return (Ok done))
-  unfolding push_of
   pushing_fits i value top done h pc = row_writing i done.plain pc (put_fits top 4 value h) (λ pushed. row_done i done)

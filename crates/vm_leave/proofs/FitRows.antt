@@ -41,7 +41,7 @@ use Rattle.mb_meaning.specs.Ends.{Unread, Stop, Rowed, carried, jumped, ended_ot
 use Rattle.mb_meaning.specs.Operands.{stack_lowered, behind_of, place_of}
 use Rattle.mb_meaning.specs.Moves.{move_flags, move_operand_of, movea_of, lea_of, move_to_ccr_of, move_from_ccr_of, condition_byte, scc_of, movem_by, movem_of}
 use Rattle.mb_meaning.specs.Stack.{pea_of, linked, link_of, unlk_of}
-use Rattle.mb_meaning.specs.Peripheral.{load_peripheral_of, store_peripheral_of, movep_of}
+use Rattle.mb_meaning.specs.Peripheral.{movep_of}
 use Rattle.mb_meaning.specs.Lines.{line_address, move_line_of, past_line, past_lines, move16_absolute_of, move16_post_of}
 use Rattle.mb_meaning.specs.Modifying.{modify_of}
 use Rattle.mb_meaning.specs.Arithmetic.{Pair, fetch_pair_of, combine_of, compare_pair_of, combine_either_way_of, chain_of, quick_to, combine_quick_of, take_of}
@@ -90,7 +90,6 @@ loaded_pc (mode.Post n) size p r value = by_kind (r == 8 + n)
 loaded_pc (mode.Pre n) size p r value = with_register_pc p r (sign_extended size value)
 
 field_pc : (kind : FieldKind) (word old : ℕ) (p : Plain) → (field_done kind word old p).pc ≡ p.pc
-unfolding field_done
 field_pc field.Test word old p = refl
 field_pc field.ExtractUnsigned word old p = refl
 field_pc field.ExtractSigned word old p = refl
@@ -148,7 +147,6 @@ module _ (space : Space) (all : ℕ) where
 
   transfer_fits : (m : Movem) (ea : ℕ) (p : Plain) → length (transfers_of m ea) ≡ all → IsLong ea → IsLong p.pc
       → Answers any (HalfFits all) (transfer_of m ea 0 space p)
-  unfolding transfer_of
   transfer_fits m ea p count h pc =
       let ts = transfers_of m ea in
       let few : 0 + length (drop 0 ts) ≤ all = omega arith in
@@ -170,31 +168,25 @@ module _ (i : Instr) (space : Space) where
 
   pub move_fits : (size : Size) (destination source : Ea) (word_at : ℕ) (p : Plain) → IsFormed destination → IsFormed source → IsFit p
       → Row i (move_operand_of size destination source word_at space p)
-  unfolding move_operand_of
   move_fits size destination source word_at p goes comes fit =
       row_reading i (operand_fits space size source word_at p comes fit) (λ from read.
       row_reading i (resolve_fits space destination size (behind_of size source word_at) from.plain goes read.1) (λ to found.
       storing_fits space i to.target size from.value (move_flags size from.value to.plain) found.0 found.1.1))
 
   pub movea_fits : (size : Size) (n : ℕ) (source : Ea) (word_at : ℕ) (p : Plain) → IsFormed source → IsFit p → Row i (movea_of size n source word_at space p)
-  unfolding movea_of
   movea_fits size n source word_at p is fit = row_reading i (operand_fits space size source word_at p is fit) (λ from read. row_done i _)
 
   pub lea_fits : (n : ℕ) (ea : Ea) (word_at : ℕ) (p : Plain) → IsFormed ea → IsFit p → Row i (lea_of n ea word_at space p)
-  unfolding lea_of
   lea_fits n ea word_at p is fit = row_reading i (address_fits space Long ea word_at p is fit) (λ place found. row_done i _)
 
   pub to_ccr_fits : (ea : Ea) (word_at : ℕ) (p : Plain) → IsFormed ea → IsFit p → Row i (move_to_ccr_of ea word_at space p)
-  unfolding move_to_ccr_of
   to_ccr_fits ea word_at p is fit = row_reading i (operand_fits space Word ea word_at p is fit) (λ operand read. row_done i _)
 
   pub from_ccr_fits : (ea : Ea) (word_at : ℕ) (p : Plain) → IsFormed ea → IsFit p → Row i (move_from_ccr_of ea word_at space p)
-  unfolding move_from_ccr_of
   from_ccr_fits ea word_at p is fit =
       row_reading i (resolve_fits space ea Word word_at p is fit) (λ to found. storing_fits space i to.target Word (p.ccr % 2 ^ 5) to.plain found.0 found.1.1)
 
   pub scc_fits : (c : Condition) (ea : Ea) (word_at : ℕ) (p : Plain) → IsFormed ea → IsFit p → Row i (scc_of c ea word_at space p)
-  unfolding scc_of
   scc_fits c ea word_at p is fit =
       row_reading i (resolve_fits space ea Byte word_at p is fit) (λ to found.
       storing_fits space i to.target Byte (condition_byte (is_met c p.ccr)) to.plain found.0 found.1.1)
@@ -202,7 +194,6 @@ module _ (i : Instr) (space : Space) where
   pub movem_fits : (is_load : Bool) (size : Size) (ea : Ea) (mask word_at : ℕ) (p : Plain) → IsLong (movem_words i)
       → movem_in (movem_words i) ≡ movem_by is_load size ea mask → IsFormed ea → IsFit p
       → Row i (movem_of is_load size ea mask word_at space p)
-  unfolding movem_of
   movem_fits is_load size ea mask word_at p words named is fit =
       let m = movem_by is_load size ea mask in
       let all = count_of (mask_in (movem_words i)) in
@@ -215,26 +206,22 @@ module _ (i : Instr) (space : Space) where
       (λ moved u. row_done i _))
 
   pub pea_fits : (ea : Ea) (word_at : ℕ) (p : Plain) → IsFormed ea → IsFit p → Row i (pea_of ea word_at space p)
-  unfolding pea_of
   pea_fits ea word_at p is fit =
       row_reading i (address_fits space Long ea word_at p is fit) (λ place found.
       let after = stack_lowered p in
       pushing_fits space i place (address_register after 7) (record { flow = false; plain = after }) (lowered_long p fit.0) fit.1)
 
   pub link_fits : (n displacement : ℕ) (p : Plain) → IsFit p → Row i (link_of n displacement space p)
-  unfolding link_of
   link_fits n displacement p fit =
       let low = stack_lowered p in
       pushing_fits space i (address_register low n) (address_register low 7) (record { flow = false; plain = linked n displacement low })
       (lowered_long p fit.0) fit.1
 
   pub unlk_fits : (n : ℕ) (p : Plain) → IsFit p → Row i (unlk_of n space p)
-  unfolding unlk_of
   unlk_fits n p fit = row_reading i (read_fits space (address_register p n) 4 (address_long p n fit.0)) (λ frame u. row_done i _)
 
   pub movep_fits : (n : ℕ) (is_store : Bool) (size : Size) (address displacement : ℕ) (p : Plain) → IsFit p
       → Row i (movep_of n is_store size address displacement space p)
-  unfolding movep_of store_peripheral_of load_peripheral_of
   movep_fits n is_store size address displacement p fit =
       let place = sum (address_register p address) (sign_extended Word displacement) in
       let lt = sum_long (address_register p address) (sign_extended Word displacement) in
@@ -245,14 +232,12 @@ module _ (i : Instr) (space : Space) where
 
   pub taking_fits : (effect : ℕ → Plain → Rowed) (size : Size) (ea : Ea) (word_at : ℕ) (p : Plain) → IsFormed ea → IsFit p
       → ((value : ℕ) (q : Plain) → IsFit q → IsAnswer any (CutFits i) (effect value q)) → Row i (take_of effect size ea word_at space p)
-  unfolding take_of
   taking_fits effect size ea word_at p is fit ends =
       row_reading i (operand_fits space size ea word_at p is fit) (λ operand read.
       row_ends i (effect operand.value operand.plain) (ends operand.value operand.plain read.1))
 
   pub modifying_fits : (change : ℕ → ℕ → Flagged) (size : Size) (ea : Ea) (word_at : ℕ) (p : Plain) → IsFormed ea → IsFit p
       → Row i (modify_of change size ea word_at space p)
-  unfolding modify_of
   modifying_fits change size ea word_at p is fit =
       row_reading i (operand_fits space size ea word_at p is fit) (λ operand read.
       let result = change operand.value operand.plain.ccr in
@@ -260,14 +245,12 @@ module _ (i : Instr) (space : Space) where
 
   pair_fits : (size : Size) (source destination : Ea) (word_at : ℕ) (p : Plain) → IsFormed source → IsFormed destination → IsFit p
       → Reads (λ (pair : Pair). IsFetched space pair.destination) (fetch_pair_of size source destination word_at space p)
-  unfolding fetch_pair_of
   pair_fits size source destination word_at p comes goes fit =
       answers_then (operand_fits space size source word_at p comes fit) (λ from read.
       answers_then (operand_fits space size destination (behind_of size source word_at) from.plain goes read.1) (λ to found. answers_ok _ found))
 
   pub combining_fits : (operation : ℕ → ℕ → ℕ → Flagged) (size : Size) (source destination : Ea) (word_at : ℕ) (p : Plain)
       → IsFormed source → IsFormed destination → IsFit p → Row i (combine_of operation size source destination word_at space p)
-  unfolding combine_of
   combining_fits operation size source destination word_at p comes goes fit =
       row_reading i (pair_fits size source destination word_at p comes goes fit) (λ pair found.
       let to = pair.destination in
@@ -276,7 +259,6 @@ module _ (i : Instr) (space : Space) where
 
   pub comparing_fits : (size : Size) (source destination : Ea) (word_at : ℕ) (p : Plain) → IsFormed source → IsFormed destination → IsFit p
       → Row i (compare_pair_of size source destination word_at space p)
-  unfolding compare_pair_of
   comparing_fits size source destination word_at p comes goes fit =
       row_reading i (pair_fits size source destination word_at p comes goes fit) (λ pair found. row_done i _)
 
@@ -305,14 +287,12 @@ module _ (i : Instr) (space : Space) where
   quick_fits change moved size ea word_at p is fit = quick_to_fits (address_number ea) change moved size ea word_at p is fit
 
   pub clr_fits : (size : Size) (ea : Ea) (word_at : ℕ) (p : Plain) → IsFormed ea → IsFit p → Row i (clr_of size ea word_at space p)
-  unfolding clr_of
   clr_fits size ea word_at p is fit =
       row_reading i (resolve_fits space ea size word_at p is fit) (λ to found.
       storing_fits space i to.target size 0 (move_flags size 0 to.plain) found.0 found.1.1)
 
   pub bit_row_fits : (kind : BitKind) (number : ℕ) (ea : Ea) (word_at : ℕ) (p : Plain) → IsFormed ea → IsFit p
       → Row i (bit_row_of kind number ea word_at space p)
-  unfolding bit_row_of
   bit_row_fits bit.Test number ea word_at p is fit = row_reading i (operand_fits space (bit_size ea) ea word_at p is fit) (λ operand read. row_done i _)
   bit_row_fits bit.Change number ea word_at p is fit = modifying_fits (change_bit_of bit.Change number (bit_size ea)) (bit_size ea) ea word_at p is fit
   bit_row_fits bit.Clear number ea word_at p is fit = modifying_fits (change_bit_of bit.Clear number (bit_size ea)) (bit_size ea) ea word_at p is fit
@@ -324,7 +304,6 @@ module _ (i : Instr) (space : Space) where
 
   pub decimal_fits : (operation : ℕ → ℕ → ℕ → Flagged) (m : ℕ) (in_memory : Bool) (n word_at : ℕ) (p : Plain) → IsFit p
       → Row i (decimal_of operation m in_memory n word_at space p)
-  unfolding decimal_of
   decimal_fits operation m in_memory n word_at p fit =
       row_reading i (operand_fits space Byte (paired in_memory n) word_at p (paired_formed in_memory n) fit) (λ source read.
       row_reading i (operand_fits space Byte (paired in_memory m) word_at source.plain (paired_formed in_memory m) read.1) (λ destination found.
@@ -333,14 +312,12 @@ module _ (i : Instr) (space : Space) where
 
   pub digits_fits : (operation : ℕ → ℕ → ℕ) (from to : Size) (m : ℕ) (in_memory : Bool) (n adjust word_at : ℕ) (p : Plain) → IsFit p
       → Row i (repack_of operation from to m in_memory n adjust word_at space p)
-  unfolding repack_of
   digits_fits operation from to m in_memory n adjust word_at p fit =
       row_reading i (operand_fits space from (paired in_memory n) word_at p (paired_formed in_memory n) fit) (λ source read.
       row_reading i (resolve_fits space (paired in_memory m) to word_at source.plain (paired_formed in_memory m) read.1) (λ destination found.
       storing_fits space i destination.target to (operation source.value adjust) destination.plain found.0 found.1.1))
 
   field_in_memory_fits : (kind : FieldKind) (word address : ℕ) (p : Plain) → IsFit p → Row i (field_in_memory_of kind word address space p)
-  unfolding field_in_memory_of
   field_in_memory_fits kind word address p fit =
       let first = sum address (bytes_before (field_offset_of word p)) in
       let lt = sum_long address (bytes_before (field_offset_of word p)) in
@@ -349,7 +326,6 @@ module _ (i : Instr) (space : Space) where
       (row_writing i _ (subst IsLong (sym (field_pc kind word _ p)) fit.1) (put_fits space first _ _ lt) (λ written. row_done i _)) (row_done i _))
 
   pub field_row_fits : (kind : FieldKind) (ea : Ea) (word word_at : ℕ) (p : Plain) → IsFormed ea → IsFit p → Row i (bit_field_of kind ea word word_at space p)
-  unfolding bit_field_of
   field_row_fits kind (Dn n) word word_at p is fit = row_done i _
   field_row_fits kind ea word word_at p is fit =
       row_reading i (address_fits space Long ea word_at p is fit) (λ address found. field_in_memory_fits kind word address p fit)
@@ -357,30 +333,25 @@ module _ (i : Instr) (space : Space) where
   -- what checks its operands for writing
 
   tas_in_memory_fits : (address : ℕ) (p : Plain) → IsLong address → Row i (tas_in_memory address space p)
-  unfolding tas_in_memory
   tas_in_memory_fits address p h =
       row_reading i (probe_fits space address 1 h) (λ places u. row_sure i (λ value. row_sure i (λ done. row_done i _)))
 
   pub tas_fits : (ea : Ea) (word_at : ℕ) (p : Plain) → IsFormed ea → IsFit p → Row i (tas_of ea word_at space p)
-  unfolding tas_of
   tas_fits (Dn n) word_at p is fit = modifying_fits test_and_set_of Byte (Dn n) word_at p tt fit
   tas_fits ea word_at p is fit =
       row_reading i (resolve_fits space ea Byte word_at p is fit) (λ to found. tas_in_memory_fits (place_of to.target) to.plain (place_long to.target found.0))
 
   cas_at_fits : (size : Size) (word address : ℕ) (p : Plain) → IsLong address → Row i (cas_at size word address space p)
-  unfolding cas_at
   cas_at_fits size word address p h =
       row_reading i (probe_fits space address (bytes_of size) h) (λ places u. row_sure i (λ value.
       answers_choose (cas_equal size word value p) (row_sure i (λ done. row_done i _)) (row_done i _)))
 
   pub cas_fits : (size : Size) (ea : Ea) (word word_at : ℕ) (p : Plain) → IsFormed ea → IsFit p → Row i (cas_of size ea word word_at space p)
-  unfolding cas_of
   cas_fits size ea word word_at p is fit =
       row_reading i (resolve_fits space ea size word_at p is fit) (λ to found.
       cas_at_fits size word (place_of to.target) to.plain (place_long to.target found.0))
 
   pub cas2_fits : (size : Size) (first second : ℕ) (p : Plain) → AreLongs p.d → AreLongs p.a → Row i (cas2_of size first second space p)
-  unfolding cas2_of
   cas2_fits size first second p words longs =
       let len = bytes_of size in
       row_reading i (probe_fits space (register_of p (swap_word first).pointer) len (register_long p (swap_word first).pointer words longs)) (λ places u.
@@ -392,19 +363,16 @@ module _ (i : Instr) (space : Space) where
   -- what goes elsewhere
 
   call_fits : (target : ℕ) (p : Plain) → IsLong target → IsFit p → Row i (call_of target space p)
-  unfolding call_of
   call_fits target p h fit =
       let after = record (stack_lowered p) { pc = target } in
       pushing_fits space i p.pc (address_register after 7) (record { flow = true; plain = after }) (lowered_long p fit.0) h
 
   pub branch_fits : (c : Condition) (d : Branch) (word_at : ℕ) (p : Plain) → IsFit p → Row i (branch_of c d word_at space p)
-  unfolding branch_of go_if_met_of
   branch_fits c d word_at p fit =
       answers_choose (is_call c) (call_fits (target_of word_at d) p (sum_long word_at _) fit)
       (row_ends i (go_if_met_of c (target_of word_at d) p) (ends_if (is_met c p.ccr) (jumped (record p { pc = target_of word_at d })) (carried p) tt tt))
 
   pub dbcc_fits : (c : Condition) (n d word_at : ℕ) (p : Plain) → Row i (Return (dbcc_of c n d word_at p))
-  unfolding dbcc_of go_if_counted_of
   dbcc_fits c n d word_at p =
       let target = target_of word_at (displacement.Word d) in
       let after = count_down_of n p in
@@ -412,23 +380,18 @@ module _ (i : Instr) (space : Space) where
       (ends_if (low_of Word (data_register after n) == 2 ^ 16 - 1) (carried after) (jumped (record after { pc = target })) tt tt))
 
   pub jmp_fits : (ea : Ea) (word_at : ℕ) (p : Plain) → IsFormed ea → IsFit p → Row i (jmp_of ea word_at space p)
-  unfolding jmp_of
   jmp_fits ea word_at p is fit = row_reading i (address_fits space Long ea word_at p is fit) (λ target found. row_done i _)
 
   pub jsr_fits : (ea : Ea) (word_at : ℕ) (p : Plain) → IsFormed ea → IsFit p → Row i (jsr_of ea word_at space p)
-  unfolding jsr_of
   jsr_fits ea word_at p is fit = row_reading i (address_fits space Long ea word_at p is fit) (λ target found. call_fits target p found fit)
 
   pub rts_fits : (p : Plain) → IsFit p → Row i (rts_of space p)
-  unfolding rts_of
   rts_fits p fit = row_reading i (read_fits space (address_register p 7) (bytes_of Long) (address_long p 7 fit.0)) (λ target u. row_done i _)
 
   pub rtd_fits : (d : ℕ) (p : Plain) → IsFit p → Row i (rtd_of d space p)
-  unfolding rtd_of
   rtd_fits d p fit = row_reading i (read_fits space (address_register p 7) (bytes_of Long) (address_long p 7 fit.0)) (λ target u. row_done i _)
 
   pub rtr_fits : (p : Plain) → IsFit p → Row i (rtr_of space p)
-  unfolding rtr_of
   rtr_fits p fit =
       let up = stack_raised_by_word p in
       row_reading i (read_fits space (address_register p 7) (bytes_of Word) (address_long p 7 fit.0)) (λ codes u.
@@ -436,48 +399,39 @@ module _ (i : Instr) (space : Space) where
       (λ target v. row_done i _))
 
   pub trap_fits : (number : ℕ) (p : Plain) → IsFit p → Row i (Return (trap_of number p))
-  unfolding trap_of
   trap_fits number p fit = row_ends i (trap_of number p) (tt, fit.1)
 
   pub trapcc_fits : (c : Condition) (p : Plain) → IsFit p → Row i (Return (trapcc_of c p))
-  unfolding trapcc_of
   trapcc_fits c p fit = row_ends i (trapcc_of c p) (ends_if (is_met c p.ccr) _ _ (tt, fit.1) tt)
 
   pub trapv_fits : (p : Plain) → IsFit p → Row i (Return (trapv_of p))
-  unfolding trapv_of
   trapv_fits p fit = trapcc_fits condition.OverflowSet p fit
 
   checked_fits : (size : Size) (bound value : ℕ) (p : Plain) → IsFit p → IsAnswer any (CutFits i) (check_bound_of size bound value p)
-  unfolding check_bound_of
   checked_fits size bound value p fit =
       let below = is_below size value in
       let codes = ccr_of (record (conditions_of p.ccr) { n = below }) in
       ends_if (below || is_above size bound value) (ended_otherwise out_of_bounds (record p { ccr = codes })) (carried p) (tt, fit.1) tt
 
   checked_carry_fits : (p : Plain) → IsFit p → IsAnswer any (CutFits i) (check_carry_of p)
-  unfolding check_carry_of
   checked_carry_fits p fit = ends_if (conditions_of p.ccr).c (ended_otherwise out_of_bounds p) (carried p) (tt, fit.1) tt
 
   pub chk_fits : (n : ℕ) (size : Size) (ea : Ea) (word_at : ℕ) (p : Plain) → IsFormed ea → IsFit p → Row i (chk_of n size ea word_at space p)
-  unfolding chk_of
   chk_fits n size ea word_at p is fit =
       row_reading i (operand_fits space size ea word_at p is fit) (λ bound read.
       let q = bound.plain in
       row_ends i (check_bound_of size bound.value (data_register q n) q) (checked_fits size bound.value (data_register q n) q read.1))
 
   bounds_fits : (size : Size) (ea : Ea) (w word_at : ℕ) (p : Plain) → IsFormed ea → IsFit p → Reads any (compare_bounds_of size ea w word_at space p)
-  unfolding compare_bounds_of
   bounds_fits size ea w word_at p is fit =
       answers_then (address_fits space size ea word_at p is fit) (λ place found.
       answers_then (read_fits space place (bytes_of size) found) (λ lower u.
       answers_then (read_fits space (sum place (bytes_of size)) (bytes_of size) (sum_long place (bytes_of size))) (λ upper v. answers_ok _ tt)))
 
   pub cmp2_fits : (size : Size) (ea : Ea) (w word_at : ℕ) (p : Plain) → IsFormed ea → IsFit p → Row i (cmp2_of size ea w word_at space p)
-  unfolding cmp2_of
   cmp2_fits size ea w word_at p is fit = row_reading i (bounds_fits size ea w word_at p is fit) (λ ccr u. row_done i _)
 
   pub chk2_fits : (size : Size) (ea : Ea) (w word_at : ℕ) (p : Plain) → IsFormed ea → IsFit p → Row i (chk2_of size ea w word_at space p)
-  unfolding chk2_of
   chk2_fits size ea w word_at p is fit =
       row_reading i (bounds_fits size ea w word_at p is fit) (λ ccr u.
       row_ends i (check_carry_of (record p { ccr = ccr })) (checked_carry_fits (record p { ccr = ccr }) fit))
@@ -489,7 +443,6 @@ module _ (i : Instr) (space : Space) where
 
   line_fits : (size from to : ℕ) (after : Plain) (g : Guest) → Sound size g → IsLong from → IsLong to → IsLong after.pc
       → IsAnswer any (CutFits i) (run held_bus (move_line_of from to space after) g).0
-  unfolding move_line_of
   line_fits size from to after g s comes goes pc =
       let first = line_is from comes in
       let m = reading (failing (refused_in (line_address from)) (read_line space (line_address from))) in
@@ -507,7 +460,6 @@ module _ (i : Instr) (space : Space) where
 
   pub move16_absolute_fits : (size : ℕ) (kind : LineMove) (n place : ℕ) (p : Plain) (g : Guest) → Sound size g → IsLong place → IsFit p
       → IsAnswer any (CutFits i) (run held_bus (move16_absolute_of kind n place space p) g).0
-  unfolding move16_absolute_of
   move16_absolute_fits size line_move.PostToAbsolute n place p g s lt fit =
       line_fits size (address_register p n) place (past_line n p) g s (address_long p n fit.0) lt fit.1
   move16_absolute_fits size line_move.AbsoluteToPost n place p g s lt fit =
@@ -519,7 +471,6 @@ module _ (i : Instr) (space : Space) where
 
   pub move16_fits : (size m word : ℕ) (p : Plain) (g : Guest) → Sound size g → IsFit p
       → IsAnswer any (CutFits i) (run held_bus (move16_post_of m word space p) g).0
-  unfolding move16_post_of
   move16_fits size m word p g s fit =
       let n = (line_word word).destination in
       line_fits size (address_register p m) (address_register p n) (past_lines m n p) g s (address_long p m fit.0) (address_long p n fit.0)

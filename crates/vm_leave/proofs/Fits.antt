@@ -15,7 +15,7 @@ use Rattle.mb_machine.specs.World.{World}
 use Rattle.mb_machine.specs.declared.reference.Reference.{Reference}
 use Rattle.mb_machine.specs.Places.{taken, stored, checked, taken_line, stored_line, line_at}
 use Rattle.mb_machine.specs.Access.{translated}
-use Rattle.mb_machine.specs.Bus.{bus_of, fetching_of, reading_of, writing_of, fault_of, place_at, answered, Take, Store, read_at, read_by, wrote, written_at}
+use Rattle.mb_machine.specs.Bus.{fetching_of, reading_of, writing_of, fault_of, place_at, answered, Take, Store, read_at, read_by, wrote, written_at}
 use Rattle.mb_tells.specs.Guarded.{IsLine}
 use Rattle.mb_tells.specs.Laws.{AreLongs}
 use Rattle.vm_machine.specs.Guests.{Guest, allows, placed_at}
@@ -108,19 +108,15 @@ read_held g r len take h =
     (reads_at r len take (translated rule_k r g.world).0 (translated rule_k r g.world).1 h)
 
 pub fetching_fits : (space : Space) (at : ℕ) → IsLong at → Answers any FaultFits (fetch space at)
-unfolding bus_of
 fetching_fits space at h = record { are = λ g. read_held g (fetching_of space at) 2 taken h }
 
 pub reading_fits : (space : Space) (p : Piece) → IsLong p.at → Answers any FaultFits (read space p)
-unfolding bus_of
 reading_fits space p h = record { are = λ g. read_held g (reading_of space p.at) p.len taken h }
 
 pub probing_fits : (space : Space) (p : Piece) → IsLong p.at → Answers any FaultFits (probe space p)
-unfolding bus_of
 probing_fits space p h = record { are = λ g. read_held g (writing_of space p.at) p.len checked h }
 
 pub writing_fits : (space : Space) (p : Piece) (value : ℕ) → IsLong p.at → Answers any FaultFits (write space p value)
-unfolding bus_of
 writing_fits space p value h = record {
   are = λ g. let r = writing_of space p.at in refused_or (allows g.shadow r) (plain_bus (Write space p value) g) r p.len g h
       (writes_at r p.len (λ place. stored place value) (translated rule_k r g.world).0 (translated rule_k r g.world).1 h);
@@ -145,7 +141,6 @@ line_writes_at r len store (Some at) w h = line_wrote_at w (store (place_at at l
 line_writes_at r len store None w h = h
 
 pub line_writing_fits : (space : Space) (at : ℕ) (line : List ℕ) → IsLine at → Answers any LineFits (write_line space at line)
-unfolding bus_of
 line_writing_fits space at line h = record {
   are = λ g. let r = writing_of space at in line_refused_or (allows g.shadow r) (plain_bus (WriteLine space at line) g) r 16 g h
       (line_writes_at r 16 (λ place. stored_line place line) (translated rule_k r g.world).0 (translated rule_k r g.world).1 h);
@@ -193,7 +188,6 @@ line_held size space at g s is may =
 -- longs are read, or the fault is at the line's address
 pub line_reading_fits : (size : ℕ) (space : Space) (at : ℕ) (g : Guest) → Sound size g → IsLine at
     → IsAnswer AreLongs FaultFits (run held_bus (read_line space at) g).0
-unfolding bus_of
 line_reading_fits size space at g s is = elim (cases_Bool (allows g.shadow (reading_of space at))) [
   | inl may ↦ line_held size space at g s is may
   | inr never ↦ subst (λ (q : Result (List ℕ) Fault × Guest). IsAnswer AreLongs FaultFits q.0)

@@ -15,7 +15,7 @@ use Rattle.mb_writes.specs.declared.ends.Ended.TheVariants as ended
 use Rattle.mb_processor.specs.declared.Finish.TheVariants as finish
 use Rattle.mb_meaning.specs.Ends.{Carried, Performed, closed}
 use Rattle.mb_processor.specs.SystemEnds.{with_registers}
-use Rattle.mb_meaning.specs.Rows.{privileged, perform_of, row_of}
+use Rattle.mb_meaning.specs.Rows.{privileged, perform_of}
 use Rattle.mb_meaning.specs.Attempt.{FoundInstr, found_none, fetched_of, past, attempt_of}
 use Rattle.mb_processor.specs.Raise.{Stepped, is_due}
 use Rattle.mb_processor.specs.Step.{finish_instruction_of, interrupt_mask, step_of, rank}
@@ -77,7 +77,6 @@ never_due cpu flow h = rw h.all (rw h.flow refl)
 
 done_finish : {S : Type 0} (bus : Bus S) (i : Instr) (f : Bool) (before after : Cpu) (t : S) → IsUntraced before
     → run bus (finish_instruction_of i (ended.Done f) before after) t ≡ ((finish.Went, after), t)
-unfolding finish_instruction_of
 done_finish bus i f before after t h = rw (never_due before f h) refl
 
 -- ---- the instruction
@@ -104,7 +103,6 @@ found_attempted : {S : Type 0} (bus : Bus S) (cpu : Cpu) (r : FoundInstr × S) �
     ⊎ ((closed (run bus (either r.0 (λ unfound. Return (found_none unfound p)) (λ found. perform_of found.0 p.pc (space_of cpu) (past found.1 p)))
     r.1).0).0
     ≡ privileged)
-unfolding perform_of row_of
 found_attempted bus cpu (Ok (instr.Move i, n), t) = inl refl
 found_attempted bus cpu (Ok (instr.Arith i, n), t) = inl refl
 found_attempted bus cpu (Ok (instr.Flow i, n), t) = inl refl
@@ -113,7 +111,6 @@ found_attempted bus cpu (Err unfound, t) = inl refl
 
 pub attempted_or : {S : Type 0} (bus : Bus S) (cpu : Cpu) (s : S)
     → (is_attempted (instr_in (fetched_by bus cpu s).0) cpu ≡ true) ⊎ ((closed (attempted_by bus cpu s).0).0 ≡ privileged)
-unfolding attempt_of plain_of
 attempted_or bus cpu s = found_attempted bus cpu (run bus (fetched_of (space_of cpu) cpu.regs.pc) s)
 
 -- the same one was found on both
@@ -129,7 +126,6 @@ pub user_space : (cpu : Cpu) → is_supervisor cpu.regs.sr ≡ false → space_o
 user_space cpu h = rw h refl
 
 pub same_counter : (cpu : Cpu) → (plain_of cpu.regs).pc ≡ cpu.regs.pc
-unfolding plain_of
 same_counter cpu = refl
 
 module _ (x : Site) (board guest : Cpu) (b : World) (g : Guest) (m : Mirrored x board guest) (r : Related x b g) where
@@ -143,7 +139,6 @@ module _ (x : Site) (board guest : Cpu) (b : World) (g : Guest) (m : Mirrored x 
   there = on_the_board p b
 
   mirrored : SamePerformed (setting x) there.0 held.0 × Stays x b g there.1 held.1
-  unfolding plain_of
   mirrored = attempts_stay x p b g m.longs m.counter r
 
   attempts_there : attempted_by board_bus board b ≡ there
@@ -178,7 +173,6 @@ module _ (x : Site) (board guest : Cpu) (b : World) (g : Guest) (m : Mirrored x 
 
   -- where the held guest was denied nothing, the guest's own attempt is the held one's
   own_is_held : (f : Bool) → (closed held.0).0 ≡ ended.Done f → attempted_by guest_bus guest g ≡ held
-  unfolding plain_of
   own_is_held f done =
       ap (λ (s : Space). run guest_bus (attempt_of s p) g) m.present
       ∙ elim (attempts_go_on x.space x.size p g m.longs m.counter (sound_of x b g r)).0 [

@@ -12,10 +12,10 @@ use Rattle.mb_laws.proofs.Related.{along}
 use Rattle.mb_laws.proofs.Simulated.{run_mirrors}
 use Rattle.mb_machine.specs.World.{World}
 use Rattle.mb_machine.specs.Bus.{bus_of}
-use Rattle.mb_machine.specs.Machine.{Machine, begun, one_later, stepping, takes_steps, run_of, asked_of}
+use Rattle.mb_machine.specs.Machine.{Machine, one_later, takes_steps, run_of, asked_of}
 use Rattle.vm_machine.specs.Guests.{Guest}
 use Rattle.vm_machine.specs.Bus.{guest_bus}
-use Rattle.vm_machine.specs.Turns.{world_of, guest_begun, guest_stepped, advanced, turn_of, prepared}
+use Rattle.vm_machine.specs.Turns.{world_of, guest_begun, advanced, turn_of, prepared}
 use Rattle.vm_machine.specs.Laws.{RunsAreByRule, StepsAreByRule, TurnsAreByRule, GuestsRunAlone}
 
 -- a guest's world, and a machine's
@@ -39,14 +39,13 @@ later_machine : (b : Machine) (r q : Stepped) (v w : World) → r ≡ q → v �
 later_machine b r q v w e f = ap (λ (x : Stepped). one_later b x.0 x.1 v) e ∙ ap (λ (x : World). one_later b q.0 q.1 x) f
 
 pub steps_by_rule : StepsAreByRule
-unfolding guest_stepped stepping begun
 steps_by_rule script g =
     let b = guest_begun script g in
     let r = runs_by_rule (step_of (asked_of script b.machine) b.machine.cpu) (world_of b) in
     later_machine b.machine _ _ _ _ r.0 r.1
 
 pub turns_by_rule : TurnsAreByRule
-unfolding turn_of run_of advanced
+unfolding turn_of run_of
 turns_by_rule script zero t = refl
 turns_by_rule script (suc n) t = elim (cases_Bool (takes_steps t.guest.machine.state)) [
   | inl going ↦ rw going (turns_by_rule script n (advanced script t) ∙ ap (run_of rule_k script n) (steps_by_rule script t.guest))

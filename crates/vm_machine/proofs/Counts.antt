@@ -4,7 +4,7 @@ use Rattle.std.proofs.lemmas.Bool.{cases_Bool}
 use Rattle.std.proofs.lemmas.List.{append-nil, length-append}
 use Rattle.mb_instr.specs.declared.registers.Plain.{Plain}
 use Rattle.mb_model.specs.declared.processor.Cpu.{Cpu}
-use Rattle.mb_machine.specs.Machine.{Entries, begun, takes_steps, reset_with}
+use Rattle.mb_machine.specs.Machine.{Entries, takes_steps, reset_with}
 use Rattle.vm_machine.specs.declared.class.Class.{Class}
 use Rattle.vm_machine.specs.declared.class.Class.TheVariants.{Entered, Idle, Traced, Privileged, Denied, Trapped, Retired}
 use Rattle.vm_machine.specs.Turns.{Tally, Turned, tallied, with_refills, steps_in, marks_of, class_of_step, refills_of_step, guest_stepped, advanced, turn_of}
@@ -52,7 +52,6 @@ abbrev AsMany : Turned → Turned → Type 0
 AsMany t u = steps_in u.tally + t.guest.machine.steps ≡ steps_in t.tally + u.guest.machine.steps
 
 step_counts : (script : Entries) (t : Turned) → AsMany t (advanced script t)
-unfolding advanced guest_stepped begun
 step_counts script t =
     let class = class_of_step script t.guest in
     let e = one_more class t.tally in
@@ -62,7 +61,6 @@ abbrev Doubled : Turned → Turned → Type 0
 Doubled t u = u.tally.retired * 2 + length t.marks ≡ t.tally.retired * 2 + length u.marks
 
 step_doubles : (script : Entries) (t : Turned) → Doubled t (advanced script t)
-unfolding advanced
 step_doubles script t =
     let class = class_of_step script t.guest in
     let more = marks_of class t.guest.machine.cpu (guest_stepped script t.guest).machine.cpu in

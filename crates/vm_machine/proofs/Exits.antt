@@ -19,9 +19,9 @@ use Rattle.mb_meaning.specs.Ends.{Performed}
 use Rattle.mb_processor.specs.SystemEnds.{with_registers}
 use Rattle.mb_processor.specs.Entry.{enter_of}
 use Rattle.mb_meaning.specs.Attempt.{FoundInstr}
-use Rattle.mb_processor.specs.Raise.{Stepped, Raised, is_due, traces_all, access_cause, ends_step, access_error_of, unchecked_of, raised, raise_of}
+use Rattle.mb_processor.specs.Raise.{Stepped, Raised, is_due, traces_all, access_cause, ends_step, access_error_of, raised, raise_of}
 use Rattle.mb_processor.specs.Raise.{trace_if_of, raise_trap_of, refuse_of}
-use Rattle.mb_processor.specs.Step.{finish_unread_of, finish_unfinished_of, unbegun_of, finish_unwritten_of, finish_unwritten_line_of, finish_untransferred_of, finish_instruction_of, is_flow}
+use Rattle.mb_processor.specs.Step.{finish_unread_of, finish_unwritten_of, finish_instruction_of, is_flow}
 use Rattle.mb_attempts.specs.Attempts.{IsUntraced, NoOther, is_attempted, fetched_by, attempted_by, finished_by}
 use Rattle.mb_attempts.proofs.Attempts.{attempt_then_finish}
 use Rattle.vm_machine.specs.Classes.{class_of_end, class_by, is_exit}
@@ -35,7 +35,6 @@ ended_going (entered.Faulted fault) = refl
 ended_going entered.DoubleFault = refl
 
 error_ends : {S : Type 0} (bus : Bus S) (pc : ℕ) (access : Access) (cpu : Cpu) (s : S) → is_going (run bus (access_error_of pc access cpu) s).0.0 ≡ false
-unfolding access_error_of
 error_ends bus pc access cpu s = ended_going (run bus (enter_of (access_cause pc access) cpu) s).0.0
 
 -- an exception was entered, or the step ended by another
@@ -44,13 +43,11 @@ Ends (Ok cpu) = Unit {0}
 Ends (Err stepped) = is_going stepped.0 ≡ false
 
 raised_ends : {S : Type 0} (bus : Bus S) (is_trace : Bool) (kept : Cpu) (e : Entered) (cpu : Cpu) (s : S) → Ends (run bus (raised is_trace kept e cpu) s).0
-unfolding unchecked_of
 raised_ends bus is_trace kept entered.Done cpu s = tt
 raised_ends bus is_trace kept (entered.Faulted fault) cpu s = error_ends bus kept.regs.pc _ kept s
 raised_ends bus is_trace kept entered.DoubleFault cpu s = refl
 
 raise_ends : {S : Type 0} (bus : Bus S) (is_trace : Bool) (c : Cause) (kept cpu : Cpu) (s : S) → Ends (run bus (raise_of is_trace c kept cpu) s).0
-unfolding raise_of
 raise_ends bus is_trace c kept cpu s =
     let r = run bus (enter_of c cpu) s in raised_ends bus is_trace kept r.0.0 r.0.1 r.1
 
@@ -71,13 +68,11 @@ behind_trap bus vector due at (Err stepped) t h e = e
 
 trap_ends : {S : Type 0} (bus : Bus S) (vector : ℕ) (before cpu : Cpu) (s : S) → IsUntraced before
     → is_going (run bus (raise_trap_of vector before cpu) s).0.0 ≡ false
-unfolding raise_trap_of
 trap_ends bus vector before cpu s h =
     behind_trap bus vector (traces_all before.regs.sr) before.regs.pc _ _ h.all (raise_ends bus false _ before cpu s)
 
 unwritten_ends : {S : Type 0} (bus : Bus S) (due : Bool) (refused : WriteFault) (items : List Pend) (before cpu : Cpu) (s : S)
     → is_going (run bus (finish_unwritten_of due refused items before cpu) s).0.0 ≡ false
-unfolding unbegun_of finish_unfinished_of
 unwritten_ends bus due refused [] before cpu s = error_ends bus before.regs.pc _ before (bus ReadMmu s).1
 unwritten_ends bus due refused (piece ∷ pieces) before cpu s = error_ends bus cpu.regs.pc _ cpu (bus ReadMmu s).1
 
@@ -88,7 +83,7 @@ none_due cpu flow h = rw (h.all, h.flow) refl
 
 finish_tells : {S : Type 0} (bus : Bus S) (i : Instr) (end : Ended) (before cpu : Cpu) (s : S) → IsUntraced before
     → is_going (run bus (finish_instruction_of i end before cpu) s).0.0 ≡ not (is_exit (class_of_end end))
-unfolding finish_instruction_of finish_unread_of finish_unwritten_line_of finish_untransferred_of
+unfolding finish_unread_of
 finish_tells bus i (ended.Done flow) before cpu s h =
     ap (λ (due : Bool). is_going (run bus (trace_if_of finish.Went due before.regs.pc cpu) s).0.0) (none_due before flow h)
 finish_tells bus i (ended.Trap vector) before cpu s h = trap_ends bus vector before cpu s h

@@ -19,7 +19,6 @@ IsTurn slice bound i s u = TakesTurn i (min slice (left (member_on (s.guests i) 
 
 taken_member : (slice bound i : ℕ) (s u : Stage) → IsTurn slice bound i s u
     → let m = member_on (s.guests i) bound s.ram in member_on (u.guests i) bound u.ram ≡ closed_by (turn_in slice m) m
-unfolding turn_in
 taken_member slice bound i s u t =
     let g = u.guests i in
     ap (λ (script : Entries). (let m : Member = record { script = script; bound = bound; guest = guested_on g u.ram; tally = g.tally } in m)) t.turn.same.script
@@ -27,7 +26,6 @@ taken_member slice bound i s u t =
 
 taken_marks : (slice bound i : ℕ) (s u : Stage) (t : IsTurn slice bound i s u)
     → t.turn.marks ≡ (turn_in slice (member_on (s.guests i) bound s.ram)).marks
-unfolding turn_in
 taken_marks slice bound i s u t = ap (λ (x : Turned). x.marks) t.turn.turned
 
 -- another guest

@@ -16,7 +16,6 @@ use Rattle.mb_machine.specs.Access.{settled, by_settled, translated}
 use Rattle.vm_shadow.specs.Shadows.{Shadowed, filled}
 use Rattle.vm_machine.specs.Guests.{Guest, Truthful, ref, lets, allows, may, placed_at}
 use Rattle.vm_machine.specs.Bus.{gone_settled, without_kept, is_split, is_in_ram, is_writable, put_entry_of, guest_bus}
-use Rattle.vm_machine.specs.Classes.{class_of_attempt}
 use Rattle.vm_machine.specs.Laws.{AllowedAccessesAreStill, AttemptsAreJudged}
 
 -- ---- an access that is allowed
@@ -63,7 +62,6 @@ allowed_accesses_are_still size g r truthful is allowed =
 -- ---- an attempt
 
 pub attempts_are_judged : AttemptsAreJudged
-unfolding class_of_attempt
 attempts_are_judged cpu g =
     let m = attempt_of (space_of cpu) (plain_of cpu.regs) in record {
       class = refl;

@@ -7,7 +7,6 @@ use Rattle.mb_port.specs.declared.types.Space.TheVariants.{User, Super}
 use Rattle.mb_port.specs.declared.types.Fault.{Fault}
 use Rattle.mb_instr.specs.declared.instruction.Instr.{Instr}
 use Rattle.mb_instr.specs.declared.registers.Plain.{Plain}
-use Rattle.mb_instr.specs.Registers.{with_plain}
 use Rattle.mb_frames.specs.declared.pend.Pend.{Pend}
 use Rattle.mb_frames.specs.AccessFields.{piece_of, access_fields}
 use Rattle.mb_model.specs.declared.processor.Cpu.{Cpu}
@@ -22,12 +21,12 @@ use Rattle.mb_processor.specs.declared.Finish.{Finish}
 use Rattle.mb_processor.specs.declared.Finish.TheVariants as finish
 use Rattle.mb_meaning.specs.Ends.{Carried, OtherEnd, Performed}
 use Rattle.mb_processor.specs.SystemEnds.{with_registers}
-use Rattle.mb_processor.specs.Raise.{Stepped, traces_all, is_due, cause_at, raise_of, raise_trap_of, trace_if_of, access_error_of, with_ct}
-use Rattle.mb_processor.specs.Step.{finish_unfinished_of, finish_unwritten_of, finish_unwritten_line_of, finish_untransferred_of, movem_words, finish_instruction_of, is_flow, step_of}
+use Rattle.mb_processor.specs.Raise.{Stepped, traces_all, is_due, cause_at, raise_of, trace_if_of, access_error_of, with_ct}
+use Rattle.mb_processor.specs.Step.{finish_unfinished_of, finish_unwritten_of, finish_unwritten_line_of, finish_untransferred_of, movem_words, is_flow, step_of}
 use Rattle.mb_tells.specs.Left.{completing_writes, completing_line, completing_transfers}
 use Rattle.mb_attempts.specs.Attempts.{IsUntraced, attempted_by, finished_by}
 use Rattle.mb_attempts.proofs.Attempts.{attempt_then_finish}
-use Rattle.vm_meaning.specs.Finishes.{finish_trap_of, finish_writes_of, finish_line_of, finish_movem_of, moved_on, at_next}
+use Rattle.vm_meaning.specs.Finishes.{finish_writes_of, finish_line_of, finish_movem_of, moved_on, at_next}
 use Rattle.vm_machine.specs.Rests.{TrapsAreFinished, Begins, HandsOn, DeniedWritesGoOn, DeniedLinesGoOn, DeniedTransfersGoOn}
 
 -- ---- what follows an answer
@@ -54,7 +53,6 @@ step_is bus level cpu s i q b e =
 -- ---- traps
 
 pub traps_are_finished : {S : Type 0} → TrapsAreFinished S
-unfolding finish_instruction_of raise_trap_of finish_trap_of
 traps_are_finished i vector before cpu h bus s =
     let kept = with_registers before cpu in
     let m = raise_of false (cause_at vector cpu.regs.pc kept.regs.pc) kept cpu in
@@ -94,7 +92,6 @@ same_high : (sr ccr : ℕ) → (sr - sr % 2 ^ 5 + ccr % 2 ^ 5) / 2 ^ 13 ≡ sr /
 same_high sr ccr = omega arith
 
 pub same_space : (p : Plain) (cpu : Cpu) → space_of (with_registers p cpu) ≡ space_of cpu
-unfolding with_plain
 same_space p cpu = ap (λ (n : ℕ). if n % 2 == 1 then Super else User) (same_high cpu.regs.sr p.ccr)
 
 -- a refused write's fault, as the end of the instruction
@@ -107,7 +104,6 @@ written_finish : {S : Type 0} (bus : Bus S) (i : Instr) (before : Cpu) (done : C
     → let cpu = with_registers done.plain before in
     finished_by bus i before (run bus (tried (other_fault (refusing_write done) r) (λ _. Return (Ok done))) t)
     ≡ run bus (either r (λ refused. finish_unfinished_of false refused cpu) (λ end. Return (finish.Went, cpu))) t
-unfolding finish_instruction_of
 written_finish bus i before done h (Ok end) t left =
     untraced bus finish.Went (is_due before.regs.sr done.flow) before.regs.pc (with_registers done.plain before) t (never_due before done.flow h)
 written_finish bus i before done h (Err refused) t (p, ps, e) =
@@ -118,7 +114,6 @@ written_finish bus i before done h (Err refused) t (p, ps, e) =
 pub writes_are_finished : {S : Type 0} (bus : Bus S) (i : Instr) (before : Cpu) (first : ℕ) (pending : List Pend) (done : Carried) (s : S) → IsUntraced before
     → finished_by bus i before (run bus (completing_writes (space_of before) first pending done) s)
     ≡ run bus (finish_writes_of pending first (with_registers done.plain before)) s
-unfolding finish_writes_of
 writes_are_finished bus i before first pending done s h =
     let w = run bus (write_pieces_of (space_of before) first pending) s in
     let cpu = with_registers done.plain before in
@@ -142,7 +137,6 @@ lined_finish : {S : Type 0} (bus : Bus S) (i : Instr) (before : Cpu) (line : Lis
     → let cpu = with_registers done.plain before in
     finished_by bus i before (run bus (tried (other_fault (refusing_line line done) r) (λ _. Return (Ok done))) t)
     ≡ run bus (either r (λ fault. finish_unwritten_line_of false fault line cpu) (λ end. Return (finish.Went, cpu))) t
-unfolding finish_instruction_of
 lined_finish bus i before line done h (Ok end) t =
     untraced bus finish.Went (is_due before.regs.sr done.flow) before.regs.pc (with_registers done.plain before) t (never_due before done.flow h)
 lined_finish bus i before line done h (Err fault) t =
@@ -151,7 +145,6 @@ lined_finish bus i before line done h (Err fault) t =
 pub lines_are_finished : {S : Type 0} (bus : Bus S) (i : Instr) (before : Cpu) (at : ℕ) (line : List ℕ) (done : Carried) (s : S) → IsUntraced before
     → finished_by bus i before (run bus (completing_line (space_of before) at line done) s)
     ≡ run bus (finish_line_of at line (with_registers done.plain before)) s
-unfolding finish_line_of
 lines_are_finished bus i before at line done s h =
     let w = bus (WriteLine (space_of before) at line) s in
     let cpu = with_registers done.plain before in
@@ -172,7 +165,6 @@ moved_finish : {S : Type 0} (bus : Bus S) (i : Instr) (before now : Cpu) → IsU
     (run bus (tried (other_fault (λ half. record { ended = ended.Movem half.fault; plain = half.plain }) r)
     (λ moved. Return (Ok (record { flow = false; plain = moved })))) t)
     ≡ run bus (moved_on (movem_words i) now r) t
-unfolding finish_instruction_of finish_untransferred_of
 moved_finish bus i before now h on (Ok p) t =
     untraced bus finish.Went (is_due before.regs.sr false) before.regs.pc (with_registers p before) t (never_due before false h)
     ∙ ap (λ (c : Cpu). ((finish.Went, c), t)) (sym (on.others p))
@@ -188,7 +180,6 @@ moved_finish bus i before now h on (Err half) t =
 pub movems_are_finished : {S : Type 0} (bus : Bus S) (i : Instr) (before now : Cpu) (ea done next : ℕ) (s : S) → IsUntraced before → HandsOn before now
     → finished_by bus i before (run bus (completing_transfers (movem_in (movem_words i)) ea done (space_of before) (at_next next now)) s)
     ≡ run bus (finish_movem_of (movem_words i) ea done next now) s
-unfolding finish_movem_of
 movems_are_finished bus i before now ea done next s h on =
     let w = run bus (transfer_of (movem_in (movem_words i)) ea done (space_of before) (at_next next now)) s in
     moved_finish bus i before now h on w.0 w.1

@@ -5,17 +5,16 @@ use Rattle.std.proofs.lemmas.List.{append-nil}
 use Rattle.std.proofs.lemmas.Bool.{cases_Bool, cases_lt}
 use Rattle.std.proofs.lemmas.Bool.Decides.{nat_tests}
 use Rattle.mb_instr.specs.declared.registers.Plain.{Plain}
-use Rattle.mb_machine.specs.Machine.{Entries, begun, takes_steps}
-use Rattle.vm_machine.specs.Turns.{Turned, without_marks, guest_stepped, advanced, turn_of}
+use Rattle.mb_machine.specs.Machine.{Entries, takes_steps}
+use Rattle.vm_machine.specs.Turns.{Turned, without_marks, advanced, turn_of}
 use Rattle.vm_machine.specs.Rounds.{Member, left, is_done, opened, closed_by, turn_in, Hosted, members_after, round, all_done, left_of_all}
-use Rattle.vm_machine.specs.Rounds.{rounds, host_run, whole_turn, WholeTurns}
+use Rattle.vm_machine.specs.Rounds.{rounds, whole_turn, WholeTurns}
 use Rattle.vm_machine.specs.Laws.{RoundsEnd}
 use Rattle.vm_machine.proofs.TurnLaws.{halted_turn, going_turn, nothing_turned, turns_add, turn_front}
 
 -- ---- the steps of a turn
 
 advanced_steps : (script : Entries) (t : Turned) → (advanced script t).guest.machine.steps ≡ t.guest.machine.steps + 1
-unfolding advanced guest_stepped begun
 advanced_steps script t = refl
 
 -- a machine that still goes has taken them all
@@ -68,7 +67,6 @@ min_some a b h k = omega arith
 
 round_left : (slice : ℕ) (m : Member) → 1 ≤ slice
     → (left (closed_by (turn_in slice m) m) ≤ left m) × (1 ≤ left m → left (closed_by (turn_in slice m) m) < left m)
-unfolding turn_in
 round_left slice m h =
     let few = min_few slice (left m) in
     let less = turned_left m (min slice (left m)) few in (
@@ -159,7 +157,6 @@ turn_more m n k =
     ∙ ap (λ (x : Turned). closed_by x m) (sym (turns_add m.script n k (opened m)))
 
 along_more : (slice : ℕ) (m k : Member) → Along m k → Along m (closed_by (turn_in slice k) k)
-unfolding turn_in
 along_more slice m k a =
     let n = min slice (left (after_turn m a.steps)) in
     let few = min_few slice (left (after_turn m a.steps)) in
@@ -243,7 +240,6 @@ all_whole [] (k ∷ ks) h d = absurd h
 all_whole (m ∷ ms) [] h d = absurd h
 
 pub rounds_end_all : RoundsEnd
-unfolding host_run
 rounds_end_all slice h some =
     let done = rounds_end slice (left_of_all h.members) h some (omega arith) in
     let after = rounds slice (left_of_all h.members) h in record {

@@ -40,7 +40,6 @@ abbrev pub with_front : List Plain → Turned → Turned
 with_front front t = record t { marks = front ++ t.marks }
 
 advanced_front : (script : Entries) (front : List Plain) (t : Turned) → advanced script (with_front front t) ≡ with_front front (advanced script t)
-unfolding advanced
 advanced_front script front t =
     ap (λ (marks : List Plain). record {
       guest = guest_stepped script t.guest;

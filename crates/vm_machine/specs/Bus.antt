@@ -120,7 +120,7 @@ shadow_by (Some r) w shadow = accessed r w shadow
 shadow_by None w shadow = shadow
 
 -- What each call makes of the shadow, in the world before it. A MOVEC that forgets removes all entries and tables.
-unfoldable pub shadow_after : Call → World → Shadowed → Shadowed
+abbrev pub shadow_after : Call → World → Shadowed → Shadowed
 shadow_after (SetMmu which value) w shadow = if rule_k.forgets which then nothing else shadow
 shadow_after (FlushKept what) w shadow = shadow_after_flush what w.kept shadow
 shadow_after (Test space at write) w shadow =

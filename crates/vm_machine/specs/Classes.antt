@@ -42,7 +42,7 @@ class_at (until.Stopped rest g) = Denied
 
 -- The instruction at PC is attempted, up to its end or to its first access that the shadow does not allow. An odd PC,
 -- what is no instruction and a privileged one end the attempt refused, once the words before are fetched.
-unfoldable pub class_of_attempt : Cpu → Guest → Class
+abbrev pub class_of_attempt : Cpu → Guest → Class
 class_of_attempt cpu g =
     class_at (run_until may guest_bus (attempt_of (space_of cpu) (plain_of cpu.regs)) g)
 
@@ -60,11 +60,11 @@ unless_aside level cpu attempted =
     if is_traced cpu then Traced else attempted
 
 -- The class of a step that has begun. Its attempt is judged once each read that is refilled has been.
-unfoldable pub class_of : ℕ → Cpu → Guest → Class
+abbrev pub class_of : ℕ → Cpu → Guest → Class
 class_of level cpu g = unless_aside level cpu (class_of_attempt cpu (refilled cpu g).guest)
 
 -- by its first attempt alone, as the board meets it
-unfoldable pub class_at_first : ℕ → Cpu → Guest → Class
+abbrev pub class_at_first : ℕ → Cpu → Guest → Class
 class_at_first level cpu g = unless_aside level cpu (class_of_attempt cpu g)
 
 -- does a board in user mode leave such an attempt by an exception

@@ -50,7 +50,7 @@ shows_nothing g r (Some at, after) =
     && not (is_full_for r.space (page_of r.at) g.shadow.tables))))
 
 -- A locked check, which tells a write, is not refilled.
-unfoldable pub can_refill : Guest → Reference → Bool
+abbrev pub can_refill : Guest → Reference → Bool
 can_refill g r = not r.write && shows_nothing g r (translated rule_k r g.world)
 
 -- ---- begun again
@@ -66,7 +66,7 @@ refilled_at g None = None
 refilled_at g (Some r) = if can_refill g r then Some (after_access r g) else None
 
 -- The guest from which the attempt that it is about to make begins again.
-unfoldable pub begun_again : Cpu → Guest → Option Guest
+abbrev pub begun_again : Cpu → Guest → Option Guest
 begun_again cpu g =
     let (performed, _) = run held_bus (attempt_of (space_of cpu) (plain_of cpu.regs)) g in
     refilled_at g (denied_read performed)

@@ -42,14 +42,14 @@ handed _ before after = after
 -- ---- how it is carried out
 
 -- What was left, from the processor before the step and the registers now: the whole step once more, or a finish.
-unfoldable pub rest_by : LeftOver → (level : ℕ) → Cpu → Plain → Routine Stepped
+abbrev pub rest_by : LeftOver → (level : ℕ) → Cpu → Plain → Routine Stepped
 rest_by Again level cpu p = step_of level cpu
 rest_by (Writes pending first) level cpu p = finish_writes_of pending.items first (with_registers p cpu)
 rest_by (Line at line) level cpu p = finish_line_of at line (with_registers p cpu)
 rest_by (Movem words ea done next) level cpu p = finish_movem_of words ea done next (with_registers p cpu)
 
 -- The rest of a step whose attempt ended so: a trap is entered, else what was left is carried out.
-unfoldable pub rest_of : (level : ℕ) → Cpu → Instr → Ended → Plain → Routine Stepped
+abbrev pub rest_of : (level : ℕ) → Cpu → Instr → Ended → Plain → Routine Stepped
 rest_of level cpu i (ended.Trap vector) after =
     finish_trap_of (cause_at vector after.pc cpu.regs.pc) (plain_of cpu.regs) (with_registers after cpu)
 rest_of level cpu i end after = rest_by (left_by_end i end after) level cpu (handed end (plain_of cpu.regs) after)

@@ -29,7 +29,7 @@ abbrev pub closed_by : Turned → Member → Member
 closed_by t m = record m { guest = t.guest; tally = t.tally }
 
 -- Its turn of a round: up to a slice of steps.
-unfoldable pub turn_in : ℕ → Member → Turned
+abbrev pub turn_in : ℕ → Member → Turned
 turn_in slice m = turn_of m.script (min slice (left m)) (opened m)
 
 -- ---- rounds
@@ -69,7 +69,7 @@ rounds slice zero h = h
 rounds slice (suc n) h = if all_done h.members then h else rounds slice n (round slice h)
 
 -- The rounds of a session: as many as it takes.
-unfoldable pub host_run : ℕ → Hosted → Hosted
+abbrev pub host_run : ℕ → Hosted → Hosted
 host_run slice h = rounds slice (left_of_all h.members) h
 
 -- ---- what comes of them

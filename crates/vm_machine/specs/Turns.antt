@@ -43,22 +43,22 @@ abbrev pub guest_later : Machine → Stepped × Guest → Guested
 guest_later b ((ended, cpu), after) = record { machine = one_later b ended cpu after.world; shadow = after.shadow }
 
 -- Machine and shadow one step later.
-unfoldable pub guest_stepped : Entries → Guested → Guested
+abbrev pub guest_stepped : Entries → Guested → Guested
 guest_stepped script g =
     let b = guest_begun script g in guest_later b.machine (guest_processed script b)
 
 -- The class of that step, judged once it has begun.
-unfoldable pub class_of_step : Entries → Guested → Class
+abbrev pub class_of_step : Entries → Guested → Class
 class_of_step script g =
     let b = guest_begun script g in class_of (asked_of script b.machine) b.machine.cpu (world_of b)
 
 -- by its first attempt alone
-unfoldable pub step_class_at_first : Entries → Guested → Class
+abbrev pub step_class_at_first : Entries → Guested → Class
 step_class_at_first script g =
     let b = guest_begun script g in class_at_first (asked_of script b.machine) b.machine.cpu (world_of b)
 
 -- How often its attempt is begun again, if it makes one.
-unfoldable pub refills_of_step : Entries → Guested → ℕ
+abbrev pub refills_of_step : Entries → Guested → ℕ
 refills_of_step script g =
     let b = guest_begun script g in (refilled b.machine.cpu (world_of b)).refills
 
@@ -134,7 +134,7 @@ by_class class refills after t = record {
 }
 
 -- One step.
-unfoldable pub advanced : Entries → Turned → Turned
+abbrev pub advanced : Entries → Turned → Turned
 advanced script t =
     by_class (class_of_step script t.guest) (refills_of_step script t.guest) (guest_stepped script t.guest) t
 

@@ -8,13 +8,13 @@ use Rattle.mb_machine.specs.declared.reference.Settled.{Settled}
 use Rattle.mb_machine.specs.declared.reference.Settled.TheVariants.{Unsettled}
 use Rattle.mb_machine.specs.World.{World}
 use Rattle.mb_model.specs.Pages.{page_of}
-use Rattle.mb_machine.specs.Access.{settled, by_match, by_entry, by_settled, known, marks, through, translated, untranslated}
+use Rattle.mb_machine.specs.Access.{by_match, by_entry, by_settled, known, marks, through, translated, untranslated}
 use Rattle.vm_meaning.specs.Free.{rule_free, with_class_entry}
 use Rattle.vm_meaning.specs.Laws.{AccessesUseOrSearch}
 
 by_table : (r : Reference) (w : World) → untranslated w.mmu r ≡ None
     → translated rule_free r w ≡ by_settled rule_free w r (by_match rule_free w.kept r None)
-unfolding translated settled
+unfolding translated
 by_table r w h = ap (λ (o : Option Bool). by_settled rule_free w r (by_match rule_free w.kept r o)) h
 
 by_known : (w : World) (r : Reference) (o : Option ℕ) → by_settled rule_free w r (known o) ≡ (o, w)
@@ -22,11 +22,9 @@ by_known w r (Some at) = refl
 by_known w r None = refl
 
 entry_used : (k : Kept) (r : Reference) → marks k r ≡ false → by_entry r (Some k) ≡ known (through k r)
-unfolding by_entry
 entry_used k r h = rw h refl
 
 entry_marked : (k : Kept) (r : Reference) → marks k r ≡ true → by_entry r (Some k) ≡ Unsettled
-unfolding by_entry
 entry_marked k r h = rw h refl
 
 match_of : (r : Reference) (k : Kept) (kept : KeptLists) → is_of r.space (page_of r.at) k ≡ true
@@ -35,11 +33,9 @@ match_of r k kept h = rw h refl
 
 match_other : (r : Reference) (k : Kept) (kept : KeptLists) → is_of r.space (page_of r.at) k ≡ false
     → by_match rule_free ((k ∷ []) ∷ kept) r None ≡ Unsettled
-unfolding by_entry
 match_other r k kept h = rw h refl
 
 match_none : (r : Reference) (kept : KeptLists) → by_match rule_free ([] ∷ kept) r None ≡ Unsettled
-unfolding by_entry
 match_none r kept = refl
 
 settled_so : (r : Reference) (w : World) (s : Settled) → untranslated w.mmu r ≡ None → by_match rule_free w.kept r None ≡ s

@@ -4,8 +4,8 @@ use Rattle.std.specs.Prelude.{Option, Some, None}
 use Rattle.std.proofs.lemmas.Bool.{cases_Bool}
 use Rattle.std.proofs.lemmas.Bool.Decides.{nat_tests}
 use Rattle.mb_devices.specs.Devices.{DeviceState, ticked, IsNotDue}
-use Rattle.mb_machine.specs.Machine.{Entries, aborts, arrived, begun, is_abort, taken_in}
-use Rattle.vm_meaning.specs.Batches.{QuietStretches, before_entry, before_due, more_steps, IsFrom, NoneBetween, BatchesAreQuiet}
+use Rattle.mb_machine.specs.Machine.{Entries, aborts, arrived, is_abort, taken_in}
+use Rattle.vm_meaning.specs.Batches.{QuietStretches, before_entry, before_due, IsFrom, NoneBetween, BatchesAreQuiet}
 
 is_yes : (a b : ℕ) → a ≡ b → (a == b) ≡ true
 is_yes a b h = grind (arith, nat_tests)
@@ -35,7 +35,6 @@ one_tick d n (inr less) = elim (cases_Bool (d.period == 0)) [
 ]
 
 pub quiet_stretches : QuietStretches
-unfolding begun
 quiet_stretches script m after n quiet count devices = record {
   ticks = ap ticked ((quiet.arrives (m.steps + 1) (omega arith) (omega arith)).devices m.world.devices);
   rest = record {
@@ -101,7 +100,6 @@ stays_due d limit h = elim (cases_Bool (d.period == 0)) [
 ]
 
 pub batches_are_quiet : BatchesAreQuiet
-unfolding more_steps
 batches_are_quiet script m next limit none count =
     let bound = before_entry next m.steps limit in
     let due = stays_due m.world.devices bound count in record {

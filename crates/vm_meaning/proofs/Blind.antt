@@ -24,11 +24,9 @@ taken_at_blind (register r) place w kept = refl
 taken_at_blind nowhere place w kept = refl
 
 pub taken-blind : (place : Place) → IsBlind (taken place)
-unfolding taken
 taken-blind place w kept = taken_at_blind (stand_of (length w.ram) place) place w kept
 
 pub taken_line-blind : (place : Place) → IsBlind (taken_line place)
-unfolding taken_line
 taken_line-blind place w kept = refl
 
 pub checked-blind : (place : Place) → IsBlind (checked place)
@@ -54,7 +52,6 @@ stored_at_blind (register r) place value w kept = refl
 stored_at_blind nowhere place value w kept = refl
 
 pub stored-blind : (place : Place) (value : ℕ) → IsBlindStore (stored place value)
-unfolding stored
 stored-blind place value w kept = stored_at_blind (stand_of (length w.ram) place) place value w kept
 
 if_keeping : (b : Bool) (w : World) (kept : KeptLists) → (if b then Some (record w { kept = kept }) else None) ≡ keeping kept (if b then Some w else None)
@@ -62,7 +59,6 @@ if_keeping true w kept = refl
 if_keeping false w kept = refl
 
 pub stored_line-blind : (place : Place) (line : List ℕ) → IsBlindStore (stored_line place line)
-unfolding stored_line
 stored_line-blind place line w kept =
     if_keeping (in_ram (length w.ram) place.at place.len) (record w { ram = with_longs w.ram place.at line }) kept
 

@@ -45,7 +45,6 @@ known_alike rule kept held r None =
 
 settled_alike : (rule : Rule) (mmu : Mmu) (kept held : KeptLists) (r : Reference)
     → settled rule_free mmu (option_to_list (entry_for rule r.code r.space (page_of r.at) kept) ∷ held) r ≡ settled rule mmu kept r
-unfolding settled
 settled_alike rule mmu kept held r = known_alike rule kept held r (untranslated mmu r)
 
 filled_stands : (rule : Rule) (code : Bool) (k : Kept) (kept held : KeptLists) (xs : List Kept) → StandIn kept held
@@ -65,7 +64,6 @@ found_met rule w xs held r BusError stand = record { answer = refl; world = behi
 
 searched_met : (rule : Rule) (w : World) (xs : List Kept) (held : KeptLists) (r : Reference) → StandIn w.kept held
     → Met (searched rule w r) (searched rule_free (record w { kept = xs ∷ held }) r)
-unfolding searched
 searched_met rule w xs held r stand =
     let s = search_for w r in
     found_met rule (record w { ram = s.ram }) xs held r s.found stand
@@ -141,12 +139,10 @@ tested_by_met w held space page write None stand = record {
 
 tested_met : (w : World) (held : KeptLists) (space : Space) (page : ℕ) (write : Bool) → StandIn w.kept held
     → Met (tested space page write w) (tested space page write (record w { kept = [] ∷ held }))
-unfolding tested
 tested_met w held space page write stand = tested_by_met w held space page write (matched false w.mmu space page) stand
 
 set_met : (rule : Rule) (which : MmuReg) (value : ℕ) (w : World) (held : KeptLists) → StandIn w.kept held
     → WorldWithin (after_set_mmu rule which value w) (after_set_mmu rule_free which value (record w { kept = [] ∷ held }))
-unfolding after_set_mmu
 set_met rule which value w held stand =
     record { same = refl; kept = λ k h. kept-behind [] held k (stand k (movec-adds_none rule which w.kept k h)) }
 
@@ -157,7 +153,6 @@ record Followed (rule : Rule) (c : Call) (w : World) (held : KeptLists) : Type 0
   met : Met (bus_of rule c w) (bus_of rule_free c (with_class_entry entry (record w { kept = held })))
 
 followed : (rule : Rule) (c : Call) (w : World) (held : KeptLists) → StandIn w.kept held → Followed rule c w held
-unfolding bus_of
 followed rule (Fetch space at) w held stand = record {
   entry = used rule (fetching_of space at) w;
   stands = used_is_kept rule (fetching_of space at) w held stand;

@@ -12,7 +12,7 @@ use Rattle.mb_machine.specs.declared.reference.Settled.{Settled}
 use Rattle.mb_machine.specs.World.{World}
 use Rattle.mb_machine.specs.Places.{taken, stored, checked, taken_line, stored_line}
 use Rattle.mb_machine.specs.Access.{search_for, searched, translated, by_settled, by_found}
-use Rattle.mb_machine.specs.Bus.{bus_of, reading_of, writing_of, fetching_of, read_at, read_by, written_at, written_by}
+use Rattle.mb_machine.specs.Bus.{reading_of, writing_of, fetching_of, read_at, read_by, written_at, written_by}
 use Rattle.vm_meaning.specs.Free.{IsKept, rule_free, with_class_entry}
 use Rattle.vm_meaning.specs.Laws.{IsFound, Searches, FreeBoardsFill}
 use Rattle.vm_meaning.proofs.KeptLemmas.{filled-first}
@@ -27,7 +27,6 @@ module _ (entry : Option Kept) (w : World) (k : Kept) (r : Reference) where
       (filled-first rule_free r.code k (option_to_list entry) w.kept refl)
 
   searched_fills : IsFound w k r → IsKept k (searched rule_free (with_class_entry entry w) r).1.kept
-  unfolding searched
   searched_fills (status, e) =
       let s = search_for w r in found_fills s.ram status s.found e
 
@@ -52,7 +51,6 @@ module _ (entry : Option Kept) (w : World) (k : Kept) (r : Reference) where
   write_fills len store blind h f = then_fills (written_at r len store) (write-blind r len store blind) h f
 
 pub free-boards_fill : FreeBoardsFill
-unfolding bus_of
 free-boards_fill (Fetch space at) w entry k = λ h f. read_fills entry w k (fetching_of space at) 2 taken taken-blind h f
 free-boards_fill (Read space p) w entry k = λ h f. read_fills entry w k (reading_of space p.at) p.len taken taken-blind h f
 free-boards_fill (Write space p value) w entry k =

@@ -183,7 +183,6 @@ room_from capacity k xs x h =
     (either_list full (drop 1 xs) xs xs x (dropped_from xs x) (λ g. g)) h
 
 filled_in_from : (capacity : ℕ) (k : Kept) (xs : List Kept) (x : Kept) → Contains (filled_in capacity k xs) x → Contains xs x ⊎ (k ≡ x)
-unfolding filled_in
 filled_in_from capacity k xs x h = elim (Contains-push_cases (room_for capacity k xs) k x h) [
   | inl g ↦ inl (room_from capacity k xs x g)
   | inr e ↦ inr e
@@ -201,7 +200,6 @@ filled-is rule code k kept x (class, h) =
 -- the new entry is kept where its class is there
 pub filled-first : (rule : Rule) (code : Bool) (k : Kept) (xs : List Kept) (kept : KeptLists) → rule.class_of code k.page ≡ 0
     → IsKept k (filled rule code k (xs ∷ kept))
-unfolding filled_in
 filled-first rule code k xs kept e = rw e (0, Contains-push (room_for rule.capacity k xs) k)
 
 pub filled-behind : (rule : Rule) (code : Bool) (k : Kept) (xs : List Kept) (kept : KeptLists) → rule.class_of code k.page ≡ 0

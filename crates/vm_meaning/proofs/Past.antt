@@ -14,18 +14,18 @@ use Rattle.mb_machine.specs.declared.reference.Settled.TheVariants.{To, Refused}
 use Rattle.mb_machine.specs.World.{World}
 use Rattle.mb_machine.specs.Places.{taken, stored, checked, taken_line, stored_line}
 use Rattle.mb_model.specs.Pages.{page_of, has_big_pages}
-use Rattle.mb_machine.specs.Access.{matched, search_for, untranslated, settled, searched, translated, by_match, by_settled, by_found}
-use Rattle.mb_machine.specs.Bus.{bus_of, reading_of, writing_of, fetching_of, read_at, read_by, written_at, written_by, tested, tested_by, after_set_mmu}
+use Rattle.mb_machine.specs.Access.{matched, search_for, untranslated, searched, translated, by_match, by_settled, by_found}
+use Rattle.mb_machine.specs.Bus.{reading_of, writing_of, fetching_of, read_at, read_by, written_at, written_by, tested, tested_by, after_set_mmu}
 use Rattle.vm_meaning.specs.Free.{IsKept, rule_free, with_class_entry}
 use Rattle.vm_meaning.proofs.Blind.{IsBlind, IsBlindStore, taken-blind, taken_line-blind, checked-blind, stored-blind, stored_line-blind}
 use Rattle.vm_meaning.proofs.Blind.{read-blind, write-blind, get-blind, put-blind, blind-kept}
 use Rattle.vm_meaning.proofs.Accesses.{accesses-use_or_search}
 use Rattle.vm_meaning.proofs.KeptLemmas.{empty, kept-behind, flushed-is, flushed-keeps, dropped-is, dropped-keeps, filled-is, filled-first, filled-behind}
-use Rattle.vm_meaning.specs.Tidy.{searching_bus, EachAccessSearches, SearchesOut, PastIsWhatWasSearchedOut}
+use Rattle.vm_meaning.specs.Tidy.{EachAccessSearches, SearchesOut, PastIsWhatWasSearchedOut}
 
 by_match_of : (r : Reference) (w : World) (o : Option Bool) → untranslated w.mmu r ≡ o
     → translated rule_free r w ≡ by_settled rule_free w r (by_match rule_free w.kept r o)
-unfolding translated settled
+unfolding translated
 by_match_of r w o e = ap (λ (o : Option Bool). by_settled rule_free w r (by_match rule_free w.kept r o)) e
 
 pub each_access-searches : EachAccessSearches
@@ -75,7 +75,6 @@ found_past r w ram k BusError free found = none_past r w k BusError found (λ st
 
 searched_past : (r : Reference) (w : World) (k : Kept) → untranslated w.mmu r ≡ None
     → IsPast r w (searched rule_free (with_class_entry None w) r).1.kept k
-unfolding searched
 searched_past r w k free =
     let s = search_for w r in found_past r w s.ram k s.found free refl
 
@@ -169,15 +168,12 @@ tested_by_past w space page write None k = dropped_past (has_big_pages w.mmu) sp
 tested_past : (w : World) (space : Space) (page : ℕ) (write : Bool) (k : Kept)
     → OtherPast (is_none (matched false w.mmu space page) && is_half_of (has_big_pages w.mmu) space page k) w
     (tested space page write (with_class_entry None w)).1.kept k
-unfolding tested
 tested_past w space page write k = tested_by_past w space page write (matched false w.mmu space page) k
 
 set_past : (which : _) (value : ℕ) (w : World) (k : Kept) → OtherPast false w (after_set_mmu rule_free which value (with_class_entry None w)).kept k
-unfolding after_set_mmu
 set_past which value w k = still_past w ([] ∷ w.kept) k refl
 
 pub past-is_searched_out : PastIsWhatWasSearchedOut
-unfolding searching_bus bus_of
 past-is_searched_out (Fetch space at) w k = read_past (fetching_of space at) 2 taken w k taken-blind
 past-is_searched_out (Read space p) w k = read_past (reading_of space p.at) p.len taken w k taken-blind
 past-is_searched_out (Write space p value) w k =

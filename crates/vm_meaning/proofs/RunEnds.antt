@@ -5,7 +5,7 @@ use Rattle.mb_instr.specs.Registers.{is_supervisor}
 use Rattle.mb_model.specs.Keeping.{rule_a}
 use Rattle.mb_processor.specs.declared.Finish.{Finish}
 use Rattle.mb_processor.specs.declared.Finish.TheVariants as finish
-use Rattle.mb_machine.specs.Machine.{Machine, stepping, processed, begun, takes_steps, state_after}
+use Rattle.mb_machine.specs.Machine.{Machine, processed, begun, takes_steps, state_after}
 use Rattle.vm_meaning.specs.declared.RunEnd.{RunEnd}
 use Rattle.vm_meaning.specs.declared.RunEnd.TheVariants.{Counted, Exit, Gone}
 use Rattle.vm_meaning.specs.Native.{Ran, user_step, user_run, ran_by, ended_by, goes_on}
@@ -30,7 +30,6 @@ run-off n r h = rw h refl
 
 -- a step that halts leaves a machine that takes no more
 halted_by : (m after : Machine) (f : Finish) → user_step m ≡ (f, after) → f ≡ finish.Halted → takes_steps after.state ≡ false
-unfolding user_step stepping state_after
 halted_by m after f s h =
     let r = processed rule_a [] (begun [] m) in
     let of_step : r.0.0 ≡ finish.Halted = ap (λ (x : Finish × Machine). x.0) s ∙ h in
@@ -166,7 +165,6 @@ runs-end_by_cause (suc n) r c going user =
 -- ---- what stays
 
 step_keeps : (m : Machine) → (user_step m).1.steps ≡ m.steps
-unfolding user_step
 step_keeps m = refl
 
 -- the board's own count of steps stays

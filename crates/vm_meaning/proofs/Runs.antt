@@ -9,7 +9,7 @@ use Rattle.mb_processor.specs.Step.{step_of}
 use Rattle.mb_laws.proofs.Related.{runs_may_follow, along}
 use Rattle.mb_machine.specs.World.{World}
 use Rattle.mb_machine.specs.Bus.{bus_of}
-use Rattle.mb_machine.specs.Machine.{Entries, Machine, begun, one_later, stepping, stepped, takes_steps, run_of, reset_with, asked_of}
+use Rattle.mb_machine.specs.Machine.{Entries, Machine, begun, one_later, stepped, takes_steps, run_of, reset_with, asked_of}
 use Rattle.vm_meaning.specs.Free.{StandIn, rule_free, FreeStep, FreeRun, WorldWithin, Within, IsFreeRun}
 use Rattle.vm_meaning.proofs.Calls.{calls-are_free}
 use Rattle.vm_meaning.proofs.KeptLemmas.{none-kept}
@@ -24,7 +24,6 @@ later_within b held finish cpu w u h =
 
 step_from : (rule : Rule) (script : Entries) (m : Machine) (held : KeptLists) → StandIn m.world.kept held
     → (after : Machine) × FreeStep script (record m { world = record m.world { kept = held } }) after × Within (stepped rule script m) after
-unfolding begun stepping
 step_from rule script m held stand =
     let b = begun script m in
     let routine = step_of (asked_of script b) b.cpu in

@@ -58,7 +58,6 @@ found_keeps r w ram xs BusError are e = record { stays = kept-behind xs w.kept; 
 
 searched_keeps : (r : Reference) (w : World) (xs : List Kept) → AreKept xs w.kept
     → Keeps r w (searched rule_free (record w { kept = xs ∷ w.kept }) r).1
-unfolding searched
 searched_keeps r w xs are =
     let s = search_for w r in found_keeps r w s.ram xs s.found are refl
 
@@ -138,12 +137,10 @@ tested_by_stays k w xs space page write None are =
 tested_stays : (k : Kept) (w : World) (xs : List Kept) (space : Space) (page : ℕ) (write : Bool) → AreKept xs w.kept
     → Stays (is_none (matched false w.mmu space page) && is_half_of (has_big_pages w.mmu) space page k) k w
     (tested space page write (record w { kept = xs ∷ w.kept })).1
-unfolding tested
 tested_stays k w xs space page write are = tested_by_stays k w xs space page write (matched false w.mmu space page) are
 
 set_stays : (k : Kept) (w : World) (xs : List Kept) (which : MmuReg) (value : ℕ) → AreKept xs w.kept
     → Stays false k w (after_set_mmu rule_free which value (record w { kept = xs ∷ w.kept }))
-unfolding after_set_mmu
 set_stays k w xs which value are = unchanged k w (after_set_mmu rule_free which value (record w { kept = xs ∷ w.kept })) xs are refl
 
 kept_or_found : (r : Reference) (w : World) (k : Kept) → IsKept k w.kept ⊎ IsFound w k r → (IsKept k w.kept × (false ≡ false)) ⊎ IsFound w k r
@@ -152,7 +149,6 @@ kept_or_found r w k (inr f) = inr f
 
 called : (c : Call) (w : World) (xs : List Kept) → AreKept xs w.kept → (k : Kept)
     → KeepsFound c w (bus_of rule_free c (record w { kept = xs ∷ w.kept })).1 k
-unfolding bus_of
 called (Fetch space at) w xs are k =
     let r = fetching_of space at in
     let h = read_keeps r 2 taken w xs taken-blind are in

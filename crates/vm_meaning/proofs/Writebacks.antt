@@ -112,7 +112,6 @@ own_memory p own = unlaid_laid (piece_of p) p.value ∙ small p.value (span_of (
 -- ---- the cases
 
 tells_read : (fault : Fault) (first page : ℕ) → left_in (read_fields fault first page) ≡ left.Again
-unfolding left_in read_fields
 tells_read fault first page =
     let ea = if fault.code then fault.at else first in
     let a = few_status fault ea page in
@@ -121,14 +120,12 @@ tells_read fault first page =
 
 tells_movem : (fault : Fault) (first start done words next : ℕ) (is_load : Bool) (page : ℕ)
     → left_in (movem_fields fault first start done words next is_load page) ≡ left.Movem words first done next
-unfolding left_in movem_fields
 tells_movem fault first start done words next is_load page =
     let a = few_status fault start page in
     let b = few_set is_load RW in
     rw (has_cm (status fault start page + CM + bit_if is_load RW) (omega arith) (omega arith)) refl
 
 tells_check : (fault : Fault) → left_in (check_fields fault) ≡ left.Again
-unfolding left_in check_fields
 tells_check fault =
     let a = few_bits fault.len Super false in
     let b = few_set fault.atc ATC in
@@ -138,7 +135,6 @@ tells_check fault =
 
 tells_line : (fault : Fault) (a b c d page : ℕ)
     → left_in (line_fields fault (a ∷ b ∷ c ∷ d ∷ []) page) ≡ left.Line fault.at (a ∷ b ∷ c ∷ d ∷ [])
-unfolding left_in line_fields
 tells_line fault a b c d page =
     let few = few_status fault fault.at page in
     let v = valid_16 fault.space in
@@ -171,27 +167,23 @@ joined a b c x y z e f g =
     ap (λ (l : List Pend). l ++ b ++ c) e ∙ ap (λ (l : List Pend). x ++ l ++ c) f ∙ ap (λ (l : List Pend). x ++ y ++ l) g
 
 pending_one : (fault : Fault) (first page : ℕ) (p : Pend) → IsOwn p → pending_in (write_fields fault first (p ∷ []) page) ≡ p ∷ []
-unfolding pending_in write_fields
 pending_one fault first page p own =
     joined _ _ _ (p ∷ []) [] [] (valid_list fault.space p _ own (first_is fault.space p own)) refl refl
 
 pending_two : (fault : Fault) (first page : ℕ) (p q : Pend) → IsOwn p → IsOwn q
     → pending_in (write_fields fault first (p ∷ q ∷ []) page) ≡ p ∷ q ∷ []
-unfolding pending_in write_fields
 pending_two fault first page p q own other =
     joined _ _ _ (p ∷ []) (q ∷ []) [] (valid_list fault.space p _ own (first_is fault.space p own))
     (valid_list fault.space q _ other (other_is fault.space q other)) refl
 
 pending_three : (fault : Fault) (first page : ℕ) (p q r : Pend) → IsOwn p → IsOwn q → IsOwn r
     → pending_in (write_fields fault first (p ∷ q ∷ r ∷ []) page) ≡ p ∷ q ∷ r ∷ []
-unfolding pending_in write_fields
 pending_three fault first page p q r own other third =
     joined _ _ _ (p ∷ []) (q ∷ []) (r ∷ []) (valid_list fault.space p _ own (first_is fault.space p own))
     (valid_list fault.space q _ other (other_is fault.space q other)) (valid_list fault.space r _ third (other_is fault.space r third))
 
 pub pending_told : (fault : Fault) (first page : ℕ) (rest : List Pend) → length rest ≤ 3 → AreOwn rest
     → pending_in (write_fields fault first rest page) ≡ rest
-unfolding pending_in write_fields
 pending_told fault first page [] few own = refl
 pending_told fault first page (p ∷ []) few own = pending_one fault first page p own.0
 pending_told fault first page (p ∷ q ∷ []) few own = pending_two fault first page p q own.0 own.1.0
@@ -201,21 +193,17 @@ pending_told fault first page (p ∷ q ∷ r ∷ s ∷ more) few own = absurd (o
 -- of a frame with a valid writeback that is no line
 writes_by : (a : Access) → continues a ≡ false → is_valid a.wb1s ≡ true → (length_in a.wb1s == 16) ≡ false
     → left_in a ≡ written (pending_in a) a.ea
-unfolding left_in
 writes_by a c v l = rw c (rw v (rw l refl))
 
 no_writeback : (a : Access) → continues a ≡ false → is_valid a.wb1s ≡ false → left_in a ≡ left.Again
-unfolding left_in
 no_writeback a c v = rw c (rw v refl)
 
 one_valid : (fault : Fault) (first page : ℕ) (p : Pend) (ps : List Pend) → (write_fields fault first (p ∷ ps) page).wb1s ≡ writeback_status fault.space p.len
-unfolding write_fields
 one_valid fault first page p ps = refl
 
 -- the status and the first byte of a refused write's frame
 write_status : (fault : Fault) (first page : ℕ) (rest : List Pend) → length rest ≤ 3
     → ((write_fields fault first rest page).ssw ≡ status fault first page) × ((write_fields fault first rest page).ea ≡ first)
-unfolding write_fields
 write_status fault first page [] few = (refl, refl)
 write_status fault first page (p ∷ []) few = (refl, refl)
 write_status fault first page (p ∷ q ∷ []) few = (refl, refl)
@@ -234,7 +222,6 @@ tells_writes fault first page p ps few own =
     ∙ ap (λ (l : List Pend). written l a.ea) (pending_told fault first page (p ∷ ps) few own) ∙ ap (written (p ∷ ps)) s.1
 
 tells_unbegun : (fault : Fault) (first page : ℕ) → left_in (write_fields fault first [] page) ≡ left.Again
-unfolding write_fields
 tells_unbegun fault first page =
     let low = few_status fault first page in
     no_writeback (write_fields fault first [] page) (no_cm (status fault first page) (omega arith)) refl

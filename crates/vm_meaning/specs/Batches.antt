@@ -42,7 +42,7 @@ before_due d limit = if d.period == 0 then limit else min limit (d.count - 1)
 
 -- The steps behind one that has begun which the board may carry out together with it, at most so many. `taken` counts
 -- the one that has begun, and the next entry of the script is of this step.
-unfoldable pub more_steps : (next : Option ℕ) → (taken : ℕ) → DeviceState → (limit : ℕ) → ℕ
+abbrev pub more_steps : (next : Option ℕ) → (taken : ℕ) → DeviceState → (limit : ℕ) → ℕ
 more_steps next taken d limit = before_due d (before_entry next taken limit)
 
 -- a step is at the next entry or behind it

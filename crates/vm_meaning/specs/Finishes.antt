@@ -19,18 +19,18 @@ use Rattle.mb_processor.specs.Raise.{Stepped, raise_of, raise_last_of}
 use Rattle.mb_processor.specs.Step.{finish_unfinished_of, finish_unwritten_line_of, finish_untransferred_of}
 
 -- A cause is entered. Where its frame has no place the registers become those before, and an access error is entered.
-unfoldable pub finish_trap_of : Cause → (before : Plain) → Cpu → Routine Stepped
+abbrev pub finish_trap_of : Cause → (before : Plain) → Cpu → Routine Stepped
 finish_trap_of cause before cpu = raise_last_of cause.vector (raise_of false cause (with_registers before cpu) cpu)
 
 -- The pieces are written, of an operand whose first byte is at `first`. At a refused one an access error is entered
 -- that names it and those after it.
-unfoldable pub finish_writes_of : List Pend → (first : ℕ) → Cpu → Routine Stepped
+abbrev pub finish_writes_of : List Pend → (first : ℕ) → Cpu → Routine Stepped
 finish_writes_of pending first cpu =
     caught (write_pieces_of (space_of cpu) first pending)
     (λ refused. finish_unfinished_of false refused cpu) (λ done. Return (finish.Went, cpu))
 
 -- The line is written, or an access error is entered.
-unfoldable pub finish_line_of : (at : ℕ) → (line : List ℕ) → Cpu → Routine Stepped
+abbrev pub finish_line_of : (at : ℕ) → (line : List ℕ) → Cpu → Routine Stepped
 finish_line_of at line cpu =
     caught (write_line (space_of cpu) at line)
     (λ fault. finish_unwritten_line_of false fault line cpu) (λ done. Return (finish.Went, cpu))
@@ -46,6 +46,6 @@ moved_on words cpu (Err half) = finish_untransferred_of false half.fault words c
 
 -- A MOVEM, by its words and the address of its first transfer, goes on behind the first `done` transfers, and PC goes
 -- to the next instruction. Until then the processor's PC is the MOVEM's own.
-unfoldable pub finish_movem_of : (words ea done next : ℕ) → Cpu → Routine Stepped
+abbrev pub finish_movem_of : (words ea done next : ℕ) → Cpu → Routine Stepped
 finish_movem_of words ea done next cpu =
     Then (transfer_of (movem_in words) ea done (space_of cpu) (at_next next cpu)) (moved_on words cpu)

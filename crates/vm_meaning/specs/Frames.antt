@@ -73,7 +73,7 @@ if_valid true p = p ∷ []
 if_valid false p = []
 
 -- the pieces that are still to be written, in order
-unfoldable pub pending_in : Access → List Pend
+abbrev pub pending_in : Access → List Pend
 pending_in a =
     if_valid (is_valid a.wb1s) (first_pend a) ++ if_valid (is_valid a.wb2s) (second_pend a)
     ++ if_valid (is_valid a.wb3s) (third_pend a)
@@ -87,7 +87,7 @@ by_writeback a =
     else Writes (record { items = pending_in a }) a.ea
 
 -- CM says that it was a MOVEM
-unfoldable pub left_in : Access → LeftOver
+abbrev pub left_in : Access → LeftOver
 left_in a =
     if continues a then Movem a.pd2 a.ea a.pd3 a.pd1
     else if is_valid a.wb1s then by_writeback a else Again

@@ -22,7 +22,7 @@ nothing_counted = record { retired = 0; exceptions = 0; trail = 0 }
 -- ---- a step
 
 -- A step by the board's rule, at which nothing arrives. The board's own count of steps stays.
-unfoldable pub user_step : Machine → Finish × Machine
+abbrev pub user_step : Machine → Finish × Machine
 user_step m = let (ended, after) = stepping rule_a [] m in (ended, record after { steps = m.steps })
 
 -- ---- a run

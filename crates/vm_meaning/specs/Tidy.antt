@@ -19,7 +19,7 @@ use Rattle.vm_meaning.specs.Laws.{drops, IsFound}
 
 -- What is searched out is kept beside all others, and never used. So what is kept is the past: what searches have found
 -- since the last flush or PTEST that covers it.
-unfoldable pub searching_bus : Bus World
+abbrev pub searching_bus : Bus World
 searching_bus c w = bus_of rule_free c (with_class_entry None w)
 
 -- a step over that bus

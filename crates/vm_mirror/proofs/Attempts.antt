@@ -11,7 +11,7 @@ use Rattle.mb_laws.proofs.TwinTrees.{met_meets_on}
 use Rattle.mb_meaning.specs.Attempt.{FoundInstr, attempt_of, fetched_of}
 use Rattle.mb_twins.specs.Twins.{SamePerformed}
 use Rattle.mb_twins.proofs.Step.{SameFound as TwinFound, SameUnfound, attempt_twins, fetched_twins, perform_twins, may_refuse}
-use Rattle.mb_tells.proofs.Step.{attempt_tells, Founds, fetched_tells, perform_tells}
+use Rattle.mb_tells.proofs.Step.{attempt_tells, fetched_tells, perform_tells}
 use Rattle.mb_machine.specs.World.{World}
 use Rattle.mb_meaning.specs.Rows.{perform_of}
 use Rattle.vm_machine.specs.Guests.{Guest}
@@ -102,7 +102,6 @@ same_found x (Err e) (Ok other) same = absurd same
 same_found x (Err e) (Err f) same = same
 
 pub fetches_stay : FetchesStay
-unfolding Founds
 fetches_stay x pc b g lt r =
     let both = twins_stay x (Results TwinFound (SameUnfound (setting x))) (fetched_of User pc) (fetched_of x.space pc) (fetched_twins (setting x) pc refl) b g r
     ((fetched_tells (never_refusing x) User (board_guards x) pc lt).lawfully b ((g, r), tt)) in

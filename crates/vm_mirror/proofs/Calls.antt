@@ -14,7 +14,7 @@ use Rattle.mb_walk.specs.Memory.{number_at, with_number}
 use Rattle.mb_machine.specs.World.{World}
 use Rattle.mb_machine.specs.Places.{taken, stored, checked, line_at, with_longs, taken_line, stored_line}
 use Rattle.mb_machine.specs.Access.{translated}
-use Rattle.mb_machine.specs.Bus.{bus_of, fault_of, place_at, Take, Store, read_by, written_by}
+use Rattle.mb_machine.specs.Bus.{fault_of, place_at, Take, Store, read_by, written_by}
 use Rattle.mb_machine.proofs.BusLemmas.{taken_memory, stored_memory}
 use Rattle.vm_held.proofs.Allowed.{word_small, wrote_guest, line_guest, of_guest, held_is, held_not}
 use Rattle.vm_mirror.proofs.Mirrors.{guest_bytes, Allowed, allowed_access, refused_access, related_after, guest_in_ram, board_in_ram, same_number, written}
@@ -194,7 +194,6 @@ pub place_lower : (base size at len : ℕ) → base + at + len ≤ base + size �
 place_lower base size at len h = omega arith
 
 pub mirrors_calls : MirrorsCalls
-unfolding bus_of
 mirrors_calls x (Fetch space at) b g r s (u, l, even) =
     read_mirrored x b g true at 2 false SameWord taken taken (word_both x g) r space s l (λ z. cc) (word_fits at even)
 mirrors_calls x (Read space p) b g r s (u, l, is) = read_mirrored x b g false p.at p.len false Equal taken taken (take_both x g p.len) r space s l (λ z. refl)

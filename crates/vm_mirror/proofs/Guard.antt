@@ -15,7 +15,7 @@ use Rattle.mb_walk.specs.Memory.{number_at}
 use Rattle.mb_machine.specs.World.{World}
 use Rattle.mb_machine.specs.Places.{taken, checked, taken_line, line_at}
 use Rattle.mb_machine.specs.Access.{translated}
-use Rattle.mb_machine.specs.Bus.{bus_of, fault_of, place_at, Take, read_by}
+use Rattle.mb_machine.specs.Bus.{fault_of, place_at, Take, read_by}
 use Rattle.mb_tells.specs.Guarded.{Guarded, Guards}
 use Rattle.mb_machine.proofs.BusLemmas.{taken_memory}
 use Rattle.vm_machine.specs.Guests.{Guest, ref, allows}
@@ -111,7 +111,6 @@ never_refusing x = record {
 
 probe_place : (x : Site) (p : Piece) (b : World) (place : Place) → Serves x b → lawful x (Probe User p) b → (board_bus (Probe User p) b).0 ≡ Ok place
     → (x.base ≤ place.at) × (place.at + place.len ≤ x.base + x.size) × (place.len ≡ p.len)
-unfolding bus_of
 probe_place x p b place (g, r) l e =
     read_answer x b g false p.at p.len true checked (λ (q : Place). (x.base ≤ q.at) × (q.at + q.len ≤ x.base + x.size)
     × (q.len ≡ p.len)) r l.1 (λ z. refl) (piece_fits p l.2)
@@ -129,7 +128,6 @@ opens x = record {
 }
 
 fetched_word : (x : Site) (at word : ℕ) (b : World) → Serves x b → lawful x (Fetch User at) b → (board_bus (Fetch User at) b).0 ≡ Ok word → word < 2 ^ 16
-unfolding bus_of
 fetched_word x at word b (g, r) l e =
     read_answer x b g true at 2 false taken (λ (n : ℕ). n < 2 ^ 16) r l.1 (λ z. cc) (word_fits at l.2)
     (λ w k at_w h. (
@@ -141,7 +139,6 @@ fetched_word x at word b (g, r) l e =
 
 read_longs : (x : Site) (at : ℕ) (line : List ℕ) (b : World) → Serves x b → lawful x (ReadLine User at) b → (board_bus (ReadLine User at) b).0 ≡ Ok line
     → length line ≡ 4
-unfolding bus_of
 read_longs x at line b (g, r) l e =
     read_answer x b g false at 16 false taken_line (λ (xs : List ℕ). length xs ≡ 4) r l.1 (λ z. refl) (line_fits at l.2)
     (λ w k at_w h. (line_at w.ram (x.base + k), line_read w (x.base + k) (board_in_ram x w g k 16 at_w h), refl)) line e

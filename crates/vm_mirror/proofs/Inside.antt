@@ -15,7 +15,7 @@ use Rattle.mb_walk.proofs.MemoryLemmas.{length-with_number}
 use Rattle.mb_machine.specs.World.{World}
 use Rattle.mb_machine.specs.Places.{taken, stored, checked, with_longs, taken_line, stored_line}
 use Rattle.mb_machine.specs.Access.{translated}
-use Rattle.mb_machine.specs.Bus.{bus_of, place_at, Take, Store, read_by, written_by}
+use Rattle.mb_machine.specs.Bus.{place_at, Take, Store, read_by, written_by}
 use Rattle.mb_walk.proofs.Parts.{drop-over, take-over}
 use Rattle.mb_machine.proofs.BusLemmas.{stored_memory}
 use Rattle.vm_machine.specs.Guests.{Guest, ref, allows}
@@ -111,7 +111,6 @@ line_inside x b g line four r w p at_w o h =
 
 inside_call : (x : Site) (d : Call) (b : World) (g : Guest) → Related x b g → IsThere (setting x) d → lawful x (call_here (setting x) d) b
     → Outside x b (board_bus (call_here (setting x) d) b).1
-unfolding bus_of
 inside_call x (Fetch space at) b g r s l = read_inside x b g true at 2 false Equal taken taken (take_both x g 2) r l.1 (λ z. cc) (word_fits at l.2)
 inside_call x (Read space p) b g r s l = read_inside x b g false p.at p.len false Equal taken taken (take_both x g p.len) r l.1 (λ z. refl) (piece_fits p l.2)
 inside_call x (Write space p value) b g r s l = write_inside x b g p.at p.len (λ place. stored place value) (store_inside x b g p.len value r) r l.1

@@ -8,7 +8,6 @@ use Rattle.mb_port.specs.declared.types.Space.TheVariants.{User, Super}
 use Rattle.mb_port.specs.declared.types.Mmu.{Mmu}
 use Rattle.mb_model.specs.Keeping.{rule_a}
 use Rattle.mb_model.specs.Pages.{has_big_pages}
-use Rattle.mb_walk.specs.Transparent.{transparent_of}
 use Rattle.mb_machine.specs.declared.reference.Settled.TheVariants.{To}
 use Rattle.mb_machine.specs.World.{World}
 use Rattle.mb_machine.specs.Access.{untranslated, settled, by_match}
@@ -33,12 +32,10 @@ all_ignored : (n : ℕ) → n < 2 ^ 8 → bit_or n 255 ≡ 255
 all_ignored n h = let a = le_or_r n 255 in let b = or_lt 8 n 255 h (omega arith) in omega arith
 
 user_translated : (root at : ℕ) (code write : Bool) → untranslated (native_mmu root) (ref code User at write) ≡ None
-unfolding untranslated transparent_of
 user_translated root at true write = refl
 user_translated root at false write = refl
 
 super_untranslated : (root at : ℕ) (write : Bool) → at < 2 ^ 32 → untranslated (native_mmu root) (ref false Super at write) ≡ Some false
-unfolding untranslated transparent_of
 super_untranslated root at write l = rw (all_ignored (at / 4096 / 2 ^ 12) (omega arith)) refl
 
 pub native_translation : NativeTranslation
@@ -46,7 +43,6 @@ native_translation root at code write l = (user_translated root at code write, s
 
 settled_there : (b : World) (at : ℕ) (write : Bool) → untranslated b.mmu (ref false Super at write) ≡ Some false
     → settled rule_a b.mmu b.kept (ref false Super at write) ≡ To at
-unfolding settled
 settled_there b at write h = ap (by_match rule_a b.kept (ref false Super at write)) h
 
 pub enters_untranslated : EntersUntranslated

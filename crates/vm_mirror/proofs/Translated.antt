@@ -28,7 +28,6 @@ use Rattle.vm_held.proofs.Stages.{settled_by, entry_used, entry_marked, by_known
 
 pub through_wanted : (k : Kept) (code : Bool) (at : ℕ) (write : Bool) (frame : ℕ) (writable : Bool) → k.frame ≡ frame → k.w ≡ not writable → k.s ≡ false
     → through k (ref code User at write) ≡ wanted (Some (frame, writable)) at write
-unfolding through
 through_wanted k code at write frame writable f v s = rw (f, v, s) (one writable write)
   where
     one : (writable write : Bool) → (if not (not writable && write) && true then Some (4096 * frame + at % 4096) else None)
@@ -67,7 +66,6 @@ found_translates x rule b code at write (Some (frame, writable)) m a =
 
 search_translates : (x : Site) (rule : Rule) (b : World) (g : Guest) (code : Bool) (at : ℕ) (write : Bool) → Related x b g → at < 2 ^ 32
     → Translates x b (wanted (mapping x b.ram (page_of at)) at write) (searched rule b (ref code User at write))
-unfolding searched
 search_translates x rule b g code at write r l =
     let s : page_search b User (page_of at) write
     ≡ record { ram = b.ram; found = found_of User (page_of at) (mapping x b.ram (page_of at)) } =

@@ -22,7 +22,7 @@ use Rattle.mb_machine.specs.declared.reference.Settled.{Settled}
 use Rattle.mb_machine.specs.declared.reference.Settled.TheVariants.{To, Refused, Unsettled}
 use Rattle.mb_machine.specs.World.{World}
 use Rattle.mb_port.specs.declared.types.Mmu.{Mmu}
-use Rattle.mb_machine.specs.Access.{root_of, settled, marks, known, through, by_found, searched, by_settled, translated}
+use Rattle.mb_machine.specs.Access.{root_of, settled, marks, known, through, by_found, by_settled, translated}
 use Rattle.vm_shadow.specs.Slots.{is_full_for}
 use Rattle.vm_machine.specs.Guests.{Guest}
 use Rattle.vm_machine.specs.Bus.{gone_found, gone_settled, gone, is_split, is_in_ram}
@@ -210,7 +210,7 @@ module _ (g : Guest) (r : Reference) (reads : r.write ≡ false) (bytes : AreByt
 
   by_state : (st : Settled) → settled rule_k g.world.mmu g.world.kept r ≡ st
       → shows_by g r (by_settled rule_k g.world r st) (is_none (gone_settled g.world r st)) ≡ refills_seen g r (seen_by g.world r st)
-  unfolding shows_by searched
+  unfolding shows_by
   by_state (To at) e = still_shows g r (Some at) g.world false refl refl
   by_state Refused e = refl
   by_state Unsettled e =
@@ -218,7 +218,6 @@ module _ (g : Guest) (r : Reference) (reads : r.write ≡ false) (bytes : AreByt
       ∙ by_search_found s.found refl (search_names r.space page g.world.ram root false big) (needs_none g.world.mmu g.world.kept r reads e)
 
   pub seen_is : can_refill g r ≡ refills_seen g r (seen g.world r)
-  unfolding can_refill seen
   seen_is =
       let st = settled rule_k g.world.mmu g.world.kept r in
       ap (λ (b : Bool). not b && shows_nothing g r (translated rule_k r g.world)) reads
@@ -227,5 +226,4 @@ module _ (g : Guest) (r : Reference) (reads : r.write ≡ false) (bytes : AreByt
 
 -- a write is none
 pub writes_not : (g : Guest) (r : Reference) → r.write ≡ true → can_refill g r ≡ false
-unfolding can_refill
 writes_not g r e = rw e refl

@@ -21,11 +21,11 @@ use Rattle.mb_machine.specs.declared.reference.Reference.{Reference}
 use Rattle.mb_machine.specs.declared.reference.Settled.TheVariants.{Unsettled}
 use Rattle.mb_machine.specs.World.{World}
 use Rattle.mb_machine.specs.Access.{settled, translated}
-use Rattle.mb_machine.specs.Bus.{bus_of, after_set_mmu}
+use Rattle.mb_machine.specs.Bus.{after_set_mmu}
 use Rattle.mb_model.specs.Pages.{page_of}
 use Rattle.vm_shadow.specs.Shadows.{Shadowed, nothing, dropped, is_at}
 use Rattle.vm_machine.specs.Guests.{Guest, Truthful, IsReference, ref}
-use Rattle.vm_machine.specs.Bus.{without_kept, gone, put_entry_of, shadow_after_flush, shadow_after}
+use Rattle.vm_machine.specs.Bus.{without_kept, gone, put_entry_of, shadow_after_flush}
 use Rattle.vm_held.specs.Truth.{Fine}
 use Rattle.vm_held.proofs.Accesses.{found_fine, after_found, one_filled, truthful_less}
 use Rattle.vm_held.proofs.Puts.{accesses_keep_truth}
@@ -109,14 +109,12 @@ module _ (size : ℕ) (ram : List ℕ) (mmu : Mmu) (devices : DeviceState) (kept
 
   set_truthful : (which : MmuReg) (value : ℕ)
       → Truthful size (record { world = after_set_mmu rule_k which value g.world; shadow = if rule_k.forgets which then nothing else shadow })
-  unfolding bus_of shadow_after
   set_truthful which value = (calls_keep_truth size (SetMmu which value) g tt fine).sound.truthful
 
   -- once a register is set
   pub register_truthful : (which : MmuReg) (value : ℕ) (after : List Kept) (s : Shadowed) → after_movec rule_k which (kept ∷ []) ≡ after ∷ []
       → s ≡ (if rule_k.forgets which then nothing else shadow)
       → IsTruthful size (with_mmu_register mmu which (bit_and value (kept_bits (control.Mmu which)))) after s
-  unfolding after_set_mmu
   register_truthful which value after s e h =
       let register = with_mmu_register mmu which (bit_and value (kept_bits (control.Mmu which))) in
       whatever size (record { world = record g.world { mmu = register; kept = after_movec rule_k which (kept ∷ []) }; shadow = s }) after e

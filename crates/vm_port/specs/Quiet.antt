@@ -25,7 +25,7 @@ seen_by w r Unsettled =
     if length (list_of 0 w.kept) == rule_k.capacity then None
     else seen_found r (found_used w.ram (root_of w.mmu r.space) r.space (page_of r.at) (has_big_pages w.mmu))
 
-unfoldable pub seen : World → Reference → Option ℕ
+abbrev pub seen : World → Reference → Option ℕ
 seen w r = seen_by w r (settled rule_k w.mmu w.kept r)
 
 -- a read that was seen so is refilled on a page of RAM that is not split, where its put does not find the area full

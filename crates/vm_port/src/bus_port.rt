@@ -9,7 +9,6 @@ use mb_machine::Reference;
 use mb_port::{Fault, Flush, Mmu, MmuReg, Piece, Place, Port, Space};
 use mb_walk::Ram;
 
-#[tactic(auto, unfolding(mb_machine::specs::Bus::bus_of, vm_machine::specs::Bus::shadow_after))]
 impl<R: Ram> Port for GuestPort<'_, R> {
     ghost use Rattle.vm_port.specs.Parts.{guest_of, beyond_of};
     ghost use Rattle.vm_port.specs.Around.{Beyond};

@@ -104,7 +104,6 @@ impl<R: Ram> GuestPort<'_, R> {
     }
 
     /// Sets a register of translation.
-    #[tactic(auto, unfolding(mb_machine::specs::Bus::after_set_mmu))]
     pub(crate) fn set_register(&mut self, which: MmuReg, value: u32)
         ensures world { world_of self.new ≡ after_set_mmu rule_k which value (world_of self.old) }
         ensures shadow { tables_of self.new ≡ (if rule_k.forgets which then nothing else tables_of self.old) }
@@ -117,7 +116,6 @@ impl<R: Ram> GuestPort<'_, R> {
     }
 
     /// PTEST of the page of an address: MMUSR then.
-    #[tactic(auto, unfolding(mb_machine::specs::Bus::tested))]
     pub(crate) fn tested(&mut self, space: Space, at: u32, write: bool) -> u32
         ensures means { (result, world_of self.new) ≡ tested space (page_number at) write (world_of self.old) }
         ensures shadow { tables_of self.new

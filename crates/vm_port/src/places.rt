@@ -92,7 +92,6 @@ impl<R: Ram> GuestPort<'_, R> {
     }
 
     /// The four longs of a line. `None` where the line is not in RAM.
-    #[tactic(auto, unfolding(mb_machine::specs::Places::taken_line))]
     pub(crate) fn take_line(&self, place: Place) -> Option<[u32; 4]>
         requires len { place.len ≡ 16 }
         requires aligned { place.at % 16 ≡ 0 }
@@ -114,7 +113,6 @@ impl<R: Ram> GuestPort<'_, R> {
     }
 
     /// Writes them. `None` where the line is not in RAM, and nothing has changed.
-    #[tactic(auto, unfolding(mb_machine::specs::Places::stored_line))]
     pub(crate) fn store_line(&mut self, place: Place, line: [u32; 4]) -> Option<()>
         requires len { place.len ≡ 16 }
         requires aligned { place.at % 16 ≡ 0 }

@@ -15,7 +15,6 @@ impl<R: Ram> GuestPort<'_, R> {
 
     /// The physical address that a read leads to, where neither its search changes a byte nor its fill drops an entry.
     /// `None` where one does, or where the read is refused.
-    #[tactic(auto, unfolding(crate::specs::Quiet::seen))]
     fn seen(&self, r: Reference) -> Option<u32>
         ensures { result ≡ seen (world_of self.now) r }
     {

@@ -30,7 +30,6 @@ impl<R: Ram> GuestPort<'_, R> {
 
     /// What is known of a reference without a search.
     #[inline(always)]
-    #[tactic(auto, unfolding(mb_machine::specs::Access::settled))]
     pub(crate) fn settled(&self, r: Reference) -> Settled
         ensures settled { result ≡ settled rule_k (world_of self.now).mmu (world_of self.now).kept r }
         ensures offset { LeadsTo result (λ at. offset_of at ≡ offset_of r.at) }
@@ -44,7 +43,6 @@ impl<R: Ram> GuestPort<'_, R> {
 
     /// Points 4 and 5: the tables are searched, and what is found is kept; the shadow loses the entry of what goes for
     /// it.
-    #[tactic(auto, unfolding(mb_machine::specs::Access::searched))]
     fn searched(&mut self, r: Reference) -> Option<u32>
         requires reference { IsReference r }
         requires needed { settled rule_k (world_of self.old).mmu (world_of self.old).kept r ≡ Settled.Unsettled }

@@ -148,7 +148,6 @@ lower space page write ram pointer =
 
 searched : (ram : List ℕ) (root : ℕ) (space : Space) (page : ℕ) (write : Bool)
     → search_of ram root space page write false ≡ and_below (descended ram (entry_at root 512 (root_index page))) (lower space page write)
-unfolding search_of
 searched ram root space page write = refl
 
 link_used : (area slot : ℕ) → area % 65536 ≡ 0 → link area slot / 2 ^ 3 % 2 ≡ 1

@@ -58,7 +58,6 @@ walk a b c =
     else None) else None) else None
 
 mapped_walk : (ram : List ℕ) (root page : ℕ) → mapped ram root page ≡ walk (first ram root page) (second ram root page) (third ram root page)
-unfolding mapped
 mapped_walk ram root page = refl
 
 walk_whole : (a b c : ℕ) → (table_descriptor a).resident ≡ true → (table_descriptor b).resident ≡ true → (table_descriptor a).protected ≡ false

@@ -27,7 +27,7 @@ is_protected ram root page =
     || (page_descriptor (third ram root page)).protected
 
 -- The frame that tables without indirect descriptors map a page to, and whether it takes writes.
-unfoldable pub mapped : List ℕ → ℕ → ℕ → Option (ℕ × Bool)
+abbrev pub mapped : List ℕ → ℕ → ℕ → Option (ℕ × Bool)
 mapped ram root page =
     if (table_descriptor (first ram root page)).resident
     then (if (table_descriptor (second ram root page)).resident

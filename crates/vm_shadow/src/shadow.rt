@@ -172,7 +172,6 @@ impl Shadow {
     }
 
     /// The frame of a page's entry, and whether the page takes writes. `None` exactly where it has none.
-    #[tactic(auto, unfolding(crate::specs::Mapped::mapped))]
     pub fn find<R: Ram>(&self, ram: &R, space: Space, page: u32) -> Option<(u32, bool)>
         requires page { page < 2 ^ 20 }
         requires tables { Maps self.now (R.bytes ram.now) }

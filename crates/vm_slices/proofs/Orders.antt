@@ -10,7 +10,7 @@ use Rattle.mb_model.specs.Keeping.{rule_k}
 use Rattle.mb_machine.specs.Machine.{Entries, Machine, run_of, takes_steps}
 use Rattle.vm_meaning.specs.Native.{NativeState}
 use Rattle.vm_machine.specs.Turns.{Tally, Turned, turn_of, without_marks}
-use Rattle.vm_machine.specs.Rounds.{Member, Hosted, left, left_of_all, opened, closed_by, turn_in, whole_turn}
+use Rattle.vm_machine.specs.Rounds.{Member, Hosted, left, left_of_all, opened, closed_by, whole_turn}
 use Rattle.vm_machine.proofs.ByRule.{turns_by_rule}
 use Rattle.vm_machine.proofs.TurnLaws.{halted_turn, nothing_turned, turns_add, turn_front}
 use Rattle.vm_slices.specs.Counting.{AreCounted, RisesBy}
@@ -70,7 +70,6 @@ steps_cut m n k few =
 
 -- the turn of a round is one of so many steps
 turn_is : (slice : ℕ) (m : Member) → after_turn slice m ≡ after_steps m (min slice (left m))
-unfolding turn_in
 turn_is slice m = refl
 
 turn_twice : (first more : ℕ) (m : Member) → after_turn more (after_turn first m) ≡ after_turn (first + more) m
@@ -102,7 +101,6 @@ machine_whole m = turns_by_rule m.script (left m) (opened m)
 
 -- its machine is that of its own run of these steps
 machine_so : (n : ℕ) (m : Member) → (after_turn n m).guest.machine ≡ run_of rule_k m.script (min n (left m)) m.guest.machine
-unfolding turn_in
 machine_so n m = turns_by_rule m.script (min n (left m)) (opened m)
 
 pub machine_ends : (n : ℕ) (m : Member) → machine_at_end (after_turn n m) ≡ machine_at_end m

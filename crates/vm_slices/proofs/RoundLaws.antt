@@ -96,7 +96,6 @@ enough slice (suc n) (suc k) h some few more = elim (cases_Bool (all_done h.memb
 
 -- they go on from a round,
 go_on : (slice : ℕ) (h : Hosted) → 1 ≤ slice → all_done h.members ≡ false → host_run slice (round slice h) ≡ host_run slice h
-unfolding host_run
 go_on slice h some more =
     let n = left_of_all h.members in
     let less = round_left slice h.members some more in
@@ -106,7 +105,6 @@ go_on slice h some more =
 
 -- and end where all are done
 end_where : (slice : ℕ) (h : Hosted) → all_done h.members ≡ true → host_run slice h ≡ h
-unfolding host_run
 end_where slice h done = rounds_stay slice (left_of_all h.members) h done
 
 -- ---- the rounds of a session, so far

@@ -1,10 +1,10 @@
 -- A guest's turn of a round, on its board.
 use Rattle.std.proofs.Common.{◌≡◌, ◌∙◌, ℕ, zero, suc, ◌+◌, ◌-◌, ◌≤◌, min, List, [], ◌∷◌, refl, ap, sym, true, false, inl, inr, arith}
 use Rattle.std.proofs.lemmas.Bool.{cases_Bool}
-use Rattle.mb_machine.specs.Machine.{Entries, begun, takes_steps}
+use Rattle.mb_machine.specs.Machine.{Entries, takes_steps}
 use Rattle.vm_meaning.specs.Marks.{trail}
 use Rattle.vm_meaning.specs.Native.{NativeState}
-use Rattle.vm_machine.specs.Turns.{Turned, guest_stepped, advanced, turn_of}
+use Rattle.vm_machine.specs.Turns.{Turned, advanced, turn_of}
 use Rattle.vm_machine.specs.Seats.{Seat, turned_on, Takes}
 use Rattle.vm_machine.specs.Rounds.{Member, left, opened, closed_by, turn_in}
 use Rattle.vm_machine.proofs.TurnLaws.{halted_turn, going_turn, nothing_turned}
@@ -20,7 +20,6 @@ pub record HasTaken (slice : ℕ) (m k : Member) (old new : NativeState) : Type 
   pub counts : AreCounted (m ∷ []) (k ∷ []) (turn_in slice m).marks old new
 
 turned_in : (slice steps : ℕ) (m : Member) (t : Turned) → steps ≡ min slice (left m) → t ≡ turn_of m.script steps (opened m) → t ≡ turn_in slice m
-unfolding turn_in
 turned_in slice steps m t is turned = turned ∙ ap (λ (n : ℕ). turn_of m.script n (opened m)) is
 
 pub member_taken : (slice steps : ℕ) (g : HostGuest) (h : Seat) (x y : List ℕ) (old new : NativeState) → steps ≡ min slice (left (member_of x g))
@@ -45,7 +44,6 @@ member_taken slice steps g h x y old new is takes =
 -- ---- what is left
 
 advanced_steps : (script : Entries) (t : Turned) → (advanced script t).guest.machine.steps ≡ t.guest.machine.steps + 1
-unfolding advanced guest_stepped begun
 advanced_steps script t = refl
 
 -- a machine that still goes has taken all steps of its turn
@@ -89,5 +87,4 @@ steps_left m n few = elim (cases_Bool (takes_steps m.guest.machine.state)) [
 ]
 
 pub turn_left : (slice : ℕ) (m : Member) → left (after_turn slice m) + min slice (left m) ≤ left m
-unfolding turn_in
 turn_left slice m = steps_left m (min slice (left m)) (omega arith)

@@ -90,7 +90,6 @@ same_turn a b g t m =
     ∙ ap (λ (x : List Plain). (let o : Turned = record { guest = b.guest; tally = b.tally; marks = x } in o)) m
 
 pub midway_ends : MidwayEnds
-unfolding begun
 midway_ends g ram native k n mid now counts m end seat next later means tally same seated within retired trail_goes exceptions =
     let w = world_of (guested_on mid now) in
     let b = guest_begun g.script m.turn.guest in
@@ -150,7 +149,6 @@ no_refills class.Trapped t = refl
 
 class_begins : (script : Entries) (start q : Guested) → guest_begun script start ≡ q
     → step_class_at_first script start ≡ class_at_first (asked_of script q.machine) q.machine.cpu (world_of q)
-unfolding step_class_at_first
 class_begins script start q e = ap (λ (p : Guested). class_at_first (asked_of script p.machine) p.machine.cpu (world_of p)) e
 
 same_guested : (p q : Guested) → p.machine ≡ q.machine → p.shadow ≡ q.shadow → p ≡ q
@@ -159,7 +157,6 @@ same_guested p q e f =
     ∙ ap (λ (x : Shadowed). (let o : Guested = record { machine = q.machine; shadow = x } in o)) f
 
 pub midway_begins : MidwayBegins
-unfolding begun
 midway_begins g ram native k n mid now counts m =
     let b = guest_begun g.script m.turn.guest in
     let w = world_of (guested_on mid now) in
@@ -195,7 +192,6 @@ midway_level g ram native k n mid now counts m =
     ∙ unaborted g.script (b.machine.steps + 1) b.machine.world.devices b.machine.cpu m.masked)
 
 pub midway_takes : MidwayTakes
-unfolding advanced guest_stepped begun
 midway_takes g ram native k n mid now counts m none seat next later takes =
     let w = world_of (guested_on mid now) in
     let from = unbegun mid m.turn in

@@ -2,7 +2,7 @@
 use Rattle.std.proofs.Common.{◌≡◌, ◌⊎◌, ◌∙◌, ℕ, zero, suc, ◌+◌, ◌^◌, ◌<◌, ◌≤◌, Bool, true, cond, List, [], ◌∷◌, ◌++◌, arith, refl, ap, sym, subst, inl, inr}
 use Rattle.mb_instr.specs.declared.registers.Plain.{Plain}
 use Rattle.mb_instr.specs.Registers.{plain_of}
-use Rattle.mb_machine.specs.Machine.{Machine, Entries, begun, takes_steps}
+use Rattle.mb_machine.specs.Machine.{Machine, Entries, takes_steps}
 use Rattle.vm_mirror.specs.Related.{Site}
 use Rattle.vm_machine.specs.declared.class.Class.{Class}
 use Rattle.vm_machine.specs.declared.class.Class.TheVariants as class
@@ -68,7 +68,6 @@ retiring t after = record {
 
 advanced_is : (script : Entries) (t : Turned) → (class_of_step script t.guest ≡ Retired) × (refills_of_step script t.guest ≡ 0)
     → advanced script t ≡ retiring t (guest_stepped script t.guest)
-unfolding advanced
 advanced_is script t (h, none) =
     ap (λ (c : Class). by_class c (refills_of_step script t.guest) (guest_stepped script t.guest) t) h
     ∙ ap (λ (n : ℕ). by_class Retired n (guest_stepped script t.guest) t) none
@@ -76,7 +75,6 @@ advanced_is script t (h, none) =
 -- what the monitor has set stays
 stays_furnished : (x : Site) (script : Entries) (m : Machine) (g : Guested) (s : Finish × Machine) (t : Guested) → Retires x script m g s t → Furnished x m
     → Furnished x s.1
-unfolding begun
 stays_furnished x script m g s t h f = record {
   mmu = h.outside.mmu ∙ f.mmu;
   status = same_word s.1.cpu.regs.sr m.cpu.regs.sr h.from.upper f.status;
@@ -139,7 +137,6 @@ inside_both x a b c h k = record { count = k.count ∙ h.count; below = k.below 
 
 inside_by : (x : Site) (script : Entries) (m : Machine) (g : Guested) (s : Finish × Machine) (t : Guested) → Retires x script m g s t
     → IsInside x m.world.ram s.1.world.ram
-unfolding begun
 inside_by x script m g s t h = record { count = h.outside.count; below = h.outside.below; above = h.outside.above }
 
 -- one more before a batch

@@ -26,7 +26,7 @@ use Rattle.mb_writes.specs.declared.transfers.Movem.{Movem}
 use Rattle.mb_meaning.specs.Ends.{Performed, closed}
 use Rattle.mb_meaning.specs.Attempt.{fetched_of}
 use Rattle.mb_processor.specs.SystemEnds.{with_registers}
-use Rattle.mb_processor.specs.Entry.{frames_of, frame_of, frame_with, has_address, handler_regs}
+use Rattle.mb_processor.specs.Entry.{frames_of, frame_of, frame_with, has_address}
 use Rattle.mb_processor.specs.Step.{interrupt_mask, step_of, rank}
 use Rattle.mb_devices.specs.Devices.{DeviceState, ticked, level_of}
 use Rattle.mb_machine.specs.World.{World}
@@ -48,7 +48,7 @@ use Rattle.vm_mirror.specs.Related.{Site, Related}
 use Rattle.vm_mirror.specs.Laws.{board_bus}
 use Rattle.vm_mirror.specs.Ready.{native_mmu}
 use Rattle.vm_held.specs.Denied.{HasNone, IsFaultless, GoesOn, IsAllowed, IsDenied, by_held, by_guest}
-use Rattle.vm_machine.specs.Refills.{read_in, denied_read, can_refill, after_access, refilled_at, begun_again}
+use Rattle.vm_machine.specs.Refills.{read_in, denied_read, can_refill, after_access, refilled_at}
 use Rattle.vm_step.specs.Reads.{read_of_access}
 use Rattle.vm_step.proofs.ToldReads.{unlocked}
 use Rattle.vm_held.specs.Sound.{Sound, OnlyRam}
@@ -94,7 +94,6 @@ pub record Entered (e : Exit) (top : ℕ) (r : Regs) : Type 0 where
 
 entered_by : (e : Exit) (b : World) → is_master e.cpu.regs.sr ≡ false → (frames_of e.cause e.cpu.regs).second ≡ None
     → Entered e (frames_of e.cause e.cpu.regs).first.at (left e b).0.1.regs
-unfolding handler_regs
 entered_by e b master one =
     let f = frames_of e.cause e.cpu.regs in
     rw one (rw master (record { d = refl; a = refl; usp = refl; isp = refl }))
@@ -114,7 +113,6 @@ user_stack r h = ap (λ (b : Bool). cond b (cond (is_master r.sr) r.msp r.isp) r
 
 handed_is : (e : Exit) (top : ℕ) (r : Regs) → Entered e top r → is_supervisor e.cpu.regs.sr ≡ false
     → handed_by r (frame_of e.cpu.regs.sr e.cause) ≡ record (plain_of e.cpu.regs) { pc = e.cause.pc }
-unfolding plain_of
 handed_is e top r h user =
     let (pc, sr, access) = frame_is e.cause.access e.cpu.regs.sr e.cause in
     rw h.d (rw h.a (rw h.usp (rw pc (rw sr (rw (user_stack e.cpu.regs user) refl)))))
@@ -173,7 +171,6 @@ board_left : (x : Site) (root level own_level : ℕ) (i : Instr) (cpu : Cpu) (w 
     → w.mmu ≡ native_mmu root → cpu.regs.sr < 2 ^ 16 → is_master cpu.regs.sr ≡ false → cpu.vbr ≡ 0 → 60 ≤ cpu.regs.isp → cpu.regs.isp ≤ x.base
     → 1024 ≤ x.base → length w.ram ≤ 2 ^ 32 → rank level ≤ interrupt_mask cpu → NoOther i (fetched_by held_bus guest g).0
     → (class_of_end (end_of_held x guest g).0 ≡ Retired → ⊥) → BoardLeft x level own_level i cpu w guest g
-unfolding plain_of
 board_left x root level own_level i cpu w guest g m related mmu status master vbr low below table small masked other never =
     let k = end_of_held x guest g in
     let p = k.1 in
@@ -226,7 +223,6 @@ goes_on_in x level i guest g plain seven regs sound masked other space here =
 -- on and awake, it goes on behind an exception
 entered_after : (vector : ℕ) (cpu : Cpu) (d : DeviceState) → d.off ≡ false → cpu.stopped ≡ false
     → takes_steps (state_after (finish.Entered vector) cpu d) ≡ true
-unfolding state_after
 entered_after vector cpu d h k = rw h (rw k refl)
 
 is_tried : (c : Class) → IsLeft c → IsTried c
@@ -249,7 +245,6 @@ read_in_closed (Ok done) = refl
 read_in_closed (Err stop) = refl
 
 locked_not : (g : Guest) (r : Reference) → r.write ≡ true → can_refill g r ≡ false
-unfolding can_refill
 locked_not g r e = rw e refl
 
 -- a locked check is none
@@ -302,7 +297,6 @@ unlocked_some None r e = absurd (let z : None ≡ Some r = e in let y : ⊥ = cc
 unlocked_some (Some q) r e = (q, refl)
 
 pub left_steps : LeftSteps
-unfolding begun step_class_at_first begun_again
 left_steps x script m g b fur regs seven is_left =
     let d = ticked m.world.devices in
     let dev = arrived (g.machine.steps + 1) script g.machine.world.devices in

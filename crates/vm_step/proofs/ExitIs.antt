@@ -73,7 +73,6 @@ set_behind p cpu q e =
 
 -- what was left, by the registers that were read back
 rest_tidy : (l : LeftOver) (level : ℕ) (guest : Cpu) (p : Plain) → length (take 7 p.a) ≡ 7 → rest_by l level guest (tidy p) ≡ rest_by l level guest p
-unfolding rest_by
 rest_tidy Again level guest p h = refl
 rest_tidy (Writes pending first) level guest p h = ap (finish_writes_of pending.items first) (registers_tidy p guest h)
 rest_tidy (Line at line) level guest p h = ap (finish_line_of at line) (registers_tidy p guest h)
@@ -100,7 +99,6 @@ module _ (x : Site) (i : Instr) (level : ℕ) (guest cpu : Cpu) (p : Plain) (pla
   after = with_registers p cpu
 
   trap_is : (v : ℕ) → IsUsual (ended.Trap v) → Is (ended.Trap v) (exit_of i (ended.Trap v) cpu after)
-  unfolding rest_of
   trap_is v u = record {
     alone = refl;
     small = u.0;
@@ -114,7 +112,6 @@ module _ (x : Site) (i : Instr) (level : ℕ) (guest cpu : Cpu) (p : Plain) (pla
   }
 
   refused_is : (v : ℕ) → IsUsual (ended.Refused v) → Is (ended.Refused v) (exit_of i (ended.Refused v) cpu after)
-  unfolding rest_of rest_by
   refused_is v u = record {
     alone = refl;
     small = u.0;
@@ -125,7 +122,6 @@ module _ (x : Site) (i : Instr) (level : ℕ) (guest cpu : Cpu) (p : Plain) (pla
   }
 
   read_is : (f g : ReadFault) → g.fault ≡ record f.fault { space = x.space } → Is (ended.ReadFault g) (exit_of i (ended.ReadFault f) cpu after)
-  unfolding rest_of rest_by
   read_is f g same = record {
     alone = refl;
     small = omega arith;
@@ -138,7 +134,6 @@ module _ (x : Site) (i : Instr) (level : ℕ) (guest cpu : Cpu) (p : Plain) (pla
   write_is : (due : Bool) (f : WriteFault) (g : WriteFault) (items : List Pend) → due ≡ false → f.rest.items ≡ items → g.rest.items ≡ items → f.first ≡ g.first
       → IsUsual (ended.WriteFault g)
       → Is (ended.WriteFault g) (writing_exit due f items cpu after)
-  unfolding rest_of rest_by
   write_is due f g [] none e h first u = record {
     alone = refl;
     small = omega arith;
@@ -168,7 +163,6 @@ module _ (x : Site) (i : Instr) (level : ℕ) (guest cpu : Cpu) (p : Plain) (pla
   }
 
   line_is : (f g : Fault) (longs : List ℕ) → g.at ≡ f.at → length longs ≡ 4 → Is (ended.LineFault g longs) (exit_of i (ended.LineFault f longs) cpu after)
-  unfolding rest_of rest_by
   line_is f g longs same four = record {
     alone = refl;
     small = omega arith;
@@ -185,7 +179,6 @@ module _ (x : Site) (i : Instr) (level : ℕ) (guest cpu : Cpu) (p : Plain) (pla
   }
 
   movem_is : (f g : MovemFault) → f.first ≡ g.first → f.done ≡ g.done → Is (ended.Movem g) (exit_of i (ended.Movem f) cpu after)
-  unfolding rest_of rest_by
   movem_is f g first done = record {
     alone = refl;
     small = omega arith;

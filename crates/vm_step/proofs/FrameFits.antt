@@ -7,10 +7,10 @@ use Rattle.std.proofs.lemmas.List.Elements.{All-get_or, All-from_recursion}
 use Rattle.mb_port.specs.declared.types.Space.{Space}
 use Rattle.mb_port.specs.declared.types.Space.TheVariants.{User, Super}
 use Rattle.mb_port.specs.declared.types.Fault.{Fault}
-use Rattle.mb_port.specs.Pieces.{IsPiece, laid}
+use Rattle.mb_port.specs.Pieces.{IsPiece}
 use Rattle.mb_instr.specs.declared.instruction.Instr.{Instr}
 use Rattle.mb_instr.specs.declared.registers.Plain.{Plain}
-use Rattle.mb_instr.specs.Registers.{with_ccr, with_plain}
+use Rattle.mb_instr.specs.Registers.{with_ccr}
 use Rattle.mb_frames.specs.declared.frame.Access.{Access}
 use Rattle.mb_frames.specs.declared.frame.Frame.{Frame}
 use Rattle.mb_frames.specs.declared.frame.Frame.TheVariants as frame
@@ -129,7 +129,6 @@ laid_by (suc place) (suc (suc (suc (suc len)))) value some h = absurd (omega ari
 laid_by zero (suc (suc (suc (suc (suc len))))) value some h = absurd (omega arith)
 
 memory_small : (p : Pend) → IsPiece (piece_of p) → IsLong (memory_aligned p)
-unfolding laid
 memory_small p h = laid_by (p.at % 4) p.len p.value h.0 (let e : p.at % 4 + p.len ≤ 4 = grind arith in e)
 
 register_small : (p : Pend) → IsPiece (piece_of p) → IsLong (register_aligned p)
@@ -160,7 +159,6 @@ long : 0 < 2 ^ 32
 long = omega arith
 
 read_fit : (fault : Fault) (first : ℕ) → IsLong fault.at → IsLong first → AccessFits (read_fields fault first PAGE_SIZE)
-unfolding read_fields
 read_fit fault first at begins =
     let ea = cond fault.code fault.at first in
     let status : status fault ea PAGE_SIZE + bit_if fault.write LK + RW < 2 ^ 16 =
@@ -173,7 +171,6 @@ read_fit fault first at begins =
 
 write_fit : (fault : Fault) (first : ℕ) (rest : List Pend) → IsLong fault.at → IsLong first → length rest ≤ 3 → AreOwn rest → HaveAddresses rest
     → AccessFits (write_fields fault first rest PAGE_SIZE)
-unfolding write_fields
 write_fit fault first [] at begins few own have =
     let status : status fault first PAGE_SIZE < 2 ^ 16 = (let a = status_small fault first PAGE_SIZE in omega arith) in
     by_fields (write_fields fault first [] PAGE_SIZE) begins status word word word at long long long long long long long long long
@@ -198,7 +195,6 @@ write_fit fault first (p ∷ q ∷ r ∷ []) at begins few own have =
 write_fit fault first (p ∷ q ∷ r ∷ o ∷ rest) at begins few own have = absurd (omega arith)
 
 line_fit : (fault : Fault) (line : List ℕ) → IsLong fault.at → AreLongs line → AccessFits (line_fields fault line PAGE_SIZE)
-unfolding line_fields
 line_fit fault line at longs =
     let status : status fault fault.at PAGE_SIZE < 2 ^ 16 = (let a = status_small fault fault.at PAGE_SIZE in omega arith) in
     by_fields (line_fields fault line PAGE_SIZE) at status word word (writeback_small fault.space 16) at long long long long at (index_long line 0 longs)
@@ -206,7 +202,6 @@ line_fit fault line at longs =
 
 movem_fit : (fault : Fault) (first start done words next : ℕ) (is_load : Bool) → IsLong fault.at → IsLong first → done < 16 → IsLong words → IsLong next
     → AccessFits (movem_fields fault first start done words next is_load PAGE_SIZE)
-unfolding movem_fields
 movem_fit fault first start done words next is_load at begins few is goes =
     let status : status fault start PAGE_SIZE + CM + bit_if is_load RW < 2 ^ 16 =
     (let a = status_small fault start PAGE_SIZE in let b = bit_small is_load RW in omega arith) in
@@ -257,7 +252,6 @@ module _ (x : Site) (i : Instr) (cpu : Cpu) (p : Plain) (plain : IsUntraced cpu)
   write_exit_fits : (due : Bool) (f : WriteFault) (items : List Pend) → due ≡ false → f.rest.items ≡ items → IsLong f.fault.at → IsLong f.first
       → length items ≤ 3 → AreOwn items → HaveAddresses items
       → FrameFits (writing_exit due f items cpu after)
-  unfolding with_plain
   write_exit_fits due f [] none is at begins few own have =
       access_frame cpu.regs.sr cpu.regs.pc _ status counter (write_fit f.fault f.first [] at begins few own have)
   write_exit_fits due f (piece ∷ pieces) none is at begins few own have =
@@ -270,7 +264,6 @@ module _ (x : Site) (i : Instr) (cpu : Cpu) (p : Plain) (plain : IsUntraced cpu)
 
   -- from what the held guest's end says
   pub exit_fits : (e k : Ended) → SameEnd (setting x) e k → IsUsual k → EndFits i k → IsEnd k → FrameFits (exit_of i e cpu after)
-  unfolding with_plain
   exit_fits (ended.Done f) (ended.Done g) same u fits end = absurd end
   exit_fits (ended.Trap v) (ended.Trap w) same u fits end =
       plain_frame after.regs.sr after.regs.pc cpu.regs.pc v (set_small cpu.regs.sr p.ccr status) next counter (subst (λ (n : ℕ). n < 256) (sym same.0) u.0)

@@ -11,7 +11,7 @@ use Rattle.mb_devices.proofs.Passing.{ticks_pass}
 use Rattle.mb_processor.specs.declared.Finish.TheVariants as finish
 use Rattle.mb_processor.specs.Raise.{Stepped, interrupt_of}
 use Rattle.mb_processor.specs.Step.{interrupt_mask, execute_next_of, step_of, rank}
-use Rattle.mb_machine.specs.Machine.{Entries, arrived, begun, state_after, takes_steps, asked, asked_of}
+use Rattle.mb_machine.specs.Machine.{Entries, arrived, state_after, takes_steps, asked, asked_of}
 use Rattle.mb_machine.proofs.Asked.{asked_devices, asked_masked}
 use Rattle.vm_meaning.specs.Batches.{NothingArrives}
 use Rattle.vm_meaning.specs.Marks.{trail}
@@ -40,7 +40,6 @@ chosen : (a b : Bool) (x y z : Routine Stepped) → a ≡ false → b ≡ true �
 chosen a b x y z e f = rw e (rw f refl)
 
 is_idle : (level : ℕ) (cpu : Cpu) (g : Guest) → rank level ≤ interrupt_mask cpu → cpu.stopped ≡ true → class_of level cpu g ≡ class.Idle
-unfolding class_of
 is_idle level cpu g masked stopped =
     second (nat_lt (interrupt_mask cpu) (rank level)) cpu.stopped class.Entered class.Idle
     (cond (is_traced cpu) class.Traced (class_of_attempt cpu (refilled cpu g).guest))
@@ -48,31 +47,26 @@ is_idle level cpu g masked stopped =
 
 -- the processor has nothing to do
 idles : (level : ℕ) (cpu : Cpu) → rank level ≤ interrupt_mask cpu → cpu.stopped ≡ true → step_of level cpu ≡ Return (finish.Idle, cpu)
-unfolding step_of
 idles level cpu masked stopped =
     chosen (nat_lt (interrupt_mask cpu) (rank level)) cpu.stopped (interrupt_of level cpu) (Return (finish.Idle, cpu)) (execute_next_of cpu)
     (not_above (interrupt_mask cpu) (rank level) masked) stopped
 
 stays_stopped : (cpu : Cpu) (d : DeviceState) → d.off ≡ false → cpu.stopped ≡ true → state_after finish.Idle cpu d ≡ Stopped
-unfolding state_after
 stays_stopped cpu d on stopped = second d.off cpu.stopped Off Stopped Running on stopped
 
 -- a step that begins switches nothing off
 begins_on : (script : Entries) (g : Guested) → g.machine.world.devices.off ≡ false → (guest_begun script g).machine.world.devices.off ≡ false
-unfolding begun
 begins_on script g on =
     let d = g.machine.world.devices in
     off_ticked (arrived (g.machine.steps + 1) script d) ∙ off_arrived (g.machine.steps + 1) script d ∙ on
 
 class_is : (script : Entries) (g : Guested) → IsIdle script g → class_of_step script g ≡ class.Idle
-unfolding class_of_step begun
 class_is script g idle =
     let b = guest_begun script g in
     is_idle (asked_of script b.machine) g.machine.cpu (world_of b) idle.masked idle.stopped
 
 stepped_is : (script : Entries) (g : Guested) → IsIdle script g
     → guest_stepped script g ≡ idle_guest 1 (guest_begun script g).machine.world.devices g
-unfolding guest_stepped begun
 stepped_is script g idle =
     let b = guest_begun script g in
     let d = b.machine.world.devices in
@@ -86,7 +80,6 @@ stepped_is script g idle =
 
 advanced_is : (script : Entries) (t : Turned) → IsIdle script t.guest
     → advanced script t ≡ idle_turned 1 (guest_begun script t.guest).machine.world.devices t
-unfolding advanced
 advanced_is script t idle =
     let d = (guest_begun script t.guest).machine.world.devices in
     let of : List Plain → Turned = λ marks. record {
@@ -112,7 +105,6 @@ begins_next script n t quiet =
 -- that is idle too
 idle_next : (script : Entries) (n : ℕ) (t : Turned) → IsIdle script t.guest → NothingArrives script (t.guest.machine.steps + 1) (suc n)
     → let d = (guest_begun script t.guest).machine.world.devices in IsNotDue (suc n) d → IsIdle script (idle_guest 1 d t.guest)
-unfolding begun
 idle_next script n t idle quiet due =
     let d = (guest_begun script t.guest).machine.world.devices in
     let u = idle_guest 1 d t.guest in

@@ -10,7 +10,7 @@ use Rattle.mb_writes.specs.declared.ends.Ended.{Ended as End}
 use Rattle.mb_writes.specs.declared.ends.Ended.TheVariants as ended
 use Rattle.mb_laws.specs.Until as until
 use Rattle.mb_laws.specs.Until.{Until}
-use Rattle.mb_machine.specs.Machine.{Machine, Entries, begun, arrived, asked}
+use Rattle.mb_machine.specs.Machine.{Machine, Entries, arrived, asked}
 use Rattle.mb_model.specs.Keeping.{KeptLists, Apart, list_of}
 use Rattle.mb_instr.specs.declared.registers.Regs.{Regs}
 use Rattle.mb_processor.specs.SystemEnds.{with_registers}
@@ -46,7 +46,6 @@ kept_devices x script m g h = ap (λ (q : Guest). q.world.devices) h.only
 -- where nothing arrives, a step that begins only ticks
 pub only_ticks : (script : Entries) (g : Guested) → ((d : DeviceState) → arrived (g.machine.steps + 1) script d ≡ d)
     → (guest_begun script g).machine.world.devices ≡ ticked g.machine.world.devices
-unfolding begun
 only_ticks script g h = ap ticked (h g.machine.world.devices)
 
 pub first_of : (script : Entries) (taken n : ℕ) → NothingArrives script taken (suc n) → IsQuietAt script (taken + 1)
@@ -95,12 +94,10 @@ tried_at (until.Ended q g) = tried_by q
 tried_at (until.Stopped rest g) = tt
 
 tried_attempt : (cpu : Cpu) (g : Guest) → IsTried (class_of_attempt cpu g)
-unfolding class_of_attempt
 tried_attempt cpu g = tried_at _
 
 pub tried_class : (level : ℕ) (cpu : Cpu) (g : Guest) → rank level ≤ interrupt_mask cpu → cpu.stopped ≡ false → is_traced cpu ≡ false
     → IsTried (class_at_first level cpu g)
-unfolding class_at_first
 tried_class level cpu g a b t = by_tests (nat_lt (interrupt_mask cpu) (rank level)) cpu.stopped (is_traced cpu) (class_of_attempt cpu g)
     (not_above (interrupt_mask cpu) (rank level) a) b t (tried_attempt cpu g)
 
@@ -116,7 +113,6 @@ next_tried : (x : Site) (script : Entries) (n : ℕ) (m : Machine) (g : Guested)
     → step_class_at_first script g ≡ Retired
     → NothingArrives script (g.machine.steps + 1) (suc n) → IsNotDue (suc n) (guest_begun script g).machine.world.devices
     → IsTried (step_class_at_first script (guest_stepped script g))
-unfolding step_class_at_first begun
 next_tried x script n m g h retired quiet due =
     let t = guest_stepped script g in
     let d = (guest_begun script g).machine.world.devices in
@@ -153,7 +149,6 @@ quiet_steps_are_tried x script (suc n) m g b wanted tried quiet due = (
 -- ---- the shadow's truth
 
 pub retired_steps_keep_truth : RetiredStepsKeepTruth
-unfolding begun
 retired_steps_keep_truth x script m g h fine =
     let t = world_of (guest_stepped script g) in
     record {
@@ -165,7 +160,6 @@ retired_steps_keep_truth x script m g h fine =
 -- ---- what they leave
 
 pub retired_steps_leave : RetiredStepsLeave
-unfolding begun
 retired_steps_leave x script zero m g b all = record {
   cpu = λ has. ap (λ (r : Regs). (let c : Cpu = record g.machine.cpu { regs = r } in c)) (plain_same g.machine.cpu.regs has);
   steps = (let e : g.machine.steps ≡ g.machine.steps + 0 = omega arith in e);

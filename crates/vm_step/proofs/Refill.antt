@@ -25,9 +25,9 @@ use Rattle.vm_machine.specs.Guests.{Guest}
 use Rattle.vm_machine.specs.Bus.{guest_bus}
 use Rattle.vm_machine.specs.Refills.{denied_read, refilled_at, begun_again, Refilled, once_more, going_on, refilled_by}
 use Rattle.vm_machine.specs.declared.limits.TheConstants.{MOST_REFILLS}
-use Rattle.vm_machine.specs.Classes.{class_of_attempt, class_of, class_at_first, unless_aside}
-use Rattle.vm_machine.specs.Turns.{world_of, guest_begun, guest_processed, guest_later, guest_stepped, class_of_step}
-use Rattle.vm_machine.specs.Turns.{step_class_at_first, refills_of_step, by_class, advanced}
+use Rattle.vm_machine.specs.Classes.{class_of_attempt, unless_aside}
+use Rattle.vm_machine.specs.Turns.{world_of, guest_begun, guest_processed, guest_later}
+use Rattle.vm_machine.specs.Turns.{by_class}
 use Rattle.vm_held.specs.Denied.{by_held}
 use Rattle.vm_held.specs.Truth.{Fine}
 use Rattle.vm_held.specs.Refills.{IsUnprivileged, BeginsAgain}
@@ -79,7 +79,6 @@ last_is_judged cpu n g h begun few end =
 -- ---- classes
 
 pub none_is_refilled : NoneIsRefilled
-unfolding class_of_step step_class_at_first refills_of_step class_of class_at_first
 none_is_refilled script g none =
     let b = guest_begun script g in
     let cpu = b.machine.cpu in
@@ -103,7 +102,6 @@ done_reads_none (Err stop) f e = by_end stop.ended e
     by_end (ended.Movem r) e = refl
 
 pub first_is_last : FirstIsLast
-unfolding begun step_class_at_first begun_again
 first_is_last x script m g b regs first =
     let o = guest_begun script g in
     let h = world_of o in
@@ -127,7 +125,6 @@ chosen bus b m n s h = rw h refl
 -- a step is by its fetch
 step_by_fetch : (level : ℕ) (cpu : Cpu) (g h : Guest) → rank level ≤ interrupt_mask cpu → cpu.stopped ≡ false
     → fetched_by guest_bus cpu h ≡ fetched_by guest_bus cpu g → run guest_bus (step_of level cpu) h ≡ run guest_bus (step_of level cpu) g
-unfolding step_of execute_next_of
 step_by_fetch level cpu g h masked going same =
     chosen guest_bus (nat_lt (interrupt_mask cpu) (rank level)) (interrupt_of level cpu)
     (choose cpu.stopped (Return (finish.Idle, cpu)) (execute_next_of cpu)) h
@@ -153,7 +150,6 @@ found_is f i n e = subst (NoOther i) (sym e) refl
 
 comes_by : (level : ℕ) (cpu : Cpu) (g h : Guest) → rank level ≤ interrupt_mask cpu → cpu.stopped ≡ false → BeginsAgain (space_of cpu) (plain_of cpu.regs) g h
     → Comes level cpu g h
-unfolding plain_of
 comes_by level cpu g h masked going same = elim same.fetch [
   | inl whole ↦ step_by_fetch level cpu g h masked going whole
   | inr (i, n, un, own, other) ↦
@@ -163,7 +159,6 @@ comes_by level cpu g h masked going same = elim same.fetch [
 ]
 
 pub steps_begin_again : StepsBeginAgain
-unfolding begun_again
 steps_begin_again size level cpu g h masked plain regs fine again =
     let (ahead, same) = attempts_begin_again (space_of cpu) size (plain_of cpu.regs) g h regs.longs regs.counter fine again in
     (ahead, comes_by level cpu g h masked plain.going same)
@@ -185,7 +180,6 @@ again_comes_to_the_same size level cpu (suc n) g h masked plain regs fine (k, be
     )
 
 pub again_advances : AgainAdvances
-unfolding advanced guest_stepped class_of_step refills_of_step class_of class_at_first
 again_advances script t n h begun few end comes =
     let b = guest_begun script t.guest in
     let cpu = b.machine.cpu in

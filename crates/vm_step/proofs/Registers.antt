@@ -52,7 +52,6 @@ stack_by true false r top = refl
 stack_by false m r top = refl
 
 stack_again : (r : Regs) (p : Plain) → active_stack (with_plain r p) ≡ slice_index p.a 7
-unfolding with_plain
 stack_again r p =
     let q = with_stack r (slice_index p.a 7) in
     ap (λ (s : Bool). cond s (cond (is_master (with_ccr r.sr p.ccr)) q.msp q.isp) q.usp) (same_supervisor r.sr p.ccr)
@@ -60,7 +59,6 @@ stack_again r p =
     ∙ stack_by (is_supervisor r.sr) (is_master r.sr) r (slice_index p.a 7)
 
 pub plain_again : (r : Regs) (p : Plain) → plain_of (with_plain r p) ≡ tidy p
-unfolding plain_of with_plain
 plain_again r p =
     ap (λ (top : ℕ). (let q : Plain = record { d = p.d; a = take 7 p.a ++ top ∷ []; pc = p.pc; ccr = with_ccr r.sr p.ccr % 2 ^ 5 } in q)) (stack_again r p)
     ∙ ap (λ (ccr : ℕ). (let q : Plain = record { d = p.d; a = take 7 p.a ++ slice_index p.a 7 ∷ []; pc = p.pc; ccr = ccr } in q)) (low r.sr p.ccr)
@@ -69,18 +67,15 @@ pub same_registers : (p : Plain) (board guest : Cpu) → plain_of (with_register
 same_registers p board guest = plain_again board.regs p ∙ sym (plain_again guest.regs p)
 
 pub same_user : (p : Plain) (cpu : Cpu) → is_supervisor (with_registers p cpu).regs.sr ≡ is_supervisor cpu.regs.sr
-unfolding with_plain
 same_user p cpu = same_supervisor cpu.regs.sr p.ccr
 
 pub same_space : (p : Plain) (cpu : Cpu) → space_of (with_registers p cpu) ≡ space_of cpu
 same_space p cpu = ap (λ (s : Bool). cond s Super User) (same_user p cpu)
 
 pub same_mask : (p : Plain) (cpu : Cpu) → interrupt_mask (with_registers p cpu) ≡ interrupt_mask cpu
-unfolding with_plain
 same_mask p cpu = ap (λ (n : ℕ). n % 2 ^ 3) (high8 cpu.regs.sr p.ccr)
 
 pub stays_plain : (p : Plain) (cpu : Cpu) → IsUntraced cpu → IsUntraced (with_registers p cpu)
-unfolding with_plain
 stays_plain p cpu h = record {
   going = h.going;
   all = ap (λ (n : ℕ). n % 2 == 1) (high15 cpu.regs.sr p.ccr) ∙ h.all;
@@ -96,7 +91,6 @@ same_upper : (sr ccr : ℕ) → with_ccr sr ccr / 2 ^ 5 ≡ sr / 2 ^ 5
 same_upper sr ccr = omega arith
 
 pub is_set : (p : Plain) (cpu : Cpu) → is_supervisor cpu.regs.sr ≡ false → IsFrom cpu (with_registers p cpu)
-unfolding with_plain
 is_set p cpu user = record {
   isp = isp_by (is_supervisor cpu.regs.sr) (is_master cpu.regs.sr) cpu.regs (slice_index p.a 7) user;
   master = same_master cpu.regs.sr p.ccr;
@@ -127,7 +121,6 @@ set_twice true false r t u d e a b pc at sr st = refl
 set_twice false m r t u d e a b pc at sr st = refl
 
 pub plain_over : (r : Regs) (q p : Plain) → with_plain (with_plain r q) p ≡ with_plain r p
-unfolding with_plain
 plain_over r q p =
     let s = is_supervisor r.sr in
     let m = is_master r.sr in
@@ -168,7 +161,6 @@ ccr_same : (sr : ℕ) → sr - sr % 2 ^ 5 + sr % 2 ^ 5 % 2 ^ 5 ≡ sr
 ccr_same sr = omega arith
 
 pub plain_same : (r : Regs) → length r.a ≡ 7 → with_plain r (plain_of r) ≡ r
-unfolding with_plain plain_of
 plain_same r h =
     let s = is_supervisor r.sr in
     let m = is_master r.sr in
@@ -187,7 +179,6 @@ registers_back q cpu h =
 -- ---- what is read back is set the same
 
 plain_tidy : (r : Regs) (p : Plain) → length (take 7 p.a) ≡ 7 → with_plain r (tidy p) ≡ with_plain r p
-unfolding with_plain
 plain_tidy r p h =
     let s = is_supervisor r.sr in
     let m = is_master r.sr in
@@ -202,5 +193,4 @@ registers_tidy p cpu h = ap (λ (r : Regs). (let c : Cpu = record cpu { regs = r
 
 -- a processor whose registers were set has seven address registers beside its stacks, where they were as many
 pub seven_set : (p : Plain) (cpu : Cpu) → length (with_registers p cpu).regs.a ≡ 7 → length (take 7 p.a) ≡ 7
-unfolding with_plain
 seven_set p cpu h = h

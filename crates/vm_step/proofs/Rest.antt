@@ -4,7 +4,7 @@ use Rattle.mb_port.specs.Routine.{run}
 use Rattle.mb_port.specs.declared.types.Space.{Space}
 use Rattle.mb_instr.specs.declared.instruction.Instr.{Instr}
 use Rattle.mb_instr.specs.declared.registers.Plain.{Plain}
-use Rattle.mb_instr.specs.Registers.{plain_of, with_plain}
+use Rattle.mb_instr.specs.Registers.{plain_of}
 use Rattle.mb_instr.specs.Codes.{IsInstr}
 use Rattle.mb_frames.specs.declared.pend.Pend.{Pend}
 use Rattle.mb_model.specs.declared.processor.Cpu.{Cpu}
@@ -45,7 +45,6 @@ use Rattle.vm_step.proofs.Tidy.{StopsEight, eight_tidy, eight_plain, attempts_ei
 use Rattle.vm_step.proofs.Registers.{plain_again, registers_over, registers_back, same_space, IsTidy}
 
 pub with_counter : (p : Plain) (cpu : Cpu) → (with_registers p cpu).regs.pc ≡ p.pc
-unfolding with_plain
 with_counter p cpu = refl
 
 -- ---- a trap, and a MOVEM
@@ -101,7 +100,6 @@ module _ (size level : ℕ) (guest : Cpu) (g : Guest) (i : Instr) (plain : IsUnt
   Fetched = fetched_by held_bus guest g
 
   fetch : (Fetched.1 ≡ g) × (((fetched_by guest_bus guest g ≡ Fetched) × IsFound Fetched.0) ⊎ ((refused : ReadFault) × (Fetched.0 ≡ Err (Unfetched refused))))
-  unfolding plain_of
   fetch = fetches_go_on space size guest.regs.pc g regs.counter sound
 
   at_fetch : (f : FoundInstr) → Fetched.0 ≡ f → Fetched ≡ (f, g)
@@ -110,7 +108,6 @@ module _ (size level : ℕ) (guest : Cpu) (g : Guest) (i : Instr) (plain : IsUnt
 
   -- an attempt that found no instruction did not begin
   none_begun : (unfound : Unfound) → Fetched.0 ≡ Err unfound → IsBegun (closed (by_held space p g).0).0 → ⊥
-  unfolding plain_of
   none_begun unfound e h =
       let is : by_held space p g ≡ (found_none unfound p, g) = attempts_find_none held_bus space p g g unfound (at_fetch (Err unfound) e) in
       unbegun unfound (subst (λ (q : Performed × Guest). IsBegun (closed q.0).0) is h)
@@ -164,7 +161,6 @@ module _ (size level : ℕ) (guest : Cpu) (g : Guest) (i : Instr) (plain : IsUnt
   allowed_end : (end : Ended) (after : Plain) (now : Guest) → (IsBegun end → own
       ≡ run guest_bus (finish_instruction_of i end guest (with_registers after guest)) now)
       → HasNone end → IfRefused end (now ≡ g) → (class_of_end end ≡ Retired → ⊥) → Rest end after now
-  unfolding rest_of rest_by
   allowed_end (ended.Done f) after now e none left never = absurd (never refl)
   allowed_end (ended.Trap v) after now e none left never = e tt ∙ trap_rest i v guest after now plain seven
   allowed_end (ended.Refused v) after now e none left never = from_there now left
@@ -182,7 +178,6 @@ module _ (size level : ℕ) (guest : Cpu) (g : Guest) (i : Instr) (plain : IsUnt
       → done.plain ≡ after
       → by_guest space p g ≡ run guest_bus (completing_writes space f.first items done) now
       → own ≡ run guest_bus (rest_by (left_pieces items f.first) level guest after) now
-  unfolding rest_by
   written f [] after now done b some same whole = absurd (let h = some.some in omega arith)
   written f (piece ∷ pieces) after now done b some same whole =
       denied_writes_go_on guest_bus level guest g now i f.first (piece ∷ pieces) done b whole
@@ -203,14 +198,12 @@ module _ (size level : ℕ) (guest : Cpu) (g : Guest) (i : Instr) (plain : IsUnt
 
   -- the words of the instruction name the MOVEM that was fetched
   named : (m : Movem) → moves_fetched held_bus space p.pc g m → movem_in (movem_words i) ≡ m
-  unfolding plain_of
   named m (j, n, fetched, moved) =
       let (same, is) = is_this j n fetched in ap (λ (k : Instr). movem_in (movem_words k)) (sym same) ∙ words_name j m is moved
 
   denied_end : (end : Ended) (after : Plain) (now : Guest) → (IsBegun end → Begins guest_bus level guest g i)
       → ((m : Movem) → moves_fetched held_bus space p.pc g m → IsTidy after)
       → GoesOn space (moves_fetched held_bus space p.pc g) g now end after (by_guest space p g) → Rest end after now
-  unfolding rest_of rest_by
   denied_end (ended.Done f) after now b t goes = absurd goes
   denied_end (ended.Trap v) after now b t goes = absurd goes
   denied_end (ended.Refused v) after now b t goes = absurd goes
@@ -235,7 +228,6 @@ module _ (size level : ℕ) (guest : Cpu) (g : Guest) (i : Instr) (plain : IsUnt
       same_stop a b e = cc
 
   pub goes_on : Goal (by_held space p g)
-  unfolding plain_of
   goes_on = elim (attempts_go_on space size p g regs.longs regs.counter sound).0 [
     | inl none ↦ allowed (by_held space p g) begins none
     | inr some ↦ denied (by_held space p g) begins (λ m fetched. attempts_eight held_bus space p g m fetched (eight_plain guest.regs seven)) some

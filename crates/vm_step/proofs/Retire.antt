@@ -25,7 +25,7 @@ use Rattle.mb_attempts.specs.Attempts.{IsUntraced}
 use Rattle.mb_script.specs.declared.input.Input.{Input}
 use Rattle.mb_script.specs.declared.input.Input.TheVariants.{Byte, Abort}
 use Rattle.mb_machine.specs.World.{World}
-use Rattle.mb_machine.specs.Machine.{Machine, Entries, begun, arrived, processed, one_later, stepping, takes_steps, state_after, asked, taken_in}
+use Rattle.mb_machine.specs.Machine.{Machine, Entries, begun, arrived, processed, one_later, takes_steps, state_after, asked, taken_in}
 use Rattle.vm_meaning.specs.Native.{user_step}
 use Rattle.vm_machine.specs.declared.class.Class.{Class}
 use Rattle.vm_machine.specs.declared.class.Class.TheVariants as class
@@ -33,7 +33,7 @@ use Rattle.vm_machine.specs.declared.class.Class.TheVariants.{Retired}
 use Rattle.vm_machine.specs.Guests.{Guest, may}
 use Rattle.vm_machine.specs.Bus.{guest_bus}
 use Rattle.vm_machine.specs.Classes.{class_of_end, class_at, class_of_attempt, class_at_first, is_traced}
-use Rattle.vm_machine.specs.Turns.{Guested, world_of, guest_begun, guest_later, guest_stepped, step_class_at_first}
+use Rattle.vm_machine.specs.Turns.{Guested, world_of, guest_begun, guest_later, guest_stepped}
 use Rattle.vm_held.specs.Sound.{Sound}
 use Rattle.vm_held.specs.Denied.{held_end}
 use Rattle.vm_mirror.specs.Related.{Site, Related}
@@ -59,7 +59,6 @@ off_ticked d = off_by (d.period == 0) (d.count - 1 == 0) d (record d { pending =
 
 -- the devices ask for no level that is above every mask
 pub level_small : (d : DeviceState) → rank (level_of d) ≤ 6
-unfolding level_of
 level_small d = by_level d.pending (d.enabled && has_received d)
   where
     by_level : (a b : Bool) → rank (cond a 6 (cond b 4 0)) ≤ 6
@@ -93,7 +92,6 @@ pub not_above : (mask level : ℕ) → level ≤ mask → nat_lt mask level ≡ 
 not_above mask level h = grind (arith, nat_tests)
 
 pub is_attempt : (level : ℕ) (cpu : Cpu) (g : Guest) (c : Class) → class_at_first level cpu g ≡ c → IsTried c → IsAttemptOf level cpu g c
-unfolding class_at_first
 is_attempt level cpu g c e h =
     let (a, b, t, k) = by_tests (nat_lt (interrupt_mask cpu) (rank level)) cpu.stopped (is_traced cpu) (class_of_attempt cpu g) c e h in
     let (all, flow) = neither (traces_all cpu.regs.sr) (traces_flow cpu.regs.sr) t in
@@ -119,7 +117,6 @@ masked_by cpu d h = let l = level_small d in omega arith
 
 pub class_held : (x : Site) (guest : Cpu) (g : Guest) (c : Class) → space_of guest ≡ x.space → HasRegisters (plain_of guest.regs) → Sound x.size g
     → class_of_attempt guest g ≡ c → class_of_end (end_of_held x guest g).0 ≡ c
-unfolding class_of_attempt
 class_held x guest g c present regs sound e =
     sym (classes_are_held x.space x.size (plain_of guest.regs) g regs sound)
     ∙ sym (ap (λ (s : Space). class_at (run_until may guest_bus (attempt_of s (plain_of guest.regs)) g)) present) ∙ e
@@ -146,7 +143,6 @@ related_devices x w g d e r = record {
 -- the processors see the same registers
 pub mirrored_by : (x : Site) (m : Machine) (g : Guested) → Boarded x m g → HasRegisters (plain_of g.machine.cpu.regs) → IsUntraced g.machine.cpu
     → Mirrored x m.cpu g.machine.cpu
-unfolding plain_of
 mirrored_by x m g b regs untraced = record {
   plain = b.plain;
   user = b.user;
@@ -158,7 +154,6 @@ mirrored_by x m g b regs untraced = record {
 }
 
 off_received : (byte : ℕ) (d : DeviceState) → (received byte d).off ≡ d.off
-unfolding received
 off_received byte d = off_if (nat_lt (length d.queue) QUEUE_ROOM) d
   where
     off_if : (b : Bool) (d : DeviceState) → (cond b (record d { queue = d.queue ++ byte ∷ [] }) (record d { overrun = true })).off ≡ d.off
@@ -179,11 +174,9 @@ off_arrived n (entry ∷ script) d = off_arrived n script (cond (entry.step == n
 
 -- on and awake, it goes on
 pub goes_after : (cpu : Cpu) (d : DeviceState) → d.off ≡ false → cpu.stopped ≡ false → takes_steps (state_after finish.Went cpu d) ≡ true
-unfolding state_after
 goes_after cpu d h k = rw h (rw k refl)
 
 running_after : (cpu : Cpu) (d : DeviceState) → d.off ≡ false → cpu.stopped ≡ false → state_after finish.Went cpu d ≡ Running
-unfolding state_after
 running_after cpu d h k = rw h (rw k refl)
 
 -- the board one step later, with what the processor's part left
@@ -191,11 +184,9 @@ abbrev pub user_later : Machine → Stepped × World → Finish × Machine
 user_later m r = (r.0.0, record (one_later m r.0.0 r.0.1 r.1) { steps = m.steps })
 
 pub user_step_is : (m : Machine) → user_step m ≡ user_later m (processed rule_a [] (begun [] m))
-unfolding user_step stepping
 user_step_is m = refl
 
 pub retired_steps : RetiredSteps
-unfolding begun guest_stepped step_class_at_first
 retired_steps x script m g b regs c on =
     let d = ticked m.world.devices in
     let e = ticked (arrived (g.machine.steps + 1) script g.machine.world.devices) in

@@ -8,7 +8,7 @@ use Rattle.mb_frames.proofs.RoundTrip.{length-frame_bytes}
 use Rattle.mb_model.specs.declared.processor.Cpu.{Cpu}
 use Rattle.mb_ea.specs.Addresses.{difference, sum}
 use Rattle.mb_processor.specs.declared.entering.Cause.{Cause}
-use Rattle.mb_processor.specs.Entry.{frames_of, frame_of, stacked}
+use Rattle.mb_processor.specs.Entry.{frames_of, frame_of}
 use Rattle.mb_machine.specs.World.{World}
 use Rattle.mb_machine.specs.Enters.{HasRoom}
 use Rattle.mb_processor.specs.Return.{low}
@@ -26,7 +26,7 @@ pub record OnStack (c : Cause) (cpu : Cpu) (top : ℕ) : Type 0 where
   pub ends : (frames_of c cpu.regs).first.at + length (frames_of c cpu.regs).first.bytes ≡ top
 
 pub on_stack : (c : Cause) (cpu : Cpu) → c.level ≡ 0 → is_master cpu.regs.sr ≡ false → 60 ≤ cpu.regs.isp → cpu.regs.isp < 2 ^ 32 → OnStack c cpu cpu.regs.isp
-unfolding frames_of stacked
+unfolding frames_of
 on_stack c cpu level master room small =
     let f = frame_of cpu.regs.sr c in
     let n = length (frame_bytes f) in

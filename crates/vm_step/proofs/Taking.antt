@@ -88,7 +88,6 @@ same_guest a b c r m d k n s h =
 
 -- as many address registers on both
 same_count : (r q : Regs) → plain_of r ≡ plain_of q → length r.a ≡ 7 → length q.a ≡ 7
-unfolding plain_of
 same_count r q e h =
     let one = length-append r.a (active_stack r ∷ []) in
     let two = length-append q.a (active_stack q ∷ []) in
@@ -232,7 +231,6 @@ some_read g h (Some r) e = (r, refl)
 -- the first attempt of a step that the board left
 attempted : (script : Entries) (g : Guested) (v : ℕ) → class_of_vector v ≡ step_class_at_first script g → let b = guest_begun script g in
     IsAttemptOf (asked_of script b.machine) b.machine.cpu (world_of b) (class_of_vector v)
-unfolding step_class_at_first
 attempted script g v e = let b = guest_begun script g in
     is_attempt (asked_of script b.machine) b.machine.cpu (world_of b) (class_of_vector v) (sym e) (left_tried v)
 
@@ -250,11 +248,9 @@ same_vector v n e = cc
 
 first_is : (script : Entries) (g : Guested) → let b = guest_begun script g in
     step_class_at_first script g ≡ class_at_first (asked_of script b.machine) b.machine.cpu (world_of b)
-unfolding step_class_at_first
 first_is script g = refl
 
 pub exits_take : ExitsTake
-unfolding begun
 exits_take g c world steps state native before k v s bytes small running seven cpu low set stretch exits_at wide =
     let ram = world.ram in
     let x = site_of g in

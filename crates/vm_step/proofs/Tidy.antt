@@ -28,7 +28,7 @@ use Rattle.mb_writes.specs.Moving.{Halfway, refused_at, loaded_of, load_all_of, 
 use Rattle.mb_meaning.specs.Ends.{Performed, Rowed, OtherEnd, Cut, Unread, Stop, restored, carried}
 use Rattle.mb_meaning.specs.Moves.{movem_by, movem_of, transferring}
 use Rattle.mb_meaning.specs.Operands.{find_address_of}
-use Rattle.mb_meaning.specs.Rows.{perform_of, row_of, perform_move_of}
+use Rattle.mb_meaning.specs.Rows.{perform_of, perform_move_of}
 use Rattle.mb_meaning.specs.Attempt.{FoundInstr, past, fetched_of, attempt_of}
 use Rattle.mb_attempts.proofs.Attempts.{attempts_perform}
 use Rattle.mb_tells.specs.Laws.{moves, moves_fetched}
@@ -57,7 +57,6 @@ eight_tidy p e =
     omega arith in z)
 
 pub eight_plain : (r : Regs) → length r.a ≡ 7 → IsEight (plain_of r)
-unfolding plain_of
 eight_plain r seven = record {
   registers = length-append r.a (active_stack r ∷ []) ∙ ap (λ (n : ℕ). n + 1) seven;
   codes = omega arith;
@@ -136,7 +135,6 @@ module _ {S : Type 0} (bus : Bus S) (m : Movem) (space : Space) (first : ℕ) wh
   stepped_eight (Err halfway) u e = e
 
   transfers_eight : (done : ℕ) (p : Plain) → IsEight p → (u : S) → IsHalfEight (run bus (transfer_of m first done space p) u).0
-  unfolding transfer_of
   transfers_eight done p e u =
       let q = run bus (choose m.is_load (load_all_of m space first done (drop done (transfers_of m first)) p) (storing m first done space p)) u in
       stepped_eight q.0 q.1 (chosen_eight m.is_load done p e u)
@@ -158,12 +156,11 @@ module _ {S : Type 0} (bus : Bus S) (space : Space) where
 
   movems_eight : (is_load : Bool) (size : Size) (ea : Ea) (mask at : ℕ) (p : Plain) → IsEight p → (u : S)
       → CutsEight (run bus (movem_of is_load size ea mask at space p) u).0
-  unfolding movem_of
   movems_eight is_load size ea mask at p e u =
       let q = run bus (find_address_of size ea at space p) u in placed_eight (movem_by is_load size ea mask) p e q.0 q.1
 
   rows_eight : (i : Instr) (m : Movem) (at : ℕ) (p : Plain) → moves i m → IsEight p → (u : S) → StopsEight (run bus (perform_of i at space p) u).0
-  unfolding perform_of row_of perform_move_of
+  unfolding perform_move_of
   rows_eight (instr.Move (move.MovemLoad size ea mask)) m at p is e u =
       let word_at = operands_at (move_row (move.MovemLoad size ea mask)) at in
       restored_eight p e (run bus (movem_of true size ea mask word_at space p) u).0 (movems_eight true size ea mask word_at p e u)

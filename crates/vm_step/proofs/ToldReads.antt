@@ -88,7 +88,6 @@ unlocked (Some r) = cond r.write None (Some r)
 
 read_told : (f : Fault) (first page : ℕ)
     → (is_read (read_fields f first page) ≡ not f.write) × (is_code (read_fields f first page) ≡ f.code) × ((read_fields f first page).fa ≡ f.at)
-unfolding read_fields
 read_told f first page =
     let ea = cond f.code f.at first in
     let low = access_bits f.len f.space f.code in
@@ -134,7 +133,6 @@ status_reads_none : (f : Fault) (start page : ℕ) → status f start page / 2 ^
 status_reads_none f start page = no_rw (f.atc && is_other_page page f.at start) f.atc (access_bits f.len f.space f.code) (low_small f.len f.space f.code)
 
 pub write_reads_none : (space : Space) (f : Fault) (first page : ℕ) (items : List Pend) → read_of_access space (Some (write_fields f first items page)) ≡ None
-unfolding write_fields
 write_reads_none space f first page items =
     none_by space (write_fields f first items page) (no_read _ _ _ (ap (λ (n : ℕ). n / 2 ^ 8 % 2) (ssw_stays f.space (slice_get items 0) (slice_get items 1)
     (slice_get items 2) (record no_fields { ea = first; ssw = status f first page; fa = f.at })) ∙ status_reads_none f first page))
@@ -157,7 +155,6 @@ write_reads_none space f first page items =
         ssw_1 space o (with_writeback_2 space p (with_writeback_3 space q a)) ∙ ssw_2 space p (with_writeback_3 space q a) ∙ ssw_3 space q a
 
 pub line_reads_none : (space : Space) (f : Fault) (line : List ℕ) (page : ℕ) → read_of_access space (Some (line_fields f line page)) ≡ None
-unfolding line_fields
 line_reads_none space f line page = none_by space (line_fields f line page) (no_read _ _ _ (status_reads_none f f.at page))
 
 with_cm : (ma atc load : Bool) (low : ℕ) → low ≤ 110 → (bit_if ma MA + bit_if atc ATC + low + CM + bit_if load RW) / 2 ^ 12 % 2 ≡ 1
@@ -175,7 +172,6 @@ continued cm rw_ lk h = rw h refl
 
 pub movem_reads_none : (space : Space) (f : Fault) (first start done words next : ℕ) (load : Bool) (page : ℕ)
     → read_of_access space (Some (movem_fields f first start done words next load page)) ≡ None
-unfolding movem_fields
 movem_reads_none space f first start done words next load page =
     let a = movem_fields f first start done words next load page in
     none_by space a (continued (a.ssw / 2 ^ 12 % 2) (a.ssw / 2 ^ 8 % 2) (a.ssw / 2 ^ 9 % 2)

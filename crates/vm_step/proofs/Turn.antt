@@ -22,8 +22,8 @@ use Rattle.vm_mirror.specs.Ready.{native_mmu}
 use Rattle.vm_mirror.proofs.Ready.{starts_flushed}
 use Rattle.vm_held.proofs.Truths.{calls_keep_truth}
 use Rattle.vm_machine.specs.declared.class.Class.{Class}
-use Rattle.vm_machine.specs.Turns.{Turned, world_of, guest_begun, guest_processed, guest_later, guest_stepped, class_of_step}
-use Rattle.vm_machine.specs.Turns.{refills_of_step, by_class, advanced, turn_of}
+use Rattle.vm_machine.specs.Turns.{Turned, world_of, guest_begun, guest_processed, guest_later, class_of_step}
+use Rattle.vm_machine.specs.Turns.{refills_of_step, by_class, turn_of}
 use Rattle.vm_step.proofs.Refill.{none_is_refilled}
 use Rattle.vm_machine.specs.Exits.{class_of_vector, handed_by, frame_access, rest_by_frame}
 use Rattle.vm_step.specs.Exit.{left_guest}
@@ -36,7 +36,6 @@ use Rattle.vm_held.specs.Truth.{HasAddress, Fine}
 -- ---- ready again
 
 pub plain_tidy : (r : Regs) → length r.a ≡ 7 → IsTidy (plain_of r)
-unfolding plain_of
 plain_tidy r h =
     let top = active_stack r in
     let (first, last) = seven r.a top h in
@@ -115,7 +114,6 @@ same_number : (v n : ℕ) → finish.Entered v ≡ finish.Entered n → v ≡ n
 same_number v n e = cc
 
 pub exits_advance : ExitsAdvance
-unfolding advanced guest_stepped
 exits_advance x script u v m after l wide last =
     let b = guest_begun script u.guest in
     let h = left_guest x after.world.ram (world_of b) in

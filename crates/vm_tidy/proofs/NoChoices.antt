@@ -15,7 +15,7 @@ use Rattle.mb_machine.specs.declared.reference.Reference.{Reference}
 use Rattle.mb_machine.specs.declared.reference.Settled.TheVariants.{To, Refused}
 use Rattle.mb_machine.specs.World.{World}
 use Rattle.mb_machine.specs.Places.{taken, stored, checked, taken_line, stored_line}
-use Rattle.mb_machine.specs.Access.{matched, search_for, settled, by_match, untranslated, searched, translated, by_settled, by_found}
+use Rattle.mb_machine.specs.Access.{matched, search_for, by_match, untranslated, searched, translated, by_settled, by_found}
 use Rattle.mb_machine.specs.Access.{marks, through}
 use Rattle.mb_machine.specs.Bus.{bus_of, reading_of, writing_of, fetching_of, read_at, read_by, written_at, written_by, tested, tested_by, after_set_mmu}
 use Rattle.vm_meaning.specs.Free.{IsKept, StandIn, rule_free, with_class_entry, WorldWithin}
@@ -54,7 +54,6 @@ found_met w held r BusError stand = record { answer = refl; world = behind w hel
 
 searched_met : (w : World) (held : KeptLists) (r : Reference) → StandIn w.kept held
     → Met (searched rule_free w r) (searched rule_free (record w { kept = [] ∷ held }) r)
-unfolding searched
 searched_met w held r stand =
     let s = search_for w r in
     found_met (record w { ram = s.ram }) held r s.found stand
@@ -99,7 +98,6 @@ led_in t held r k ram f still there stand =
 
 led_met : (t : World) (held : KeptLists) (r : Reference) (k : Kept) → IsKept k t.kept → StandIn t.kept held → LeadsThere r (record t { kept = held }) k
     → Met (through k r, with_class_entry (Some k) t) (searched rule_free (record t { kept = [] ∷ held }) r)
-unfolding searched
 led_met t held r k there stand a =
     let s = search_for t r in
     led_in t held r k s.ram s.found (sym a.still) there stand a.place
@@ -112,7 +110,7 @@ TranslationMeets r t held entry =
 
 pub by_match_of : (r : Reference) (w : World) (o : Option Bool) → untranslated w.mmu r ≡ o
     → translated rule_free r w ≡ by_settled rule_free w r (by_match rule_free w.kept r o)
-unfolding translated settled
+unfolding translated
 by_match_of r w o e = ap (λ (o : Option Bool). by_settled rule_free w r (by_match rule_free w.kept r o)) e
 
 protected_met : (b : Bool) (r : Reference) (w : World) (held : KeptLists) → StandIn w.kept held
@@ -215,19 +213,16 @@ tested_by_met w held space page write None stand = record {
 
 tested_met : (w : World) (held : KeptLists) (space : Space) (page : ℕ) (write : Bool) → StandIn w.kept held
     → Met (tested space page write w) (tested space page write (record w { kept = [] ∷ held }))
-unfolding tested
 tested_met w held space page write stand = tested_by_met w held space page write (matched false w.mmu space page) stand
 
 set_met : (which : MmuReg) (value : ℕ) (w : World) (held : KeptLists) → StandIn w.kept held
     → WorldWithin (after_set_mmu rule_free which value w) (after_set_mmu rule_free which value (record w { kept = [] ∷ held }))
-unfolding after_set_mmu
 set_met which value w held stand = record { same = refl; kept = λ k h. kept-behind [] held k (stand k h) }
 
 -- Where no entry is taken into the class both search, whether the call has one way or not.
 pub called : (c : Call) (t : World) (held : KeptLists) (entry : Option Kept) → IfSome entry (λ k. IsKept k t.kept) → StandIn t.kept held
     → IfSome entry (λ k. IsOneWayCall c (record t { kept = held }))
     → Met (bus_of rule_free c (with_class_entry entry t)) (bus_of rule_free c (record t { kept = [] ∷ held }))
-unfolding bus_of
 called (Fetch space at) t held entry is stand tidy =
     let r = fetching_of space at in read_met r 2 taken t held entry taken-blind (translated_met r t held entry is stand tidy)
 called (Read space p) t held entry is stand tidy =
@@ -275,7 +270,6 @@ from_same : (c : Call) (t : World) (held : KeptLists) (a : Answer c) (u : World)
     → IsOneWayCall c (record t { kept = held }) → (entry : Option Kept) → IfSome entry (λ k. IsKept k t.kept)
     → bus_of rule_free c (with_class_entry entry t) ≡ (a, u)
     → ((searching_bus c (record t { kept = held })).0 ≡ a) × WorldWithin u (searching_bus c (record t { kept = held })).1
-unfolding searching_bus
 from_same c t held a u stand tidy entry is e =
     let m = called c t held entry is stand (if_some entry (IsOneWayCall c (record t { kept = held })) tidy) in
     let s = bus_of rule_free c (record t { kept = [] ∷ held }) in

@@ -12,8 +12,8 @@ use Rattle.mb_laws.specs.Relations.{Along}
 use Rattle.mb_processor.specs.Step.{step_of}
 use Rattle.mb_machine.specs.declared.reference.Reference.{Reference}
 use Rattle.mb_machine.specs.World.{World}
-use Rattle.mb_machine.specs.Access.{matched, is_translating, or_off, untranslated, translated}
-use Rattle.mb_machine.specs.Bus.{bus_of, reference_of, fetching_of, reading_of, writing_of, tested, tested_by, after_set_mmu}
+use Rattle.mb_machine.specs.Access.{matched, is_translating, or_off, translated}
+use Rattle.mb_machine.specs.Bus.{reference_of, fetching_of, reading_of, writing_of, tested, tested_by, after_set_mmu}
 use Rattle.mb_machine.specs.Machine.{Entries, Machine, begun, start, reset_with, asked_of}
 use Rattle.mb_machine.specs.Laws.{IsBeneath}
 use Rattle.mb_machine.proofs.Refusals.{translated-beside}
@@ -29,7 +29,6 @@ accessed r w after h =
     ap (λ (mmu : Mmu). mmu.tc) h.mmu ∙ ap (λ (mmu : Mmu). mmu.tc) (translated-beside rule_free r (with_class_entry None w)).mmu
 
 set_leaves : (which : MmuReg) (value : ℕ) (w : World) → is_tc which ≡ false → (after_set_mmu rule_free which value w).mmu.tc ≡ w.mmu.tc
-unfolding after_set_mmu
 set_leaves Tc value w h = absurd (cc)
 set_leaves Itt0 value w h = refl
 set_leaves Itt1 value w h = refl
@@ -44,14 +43,12 @@ tested_by_leaves w space page write (Some protected) = refl
 tested_by_leaves w space page write None = refl
 
 tested_leaves : (w : World) (space : Space) (page : ℕ) (write : Bool) → (tested space page write w).1.mmu.tc ≡ w.mmu.tc
-unfolding tested
 tested_leaves w space page write = tested_by_leaves w space page write (matched false w.mmu space page)
 
 placed : (w after : World) → IsBeneath (with_class_entry None w) after → after.mmu.tc ≡ w.mmu.tc
 placed w after h = ap (λ (mmu : Mmu). mmu.tc) h.mmu
 
 call_leaves : (c : Call) (w : World) → sets_tc c ≡ false → (searching_bus c w).1.mmu.tc ≡ w.mmu.tc
-unfolding searching_bus bus_of
 call_leaves (Fetch space at) w h = accessed (fetching_of space at) w _ (calls_stand_beneath rule_free (Fetch space at) (with_class_entry None w))
 call_leaves (Read space p) w h = accessed (reading_of space p.at) w _ (calls_stand_beneath rule_free (Read space p) (with_class_entry None w))
 call_leaves (Write space p value) w h =
@@ -83,7 +80,6 @@ never_tables mmu None off e =
     absurd (cc)
 
 reference_tidy : (o : Option Reference) (w : World) → IsOff w → IsTidyReference o w
-unfolding untranslated
 reference_tidy None w off = tt
 reference_tidy (Some r) w off = λ e k c. absurd (never_tables w.mmu (matched r.code w.mmu r.space (page_of r.at)) off e)
 
@@ -103,7 +99,6 @@ stays_off (Then m f) w off h =
     record { tidy = (first.tidy, rest.tidy); off = rest.off }
 
 begun_off : (script : Entries) (m : Machine) → IsOff m.world → IsOff (begun script m).world
-unfolding begun
 begun_off script m off = off
 
 pub off-runs_are_tidy : OffRunsAreTidy

@@ -27,7 +27,6 @@ use Rattle.vm_tidy.proofs.NoChoices.{by_match_of, one_way_calls-have_no_choice}
 -- ---- tidy calls
 
 through_same : (e k : Kept) (r : Reference) → e.frame ≡ k.frame → e.w ≡ k.w → e.s ≡ k.s → through e r ≡ through k r
-unfolding through
 through_same e k r frame w s =
     let admit : admits e r ≡ admits k r =
     ap (λ (b : Bool). not (b && r.write) && not (e.s && is_user r.space)) w
@@ -40,7 +39,6 @@ place_of : (r : Reference) (w : World) (k : Kept) (f : Found) (e : Kept) (status
 place_of r w k f e status found same = sym same ∙ ap (λ (g : Found). (by_found rule_free w r g).0) (sym found)
 
 agreeing_leads : (r : Reference) (w : World) (k : Kept) → Agrees r w k → LeadsThere r w k
-unfolding searched
 agreeing_leads r w k a =
     let s = search_for w r in
     record {
@@ -85,7 +83,6 @@ found_ram w r Invalid = refl
 found_ram w r BusError = refl
 
 searched_ram : (r : Reference) (w : World) (entry : Option Kept) → (searched rule_free (with_class_entry entry w) r).1.ram ≡ (search_for w r).ram
-unfolding searched
 searched_ram r w entry =
     let s = search_for w r in
     found_ram (record (with_class_entry entry w) { ram = s.ram }) r s.found
@@ -97,7 +94,6 @@ found_place v w r BusError = refl
 
 searched_place : (r : Reference) (w : World) (entry : Option Kept)
     → (searched rule_free (with_class_entry entry w) r).0 ≡ (searched rule_free (with_class_entry None w) r).0
-unfolding searched
 searched_place r w entry =
     let s = search_for w r in
     found_place (record (with_class_entry entry w) { ram = s.ram }) (record (with_class_entry None w) { ram = s.ram }) r s.found

@@ -32,7 +32,6 @@ later_within b held ended cpu w u h =
 step_from : (script : Entries) (free : Machine) (held : KeptLists) (after : Machine) → StandIn free.world.kept held
     → AlongStep IsOneWayCall script (record free { world = record free.world { kept = held } }) → FreeStep script free after
     → Within after (searching_step script (record free { world = record free.world { kept = held } }))
-unfolding begun
 step_from script free held after stand tidy (r, w, runs, e) =
     let b = begun script free in
     let routine = step_of (asked_of script b) b.cpu in
@@ -68,7 +67,6 @@ tidy_runs-search script n m free end h tidy = one_way_runs-search script n m fre
 -- ---- the run that searches is free
 
 searching_admitted : Admits FreeCall searching_bus
-unfolding searching_bus
 searching_admitted = record { call = λ c s. (None, tt, refl) }
 
 searching_step_free : (script : Entries) (m : Machine) → FreeStep script m (searching_step script m)

@@ -85,13 +85,11 @@ so_agrees r w k a =
     ((bytes_eq-Decides (search_for w r).ram w.ram).1 a.still)
 
 entry_so : (r : Reference) (w : World) (k : Kept) → is_tidy_entry r w k ≡ true → Counts r w k → Agrees r w k
-unfolding is_tidy_entry
 entry_so r w k h c =
     let count : counts r k ≡ true = and_from (is_of r.space (page_of r.at) k) (not (marks k r)) c.of (not_from_false (marks k r) c.used) in
     agrees_so r w k (rw count at h)
 
 so_entry : (r : Reference) (w : World) (k : Kept) → IsKept k w.kept → (Counts r w k → Agrees r w k) → is_tidy_entry r w k ≡ true
-unfolding is_tidy_entry
 so_entry r w k there h = elim (cases_Bool (counts r k)) [
   | inl count ↦
       let parts = and_parts (is_of r.space (page_of r.at) k) (not (marks k r)) count in

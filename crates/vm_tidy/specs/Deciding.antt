@@ -37,7 +37,7 @@ is_found_as BusError k = false
 abbrev pub agrees : Reference → World → Kept → Bool
 agrees r w k = is_found_as (search_for w r).found k && bytes_eq (search_for w r).ram w.ram
 
-unfoldable pub is_tidy_entry : Reference → World → Kept → Bool
+abbrev pub is_tidy_entry : Reference → World → Kept → Bool
 is_tidy_entry r w k = if counts r k then agrees r w k else true
 
 abbrev pub is_tidy_reference : Option Reference → World → Bool

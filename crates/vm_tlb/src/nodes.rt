@@ -332,7 +332,6 @@ impl Nodes {
     }
 
     /// Makes an entry the newest. The answer is the one that went for it.
-    #[tactic(auto, unfolding(mb_model::specs::Keeping::filled_in))]
     pub fn fill(&mut self, kept: Kept) -> Option<Kept>
         requires sound { Sound self.old }
         requires apart { Apart (entries (links_of self.old)) }

@@ -1,11 +1,9 @@
 use Rattle.std.proofs.Common.{arith}
 use Rattle.std.proofs.lemmas.Grind.{common_steps}
-use Rattle.mb_fields.specs.Decimals.{abcd_of}
 use Rattle.mb_fields.proofs.Digits.{sum_law}
 use Rattle.mb_fields.proofs.decimals.abcd.Goals as goal
 
 pub returns-clause-means : goal.returns-clause-means
-unfolding abcd_of
 returns-clause-means c = grind (arith, common_steps)
 
 pub returns-clause-decimal : goal.returns-clause-decimal

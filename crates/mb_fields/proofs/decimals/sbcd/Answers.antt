@@ -2,13 +2,12 @@ use Rattle.std.proofs.Common.{◌≡◌, ◌%◌, ◌∙◌, sym, ap, bit_and, a
 use Rattle.std.proofs.lemmas.Nat.{and_mask}
 use Rattle.std.specs.Int.{from_bool}
 use Rattle.mb_alu.specs.declared.conditions.Conditions.{Conditions}
-use Rattle.mb_fields.specs.Decimals.{extend_bit, sbcd_of}
+use Rattle.mb_fields.specs.Decimals.{extend_bit}
 use Rattle.mb_fields.proofs.Borrows.{difference_is, borrows_is, flagged_same}
 use Rattle.mb_fields.proofs.Digits.{difference_law}
 use Rattle.mb_fields.proofs.decimals.sbcd.Goals as goal
 
 pub returns-clause-means : goal.returns-clause-means
-unfolding sbcd_of
 returns-clause-means c =
     let x : bit_and c.args.x 15 ≡ c.args.x % 16 = and_mask c.args.x 4 in
     let y : bit_and c.args.y 15 ≡ c.args.y % 16 = and_mask c.args.y 4 in

@@ -1,10 +1,8 @@
 use Rattle.std.proofs.Common.{◌≡◌, ◌+◌, ◌-◌, arith}
-use Rattle.mb_fields.specs.Fields.{field_put_of}
 use Rattle.mb_fields.proofs.Parts.{put_together, put_together-below}
 use Rattle.mb_fields.proofs.fields.field_put.Goals as goal
 
 pub returns-clause-means : goal.returns-clause-means
-unfolding field_put_of
 returns-clause-means c =
     let rest : c.args.bits - c.args.offset - c.args.width ≡ c.args.bits - (c.args.offset + c.args.width) = omega arith in
     let whole : (c.args.offset + c.args.width) + (c.args.bits - (c.args.offset + c.args.width)) ≡ c.args.bits = omega arith in
@@ -13,7 +11,6 @@ returns-clause-means c =
     (omega arith) (rw whole c.requires.word))
 
 pub returns-clause-bound : goal.returns-clause-bound
-unfolding field_put_of
 returns-clause-bound c =
     let whole : (c.args.offset + c.args.width) + (c.args.bits - (c.args.offset + c.args.width)) ≡ c.args.bits = omega arith in
     rw (returns-clause-means c)

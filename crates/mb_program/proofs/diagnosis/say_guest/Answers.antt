@@ -1,11 +1,10 @@
 use Rattle.std.proofs.Common.{◌∙◌}
 use Rattle.std.specs.Prelude.{codes, decimal}
 use Rattle.mb_outside.proofs.PrintLemmas.{prints_more}
-use Rattle.mb_program.specs.Direct.{class_count, counts_line}
+use Rattle.mb_program.specs.Direct.{class_count}
 use Rattle.mb_program.proofs.diagnosis.say_guest.Goals as goal
 
 pub returns : goal.returns
-unfolding counts_line
 returns g c =
     let t = c.args.counts.now in
     let number = c.as_bytes.ensures.value ∙ c.format.ensures.text in

@@ -3,11 +3,9 @@ use Rattle.std.specs.Prelude.{codes, decimal, slice_index}
 use Rattle.mb_outside.proofs.PrintLemmas.{prints_more}
 use Rattle.mb_report.specs.Digits.{hex8}
 use Rattle.mb_report.specs.Text.{state_word}
-use Rattle.mb_program.specs.Answers.{summary_line}
 use Rattle.mb_program.proofs.generated.write_line.Goals as goal
 
 pub returns : goal.returns
-unfolding summary_line
 returns g c =
     let o = c.args.o.now in
     let number = c.as_bytes.ensures.value ∙ c.format.ensures.text in

@@ -1,14 +1,13 @@
 use Rattle.std.proofs.Common.{◌≡◌, ◌∙◌, ap, sym}
 use Rattle.std.specs.List.{flat_map}
 use Rattle.mb_model.specs.Seen.{seen_of}
-use Rattle.mb_report.specs.Text.{lines_of, line_text, outcome_text}
+use Rattle.mb_report.specs.Text.{lines_of, line_text}
 use Rattle.mb_report.specs.Lines.{line_of}
 use Rattle.mb_report.proofs.BufferLemmas.{buffers_then, buffers_printed}
 use Rattle.mb_report.proofs.FlatMapLemmas.{flat_map-map}
 use Rattle.mb_report.proofs.outcome.write_outcome.Goals as goal
 
 pub returns : goal.returns
-unfolding outcome_text
 returns g c =
     let o = c.args.o.now in
     let told = flat_map line_text (lines_of c.args.guest (seen_of o)) in

@@ -1,7 +1,7 @@
 use Rattle.std.proofs.Common.{refl, sym, ◌∙◌, subst}
 use Rattle.std.specs.Prelude.{All}
 use Rattle.mb_srec.specs.Image.{IsAddressed, contents_of}
-use Rattle.mb_srec.specs.Written.{header_line, end_line, text_of}
+use Rattle.mb_srec.specs.Written.{header_line, end_line}
 use Rattle.mb_srec.proofs.Pieces.{of_chunk, chunk_pushed, all_written}
 use Rattle.mb_srec.proofs.writing.write_records.Goals as goal
 
@@ -20,7 +20,6 @@ chunks-preserved c =
     ∙ c.chunks.invariant
 
 pub returns : goal.returns
-unfolding text_of
 returns c =
     all_written header_line c.chunks.text.items _ end_line c.chunks-chunk-items.result.now c.chunks.chunk-index
     (contents_of c.args.image.now) c.chunks-test.false c.chunks.invariant c.in_ok-extend_from_slice.ensures.items

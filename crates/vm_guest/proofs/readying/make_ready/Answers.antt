@@ -1,13 +1,11 @@
 use Rattle.std.proofs.Common.{◌∙◌, ap, sym}
 use Rattle.mb_model.specs.declared.processor.Cpu.{Cpu}
-use Rattle.mb_machine.specs.Bus.{bus_of}
 use Rattle.mb_machine.specs.Machine.{with_cpu}
 use Rattle.mb_board.specs.State.{machine_in, with_machine}
 use Rattle.vm_guest.proofs.MadeReady.{is_ready}
 use Rattle.vm_guest.proofs.readying.make_ready.Goals as goal
 
 pub returns : goal.returns
-unfolding bus_of
 returns c =
     let last = c.set_mmu-3.new.self in
     is_ready c.args.root c.args.board.now.world.devices.ram c.args.board.now.world.ram c.args.plain.now

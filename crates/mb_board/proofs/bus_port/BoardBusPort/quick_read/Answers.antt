@@ -1,10 +1,9 @@
 use Rattle.mb_model.specs.Keeping.{rule_a}
-use Rattle.mb_machine.specs.Bus.{bus_of, reading_of}
+use Rattle.mb_machine.specs.Bus.{reading_of}
 use Rattle.mb_board.proofs.AtOnce.{read_at_once}
 use Rattle.mb_board.proofs.bus_port.BoardBusPort.quick_read.Goals as goal
 
 pub returns : goal.returns
-unfolding bus_of
 returns c =
     read_at_once rule_a c.args.self.now c.reading.result (reading_of c.args.space c.args.piece.at) c.in_ok-at.at c.args.piece.len c.number.result
     c.reading.ensures c.in_ok-at.ensures.leads c.in_ok-at.ensures.inside c.number.ensures.value

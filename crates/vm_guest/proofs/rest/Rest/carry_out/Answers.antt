@@ -2,7 +2,7 @@ use Rattle.std.proofs.Common.{◌∙◌, ap, sym}
 use Rattle.mb_port.specs.Routine.{run}
 use Rattle.mb_instr.specs.declared.registers.Plain.{Plain}
 use Rattle.mb_instr.specs.declared.registers.Regs.{Regs}
-use Rattle.mb_instr.specs.Registers.{plain_of, with_plain}
+use Rattle.mb_instr.specs.Registers.{with_plain}
 use Rattle.mb_model.specs.declared.processor.Cpu.{Cpu}
 use Rattle.mb_processor.specs.Raise.{by_its_end, cause_at}
 use Rattle.vm_meaning.specs.Finishes.{finish_trap_of}
@@ -11,7 +11,6 @@ use Rattle.vm_guest.specs.Rests.{rest_in}
 use Rattle.vm_guest.proofs.rest.Rest.carry_out.Goals as goal
 
 pub returns-in-Trap-clause-means : goal.returns-in-Trap-clause-means
-unfolding plain_of
 returns-in-Trap-clause-means g c =
     let cpu = c.args.cpu.now in
     let w = g.P.Port.world c.args.port.now in

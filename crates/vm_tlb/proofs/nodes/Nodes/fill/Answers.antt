@@ -1,6 +1,5 @@
 use Rattle.std.proofs.Common.{◌∙◌, List, [], ◌∷◌, ◌++◌, ap, map}
 use Rattle.mb_model.specs.declared.kept.Kept.{Kept}
-use Rattle.mb_model.specs.Keeping.{filled_in}
 use Rattle.vm_tlb.specs.Links.{links_of}
 use Rattle.vm_tlb.proofs.Fills.{room, entries_put}
 use Rattle.vm_tlb.proofs.nodes.Nodes.fill.Goals as goal
@@ -9,7 +8,6 @@ pub push-requires-clause-room : goal.push-requires-clause-room
 push-requires-clause-room c = room (links_of c.make_room-gone.new.self) c.make_room-gone.ensures.sound.1 c.make_room-gone.ensures.few
 
 pub returns-clause-entries : goal.returns-clause-entries
-unfolding filled_in
 returns-clause-entries c =
     let l = links_of c.make_room-gone.new.self in
     let r = room l c.make_room-gone.ensures.sound.1 c.make_room-gone.ensures.few in
