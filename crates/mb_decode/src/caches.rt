@@ -1,4 +1,5 @@
 //! Line 15: caches, translation and MOVE16.
+#![tactic(auto, unfolding(crate::specs::Reading::reads_then))]
 
 ghost use Rattle.std.specs.Prelude.{◌≡◌, ◌<◌};
 ghost use Rattle.mb_instr.specs.Opcodes.{IsOpcode};
@@ -28,7 +29,6 @@ fn cached_instr(push: bool, caches: Caches, scope: CacheScope, register: u8) -> 
 }
 
 /// CINV and CPUSH.
-#[tactic(auto, unfolding(crate::specs::Reading::reads_then))]
 fn caches(op: Opcode, words: &[u16]) -> Reading<'_, Instr>
     requires { IsOpcode op }
     ensures { Gives result (caches_15 op words.now) }
@@ -41,7 +41,6 @@ fn caches(op: Opcode, words: &[u16]) -> Reading<'_, Instr>
 }
 
 /// PFLUSH and PTEST.
-#[tactic(auto, unfolding(crate::specs::Reading::reads_then))]
 fn translation(op: Opcode, words: &[u16]) -> Reading<'_, Instr>
     requires { IsOpcode op }
     ensures { Gives result (translation_15 op words.now) }
@@ -66,7 +65,6 @@ fn translation(op: Opcode, words: &[u16]) -> Reading<'_, Instr>
 }
 
 /// MOVE16.
-#[tactic(auto, unfolding(crate::specs::Reading::reads_then))]
 fn lines(op: Opcode, words: &[u16]) -> Reading<'_, Instr>
     requires { IsOpcode op }
     ensures { Gives result (lines_15 op words.now) }
@@ -91,7 +89,6 @@ fn lines(op: Opcode, words: &[u16]) -> Reading<'_, Instr>
 }
 
 /// The rows of line 15.
-#[tactic(auto, unfolding(crate::specs::Reading::reads_then))]
 pub fn line_15(op: Opcode, words: &[u16]) -> Reading<'_, Instr>
     requires { IsOpcode op }
     ensures { Gives result (line_15 op words.now) }

@@ -105,7 +105,6 @@ fn cas2(size: Size, words: &[u16]) -> Reading<'_, Instr>
 }
 
 /// CAS and CAS2.
-#[tactic(auto, unfolding(crate::specs::Reading::reads_then))]
 fn cas(op: Opcode, words: &[u16]) -> Reading<'_, Instr>
     requires { IsOpcode op }
     ensures { Gives result (cas_0 op words.now) }
@@ -176,7 +175,6 @@ fn to_sr_instr(upper: u8, word: u16) -> Instr
 }
 
 /// ORI, ANDI and EORI to CCR and SR.
-#[tactic(auto, unfolding(crate::specs::Reading::reads_then))]
 fn status(op: Opcode, words: &[u16]) -> Reading<'_, Instr>
     requires { IsOpcode op }
     ensures { Gives result (status_0 op words.now) }
@@ -257,7 +255,6 @@ fn odd(op: Opcode, words: &[u16]) -> Reading<'_, Instr>
 }
 
 /// Bit 8 clear.
-#[tactic(auto, unfolding(crate::specs::Reading::reads_then))]
 fn even(op: Opcode, words: &[u16]) -> Reading<'_, Instr>
     requires { IsOpcode op }
     ensures { Gives result (even_0 op words.now) }

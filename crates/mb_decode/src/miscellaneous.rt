@@ -108,7 +108,6 @@ fn extend_instr(field: u8, register: u8) -> Instr
 }
 
 /// MOVEM to memory, and EXT.
-#[tactic(auto, unfolding(crate::specs::Reading::reads_then))]
 fn movem_store(op: Opcode, words: &[u16]) -> Reading<'_, Instr>
     requires { IsOpcode op }
     ensures { Gives result (movem_store_4 op words.now) }
@@ -184,7 +183,6 @@ fn jump(op: Opcode, words: &[u16]) -> Reading<'_, Instr>
 }
 
 /// `$4E70` to `$4E77`.
-#[tactic(auto, unfolding(crate::specs::Reading::reads_then))]
 fn single(op: Opcode, words: &[u16]) -> Reading<'_, Instr>
     requires { IsOpcode op }
     ensures { Gives result (single_4 op words.now) }
@@ -208,7 +206,6 @@ fn single(op: Opcode, words: &[u16]) -> Reading<'_, Instr>
 }
 
 /// MOVEC, in `$4E78` to `$4E7F`.
-#[tactic(auto, unfolding(crate::specs::Reading::reads_then))]
 fn movec(op: Opcode, words: &[u16]) -> Reading<'_, Instr>
     requires { IsOpcode op }
     ensures { Gives result (movec_4 op words.now) }
@@ -222,7 +219,6 @@ fn movec(op: Opcode, words: &[u16]) -> Reading<'_, Instr>
 }
 
 /// `$4E40` to `$4E7F`.
-#[tactic(auto, unfolding(crate::specs::Reading::reads_then))]
 fn system(op: Opcode, words: &[u16]) -> Reading<'_, Instr>
     requires { IsOpcode op }
     ensures { Gives result (system_4 op words.now) }
@@ -252,7 +248,6 @@ fn system(op: Opcode, words: &[u16]) -> Reading<'_, Instr>
 }
 
 /// Bit 8 clear.
-#[tactic(auto, unfolding(crate::specs::Reading::reads_then))]
 fn even(op: Opcode, words: &[u16]) -> Reading<'_, Instr>
     requires { IsOpcode op }
     ensures { Gives result (even_4 op words.now) }
@@ -273,7 +268,6 @@ fn even(op: Opcode, words: &[u16]) -> Reading<'_, Instr>
 }
 
 /// LEA, and EXTB to a long.
-#[tactic(auto, unfolding(crate::specs::Reading::reads_then))]
 fn lea(op: Opcode, words: &[u16]) -> Reading<'_, Instr>
     requires { IsOpcode op }
     ensures { Gives result (lea_4 op words.now) }
@@ -306,7 +300,6 @@ fn chk(op: Opcode, words: &[u16]) -> Reading<'_, Instr>
 }
 
 /// Bit 8 set.
-#[tactic(auto, unfolding(crate::specs::Reading::reads_then))]
 fn odd(op: Opcode, words: &[u16]) -> Reading<'_, Instr>
     requires { IsOpcode op }
     ensures { Gives result (odd_4 op words.now) }
@@ -319,7 +312,6 @@ fn odd(op: Opcode, words: &[u16]) -> Reading<'_, Instr>
 }
 
 /// The rows of line 4.
-#[tactic(auto, unfolding(crate::specs::Reading::reads_then))]
 pub fn line_4(op: Opcode, words: &[u16]) -> Reading<'_, Instr>
     requires { IsOpcode op }
     ensures { Gives result (line_4 op words.now) }

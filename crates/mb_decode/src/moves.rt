@@ -1,4 +1,5 @@
 //! Lines 1 to 3: MOVE and MOVEA.
+#![tactic(auto, unfolding(crate::specs::Reading::reads_then))]
 
 ghost use Rattle.std.specs.Prelude.{◌≡◌, ◌<◌};
 ghost use Rattle.mb_instr.specs.Opcodes.{IsOpcode};
@@ -26,7 +27,6 @@ fn allows_move(size: Size, op: Opcode) -> bool
 }
 
 /// MOVE: the source's words stand before the destination's.
-#[tactic(auto, unfolding(crate::specs::Reading::reads_then))]
 fn move_row(size: Size, op: Opcode, words: &[u16]) -> Reading<'_, Instr>
     requires { IsOpcode op }
     ensures { Gives result (move_at size op words.now) }
@@ -45,7 +45,6 @@ fn move_row(size: Size, op: Opcode, words: &[u16]) -> Reading<'_, Instr>
 }
 
 /// MOVEA.
-#[tactic(auto, unfolding(crate::specs::Reading::reads_then))]
 fn movea(size: Size, op: Opcode, words: &[u16]) -> Reading<'_, Instr>
     requires { IsOpcode op }
     ensures { Gives result (movea_at size op words.now) }
@@ -63,7 +62,6 @@ fn movea(size: Size, op: Opcode, words: &[u16]) -> Reading<'_, Instr>
 }
 
 /// The rows of lines 1 to 3.
-#[tactic(auto, unfolding(crate::specs::Reading::reads_then))]
 pub fn line_move(op: Opcode, words: &[u16]) -> Reading<'_, Instr>
     requires { IsOpcode op }
     ensures { Gives result (line_move op words.now) }

@@ -97,7 +97,6 @@ pub fn line_6(op: Opcode, words: &[u16]) -> Reading<'_, Instr>
 }
 
 /// MOVEQ.
-#[tactic(auto, unfolding(crate::specs::Reading::reads_then))]
 pub fn line_7(op: Opcode, words: &[u16]) -> Reading<'_, Instr>
     requires { IsOpcode op }
     ensures { Gives result (line_7 op words.now) }

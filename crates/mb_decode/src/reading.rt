@@ -1,4 +1,5 @@
 //! Readers of what stands behind the first word.
+#![tactic(auto, unfolding(crate::specs::Reading::reads_then))]
 
 ghost use Rattle.mb_decode.specs.Reading.{Gives, word_at, long_at, wide_at, full_at, ext_at, immediate_at, operand_at};
 ghost use Rattle.mb_decode.specs.Reading.{ruled_at, ea_at, sized_at, word_ea_at, immediate_ea_at};
@@ -77,7 +78,6 @@ fn full(first: u16, words: &[u16]) -> Reading<'_, Ext>
 }
 
 #[inline(always)]
-#[tactic(auto, unfolding(crate::specs::Reading::reads_then))]
 fn extension(words: &[u16]) -> Reading<'_, Ext>
     ensures { Gives result (ext_at words.now) }
 {
@@ -186,7 +186,6 @@ pub fn sized(class: OperandClass, op: Opcode, words: &[u16]) -> Reading<'_, (Siz
 
 /// A word that the rule allows, and then the words of an operand of the class.
 #[inline(always)]
-#[tactic(auto, unfolding(crate::specs::Reading::reads_then))]
 pub fn word_ea(
     rule: WordRule,
     class: OperandClass,
@@ -206,7 +205,6 @@ pub fn word_ea(
 
 /// An immediate and an operand of the class, both of the size in the size field.
 #[inline(always)]
-#[tactic(auto, unfolding(crate::specs::Reading::reads_then))]
 pub fn immediate_ea(class: OperandClass, op: Opcode, words: &[u16]) -> Reading<'_, (Size, u32, Ea)>
     ensures { Gives result (immediate_ea_at class op words.now) }
 {

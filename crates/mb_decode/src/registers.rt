@@ -188,7 +188,6 @@ fn packed(op: Opcode, words: &[u16]) -> Reading<'_, Instr>
 }
 
 /// EXG.
-#[tactic(auto, unfolding(crate::specs::Reading::reads_then))]
 fn exchange(op: Opcode, words: &[u16]) -> Reading<'_, Instr>
     requires { IsOpcode op }
     ensures { Gives result (exchange_12 op words.now) }

@@ -3,7 +3,7 @@
 ghost use Rattle.std.specs.Prelude.{◌≡◌, ◌≤◌, ◌+◌, length, All, IfOk, OnOk};
 ghost use Rattle.mb_port.specs.Routine.{run};
 ghost use Rattle.mb_port.specs.Pieces.{cut};
-ghost use Rattle.mb_writes.specs.Checked.{probe_pieces_of, bytes_at, probed, located, IsLength, IsOpen, AreOpen};
+ghost use Rattle.mb_writes.specs.Checked.{probe_pieces_of, byte_count, probed, located, IsLength, IsOpen, AreOpen};
 ghost use Rattle.mb_processor.specs.Entry.{probe_frame_of, probe_second_of, put_bytes_of, put_second_of, check_frames_of, put_frames_of};
 ghost use Rattle.mb_entry.specs.Stacks.{seen, seen_second, frames_seen};
 ghost use Rattle.byteorder.specs.Endian.{big_number};
@@ -36,7 +36,7 @@ fn probe_bytes<P: Port>(
     ensures means { run P.bus (probe_pieces_of Space.Super (cut left at left) places.old.items) (P.world port.old)
         ≡ (probed result places.new.items, P.world port.new) }
     ensures open { OnOk result (All (IsOpen (P.exists (P.rest port.new))) places.new.items) }
-    ensures bytes { OnOk result (bytes_at places.new.items ≡ bytes_at places.old.items + left) }
+    ensures bytes { OnOk result (byte_count places.new.items ≡ byte_count places.old.items + left) }
     ensures rest { P.rest port.new ≡ P.rest port.old }
 {
     if left == 0 {
@@ -117,7 +117,7 @@ fn number(bytes: &[u8], len: u8) -> u32
 /// Writes bytes at checked places, in their order.
 fn put_bytes<P: Port>(places: &[Place], bytes: &[u8], port: &mut P)
     requires open { All (IsOpen (P.exists (P.rest port.old))) places.now }
-    requires enough { bytes_at places.now ≤ length bytes.now }
+    requires enough { byte_count places.now ≤ length bytes.now }
     ensures means { run P.bus (put_bytes_of places.now bytes.now) (P.world port.old) ≡ (result, P.world port.new) }
     ensures rest { P.rest port.new ≡ P.rest port.old }
 {

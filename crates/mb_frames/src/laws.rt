@@ -9,7 +9,6 @@ ghost use Rattle.mb_frames.specs.Worked.{UserLinePastMemory, UserWriteOnInvalidP
 ghost use Rattle.mb_frames.specs.Worked.{WriteOfNothing, WritePastMemory, WriteWithinLargePage};
 
 /// The fields of an access error are those of frames that were worked out by hand.
-#[rattlefmt::skip]
 #[tactic(auto, unfolding(mb_port::specs::Pieces::span_of, mb_port::specs::Pieces::weight_of))]
 pub fn worked_frames()
     ensures other_fields_are_zero { OtherFieldsAreZero }

@@ -51,7 +51,7 @@ abbrev pub privileged : Ended
 privileged = ended.Refused PRIVILEGED
 
 -- What moves.
-unfoldable pub perform_move_of : Move → ℕ → Space → Plain → Routine Rowed
+abbrev pub perform_move_of : Move → ℕ → Space → Plain → Routine Rowed
 perform_move_of (move.Move size destination source) word_at space p =
     move_operand_of size destination source word_at space p
 perform_move_of (move.Moveq register immediate) word_at space p = Return (carried (moveq_of register immediate p))
@@ -76,7 +76,7 @@ perform_move_of (move.Move16Abs kind register address) word_at space p =
 perform_move_of (move.Move16Post x word) word_at space p = move16_post_of x word space p
 
 -- What computes.
-unfoldable pub perform_arith_of : Arith → ℕ → Space → Plain → Routine Rowed
+abbrev pub perform_arith_of : Arith → ℕ → Space → Plain → Routine Rowed
 perform_arith_of (arith.Add register to_memory size ea) word_at space p =
     combine_either_way_of (added size) register to_memory size ea word_at space p
 perform_arith_of (arith.Sub register to_memory size ea) word_at space p =

@@ -1,5 +1,4 @@
 //! Instructions that compute, by groups of the table, each by its row.
-#![tactic(auto, unfolding(mb_meaning::specs::Rows::perform_arith_of))]
 
 ghost use Rattle.std.specs.Prelude.{◌≡◌, true};
 ghost use Rattle.mb_port.specs.Routine.{run};

@@ -25,7 +25,6 @@ use mb_writes::Ended;
 /// Carries out the instruction by its row. None changes the flow of control.
 #[rattlefmt::skip]
 #[inline(always)]
-#[tactic(auto, unfolding(mb_meaning::specs::Rows::perform_move_of))]
 fn carry_out<P: Port>(
     instruction: &Move,
     stream: Stream,

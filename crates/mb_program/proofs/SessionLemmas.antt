@@ -76,12 +76,10 @@ it_fits s shown fits = rw (le-ltb s.board (need_of s.guests) fits) refl
 
 host_known : (told : Told) (name : Text) (s : Ordered) → TellsSession told name s → Fits s.session
     → answer_at told (course_of (hosting name)) ≡ Some (shows (host_shown s))
-unfolding course_of
 host_known told name s t fits = at_session told name s (λ r. ends (host_answer r)) t ∙ ap (λ (answer : Answer). Some answer) (it_fits s.session _ fits)
 
 pub compare_known : (told : Told) (name : Text) (s : Ordered) → TellsSession told name s → Fits s.session
     → answer_at told (course_of (comparison name)) ≡ Some (shows (compare_shown s))
-unfolding course_of
 compare_known told name s t fits = at_session told name s (λ r. ends (compare_answer r)) t ∙ ap (λ (answer : Answer). Some answer) (it_fits s.session _ fits)
 
 -- ---- host
@@ -150,7 +148,6 @@ compares asked a status done differs complete name s is tells fits =
 
 summary_known : (told : Told) (workload : Workload)
     → answer_at told (course_of (generation workload)) ≡ Some (shows (gen_shown (generated workload.seed workload.guests)))
-unfolding course_of
 summary_known told workload = refl
 
 pub generates : (asked : Option Asked) (a : Around) (status : ℕ) → (status ≡ 0 → AsksFor asked a (IsShown a 0)) → IsComplete asked a status

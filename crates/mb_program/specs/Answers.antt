@@ -292,7 +292,7 @@ gen_course workload = ends (gen_answer workload)
 
 -- ---- every command
 
-unfoldable pub course_of : Asked → Course
+abbrev pub course_of : Asked → Course
 course_of (bare run) = bare_course run
 course_of (assembly name) = asm_course name
 course_of (disassembly excerpt) = dis_course excerpt

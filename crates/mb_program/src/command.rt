@@ -1,5 +1,4 @@
 //! The commands.
-#![tactic(auto, unfolding(crate::specs::Answers::course_of))]
 
 ghost use Rattle.std.specs.Prelude.{◌≡◌, Some, map, string_bytes};
 ghost use Rattle.vm_meaning.specs.Native.{NativeState};

@@ -58,7 +58,7 @@ line_text (name, bytes shown) = bytes_text name shown
 line_text (name, long value) = word_line name (hex8 value)
 
 -- the lines before those of memory, in their order: each one's name, and its value as it is shown
-unfoldable pub lines_of : ℕ → Seen → List (List ℕ × Shown)
+abbrev pub lines_of : ℕ → Seen → List (List ℕ × Shown)
 lines_of guest seen =
     (codes "guest", number guest)
     ∷ (codes "state", word (state_word seen.state))

@@ -79,7 +79,6 @@ struct Line<'a> {
 
 /// The lines before those of memory, in their order.
 #[rattlefmt::skip]
-#[tactic(auto, unfolding(crate::specs::Text::lines_of))]
 fn lines<'a>(guest: u8, o: &'a Outcome<'a>) -> [Line<'a>; 43]
     ensures { map line_of result ≡ lines_of guest (seen_of o.now) }
 {

@@ -18,7 +18,7 @@ use Rattle.mb_writes.specs.Writing.{write_operand_of}
 use Rattle.mb_meaning.specs.Attempt.{past}
 use Rattle.mb_meaning.specs.Ends.{carried}
 use Rattle.mb_meaning.specs.Moves.{move_flags}
-use Rattle.mb_meaning.specs.Rows.{row_of, perform_move_of}
+use Rattle.mb_meaning.specs.Rows.{row_of}
 use Rattle.mb_table.specs.declared.forms.Place.{Place}
 use Rattle.mb_table.specs.Forms.{place_ea, copy_of}
 use Rattle.mb_short.specs.Operands.{place_at}
@@ -37,7 +37,6 @@ copies : {S : Type 0} (bus : Bus S) (size : Size) (to from : Ea) (there here val
     → Finds bus size from space p s here q → run bus (read_operand_of space here (bytes_of size)) s ≡ (Ok value, s)
     → Finds bus size to space q s there r → run bus (write_operand_of space there (bytes_of size) value) s ≡ (Ok tt, t)
     → run bus (row_of (copy_of size to from) at space p) s ≡ (carried (move_flags size value r), t)
-unfolding perform_move_of
 copies bus size to from there here value at space p q r s t found read reached put =
     rw (run, memory_fetched bus size from here value space p q s found read, reached, put) refl
 

@@ -20,7 +20,6 @@ use Rattle.mb_meaning.specs.Attempt.{past}
 use Rattle.mb_meaning.specs.Ends.{Rowed, went}
 use Rattle.mb_meaning.specs.Flow.{go_if_met_of, call_of, dbcc_of, target_of, is_call}
 use Rattle.mb_meaning.specs.Operands.{stack_raised}
-use Rattle.mb_meaning.specs.Rows.{perform_move_of}
 use Rattle.mb_meaning.specs.Stack.{link_of}
 use Rattle.mb_short.specs.Taken.{Goes}
 use Rattle.mb_short.proofs.Moves.{goes}
@@ -51,7 +50,6 @@ return_goes bus target space p s read =
 pub link_goes : {S : Type 0} (bus : Bus S) (n d : ℕ) (space : Space) (p q : Plain) (s t : S) (r : Option Bool)
     → IfSome r (λ met. run bus (link_of n (sign_extended Word d) space (past 2 p)) s ≡ (went met q, t))
     → IfSome r (λ met. Goes bus (instr.Move (move.LinkW n d)) 2 space p s met q t)
-unfolding perform_move_of
 link_goes bus n d space p q s t None h = h
 link_goes bus n d space p q s t (Some met) h = goes bus (instr.Move (move.LinkW n d)) p.pc space (past 2 p) q met s t h
 
@@ -59,7 +57,6 @@ pub unlink_goes : {S : Type 0} (bus : Bus S) (n value : ℕ) (space : Space) (p 
     → run bus (read_operand_of space (address_register p n) 4) s ≡ (Ok value, s)
     → Goes bus (instr.Move (move.Unlk n)) 1 space p s false
     (with_address_register (with_address_register (past 1 p) 7 (sum (address_register p n) 4)) n value) s
-unfolding perform_move_of
 unlink_goes bus n value space p s read =
     goes bus (instr.Move (move.Unlk n)) p.pc space (past 1 p)
     (with_address_register (with_address_register (past 1 p) 7 (sum (address_register p n) 4)) n value) false s s (rw (run, read) refl)
@@ -67,7 +64,7 @@ unlink_goes bus n value space p s read =
 pub address_goes : {S : Type 0} (bus : Bus S) (n m d : ℕ) (space : Space) (p : Plain) (s : S)
     → Goes bus (instr.Move (move.Lea n (Disp m d))) 2 space p s false
     (with_address_register (past 2 p) n (sum (address_register p m) (sign_extended Word d))) s
-unfolding perform_move_of resolve_of
+unfolding resolve_of
 address_goes bus n m d space p s =
     goes bus (instr.Move (move.Lea n (Disp m d))) p.pc space (past 2 p)
     (with_address_register (past 2 p) n (sum (address_register p m) (sign_extended Word d))) false s s refl

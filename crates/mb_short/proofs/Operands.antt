@@ -27,7 +27,7 @@ use Rattle.mb_meaning.specs.Operands.{behind_of, fetch_operand_of}
 use Rattle.mb_meaning.specs.Moves.{move_operand_of, movea_of, move_flags}
 use Rattle.mb_meaning.specs.Arithmetic.{combine_of, compare_pair_of, combine_either_way_of, take_of}
 use Rattle.mb_meaning.specs.Unary.{put_in_register_of}
-use Rattle.mb_meaning.specs.Rows.{row_of, perform_move_of, perform_arith_of}
+use Rattle.mb_meaning.specs.Rows.{row_of}
 use Rattle.mb_table.specs.declared.forms.Place.{Place}
 use Rattle.mb_table.specs.declared.forms.Place.TheVariants as place
 use Rattle.mb_table.specs.declared.forms.Register.{Register}
@@ -161,7 +161,7 @@ taken bus effect size ea target value word_at space p q s fetched = rw (run, fet
 takes : {S : Type 0} (bus : Bus S) (t : Taking) (size : Size) (ea : Ea) (target : Target) (value at : ℕ) (space : Space) (p q : Plain) (s : S)
     → HasRegister t → Fetches bus size ea space p s target value q
     → run bus (row_of (taking_of t size ea) at space p) s ≡ (carried (taken_by t size value q), s)
-unfolding perform_move_of perform_arith_of combine_either_way_of
+unfolding combine_either_way_of
 takes bus (take.Move n) size ea target value at space p q s h fetched = moved bus size n ea target value _ space p q s h fetched
 takes bus (take.MoveAddress n) size ea target value at space p q s h fetched = moved_address bus size n ea target value _ space p q s fetched
 takes bus (take.Add n) size ea target value at space p q s h fetched = combined bus _ size n ea target value _ space p q s h fetched
@@ -237,7 +237,6 @@ puts : {S : Type 0} (bus : Bus S) (t : Putting) (size : Size) (ea : Ea) (to at :
     → HasSource t → Finds bus size ea space p s to q
     → run bus (write_operand_of space to (bytes_of size) (put_value t size p)) s ≡ (Ok tt, u)
     → run bus (row_of (putting_of t size ea) at space p) s ≡ (carried (move_flags size (put_value t size p) q), u)
-unfolding perform_move_of perform_arith_of
 puts bus (write.Data n) size ea to at space p q s u h found put = rw (run, data_fetched bus size n space p s h, found, put) refl
 puts bus (write.Address n) size ea to at space p q s u h found put = rw (run, address_fetched bus size n space p s, found, put) refl
 puts bus write.Zero size ea to at space p q s u h found put = rw (run, found, put) refl

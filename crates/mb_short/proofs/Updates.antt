@@ -22,7 +22,7 @@ use Rattle.mb_meaning.specs.Ends.{carried}
 use Rattle.mb_meaning.specs.Operands.{behind_of, fetch_operand_of}
 use Rattle.mb_meaning.specs.Arithmetic.{combine_of, combine_either_way_of, combine_quick_of}
 use Rattle.mb_meaning.specs.Modifying.{modify_of}
-use Rattle.mb_meaning.specs.Rows.{row_of, perform_arith_of}
+use Rattle.mb_meaning.specs.Rows.{row_of}
 use Rattle.mb_table.specs.declared.forms.Place.{Place}
 use Rattle.mb_table.specs.declared.forms.Place.TheVariants as place
 use Rattle.mb_table.specs.declared.forms.Update.{Update}
@@ -95,7 +95,7 @@ updates : {S : Type 0} (bus : Bus S) (u : Update) (size : Size) (ea : Ea) (to va
     → run bus (read_operand_of space to (bytes_of size)) s ≡ (Ok value, s)
     → run bus (write_operand_of space to (bytes_of size) (updated_by u size value p).value) s ≡ (Ok tt, t)
     → run bus (row_of (update_of u size ea) at space p) s ≡ (carried (record q { ccr = (updated_by u size value p).ccr }), t)
-unfolding perform_arith_of combine_either_way_of combine_quick_of
+unfolding combine_either_way_of combine_quick_of
 updates bus (update.Add n) size ea to value at space p q s t h none found same read put =
     combined bus _ size n ea to value _ space p q s t _ h found same read (data_fetched bus size n space p s h _) put
 updates bus (update.Subtract n) size ea to value at space p q s t h none found same read put =

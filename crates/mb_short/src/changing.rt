@@ -75,7 +75,6 @@ fn complement(size: Size, register: u8, plain: &mut Plain)
 #[rattlefmt::skip]
 #[inline(always)]
 #[tactic(auto, using(crate::proofs::Moves::rows), unfolding(
-    mb_meaning::specs::Rows::perform_arith_of,
     mb_meaning::specs::Arithmetic::combine_quick_of,
     mb_meaning::specs::Arithmetic::combine_either_way_of,
     mb_meaning::specs::Arithmetic::chain_of,

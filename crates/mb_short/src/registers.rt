@@ -65,8 +65,6 @@ fn swap(register: u8, plain: &mut Plain)
 #[rattlefmt::skip]
 #[inline(always)]
 #[tactic(auto, using(crate::proofs::Moves::rows), unfolding(
-    mb_meaning::specs::Rows::perform_move_of,
-    mb_meaning::specs::Rows::perform_arith_of,
     mb_meaning::specs::Arithmetic::combine_quick_of,
     mb_meaning::specs::Arithmetic::combine_either_way_of,
 ))]

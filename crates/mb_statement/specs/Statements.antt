@@ -267,7 +267,7 @@ move_statement at (move.Swap d) = plain (codes "SWAP") (data_operand d ∷ [])
 move_statement at (move.ToCcr ea) = plain (codes "MOVE") (place at 1 ea ∷ operand.Ccr ∷ [])
 move_statement at (move.Unlk a) = plain (codes "UNLK") (address_operand a ∷ [])
 
-unfoldable pub arith_statement : ℕ → Arith → Statement
+abbrev pub arith_statement : ℕ → Arith → Statement
 arith_statement at (arith.Abcd x m y) = plain (codes "ABCD") (pairs m x y)
 arith_statement at (arith.Add d k s ea) = sized (codes "ADD") s (in_turn k (data_operand d) (sized_place at s ea))
 arith_statement at (arith.Adda a s ea) = to_address (codes "ADDA") at s a ea

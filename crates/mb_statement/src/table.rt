@@ -225,7 +225,6 @@ fn move_statement(at: u32, i: &Move) -> Statement
 
 /// What adds, subtracts, compares, extends or clears; else what comes in the tables behind.
 #[rattlefmt::skip]
-#[tactic(auto, unfolding(crate::specs::Statements::arith_statement))]
 fn arith_statement(at: u32, i: &Arith) -> Statement
     ensures statement { statement_said result ≡ statements.arith_statement at i.now }
     ensures short { length result.name.now ≤ 8 }
@@ -265,7 +264,6 @@ fn arith_statement(at: u32, i: &Arith) -> Statement
 
 /// What works on bits, and shifts; else what comes in the table behind.
 #[rattlefmt::skip]
-#[tactic(auto, unfolding(crate::specs::Statements::arith_statement))]
 fn bits_statement(at: u32, i: &Arith) -> Statement
     requires { is_sum i.now ≡ false }
     ensures statement { statement_said result ≡ statements.arith_statement at i.now }
@@ -306,7 +304,6 @@ fn bits_statement(at: u32, i: &Arith) -> Statement
 
 /// What multiplies, divides, counts in decimal digits, or compares and exchanges.
 #[rattlefmt::skip]
-#[tactic(auto, unfolding(crate::specs::Statements::arith_statement))]
 fn product_statement(at: u32, i: &Arith) -> Statement
     requires sums { is_sum i.now ≡ false }
     requires bits { is_of_bits i.now ≡ false }

@@ -83,7 +83,6 @@ module _ {S : Type 0} (x : Guarded S) (space : Space) (g : Guards x space) where
   -- a line a row
   perform_move_tells : (i : Move) (word_at : ℕ) (p : Plain) → IsInstr (instr.Move i) → AreLongs p.a
       → RowTells x space p (is_movem i) (perform_move_of i word_at space p)
-  unfolding perform_move_of
   perform_move_tells (move.Move size destination source) word_at p is longs =
       move_tells x space g size destination source word_at p (formed size destination (AreWords-right (more size source) (more size destination) is.are_words))
       (formed size source (AreWords-left (more size source) (more size destination) is.are_words)) longs
@@ -112,7 +111,6 @@ module _ {S : Type 0} (x : Guarded S) (space : Space) (g : Guards x space) where
 
   perform_arith_tells : (i : Arith) (word_at : ℕ) (p : Plain) → IsInstr (instr.Arith i) → AreLongs p.d → AreLongs p.a
       → RowTells x space p (λ m. ⊥) (perform_arith_of i word_at space p)
-  unfolding perform_arith_of
   perform_arith_tells (arithmetic.Add register to_memory size ea) word_at p is words longs =
       either_way_tells x space g (added size) register to_memory size ea word_at p (formed size ea is.are_words) longs
   perform_arith_tells (arithmetic.Sub register to_memory size ea) word_at p is words longs =

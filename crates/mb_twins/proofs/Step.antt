@@ -65,7 +65,6 @@ use Rattle.mb_twins.proofs.Bounds.{chk_twins, cmp2_twins, chk2_twins}
 
 -- a line a row
 perform_move_twins : (x : Setting) (i : Move) (word_at : ℕ) (p : Plain) → Rows x (perform_move_of i word_at x.here p) (perform_move_of i word_at x.there p)
-unfolding perform_move_of
 perform_move_twins x (move.Move size destination source) word_at p = move_twins x size destination source word_at p
 perform_move_twins x (move.Moveq register immediate) word_at p = returned refl
 perform_move_twins x (move.MovemLoad size ea mask) word_at p = movem_twins x true size ea mask word_at p
@@ -86,7 +85,6 @@ perform_move_twins x (move.Move16Abs kind register address) word_at p = move16_a
 perform_move_twins x (move.Move16Post m word) word_at p = move16_twins x m word p
 
 perform_arith_twins : (x : Setting) (i : Arith) (word_at : ℕ) (p : Plain) → Rows x (perform_arith_of i word_at x.here p) (perform_arith_of i word_at x.there p)
-unfolding perform_arith_of
 perform_arith_twins x (arith.Add register to_memory size ea) word_at p = either_way_twins x (added size) register to_memory size ea word_at p
 perform_arith_twins x (arith.Sub register to_memory size ea) word_at p = either_way_twins x (subtracted size) register to_memory size ea word_at p
 perform_arith_twins x (arith.And register to_memory size ea) word_at p = either_way_twins x (logic_of logic.And size) register to_memory size ea word_at p

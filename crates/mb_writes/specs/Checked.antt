@@ -46,9 +46,9 @@ put_operand_of places len value = put_places_of places len value
 -- ---- places
 
 -- how many bytes the places have
-abbrev pub bytes_at : List Place → ℕ
-bytes_at [] = 0
-bytes_at (p ∷ ps) = p.len + bytes_at ps
+abbrev pub byte_count : List Place → ℕ
+byte_count [] = 0
+byte_count (p ∷ ps) = p.len + byte_count ps
 
 -- 1, 2 or 4 bytes
 abbrev pub IsLength : ℕ → Type 0
@@ -61,7 +61,7 @@ IsOpen Exists p = Exists p × IsLength p.len
 -- the places exist, and have so many bytes
 pub record AreOpen (Exists : Place → Type 0) (len : ℕ) (places : List Place) : Type 0 where
   pub exist : All (IsOpen Exists) places
-  pub whole : bytes_at places ≡ len
+  pub whole : byte_count places ≡ len
 
 -- ---- what the code answers
 

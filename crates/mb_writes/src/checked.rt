@@ -5,7 +5,7 @@ ghost use Rattle.mb_port.specs.Routine.{run};
 ghost use Rattle.mb_port.specs.Pieces.{ArePieces, total};
 ghost use Rattle.mb_instr.specs.Sizes.{bytes_of, values_of};
 ghost use Rattle.mb_writes.specs.Checked.{probe_pieces_of, probe_operand_of, get_places_of, get_operand_of, put_places_of, put_operand_of};
-ghost use Rattle.mb_writes.specs.Checked.{bytes_at, probed, located, IsOpen, AreOpen};
+ghost use Rattle.mb_writes.specs.Checked.{byte_count, probed, located, IsOpen, AreOpen};
 
 use crate::writing::part;
 use arrayvec::ArrayVec;
@@ -26,7 +26,7 @@ fn probe_pieces<P: Port>(
     ensures means { run P.bus (probe_pieces_of space pieces.now places.old.items) (P.world port.old)
         ≡ (probed result places.new.items, P.world port.new) }
     ensures open { OnOk result (All (IsOpen (P.exists (P.rest port.new))) places.new.items) }
-    ensures bytes { OnOk result (bytes_at places.new.items ≡ bytes_at places.old.items + total pieces.now) }
+    ensures bytes { OnOk result (byte_count places.new.items ≡ byte_count places.old.items + total pieces.now) }
     ensures rest { P.rest port.new ≡ P.rest port.old }
 {
     match pieces {
@@ -62,10 +62,10 @@ pub fn probe_operand<P: Port>(
 /// Reads checked places in their order, behind the `len` bytes of `value`.
 fn get_places<P: Port>(places: &[Place], value: u64, len: u8, port: &mut P) -> u64
     requires open { All (IsOpen (P.exists (P.rest port.old))) places.now }
-    requires fits { len + bytes_at places.now ≤ 4 }
+    requires fits { len + byte_count places.now ≤ 4 }
     requires in_range { value < 256 ^ len }
     ensures means { run P.bus (get_places_of places.now value) (P.world port.old) ≡ (result, P.world port.new) }
-    ensures range { result < 256 ^ (len + bytes_at places.now) }
+    ensures range { result < 256 ^ (len + byte_count places.now) }
     ensures rest { P.rest port.new ≡ P.rest port.old }
 {
     match places {
@@ -91,7 +91,7 @@ pub fn get_operand<P: Port>(places: &ArrayVec<Place, 3>, size: Size, port: &mut 
 /// Writes checked places in their order, each with its part of the number.
 fn put_places<P: Port>(places: &[Place], before_end: u8, value: u32, port: &mut P)
     requires open { All (IsOpen (P.exists (P.rest port.old))) places.now }
-    requires fits { bytes_at places.now ≤ 4 }
+    requires fits { byte_count places.now ≤ 4 }
     requires few { before_end ≤ 4 }
     ensures means { run P.bus (put_places_of places.now before_end value) (P.world port.old)
         ≡ (result, P.world port.new) }

@@ -97,7 +97,6 @@ module _ (i : Instr) (space : Space) where
   perform_move_fits : (bytes : ℕ) (row : Move) (word_at : ℕ) (p : Plain) (g : Guest) → Sound bytes g → IsLong (movem_words i)
       → ((m : Movem) → is_movem row m → movem_in (movem_words i) ≡ m) → IsInstr (instr.Move row)
       → IsFit p → IsAnswer any (CutFits i) (run held_bus (perform_move_of row word_at space p) g).0
-  unfolding perform_move_of
   perform_move_fits bytes (move.Move size destination source) word_at p g s words named is fit =
       (move_fits i space size destination source word_at p (formed size destination (AreWords-right (more size source) (more size destination) is.are_words))
       (formed size source (AreWords-left (more size source) (more size destination) is.are_words)) fit).are g
@@ -130,7 +129,6 @@ module _ (i : Instr) (space : Space) where
 
   perform_arith_fits : (row : Arith) (word_at : ℕ) (p : Plain) → IsInstr (instr.Arith row) → AreLongs p.d → IsFit p
       → Row i (perform_arith_of row word_at space p)
-  unfolding perform_arith_of
   perform_arith_fits (arithmetic.Add register to_memory size ea) word_at p is words fit =
       either_way_fits i space (added size) register to_memory size ea word_at p (formed size ea is.are_words) fit
   perform_arith_fits (arithmetic.Sub register to_memory size ea) word_at p is words fit =

@@ -28,7 +28,7 @@ use Rattle.mb_writes.specs.Moving.{Halfway, refused_at, loaded_of, load_all_of, 
 use Rattle.mb_meaning.specs.Ends.{Performed, Rowed, OtherEnd, Cut, Unread, Stop, restored, carried}
 use Rattle.mb_meaning.specs.Moves.{movem_by, movem_of, transferring}
 use Rattle.mb_meaning.specs.Operands.{find_address_of}
-use Rattle.mb_meaning.specs.Rows.{perform_of, perform_move_of}
+use Rattle.mb_meaning.specs.Rows.{perform_of}
 use Rattle.mb_meaning.specs.Attempt.{FoundInstr, past, fetched_of, attempt_of}
 use Rattle.mb_attempts.proofs.Attempts.{attempts_perform}
 use Rattle.mb_tells.specs.Laws.{moves, moves_fetched}
@@ -160,7 +160,6 @@ module _ {S : Type 0} (bus : Bus S) (space : Space) where
       let q = run bus (find_address_of size ea at space p) u in placed_eight (movem_by is_load size ea mask) p e q.0 q.1
 
   rows_eight : (i : Instr) (m : Movem) (at : ℕ) (p : Plain) → moves i m → IsEight p → (u : S) → StopsEight (run bus (perform_of i at space p) u).0
-  unfolding perform_move_of
   rows_eight (instr.Move (move.MovemLoad size ea mask)) m at p is e u =
       let word_at = operands_at (move_row (move.MovemLoad size ea mask)) at in
       restored_eight p e (run bus (movem_of true size ea mask word_at space p) u).0 (movems_eight true size ea mask word_at p e u)

@@ -10,14 +10,13 @@ use Rattle.mb_ea.specs.Reading.{read_operand_of}
 use Rattle.mb_ea.specs.Resolve.{resolve_of}
 use Rattle.mb_writes.specs.Writing.{write_operand_of}
 use Rattle.mb_meaning.specs.Attempt.{found_of}
-use Rattle.mb_meaning.specs.Rows.{perform_move_of}
 use Rattle.mb_machine.specs.Access.{translated}
 use Rattle.mb_machine.specs.Machine.{reset_with, run_of}
 use Rattle.vm_tidy.specs.Deciding.{is_tidy_run}
 
 -- what such runs unfold: searches and the machine, the words and rows of moves, MOVEC and flushes, and their operands
 unfoldable pub runs_on_images : ⊤
-unfolding descended pointed ended translated ticked reset_with run_of decode_of reads_then word_at long_at
-    operand_at ruled_at ea_at sized_at low_line high_line row_at conditions_of read_operand_of resolve_of
-    write_operand_of perform_move_of found_of is_tidy_run
+unfolding descended pointed ended translated ticked reset_with run_of decode_of reads_then word_at long_at operand_at
+    ruled_at ea_at sized_at low_line high_line row_at conditions_of read_operand_of resolve_of write_operand_of
+    found_of is_tidy_run
 runs_on_images = tt

@@ -2,13 +2,12 @@ use Rattle.std.proofs.Common.{refl}
 use Rattle.mb_srec.specs.Image.{contents_of}
 use Rattle.mb_machine.specs.Machine.{Contents}
 use Rattle.mb_words.specs.Words.{source_said}
-use Rattle.mb_program.specs.Answers.{asm_answer, course_of, ends, source_in}
+use Rattle.mb_program.specs.Answers.{asm_answer, ends, source_in}
 use Rattle.mb_program.specs.Ends.{Around, around_of}
 use Rattle.mb_program.proofs.CourseLemmas.{ends_at, goes_on}
 use Rattle.mb_program.proofs.command.run_asm.Goals as goal
 
 pub returns-in-Ok-clause-ends : goal.returns-in-Ok-clause-ends
-unfolding course_of
 returns-in-Ok-clause-ends g c = λ native.
     let a : Around = around_of g.F.Shelf g.O.Sink
     c.args.shelf.now c.source_file.new.shelf c.args.out.now c.show_records.new.out native native in
@@ -16,7 +15,6 @@ returns-in-Ok-clause-ends g c = λ native.
     c.show_records.result c.in-Ok.ensures.reads.1 (c.show_records.ensures native a.shelf a.shelf_after c.in-Ok.ensures.reads.0)
 
 pub returns-in-Err-clause-ends : goal.returns-in-Err-clause-ends
-unfolding course_of
 returns-in-Err-clause-ends g c = λ native.
     let a : Around = around_of g.F.Shelf g.O.Sink
     c.args.shelf.now c.source_file.new.shelf c.args.out.now c.args.out.now native native in

@@ -1,11 +1,10 @@
 use Rattle.std.proofs.Common.{ap, refl}
 use Rattle.vm_guest.specs.Session.{GuestAtStart}
-use Rattle.mb_program.specs.Answers.{bare_answer, course_of, ends}
+use Rattle.mb_program.specs.Answers.{bare_answer, ends}
 use Rattle.mb_program.specs.Ends.{Around, ShelfSeen, around_of}
 use Rattle.mb_program.proofs.command.run_bare.Goals as goal
 
 pub returns-in-Ok-clause-ends : goal.returns-in-Ok-clause-ends
-unfolding course_of
 returns-in-Ok-clause-ends g c = λ native.
     let a : Around = around_of g.F.Shelf g.O.Sink
     c.args.shelf.now c.read_guest.new.shelf c.args.out.now c.show_machine.new.out native native in
@@ -13,7 +12,6 @@ returns-in-Ok-clause-ends g c = λ native.
     (c.show_machine.ensures native a.shelf a.shelf_after (ap (λ (x : ShelfSeen). x.faults) c.in-Ok.ensures.passes.0))
 
 pub returns-in-Err-clause-ends : goal.returns-in-Err-clause-ends
-unfolding course_of
 returns-in-Err-clause-ends g c = λ native.
     let a : Around = around_of g.F.Shelf g.O.Sink
     c.args.shelf.now c.read_guest.new.shelf c.args.out.now c.args.out.now native native in

@@ -1,12 +1,11 @@
 use Rattle.std.proofs.Common.{ap, refl}
-use Rattle.mb_program.specs.Answers.{compare_answer, course_of, ends}
+use Rattle.mb_program.specs.Answers.{compare_answer, ends}
 use Rattle.mb_program.specs.Direct.{Ordered}
 use Rattle.mb_program.specs.Ends.{Around, ShelfSeen, around_of}
 use Rattle.mb_program.proofs.TidyLemmas.{end_tells}
 use Rattle.mb_program.proofs.command.run_compare.Goals as goal
 
 pub returns-in-Ok-clause-ends : goal.returns-in-Ok-clause-ends
-unfolding course_of
 returns-in-Ok-clause-ends g c =
     let a : Around = around_of g.F.Shelf g.O.Sink
     c.args.shelf.now c.read_session.new.shelf c.args.out.now c.show_compared.new.out c.args.native.now c.show_compared.new.native in
@@ -14,7 +13,6 @@ returns-in-Ok-clause-ends g c =
     (c.show_compared.ensures a.shelf a.shelf_after (ap (λ (x : ShelfSeen). x.faults) c.in-Ok.ensures.passes.0))
 
 pub returns-in-Err-clause-ends : goal.returns-in-Err-clause-ends
-unfolding course_of
 returns-in-Err-clause-ends g c =
     let a : Around = around_of g.F.Shelf g.O.Sink
     c.args.shelf.now c.read_session.new.shelf c.args.out.now c.args.out.now c.args.native.now c.args.native.now in

@@ -3,13 +3,12 @@ use Rattle.std.specs.Prelude.{◌*◌}
 use Rattle.mb_srec.specs.Image.{contents_of}
 use Rattle.mb_machine.specs.Machine.{Contents}
 use Rattle.mb_words.specs.Words.{excerpt_said}
-use Rattle.mb_program.specs.Answers.{dis_answer, course_of, ends, image_in}
+use Rattle.mb_program.specs.Answers.{dis_answer, ends, image_in}
 use Rattle.mb_program.specs.Ends.{Around, around_of}
 use Rattle.mb_program.proofs.CourseLemmas.{ends_at, goes_on}
 use Rattle.mb_program.proofs.command.run_dis.Goals as goal
 
 pub returns-in-Ok-clause-ends : goal.returns-in-Ok-clause-ends
-unfolding course_of
 returns-in-Ok-clause-ends g c = λ native.
     let a : Around = around_of g.F.Shelf g.O.Sink
     c.args.shelf.now c.image_file.new.shelf c.args.out.now c.show_excerpt.new.out native native in
@@ -18,7 +17,6 @@ returns-in-Ok-clause-ends g c = λ native.
     c.show_excerpt.result c.in-Ok.ensures.reads.1 (c.show_excerpt.ensures native a.shelf a.shelf_after c.in-Ok.ensures.reads.0)
 
 pub returns-in-Err-clause-ends : goal.returns-in-Err-clause-ends
-unfolding course_of
 returns-in-Err-clause-ends g c = λ native.
     let a : Around = around_of g.F.Shelf g.O.Sink
     c.args.shelf.now c.image_file.new.shelf c.args.out.now c.args.out.now native native in

@@ -1,10 +1,8 @@
 use Rattle.std.proofs.Common.{refl}
-use Rattle.mb_program.specs.Answers.{course_of}
 use Rattle.mb_program.specs.Ends.{ShelfSeen, shelf_seen}
 use Rattle.mb_program.proofs.command.run_words.Goals as goal
 
 pub returns-in-Ok-Gen-clause-ends : goal.returns-in-Ok-Gen-clause-ends
-unfolding course_of
 returns-in-Ok-Gen-clause-ends g c =
     let shelf : ShelfSeen = shelf_seen g.F.Shelf c.args.shelf.now in
     rw (c.in-Ok-Gen.ensures, c.in-Ok-Gen.field-0-is) (c.show_generated.ensures shelf shelf refl)
