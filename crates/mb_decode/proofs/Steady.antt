@@ -1,6 +1,6 @@
 -- What a reader does as more words come: what it read stays, what is illegal stays so, and where it
 -- wants more there are words that complete it.
-use Rattle.std.proofs.Common.{◌≡◌, ℕ, ◌<◌, ◌^◌, Bool, true, false, cond, List, [], ◌∷◌, ◌++◌, ◌/◌, ◌%◌, Option, Some, None, Result, Ok, Err, ◌⊎◌, inl, inr}
+use Rattle.std.proofs.Common.{◌≡◌, ℕ, ◌<◌, ◌^◌, Bool, true, false, cond, List, [], ◌∷◌, ◌++◌, ◌/◌, ◌%◌, Result, Ok, Err, ◌⊎◌, inl, inr}
 use Rattle.std.proofs.Common.{refl, sym, ap, ◌∙◌, append_assoc, arith}
 use Rattle.std.specs.Prelude.{◌==◌}
 use Rattle.mb_instr.specs.Codes.{AreWords}
@@ -279,10 +279,6 @@ ruled_steady r =
 pub ruled_readable : (r : WordRule) → Readable (ruled_at r)
 unfolding ruled_at
 ruled_readable r = let w = rule_word_is r in word_then_readable _ (rule_word r) w.1 (allowed_readable _ _ _ w.0 (give_readable (rule_word r)))
-
-by_size_cases : {A : Type 0} (o : Option Size) (f : Size → Reader A) → ((s : Size) → Steady (f s)) → Steady {A = A} (elim o [ Some s ↦ f s | None ↦ illegal ])
-by_size_cases (Some s) f g = g s
-by_size_cases None f g = illegal_steady
 
 pub word_ea_then_steady : (r : WordRule) (class : OperandClass) (s : Size) (p : Opcode) →
     Steady {A = ℕ × Ea}

@@ -9,10 +9,6 @@ use Rattle.mb_machine.specs.Machine.{Entries, aborts, asked}
 pub asked_devices : (script : Entries) (step : ℕ) (d : DeviceState) → aborts step script ≡ false → asked script step d ≡ level_of d
 asked_devices script step d h = ap (λ (b : Bool). cond b 7 (level_of d)) h
 
--- and else 7
-pub asked_aborted : (script : Entries) (step : ℕ) (d : DeviceState) → aborts step script ≡ true → asked script step d ≡ 7
-asked_aborted script step d h = ap (λ (b : Bool). cond b 7 (level_of d)) h
-
 -- no mask holds an abort back
 pub unaborted : (script : Entries) (step : ℕ) (d : DeviceState) (cpu : Cpu) → rank (asked script step d) ≤ interrupt_mask cpu → aborts step script ≡ false
 unaborted script step d cpu masked = by_test (aborts step script) masked

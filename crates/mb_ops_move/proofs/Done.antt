@@ -1,5 +1,5 @@
 -- A MOVEM some of whose transfers are done: what is left does what all do.
-use Rattle.std.proofs.Common.{◌≡◌, ℕ, ◌+◌, ◌-◌, ◌*◌, ◌%◌, ◌^◌, ◌<◌, ◌≤◌, true, false, Result, Ok}
+use Rattle.std.proofs.Common.{◌≡◌, ℕ, ◌+◌, ◌-◌, ◌*◌, ◌%◌, ◌^◌, ◌<◌, true, false, Result, Ok}
 use Rattle.std.proofs.Common.{List, [], ◌∷◌, length, drop, ap, sym, ◌∙◌, arith}
 use Rattle.std.specs.Prelude.{map}
 use Rattle.std.proofs.lemmas.List.{drop-drop}
@@ -63,11 +63,6 @@ next_of m ea done from bit h is =
         count = omega (arith, counted, h.count);
       };
     }
-
--- there is one more
-pub one_more : (m : Movem) (ea done from bit : ℕ) → IsLeft m ea done from
-    → set_bits m.mask from (16 - from) ≡ bit ∷ set_bits m.mask (bit + 1) (16 - (bit + 1)) → done ≤ count_of m.mask
-one_more m ea done from bit h is = omega (arith, h.count)
 
 -- where no bit is left, no transfer is
 pub record IsAll (m : Movem) (ea done : ℕ) : Type 0 where

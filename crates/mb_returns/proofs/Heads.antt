@@ -2,7 +2,6 @@
 use Rattle.std.proofs.Common.{◌≡◌, ℕ, ◌+◌, ◌<◌, ◌≤◌, List, length, drop, refl, subst, arith, Result, Ok}
 use Rattle.std.specs.List.{AllByRecursion}
 use Rattle.std.proofs.lemmas.List.Elements.{recursion_from_All}
-use Rattle.std.specs.Int.{byte_at}
 use Rattle.byteorder.specs.Endian.{big_number}
 use Rattle.mb_port.specs.Routine.{Bus, Routine, Return, Then, run, tried}
 use Rattle.mb_port.specs.declared.types.Space.TheVariants.{Super}
@@ -55,10 +54,6 @@ of_reads (frame.Short sr pc offset) b low (s, (p, (w, end))) = record { sr = s; 
 of_reads (frame.Throwaway sr pc offset) b low (s, (p, (w, end))) = record { sr = s; pc = p; format = (format-read _ 1 offset w low).0 }
 of_reads (frame.Address sr pc offset address) b low (s, (p, (w, more))) = record { sr = s; pc = p; format = (format-read _ 2 offset w low).0 }
 of_reads (frame.Access sr pc offset access) b low (s, (p, (w, more))) = record { sr = s; pc = p; format = (format-read _ 7 offset w low).0 }
-
--- the bytes of a frame are bytes
-byte_small : (k n : ℕ) → byte_at k n < 256
-byte_small k n = grind arith
 
 pub fields_of_frame : (sr pc offset : ℕ) (a : Access) → IsFrame (frame.Access sr pc offset a) → access_in (frame_bytes (frame.Access sr pc offset a)) ≡ a
 fields_of_frame sr pc offset a lawful = behind_head (frame_bytes (frame.Access sr pc offset a)) a (frame_reads (frame.Access sr pc offset a) lawful)

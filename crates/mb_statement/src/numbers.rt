@@ -23,7 +23,7 @@ fn hex_digit(digit: u8) -> u8
 
 /// The digits without leading zeros; at most so many.
 #[tactic(auto, unfolding(crate::specs::Numbers::last_digits))]
-fn push_digits(line: &mut LineText, most: u8, value: u64)
+fn push_last_digits(line: &mut LineText, most: u8, value: u64)
     requires { array_vec_len line.old + most ≤ 512 }
     ensures pushed { line.new.items ≡ line.old.items ++ last_digits most value }
     ensures len { array_vec_len line.new ≤ array_vec_len line.old + most }
@@ -34,7 +34,7 @@ fn push_digits(line: &mut LineText, most: u8, value: u64)
     if value < 16 {
         line.push(hex_digit(value as u8));
     } else {
-        push_digits(line, most - 1, value / 16);
+        push_last_digits(line, most - 1, value / 16);
         line.push(hex_digit((value % 16) as u8));
     }
 }
@@ -46,7 +46,7 @@ pub fn push_number(line: &mut LineText, value: u64)
     ensures len { array_vec_len line.new ≤ array_vec_len line.old + 17 }
 {
     line.push(b'$');
-    push_digits(line, 16, value);
+    push_last_digits(line, 16, value);
 }
 
 /// The same, with `-` before the `$` of a negative number.
