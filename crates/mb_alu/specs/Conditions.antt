@@ -1,10 +1,8 @@
 -- The condition codes, as the condition code register holds them.
-use Rattle.std.specs.Prelude.{ℕ, ◌+◌, ◌*◌, ◌/◌, ◌%◌, ◌^◌, ◌==◌, Bool}
+use Rattle.std.specs.Prelude.{ℕ, ◌+◌, ◌*◌}
 use Rattle.std.specs.Int.{from_bool}
+use Rattle.mb_instr.specs.Sizes.{is_set}
 use Rattle.mb_alu.specs.declared.conditions.Conditions.{Conditions}
-
-abbrev pub is_set : ℕ → ℕ → Bool
-is_set n place = n / 2 ^ place % 2 == 1
 
 -- X is bit 4, N bit 3, Z bit 2, V bit 1 and C bit 0
 unfoldable pub conditions_of : ℕ → Conditions

@@ -10,6 +10,7 @@ use Rattle.std.specs.List.{list_any}
 use Rattle.byteorder.specs.Endian.{big_bytes}
 use Rattle.byteorder.specs.Numbers.{length-bytes_high_first}
 use Rattle.mb_lines.specs.Results.{◌>>=◌}
+use Rattle.mb_syntax.specs.Options.{has}
 use Rattle.mb_syntax.specs.declared.word.Name.{Name}
 use Rattle.mb_syntax.specs.declared.expression.Term.{Term}
 use Rattle.mb_syntax.specs.declared.expression.Term.TheVariants as term
@@ -53,7 +54,7 @@ use Rattle.mb_asm.specs.Laws.{FaultyStaysFaulty, FoundStays, LayoutStays, Stays,
 use Rattle.mb_asm.specs.Layouts.{Layout, earlier}
 use Rattle.mb_asm.specs.Results.{refuse}
 use Rattle.mb_asm.specs.Symbols.{Symbol, value_in}
-use Rattle.mb_asm.specs.Values.{Scope, value_or_one, near, target, has_flaw, have_flaw, in_displacement, in_mode, in_number, in_operand, in_option, is_long}
+use Rattle.mb_asm.specs.Values.{Scope, value_or_one, near, target, has_flaw, have_flaw, in_displacement, in_mode, in_number, in_operand, is_long}
 use Rattle.mb_asm.specs.Values.{is_nameless}
 use Rattle.mb_asm.specs.Values.{is_wide, signed_value, sum_behind, term_value, value_of, values_of, with_sign}
 use Rattle.mb_asm.proofs.Filled.{Fills, IsNumber, IsTarget, all_filled, all_unmarked, fill, near_at, out_stays, unmarked}
@@ -412,12 +413,12 @@ record Follows (t u : Sum → Bool) (f g : Sum → ℤ) : Type 0 where
 both_false : (p q : Bool) → p ≡ false → q ≡ false → (p || q) ≡ false
 both_false p q h k = rw h k
 
-option_test : (t u : Sum → Bool) (f g : Sum → ℤ) (d : Option (Displacement Sum)) → Follows t u f g → in_option (in_displacement t) d ≡ false
-    → in_option (in_displacement u) d ≡ false
+option_test : (t u : Sum → Bool) (f g : Sum → ℤ) (d : Option (Displacement Sum)) → Follows t u f g → has (in_displacement t) d ≡ false
+    → has (in_displacement u) d ≡ false
 option_test t u f g None h k = refl
 option_test t u f g (Some d) h k = h.test d.value k
 
-option_value : (t u : Sum → Bool) (f g : Sum → ℤ) (d : Option (Displacement Sum)) → Follows t u f g → in_option (in_displacement t) d ≡ false
+option_value : (t u : Sum → Bool) (f g : Sum → ℤ) (d : Option (Displacement Sum)) → Follows t u f g → has (in_displacement t) d ≡ false
     → option_map (valued_displacement f) d ≡ option_map (valued_displacement g) d
 option_value t u f g None h k = refl
 option_value t u f g (Some d) h k = rw (h.value d.value k) refl
@@ -429,8 +430,8 @@ mode_test t u f g (mode.Absolute e w) h k = h.test e k
 mode_test t u f g (mode.PcDisplaced e) h k = h.test e k
 mode_test t u f g (mode.PcIndexed e i) h k = h.test e k
 mode_test t u f g (mode.Full form) h k =
-    let both = neither (in_option (in_displacement t) form.displacement) (in_option (in_displacement t) form.outer) k in
-    both_false (in_option (in_displacement u) form.displacement) (in_option (in_displacement u) form.outer)
+    let both = neither (has (in_displacement t) form.displacement) (has (in_displacement t) form.outer) k in
+    both_false (has (in_displacement u) form.displacement) (has (in_displacement u) form.outer)
     (option_test t u f g form.displacement h both.0) (option_test t u f g form.outer h both.1)
 mode_test t u f g (mode.Immediate e) h k = h.test e k
 mode_test t u f g _ h k = refl
@@ -442,7 +443,7 @@ mode_value t u f g (mode.Absolute e w) h k = rw (h.value e k) refl
 mode_value t u f g (mode.PcDisplaced e) h k = rw (h.value e k) refl
 mode_value t u f g (mode.PcIndexed e i) h k = rw (h.value e k) refl
 mode_value t u f g (mode.Full form) h k =
-    let both = neither (in_option (in_displacement t) form.displacement) (in_option (in_displacement t) form.outer) k in
+    let both = neither (has (in_displacement t) form.displacement) (has (in_displacement t) form.outer) k in
     rw (option_value t u f g form.displacement h both.0, option_value t u f g form.outer h both.1) refl
 mode_value t u f g (mode.Immediate e) h k = rw (h.value e k) refl
 mode_value t u f g _ h k = refl

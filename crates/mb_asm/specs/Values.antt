@@ -17,6 +17,7 @@ use Rattle.mb_syntax.specs.declared.operand.Operand.{Operand}
 use Rattle.mb_syntax.specs.declared.operand.Operand.TheVariants as operand
 use Rattle.mb_syntax.specs.declared.operand.FieldNumber.{FieldNumber}
 use Rattle.mb_syntax.specs.declared.operand.FieldNumber.TheVariants as number
+use Rattle.mb_syntax.specs.Options.{has}
 use Rattle.mb_syntax.specs.Spans.{bytes_at}
 use Rattle.mb_syntax.specs.Modes.{Sum}
 use Rattle.mb_mnemonics.specs.Values.{valued, valued_displacement, valued_field, valued_mode}
@@ -121,15 +122,11 @@ has_flaw flaw.Unknown scope terms = not (is_some (value_of scope terms))
 
 -- Whether one of the expressions passes a test.
 
-abbrev pub in_option : {A : Type 0} → (A → Bool) → Option A → Bool
-in_option test (Some x) = test x
-in_option test None = false
-
 abbrev pub in_displacement : (Sum → Bool) → Displacement Sum → Bool
 in_displacement test displacement = test displacement.value
 
 abbrev pub in_form : (Sum → Bool) → FullForm Sum → Bool
-in_form test form = in_option (in_displacement test) form.displacement || in_option (in_displacement test) form.outer
+in_form test form = has (in_displacement test) form.displacement || has (in_displacement test) form.outer
 
 abbrev pub in_mode : (Sum → Bool) → Mode Sum → Bool
 in_mode test (mode.Displaced _ e) = test e

@@ -2,10 +2,11 @@
 
 ghost use Rattle.std.specs.Prelude.{◌≡◌, ◌^◌, ◌≤◌, ◌≤ℤ◌, IfOk, IfSome, length, negsuc, option_map, pos};
 ghost use Rattle.std.specs.List.{list_any};
+ghost use Rattle.mb_syntax.specs.Options.{has};
 ghost use Rattle.mb_mnemonics.specs.Values.{valued, valued_displacement, valued_field, valued_form, valued_mode};
 ghost use Rattle.mb_mnemonics.specs.Values.{valued_number};
 ghost use Rattle.mb_asm.specs.Scopes.{scope_said};
-ghost use Rattle.mb_asm.specs.Values.{have_flaw, has_flaw, in_mode, in_number, in_operand, in_option};
+ghost use Rattle.mb_asm.specs.Values.{have_flaw, has_flaw, in_mode, in_number, in_operand};
 ghost use Rattle.mb_asm.specs.Values.{in_displacement, is_nameless, is_wide, signed_value, sum_behind};
 ghost use Rattle.mb_asm.specs.Values.{value_or_one, term_value, value_of, values_of};
 ghost use Rattle.mb_asm.specs.declared.addresses.TheConstants.{PAST};
@@ -132,7 +133,7 @@ fn displacement_has(
     scope: &Scope,
     displacement: &Option<Displacement<Expression>>,
 ) -> bool
-    ensures { result ≡ in_option (in_displacement (has_flaw flaw (scope_said scope.now))) displacement.now }
+    ensures { result ≡ has (in_displacement (has_flaw flaw (scope_said scope.now))) displacement.now }
 {
     match displacement {
         Some(displacement) => has_flaw(flaw, scope, &displacement.value),

@@ -1,6 +1,7 @@
 //! Physical places: RAM, and the registers of the devices.
 
-ghost use Rattle.std.specs.Prelude.{◌≡◌, ◌+◌, ◌<◌, ◌≤◌, ◌≢◌, ◌^◌, length, IfSome};
+ghost use Rattle.std.specs.Prelude.{◌≡◌, ◌+◌, ◌<◌, ◌≤◌, ◌^◌, length, IfSome};
+ghost use Rattle.mb_port.specs.Pieces.{IsLength};
 ghost use Rattle.mb_walk.specs.Memory.{number_at as number_of, with_number};
 ghost use Rattle.mb_machine.specs.World.{World};
 ghost use Rattle.mb_machine.specs.Places.{in_ram, stored, taken, takes_writes, stored_line, taken_line, Stores};
@@ -20,7 +21,7 @@ impl BoardBus {
 
     #[inline(always)]
     pub fn number(&self, at: usize, len: u8) -> u32
-        requires size { (0 < len) × (len ≤ 4) × (len ≢ 3) }
+        requires size { IsLength len }
         requires inside { at + len ≤ length self.now.ram }
         ensures value { result ≡ number_of self.now.ram at len }
         ensures range { result < 256 ^ len }
@@ -31,7 +32,7 @@ impl BoardBus {
     #[inline(always)]
     #[tactic(auto, using(mb_walk::proofs::MemoryLemmas::lengths))]
     pub fn set_number(&mut self, at: usize, len: u8, value: u32)
-        requires size { (0 < len) × (len ≤ 4) × (len ≢ 3) }
+        requires size { IsLength len }
         requires inside { at + len ≤ length self.old.ram }
         ensures size { length self.new.ram ≡ length self.old.ram }
         ensures after { self.new ≡ record self.old { ram = with_number self.old.ram at len value } }
@@ -43,7 +44,7 @@ impl BoardBus {
     #[inline(always)]
     #[tactic(auto, using(mb_machine::proofs::BusLemmas::reads))]
     pub fn take(&mut self, place: Place) -> Option<u32>
-        requires size { (0 < place.len) × (place.len ≤ 4) × (place.len ≢ 3) }
+        requires size { IsLength place.len }
         ensures taken { (result, self.new) ≡ taken place self.old }
         ensures range { IfSome result (λ number. number < 256 ^ place.len) }
         ensures size { length self.new.ram ≡ length self.old.ram }
@@ -59,7 +60,7 @@ impl BoardBus {
     #[inline(always)]
     #[tactic(auto, using(mb_machine::proofs::BusLemmas::writes))]
     pub fn store(&mut self, place: Place, value: u32) -> Option<()>
-        requires size { (0 < place.len) × (place.len ≤ 4) × (place.len ≢ 3) }
+        requires size { IsLength place.len }
         ensures stored { Stores (stored place value self.old) self.old self.new result }
         ensures size { length self.new.ram ≡ length self.old.ram }
     {

@@ -3,9 +3,9 @@ use Rattle.std.specs.Prelude.{◌≡◌, ℕ, List, [], map, replicate, slice_in
 use Rattle.mb_model.specs.declared.processor.Cpu.{Cpu}
 use Rattle.mb_model.specs.declared.outcome.RunState.TheVariants.{Running}
 use Rattle.mb_model.specs.Keeping.{rule_a}
-use Rattle.mb_model.specs.Reset.{at_reset}
+use Rattle.mb_model.specs.Reset.{at_reset, mmu_at_reset}
 use Rattle.mb_model.specs.Seen.{Seen}
-use Rattle.mb_machine.specs.Machine.{Contents, mmu_at_reset, run_of, seen_machine, start, with_contents}
+use Rattle.mb_machine.specs.Machine.{Contents, run_of, seen_machine, start, with_contents}
 use Rattle.mb_cases.specs.declared.chunk.Chunk.{Chunk}
 use Rattle.mb_cases.specs.declared.case.Case.{Case}
 use Rattle.mb_cases.specs.declared.chunk.TheConstants.{RAM_SIZE}

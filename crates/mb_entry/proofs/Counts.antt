@@ -1,6 +1,7 @@
 -- How many transfers a MOVEM has.
 use Rattle.std.proofs.Common.{ℕ, zero, suc, ◌+◌, ◌≤◌, [], ◌∷◌, length, Bool, true, false, if◌then◌else◌, arith, length-append}
-use Rattle.mb_writes.specs.Transfers.{count_of, set_bits, is_set}
+use Rattle.mb_instr.specs.Sizes.{is_set}
+use Rattle.mb_writes.specs.Transfers.{count_of, set_bits}
 
 one_or_none : (b : Bool) (k : ℕ) → length (if b then k ∷ [] else []) ≤ 1
 one_or_none true k = omega arith

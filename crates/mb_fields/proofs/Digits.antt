@@ -4,7 +4,8 @@ use Rattle.std.specs.Prelude.{◌&&◌}
 use Rattle.std.proofs.lemmas.Bool.Decides.{nat_tests}
 use Rattle.std.specs.Int.{from_bool}
 use Rattle.mb_instr.specs.declared.size.Size.TheVariants.{Byte}
-use Rattle.mb_alu.specs.Conditions.{is_set, conditions_of}
+use Rattle.mb_instr.specs.Sizes.{is_set}
+use Rattle.mb_alu.specs.Conditions.{conditions_of}
 use Rattle.mb_alu.specs.Signs.{is_negative, is_zero}
 use Rattle.mb_fields.specs.Decimals.{decimal_flagged, extend_bit, decimal_value, carry_bit, IsDecimal, IsDecimalSum, IsDecimalDifference, decimal_sum, abcd_of, sbcd_of, decimal_difference, borrows, modulo_256}
 use Rattle.mb_fields.proofs.Borrows.{extend_low, difference_is, borrows_is}

@@ -13,7 +13,8 @@ use Rattle.mb_instr.specs.Shapes.{op, further, is_quick}
 use Rattle.mb_instr.specs.Rows.{row}
 use Rattle.mb_instr.specs.Codes.{AreWords, Codes}
 use Rattle.mb_instr.proofs.Words.{AreWords-nil, AreWords-cons, AreWords-append}
-use Rattle.mb_gen.specs.Instructions.{Spelled, count_of, place_of, moveq, add, sub, eor, mulu, lsr, store, load, picked, enter, send, count_down, repeat, switch_off}
+use Rattle.mb_decode.specs.RowReading.{quick_value}
+use Rattle.mb_gen.specs.Instructions.{Spelled, place_of, moveq, add, sub, eor, mulu, lsr, store, load, picked, enter, send, count_down, repeat, switch_off}
 use Rattle.mb_gen.proofs.Picked.{picked_is}
 
 -- the words spell the instruction
@@ -99,7 +100,7 @@ counted e false is le =
     record { some = some; few = omega arith; same = omega arith }
 
 lsr-spelled : (d e : ℕ) → d < 8 → e < 8 → IsSpelled (lsr d e)
-lsr-spelled d e ld le = let count = counted e (e == 0) refl le in lsr_by d e (count_of e) ld le count.some count.few count.same
+lsr-spelled d e ld le = let count = counted e (e == 0) refl le in lsr_by d e (quick_value e) ld le count.some count.few count.same
 
 pub picked-spelled : (draw : ℕ) → draw < 2 ^ 32 → IsSpelled (picked draw)
 picked-spelled draw lt =

@@ -10,6 +10,7 @@ use Rattle.mb_instr.specs.declared.instruction.Instr.TheVariants.{Move, Arith, F
 use Rattle.mb_instr.specs.declared.instruction.Move.TheVariants as move
 use Rattle.mb_instr.specs.declared.instruction.Arith.TheVariants as arith
 use Rattle.mb_instr.specs.declared.instruction.Flow.TheVariants as flow
+use Rattle.mb_decode.specs.RowReading.{quick_value}
 
 -- An instruction beside its words.
 pub record Spelled : Type 0 where
@@ -20,10 +21,6 @@ abbrev pub spelled : Instr → List ℕ → Spelled
 spelled instruction words = record { instruction = instruction; words = words }
 
 -- ---- what a draw picks
-
--- a count of 0 stands for 8
-abbrev pub count_of : ℕ → ℕ
-count_of field = if field == 0 then 8 else field
 
 -- a word with bits 15, 1 and 0 clear
 abbrev pub place_of : ℕ → ℕ
@@ -51,7 +48,7 @@ mulu d e = spelled (Arith (arith.MulW d false (Dn e))) ((0xC0C0 + 512 * d + e) �
 
 -- LSR.L #e,Dd
 abbrev pub lsr : ℕ → ℕ → Spelled
-lsr d e = spelled (Arith (arith.ShiftReg (count_of e) false Long false Logical d)) ((0xE088 + 512 * e + d) ∷ [])
+lsr d e = spelled (Arith (arith.ShiftReg (quick_value e) false Long false Logical d)) ((0xE088 + 512 * e + d) ∷ [])
 
 -- MOVE.L Dd,(k,A5)
 abbrev pub store : ℕ → ℕ → Spelled

@@ -1,4 +1,4 @@
--- Sizes of operands, and the fields that say them.
+-- Sizes of operands, the fields that say them, and single bits.
 use Rattle.std.specs.Prelude.{ℕ, ◌+◌, ◌-◌, ◌/◌, ◌%◌, ◌^◌, Bool, true, false, ◌==◌, nat_lt}
 use Rattle.std.specs.Prelude.{Option, Some, None, if◌then◌else◌}
 use Rattle.mb_instr.specs.declared.size.Size.{Size}
@@ -68,3 +68,7 @@ abbrev pub not_byte : Size → Bool
 not_byte Byte = false
 not_byte Word = true
 not_byte Long = true
+
+-- bit `place` of a number is 1
+abbrev pub is_set : ℕ → ℕ → Bool
+is_set n place = n / 2 ^ place % 2 == 1

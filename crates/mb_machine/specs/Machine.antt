@@ -2,13 +2,12 @@
 use Rattle.std.specs.Prelude.{ℕ, zero, suc, ◌+◌, ◌==◌, ◌&&◌, ◌||◌, Bool, true, false, if◌then◌else◌, List, [], ◌∷◌, replicate}
 use Rattle.std.specs.Int.{from_bool}
 use Rattle.mb_port.specs.Routine.{run}
-use Rattle.mb_port.specs.declared.types.Mmu.{Mmu}
 use Rattle.mb_model.specs.declared.processor.Cpu.{Cpu}
 use Rattle.mb_model.specs.declared.status.TheConstants.{NON_MASKABLE}
 use Rattle.mb_model.specs.declared.outcome.RunState.{RunState}
 use Rattle.mb_model.specs.declared.outcome.RunState.TheVariants.{Running, Stopped, Halted, Off}
 use Rattle.mb_model.specs.Keeping.{Rule, nothing_kept}
-use Rattle.mb_model.specs.Reset.{at_reset}
+use Rattle.mb_model.specs.Reset.{at_reset, mmu_at_reset}
 use Rattle.mb_model.specs.Seen.{Seen}
 use Rattle.mb_processor.specs.declared.Finish.{Finish}
 use Rattle.mb_processor.specs.declared.Finish.TheVariants as finish
@@ -40,9 +39,6 @@ Contents = List (ℕ × List ℕ)
 abbrev pub with_contents : List ℕ → Contents → List ℕ
 with_contents ram [] = ram
 with_contents ram ((at, bytes) ∷ chunks) = with_contents (overwritten ram at bytes) chunks
-
-abbrev pub mmu_at_reset : Mmu
-mmu_at_reset = record { tc = 0; itt0 = 0; itt1 = 0; dtt0 = 0; dtt1 = 0; mmusr = 0; urp = 0; srp = 0 }
 
 abbrev pub world_at_reset : Rule → (size : ℕ) → List ℕ → World
 world_at_reset rule size ram = record { ram = ram; mmu = mmu_at_reset; devices = idle size; kept = nothing_kept rule }

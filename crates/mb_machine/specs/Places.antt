@@ -1,6 +1,7 @@
 -- Physical places: RAM from address 0 on, and the registers of the devices.
-use Rattle.std.specs.Prelude.{ℕ, ◌+◌, ◌<◌, ◌≤◌, ◌≡◌, ◌≢◌, Bool, true, false, List, [], ◌∷◌, length, nat_le}
+use Rattle.std.specs.Prelude.{ℕ, ◌+◌, ◌≡◌, Bool, true, false, List, [], ◌∷◌, length, nat_le}
 use Rattle.std.specs.Prelude.{Option, Some, None, if◌then◌else◌}
+use Rattle.mb_port.specs.Pieces.{IsLength}
 use Rattle.mb_port.specs.declared.types.Place.{Place}
 use Rattle.mb_devices.specs.declared.register.Register.{Register}
 use Rattle.mb_devices.specs.Registers.{register_row, register_at}
@@ -85,4 +86,4 @@ stored_line place line w =
 
 -- 1, 2 or 4 bytes that take a write
 abbrev pub HasPlace : ℕ → Place → Type 0
-HasPlace size place = (0 < place.len) × (place.len ≤ 4) × (place.len ≢ 3) × (takes_writes size place ≡ true)
+HasPlace size place = IsLength place.len × (takes_writes size place ≡ true)

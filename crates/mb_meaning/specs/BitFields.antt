@@ -10,7 +10,8 @@ use Rattle.mb_instr.specs.declared.kinds.FieldKind.{FieldKind}
 use Rattle.mb_instr.specs.declared.kinds.FieldKind.TheVariants as field
 use Rattle.mb_instr.specs.declared.registers.Plain.{Plain}
 use Rattle.mb_instr.specs.Registers.{data_register, with_data_register}
-use Rattle.mb_alu.specs.Conditions.{conditions_of, ccr_of, is_set}
+use Rattle.mb_instr.specs.Sizes.{is_set}
+use Rattle.mb_alu.specs.Conditions.{conditions_of, ccr_of}
 use Rattle.mb_fields.specs.Fields.{field_get_of, field_put_of, field_first_of}
 use Rattle.mb_ea.specs.Addresses.{sum}
 use Rattle.mb_ea.specs.Reading.{read_operand_of}

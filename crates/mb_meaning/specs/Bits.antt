@@ -10,9 +10,9 @@ use Rattle.mb_instr.specs.declared.operand.Ea.TheVariants.{Dn}
 use Rattle.mb_instr.specs.declared.kinds.BitKind.{BitKind}
 use Rattle.mb_instr.specs.declared.kinds.BitKind.TheVariants.{Test, Change, Clear, Set}
 use Rattle.mb_instr.specs.declared.registers.Plain.{Plain}
-use Rattle.mb_instr.specs.Sizes.{bits_of}
+use Rattle.mb_instr.specs.Sizes.{bits_of, is_set}
 use Rattle.mb_alu.specs.declared.conditions.Flagged.{Flagged}
-use Rattle.mb_alu.specs.Conditions.{is_set, conditions_of, ccr_of}
+use Rattle.mb_alu.specs.Conditions.{conditions_of, ccr_of}
 use Rattle.mb_meaning.specs.Ends.{Rowed, carried, reading}
 use Rattle.mb_meaning.specs.Operands.{fetch_operand_of}
 use Rattle.mb_meaning.specs.Modifying.{modify_of}

@@ -6,7 +6,8 @@ use Rattle.std.proofs.Math.Nat.{lt_of_not-le}
 use Rattle.std.proofs.lemmas.Nat.{shr-shr, shr_le}
 use Rattle.std.proofs.lemmas.Nat.Bits.{bit_at-trailing_zeros, bit_at-zero, bit_at_above}
 use Rattle.std.proofs.lemmas.Bool.Decides.{nat_tests}
-use Rattle.mb_writes.specs.Transfers.{is_set, set_bits}
+use Rattle.mb_instr.specs.Sizes.{is_set}
+use Rattle.mb_writes.specs.Transfers.{set_bits}
 
 -- ---- bits that are not set are passed
 

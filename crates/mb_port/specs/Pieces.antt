@@ -3,9 +3,20 @@ use Rattle.std.specs.Prelude.{ℕ, zero, suc, ◌+◌, ◌-◌, ◌*◌, ◌/◌
 use Rattle.std.specs.Prelude.{length, ◌&&◌, ◌==◌, nat_le, if◌then◌else◌}
 use Rattle.mb_port.specs.declared.types.Piece.{Piece}
 
+-- 1, 2 or 4 bytes
+abbrev pub IsLength : ℕ → Type 0
+IsLength len = (0 < len) × (len ≤ 4) × (len ≢ 3)
+
 -- 1, 2 or 4 bytes, at a multiple of that
+abbrev pub IsAligned : ℕ → ℕ → Type 0
+IsAligned at len = (0 < len) × (len ≤ 4) × (len ≢ 3) × (2 ≤ len → at % 2 ≡ 0) × (4 ≤ len → at % 4 ≡ 0)
+
 abbrev pub IsPiece : Piece → Type 0
-IsPiece p = (0 < p.len) × (p.len ≤ 4) × (p.len ≢ 3) × (2 ≤ p.len → p.at % 2 ≡ 0) × (4 ≤ p.len → p.at % 4 ≡ 0)
+IsPiece p = IsAligned p.at p.len
+
+-- a piece whose address is one
+abbrev pub IsAddressedPiece : Piece → Type 0
+IsAddressedPiece p = IsPiece p × (p.at < 2 ^ 32)
 
 abbrev pub ArePieces : List Piece → Type 0
 ArePieces [] = Unit {0}

@@ -5,16 +5,16 @@ use Rattle.std.proofs.lemmas.Bool.Decides.{nat_tests}
 use Rattle.std.proofs.lemmas.List.{get_or-take}
 use Rattle.byteorder.specs.Endian.{big_bytes, big_number}
 use Rattle.mb_frames.proofs.Numbers.{bytes-number}
+use Rattle.mb_port.specs.Pieces.{IsAddressedPiece}
 use Rattle.mb_port.specs.Routine.{Put}
 use Rattle.mb_port.specs.declared.types.Piece.{Piece}
 use Rattle.mb_port.specs.declared.types.Place.{Place}
 use Rattle.mb_ea.specs.Addresses.{sum}
-use Rattle.mb_returns.specs.Keeping.{IsAddressed}
 use Rattle.mb_returns.specs.Plain.{Memory, bytes_at, with_number, plain_bus, own_place, own_byte, PlainMemoryKeeps}
 use Rattle.mb_returns.proofs.Numbers.{same_from}
 
 -- no piece goes past the last address
-no_wrap : (p : Piece) (k : ℕ) → IsAddressed p → k < p.len → sum p.at k ≡ p.at + k
+no_wrap : (p : Piece) (k : ℕ) → IsAddressedPiece p → k < p.len → sum p.at k ≡ p.at + k
 no_wrap p k h l =
     let small = h.1 in
     let some = h.0.0 in
@@ -38,7 +38,7 @@ inside m at len value k l =
 within : (at len x : ℕ) → (nat_le at x && nat_lt x (at + len)) ≡ true → (at ≤ x) × (x < at + len)
 within at len x h = grind (arith, nat_tests)
 
-outside : (m : Memory) (p : Piece) (value x : ℕ) → IsAddressed p → ((k : ℕ) → k < p.len → x ≢ sum p.at k) → with_number m p.at p.len value x ≡ m x
+outside : (m : Memory) (p : Piece) (value x : ℕ) → IsAddressedPiece p → ((k : ℕ) → k < p.len → x ≢ sum p.at k) → with_number m p.at p.len value x ≡ m x
 outside m p value x lawful far = elim (cases_Bool (nat_le p.at x && nat_lt x (p.at + p.len))) [
   | inl h ↦
       let in_it = within p.at p.len x h in

@@ -4,7 +4,7 @@ use Rattle.std.proofs.lemmas.Bool.{cases_lt}
 use Rattle.std.proofs.lemmas.List.{get_or-drop}
 use Rattle.byteorder.specs.Endian.{big_number}
 use Rattle.mb_port.specs.Routine.{Bus, Probe, Put, run, tried, read}
-use Rattle.mb_port.specs.Pieces.{piece_len, cut}
+use Rattle.mb_port.specs.Pieces.{IsAddressedPiece, piece_len, cut}
 use Rattle.mb_port.specs.declared.types.Space.TheVariants.{Super}
 use Rattle.mb_port.specs.declared.types.Piece.{Piece}
 use Rattle.mb_port.specs.declared.types.Place.{Place}
@@ -14,7 +14,7 @@ use Rattle.mb_ea.specs.Addresses.{sum}
 use Rattle.mb_ea.specs.Reading.{read_pieces_of, read_operand_of}
 use Rattle.mb_writes.specs.Checked.{probe_pieces_of}
 use Rattle.mb_processor.specs.Entry.{put_bytes_of}
-use Rattle.mb_returns.specs.Keeping.{Placing, Viewing, IsAddressed, Shows, IsKept, Keeps}
+use Rattle.mb_returns.specs.Keeping.{Placing, Viewing, Shows, IsKept, Keeps}
 use Rattle.mb_returns.proofs.Readings.{kept_still, piece_fits}
 
 -- each piece is at its place
@@ -26,7 +26,7 @@ AreAt place (p ∷ ps) (q ∷ qs) = (place p ≡ Some q) × AreAt place ps qs
 
 abbrev pub AreAddressed : List Piece → Type 0
 AreAddressed [] = Unit {0}
-AreAddressed (p ∷ ps) = IsAddressed p × AreAddressed ps
+AreAddressed (p ∷ ps) = IsAddressedPiece p × AreAddressed ps
 
 pub cut_addressed : (n at left : ℕ) → at < 2 ^ 32 → AreAddressed (cut n at left)
 cut_addressed zero at left small = tt
@@ -60,7 +60,7 @@ pub record ArePut {S : Type 0} (place : Placing S) (view : Viewing S) (s t : S) 
 
 module _ (S : Type 0) (bus : Bus S) (place : Placing S) (view : Viewing S) (keeps : Keeps bus place view) where
   after_probe : (p : Piece) (ps : List Piece) (so_far all : List Place) (s : S) (r : Result Place Fault)
-      → (bus (Probe Super p) s).0 ≡ r → IsAddressed p
+      → (bus (Probe Super p) s).0 ≡ r → IsAddressedPiece p
       → ((more : List Place) (t : S) → (run bus (probe_pieces_of Super ps more) t).0 ≡ Ok all
       → AreFound place view t (run bus (probe_pieces_of Super ps more) t).1 ps more all)
       → (run bus (tried r (λ place. probe_pieces_of Super ps (so_far ++ place ∷ []))) (bus (Probe Super p) s).1).0 ≡ Ok all
@@ -109,7 +109,7 @@ module _ (S : Type 0) (bus : Bus S) (place : Placing S) (view : Viewing S) (keep
   nothing_put s at bytes = record { shown = λ k l. absurd (omega arith); stands = λ p q h. h; others = λ x byte far h. h }
 
   -- a piece, and the bytes behind it
-  joined : (s t u : S) (p : Piece) (q : Place) (n : ℕ) (bytes : List ℕ) → IsAddressed p → place s p ≡ Some q
+  joined : (s t u : S) (p : Piece) (q : Place) (n : ℕ) (bytes : List ℕ) → IsAddressedPiece p → place s p ≡ Some q
       → ((k : ℕ) → slice_index bytes k < 2 ^ 8) → p.len ≤ n → n ≤ length bytes → n ≤ 2 ^ 32
       → t ≡ (bus (Put q (big_number p.len bytes)) s).1
       → ArePut place view t u (sum p.at p.len) (n - p.len) (drop p.len bytes)
@@ -146,7 +146,7 @@ module _ (S : Type 0) (bus : Bus S) (place : Placing S) (view : Viewing S) (keep
       let len = piece_len at (suc left) in
       let p : Piece = record { at = at; len = len } in
       let fits = piece_fits at (suc left) (omega arith) in
-      let lawful : IsAddressed p = ((cut_are (suc n) at (suc left)).0, small) in
+      let lawful : IsAddressedPiece p = ((cut_are (suc n) at (suc left)).0, small) in
       let same : q.len ≡ len = keeps.whole s p q h.0 in
       let then_state : ℕ → S = λ m. (run bus (put_bytes_of qs (drop m bytes)) (bus (Put q (big_number m bytes)) s).1).1 in
       let t = (bus (Put q (big_number len bytes)) s).1 in

@@ -3,14 +3,14 @@ use Rattle.std.proofs.Common.{◌≡◌, ℕ, ◌+◌, ◌-◌, ◌*◌, ◌%◌
 use Rattle.std.proofs.lemmas.List.{get_or-drop}
 use Rattle.byteorder.specs.Endian.{big_number}
 use Rattle.mb_port.specs.Routine.{Bus, Routine, Return, Then, run, tried, read}
-use Rattle.mb_port.specs.Pieces.{IsGreedy, piece_len, cut}
+use Rattle.mb_port.specs.Pieces.{IsAddressedPiece, IsGreedy, piece_len, cut}
 use Rattle.mb_port.specs.declared.types.Space.TheVariants.{Super}
 use Rattle.mb_port.specs.declared.types.Piece.{Piece}
 use Rattle.mb_port.specs.declared.types.Fault.{Fault}
 use Rattle.mb_port.proofs.Cuts.{cut_greedy, none_left}
 use Rattle.mb_ea.specs.Addresses.{sum}
 use Rattle.mb_ea.specs.Reading.{read_pieces_of, read_operand_of}
-use Rattle.mb_returns.specs.Keeping.{Placing, Viewing, IsAddressed, Shows, IsKept, Keeps}
+use Rattle.mb_returns.specs.Keeping.{Placing, Viewing, Shows, IsKept, Keeps}
 use Rattle.mb_returns.proofs.Numbers.{behind}
 
 -- a routine that answers so, and keeps what is seen
@@ -52,7 +52,7 @@ piece_fits at left h = grind arith
 
 module _ (S : Type 0) (bus : Bus S) (place : Placing S) (view : Viewing S) (keeps : Keeps bus place view) where
   -- one piece
-  reads_piece : (s : S) (p : Piece) (bytes : List ℕ) → IsAddressed p → Shows (view s) p.at p.len bytes
+  reads_piece : (s : S) (p : Piece) (bytes : List ℕ) → IsAddressedPiece p → Shows (view s) p.at p.len bytes
       → Gives bus place view (read Super p) s (Ok (big_number p.len bytes))
   reads_piece s p bytes lawful h = record { answers = keeps.read s p bytes lawful h; keeps = keeps.read_keeps s p lawful }
 

@@ -2,7 +2,7 @@
 use Rattle.std.specs.Prelude.{ℕ, zero, suc, ◌+◌, ◌-◌, ◌&&◌, nat_le, nat_lt, if◌then◌else◌, List, [], ◌∷◌, slice_index, Some, Ok}
 use Rattle.byteorder.specs.Endian.{big_bytes, big_number}
 use Rattle.mb_port.specs.Routine.{Bus, Fetch, Read, Write, ReadLine, WriteLine, Probe, Get, Put, ReadMmu, SetMmu, FlushKept, Test, ResetDevices}
-use Rattle.mb_port.specs.declared.types.Mmu.{Mmu}
+use Rattle.mb_model.specs.Reset.{mmu_at_reset}
 use Rattle.mb_returns.specs.Keeping.{Placing, Viewing, Keeps}
 
 -- the byte at each address
@@ -21,10 +21,6 @@ abbrev pub with_number : Memory → (at len value : ℕ) → Memory
 with_number m at len value x =
     if nat_le at x && nat_lt x (at + len) then slice_index (big_bytes len value) (x - at) else m x
 
--- no translation
-abbrev pub no_mmu : Mmu
-no_mmu = record { tc = 0; itt0 = 0; itt1 = 0; dtt0 = 0; dtt1 = 0; mmusr = 0; urp = 0; srp = 0 }
-
 abbrev pub plain_bus : Bus Memory
 plain_bus (Fetch space at) m = (Ok (number_at m at 2), m)
 plain_bus (Read space p) m = (Ok (number_at m p.at p.len), m)
@@ -37,7 +33,7 @@ plain_bus (WriteLine space at line) m =
 plain_bus (Probe space p) m = (Ok (record { at = p.at; len = p.len }), m)
 plain_bus (Get q) m = (number_at m q.at q.len, m)
 plain_bus (Put q value) m = (tt, with_number m q.at q.len value)
-plain_bus ReadMmu m = (no_mmu, m)
+plain_bus ReadMmu m = (mmu_at_reset, m)
 plain_bus (SetMmu which value) m = (tt, m)
 plain_bus (FlushKept what) m = (tt, m)
 plain_bus (Test space at write) m = (0, m)

@@ -15,7 +15,7 @@ use Rattle.mb_script.specs.Faults.{Fault}
 use Rattle.mb_lines.specs.Results.{◌>>=◌}
 use Rattle.mb_script.specs.Script.{Entries}
 use Rattle.mb_script.specs.Lines.{read_by, statements_of}
-use Rattle.mb_script.specs.Words.{cut_at_space, is_word, number_of, tested}
+use Rattle.mb_script.specs.Words.{cut_at_space, is_word, positive_of, tested}
 
 -- How a line writes what arrives: bytes in three forms, or the abort key.
 pub data Written : Type 0 where
@@ -53,10 +53,6 @@ behind_at (first, words) = if bytes_eq first (codes "at") then option_and_then w
 abbrev pub parts_of : List ℕ → Option Parts
 parts_of line = option_and_then behind_at (cut_at_space line)
 
--- 1 to 4,294,967,295
-abbrev pub step_of : List ℕ → Option ℕ
-step_of word = option_and_then (tested (nat_le 1)) (number_of word)
-
 abbrev pub is_printable : ℕ → Bool
 is_printable character = nat_le 32 character && nat_le character 126
 
@@ -83,7 +79,7 @@ pub record Arrival : Type 0 where
 abbrev pub arrival_of : List ℕ → Result Arrival LineWhy
 arrival_of line = do
   parts ← ok_or (parts_of line) why.Word
-  step ← ok_or (step_of parts.step) why.Number
+  step ← ok_or (positive_of parts.step) why.Number
   inputs ← ok_or (inputs_of parts.written) why.Digits
   Ok (record { step = step; inputs = inputs })
 

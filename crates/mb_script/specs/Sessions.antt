@@ -12,7 +12,7 @@ use Rattle.mb_lines.specs.Lines.{lines_in, Line}
 use Rattle.mb_lines.specs.Results.{◌>>=◌}
 use Rattle.mb_script.specs.Lines.{read_by, statements_of}
 use Rattle.mb_script.specs.Plan.{Guest, Plan, is_ram, is_board}
-use Rattle.mb_script.specs.Words.{number_of, tested}
+use Rattle.mb_script.specs.Words.{number_of, positive_of, tested}
 use Rattle.mb_script.specs.declared.sizes.TheConstants.{MOST_GUESTS}
 
 -- space or tab
@@ -40,9 +40,6 @@ version_of word = option_and_then (tested (λ n. nat_le 1 n && nat_le n 2)) (num
 
 abbrev pub board_of : List ℕ → Option ℕ
 board_of word = option_and_then (tested is_board) (number_of word)
-
-abbrev pub slice_of : List ℕ → Option ℕ
-slice_of word = option_and_then (tested (nat_le 1)) (number_of word)
 
 abbrev pub ram_of : List ℕ → Option ℕ
 ram_of word = option_and_then (tested is_ram) (number_of word)
@@ -93,7 +90,7 @@ board_line line = argument_in (codes "board") line >>= λ word. ok_or (board_of 
 
 -- `slice N`
 abbrev pub slice_line : List ℕ → Result ℕ LineWhy
-slice_line line = argument_in (codes "slice") line >>= λ word. ok_or (slice_of word) why.Number
+slice_line line = argument_in (codes "slice") line >>= λ word. ok_or (positive_of word) why.Number
 
 -- there are at most sixteen guests
 abbrev pub unless_sixteen : ℕ → Guest → Result Guest LineWhy

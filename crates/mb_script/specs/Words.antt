@@ -23,6 +23,10 @@ decimal_of (digit ∷ digits) = digits_after 0 (digit ∷ digits)
 abbrev pub number_of : List ℕ → Option ℕ
 number_of word = option_and_then (tested (λ n. nat_le n 4294967295)) (decimal_of word)
 
+-- one of these that is not 0
+abbrev pub positive_of : List ℕ → Option ℕ
+positive_of word = option_and_then (tested (nat_le 1)) (number_of word)
+
 abbrev pub is_space : ℕ → Bool
 is_space character = character == 32
 

@@ -1,7 +1,7 @@
 //! Decimal numbers.
 
-ghost use Rattle.std.specs.Prelude.{◌≡◌};
-ghost use Rattle.mb_script.specs.Words.{number_of};
+ghost use Rattle.std.specs.Prelude.{◌≡◌, ◌≤◌, IfSome};
+ghost use Rattle.mb_script.specs.Words.{number_of, positive_of};
 
 /// Decimal digits, at least one, that spell at most 4,294,967,295.
 #[tactic(auto, using(crate::proofs::Numbers::all_read))]
@@ -21,6 +21,18 @@ pub(crate) fn number_of(word: &[u8]) -> Option<u32>
             return None;
         }
         number = next as u32;
+    }
+    Some(number)
+}
+
+/// Decimal digits that spell 1 to 4,294,967,295.
+pub(crate) fn positive_of(word: &[u8]) -> Option<u32>
+    ensures given { result ≡ positive_of word.now }
+    ensures from_one { IfSome result (λ number. 1 ≤ number) }
+{
+    let number = number_of(word)?;
+    if number == 0 {
+        return None;
     }
     Some(number)
 }

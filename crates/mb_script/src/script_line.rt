@@ -7,12 +7,12 @@ ghost use Rattle.std.specs.Result.{result_ok};
 ghost use Rattle.hex.specs.Hex.{decode_of};
 ghost use Rattle.mb_script.specs.declared.fault.LineWhy.TheVariants as why;
 ghost use Rattle.mb_script.specs.Words.{cut_at_space, is_space, is_word};
-ghost use Rattle.mb_script.specs.Scripts.{arrival_of, inputs_of, is_printable, parts_of, printable, step_of, written_as};
+ghost use Rattle.mb_script.specs.Scripts.{arrival_of, inputs_of, is_printable, parts_of, printable, written_as};
 ghost use Rattle.mb_script.specs.Answers.{GivesAlone, arrival_said, cut_said, due_said, parts_said, written_len, written_said};
 
 use crate::arrival::{Arrival, Due};
 use crate::fault::{LineWhy, Refusal};
-use crate::number::number_of;
+use crate::number::positive_of;
 use hex::FromHexError;
 use std::alloc::Global;
 
@@ -44,7 +44,7 @@ pub(crate) fn arrival_of(alloc: Global, line: &[u8]) -> Result<Arrival, Refusal>
     let Some(parts) = parts_of(line) else {
         return Err(Refusal::Why(LineWhy::Word));
     };
-    let Some(step) = step_of(parts.step) else {
+    let Some(step) = positive_of(parts.step) else {
         return Err(Refusal::Why(LineWhy::Number));
     };
     let due = due_of(alloc, parts.written)?;
@@ -115,18 +115,6 @@ fn written_as(words: &[u8]) -> Option<Written<'_>>
     } else {
         None
     }
-}
-
-/// 1 to 4,294,967,295.
-fn step_of(word: &[u8]) -> Option<u32>
-    ensures given { result ≡ step_of word.now }
-    ensures from_one { IfSome result (λ step. 1 ≤ step) }
-{
-    let step = number_of(word)?;
-    if step == 0 {
-        return None;
-    }
-    Some(step)
 }
 
 /// What the line lets arrive.

@@ -2,12 +2,12 @@
 
 ghost use Rattle.std.specs.Prelude.{◌≡◌, ◌≢◌, ◌≤◌, IfOk, IfSome, IsTrue, OnOk, map, option_map, string_bytes, take};
 ghost use Rattle.mb_script.specs.Plan.{IsBoard, IsRam, IsTurnOf};
-ghost use Rattle.mb_script.specs.Sessions.{argument_in, argument_of, board_line, board_of, fields_of, guest_line, guest_of, is_blank, is_graphic, is_name, ram_of, script_named, session_line, slice_line, slice_of, version_of, words_of};
+ghost use Rattle.mb_script.specs.Sessions.{argument_in, argument_of, board_line, board_of, fields_of, guest_line, guest_of, is_blank, is_graphic, is_name, ram_of, script_named, session_line, slice_line, version_of, words_of};
 ghost use Rattle.mb_script.specs.Sessions.{begins_turn, ends_guests, guest_number_of, turn_line, turn_of, turn_words_of};
 ghost use Rattle.mb_script.specs.Answers.{GivesAlone, bytes_said, cut_said, fields_said, guest_said};
 
 use crate::fault::{LineWhy, Refusal};
-use crate::number::number_of;
+use crate::number::{number_of, positive_of};
 use crate::plan::GuestPlan;
 use crate::sizes::{LEAST_BOARD, LEAST_RAM, MOST_BOARD, MOST_GUESTS, MOST_RAM, SIZE_UNIT};
 use crate::turn::Turn;
@@ -48,7 +48,7 @@ pub(crate) fn slice(alloc: Global, line: &[u8]) -> Result<u32, Refusal>
     ensures in_range { IfOk result (λ steps. 1 ≤ steps) }
 {
     let word = argument(alloc, b"slice", line)?;
-    slice_of(word).ok_or(Refusal::Why(LineWhy::Number))
+    positive_of(word).ok_or(Refusal::Why(LineWhy::Number))
 }
 
 /// The guest in a line, behind so many others.
@@ -148,18 +148,6 @@ fn board_of(word: &[u8]) -> Option<u32>
         return None;
     }
     Some(kib)
-}
-
-/// The steps of a turn.
-fn slice_of(word: &[u8]) -> Option<u32>
-    ensures given { result ≡ slice_of word.now }
-    ensures in_range { IfSome result (λ steps. 1 ≤ steps) }
-{
-    let steps = number_of(word)?;
-    if steps == 0 {
-        return None;
-    }
-    Some(steps)
 }
 
 /// The size of a guest's RAM in KiB.

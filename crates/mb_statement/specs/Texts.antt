@@ -1,6 +1,7 @@
 -- The text of a statement.
 use Rattle.std.specs.Prelude.{ℕ, zero, suc, ◌+◌, ◌-◌, ◌/◌, ◌%◌, ◌^◌, ◌==◌, ◌++◌, ℤ, Bool, true, false, not, ◌&&◌, ◌||◌}
 use Rattle.std.specs.Prelude.{nat_lt, if◌then◌else◌, List, [], ◌∷◌, Option, Some, None, codes, is_some}
+use Rattle.mb_instr.specs.Sizes.{is_set}
 use Rattle.mb_instr.specs.declared.kinds.Caches.{Caches}
 use Rattle.mb_instr.specs.declared.kinds.Caches.TheVariants as caches
 use Rattle.mb_syntax.specs.declared.statement.SizeLetter.{SizeLetter}
@@ -180,7 +181,7 @@ field_text f = codes "{" ++ field_number_text f.offset ++ codes ":" ++ field_num
 
 -- register n stands in a list
 abbrev pub has : ℕ → ℕ → Bool
-has mask n = mask / 2 ^ n % 2 == 1
+has mask n = is_set mask n
 
 -- the first and the last register of a run, in which data and address registers stand apart
 abbrev pub begins : ℕ → ℕ → Bool

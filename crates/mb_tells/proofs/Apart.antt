@@ -5,12 +5,12 @@ use Rattle.std.proofs.Math.Nat.{mod-lt}
 use Rattle.std.proofs.lemmas.Nat.{pow_pos}
 use Rattle.std.proofs.lemmas.Bool.{cases_lt}
 use Rattle.mb_port.specs.declared.types.Piece.{Piece}
-use Rattle.mb_port.specs.Pieces.{piece_len, cut, split_of, ArePieces}
+use Rattle.mb_port.specs.Pieces.{IsAddressedPiece, piece_len, cut, split_of, ArePieces}
 use Rattle.mb_port.proofs.Cuts.{cut_are}
 use Rattle.mb_frames.specs.declared.pend.Pend.{Pend}
 use Rattle.mb_frames.specs.AccessFields.{piece_of}
 use Rattle.mb_writes.specs.Writing.{part_of, parts_of, pending_of}
-use Rattle.mb_tells.specs.Guarded.{Apart, IsPlaced}
+use Rattle.mb_tells.specs.Guarded.{Apart}
 use Rattle.mb_tells.specs.Left.{AreOwn}
 
 -- a piece is apart from each of these
@@ -57,7 +57,7 @@ parts_spread (suc n) at (suc left) before_end value few =
 
 abbrev pub ArePlaced : List Piece → Type 0
 ArePlaced [] = Unit {0}
-ArePlaced (p ∷ ps) = IsPlaced p × ArePlaced ps
+ArePlaced (p ∷ ps) = IsAddressedPiece p × ArePlaced ps
 
 cut_placed : (n at left : ℕ) → at < 2 ^ 32 → ArePieces (cut n at left) → ArePlaced (cut n at left)
 cut_placed zero at left h are = tt

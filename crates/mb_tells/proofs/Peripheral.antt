@@ -1,6 +1,7 @@
 -- MOVEP.
 use Rattle.std.specs.Prelude.{◌≡◌, refl, false, ℕ, zero, suc, ◌+◌, ◌%◌, ◌^◌, ◌<◌, ◌≤◌, ◌⊎◌, Bool, Result, Ok, [], length}
 use Rattle.std.proofs.Common.{ap, arith, inl, inr, subst, sym, ◌∙◌}
+use Rattle.mb_port.specs.Pieces.{IsAddressedPiece}
 use Rattle.mb_port.specs.Routine.{Write, Routine, Return, ◌>>=◌, ◌>>◌, failing, write}
 use Rattle.mb_port.specs.declared.types.Space.{Space}
 use Rattle.mb_port.specs.declared.types.Piece.{Piece}
@@ -21,7 +22,7 @@ use Rattle.mb_writes.specs.declared.transfers.Movem.{Movem}
 use Rattle.mb_writes.specs.Writing.{part_of, parts_of, left_by, write_pieces_of, apart, write_apart_of}
 use Rattle.mb_meaning.specs.Ends.{Carried, Stop, restored, restoring, carried, writing}
 use Rattle.mb_meaning.specs.Peripheral.{read_apart_of, load_peripheral_of, store_peripheral_of, movep_of}
-use Rattle.mb_tells.specs.Guarded.{Guarded, Guards, IsPlaced, quiet}
+use Rattle.mb_tells.specs.Guarded.{Guarded, Guards, quiet}
 use Rattle.mb_tells.specs.Left.{Answered, IsRest, SameCalls, WriteLeft, Telling}
 use Rattle.mb_tells.proofs.Resumed.{goes_to_end}
 use Rattle.mb_tells.proofs.Apart.{ArePlaced, parts_own, parts_as_many}
@@ -30,7 +31,7 @@ use Rattle.mb_tells.proofs.Parts.{RowTells, Reads, row_reading}
 use Rattle.mb_tells.proofs.Pieces.{pieces_tell}
 use Rattle.mb_tells.proofs.Operands.{storing_tells, list_tells}
 
-byte_placed : (at : ℕ) → at < 2 ^ 32 → IsPlaced (record { at = at; len = 1 })
+byte_placed : (at : ℕ) → at < 2 ^ 32 → IsAddressedPiece (record { at = at; len = 1 })
 byte_placed at h = (grind arith, h)
 
 apart_placed : (at n : ℕ) → at < 2 ^ 32 → ArePlaced (apart at n)

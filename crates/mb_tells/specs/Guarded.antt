@@ -3,7 +3,7 @@ use Rattle.std.specs.Prelude.{◌≡◌, ◌⊎◌, ℕ, ◌+◌, ◌%◌, ◌^�
 use Rattle.mb_port.specs.Routine.{Call, Answer, Fetch, Read, Write, ReadLine, WriteLine, Probe, Get, Put, ReadMmu}
 use Rattle.mb_port.specs.Routine.{answer_in, state_in}
 use Rattle.mb_port.specs.Routine.{SetMmu, FlushKept, Test, ResetDevices, Bus}
-use Rattle.mb_port.specs.Pieces.{IsPiece}
+use Rattle.mb_port.specs.Pieces.{IsAddressedPiece}
 use Rattle.mb_port.specs.declared.types.Space.{Space}
 use Rattle.mb_port.specs.declared.types.Piece.{Piece}
 use Rattle.mb_port.specs.declared.types.Fault.{Fault}
@@ -57,10 +57,6 @@ Goes x c s = x.serving s × x.lawful c s × (x.allowed c s ≡ true)
 abbrev pub IsRefused : {S : Type 0} → Guarded S → Call → S → Type 0
 IsRefused x c s = x.serving s × x.lawful c s × (x.allowed c s ≡ false)
 
--- a piece of an operand in memory
-abbrev pub IsPlaced : Piece → Type 0
-IsPlaced piece = IsPiece piece × (piece.at < 2 ^ 32)
-
 -- the first address of a line of memory
 abbrev pub IsLine : ℕ → Type 0
 IsLine at = (at % 16 ≡ 0) × (at < 2 ^ 32)
@@ -72,13 +68,13 @@ pub record Guards {S : Type 0} (x : Guarded S) (space : Space) : Type 0 where
   -- each lawful call keeps the invariant, a refused one too, and a probed place is lawful
   pub opens : OpensProbed x.serving x.lawful x.bus
   pub fetches : (at : ℕ) (s : S) → x.serving s → at % 2 ≡ 0 → at < 2 ^ 32 → x.lawful (Fetch space at) s
-  pub reads : (piece : Piece) (s : S) → x.serving s → IsPlaced piece → x.lawful (Read space piece) s
-  pub writes : (piece : Piece) (value : ℕ) (s : S) → x.serving s → IsPlaced piece
+  pub reads : (piece : Piece) (s : S) → x.serving s → IsAddressedPiece piece → x.lawful (Read space piece) s
+  pub writes : (piece : Piece) (value : ℕ) (s : S) → x.serving s → IsAddressedPiece piece
       → x.lawful (Write space piece value) s
   pub reads_lines : (at : ℕ) (s : S) → x.serving s → IsLine at → x.lawful (ReadLine space at) s
   pub writes_lines : (at : ℕ) (line : List ℕ) (s : S) → x.serving s → IsLine at → length line ≡ 4
       → x.lawful (WriteLine space at line) s
-  pub probes : (piece : Piece) (s : S) → x.serving s → IsPlaced piece → x.lawful (Probe space piece) s
+  pub probes : (piece : Piece) (s : S) → x.serving s → IsAddressedPiece piece → x.lawful (Probe space piece) s
   -- what is fetched is a word, and a line is four longs
   pub words : (at word : ℕ) (s : S) → Goes x (Fetch space at) s → answer_in (x.bus (Fetch space at) s) ≡ Ok word
       → word < 2 ^ 16

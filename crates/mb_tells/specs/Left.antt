@@ -2,7 +2,7 @@
 use Rattle.std.specs.Prelude.{◌≡◌, ◌⊎◌, ℕ, ◌<◌, ◌≤◌, Some, false, Result, Ok, List, [], ◌∷◌, length}
 use Rattle.mb_port.specs.Routine.{Call, Answer, Routine, Return, ◌>>=◌, ◌>>◌, failing, write_line}
 use Rattle.mb_port.specs.Routine.{answer_in}
-use Rattle.mb_port.specs.Pieces.{span_of}
+use Rattle.mb_port.specs.Pieces.{IsAddressedPiece, span_of}
 use Rattle.mb_port.specs.declared.types.Space.{Space}
 use Rattle.mb_port.specs.declared.types.Fault.{Fault}
 use Rattle.mb_laws.specs.Until.{first_call}
@@ -19,7 +19,7 @@ use Rattle.mb_writes.specs.declared.ends.MovemFault.{MovemFault}
 use Rattle.mb_writes.specs.Writing.{write_pieces_of}
 use Rattle.mb_writes.specs.Moving.{Halfway, transfer_of}
 use Rattle.mb_meaning.specs.Ends.{Carried, OtherEnd, Performed}
-use Rattle.mb_tells.specs.Guarded.{Guarded, IsPlaced, quiet}
+use Rattle.mb_tells.specs.Guarded.{Guarded, quiet}
 
 -- The routines make the same calls, whatever is answered, and end alike: they do the same over every bus.
 abbrev pub SameCalls : {A : Type 0} → Routine A → Routine A → Type 0
@@ -64,7 +64,7 @@ Again x before t after = x.unwritten t × (after ≡ before)
 
 -- a piece of memory to be written, with a value that has no byte above it
 pub record IsOwn (p : Pend) : Type 0 where
-  pub placed : IsPlaced (piece_of p)
+  pub placed : IsAddressedPiece (piece_of p)
   pub value : p.value < span_of (piece_of p)
 
 abbrev pub AreOwn : List Pend → Type 0

@@ -1,8 +1,7 @@
 -- Memory as a list of bytes, and big-endian numbers in it.
-use Rattle.std.specs.Prelude.{ℕ, ◌+◌, ◌%◌, ◌^◌, ◌<◌, ◌≤◌, ◌≡◌, ◌≢◌, List, ◌++◌, length, take, drop}
+use Rattle.std.specs.Prelude.{ℕ, ◌+◌, ◌^◌, ◌<◌, List, ◌++◌, length, take, drop}
 use Rattle.std.specs.List.{All}
 use Rattle.byteorder.specs.Endian.{big_number, big_bytes}
-use Rattle.mb_port.specs.declared.types.Place.{Place}
 
 -- the number that so many bytes spell from a place on, the highest byte first
 abbrev pub number_at : List ℕ → ℕ → ℕ → ℕ
@@ -23,7 +22,3 @@ AreBytes ram = All (λ byte. byte < 2 ^ 8) ram
 -- so many bytes of memory from a place on
 abbrev pub part : List ℕ → ℕ → ℕ → List ℕ
 part ram base size = take size (drop base ram)
-
--- 1, 2 or 4 bytes, at a multiple of that
-abbrev pub IsAligned : Place → Type 0
-IsAligned p = (0 < p.len) × (p.len ≤ 4) × (p.len ≢ 3) × (2 ≤ p.len → p.at % 2 ≡ 0) × (4 ≤ p.len → p.at % 4 ≡ 0)

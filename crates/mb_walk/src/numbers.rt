@@ -1,8 +1,9 @@
 //! Big-endian numbers of 1, 2 or 4 bytes: in a slice of bytes, and in memory that is read and written by longs.
 
-ghost use Rattle.std.specs.Prelude.{◌≡◌, ◌+◌, ◌*◌, ◌/◌, ◌<◌, ◌≤◌, ◌≢◌, ◌^◌, length};
+ghost use Rattle.std.specs.Prelude.{◌≡◌, ◌+◌, ◌*◌, ◌/◌, ◌<◌, ◌≤◌, ◌^◌, length};
 ghost use Rattle.byteorder.specs.Endian.{big_bytes};
-ghost use Rattle.mb_walk.specs.Memory.{number_at, overwritten, with_number, IsAligned};
+ghost use Rattle.mb_port.specs.Pieces.{IsAligned, IsLength};
+ghost use Rattle.mb_walk.specs.Memory.{number_at, overwritten, with_number};
 
 use crate::ram::Ram;
 use byteorder::{BigEndian, ByteOrder};
@@ -11,7 +12,7 @@ use mb_port::Place;
 /// The number of 1, 2 or 4 bytes that stands at a place.
 #[inline(always)]
 pub fn number_at(bytes: &[u8], at: usize, len: u8) -> u32
-    requires size { (0 < len) × (len ≤ 4) × (len ≢ 3) }
+    requires size { IsLength len }
     requires inside { at + len ≤ length bytes.now }
     ensures value { result ≡ number_at bytes.now at len }
     ensures range { result < 256 ^ len }
@@ -27,7 +28,7 @@ pub fn number_at(bytes: &[u8], at: usize, len: u8) -> u32
 /// Writes the low 1, 2 or 4 bytes of a number.
 #[inline(always)]
 pub fn set_number_at(bytes: &mut [u8], at: usize, len: u8, value: u32)
-    requires size { (0 < len) × (len ≤ 4) × (len ≢ 3) }
+    requires size { IsLength len }
     requires inside { at + len ≤ length bytes.old }
     ensures { bytes.new ≡ with_number bytes.old at len value }
 {
@@ -60,7 +61,7 @@ fn bytes_of_long(long: u32) -> [u8; 4]
 #[inline(always)]
 #[tactic(auto, using(crate::proofs::InLongs::reading))]
 pub fn number_in<R: Ram>(ram: &R, place: Place) -> u32
-    requires aligned { IsAligned place }
+    requires aligned { IsAligned place.at place.len }
     requires inside { place.at / 4 * 4 + 4 ≤ length (R.bytes ram.now) }
     ensures value { result ≡ number_at (R.bytes ram.now) place.at place.len }
     ensures range { result < 256 ^ place.len }
@@ -74,7 +75,7 @@ pub fn number_in<R: Ram>(ram: &R, place: Place) -> u32
 #[inline(always)]
 #[tactic(auto, using(crate::proofs::InLongs::writing))]
 pub fn set_number_in<R: Ram>(ram: &mut R, place: Place, value: u32)
-    requires aligned { IsAligned place }
+    requires aligned { IsAligned place.at place.len }
     requires inside { place.at / 4 * 4 + 4 ≤ length (R.bytes ram.old) }
     ensures bytes { R.bytes ram.new ≡ with_number (R.bytes ram.old) place.at place.len value }
     ensures rest { R.rest ram.new ≡ R.rest ram.old }

@@ -1,15 +1,12 @@
 -- What a value of the command line says by itself.
-use Rattle.std.specs.Prelude.{◌≡◌, ◌≤◌, ◌+◌, ◌-◌, ◌*◌, ◌%◌, ◌==◌, ◌&&◌, ◌||◌, not, ℕ, nat_lt, nat_le, Bool}
+use Rattle.std.specs.Prelude.{◌≤◌, ◌+◌, ◌-◌, ◌*◌, ◌%◌, ◌==◌, ◌&&◌, ◌||◌, not, ℕ, nat_lt, nat_le}
 use Rattle.std.specs.Prelude.{if◌then◌else◌}
 use Rattle.std.specs.Prelude.{List, [], ◌∷◌, length, Option, Some, None, option_and_then, option_map}
 use denote.Ref.{Bor}
 use Rattle.mb_script.specs.declared.sizes.TheConstants.{LEAST_RAM, MOST_GUESTS, MOST_RAM, SIZE_UNIT}
+use Rattle.mb_script.specs.Words.{digits_after, is_digit, tested}
 use Rattle.mb_forms.specs.Forms.{Text, Use, value_in}
 use Rattle.mb_forms.specs.Said.{text_said}
-
--- a value that passes a test
-abbrev pub tested : {A : Type 0} → (A → Bool) → A → Option A
-tested test value = if test value then Some value else None
 
 -- a file's name, which is not empty
 abbrev pub name_of : Text → Option Text
@@ -24,14 +21,6 @@ abbrev pub if_given : {A : Type 0} → (Text → Option A) → Option Text → O
 if_given says None = Some None
 if_given says (Some text) = option_map Some (says text)
 
-abbrev pub is_digit : ℕ → Bool
-is_digit byte = nat_le 48 byte && nat_le byte 57
-
--- the number that digits spell after those that spell n
-abbrev pub digits_after : ℕ → Text → Option ℕ
-digits_after n [] = Some n
-digits_after n (digit ∷ digits) = if is_digit digit then digits_after (10 * n + (digit - 48)) digits else None
-
 -- one to ten decimal digits
 abbrev pub number_of : Text → Option ℕ
 number_of text = if (length text == 0) || nat_lt 10 (length text) then None else digits_after 0 text
@@ -43,7 +32,7 @@ ranged least most text = option_and_then (tested (λ n. nat_le least n && nat_le
 -- the value of a hexadecimal digit, of either case
 abbrev pub digit_of : ℕ → Option ℕ
 digit_of byte =
-    if nat_le 48 byte && nat_le byte 57 then Some (byte - 48)
+    if is_digit byte then Some (byte - 48)
     else if nat_le 65 byte && nat_le byte 70 then Some (byte - 55)
     else if nat_le 97 byte && nat_le byte 102 then Some (byte - 87)
     else None
@@ -64,9 +53,6 @@ word_address_of text = option_and_then (tested (λ at. at % 2 == 0)) (hex_of tex
 -- the RAM of a machine in KiB: 64 to 16,384, a multiple of 64
 abbrev pub ram_of : Text → Option ℕ
 ram_of text = option_and_then (tested (λ kib. kib % SIZE_UNIT == 0)) (ranged LEAST_RAM MOST_RAM text)
-
-abbrev pub IsRam : ℕ → Type 0
-IsRam kib = (LEAST_RAM ≤ kib) × (kib ≤ MOST_RAM) × (kib % SIZE_UNIT ≡ 0)
 
 -- the seed of a session that is made: up to 2^32 - 1
 abbrev pub seed_of : Text → Option ℕ

@@ -1,7 +1,6 @@
 //! The command `bare`.
 
-ghost use Rattle.std.specs.Prelude.{◌≡◌, ◌≤◌, ◌%◌};
-ghost use Rattle.mb_script.specs.declared.sizes.TheConstants.{LEAST_RAM, MOST_RAM, SIZE_UNIT};
+ghost use Rattle.mb_script.specs.Plan.{IsRam};
 
 /// `bare`: a machine by its image, its RAM, its steps and its terminal's input.
 #[derive(Clone, Copy, Debug, Drop)]
@@ -13,5 +12,5 @@ pub struct Bare<'a> {
     pub steps: u32,
     /// The name of the script's file, where there is one. It is not empty.
     pub script: Option<&'a str>,
-    pub ghost in_range: { (LEAST_RAM ≤ ram) × (ram ≤ MOST_RAM) × (ram % SIZE_UNIT ≡ 0) },
+    pub ghost in_range: { IsRam ram },
 }

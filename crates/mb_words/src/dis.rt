@@ -1,7 +1,7 @@
 //! The command `dis`.
 
-ghost use Rattle.std.specs.Prelude.{◌≡◌, ◌≤◌, ◌%◌};
-ghost use Rattle.mb_script.specs.declared.sizes.TheConstants.{LEAST_RAM, MOST_RAM, SIZE_UNIT};
+ghost use Rattle.std.specs.Prelude.{◌≡◌, ◌%◌};
+ghost use Rattle.mb_script.specs.Plan.{IsRam};
 
 /// `dis`: an excerpt of a machine's opening memory, by its image and its RAM.
 #[derive(Clone, Copy, Debug, Drop)]
@@ -14,5 +14,5 @@ pub struct Dis<'a> {
     pub at: u32,
     /// How many lines: 1 to 1,000,000.
     pub count: u32,
-    pub ghost in_range: { (LEAST_RAM ≤ ram) × (ram ≤ MOST_RAM) × (ram % SIZE_UNIT ≡ 0) × (at % 2 ≡ 0) },
+    pub ghost in_range: { IsRam ram × (at % 2 ≡ 0) },
 }

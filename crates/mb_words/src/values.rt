@@ -1,8 +1,9 @@
 //! What a value of the command line says by itself.
 
 ghost use Rattle.std.specs.Prelude.{◌≡◌, ◌*◌, ◌%◌, ◌<◌, IfSome, option_map};
+ghost use Rattle.mb_script.specs.Plan.{IsRam};
 ghost use Rattle.mb_forms.specs.Said.{text_said};
-ghost use Rattle.mb_words.specs.Values.{IsGuestCount, IsRam, digit_of, file_said, guests_of, hex_of, if_given, name_of};
+ghost use Rattle.mb_words.specs.Values.{IsGuestCount, digit_of, file_said, guests_of, hex_of, if_given, name_of};
 ghost use Rattle.mb_words.specs.Values.{number_of, ram_of, ranged, word_address_of};
 
 use mb_script::{LEAST_RAM, MOST_GUESTS, MOST_RAM, SIZE_UNIT};

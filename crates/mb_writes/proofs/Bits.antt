@@ -5,11 +5,11 @@ use Rattle.std.specs.Prelude.{bit_and, map}
 use Rattle.std.proofs.lemmas.List.{append-nil, length-map}
 use Rattle.std.proofs.lemmas.Nat.{and_mask}
 use Rattle.std.proofs.lemmas.Bool.Decides.{nat_tests}
-use Rattle.mb_instr.specs.Sizes.{bytes_of}
+use Rattle.mb_instr.specs.Sizes.{bytes_of, is_set}
 use Rattle.mb_writes.specs.declared.transfers.Movem.{Movem}
 use Rattle.mb_writes.specs.declared.transfers.MovemMode.{MovemMode}
 use Rattle.mb_writes.specs.declared.transfers.Transfer.{Transfer}
-use Rattle.mb_writes.specs.Transfers.{is_set, set_bits, count_of, number_of, transfer_step, placed, transfers_of, AreTransfers}
+use Rattle.mb_writes.specs.Transfers.{set_bits, count_of, number_of, transfer_step, placed, transfers_of, AreTransfers}
 
 -- the bit, as it is computed
 low_bit : (n : ℕ) → bit_and n 1 ≡ n % 2

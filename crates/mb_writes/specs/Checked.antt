@@ -1,8 +1,8 @@
 -- Places that are checked for writing before anything is read or written there.
-use Rattle.std.specs.Prelude.{ℕ, ◌+◌, ◌-◌, ◌*◌, ◌^◌, ◌<◌, ◌≤◌, ◌≡◌, ◌≢◌, List, [], ◌∷◌, ◌++◌, All, Result, Ok, Err}
+use Rattle.std.specs.Prelude.{ℕ, ◌+◌, ◌-◌, ◌*◌, ◌^◌, ◌≡◌, List, [], ◌∷◌, ◌++◌, All, Result, Ok, Err}
 use Rattle.arrayvec.specs.ArrayVec.{ArrayVec}
 use Rattle.mb_port.specs.Routine.{Routine, Return, Then, ◌>>=◌, failing, probe, get, put}
-use Rattle.mb_port.specs.Pieces.{split_of}
+use Rattle.mb_port.specs.Pieces.{IsLength, split_of}
 use Rattle.mb_port.specs.declared.types.Space.{Space}
 use Rattle.mb_port.specs.declared.types.Piece.{Piece}
 use Rattle.mb_port.specs.declared.types.Place.{Place}
@@ -49,10 +49,6 @@ put_operand_of places len value = put_places_of places len value
 abbrev pub byte_count : List Place → ℕ
 byte_count [] = 0
 byte_count (p ∷ ps) = p.len + byte_count ps
-
--- 1, 2 or 4 bytes
-abbrev pub IsLength : ℕ → Type 0
-IsLength len = (0 < len) × (len ≤ 4) × (len ≢ 3)
 
 -- the place exists, and has the length of a piece
 abbrev pub IsOpen : (Place → Type 0) → Place → Type 0

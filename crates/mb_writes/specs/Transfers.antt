@@ -1,8 +1,8 @@
 -- What a MOVEM moves, and where.
-use Rattle.std.specs.Prelude.{◌≡◌, ℕ, zero, suc, ◌+◌, ◌-◌, ◌*◌, ◌/◌, ◌%◌, ◌^◌, ◌<◌, ◌==◌, Bool, if◌then◌else◌}
+use Rattle.std.specs.Prelude.{◌≡◌, ℕ, zero, suc, ◌+◌, ◌-◌, ◌*◌, ◌/◌, ◌%◌, ◌^◌, ◌<◌, ◌==◌, if◌then◌else◌}
 use Rattle.std.specs.Prelude.{List, [], ◌∷◌, ◌++◌, length, map, slice_get, Some}
 use Rattle.mb_instr.specs.declared.size.Size.TheVariants.{Word, Long}
-use Rattle.mb_instr.specs.Sizes.{bytes_of}
+use Rattle.mb_instr.specs.Sizes.{bytes_of, is_set}
 use Rattle.mb_frames.specs.AccessFields.{AccessCase}
 use Rattle.mb_frames.specs.AccessFields as access
 use Rattle.mb_writes.specs.declared.ends.MovemFault.{MovemFault}
@@ -38,10 +38,6 @@ abbrev pub IsMode : MovemMode → Type 0
 IsMode Control = Unit {0}
 IsMode (Post n) = n < 8
 IsMode (Pre n) = n < 8
-
--- bit k of the mask is set
-abbrev pub is_set : ℕ → ℕ → Bool
-is_set mask k = mask / 2 ^ k % 2 == 1
 
 -- which of n bits from bit k on are set
 unfoldable pub set_bits : ℕ → ℕ → ℕ → List ℕ

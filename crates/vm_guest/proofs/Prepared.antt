@@ -5,13 +5,13 @@ use Rattle.std.specs.Prelude.{All}
 use Rattle.mb_model.specs.declared.kept.Kept.{Kept}
 use Rattle.mb_model.specs.declared.processor.Cpu.{Cpu}
 use Rattle.mb_model.specs.declared.outcome.RunState.TheVariants.{Running}
-use Rattle.mb_model.specs.Reset.{at_reset}
+use Rattle.mb_model.specs.Reset.{at_reset, mmu_at_reset}
 use Rattle.mb_srec.specs.Image.{LiesBelow}
 use Rattle.mb_walk.specs.Memory.{number_at, overwritten, part}
 use Rattle.mb_walk.proofs.MemoryLemmas.{length-overwritten}
 use Rattle.mb_walk.proofs.Parts.{number-part}
 use Rattle.mb_devices.specs.Devices.{DeviceState, idle}
-use Rattle.mb_machine.specs.Machine.{Contents, Entries, going, mmu_at_reset, reset_with, with_contents}
+use Rattle.mb_machine.specs.Machine.{Contents, Entries, going, reset_with, with_contents}
 use Rattle.vm_shadow.specs.Slots.{Slots}
 use Rattle.vm_shadow.specs.Shadows.{Shadowed, nothing}
 use Rattle.vm_shadow.specs.Mapped.{shadowed}

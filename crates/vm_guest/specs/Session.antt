@@ -1,9 +1,9 @@
 -- A session: a board, the steps of a turn, and what its guests begin with.
-use Rattle.std.specs.Prelude.{◌≡◌, ℕ, ◌%◌, ◌≤◌, List, length, All}
+use Rattle.std.specs.Prelude.{◌≡◌, ℕ, ◌*◌, ◌%◌, ◌≤◌, List, length, All}
 use Rattle.mb_srec.specs.Image.{LiesBelow}
 use Rattle.mb_machine.specs.Machine.{Contents, Entries}
 use Rattle.mb_board.specs.declared.bus.TheConstants.{MOST_BOARD_BYTES}
-use Rattle.mb_script.specs.declared.sizes.TheConstants.{MOST_GUESTS}
+use Rattle.mb_script.specs.declared.sizes.TheConstants.{LEAST_BOARD, LEAST_RAM, MOST_GUESTS, MOST_RAM, SIZE_UNIT}
 
 -- what a guest begins with: its image, what is to arrive at its terminal, the bytes of its RAM, and how many steps it
 -- takes at most
@@ -23,11 +23,11 @@ pub record SessionAtStart : Type 0 where
 
 -- 64 to 16,384 KiB, a multiple of 64
 abbrev pub IsRamBytes : ℕ → Type 0
-IsRamBytes bytes = (65536 ≤ bytes) × (bytes ≤ 16777216) × (bytes % 65536 ≡ 0)
+IsRamBytes bytes = (1024 * LEAST_RAM ≤ bytes) × (bytes ≤ 1024 * MOST_RAM) × (bytes % (1024 * SIZE_UNIT) ≡ 0)
 
 -- 128 to 65,536 KiB, a multiple of 64
 abbrev pub IsBoardBytes : ℕ → Type 0
-IsBoardBytes bytes = (131072 ≤ bytes) × (bytes ≤ MOST_BOARD_BYTES) × (bytes % 65536 ≡ 0)
+IsBoardBytes bytes = (1024 * LEAST_BOARD ≤ bytes) × (bytes ≤ MOST_BOARD_BYTES) × (bytes % (1024 * SIZE_UNIT) ≡ 0)
 
 -- its image lies in its RAM
 pub record IsGuest (guest : GuestAtStart) : Type 0 where

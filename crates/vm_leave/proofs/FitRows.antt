@@ -20,7 +20,7 @@ use Rattle.mb_instr.specs.declared.kinds.LineMove.{LineMove}
 use Rattle.mb_instr.specs.declared.kinds.LineMove.TheVariants as line_move
 use Rattle.mb_instr.specs.declared.registers.Plain.{Plain}
 use Rattle.mb_instr.specs.Operands.{address_number}
-use Rattle.mb_instr.specs.Sizes.{bytes_of, low_of, sign_extended}
+use Rattle.mb_instr.specs.Sizes.{bytes_of, is_set, low_of, sign_extended}
 use Rattle.mb_instr.specs.Registers.{data_register, address_register, register_of, with_register, with_data_register, with_address_register}
 use Rattle.mb_instr.specs.FurtherWords.{line_word, swap_word}
 use Rattle.mb_alu.specs.declared.conditions.Flagged.{Flagged}
@@ -34,7 +34,7 @@ use Rattle.mb_writes.specs.declared.transfers.Movem.{Movem}
 use Rattle.mb_writes.specs.declared.transfers.MovemMode.{MovemMode}
 use Rattle.mb_writes.specs.declared.transfers.MovemMode.TheVariants as mode
 use Rattle.mb_writes.specs.declared.transfers.Transfer.{Transfer}
-use Rattle.mb_writes.specs.Transfers.{is_set, set_bits, count_of, mask_in, movem_in, transfers_of}
+use Rattle.mb_writes.specs.Transfers.{set_bits, count_of, mask_in, movem_in, transfers_of}
 use Rattle.mb_writes.specs.Moving.{Halfway, refused_at, stored_of, store_all_of, loaded_of, load_all_of, transfer_of}
 use Rattle.mb_writes.proofs.Bits.{length-transfers}
 use Rattle.mb_meaning.specs.Ends.{Unread, Stop, Rowed, carried, jumped, ended_otherwise, reading, ending}

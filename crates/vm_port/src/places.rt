@@ -1,7 +1,8 @@
 //! Physical places of a guest: its RAM, and the registers of its devices.
 
 ghost use Rattle.std.specs.Prelude.{◌≡◌, ◌+◌, ◌%◌, ◌<◌, ◌≤◌, ◌^◌, length, IfSome};
-ghost use Rattle.mb_walk.specs.Memory.{number_at, with_number, IsAligned};
+ghost use Rattle.mb_port.specs.Pieces.{IsAligned};
+ghost use Rattle.mb_walk.specs.Memory.{number_at, with_number};
 ghost use Rattle.mb_machine.specs.Places.{in_ram, stored, taken, takes_writes, stored_line, taken_line, Stores};
 
 use crate::port::GuestPort;
@@ -23,7 +24,7 @@ impl<R: Ram> GuestPort<'_, R> {
     #[inline(always)]
     #[tactic(auto, using(crate::proofs::Frames::numbers))]
     fn number(&self, place: Place) -> u32
-        requires aligned { IsAligned place }
+        requires aligned { IsAligned place.at place.len }
         requires inside { place.at + place.len ≤ length (world_of self.now).ram }
         ensures value { result ≡ number_at (world_of self.now).ram place.at place.len }
         ensures range { result < 256 ^ place.len }
@@ -36,7 +37,7 @@ impl<R: Ram> GuestPort<'_, R> {
     #[inline(always)]
     #[tactic(auto, using(crate::proofs::Frames::lengths))]
     fn set_number(&mut self, place: Place, value: u32)
-        requires aligned { IsAligned place }
+        requires aligned { IsAligned place.at place.len }
         requires inside { place.at + place.len ≤ length (world_of self.old).ram }
         ensures size { length (world_of self.new).ram ≡ length (world_of self.old).ram }
         ensures world { world_of self.new
@@ -52,7 +53,7 @@ impl<R: Ram> GuestPort<'_, R> {
     #[inline(always)]
     #[tactic(auto, using(mb_machine::proofs::BusLemmas::reads))]
     pub(crate) fn take(&mut self, place: Place) -> Option<u32>
-        requires { IsAligned place }
+        requires { IsAligned place.at place.len }
         ensures taken { (result, world_of self.new) ≡ taken place (world_of self.old) }
         ensures range { IfSome result (λ number. number < 256 ^ place.len) }
         ensures shadow { tables_of self.new ≡ tables_of self.old }
@@ -69,7 +70,7 @@ impl<R: Ram> GuestPort<'_, R> {
     #[inline(always)]
     #[tactic(auto, using(mb_machine::proofs::BusLemmas::writes))]
     pub(crate) fn store(&mut self, place: Place, value: u32) -> Option<()>
-        requires { IsAligned place }
+        requires { IsAligned place.at place.len }
         ensures stored { Stores (stored place value (world_of self.old)) (world_of self.old)
             (world_of self.new) result }
         ensures shadow { tables_of self.new ≡ tables_of self.old }

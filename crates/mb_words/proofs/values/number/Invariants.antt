@@ -1,5 +1,5 @@
 use Rattle.std.proofs.Common.{◌≡◌, ◌<◌, ◌^◌, ◌≤◌, drop, length}
-use Rattle.mb_words.specs.Values.{digits_after}
+use Rattle.mb_script.specs.Words.{digits_after}
 use Rattle.mb_words.proofs.values.number.Given as goal
 
 abbrev pub invariant-loop-digit : goal.invariant-loop-digit
