@@ -49,44 +49,47 @@ fn left(devices: &Devices) -> [u32; 8] {
     ]
 }
 
+/// What is done, its answer, and what it leaves.
+#[rattlefmt::skip]
+static OPERATIONS: [(Act, u32, [u32; 8]); 32] = [
+    (Act::Tick, 0, [2, 0, 0, 0, 0, 0, 0, 0]),
+    (Act::Receive(0x41), 0, [3, 0, 0, 0, 0, 0, 0, 0]),
+    (Act::Write(0x02, 1, 0xff), 0, [3, 1, 0, 0, 0, 4, 0, 0]),
+    (Act::Read(0x02, 1), 1, [3, 1, 0, 0, 0, 4, 0, 0]),
+    (Act::Write(0x02, 1, 0xfe), 0, [3, 0, 0, 0, 0, 0, 0, 0]),
+    (Act::Write(0x02, 1, 1), 0, [3, 1, 0, 0, 0, 4, 0, 0]),
+    (Act::Write(0x01, 1, 0), 0, [3, 1, 0, 0, 0, 4, 0, 0]),
+    (Act::Read(0x01, 1), 3, [3, 1, 0, 0, 0, 4, 0, 0]),
+    (Act::Write(0x10, 4, 2), 0, [3, 1, 2, 2, 0, 4, 0, 0]),
+    (Act::Tick, 0, [3, 1, 2, 1, 0, 4, 0, 0]),
+    (Act::Write(0x14, 4, 9), 0, [3, 1, 2, 1, 0, 4, 0, 0]),
+    (Act::Tick, 0, [3, 1, 2, 2, 1, 6, 0, 0]),
+    (Act::Read(0x18, 4), 1, [3, 1, 2, 2, 1, 6, 0, 0]),
+    (Act::Tick, 0, [3, 1, 2, 1, 1, 6, 0, 0]),
+    (Act::Read(0x14, 4), 1, [3, 1, 2, 1, 1, 6, 0, 0]),
+    (Act::Write(0x18, 4, 0), 0, [3, 1, 2, 1, 0, 4, 0, 0]),
+    (Act::Read(0x18, 4), 0, [3, 1, 2, 1, 0, 4, 0, 0]),
+    (Act::Write(0x10, 4, 5), 0, [3, 1, 5, 5, 0, 4, 0, 0]),
+    (Act::Read(0x10, 4), 5, [3, 1, 5, 5, 0, 4, 0, 0]),
+    (Act::Read(0x00, 1), 0x41, [2, 1, 5, 5, 0, 0, 0, 0]),
+    (Act::Read(0x00, 1), 0, [2, 1, 5, 5, 0, 0, 0, 0]),
+    (Act::Read(0x24, 4), 0x1_0000, [2, 1, 5, 5, 0, 0, 0, 0]),
+    (Act::Write(0x24, 4, 7), 0, [2, 1, 5, 5, 0, 0, 0, 0]),
+    (Act::Read(0x24, 4), 0x1_0000, [2, 1, 5, 5, 0, 0, 0, 0]),
+    (Act::Read(0x20, 4), 0, [2, 1, 5, 5, 0, 0, 0, 0]),
+    (Act::Write(0x20, 4, 2), 0, [2, 1, 5, 5, 0, 0, 0, 0]),
+    (Act::Write(0x00, 1, 0x1ff), 0, [2, 1, 5, 5, 0, 0, 1, 0]),
+    (Act::Receive(0x42), 0, [3, 1, 5, 5, 0, 4, 1, 0]),
+    (Act::Reset, 0, [2, 0, 0, 0, 0, 0, 1, 0]),
+    (Act::Write(0x20, 4, 1), 0, [2, 0, 0, 0, 0, 0, 1, 1]),
+    (Act::Read(0x20, 4), 0, [2, 0, 0, 0, 0, 0, 1, 1]),
+    (Act::Restart, 0, [2, 0, 0, 0, 0, 0, 0, 0]),
+];
+
 #[test]
 fn each_operation_leaves(rt: HostRuntime) {
-    let rows: [(Act, u32, [u32; 8]); 32] = [
-        (Act::Tick, 0, [2, 0, 0, 0, 0, 0, 0, 0]),
-        (Act::Receive(0x41), 0, [3, 0, 0, 0, 0, 0, 0, 0]),
-        (Act::Write(0x02, 1, 0xff), 0, [3, 1, 0, 0, 0, 4, 0, 0]),
-        (Act::Read(0x02, 1), 1, [3, 1, 0, 0, 0, 4, 0, 0]),
-        (Act::Write(0x02, 1, 0xfe), 0, [3, 0, 0, 0, 0, 0, 0, 0]),
-        (Act::Write(0x02, 1, 1), 0, [3, 1, 0, 0, 0, 4, 0, 0]),
-        (Act::Write(0x01, 1, 0), 0, [3, 1, 0, 0, 0, 4, 0, 0]),
-        (Act::Read(0x01, 1), 3, [3, 1, 0, 0, 0, 4, 0, 0]),
-        (Act::Write(0x10, 4, 2), 0, [3, 1, 2, 2, 0, 4, 0, 0]),
-        (Act::Tick, 0, [3, 1, 2, 1, 0, 4, 0, 0]),
-        (Act::Write(0x14, 4, 9), 0, [3, 1, 2, 1, 0, 4, 0, 0]),
-        (Act::Tick, 0, [3, 1, 2, 2, 1, 6, 0, 0]),
-        (Act::Read(0x18, 4), 1, [3, 1, 2, 2, 1, 6, 0, 0]),
-        (Act::Tick, 0, [3, 1, 2, 1, 1, 6, 0, 0]),
-        (Act::Read(0x14, 4), 1, [3, 1, 2, 1, 1, 6, 0, 0]),
-        (Act::Write(0x18, 4, 0), 0, [3, 1, 2, 1, 0, 4, 0, 0]),
-        (Act::Read(0x18, 4), 0, [3, 1, 2, 1, 0, 4, 0, 0]),
-        (Act::Write(0x10, 4, 5), 0, [3, 1, 5, 5, 0, 4, 0, 0]),
-        (Act::Read(0x10, 4), 5, [3, 1, 5, 5, 0, 4, 0, 0]),
-        (Act::Read(0x00, 1), 0x41, [2, 1, 5, 5, 0, 0, 0, 0]),
-        (Act::Read(0x00, 1), 0, [2, 1, 5, 5, 0, 0, 0, 0]),
-        (Act::Read(0x24, 4), 0x1_0000, [2, 1, 5, 5, 0, 0, 0, 0]),
-        (Act::Write(0x24, 4, 7), 0, [2, 1, 5, 5, 0, 0, 0, 0]),
-        (Act::Read(0x24, 4), 0x1_0000, [2, 1, 5, 5, 0, 0, 0, 0]),
-        (Act::Read(0x20, 4), 0, [2, 1, 5, 5, 0, 0, 0, 0]),
-        (Act::Write(0x20, 4, 2), 0, [2, 1, 5, 5, 0, 0, 0, 0]),
-        (Act::Write(0x00, 1, 0x1ff), 0, [2, 1, 5, 5, 0, 0, 1, 0]),
-        (Act::Receive(0x42), 0, [3, 1, 5, 5, 0, 4, 1, 0]),
-        (Act::Reset, 0, [2, 0, 0, 0, 0, 0, 1, 0]),
-        (Act::Write(0x20, 4, 1), 0, [2, 0, 0, 0, 0, 0, 1, 1]),
-        (Act::Read(0x20, 4), 0, [2, 0, 0, 0, 0, 0, 1, 1]),
-        (Act::Restart, 0, [2, 0, 0, 0, 0, 0, 0, 0]),
-    ];
     let mut devices = Devices::new(rt.alloc(), 0x1_0000).expect(&rt, "ample memory");
-    for (act, value, after) in rows {
+    for &(act, value, after) in &OPERATIONS {
         assert!(rt; answer(&mut devices, act) == Some(value), "{act:?}");
         assert!(rt; left(&devices) == after, "{act:?}");
     }
@@ -124,7 +127,8 @@ fn a_register_has_one_size(rt: HostRuntime) {
 }
 
 #[test]
-fn the_seventeenth_byte_is_dropped(rt: HostRuntime) {
+fn each_limit_once(rt: HostRuntime) {
+    // the seventeenth byte is dropped
     let mut devices = Devices::new(rt.alloc(), 0x1_0000).expect(&rt, "ample memory");
     for byte in 0..=16 {
         devices.receive(byte);
@@ -138,10 +142,7 @@ fn the_seventeenth_byte_is_dropped(rt: HostRuntime) {
         assert!(rt; devices.read(place(0x00, 1)) == Some(u32::from(byte)));
     }
     assert!(rt; devices.status() == 2);
-}
-
-#[test]
-fn the_timer_asks_each_period(rt: HostRuntime) {
+    // the timer asks each period
     let mut devices = Devices::new(rt.alloc(), 0x1_0000).expect(&rt, "ample memory");
     assert!(rt; devices.write(place(0x10, 4), 3) == Some(()));
     let counts = [2, 1, 3, 2, 1, 3, 2, 1, 3];
@@ -152,10 +153,7 @@ fn the_timer_asks_each_period(rt: HostRuntime) {
         assert!(rt; devices.write(place(0x18, 4), 0xffff_ffff) == Some(()));
         assert!(rt; devices.pending() == 0);
     }
-}
-
-#[test]
-fn a_full_console_counts(rt: HostRuntime) {
+    // a full console counts what is lost
     let mut devices = Devices::new(rt.alloc(), 0x1_0000).expect(&rt, "ample memory");
     for i in 0..65_538 {
         assert!(rt; devices.write(place(0x00, 1), i) == Some(()));

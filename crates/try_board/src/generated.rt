@@ -1,11 +1,8 @@
 //! Generated sessions. The programs were worked out by another program, from the published recurrence of PCG32.
 
-use crate::machines::board_with;
-use mb_board::Board;
+use crate::machines::{board_with, run, script_of};
 use mb_gen::make_session;
 use mb_model::RunState;
-use mb_script::{Script, read_script};
-use std::alloc::Global;
 use vm_guest::Session;
 
 /// The program of a guest: its first picked words, how many bytes it has, and a sum over them all. Guests count from 0.
@@ -72,7 +69,8 @@ fn chunk(session: &Session, guest: usize, place: usize) -> Option<(u32, &[u8])> 
 fn runs(session: &Session, program: &Program) -> bool {
     match chunk(session, program.guest, 1) {
         Some((0x400, bytes)) => {
-            begins(bytes, program.first)
+            bytes.starts_with(&ENTER)
+                && bytes.get(6..6 + program.first.len()) == Some(program.first)
                 && bytes.len() == program.len
                 && sum_of(bytes) == program.sum
         }
@@ -80,32 +78,10 @@ fn runs(session: &Session, program: &Program) -> bool {
     }
 }
 
-fn begins(bytes: &[u8], first: &[u8]) -> bool {
-    match bytes.strip_prefix(&ENTER) {
-        Some(picked) => picked.starts_with(first),
-        None => false,
-    }
-}
-
-/// A bare board with a guest's image.
-fn board_of(alloc: Global, session: &Session, guest: usize) -> Option<Board> {
-    let chunks = [
-        chunk(session, guest, 0)?,
-        chunk(session, guest, 1)?,
-        chunk(session, guest, 2)?,
-    ];
-    board_with(alloc, &chunks).ok()
-}
-
-/// Further steps, while there are fewer than a million.
-fn run(board: &mut Board, script: &Script, steps: u32) {
-    if board.outcome().steps < 1_000_000 && steps < 1_000_000 {
-        board.run_bare(script, steps);
-    }
-}
-
+/// Programs of three seeds, and all else: it is the same in each guest of each session. The first program is the same
+/// in sessions of any size.
 #[test]
-fn programs_of_three_seeds(rt: HostRuntime) {
+fn what_stands_in_a_session(rt: HostRuntime) {
     for program in &PROGRAMS {
         let session = make_session(rt.alloc(), program.seed.into(), 16).expect(&rt, "ample memory");
         assert!(rt;
@@ -115,45 +91,44 @@ fn programs_of_three_seeds(rt: HostRuntime) {
             program.seed
         );
     }
-}
-
-/// All but the program is the same in each guest.
-#[test]
-fn what_stands_beside_a_program(rt: HostRuntime) {
-    let session = make_session(rt.alloc(), 1, 2).expect(&rt, "ample memory");
-    assert!(rt; session.board() == 327_680);
-    assert!(rt; session.slice() == 1_000);
-    assert!(rt; session.guests().len() == 2);
-    for guest in session.guests() {
-        assert!(rt; guest.ram() == 65_536);
-        assert!(rt; guest.steps() == 250_000);
-        assert!(rt; guest.script().count() == 0);
-        assert!(rt; guest.image().chunks().len() == 3);
-    }
-    for guest in 0..2 {
-        assert!(rt; chunk(&session, guest, 0) == Some((0, [0, 0, 0x80, 0, 0, 0, 4, 0].as_slice())));
-        assert!(rt; chunk(&session, guest, 2) == Some((0x7F00, [0, 0, 0, 100].as_slice())));
-    }
-}
-
-/// One guest and sixteen, of which the first has the same program.
-#[test]
-fn one_guest_and_sixteen(rt: HostRuntime) {
     let one = make_session(rt.alloc(), 1, 1).expect(&rt, "ample memory");
-    assert!(rt; one.board() == 196_608);
-    assert!(rt; one.guests().len() == 1);
-    let sixteen = make_session(rt.alloc(), 1, 16).expect(&rt, "ample memory");
-    assert!(rt; sixteen.board() == 2_162_688);
-    assert!(rt; sixteen.guests().len() == 16);
-    assert!(rt; chunk(&one, 0, 1) == chunk(&sixteen, 0, 1));
+    for (count, board) in [(1u8, 196_608), (2, 327_680), (16, 2_162_688)] {
+        assert!(rt; 1 <= count && count <= 16);
+        let session = make_session(rt.alloc(), 1, count).expect(&rt, "ample memory");
+        assert!(rt; session.board() == board, "{count} guests");
+        assert!(rt; session.slice() == 1_000, "{count} guests");
+        assert!(rt;
+            session.guests().len() == usize::from(count),
+            "{count} guests"
+        );
+        assert!(rt;
+            chunk(&session, 0, 1) == chunk(&one, 0, 1),
+            "{count} guests"
+        );
+        for (number, guest) in session.guests().iter().enumerate() {
+            assert!(rt; guest.ram() == 65_536);
+            assert!(rt; guest.steps() == 250_000);
+            assert!(rt; guest.script().count() == 0);
+            assert!(rt; guest.image().chunks().len() == 3);
+            assert!(rt;
+                chunk(&session, number, 0) == Some((0, [0, 0, 0x80, 0, 0, 0, 4, 0].as_slice()))
+            );
+            assert!(rt; chunk(&session, number, 2) == Some((0x7F00, [0, 0, 0, 100].as_slice())));
+        }
+    }
 }
 
 /// LEA, the picked instructions, and then the byte; the next one comes 2,003 steps later.
 #[test]
 fn a_lap_sends_a_byte(rt: HostRuntime) {
     let session = make_session(rt.alloc(), 1, 1).expect(&rt, "ample memory");
-    let mut board = board_of(rt.alloc(), &session, 0).expect(&rt, "ample memory");
-    let script = read_script(rt.alloc(), b"").expect(&rt, "ample memory");
+    let chunks = [
+        chunk(&session, 0, 0).expect(&rt, "the vectors"),
+        chunk(&session, 0, 1).expect(&rt, "the program"),
+        chunk(&session, 0, 2).expect(&rt, "the count"),
+    ];
+    let mut board = board_with(rt.alloc(), &chunks).expect(&rt, "ample memory");
+    let script = script_of(rt.alloc(), b"").expect(&rt, "ample memory");
     for (steps, sent) in [(2_001, 0), (1, 1), (2_002, 1), (1, 2)] {
         run(&mut board, &script, steps);
         assert!(rt; board.outcome().console.len() == sent);

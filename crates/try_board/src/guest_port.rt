@@ -1,6 +1,6 @@
 //! A guest's bus over plain memory, worked by hand.
 
-ghost use Rattle.std.specs.Prelude.{◌≡◌, ◌%◌, ◌<◌, ◌^◌, length};
+ghost use Rattle.std.specs.Prelude.{◌≡◌, ◌%◌, ◌<◌, ◌^◌};
 ghost use Rattle.mb_port.specs.Flushes.{NamesPage};
 ghost use Rattle.vm_shadow.specs.Area.{Maps};
 ghost use Rattle.vm_shadow.specs.Mapped.{shadowed};
@@ -8,24 +8,22 @@ ghost use Rattle.vm_machine.specs.Seats.{own};
 ghost use Rattle.vm_port.specs.Own.{IsPlaced};
 ghost use Rattle.vm_port.specs.Stands.{IsTruthful};
 
+use crate::memory::Bytes;
 use Space::{Super, User};
 use mb_devices::Devices;
 use mb_model::Cpu;
 use mb_port::{Flush, Mmu, MmuReg, Piece, Port, Space};
 use mb_step::{Decoder, StepEnd, step};
-use mb_walk::{Ram, long_at, set_long_at, size_of};
+use mb_walk::Ram;
 use std::alloc::Global;
 use vm_port::GuestPort;
 use vm_shadow::Shadow;
 use vm_tlb::Tlb;
 
-/// Where the guest's RAM begins, and its bytes: 16 pages from frame 16 on.
+/// Where the guest's RAM begins, and its bytes: 16 pages from frame 16 on. Its area stands behind it.
 const BASE: u32 = 0x1_0000;
 
 const SIZE: u32 = 0x1_0000;
-
-/// All of memory: the guest's tables stand behind its RAM.
-const ALL: u32 = 0x3_0000;
 
 /// The guest's own tables: the root, one pointer table, and one page table, to which each pointer leads.
 const ROOT: u32 = 0xC000;
@@ -33,40 +31,6 @@ const ROOT: u32 = 0xC000;
 const POINTERS: u32 = 0xC200;
 
 const PAGES: u32 = 0xC400;
-
-/// Plain memory, of which the guest's area is the last part.
-#[derive(Drop)]
-struct Bytes {
-    memory: Vec<u8>,
-    ghost size: { length memory.items ≡ 0x30000 },
-}
-
-impl Ram for Bytes {
-    ghost bytes = { λ b. b.memory.items };
-
-    ghost Rest = { Unit {0} };
-
-    ghost rest = { λ b. tt };
-
-    fn size(&self) -> u32 {
-        size_of(&self.memory)
-    }
-
-    fn long(&self, at: u32) -> u32 {
-        long_at(&self.memory, at as usize)
-    }
-
-    #[tactic(auto, using(mb_walk::proofs::MemoryLemmas::lengths))]
-    fn set_long(&mut self, at: u32, value: u32) {
-        set_long_at(&mut self.memory, at as usize, value);
-    }
-}
-
-/// Memory of zeros.
-fn memory(alloc: Global) -> Option<Bytes> {
-    let memory = vec![in alloc; 0u8; ALL as usize].ok()?;
-    Some(Bytes { memory })
-}
 
 /// The bus of a guest.
 macro_rules! port {
@@ -100,7 +64,7 @@ struct Guest {
 impl Guest {
     /// A guest with zeros in its RAM and nothing kept, whose translation is off.
     fn new(alloc: Global) -> Option<Guest> {
-        let mut ram = memory(alloc)?;
+        let mut ram = Bytes::filled(alloc, 0)?;
         let devices = Devices::new(alloc, SIZE).ok()?;
         let tlb = Tlb::new(alloc).ok()?;
         let mut shadow = Shadow::new(alloc, BASE + SIZE).ok()?;
@@ -195,7 +159,8 @@ impl Guest {
 }
 
 #[test]
-fn a_changed_descriptor_counts_after_a_flush(rt: HostRuntime) {
+fn pages_are_put_and_dropped(rt: HostRuntime) {
+    // a changed descriptor counts after a flush
     let mut guest = Guest::translated(rt.alloc()).expect(&rt, "memory");
     guest.set(0x5000, 0x55);
     guest.set(0x6000, 0x66);
@@ -209,10 +174,7 @@ fn a_changed_descriptor_counts_after_a_flush(rt: HostRuntime) {
     assert!(rt; guest.read(Super, 0x5000) == Some(0x66));
     assert!(rt; guest.find(Super, 5) == Some((22, false)));
     assert!(rt; guest.find(User, 5) == None);
-}
-
-#[test]
-fn a_page_is_put_again_as_writable(rt: HostRuntime) {
+    // a page that was read is put again as writable
     let mut guest = Guest::translated(rt.alloc()).expect(&rt, "memory");
     assert!(rt; guest.read(Super, 0x5000) == Some(0));
     assert!(rt; guest.find(Super, 5) == Some((21, false)));
@@ -221,6 +183,86 @@ fn a_page_is_put_again_as_writable(rt: HostRuntime) {
     assert!(rt; guest.find(Super, 5) == Some((21, true)));
     assert!(rt; guest.read(Super, PAGES + 20) == Some(0x5019));
     assert!(rt; guest.read(Super, 0x5004) == Some(7));
+    // a test drops its page
+    let mut guest = Guest::translated(rt.alloc()).expect(&rt, "memory");
+    for space in [User, Super] {
+        assert!(rt; guest.read(space, 0x5000) == Some(0));
+    }
+    assert!(rt; guest.test(Super, 0x5FFC) == 0x5001);
+    assert!(rt; guest.find(Super, 5) == None);
+    assert!(rt; guest.find(User, 5) == Some((21, false)));
+}
+
+#[test]
+fn a_split_page_is_never_put(rt: HostRuntime) {
+    let mut guest = Guest::new(rt.alloc()).expect(&rt, "memory");
+    // the low 16 MiB, of code alone
+    guest.set_mmu(MmuReg::Itt0, 0xC000);
+    assert!(rt; guest.fetch(Super, 0x5000) == Some(0));
+    assert!(rt; guest.read(Super, 0x5000) == Some(0));
+    assert!(rt; guest.write(Super, 0x5000, 1) == Some(()));
+    assert!(rt; guest.find(Super, 5) == None);
+    // and of data too, where writes are refused
+    guest.set_mmu(MmuReg::Dtt0, 0xC004);
+    assert!(rt; guest.write(Super, 0x5000, 2) == None);
+    assert!(rt; guest.find(Super, 5) == None);
+    assert!(rt; guest.read(Super, 0x5000) == Some(1));
+    assert!(rt; guest.find(Super, 5) == Some((21, false)));
+    guest.set_mmu(MmuReg::Dtt0, 0xC000);
+    assert!(rt; guest.fetch(Super, 0x5000) == Some(0));
+    assert!(rt; guest.find(Super, 5) == Some((21, true)));
+}
+
+#[test]
+fn flushes_and_written_registers_drop_pages(rt: HostRuntime) {
+    // What is flushed, and which of the four entries it leaves: page 5 in user and supervisor space, and page 6, which
+    // is global.
+    let flushes = [
+        (Flush::All, [false, false, false, false]),
+        (Flush::AllLocal, [false, false, true, true]),
+        (Flush::Page(User, 5), [false, true, true, true]),
+        (Flush::Page(Super, 6), [true, true, true, false]),
+        (Flush::PageLocal(Super, 5), [true, false, true, true]),
+        (Flush::PageLocal(User, 6), [true, true, true, true]),
+    ];
+    for (what, left) in flushes {
+        let mut guest = Guest::translated(rt.alloc()).expect(&rt, "memory");
+        guest.set(PAGES + 24, 0x6401);
+        for space in [User, Super] {
+            assert!(rt; guest.read(space, 0x5000) == Some(0));
+            assert!(rt; guest.read(space, 0x6000) == Some(0));
+        }
+        guest.flush(what);
+        let found = [
+            guest.find(User, 5).is_some(),
+            guest.find(Super, 5).is_some(),
+            guest.find(User, 6).is_some(),
+            guest.find(Super, 6).is_some(),
+        ];
+        assert!(rt; found == left, "{what:?}");
+    }
+    // Each register that forgets, with the value that it has already; MMUSR does not.
+    let registers = [
+        (MmuReg::Tc, 0x8000, None),
+        (MmuReg::Itt0, 0, None),
+        (MmuReg::Itt1, 0, None),
+        (MmuReg::Dtt0, 0, None),
+        (MmuReg::Dtt1, 0, None),
+        (MmuReg::Urp, ROOT, None),
+        (MmuReg::Srp, ROOT, None),
+        (MmuReg::Mmusr, 0xFFFF_FFFF, Some((21, false))),
+    ];
+    for (which, value, left) in registers {
+        let mut guest = Guest::translated(rt.alloc()).expect(&rt, "memory");
+        for space in [User, Super] {
+            assert!(rt; guest.read(space, 0x5000) == Some(0));
+            assert!(rt; guest.find(space, 5) == Some((21, false)));
+        }
+        guest.set_mmu(which, value);
+        for space in [User, Super] {
+            assert!(rt; guest.find(space, 5) == left, "{which:?}");
+        }
+    }
 }
 
 #[test]
@@ -258,91 +300,4 @@ fn a_full_area_goes_whole(rt: HostRuntime) {
         assert!(rt; guest.read(space, 0) == Some(0));
         assert!(rt; guest.find(space, 0) == Some((16, false)));
     }
-}
-
-#[test]
-fn flushes_drop_what_they_cover(rt: HostRuntime) {
-    // What is flushed, and which of the four entries it leaves: page 5 in user and supervisor space, and page 6, which
-    // is global.
-    let flushes = [
-        (Flush::All, [false, false, false, false]),
-        (Flush::AllLocal, [false, false, true, true]),
-        (Flush::Page(User, 5), [false, true, true, true]),
-        (Flush::Page(Super, 6), [true, true, true, false]),
-        (Flush::PageLocal(Super, 5), [true, false, true, true]),
-        (Flush::PageLocal(User, 6), [true, true, true, true]),
-    ];
-    for (what, left) in flushes {
-        let mut guest = Guest::translated(rt.alloc()).expect(&rt, "memory");
-        guest.set(PAGES + 24, 0x6401);
-        for space in [User, Super] {
-            assert!(rt; guest.read(space, 0x5000) == Some(0));
-            assert!(rt; guest.read(space, 0x6000) == Some(0));
-        }
-        guest.flush(what);
-        let found = [
-            guest.find(User, 5).is_some(),
-            guest.find(Super, 5).is_some(),
-            guest.find(User, 6).is_some(),
-            guest.find(Super, 6).is_some(),
-        ];
-        assert!(rt; found == left, "{what:?}");
-    }
-}
-
-#[test]
-fn a_test_drops_its_page(rt: HostRuntime) {
-    let mut guest = Guest::translated(rt.alloc()).expect(&rt, "memory");
-    for space in [User, Super] {
-        assert!(rt; guest.read(space, 0x5000) == Some(0));
-    }
-    assert!(rt; guest.test(Super, 0x5FFC) == 0x5001);
-    assert!(rt; guest.find(Super, 5) == None);
-    assert!(rt; guest.find(User, 5) == Some((21, false)));
-}
-
-#[test]
-fn a_written_register_forgets(rt: HostRuntime) {
-    // Each register that forgets, with the value that it has already; MMUSR does not.
-    let registers = [
-        (MmuReg::Tc, 0x8000, None),
-        (MmuReg::Itt0, 0, None),
-        (MmuReg::Itt1, 0, None),
-        (MmuReg::Dtt0, 0, None),
-        (MmuReg::Dtt1, 0, None),
-        (MmuReg::Urp, ROOT, None),
-        (MmuReg::Srp, ROOT, None),
-        (MmuReg::Mmusr, 0xFFFF_FFFF, Some((21, false))),
-    ];
-    for (which, value, left) in registers {
-        let mut guest = Guest::translated(rt.alloc()).expect(&rt, "memory");
-        for space in [User, Super] {
-            assert!(rt; guest.read(space, 0x5000) == Some(0));
-            assert!(rt; guest.find(space, 5) == Some((21, false)));
-        }
-        guest.set_mmu(which, value);
-        for space in [User, Super] {
-            assert!(rt; guest.find(space, 5) == left, "{which:?}");
-        }
-    }
-}
-
-#[test]
-fn a_split_page_is_never_put(rt: HostRuntime) {
-    let mut guest = Guest::new(rt.alloc()).expect(&rt, "memory");
-    // the low 16 MiB, of code alone
-    guest.set_mmu(MmuReg::Itt0, 0xC000);
-    assert!(rt; guest.fetch(Super, 0x5000) == Some(0));
-    assert!(rt; guest.read(Super, 0x5000) == Some(0));
-    assert!(rt; guest.write(Super, 0x5000, 1) == Some(()));
-    assert!(rt; guest.find(Super, 5) == None);
-    // and of data too, where writes are refused
-    guest.set_mmu(MmuReg::Dtt0, 0xC004);
-    assert!(rt; guest.write(Super, 0x5000, 2) == None);
-    assert!(rt; guest.find(Super, 5) == None);
-    assert!(rt; guest.read(Super, 0x5000) == Some(1));
-    assert!(rt; guest.find(Super, 5) == Some((21, false)));
-    guest.set_mmu(MmuReg::Dtt0, 0xC000);
-    assert!(rt; guest.fetch(Super, 0x5000) == Some(0));
-    assert!(rt; guest.find(Super, 5) == Some((21, true)));
 }

@@ -633,13 +633,6 @@ fn used_board(alloc: Global) -> Option<Board>
     Some(board)
 }
 
-/// A bare board with these bytes in its RAM.
-fn bare_with(alloc: Global, chunks: &[Chunk]) -> Option<Board>
-    ensures { IfSome result (λ board. length board.world.ram ≡ SIZE) }
-{
-    board_with(alloc, chunks).ok()
-}
-
 /// A guest on the host, with what stands in a bare board's memory.
 fn guest_on(alloc: Global, bare: &Board, script: &[u8], host: &mut Board) -> Option<Guest>
     requires bare { length bare.now.world.ram ≡ SIZE }
@@ -688,7 +681,7 @@ impl Pair {
             return None;
         }
         let own_script = read_script(alloc, script).ok()?;
-        let bare = bare_with(alloc, chunks)?;
+        let bare = board_with(alloc, chunks).ok()?;
         let mut host = used_board(alloc)?;
         let guest = guest_on(alloc, &bare, script, &mut host)?;
         Some(Pair::of(bare, own_script, host, guest))
@@ -722,16 +715,6 @@ impl Pair {
             && self.native.exceptions() == exits.wrapping_add(fills)
     }
 
-    /// Whether the guest's turns end so.
-    fn takes(&mut self, turns: &[(u32, TurnEnd)]) -> bool {
-        for (steps, end) in turns {
-            if self.turn(*steps) != Some(*end) {
-                return false;
-            }
-        }
-        true
-    }
-
     /// Further steps of the bare board, while there are fewer than a million.
     fn run_bare(&mut self, steps: u32) {
         if steps_of(&self.bare) < 1_000_000 && steps < 1_000_000 {
@@ -743,7 +726,9 @@ impl Pair {
 fn check_cases(rt: &impl Abort, alloc: Global, cases: &[Case]) {
     for case in cases {
         let mut pair = Pair::new(alloc, case.chunks, case.script).expect(rt, "ample memory");
-        assert!(rt; pair.takes(case.turns), "{}", case.name);
+        for (steps, end) in case.turns {
+            assert!(rt; pair.turn(*steps) == Some(*end), "{}", case.name);
+        }
         assert!(rt;
             first_missing(&pair.outcome(), case.shows) == None,
             "{}",
@@ -767,4 +752,5 @@ fn a_guest_beside_a_bare_board(rt: HostRuntime) {
     check_cases(&rt, rt.alloc(), &CASES);
     check_cases(&rt, rt.alloc(), &FILLS);
     check_cases(&rt, rt.alloc(), &ABORTS);
+    check_cases(&rt, rt.alloc(), &big_pages::CASES);
 }

@@ -5,12 +5,12 @@ ghost use Rattle.std.specs.Prelude.{IfSome};
 ghost use Rattle.vm_guest.specs.Session.{IsBoardBytes, IsGuest, IsSession};
 
 use crate::images::{SIZE, image_of};
-use crate::machines::board_with;
+use crate::machines::{board_with, run, script_of};
 use crate::shown::{Chunk, RESET};
 use mb_board::Native;
 use mb_model::{Outcome, RunState};
 use mb_report::same;
-use mb_script::{Script, Turn, read_script};
+use mb_script::Turn;
 use std::alloc::Global;
 use vm_slices::{Host, OpenFault, Session, SessionGuest};
 
@@ -19,11 +19,13 @@ const FITS: u32 = 0x7_0000;
 
 const TOO_SMALL: u32 = 0x6_0000;
 
-/// What a guest begins with: the bytes in its RAM, its script, and how many steps it takes at most.
+/// What a guest begins with: the bytes in its RAM, its script, and how many steps it takes at most. How it stands when
+/// it is done, and after how many steps.
 struct Begins {
     chunks: &'static [Chunk],
     script: &'static [u8],
     steps: u32,
+    ends: (RunState, u32),
 }
 
 /// `MOVE.B #1,CTRL`, and `MOVE.B DATA,DATA` in a loop: what arrives shows on the console.
@@ -40,6 +42,7 @@ static ECHO: Begins = Begins {
     ],
     script: b"at 1 hex 40\nat 3 hex 4142\nat 39 hex 44\nat 40 hex 4546\n",
     steps: 99,
+    ends: (RunState::Running, 99),
 };
 
 /// `LEA $1000,A0`, and `MOVE.L A0,(A0)+` in a loop: it fills its RAM.
@@ -50,6 +53,7 @@ static FILL: Begins = Begins {
     ],
     script: b"",
     steps: 3000,
+    ends: (RunState::Running, 3000),
 };
 
 /// No image: after 16,384 steps a fetch past RAM faults, and no frame can be stacked below a stack at 0.
@@ -57,6 +61,7 @@ static HALTS: Begins = Begins {
     chunks: &[],
     script: b"",
     steps: 20_000,
+    ends: (RunState::Halted, 16_385),
 };
 
 /// `MOVEQ #$41,D0`, `MOVE.B D0,DATA`, `MOVE.L #1,POWER`.
@@ -73,21 +78,14 @@ static SWITCHES_OFF: Begins = Begins {
     ],
     script: b"",
     steps: 10,
+    ends: (RunState::Off, 3),
 };
-
-/// Its script, which is short.
-fn script_of(alloc: Global, begins: &Begins) -> Option<Script> {
-    if begins.script.len() > 1000 {
-        return None;
-    }
-    read_script(alloc, begins.script).ok()
-}
 
 fn guest_of(alloc: Global, begins: &Begins) -> Option<SessionGuest>
     ensures { IfSome result IsGuest }
 {
     let image = image_of(alloc, &board_with(alloc, begins.chunks).ok()?)?;
-    let script = script_of(alloc, begins)?;
+    let script = script_of(alloc, begins.script)?;
     Some(SessionGuest::new(image, script, SIZE, begins.steps))
 }
 
@@ -114,41 +112,67 @@ fn outcome_of(host: &Host, number: u8) -> Option<Outcome<'_>> {
     Some(host.outcome(number))
 }
 
-/// Whether a guest shows what a bare board with its image and script shows after its steps.
-fn is_as_bare(alloc: Global, host: &Host, number: u8, begins: &Begins) -> Option<bool> {
-    let script = script_of(alloc, begins)?;
-    let mut bare = board_with(alloc, begins.chunks).ok()?;
-    if bare.outcome().steps < 1_000_000 && begins.steps < 1_000_000 {
-        bare.run_bare(&script, begins.steps);
-    }
-    Some(same(&outcome_of(host, number)?, &bare.outcome()))
+/// How a guest stands, and after how many steps.
+fn stands(host: &Host, number: u8) -> Option<(RunState, u32)> {
+    let outcome = outcome_of(host, number)?;
+    Some((outcome.state, outcome.steps))
 }
 
-/// Three guests in turns of 1, of 7 and of 1,000 steps.
-#[test]
-fn each_guest_shows_what_its_own_board_shows(rt: HostRuntime) {
-    let guests = [&ECHO, &HALTS, &FILL];
-    for slice in [1, 7, 1000] {
-        let session = session_of(rt.alloc(), FITS, slice, &guests).expect(&rt, "ample memory");
-        let mut host = Host::prepare(rt.alloc(), session).expect(&rt, "it fits");
-        host.run(&mut Native::new());
-        assert!(rt; host.guest_count() == 3);
-        for (number, begins) in [(1, &ECHO), (2, &HALTS), (3, &FILL)] {
-            assert!(rt;
-                is_as_bare(rt.alloc(), &host, number, begins) == Some(true),
-                "{number} in {slice}"
-            );
+/// Whether each guest is done, and shows what a bare board with its image and script shows after its steps.
+fn are_as_bare(alloc: Global, host: &Host, guests: &[&Begins]) -> Option<bool> {
+    let mut number = 0u8;
+    for begins in guests {
+        number = number.wrapping_add(1);
+        let script = script_of(alloc, begins.script)?;
+        let mut bare = board_with(alloc, begins.chunks).ok()?;
+        run(&mut bare, &script, begins.steps);
+        let is_same = same(&outcome_of(host, number)?, &bare.outcome());
+        if !is_same || stands(host, number) != Some(begins.ends) {
+            return Some(false);
         }
     }
+    Some(number == host.guest_count())
+}
+
+/// Sessions in turns of 1, of 7 and of 1,000 steps, and a second run of each. The board has 64 KiB for the monitor, and
+/// 128 KiB for each of three guests.
+#[test]
+fn each_guest_shows_what_its_own_board_shows(rt: HostRuntime) {
+    let sessions: [(u32, &[&Begins]); 5] = [
+        (1, &[&ECHO, &HALTS, &FILL]),
+        (7, &[&ECHO, &HALTS, &FILL]),
+        (1000, &[&ECHO, &HALTS, &FILL]),
+        (1000, &[&HALTS, &SWITCHES_OFF]),
+        (1, &[&FILL, &ECHO, &SWITCHES_OFF]),
+    ];
+    for (number, (slice, guests)) in sessions.into_iter().enumerate() {
+        let session = session_of(rt.alloc(), FITS, slice, guests).expect(&rt, "ample memory");
+        let mut host = Host::prepare(rt.alloc(), session).expect(&rt, "it fits");
+        host.run(&mut Native::new());
+        assert!(rt;
+            are_as_bare(rt.alloc(), &host, guests) == Some(true),
+            "session {number}"
+        );
+        host.run(&mut Native::new());
+        assert!(rt;
+            are_as_bare(rt.alloc(), &host, guests) == Some(true),
+            "session {number}"
+        );
+    }
+    let guests = [&FILL, &ECHO, &SWITCHES_OFF];
+    let session = session_of(rt.alloc(), TOO_SMALL, 1, &guests).expect(&rt, "ample memory");
+    let refused = OpenFault::Oversize {
+        need: FITS,
+        have: TOO_SMALL,
+    };
+    assert!(rt; Host::prepare(rt.alloc(), session).err() == Some(refused));
 }
 
 /// Turns of any guest in any order, and then rounds: none goes past what its guest has left.
 #[test]
 fn turns_come_before_rounds(rt: HostRuntime) {
-    let session = session_of(rt.alloc(), FITS, 1000, &[&ECHO, &HALTS, &FILL]).expect(
-        &rt,
-        "ample memory",
-    );
+    let guests = [&ECHO, &HALTS, &FILL];
+    let session = session_of(rt.alloc(), FITS, 1000, &guests).expect(&rt, "ample memory");
     let mut host = Host::prepare(rt.alloc(), session).expect(&rt, "it fits");
     let order = [
         (2, 7),
@@ -166,51 +190,5 @@ fn turns_come_before_rounds(rt: HostRuntime) {
     assert!(rt; stands(&host, 2) == Some((RunState::Halted, 16_385)));
     assert!(rt; stands(&host, 3) == Some((RunState::Running, 0)));
     host.run(&mut Native::new());
-    for (number, begins) in [(1, &ECHO), (2, &HALTS), (3, &FILL)] {
-        assert!(rt;
-            is_as_bare(rt.alloc(), &host, number, begins) == Some(true),
-            "{number}"
-        );
-    }
-}
-
-/// How a guest stands, and after how many steps.
-fn stands(host: &Host, number: u8) -> Option<(RunState, u32)> {
-    let outcome = outcome_of(host, number)?;
-    Some((outcome.state, outcome.steps))
-}
-
-/// A guest that halts beside one that switches off, and a second run.
-#[test]
-fn one_halts_and_one_is_off(rt: HostRuntime) {
-    let session = session_of(rt.alloc(), FITS, 1000, &[&HALTS, &SWITCHES_OFF]).expect(
-        &rt,
-        "ample memory",
-    );
-    let mut host = Host::prepare(rt.alloc(), session).expect(&rt, "it fits");
-    host.run(&mut Native::new());
-    assert!(rt; stands(&host, 1) == Some((RunState::Halted, 16_385)));
-    assert!(rt; stands(&host, 2) == Some((RunState::Off, 3)));
-    host.run(&mut Native::new());
-    assert!(rt; stands(&host, 1) == Some((RunState::Halted, 16_385)));
-    assert!(rt; stands(&host, 2) == Some((RunState::Off, 3)));
-    assert!(rt; is_as_bare(rt.alloc(), &host, 1, &HALTS) == Some(true));
-    assert!(rt; is_as_bare(rt.alloc(), &host, 2, &SWITCHES_OFF) == Some(true));
-}
-
-/// 64 KiB for the monitor, and 128 KiB for each of three guests.
-#[test]
-fn a_session_fits_to_the_byte(rt: HostRuntime) {
-    let guests = [&FILL, &ECHO, &SWITCHES_OFF];
-    let session = session_of(rt.alloc(), TOO_SMALL, 1, &guests).expect(&rt, "ample memory");
-    let refused = Host::prepare(rt.alloc(), session).err();
-    assert!(rt;
-        refused
-            == Some(OpenFault::Oversize {
-                need: FITS,
-                have: TOO_SMALL
-            })
-    );
-    let session = session_of(rt.alloc(), FITS, 1, &guests).expect(&rt, "ample memory");
-    assert!(rt; Host::prepare(rt.alloc(), session).is_ok());
+    assert!(rt; are_as_bare(rt.alloc(), &host, &guests) == Some(true));
 }

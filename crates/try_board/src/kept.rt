@@ -19,7 +19,8 @@ enum Act {
     Find(bool, Space, u32, Option<u32>),
 }
 
-fn kept(space: Space, page: u32, frame: u32, g: bool) -> Kept
+/// A page that is kept of a space, with its frame: all flags are clear but G, where it is global.
+pub(crate) fn kept(space: Space, page: u32, frame: u32, g: bool) -> Kept
     ensures { result ≡ record { space = space; page = page; frame = frame; w = false; s = false; g = g; m = false } }
 {
     Kept {

@@ -21,6 +21,8 @@ mod kept;
 #[cfg(test)]
 mod machines;
 #[cfg(test)]
+mod memory;
+#[cfg(test)]
 mod shadow;
 #[cfg(test)]
 mod shown;

@@ -4,6 +4,7 @@
 ghost use Rattle.std.specs.Prelude.{◌≡◌, ◌<◌, length, IfOk};
 
 use crate::shown::{Chunk, Frame, RESET, Shown, VECTOR, first_missing};
+use Act::{FlushAll, Load, Period, Run, Shows, Step, Translate, Write};
 use mb_board::Board;
 use mb_model::RunState;
 use mb_outside::Memory;
@@ -43,17 +44,6 @@ pub(crate) fn board_with(alloc: Global, chunks: &[(u32, &[u8])]) -> Result<Board
     Ok(board)
 }
 
-/// A page table of sixteen pages, each of which leads to itself.
-fn write_pages(board: &mut Board, table: u32)
-    requires ram { length board.old.world.ram ≡ SIZE }
-    requires table { table < SIZE }
-    ensures { length board.new.world.ram ≡ SIZE }
-{
-    for page in 0..16u32 {
-        write(board, table + 4 * page, &(page * 0x1000 + 1).to_be_bytes());
-    }
-}
-
 /// Translates each of the sixteen pages to itself, but for one with this descriptor.
 fn translate(board: &mut Board, table: u32, page: u32, descriptor: u32)
     requires ram { length board.old.world.ram ≡ SIZE }
@@ -63,7 +53,13 @@ fn translate(board: &mut Board, table: u32, page: u32, descriptor: u32)
 {
     write(board, ROOT, &(POINTERS + 2).to_be_bytes());
     write(board, POINTERS, &(table + 2).to_be_bytes());
-    write_pages(board, table);
+    for index in 0..16u32 {
+        write(
+            board,
+            table + 4 * index,
+            &(index * 0x1000 + 1).to_be_bytes(),
+        );
+    }
     write(board, table + 4 * page, &descriptor.to_be_bytes());
     board.set_mmu(MmuReg::Urp, ROOT);
     board.set_mmu(MmuReg::Srp, ROOT);
@@ -74,7 +70,7 @@ fn translate(board: &mut Board, table: u32, page: u32, descriptor: u32)
 const LOADED: u32 = 0x300;
 
 /// Starts again with $D0 to $D3 in D0 to D3, 0 in D4 to D7, and these in A0 and A1: a MOVEM before the code loads them.
-fn load(board: &mut Board, alloc: Global, first: u32, second: u32)
+fn load(board: &mut Board, script: &Script, first: u32, second: u32)
     requires { length board.old.world.ram ≡ SIZE }
     ensures { length board.new.world.ram ≡ SIZE }
 {
@@ -87,17 +83,23 @@ fn load(board: &mut Board, alloc: Global, first: u32, second: u32)
     write(board, start, &[0x4C, 0xF8, 3, 0xFF, 3, 0]);
     write(board, 4, &start.to_be_bytes());
     board.reset();
-    run(board, alloc, 1);
+    run(board, script, 1);
 }
 
-/// Takes so many steps with nothing on the terminal, while there are fewer than a hundred.
-fn run(board: &mut Board, alloc: Global, steps: u32)
-    requires { length board.old.world.ram ≡ SIZE }
-    ensures { length board.new.world.ram ≡ SIZE }
+/// A script, which is short.
+pub(crate) fn script_of(alloc: Global, text: &[u8]) -> Option<Script> {
+    if text.len() > 1000 {
+        return None;
+    }
+    read_script(alloc, text).ok()
+}
+
+/// Takes further steps, while there are fewer than a million.
+pub(crate) fn run(board: &mut Board, script: &Script, steps: u32)
+    ensures { length board.new.world.ram ≡ length board.old.world.ram }
 {
-    let script = Script::new(Vec::new(alloc));
-    if steps < 100 && steps_of(board) < 100 {
-        board.run_bare(&script, steps);
+    if steps < 1_000_000 && steps_of(board) < 1_000_000 {
+        board.run_bare(script, steps);
     }
 }
 
@@ -115,60 +117,76 @@ pub(crate) fn state_of(board: &Board) -> RunState
     board.outcome().state
 }
 
-/// A machine's image, what is loaded into A0 and A1 before its steps, the page table in which one page has another
-/// descriptor than to itself, its steps, and what it shows then.
+/// What is done to a machine, or what it shows then.
+enum Act {
+    /// It starts again with these in A0 and A1.
+    Load(u32, u32),
+    /// The page table, and a page in it with another descriptor than to itself.
+    Translate(u32, u32, u32),
+    Run(u32),
+    /// One step, where the machine runs.
+    Step,
+    Write(u32, &'static [u8]),
+    FlushAll,
+    /// The timer's period.
+    Period(u32),
+    Shows(&'static [Shown]),
+}
+
+/// A machine's image and script, and what is done to it.
 struct Case {
     name: &'static str,
     chunks: &'static [Chunk],
-    loads: Option<(u32, u32)>,
-    translates: Option<(u32, u32, u32)>,
-    steps: u32,
-    shows: &'static [Shown],
+    script: &'static [u8],
+    acts: &'static [Act],
 }
 
 /// What `MOVEM.L D0-D3,(A0)` at $400 leaves in its frame after two transfers.
 const MOVEM: [u32; 9] = [0, 0, 0, 0, 0, 0, 0x404, 0x48D0_000F, 2];
 
 #[rattlefmt::skip]
-static CASES: [Case; 11] = [
+static CASES: [Case; 14] = [
     Case {
         name: "MOVE.L #$11223344,$1FFF over two pages, of which the second is invalid",
         chunks: &[RESET, VECTOR, (0x400, &[0x23, 0xFC, 0x11, 0x22, 0x33, 0x44, 0, 0, 0x1F, 0xFF])],
-        loads: None,
-        translates: Some((PAGES, 2, 0)),
-        steps: 1,
-        shows: &[
-            Shown::Ram(0x1FFF, &[0x11, 0, 0, 0]),
-            Shown::Frame(Frame {
-                pc: 0x40A, ea: 0x1FFF, ssw: 0x0C45, wb2s: 0x00A5, wb1s: 0x00C5, fa: 0x2000,
-                longs: [0, 0, 0x2002, 0x44, 0x2000, 0x2233_0000, 0, 0, 0],
-            }),
-            Shown::Pc(0x500),
+        script: b"",
+        acts: &[
+            Translate(PAGES, 2, 0), Run(1),
+            Shows(&[
+                Shown::Ram(0x1FFF, &[0x11, 0, 0, 0]),
+                Shown::Frame(Frame {
+                    pc: 0x40A, ea: 0x1FFF, ssw: 0x0C45, wb2s: 0x00A5, wb1s: 0x00C5, fa: 0x2000,
+                    longs: [0, 0, 0x2002, 0x44, 0x2000, 0x2233_0000, 0, 0, 0],
+                }),
+                Shown::Pc(0x500),
+            ]),
         ],
     },
     Case {
         name: "MOVEM.L D0-D3,(A0) over its own words",
         chunks: &[(0, &[0, 0, 0x80, 0, 0, 0, 0x1F, 0xF8]), (0x1FF8, &[0x48, 0xD0, 0, 0x0F])],
-        loads: Some((0x1FF8, 0)),
-        translates: Some((PAGES, 2, 0x2001)),
-        steps: 1,
-        shows: &[
-            Shown::Ram(0x1FF8, &[0, 0, 0, 0xD0, 0, 0, 0, 0xD1, 0, 0, 0, 0xD2, 0, 0, 0, 0xD3]),
-            Shown::Pc(0x1FFC),
+        script: b"",
+        acts: &[
+            Load(0x1FF8, 0), Translate(PAGES, 2, 0x2001), Run(1),
+            Shows(&[
+                Shown::Ram(0x1FF8, &[0, 0, 0, 0xD0, 0, 0, 0, 0xD1, 0, 0, 0, 0xD2, 0, 0, 0, 0xD3]),
+                Shown::Pc(0x1FFC),
+            ]),
         ],
     },
     Case {
         name: "MOVEM.L D0-D3,(A0) into a page that leads to the devices, where no long stands",
         chunks: &[RESET, VECTOR, (0x400, &[0x48, 0xD0, 0, 0x0F])],
-        loads: Some((0x5FF8, 0)),
-        translates: Some((PAGES, 6, 0xFFF0_0001)),
-        steps: 1,
-        shows: &[
-            Shown::Frame(Frame {
-                pc: 0x400, ea: 0x5FF8, ssw: 0x1005, wb2s: 0, wb1s: 0, fa: 0x6000, longs: MOVEM,
-            }),
-            Shown::Ram(0x5FF8, &[0, 0, 0, 0xD0, 0, 0, 0, 0xD1]),
-            Shown::Console(&[]),
+        script: b"",
+        acts: &[
+            Load(0x5FF8, 0), Translate(PAGES, 6, 0xFFF0_0001), Run(1),
+            Shows(&[
+                Shown::Frame(Frame {
+                    pc: 0x400, ea: 0x5FF8, ssw: 0x1005, wb2s: 0, wb1s: 0, fa: 0x6000, longs: MOVEM,
+                }),
+                Shown::Ram(0x5FF8, &[0, 0, 0, 0xD0, 0, 0, 0, 0xD1]),
+                Shown::Console(&[]),
+            ]),
         ],
     },
     Case {
@@ -179,16 +197,17 @@ static CASES: [Case; 11] = [
                 0, 0x11, 0x22, 0x33, 0x44, 0x55, 0x66, 0x77, 0x88, 0x99, 0xAA, 0xBB, 0xCC, 0xDD, 0xEE, 0xFF,
             ]),
         ],
-        loads: Some((0x1000, 0x2000)),
-        translates: Some((PAGES, 2, 0)),
-        steps: 1,
-        shows: &[
-            Shown::Frame(Frame {
-                pc: 0x404, ea: 0x2000, ssw: 0x046D, wb2s: 0, wb1s: 0x00ED, fa: 0x2000,
-                longs: [0, 0, 0, 0, 0x2000, 0x0011_2233, 0x4455_6677, 0x8899_AABB, 0xCCDD_EEFF],
-            }),
-            Shown::A(0, 0x1010),
-            Shown::A(1, 0x2010),
+        script: b"",
+        acts: &[
+            Load(0x1000, 0x2000), Translate(PAGES, 2, 0), Run(1),
+            Shows(&[
+                Shown::Frame(Frame {
+                    pc: 0x404, ea: 0x2000, ssw: 0x046D, wb2s: 0, wb1s: 0x00ED, fa: 0x2000,
+                    longs: [0, 0, 0, 0, 0x2000, 0x0011_2233, 0x4455_6677, 0x8899_AABB, 0xCCDD_EEFF],
+                }),
+                Shown::A(0, 0x1010),
+                Shown::A(1, 0x2010),
+            ]),
         ],
     },
     Case {
@@ -205,10 +224,11 @@ static CASES: [Case; 11] = [
             ]),
             (0x5000, &[0x55, 0x55]), (0x6000, &[0x66, 0x66]),
         ],
-        loads: None,
-        translates: Some((PAGES, 3, 0x5001)),
-        steps: 8,
-        shows: &[Shown::D(0, 0x5555), Shown::D(1, 0x5555), Shown::D(2, 0x6666)],
+        script: b"",
+        acts: &[
+            Translate(PAGES, 3, 0x5001), Run(8),
+            Shows(&[Shown::D(0, 0x5555), Shown::D(1, 0x5555), Shown::D(2, 0x6666)]),
+        ],
     },
     Case {
         name: "CMPM.L reads a descriptor before its search marks it used",
@@ -217,10 +237,11 @@ static CASES: [Case; 11] = [
             (0x400, &[0x20, 0x38, 0x70, 0x10, 0xB3, 0x88]), // MOVE.L $7010,D0; CMPM.L (A0)+,(A1)+
             (0x4000, &[0, 0, 0x40, 1]),
         ],
-        loads: Some((0x7010, 0x4000)),
-        translates: Some((0x7000, 4, 0x4001)),
-        steps: 2,
-        shows: &[Shown::Sr(0x2704), Shown::Ram(0x7010, &[0, 0, 0x40, 9])],
+        script: b"",
+        acts: &[
+            Load(0x7010, 0x4000), Translate(0x7000, 4, 0x4001), Run(2),
+            Shows(&[Shown::Sr(0x2704), Shown::Ram(0x7010, &[0, 0, 0x40, 9])]),
+        ],
     },
     Case {
         name: "page $3000 leads to frame $4000 then, and the root is written again: the board forgets nothing by that",
@@ -237,10 +258,11 @@ static CASES: [Case; 11] = [
             (0x2400, &[0, 0, 0, 1, 0, 0, 0x10, 1, 0, 0, 0x20, 1, 0, 0, 0x30, 1]),
             (0x3000, &[0x11, 0x11]), (0x4000, &[0x22, 0x22]),
         ],
-        loads: None,
-        translates: None,
-        steps: 8,
-        shows: &[Shown::D(2, 0x1111), Shown::D(3, 0x1111)],
+        script: b"",
+        acts: &[
+            Run(8),
+            Shows(&[Shown::D(2, 0x1111), Shown::D(3, 0x1111)]),
+        ],
     },
     Case {
         name: "a trace",
@@ -248,13 +270,14 @@ static CASES: [Case; 11] = [
             (0, &[0, 1, 0, 0, 0, 0, 4, 0]), (0x24, &[0, 0, 5, 0]),
             (0x400, &[0x46, 0xFC, 0xA7, 0, 0x4E, 0x71]), // MOVE #$A700,SR; NOP
         ],
-        loads: None,
-        translates: None,
-        steps: 2,
-        shows: &[
-            Shown::Pc(0x500),
-            Shown::Sr(0x2700),
-            Shown::Ram(0xFFF4, &[0xA7, 0, 0, 0, 4, 6, 0x20, 0x24, 0, 0, 4, 4]),
+        script: b"",
+        acts: &[
+            Run(2),
+            Shows(&[
+                Shown::Pc(0x500),
+                Shown::Sr(0x2700),
+                Shown::Ram(0xFFF4, &[0xA7, 0, 0, 0, 4, 6, 0x20, 0x24, 0, 0, 4, 4]),
+            ]),
         ],
     },
     Case {
@@ -263,28 +286,30 @@ static CASES: [Case; 11] = [
             (0, &[0, 1, 0, 0, 0, 0, 4, 0]), (0x80, &[0, 0, 6, 0]),
             (0x400, &[0x46, 0xFC, 0xA7, 0, 0x4E, 0x40]), // MOVE #$A700,SR; TRAP #0
         ],
-        loads: None,
-        translates: None,
-        steps: 2,
-        shows: &[
-            Shown::Pc(0),
-            Shown::Sr(0x2700),
-            Shown::Ram(
-                0xFFEC,
-                &[0x27, 0, 0, 0, 6, 0, 0x20, 0x24, 0, 0, 4, 4, 0xA7, 0, 0, 0, 4, 6, 0, 0x80],
-            ),
+        script: b"",
+        acts: &[
+            Run(2),
+            Shows(&[
+                Shown::Pc(0),
+                Shown::Sr(0x2700),
+                Shown::Ram(
+                    0xFFEC,
+                    &[0x27, 0, 0, 0, 6, 0, 0x20, 0x24, 0, 0, 4, 4, 0xA7, 0, 0, 0, 4, 6, 0, 0x80],
+                ),
+            ]),
         ],
     },
     Case {
         name: "an odd PC",
         chunks: &[(0, &[0, 1, 0, 0, 0, 0, 4, 1]), (0xC, &[0, 0, 5, 0])],
-        loads: None,
-        translates: None,
-        steps: 1,
-        shows: &[
-            Shown::Pc(0x500),
-            Shown::Sr(0x2700),
-            Shown::Ram(0xFFF4, &[0x27, 0, 0, 0, 4, 1, 0x20, 0xC, 0, 0, 4, 0]),
+        script: b"",
+        acts: &[
+            Run(1),
+            Shows(&[
+                Shown::Pc(0x500),
+                Shown::Sr(0x2700),
+                Shown::Ram(0xFFF4, &[0x27, 0, 0, 0, 4, 1, 0x20, 0xC, 0, 0, 4, 0]),
+            ]),
         ],
     },
     Case {
@@ -293,149 +318,118 @@ static CASES: [Case; 11] = [
             (0, &[0xFF, 0xF0, 0, 8, 0, 0, 4, 0]),
             (0x400, &[0x44, 0xFC, 0, 1, 0x80, 0xFC, 0, 0]), // MOVE #1,CCR; DIVU #0,D0
         ],
-        loads: None,
-        translates: None,
-        steps: 5,
-        shows: &[
-            Shown::State(RunState::Halted),
-            Shown::Steps(2),
-            Shown::Isp(0xFFF0_0008),
-            Shown::Pc(0x404),
-            Shown::Sr(0x2701),
+        script: b"",
+        acts: &[
+            Run(5),
+            Shows(&[
+                Shown::State(RunState::Halted),
+                Shown::Steps(2),
+                Shown::Isp(0xFFF0_0008),
+                Shown::Pc(0x404),
+                Shown::Sr(0x2701),
+            ]),
+        ],
+    },
+    Case {
+        name: "MOVEM.L D0-D3,(A0) into an invalid page, and its end by RTE, once the page is valid and flushed",
+        chunks: &[RESET, VECTOR, (0x400, &[0x48, 0xD0, 0, 0x0F]), (0x500, &[0x4E, 0x73])],
+        script: b"",
+        acts: &[
+            Load(0x1FF8, 0), Translate(PAGES, 2, 0), Run(1),
+            Shows(&[
+                Shown::Frame(Frame {
+                    pc: 0x400, ea: 0x1FF8, ssw: 0x1405, wb2s: 0, wb1s: 0, fa: 0x2000, longs: MOVEM,
+                }),
+                Shown::Ram(0x1FF8, &[0, 0, 0, 0xD0, 0, 0, 0, 0xD1, 0, 0, 0, 0]),
+            ]),
+            Write(PAGES + 8, &[0, 0, 0x20, 1]), FlushAll, Run(1),
+            Shows(&[
+                Shown::Ram(0x2000, &[0, 0, 0, 0xD2, 0, 0, 0, 0xD3, 0, 0, 0, 0]),
+                Shown::Pc(0x404),
+                Shown::Isp(0x8000),
+            ]),
+        ],
+    },
+    Case {
+        name: "the timer interrupts a master stack, with a frame on both stacks, and RTE goes back",
+        chunks: &[
+            (0, &[0, 0, 0x80, 0, 0, 0, 3, 0xF6]), (0x78, &[0, 0, 5, 0]),
+            (0x3F6, &[0x46, 0xFC, 0x30, 0, 0x2E, 0x7C, 0, 0, 0x90, 0]), // MOVE #$3000,SR; MOVEA.L #$9000,SP
+            (0x500, &[0x4E, 0x73]),
+        ],
+        script: b"",
+        acts: &[
+            Run(2), Period(1), Run(1),
+            Shows(&[
+                Shown::Ram(0x8FF8, &[0x30, 0, 0, 0, 4, 0, 0, 0x78]),
+                Shown::Ram(0x7FF8, &[0x30, 0, 0, 0, 4, 0, 0x10, 0x78]),
+                Shown::Sr(0x2600),
+                Shown::Pc(0x500),
+            ]),
+            Run(1),
+            Shows(&[Shown::Sr(0x3000), Shown::Pc(0x400), Shown::Msp(0x9000), Shown::Isp(0x8000)]),
+        ],
+    },
+    Case {
+        name: "seventeen bytes arrive at the second step, of which the queue holds sixteen; the first receives none",
+        chunks: &[RESET, (0x400, &[0x4E, 0x71, 0x4E, 0x71])],
+        script: b"at 2 hex 000102030405060708090A0B0C0D0E0F10\n",
+        acts: &[
+            Step, Shows(&[Shown::Queue(&[])]), Step,
+            Shows(&[
+                Shown::Queue(&[0, 1, 2, 3, 4, 5, 6, 7, 8, 9, 10, 11, 12, 13, 14, 15]),
+                Shown::Status(7),
+                Shown::Steps(2),
+                Shown::Ram(0x400, &[0x4E, 0x71]),
+            ]),
         ],
     },
 ];
 
-/// The machine of a case after its steps.
-fn ran(alloc: Global, case: &Case) -> Option<Board> {
-    let mut board = board_with(alloc, case.chunks).ok()?;
-    if let Some((first, second)) = case.loads {
-        load(&mut board, alloc, first, second);
-    }
-    if let Some((table, page, descriptor)) = case.translates {
-        if table < SIZE && page < 16 {
-            translate(&mut board, table, page, descriptor);
+/// Whether a board shows what it should, where that is asked among these acts.
+fn carry_out(board: &mut Board, script: &Script, acts: &[Act]) -> bool
+    requires { length board.old.world.ram ≡ SIZE }
+{
+    for act in acts {
+        match act {
+            Load(first, second) => load(board, script, *first, *second),
+            Translate(table, page, descriptor) => {
+                if *table < SIZE && *page < 16 {
+                    translate(board, *table, *page, *descriptor);
+                }
+            }
+            Run(steps) => run(board, script, *steps),
+            Step => {
+                if steps_of(board) < 100 && matches!(state_of(board), RunState::Running) {
+                    board.step(script);
+                }
+            }
+            Write(at, bytes) => write(board, *at, bytes),
+            FlushAll => board.flush(Flush::All),
+            Period(steps) => {
+                let register = Piece {
+                    at: 0xFFF0_0010,
+                    len: 4,
+                };
+                if board.write(Space::Super, register, *steps) != Ok(()) {
+                    return false;
+                }
+            }
+            Shows(all) => {
+                if first_missing(&board.outcome(), all) != None {
+                    return false;
+                }
+            }
         }
     }
-    run(&mut board, alloc, case.steps);
-    Some(board)
+    true
 }
 
 #[test]
 fn machines_by_hand(rt: HostRuntime) {
     for case in &CASES {
-        let board = ran(rt.alloc(), case).expect(&rt, "ample memory");
-        assert!(rt;
-            first_missing(&board.outcome(), case.shows) == None,
-            "{}",
-            case.name
-        );
+        let script = script_of(rt.alloc(), case.script).expect(&rt, "a script");
+        let mut board = board_with(rt.alloc(), case.chunks).expect(&rt, "ample memory");
+        assert!(rt; carry_out(&mut board, &script, case.acts), "{}", case.name);
     }
-}
-
-/// What stands after the two transfers of MOVEM that its access error leaves done, and when it is done.
-static HALFWAY: [Shown; 2] = [
-    Shown::Frame(Frame {
-        pc: 0x400,
-        ea: 0x1FF8,
-        ssw: 0x1405,
-        wb2s: 0,
-        wb1s: 0,
-        fa: 0x2000,
-        longs: MOVEM,
-    }),
-    Shown::Ram(0x1FF8, &[0, 0, 0, 0xD0, 0, 0, 0, 0xD1, 0, 0, 0, 0]),
-];
-
-static WHOLE: [Shown; 3] = [
-    Shown::Ram(0x2000, &[0, 0, 0, 0xD2, 0, 0, 0, 0xD3, 0, 0, 0, 0]),
-    Shown::Pc(0x404),
-    Shown::Isp(0x8000),
-];
-
-/// `MOVEM.L D0-D3,(A0)` into an invalid page; and its end by RTE, once the page is valid and flushed.
-#[test]
-fn a_transfer_goes_on_after_its_access_error(rt: HostRuntime) {
-    static CHUNKS: [Chunk; 4] = [
-        RESET,
-        VECTOR,
-        (0x400, &[0x48, 0xD0, 0, 0x0F]),
-        (0x500, &[0x4E, 0x73]),
-    ];
-    let mut board = board_with(rt.alloc(), &CHUNKS).expect(&rt, "ample memory");
-    load(&mut board, rt.alloc(), 0x1FF8, 0);
-    translate(&mut board, PAGES, 2, 0);
-    run(&mut board, rt.alloc(), 1);
-    assert!(rt; first_missing(&board.outcome(), &HALFWAY) == None);
-    write(&mut board, PAGES + 8, &0x2001u32.to_be_bytes());
-    board.flush(Flush::All);
-    run(&mut board, rt.alloc(), 1);
-    assert!(rt; first_missing(&board.outcome(), &WHOLE) == None);
-}
-
-/// The frames on both stacks of an interrupt of the master stack, and what stands after its RTE.
-static STACKED: [Shown; 4] = [
-    Shown::Ram(0x8FF8, &[0x30, 0, 0, 0, 4, 0, 0, 0x78]),
-    Shown::Ram(0x7FF8, &[0x30, 0, 0, 0, 4, 0, 0x10, 0x78]),
-    Shown::Sr(0x2600),
-    Shown::Pc(0x500),
-];
-
-static RETURNED: [Shown; 4] = [
-    Shown::Sr(0x3000),
-    Shown::Pc(0x400),
-    Shown::Msp(0x9000),
-    Shown::Isp(0x8000),
-];
-
-/// The timer interrupts a master stack, and RTE goes back.
-#[test]
-fn an_interrupt_of_the_master_stack_has_two_frames(rt: HostRuntime) {
-    static CHUNKS: [Chunk; 4] = [
-        (0, &[0, 0, 0x80, 0, 0, 0, 3, 0xF6]),
-        (0x78, &[0, 0, 5, 0]),
-        (0x3F6, &[0x46, 0xFC, 0x30, 0, 0x2E, 0x7C, 0, 0, 0x90, 0]), // MOVE #$3000,SR; MOVEA.L #$9000,SP
-        (0x500, &[0x4E, 0x73]),
-    ];
-    let mut board = board_with(rt.alloc(), &CHUNKS).expect(&rt, "ample memory");
-    run(&mut board, rt.alloc(), 2);
-    let period = Piece {
-        at: 0xFFF0_0010,
-        len: 4,
-    };
-    assert!(rt; board.write(Space::Super, period, 1) == Ok(()));
-    run(&mut board, rt.alloc(), 1);
-    assert!(rt; first_missing(&board.outcome(), &STACKED) == None);
-    run(&mut board, rt.alloc(), 1);
-    assert!(rt; first_missing(&board.outcome(), &RETURNED) == None);
-}
-
-/// Takes a step, where the machine runs.
-fn step_on(board: &mut Board, script: &Script)
-    ensures { length board.new.world.ram ≡ length board.old.world.ram }
-{
-    if steps_of(board) < 100 && matches!(state_of(board), RunState::Running) {
-        board.step(script);
-    }
-}
-
-/// What the queue has when seventeen bytes have arrived.
-static FULL: [Shown; 3] = [
-    Shown::Queue(&[0, 1, 2, 3, 4, 5, 6, 7, 8, 9, 10, 11, 12, 13, 14, 15]),
-    Shown::Status(7),
-    Shown::Steps(2),
-];
-
-/// Seventeen bytes arrive at the second step, of which the queue holds sixteen; the first step receives none.
-#[test]
-fn bytes_arrive_at_their_step(rt: HostRuntime) {
-    static CHUNKS: [Chunk; 2] = [RESET, (0x400, &[0x4E, 0x71, 0x4E, 0x71])];
-    let text = b"at 2 hex 000102030405060708090A0B0C0D0E0F10\n";
-    let script = read_script(rt.alloc(), text).expect(&rt, "a script");
-    let mut board = board_with(rt.alloc(), &CHUNKS).expect(&rt, "ample memory");
-    step_on(&mut board, &script);
-    assert!(rt; board.outcome().queue.is_empty());
-    step_on(&mut board, &script);
-    assert!(rt; first_missing(&board.outcome(), &FULL) == None);
-    assert!(rt; board.memory(0x400, 2) == [0x4E, 0x71].as_slice());
 }

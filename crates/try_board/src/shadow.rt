@@ -1,47 +1,18 @@
 //! Fills by hand.
 
-ghost use Rattle.std.specs.Prelude.{◌≡◌, ◌+◌, ◌<◌, ◌^◌, length};
+ghost use Rattle.std.specs.Prelude.{◌<◌, ◌^◌};
 ghost use Rattle.vm_shadow.specs.Area.{Maps};
 
+use crate::memory::{Bytes, SIZE};
 use Space::{Super, User};
 use mb_model::{Kept, PAGE_SIZE};
 use mb_port::Space;
-use mb_walk::{Found, Ram, long_at, search, set_long_at, size_of};
+use mb_walk::{Found, Ram, search};
 use std::alloc::Global;
 use vm_shadow::Shadow;
 
-const SIZE: u32 = 0x2_0000;
-
-/// The area is the second half.
+/// The area is the second of the memory's three parts.
 const AREA: u32 = 0x1_0000;
-
-/// Plain memory.
-#[derive(Drop)]
-struct Bytes {
-    memory: Vec<u8>,
-    ghost size: { length memory.items ≡ 0x20000 },
-}
-
-impl Ram for Bytes {
-    ghost bytes = { λ b. b.memory.items };
-
-    ghost Rest = { Unit {0} };
-
-    ghost rest = { λ b. tt };
-
-    fn size(&self) -> u32 {
-        size_of(&self.memory)
-    }
-
-    fn long(&self, at: u32) -> u32 {
-        long_at(&self.memory, at as usize)
-    }
-
-    #[tactic(auto, using(mb_walk::proofs::MemoryLemmas::lengths))]
-    fn set_long(&mut self, at: u32, value: u32) {
-        set_long_at(&mut self.memory, at as usize, value);
-    }
-}
 
 /// Memory with a shadow in it.
 #[derive(Drop)]
@@ -54,8 +25,7 @@ struct Guest {
 impl Guest {
     /// An empty shadow in memory of other bytes.
     fn new(alloc: Global) -> Option<Guest> {
-        let memory = vec![in alloc; 7u8; SIZE as usize].ok()?;
-        let mut ram = Bytes { memory };
+        let mut ram = Bytes::filled(alloc, 7)?;
         let mut shadow = Shadow::new(alloc, AREA).ok()?;
         shadow.clear(&mut ram);
         Some(Guest { ram, shadow })
@@ -88,6 +58,8 @@ impl Guest {
     }
 }
 
+/// An area is full with 125 page tables below as many entries of one pointer table: one that is empty is freed, and a
+/// further one clears the area whole.
 #[test]
 fn a_full_area_is_cleared_whole(rt: HostRuntime) {
     for space in [User, Super] {
@@ -98,24 +70,6 @@ fn a_full_area_is_cleared_whole(rt: HostRuntime) {
         assert!(rt; guest.find(space, 64 * 124) == Some((124, true)));
         assert!(rt; !guest.is_full_for(space, 64 * 124 + 63));
         assert!(rt; guest.is_full_for(space, 64 * 125));
-        assert!(rt; guest.fill(space, 64 * 125, 0xF_FFFF, false));
-        assert!(rt; guest.find(space, 64 * 125) == Some((0xF_FFFF, false)));
-        for k in 0..125u32 {
-            assert!(rt; guest.find(space, 64 * k) == None);
-        }
-        // nothing below the area
-        assert!(rt; guest.ram.long(AREA - 4) == 0x0707_0707);
-    }
-}
-
-#[test]
-fn an_empty_table_is_freed(rt: HostRuntime) {
-    for space in [User, Super] {
-        let mut guest = Guest::new(rt.alloc()).expect(&rt, "memory");
-        for k in 0..125u32 {
-            assert!(rt; !guest.fill(space, 64 * k, k, true));
-        }
-        assert!(rt; guest.is_full_for(space, 8000));
         guest.drop_page(space, 192);
         assert!(rt; !guest.is_full_for(space, 8000));
         assert!(rt; !guest.fill(space, 8000, 1, true));
@@ -125,6 +79,15 @@ fn an_empty_table_is_freed(rt: HostRuntime) {
                 assert!(rt; guest.find(space, 64 * k) == Some((k, true)));
             }
         }
+        guest.drop_page(space, 8000);
+        assert!(rt; !guest.fill(space, 192, 3, true));
+        assert!(rt; guest.fill(space, 64 * 125, 0xF_FFFF, false));
+        assert!(rt; guest.find(space, 64 * 125) == Some((0xF_FFFF, false)));
+        for k in 0..125u32 {
+            assert!(rt; guest.find(space, 64 * k) == None);
+        }
+        // nothing below the area
+        assert!(rt; guest.ram.long(AREA - 4) == 0x0707_0707);
     }
 }
 

@@ -1,50 +1,15 @@
 //! Walks worked by hand, with each kind of descriptor.
 
-ghost use Rattle.std.specs.Prelude.{◌≡◌, ◌<◌, length};
-
+use crate::memory::{Bytes, SIZE};
 use Space::{Super, User};
 use mb_model::Kept;
 use mb_port::Space;
-use mb_walk::{
-    Found, PageDescriptor, Ram, TableDescriptor, long_at, search, set_long_at, size_of, transparent,
-};
+use mb_walk::{Found, PageDescriptor, Ram, TableDescriptor, search, transparent};
 use std::alloc::Global;
-
-const SIZE: u32 = 0x9000;
-
-/// Plain memory.
-#[derive(Drop)]
-struct Bytes {
-    memory: Vec<u8>,
-    ghost size: { length memory.items ≡ 0x9000 },
-}
-
-impl Ram for Bytes {
-    ghost bytes = { λ b. b.memory.items };
-
-    ghost Rest = { Unit {0} };
-
-    ghost rest = { λ b. tt };
-
-    fn size(&self) -> u32 {
-        size_of(&self.memory)
-    }
-
-    fn long(&self, at: u32) -> u32 {
-        long_at(&self.memory, at as usize)
-    }
-
-    #[tactic(auto, using(mb_walk::proofs::MemoryLemmas::lengths))]
-    fn set_long(&mut self, at: u32, value: u32) {
-        set_long_at(&mut self.memory, at as usize, value);
-    }
-}
 
 /// Memory of zeros but for these longs.
 fn memory(alloc: Global, longs: &[(u32, u32)]) -> Option<Bytes> {
-    let mut bytes = Bytes {
-        memory: vec![in alloc; 0u8; SIZE as usize].ok()?,
-    };
+    let mut bytes = Bytes::filled(alloc, 0)?;
     set(&mut bytes, longs);
     Some(bytes)
 }
@@ -85,15 +50,6 @@ fn entry(space: Space, flags: [bool; 4], status: u32) -> Found {
 }
 
 #[test]
-fn a_root_that_is_its_own_table(rt: HostRuntime) {
-    let mut bytes = memory(rt.alloc(), &[(0x8000, 0x0000_8002)]).expect(&rt, "memory");
-    assert!(rt; search(&mut bytes, 0x8000, Super, 0, false, false) == Found::Invalid);
-    let wanted = memory(rt.alloc(), &[(0x8000, 0x0000_800A)]).expect(&rt, "memory");
-    assert!(rt; bytes.memory == wanted.memory);
-    assert!(rt; search(&mut bytes, 0x10_0000, Super, 0, false, false) == Found::BusError);
-}
-
-#[test]
 #[rattlefmt::skip]
 fn walks_by_hand(rt: HostRuntime) {
     let [none, w, s, m]: [[bool; 4]; 4] =
@@ -127,14 +83,14 @@ fn walks_by_hand(rt: HostRuntime) {
         (User, true, &[(ENTRY, 0x0000_8502), (0x8500, 0x0012_3001)], &[(0x8500, 0x0012_3019)],
          entry(User, m, 0x0012_3011)),
         (User, true, &[(ENTRY, 0x0000_8502), (0x8500, 0x0000_8602), (0x8600, 0x0012_3001)], &[], Found::Invalid),
-        (User, true, &[(ENTRY, 0x0000_9002)], &[], Found::BusError),
+        (User, true, &[(ENTRY, 0x0003_0002)], &[], Found::BusError),
         (User, true, &[(ENTRY, 0xFFFF_FFFE)], &[], Found::BusError),
         // invalid at each level
         (User, true, &[(ENTRY, 0x0012_3000)], &[], Found::Invalid),
         (User, true, &[(0x8204, 0x0000_8401)], &[(0x8204, 0x0000_8401)], Found::Invalid),
         (User, true, &[(0x8004, 0x0000_8201)], &[(0x8004, 0x0000_8201), (0x8204, 0x0000_8403)], Found::Invalid),
         // a table outside memory
-        (User, true, &[(0x8004, 0x0000_9002)], &[(0x8004, 0x0000_900A), (0x8204, 0x0000_8403)], Found::BusError),
+        (User, true, &[(0x8004, 0x0003_0002)], &[(0x8004, 0x0003_000A), (0x8204, 0x0000_8403)], Found::BusError),
         (User, true, &[(0x8204, 0xFFFF_FF03)], &[(0x8204, 0xFFFF_FF0B)], Found::BusError),
     ];
     for (space, write, longs, left, wanted) in walks {
@@ -147,6 +103,12 @@ fn walks_by_hand(rt: HostRuntime) {
         assert!(rt; search(&mut bytes, 0x8000, space, AT, write, false) == wanted);
         assert!(rt; bytes.memory == after.memory, "after {wanted:?}");
     }
+    // a root that is its own table, and one outside memory
+    let mut bytes = memory(rt.alloc(), &[(0x8000, 0x0000_8002)]).expect(&rt, "memory");
+    assert!(rt; search(&mut bytes, 0x8000, Super, 0, false, false) == Found::Invalid);
+    let wanted = memory(rt.alloc(), &[(0x8000, 0x0000_800A)]).expect(&rt, "memory");
+    assert!(rt; bytes.memory == wanted.memory);
+    assert!(rt; search(&mut bytes, 0x10_0000, Super, 0, false, false) == Found::BusError);
 }
 
 #[test]
@@ -180,31 +142,29 @@ fn walks_through_pages_of_8_kib(rt: HostRuntime) {
     }
 }
 
-#[test]
+/// The two registers, a space, an address, and the write protection of the one that matches.
 #[rattlefmt::skip]
-fn transparent_registers_by_hand(rt: HostRuntime) {
-    // The two registers, a space, an address, and the write protection of the one that matches.
-    let tries: [(u32, u32, Space, u32, Option<bool>); 12] = [
-        (0, 0, Super, 0, None),
-        (0x00FF_A000, 0, Super, 0x1234_5678, Some(false)),
-        (0x00FF_A000, 0, User, 0x1234_5678, None),
-        (0x0100_8004, 0, User, 0x01AB_CDEF, Some(true)),
-        (0x0100_8004, 0, User, 0x02AB_CDEF, None),
-        (0x0100_8004, 0, Super, 0x01AB_CDEF, None),
-        (0x0100_C000, 0, User, 0x0100_0000, Some(false)),
-        (0x0100_E000, 0, Super, 0x01FF_FFFF, Some(false)),
-        (0x120F_C000, 0, User, 0x1F00_0000, Some(false)),
-        (0x120F_C000, 0, User, 0x2200_0000, None),
-        (0x0100_4000, 0x00FF_C004, User, 0x0100_0000, Some(true)),
-        (0x0100_C000, 0x00FF_C004, User, 0x0100_0000, Some(false)),
-    ];
-    for (tt0, tt1, space, at, wanted) in tries {
-        assert!(rt; transparent(tt0, tt1, space, at) == wanted, "{tt0:x} {tt1:x} at {at:x}");
-    }
-}
+static TRANSPARENT: [(u32, u32, Space, u32, Option<bool>); 12] = [
+    (0, 0, Super, 0, None),
+    (0x00FF_A000, 0, Super, 0x1234_5678, Some(false)),
+    (0x00FF_A000, 0, User, 0x1234_5678, None),
+    (0x0100_8004, 0, User, 0x01AB_CDEF, Some(true)),
+    (0x0100_8004, 0, User, 0x02AB_CDEF, None),
+    (0x0100_8004, 0, Super, 0x01AB_CDEF, None),
+    (0x0100_C000, 0, User, 0x0100_0000, Some(false)),
+    (0x0100_E000, 0, Super, 0x01FF_FFFF, Some(false)),
+    (0x120F_C000, 0, User, 0x1F00_0000, Some(false)),
+    (0x120F_C000, 0, User, 0x2200_0000, None),
+    (0x0100_4000, 0x00FF_C004, User, 0x0100_0000, Some(true)),
+    (0x0100_C000, 0x00FF_C004, User, 0x0100_0000, Some(false)),
+];
 
 #[test]
-fn descriptors_and_results_by_hand(rt: HostRuntime) {
+#[rattlefmt::skip]
+fn registers_descriptors_and_results_by_hand(rt: HostRuntime) {
+    for &(tt0, tt1, space, at, wanted) in &TRANSPARENT {
+        assert!(rt; transparent(tt0, tt1, space, at) == wanted, "{tt0:x} {tt1:x} at {at:x}");
+    }
     let table = TableDescriptor::of(0x0000_820E);
     assert!(rt; (table.resident, table.protected, table.used) == (true, true, true));
     assert!(rt; !TableDescriptor::of(0x0000_8201).resident);

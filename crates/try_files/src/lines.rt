@@ -20,23 +20,26 @@ fn has_lines(text: &[u8], want: &[Numbered], count: u32) -> bool
     lines.next_line().is_none() && lines.count() == count
 }
 
+/// A text: its lines with their numbers, and how many there are.
+#[rattlefmt::skip]
+static LINES: [(&[u8], &[Numbered], u32); 11] = [
+    // text: its lines with their numbers, and how many there are
+    (b"", &[], 0),
+    (b"\n", &[], 1),
+    (b"\r\n\n", &[], 2),
+    (b"\r", &[(1, b"\r")], 1),
+    (b"a", &[(1, b"a")], 1),
+    (b"a\n", &[(1, b"a")], 1),
+    (b"a\r\nb\r\n", &[(1, b"a"), (2, b"b")], 2),
+    (b"a\rb\r\r\nc\r", &[(1, b"a\rb\r"), (2, b"c\r")], 2),
+    (b"\n\na\n\n b \n\n", &[(3, b"a"), (5, b" b ")], 6),
+    (b"\0\xFF\n#", &[(1, b"\0\xFF"), (2, b"#")], 2),
+    (b"\n\r\n\n\nlast", &[(5, b"last")], 5),
+];
+
 #[test]
 fn reads_lines(rt: HostRuntime) {
-    let table: [(&[u8], &[Numbered], u32); 11] = [
-        // text: its lines with their numbers, and how many there are
-        (b"", &[], 0),
-        (b"\n", &[], 1),
-        (b"\r\n\n", &[], 2),
-        (b"\r", &[(1, b"\r")], 1),
-        (b"a", &[(1, b"a")], 1),
-        (b"a\n", &[(1, b"a")], 1),
-        (b"a\r\nb\r\n", &[(1, b"a"), (2, b"b")], 2),
-        (b"a\rb\r\r\nc\r", &[(1, b"a\rb\r"), (2, b"c\r")], 2),
-        (b"\n\na\n\n b \n\n", &[(3, b"a"), (5, b" b ")], 6),
-        (b"\0\xFF\n#", &[(1, b"\0\xFF"), (2, b"#")], 2),
-        (b"\n\r\n\n\nlast", &[(5, b"last")], 5),
-    ];
-    for (text, want, count) in table {
+    for &(text, want, count) in &LINES {
         assert!(rt; text.len() < 1000);
         assert!(rt; has_lines(text, want, count), "{text:?}");
     }

@@ -51,45 +51,48 @@ fn has_contents(image: &Image, want: &[Content]) -> bool {
             && chunk.bytes() == *bytes)
 }
 
+/// A text, the bytes of RAM, and what it holds.
+#[rattlefmt::skip]
+static IMAGES: [(&[u8], u32, &[Content]); 14] = [
+    (PROGRAM, 0x10000, PROGRAM_CONTENTS),
+    (OTHERWISE, 0x412, PROGRAM_CONTENTS),
+    (OBJCOPY, 0x10008, &[(0x10000, EIGHT_BYTES)]),
+    (OBJCOPY_LONG, 0x10000, &[(0x400, EIGHT_BYTES)]),
+    (
+        SREC_CAT,
+        0x8000_0008,
+        &[
+            (0x90000, b" !\"#$%&'()*+,-./"),
+            (0x90010, b"0123"),
+            (0x8000_0000, EIGHT_BYTES),
+        ],
+    ),
+    (b"S9030000FC\n", 0, &[]),
+    (b"S804000000FB\n\n\r\n", 0, &[]),
+    (b"S70500000000FA\n", 0, &[]),
+    (
+        b"S104000001FA\nS104000002F9\nS9030000FC\n",
+        1,
+        &[(0, b"\x01"), (0, b"\x02")],
+    ),
+    (
+        b"S5030000FC\nS104000001FA\nS5030001FB\nS604000001FA\nS9030000FC\n",
+        1,
+        &[(0, b"\x01")],
+    ),
+    (b"S1040010AA41\nS9030000FC\n", 17, &[(16, b"\xAA")]),
+    (b"S103FFFFFE\nS9030000FC\n", 16, &[(0xFFFF, b"")]),
+    (
+        b"S20600FFFF0102F8\nS9030000FC\n",
+        0x10001,
+        &[(0xFFFF, b"\x01\x02")],
+    ),
+    (b"S305FFFFFFFFFE\nS9030000FC\n", 0, &[(0xFFFF_FFFF, b"")]),
+];
+
 #[test]
 fn reads_images(rt: HostRuntime) -> Result<(), Fail> {
-    let table: [(&[u8], u32, &[Content]); 14] = [
-        (PROGRAM, 0x10000, PROGRAM_CONTENTS),
-        (OTHERWISE, 0x412, PROGRAM_CONTENTS),
-        (OBJCOPY, 0x10008, &[(0x10000, EIGHT_BYTES)]),
-        (OBJCOPY_LONG, 0x10000, &[(0x400, EIGHT_BYTES)]),
-        (
-            SREC_CAT,
-            0x8000_0008,
-            &[
-                (0x90000, b" !\"#$%&'()*+,-./"),
-                (0x90010, b"0123"),
-                (0x8000_0000, EIGHT_BYTES),
-            ],
-        ),
-        (b"S9030000FC\n", 0, &[]),
-        (b"S804000000FB\n\n\r\n", 0, &[]),
-        (b"S70500000000FA\n", 0, &[]),
-        (
-            b"S104000001FA\nS104000002F9\nS9030000FC\n",
-            1,
-            &[(0, b"\x01"), (0, b"\x02")],
-        ),
-        (
-            b"S5030000FC\nS104000001FA\nS5030001FB\nS604000001FA\nS9030000FC\n",
-            1,
-            &[(0, b"\x01")],
-        ),
-        (b"S1040010AA41\nS9030000FC\n", 17, &[(16, b"\xAA")]),
-        (b"S103FFFFFE\nS9030000FC\n", 16, &[(0xFFFF, b"")]),
-        (
-            b"S20600FFFF0102F8\nS9030000FC\n",
-            0x10001,
-            &[(0xFFFF, b"\x01\x02")],
-        ),
-        (b"S305FFFFFFFFFE\nS9030000FC\n", 0, &[(0xFFFF_FFFF, b"")]),
-    ];
-    for (text, ram, want) in table {
+    for &(text, ram, want) in &IMAGES {
         assert!(rt; text.len() < 1000);
         let image = read_image(rt.alloc(), text, ram)?;
         assert!(rt; has_contents(&image, want), "{text:?}");
@@ -97,116 +100,76 @@ fn reads_images(rt: HostRuntime) -> Result<(), Fail> {
     Ok(())
 }
 
-const fn line(number: u32, why: RecordWhy) -> ImageFault {
+pub(super) const fn line(number: u32, why: RecordWhy) -> ImageFault {
     ImageFault::Line { number, why }
 }
 
+/// Images for 16 bytes, the line that is at fault, and why.
+#[rattlefmt::skip]
+static FAULTY_LINES: [(&[u8], u32, RecordWhy); 31] = [
+    // A line that does not stand.
+    (b"s9030000FC\n", 1, RecordWhy::Kind),
+    (b"S", 1, RecordWhy::Kind),
+    (b"S4030000FC\n", 1, RecordWhy::Kind),
+    (b"S104000001FA\n \nS9030000FC\n", 2, RecordWhy::Kind),
+    (b"S9030000FC\r\r\n", 1, RecordWhy::Digits),
+    (b"S9030000FC\r", 1, RecordWhy::Digits),
+    (b"S9030000F\n", 1, RecordWhy::Digits),
+    (b"S104000001FA\nS9030000 FC\n", 2, RecordWhy::Digits),
+    (b"S1FF0000", 1, RecordWhy::Length),
+    (b"S9", 1, RecordWhy::Length),
+    (b"S10200FD\n", 1, RecordWhy::Length),
+    (b"S103000001FA\n", 1, RecordWhy::Length),
+    (b"S504000109F1\n", 1, RecordWhy::Length),
+    (b"\n\r\nS80500000001F9\n", 3, RecordWhy::Length),
+    (b"S10B00000001000000000400EE\nS1150400704113C0FFF0000023FC00000001FFF0002044\n", 1, RecordWhy::Sum),
+    (b"S104000001FA\nS0030000FD\n", 2, RecordWhy::Sum),
+    (b"S5030001FB\n", 1, RecordWhy::Count),
+    (b"S104000001FA\nS5030000FC\n", 2, RecordWhy::Count),
+    (b"S104000001FA\nS604010001F9\n", 2, RecordWhy::Count),
+    (b"S9030000FC\nS9030000FC\n", 2, RecordWhy::After),
+    (b"S9030000FC\n\nS0030000FC\n", 3, RecordWhy::After),
+    (b"S9030000FC\nS5030000FC\n", 2, RecordWhy::After),
+    // Two faults in one line.
+    (b"S4030000F\n", 1, RecordWhy::Kind),
+    (b"S1FF000\n", 1, RecordWhy::Digits),
+    (b"S1040000FA\n", 1, RecordWhy::Length),
+    (b"S5030001FA\n", 1, RecordWhy::Sum),
+    (b"S9030000FC\nS9030000FB\n", 2, RecordWhy::Sum),
+    (b"S9030000FC\nS5030001FB\n", 2, RecordWhy::Count),
+    (b"S9030000FC\nS104002007D4\n", 2, RecordWhy::After),
+    (b"S104002007D3\nS9030000FC\n", 1, RecordWhy::Sum),
+    // Faults in two lines.
+    (b"S9030000FB\nS104002007D4\n", 1, RecordWhy::Sum),
+];
+
+/// Images for so many bytes that have no end, or data outside RAM.
+#[rattlefmt::skip]
+static FAULTY_WHOLES: [(&[u8], u32, ImageFault); 10] = [
+    (b"", 16, ImageFault::NoEnd),
+    (b"S0030000FC\nS104000001FA\n\n", 16, ImageFault::NoEnd),
+    (b"S1040010AA41\nS9030000FC\n", 16, ImageFault::Outside { at: 16 }),
+    (b"S104002007D4\nS9030000FC\n", 16, ImageFault::Outside { at: 32 }),
+    (b"S107000E01020304E0\nS9030000FC\n", 16, ImageFault::Outside { at: 16 }),
+    (b"S307FFFFFFFE0102FA\n", 16, ImageFault::Outside { at: 0xFFFF_FFFE }),
+    (b"S307FFFFFFFE0102FA\n", 0xFFFF_FFFF, ImageFault::Outside { at: 0xFFFF_FFFF }),
+    (b"S104000001FA\n", 0, ImageFault::Outside { at: 0 }),
+    (b"S104002007D4\nS4\n", 16, ImageFault::Outside { at: 32 }),
+    (SREC_CAT, 0x90008, ImageFault::Outside { at: 0x90008 }),
+];
+
 #[test]
-fn tells_faults_of_lines(rt: HostRuntime) {
-    let table: [(&[u8], u32, RecordWhy); 31] = [
-        (b"s9030000FC\n", 1, RecordWhy::Kind),
-        (b"S", 1, RecordWhy::Kind),
-        (b"S4030000FC\n", 1, RecordWhy::Kind),
-        (b"S104000001FA\n \nS9030000FC\n", 2, RecordWhy::Kind),
-        (b"S9030000FC\r\r\n", 1, RecordWhy::Digits),
-        (b"S9030000FC\r", 1, RecordWhy::Digits),
-        (b"S9030000F\n", 1, RecordWhy::Digits),
-        (b"S104000001FA\nS9030000 FC\n", 2, RecordWhy::Digits),
-        (b"S1FF0000", 1, RecordWhy::Length),
-        (b"S9", 1, RecordWhy::Length),
-        (b"S10200FD\n", 1, RecordWhy::Length),
-        (b"S103000001FA\n", 1, RecordWhy::Length),
-        (b"S504000109F1\n", 1, RecordWhy::Length),
-        (b"\n\r\nS80500000001F9\n", 3, RecordWhy::Length),
-        (
-            b"S10B00000001000000000400EE\nS1150400704113C0FFF0000023FC00000001FFF0002044\n",
-            1,
-            RecordWhy::Sum,
-        ),
-        (b"S104000001FA\nS0030000FD\n", 2, RecordWhy::Sum),
-        (b"S5030001FB\n", 1, RecordWhy::Count),
-        (b"S104000001FA\nS5030000FC\n", 2, RecordWhy::Count),
-        (b"S104000001FA\nS604010001F9\n", 2, RecordWhy::Count),
-        (b"S9030000FC\nS9030000FC\n", 2, RecordWhy::After),
-        (b"S9030000FC\n\nS0030000FC\n", 3, RecordWhy::After),
-        (b"S9030000FC\nS5030000FC\n", 2, RecordWhy::After),
-        // Two faults in one line.
-        (b"S4030000F\n", 1, RecordWhy::Kind),
-        (b"S1FF000\n", 1, RecordWhy::Digits),
-        (b"S1040000FA\n", 1, RecordWhy::Length),
-        (b"S5030001FA\n", 1, RecordWhy::Sum),
-        (b"S9030000FC\nS9030000FB\n", 2, RecordWhy::Sum),
-        (b"S9030000FC\nS5030001FB\n", 2, RecordWhy::Count),
-        (b"S9030000FC\nS104002007D4\n", 2, RecordWhy::After),
-        (b"S104002007D3\nS9030000FC\n", 1, RecordWhy::Sum),
-        // Faults in two lines.
-        (b"S9030000FB\nS104002007D4\n", 1, RecordWhy::Sum),
-    ];
-    for (text, number, why) in table {
+fn tells_faults(rt: HostRuntime) {
+    for &(text, number, why) in &FAULTY_LINES {
         assert!(rt; text.len() < 1000);
         let answer = read_image(rt.alloc(), text, 16);
         assert!(rt; answer.err() == Some(line(number, why)), "{text:?}");
     }
-}
-
-#[test]
-fn tells_other_faults(rt: HostRuntime) {
-    let table: [(&[u8], u32, ImageFault); 10] = [
-        (b"", 16, ImageFault::NoEnd),
-        (b"S0030000FC\nS104000001FA\n\n", 16, ImageFault::NoEnd),
-        (
-            b"S1040010AA41\nS9030000FC\n",
-            16,
-            ImageFault::Outside { at: 16 },
-        ),
-        (
-            b"S104002007D4\nS9030000FC\n",
-            16,
-            ImageFault::Outside { at: 32 },
-        ),
-        (
-            b"S107000E01020304E0\nS9030000FC\n",
-            16,
-            ImageFault::Outside { at: 16 },
-        ),
-        (
-            b"S307FFFFFFFE0102FA\n",
-            16,
-            ImageFault::Outside { at: 0xFFFF_FFFE },
-        ),
-        (
-            b"S307FFFFFFFE0102FA\n",
-            0xFFFF_FFFF,
-            ImageFault::Outside { at: 0xFFFF_FFFF },
-        ),
-        (b"S104000001FA\n", 0, ImageFault::Outside { at: 0 }),
-        (b"S104002007D4\nS4\n", 16, ImageFault::Outside { at: 32 }),
-        (SREC_CAT, 0x90008, ImageFault::Outside { at: 0x90008 }),
-    ];
-    for (text, ram, fault) in table {
+    for &(text, ram, fault) in &FAULTY_WHOLES {
         assert!(rt; text.len() < 1000);
         let answer = read_image(rt.alloc(), text, ram);
         assert!(rt; answer.err() == Some(fault), "{text:?}");
     }
-}
-
-#[test]
-fn prints_faults(rt: HostRuntime) -> Result<(), Fail> {
-    let table = [
-        (ImageFault::Memory, "no memory"),
-        (line(1, RecordWhy::Kind), "line 1: kind"),
-        (line(20, RecordWhy::Digits), "line 20: digits"),
-        (line(3, RecordWhy::Length), "line 3: length"),
-        (line(4, RecordWhy::Sum), "line 4: sum"),
-        (line(5, RecordWhy::Count), "line 5: count"),
-        (line(6, RecordWhy::After), "line 6: after"),
-        (ImageFault::Outside { at: 0x1_0000 }, "outside 00010000"),
-        (ImageFault::NoEnd, "no end"),
-    ];
-    for (fault, want) in table {
-        assert!(rt; fault.to_string(rt.alloc())?.as_str() == want);
-    }
-    Ok(())
 }
 
 /// The data lines are those of `objcopy --srec-forceS3 --srec-len 16 --change-addresses 0xFFF0`.

@@ -7,10 +7,11 @@ use mb_outside::{
 use std::alloc::Global;
 use std::fs::File;
 use std::io::Cursor;
+use std::process::Abort;
 use std::{env, fs};
 
-/// A shelf with an empty file, one of five bytes and one of two pieces.
-fn shelf(alloc: Global, fails: &[u64]) -> Option<MemShelf> {
+/// An empty file, one of five bytes and one of two pieces.
+fn files(alloc: Global) -> Option<Vec<(String, Vec<u8>)>> {
     let mut files = Vec::new(alloc);
     files
         .push((String::from_str(alloc, "empty").ok()?, Vec::new(alloc)))
@@ -23,17 +24,42 @@ fn shelf(alloc: Global, fails: &[u64]) -> Option<MemShelf> {
     files
         .push((String::from_str(alloc, "long").ok()?, long))
         .ok()?;
-    Some(MemShelf::new(files, Vec::from_slice(alloc, fails).ok()?))
+    Some(files)
 }
 
+/// A shelf with these, of which a call fails.
+fn mem_shelf(alloc: Global, fails: u64) -> Option<MemShelf> {
+    let fails = Vec::from_slice(alloc, &[fails]).ok()?;
+    Some(MemShelf::new(files(alloc)?, fails))
+}
+
+/// A file, where its piece begins, the room for it, and what the shelf gives.
+type Piece<'a> = (&'a str, u64, usize, Result<&'a [u8], ShelfFault>);
+
+const FAILED: Result<&[u8], ShelfFault> = Err(ShelfFault::Failed);
+
+fn check_pieces<S: Shelf>(rt: &impl Abort, alloc: Global, shelf: &mut S, pieces: &[Piece]) {
+    for (name, at, room, want) in pieces {
+        let mut buf = [0u8; 8];
+        let room = (*room).min(8);
+        let got = shelf.piece(alloc, name, *at, &mut buf[..room]);
+        match want {
+            Ok(bytes) => {
+                assert!(rt; got == Ok(bytes.len()), "{name} at {at}");
+                assert!(rt; buf.starts_with(bytes), "{name} at {at}");
+            }
+            Err(fault) => assert!(rt; got == Err(*fault), "{name} at {at}"),
+        }
+    }
+}
+
+/// A shelf in memory, and one of real files.
 #[test]
-fn mem_shelf_gives_pieces(rt: HostRuntime) {
-    let mut shelf = shelf(rt.alloc(), &[3]).expect(&rt, "ample memory");
-    let failed: Result<&[u8], ShelfFault> = Err(ShelfFault::Failed);
-    let rows: [(&str, u64, usize, Result<&[u8], ShelfFault>); 11] = [
+fn shelves_give_pieces(rt: HostRuntime) {
+    let in_memory: [Piece; 11] = [
         ("hello", 0, 8, Ok(b"hello")),
         ("hello", 0, 5, Ok(b"hello")),
-        ("hello", 0, 8, failed),
+        ("hello", 0, 8, FAILED),
         ("hello", 0, 3, Ok(b"hel")),
         ("hello", 3, 8, Ok(b"lo")),
         ("hello", 4, 1, Ok(b"o")),
@@ -41,23 +67,78 @@ fn mem_shelf_gives_pieces(rt: HostRuntime) {
         ("hello", 5, 8, Ok(b"")),
         ("hello", u64::MAX, 8, Ok(b"")),
         ("empty", 0, 8, Ok(b"")),
-        ("missing", 0, 8, failed),
+        ("missing", 0, 8, FAILED),
     ];
-    for (name, at, room, want) in rows {
-        let mut buf = [0u8; 8];
-        let got = shelf.piece(rt.alloc(), name, at, &mut buf[..room.min(8)]);
-        match want {
-            Ok(bytes) => {
-                assert!(rt; got == Ok(bytes.len()), "{name} at {at}");
-                assert!(rt; buf.starts_with(bytes), "{name} at {at}");
-            }
-            Err(fault) => assert!(rt; got == Err(fault), "{name} at {at}"),
-        }
+    let mut shelf = mem_shelf(rt.alloc(), 3).expect(&rt, "ample memory");
+    check_pieces(&rt, rt.alloc(), &mut shelf, &in_memory);
+    let folder = env::temp_dir(&rt).expect(&rt, "a folder");
+    let path = folder
+        .join(rt.alloc(), "mb_outside.txt")
+        .expect(&rt, "ample memory");
+    let file = path.as_str();
+    fs::write(&rt, file, b"hello").expect(&rt, "a file");
+    let of_files: [Piece; 8] = [
+        (file, 0, 3, Ok(b"hel")),
+        (file, 3, 3, Ok(b"lo")),
+        (file, 5, 3, Ok(b"")),
+        (file, 1, 3, Ok(b"ell")),
+        ("no such file", 0, 3, FAILED),
+        (file, 9, 3, Ok(b"")),
+        (folder.as_str(), 0, 3, FAILED),
+        (file, 0, 3, Ok(b"hel")),
+    ];
+    check_pieces(&rt, rt.alloc(), &mut FileShelf::new(rt), &of_files);
+    fs::remove_file(&rt, file).expect(&rt, "the file");
+}
+
+/// How many bytes a file has that is loaded.
+fn load_len<S: Shelf>(
+    alloc: Global,
+    shelf: &mut S,
+    name: &str,
+    most: usize,
+) -> Result<usize, LoadFault> {
+    let bytes = load(alloc, shelf, name, most)?;
+    Ok(bytes.len())
+}
+
+/// From a shelf of which a call fails, and from one that never fails.
+#[test]
+fn load_reads_whole_files(rt: HostRuntime) {
+    let failing: [(&str, usize, u64, Result<usize, LoadFault>); 12] = [
+        ("hello", 6, 0, Ok(5)),
+        ("hello", 5, 0, Ok(5)),
+        ("hello", 4, 0, Err(LoadFault::TooLong)),
+        ("hello", 0, 0, Err(LoadFault::TooLong)),
+        ("empty", 0, 0, Ok(0)),
+        ("missing", 5, 0, Err(LoadFault::Failed)),
+        ("long", 70_000, 0, Ok(70_000)),
+        ("long", 69_999, 0, Err(LoadFault::TooLong)),
+        ("long", 70_000, 1, Err(LoadFault::Failed)),
+        ("long", 70_000, 2, Err(LoadFault::Failed)),
+        ("long", 70_000, 3, Err(LoadFault::Failed)),
+        ("long", 70_000, 4, Ok(70_000)),
+    ];
+    for (name, most, fails, want) in failing {
+        let mut shelf = mem_shelf(rt.alloc(), fails).expect(&rt, "ample memory");
+        let got = load_len(rt.alloc(), &mut shelf, name, most);
+        assert!(rt; got == want, "{name} of at most {most}, fails {fails}");
+    }
+    let unfailing: [(&str, usize, Result<usize, LoadFault>); 4] = [
+        ("hello", 5, Ok(5)),
+        ("hello", 4, Err(LoadFault::TooLong)),
+        ("missing", 5, Ok(0)),
+        ("missing", 0, Ok(0)),
+    ];
+    let mut shelf = NoFailShelf::new(files(rt.alloc()).expect(&rt, "ample memory"));
+    for (name, most, want) in unfailing {
+        let got = load_len(rt.alloc(), &mut shelf, name, most);
+        assert!(rt; got == want, "{name} of at most {most}");
     }
 }
 
 #[test]
-fn mem_sink_takes_what_has_room(rt: HostRuntime) {
+fn a_sink_takes_what_has_room(rt: HostRuntime) {
     let rows: [(usize, u64, Result<(), SinkFault>, &[u8]); 8] = [
         (0, 0, Err(SinkFault), b""),
         (1, 0, Err(SinkFault), b"h"),
@@ -78,101 +159,19 @@ fn mem_sink_takes_what_has_room(rt: HostRuntime) {
     }
 }
 
+/// A sink that never fails, and real ones: with all room, none, and room for three bytes.
 #[test]
-fn load_reads_whole_files(rt: HostRuntime) {
-    let rows: [(&str, usize, u64, Result<usize, LoadFault>); 12] = [
-        ("hello", 6, 0, Ok(5)),
-        ("hello", 5, 0, Ok(5)),
-        ("hello", 4, 0, Err(LoadFault::TooLong)),
-        ("hello", 0, 0, Err(LoadFault::TooLong)),
-        ("empty", 0, 0, Ok(0)),
-        ("missing", 5, 0, Err(LoadFault::Failed)),
-        ("long", 70_000, 0, Ok(70_000)),
-        ("long", 69_999, 0, Err(LoadFault::TooLong)),
-        ("long", 70_000, 1, Err(LoadFault::Failed)),
-        ("long", 70_000, 2, Err(LoadFault::Failed)),
-        ("long", 70_000, 3, Err(LoadFault::Failed)),
-        ("long", 70_000, 4, Ok(70_000)),
-    ];
-    for (name, most, fails, want) in rows {
-        let mut shelf = shelf(rt.alloc(), &[fails]).expect(&rt, "ample memory");
-        let got = match load(rt.alloc(), &mut shelf, name, most) {
-            Ok(bytes) => Ok(bytes.len()),
-            Err(fault) => Err(fault),
-        };
-        assert!(rt; got == want, "{name} of at most {most}, fails {fails}");
-    }
-}
-
-#[test]
-fn nothing_fails(rt: HostRuntime) {
-    let hello = Vec::from_slice(rt.alloc(), b"hello").expect(&rt, "ample memory");
-    let name = String::from_str(rt.alloc(), "hello").expect(&rt, "ample memory");
-    let mut files = Vec::new(rt.alloc());
-    files.push((name, hello)).expect(&rt, "ample memory");
-    let mut shelf = NoFailShelf::new(files);
-    let rows: [(&str, usize, Result<usize, LoadFault>); 4] = [
-        ("hello", 5, Ok(5)),
-        ("hello", 4, Err(LoadFault::TooLong)),
-        ("missing", 5, Ok(0)),
-        ("missing", 0, Ok(0)),
-    ];
-    for (name, most, want) in rows {
-        let got = match load(rt.alloc(), &mut shelf, name, most) {
-            Ok(bytes) => Ok(bytes.len()),
-            Err(fault) => Err(fault),
-        };
-        assert!(rt; got == want, "{name} of at most {most}");
-    }
-    let mut sink = NoFailSink::new();
-    assert!(rt; put_all(&mut sink, b"hello") == Ok(()));
-    assert!(rt; sink.put(b"") == Ok(0));
-    assert!(rt; sink.put(b"12") == Ok(2));
-    assert!(rt; sink.bytes() == 7);
-}
-
-#[test]
-fn file_shelf_reads_files(rt: HostRuntime) {
-    let folder = env::temp_dir(&rt).expect(&rt, "a folder");
-    let path = folder
-        .join(rt.alloc(), "mb_outside.txt")
-        .expect(&rt, "ample memory");
-    let file = path.as_str();
-    fs::write(&rt, file, b"hello").expect(&rt, "a file");
-    let alloc = rt.alloc();
-    let mut shelf = FileShelf::new(rt);
-    let rows: [(&str, u64, Result<&[u8], ShelfFault>); 8] = [
-        (file, 0, Ok(b"hel")),
-        (file, 3, Ok(b"lo")),
-        (file, 5, Ok(b"")),
-        (file, 1, Ok(b"ell")),
-        ("no such file", 0, Err(ShelfFault::Failed)),
-        (file, 9, Ok(b"")),
-        (folder.as_str(), 0, Err(ShelfFault::Failed)),
-        (file, 0, Ok(b"hel")),
-    ];
-    for (name, at, want) in rows {
-        let mut buf = [0u8; 3];
-        let got = shelf.piece(alloc, name, at, &mut buf);
-        match want {
-            Ok(bytes) => {
-                assert!(rt; got == Ok(bytes.len()), "{name} at {at}");
-                assert!(rt; buf.starts_with(bytes), "{name} at {at}");
-            }
-            Err(fault) => assert!(rt; got == Err(fault), "{name} at {at}"),
-        }
-    }
-    fs::remove_file(&rt, file).expect(&rt, "the file");
-}
-
-#[test]
-fn std_sink_writes(rt: HostRuntime) {
+fn other_sinks_take_bytes(rt: HostRuntime) {
+    let mut unfailing = NoFailSink::new();
+    assert!(rt; put_all(&mut unfailing, b"hello") == Ok(()));
+    assert!(rt; unfailing.put(b"") == Ok(0));
+    assert!(rt; unfailing.put(b"12") == Ok(2));
+    assert!(rt; unfailing.bytes() == 7);
     let mut taking = StdSink::new(File::create(&rt, "/dev/null").expect(&rt, "a null device"));
     let mut full = StdSink::new(File::create(&rt, "/dev/full").expect(&rt, "a full device"));
     assert!(rt; taking.put(b"hello") == Ok(5));
     assert!(rt; full.put(b"hello") == Err(Failed));
     assert!(rt; put_all(&mut full, b"") == Ok(()));
-    // room for three bytes
     let mut short = StdSink::new(Cursor::new([0u8; 3]));
     assert!(rt; short.put(b"hello") == Ok(3));
     assert!(rt; short.put(b"lo") == Err(Failed));

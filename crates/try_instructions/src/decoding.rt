@@ -1,10 +1,13 @@
-//! Words, and what they decode to.
+//! Words, what they decode to, and what that is encoded to again.
 
 use mb_decode::{Decoded, decode, spellings};
+use mb_encode::encode;
+use mb_round::read_back;
+use mb_table::FirstWords;
 use std::test::Fail;
 
-/// Words of the manual's encodings, assembled by hand, each row at least once, and others; and how
-/// what they begin with prints.
+/// Words of the manual's encodings, assembled by hand, each row at least once, as a disassembler of GNU reads them too,
+/// and others; and how what they begin with prints.
 const DECODED: &str = "\
 c141: Whole(Move(Exg { x: 0, kind: Data, y: 1 }), 1)
 c149: Whole(Move(Exg { x: 0, kind: Address, y: 1 }), 1)
@@ -130,6 +133,9 @@ f568: Whole(System(Ptest { is_read: true, register: 0 }), 1)
 46fc 2700: Whole(System(ToSr { ea: Imm(9984) }), 2)
 4e71 4e71: Whole(Flow(Nop), 1)
 13c0 fff0 0000 4e71: Whole(Move(Move { size: Byte, destination: AbsL(4293918720), source: Dn(0) }), 3)
+: More
+0000: More
+0640: More
 13c0: More
 13c0 fff0: More
 13fc: More
@@ -200,26 +206,36 @@ f550: LineF
 f5a0: LineF
 f628: LineF
 f640: LineF
+ffff: LineF
 f620 1000: LineF
 f620 8001: LineF
 ";
 
+/// What is read is written again, and what a first word alone begins with stands in the table of first words.
 #[test]
 fn words_decode(rt: HostRuntime) -> Result<(), Fail> {
+    let mut table = FirstWords::new(rt.alloc())?;
     for line in DECODED.lines() {
         let (spelled, expected) = line.split_once(": ").expect(&rt, "words and an answer");
         let mut words = Vec::new(rt.alloc());
         for digits in spelled.split_whitespace() {
             words.push(u16::from_str_radix(digits, 16).expect(&rt, "a word"))?;
         }
-        let found = format!(in rt.alloc(); "{:?}", decode(&words))?;
+        let decoded = decode(&words);
+        let found = format!(in rt.alloc(); "{decoded:?}")?;
         assert!(rt; found.as_str() == expected, "at {spelled}");
+        if let Decoded::Whole(instruction, length) = decoded {
+            let written = encode(&instruction)?;
+            assert!(rt;
+                words.get(..usize::from(length)) == Some(written.as_slice()),
+                "at {spelled}"
+            );
+            assert!(rt; read_back(&instruction) == Ok(decoded), "at {spelled}");
+        }
+        if let [first] = words.as_slice() {
+            assert!(rt; *table.of(*first) == decoded, "at {spelled}");
+        }
     }
-    Ok(())
-}
-
-#[test]
-fn no_words_are_more(rt: HostRuntime) {
-    assert!(rt; decode(&[]) == Decoded::More);
     spellings();
+    Ok(())
 }

@@ -6,13 +6,11 @@ mod decoding;
 #[cfg(test)]
 mod encoding;
 #[cfg(test)]
-mod first_words;
-#[cfg(test)]
 mod mnemonics;
 #[cfg(test)]
-mod round;
-#[cfg(test)]
 mod sources;
+#[cfg(test)]
+mod spelled;
 #[cfg(test)]
 mod syntax;
 #[cfg(test)]

@@ -1,6 +1,7 @@
 //! Statements with the words that GNU's assembler gives for them, at the address $1000. It has no word for a byte
 //! immediate below 0 but $FFxx, and chooses some full forms by itself: those words are by hand.
 
+use crate::spelled::spell;
 use mb_encode::encode;
 use mb_instr::{Caches, ControlRegister};
 use mb_mnemonics::{Ending, Line, MeansFault, Pattern, instruction_of, length_of, lines};
@@ -17,30 +18,22 @@ use std::alloc::Global;
 use std::process::Abort;
 use std::test::Fail;
 
-/// A statement, and the words that it has.
+/// A statement, and the words that it has, or why it means nothing.
 struct Case {
     name: &'static str,
     size: Option<SizeLetter>,
     operands: &'static [Operand<i64>],
-    words: &'static str,
-}
-
-/// A statement that means nothing, and why.
-struct Refused {
-    name: &'static str,
-    size: Option<SizeLetter>,
-    operands: &'static [Operand<i64>],
-    fault: MeansFault,
+    means: Result<&'static str, MeansFault>,
 }
 
 const AT: u32 = 0x1000;
 
 macro_rules! case {
     ($name:literal, $size:expr, [$($operand:expr),*], $words:literal) => {
-        Case { name: $name, size: $size, operands: &[$($operand),*], words: $words }
+        Case { name: $name, size: $size, operands: &[$($operand),*], means: Ok($words) }
     };
     ($name:literal, $size:expr, [$($operand:expr),*], $fault:ident) => {
-        Refused { name: $name, size: $size, operands: &[$($operand),*], fault: MeansFault::$fault }
+        Case { name: $name, size: $size, operands: &[$($operand),*], means: Err(MeansFault::$fault) }
     };
 }
 
@@ -124,7 +117,7 @@ macro_rules! control { ($register:expr) => { Operand::Control($register) }; }
 macro_rules! caches { ($name:ident) => { Operand::Caches(Caches::$name) }; }
 
 #[rattlefmt::skip]
-static CASES: [Case; 45] = [
+static CASES: [Case; 61] = [
     case!("ADD", Some(Long), [data!(2), pre!(3)], "d5a3"),
     case!("ADDQ", None, [immediate!(8), data!(3)], "5043"),
     case!("ANDI", Some(Byte), [immediate!(0x1f), Operand::Ccr], "023c 001f"),
@@ -182,10 +175,6 @@ static CASES: [Case; 45] = [
     case!("MOVE", None, [
         full!(word!(4), Address(1), index!(D 3, dropped, Word, Two), Direct, none!()), data!(0)
     ], "3031 3360 0004"),
-];
-
-#[rattlefmt::skip]
-static REFUSED: [Refused; 16] = [
     case!("BT", None, [absolute!(0x1010, None)], Name),
     case!("ADD", Some(Short), [data!(1), data!(2)], Operand),
     case!("ADD", None, [data!(1), address!(2)], Operand),
@@ -206,67 +195,30 @@ static REFUSED: [Refused; 16] = [
     case!("UNLK", Some(Long), [address!(6)], Operand),
 ];
 
-fn cases() -> &'static [Case] {
-    &CASES
-}
-
-fn refusals() -> &'static [Refused] {
-    &REFUSED
-}
-
-/// The words of a statement, in hexadecimal.
-fn words_of(alloc: Global, case: &Case) -> Result<String, Fail> {
-    let mut text = String::new(alloc);
-    let instruction = instruction_of(case.name.as_bytes(), case.size, case.operands, AT)?;
-    let words = encode(&instruction)?;
-    for word in words.as_slice() {
-        if !text.is_empty() {
-            text.push_str(" ")?;
-        }
-        text.push_str(&format!(in alloc; "{word:04x}")?)?;
-    }
-    Ok(text)
-}
-
 #[test]
 fn statements(rt: HostRuntime) -> Result<(), Fail> {
-    for case in cases() {
-        let words = words_of(rt.alloc(), case)?;
-        assert!(rt;
-            words.as_str() == case.words,
-            "at {} {:?}",
-            case.name,
-            case.operands
-        );
+    for case in &CASES {
+        let (name, size, operands) = (case.name.as_bytes(), case.size, case.operands);
+        match (instruction_of(name, size, operands, AT), case.means) {
+            (Ok(instruction), Ok(expected)) => {
+                let words = spell(rt.alloc(), encode(&instruction)?.as_slice())?;
+                assert!(rt; words.as_str() == expected, "at {} {operands:?}", case.name);
+                let length = length_of(name, size, operands)?;
+                assert!(rt;
+                    length as usize == expected.len() / 5 * 2 + 2,
+                    "at {} {operands:?}",
+                    case.name
+                );
+            }
+            (Err(fault), Err(expected)) => assert!(rt;
+                fault == expected,
+                "at {} {operands:?}",
+                case.name
+            ),
+            _ => assert!(rt; false, "at {} {operands:?}", case.name),
+        }
     }
     Ok(())
-}
-
-#[test]
-fn lengths(rt: HostRuntime) -> Result<(), Fail> {
-    for case in cases() {
-        let length = length_of(case.name.as_bytes(), case.size, case.operands)?;
-        assert!(rt;
-            length as usize == case.words.len() / 5 * 2 + 2,
-            "at {} {:?}",
-            case.name,
-            case.operands
-        );
-    }
-    Ok(())
-}
-
-#[test]
-fn faults(rt: HostRuntime) {
-    for case in refusals() {
-        let fault = instruction_of(case.name.as_bytes(), case.size, case.operands, AT).err();
-        assert!(rt;
-            fault == Some(case.fault),
-            "at {} {:?}",
-            case.name,
-            case.operands
-        );
-    }
 }
 
 /// How many modes `mode` has.

@@ -5,18 +5,6 @@ use mb_srec::write_records;
 use std::process::Abort;
 use std::test::Fail;
 
-#[test]
-fn a_small_source(rt: HostRuntime) -> Result<(), Fail> {
-    let text =
-        b" ORG 0\n DC.L $10000,start\n ORG $400\nstart MOVEQ #'A',D0\n MOVE.B D0,$FFF00000\n MOVE.L #1,$FFF00020\n";
-    let image = assemble(rt.alloc(), text)?;
-    let records = write_records(rt.alloc(), &image)?;
-    let expected = b"S0030000FC\nS30D000000000001000000000400ED\n\
-S31500000400704113C0FFF0000023FC00000001FFF064\nS307000004100020C4\nS70500000000FA\n";
-    assert!(rt; records.as_slice() == expected.as_slice());
-    Ok(())
-}
-
 /// The first faulty line of a text and its kind; none where there is an image.
 fn fault_of(rt: &impl Abort, alloc: std::alloc::Global, text: &[u8]) -> Option<(u32, AsmKind)> {
     assert!(rt; text.len() < 1 << 31);
@@ -27,73 +15,86 @@ fn fault_of(rt: &impl Abort, alloc: std::alloc::Global, text: &[u8]) -> Option<(
     }
 }
 
+/// A source, and the line that is faulty in it with its fault, if one is.
+#[rattlefmt::skip]
+static FAULTY_LINES: [(&[u8], Option<(u32, AsmKind)>); 53] = [
+    (b"", None),
+    (b"; nothing\n* nothing\n\n   \n", None),
+    (b" NOP\n", None),
+    (b" DC.B @\n", Some((1, AsmKind::Syntax))),
+    (b"a EQU 1\n EQU 2\n", Some((2, AsmKind::Syntax))),
+    (b"\n ADD.Q D0,D1\n", Some((2, AsmKind::Syntax))),
+    (b"label:NOP\n", Some((1, AsmKind::Syntax))),
+    (b" MOVE D0, D1 ; blanks around commas\n", None),
+    (b" MOVEX D0,D1\n", Some((1, AsmKind::Name))),
+    (b" BRA there\n", Some((1, AsmKind::Name))),
+    (b" BRA there\n NOP\nthere: NOP\n", None),
+    (b" ORG later\nlater EQU 2\n", Some((1, AsmKind::Name))),
+    (b"a DS.B a\n", Some((1, AsmKind::Name))),
+    (b"a EQU 1\na EQU 2\n", Some((2, AsmKind::Twice))),
+    (b"a NOP\nA NOP\n", None),
+    (b" MOVEA.B D0,A0\n", Some((1, AsmKind::Operand))),
+    (b" EVEN 2\n", Some((1, AsmKind::Operand))),
+    (b" DC.W\n", Some((1, AsmKind::Operand))),
+    (b" DC.W \"ab\"\n", Some((1, AsmKind::Operand))),
+    (b" MOVEQ #256,D0\n", Some((1, AsmKind::Range))),
+    (b" DC.B 256\n", Some((1, AsmKind::Range))),
+    (b" DC.B -128,255\n", None),
+    (b" MOVE.L #$100000000,D0\n", Some((1, AsmKind::Range))),
+    (b" MOVEA.B #$100000000,A0\n", Some((1, AsmKind::Operand))),
+    (b" ORG -1\n", Some((1, AsmKind::Range))),
+    (b" ORG $FFFFFFFF+1\n", Some((1, AsmKind::Place))),
+    (b" ORG $FFFFFFFF\n DC.B 1\n", None),
+    (b" ORG $FFFFFFFF\n DC.B 1,2\n", Some((2, AsmKind::Place))),
+    (b" DC.B 1\n NOP\n", Some((2, AsmKind::Place))),
+    (b" DC.B 1\n DC.W 2\n", None),
+    (b" BRA.S there\n DS.B 300\nthere NOP\n", Some((1, AsmKind::Range))),
+    (b" BRA.S there\n DS.B 300\n MOVEX\nthere NOP\n", Some((3, AsmKind::Name))),
+    (b" BRA.S there\n MOVEX\n ORG 300\nthere NOP\n", Some((1, AsmKind::Range))),
+    (b" BEQ.S skip\n MOVEA.B D0,A0\nskip NOP\n", Some((2, AsmKind::Operand))),
+    (b" BEQ.S skip\n @\nskip NOP\n", Some((2, AsmKind::Syntax))),
+    (b" BEQ.S skip\n DS.B *-3\nskip NOP\n", Some((2, AsmKind::Range))),
+    (b" LEA (msg,PC),A0\nmsg DC.B @\n", Some((2, AsmKind::Syntax))),
+    (b" LEA (msg,PC),A0\nmsg: DC.B 1,\n", Some((2, AsmKind::Syntax))),
+    (b" LEA (msg,PC),A0\nmsg:DC.B 1\n", Some((1, AsmKind::Name))),
+    (b" LEA (msg,PC),A0\nmsg MOVEA.B D0,A0\n", Some((2, AsmKind::Operand))),
+    (b" DC.B a\na EQU $100000000\n", Some((2, AsmKind::Range))),
+    (b" DC.B 256,b\n MOVEX\nb NOP\n", Some((1, AsmKind::Range))),
+    (b" MOVE.L #$100000000,b\n MOVEX\nb NOP\n", Some((1, AsmKind::Range))),
+    (b" MOVE.W #70000,skip\n MOVEX\nskip NOP\n", Some((1, AsmKind::Range))),
+    (b" MOVE.W #70000,(skip,A0)\n MOVEX\nskip NOP\n", Some((1, AsmKind::Range))),
+    (b" MOVE.W (skip,PC),(40000,A0)\n MOVEX\nskip NOP\n", Some((1, AsmKind::Range))),
+    (b" MOVE.W ([skip,PC],40000.W),D0\n MOVEX\nskip NOP\n", Some((1, AsmKind::Range))),
+    (b" BFEXTU skip{1:33},D0\n MOVEX\nskip NOP\n", Some((1, AsmKind::Range))),
+    (b" ADDQ.L #8,skip\n MOVEX\nskip NOP\n", Some((2, AsmKind::Name))),
+    (b" ADDQ.L #skip,(skip,A0,D0.W)\n MOVEX\nskip NOP\n", Some((2, AsmKind::Name))),
+    (b" BTST #70,(skip,PC,D0.W)\n MOVEX\nskip NOP\n", Some((2, AsmKind::Name))),
+    (b" BFEXTU (skip,PC){skip:skip},D0\n MOVEX\nskip NOP\n", Some((2, AsmKind::Name))),
+    (b" MOVEX\na EQU *\n DS.B a\nb NOP\n", Some((1, AsmKind::Name))),
+];
+
 #[rattlefmt::skip]
 #[test]
 fn faulty_lines(rt: HostRuntime) -> Result<(), Fail> {
-    let cases: [(&[u8], Option<(u32, AsmKind)>); 53] = [
-        (b"", None),
-        (b"; nothing\n* nothing\n\n   \n", None),
-        (b" NOP\n", None),
-        (b" DC.B @\n", Some((1, AsmKind::Syntax))),
-        (b"a EQU 1\n EQU 2\n", Some((2, AsmKind::Syntax))),
-        (b"\n ADD.Q D0,D1\n", Some((2, AsmKind::Syntax))),
-        (b"label:NOP\n", Some((1, AsmKind::Syntax))),
-        (b" MOVE D0, D1 ; blanks around commas\n", None),
-        (b" MOVEX D0,D1\n", Some((1, AsmKind::Name))),
-        (b" BRA there\n", Some((1, AsmKind::Name))),
-        (b" BRA there\n NOP\nthere: NOP\n", None),
-        (b" ORG later\nlater EQU 2\n", Some((1, AsmKind::Name))),
-        (b"a DS.B a\n", Some((1, AsmKind::Name))),
-        (b"a EQU 1\na EQU 2\n", Some((2, AsmKind::Twice))),
-        (b"a NOP\nA NOP\n", None),
-        (b" MOVEA.B D0,A0\n", Some((1, AsmKind::Operand))),
-        (b" EVEN 2\n", Some((1, AsmKind::Operand))),
-        (b" DC.W\n", Some((1, AsmKind::Operand))),
-        (b" DC.W \"ab\"\n", Some((1, AsmKind::Operand))),
-        (b" MOVEQ #256,D0\n", Some((1, AsmKind::Range))),
-        (b" DC.B 256\n", Some((1, AsmKind::Range))),
-        (b" DC.B -128,255\n", None),
-        (b" MOVE.L #$100000000,D0\n", Some((1, AsmKind::Range))),
-        (b" MOVEA.B #$100000000,A0\n", Some((1, AsmKind::Operand))),
-        (b" ORG -1\n", Some((1, AsmKind::Range))),
-        (b" ORG $FFFFFFFF+1\n", Some((1, AsmKind::Place))),
-        (b" ORG $FFFFFFFF\n DC.B 1\n", None),
-        (b" ORG $FFFFFFFF\n DC.B 1,2\n", Some((2, AsmKind::Place))),
-        (b" DC.B 1\n NOP\n", Some((2, AsmKind::Place))),
-        (b" DC.B 1\n DC.W 2\n", None),
-        (b" BRA.S there\n DS.B 300\nthere NOP\n", Some((1, AsmKind::Range))),
-        (b" BRA.S there\n DS.B 300\n MOVEX\nthere NOP\n", Some((3, AsmKind::Name))),
-        (b" BRA.S there\n MOVEX\n ORG 300\nthere NOP\n", Some((1, AsmKind::Range))),
-        (b" BEQ.S skip\n MOVEA.B D0,A0\nskip NOP\n", Some((2, AsmKind::Operand))),
-        (b" BEQ.S skip\n @\nskip NOP\n", Some((2, AsmKind::Syntax))),
-        (b" BEQ.S skip\n DS.B *-3\nskip NOP\n", Some((2, AsmKind::Range))),
-        (b" LEA (msg,PC),A0\nmsg DC.B @\n", Some((2, AsmKind::Syntax))),
-        (b" LEA (msg,PC),A0\nmsg: DC.B 1,\n", Some((2, AsmKind::Syntax))),
-        (b" LEA (msg,PC),A0\nmsg:DC.B 1\n", Some((1, AsmKind::Name))),
-        (b" LEA (msg,PC),A0\nmsg MOVEA.B D0,A0\n", Some((2, AsmKind::Operand))),
-        (b" DC.B a\na EQU $100000000\n", Some((2, AsmKind::Range))),
-        (b" DC.B 256,b\n MOVEX\nb NOP\n", Some((1, AsmKind::Range))),
-        (b" MOVE.L #$100000000,b\n MOVEX\nb NOP\n", Some((1, AsmKind::Range))),
-        (b" MOVE.W #70000,skip\n MOVEX\nskip NOP\n", Some((1, AsmKind::Range))),
-        (b" MOVE.W #70000,(skip,A0)\n MOVEX\nskip NOP\n", Some((1, AsmKind::Range))),
-        (b" MOVE.W (skip,PC),(40000,A0)\n MOVEX\nskip NOP\n", Some((1, AsmKind::Range))),
-        (b" MOVE.W ([skip,PC],40000.W),D0\n MOVEX\nskip NOP\n", Some((1, AsmKind::Range))),
-        (b" BFEXTU skip{1:33},D0\n MOVEX\nskip NOP\n", Some((1, AsmKind::Range))),
-        (b" ADDQ.L #8,skip\n MOVEX\nskip NOP\n", Some((2, AsmKind::Name))),
-        (b" ADDQ.L #skip,(skip,A0,D0.W)\n MOVEX\nskip NOP\n", Some((2, AsmKind::Name))),
-        (b" BTST #70,(skip,PC,D0.W)\n MOVEX\nskip NOP\n", Some((2, AsmKind::Name))),
-        (b" BFEXTU (skip,PC){skip:skip},D0\n MOVEX\nskip NOP\n", Some((2, AsmKind::Name))),
-        (b" MOVEX\na EQU *\n DS.B a\nb NOP\n", Some((1, AsmKind::Name))),
-    ];
-    for (text, fault) in cases {
-        assert!(rt; fault_of(&rt, rt.alloc(), text) == fault);
+    for &(text, fault) in &FAULTY_LINES {
+        assert!(rt; fault_of(&rt, rt.alloc(), text) == fault, "{text:?}");
     }
     Ok(())
 }
 
 #[rattlefmt::skip]
 #[test]
-fn a_program(rt: HostRuntime) -> Result<(), Fail> {
+fn images(rt: HostRuntime) -> Result<(), Fail> {
+    // A small source, by its records.
+    let text =
+        b" ORG 0\n DC.L $10000,start\n ORG $400\nstart MOVEQ #'A',D0\n MOVE.B D0,$FFF00000\n MOVE.L #1,$FFF00020\n";
+    let image = assemble(rt.alloc(), text)?;
+    let records = write_records(rt.alloc(), &image)?;
+    let expected = b"S0030000FC\nS30D000000000001000000000400ED\n\
+S31500000400704113C0FFF0000023FC00000001FFF064\nS307000004100020C4\nS70500000000FA\n";
+    assert!(rt; records.as_slice() == expected.as_slice());
+
+    // A program, by its chunks.
     let text = b"stack   EQU $10000\n        ORG 0\n        DC.L stack, start\n        ORG $400\n\
 start:  LEA (text,PC),A0\nloop    MOVE.B (A0)+,D0\n        BEQ.S done\n\
 \x20       MOVE.B D0,out\n        BRA loop\ndone    STOP #$2700\nout     EQU $FFF00000\n\

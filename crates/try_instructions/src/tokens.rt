@@ -22,100 +22,89 @@ fn has_tokens(alloc: Global, line: &[u8], want: &[(TokenKind, u32, u32)]) -> Res
     )
 }
 
-/// A line, and the kind, start and end of each of its tokens.
+/// A line, and the kind, start and end of each of its tokens, or the place at which none begins.
 struct Row {
     line: &'static [u8],
-    cut: &'static [(TokenKind, u32, u32)],
+    cut: Result<&'static [(TokenKind, u32, u32)], u32>,
 }
 
 #[rattlefmt::skip]
-static ROWS: [Row; 34] = [
-    Row { line: b"", cut: &[] },
-    Row { line: b"_a9Z", cut: &[(Name, 0, 4)] },
-    Row { line: b"9a", cut: &[(Number, 0, 1), (Name, 1, 2)] },
-    Row { line: b"0123456789", cut: &[(Number, 0, 10)] },
-    Row { line: b"$0aF9g", cut: &[(Number, 0, 5), (Name, 5, 6)] },
-    Row { line: b"%0102", cut: &[(Number, 0, 4), (Number, 4, 5)] },
-    Row { line: b"'a'", cut: &[(Number, 0, 3)] },
-    Row { line: b"'''", cut: &[(Number, 0, 3)] },
-    Row { line: b"' ''~'", cut: &[(Number, 0, 3), (Number, 3, 6)] },
-    Row { line: b"'\"'", cut: &[(Number, 0, 3)] },
-    Row { line: b"\"\"", cut: &[(Text, 0, 2)] },
-    Row { line: b"\"; ~'\"x\"*\"", cut: &[(Text, 0, 6), (Name, 6, 7), (Text, 7, 10)] },
-    Row { line: b"#", cut: &[(Mark, 0, 1)] },
-    Row { line: b"()[]", cut: &[(Mark, 0, 1), (Mark, 1, 2), (Mark, 2, 3), (Mark, 3, 4)] },
-    Row { line: b"{},.", cut: &[(Mark, 0, 1), (Mark, 1, 2), (Mark, 2, 3), (Mark, 3, 4)] },
-    Row { line: b":+-/", cut: &[(Mark, 0, 1), (Mark, 1, 2), (Mark, 2, 3), (Mark, 3, 4)] },
-    Row { line: b" \t ", cut: &[(Blank, 0, 3)] },
-    Row { line: b";", cut: &[(Comment, 0, 1)] },
-    Row { line: b";\xFF\0\"", cut: &[(Comment, 0, 4)] },
-    Row { line: b"a;b ;c", cut: &[(Name, 0, 1), (Comment, 1, 6)] },
-    Row { line: b"*", cut: &[(Comment, 0, 1)] },
-    Row { line: b"* @\x80", cut: &[(Comment, 0, 4)] },
-    Row { line: b" *", cut: &[(Blank, 0, 1), (Mark, 1, 2)] },
-    Row { line: b" **a", cut: &[(Blank, 0, 1), (Mark, 1, 2), (Mark, 2, 3), (Name, 3, 4)] },
-    Row { line: b"a*4", cut: &[(Name, 0, 1), (Mark, 1, 2), (Number, 2, 3)] },
+static ROWS: [Row; 53] = [
+    Row { line: b"", cut: Ok(&[]) },
+    Row { line: b"_a9Z", cut: Ok(&[(Name, 0, 4)]) },
+    Row { line: b"9a", cut: Ok(&[(Number, 0, 1), (Name, 1, 2)]) },
+    Row { line: b"0123456789", cut: Ok(&[(Number, 0, 10)]) },
+    Row { line: b"$0aF9g", cut: Ok(&[(Number, 0, 5), (Name, 5, 6)]) },
+    Row { line: b"%0102", cut: Ok(&[(Number, 0, 4), (Number, 4, 5)]) },
+    Row { line: b"'a'", cut: Ok(&[(Number, 0, 3)]) },
+    Row { line: b"'''", cut: Ok(&[(Number, 0, 3)]) },
+    Row { line: b"' ''~'", cut: Ok(&[(Number, 0, 3), (Number, 3, 6)]) },
+    Row { line: b"'\"'", cut: Ok(&[(Number, 0, 3)]) },
+    Row { line: b"\"\"", cut: Ok(&[(Text, 0, 2)]) },
+    Row { line: b"\"; ~'\"x\"*\"", cut: Ok(&[(Text, 0, 6), (Name, 6, 7), (Text, 7, 10)]) },
+    Row { line: b"#", cut: Ok(&[(Mark, 0, 1)]) },
+    Row { line: b"()[]", cut: Ok(&[(Mark, 0, 1), (Mark, 1, 2), (Mark, 2, 3), (Mark, 3, 4)]) },
+    Row { line: b"{},.", cut: Ok(&[(Mark, 0, 1), (Mark, 1, 2), (Mark, 2, 3), (Mark, 3, 4)]) },
+    Row { line: b":+-/", cut: Ok(&[(Mark, 0, 1), (Mark, 1, 2), (Mark, 2, 3), (Mark, 3, 4)]) },
+    Row { line: b" \t ", cut: Ok(&[(Blank, 0, 3)]) },
+    Row { line: b";", cut: Ok(&[(Comment, 0, 1)]) },
+    Row { line: b";\xFF\0\"", cut: Ok(&[(Comment, 0, 4)]) },
+    Row { line: b"a;b ;c", cut: Ok(&[(Name, 0, 1), (Comment, 1, 6)]) },
+    Row { line: b"*", cut: Ok(&[(Comment, 0, 1)]) },
+    Row { line: b"* @\x80", cut: Ok(&[(Comment, 0, 4)]) },
+    Row { line: b" *", cut: Ok(&[(Blank, 0, 1), (Mark, 1, 2)]) },
+    Row { line: b" **a", cut: Ok(&[(Blank, 0, 1), (Mark, 1, 2), (Mark, 2, 3), (Name, 3, 4)]) },
+    Row { line: b"a*4", cut: Ok(&[(Name, 0, 1), (Mark, 1, 2), (Number, 2, 3)]) },
     Row { line: b"x: EQU *",
-        cut: &[(Name, 0, 1), (Mark, 1, 2), (Blank, 2, 3), (Name, 3, 6), (Blank, 6, 7), (Mark, 7, 8)] },
+        cut: Ok(&[(Name, 0, 1), (Mark, 1, 2), (Blank, 2, 3), (Name, 3, 6), (Blank, 6, 7), (Mark, 7, 8)]) },
     Row { line: b" MOVE.W #$1F,(A0)+ ; x",
-        cut: &[(Blank, 0, 1), (Name, 1, 5), (Mark, 5, 6), (Name, 6, 7), (Blank, 7, 8), (Mark, 8, 9), (Number, 9, 12),
+        cut: Ok(&[(Blank, 0, 1), (Name, 1, 5), (Mark, 5, 6), (Name, 6, 7), (Blank, 7, 8), (Mark, 8, 9), (Number, 9, 12),
             (Mark, 12, 13), (Mark, 13, 14), (Name, 14, 16), (Mark, 16, 17), (Mark, 17, 18), (Blank, 18, 19),
-            (Comment, 19, 22)] },
+            (Comment, 19, 22)]) },
     Row { line: b" DC.B \"a;b\",'\"',%1",
-        cut: &[(Blank, 0, 1), (Name, 1, 3), (Mark, 3, 4), (Name, 4, 5), (Blank, 5, 6), (Text, 6, 11), (Mark, 11, 12),
-            (Number, 12, 15), (Mark, 15, 16), (Number, 16, 18)] },
-    Row { line: b"azAZ_09", cut: &[(Name, 0, 7)] },
-    Row { line: b"$AFaf09", cut: &[(Number, 0, 7)] },
-    Row { line: b"$1$2", cut: &[(Number, 0, 2), (Number, 2, 4)] },
-    Row { line: b"%1%0", cut: &[(Number, 0, 2), (Number, 2, 4)] },
-    Row { line: b"'a'b", cut: &[(Number, 0, 3), (Name, 3, 4)] },
-    Row { line: b"4294967296", cut: &[(Number, 0, 10)] },
+        cut: Ok(&[(Blank, 0, 1), (Name, 1, 3), (Mark, 3, 4), (Name, 4, 5), (Blank, 5, 6), (Text, 6, 11), (Mark, 11, 12),
+            (Number, 12, 15), (Mark, 15, 16), (Number, 16, 18)]) },
+    Row { line: b"azAZ_09", cut: Ok(&[(Name, 0, 7)]) },
+    Row { line: b"$AFaf09", cut: Ok(&[(Number, 0, 7)]) },
+    Row { line: b"$1$2", cut: Ok(&[(Number, 0, 2), (Number, 2, 4)]) },
+    Row { line: b"%1%0", cut: Ok(&[(Number, 0, 2), (Number, 2, 4)]) },
+    Row { line: b"'a'b", cut: Ok(&[(Number, 0, 3), (Name, 3, 4)]) },
+    Row { line: b"4294967296", cut: Ok(&[(Number, 0, 10)]) },
+    Row { line: b" DC.B @", cut: Err(6) },
+    Row { line: b"$", cut: Err(0) },
+    Row { line: b"$g", cut: Err(0) },
+    Row { line: b"a $", cut: Err(2) },
+    Row { line: b"%", cut: Err(0) },
+    Row { line: b"%2", cut: Err(0) },
+    Row { line: b"'", cut: Err(0) },
+    Row { line: b"'a", cut: Err(0) },
+    Row { line: b"''", cut: Err(0) },
+    Row { line: b"'ab'", cut: Err(0) },
+    Row { line: b"'\t'", cut: Err(0) },
+    Row { line: b"'\x7F'", cut: Err(0) },
+    Row { line: b"\"", cut: Err(0) },
+    Row { line: b"x\"a", cut: Err(1) },
+    Row { line: b"\"a\tb\"", cut: Err(0) },
+    Row { line: b"\"a\x7F\"", cut: Err(0) },
+    Row { line: b" \r", cut: Err(1) },
+    Row { line: b"a\0", cut: Err(1) },
+    Row { line: b"a@;@", cut: Err(1) },
 ];
 
 #[test]
 fn cuts_lines(rt: HostRuntime) -> Result<(), Fail> {
     for row in &ROWS {
-        assert!(rt; row.line.len() < 1000);
-        assert!(rt;
-            has_tokens(rt.alloc(), row.line, row.cut)?,
-            "{:?}",
-            row.line
-        );
+        let line = row.line;
+        assert!(rt; line.len() < 1000);
+        match row.cut {
+            Ok(tokens) => assert!(rt; has_tokens(rt.alloc(), line, tokens)?, "{line:?}"),
+            Err(place) => {
+                let fault = lex(rt.alloc(), line).err();
+                assert!(rt; fault == Some(LexFault::At(place)), "{line:?}");
+            }
+        }
     }
     Ok(())
-}
-
-#[test]
-fn stops_where_no_token_begins(rt: HostRuntime) {
-    let table: [(&[u8], u32); 19] = [
-        // line: the place at which no token begins
-        (b" DC.B @", 6),
-        (b"$", 0),
-        (b"$g", 0),
-        (b"a $", 2),
-        (b"%", 0),
-        (b"%2", 0),
-        (b"'", 0),
-        (b"'a", 0),
-        (b"''", 0),
-        (b"'ab'", 0),
-        (b"'\t'", 0),
-        (b"'\x7F'", 0),
-        (b"\"", 0),
-        (b"x\"a", 1),
-        (b"\"a\tb\"", 0),
-        (b"\"a\x7F\"", 0),
-        (b" \r", 1),
-        (b"a\0", 1),
-        (b"a@;@", 1),
-    ];
-    for (line, place) in table {
-        assert!(rt; line.len() < 1000);
-        assert!(rt;
-            lex(rt.alloc(), line).err() == Some(LexFault::At(place)),
-            "{line:?}"
-        );
-    }
 }
 
 /// The bytes from $20 to $7E with which no token begins, whatever follows, or not alone.

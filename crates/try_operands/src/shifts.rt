@@ -1,12 +1,15 @@
 //! Shifts and rotates, counts past the size among them.
 
 use mb_alu::{Flagged, shift};
-use mb_instr::ShiftKind;
+use mb_instr::ShiftKind::{self, Arithmetic, Logical, Rotate, RotateExtended};
 use mb_instr::Size::{self, Byte, Long, Word};
 
-#[test]
-fn arithmetic_shifts(rt: HostRuntime) {
-    let rows: [(bool, Size, u8, u32, u8, u32, u8); 32] = [
+/// Whether to the left, the size, the count, the operand and the codes before: the result and its codes.
+type Row = (bool, Size, u8, u32, u8, u32, u8);
+
+#[rattlefmt::skip]
+static SHIFTS: [(ShiftKind, &[Row]); 4] = [
+    (Arithmetic, &[
         // left, size, count, x, ccr: result, ccr
         (true, Byte, 0, 0x80, 0x1F, 0x80, 0x18),
         (true, Byte, 1, 0xC0, 0, 0x80, 0x19),
@@ -40,17 +43,8 @@ fn arithmetic_shifts(rt: HostRuntime) {
         (false, Long, 31, 0x8000_0001, 0, 0xFFFF_FFFF, 8),
         (false, Long, 32, 0xFFFF_FFFF, 0, 0xFFFF_FFFF, 0x19),
         (false, Long, 33, 0x8000_0000, 0, 0xFFFF_FFFF, 0x19),
-    ];
-    for (left, size, count, x, ccr, value, codes) in rows {
-        assert!(rt; count < 64);
-        let after = shift(ShiftKind::Arithmetic, left, size, count, x, ccr);
-        assert!(rt; after == Flagged { value, ccr: codes }, "{x:x} by {count}");
-    }
-}
-
-#[test]
-fn logical_shifts(rt: HostRuntime) {
-    let rows: [(bool, Size, u8, u32, u8, u32, u8); 24] = [
+    ]),
+    (Logical, &[
         // left, size, count, x, ccr: result, ccr
         (true, Byte, 0, 0, 0x1B, 0, 0x14),
         (true, Byte, 1, 0x81, 0, 2, 0x11),
@@ -76,17 +70,8 @@ fn logical_shifts(rt: HostRuntime) {
         (false, Long, 32, 0x8000_0001, 0, 0, 0x15),
         (false, Long, 33, 0xFFFF_FFFF, 0x10, 0, 4),
         (false, Long, 63, 0xFFFF_FFFF, 0x10, 0, 4),
-    ];
-    for (left, size, count, x, ccr, value, codes) in rows {
-        assert!(rt; count < 64);
-        let after = shift(ShiftKind::Logical, left, size, count, x, ccr);
-        assert!(rt; after == Flagged { value, ccr: codes }, "{x:x} by {count}");
-    }
-}
-
-#[test]
-fn rotates_with_extend(rt: HostRuntime) {
-    let rows: [(bool, Size, u8, u32, u8, u32, u8); 28] = [
+    ]),
+    (RotateExtended, &[
         // left, size, count, x, ccr: result, ccr
         (true, Byte, 0, 0x55, 0x10, 0x55, 0x11),
         (true, Byte, 0, 0, 0x0F, 0, 4),
@@ -116,17 +101,8 @@ fn rotates_with_extend(rt: HostRuntime) {
         (false, Long, 32, 0x1234_5678, 0x10, 0x2468_ACF1, 0),
         (false, Long, 34, 0x8000_0000, 0, 0x4000_0000, 0),
         (false, Long, 63, 0xDEAD_BEEF, 0x10, 0xF56D_F77F, 8),
-    ];
-    for (left, size, count, x, ccr, value, codes) in rows {
-        assert!(rt; count < 64);
-        let after = shift(ShiftKind::RotateExtended, left, size, count, x, ccr);
-        assert!(rt; after == Flagged { value, ccr: codes }, "{x:x} by {count}");
-    }
-}
-
-#[test]
-fn rotates(rt: HostRuntime) {
-    let rows: [(bool, Size, u8, u32, u8, u32, u8); 24] = [
+    ]),
+    (Rotate, &[
         // left, size, count, x, ccr: result, ccr
         (true, Byte, 0, 0x81, 0x1F, 0x81, 0x18),
         (true, Byte, 1, 0x81, 0, 3, 1),
@@ -152,10 +128,17 @@ fn rotates(rt: HostRuntime) {
         (false, Long, 32, 1, 0x10, 1, 0x10),
         (false, Long, 33, 0x8000_0000, 0, 0x4000_0000, 0),
         (false, Long, 63, 0xF00F, 0x10, 0x01_E01E, 0x10),
-    ];
-    for (left, size, count, x, ccr, value, codes) in rows {
-        assert!(rt; count < 64);
-        let after = shift(ShiftKind::Rotate, left, size, count, x, ccr);
-        assert!(rt; after == Flagged { value, ccr: codes }, "{x:x} by {count}");
+    ]),
+];
+
+#[test]
+fn shifts_and_rotates(rt: HostRuntime) {
+    for &(kind, rows) in &SHIFTS {
+        for &(left, size, count, x, ccr, value, codes) in rows {
+            assert!(rt; count < 64);
+            let after = shift(kind, left, size, count, x, ccr);
+            let wanted = Flagged { value, ccr: codes };
+            assert!(rt; after == wanted, "{kind:?} {x:x} by {count}");
+        }
     }
 }

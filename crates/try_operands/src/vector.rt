@@ -32,30 +32,22 @@ fn bump<P: Port>(port: &mut P, at: u32) -> Result<u32, Fault> {
 }
 
 #[test]
-fn bytes_and_words(rt: HostRuntime) -> Result<(), AllocError> {
+fn calls_by_hand(rt: HostRuntime) -> Result<(), AllocError> {
     let mut port = port_of(rt.alloc())?;
     assert!(rt; port.fetch(Space::User, 6) == Ok(0x6677));
     assert!(rt; bump(&mut port, 5) == Ok(0x55));
     assert!(rt; port.read(Space::User, Piece { at: 4, len: 4 }) == Ok(0x4456_6677));
     assert!(rt; bump(&mut port, 13).is_err());
     assert!(rt; bump(&mut port, 16).is_err());
-    Ok(())
-}
 
-#[test]
-fn places(rt: HostRuntime) -> Result<(), AllocError> {
-    let mut port = port_of(rt.alloc())?;
+    // By a place that was found before.
     if let Ok(place) = port.probe(Space::Super, Piece { at: 2, len: 2 }) {
         assert!(rt; port.get(place) == 0x2233);
         port.put(place, 0xFFFF_ABCD);
     }
     assert!(rt; port.read(Space::User, Piece { at: 0, len: 4 }) == Ok(0x0011_ABCD));
-    Ok(())
-}
 
-#[test]
-fn lines_and_registers(rt: HostRuntime) -> Result<(), AllocError> {
-    let mut port = port_of(rt.alloc())?;
+    // Lines, and a register.
     assert!(rt; port.read_line(Space::User, 0).is_err());
     port.hole = u32::MAX;
     assert!(rt; port.write_line(Space::User, 0, [1, 2, 3, 4]) == Ok(()));

@@ -1,9 +1,11 @@
 //! Rows by hand, over a vector of longs.
 
+use crate::steps::put;
+use Change::{A0, A3, D0, D1, Isp, Long, Mmusr, Msp, Sr, Stopped, Usp};
 use mb_decode::{Decoded, decode};
 use mb_instr::{ControlRegister, Instr, Regs, System};
 use mb_model::Cpu;
-use mb_port::{Mmu, Piece, Port, Space};
+use mb_port::{Mmu, Space};
 use mb_system::perform_system;
 use mb_vector::VectorPort;
 use mb_writes::Ended;
@@ -47,7 +49,7 @@ fn supervisor() -> Cpu {
 /// 64 KiB of memory with a hole, a long at $1000, and the registers of the memory management unit all 9.
 fn memory(alloc: Global) -> Result<VectorPort, AllocError> {
     let mut port = VectorPort::new(alloc, 0x4000, HOLE)?;
-    let _written = port.write(Space::Super, Piece { at: 0x1000, len: 4 }, 0x8182_8384);
+    put(&mut port, 0x1000, 4, 0x8182_8384);
     port.mmu = Mmu {
         tc: 9,
         itt0: 9,
@@ -75,98 +77,127 @@ fn performed(words: &[u16], cpu: &mut Cpu, port: &mut VectorPort) -> Option<Ende
     }
 }
 
-/// The instruction was carried out, and T0 asks for a trace after it or not.
-fn done(flow: bool) -> Option<Ended> {
-    Some(Ended::Done { flow })
+/// What an instruction changes, beside PC.
+enum Change {
+    D0(u32),
+    D1(u32),
+    A0(u32),
+    A3(u32),
+    Usp(u32),
+    Isp(u32),
+    Msp(u32),
+    Sr(u16),
+    Stopped,
+    Mmusr(u32),
+    /// A long of memory, with its address.
+    Long(u32, u32),
 }
 
-#[test]
-fn status_by_hand(rt: HostRuntime) -> Result<(), AllocError> {
-    // Words, SR before, and SR after.
-    let cases: [(&[u16], u16, u16); 9] = [
-        (&[0x46FC, 0x0000], 0x2704, 0x0000),
-        (&[0x46FC, 0xFFFF], 0x2704, 0xF71F),
-        (&[0x46FC, 0x08E0], 0x2704, 0x0000),
-        (&[0x46C0], 0x2704, 0x8001),
-        (&[0x007C, 0xFFFF], 0x2000, 0xF71F),
-        (&[0x007C, 0x8001], 0x2704, 0xA705),
-        (&[0x027C, 0xF8FF], 0x2704, 0x2004),
-        (&[0x0A7C, 0x2704], 0x3715, 0x1011),
-        (&[0x4E72, 0x2000], 0x2704, 0x2000),
-    ];
-    for (words, before, after) in cases {
-        let mut port = memory(rt.alloc())?;
-        let mut cpu = supervisor();
-        cpu.regs.sr = before;
-        let mut wanted = cpu;
-        wanted.regs.sr = after;
-        wanted.regs.pc = AT.wrapping_add(2 * words.len() as u32);
-        wanted.stopped = words[0] == 0x4E72;
-        assert!(rt; performed(words, &mut cpu, &mut port) == done(true));
-        assert!(rt; cpu == wanted, "{words:?}");
+impl Change {
+    fn make(&self, cpu: &mut Cpu, port: &mut VectorPort) {
+        match self {
+            D0(long) => cpu.regs.d[0] = *long,
+            D1(long) => cpu.regs.d[1] = *long,
+            A0(long) => cpu.regs.a[0] = *long,
+            A3(long) => cpu.regs.a[3] = *long,
+            Usp(at) => cpu.regs.usp = *at,
+            Isp(at) => cpu.regs.isp = *at,
+            Msp(at) => cpu.regs.msp = *at,
+            Sr(word) => cpu.regs.sr = *word,
+            Stopped => cpu.stopped = true,
+            Mmusr(long) => port.mmu.mmusr = *long,
+            Long(at, long) => put(port, *at, 4, *long),
+        }
     }
-    Ok(())
 }
 
-#[test]
+/// An instruction, SR and the interrupt stack pointer before it, whether T0 asks for a trace after it, and all that it
+/// changes.
+struct Row {
+    words: &'static [u16],
+    sr: u16,
+    isp: u32,
+    flow: bool,
+    changes: &'static [Change],
+}
+
 #[rattlefmt::skip]
-fn stack_pointers_by_hand(rt: HostRuntime) -> Result<(), AllocError> {
-    // Words, SR before, and USP, ISP, MSP and A3 after.
-    let cases: [(&[u16], u16, [u32; 4]); 8] = [
-        (&[0x4E63], 0x2700, [0xA3A3_A3A3, 0x8000, 0x9000, 0xA3A3_A3A3]),
-        (&[0x4E67], 0x2700, [0x8000, 0x8000, 0x9000, 0xA3A3_A3A3]),
-        (&[0x4E67], 0x3700, [0x9000, 0x8000, 0x9000, 0xA3A3_A3A3]),
-        (&[0x4E6B], 0x2700, [0x7000, 0x8000, 0x9000, 0x7000]),
-        (&[0x4E6F], 0x2700, [0x7000, 0x7000, 0x9000, 0xA3A3_A3A3]),
-        (&[0x4E6F], 0x3700, [0x7000, 0x8000, 0x7000, 0xA3A3_A3A3]),
-        (&[0x4E7B, 0xF800], 0x3700, [0x9000, 0x8000, 0x9000, 0xA3A3_A3A3]),
-        (&[0x4E7A, 0xF804], 0x3700, [0x7000, 0x8000, 0x8000, 0xA3A3_A3A3]),
-    ];
-    for (words, sr, [usp, isp, msp, a3]) in cases {
+static ROWS: [Row; 41] = [
+    // The status register.
+    Row { words: &[0x46FC, 0x0000], sr: 0x2704, isp: 0x8000, flow: true, changes: &[Sr(0x0000)] },
+    Row { words: &[0x46FC, 0xFFFF], sr: 0x2704, isp: 0x8000, flow: true, changes: &[Sr(0xF71F)] },
+    Row { words: &[0x46FC, 0x08E0], sr: 0x2704, isp: 0x8000, flow: true, changes: &[Sr(0x0000)] },
+    Row { words: &[0x46C0], sr: 0x2704, isp: 0x8000, flow: true, changes: &[Sr(0x8001)] },
+    Row { words: &[0x007C, 0xFFFF], sr: 0x2000, isp: 0x8000, flow: true, changes: &[Sr(0xF71F)] },
+    Row { words: &[0x007C, 0x8001], sr: 0x2704, isp: 0x8000, flow: true, changes: &[Sr(0xA705)] },
+    Row { words: &[0x027C, 0xF8FF], sr: 0x2704, isp: 0x8000, flow: true, changes: &[Sr(0x2004)] },
+    Row { words: &[0x0A7C, 0x2704], sr: 0x3715, isp: 0x8000, flow: true, changes: &[Sr(0x1011)] },
+    Row { words: &[0x4E72, 0x2000], sr: 0x2704, isp: 0x8000, flow: true, changes: &[Sr(0x2000), Stopped] },
+    Row { words: &[0x40C0], sr: 0x2704, isp: 0x8000, flow: false, changes: &[D0(0xD0D0_2704)] },
+    // The status register, to memory and from it.
+    Row { words: &[0x40D0], sr: 0x2704, isp: 0x1000, flow: false, changes: &[Long(0x1000, 0x2704_8384)] },
+    Row { words: &[0x40D8], sr: 0x2704, isp: 0x1000, flow: false, changes: &[A0(0x1002), Long(0x1000, 0x2704_8384)] },
+    Row { words: &[0x46D8], sr: 0x2704, isp: 0x1000, flow: true, changes: &[A0(0x1002), Sr(0x8102)] },
+    Row { words: &[0x46DF], sr: 0x2704, isp: 0x1000, flow: true, changes: &[Isp(0x1002), Sr(0x8102)] },
+    Row { words: &[0x40DF], sr: 0x2704, isp: 0x1000, flow: false, changes: &[Isp(0x1002), Long(0x1000, 0x2704_8384)] },
+    // Stack pointers.
+    Row { words: &[0x4E63], sr: 0x2700, isp: 0x8000, flow: false, changes: &[Usp(0xA3A3_A3A3)] },
+    Row { words: &[0x4E67], sr: 0x2700, isp: 0x8000, flow: false, changes: &[Usp(0x8000)] },
+    Row { words: &[0x4E67], sr: 0x3700, isp: 0x8000, flow: false, changes: &[Usp(0x9000)] },
+    Row { words: &[0x4E6B], sr: 0x2700, isp: 0x8000, flow: false, changes: &[A3(0x7000)] },
+    Row { words: &[0x4E6F], sr: 0x2700, isp: 0x8000, flow: false, changes: &[Isp(0x7000)] },
+    Row { words: &[0x4E6F], sr: 0x3700, isp: 0x8000, flow: false, changes: &[Msp(0x7000)] },
+    Row { words: &[0x4E7B, 0xF800], sr: 0x3700, isp: 0x8000, flow: false, changes: &[Usp(0x9000)] },
+    Row { words: &[0x4E7A, 0xF804], sr: 0x3700, isp: 0x8000, flow: false, changes: &[Msp(0x8000)] },
+    // MOVES.
+    Row { words: &[0x0E10, 0x1000], sr: 0x2704, isp: 0x1000, flow: false, changes: &[D1(0xD1D1_D181)] },
+    Row { words: &[0x0E50, 0x1000], sr: 0x2704, isp: 0x1000, flow: false, changes: &[D1(0xD1D1_8182)] },
+    Row { words: &[0x0E50, 0xB000], sr: 0x2704, isp: 0x1000, flow: false, changes: &[A3(0xFFFF_8182)] },
+    Row { words: &[0x0E10, 0xB000], sr: 0x2704, isp: 0x1000, flow: false, changes: &[A3(0xFFFF_FF81)] },
+    Row { words: &[0x0E1F, 0x1000], sr: 0x2704, isp: 0x1000, flow: false, changes: &[D1(0xD1D1_D181), Isp(0x1002)] },
+    Row { words: &[0x0E98, 0x8000], sr: 0x2704, isp: 0x1000, flow: false, changes: &[A0(0x8182_8384)] },
+    Row { words: &[0x0E98, 0x8800], sr: 0x2704, isp: 0x1000, flow: false,
+        changes: &[A0(0x1004), Long(0x1000, 0x1004)] },
+    Row { words: &[0x0EA0, 0x8800], sr: 0x2704, isp: 0x1000, flow: false, changes: &[A0(0xFFC), Long(0xFFC, 0xFFC)] },
+    Row { words: &[0x0E10, 0x1800], sr: 0x2704, isp: 0x1000, flow: false, changes: &[Long(0x1000, 0xD182_8384)] },
+    // What leaves the processor: RESET, CINV, CPUSH, PFLUSHN, PFLUSH, PFLUSHAN, PFLUSHA, PTESTW and PTESTR.
+    Row { words: &[0x4E70], sr: 0x2704, isp: 0x8000, flow: false, changes: &[] },
+    Row { words: &[0xF4D8], sr: 0x2704, isp: 0x8000, flow: false, changes: &[] },
+    Row { words: &[0xF4F8], sr: 0x2704, isp: 0x8000, flow: false, changes: &[] },
+    Row { words: &[0xF500], sr: 0x2704, isp: 0x8000, flow: false, changes: &[] },
+    Row { words: &[0xF508], sr: 0x2704, isp: 0x8000, flow: false, changes: &[] },
+    Row { words: &[0xF510], sr: 0x2704, isp: 0x8000, flow: false, changes: &[] },
+    Row { words: &[0xF518], sr: 0x2704, isp: 0x8000, flow: false, changes: &[] },
+    Row { words: &[0xF548], sr: 0x2704, isp: 0x8000, flow: false, changes: &[Mmusr(0)] },
+    Row { words: &[0xF568], sr: 0x2704, isp: 0x8000, flow: false, changes: &[Mmusr(0)] },
+];
+
+#[test]
+fn changes_by_hand(rt: HostRuntime) -> Result<(), AllocError> {
+    for row in &ROWS {
+        let words = row.words;
+        assert!(rt; words.len() <= 2);
         let mut port = memory(rt.alloc())?;
         let mut cpu = supervisor();
-        cpu.regs.sr = sr;
+        cpu.regs.sr = row.sr;
+        cpu.regs.isp = row.isp;
+        let mut wanted_port = memory(rt.alloc())?;
         let mut wanted = cpu;
-        wanted.regs.usp = usp;
-        wanted.regs.isp = isp;
-        wanted.regs.msp = msp;
-        wanted.regs.a[3] = a3;
-        wanted.regs.pc = AT.wrapping_add(2 * words.len() as u32);
-        assert!(rt; performed(words, &mut cpu, &mut port) == done(false));
+        wanted.regs.pc = AT + 2 * words.len() as u32;
+        for change in row.changes {
+            change.make(&mut wanted, &mut wanted_port);
+        }
+        let end = performed(words, &mut cpu, &mut port);
+        assert!(rt; end == Some(Ended::Done { flow: row.flow }), "{words:?}");
         assert!(rt; cpu == wanted, "{words:?}");
+        assert!(rt; port.mmu == wanted_port.mmu, "{words:?}");
+        assert!(rt; port.longs == wanted_port.longs, "{words:?}");
     }
     Ok(())
 }
 
-#[test]
-fn status_at_memory(rt: HostRuntime) -> Result<(), AllocError> {
-    // Words, whether T0 asks for a trace, A0 and ISP after, SR after, and the long at $1000 after.
-    let cases: [(&[u16], bool, [u32; 2], u16, u32); 5] = [
-        (&[0x40D0], false, [0x1000, 0x1000], 0x2704, 0x2704_8384),
-        (&[0x40D8], false, [0x1002, 0x1000], 0x2704, 0x2704_8384),
-        (&[0x46D8], true, [0x1002, 0x1000], 0x8102, 0x8182_8384),
-        (&[0x46DF], true, [0x1000, 0x1002], 0x8102, 0x8182_8384),
-        (&[0x40DF], false, [0x1000, 0x1002], 0x2704, 0x2704_8384),
-    ];
-    for (words, flow, [a0, isp], sr, long) in cases {
-        let mut port = memory(rt.alloc())?;
-        let mut cpu = supervisor();
-        cpu.regs.isp = 0x1000;
-        let mut wanted = cpu;
-        wanted.regs.a[0] = a0;
-        wanted.regs.isp = isp;
-        wanted.regs.sr = sr;
-        wanted.regs.pc = AT.wrapping_add(2);
-        assert!(rt; performed(words, &mut cpu, &mut port) == done(flow));
-        assert!(rt; cpu == wanted, "{words:?}");
-        assert!(rt; port.read(Space::Super, Piece { at: 0x1000, len: 4 }) == Ok(long));
-    }
-    let mut port = memory(rt.alloc())?;
-    let mut cpu = supervisor();
-    assert!(rt; performed(&[0x40C0], &mut cpu, &mut port) == done(false));
-    assert!(rt; cpu.regs.d[0] == 0xD0D0_2704);
-    Ok(())
-}
+/// A move of a control register was carried out, after which T0 asks for no trace.
+const DONE: Option<Ended> = Some(Ended::Done { flow: false });
 
 /// What the control register with a code holds.
 fn held(code: u16, cpu: &Cpu, port: &VectorPort) -> u32 {
@@ -190,7 +221,7 @@ fn held(code: u16, cpu: &Cpu, port: &VectorPort) -> u32 {
 }
 
 /// The codes of the control registers, and the bits that each keeps.
-const CONTROL: [(u16, u32); 15] = [
+static CONTROL: [(u16, u32); 15] = [
     (0x000, 0x7),
     (0x001, 0x7),
     (0x002, 0x8000_8000),
@@ -210,7 +241,7 @@ const CONTROL: [(u16, u32); 15] = [
 
 #[test]
 fn control_registers_by_hand(rt: HostRuntime) -> Result<(), AllocError> {
-    for (code, kept) in CONTROL {
+    for &(code, kept) in &CONTROL {
         let mut port = memory(rt.alloc())?;
         let mut cpu = supervisor();
         let named = ControlRegister::of(code).map(|register| (
@@ -220,51 +251,19 @@ fn control_registers_by_hand(rt: HostRuntime) -> Result<(), AllocError> {
         assert!(rt; named == Some((code, kept)));
         let old = held(code, &cpu, &port);
         // From the control register to D1, and then to it from D2, which is all ones, and from D1 again.
-        assert!(rt; performed(&[0x4E7A, 0x1000 | code], &mut cpu, &mut port) == done(false));
+        assert!(rt; performed(&[0x4E7A, 0x1000 | code], &mut cpu, &mut port) == DONE);
         assert!(rt; cpu.regs.d[1] == old, "{code}");
-        assert!(rt; performed(&[0x4E7B, 0x2000 | code], &mut cpu, &mut port) == done(false));
+        assert!(rt; performed(&[0x4E7B, 0x2000 | code], &mut cpu, &mut port) == DONE);
         assert!(rt; held(code, &cpu, &port) == kept, "{code}");
-        for (other, _) in CONTROL {
+        for &(other, _) in &CONTROL {
             let untouched = held(other, &supervisor(), &memory(rt.alloc())?);
             assert!(rt;
                 other == code || held(other, &cpu, &port) == untouched,
                 "{code} {other}"
             );
         }
-        assert!(rt; performed(&[0x4E7B, 0x1000 | code], &mut cpu, &mut port) == done(false));
+        assert!(rt; performed(&[0x4E7B, 0x1000 | code], &mut cpu, &mut port) == DONE);
         assert!(rt; held(code, &cpu, &port) == old & kept, "{code}");
-    }
-    Ok(())
-}
-
-#[test]
-#[rattlefmt::skip]
-fn moves_by_hand(rt: HostRuntime) -> Result<(), AllocError> {
-    // Words, D1, A0, A3 and ISP after, and a long after with its address.
-    let cases: [(&[u16], [u32; 4], (u32, u32)); 9] = [
-        (&[0x0E10, 0x1000], [0xD1D1_D181, 0x1000, 0xA3A3_A3A3, 0x1000], (0x1000, 0x8182_8384)),
-        (&[0x0E50, 0x1000], [0xD1D1_8182, 0x1000, 0xA3A3_A3A3, 0x1000], (0x1000, 0x8182_8384)),
-        (&[0x0E50, 0xB000], [0xD1D1_D1D1, 0x1000, 0xFFFF_8182, 0x1000], (0x1000, 0x8182_8384)),
-        (&[0x0E10, 0xB000], [0xD1D1_D1D1, 0x1000, 0xFFFF_FF81, 0x1000], (0x1000, 0x8182_8384)),
-        (&[0x0E1F, 0x1000], [0xD1D1_D181, 0x1000, 0xA3A3_A3A3, 0x1002], (0x1000, 0x8182_8384)),
-        (&[0x0E98, 0x8000], [0xD1D1_D1D1, 0x8182_8384, 0xA3A3_A3A3, 0x1000], (0x1000, 0x8182_8384)),
-        (&[0x0E98, 0x8800], [0xD1D1_D1D1, 0x1004, 0xA3A3_A3A3, 0x1000], (0x1000, 0x1004)),
-        (&[0x0EA0, 0x8800], [0xD1D1_D1D1, 0xFFC, 0xA3A3_A3A3, 0x1000], (0xFFC, 0xFFC)),
-        (&[0x0E10, 0x1800], [0xD1D1_D1D1, 0x1000, 0xA3A3_A3A3, 0x1000], (0x1000, 0xD182_8384)),
-    ];
-    for (words, [d1, a0, a3, isp], (at, long)) in cases {
-        let mut port = memory(rt.alloc())?;
-        let mut cpu = supervisor();
-        cpu.regs.isp = 0x1000;
-        let mut wanted = cpu;
-        wanted.regs.d[1] = d1;
-        wanted.regs.a[0] = a0;
-        wanted.regs.a[3] = a3;
-        wanted.regs.isp = isp;
-        wanted.regs.pc = AT.wrapping_add(4);
-        assert!(rt; performed(words, &mut cpu, &mut port) == done(false));
-        assert!(rt; cpu == wanted, "{words:?}");
-        assert!(rt; port.longs.get((at / 4) as usize) == Some(&long));
     }
     Ok(())
 }
@@ -299,25 +298,6 @@ fn refused_in_their_spaces(rt: HostRuntime) -> Result<(), AllocError> {
         };
         assert!(rt; refused == Some((write, space, 0x3000)), "{words:?}");
         assert!(rt; cpu == wanted, "{words:?}");
-    }
-    Ok(())
-}
-
-#[test]
-fn what_leaves_the_processor(rt: HostRuntime) -> Result<(), AllocError> {
-    // RESET, CINV, CPUSH, PFLUSHN, PFLUSH, PFLUSHAN, PFLUSHA, PTESTW and PTESTR.
-    let cases: [u16; 9] = [
-        0x4E70, 0xF4D8, 0xF4F8, 0xF500, 0xF508, 0xF510, 0xF518, 0xF548, 0xF568,
-    ];
-    for word in cases {
-        let mut port = memory(rt.alloc())?;
-        let mut cpu = supervisor();
-        let mut wanted = cpu;
-        wanted.regs.pc = AT.wrapping_add(2);
-        assert!(rt; performed(&[word], &mut cpu, &mut port) == done(false));
-        assert!(rt; cpu == wanted, "{word}");
-        let is_test = word == 0xF548 || word == 0xF568;
-        assert!(rt; port.mmu.mmusr == if is_test { 0 } else { 9 }, "{word}");
     }
     Ok(())
 }

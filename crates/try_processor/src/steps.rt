@@ -22,7 +22,7 @@ pub(crate) const CODE: u32 = 0x400;
 
 /// Vectors and the handlers that they name: of access errors, odd PCs, zero divides, privilege violations, traces,
 /// interrupts of level 6 and TRAP #0.
-const HANDLERS: [(u32, u32); 7] = [
+static HANDLERS: [(u32, u32); 7] = [
     (0x08, 0x500),
     (0x0C, 0x500),
     (0x14, 0x440),
@@ -67,7 +67,7 @@ pub(crate) fn processor(sr: u16) -> Cpu {
 /// A memory of 64 KiB that refuses one byte, with the vectors, a handler that returns, and this code.
 pub(crate) fn memory(alloc: Global, hole: u32, code: &[u16]) -> Result<VectorPort, AllocError> {
     let mut port = VectorPort::new(alloc, 0x4000, hole)?;
-    for (vector, handler) in HANDLERS {
+    for &(vector, handler) in &HANDLERS {
         put(&mut port, vector, 4, handler);
     }
     put(&mut port, 0x700, 2, u32::from(RTE));
@@ -87,6 +87,15 @@ pub(crate) fn put(port: &mut VectorPort, at: u32, len: u8, value: u32) {
         (at / 2 * 2, 2)
     };
     let _written = port.write(Space::Super, Piece { at, len }, value);
+}
+
+/// Longs from an address on.
+pub(crate) fn put_longs(port: &mut VectorPort, at: u32, longs: &[u32]) {
+    let mut at = at;
+    for long in longs {
+        put(port, at, 4, *long);
+        at = at.wrapping_add(4);
+    }
 }
 
 /// Whether these longs stand from an address on.

@@ -378,21 +378,54 @@ static BYTES: [Row; 11] = [
     row!(b"MOVEQ #-$5,D0", [0x70, 0xfb]),
 ];
 
-/// What no statement gives: no instruction, a byte immediate or a register that counts for nothing, no register in a
-/// list, a full form that nothing asks for.
+/// Bytes in memory, and the text of so many lines from an address on.
+struct Listing {
+    place: u32,
+    bytes: &'static [u8],
+    at: u32,
+    count: u32,
+    text: &'static [u8],
+}
+
+macro_rules! listing {
+    ($place:expr, [$($byte:literal),*], $at:expr, $count:literal, $text:expr) => {
+        Listing { place: $place, bytes: &[$($byte),*], at: $at, count: $count, text: $text }
+    };
+}
+
+/// A program of three instructions.
+const PROGRAM: &[u8] = b"00000400 7041 MOVEQ #$41,D0\n\
+00000402 13C0FFF00000 MOVE.B D0,$FFF00000.L\n\
+00000408 23FC00000001FFF00020 MOVE.L #$1,$FFF00020.L\n";
+
 #[rattlefmt::skip]
-static DATA: [Row; 11] = [
-    row!(b"DC.W $4AFC", [0x4a, 0xfc]),
-    row!(b"DC.W $A000", [0xa0, 0x00]),
-    row!(b"DC.W $F280", [0xf2, 0x80]),
-    row!(b"DC.W $601", [0x06, 0x01, 0xff, 0x12]),
-    row!(b"DC.W $601", [0x06, 0x01, 0xff, 0x7f]),
-    row!(b"DC.W $601", [0x06, 0x01, 0x01, 0x00]),
-    row!(b"DC.W $F519", [0xf5, 0x19]),
-    row!(b"DC.W $48D0", [0x48, 0xd0, 0x00, 0x00]),
-    row!(b"DC.W $3030", [0x30, 0x30, 0x01, 0x10]),
-    row!(b"DC.W $4C01", [0x4c, 0x01, 0x20, 0x01]),
-    row!(b"DC.W $0", [0x00, 0x00, 0x01, 0x00]),
+static LISTINGS: [Listing; 17] = [
+    listing!(
+        0x400, [0x70, 0x41, 0x13, 0xc0, 0xff, 0xf0, 0, 0, 0x23, 0xfc, 0, 0, 0, 1, 0xff, 0xf0, 0, 0x20],
+        0x400, 3, PROGRAM
+    ),
+    // An instruction that leaves memory is a number, and a first word outside memory ends the listing.
+    listing!(
+        0xfffa, [0x4e, 0x71, 0x60, 0, 0x4e, 0xb9],
+        0xfffa, 9, b"0000FFFA 4E71 NOP\n0000FFFC 60004EB9 BRA.W $14EB7\n"
+    ),
+    listing!(0xfffa, [0x4e, 0x71, 0x60, 0, 0x4e, 0xb9], 0xfffe, 9, b"0000FFFE 4EB9 DC.W $4EB9\n"),
+    listing!(0xfffa, [0x4e, 0x71, 0x60, 0, 0x4e, 0xb9], 0x1_0000, 9, b""),
+    listing!(0xfffa, [0x4e, 0x71, 0x60, 0, 0x4e, 0xb9], 0xffff_fffe, 9, b""),
+    listing!(0xfffa, [0x4e, 0x71, 0x60, 0, 0x4e, 0xb9], 0, 0, b""),
+    // What no statement gives: no instruction, a byte immediate or a register that counts for nothing, no register in
+    // a list, a full form that nothing asks for.
+    listing!(AT, [0x4a, 0xfc], AT, 1, b"00001000 4AFC DC.W $4AFC\n"),
+    listing!(AT, [0xa0, 0x00], AT, 1, b"00001000 A000 DC.W $A000\n"),
+    listing!(AT, [0xf2, 0x80], AT, 1, b"00001000 F280 DC.W $F280\n"),
+    listing!(AT, [0x06, 0x01, 0xff, 0x12], AT, 1, b"00001000 0601 DC.W $601\n"),
+    listing!(AT, [0x06, 0x01, 0xff, 0x7f], AT, 1, b"00001000 0601 DC.W $601\n"),
+    listing!(AT, [0x06, 0x01, 0x01, 0x00], AT, 1, b"00001000 0601 DC.W $601\n"),
+    listing!(AT, [0xf5, 0x19], AT, 1, b"00001000 F519 DC.W $F519\n"),
+    listing!(AT, [0x48, 0xd0, 0x00, 0x00], AT, 1, b"00001000 48D0 DC.W $48D0\n"),
+    listing!(AT, [0x30, 0x30, 0x01, 0x10], AT, 1, b"00001000 3030 DC.W $3030\n"),
+    listing!(AT, [0x4c, 0x01, 0x20, 0x01], AT, 1, b"00001000 4C01 DC.W $4C01\n"),
+    listing!(AT, [0x00, 0x00, 0x01, 0x00], AT, 1, b"00001000 0000 DC.W $0\n"),
 ];
 
 /// Writes these bytes, where memory has them all.
@@ -471,48 +504,21 @@ fn statements(rt: HostRuntime) -> Result<(), Fail> {
 }
 
 #[test]
-fn data(rt: HostRuntime) -> Result<(), Fail> {
-    let mut ram = vec![in rt.alloc(); 0u8; SIZE as usize]?;
-    for row in &DATA {
-        put(&mut ram, AT, row.words);
-        let line = listed(rt.alloc(), &ram, AT, 1)?;
-        assert!(rt; text_of(&line, b"##") == row.text);
+fn listings(rt: HostRuntime) -> Result<(), Fail> {
+    for listing in &LISTINGS {
+        let mut ram = vec![in rt.alloc(); 0u8; SIZE as usize]?;
+        put(&mut ram, listing.place, listing.bytes);
+        let lines = listed(rt.alloc(), &ram, listing.at, listing.count)?;
+        assert!(rt; lines.as_slice() == listing.text, "{:?}", listing.text);
     }
-    Ok(())
-}
-
-/// Three lines of a small program, and no more room than for the first.
-#[test]
-fn a_small_program(rt: HostRuntime) -> Result<(), Fail> {
-    let code = [
-        0x70, 0x41, 0x13, 0xc0, 0xff, 0xf0, 0, 0, 0x23, 0xfc, 0, 0, 0, 1, 0xff, 0xf0, 0, 0x20,
-    ];
-    let text: &[u8] = b"00000400 7041 MOVEQ #$41,D0\n\
-00000402 13C0FFF00000 MOVE.B D0,$FFF00000.L\n\
-00000408 23FC00000001FFF00020 MOVE.L #$1,$FFF00020.L\n";
+    // No more room than for the first line.
+    let program = &LISTINGS[0];
     let mut ram = vec![in rt.alloc(); 0u8; SIZE as usize]?;
-    put(&mut ram, 0x400, &code);
-    let lines = listed(rt.alloc(), &ram, 0x400, 3)?;
-    assert!(rt; lines.as_slice() == text);
+    put(&mut ram, program.place, program.bytes);
     let mut out = MemSink::new(rt.alloc(), 30, Vec::new(rt.alloc()))?;
-    assert!(rt; list(rt.alloc(), &ram, 0x400, 3, &mut out) == Err(ListFault::Sink));
-    assert!(rt; Some(out.bytes()) == text.get(..30));
-    Ok(())
-}
-
-/// An instruction that leaves memory is a number, and a first word outside memory ends the listing.
-#[test]
-fn the_end_of_memory(rt: HostRuntime) -> Result<(), Fail> {
-    let mut ram = vec![in rt.alloc(); 0u8; SIZE as usize]?;
-    put(&mut ram, SIZE - 6, &[0x4e, 0x71, 0x60, 0, 0x4e, 0xb9]);
-    let text: &[u8] = b"0000FFFA 4E71 NOP\n0000FFFC 60004EB9 BRA.W $14EB7\n";
-    let lines = listed(rt.alloc(), &ram, SIZE - 6, 9)?;
-    assert!(rt; lines.as_slice() == text);
-    let text: &[u8] = b"0000FFFE 4EB9 DC.W $4EB9\n";
-    let lines = listed(rt.alloc(), &ram, SIZE - 2, 9)?;
-    assert!(rt; lines.as_slice() == text);
-    assert!(rt; listed(rt.alloc(), &ram, SIZE, 9)?.is_empty());
-    assert!(rt; listed(rt.alloc(), &ram, 0xffff_fffe, 9)?.is_empty());
-    assert!(rt; listed(rt.alloc(), &ram, 0, 0)?.is_empty());
+    assert!(rt;
+        list(rt.alloc(), &ram, program.at, program.count, &mut out) == Err(ListFault::Sink)
+    );
+    assert!(rt; Some(out.bytes()) == program.text.get(..30));
     Ok(())
 }

@@ -1,15 +1,13 @@
 //! Whole runs in memory: what no clause says, and each answer once with ample memory.
 
-mod excerpts;
-mod generated;
+mod commands;
 mod hostile_guests;
 mod outsides;
 mod sessions;
-mod sources;
 
 use mb_board::Native;
 use mb_outside::{MemShelf, MemSink};
-use mb_program::{run_program, run_unfailing};
+use mb_program::run_program;
 use std::alloc::Global;
 use std::process::Abort;
 use std::test::Fail;
@@ -365,19 +363,48 @@ fn machines_run(rt: HostRuntime) -> Result<(), Fail> {
     Ok(())
 }
 
-#[test]
-fn the_whole_text_is_written(rt: HostRuntime) {
-    let ran = run_text(rt.alloc(), HELLO_WORDS, HELLO, NOTHING).expect(&rt, "ample memory");
-    assert!(rt; ran.status == 0);
-    assert!(rt; ran.out.bytes() == HELLO_TEXT);
-    assert!(rt; ran.diag.bytes().is_empty());
+/// Lines of words by what they have in common, and what comes of each.
+struct Words<'a> {
+    what: &'a str,
+    lines: &'a [&'a str],
+    status: u8,
+    out: &'a [u8],
+    diag: &'a [u8],
 }
 
-/// Words that are refused, by what is wrong with them.
-const REFUSED: [(&str, &[&str]); 6] = [
-    (
-        "other commands",
-        &[
+#[rattlefmt::skip]
+static WORDS: [Words; 9] = [
+    Words {
+        what: "words in any order",
+        lines: &[
+            "mbx bare hello.s19 --ram 64 --steps 10",
+            "mbx bare hello.s19 --steps 10 --ram 64",
+            "mbx bare --ram 64 --steps 10 hello.s19",
+            "mbx bare --ram 64 hello.s19 --steps 10",
+            "mbx bare --steps=10 hello.s19 --ram 64",
+            "mbx bare --steps=10 --ram=64 hello.s19",
+            "mbx bare hello.s19 --ram=64 --steps=10",
+            "mbx bare hello.s19 --steps 10 --ram=64",
+            "mbx bare --ram 64 --steps 10 -- hello.s19",
+            "mbx bare hello.s19 --ram 64 --steps 10 --",
+            "mbx bare --ram 64 hello.s19 --steps 10 --",
+            " bare hello.s19 --ram 64 --steps 10",
+            "-- bare hello.s19 --ram 64 --steps 10",
+            "mbx bare hello.s19 --ram 0000000064 --steps 0000000010",
+            "mbx bare hello.s19 --ram 064 --steps=010",
+            "mbx bare hello.s19 --ram 64 --steps 10 --script typed.txt",
+            "mbx bare --script=typed.txt --ram 64 hello.s19 --steps 10",
+            "mbx bare --ram 64 --script typed.txt --steps 10 -- hello.s19",
+            "mbx bare hello.s19 --ram 64 --steps 3",
+            "mbx bare hello.s19 --ram 64 --steps 4294967295",
+        ],
+        status: 0,
+        out: HELLO_TEXT,
+        diag: b"",
+    },
+    Words {
+        what: "other commands",
+        lines: &[
             "mbx",
             "mbx bare",
             "mbx help",
@@ -409,10 +436,13 @@ const REFUSED: [(&str, &[&str]); 6] = [
             "mbx -- bare hello.s19 --ram 64 --steps 10",
             "mbx bäre hello.s19 --ram 64 --steps 10",
         ],
-    ),
-    (
-        "missing and extra words",
-        &[
+        status: 2,
+        out: b"",
+        diag: b"mbx: words refused\n",
+    },
+    Words {
+        what: "missing and extra words",
+        lines: &[
             "mbx bare hello.s19",
             "mbx bare hello.s19 --ram 64",
             "mbx bare hello.s19 --steps 10",
@@ -433,10 +463,13 @@ const REFUSED: [(&str, &[&str]); 6] = [
             "mbx bare hello.s19 --ram=64 --ram=64 --steps 10",
             "mbx bare hello.s19 --ram 64 --steps 10 --steps 10",
         ],
-    ),
-    (
-        "other options",
-        &[
+        status: 2,
+        out: b"",
+        diag: b"mbx: words refused\n",
+    },
+    Words {
+        what: "other options",
+        lines: &[
             "mbx bare - --ram 64 --steps 10",
             "mbx bare hello.s19 --ram - --steps 10",
             "mbx bare hello.s19 - --ram 64 --steps 10",
@@ -460,10 +493,13 @@ const REFUSED: [(&str, &[&str]); 6] = [
             "mbx bare hello.s19 --=64 --steps 10",
             "mbx bare hello.s19 –ram 64 --steps 10",
         ],
-    ),
-    (
-        "words of a script",
-        &[
+        status: 2,
+        out: b"",
+        diag: b"mbx: words refused\n",
+    },
+    Words {
+        what: "words of a script",
+        lines: &[
             "mbx bare hello.s19 --ram 64 --steps 10 --script",
             "mbx bare hello.s19 --ram 64 --steps 10 --script=",
             "mbx bare hello.s19 --ram 64 --steps 10 --script ",
@@ -475,19 +511,25 @@ const REFUSED: [(&str, &[&str]); 6] = [
             "mbx bare hello.s19 --ram 64 --script typed.txt",
             "mbx bare hello.s19 --ram 64 --steps 10 --scrip typed.txt",
         ],
-    ),
-    (
-        "words behind two hyphens",
-        &[
+        status: 2,
+        out: b"",
+        diag: b"mbx: words refused\n",
+    },
+    Words {
+        what: "words behind two hyphens",
+        lines: &[
             "mbx bare --ram 64 --steps 10 --",
             "mbx bare hello.s19 --ram 64 -- --steps 10",
             "mbx bare hello.s19 --ram 64 --steps 10 -- --",
             "mbx bare --ram 64 --steps 10 -- hello.s19 hello.s19",
         ],
-    ),
-    (
-        "numbers",
-        &[
+        status: 2,
+        out: b"",
+        diag: b"mbx: words refused\n",
+    },
+    Words {
+        what: "numbers",
+        lines: &[
             "mbx bare hello.s19 --ram 63 --steps 10",
             "mbx bare hello.s19 --ram 65 --steps 10",
             "mbx bare hello.s19 --ram 0 --steps 10",
@@ -508,82 +550,63 @@ const REFUSED: [(&str, &[&str]); 6] = [
             "mbx bare hello.s19 --ram 64 --steps 1.5",
             "mbx bare hello.s19 --ram 64 --steps ١٠",
         ],
-    ),
+        status: 2,
+        out: b"",
+        diag: b"mbx: words refused\n",
+    },
+    Words {
+        what: "words of dis",
+        lines: &[
+            "mbx dis",
+            "mbx dis hello.s19",
+            "mbx dis hello.s19 --ram 64 --at 400",
+            "mbx dis hello.s19 --ram 64 --count 1",
+            "mbx dis hello.s19 --at 400 --count 1",
+            "mbx dis --ram 64 --at 400 --count 1",
+            "mbx dis hello.s19 hello.s19 --ram 64 --at 400 --count 1",
+            "mbx dis hello.s19 --ram 64 --at 401 --count 1",
+            "mbx dis hello.s19 --ram 64 --at 000000400 --count 1",
+            "mbx dis hello.s19 --ram 64 --at $400 --count 1",
+            "mbx dis hello.s19 --ram 64 --at 0x40 --count 1",
+            "mbx dis hello.s19 --ram 64 --at=-2 --count 1",
+            "mbx dis hello.s19 --ram 64 --at= --count 1",
+            "mbx dis hello.s19 --ram 64 --at 4G --count 1",
+            "mbx dis hello.s19 --ram 64 --at 400 --count 0",
+            "mbx dis hello.s19 --ram 64 --at 400 --count 1000001",
+        ],
+        status: 2,
+        out: b"",
+        diag: b"mbx: words refused\n",
+    },
+    Words {
+        what: "words of gen",
+        lines: &[
+            "mbx gen --seed 1 --guests 0",
+            "mbx gen --seed 1 --guests 17",
+            "mbx gen --seed 4294967296 --guests 1",
+            "mbx gen --guests 1",
+            "mbx gen 1 --seed 1 --guests 1",
+        ],
+        status: 2,
+        out: b"",
+        diag: b"mbx: words refused\n",
+    },
 ];
 
-/// The words of each line are refused, and nothing is written to out.
-fn check_refused(rt: &impl Abort, alloc: Global, what: &str, lines: &[&str]) {
-    for line in lines {
+fn check_words(rt: &impl Abort, alloc: Global, words: &Words) {
+    for line in words.lines {
         let ran = run_text(alloc, line, HELLO, NOTHING).expect(rt, "ample memory");
-        assert!(rt; ran.status == 2, "{what}: {line}");
-        assert!(rt;
-            ran.diag.bytes() == b"mbx: words refused\n".as_slice(),
-            "{what}: {line}"
-        );
-        assert!(rt; ran.out.bytes().is_empty(), "{what}: {line}");
+        assert!(rt; ran.status == words.status, "{}: {line}", words.what);
+        assert!(rt; ran.out.bytes() == words.out, "{}: {line}", words.what);
+        assert!(rt; ran.diag.bytes() == words.diag, "{}: {line}", words.what);
     }
 }
 
 #[test]
-fn other_words_are_refused(rt: HostRuntime) {
-    for (what, lines) in REFUSED {
-        check_refused(&rt, rt.alloc(), what, lines);
+fn words_are_taken_or_refused(rt: HostRuntime) {
+    for words in &WORDS {
+        check_words(&rt, rt.alloc(), words);
     }
-}
-
-#[test]
-fn words_are_taken_in_any_order(rt: HostRuntime) {
-    let taken: [&str; 20] = [
-        "mbx bare hello.s19 --ram 64 --steps 10",
-        "mbx bare hello.s19 --steps 10 --ram 64",
-        "mbx bare --ram 64 --steps 10 hello.s19",
-        "mbx bare --ram 64 hello.s19 --steps 10",
-        "mbx bare --steps=10 hello.s19 --ram 64",
-        "mbx bare --steps=10 --ram=64 hello.s19",
-        "mbx bare hello.s19 --ram=64 --steps=10",
-        "mbx bare hello.s19 --steps 10 --ram=64",
-        "mbx bare --ram 64 --steps 10 -- hello.s19",
-        "mbx bare hello.s19 --ram 64 --steps 10 --",
-        "mbx bare --ram 64 hello.s19 --steps 10 --",
-        " bare hello.s19 --ram 64 --steps 10",
-        "-- bare hello.s19 --ram 64 --steps 10",
-        "mbx bare hello.s19 --ram 0000000064 --steps 0000000010",
-        "mbx bare hello.s19 --ram 064 --steps=010",
-        "mbx bare hello.s19 --ram 64 --steps 10 --script typed.txt",
-        "mbx bare --script=typed.txt --ram 64 hello.s19 --steps 10",
-        "mbx bare --ram 64 --script typed.txt --steps 10 -- hello.s19",
-        "mbx bare hello.s19 --ram 64 --steps 3",
-        "mbx bare hello.s19 --ram 64 --steps 4294967295",
-    ];
-    for line in taken {
-        let ran = run_text(rt.alloc(), line, HELLO, NOTHING).expect(&rt, "ample memory");
-        assert!(rt; ran.status == 0, "{line}");
-        assert!(rt; ran.out.bytes() == HELLO_TEXT, "{line}");
-        assert!(rt; ran.diag.bytes().is_empty(), "{line}");
-    }
-}
-
-#[test]
-fn words_name_other_files(rt: HostRuntime) -> Result<(), Fail> {
-    let named: [(&str, &str); 10] = [
-        ("mbx bare --ram 64 --steps 10 -- -", "-"),
-        ("mbx bare --ram 64 --steps 10 -- --", "--"),
-        ("mbx bare --ram 64 --steps 10 -- --ram", "--ram"),
-        ("mbx bare --ram 64 --steps 10 -- -a.s19", "-a.s19"),
-        ("mbx bare --ram 64 --steps 10 -- --help", "--help"),
-        ("mbx bare bär.s19 --ram 64 --steps 10", "bär.s19"),
-        ("mbx bare --ram 64 --steps 10 画像", "画像"),
-        ("mbx bare bare --ram 64 --steps 10", "bare"),
-        ("mbx bare 64 --ram 64 --steps 10", "64"),
-        ("mbx bare a=b --ram 64 --steps 10", "a=b"),
-    ];
-    for (line, name) in named {
-        let ran = run_text(rt.alloc(), line, HELLO, NOTHING).expect(&rt, "ample memory");
-        let unread = format!(in rt.alloc(); "mbx: {name} cannot be read\n")?;
-        assert!(rt; ran.status == 5, "{line}");
-        assert!(rt; ran.diag.bytes() == unread.as_bytes(), "{line}");
-    }
-    Ok(())
 }
 
 /// A run that ends at one of its files, or at its words: its status and its line of diag.
@@ -592,7 +615,7 @@ struct Ending<'a> {
     image: &'a [u8],
     script: &'a [u8],
     status: u8,
-    line: &'a [u8],
+    line: &'a str,
 }
 
 /// An image that is malformed.
@@ -609,81 +632,98 @@ macro_rules! script {
     };
 }
 
+/// An image that is not there.
+macro_rules! unread {
+    ($words:literal, $line:literal) => {
+        Ending { words: $words, image: HELLO, script: b"", status: 5, line: $line }
+    };
+}
+
 #[rattlefmt::skip]
-const ENDINGS: [Ending; 38] = [
-    image!(b"", b"mbx: hello.s19 no end\n"),
-    image!(b"S104000001FA\n", b"mbx: hello.s19 no end\n"),
-    image!(b"S10B00000001000000000400EE\nS9030000FC\n", b"mbx: hello.s19 line 1: sum\n"),
-    image!(b"S5030001FB\nS9030000FC\n", b"mbx: hello.s19 line 1: count\n"),
-    image!(b"s9030000FC\n", b"mbx: hello.s19 line 1: kind\n"),
-    image!(b"S", b"mbx: hello.s19 line 1: kind\n"),
-    image!(b"S4030000FC\n", b"mbx: hello.s19 line 1: kind\n"),
-    image!(b"hello\n", b"mbx: hello.s19 line 1: kind\n"),
-    image!(b" \nS9030000FC\n", b"mbx: hello.s19 line 1: kind\n"),
-    image!(b"S9", b"mbx: hello.s19 line 1: length\n"),
-    image!(b"S1FF0000\nS9030000FC\n", b"mbx: hello.s19 line 1: length\n"),
-    image!(b"S103000001FA\nS9030000FC\n", b"mbx: hello.s19 line 1: length\n"),
-    image!(b"\n\r\nS10200FD\nS9030000FC\n", b"mbx: hello.s19 line 3: length\n"),
-    image!(b"S904000005F6\n", b"mbx: hello.s19 line 1: length\n"),
-    image!(b"S9030000FC \n", b"mbx: hello.s19 line 1: digits\n"),
-    image!(b"S10400000GFA\nS9030000FC\n", b"mbx: hello.s19 line 1: digits\n"),
-    image!(b"S9030000F\n", b"mbx: hello.s19 line 1: digits\n"),
-    image!(b"S9030000FC\r", b"mbx: hello.s19 line 1: digits\n"),
-    image!(b"S9030000FC\r\r\n", b"mbx: hello.s19 line 1: digits\n"),
-    image!(b"S9030000FC\nS104000001FA\n", b"mbx: hello.s19 line 2: after\n"),
-    image!(b"S104000001FA\nS9030000FC\nS9030000FC\n", b"mbx: hello.s19 line 3: after\n"),
-    image!(b"S20501000000F9\nS9030000FC\n", b"mbx: hello.s19 outside 00010000\n"),
-    image!(b"S105FFFF0102F9\nS9030000FC\n", b"mbx: hello.s19 outside 00010000\n"),
-    script!(b"at 5 hex 4\n", b"mbx: typed.txt line 1: digits\n"),
-    script!(b"at 5 text \t\n", b"mbx: typed.txt line 1: digits\n"),
-    script!(b"\n# typed\r\nat 0 text a\n", b"mbx: typed.txt line 3: number\n"),
-    script!(b"at 4294967296 line \n", b"mbx: typed.txt line 1: number\n"),
-    script!(b"at 2 text a\nat 1 text b\n", b"mbx: typed.txt line 2: order\n"),
-    script!(b"at 5 text", b"mbx: typed.txt line 1: word\n"),
-    script!(b"at 5  text a\n", b"mbx: typed.txt line 1: word\n"),
-    script!(b"at 1 text a\nat 1 hex 4142\nAT 1 text b\n", b"mbx: typed.txt line 3: word\n"),
-    script!(HELLO, b"mbx: typed.txt line 1: word\n"),
+const ENDINGS: [Ending; 48] = [
+    image!(b"", "mbx: hello.s19 no end\n"),
+    image!(b"S104000001FA\n", "mbx: hello.s19 no end\n"),
+    image!(b"S10B00000001000000000400EE\nS9030000FC\n", "mbx: hello.s19 line 1: sum\n"),
+    image!(b"S5030001FB\nS9030000FC\n", "mbx: hello.s19 line 1: count\n"),
+    image!(b"s9030000FC\n", "mbx: hello.s19 line 1: kind\n"),
+    image!(b"S", "mbx: hello.s19 line 1: kind\n"),
+    image!(b"S4030000FC\n", "mbx: hello.s19 line 1: kind\n"),
+    image!(b"hello\n", "mbx: hello.s19 line 1: kind\n"),
+    image!(b" \nS9030000FC\n", "mbx: hello.s19 line 1: kind\n"),
+    image!(b"S9", "mbx: hello.s19 line 1: length\n"),
+    image!(b"S1FF0000\nS9030000FC\n", "mbx: hello.s19 line 1: length\n"),
+    image!(b"S103000001FA\nS9030000FC\n", "mbx: hello.s19 line 1: length\n"),
+    image!(b"\n\r\nS10200FD\nS9030000FC\n", "mbx: hello.s19 line 3: length\n"),
+    image!(b"S904000005F6\n", "mbx: hello.s19 line 1: length\n"),
+    image!(b"S9030000FC \n", "mbx: hello.s19 line 1: digits\n"),
+    image!(b"S10400000GFA\nS9030000FC\n", "mbx: hello.s19 line 1: digits\n"),
+    image!(b"S9030000F\n", "mbx: hello.s19 line 1: digits\n"),
+    image!(b"S9030000FC\r", "mbx: hello.s19 line 1: digits\n"),
+    image!(b"S9030000FC\r\r\n", "mbx: hello.s19 line 1: digits\n"),
+    image!(b"S9030000FC\nS104000001FA\n", "mbx: hello.s19 line 2: after\n"),
+    image!(b"S104000001FA\nS9030000FC\nS9030000FC\n", "mbx: hello.s19 line 3: after\n"),
+    image!(b"S20501000000F9\nS9030000FC\n", "mbx: hello.s19 outside 00010000\n"),
+    image!(b"S105FFFF0102F9\nS9030000FC\n", "mbx: hello.s19 outside 00010000\n"),
+    script!(b"at 5 hex 4\n", "mbx: typed.txt line 1: digits\n"),
+    script!(b"at 5 text \t\n", "mbx: typed.txt line 1: digits\n"),
+    script!(b"\n# typed\r\nat 0 text a\n", "mbx: typed.txt line 3: number\n"),
+    script!(b"at 4294967296 line \n", "mbx: typed.txt line 1: number\n"),
+    script!(b"at 2 text a\nat 1 text b\n", "mbx: typed.txt line 2: order\n"),
+    script!(b"at 5 text", "mbx: typed.txt line 1: word\n"),
+    script!(b"at 5  text a\n", "mbx: typed.txt line 1: word\n"),
+    script!(b"at 1 text a\nat 1 hex 4142\nAT 1 text b\n", "mbx: typed.txt line 3: word\n"),
+    script!(HELLO, "mbx: typed.txt line 1: word\n"),
+    unread!("mbx bare --ram 64 --steps 10 -- -", "mbx: - cannot be read\n"),
+    unread!("mbx bare --ram 64 --steps 10 -- --", "mbx: -- cannot be read\n"),
+    unread!("mbx bare --ram 64 --steps 10 -- --ram", "mbx: --ram cannot be read\n"),
+    unread!("mbx bare --ram 64 --steps 10 -- -a.s19", "mbx: -a.s19 cannot be read\n"),
+    unread!("mbx bare --ram 64 --steps 10 -- --help", "mbx: --help cannot be read\n"),
+    unread!("mbx bare bär.s19 --ram 64 --steps 10", "mbx: bär.s19 cannot be read\n"),
+    unread!("mbx bare --ram 64 --steps 10 画像", "mbx: 画像 cannot be read\n"),
+    unread!("mbx bare bare --ram 64 --steps 10", "mbx: bare cannot be read\n"),
+    unread!("mbx bare 64 --ram 64 --steps 10", "mbx: 64 cannot be read\n"),
+    unread!("mbx bare a=b --ram 64 --steps 10", "mbx: a=b cannot be read\n"),
     Ending {
         words: SCRIPT_WORDS,
         image: b"",
         script: b"at 5 hex 4\n",
         status: 3,
-        line: b"mbx: hello.s19 no end\n",
+        line: "mbx: hello.s19 no end\n",
     },
     Ending {
         words: "mbx bare --script other.txt hello.s19 --ram 64 --steps 10",
         image: b"",
         script: b"",
         status: 3,
-        line: b"mbx: hello.s19 no end\n",
+        line: "mbx: hello.s19 no end\n",
     },
     Ending {
         words: "mbx bare hello.s19 --ram 64 --steps 10 --script other.txt",
         image: HELLO,
         script: b"",
         status: 5,
-        line: b"mbx: other.txt cannot be read\n",
+        line: "mbx: other.txt cannot be read\n",
     },
     Ending {
         words: "mbx bare other.s19 --ram 64 --steps 10 --script typed.txt",
         image: HELLO,
         script: b"at 5 hex 4\n",
         status: 5,
-        line: b"mbx: other.s19 cannot be read\n",
+        line: "mbx: other.s19 cannot be read\n",
     },
     Ending {
         words: "mbx bare other.s19 --ram 64 --steps 10 --script other.txt",
         image: HELLO,
         script: b"",
         status: 5,
-        line: b"mbx: other.s19 cannot be read\n",
+        line: "mbx: other.s19 cannot be read\n",
     },
     Ending {
         words: "mbx bare hello.s19 --ram 63 --steps 10 --script typed.txt",
         image: b"",
         script: b"at 5 hex 4\n",
         status: 2,
-        line: b"mbx: words refused\n",
+        line: "mbx: words refused\n",
     },
 ];
 
@@ -700,7 +740,11 @@ fn a_file_ends_the_run(rt: HostRuntime) {
         )
         .expect(&rt, "ample memory");
         assert!(rt; ran.status == ending.status, "{:?}", ending.line);
-        assert!(rt; ran.diag.bytes() == ending.line, "{:?}", ending.line);
+        assert!(rt;
+            ran.diag.bytes() == ending.line.as_bytes(),
+            "{:?}",
+            ending.line
+        );
         assert!(rt; ran.out.bytes().is_empty(), "{:?}", ending.line);
     }
 }
@@ -720,35 +764,4 @@ fn a_file_has_a_greatest_length(rt: HostRuntime) -> Result<(), Fail> {
     assert!(rt; ran.diag.bytes() == b"mbx: typed.txt too long\n".as_slice());
     assert!(rt; ran.out.bytes().is_empty());
     Ok(())
-}
-
-#[test]
-fn nothing_outside_fails(rt: HostRuntime) {
-    let rows: [(&str, u8); 11] = [
-        (HELLO_WORDS, 0),
-        (SCRIPT_WORDS, 0),
-        (
-            "mbx bare hello.s19 --ram 64 --steps 10 --script hello.s19",
-            3,
-        ),
-        ("mbx bare other.s19 --ram 64 --steps 10", 3),
-        ("mbx bare hello.s19 --ram 63 --steps 10", 2),
-        ("mbx bare - --ram 64 --steps 10", 2),
-        ("mbx asm other.s", 0),
-        ("mbx asm hello.s19", 0),
-        ("mbx asm hello.s19 --ram 64", 2),
-        ("mbx dis hello.s19 --ram 64 --at 400 --count 3", 0),
-        ("mbx dis hello.s19 --ram 64 --at 3ff --count 3", 2),
-    ];
-    for (line, status) in rows {
-        let words = split_words(rt.alloc(), line).expect(&rt, "ample memory");
-        let mut files = Vec::new(rt.alloc());
-        let name = String::from_str(rt.alloc(), "hello.s19").expect(&rt, "ample memory");
-        let hello = Vec::from_slice(rt.alloc(), HELLO).expect(&rt, "ample memory");
-        files.push((name, hello)).expect(&rt, "ample memory");
-        assert!(rt;
-            run_unfailing(rt.alloc(), &words, files) == status,
-            "{line}"
-        );
-    }
 }

@@ -1,6 +1,6 @@
 //! Pages of 8 KiB: what is kept of their halves, what a PFLUSH and a PTEST drop, and the pages of access errors.
 
-use super::{Case, NONE, POINTERS, ROOT, check_cases};
+use super::{Case, NONE, POINTERS, ROOT};
 use crate::shown::{Chunk, Frame, RESET, Shown, VECTOR};
 use TurnEnd::Counted;
 use vm_guest::{Counts, TurnEnd};
@@ -34,7 +34,7 @@ const NEW_LOW: Chunk = (0x6004, &[0x66, 0x66]);
 const NEW_HIGH: Chunk = (0x7004, &[0x77, 0x77]);
 
 #[rattlefmt::skip]
-static CASES: [Case; 4] = [
+pub(super) static CASES: [Case; 4] = [
     Case {
         name: "a page leads elsewhere: both halves are kept, and one PFLUSH drops both",
         chunks: &[
@@ -132,8 +132,3 @@ static CASES: [Case; 4] = [
         differs: &[],
     },
 ];
-
-#[test]
-fn pages_of_8_kib(rt: HostRuntime) {
-    check_cases(&rt, rt.alloc(), &CASES);
-}

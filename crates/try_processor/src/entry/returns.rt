@@ -2,112 +2,118 @@
 
 ghost use Rattle.std.specs.Prelude.{◌<◌};
 
-use super::{
-    NO_HOLE, access_error, cause, fields, interrupt, long, memory, processor, set_long, set_longs,
-};
+use super::{ACCESS_ERROR, FIELDS, ILLEGAL, LONGS, TIMER, processor};
+use crate::steps::{NO_HOLE, put_longs, stands};
 use mb_entry::{Cause, Entered, enter, return_from, return_held};
 use mb_frames::Access;
+use mb_port::{Fault, Space};
 use mb_vector::VectorPort;
-use mb_writes::Ended;
+use mb_writes::{Ended, MovemFault};
 use std::alloc::AllocError;
+use std::process::Abort;
 
 const WENT: Ended = Ended::Done { flow: true };
 
 const FORMAT_ERROR: Ended = Ended::Refused(14);
 
-/// Whether the entry and the return leave the processor as it was, with each of these status registers.
-fn goes_and_comes(cause: &Cause, port: &mut VectorPort) -> bool
+/// Enters and returns with each of these status registers, which leaves the processor as it was; of an access error the
+/// return holds the fields and PC, and of other frames nothing.
+fn go_and_come(rt: &impl Abort, cause: &Cause, port: &mut VectorPort)
     requires { cause.now.level < 8 }
 {
-    for sr in [0x2700, 0x3000, 0x0000, 0x901F, 0x6015] {
+    for sr in [0x2700, 0x3000, 0x0000, 0x901F, 0x6015, 0x8000] {
         let before = processor(sr);
         let mut cpu = before;
-        if enter(&mut cpu, port, cause) != Entered::Done
-            || return_from(&mut cpu, port) != WENT
-            || cpu != before
-        {
-            return false;
-        }
+        assert!(rt; enter(&mut cpu, port, cause) == Entered::Done);
+        assert!(rt; return_from(&mut cpu, port) == WENT);
+        assert!(rt; cpu == before);
+        let (mut held, mut at, pc) = match cause.access {
+            Some(_) => (Access::default(), 7, 0x400),
+            None => (FIELDS, 7, 7),
+        };
+        assert!(rt; enter(&mut cpu, port, cause) == Entered::Done);
+        assert!(rt; return_held(&mut cpu, port, &mut held, &mut at) == WENT);
+        assert!(rt; cpu == before);
+        assert!(rt; (held, at) == (FIELDS, pc));
     }
-    true
 }
 
 #[test]
 fn each_frame_there_and_back(rt: HostRuntime) -> Result<(), AllocError> {
-    let mut port = memory(rt.alloc())?;
-    assert!(rt; goes_and_comes(&cause(4, 0x400, 0), &mut port));
-    assert!(rt; goes_and_comes(&cause(5, 0x400, 0x3FC), &mut port));
-    assert!(rt; goes_and_comes(&cause(32, 0x400, 0), &mut port));
-    assert!(rt; goes_and_comes(&interrupt(6), &mut port));
-    assert!(rt; goes_and_comes(&access_error(0x400), &mut port));
-    Ok(())
-}
-
-#[test]
-fn an_access_error_there_and_back(rt: HostRuntime) -> Result<(), AllocError> {
-    let mut port = memory(rt.alloc())?;
-    let before = processor(0x8000);
-    let mut cpu = before;
-    let error = access_error(0x400);
-    assert!(rt; enter(&mut cpu, &mut port, &error) == Entered::Done);
-    let mut held = Access::default();
-    let mut at = 7;
-    assert!(rt; return_held(&mut cpu, &mut port, &mut held, &mut at) == WENT);
-    assert!(rt; cpu == before);
-    assert!(rt; held == fields());
-    assert!(rt; at == 0x400);
-    Ok(())
-}
-
-#[test]
-fn nothing_is_held_of_other_frames(rt: HostRuntime) -> Result<(), AllocError> {
-    let mut port = memory(rt.alloc())?;
-    let mut cpu = processor(0x2700);
-    assert!(rt; enter(&mut cpu, &mut port, &cause(4, 0x400, 0)) == Entered::Done);
-    let mut held = fields();
-    let mut at = 7;
-    assert!(rt; return_held(&mut cpu, &mut port, &mut held, &mut at) == WENT);
-    assert!(rt; (held, at) == (fields(), 7));
-    Ok(())
-}
-
-#[test]
-fn format_errors_leave_all_registers(rt: HostRuntime) -> Result<(), AllocError> {
-    // The longs at the interrupt stack, and at the master stack.
-    let frames = [
-        // format $3
-        ((0x2700_0000, 0x0500_3000), (0, 0)),
-        // format $F
-        ((0x2700_0000, 0x0500_F000), (0, 0)),
-        // a throwaway frame whose S is clear
-        ((0x1000_0000, 0x0500_1078), (0x2700_0000, 0x0600_0000)),
-        // a second throwaway frame
-        ((0x3000_0000, 0x0500_1078), (0x2700_0000, 0x0600_1078)),
-        // below a throwaway frame a format that there is not
-        ((0x3000_0000, 0x0500_1078), (0x2700_0000, 0x0600_8000)),
-    ];
-    for (first, second) in frames {
-        let mut port = memory(rt.alloc())?;
-        set_long(&mut port, 0x8000, first.0);
-        set_long(&mut port, 0x8004, first.1);
-        set_long(&mut port, 0x9000, second.0);
-        set_long(&mut port, 0x9004, second.1);
-        let before = processor(0x2300);
-        let mut cpu = before;
-        assert!(rt; return_from(&mut cpu, &mut port) == FORMAT_ERROR);
-        assert!(rt; cpu == before);
+    let zero_divide = Cause {
+        vector: 5,
+        address: 0x3FC,
+        ..ILLEGAL
+    };
+    let trap = Cause {
+        vector: 32,
+        ..ILLEGAL
+    };
+    let mut port = VectorPort::new(rt.alloc(), LONGS, NO_HOLE)?;
+    for cause in [ILLEGAL, zero_divide, trap, TIMER, ACCESS_ERROR] {
+        assert!(rt; cause.level < 8);
+        go_and_come(&rt, &cause, &mut port);
     }
     Ok(())
 }
 
+/// Short frames and throwaway frames.
+struct Frames {
+    name: &'static str,
+    sr: u16,
+    /// The longs at the interrupt stack, and at the master stack.
+    interrupt: [u32; 2],
+    master: [u32; 2],
+    /// SR, PC and the interrupt stack pointer after the return; of none it is a format error.
+    after: Option<(u16, u32, u32)>,
+}
+
+#[rattlefmt::skip]
+static FRAMES: [Frames; 6] = [
+    Frames {
+        name: "only the bits of the status register are kept", sr: 0x2700,
+        interrupt: [0x0FFF_0000, 0x0500_0FFF], master: [0, 0], after: Some((0x071F, 0x500, 0x8008)),
+    },
+    Frames {
+        name: "format $3", sr: 0x2300,
+        interrupt: [0x2700_0000, 0x0500_3000], master: [0, 0], after: None,
+    },
+    Frames {
+        name: "format $F", sr: 0x2300,
+        interrupt: [0x2700_0000, 0x0500_F000], master: [0, 0], after: None,
+    },
+    Frames {
+        name: "a throwaway frame whose S is clear", sr: 0x2300,
+        interrupt: [0x1000_0000, 0x0500_1078], master: [0x2700_0000, 0x0600_0000], after: None,
+    },
+    Frames {
+        name: "a second throwaway frame", sr: 0x2300,
+        interrupt: [0x3000_0000, 0x0500_1078], master: [0x2700_0000, 0x0600_1078], after: None,
+    },
+    Frames {
+        name: "below a throwaway frame a format that there is not", sr: 0x2300,
+        interrupt: [0x3000_0000, 0x0500_1078], master: [0x2700_0000, 0x0600_8000], after: None,
+    },
+];
+
 #[test]
-fn only_the_bits_of_the_status_register_are_kept(rt: HostRuntime) -> Result<(), AllocError> {
-    let mut port = memory(rt.alloc())?;
-    set_long(&mut port, 0x8000, 0x0FFF_0000);
-    set_long(&mut port, 0x8004, 0x0500_0FFF);
-    let mut cpu = processor(0x2700);
-    assert!(rt; return_from(&mut cpu, &mut port) == WENT);
-    assert!(rt; (cpu.regs.sr, cpu.regs.pc, cpu.regs.isp) == (0x071F, 0x500, 0x8008));
+fn short_and_throwaway_frames(rt: HostRuntime) -> Result<(), AllocError> {
+    for frames in &FRAMES {
+        let mut port = VectorPort::new(rt.alloc(), LONGS, NO_HOLE)?;
+        put_longs(&mut port, 0x8000, &frames.interrupt);
+        put_longs(&mut port, 0x9000, &frames.master);
+        let mut cpu = processor(frames.sr);
+        let mut wanted = cpu;
+        let mut end = FORMAT_ERROR;
+        if let Some((sr, pc, isp)) = frames.after {
+            wanted.regs.sr = sr;
+            wanted.regs.pc = pc;
+            wanted.regs.isp = isp;
+            end = WENT;
+        }
+        assert!(rt; return_from(&mut cpu, &mut port) == end, "{}", frames.name);
+        assert!(rt; cpu == wanted, "{}", frames.name);
+    }
     Ok(())
 }
 
@@ -121,9 +127,8 @@ fn a_refused_read_leaves_all_registers(rt: HostRuntime) -> Result<(), AllocError
         (0x8007, 0x8006),
         (0x803B, 0x8038),
     ] {
-        let mut port = memory(rt.alloc())?;
-        set_long(&mut port, 0x8000, 0x2000_0000);
-        set_long(&mut port, 0x8004, 0x0500_7008);
+        let mut port = VectorPort::new(rt.alloc(), LONGS, NO_HOLE)?;
+        put_longs(&mut port, 0x8000, &[0x2000_0000, 0x0500_7008]);
         port.hole = hole;
         let before = processor(0x2700);
         let mut cpu = before;
@@ -160,76 +165,105 @@ fn interrupted(words: u32, done: u32) -> [u32; 15] {
     ]
 }
 
-#[test]
-fn a_movem_goes_on(rt: HostRuntime) -> Result<(), AllocError> {
-    let mut port = memory(rt.alloc())?;
-    set_longs(&mut port, 0x8000, &interrupted(0x48D0_000F, 2));
-    let mut cpu = processor(0x2700);
-    let mut held = Access::default();
-    let mut pc = 0;
-    assert!(rt; return_held(&mut cpu, &mut port, &mut held, &mut pc) == WENT);
-    assert!(rt; (cpu.regs.pc, cpu.regs.isp, cpu.regs.sr) == (0x404, 0x803C, 0x2000));
-    assert!(rt; (pc, held.pd3, held.ssw) == (0x400, 2, 0x1405));
-    assert!(rt; (long(&port, 0x2000), long(&port, 0x2004)) == (0, 0));
-    assert!(rt; (long(&port, 0x2008), long(&port, 0x200C)) == (0xD2, 0xD3));
-    Ok(())
+/// A MOVEM that goes on.
+struct Movem {
+    name: &'static str,
+    words: u32,
+    /// How many transfers were done.
+    done: u32,
+    hole: u32,
+    /// The longs of memory that it is to load.
+    loads: [u32; 4],
+    refused: Option<MovemFault>,
+    pc: u32,
+    /// D0 to D3 then, and A0.
+    d: [u32; 4],
+    a0: u32,
+    /// The same longs of memory then.
+    longs: [u32; 4],
 }
 
+#[rattlefmt::skip]
+static MOVEMS: [Movem; 3] = [
+    Movem {
+        name: "two transfers are left", words: 0x48D0_000F, done: 2, hole: NO_HOLE, loads: [0, 0, 0, 0],
+        refused: None, pc: 0x404, d: [0xD0, 0xD1, 0xD2, 0xD3], a0: 0xA0, longs: [0, 0, 0xD2, 0xD3],
+    },
+    Movem {
+        name: "it is refused again", words: 0x4CD8_000F, done: 1, hole: 0x200D, loads: [0, 0x1111, 0x2222, 0],
+        refused: Some(MovemFault {
+            fault: Fault { at: 0x200C, len: 4, space: Space::Super, code: false, write: false, atc: false },
+            first: 0x2000,
+            done: 3,
+        }),
+        pc: 0x400, d: [0xD0, 0x1111, 0x2222, 0xD3], a0: 0xA0, longs: [0, 0x1111, 0x2222, 0],
+    },
+    Movem {
+        name: "with nothing left it steps its register", words: 0x4CD8_000F, done: 4, hole: NO_HOLE,
+        loads: [0, 0, 0, 0], refused: None, pc: 0x404, d: [0xD0, 0xD1, 0xD2, 0xD3], a0: 0x2010, longs: [0, 0, 0, 0],
+    },
+];
+
 #[test]
-fn a_movem_is_refused_again(rt: HostRuntime) -> Result<(), AllocError> {
-    let mut port = memory(rt.alloc())?;
-    set_longs(&mut port, 0x8000, &interrupted(0x4CD8_000F, 1));
-    set_long(&mut port, 0x2004, 0x1111);
-    set_long(&mut port, 0x2008, 0x2222);
-    port.hole = 0x200D;
-    let mut cpu = processor(0x2700);
-    match return_from(&mut cpu, &mut port) {
-        Ended::Movem(refused) => {
-            assert!(rt; (refused.first, refused.done, refused.fault.at) == (0x2000, 3, 0x200C));
-        }
-        _ => assert!(rt; false),
+fn movems_go_on(rt: HostRuntime) -> Result<(), AllocError> {
+    for movem in &MOVEMS {
+        let mut port = VectorPort::new(rt.alloc(), LONGS, NO_HOLE)?;
+        put_longs(&mut port, 0x8000, &interrupted(movem.words, movem.done));
+        put_longs(&mut port, 0x2000, &movem.loads);
+        port.hole = movem.hole;
+        let mut cpu = processor(0x2700);
+        let mut wanted = cpu;
+        let [d0, d1, d2, d3] = movem.d;
+        let d = [d0, d1, d2, d3, 0xD4, 0xD5, 0xD6, 0xD7];
+        wanted.regs.d = d;
+        wanted.regs.a[0] = movem.a0;
+        wanted.regs.sr = 0x2000;
+        wanted.regs.pc = movem.pc;
+        wanted.regs.isp = 0x803C;
+        let mut held = Access::default();
+        let mut at = 0;
+        let wanted_end = match movem.refused {
+            Some(refused) => Ended::Movem(refused),
+            None => WENT,
+        };
+        let end = return_held(&mut cpu, &mut port, &mut held, &mut at);
+        assert!(rt; end == wanted_end, "{}", movem.name);
+        assert!(rt; cpu == wanted, "{}", movem.name);
+        assert!(rt;
+            (at, held.pd3, held.ssw) == (0x400, movem.done, 0x1405),
+            "{}",
+            movem.name
+        );
+        assert!(rt; stands(&port, 0x2000, &movem.longs), "{}", movem.name);
     }
-    assert!(rt; (cpu.regs.pc, cpu.regs.isp) == (0x400, 0x803C));
-    assert!(rt;
-        (cpu.regs.d[0], cpu.regs.d[1], cpu.regs.d[2], cpu.regs.d[3]) == (0xD0, 0x1111, 0x2222, 0xD3)
-    );
-    assert!(rt; cpu.regs.a[0] == 0xA0);
     Ok(())
 }
 
-#[test]
-fn a_movem_with_nothing_left_steps_its_register(rt: HostRuntime) -> Result<(), AllocError> {
-    let mut port = memory(rt.alloc())?;
-    set_longs(&mut port, 0x8000, &interrupted(0x4CD8_000F, 4));
-    let mut cpu = processor(0x2700);
-    assert!(rt; return_from(&mut cpu, &mut port) == WENT);
-    assert!(rt; (cpu.regs.pc, cpu.regs.a[0]) == (0x404, 0x2010));
-    Ok(())
-}
+/// The words of a MOVEM, how many transfers were done, and whether that is lawful.
+#[rattlefmt::skip]
+static WORDS: [(u32, u32, bool); 15] = [
+    (0x48D0_000F, 5, false),
+    (0x48D0_000F, 0x1_0004, false),
+    (0x48C0_000F, 0, false),
+    (0x48D8_000F, 0, false),
+    (0x48E0_000F, 0, true),
+    (0x48FA_000F, 0, false),
+    (0x48BA_000F, 0, false),
+    (0x48B9_000F, 0, true),
+    (0x4CFA_000F, 0, true),
+    (0x4CFB_000F, 0, true),
+    (0x4CFC_000F, 0, false),
+    (0x4CE0_000F, 0, false),
+    (0x4C98_000F, 0, true),
+    (0x4E71_000F, 0, false),
+    (0x4C50_000F, 0, false),
+];
 
 #[test]
 fn what_is_no_movem_is_a_format_error(rt: HostRuntime) -> Result<(), AllocError> {
-    // The words of a MOVEM, how many transfers were done, and whether that is lawful.
-    let words = [
-        (0x48D0_000F, 5, false),
-        (0x48D0_000F, 0x1_0004, false),
-        (0x48C0_000F, 0, false),
-        (0x48D8_000F, 0, false),
-        (0x48E0_000F, 0, true),
-        (0x48FA_000F, 0, false),
-        (0x48BA_000F, 0, false),
-        (0x48B9_000F, 0, true),
-        (0x4CFA_000F, 0, true),
-        (0x4CFB_000F, 0, true),
-        (0x4CFC_000F, 0, false),
-        (0x4CE0_000F, 0, false),
-        (0x4C98_000F, 0, true),
-        (0x4E71_000F, 0, false),
-        (0x4C50_000F, 0, false),
-    ];
-    for (operation, done, lawful) in words {
-        let mut port = memory(rt.alloc())?;
-        set_longs(&mut port, 0x8000, &interrupted(operation, done));
+    for &(operation, done, lawful) in &WORDS {
+        let mut port = VectorPort::new(rt.alloc(), LONGS, NO_HOLE)?;
+        put_longs(&mut port, 0x8000, &interrupted(operation, done));
         let mut cpu = processor(0x2700);
         let ended = return_from(&mut cpu, &mut port);
         assert!(rt; (ended == WENT) == lawful, "{operation:x}");

@@ -1,11 +1,19 @@
-//! Pieces and lines that are left to be written.
+//! Pieces, lines and transfers of a MOVEM that are left to be written.
 
-use super::{NO_VECTORS, Row};
-use crate::steps::NO_HOLE;
+use super::{NO_VECTORS, Row, has_transfers};
+use crate::steps::{CODE, NO_HOLE};
+use Left::{Line, Movem, Pieces};
 use mb_frames::Pend;
 use mb_step::StepEnd::{Halted, Went};
 use std::alloc::AllocError;
-use vm_inject::{finish_line, finish_writes};
+use vm_inject::{finish_line, finish_movem, finish_writes};
+
+/// What is left: the pieces, the line, or the MOVEM after so many transfers.
+enum Left {
+    Pieces,
+    Line,
+    Movem(u8),
+}
 
 /// $11223344 of a long at $2001.
 #[rattlefmt::skip]
@@ -15,62 +23,92 @@ const PIECES: [Pend; 3] = [
     Pend { at: 0x2004, len: 1, value: 0x44 },
 ];
 
-#[rattlefmt::skip]
-static PIECES_WRITTEN: [Row<'static>; 6] = [
-    Row { name: "all pieces", hole: NO_HOLE, isp: 0x8000, vbr: 0, end: Went, after: (0x0015, 0x40A, 0x8000),
-        longs: &[0x0011_2233, 0x4400_0000], frame: &[] },
-    Row { name: "first piece", hole: 0x2001, isp: 0x8000, vbr: 0, end: Went, after: (0x2015, 0x500, 0x7FC4),
-        longs: &[0, 0],
-        frame: &[0x0015_0000, 0x040A_7008, 0x2001, 0x0021_00A1, 0x00C1_00A1, 0x2001, 0x2004, 0x44, 0x2002, 0x2233,
-            0x2001, 0x0011_0000, 0, 0, 0] },
-    Row { name: "second piece", hole: 0x2003, isp: 0x8000, vbr: 0, end: Went, after: (0x2015, 0x500, 0x7FC4),
-        longs: &[0x0011_0000, 0],
-        frame: &[0x0015_0000, 0x040A_7008, 0x2001, 0x0041_0000, 0x00A1_00C1, 0x2002, 0, 0, 0x2004, 0x44, 0x2002,
-            0x2233, 0, 0, 0] },
-    Row { name: "third piece", hole: 0x2004, isp: 0x8000, vbr: 0, end: Went, after: (0x2015, 0x500, 0x7FC4),
-        longs: &[0x0011_2233, 0],
-        frame: &[0x0015_0000, 0x040A_7008, 0x2001, 0x0021_0000, 0x0000_00A1, 0x2004, 0, 0, 0, 0, 0x2004, 0x4400_0000,
-            0, 0, 0] },
-    Row { name: "frame without a place", hole: 0x2004, isp: 0x1_0040, vbr: 0, end: Halted,
-        after: (0x0015, 0x40A, 0x1_0040), longs: &[0x0011_2233, 0], frame: &[] },
-    Row { name: "no vector", hole: 0x2004, isp: 0x8000, vbr: NO_VECTORS, end: Halted, after: (0x2015, 0x40A, 0x7FC4),
-        longs: &[0x0011_2233, 0], frame: &[0x0015_0000, 0x040A_7008, 0x2001, 0x0021_0000, 0x0000_00A1, 0x2004] },
-];
-
-#[test]
-fn pieces(rt: HostRuntime) -> Result<(), AllocError> {
-    for row in &PIECES_WRITTEN {
-        let mut port = row.memory(rt.alloc())?;
-        let mut cpu = row.processor(0x40A);
-        let end = finish_writes(&PIECES, 0x2001, &mut cpu, &mut port);
-        row.expect(&rt, end, &cpu, 0x2000, &port);
-    }
-    Ok(())
-}
-
 const LINE: [u32; 4] = [0x1111_1111, 0x2222_2222, 0x3333_3333, 0x4444_4444];
 
+/// MOVEM.L D0/D1,(A0).
+const STORE: u32 = 0x48D0_0003;
+
 #[rattlefmt::skip]
-static LINES_WRITTEN: [Row<'static>; 4] = [
-    Row { name: "line", hole: NO_HOLE, isp: 0x8000, vbr: 0, end: Went, after: (0x0015, 0x404, 0x8000), longs: &LINE,
-        frame: &[] },
-    Row { name: "refused line", hole: 0x200F, isp: 0x8000, vbr: 0, end: Went, after: (0x2015, 0x500, 0x7FC4),
-        longs: &[0, 0, 0, 0],
+static ROWS: [(Left, Row<'static>); 20] = [
+    (Pieces, Row { name: "all pieces", hole: NO_HOLE, isp: 0x8000, vbr: 0,
+        end: Went, after: (0x0015, 0x40A, 0x8000), longs: &[0x0011_2233, 0x4400_0000], frame: &[] }),
+    (Pieces, Row { name: "first piece", hole: 0x2001, isp: 0x8000, vbr: 0,
+        end: Went, after: (0x2015, 0x500, 0x7FC4), longs: &[0, 0],
+        frame: &[0x0015_0000, 0x040A_7008, 0x2001, 0x0021_00A1, 0x00C1_00A1, 0x2001, 0x2004, 0x44, 0x2002, 0x2233,
+            0x2001, 0x0011_0000, 0, 0, 0] }),
+    (Pieces, Row { name: "second piece", hole: 0x2003, isp: 0x8000, vbr: 0,
+        end: Went, after: (0x2015, 0x500, 0x7FC4), longs: &[0x0011_0000, 0],
+        frame: &[0x0015_0000, 0x040A_7008, 0x2001, 0x0041_0000, 0x00A1_00C1, 0x2002, 0, 0, 0x2004, 0x44, 0x2002,
+            0x2233, 0, 0, 0] }),
+    (Pieces, Row { name: "third piece", hole: 0x2004, isp: 0x8000, vbr: 0,
+        end: Went, after: (0x2015, 0x500, 0x7FC4), longs: &[0x0011_2233, 0],
+        frame: &[0x0015_0000, 0x040A_7008, 0x2001, 0x0021_0000, 0x0000_00A1, 0x2004, 0, 0, 0, 0, 0x2004, 0x4400_0000,
+            0, 0, 0] }),
+    (Pieces, Row { name: "pieces, frame without a place", hole: 0x2004, isp: 0x1_0040, vbr: 0,
+        end: Halted, after: (0x0015, 0x40A, 0x1_0040), longs: &[0x0011_2233, 0], frame: &[] }),
+    (Pieces, Row { name: "pieces, no vector", hole: 0x2004, isp: 0x8000, vbr: NO_VECTORS,
+        end: Halted, after: (0x2015, 0x40A, 0x7FC4), longs: &[0x0011_2233, 0],
+        frame: &[0x0015_0000, 0x040A_7008, 0x2001, 0x0021_0000, 0x0000_00A1, 0x2004] }),
+    (Line, Row { name: "line", hole: NO_HOLE, isp: 0x8000, vbr: 0,
+        end: Went, after: (0x0015, 0x404, 0x8000), longs: &LINE, frame: &[] }),
+    (Line, Row { name: "refused line", hole: 0x200F, isp: 0x8000, vbr: 0,
+        end: Went, after: (0x2015, 0x500, 0x7FC4), longs: &[0, 0, 0, 0],
         frame: &[0x0015_0000, 0x0404_7008, 0x2000, 0x0069_0000, 0x0000_00E9, 0x2000, 0, 0, 0, 0, 0x2000, 0x1111_1111,
-            0x2222_2222, 0x3333_3333, 0x4444_4444] },
-    Row { name: "frame without a place", hole: 0x200F, isp: 0x1_0040, vbr: 0, end: Halted,
-        after: (0x0015, 0x404, 0x1_0040), longs: &[0, 0, 0, 0], frame: &[] },
-    Row { name: "no vector", hole: 0x200F, isp: 0x8000, vbr: NO_VECTORS, end: Halted, after: (0x2015, 0x404, 0x7FC4),
-        longs: &[0, 0, 0, 0], frame: &[0x0015_0000, 0x0404_7008, 0x2000, 0x0069_0000, 0x0000_00E9, 0x2000] },
+            0x2222_2222, 0x3333_3333, 0x4444_4444] }),
+    (Line, Row { name: "line, frame without a place", hole: 0x200F, isp: 0x1_0040, vbr: 0,
+        end: Halted, after: (0x0015, 0x404, 0x1_0040), longs: &[0, 0, 0, 0], frame: &[] }),
+    (Line, Row { name: "line, no vector", hole: 0x200F, isp: 0x8000, vbr: NO_VECTORS,
+        end: Halted, after: (0x2015, 0x404, 0x7FC4), longs: &[0, 0, 0, 0],
+        frame: &[0x0015_0000, 0x0404_7008, 0x2000, 0x0069_0000, 0x0000_00E9, 0x2000] }),
+    (Movem(0), Row { name: "MOVEM, all pieces", hole: NO_HOLE, isp: 0x8000, vbr: 0,
+        end: Went, after: (0x0015, 0x404, 0x8000), longs: &[0x00D0_D0D0, 0xD0D1_D1D1, 0xD100_0000], frame: &[] }),
+    (Movem(1), Row { name: "MOVEM, a transfer that was done is not done again", hole: NO_HOLE, isp: 0x8000, vbr: 0,
+        end: Went, after: (0x0015, 0x404, 0x8000), longs: &[0, 0x00D1_D1D1, 0xD100_0000], frame: &[] }),
+    (Movem(0), Row { name: "MOVEM, first piece of the first", hole: 0x1001, isp: 0x8000, vbr: 0,
+        end: Went, after: (0x2015, 0x500, 0x7FC4), longs: &[0, 0, 0],
+        frame: &[0x0015_0000, 0x0400_7008, 0x1001, 0x1021_0000, 0, 0x1001, 0, 0, 0, 0, 0, 0, 0x0404, STORE, 0] }),
+    (Movem(0), Row { name: "MOVEM, second piece of the first", hole: 0x1002, isp: 0x8000, vbr: 0,
+        end: Went, after: (0x2015, 0x500, 0x7FC4), longs: &[0x00D0_0000, 0, 0],
+        frame: &[0x0015_0000, 0x0400_7008, 0x1001, 0x1041_0000, 0, 0x1002, 0, 0, 0, 0, 0, 0, 0x0404, STORE, 0] }),
+    (Movem(0), Row { name: "MOVEM, third piece of the first", hole: 0x1004, isp: 0x8000, vbr: 0,
+        end: Went, after: (0x2015, 0x500, 0x7FC4), longs: &[0x00D0_D0D0, 0, 0],
+        frame: &[0x0015_0000, 0x0400_7008, 0x1001, 0x1021_0000, 0, 0x1004, 0, 0, 0, 0, 0, 0, 0x0404, STORE, 0] }),
+    (Movem(0), Row { name: "MOVEM, first piece of the second", hole: 0x1005, isp: 0x8000, vbr: 0,
+        end: Went, after: (0x2015, 0x500, 0x7FC4), longs: &[0x00D0_D0D0, 0xD000_0000, 0],
+        frame: &[0x0015_0000, 0x0400_7008, 0x1001, 0x1021_0000, 0, 0x1005, 0, 0, 0, 0, 0, 0, 0x0404, STORE, 1] }),
+    (Movem(0), Row { name: "MOVEM, second piece of the second", hole: 0x1006, isp: 0x8000, vbr: 0,
+        end: Went, after: (0x2015, 0x500, 0x7FC4), longs: &[0x00D0_D0D0, 0xD0D1_0000, 0],
+        frame: &[0x0015_0000, 0x0400_7008, 0x1001, 0x1041_0000, 0, 0x1006, 0, 0, 0, 0, 0, 0, 0x0404, STORE, 1] }),
+    (Movem(0), Row { name: "MOVEM, third piece of the second", hole: 0x1008, isp: 0x8000, vbr: 0,
+        end: Went, after: (0x2015, 0x500, 0x7FC4), longs: &[0x00D0_D0D0, 0xD0D1_D1D1, 0],
+        frame: &[0x0015_0000, 0x0400_7008, 0x1001, 0x1021_0000, 0, 0x1008, 0, 0, 0, 0, 0, 0, 0x0404, STORE, 1] }),
+    (Movem(0), Row { name: "MOVEM, frame without a place", hole: 0x1005, isp: 0x1_0040, vbr: 0,
+        end: Halted, after: (0x0015, 0x400, 0x1_0040), longs: &[0x00D0_D0D0, 0xD000_0000, 0], frame: &[] }),
+    (Movem(0), Row { name: "MOVEM, no vector", hole: 0x1005, isp: 0x8000, vbr: NO_VECTORS,
+        end: Halted, after: (0x2015, 0x400, 0x7FC4), longs: &[0x00D0_D0D0, 0xD000_0000, 0],
+        frame: &[0x0015_0000, 0x0400_7008, 0x1001, 0x1021_0000, 0, 0x1005] }),
 ];
 
 #[test]
-fn lines(rt: HostRuntime) -> Result<(), AllocError> {
-    for row in &LINES_WRITTEN {
+fn writes(rt: HostRuntime) -> Result<(), AllocError> {
+    for (left, row) in &ROWS {
         let mut port = row.memory(rt.alloc())?;
-        let mut cpu = row.processor(0x404);
-        let end = finish_line(0x2000, LINE, &mut cpu, &mut port);
-        row.expect(&rt, end, &cpu, 0x2000, &port);
+        // PC before, and where it writes.
+        let (pc, at) = match left {
+            Pieces => (0x40A, 0x2000),
+            Line => (0x404, 0x2000),
+            Movem(_) => (CODE, 0x1000),
+        };
+        let mut cpu = row.processor(pc);
+        let end = match left {
+            Pieces => finish_writes(&PIECES, 0x2001, &mut cpu, &mut port),
+            Line => finish_line(0x2000, LINE, &mut cpu, &mut port),
+            Movem(done) => {
+                assert!(rt; has_transfers(STORE, u32::from(*done)));
+                finish_movem(STORE, 0x1001, *done, 0x404, &mut cpu, &mut port)
+            }
+        };
+        row.expect(&rt, end, &cpu, at, &port);
     }
     Ok(())
 }

@@ -1,55 +1,62 @@
 //! RTE, with its traces and the continuation of a MOVEM.
 
-use super::{NO_HOLE, RTE, memory, processor, put, stands, steps};
+use super::{NO_HOLE, RTE, memory, processor, put, put_longs, stands, steps};
 use mb_step::{Decoder, StepEnd};
 use std::alloc::AllocError;
 
-/// CT of a frame's SSW, in its long.
-const CT: u32 = 0x2000_0000;
-
-#[test]
-#[rattlefmt::skip]
-fn traces_after_rte(rt: HostRuntime) -> Result<(), AllocError> {
-    let mut decoder = Decoder::new(rt.alloc())?;
-    // SR before, the frame's SR, PC and format word, its SSW, and the address that the trace has; 0 without one.
-    let rows = [
-        (0x2700, 0x2000, 0x600, 0x0020, 0, 0),
-        (0x2700, 0xA000, 0x600, 0x0020, 0, 0),
-        (0xA700, 0x2000, 0x600, 0x0020, 0, 0x400),
-        (0x6700, 0x2000, 0x600, 0x0020, 0, 0x400),
-        (0x2700, 0x2000, 0x600, 0x7008, CT, 0x600),
-        (0xA700, 0x2000, 0x600, 0x7008, CT, 0x400),
-        (0x2700, 0xA000, 0x600, 0x7008, 0, 0),
-    ];
-    for (sr, saved, pc, format, ssw, address) in rows {
-        let mut port = memory(rt.alloc(), NO_HOLE, &[RTE])?;
-        put(&mut port, 0x8000, 2, saved);
-        put(&mut port, 0x8004, 2, pc);
-        put(&mut port, 0x8006, 2, format);
-        put(&mut port, 0x800C, 4, ssw);
-        let mut cpu = processor(sr);
-        let top = if format == 0x7008 { 0x803C } else { 0x8008 };
-        assert!(rt; steps(&mut decoder, 1, &mut cpu, &mut port) == StepEnd::Went);
-        if address == 0 {
-            assert!(rt; (cpu.regs.pc, cpu.regs.isp) == (pc, top));
-        } else {
-            assert!(rt; (cpu.regs.pc, cpu.regs.isp) == (0x500, top - 12));
-            assert!(rt; stands(&port, top - 12, &[saved << 16, pc << 16 | 0x2024, address]));
-        }
-    }
-    Ok(())
+/// An RTE by a frame at $8000.
+struct Row {
+    name: &'static str,
+    sr: u16,
+    /// The frame up to its SSW.
+    frame: [u32; 4],
+    /// SR, PC and the interrupt stack pointer then.
+    after: (u16, u32, u32),
+    /// The frame of an exception that follows, where the interrupt stack pointer is then.
+    stacked: &'static [u32],
 }
 
+#[rattlefmt::skip]
+static ROWS: [Row; 8] = [
+    Row { name: "no trace", sr: 0x2700, frame: [0x2000_0000, 0x0600_0020, 0, 0],
+        after: (0x2000, 0x600, 0x8008), stacked: &[] },
+    Row { name: "a trace is due of the next instruction", sr: 0x2700, frame: [0xA000_0000, 0x0600_0020, 0, 0],
+        after: (0xA000, 0x600, 0x8008), stacked: &[] },
+    Row { name: "T1", sr: 0xA700, frame: [0x2000_0000, 0x0600_0020, 0, 0],
+        after: (0x2000, 0x500, 0x7FFC), stacked: &[0x2000_0000, 0x0600_2024, 0x400] },
+    Row { name: "T0", sr: 0x6700, frame: [0x2000_0000, 0x0600_0020, 0, 0],
+        after: (0x2000, 0x500, 0x7FFC), stacked: &[0x2000_0000, 0x0600_2024, 0x400] },
+    Row { name: "CT", sr: 0x2700, frame: [0x2000_0000, 0x0600_7008, 0, 0x2000_0000],
+        after: (0x2000, 0x500, 0x8030), stacked: &[0x2000_0000, 0x0600_2024, 0x600] },
+    Row { name: "T1 and CT", sr: 0xA700, frame: [0x2000_0000, 0x0600_7008, 0, 0x2000_0000],
+        after: (0x2000, 0x500, 0x8030), stacked: &[0x2000_0000, 0x0600_2024, 0x400] },
+    Row { name: "an access error without CT", sr: 0x2700, frame: [0xA000_0000, 0x0600_7008, 0, 0],
+        after: (0xA000, 0x600, 0x803C), stacked: &[] },
+    Row { name: "a format error with T1", sr: 0xA700, frame: [0, 0x0000_3000, 0, 0],
+        after: (0x2700, 0x660, 0x7FF8), stacked: &[0xA700_0000, 0x0400_0038] },
+];
+
 #[test]
-fn format_error(rt: HostRuntime) -> Result<(), AllocError> {
+fn traces_after_rte(rt: HostRuntime) -> Result<(), AllocError> {
     let mut decoder = Decoder::new(rt.alloc())?;
-    let mut port = memory(rt.alloc(), NO_HOLE, &[RTE])?;
-    put(&mut port, 0x8006, 2, 0x3000);
-    put(&mut port, 0x38, 4, 0x660);
-    let mut cpu = processor(0xA700);
-    assert!(rt; steps(&mut decoder, 1, &mut cpu, &mut port) == StepEnd::Went);
-    assert!(rt; (cpu.regs.sr, cpu.regs.pc, cpu.regs.isp) == (0x2700, 0x660, 0x7FF8));
-    assert!(rt; stands(&port, 0x7FF8, &[0xA700_0000, 0x0400_0038]));
+    for row in &ROWS {
+        let mut port = memory(rt.alloc(), NO_HOLE, &[RTE])?;
+        // The vector of format errors.
+        put(&mut port, 0x38, 4, 0x660);
+        put_longs(&mut port, 0x8000, &row.frame);
+        let mut cpu = processor(row.sr);
+        assert!(rt;
+            steps(&mut decoder, 1, &mut cpu, &mut port) == StepEnd::Went,
+            "{}",
+            row.name
+        );
+        assert!(rt;
+            (cpu.regs.sr, cpu.regs.pc, cpu.regs.isp) == row.after,
+            "{}",
+            row.name
+        );
+        assert!(rt; stands(&port, cpu.regs.isp, row.stacked), "{}", row.name);
+    }
     Ok(())
 }
 

@@ -123,7 +123,7 @@ struct Setting {
 }
 
 /// In user mode and traced, and with a refused operand; with a bus that knows all at once, and with one that does not.
-const SETTINGS: [Setting; 4] = [
+static SETTINGS: [Setting; 4] = [
     Setting {
         sr: 0x0015,
         hole: NO_HOLE,
@@ -187,7 +187,7 @@ fn take_step(
 /// first is decoded, and the next one is found again.
 #[test]
 fn in_short_as_in_general(rt: HostRuntime) -> Result<(), AllocError> {
-    for setting in SETTINGS {
+    for &setting in &SETTINGS {
         let mut decoder = Decoder::new(rt.alloc())?;
         let mut memory = operands(rt.alloc(), setting)?;
         let mut other = operands(rt.alloc(), setting)?;

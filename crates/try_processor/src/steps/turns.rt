@@ -8,8 +8,9 @@ use std::alloc::AllocError;
 const STOP: [u16; 2] = [0x4E72, 0x2500];
 
 #[test]
-fn interrupt_with_a_master_stack(rt: HostRuntime) -> Result<(), AllocError> {
+fn interrupts(rt: HostRuntime) -> Result<(), AllocError> {
     let mut decoder = Decoder::new(rt.alloc())?;
+    // One goes to the master stack and the interrupt stack.
     let mut port = memory(rt.alloc(), NO_HOLE, &[0x4E71])?;
     let before = processor(0x3000);
     let mut cpu = before;
@@ -21,34 +22,23 @@ fn interrupt_with_a_master_stack(rt: HostRuntime) -> Result<(), AllocError> {
     // An equal mask holds it, and the handler returns.
     assert!(rt; step(&mut decoder, &mut cpu, &mut port, 6) == StepEnd::Went);
     assert!(rt; cpu == before);
-    Ok(())
-}
-
-#[test]
-fn interrupt_without_an_interrupt_stack(rt: HostRuntime) -> Result<(), AllocError> {
-    let mut decoder = Decoder::new(rt.alloc())?;
+    // Where the interrupt stack refuses its frame, an access error is entered on the master stack.
     let mut port = memory(rt.alloc(), 0x7FFC, &[0x4E71])?;
-    let mut cpu = processor(0x3000);
     cpu.stopped = true;
     assert!(rt; step(&mut decoder, &mut cpu, &mut port, 6) == StepEnd::Went);
     assert!(rt; (cpu.regs.sr, cpu.regs.pc, cpu.stopped) == (0x3000, 0x500, false));
     assert!(rt; (cpu.regs.msp, cpu.regs.isp) == (0x8FC4, 0x8000));
-    assert!(rt;
-        stands(
-            &port,
-            0x8FC4,
-            &[
-                0x3000_0000,
-                0x0400_7008,
-                0x7FFC,
-                0x0005_0000,
-                0,
-                0x7FFC,
-                0,
-                0
-            ]
-        )
-    );
+    let frame = [
+        0x3000_0000,
+        0x0400_7008,
+        0x7FFC,
+        0x0005_0000,
+        0,
+        0x7FFC,
+        0,
+        0,
+    ];
+    assert!(rt; stands(&port, 0x8FC4, &frame));
     assert!(rt; stands(&port, 0x7FF8, &[0, 0]));
     Ok(())
 }

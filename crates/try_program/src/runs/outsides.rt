@@ -1,8 +1,9 @@
 //! Outsides that fail. Each command meets a shelf that fails at its first call, at its second, and so on, until a run
-//! meets none; so it meets out; and it meets an out with room for a part.
+//! meets none; so it meets out; and it meets an out with room for a part. Last, outsides of which none can fail.
 
-use super::sessions::run_session;
-use super::{Failing, ROOMY, Ran};
+use super::sessions::{SESSION_OF_ONE, run_session};
+use super::{Failing, HELLO, HELLO_WORDS, ROOMY, Ran, SCRIPT_WORDS, file, split_words};
+use mb_program::run_unfailing;
 use std::alloc::Global;
 
 /// A session of two guests, with a script.
@@ -130,6 +131,43 @@ fn out_fails_at_each_call(rt: HostRuntime) {
             fails_in_silence(rt.alloc(), command) == Some(true),
             "{}",
             command.words
+        );
+    }
+}
+
+/// Words over a session of one guest and its image, and the status.
+#[rattlefmt::skip]
+static UNFAILING: [(&str, u8); 15] = [
+    (HELLO_WORDS, 0),
+    (SCRIPT_WORDS, 0),
+    ("mbx bare hello.s19 --ram 64 --steps 10 --script hello.s19", 3),
+    ("mbx bare other.s19 --ram 64 --steps 10", 3),
+    ("mbx bare hello.s19 --ram 63 --steps 10", 2),
+    ("mbx bare - --ram 64 --steps 10", 2),
+    ("mbx asm other.s", 0),
+    ("mbx asm hello.s19", 0),
+    ("mbx asm hello.s19 --ram 64", 2),
+    ("mbx dis hello.s19 --ram 64 --at 400 --count 3", 0),
+    ("mbx dis hello.s19 --ram 64 --at 3ff --count 3", 2),
+    ("mbx host s.txt", 0),
+    ("mbx compare s.txt", 0),
+    ("mbx host other.txt", 3),
+    ("mbx compare hello.s19", 3),
+];
+
+#[test]
+fn nothing_outside_fails(rt: HostRuntime) {
+    for &(line, status) in &UNFAILING {
+        let words = split_words(rt.alloc(), line).expect(&rt, "ample memory");
+        let mut files = Vec::new(rt.alloc());
+        for (name, bytes) in [("s.txt", SESSION_OF_ONE), ("hello.s19", HELLO)] {
+            let bytes = Vec::from_slice(rt.alloc(), bytes).expect(&rt, "ample memory");
+            let file = file(rt.alloc(), name, bytes).expect(&rt, "ample memory");
+            files.push(file).expect(&rt, "ample memory");
+        }
+        assert!(rt;
+            run_unfailing(rt.alloc(), &words, files) == status,
+            "{line}"
         );
     }
 }

@@ -1,11 +1,10 @@
 //! Sessions of several guests.
 
-use super::sources::SOURCE;
+use super::commands::SOURCE;
 use super::{
     Failing, HELLO, HELLO_TEXT, NOTHING, ROOMY, Ran, contains, file, run_over, split_words,
 };
 use mb_outside::MemShelf;
-use mb_program::run_unfailing;
 use std::alloc::Global;
 use std::process::Abort;
 
@@ -40,13 +39,14 @@ const READS: &[u8] = b"S10B00000001000000000400EF\n\
 S1150400203820002038200423FC00000001FFF00020C3\n\
 S9030000FC\n";
 
-const ONE: &[u8] = b"session 1\nboard 192\nslice 1000\nguest 64 10 hello.s19 -\n";
+pub(super) const SESSION_OF_ONE: &[u8] =
+    b"session 1\nboard 192\nslice 1000\nguest 64 10 hello.s19 -\n";
 
 /// A run on these files, and what is to come of it.
 #[derive(Drop)]
 struct Row<'a> {
     what: &'a str,
-    words: &'a str,
+    words: &'a [&'a str],
     session: &'a [u8],
     status: u8,
     /// Parts of what out takes.
@@ -87,35 +87,51 @@ pub(super) fn run_session(
     run_over(alloc, words, &mut shelf, failing)
 }
 
-fn check_rows(rt: &impl Abort, alloc: Global, rows: &[Row]) {
-    for row in rows {
-        let ran = run_session(alloc, row.words, row.session, ROOMY).expect(rt, "ample memory");
-        assert!(rt; ran.status == row.status, "{}", row.what);
-        assert!(rt; ran.diag.bytes() == row.diag, "{}", row.what);
+/// Each of the words gives what the row says.
+fn check_row(rt: &impl Abort, alloc: Global, row: &Row) {
+    for words in row.words {
+        let ran = run_session(alloc, words, row.session, ROOMY).expect(rt, "ample memory");
+        assert!(rt; ran.status == row.status, "{}: {words}", row.what);
+        assert!(rt; ran.diag.bytes() == row.diag, "{}: {words}", row.what);
         assert!(rt;
             ran.out.bytes().is_empty() == row.parts.is_empty(),
-            "{}",
+            "{}: {words}",
             row.what
         );
         for part in row.parts {
-            assert!(rt; contains(ran.out.bytes(), part), "{}", row.what);
+            assert!(rt; contains(ran.out.bytes(), part), "{}: {words}", row.what);
         }
     }
 }
 
+/// A session that neither command takes.
+macro_rules! refused {
+    ($session:literal, $status:literal, $diag:literal) => {
+        Row {
+            what: "a session that is refused",
+            words: &["mbx host s.txt", "mbx compare s.txt"],
+            session: $session,
+            status: $status,
+            parts: &[],
+            diag: $diag,
+        }
+    };
+}
+
 /// Sessions that are hosted and compared.
-static SESSIONS: [Row<'static>; 12] = [
+#[rattlefmt::skip]
+static SESSIONS: [Row<'static>; 23] = [
     Row {
         what: "one guest shows what it shows alone",
-        words: "mbx host s.txt",
-        session: ONE,
+        words: &["mbx host s.txt"],
+        session: SESSION_OF_ONE,
         status: 0,
         parts: &[HELLO_TEXT],
         diag: b"guest 1 retired 1 privileged 0 trapped 0 denied 2 traced 0 entered 0 idle 0 refilled 1\n",
     },
     Row {
         what: "a guest that halts beside one that switches off",
-        words: "mbx host -- s.txt",
+        words: &["mbx host -- s.txt"],
         session: b"session 1\nboard 320\nslice 7\nguest 64 20000 zeros.s19 -\nguest 64 10 hello.s19 -\n",
         status: 0,
         parts: &[
@@ -127,7 +143,7 @@ guest 2 retired 1 privileged 0 trapped 0 denied 2 traced 0 entered 0 idle 0 refi
     },
     Row {
         what: "a script is its own guest's",
-        words: "mbx host s.txt",
+        words: &["mbx host s.txt"],
         session: b"session 1\nboard 320\nslice 1\nguest 64 1 zeros.s19 -\nguest 64 1 zeros.s19 typed.txt\n",
         status: 0,
         parts: &[
@@ -139,7 +155,7 @@ guest 2 retired 1 privileged 0 trapped 0 denied 0 traced 0 entered 0 idle 0 refi
     },
     Row {
         what: "a loop of which the first fetch alone is filled, and the store to a device alone denied",
-        words: "mbx host s.txt",
+        words: &["mbx host s.txt"],
         session: b"session 1\nboard 192\nslice 5\nguest 64 100 loop.s19 -\n",
         status: 0,
         parts: &[b"guest 1\nstate off\nsteps 12\n", b"D0 0000FFFF\n"],
@@ -147,7 +163,7 @@ guest 2 retired 1 privileged 0 trapped 0 denied 0 traced 0 entered 0 idle 0 refi
     },
     Row {
         what: "an instruction that is fetched and reads in new pages is retired, and counted as refilled once",
-        words: "mbx host s.txt",
+        words: &["mbx host s.txt"],
         session: b"session 1\nboard 192\nslice 1000\nguest 64 100 reads.s19 -\n",
         status: 0,
         parts: &[b"guest 1\nstate off\nsteps 3\n", b"PC 00000412\n"],
@@ -155,7 +171,7 @@ guest 2 retired 1 privileged 0 trapped 0 denied 0 traced 0 entered 0 idle 0 refi
     },
     Row {
         what: "a board that is too small",
-        words: "mbx host s.txt",
+        words: &["mbx host s.txt"],
         session: b"session 1\nboard 256\nslice 1000\nguest 64 10 hello.s19 -\nguest 64 10 hello.s19 -\n",
         status: 4,
         parts: &[],
@@ -163,7 +179,7 @@ guest 2 retired 1 privileged 0 trapped 0 denied 0 traced 0 entered 0 idle 0 refi
     },
     Row {
         what: "the board on which they fit",
-        words: "mbx host s.txt",
+        words: &["mbx host s.txt"],
         session: b"session 1\nboard 320\nslice 1000\nguest 64 10 hello.s19 -\nguest 64 10 hello.s19 -\n",
         status: 0,
         parts: &[HELLO_TEXT, b"guest 2\nstate off\nsteps 3\n"],
@@ -172,7 +188,7 @@ guest 2 retired 1 privileged 0 trapped 0 denied 2 traced 0 entered 0 idle 0 refi
     },
     Row {
         what: "guests that translate nothing are the same",
-        words: "mbx compare s.txt",
+        words: &["mbx compare s.txt"],
         session: b"session 1\nboard 320\nslice 1000\nguest 64 10 hello.s19 -\nguest 64 50000 fill.s19 -\n",
         status: 0,
         parts: &[b"guest 1 same\nguest 2 same\n"],
@@ -180,7 +196,7 @@ guest 2 retired 1 privileged 0 trapped 0 denied 2 traced 0 entered 0 idle 0 refi
     },
     Row {
         what: "a script is its own guest's on both boards",
-        words: "mbx compare s.txt",
+        words: &["mbx compare s.txt"],
         session: b"session 1\nboard 320\nslice 1\nguest 64 1 zeros.s19 -\nguest 64 1 zeros.s19 typed.txt\n",
         status: 0,
         parts: &[b"guest 1 same\nguest 2 same\n"],
@@ -188,7 +204,7 @@ guest 2 retired 1 privileged 0 trapped 0 denied 2 traced 0 entered 0 idle 0 refi
     },
     Row {
         what: "a stale translation that a guest forgets and the board does not",
-        words: "mbx compare s.txt",
+        words: &["mbx compare s.txt"],
         session: b"session 1\nboard 320\nslice 3\nguest 64 8 stale.s19 -\nguest 64 10 hello.s19 -\n",
         status: 1,
         parts: &[b"guest 1 differs\nguest 2 same\n"],
@@ -196,7 +212,7 @@ guest 2 retired 1 privileged 0 trapped 0 denied 2 traced 0 entered 0 idle 0 refi
     },
     Row {
         what: "a guest forgets a stale translation where it writes a root",
-        words: "mbx host s.txt",
+        words: &["mbx host s.txt"],
         session: b"session 1\nboard 320\nslice 3\nguest 64 8 stale.s19 -\nguest 64 10 hello.s19 -\n",
         status: 0,
         parts: &[b"D2 00001111\nD3 00002222\n"],
@@ -205,17 +221,36 @@ guest 2 retired 1 privileged 0 trapped 0 denied 2 traced 0 entered 0 idle 0 refi
     },
     Row {
         what: "what does not fit is not compared",
-        words: "mbx compare s.txt",
+        words: &["mbx compare s.txt"],
         session: b"session 1\nboard 128\nslice 3\nguest 64 8 stale.s19 -\n",
         status: 4,
         parts: &[],
         diag: b"mbx: oversize need 196608 have 131072\n",
     },
+    refused!(b"", 3, b"mbx: s.txt line 1: word\n"),
+    refused!(b"session 3\n", 3, b"mbx: s.txt line 1: number\n"),
+    refused!(b"session 2\nboard 320\nslice 1\nguest 64 1 hello.s19 -\nguest 64 1 fill.s19 -\nturn 3 1\n",
+        3, b"mbx: s.txt line 6: number\n"),
+    refused!(b"session 1\nboard 320\nslice 1\n", 3, b"mbx: s.txt line 4: word\n"),
+    refused!(b"session 1\nboard 320\nslice 1\nguest 64 1 bad.s19 other.txt\n", 3, b"mbx: bad.s19 line 1: sum\n"),
+    refused!(b"session 1\nboard 128\nslice 1\nguest 64 1 hello.s19 bad.s19\nguest 64 1 bad.s19 -\n",
+        3, b"mbx: bad.s19 line 1: word\n"),
+    refused!(b"session 1\nboard 128\nslice 1\nguest 64 1 hello.s19 -\nguest 64 1 bad.s19 -\n",
+        3, b"mbx: bad.s19 line 1: sum\n"),
+    refused!(b"session 1\nboard 128\nslice 1\nguest 64 1 hello.s19 typed.txt\nguest 64 1 hello.s19 hello.s19\n",
+        3, b"mbx: hello.s19 line 1: word\n"),
+    refused!(b"session 1\nboard 128\nslice 1\nguest 64 1 other.s19 bad.s19\n", 5, b"mbx: other.s19 cannot be read\n"),
+    refused!(b"session 1\nboard 128\nslice 1\nguest 64 1 hello.s19 other.txt\nguest 64 1 bad.s19 -\n",
+        5, b"mbx: other.txt cannot be read\n"),
+    refused!(b"session 1\nboard 128\nslice 1\nguest 64 1 hello.s19 -\nguest 64 1 other.s19 -\n",
+        5, b"mbx: other.s19 cannot be read\n"),
 ];
 
 #[test]
-fn sessions_run(rt: HostRuntime) {
-    check_rows(&rt, rt.alloc(), &SESSIONS);
+fn sessions_run_or_are_refused(rt: HostRuntime) {
+    for row in &SESSIONS {
+        check_row(&rt, rt.alloc(), row);
+    }
 }
 
 #[test]
@@ -235,44 +270,38 @@ fn what_the_board_carries_out_is_counted(rt: HostRuntime) {
     }
 }
 
-/// Two guests in slices of so many steps.
-fn run_in_slices(alloc: Global, slice: &str) -> Option<Ran> {
-    let session = format!(in alloc;
-        "session 1\nboard 320\nslice {slice}\nguest 64 10 hello.s19 -\nguest 64 50000 fill.s19 -\n"
-    ).ok()?;
-    run_session(alloc, "mbx host s.txt", session.as_bytes(), ROOMY)
-}
+/// Two guests in rounds of 1,000 steps.
+const ROUNDS: &[u8] = b"session 1\nboard 320\nslice 1000\n\
+guest 64 10 hello.s19 -\nguest 64 50000 fill.s19 -\n";
 
+/// The same guests step by step.
+const STEPS: &[u8] = b"session 1\nboard 320\nslice 1\n\
+guest 64 10 hello.s19 -\nguest 64 50000 fill.s19 -\n";
+
+/// The same guests with turns before their rounds.
+const TURNS: &[u8] = b"session 2\nboard 320\nslice 1000\n\
+guest 64 10 hello.s19 -\nguest 64 50000 fill.s19 -\nturn 2 7\nturn 1 3\nturn 2 100\n";
+
+/// Neither slices nor turns show, nor do they count.
 #[test]
-fn slices_do_not_show(rt: HostRuntime) {
-    let one = run_in_slices(rt.alloc(), "1").expect(&rt, "ample memory");
-    let thousand = run_in_slices(rt.alloc(), "1000").expect(&rt, "ample memory");
-    assert!(rt; one.status == 0 && thousand.status == 0);
-    assert!(rt; one.out.bytes() == thousand.out.bytes());
-}
-
-/// What two guests show and count, with these turns before their rounds of 1,000 steps.
-fn run_in_turns(alloc: Global, words: &str, version: &str, turns: &str) -> Option<Ran> {
-    let session = format!(in alloc;
-        "session {version}\nboard 320\nslice 1000\nguest 64 10 hello.s19 -\nguest 64 50000 fill.s19 -\n{turns}"
-    ).ok()?;
-    run_session(alloc, words, session.as_bytes(), ROOMY)
-}
-
-#[test]
-fn turns_do_not_show(rt: HostRuntime) {
-    for words in ["mbx host s.txt", "mbx compare s.txt"] {
-        let rounds = run_in_turns(rt.alloc(), words, "1", "").expect(&rt, "ample memory");
-        let turns = run_in_turns(rt.alloc(), words, "2", "turn 2 7\nturn 1 3\nturn 2 100\n").expect(
-            &rt,
-            "ample memory",
-        );
-        assert!(rt; rounds.status == 0 && turns.status == 0);
-        assert!(rt; rounds.out.bytes() == turns.out.bytes(), "{words}");
-        assert!(rt; rounds.diag.bytes() == turns.diag.bytes(), "{words}");
+fn schedules_do_not_show(rt: HostRuntime) {
+    let rows = [
+        ("mbx host s.txt", "steps", STEPS),
+        ("mbx host s.txt", "turns", TURNS),
+        ("mbx compare s.txt", "turns", TURNS),
+    ];
+    for (words, what, session) in rows {
+        let rounds = run_session(rt.alloc(), words, ROUNDS, ROOMY).expect(&rt, "ample memory");
+        let others = run_session(rt.alloc(), words, session, ROOMY).expect(&rt, "ample memory");
+        assert!(rt; rounds.status == 0 && others.status == 0, "{words}: {what}");
+        assert!(rt; rounds.out.bytes() == others.out.bytes(), "{words}: {what}");
         assert!(rt;
-            rounds.native.retired() == turns.native.retired(),
-            "{words}"
+            rounds.diag.bytes() == others.diag.bytes(),
+            "{words}: {what}"
+        );
+        assert!(rt;
+            rounds.native.retired() == others.native.retired(),
+            "{words}: {what}"
         );
     }
 }
@@ -296,88 +325,4 @@ fn sixteen_guests_run(rt: HostRuntime) {
     assert!(rt; ran.out.bytes().starts_with(HELLO_TEXT));
     assert!(rt; ran.out.bytes().len() == 16 * HELLO_TEXT.len() + 7);
     assert!(rt; contains(ran.out.bytes(), b"guest 16\nstate off\n"));
-}
-
-#[test]
-fn files_of_sessions_are_refused(rt: HostRuntime) {
-    let rows: [(&[u8], u8, &[u8]); 11] = [
-        (b"", 3, b"mbx: s.txt line 1: word\n"),
-        (b"session 3\n", 3, b"mbx: s.txt line 1: number\n"),
-        (
-            b"session 2\nboard 320\nslice 1\nguest 64 1 hello.s19 -\nguest 64 1 fill.s19 -\nturn 3 1\n",
-            3,
-            b"mbx: s.txt line 6: number\n",
-        ),
-        (
-            b"session 1\nboard 320\nslice 1\n",
-            3,
-            b"mbx: s.txt line 4: word\n",
-        ),
-        (
-            b"session 1\nboard 320\nslice 1\nguest 64 1 bad.s19 other.txt\n",
-            3,
-            b"mbx: bad.s19 line 1: sum\n",
-        ),
-        (
-            b"session 1\nboard 128\nslice 1\nguest 64 1 hello.s19 bad.s19\nguest 64 1 bad.s19 -\n",
-            3,
-            b"mbx: bad.s19 line 1: word\n",
-        ),
-        (
-            b"session 1\nboard 128\nslice 1\nguest 64 1 hello.s19 -\nguest 64 1 bad.s19 -\n",
-            3,
-            b"mbx: bad.s19 line 1: sum\n",
-        ),
-        (
-            b"session 1\nboard 128\nslice 1\nguest 64 1 hello.s19 typed.txt\nguest 64 1 hello.s19 hello.s19\n",
-            3,
-            b"mbx: hello.s19 line 1: word\n",
-        ),
-        (
-            b"session 1\nboard 128\nslice 1\nguest 64 1 other.s19 bad.s19\n",
-            5,
-            b"mbx: other.s19 cannot be read\n",
-        ),
-        (
-            b"session 1\nboard 128\nslice 1\nguest 64 1 hello.s19 other.txt\nguest 64 1 bad.s19 -\n",
-            5,
-            b"mbx: other.txt cannot be read\n",
-        ),
-        (
-            b"session 1\nboard 128\nslice 1\nguest 64 1 hello.s19 -\nguest 64 1 other.s19 -\n",
-            5,
-            b"mbx: other.s19 cannot be read\n",
-        ),
-    ];
-    for words in ["mbx host s.txt", "mbx compare s.txt"] {
-        for (session, status, line) in rows {
-            let ran = run_session(rt.alloc(), words, session, NOTHING).expect(&rt, "ample memory");
-            assert!(rt; ran.diag.bytes() == line, "{words}");
-            assert!(rt; ran.status == status, "{words}");
-            assert!(rt; ran.out.bytes().is_empty(), "{words}");
-        }
-    }
-}
-
-#[test]
-fn no_session_outside_fails(rt: HostRuntime) {
-    let rows: [(&str, u8); 4] = [
-        ("mbx host s.txt", 0),
-        ("mbx compare s.txt", 0),
-        ("mbx host other.txt", 3),
-        ("mbx compare hello.s19", 3),
-    ];
-    for (line, status) in rows {
-        let words = split_words(rt.alloc(), line).expect(&rt, "ample memory");
-        let mut files = Vec::new(rt.alloc());
-        for (name, bytes) in [("s.txt", ONE), ("hello.s19", HELLO)] {
-            let bytes = Vec::from_slice(rt.alloc(), bytes).expect(&rt, "ample memory");
-            let file = file(rt.alloc(), name, bytes).expect(&rt, "ample memory");
-            files.push(file).expect(&rt, "ample memory");
-        }
-        assert!(rt;
-            run_unfailing(rt.alloc(), &words, files) == status,
-            "{line}"
-        );
-    }
 }
