@@ -1,5 +1,6 @@
 /* The calendar of a year on the console, three months side by side. */
 #include <stdint.h>
+#include "memory.h"
 
 #define DATA (*(volatile uint8_t *)0xFFF00000)
 
@@ -30,13 +31,24 @@ static void end_line(void)
     length = 0;
 }
 
+/* Puts blanks, as many as the line has room for. */
+static void put_blanks(int count)
+{
+    int room = (int)sizeof line - length;
+    if (count > room)
+        count = room;
+    if (count > 0) {
+        memset(line + length, ' ', (size_t)count);
+        length += count;
+    }
+}
+
 /* Puts a text, and blanks up to a width. */
 static void put_text(const char *text, int width)
 {
     for (; *text; text++, width--)
         put(*text);
-    for (; width > 0; width--)
-        put(' ');
+    put_blanks(width);
 }
 
 /* Puts a number of one or two digits in three places. */
@@ -73,7 +85,7 @@ static void put_week(int week, int weekday, int days)
         if (day >= 1 && day <= days)
             put_day(day);
         else
-            put_text("", 3);
+            put_blanks(3);
     }
 }
 
@@ -94,7 +106,7 @@ int main(void)
         for (int week = 0; week < WEEKS; week++) {
             for (int month = row; month < row + MONTHS_A_ROW; month++) {
                 put_week(week, weekdays[month], days_of(YEAR, month));
-                put_text("", 2);
+                put_blanks(2);
             }
             end_line();
         }
