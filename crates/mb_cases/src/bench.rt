@@ -1,6 +1,7 @@
 //! A board on which cases are run.
 
-ghost use Rattle.std.specs.Prelude.{◌≡◌, ◌↔◌, length, vec_len, IsNone, []};
+ghost use Rattle.std.specs.Prelude.{◌≡◌, ◌↔◌, length, vec_len, false, IsNone, []};
+ghost use Rattle.mb_devices.specs.Devices.{built};
 ghost use Rattle.mb_cases.specs.declared.chunk.TheConstants.{RAM_SIZE};
 
 use crate::case::Case;
@@ -21,7 +22,7 @@ pub struct Bench {
     script: Script,
     ghost ram_size: { vec_len ram ≡ RAM_SIZE },
     ghost board_ram: { length board.world.ram ≡ RAM_SIZE },
-    ghost board_size: { board.world.devices.ram ≡ RAM_SIZE },
+    ghost board_size: { built board.world.devices ≡ (RAM_SIZE, false) },
     ghost untyped: { script ≡ [] },
 }
 
@@ -42,7 +43,7 @@ impl Bench {
         ensures { IsNone result ↔ Passes case.now }
     {
         load(&mut self.ram, &case.image);
-        run(&mut self.board, &self.script, &self.ram);
+        run(&mut self.board, &self.script, &self.ram, case.steps);
         put_all(&mut self.ram, &case.changes);
         compare(&self.board, case, &mut self.ram)
     }

@@ -1,26 +1,33 @@
 //! A case.
 
-use crate::chunk::Chunk;
-use mb_instr::Regs;
+use crate::chunk::{Chunk, UnsaidBits};
+use crate::registers::Registers;
 
-/// One instruction: the machine before it, and the machine after it as another machine had it.
+/// A machine before one instruction or a few, and the machine after them as another machine had it.
 #[derive(Drop)]
 pub struct Case {
     /// Its number in its file.
     pub number: u32,
-    /// Its row of the table of instructions, and after a dot its form or size.
-    pub row: String,
-    /// The digits of the instruction's words.
+    /// Its row of the table of instructions, or what it is a case of, and after a dot its form or size.
+    pub kind: String,
+    /// The digits of the words of its instructions.
     pub words: String,
-    /// What stands in RAM at first, later chunks over earlier ones. Two instructions that stand before the case's own
-    /// give its registers and its condition codes.
+    /// What stands in RAM at first, later chunks over earlier ones. Code that stands there too gives the machine its
+    /// registers.
     pub image: Vec<Chunk>,
+    /// How many steps are taken: those of that code, and then the case's own.
+    pub steps: u32,
+    /// The timer asks for an interrupt, before the case's own steps and after them.
+    pub interrupted: bool,
     /// The registers after it.
-    pub after: Regs,
-    /// The bits of the condition codes that the manual leaves undefined after it.
-    pub undefined: u8,
-    /// Of a trap, where the low byte of the status register stands in its frame.
-    pub frame: Option<u16>,
+    pub after: Registers,
+    /// The bits of them that may be either.
+    pub unsaid: Registers,
     /// What has changed in RAM after it.
     pub changes: Vec<Chunk>,
+    /// The bits of RAM that may be either.
+    pub unsaid_bits: Vec<UnsaidBits>,
 }
+
+/// The period of the timer where it asks for an interrupt.
+pub const PERIOD: u32 = 40;

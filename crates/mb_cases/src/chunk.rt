@@ -1,10 +1,10 @@
 //! Bytes in RAM.
 
-ghost use Rattle.std.specs.Prelude.{◌≡◌, ◌+◌, ◌≤◌, ◌↔◌, vec_len, IsSome, IfSome};
+ghost use Rattle.std.specs.Prelude.{◌≡◌, ◌+◌, ◌<◌, ◌≤◌, ◌↔◌, vec_len, IsSome, IfSome};
 ghost use Rattle.mb_cases.specs.declared.chunk.TheConstants.{RAM_SIZE};
 
 /// Bytes that stand in RAM one after the other.
-#[derive(Debug, Drop)]
+#[derive(Drop)]
 pub struct Chunk {
     /// The address of the first.
     pub at: u32,
@@ -26,5 +26,27 @@ impl Chunk {
     }
 }
 
+/// Bits of a byte in RAM that may be either.
+#[derive(Drop)]
+pub struct UnsaidBits {
+    pub at: u32,
+    pub bits: u8,
+    ghost in_ram: { at < RAM_SIZE },
+}
+
+impl UnsaidBits {
+    /// `None` exactly where RAM does not have the place.
+    pub fn new(at: u32, bits: u8) -> Option<UnsaidBits>
+        ensures in_ram { IsSome result ↔ (at < RAM_SIZE) }
+        ensures unsaid { IfSome result (λ unsaid. (unsaid.at ≡ at) × (unsaid.bits ≡ bits)) }
+    {
+        if at < RAM_SIZE {
+            Some(UnsaidBits { at, bits })
+        } else {
+            None
+        }
+    }
+}
+
 /// How many bytes of RAM the machine of a case has.
-pub const RAM_SIZE: u32 = 65_536;
+pub const RAM_SIZE: u32 = 131_072;

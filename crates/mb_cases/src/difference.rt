@@ -2,63 +2,63 @@
 
 ghost use Rattle.std.specs.Prelude.{◌≡◌, ◌↔◌, IsNone};
 ghost use Rattle.mb_model.specs.Seen.{seen_of};
+ghost use Rattle.mb_cases.specs.Cases.{settled, HasRegisters};
 
-use mb_instr::Regs;
-use mb_model::{Outcome, RunState};
+use crate::case::Case;
+use crate::registers::{COUNT, NAMES, Registers};
+use mb_model::Outcome;
 use mb_report::same;
-use thiserror::Error;
+use std::fmt;
 
 /// What of a machine is first found to be another than its case says.
-#[derive(Clone, Copy, Debug, PartialEq, Eq, Error)]
+#[derive(Drop)]
 pub enum Difference {
-    #[error("the machine is {got:?}, not {said:?}")]
-    State {
-        got: RunState,
-        said: RunState,
-    },
-    #[error("{got} steps were taken, not {said}")]
-    Steps {
-        got: u32,
-        said: u32,
-    },
-    #[error("{name} is {got:08X}, not {said:08X}")]
     Register {
         name: &'static str,
         got: u32,
         said: u32,
     },
-    #[error("{at:04X} is {got:02X}, not {said:02X}")]
     Byte {
         at: usize,
         got: u8,
         said: u8,
     },
-    #[error("the console or the queue has bytes")]
-    Line,
-    #[error("a register of the system or of a device has changed")]
-    System,
+    Other(&'static str),
 }
 
-/// The registers with their names.
-#[rattlefmt::skip]
-fn named(regs: &Regs) -> [(&'static str, u32); 20] {
-    let [d0, d1, d2, d3, d4, d5, d6, d7] = regs.d;
-    let [a0, a1, a2, a3, a4, a5, a6] = regs.a;
-    [
-        ("D0", d0), ("D1", d1), ("D2", d2), ("D3", d3), ("D4", d4), ("D5", d5), ("D6", d6), ("D7", d7),
-        ("A0", a0), ("A1", a1), ("A2", a2), ("A3", a3), ("A4", a4), ("A5", a5), ("A6", a6),
-        ("USP", regs.usp), ("ISP", regs.isp), ("MSP", regs.msp), ("PC", regs.pc), ("SR", u32::from(regs.sr)),
-    ]
+impl fmt::Display for Difference {
+    fn fmt<W: fmt::Write>(&self, f: &mut fmt::Formatter<W>) -> fmt::Result {
+        match self {
+            Difference::Register { name, got, said } => {
+                write!(f, "{name} is {got:08X}, not {said:08X}")
+            }
+            Difference::Byte { at, got, said } => write!(
+                f,
+                "{at:05X} is {got:02X}, not {said:02X}"
+            ),
+            Difference::Other(what) => write!(f, "{what} another"),
+        }
+    }
 }
 
-/// The first register that is another.
-fn register_difference(got: &Regs, said: &Regs) -> Option<Difference> {
-    for ((name, got), (_, said)) in named(got).iter().zip(&named(said)) {
-        if got != said {
+/// A number whose unsaid bits are those of the machine.
+fn settled(unsaid: u32, said: u32, got: u32) -> u32
+    ensures { result ≡ settled unsaid said got }
+{
+    said ^ ((said ^ got) & unsaid)
+}
+
+/// The first register that is another than the case says.
+pub fn first_register(case: &Case, got: &Registers) -> Option<Difference>
+    ensures { IsNone result ↔ HasRegisters case.now got.now }
+{
+    for place in 0..COUNT {
+        let said = settled(case.unsaid[place], case.after[place], got[place]);
+        if got[place] != said {
             return Some(Difference::Register {
-                name: *name,
-                got: *got,
-                said: *said,
+                name: NAMES[place],
+                got: got[place],
+                said,
             });
         }
     }
@@ -82,27 +82,18 @@ fn byte_difference(got: &[u8], said: &[u8]) -> Option<Difference> {
 /// What is first found, where something is another.
 fn find_difference(got: &Outcome, said: &Outcome) -> Difference {
     if got.state != said.state {
-        return Difference::State {
-            got: got.state,
-            said: said.state,
-        };
+        return Difference::Other("the state is");
     }
     if got.steps != said.steps {
-        return Difference::Steps {
-            got: got.steps,
-            said: said.steps,
-        };
-    }
-    if let Some(found) = register_difference(&got.cpu.regs, &said.cpu.regs) {
-        return found;
+        return Difference::Other("the number of steps is");
     }
     if let Some(found) = byte_difference(got.ram, said.ram) {
         return found;
     }
     if got.console != said.console || got.queue != said.queue {
-        return Difference::Line;
+        return Difference::Other("the console or the queue is");
     }
-    Difference::System
+    Difference::Other("STOP or a device is")
 }
 
 /// `None` exactly where a machine shows in all what is said.

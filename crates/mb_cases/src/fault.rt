@@ -22,6 +22,8 @@ pub enum CaseFault {
     Register,
     #[error("bytes are outside RAM")]
     Outside,
+    #[error("a mask has another length than its bytes")]
+    Mask,
     #[error("memory ran out")]
     Memory(#[from(alloc)] AllocError),
 }

@@ -1,6 +1,5 @@
 //! The words of a line. Numbers are hexadecimal.
 
-use crate::chunk::Chunk;
 use crate::fault::CaseFault;
 use std::alloc::Global;
 use std::str::SplitWhitespace;
@@ -15,9 +14,27 @@ pub fn read_long(digits: &str) -> Result<u32, CaseFault> {
     u32::from_str_radix(digits, 16).map_err(|_| CaseFault::Number)
 }
 
-/// A word, as of the status register.
-pub fn read_word(digits: &str) -> Result<u16, CaseFault> {
-    u16::from_str_radix(digits, 16).map_err(|_| CaseFault::Number)
+/// The next word as a long.
+pub fn next_long(words: &mut SplitWhitespace<'_>) -> Result<u32, CaseFault> {
+    read_long(next_word(words)?)
+}
+
+/// The next word as a status register.
+pub fn next_status(words: &mut SplitWhitespace<'_>) -> Result<u32, CaseFault> {
+    let status = u16::from_str_radix(next_word(words)?, 16).map_err(|_| CaseFault::Number)?;
+    Ok(u32::from(status))
+}
+
+/// The next word as so many longs, with commas between them.
+pub fn next_longs(words: &mut SplitWhitespace<'_>, longs: &mut [u32]) -> Result<(), CaseFault> {
+    let mut numbers = next_word(words)?.split(',');
+    for long in longs {
+        *long = read_long(numbers.next().ok_or(CaseFault::Missing)?)?;
+    }
+    match numbers.next() {
+        None => Ok(()),
+        Some(_) => Err(CaseFault::Further),
+    }
 }
 
 /// Bytes, of two digits each.
@@ -25,30 +42,10 @@ pub fn read_bytes(alloc: Global, digits: &str) -> Result<Vec<u8>, CaseFault> {
     hex::decode(alloc, digits).map_err(|_| CaseFault::Bytes)
 }
 
-/// So many longs, with commas between them.
-pub fn read_longs<const N: usize>(text: &str) -> Result<[u32; N], CaseFault> {
-    let mut longs = [0; N];
-    let mut numbers = text.split(',');
-    for long in &mut longs {
-        *long = read_long(numbers.next().ok_or(CaseFault::Missing)?)?;
+/// What stands before `&`, and behind it where there is one.
+pub fn split_mask(text: &str) -> (&str, Option<&str>) {
+    match text.split_once('&') {
+        Some((value, mask)) => (value, Some(mask)),
+        None => (text, None),
     }
-    match numbers.next() {
-        None => Ok(longs),
-        Some(_) => Err(CaseFault::Further),
-    }
-}
-
-/// `ADDRESS:BYTES`.
-fn read_chunk(alloc: Global, text: &str) -> Result<Chunk, CaseFault> {
-    let (at, digits) = text.split_once(':').ok_or(CaseFault::Missing)?;
-    Chunk::new(read_long(at)?, read_bytes(alloc, digits)?).ok_or(CaseFault::Outside)
-}
-
-/// All chunks of a part.
-pub fn read_chunks(alloc: Global, part: &str) -> Result<Vec<Chunk>, CaseFault> {
-    let mut chunks = Vec::new(alloc);
-    for word in part.split_whitespace() {
-        chunks.push(read_chunk(alloc, word)?)?;
-    }
-    Ok(chunks)
 }

@@ -5,6 +5,7 @@ ghost use Rattle.mb_cases.specs.Files.{count_of, is_case};
 
 use crate::case::Case;
 use crate::fault::CaseFault;
+use crate::head::Form;
 use crate::reading::read_case;
 use mb_lines::Lines;
 use std::alloc::{AllocError, Global};
@@ -30,20 +31,26 @@ fn is_case(characters: &[u8]) -> bool
     !matches!(characters, [b'#', ..])
 }
 
-fn read_line(alloc: Global, characters: &[u8]) -> Result<Case, CaseFault> {
+fn read_line(alloc: Global, form: Form, characters: &[u8]) -> Result<Case, CaseFault> {
     match std::str::from_utf8(characters) {
-        Ok(line) => read_case(alloc, line),
+        Ok(line) => read_case(alloc, line, form),
         Err(_) => Err(CaseFault::Text),
     }
 }
 
 impl CaseFile {
     /// Adds a line, as a case or as none.
-    fn add_line(&mut self, alloc: Global, number: u32, characters: &[u8]) -> Result<(), AllocError>
+    fn add_line(
+        &mut self,
+        alloc: Global,
+        form: Form,
+        number: u32,
+        characters: &[u8],
+    ) -> Result<(), AllocError>
         ensures { IfOk result (λ _. vec_len self.new.cases + vec_len self.new.bad
             ≡ vec_len self.old.cases + vec_len self.old.bad + 1) }
     {
-        match read_line(alloc, characters) {
+        match read_line(alloc, form, characters) {
             Ok(case) => self.cases.push(case)?,
             Err(fault) => self.bad.push(BadLine { number, fault })?,
         }
@@ -52,7 +59,7 @@ impl CaseFile {
 }
 
 /// Reads a file of cases: each line that is no comment and has characters is a case, or one of those that are none.
-pub fn read_file(alloc: Global, text: &[u8]) -> Result<CaseFile, AllocError>
+pub fn read_file(alloc: Global, form: Form, text: &[u8]) -> Result<CaseFile, AllocError>
     requires { length text.now < 2 ^ 31 }
     ensures counted { IfOk result (λ file. vec_len file.cases + vec_len file.bad ≡ count_of text.now) }
 {
@@ -63,7 +70,7 @@ pub fn read_file(alloc: Global, text: &[u8]) -> Result<CaseFile, AllocError>
     let mut lines = Lines::new(text);
     while let Some(line) = lines.next_line() {
         if is_case(line.characters) {
-            file.add_line(alloc, line.number, line.characters)?;
+            file.add_line(alloc, form, line.number, line.characters)?;
         }
     }
     Ok(file)

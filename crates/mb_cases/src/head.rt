@@ -1,26 +1,42 @@
-//! The first part of a line: the instruction and the registers before it.
+//! The first part of a line: the instructions and the registers before them.
 
 use crate::chunk::Chunk;
 use crate::fault::CaseFault;
-use crate::fields::{next_word, read_long, read_longs, read_word};
-use mb_instr::Regs;
+use crate::fields::next_word;
+use crate::memory::Stretches;
+use crate::registers::{COUNT, Registers};
+use crate::single::{self, Single};
+use crate::system::{self, System};
 use std::alloc::Global;
 
-/// What the first part of a line says.
+/// How the lines of a file are written.
 #[derive(Clone, Copy)]
-pub struct Head<'a> {
-    pub number: u32,
-    pub row: &'a str,
-    /// The digits of the instruction's words.
-    pub words: &'a str,
-    pub before: Regs,
-    /// Where the values of D0 to D7 and A0 to A6 stand in RAM.
-    pub table: u32,
-    /// Of a trap, the vector's number and the address that it holds.
-    pub vector: Option<(u32, u32)>,
+pub enum Form {
+    /// An instruction each, mostly in user mode.
+    Single,
+    /// An instruction or a few, with all registers of the system.
+    System,
 }
 
-/// `both` where two machines agree in all that the manual defines, `one` where one of them is followed.
+/// What gives the machine its registers.
+#[derive(Drop)]
+pub enum SetUp {
+    Single(Single),
+    System(System),
+}
+
+/// What the first part of a line says.
+#[derive(Drop)]
+pub struct Head<'a> {
+    pub number: u32,
+    pub kind: &'a str,
+    /// The digits of the instructions' words.
+    pub words: &'a str,
+    pub before: Registers,
+    pub set_up: SetUp,
+}
+
+/// `both` where two machines agree in all that is compared, `one` where one of them is followed.
 fn read_followed(word: &str) -> Result<(), CaseFault> {
     match word {
         "both" | "one" => Ok(()),
@@ -28,49 +44,75 @@ fn read_followed(word: &str) -> Result<(), CaseFault> {
     }
 }
 
-/// `VECTOR:HANDLER`, the vector's number in decimal.
-fn read_vector(word: &str) -> Result<(u32, u32), CaseFault> {
-    let (number, handler) = word.split_once(':').ok_or(CaseFault::Missing)?;
-    let number = number.parse().map_err(|_| CaseFault::Number)?;
-    Ok((number, read_long(handler)?))
-}
-
-/// `NUMBER ROW both|one WORDS PC SR ISP TABLE D0,..,D7 A0,..,A6`, and of a trap `VECTOR:HANDLER`.
-pub fn read_head(part: &str) -> Result<Head<'_>, CaseFault> {
+/// `NUMBER KIND both|one WORDS`, and then what the form has.
+pub fn read_head(part: &str, form: Form) -> Result<Head<'_>, CaseFault> {
     let mut fields = part.split_whitespace();
     let number = next_word(&mut fields)?;
     let number = number.parse().map_err(|_| CaseFault::Number)?;
-    let row = next_word(&mut fields)?;
+    let kind = next_word(&mut fields)?;
     read_followed(next_word(&mut fields)?)?;
     let words = next_word(&mut fields)?;
-    let pc = read_long(next_word(&mut fields)?)?;
-    let sr = read_word(next_word(&mut fields)?)?;
-    let isp = read_long(next_word(&mut fields)?)?;
-    let table = read_long(next_word(&mut fields)?)?;
-    let d = read_longs(next_word(&mut fields)?)?;
-    let a = read_longs(next_word(&mut fields)?)?;
-    let vector = match fields.next() {
-        Some(word) => Some(read_vector(word)?),
-        None => None,
+    let mut before = [0; COUNT];
+    let set_up = match form {
+        Form::Single => SetUp::Single(Single::read(&mut fields, &mut before)?),
+        Form::System => SetUp::System(System::read(&mut fields, &mut before)?),
     };
     if fields.next().is_some() {
         return Err(CaseFault::Further);
     }
-    let before = Regs {
-        d,
-        a,
-        usp: 0,
-        isp,
-        msp: 0,
-        pc,
-        sr,
-    };
     Ok(Head {
         number,
-        row,
+        kind,
         words,
         before,
-        table,
-        vector,
+        set_up,
     })
+}
+
+/// What runs a case.
+#[derive(Drop)]
+pub struct Setting {
+    /// What stands in RAM before it.
+    pub image: Vec<Chunk>,
+    /// How many steps are taken.
+    pub steps: u32,
+    /// Whether the timer asks for an interrupt.
+    pub interrupted: bool,
+    /// Whether the status register is stacked, with bits that may be either.
+    pub stacks: bool,
+}
+
+/// What runs the case of which this is the second part.
+pub fn setting_of(
+    alloc: Global,
+    head: &Head,
+    words: &[u8],
+    part: &str,
+) -> Result<Setting, CaseFault> {
+    let mut image = Stretches::new(alloc);
+    match &head.set_up {
+        SetUp::Single(single) => {
+            image.add_part(alloc, part)?;
+            single.add_above(alloc, &mut image, &head.before, words)?;
+            Ok(Setting {
+                image: image.chunks,
+                steps: single::SET_UP_STEPS + 1,
+                interrupted: false,
+                stacks: single.vector.is_some(),
+            })
+        }
+        SetUp::System(system) => {
+            system.add_below(alloc, &mut image, &head.before)?;
+            image.add_part(alloc, part)?;
+            system.add_above(alloc, &mut image, &head.before)?;
+            Ok(Setting {
+                image: image.chunks,
+                steps: system::SET_UP_STEPS
+                    + u32::from(system.steps)
+                    + u32::from(system.interrupted),
+                interrupted: system.interrupted,
+                stacks: false,
+            })
+        }
+    }
 }

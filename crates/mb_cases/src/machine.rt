@@ -1,24 +1,23 @@
 //! A case on a board, step by step.
 
-ghost use Rattle.std.specs.Prelude.{◌≡◌, ◌+◌, ◌↔◌, length, replicate, IsNone, []};
-ghost use Rattle.mb_walk.specs.Memory.{overwritten};
+ghost use Rattle.std.specs.Prelude.{◌≡◌, ◌+◌, ◌↔◌, length, replicate, false, IsNone, [], if◌then◌else◌};
+ghost use Rattle.mb_walk.specs.Memory.{overwritten, with_contents};
 ghost use Rattle.mb_model.specs.Keeping.{rule_a};
-ghost use Rattle.mb_machine.specs.Machine.{reset_with, run_of, seen_machine, with_contents};
+ghost use Rattle.mb_model.specs.Seen.{seen_of};
+ghost use Rattle.mb_devices.specs.Devices.{built, idle};
+ghost use Rattle.mb_machine.specs.Machine.{reset_with, run_of, seen_machine};
 ghost use Rattle.mb_board.specs.State.{machine_in};
-ghost use Rattle.mb_cases.specs.Cases.{contents_of, cpu_after, settled, settled_at, IsAsSaid};
+ghost use Rattle.mb_cases.specs.Cases.{contents_of, said_of, settled_in, IsAsSaid};
 ghost use Rattle.mb_cases.specs.declared.chunk.TheConstants.{RAM_SIZE};
 
-use crate::case::Case;
-use crate::chunk::Chunk;
-use crate::difference::{Difference, first_difference};
+use crate::case::{Case, PERIOD};
+use crate::chunk::{Chunk, UnsaidBits};
+use crate::difference::{Difference, first_difference, first_register};
+use crate::registers::registers_of;
 use arrayvec::ArrayVec;
 use mb_board::Board;
-use mb_machine::MMU_AT_RESET;
-use mb_model::{Cpu, Outcome, RunState};
+use mb_model::{Outcome, RunState};
 use mb_script::Script;
-
-/// The steps of a case: two set it up, and the third is its instruction's.
-pub const STEPS: u32 = 3;
 
 /// Puts bytes over what stands in RAM.
 fn put(ram: &mut [u8], chunk: &Chunk)
@@ -48,48 +47,65 @@ pub fn load(ram: &mut [u8], image: &[Chunk])
     put_all(ram, image);
 }
 
-/// Takes the steps of a case, from reset on.
-pub fn run(board: &mut Board, script: &Script, ram: &[u8])
+/// Takes so many steps, from reset on.
+pub fn run(board: &mut Board, script: &Script, ram: &[u8], steps: u32)
     requires untyped { script.now ≡ [] }
     requires size { length ram.now ≡ RAM_SIZE }
     requires board_ram { length board.old.world.ram ≡ RAM_SIZE }
-    requires board_size { board.old.world.devices.ram ≡ RAM_SIZE }
-    ensures after { machine_in board.new ≡ run_of rule_a [] STEPS (reset_with rule_a RAM_SIZE ram.now) }
+    requires board_size { built board.old.world.devices ≡ (RAM_SIZE, false) }
+    ensures after { machine_in board.new ≡ run_of rule_a [] steps (reset_with rule_a (idle RAM_SIZE) ram.now) }
     ensures board_ram { length board.new.world.ram ≡ RAM_SIZE }
-    ensures board_size { board.new.world.devices.ram ≡ RAM_SIZE }
+    ensures board_size { built board.new.world.devices ≡ (RAM_SIZE, false) }
 {
     board.write_phys(0, ram);
     board.reset();
-    board.run_bare(script, STEPS);
+    board.run_bare(script, steps);
 }
 
-/// A number whose undefined bits are those of the machine.
-fn settled(undefined: u8, said: u16, got: u16) -> u16
-    ensures { result ≡ settled undefined said got }
-{
-    said ^ ((said ^ got) & u16::from(undefined))
-}
-
-/// The same of a byte in RAM, where there is one.
-fn settle(place: Option<u16>, undefined: u8, said: &mut [u8], got: &[u8])
+/// Memory whose unsaid bits are those of the machine.
+fn settle(said: &mut [u8], unsaid: &[UnsaidBits], got: &[u8])
     requires said { length said.old ≡ RAM_SIZE }
     requires got { length got.now ≡ RAM_SIZE }
-    ensures { said.new ≡ settled_at place undefined said.old got.now }
+    ensures { said.new ≡ settled_in unsaid.now said.old got.now }
 {
-    if let Some(place) = place {
-        let place = place as usize;
-        said[place] ^= (said[place] ^ got[place]) & undefined;
+    for byte in unsaid {
+        let at = byte.at as usize;
+        said[at] ^= (said[at] ^ got[at]) & byte.bits;
     }
 }
 
-/// The processor after a case.
-fn cpu_after(case: &Case, sr: u16) -> Cpu
-    ensures { result ≡ cpu_after case.now sr }
+/// A number of the timer, which is 0 where nothing set it.
+fn where_set(set: bool, number: u32) -> u32
+    ensures { result ≡ (if set then number else 0) }
 {
-    let mut cpu = Cpu::at_reset(0, 0);
-    cpu.regs = case.after;
-    cpu.regs.sr = settled(case.undefined, case.after.sr, sr);
-    cpu
+    if set { number } else { 0 }
+}
+
+/// What beside the registers is first found to be another than the case says, with this RAM.
+fn compare_rest(got: &Outcome, case: &Case, ram: &mut [u8]) -> Option<Difference>
+    requires said { length ram.old ≡ RAM_SIZE }
+    requires got { length got.now.ram.now ≡ RAM_SIZE }
+    ensures { IsNone result ↔ (seen_of got.now ≡ said_of case.now ram.old (seen_of got.now)) }
+{
+    settle(ram, &case.unsaid_bits, got.ram);
+    let mut cpu = *got.cpu;
+    cpu.stopped = false;
+    let said = Outcome {
+        cpu: &cpu,
+        mmu: got.mmu,
+        console: &[],
+        lost: 0,
+        queue: ArrayVec::new(),
+        ctrl: 0,
+        status: 2,
+        period: where_set(case.interrupted, PERIOD),
+        count: where_set(case.interrupted, got.count),
+        pending: u32::from(case.interrupted),
+        steps: case.steps,
+        state: RunState::Running,
+        ram,
+    };
+    first_difference(got, &said)
 }
 
 /// What is first found to be another than the case says, with this RAM.
@@ -99,22 +115,8 @@ pub fn compare(board: &Board, case: &Case, ram: &mut [u8]) -> Option<Difference>
     ensures { IsNone result ↔ IsAsSaid case.now ram.old (seen_machine (machine_in board.now)) }
 {
     let got = board.outcome();
-    settle(case.frame, case.undefined, ram, got.ram);
-    let cpu = cpu_after(case, got.cpu.regs.sr);
-    let said = Outcome {
-        cpu: &cpu,
-        mmu: &MMU_AT_RESET,
-        console: &[],
-        lost: 0,
-        queue: ArrayVec::new(),
-        ctrl: 0,
-        status: 2,
-        period: 0,
-        count: 0,
-        pending: 0,
-        steps: STEPS,
-        state: RunState::Running,
-        ram,
-    };
-    first_difference(&got, &said)
+    match first_register(case, &registers_of(got.cpu, got.mmu)) {
+        Some(found) => Some(found),
+        None => compare_rest(&got, case, ram),
+    }
 }

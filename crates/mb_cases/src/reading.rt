@@ -2,41 +2,40 @@
 
 use crate::case::Case;
 use crate::fault::CaseFault;
-use crate::fields::{read_bytes, read_chunks, read_long, read_word};
-use crate::head::read_head;
-use crate::image::add_set_up;
-use mb_instr::Regs;
+use crate::fields::{read_bytes, read_long, split_mask};
+use crate::head::{Form, Setting, read_head, setting_of};
+use crate::memory::Stretches;
+use crate::registers::{COUNT, ISP, Registers, SR, place_of};
 use std::alloc::Global;
 
-/// The registers after the instruction, and the bits of the condition codes that the manual leaves undefined.
-#[derive(Clone, Copy)]
+/// The registers after the instructions, and the bits of them that may be either.
+#[derive(Drop)]
 struct After {
-    regs: Regs,
-    undefined: u8,
+    registers: Registers,
+    unsaid: Registers,
 }
 
-/// `NAME=VALUE`.
+/// `NAME=VALUE`, or `NAME=VALUE&MASK` with the bits that are compared; `MASK=BITS` opens bits of the status register.
 fn read_change(after: &mut After, word: &str) -> Result<(), CaseFault> {
-    let (name, digits) = word.split_once('=').ok_or(CaseFault::Missing)?;
-    let value = read_long(digits)?;
-    let regs = &mut after.regs;
-    match name.as_bytes() {
-        b"PC" => regs.pc = value,
-        b"ISP" => regs.isp = value,
-        b"SR" => regs.sr = read_word(digits)?,
-        b"MASK" => after.undefined = u8::try_from(value).map_err(|_| CaseFault::Number)?,
-        [b'D', digit @ b'0'..=b'7'] => regs.d[(*digit - b'0') as usize] = value,
-        [b'A', digit @ b'0'..=b'6'] => regs.a[(*digit - b'0') as usize] = value,
-        _ => return Err(CaseFault::Register),
+    let (name, rest) = word.split_once('=').ok_or(CaseFault::Missing)?;
+    let (digits, mask) = split_mask(rest);
+    if name == "MASK" {
+        after.unsaid[SR] = read_long(digits)?;
+        return Ok(());
+    }
+    let place = place_of(name).ok_or(CaseFault::Register)?;
+    after.registers[place] = read_long(digits)?;
+    if let Some(mask) = mask {
+        after.unsaid[place] = !read_long(mask)?;
     }
     Ok(())
 }
 
 /// The third part of a line. A register that it does not name is as before.
-fn read_after(part: &str, before: Regs) -> Result<After, CaseFault> {
+fn read_after(part: &str, before: Registers) -> Result<After, CaseFault> {
     let mut after = After {
-        regs: before,
-        undefined: 0,
+        registers: before,
+        unsaid: [0; COUNT],
     };
     for word in part.split_whitespace() {
         read_change(&mut after, word)?;
@@ -44,34 +43,46 @@ fn read_after(part: &str, before: Regs) -> Result<After, CaseFault> {
     Ok(after)
 }
 
-/// Where the low byte of the status register stands in the frame of a trap on this stack.
-fn frame_at(isp: u32) -> Result<u16, CaseFault> {
-    let place = isp.checked_add(1).ok_or(CaseFault::Outside)?;
-    u16::try_from(place).map_err(|_| CaseFault::Outside)
+/// The mask of the low byte of a stacked status register.
+fn said_in_frame(unsaid: u32) -> u8 {
+    let [_, _, _, low] = unsaid.to_be_bytes();
+    !low
 }
 
 /// A line as a case.
-pub fn read_case(alloc: Global, line: &str) -> Result<Case, CaseFault> {
+pub fn read_case(alloc: Global, line: &str, form: Form) -> Result<Case, CaseFault> {
     let (head, rest) = line.split_once('|').ok_or(CaseFault::Parts)?;
     let (before, rest) = rest.split_once('|').ok_or(CaseFault::Parts)?;
     let (after, changes) = rest.split_once('|').ok_or(CaseFault::Parts)?;
-    let head = read_head(head)?;
+    let head = read_head(head, form)?;
     let words = read_bytes(alloc, head.words)?;
-    let mut image = read_chunks(alloc, before)?;
-    add_set_up(alloc, &mut image, &head, &words)?;
-    let after = read_after(after, head.before)?;
-    let frame = match head.vector {
-        Some(_) => Some(frame_at(after.regs.isp)?),
-        None => None,
-    };
+    let Setting {
+        image,
+        steps,
+        interrupted,
+        stacks,
+    } = setting_of(alloc, &head, &words, before)?;
+    let After { registers, unsaid } = read_after(after, head.before)?;
+    let mut changed = Stretches::new(alloc);
+    changed.add_part(alloc, changes)?;
+    if stacks {
+        let frame = registers[ISP].saturating_add(1);
+        changed.leave_unsaid(frame, &[said_in_frame(unsaid[SR])])?;
+    }
+    let Stretches {
+        chunks,
+        unsaid: unsaid_bits,
+    } = changed;
     Ok(Case {
         number: head.number,
-        row: String::from_str(alloc, head.row)?,
+        kind: String::from_str(alloc, head.kind)?,
         words: String::from_str(alloc, head.words)?,
         image,
-        after: after.regs,
-        undefined: after.undefined,
-        frame,
-        changes: read_chunks(alloc, changes)?,
+        steps,
+        interrupted,
+        after: registers,
+        unsaid,
+        changes: chunks,
+        unsaid_bits,
     })
 }

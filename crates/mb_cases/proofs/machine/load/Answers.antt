@@ -1,5 +1,5 @@
 use Rattle.std.proofs.Common.{◌∙◌, ap, List, ℕ, replicate}
-use Rattle.mb_machine.specs.Machine.{with_contents}
+use Rattle.mb_walk.specs.Memory.{with_contents}
 use Rattle.mb_cases.specs.Cases.{contents_of}
 use Rattle.mb_cases.proofs.machine.load.Goals as goal
 

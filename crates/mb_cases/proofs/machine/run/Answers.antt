@@ -1,15 +1,19 @@
-use Rattle.std.proofs.Common.{◌∙◌, ap}
+use Rattle.std.proofs.Common.{◌≡◌, ◌∙◌, false, ap}
 use Rattle.mb_model.specs.Keeping.{rule_a}
-use Rattle.mb_machine.specs.Machine.{Machine}
-use Rattle.mb_machine.proofs.ShownSize.{shown-reset, shown-run}
-use Rattle.mb_board.specs.State.{BoardState, machine_in}
+use Rattle.mb_devices.specs.Devices.{built}
+use Rattle.mb_devices.proofs.Sizes.{restarted-diskless}
+use Rattle.mb_machine.specs.Machine.{Machine, reset_with}
+use Rattle.mb_machine.proofs.Builds.{built-run}
+use Rattle.mb_board.specs.State.{BoardState}
+use Rattle.mb_cases.specs.declared.chunk.TheConstants.{RAM_SIZE}
 use Rattle.mb_cases.proofs.machine.run.Goals as goal
 
 pub returns-clause-board_size : goal.returns-clause-board_size
+unfolding reset_with
 returns-clause-board_size c =
-    ap (λ (m : Machine). m.world.devices.ram) c.run_bare.ensures.means
-    ∙ shown-run rule_a _ _ _
-    ∙ ap (λ (b : BoardState). (machine_in b).world.devices.ram) c.reset.ensures.after
-    ∙ shown-reset rule_a _ _
-    ∙ ap (λ (b : BoardState). b.world.devices.ram) c.write_phys.ensures.after
-    ∙ c.requires.board_size
+    let before : built c.write_phys.new.self.world.devices ≡ (RAM_SIZE, false) =
+    ap (λ (b : BoardState). built b.world.devices) c.write_phys.ensures.after ∙ c.requires.board_size in
+    ap (λ (m : Machine). built m.world.devices) c.run_bare.ensures.means
+    ∙ built-run rule_a _ _ _
+    ∙ ap (λ (b : BoardState). built b.world.devices) c.reset.ensures.after
+    ∙ ap built (restarted-diskless RAM_SIZE c.write_phys.new.self.world.devices before)

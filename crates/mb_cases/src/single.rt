@@ -1,0 +1,83 @@
+//! What gives the machine of a single instruction its registers.
+
+use crate::fault::CaseFault;
+use crate::fields::{next_long, next_longs, next_status, read_long};
+use crate::memory::Stretches;
+use crate::registers::{A0, ISP, PC, Registers, SR, USP};
+use mb_instr::SUPERVISOR;
+use std::alloc::Global;
+use std::str::SplitWhitespace;
+
+/// How many steps give the registers and the condition codes.
+pub const SET_UP_STEPS: u32 = 2;
+
+/// How many bytes the instructions have that do so.
+const SET_UP_BYTES: u32 = 12;
+
+/// Two instructions that stand before the case's own.
+#[derive(Drop)]
+pub struct Single {
+    /// Where the values of D0 to D7 and A0 to A6 stand in RAM.
+    table: u32,
+    /// Of a trap, where its vector stands and the address that it holds.
+    pub vector: Option<(u32, u32)>,
+}
+
+/// `VECTOR:HANDLER`, the vector's number in decimal.
+fn read_vector(word: &str) -> Result<(u32, u32), CaseFault> {
+    let (number, handler) = word.split_once(':').ok_or(CaseFault::Missing)?;
+    let number: u8 = number.parse().map_err(|_| CaseFault::Number)?;
+    Ok((4 * u32::from(number), read_long(handler)?))
+}
+
+/// `MOVEM.L TABLE,D0-D7/A0-A6`, and then `MOVE #n,CCR`, or `MOVE #n,SR` where the case is in user mode.
+fn set_up(table: u32, sr: u32) -> [u8; 12] {
+    let [a, b, c, d] = table.to_be_bytes();
+    let [_, _, high, low] = sr.to_be_bytes();
+    if sr & u32::from(SUPERVISOR) == 0 {
+        [0x4C, 0xF9, 0x7F, 0xFF, a, b, c, d, 0x46, 0xFC, high, low]
+    } else {
+        [0x4C, 0xF9, 0x7F, 0xFF, a, b, c, d, 0x44, 0xFC, 0, low % 32]
+    }
+}
+
+impl Single {
+    /// `PC SR ISP TABLE D0,..,D7 A0,..,A6`, and of a trap `VECTOR:HANDLER`.
+    pub fn read(
+        words: &mut SplitWhitespace<'_>,
+        before: &mut Registers,
+    ) -> Result<Single, CaseFault> {
+        before[PC] = next_long(words)?;
+        before[SR] = next_status(words)?;
+        before[ISP] = next_long(words)?;
+        let table = next_long(words)?;
+        next_longs(words, &mut before[..A0])?;
+        next_longs(words, &mut before[A0..USP])?;
+        let vector = match words.next() {
+            Some(word) => Some(read_vector(word)?),
+            None => None,
+        };
+        Ok(Single { table, vector })
+    }
+
+    /// Adds what runs the case: its vector, the two longs of the reset, the code, and the values of the registers.
+    pub fn add_above(
+        &self,
+        alloc: Global,
+        image: &mut Stretches,
+        before: &Registers,
+        words: &[u8],
+    ) -> Result<(), CaseFault> {
+        if let Some((at, handler)) = self.vector {
+            image.add_longs(alloc, at, &[handler])?;
+        }
+        let start = before[PC]
+            .checked_sub(SET_UP_BYTES)
+            .ok_or(CaseFault::Outside)?;
+        image.add_longs(alloc, 0, &[before[ISP], start])?;
+        let mut code = Vec::from_slice(alloc, &set_up(self.table, before[SR]))?;
+        code.extend_from_slice(words)?;
+        image.add(start, code)?;
+        image.add_longs(alloc, self.table, &before[..USP])
+    }
+}
