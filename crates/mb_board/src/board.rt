@@ -4,6 +4,7 @@ ghost use Rattle.std.specs.Prelude.{◌≡◌, ◌+◌, ◌^◌, ◌<◌, ◌≤
 ghost use Rattle.mb_model.specs.Keeping.{rule_a};
 ghost use Rattle.mb_model.specs.Seen.{seen_of};
 ghost use Rattle.mb_walk.specs.Memory.{overwritten};
+ghost use Rattle.mb_devices.specs.Devices.{idle, restarted};
 ghost use Rattle.mb_port.specs.Routine.{run};
 ghost use Rattle.mb_processor.specs.Raise.{step_end};
 ghost use Rattle.mb_processor.specs.Step.{step_of};
@@ -98,11 +99,11 @@ impl Model for Board {
 }
 
 impl Core {
-    /// Resets all but RAM.
+    /// Resets all but RAM and the blocks of a disk.
     #[tactic(auto, unfolding(mb_machine::specs::Machine::reset_with))]
     fn reset(&mut self)
         requires { 8 ≤ length self.old.world.ram }
-        ensures { self.new ≡ reset_with rule_a self.old.world.devices.ram self.old.world.ram }
+        ensures { self.new ≡ reset_with rule_a (restarted self.old.world.devices) self.old.world.ram }
     {
         self.bus.reset();
         let cpu = Cpu::at_reset(self.bus.long(0), self.bus.long(4));
@@ -174,12 +175,13 @@ impl Core {
 }
 
 impl Board {
-    /// A board with so many bytes of RAM, all 0, as it is after reset. It takes all the memory that
+    /// A board with so many bytes of RAM, all 0, and no disk, as it is after reset. It takes all the memory that
     /// it will need.
     #[tactic(auto, unfolding(mb_machine::specs::Machine::reset_with), using(mb_devices::proofs::Sizes::sizes))]
     pub fn new(alloc: Global, size: u32) -> Result<Board, Memory>
         requires { (8 ≤ size) × (size ≤ MOST_BOARD_BYTES) }
-        ensures made { IfOk result (λ board. board ≡ board_at_reset (reset_with rule_a size (replicate size 0))) }
+        ensures made { IfOk result (λ board.
+            board ≡ board_at_reset (reset_with rule_a (idle size) (replicate size 0))) }
         ensures ram { IfOk result (λ board. length board.world.ram ≡ size) }
     {
         let bus = BoardBus::new(alloc, size)?;
@@ -222,13 +224,13 @@ impl Board {
         &self.core.bus.ram()[at..at + len as usize]
     }
 
-    /// Resets all but RAM: the stack pointer and the program counter come from the longs at 0 and 4, the devices are
-    /// idle with an empty console, nothing is kept, and no step is taken.
+    /// Resets all but RAM and the blocks of an attached disk: the stack pointer and the program counter come from the
+    /// longs at 0 and 4, the devices are idle with an empty console, nothing is kept, and no step is taken.
     #[tactic(auto, unfolding(mb_machine::specs::Machine::reset_with))]
     pub fn reset(&mut self)
         requires { 8 ≤ length self.old.world.ram }
         ensures after { self.new ≡ board_at_reset
-            (reset_with rule_a self.old.world.devices.ram self.old.world.ram) }
+            (reset_with rule_a (restarted self.old.world.devices) self.old.world.ram) }
         ensures ram { self.new.world.ram ≡ self.old.world.ram }
         ensures unrun { self.new.steps ≡ 0 }
     {

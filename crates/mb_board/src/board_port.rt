@@ -1,9 +1,9 @@
 //! The board as a bus and as memory: its inner bus, with all else of it left alone.
 
 ghost use Rattle.mb_port.specs.declared.types.Place.{Place};
+ghost use Rattle.mb_port.specs.Pieces.{IsLength};
 ghost use Rattle.mb_model.specs.Keeping.{rule_a};
 ghost use Rattle.mb_machine.specs.World.{World};
-ghost use Rattle.mb_machine.specs.Places.{HasPlace};
 ghost use Rattle.mb_machine.specs.Bus.{bus_of};
 ghost use Rattle.mb_board.specs.State.{BoardState};
 ghost use Rattle.mb_board.specs.Beside.{Beside, beside, but_ram};
@@ -23,7 +23,7 @@ impl Port for Board {
 
     ghost bus = { bus_of rule_a };
 
-    ghost exists = { λ rest place. HasPlace rest.size place };
+    ghost exists = { λ rest place. IsLength place.len };
 
     fn fetch(&mut self, space: Space, at: u32) -> Result<u16, Fault> {
         self.core.bus.fetch(space, at)

@@ -3,7 +3,7 @@
 ghost use Rattle.std.specs.Prelude.{◌≡◌, ◌+◌, ◌^◌, ◌<◌, ◌≤◌, length, replicate, if◌then◌else◌, IfOk};
 ghost use Rattle.mb_model.specs.Keeping.{rule_a};
 ghost use Rattle.mb_walk.specs.Memory.{overwritten};
-ghost use Rattle.mb_devices.specs.Devices.{level_of, ticked};
+ghost use Rattle.mb_devices.specs.Devices.{idle, level_of, restarted, ticked};
 ghost use Rattle.mb_machine.specs.Machine.{aborts, arrived, world_at_reset};
 ghost use Rattle.mb_board.specs.Arrivals.{IsNext};
 
@@ -50,7 +50,7 @@ impl BoardBus {
     /// A bus with so many bytes of RAM, all 0, idle devices and nothing kept.
     pub fn new(alloc: Global, size: u32) -> Result<BoardBus, Memory>
         requires { size ≤ MOST_BOARD_BYTES }
-        ensures { IfOk result (λ bus. bus ≡ world_at_reset rule_a size (replicate size 0)) }
+        ensures { IfOk result (λ bus. bus ≡ world_at_reset rule_a (idle size) (replicate size 0)) }
     {
         let Ok(ram) = vec![in alloc; 0u8; size as usize] else {
             return Err(Memory);
@@ -62,9 +62,9 @@ impl BoardBus {
         })
     }
 
-    /// Resets all but RAM.
+    /// Resets all but RAM and the blocks of a disk.
     pub fn reset(&mut self)
-        ensures { self.new ≡ world_at_reset rule_a self.old.devices.ram self.old.ram }
+        ensures { self.new ≡ world_at_reset rule_a (restarted self.old.devices) self.old.ram }
     {
         self.translator.reset();
         self.devices.restart();

@@ -1,9 +1,9 @@
 //! The calls of the bus.
 
 ghost use Rattle.std.specs.Prelude.{ℕ, length};
+ghost use Rattle.mb_port.specs.Pieces.{IsLength};
 ghost use Rattle.mb_model.specs.Keeping.{rule_a};
 ghost use Rattle.mb_machine.specs.World.{World};
-ghost use Rattle.mb_machine.specs.Places.{HasPlace};
 ghost use Rattle.mb_machine.specs.Bus.{bus_of};
 
 use crate::bus::BoardBus;
@@ -22,7 +22,8 @@ impl Port for BoardBus {
 
     ghost bus = { bus_of rule_a };
 
-    ghost exists = { HasPlace };
+    // what stands nowhere is read as 0, and takes no write
+    ghost exists = { λ size place. IsLength place.len };
 
     #[inline(never)]
     fn fetch(&mut self, space: Space, at: u32) -> Result<u16, Fault> {

@@ -75,7 +75,7 @@ impl BoardBus {
     /// Whether RAM or a register takes a write.
     #[tactic(auto, using(mb_machine::proofs::BusLemmas::takes))]
     pub fn takes_writes(&self, place: Place) -> bool
-        ensures { result ≡ takes_writes (length self.now.ram) place }
+        ensures { result ≡ takes_writes self.now place }
     {
         self.in_ram(place) || self.devices.has(place)
     }

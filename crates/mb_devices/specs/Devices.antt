@@ -1,5 +1,8 @@
--- The devices of the board and what happens to them: the serial line with its console, the timer, the power switch.
+-- The devices of the board and what happens to them: the serial line with its console, the timer, the power switch, and
+-- the disk where one is attached.
 use Rattle.std.specs.Prelude.{◌≡◌, ◌⊎◌, ℕ, zero, suc, ◌<◌, ◌+◌, ◌-◌, ◌^◌, ◌==◌, ◌&&◌, Bool, true, false, not, List, [], ◌∷◌, ◌++◌, length, drop, min, nat_lt, slice_get, unwrap_or, if◌then◌else◌}
+use Rattle.std.specs.Prelude.{Option, Some, None, option_map, is_some}
+use Rattle.vm_disk.specs.Disk.{DiskState, rested}
 use Rattle.mb_devices.specs.declared.devices.TheConstants.{QUEUE_ROOM, CONSOLE_ROOM}
 
 pub record DeviceState : Type 0 where
@@ -21,8 +24,14 @@ pub record DeviceState : Type 0 where
   pub pending : Bool
   -- the machine is to be switched off at the end of the step
   pub off : Bool
+  -- the disk, where one is attached
+  pub disk : Option DiskState
 
--- as a machine has them at its start
+-- what nothing changes that happens to them: the bytes of RAM that they show, and whether a disk is attached
+abbrev pub built : DeviceState → ℕ × Bool
+built d = (d.ram, is_some d.disk)
+
+-- as a machine without a disk has them at its start
 abbrev pub idle : (ram : ℕ) → DeviceState
 idle ram = record {
   ram = ram;
@@ -35,7 +44,12 @@ idle ram = record {
   count = 0;
   pending = false;
   off = false;
+  disk = None;
 }
+
+-- with a disk that is attached
+abbrev pub attached : DiskState → DeviceState → DeviceState
+attached disk d = record d { disk = Some disk }
 
 -- ---- the serial line
 
@@ -96,7 +110,19 @@ passed n d = if d.period == 0 then d else record d { count = d.count - n }
 abbrev pub level_of : DeviceState → ℕ
 level_of d = if d.pending then 6 else if d.enabled && has_received d then 4 else 0
 
--- the instruction RESET: the console stays
+-- the instruction RESET: the console stays, and of the disk its blocks
 abbrev pub reset_of : DeviceState → DeviceState
 reset_of d =
-    record d { queue = []; overrun = false; enabled = false; period = 0; count = 0; pending = false }
+    record d {
+      queue = [];
+      overrun = false;
+      enabled = false;
+      period = 0;
+      count = 0;
+      pending = false;
+      disk = option_map rested d.disk;
+    }
+
+-- begun again: as at the start, but that a disk stays attached, with its blocks
+abbrev pub restarted : DeviceState → DeviceState
+restarted d = record (idle d.ram) { disk = option_map rested d.disk }

@@ -17,6 +17,7 @@ state_of d = record {
   count = d.count;
   pending = d.pending;
   off = d.off;
+  disk = d.disk;
 }
 
 -- what always holds of them: queue and console have their room, and a timer that runs has steps left

@@ -1,10 +1,15 @@
 -- The registers of the devices: where each stands, what reading it gives and what writing it does.
-use Rattle.std.specs.Prelude.{ℕ, ◌+◌, ◌*◌, ◌%◌, ◌^◌, ◌==◌, ◌&&◌, Bool, true, false, List, [], ◌∷◌, Option, Some, None, if◌then◌else◌}
+use Rattle.std.specs.Prelude.{ℕ, ◌+◌, ◌*◌, ◌%◌, ◌^◌, ◌==◌, ◌&&◌, Bool, true, false, List, [], ◌∷◌, if◌then◌else◌}
+use Rattle.std.specs.Prelude.{Option, Some, None, option_map}
 use Rattle.std.specs.List.{find}
+use Rattle.std.specs.Option.{option_or}
 use Rattle.std.specs.Int.{from_bool}
 use Rattle.mb_port.specs.declared.types.Place.{Place}
 use Rattle.mb_devices.specs.declared.register.Register.{Register}
-use Rattle.mb_devices.specs.declared.register.Register.TheVariants.{Data, Status, Ctrl, Period, Count, Ack, Power, Size}
+use Rattle.mb_devices.specs.declared.register.Register.TheVariants.{Data, Status, Ctrl, Period, Count, Ack, Power, Size, Disk}
+use Rattle.vm_disk.specs.declared.register.DiskRegister.TheVariants as disk
+use Rattle.vm_disk.specs.Disk.{DiskState}
+use Rattle.vm_disk.specs.Registers.{DiskRow, disk_row}
 use Rattle.mb_devices.specs.Devices.{DeviceState, has_received, oldest, sent, started, without_oldest}
 use Rattle.mb_devices.specs.declared.register.TheConstants.{BASE}
 
@@ -37,6 +42,17 @@ abbrev pub register : (offset size : ℕ) → (value : DeviceState → ℕ) → 
 register offset size value after_read written =
     record { offset = offset; size = size; value = value; after_read = after_read; written = written }
 
+-- a register of the disk; where none is attached it does not stand
+abbrev pub value_on : DiskRow → Option DiskState → ℕ
+value_on row None = 0
+value_on row (Some d) = row.value d
+
+abbrev pub on_disk : DiskRow → DeviceRow
+on_disk row = register row.offset 4
+    (λ d. value_on row d.disk)
+    (λ d. record d { disk = option_map row.after_read d.disk })
+    (λ value d. record d { disk = option_map (row.written value) d.disk })
+
 -- the table: a line a register
 abbrev pub register_row : Register → DeviceRow
 register_row Data = register 0x00 1 oldest without_oldest (λ value. sent (value % 2 ^ 8))
@@ -48,17 +64,30 @@ register_row Count = register 0x14 4 (λ d. d.count) unchanged ignored
 register_row Ack = register 0x18 4 (λ d. from_bool d.pending) unchanged (λ value d. record d { pending = false })
 register_row Power = register 0x20 4 (λ d. 0) unchanged powered
 register_row Size = register 0x24 4 (λ d. d.ram) unchanged ignored
+register_row (Disk r) = on_disk (disk_row r)
 
 abbrev pub registers : List Register
 registers = Data ∷ Status ∷ Ctrl ∷ Period ∷ Count ∷ Ack ∷ Power ∷ Size ∷ []
+
+abbrev pub disk_registers : List Register
+disk_registers = Disk disk.Blocks ∷ Disk disk.Block ∷ Disk disk.Command ∷ Disk disk.Data ∷ []
 
 -- the place is that of the register, with its size
 abbrev pub stands_at : Place → Register → Bool
 stands_at place r = (place.at == BASE + (register_row r).offset) && (place.len == (register_row r).size)
 
+-- the register of just that address and size, among those that every board has
+abbrev pub own_register_at : Place → Option Register
+own_register_at place = find (stands_at place) registers
+
+-- and among those of a disk
+abbrev pub disk_register_at : Option DiskState → Place → Option Register
+disk_register_at None place = None
+disk_register_at (Some d) place = find (stands_at place) disk_registers
+
 -- the register of just that address and size
-abbrev pub register_at : Place → Option Register
-register_at place = find (stands_at place) registers
+abbrev pub register_at : DeviceState → Place → Option Register
+register_at d place = option_or (own_register_at place) (disk_register_at d.disk place)
 
 -- what a read answers and what it leaves; none, and nothing changed, where there is no register
 abbrev pub read_register : Option Register → DeviceState → Option ℕ × DeviceState
@@ -66,7 +95,7 @@ read_register (Some r) d = (Some ((register_row r).value d), (register_row r).af
 read_register None d = (None, d)
 
 abbrev pub read_of : Place → DeviceState → Option ℕ × DeviceState
-read_of place d = read_register (register_at place) d
+read_of place d = read_register (register_at d place) d
 
 -- the same of a write
 abbrev pub write_register : Option Register → ℕ → DeviceState → Option (Unit {0}) × DeviceState
@@ -74,4 +103,4 @@ write_register (Some r) value d = (Some tt, (register_row r).written value d)
 write_register None value d = (None, d)
 
 abbrev pub write_of : Place → ℕ → DeviceState → Option (Unit {0}) × DeviceState
-write_of place value d = write_register (register_at place) value d
+write_of place value d = write_register (register_at d place) value d

@@ -1,24 +1,32 @@
 //! The devices.
 
-ghost use Rattle.std.specs.Prelude.{◌≡◌, ◌<◌, ◌≤◌, ◌^◌, ◌↔◌, length, is_some, IfOk, IfSome, IsNone, None};
+ghost use Rattle.std.specs.Prelude.{◌≡◌, ◌<◌, ◌≤◌, ◌^◌, ◌↔◌, length, vec_capacity, is_some, option_map};
+ghost use Rattle.std.specs.Prelude.{IfOk, IfSome, IsNone, None};
 ghost use Rattle.std.specs.Int.{from_bool};
+ghost use Rattle.mb_saved.specs.Saved.{IsLawful};
+ghost use Rattle.mb_devices.specs.Adopted.{devices_of};
 ghost use Rattle.mb_devices.specs.Devices.{passed, IsNotDue};
-ghost use Rattle.mb_devices.specs.Devices.{idle, level_of, oldest, received, reset_of, sent, started, ticked, without_oldest};
-ghost use Rattle.mb_devices.specs.Registers.{powered, read_of, register_at, status_of, write_of};
+ghost use Rattle.mb_devices.specs.Devices.{attached, idle, level_of, oldest, received, reset_of, restarted, sent, started};
+ghost use Rattle.mb_devices.specs.Devices.{ticked, without_oldest};
+ghost use Rattle.mb_devices.specs.Registers.{powered, read_of, register_at, register_row, status_of, write_of};
 
+use crate::disk_slot;
 use crate::register::Register;
 use arrayvec::ArrayVec;
 use circular_buffer::HeapCircularBuffer;
+use mb_model::RunState;
 use mb_outside::Memory;
 use mb_port::Place;
+use mb_saved::{MOST_QUEUED, MOST_SENT, SavedGuest};
 use std::alloc::Global;
 use std::marker::Model;
+use vm_disk::Disk;
 
 /// How many received bytes are queued.
-pub const QUEUE_ROOM: usize = 16;
+pub const QUEUE_ROOM: usize = MOST_QUEUED;
 
 /// How many sent bytes the console keeps.
-pub const CONSOLE_ROOM: usize = 65_536;
+pub const CONSOLE_ROOM: usize = MOST_SENT;
 
 /// The devices of a board. All memory that they need is taken by `new`.
 #[derive(Drop)]
@@ -33,6 +41,7 @@ pub struct Devices {
     count: u32,
     pending: bool,
     off: bool,
+    disk: Option<Disk>,
 }
 
 impl Model for Devices {
@@ -47,8 +56,30 @@ impl Model for Devices {
     ghost invariant = { IsSound };
 }
 
+/// The queue has these bytes and no others.
+fn queue_all(queue: &mut HeapCircularBuffer<u8>, bytes: &[u8])
+    requires room { length bytes.now ≤ queue.old.capacity }
+    ensures items { queue.new.items ≡ bytes.now }
+    ensures capacity { queue.new.capacity ≡ queue.old.capacity }
+{
+    queue.clear();
+    queue.fill_from_slice(bytes);
+}
+
+/// The console has these bytes and no others.
+fn keep_all(console: &mut Vec<u8>, bytes: &[u8])
+    requires room { length bytes.now ≤ vec_capacity console.old }
+    ensures items { console.new.items ≡ bytes.now }
+    ensures capacity { vec_capacity console.new ≡ vec_capacity console.old }
+{
+    console.clear();
+    for &byte in bytes {
+        console.push_reserved(byte);
+    }
+}
+
 impl Devices {
-    /// Idle devices of a board with so many bytes of RAM. They take here all the memory that they need.
+    /// Idle devices of a board with so many bytes of RAM and no disk. They take here all the memory that they need.
     pub fn new(alloc: Global, ram: u32) -> Result<Devices, Memory>
         ensures { IfOk result (λ devices. devices ≡ idle ram) }
     {
@@ -69,14 +100,41 @@ impl Devices {
             count: 0,
             pending: false,
             off: false,
+            disk: None,
         })
+    }
+
+    /// Attaches a disk.
+    pub fn attach(&mut self, disk: Disk)
+        requires { self.old.disk ≡ None }
+        ensures { self.new ≡ attached disk self.old }
+    {
+        self.disk = Some(disk);
+    }
+
+    /// The disk. `None` comes exactly where none is attached.
+    pub fn disk(&self) -> Option<&Disk>
+        ensures { option_map (λ disk. disk.now) result ≡ self.now.disk }
+    {
+        self.disk.as_ref()
+    }
+
+    /// The register of just this address and size.
+    fn register_at(&self, place: Place) -> Option<Register>
+        ensures register { result ≡ register_at self.now place }
+        ensures size { IfSome result (λ r. place.len ≡ (register_row r).size) }
+    {
+        match Register::at(place) {
+            Some(register) => Some(register),
+            None => disk_slot::register_at(&self.disk, place),
+        }
     }
 
     /// Whether there is a register of just this address and size.
     pub fn has(&self, place: Place) -> bool
-        ensures { result ≡ is_some (register_at place) }
+        ensures { result ≡ is_some (register_at self.now place) }
     {
-        Register::at(place).is_some()
+        self.register_at(place).is_some()
     }
 
     /// Takes the oldest received byte; 0 where there is none.
@@ -102,11 +160,11 @@ impl Devices {
     /// register of just this address and size.
     pub fn read(&mut self, place: Place) -> Option<u32>
         ensures means { (result, self.new) ≡ read_of place self.old }
-        ensures none { IsNone result ↔ (register_at place ≡ None) }
+        ensures none { IsNone result ↔ (register_at self.old place ≡ None) }
         ensures unchanged { IsNone result → self.new ≡ self.old }
         ensures bound { IfSome result (λ value. value < 256 ^ place.len) }
     {
-        Some(match Register::at(place)? {
+        Some(match self.register_at(place)? {
             Register::Data => u32::from(self.take_byte()),
             Register::Status => self.status(),
             Register::Ctrl => self.ctrl(),
@@ -115,6 +173,7 @@ impl Devices {
             Register::Ack => self.pending(),
             Register::Power => 0,
             Register::Size => self.ram,
+            Register::Disk(register) => disk_slot::read(&mut self.disk, register),
         })
     }
 
@@ -122,10 +181,10 @@ impl Devices {
     /// `None` comes exactly where there is no register of just this address and size.
     pub fn write(&mut self, place: Place, value: u32) -> Option<()>
         ensures means { (result, self.new) ≡ write_of place value self.old }
-        ensures none { IsNone result ↔ (register_at place ≡ None) }
+        ensures none { IsNone result ↔ (register_at self.old place ≡ None) }
         ensures unchanged { IsNone result → self.new ≡ self.old }
     {
-        match Register::at(place)? {
+        match self.register_at(place)? {
             Register::Data => self.send((value & 0xff) as u8),
             Register::Status => self.overrun = false,
             Register::Ctrl => self.enabled = value & 1 == 1,
@@ -133,6 +192,7 @@ impl Devices {
             Register::Ack => self.pending = false,
             Register::Power => self.set_power(value),
             Register::Count | Register::Size => {}
+            Register::Disk(register) => disk_slot::write(&mut self.disk, register, value),
         }
         Some(())
     }
@@ -204,8 +264,8 @@ impl Devices {
         }
     }
 
-    /// What the instruction RESET does: all but the console, its lost count and the power switch is
-    /// as at the start.
+    /// What the instruction RESET does: all but the console, its lost count, the power switch and the blocks of an
+    /// attached disk is as at the start.
     pub fn reset(&mut self)
         ensures { self.new ≡ reset_of self.old }
     {
@@ -215,16 +275,35 @@ impl Devices {
         self.period = 0;
         self.count = 0;
         self.pending = false;
+        disk_slot::reset(&mut self.disk);
     }
 
-    /// The devices become as `new` makes them for the same RAM.
+    /// The devices become as `new` makes them for the same RAM. An attached disk stays attached, its blocks as they
+    /// are and all else of it as after RESET.
     pub fn restart(&mut self)
-        ensures { self.new ≡ idle self.old.ram }
+        ensures { self.new ≡ restarted self.old }
     {
         self.reset();
         self.console.clear();
         self.lost = 0;
         self.off = false;
+    }
+
+    /// The devices become the saved ones. An attached disk stays as it is. It takes no memory.
+    pub fn adopt(&mut self, saved: &SavedGuest)
+        requires { IsLawful saved.now }
+        ensures { self.new ≡ devices_of self.old.disk saved.now }
+    {
+        self.ram = saved.ram();
+        queue_all(&mut self.queue, saved.queue());
+        self.overrun = saved.status() >> 2 & 1 == 1;
+        self.enabled = saved.ctrl() == 1;
+        keep_all(&mut self.console, saved.console());
+        self.lost = saved.lost();
+        self.period = saved.period();
+        self.count = saved.count();
+        self.pending = saved.pending() == 1;
+        self.off = saved.state() == RunState::Off;
     }
 
     /// Whether the machine is to be switched off at the end of the step.

@@ -1,5 +1,5 @@
 //! The devices of the board: the serial line with its receive queue and its console, the timer, the
-//! power switch, and the size of memory.
+//! power switch, the size of memory, and the disk, where one is attached.
 //!
 //! A part: it knows neither processor nor memory. A board asks it for the register at a physical place,
 //! tells it each step and each received byte, and reads the level of the interrupt that it asks for.
@@ -7,6 +7,7 @@
 #![tactic(auto)]
 
 mod devices;
+mod disk_slot;
 mod laws;
 mod register;
 

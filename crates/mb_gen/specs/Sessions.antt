@@ -1,5 +1,6 @@
 -- The session that a seed makes.
 use Rattle.std.specs.Prelude.{◌≡◌, ℕ, zero, suc, ◌+◌, ◌*◌, List, [], ◌∷◌, sum_by}
+use Rattle.mb_machine.specs.Machine.{diskless}
 use Rattle.vm_shadow.specs.declared.area.TheConstants.{AREA_BYTES}
 use Rattle.vm_machine.specs.declared.limits.TheConstants.{MONITOR_BYTES}
 use Rattle.vm_guest.specs.Session.{GuestAtStart, SessionAtStart}
@@ -10,7 +11,7 @@ use Rattle.mb_gen.specs.declared.program.TheConstants.{PICKS}
 
 -- a guest of 64 KiB with more steps than its program takes, at whose terminal nothing arrives
 abbrev pub guest_of : List ℕ → GuestAtStart
-guest_of taken = record { image = image taken; script = []; ram = RAM; steps = STEPS }
+guest_of taken = record { opening = diskless (image taken); script = []; ram = RAM; steps = STEPS }
 
 -- so many guests, each with the next 2,000 draws
 unfoldable pub guests_from : ℕ → Generator → List GuestAtStart

@@ -27,7 +27,7 @@ among_read None w place = refl
 
 pub taken_register : (w : World) (place : Place) → in_ram (length w.ram) place.at place.len ≡ false
     → taken place w ≡ read_devices w (read_of place w.devices)
-taken_register w place h = rw h (among_read (register_at place) w place)
+taken_register w place h = rw h (among_read (register_at w.devices place) w place)
 
 pub stored_memory : (w : World) (place : Place) (value : ℕ) → in_ram (length w.ram) place.at place.len ≡ true
     → stored place value w ≡ Some (record w { ram = with_number w.ram place.at place.len value })
@@ -40,17 +40,18 @@ among_wrote None w place value = refl
 
 pub stored_register : (w : World) (place : Place) (value : ℕ) → in_ram (length w.ram) place.at place.len ≡ false
     → stored place value w ≡ wrote_devices w (write_of place value w.devices)
-stored_register w place value h = rw h (among_wrote (register_at place) w place value)
+stored_register w place value h = rw h (among_wrote (register_at w.devices place) w place value)
 
-pub takes_memory : (size : ℕ) (place : Place) → in_ram size place.at place.len ≡ true → takes_writes size place ≡ true
-takes_memory size place h = rw h refl
+pub takes_memory : (w : World) (place : Place) → in_ram (length w.ram) place.at place.len ≡ true → takes_writes w place ≡ true
+takes_memory w place h = rw h refl
 
 among_takes : (o : Option Register) → is_somewhere (among_registers o) ≡ is_some o
 among_takes (Some r) = refl
 among_takes None = refl
 
-pub takes_register : (size : ℕ) (place : Place) → in_ram size place.at place.len ≡ false → takes_writes size place ≡ is_some (register_at place)
-takes_register size place h = rw h (among_takes (register_at place))
+pub takes_register : (w : World) (place : Place) → in_ram (length w.ram) place.at place.len ≡ false
+    → takes_writes w place ≡ is_some (register_at w.devices place)
+takes_register w place h = rw h (among_takes (register_at w.devices place))
 
 pub ruleset reads = (taken_memory, taken_register)
 

@@ -44,7 +44,7 @@ reads_found {A} rule r len take w u p a e h =
 
 checked_is : (w : World) (p len : ℕ) → in_ram (length w.ram) p len ≡ true → checked (place_at p len) w ≡ (Some (place_at p len), w)
 checked_is w p len h =
-    ap (λ (b : Bool). (let q : Option Place × World = (cond b (Some (place_at p len)) None, w) in q)) (takes_memory (length w.ram) (place_at p len) h)
+    ap (λ (b : Bool). (let q : Option Place × World = (cond b (Some (place_at p len)) None, w) in q)) (takes_memory w (place_at p len) h)
 
 enters_untranslated : (rule : Rule) (w : World) (at : ℕ) (write : Bool) → untranslated w.mmu (supervising at write) ≡ Some false
     → translated rule (supervising at write) w ≡ (Some at, w)

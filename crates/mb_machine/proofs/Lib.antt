@@ -4,5 +4,5 @@ pub mod Refusals
 pub mod Beneath
 pub mod Pieces
 pub mod Enters
-pub mod ShownSize
+pub mod Builds
 pub mod Asked

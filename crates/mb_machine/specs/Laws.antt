@@ -1,17 +1,18 @@
 -- What holds of every call of the bus, by every rule: memory stays bytes, of the same size, what a refused access tells
--- and leaves, and what an access keeps; and of every run, that the devices show one size of RAM.
-use Rattle.std.specs.Prelude.{◌≡◌, ℕ, List, is_none, length, IfSome}
+-- and leaves, and what an access keeps; and of every call and run, that the devices keep their build.
+use Rattle.std.specs.Prelude.{◌≡◌, ℕ, is_none, is_some, length, IfSome}
 use Rattle.mb_port.specs.Routine.{Call, Fetch, Read, Write, ReadLine, WriteLine, Probe, Get, Put, ReadMmu, SetMmu}
 use Rattle.mb_port.specs.Routine.{FlushKept, Test, ResetDevices}
 use Rattle.mb_port.specs.declared.types.Fault.{Fault}
 use Rattle.mb_port.specs.declared.types.Place.{Place}
 use Rattle.mb_model.specs.Keeping.{Rule}
 use Rattle.mb_laws.specs.Refusal.{IsFault}
+use Rattle.mb_devices.specs.Devices.{built}
 use Rattle.mb_machine.specs.declared.reference.Reference.{Reference}
 use Rattle.mb_machine.specs.World.{World, HasBytes}
 use Rattle.mb_machine.specs.Access.{translated}
 use Rattle.mb_machine.specs.Bus.{fetching_of, reading_of, writing_of, reference_of, fault_of, bus_of}
-use Rattle.mb_machine.specs.Machine.{Entries, Machine, reset_with, run_of}
+use Rattle.mb_machine.specs.Machine.{Entries, Machine, Opening, start, run_of}
 
 abbrev pub BytesStay : Type 0
 BytesStay = (rule : Rule) (c : Call) (w : World) → HasBytes w
@@ -79,16 +80,17 @@ abbrev pub SizesStay : Type 0
 SizesStay = (rule : Rule) (c : Call) (w : World) → HasBytes w → IsWhole c
     → let (_, after) = bus_of rule c w in length after.ram ≡ length w.ram
 
--- The devices of a machine that is reset show its size,
-abbrev pub ResetsShowTheSize : Type 0
-ResetsShowTheSize = (rule : Rule) (size : ℕ) (ram : List ℕ) → (reset_with rule size ram).world.devices.ram ≡ size
+-- The devices of a machine at its start show its size, and a disk is attached where it opens with one;
+abbrev pub StartsHaveTheBuild : Type 0
+StartsHaveTheBuild = (rule : Rule) (opening : Opening) (size : ℕ)
+    → built (start rule opening size).world.devices ≡ (size, is_some opening.disk)
 
--- and no call changes the size that they show,
-abbrev pub CallsLeaveTheSize : Type 0
-CallsLeaveTheSize = (rule : Rule) (c : Call) (w : World)
-    → let (_, after) = bus_of rule c w in after.devices.ram ≡ w.devices.ram
+-- no call changes either,
+abbrev pub CallsLeaveTheBuild : Type 0
+CallsLeaveTheBuild = (rule : Rule) (c : Call) (w : World)
+    → let (_, after) = bus_of rule c w in built after.devices ≡ built w.devices
 
 -- nor does a run, whatever arrives.
-abbrev pub RunsLeaveTheSize : Type 0
-RunsLeaveTheSize = (rule : Rule) (script : Entries) (steps : ℕ) (m : Machine)
-    → (run_of rule script steps m).world.devices.ram ≡ m.world.devices.ram
+abbrev pub RunsLeaveTheBuild : Type 0
+RunsLeaveTheBuild = (rule : Rule) (script : Entries) (steps : ℕ) (m : Machine)
+    → built (run_of rule script steps m).world.devices ≡ built m.world.devices

@@ -1,5 +1,6 @@
 -- The machine, its start, its steps and its runs, by a rule of keeping.
-use Rattle.std.specs.Prelude.{ℕ, zero, suc, ◌+◌, ◌==◌, ◌&&◌, ◌||◌, Bool, true, false, if◌then◌else◌, List, [], ◌∷◌, replicate}
+use Rattle.std.specs.Prelude.{ℕ, zero, suc, ◌+◌, ◌==◌, ◌&&◌, ◌||◌, Bool, true, false, if◌then◌else◌}
+use Rattle.std.specs.Prelude.{List, [], ◌∷◌, replicate, Option, None}
 use Rattle.std.specs.Int.{from_bool}
 use Rattle.mb_port.specs.Routine.{run}
 use Rattle.mb_model.specs.declared.processor.Cpu.{Cpu}
@@ -15,10 +16,11 @@ use Rattle.mb_processor.specs.Raise.{Stepped}
 use Rattle.mb_processor.specs.Step.{step_of}
 use Rattle.mb_devices.specs.Devices.{DeviceState, idle, level_of, received, ticked}
 use Rattle.mb_devices.specs.Registers.{status_of}
+use Rattle.vm_disk.specs.Disk.{DiskState}
 use Rattle.mb_script.specs.declared.input.Input.{Input}
 use Rattle.mb_script.specs.declared.input.Input.TheVariants as input
 use Rattle.mb_script.specs.Script as scripts
-use Rattle.mb_walk.specs.Memory.{number_at, overwritten}
+use Rattle.mb_walk.specs.Memory.{Contents, number_at, with_contents}
 use Rattle.mb_machine.specs.World.{World}
 use Rattle.mb_machine.specs.Bus.{bus_of}
 
@@ -31,31 +33,37 @@ pub record Machine : Type 0 where
 
 -- ---- its start
 
--- an image: addresses, each with the bytes that stand from there on
-abbrev pub Contents : Type 0
-Contents = List (ℕ × List ℕ)
+-- what a machine opens with: its image, and its disk, where it has one
+pub record Opening : Type 0 where
+  pub image : Contents
+  pub disk : Option DiskState
 
--- memory with an image's bytes, later ones over earlier ones
-abbrev pub with_contents : List ℕ → Contents → List ℕ
-with_contents ram [] = ram
-with_contents ram ((at, bytes) ∷ chunks) = with_contents (overwritten ram at bytes) chunks
+-- an image without a disk
+abbrev pub diskless : Contents → Opening
+diskless image = record { image = image; disk = None }
 
-abbrev pub world_at_reset : Rule → (size : ℕ) → List ℕ → World
-world_at_reset rule size ram = record { ram = ram; mmu = mmu_at_reset; devices = idle size; kept = nothing_kept rule }
+-- idle devices of so many bytes of RAM, with the disk
+abbrev pub opening_devices : (size : ℕ) → Option DiskState → DeviceState
+opening_devices size disk = record (idle size) { disk = disk }
 
--- A machine of so many bytes with this memory after reset: ISP is the long at 0, PC the long at 4, the devices are
--- idle, nothing is kept by the rule, and no step is taken.
-unfoldable pub reset_with : Rule → (size : ℕ) → List ℕ → Machine
-reset_with rule size ram = record {
+abbrev pub world_at_reset : Rule → DeviceState → List ℕ → World
+world_at_reset rule devices ram =
+    record { ram = ram; mmu = mmu_at_reset; devices = devices; kept = nothing_kept rule }
+
+-- A machine with this memory and these devices after reset: ISP is the long at 0, PC the long at 4, nothing is kept by
+-- the rule, and no step is taken.
+unfoldable pub reset_with : Rule → DeviceState → List ℕ → Machine
+reset_with rule devices ram = record {
   cpu = at_reset (number_at ram 0 4) (number_at ram 4 4);
-  world = world_at_reset rule size ram;
+  world = world_at_reset rule devices ram;
   steps = 0;
   state = Running;
 }
 
--- the start of a machine with an image and so many bytes of RAM: 0 where the image gives nothing
-abbrev pub start : Rule → Contents → (size : ℕ) → Machine
-start rule contents size = reset_with rule size (with_contents (replicate size 0) contents)
+-- the start of a machine with so many bytes of RAM: 0 where the image gives nothing
+abbrev pub start : Rule → Opening → (size : ℕ) → Machine
+start rule opening size =
+    reset_with rule (opening_devices size opening.disk) (with_contents (replicate size 0) opening.image)
 
 -- a machine with other memory, or with other devices
 abbrev pub with_ram : Machine → List ℕ → Machine
@@ -150,8 +158,9 @@ unfoldable pub run_of : Rule → Entries → ℕ → Machine → Machine
 run_of rule script zero m = m
 run_of rule script (suc n) m = if takes_steps m.state then run_of rule script n (stepped rule script m) else m
 
--- ---- what its outcome shows
+-- ---- its outcome
 
+-- what is seen of it, but for a disk
 abbrev pub seen_machine : Machine → Seen
 seen_machine m = record {
   cpu = m.cpu;
@@ -168,3 +177,11 @@ seen_machine m = record {
   state = m.state;
   ram = m.world.ram;
 }
+
+-- what its outcome shows: that, and its disk, where one is attached
+pub record Outcome : Type 0 where
+  pub seen : Seen
+  pub disk : Option DiskState
+
+abbrev pub outcome_of : Machine → Outcome
+outcome_of m = record { seen = seen_machine m; disk = m.world.devices.disk }

@@ -1,7 +1,6 @@
 -- Physical places: RAM from address 0 on, and the registers of the devices.
 use Rattle.std.specs.Prelude.{ℕ, ◌+◌, ◌≡◌, Bool, true, false, List, [], ◌∷◌, length, nat_le}
 use Rattle.std.specs.Prelude.{Option, Some, None, if◌then◌else◌}
-use Rattle.mb_port.specs.Pieces.{IsLength}
 use Rattle.mb_port.specs.declared.types.Place.{Place}
 use Rattle.mb_devices.specs.declared.register.Register.{Register}
 use Rattle.mb_devices.specs.Registers.{register_row, register_at}
@@ -23,8 +22,9 @@ abbrev pub among_registers : Option Register → Stand
 among_registers (Some r) = register r
 among_registers None = nowhere
 
-abbrev pub stand_of : ℕ → Place → Stand
-stand_of size place = if in_ram size place.at place.len then memory else among_registers (register_at place)
+abbrev pub stand_of : World → Place → Stand
+stand_of w place =
+    if in_ram (length w.ram) place.at place.len then memory else among_registers (register_at w.devices place)
 
 -- what reading there answers, with the world after it
 abbrev pub taken_at : Stand → Place → World → Option ℕ × World
@@ -41,10 +41,10 @@ stored_at nowhere place value w = None
 
 -- a read and a write of a physical piece, wherever it stands
 abbrev pub taken : Place → World → Option ℕ × World
-taken place w = taken_at (stand_of (length w.ram) place) place w
+taken place w = taken_at (stand_of w place) place w
 
 abbrev pub stored : Place → ℕ → World → Option World
-stored place value w = stored_at (stand_of (length w.ram) place) place value w
+stored place value w = stored_at (stand_of w place) place value w
 
 -- The world is what the write makes of it, or nothing took the write and it is as before.
 abbrev pub Stores : Option World → World → World → Option (Unit {0}) → Type 0
@@ -57,12 +57,12 @@ is_somewhere (register r) = true
 is_somewhere nowhere = false
 
 -- what takes a write
-abbrev pub takes_writes : ℕ → Place → Bool
-takes_writes size place = is_somewhere (stand_of size place)
+abbrev pub takes_writes : World → Place → Bool
+takes_writes w place = is_somewhere (stand_of w place)
 
 -- a piece that is checked for writing: its place, where something takes a write there
 abbrev pub checked : Place → World → Option Place × World
-checked place w = ((if takes_writes (length w.ram) place then Some place else None), w)
+checked place w = ((if takes_writes w place then Some place else None), w)
 
 -- ---- a line of 16 bytes: four longs, in RAM alone
 
@@ -81,9 +81,3 @@ taken_line place w = ((if in_ram (length w.ram) place.at place.len then Some (li
 abbrev pub stored_line : Place → List ℕ → World → Option World
 stored_line place line w =
     if in_ram (length w.ram) place.at place.len then Some (record w { ram = with_longs w.ram place.at line }) else None
-
--- ---- which places there are
-
--- 1, 2 or 4 bytes that take a write
-abbrev pub HasPlace : ℕ → Place → Type 0
-HasPlace size place = IsLength place.len × (takes_writes size place ≡ true)

@@ -3,7 +3,7 @@
 ghost use Rattle.mb_machine.specs.Laws.{BytesStay, SizesStay, FaultsTell, TranslationsStayBeside};
 ghost use Rattle.mb_machine.specs.Enters.{EntersStacked};
 ghost use Rattle.mb_machine.specs.Laws.{CallsStandBeneath, PlacesStandBeneath};
-ghost use Rattle.mb_machine.specs.Laws.{ResetsShowTheSize, CallsLeaveTheSize, RunsLeaveTheSize};
+ghost use Rattle.mb_machine.specs.Laws.{StartsHaveTheBuild, CallsLeaveTheBuild, RunsLeaveTheBuild};
 
 /// Whatever is called, a memory of bytes stays one, by every rule of keeping.
 pub fn memory_stays_bytes()
@@ -34,9 +34,10 @@ pub fn entries_are_stacked()
     ensures { EntersStacked }
 {}
 
-/// The devices show the size with which the machine was reset, after whatever calls and steps, and whatever arrives.
-pub fn devices_show_one_size()
-    ensures reset { ResetsShowTheSize }
-    ensures calls { CallsLeaveTheSize }
-    ensures runs { RunsLeaveTheSize }
+/// The devices show the size with which the machine began, and a disk stays attached, after whatever calls and steps,
+/// and whatever arrives.
+pub fn devices_keep_their_build()
+    ensures start { StartsHaveTheBuild }
+    ensures calls { CallsLeaveTheBuild }
+    ensures runs { RunsLeaveTheBuild }
 {}

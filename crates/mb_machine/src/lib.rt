@@ -1,4 +1,4 @@
-//! The machine: its state, its bus by a rule of keeping, its start from an image, its steps and its runs, in
+//! The machine: its state, its bus by a rule of keeping, its start from an image and a disk, its steps and its runs, in
 //! definitions.
 //!
 //! Whatever the program prints is said of [`specs/Machine`]; the board above carries it out. `specs/Access` has where
@@ -12,7 +12,7 @@ mod registers;
 mod settling;
 
 pub use laws::{
-    accesses_stand_beneath, devices_show_one_size, entries_are_stacked, memory_keeps_its_size,
+    accesses_stand_beneath, devices_keep_their_build, entries_are_stacked, memory_keeps_its_size,
     memory_stays_bytes, refused_accesses,
 };
 pub use reference::{Reference, Settled};

@@ -14,7 +14,7 @@ IsAligned at len = (0 < len) × (len ≤ 4) × (len ≢ 3) × (2 ≤ len → at 
 abbrev pub IsPiece : Piece → Type 0
 IsPiece p = IsAligned p.at p.len
 
--- a piece whose address is one
+-- a piece at an address of 32 bits
 abbrev pub IsAddressedPiece : Piece → Type 0
 IsAddressedPiece p = IsPiece p × (p.at < 2 ^ 32)
 

@@ -8,14 +8,13 @@ use Rattle.std.specs.List.{list_all}
 use Rattle.std.specs.Prelude.{◌&&◌, IfSome, slice_get}
 use Rattle.mb_outside.specs.Prints.{Printed, PrintedPart}
 use Rattle.mb_model.specs.Keeping.{rule_a, rule_k}
-use Rattle.mb_model.specs.Seen.{Seen}
-use Rattle.mb_report.specs.Same.{same_seen}
+use Rattle.mb_machine.specs.Machine.{Outcome}
 use Rattle.vm_meaning.specs.Native.{NativeState}
 use Rattle.vm_guest.specs.Session.{GuestAtStart}
 use Rattle.vm_slices.specs.Fit.{Fits}
-use Rattle.vm_slices.specs.Members.{numbered, shown_of}
+use Rattle.vm_slices.specs.Members.{numbered, outcomes_of}
 use Rattle.vm_slices.specs.Places.{HostState, members_in}
-use Rattle.mb_program.specs.Answers.{compare_answer, compare_shown, compared_text, is_same, outcome_by, texts_from}
+use Rattle.mb_program.specs.Answers.{compare_answer, compare_shown, compared_text, is_same, outcome_by, same_outcome, texts_from}
 use Rattle.mb_program.specs.Direct.{CarriedOut, Ordered}
 use Rattle.mb_program.specs.Compares.{found_of, outcome_ahead, same_each}
 use Rattle.mb_program.specs.Ends.{SinkSeen, GivesAnswer}
@@ -29,14 +28,14 @@ use Rattle.mb_program.specs.declared.end.End.TheVariants.{Done, Differs, Output}
 pub machine_for_each : (guests : List GuestAtStart) (machines : List BareMachine) → map outcome_ahead machines ≡ map (outcome_by rule_a) guests
     → length machines ≡ length guests
 machine_for_each guests machines bare =
-    sym (length-map machines outcome_ahead) ∙ ap (λ (shown : List Seen). length shown) bare ∙ length-map guests (outcome_by rule_a)
+    sym (length-map machines outcome_ahead) ∙ ap (λ (shown : List Outcome). length shown) bare ∙ length-map guests (outcome_by rule_a)
 
 -- and a member of the host
-pub member_for_each : (guests : List GuestAtStart) (host : HostState) → shown_of (members_in host) ≡ map (outcome_by rule_k) guests
+pub member_for_each : (guests : List GuestAtStart) (host : HostState) → outcomes_of (members_in host) ≡ map (outcome_by rule_k) guests
     → length (members_in host) ≡ length guests
 member_for_each guests host shown =
-    let long : length (shown_of (members_in host)) ≡ length (members_in host) = length-map (members_in host) _ in
-    sym long ∙ ap (λ (seen : List Seen). length seen) shown ∙ length-map guests (outcome_by rule_k)
+    let long : length (outcomes_of (members_in host)) ≡ length (members_in host) = length-map (members_in host) _ in
+    sym long ∙ ap (λ (seen : List Outcome). length seen) shown ∙ length-map guests (outcome_by rule_k)
 
 -- ---- one machine after the other
 
@@ -58,19 +57,19 @@ mapped_at f [] k x is = absurd (cc)
 mapped_at f (y ∷ ys) zero x is = let same : y ≡ x = cc in ap (λ z. Some (f z)) same
 mapped_at f (y ∷ ys) (suc k) x is = mapped_at f ys k x is
 
-same_at : (bare shown : List Seen) (k : ℕ) (x y : Seen) → slice_get bare k ≡ Some x → slice_get shown k ≡ Some y
-    → slice_get (same_each bare shown) k ≡ Some (same_seen x y)
+same_at : (bare shown : List Outcome) (k : ℕ) (x y : Outcome) → slice_get bare k ≡ Some x → slice_get shown k ≡ Some y
+    → slice_get (same_each bare shown) k ≡ Some (same_outcome x y)
 same_at [] shown k x y here there = absurd (cc)
 same_at (p ∷ ps) [] k x y here there = absurd (cc)
 same_at (p ∷ ps) (q ∷ qs) zero x y here there =
     let first : p ≡ x = cc in
     let second : q ≡ y = cc in
-    ap (λ z. Some (same_seen z q)) first ∙ ap (λ z. Some (same_seen x z)) second
+    ap (λ z. Some (same_outcome z q)) first ∙ ap (λ z. Some (same_outcome x z)) second
 same_at (p ∷ ps) (q ∷ qs) (suc k) x y here there = same_at ps qs k x y here there
 
 -- whether the machine at a place shows the same
-found_at : (machines : List BareMachine) (shown : List Seen) (k : ℕ) (m : BareMachine) (same : Bool) → slice_get machines k ≡ Some m → k < length shown
-    → IfSome (slice_get shown k) (λ y. same ≡ same_seen (outcome_ahead m) y) → slice_get (same_each (map outcome_ahead machines) shown) k ≡ Some same
+found_at : (machines : List BareMachine) (shown : List Outcome) (k : ℕ) (m : BareMachine) (same : Bool) → slice_get machines k ≡ Some m → k < length shown
+    → IfSome (slice_get shown k) (λ y. same ≡ same_outcome (outcome_ahead m) y) → slice_get (same_each (map outcome_ahead machines) shown) k ≡ Some same
 found_at machines shown k m same here within is = elim (slice_get_cases shown k).1 [
   | inl there ↦ same_at (map outcome_ahead machines) shown k (outcome_ahead m) there.0 (mapped_at outcome_ahead machines k m here) there.2
       ∙ ap (λ b. Some b) (sym (rw there.2 at is))
@@ -80,16 +79,16 @@ found_at machines shown k m same here within is = elim (slice_get_cases shown k)
 -- whether the next machine shows the same as the guest of its number
 pub next_found : (machines : List BareMachine) (host : HostState) (k : ℕ) (m : BareMachine) (rest : List BareMachine) (same : Bool)
     → drop k machines ≡ m ∷ rest → length machines ≡ length (members_in host)
-    → IfSome (numbered (k + 1) (shown_of (members_in host))) (λ shown. same ≡ same_seen (outcome_ahead m) shown)
+    → IfSome (numbered (k + 1) (outcomes_of (members_in host))) (λ shown. same ≡ same_outcome (outcome_ahead m) shown)
     → numbered (k + 1) (found_of machines host) ≡ Some same
 next_found machines host k m rest same left count is =
-    let shown = shown_of (members_in host) in
+    let shown = outcomes_of (members_in host) in
     let number : k + 1 - 1 ≡ k = omega arith in
     let long : length shown ≡ length (members_in host) = length-map (members_in host) _ in
     let within = left_within machines k m rest left in
     ap (λ n. slice_get (found_of machines host) n) number
     ∙ found_at machines shown k m same (at_left machines k m rest left) (omega arith)
-    (subst (λ n. IfSome (slice_get shown n) (λ y. same ≡ same_seen (outcome_ahead m) y)) number is)
+    (subst (λ n. IfSome (slice_get shown n) (λ y. same ≡ same_outcome (outcome_ahead m) y)) number is)
 
 -- all are the same so far, and the next one
 all_more : (found : List Bool) (k : ℕ) (same : Bool) → slice_get found (k + 1 - 1) ≡ Some same
@@ -105,7 +104,7 @@ pub still_all : (found : List Bool) (k : ℕ) (so_far same : Bool) → slice_get
 still_all found k so_far same here all = ap (λ b. b && same) all ∙ sym (all_more found k same here)
 
 -- no more are compared than there are machines
-found_length : (bare shown : List Seen) → length (same_each bare shown) ≤ length bare
+found_length : (bare shown : List Outcome) → length (same_each bare shown) ≤ length bare
 found_length [] shown = omega arith
 found_length (x ∷ xs) [] = omega arith
 found_length (x ∷ xs) (y ∷ ys) = omega (arith, found_length xs ys)
@@ -113,7 +112,7 @@ found_length (x ∷ xs) (y ∷ ys) = omega (arith, found_length xs ys)
 pub all_found : (machines : List BareMachine) (host : HostState) (k : ℕ) (left : List BareMachine) → drop k machines ≡ left → length left ≡ 0
     → take k (found_of machines host) ≡ found_of machines host
 all_found machines host k left is none =
-    let shown = shown_of (members_in host) in
+    let shown = outcomes_of (members_in host) in
     let count : length (drop k machines) ≡ 0 = ap (λ ms. length ms) is ∙ none in
     take_all k (found_of machines host)
     (omega (arith, found_length (map outcome_ahead machines) shown, length-map machines outcome_ahead, length-drop k machines, count))
@@ -129,9 +128,9 @@ all_said [] = refl
 all_said (g ∷ guests) = ap (λ rest. is_same g && rest) (all_said guests)
 
 pub found_so : (guests : List GuestAtStart) (machines : List BareMachine) (host : HostState) → map outcome_ahead machines ≡ map (outcome_by rule_a) guests
-    → shown_of (members_in host) ≡ map (outcome_by rule_k) guests → found_of machines host ≡ map is_same guests
+    → outcomes_of (members_in host) ≡ map (outcome_by rule_k) guests → found_of machines host ≡ map is_same guests
 found_so guests machines host bare shown =
-    ap (λ xs. same_each xs (shown_of (members_in host))) bare ∙ ap (λ ys. same_each (map (outcome_by rule_a) guests) ys) shown ∙ all_compared guests
+    ap (λ xs. same_each xs (outcomes_of (members_in host))) bare ∙ ap (λ ys. same_each (map (outcome_by rule_a) guests) ys) shown ∙ all_compared guests
 
 -- the status of what is shown
 status_so : (guests : List GuestAtStart) (all : Bool) (found : List Bool) → found ≡ map is_same guests → all ≡ list_all (λ (same : Bool). same) found

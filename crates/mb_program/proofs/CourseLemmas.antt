@@ -1,5 +1,5 @@
 -- A course goes on behind a file that was read, or ends at one.
-use Rattle.std.proofs.Common.{◌≡◌, ◌≤◌, inl, inr, length, refl, sym, subst, Option, Some, None, Result, Ok, Err}
+use Rattle.std.proofs.Common.{◌≡◌, ◌∙◌, ◌≤◌, inl, inr, length, refl, sym, subst, Option, Some, None, Result, Ok, Err}
 use Rattle.std.specs.Prelude.{IfSome, option_and_then, string_bytes}
 use Rattle.std.proofs.lemmas.Bool.{le-ltb, lt-ltb}
 use Rattle.mb_words.specs.Words.{Text}
@@ -125,3 +125,27 @@ pub unnamed_passes : {A X : Type 0} (held_in : Text → Result A FileWhy) (file 
 unnamed_passes held_in file otherwise view s x is same =
     subst (λ (f : Option Text). Passes (reads_if_named held_in f otherwise) view s s (Ok x)) (sym is)
     (refl, λ next a end here e. subst (λ v. CourseEnds (next v) a end) same e)
+
+-- two parts, one behind the other
+pub both : {A B X Y : Type 0} (first : (A → Course) → Course) (second : A → (B → Course) → Course) (seen : X → A) (view : Y → B)
+    (s t u : ShelfSeen) (x : X) (r : Result Y End) → Passes first seen s t (Ok x) → Passes (second (seen x)) view t u r
+    → Passes (λ next. first (λ held. second held next)) view s u r
+both first second seen view s t u x (Ok y) p q =
+    (q.0 ∙ p.0, λ next a end same e. p.1 (λ held. second held next) a end same (q.1 next a end (same ∙ sym p.0) e))
+both first second seen view s t u x (Err end) p q =
+    λ next a same same_after nothing. p.1 (λ held. second held next) a end same (q next a (same ∙ sym p.0) same_after nothing)
+
+-- of which the first is the cause of an end
+pub first_ends : {A B X Y : Type 0} (first : (A → Course) → Course) (second : A → (B → Course) → Course) (seen : X → A) (view : Y → B)
+    (s t : ShelfSeen) (end : End) → Passes first seen s t (Err end) → Passes (λ next. first (λ held. second held next)) view s t (Err end)
+first_ends first second seen view s t end p = λ next a same same_after nothing. p (λ held. second held next) a same same_after nothing
+
+-- a part, and what is made of it
+pub made_of : {A B X Y : Type 0} (part : (A → Course) → Course) (make : A → B) (seen : X → A) (view : Y → B) (s t : ShelfSeen) (x : X) (y : Y)
+    → view y ≡ make (seen x) → Passes part seen s t (Ok x) → Passes (λ next. part (λ held. next (make held))) view s t (Ok y)
+made_of part make seen view s t x y is p =
+    (p.0, λ next a end same e. p.1 (λ held. next (make held)) a end same (subst (λ made. CourseEnds (next made) a end) is e))
+
+-- nothing is read
+pub nothing_read : {A X : Type 0} (held : A) (seen : X → A) (s : ShelfSeen) (x : X) → seen x ≡ held → Passes (λ (next : A → Course). next held) seen s s (Ok x)
+nothing_read held seen s x is = (refl, λ next a end same e. subst (λ given. CourseEnds (next given) a end) is e)

@@ -1,44 +1,67 @@
 -- The files of guests, one after the other.
-use Rattle.std.proofs.Common.{◌≡◌, ◌∙◌, ◌<◌, ◌*◌, ℕ, suc, ◌+◌, ◌++◌, List, [], ◌∷◌, length, map, drop, get_or, refl, sym, ap, subst, arith, drop-cons, Ok, Err}
+use Rattle.std.proofs.Common.{◌≡◌, ◌∙◌, ◌<◌, ◌*◌, ℕ, suc, ◌+◌, ◌++◌, List, [], ◌∷◌, length, map, drop, get_or, refl, sym, ap, subst, arith, drop-cons, Option, Result, Ok, Err}
 use Rattle.std.proofs.lemmas.List.{drop-map}
 use Rattle.mb_script.specs.Plan.{Guest, Plan}
-use Rattle.mb_machine.specs.Machine.{Contents, Entries}
-use Rattle.mb_words.specs.Words.{Text, Run}
+use Rattle.mb_machine.specs.Machine.{Entries}
+use Rattle.mb_walk.specs.Memory.{Contents}
+use Rattle.mb_words.specs.Words.{Text, Run, RunDisk}
+use Rattle.vm_disk.specs.Disk.{DiskState}
 use Rattle.vm_guest.specs.Session.{GuestAtStart}
-use Rattle.mb_program.specs.Answers.{Course, image_in, script_in, session_in, guest_by, session_by, run_of_guest, reads_as, reads_if_named, reads_guest, reads_guests, reads_session}
+use Rattle.mb_program.specs.Answers.{Course, image_in, script_in, session_in, guest_by, session_by, run_of_guest, reads_as, reads_if_named, reads_disk, reads_guest, reads_guests, reads_session}
 use Rattle.mb_program.specs.Direct.{Ordered}
 use Rattle.mb_program.specs.Ends.{Around, ShelfSeen, CourseEnds}
 use Rattle.mb_program.specs.Reads.{Passes}
+use Rattle.mb_program.proofs.CourseLemmas.{both, first_ends, made_of}
 use Rattle.mb_program.specs.declared.end.End.{End}
 use Rattle.mb_program.specs.declared.end.End.TheVariants.{Memory}
 
 -- ---- one guest
 
-behind_image : Run → (GuestAtStart → Course) → Contents → Course
-behind_image run next image = reads_if_named script_in run.script [] (λ script. next (guest_by run image script))
+-- what comes behind its image, and behind its script
+abbrev behind_script : Run → Contents → Entries → (GuestAtStart → Course) → Course
+behind_script run image script next = reads_disk run.disk (λ disk. next (guest_by run image script disk))
 
-pub guest_read : {X Y : Type 0} (run : Run) (seen : X → Contents) (view : Y → Entries) (s t u : ShelfSeen) (x : X) (y : Y) (guest : GuestAtStart)
-    → guest ≡ guest_by run (seen x) (view y)
-    → Passes (reads_as (image_in (1024 * run.ram)) run.image) seen s t (Ok x) → Passes (reads_if_named script_in run.script []) view t u (Ok y)
-    → Passes (reads_guest run) (λ (g : GuestAtStart). g) s u (Ok guest)
-unfolding behind_image
-guest_read run seen view s t u x y guest is p q = (
-  q.0 ∙ p.0,
-  λ next a end same e. p.1 (behind_image run next) a end same (q.1 (λ script. next (guest_by run (seen x) script)) a end (same ∙ sym p.0)
-      (subst (λ (g : GuestAtStart). CourseEnds (next g) a end) is e)),
-)
+abbrev behind_image : Run → Contents → (GuestAtStart → Course) → Course
+behind_image run image next = reads_if_named script_in run.script [] (λ script. behind_script run image script next)
 
+-- its image is the cause of an end
+pub image_ends : {X Z : Type 0} (run : Run) (seen : X → Contents) (shown : Z → GuestAtStart) (s t : ShelfSeen) (end : End)
+    → Passes (reads_as (image_in (1024 * run.ram)) run.image) seen s t (Err end) → Passes (reads_guest run) shown s t (Err end)
+image_ends run seen shown s t end p = first_ends (reads_as (image_in (1024 * run.ram)) run.image) (behind_image run) seen shown s t end p
+
+-- its script is
 pub script_ends : {X Y Z : Type 0} (run : Run) (seen : X → Contents) (view : Y → Entries) (shown : Z → GuestAtStart) (s t u : ShelfSeen) (x : X) (end : End)
     → Passes (reads_as (image_in (1024 * run.ram)) run.image) seen s t (Ok x) → Passes (reads_if_named script_in run.script []) view t u (Err end)
     → Passes (reads_guest run) shown s u (Err end)
-unfolding behind_image
-script_ends run seen view shown s t u x end p q = λ next a same same_after nothing.
-    p.1 (behind_image run next) a end same (q (λ script. next (guest_by run (seen x) script)) a (same ∙ sym p.0) same_after nothing)
+script_ends run seen view shown s t u x end p q =
+    both (reads_as (image_in (1024 * run.ram)) run.image) (behind_image run) seen shown s t u x (Err end) p
+    (first_ends (reads_if_named script_in run.script []) (behind_script run (seen x)) view shown t u end q)
 
-pub image_ends : {X Z : Type 0} (run : Run) (seen : X → Contents) (shown : Z → GuestAtStart) (s t : ShelfSeen) (end : End)
-    → Passes (reads_as (image_in (1024 * run.ram)) run.image) seen s t (Err end) → Passes (reads_guest run) shown s t (Err end)
-unfolding behind_image
-image_ends run seen shown s t end p = λ next a same same_after nothing. p (behind_image run next) a same same_after nothing
+-- its contents are
+pub contents_end : {X Y Z V : Type 0} (run : Run) (seen : X → Contents) (view : Y → Entries) (held : V → Option DiskState) (shown : Z → GuestAtStart)
+    (s t u v : ShelfSeen) (x : X) (y : Y) (end : End)
+    → Passes (reads_as (image_in (1024 * run.ram)) run.image) seen s t (Ok x) → Passes (reads_if_named script_in run.script []) view t u (Ok y)
+    → Passes (reads_disk run.disk) held u v (Err end) → Passes (reads_guest run) shown s v (Err end)
+contents_end run seen view held shown s t u v x y end p q r =
+    both (reads_as (image_in (1024 * run.ram)) run.image) (behind_image run) seen shown s t v x (Err end) p
+    (both (reads_if_named script_in run.script []) (behind_script run (seen x)) view shown t u v y (Err end) q
+    (λ next. r (λ disk. next (guest_by run (seen x) (view y) disk))))
+
+-- the disk that is asked for
+pub disk_passes : {V : Type 0} (asked disk : Option RunDisk) (held : V → Option DiskState) (s t : ShelfSeen) (r : Result V End) → asked ≡ disk
+    → Passes (reads_disk disk) held s t r → Passes (reads_disk asked) held s t r
+disk_passes asked disk held s t r is p = subst (λ (d : Option RunDisk). Passes (reads_disk d) held s t r) (sym is) p
+
+-- all of them are read
+pub guest_read : {X Y V : Type 0} (run : Run) (seen : X → Contents) (view : Y → Entries) (held : V → Option DiskState)
+    (s t u v : ShelfSeen) (x : X) (y : Y) (disk : V) (guest : GuestAtStart) → guest ≡ guest_by run (seen x) (view y) (held disk)
+    → Passes (reads_as (image_in (1024 * run.ram)) run.image) seen s t (Ok x) → Passes (reads_if_named script_in run.script []) view t u (Ok y)
+    → Passes (reads_disk run.disk) held u v (Ok disk) → Passes (reads_guest run) (λ (g : GuestAtStart). g) s v (Ok guest)
+guest_read run seen view held s t u v x y disk guest is p q r =
+    let shown = λ (g : GuestAtStart). g in
+    both (reads_as (image_in (1024 * run.ram)) run.image) (behind_image run) seen shown s t v x (Ok guest) p
+    (both (reads_if_named script_in run.script []) (behind_script run (seen x)) view shown t u v y (Ok guest) q
+    (made_of (reads_disk run.disk) (guest_by run (seen x) (view y)) held shown u v disk guest is r))
 
 -- ---- guest by guest
 
@@ -113,30 +136,25 @@ next_ends shown f plans i plan run read end s t u within is same h p =
 
 -- ---- sessions
 
-behind_plan : (Ordered → Course) → Plan → Course
-behind_plan next plan = reads_guests plan.guests [] (λ guests. next (session_by plan guests))
+abbrev behind_plan : Plan → (Ordered → Course) → Course
+behind_plan plan next = reads_guests plan.guests [] (λ guests. next (session_by plan guests))
 
 pub session_read : {X Y Z : Type 0} (name : Text) (seen : X → Plan) (view : Y → List GuestAtStart) (shown : Z → Ordered)
     (s t u : ShelfSeen) (x : X) (y : Y) (session : Z)
     → shown session ≡ session_by (seen x) (view y)
     → Passes (reads_as session_in name) seen s t (Ok x) → Passes (reads_guests (seen x).guests []) view t u (Ok y)
     → Passes (reads_session name) shown s u (Ok session)
-unfolding behind_plan
-session_read name seen view shown s t u x y session is p q = (
-  q.0 ∙ p.0,
-  λ next a end same e. p.1 (behind_plan next) a end same (q.1 (λ guests. next (session_by (seen x) guests)) a end (same ∙ sym p.0)
-      (subst (λ (r : Ordered). CourseEnds (next r) a end) is e)),
-)
+session_read name seen view shown s t u x y session is p q =
+    both (reads_as session_in name) behind_plan seen shown s t u x (Ok session) p
+    (made_of (reads_guests (seen x).guests []) (session_by (seen x)) view shown t u y session is q)
 
 pub guests_end : {X Y Z : Type 0} (name : Text) (seen : X → Plan) (view : Y → List GuestAtStart) (shown : Z → Ordered)
     (s t u : ShelfSeen) (x : X) (end : End)
     → Passes (reads_as session_in name) seen s t (Ok x) → Passes (reads_guests (seen x).guests []) view t u (Err end)
     → Passes (reads_session name) shown s u (Err end)
-unfolding behind_plan
-guests_end name seen view shown s t u x end p q = λ next a same same_after nothing.
-    p.1 (behind_plan next) a end same (q (λ guests. next (session_by (seen x) guests)) a (same ∙ sym p.0) same_after nothing)
+guests_end name seen view shown s t u x end p q =
+    both (reads_as session_in name) behind_plan seen shown s t u x (Err end) p (λ next. q (λ guests. next (session_by (seen x) guests)))
 
 pub plan_ends : {X Z : Type 0} (name : Text) (seen : X → Plan) (shown : Z → Ordered) (s t : ShelfSeen) (end : End)
     → Passes (reads_as session_in name) seen s t (Err end) → Passes (reads_session name) shown s t (Err end)
-unfolding behind_plan
-plan_ends name seen shown s t end p = λ next a same same_after nothing. p (behind_plan next) a same same_after nothing
+plan_ends name seen shown s t end p = first_ends (reads_as session_in name) behind_plan seen shown s t end p

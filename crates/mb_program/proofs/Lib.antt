@@ -5,6 +5,7 @@ pub mod CourseLemmas
 pub mod GuestLemmas
 pub mod SessionLemmas
 pub mod TextLemmas
+pub mod OutcomeLemmas
 pub mod ShowLemmas
 pub mod RunLemmas
 pub mod CompareLemmas

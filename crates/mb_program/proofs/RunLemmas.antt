@@ -1,10 +1,10 @@
--- The guests of a session after their rounds show the outcomes of their own runs.
+-- The guests of a session after their rounds have the outcomes of their own runs.
 use Rattle.std.proofs.Common.{◌≡◌, ◌∙◌, ◌<◌, ℕ, ◌+◌, inl, inr, List, [], ◌∷◌, ◌++◌, map, refl, sym, ap, subst, arith, Result, Ok, Err, sum_by}
 use Rattle.std.specs.Prelude.{◌-◌}
 use Rattle.std.proofs.lemmas.List.Sums.{sum_by-cons}
 use Rattle.std.proofs.lemmas.Bool.Decides.{leb_tells}
 use Rattle.mb_model.specs.Keeping.{rule_k}
-use Rattle.mb_machine.specs.Machine.{reset_with, run_of, seen_machine, start}
+use Rattle.mb_machine.specs.Machine.{outcome_of, reset_with, run_of, start}
 use Rattle.vm_meaning.specs.Marks.{trail}
 use Rattle.vm_meaning.specs.Native.{NativeState}
 use Rattle.vm_machine.specs.Rounds.{Member, left}
@@ -18,7 +18,7 @@ use Rattle.mb_script.specs.declared.turn.Turn.{Turn}
 use Rattle.vm_slices.specs.declared.open_fault.OpenFault.{OpenFault}
 use Rattle.vm_slices.specs.declared.open_fault.OpenFault.TheVariants as open_fault
 use Rattle.mb_program.specs.Runs.{Runs}
-use Rattle.vm_slices.specs.Members.{after_rounds, machine_at_end, machines_of, member_at_start, shown_of, tallies_of, tally_at_end}
+use Rattle.vm_slices.specs.Members.{after_rounds, machine_at_end, machines_of, member_at_start, outcomes_of, tallies_of, tally_at_end}
 use Rattle.mb_program.specs.Answers.{outcome_by}
 use Rattle.mb_program.specs.Direct.{CarriedOut, Ordered, hosted_by, tallies_by, tally_by}
 use Rattle.vm_slices.specs.Orders.{after_order}
@@ -30,28 +30,29 @@ all_left g =
     let none : g.steps - 0 ≡ g.steps = omega arith in
     none
 
-ended_so : (g : GuestAtStart) → seen_machine (machine_at_end (member_at_start g)) ≡ outcome_by rule_k g
-ended_so g = ap (λ n. seen_machine (run_of rule_k g.script n (start rule_k g.image g.ram))) (all_left g)
+ended_so : (g : GuestAtStart) → outcome_of (machine_at_end (member_at_start g)) ≡ outcome_by rule_k g
+ended_so g = ap (λ n. outcome_of (run_of rule_k g.script n (start rule_k g.opening g.ram))) (all_left g)
 
-all_ended : (guests : List GuestAtStart) → map seen_machine (map machine_at_end (map member_at_start guests)) ≡ map (outcome_by rule_k) guests
+all_ended : (guests : List GuestAtStart) → map outcome_of (map machine_at_end (map member_at_start guests)) ≡ map (outcome_by rule_k) guests
 all_ended [] = refl
 all_ended (g ∷ guests) =
-    ap (λ s. s ∷ map seen_machine (map machine_at_end (map member_at_start guests))) (ended_so g) ∙ ap (λ ss. outcome_by rule_k g ∷ ss) (all_ended guests)
+    ap (λ s. s ∷ map outcome_of (map machine_at_end (map member_at_start guests))) (ended_so g) ∙ ap (λ ss. outcome_by rule_k g ∷ ss) (all_ended guests)
 
-shown_machines : (members : List Member) → shown_of members ≡ map seen_machine (machines_of members)
-shown_machines [] = refl
-shown_machines (m ∷ members) = ap (λ ss. seen_machine m.guest.machine ∷ ss) (shown_machines members)
+outcomes_machines : (members : List Member) → outcomes_of members ≡ map outcome_of (machines_of members)
+outcomes_machines [] = refl
+outcomes_machines (m ∷ members) = ap (λ ss. outcome_of m.guest.machine ∷ ss) (outcomes_machines members)
 
 -- after the rounds that are promised of a host
-pub shown_so : (guests : List GuestAtStart) (before after : List Member) → before ≡ map member_at_start guests → machines_of after ≡ map machine_at_end before
-    → shown_of after ≡ map (outcome_by rule_k) guests
-shown_so guests before after begun ended =
-    shown_machines after ∙ ap (λ ms. map seen_machine ms) (ended ∙ ap (λ ms. map machine_at_end ms) begun) ∙ all_ended guests
+pub outcomes_so : (guests : List GuestAtStart) (before after : List Member) → before ≡ map member_at_start guests
+    → machines_of after ≡ map machine_at_end before
+    → outcomes_of after ≡ map (outcome_by rule_k) guests
+outcomes_so guests before after begun ended =
+    outcomes_machines after ∙ ap (λ ms. map outcome_of ms) (ended ∙ ap (λ ms. map machine_at_end ms) begun) ∙ all_ended guests
 
 -- ---- what is counted
 
 tally_so : (g : GuestAtStart) → tally_at_end (member_at_start g) ≡ tally_by g
-tally_so g = ap (λ n. (turn_of g.script n (prepared g.image g.ram)).tally) (all_left g)
+tally_so g = ap (λ n. (turn_of g.script n (prepared g.opening g.ram)).tally) (all_left g)
 
 all_tallied : (guests : List GuestAtStart) → map tally_at_end (map member_at_start guests) ≡ tallies_by guests
 all_tallied [] = refl

@@ -1,20 +1,23 @@
 -- What is promised of a session follows from the answer at the end of its course.
 use Rattle.std.proofs.Common.{◌≡◌, ◌∙◌, ◌⊎◌, ℕ, ◌*◌, ◌++◌, List, [], ◌∷◌, inl, inr, length, refl, sym, ap, subst, append_assoc, Bool, true, false, Option, Some, None, Result, cond}
 use Rattle.std.specs.List.{list_all}
+use Rattle.std.specs.Prelude.{option_map}
 use Rattle.std.proofs.lemmas.Bool.{le-ltb}
 use Rattle.std.proofs.lemmas.List.{append-nil}
+use Rattle.mb_script.specs.Plan as plan
 use Rattle.mb_script.specs.Plan.{Guest}
 use Rattle.mb_script.specs.declared.turn.Turn.{Turn}
-use Rattle.mb_machine.specs.Machine.{Entries}
+use Rattle.vm_disk.specs.Disk.{DiskState, opened}
+use Rattle.vm_disk.specs.declared.disk.TheConstants.{BLOCK_BYTES}
 use Rattle.mb_gen.specs.Sessions.{generated}
 use Rattle.mb_words.specs.Words.{Text, Workload, Asked, hosting, comparison, generation}
 use Rattle.vm_guest.specs.Session.{GuestAtStart, SessionAtStart}
 use Rattle.vm_slices.specs.Fit.{Fits, need_of}
 use Rattle.mb_program.specs.declared.files.TheConstants.{MOST_BYTES}
-use Rattle.mb_program.specs.Answers.{Answer, shows, Shown, Told, Course, ends, answer_at, course_of, reads_as, reads_if_named, reads_guest, reads_guests, reads_session, guest_by, run_of_guest, session_by, script_in, image_in, session_in, if_it_fits, host_answer, host_shown, compare_answer, compare_shown, is_same, gen_shown}
+use Rattle.mb_program.specs.Answers.{Answer, shows, Shown, Told, Course, ends, answer_at, course_of, reads_as, reads_if_named, reads_disk, reads_guest, reads_guests, reads_session, guest_by, run_of_disk, run_of_guest, session_by, script_in, image_in, session_in, if_it_fits, host_answer, host_shown, compare_answer, compare_shown, is_same, gen_shown}
 use Rattle.mb_program.specs.Direct.{Ordered}
 use Rattle.mb_program.specs.Ends.{Around, FailsNowhere, IsSaid, IsShown, Said}
-use Rattle.mb_program.specs.Sessions.{Tells, TellsScript, TellsGuest, TellsGuests, TellsSession, IsHosted, IsCompared, IsGenerated}
+use Rattle.mb_program.specs.Sessions.{Tells, TellsIfNamed, TellsDisk, TellsGuest, TellsGuests, TellsSession, IsHosted, IsCompared, IsGenerated}
 use Rattle.mb_program.specs.Causes.{AsksFor, IsComplete, LeadsTo, SaysShown}
 use Rattle.mb_program.specs.declared.end.FileWhy.{FileWhy}
 
@@ -24,23 +27,34 @@ at_file : {A : Type 0} (told : Told) (held_in : Text → Result A FileWhy) (file
     → answer_at told (reads_as held_in file next) ≡ answer_at told (next held)
 at_file told held_in file held next t = rw (t.is_told, le-ltb MOST_BYTES (length t.bytes) t.short, t.holds) refl
 
-at_script : (told : Told) (file : Option Text) (script : Entries) (next : Entries → Course) → TellsScript told file script
-    → answer_at told (reads_if_named script_in file [] next) ≡ answer_at told (next script)
-at_script told None script next none = ap (λ (s : Entries). answer_at told (next s)) (sym none)
-at_script told (Some file) script next t = at_file told script_in file script next t
+at_named : {A : Type 0} (told : Told) (held_in : Text → Result A FileWhy) (file : Option Text) (otherwise held : A) (next : A → Course)
+    → TellsIfNamed told held_in file otherwise held → answer_at told (reads_if_named held_in file otherwise next) ≡ answer_at told (next held)
+at_named told held_in None otherwise held next none = ap (λ x. answer_at told (next x)) (sym none)
+at_named told held_in (Some file) otherwise held next t = at_file told held_in file held next t
 
-begun_so : (told : Told) (guest : Guest) (start : GuestAtStart) → TellsGuest told guest start → guest_by (run_of_guest guest) start.image start.script ≡ start
+at_disk : (told : Told) (asked : Option plan.Disk) (disk : Option DiskState) (next : Option DiskState → Course) → TellsDisk told asked disk
+    → answer_at told (reads_disk (option_map run_of_disk asked) next) ≡ answer_at told (next disk)
+at_disk told None disk next none = ap (λ d. answer_at told (next d)) (sym none)
+at_disk told (Some asked) disk next t =
+    at_named told (image_in (BLOCK_BYTES * asked.blocks)) asked.contents [] t.contents (λ contents. next (Some (opened asked.blocks contents))) t.tells
+    ∙ ap (λ d. answer_at told (next d)) (sym t.opens)
+
+begun_so : (told : Told) (guest : Guest) (start : GuestAtStart) → TellsGuest told guest start
+    → guest_by (run_of_guest guest) start.opening.image start.script start.opening.disk ≡ start
 begun_so told guest start t =
-    let x : GuestAtStart = record { image = start.image; script = start.script; ram = 1024 * guest.ram; steps = guest.steps } in
-    let y : GuestAtStart = record { image = start.image; script = start.script; ram = start.ram; steps = start.steps } in
+    let x : GuestAtStart = record { opening = start.opening; script = start.script; ram = 1024 * guest.ram; steps = guest.steps } in
+    let y : GuestAtStart = record { opening = start.opening; script = start.script; ram = start.ram; steps = start.steps } in
     let e : x ≡ y = cc (t.ram, t.steps) in e
 
 at_guest : (told : Told) (guest : Guest) (start : GuestAtStart) (next : GuestAtStart → Course) → TellsGuest told guest start
     → answer_at told (reads_guest (run_of_guest guest) next) ≡ answer_at told (next start)
 at_guest told guest start next t =
-    at_file told (image_in (1024 * guest.ram)) guest.image start.image
-    (λ image. reads_if_named script_in guest.script [] (λ script. next (guest_by (run_of_guest guest) image script))) t.image
-    ∙ at_script told guest.script start.script (λ script. next (guest_by (run_of_guest guest) start.image script)) t.script
+    let run = run_of_guest guest in
+    let image = start.opening.image in
+    at_file told (image_in (1024 * guest.ram)) guest.image image
+    (λ i. reads_if_named script_in guest.script [] (λ script. reads_disk run.disk (λ disk. next (guest_by run i script disk)))) t.image
+    ∙ at_named told script_in guest.script [] start.script (λ script. reads_disk run.disk (λ disk. next (guest_by run image script disk))) t.script
+    ∙ at_disk told guest.disk start.opening.disk (λ disk. next (guest_by run image start.script disk)) t.disk
     ∙ ap (λ (g : GuestAtStart). answer_at told (next g)) (begun_so told guest start t)
 
 at_guests : (told : Told) (guests : List Guest) (starts so_far : List GuestAtStart) (next : List GuestAtStart → Course) → TellsGuests told guests starts

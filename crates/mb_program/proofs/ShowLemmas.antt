@@ -2,18 +2,17 @@
 use Rattle.std.proofs.Common.{◌≡◌, List, map, refl, sym, ap, subst, Ok, Err}
 use Rattle.std.proofs.lemmas.Bool.{lt-ltb}
 use Rattle.mb_outside.specs.Prints.{Printed}
-use Rattle.mb_report.specs.Text.{outcome_text}
 use Rattle.mb_model.specs.Keeping.{rule_k}
-use Rattle.mb_model.specs.Seen.{Seen}
+use Rattle.mb_machine.specs.Machine.{Outcome}
 use Rattle.vm_meaning.specs.Native.{NativeState}
 use Rattle.vm_machine.specs.Turns.{Tally}
 use Rattle.vm_guest.specs.Session.{SessionAtStart}
 use Rattle.vm_slices.specs.Fit.{Fits, need_of}
-use Rattle.vm_slices.specs.Members.{shown_of, tallies_of}
+use Rattle.vm_slices.specs.Members.{outcomes_of, tallies_of}
 use Rattle.vm_slices.specs.Places.{HostState, members_in}
 use Rattle.vm_slices.specs.declared.open_fault.OpenFault.{OpenFault}
 use Rattle.vm_slices.specs.declared.open_fault.OpenFault.TheVariants as open_fault
-use Rattle.mb_program.specs.Answers.{Answer, shows, Shown, host_answer, host_shown, if_it_fits, outcome_by, texts_from}
+use Rattle.mb_program.specs.Answers.{Answer, shows, Shown, host_answer, host_shown, if_it_fits, machine_text, outcome_by, texts_from}
 use Rattle.mb_program.specs.Direct.{Ordered, counts_line, tallies_by}
 use Rattle.mb_program.specs.Ends.{SinkSeen, GivesAnswer}
 use Rattle.mb_program.specs.Lines.{counts_lines}
@@ -34,11 +33,11 @@ lines_so s host tallied = ap (λ (tallies : List Tally). texts_from counts_line 
 
 pub hosted_done : (s : Ordered) (host : HostState) (out out_after : SinkSeen) (native native_after : NativeState) → Runs s.session (Ok host)
     → IsCarriedOut s native native_after (Ok host)
-    → Printed out.taken out_after.taken out.faults out_after.faults (texts_from outcome_text 1 (shown_of (members_in host)))
+    → Printed out.taken out_after.taken out.faults out_after.faults (texts_from machine_text 1 (outcomes_of (members_in host)))
     → GivesAnswer (host_answer s) out out_after native native_after (Hosted host)
 hosted_done s host out out_after native native_after runs counted printed =
-    let all : Printed out.taken out_after.taken out.faults out_after.faults (texts_from outcome_text 1 (map (outcome_by rule_k) s.session.guests)) =
-    subst (λ (seen : List Seen). Printed out.taken out_after.taken out.faults out_after.faults (texts_from outcome_text 1 seen)) runs.1 printed in
+    let all : Printed out.taken out_after.taken out.faults out_after.faults (texts_from machine_text 1 (map (outcome_by rule_k) s.session.guests)) =
+    subst (λ (outcomes : List Outcome). Printed out.taken out_after.taken out.faults out_after.faults (texts_from machine_text 1 outcomes)) runs.1 printed in
     fitting s.session (host_shown s) out out_after native native_after (Hosted host) runs.0
     (λ shelf shelf_after stayed. (stayed, printed.same, (all, refl, counted), (lines_so s host runs.2, lines_so s host runs.2)))
 

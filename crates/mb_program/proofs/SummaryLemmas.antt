@@ -10,7 +10,7 @@ use Rattle.vm_guest.specs.Session.{SessionAtStart}
 use Rattle.vm_slices.specs.Fit.{need_of}
 use Rattle.vm_slices.specs.declared.open_fault.OpenFault.{OpenFault}
 use Rattle.vm_slices.specs.declared.open_fault.OpenFault.TheVariants as open_fault
-use Rattle.mb_program.specs.Answers.{gen_answer, outcome_by, summary_text}
+use Rattle.mb_program.specs.Answers.{gen_answer, seen_by, summary_text}
 use Rattle.mb_program.specs.Direct.{CarriedOut, unordered}
 use Rattle.mb_program.specs.Ends.{SinkSeen, GivesAnswer}
 use Rattle.mb_program.specs.Runs.{Runs, unopened}
@@ -18,8 +18,8 @@ use Rattle.mb_program.specs.declared.end.End.TheVariants.{Done, Output}
 
 -- the guests of the session are those that the definition gives
 made_so : (workload : Workload) (s : SessionAtStart) (shown : List Seen) → s ≡ generated workload.seed workload.guests
-    → shown ≡ map (outcome_by rule_k) s.guests → shown ≡ map (outcome_by rule_k) (generated workload.seed workload.guests).guests
-made_so workload s shown is same = same ∙ ap (λ (r : SessionAtStart). map (outcome_by rule_k) r.guests) is
+    → shown ≡ map (seen_by rule_k) s.guests → shown ≡ map (seen_by rule_k) (generated workload.seed workload.guests).guests
+made_so workload s shown is same = same ∙ ap (λ (r : SessionAtStart). map (seen_by rule_k) r.guests) is
 
 -- and what is counted of them is what it gives
 counted_so : (workload : Workload) (s : SessionAtStart) (native native_after : NativeState) → s ≡ generated workload.seed workload.guests
@@ -27,23 +27,23 @@ counted_so : (workload : Workload) (s : SessionAtStart) (native native_after : N
 counted_so workload s native native_after is counted = subst (λ (r : SessionAtStart). CarriedOut (unordered r) native native_after) is counted
 
 pub summary_done : (workload : Workload) (s : SessionAtStart) (shown : List Seen) (out out_after : SinkSeen) (native native_after : NativeState)
-    → s ≡ generated workload.seed workload.guests → shown ≡ map (outcome_by rule_k) s.guests → CarriedOut (unordered s) native native_after
+    → s ≡ generated workload.seed workload.guests → shown ≡ map (seen_by rule_k) s.guests → CarriedOut (unordered s) native native_after
     → Printed out.taken out_after.taken out.faults out_after.faults (summary_text shown)
     → GivesAnswer (gen_answer workload) out out_after native native_after Done
 summary_done workload s shown out out_after native native_after is same counted printed =
     let all : Printed out.taken out_after.taken out.faults out_after.faults
-    (summary_text (map (outcome_by rule_k) (generated workload.seed workload.guests).guests)) =
+    (summary_text (map (seen_by rule_k) (generated workload.seed workload.guests).guests)) =
     subst (λ (seen : List Seen). Printed out.taken out_after.taken out.faults out_after.faults (summary_text seen))
     (made_so workload s shown is same) printed in
     λ shelf shelf_after stayed. (stayed, printed.same, (all, refl, counted_so workload s native native_after is counted), (refl, refl))
 
 pub summary_cut : (workload : Workload) (s : SessionAtStart) (shown : List Seen) (out out_after : SinkSeen) (native native_after : NativeState)
-    → s ≡ generated workload.seed workload.guests → shown ≡ map (outcome_by rule_k) s.guests → CarriedOut (unordered s) native native_after
+    → s ≡ generated workload.seed workload.guests → shown ≡ map (seen_by rule_k) s.guests → CarriedOut (unordered s) native native_after
     → PrintedPart out.taken out_after.taken out.faults out_after.faults (summary_text shown)
     → GivesAnswer (gen_answer workload) out out_after native native_after Output
 summary_cut workload s shown out out_after native native_after is same counted printed =
     let part : PrintedPart out.taken out_after.taken out.faults out_after.faults
-    (summary_text (map (outcome_by rule_k) (generated workload.seed workload.guests).guests)) =
+    (summary_text (map (seen_by rule_k) (generated workload.seed workload.guests).guests)) =
     subst (λ (seen : List Seen). PrintedPart out.taken out_after.taken out.faults out_after.faults (summary_text seen))
     (made_so workload s shown is same) printed in
     λ shelf shelf_after stayed. (stayed, printed.rose, (part, counted_so workload s native native_after is counted))

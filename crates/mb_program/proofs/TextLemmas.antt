@@ -1,11 +1,17 @@
 -- Texts for each of a list, one after the other.
-use Rattle.std.proofs.Common.{◌≡◌, ◌∙◌, ℕ, zero, suc, ◌+◌, ◌-◌, ◌++◌, List, [], ◌∷◌, length, take, drop, sym, ap, append_assoc, arith, Option, Some}
+use Rattle.std.proofs.Common.{◌≡◌, ◌∙◌, ℕ, zero, suc, ◌+◌, ◌-◌, ◌++◌, List, [], ◌∷◌, length, take, drop, sym, ap, append_assoc, arith, Option, Some, Result, Ok, Err}
 use Rattle.std.specs.Prelude.{slice_get}
 use Rattle.std.proofs.lemmas.List.{append-nil, take-append-drop}
-use Rattle.mb_outside.specs.Prints.{Printed, PrintedPart}
+use Rattle.mb_outside.specs.Prints.{Printed, PrintedPart, Prints}
 use Rattle.mb_outside.proofs.PrintLemmas.{part_more, part_then, printed_then}
 use Rattle.mb_words.specs.Words.{Text}
 use Rattle.mb_program.specs.Answers.{texts_from}
+
+-- a text behind one that was printed
+pub printed_before : {E T : Type 0} (r : Result T E) (a b c : Option Text) (s t u : ℕ) (x y : Text) → Printed a b s t x → Prints b c t u y r
+    → Prints a c s u (x ++ y) r
+printed_before (Ok done) a b c s t u x y p q = printed_then p q
+printed_before (Err e) a b c s t u x y p q = part_then p q
 
 -- the text of one more
 one_more : {A : Type 0} (f : ℕ → A → Text) (i k : ℕ) (xs : List A) (x : A) → slice_get xs k ≡ Some x

@@ -6,7 +6,6 @@ use Rattle.std.proofs.lemmas.Bool.{true≢false}
 use Rattle.std.proofs.lemmas.List.Sums.{list_all-from_AllPass}
 use Rattle.mb_outside.specs.Sink.{Grows}
 use Rattle.mb_model.specs.Keeping.{rule_a, rule_k}
-use Rattle.mb_report.proofs.SameLemmas.{seen_decides}
 use Rattle.mb_words.specs.Words.{Text, Asked, comparison}
 use Rattle.vm_tidy.proofs.TidyRuns.{rules-show_the_same}
 use Rattle.vm_guest.specs.Session.{GuestAtStart}
@@ -16,6 +15,7 @@ use Rattle.mb_program.specs.Lines.{status_of}
 use Rattle.mb_program.specs.Sessions.{IsCompared}
 use Rattle.mb_program.specs.Tidy.{IsTidyGuest, IsTidyTold, TidyAreToldSame, lines_from}
 use Rattle.mb_program.specs.declared.end.End.{End}
+use Rattle.mb_program.proofs.OutcomeLemmas.{outcome_decides}
 use Rattle.mb_program.proofs.EndLemmas.{differing_shown, done_shown}
 use Rattle.mb_program.proofs.SessionLemmas.{asked_so, compare_known, some_differ}
 
@@ -24,8 +24,8 @@ use Rattle.mb_program.proofs.SessionLemmas.{asked_so, compare_known, some_differ
 -- a tidy guest shows the same on the board and under the monitor
 tidy_is_same : (guest : GuestAtStart) → IsTidyGuest guest → is_same guest ≡ true
 tidy_is_same guest tidy =
-    (seen_decides (outcome_by rule_a guest) (outcome_by rule_k guest)).1
-    (rules-show_the_same rule_a rule_k guest.image guest.script guest.ram guest.steps tidy)
+    (outcome_decides (outcome_by rule_a guest) (outcome_by rule_k guest)).1
+    (rules-show_the_same rule_a rule_k guest.opening guest.script guest.ram guest.steps tidy)
 
 tidy_are_same : (guests : List GuestAtStart) → All IsTidyGuest guests → list_all is_same guests ≡ true
 tidy_are_same guests tidy =

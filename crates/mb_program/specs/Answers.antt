@@ -1,6 +1,7 @@
 -- What a command comes to, by the bytes that its files have.
-use Rattle.std.specs.Prelude.{◌≡◌, ◌⊎◌, ℕ, ◌+◌, ◌*◌, ◌≤◌, nat_lt, Bool, List, [], ◌∷◌, ◌++◌, length, map, if◌then◌else◌}
-use Rattle.std.specs.Prelude.{Option, Some, None, IfSome, option_and_then, Result, Ok, Err, codes, decimal, slice_index}
+use Rattle.std.specs.Prelude.{◌≡◌, ◌⊎◌, ℕ, ◌+◌, ◌*◌, ◌≤◌, nat_lt, Bool, true, false, ◌&&◌, if◌then◌else◌}
+use Rattle.std.specs.Prelude.{List, [], ◌∷◌, ◌++◌, length, map, codes, decimal, slice_index}
+use Rattle.std.specs.Prelude.{Option, Some, None, IfSome, option_and_then, option_map, Result, Ok, Err}
 use Rattle.std.specs.List.{list_all}
 use Rattle.std.specs.Result.{result_map_both}
 use Rattle.mb_srec.specs.Records.{records_of}
@@ -8,13 +9,19 @@ use Rattle.mb_srec.specs.Written.{text_of}
 use Rattle.mb_srec.specs.Faults as image_fault
 use Rattle.mb_script.specs.Scripts.{script_of}
 use Rattle.mb_script.specs.Sessions.{session_of}
+use Rattle.mb_script.specs.Plan as plan
 use Rattle.mb_script.specs.Plan.{Guest, Plan}
 use Rattle.mb_script.specs.Faults as line_fault
 use Rattle.mb_asm.specs.Texts as source_fault
 use Rattle.mb_asm.specs.Texts.{assembled}
 use Rattle.mb_model.specs.Keeping.{Rule, rule_a, rule_k}
 use Rattle.mb_model.specs.Seen.{Seen}
-use Rattle.mb_machine.specs.Machine.{Contents, Entries, start, run_of, seen_machine}
+use Rattle.vm_disk.specs.Disk.{DiskState, opened}
+use Rattle.vm_disk.specs.Text.{disk_text}
+use Rattle.vm_disk.specs.Same.{same_disk}
+use Rattle.vm_disk.specs.declared.disk.TheConstants.{BLOCK_BYTES}
+use Rattle.mb_machine.specs.Machine.{Entries, Opening, Outcome, diskless, outcome_of, start, run_of}
+use Rattle.mb_walk.specs.Memory.{Contents}
 use Rattle.mb_report.specs.Digits.{hex8}
 use Rattle.mb_report.specs.Text.{outcome_text, state_word}
 use Rattle.mb_report.specs.Same.{same_seen}
@@ -22,7 +29,7 @@ use Rattle.mb_listing.specs.Listing.{listing}
 use Rattle.vm_guest.specs.Session.{GuestAtStart, SessionAtStart}
 use Rattle.vm_slices.specs.Fit.{need_of}
 use Rattle.mb_gen.specs.Sessions.{generated}
-use Rattle.mb_words.specs.Words.{Text, Run, Excerpt, Workload}
+use Rattle.mb_words.specs.Words.{Text, Run, RunDisk, Excerpt, Workload}
 use Rattle.mb_words.specs.Words.{Asked, bare, assembly, disassembly, hosting, comparison, generation}
 use Rattle.mb_program.specs.Direct.{Ordered, counts_line, tallies_by, unordered}
 use Rattle.mb_program.specs.declared.end.FileWhy.{FileWhy}
@@ -105,7 +112,7 @@ line_why fault = Line fault.number (Words fault.why)
 abbrev pub source_why : source_fault.Fault → FileWhy
 source_why fault = Line fault.number (Source fault.kind)
 
--- the image that bytes are, for so many bytes of RAM, or why they are refused
+-- the image that bytes are, for so many bytes of RAM or of a disk, or why they are refused
 abbrev pub image_in : (size : ℕ) → Text → Result Contents FileWhy
 image_in size bytes = result_map_both (λ image. image) image_why (records_of bytes size)
 
@@ -137,25 +144,63 @@ reads_if_named held_in (Some file) otherwise next = reads_as held_in file next
 
 -- ---- machines
 
--- what a machine shows, by a rule of keeping, after its steps, or fewer where it halts or is switched off
-abbrev pub outcome_by : Rule → GuestAtStart → Seen
-outcome_by rule guest = seen_machine (run_of rule guest.script guest.steps (start rule guest.image guest.ram))
+-- what a machine shows with its disk, by a rule of keeping, after its steps, or fewer where it halts or is switched off
+abbrev pub outcome_by : Rule → GuestAtStart → Outcome
+outcome_by rule guest = outcome_of (run_of rule guest.script guest.steps (start rule guest.opening guest.ram))
 
-abbrev pub guest_by : Run → Contents → Entries → GuestAtStart
-guest_by run image script = record { image = image; script = script; ram = 1024 * run.ram; steps = run.steps }
+-- and without its disk
+abbrev pub seen_by : Rule → GuestAtStart → Seen
+seen_by rule guest = (outcome_by rule guest).seen
 
--- A machine's image and then its script, where it has one, are read, and the course goes on by the machine.
+-- the text of a disk, where one is attached
+abbrev pub text_of_disk : ℕ → Option DiskState → Text
+text_of_disk i None = []
+text_of_disk i (Some disk) = disk_text i disk
+
+-- the text of an outcome: that of the machine, and then its disk's
+abbrev pub machine_text : ℕ → Outcome → Text
+machine_text i outcome = outcome_text i outcome.seen ++ text_of_disk i outcome.disk
+
+-- whether neither disk is attached, or both are and are the same
+abbrev pub same_disks : Option DiskState → Option DiskState → Bool
+same_disks None None = true
+same_disks (Some a) (Some b) = same_disk a b
+same_disks _ _ = false
+
+-- whether two outcomes are the same in all
+abbrev pub same_outcome : Outcome → Outcome → Bool
+same_outcome a b = same_seen a.seen b.seen && same_disks a.disk b.disk
+
+abbrev pub guest_by : Run → Contents → Entries → Option DiskState → GuestAtStart
+guest_by run image script disk = record {
+  opening = record { image = image; disk = disk };
+  script = script;
+  ram = 1024 * run.ram;
+  steps = run.steps;
+}
+
+-- The contents of a disk, where they are named, are read as an image with addresses on the disk, and the course goes on
+-- by the disk.
+abbrev pub reads_disk : Option RunDisk → (Option DiskState → Course) → Course
+reads_disk None next = next None
+reads_disk (Some disk) next =
+    reads_if_named (image_in (BLOCK_BYTES * disk.blocks)) disk.contents [] (λ contents.
+    next (Some (opened disk.blocks contents)))
+
+-- A machine's image, then its script, where one is named, and then its disk's contents, where they are, are read, and
+-- the course goes on by the machine.
 abbrev pub reads_guest : Run → (GuestAtStart → Course) → Course
 reads_guest run next =
     reads_as (image_in (1024 * run.ram)) run.image (λ image.
     reads_if_named script_in run.script [] (λ script.
-    next (guest_by run image script)))
+    reads_disk run.disk (λ disk.
+    next (guest_by run image script disk))))
 
 -- ---- bare
 
--- its outcome on the board, as guest 1
+-- its outcome on the board, with its disk, as guest 1
 abbrev pub bare_answer : GuestAtStart → Answer
-bare_answer guest = shows (plain (outcome_text 1 (outcome_by rule_a guest)))
+bare_answer guest = shows (plain (machine_text 1 (outcome_by rule_a guest)))
 
 abbrev pub bare_course : Run → Course
 bare_course run = reads_guest run (λ guest. ends (bare_answer guest))
@@ -173,7 +218,7 @@ asm_course name = reads_as source_in name (λ image. ends (asm_answer image))
 
 -- RAM of so many bytes as an image leaves it, before any step
 abbrev pub opening_ram : Contents → (size : ℕ) → List ℕ
-opening_ram image size = (start rule_a image size).world.ram
+opening_ram image size = (start rule_a (diskless image) size).world.ram
 
 -- its lines from the address on
 abbrev pub dis_answer : Excerpt → Contents → Answer
@@ -186,9 +231,17 @@ dis_course excerpt =
 -- ---- the guests of a session
 
 -- a guest as a run of a machine
+abbrev pub run_of_disk : plan.Disk → RunDisk
+run_of_disk disk = record { blocks = disk.blocks; contents = disk.contents }
+
 abbrev pub run_of_guest : Guest → Run
-run_of_guest guest =
-    record { image = guest.image; ram = guest.ram; steps = guest.steps; script = guest.script }
+run_of_guest guest = record {
+  image = guest.image;
+  ram = guest.ram;
+  steps = guest.steps;
+  script = guest.script;
+  disk = option_map run_of_disk guest.disk;
+}
 
 -- The files of each guest are read, guest by guest, and the course goes on by all of them, behind those so far.
 abbrev pub reads_guests : List Guest → List GuestAtStart → (List GuestAtStart → Course) → Course
@@ -219,11 +272,11 @@ texts_from text i (x ∷ xs) = text i x ++ texts_from text (i + 1) xs
 
 -- ---- host
 
--- The outcomes of all guests under the monitor, in their order. On diag a line for each says how many steps of each
--- class it took, and the board carries out the retired ones.
+-- The outcomes of all guests under the monitor, in their order, each with its disk. On diag a line for each says how
+-- many steps of each class it took, and the board carries out the retired ones.
 abbrev pub host_shown : Ordered → Shown
 host_shown s = record {
-  text = texts_from outcome_text 1 (map (outcome_by rule_k) s.session.guests);
+  text = texts_from machine_text 1 (map (outcome_by rule_k) s.session.guests);
   lines = texts_from counts_line 1 (tallies_by s.session.guests);
   status = 0;
   hosted = Some s;
@@ -239,7 +292,7 @@ host_course name = reads_session name (λ s. ends (host_answer s))
 
 -- whether a guest shows the same on the board and under the monitor
 abbrev pub is_same : GuestAtStart → Bool
-is_same guest = same_seen (outcome_by rule_a guest) (outcome_by rule_k guest)
+is_same guest = same_outcome (outcome_by rule_a guest) (outcome_by rule_k guest)
 
 abbrev pub compared_text : ℕ → Bool → Text
 compared_text i same = codes "guest " ++ decimal i ++ (if same then codes " same\n" else codes " differs\n")
@@ -277,7 +330,7 @@ summary_text shown = texts_from summary_line 1 shown ++ codes "end\n"
 -- What all guests of a session show under the monitor, in short.
 abbrev pub gen_shown : SessionAtStart → Shown
 gen_shown s = record {
-  text = summary_text (map (outcome_by rule_k) s.guests);
+  text = summary_text (map (seen_by rule_k) s.guests);
   lines = [];
   status = 0;
   hosted = Some (unordered s);

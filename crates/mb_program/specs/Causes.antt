@@ -122,7 +122,8 @@ pub record Causes (asked : Option Asked) (a : Around) (said : Said) (status : �
   -- Words are refused only where they ask for nothing, and always, unless memory runs out.
   pub words_only : status ≡ 2 → asked ≡ None
   pub words_always : asked ≡ None → (status ≡ 2) ⊎ (status ≡ 7)
-  -- A file is refused only where the answer is that, and always, unless the shelf fails or memory runs out.
+  -- A file, also one with the contents of a disk, is refused only where the answer is that, and always, unless the
+  -- shelf fails or memory runs out.
   pub refused_only : status ≡ 3 → AsksFor asked a IsRefusal
   pub refused_always : IsKnown asked a IsRefusal → (status ≡ 3) ⊎ ((status ≡ 5) ⊎ (status ≡ 7))
   -- A session is refused for its size only where the answer is that, and always, unless the shelf fails or memory runs
@@ -149,10 +150,10 @@ pub record Causes (asked : Option Asked) (a : Around) (said : Said) (status : �
   pub unhosted : HostsNothing asked → a.native_after ≡ a.native
   -- Where the answer is known and nothing fails, it is given, unless memory runs out.
   pub complete : IsComplete asked a status
-  -- Each guest of a session runs as if it were alone: out gains exactly the outcomes of their own runs, diag the counts
-  -- of their own steps, and the board carries out each retired one.
+  -- Each guest of a session runs as if it were alone, with its own disk: out gains exactly the outcomes of their own
+  -- runs and their disks, diag the counts of their own steps, and the board carries out each retired one.
   pub hosted : IsHosted asked a said status
-  -- The runs of each guest on the board and under the monitor are compared.
+  -- The runs of each guest on the board and under the monitor are compared, and the disks that they leave.
   pub compared : IsCompared asked a status
   -- Of a guest that flushes what it changes, a comparison says that it shows the same.
   pub tidy : IsTidyTold asked a status

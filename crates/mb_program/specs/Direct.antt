@@ -23,7 +23,7 @@ unordered session = record { session = session; order = [] }
 
 -- How many of each class a guest takes alone, from its start and with nothing in its shadow.
 abbrev pub tally_by : GuestAtStart → Tally
-tally_by guest = tally_of guest.image guest.script guest.ram guest.steps
+tally_by guest = tally_of guest.opening guest.script guest.ram guest.steps
 
 abbrev pub tallies_by : List GuestAtStart → List Tally
 tallies_by guests = map tally_by guests

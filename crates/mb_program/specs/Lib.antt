@@ -9,3 +9,4 @@ pub mod Causes
 pub mod Reads
 pub mod Runs
 pub mod Compares
+pub mod Disks

@@ -5,7 +5,7 @@ use Rattle.vm_meaning.specs.Native.{NativeState}
 use Rattle.vm_guest.specs.Session.{SessionAtStart}
 use Rattle.vm_slices.specs.Fit.{Fits, need_of}
 use Rattle.vm_slices.specs.Places.{HostState, members_in}
-use Rattle.vm_slices.specs.Members.{shown_of, tallies_of}
+use Rattle.vm_slices.specs.Members.{outcomes_of, tallies_of}
 use Rattle.vm_slices.specs.declared.open_fault.OpenFault.{OpenFault}
 use Rattle.vm_slices.specs.declared.open_fault.OpenFault.TheVariants as open_fault
 use Rattle.mb_program.specs.Answers.{outcome_by}
@@ -13,10 +13,10 @@ use Rattle.mb_program.specs.Direct.{CarriedOut, Ordered, tallies_by}
 use Rattle.mb_program.specs.declared.end.End.{End}
 use Rattle.mb_program.specs.declared.end.End.TheVariants.{Oversize, Memory}
 
--- Each guest shows the outcome of its own run, and what is counted of its steps is that run's; or the session does not
+-- Each guest has the outcome of its own run, and what is counted of its steps is that run's; or the session does not
 -- fit, with both numbers; or memory ran out.
 abbrev pub Runs : SessionAtStart → Result HostState OpenFault → Type 0
-Runs s (Ok host) = Fits s × (shown_of (members_in host) ≡ map (outcome_by rule_k) s.guests)
+Runs s (Ok host) = Fits s × (outcomes_of (members_in host) ≡ map (outcome_by rule_k) s.guests)
     × (tallies_of (members_in host) ≡ tallies_by s.guests)
 Runs s (Err (open_fault.Oversize need have)) =
     (s.board < need_of s.guests) × (need ≡ need_of s.guests) × (have ≡ s.board)

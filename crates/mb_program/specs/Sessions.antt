@@ -2,10 +2,12 @@
 use Rattle.std.specs.Prelude.{◌≡◌, ◌⊎◌, ⊤, ℕ, ◌*◌, ◌≤◌, true, false, List, [], ◌∷◌, length, map}
 use Rattle.std.specs.Prelude.{Option, Some, None, Result, Ok}
 use Rattle.std.specs.List.{list_all}
+use Rattle.mb_script.specs.Plan as plan
 use Rattle.mb_script.specs.Plan.{Guest, Plan}
+use Rattle.vm_disk.specs.Disk.{DiskState, opened}
+use Rattle.vm_disk.specs.declared.disk.TheConstants.{BLOCK_BYTES}
 use Rattle.mb_model.specs.Keeping.{rule_k}
-use Rattle.mb_machine.specs.Machine.{Entries}
-use Rattle.mb_report.specs.Text.{outcome_text}
+use Rattle.mb_walk.specs.Memory.{Contents}
 use Rattle.mb_outside.specs.Sink.{Grows}
 use Rattle.mb_gen.specs.Sessions.{generated}
 use Rattle.mb_words.specs.Words.{Text, Workload, Asked, hosting, comparison, generation}
@@ -14,7 +16,7 @@ use Rattle.vm_slices.specs.Fit.{Fits}
 use Rattle.mb_program.specs.Direct.{CarriedOut, Ordered, counts_line, tallies_by, unordered}
 use Rattle.mb_program.specs.declared.files.TheConstants.{MOST_BYTES}
 use Rattle.mb_program.specs.Answers.{Told, image_in, script_in, session_in, texts_from}
-use Rattle.mb_program.specs.Answers.{compared_text, is_same, outcome_by, summary_text}
+use Rattle.mb_program.specs.Answers.{compared_text, is_same, machine_text, outcome_by, seen_by, summary_text}
 use Rattle.mb_program.specs.Ends.{Around, FailsNowhere, IsSaid, Said}
 use Rattle.mb_program.specs.declared.end.FileWhy.{FileWhy}
 
@@ -27,15 +29,27 @@ pub record Tells {A : Type 0} (told : Told) (held_in : Text → Result A FileWhy
   pub short : length bytes ≤ MOST_BYTES
   pub holds : held_in bytes ≡ Ok held
 
--- the same for a script that may not be named; where it is not, it has no entries
-abbrev pub TellsScript : Told → Option Text → Entries → Type 0
-TellsScript told None script = script ≡ []
-TellsScript told (Some file) script = Tells told script_in file script
+-- the same for a file that may not be named; where it is not, this stands in its place
+abbrev pub TellsIfNamed : {A : Type 0} → Told → (Text → Result A FileWhy) → Option Text → (otherwise held : A) → Type 0
+TellsIfNamed told held_in None otherwise held = held ≡ otherwise
+TellsIfNamed told held_in (Some file) otherwise held = Tells told held_in file held
 
--- The shelf tells the files of a guest, and with its own numbers it begins so.
+-- A disk of so many blocks opens with the contents that the shelf tells, with addresses on the disk; all else is 0.
+pub record TellsOpened (told : Told) (asked : plan.Disk) (disk : Option DiskState) : Type 0 where
+  pub contents : Contents
+  pub tells : TellsIfNamed told (image_in (BLOCK_BYTES * asked.blocks)) asked.contents [] contents
+  pub opens : disk ≡ Some (opened asked.blocks contents)
+
+-- a guest that asks for none has none
+abbrev pub TellsDisk : Told → Option plan.Disk → Option DiskState → Type 0
+TellsDisk told None disk = disk ≡ None
+TellsDisk told (Some asked) disk = TellsOpened told asked disk
+
+-- The shelf tells the files of a guest, those of its disk as well, and with its own numbers it begins so.
 pub record TellsGuest (told : Told) (guest : Guest) (start : GuestAtStart) : Type 0 where
-  pub image : Tells told (image_in (1024 * guest.ram)) guest.image start.image
-  pub script : TellsScript told guest.script start.script
+  pub image : Tells told (image_in (1024 * guest.ram)) guest.image start.opening.image
+  pub script : TellsIfNamed told script_in guest.script [] start.script
+  pub disk : TellsDisk told guest.disk start.opening.disk
   pub ram : start.ram ≡ 1024 * guest.ram
   pub steps : start.steps ≡ guest.steps
 
@@ -56,11 +70,12 @@ pub record TellsSession (told : Told) (name : Text) (s : Ordered) : Type 0 where
 
 -- ---- host
 
--- Out gains exactly the outcomes of the guests in their order: of each that of its own run by the rule of guests, of
--- its own image, script, RAM and steps, and of nothing else. Where nothing fails, this is done, unless memory runs out.
+-- Out gains exactly the outcomes of the guests in their order, each with its disk: of each guest that of its own run by
+-- the rule of guests, of its own image, disk, script, RAM and steps, and of nothing else. Where nothing fails, this is
+-- done, unless memory runs out.
 pub record Hosts (a : Around) (said : Said) (s : Ordered) (status : ℕ) : Type 0 where
   pub printed : status ≡ 0
-      → Grows a.out.taken a.out_after.taken (texts_from outcome_text 1 (map (outcome_by rule_k) s.session.guests))
+      → Grows a.out.taken a.out_after.taken (texts_from machine_text 1 (map (outcome_by rule_k) s.session.guests))
   pub ended : FailsNowhere a → (status ≡ 0) ⊎ (status ≡ 7)
   -- Diag gains a line for each guest with the counts of its own steps, or a first part where diag fails.
   pub tallied : status ≡ 0 → IsSaid said (texts_from counts_line 1 (tallies_by s.session.guests))
@@ -75,7 +90,7 @@ IsHosted asked a said status = (name : Text) (s : Ordered) → asked ≡ Some (h
 
 -- ---- compare
 
--- Out gains exactly a line for each guest, and the status tells whether all are the same.
+-- Out gains exactly a line for each guest, and the status tells whether all are the same, and so are their disks.
 pub record Compares (a : Around) (s : Ordered) (status : ℕ) : Type 0 where
   pub printed : (status ≡ 0) ⊎ (status ≡ 1)
       → Grows a.out.taken a.out_after.taken (texts_from compared_text 1 (map is_same s.session.guests))
@@ -95,7 +110,7 @@ IsCompared asked a status = (name : Text) (s : Ordered) → asked ≡ Some (comp
 -- Out gains exactly the summary of the guests, each after its own run by the rule of guests. Where nothing fails, this
 -- is done, unless memory runs out.
 pub record Generates (a : Around) (s : SessionAtStart) (status : ℕ) : Type 0 where
-  pub printed : status ≡ 0 → Grows a.out.taken a.out_after.taken (summary_text (map (outcome_by rule_k) s.guests))
+  pub printed : status ≡ 0 → Grows a.out.taken a.out_after.taken (summary_text (map (seen_by rule_k) s.guests))
   pub ended : FailsNowhere a → (status ≡ 0) ⊎ (status ≡ 7)
   pub direct : status ≡ 0 → CarriedOut (unordered s) a.native a.native_after
 

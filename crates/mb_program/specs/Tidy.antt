@@ -12,7 +12,7 @@ use Rattle.mb_program.specs.Sessions.{TellsSession}
 
 -- A guest is tidy where, from its start and over all its steps, no translation that it kept is ever used stale.
 abbrev pub IsTidyGuest : GuestAtStart → Type 0
-IsTidyGuest guest = Tidy guest.image guest.script guest.ram guest.steps
+IsTidyGuest guest = Tidy guest.opening guest.script guest.ram guest.steps
 
 -- the lines of guests beside each other, numbered from i
 abbrev pub lines_from : ℕ → List GuestAtStart → Text

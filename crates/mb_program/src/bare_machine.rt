@@ -1,13 +1,15 @@
 //! A machine by itself.
 
-ghost use Rattle.std.specs.Prelude.{◌≡◌, IfOk};
+ghost use Rattle.std.specs.Prelude.{◌≡◌, option_map, IfOk};
+ghost use Rattle.mb_program.specs.Answers.{same_disks};
 
-use crate::machine::start_board;
+use crate::machine::start_guest;
 use mb_board::Board;
 use mb_outside::Memory;
 use mb_report::same;
 use mb_script::Script;
 use std::alloc::Global;
+use vm_disk::{Disk, same_disk};
 use vm_slices::{Host, SessionGuest};
 
 /// A machine on a board of its own, before its first step.
@@ -23,11 +25,10 @@ pub(crate) struct BareMachine {
 impl BareMachine {
     ghost use Rattle.std.specs.Prelude.{◌≤◌, IfSome, length};
     ghost use Rattle.mb_model.specs.Keeping.{rule_a};
-    ghost use Rattle.mb_report.specs.Same.{same_seen};
     ghost use Rattle.vm_guest.specs.Session.{IsGuest};
-    ghost use Rattle.vm_slices.specs.Members.{numbered, shown_of};
+    ghost use Rattle.vm_slices.specs.Members.{numbered, outcomes_of};
     ghost use Rattle.vm_slices.specs.Places.{members_in};
-    ghost use Rattle.mb_program.specs.Answers.{outcome_by};
+    ghost use Rattle.mb_program.specs.Answers.{outcome_by, same_outcome};
     ghost use Rattle.mb_program.specs.Compares.{outcome_ahead};
 
     /// A guest of a session by itself.
@@ -35,7 +36,7 @@ impl BareMachine {
         requires { IsGuest guest.now }
         ensures { IfOk result (λ machine. outcome_ahead machine ≡ outcome_by rule_a guest.now) }
     {
-        let board = start_board(alloc, guest.image(), guest.ram())?;
+        let board = start_guest(alloc, guest)?;
         let script = copy_script(alloc, guest.script())?;
         Ok(BareMachine {
             board,
@@ -47,8 +48,8 @@ impl BareMachine {
     /// Takes its steps, and tells whether it then shows the same as the guest of this number.
     pub(crate) fn is_same_as(self, host: &Host, number: u8) -> bool
         requires { (1 ≤ number) × (number ≤ length (members_in host.now)) }
-        ensures { IfSome (numbered number (shown_of (members_in host.now)))
-            (λ shown. result ≡ same_seen (outcome_ahead self) shown) }
+        ensures { IfSome (numbered number (outcomes_of (members_in host.now)))
+            (λ shown. result ≡ same_outcome (outcome_ahead self) shown) }
     {
         let BareMachine {
             mut board,
@@ -57,7 +58,20 @@ impl BareMachine {
             ..
         } = self;
         board.run_bare(&script, steps);
-        same(&board.outcome(), &host.outcome(number))
+        let shown = same(&board.outcome(), &host.outcome(number));
+        let disks = same_if_attached(board.devices().disk(), host.devices(number).disk());
+        shown && disks
+    }
+}
+
+/// Whether neither disk is attached, or both are and are the same.
+fn same_if_attached(a: Option<&Disk>, b: Option<&Disk>) -> bool
+    ensures { result ≡ same_disks (option_map (λ d. d.now) a.entry) (option_map (λ d. d.now) b.entry) }
+{
+    match (a, b) {
+        (Some(a), Some(b)) => same_disk(a, b),
+        (None, None) => true,
+        _ => false,
     }
 }
 

@@ -23,7 +23,7 @@ pub enum FileWhy {
     TooLong,
     /// The line of this number, counted from 1, does not stand.
     Line { number: u32, why: Reason },
-    /// A byte of data has this address, which is not in RAM.
+    /// A byte of data has this address, which is not in RAM, or not on the disk.
     Outside { at: u32 },
     /// No record ends the image.
     NoEnd,

@@ -109,7 +109,7 @@ fn load_file<F: Shelf>(alloc: Global, shelf: &mut F, name: &str) -> Result<Loade
     }
 }
 
-/// Reads the image of a file, for so many bytes of RAM.
+/// Reads the image of a file, for so many bytes of RAM or of a disk.
 pub(crate) fn image_file<F: Shelf>(
     alloc: Global,
     shelf: &mut F,
@@ -126,6 +126,25 @@ pub(crate) fn image_file<F: Shelf>(
     match read_image(alloc, &file.bytes, size) {
         Ok(image) => Ok(image),
         Err(fault) => Err(file.end(Unheld::from(fault))),
+    }
+}
+
+/// Reads the image of a file, where there is one; else it gives nothing.
+pub(crate) fn image_if_named<F: Shelf>(
+    alloc: Global,
+    shelf: &mut F,
+    name: Option<&str>,
+    size: u32,
+) -> Result<Image, End>
+    ensures passes { Passes (reads_if_named (image_in size) (file_said name.entry) []) contents_of
+        (shelf_seen F.Shelf shelf.old) (shelf_seen F.Shelf shelf.new) result }
+    ensures below { IfOk result (λ image. All (LiesBelow size) (contents_of image)) }
+    ensures told { F.told shelf.new ≡ F.told shelf.old }
+    ensures whole { F.whole shelf.new ≡ F.whole shelf.old }
+{
+    match name {
+        Some(name) => image_file(alloc, shelf, name, size),
+        None => Ok(Image::new(Vec::new(alloc))),
     }
 }
 

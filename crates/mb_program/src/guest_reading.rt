@@ -1,25 +1,39 @@
 //! The files of machines and of sessions.
 
-ghost use Rattle.std.specs.Prelude.{◌≡◌, ◌<◌, ◌*◌, [], All, IfOk, length, map};
-ghost use Rattle.mb_script.specs.Answers.{guest_said};
-ghost use Rattle.mb_script.specs.Plan.{AreRams, IsRam, IsTurnOf};
-ghost use Rattle.mb_words.specs.Words.{run_said};
+ghost use Rattle.std.specs.Prelude.{◌≡◌, ◌<◌, ◌*◌, [], All, IfOk, Some, length, map};
+ghost use Rattle.mb_script.specs.Answers.{disk_said as planned, guest_said};
+ghost use Rattle.mb_script.specs.Plan.{AreRams, HasDisk, IsBlocks, IsRam, IsTurnOf};
+ghost use Rattle.mb_words.specs.Words.{disk_said, run_said};
 ghost use Rattle.vm_guest.specs.Session.{IsGuest, IsSession};
-ghost use Rattle.mb_program.specs.Answers.{reads_guest, reads_guests, reads_session, run_of_guest};
+ghost use Rattle.mb_program.specs.Answers.{reads_disk, reads_guest, reads_guests, reads_session};
+ghost use Rattle.mb_program.specs.Answers.{run_of_disk, run_of_guest};
 ghost use Rattle.mb_program.specs.Ends.{shelf_seen};
 ghost use Rattle.mb_program.specs.Reads.{Passes};
 ghost use Rattle.mb_program.specs.Said.{ordered_said};
 
 use crate::end::End;
-use crate::files::{image_file, script_if_named, session_file};
+use crate::files::{image_file, image_if_named, script_if_named, session_file};
 use crate::ordered::OrderedSession;
 use mb_outside::Shelf;
-use mb_script::GuestPlan;
-use mb_words::Bare;
+use mb_script::{DiskPlan, GuestPlan};
+use mb_words::{Bare, BareDisk};
 use std::alloc::Global;
-use vm_guest::{Session, SessionGuest};
+use vm_disk::BLOCK_BYTES;
+use vm_guest::{Session, SessionDisk, SessionGuest};
 
-/// Reads the files of a machine: its image, and then its script, where it has one.
+/// Reads the contents of a disk, where they are named; else there are none.
+fn read_disk<F: Shelf>(alloc: Global, shelf: &mut F, disk: &BareDisk) -> Result<SessionDisk, End>
+    ensures passes { Passes (reads_disk (Some (disk_said disk.now))) (λ opened. Some opened)
+        (shelf_seen F.Shelf shelf.old) (shelf_seen F.Shelf shelf.new) result }
+    ensures told { F.told shelf.new ≡ F.told shelf.old }
+    ensures whole { F.whole shelf.new ≡ F.whole shelf.old }
+{
+    let size = BLOCK_BYTES as u32 * disk.blocks;
+    let contents = image_if_named(alloc, shelf, disk.contents, size)?;
+    Ok(SessionDisk::new(disk.blocks, contents))
+}
+
+/// Reads the files of a machine: its image, then its script, where it has one, and then its disk's contents.
 pub(crate) fn read_guest<F: Shelf>(
     alloc: Global,
     shelf: &mut F,
@@ -33,12 +47,28 @@ pub(crate) fn read_guest<F: Shelf>(
 {
     let image = image_file(alloc, shelf, run.image, 1024 * run.ram)?;
     let script = script_if_named(alloc, shelf, run.script)?;
-    Ok(SessionGuest::new(image, script, 1024 * run.ram, run.steps))
+    let guest = SessionGuest::new(image, script, 1024 * run.ram, run.steps);
+    match &run.disk {
+        Some(disk) => Ok(guest.with_disk(read_disk(alloc, shelf, disk)?)),
+        None => Ok(guest),
+    }
+}
+
+/// A disk's plan as the disk of a run.
+fn disk_of<'a>(plan: &'a DiskPlan) -> BareDisk<'a>
+    requires { IsBlocks (planned plan.now).blocks }
+    ensures { disk_said result ≡ run_of_disk (planned plan.now) }
+{
+    BareDisk {
+        blocks: plan.blocks(),
+        contents: plan.contents(),
+    }
 }
 
 /// A guest's plan as a run.
 fn run_of<'a>(plan: &'a GuestPlan) -> Bare<'a>
-    requires { IsRam (guest_said plan.now).ram }
+    requires ram { IsRam (guest_said plan.now).ram }
+    requires disk { HasDisk (guest_said plan.now) }
     ensures { run_said result ≡ run_of_guest (guest_said plan.now) }
 {
     Bare {
@@ -46,6 +76,10 @@ fn run_of<'a>(plan: &'a GuestPlan) -> Bare<'a>
         ram: plan.ram(),
         steps: plan.steps(),
         script: plan.script(),
+        disk: match plan.disk() {
+            Some(disk) => Some(disk_of(disk)),
+            None => None,
+        },
     }
 }
 
@@ -55,7 +89,8 @@ fn read_guests<F: Shelf>(
     shelf: &mut F,
     plans: &[GuestPlan],
 ) -> Result<Vec<SessionGuest>, End>
-    requires { AreRams (map guest_said plans.now) }
+    requires rams { AreRams (map guest_said plans.now) }
+    requires disks { All HasDisk (map guest_said plans.now) }
     ensures passes { Passes (reads_guests (map guest_said plans.now) []) (λ guests. guests.items)
         (shelf_seen F.Shelf shelf.old) (shelf_seen F.Shelf shelf.new) result }
     ensures in_range { IfOk result (λ guests. All IsGuest guests.items) }

@@ -3,21 +3,20 @@
 ghost use Rattle.std.specs.Prelude.{◌≡◌, ◌<◌, All, length};
 ghost use Rattle.mb_script.specs.Plan.{IsTurnOf};
 ghost use Rattle.mb_outside.specs.Prints.{Prints};
-ghost use Rattle.mb_report.specs.Text.{outcome_text};
 ghost use Rattle.vm_guest.specs.Session.{IsSession};
 ghost use Rattle.vm_slices.specs.Places.{members_in};
-ghost use Rattle.vm_slices.specs.Members.{shown_of};
-ghost use Rattle.mb_program.specs.Answers.{host_answer, texts_from};
+ghost use Rattle.vm_slices.specs.Members.{outcomes_of};
+ghost use Rattle.mb_program.specs.Answers.{host_answer, machine_text, texts_from};
 ghost use Rattle.mb_program.specs.Direct.{HasRoomToRun};
 ghost use Rattle.mb_program.specs.Ends.{GivesAnswer, sink_seen};
 ghost use Rattle.mb_program.specs.Runs.{IsCarriedOut, Runs, unopened};
 ghost use Rattle.mb_program.specs.Said.{ordered_said};
 
 use crate::end::End;
+use crate::machine::write_machine;
 use crate::ordered::OrderedSession;
 use mb_board::Native;
 use mb_outside::{Sink, SinkFault};
-use mb_report::write_outcome;
 use mb_script::Turn;
 use std::alloc::Global;
 use vm_slices::{Host, OpenFault, Session};
@@ -56,11 +55,11 @@ pub(crate) fn run_session(
 /// Writes the outcomes of all guests in their order.
 fn write_outcomes<O: Sink>(host: &Host, out: &mut O) -> Result<(), SinkFault>
     ensures { Prints (O.taken out.old) (O.taken out.new) (O.faults out.old) (O.faults out.new)
-        (texts_from outcome_text 1 (shown_of (members_in host.now))) result }
+        (texts_from machine_text 1 (outcomes_of (members_in host.now))) result }
 {
     for index in 0..host.guest_count() {
         let guest = index + 1;
-        write_outcome(guest, &host.outcome(guest), out)?;
+        write_machine(guest, &host.outcome(guest), host.devices(guest).disk(), out)?;
     }
     Ok(())
 }

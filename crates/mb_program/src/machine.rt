@@ -1,23 +1,28 @@
 //! A machine from its start to its outcome.
 
-ghost use Rattle.std.specs.Prelude.{◌≡◌, ◌<◌, ◌≤◌, length, IfOk, All};
+ghost use Rattle.std.specs.Prelude.{◌≡◌, ◌<◌, ◌≤◌, ◌^◌, length, option_map, IfOk, OnOk, All, None};
 ghost use Rattle.mb_srec.specs.Image.{content_of, all_contents, contents_of, LiesBelow};
-ghost use Rattle.mb_walk.specs.Memory.{overwritten};
+ghost use Rattle.mb_walk.specs.Memory.{overwritten, with_contents};
 ghost use Rattle.mb_model.specs.Keeping.{rule_a};
 ghost use Rattle.mb_board.specs.declared.bus.TheConstants.{MOST_BOARD_BYTES};
 ghost use Rattle.mb_board.specs.State.{machine_in, with_machine};
-ghost use Rattle.mb_machine.specs.Machine.{seen_machine, start, with_contents, with_ram};
+ghost use Rattle.mb_machine.specs.Machine.{diskless, outcome_of, start, with_ram};
+ghost use Rattle.mb_model.specs.Seen.{seen_of};
+ghost use Rattle.mb_outside.specs.Prints.{Prints};
 ghost use Rattle.vm_guest.specs.Session.{IsGuest};
-ghost use Rattle.mb_program.specs.Answers.{bare_answer, outcome_by};
+ghost use Rattle.mb_program.specs.Answers.{bare_answer, machine_text, outcome_by};
+ghost use Rattle.mb_program.specs.Disks.{with_disk};
 ghost use Rattle.mb_program.specs.Ends.{GivesUncounted, sink_seen};
 
 use crate::end::End;
 use mb_board::Board;
-use mb_outside::{Memory, Sink};
+use mb_model::Outcome;
+use mb_outside::{Memory, Sink, SinkFault};
 use mb_report::write_outcome;
 use mb_srec::{Chunk, Image};
 use std::alloc::Global;
-use vm_guest::SessionGuest;
+use vm_disk::{Disk, write_disk};
+use vm_guest::{SessionDisk, SessionGuest};
 
 /// Writes a chunk that lies in RAM.
 #[tactic(auto, using(mb_walk::proofs::MemoryLemmas::writes))]
@@ -49,7 +54,7 @@ fn write_chunks(board: &mut Board, chunks: &[Chunk])
 pub(crate) fn start_board(alloc: Global, image: &Image, size: u32) -> Result<Board, Memory>
     requires size { (8 ≤ size) × (size ≤ MOST_BOARD_BYTES) }
     requires in_ram { All (LiesBelow size) (contents_of image.now) }
-    ensures start { IfOk result (λ board. machine_in board ≡ start rule_a (contents_of image.now) size) }
+    ensures start { IfOk result (λ board. machine_in board ≡ start rule_a (diskless (contents_of image.now)) size) }
     ensures ram { IfOk result (λ board. length board.world.ram ≡ size) }
     ensures unrun { IfOk result (λ board. board.steps ≡ 0) }
 {
@@ -59,15 +64,59 @@ pub(crate) fn start_board(alloc: Global, image: &Image, size: u32) -> Result<Boa
     Ok(board)
 }
 
+/// Attaches the disk, where there is one, to a board that has none.
+fn attach_disk(alloc: Global, board: &mut Board, disk: Option<&SessionDisk>) -> Result<(), Memory>
+    requires { board.old.world.devices.disk ≡ None }
+    ensures { OnOk result (machine_in board.new
+        ≡ with_disk (option_map (λ d. d.now) disk.entry) (machine_in board.old)) }
+{
+    if let Some(disk) = disk {
+        let disk = disk.open(alloc)?;
+        board.devices_mut().attach(disk);
+    }
+    Ok(())
+}
+
+/// A board with a guest of a session by itself, at its start.
+pub(crate) fn start_guest(alloc: Global, guest: &SessionGuest) -> Result<Board, Memory>
+    requires { IsGuest guest.now }
+    ensures start { IfOk result (λ board. machine_in board ≡ start rule_a guest.now.opening guest.now.ram) }
+    ensures ram { IfOk result (λ board. length board.world.ram ≡ guest.now.ram) }
+    ensures unrun { IfOk result (λ board. board.steps ≡ 0) }
+{
+    let mut board = start_board(alloc, guest.image(), guest.ram())?;
+    attach_disk(alloc, &mut board, guest.disk())?;
+    Ok(board)
+}
+
 /// A board with a machine on it after its steps.
 fn run_board(alloc: Global, guest: &SessionGuest) -> Result<Board, Memory>
     requires { IsGuest guest.now }
-    ensures after { IfOk result (λ board. seen_machine (machine_in board) ≡ outcome_by rule_a guest.now) }
+    ensures after { IfOk result (λ board. outcome_of (machine_in board) ≡ outcome_by rule_a guest.now) }
     ensures ram { IfOk result (λ board. length board.world.ram ≤ MOST_BOARD_BYTES) }
 {
-    let mut board = start_board(alloc, guest.image(), guest.ram())?;
+    let mut board = start_guest(alloc, guest)?;
     board.run_bare(guest.script(), guest.steps());
     Ok(board)
+}
+
+/// Writes the outcome of a machine, and its disk, where one is attached.
+pub(crate) fn write_machine<O: Sink>(
+    guest: u8,
+    outcome: &Outcome,
+    disk: Option<&Disk>,
+    out: &mut O,
+) -> Result<(), SinkFault>
+    requires { length (seen_of outcome.now).ram ≤ 2 ^ 32 }
+    ensures { Prints (O.taken out.old) (O.taken out.new) (O.faults out.old) (O.faults out.new)
+        (machine_text guest (record { seen = seen_of outcome.now; disk = option_map (λ d. d.now) disk.entry }))
+        result }
+{
+    write_outcome(guest, outcome, out)?;
+    match disk {
+        Some(disk) => write_disk(guest, disk, out),
+        None => Ok(()),
+    }
 }
 
 /// Runs a machine, and writes its outcome.
@@ -79,7 +128,7 @@ pub(crate) fn show_machine<O: Sink>(alloc: Global, guest: &SessionGuest, out: &m
     let Ok(board) = run_board(alloc, guest) else {
         return End::Memory;
     };
-    match write_outcome(1, &board.outcome(), out) {
+    match write_machine(1, &board.outcome(), board.devices().disk(), out) {
         Ok(()) => End::Done,
         Err(_) => End::Output,
     }

@@ -2,8 +2,7 @@
 
 ghost use Rattle.std.specs.Prelude.{◌≡◌, IfOk, All, length};
 ghost use Rattle.mb_srec.specs.Image.{content_of, all_contents, contents_of, LiesBelow};
-ghost use Rattle.mb_walk.specs.Memory.{overwritten};
-ghost use Rattle.mb_machine.specs.Machine.{with_contents};
+ghost use Rattle.mb_walk.specs.Memory.{overwritten, with_contents};
 ghost use Rattle.mb_program.specs.Answers.{opening_ram};
 
 use mb_outside::Memory;

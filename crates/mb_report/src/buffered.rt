@@ -12,7 +12,7 @@ type Block = ArrayVec<u8, 65_536>;
 
 /// A text on its way to a sink: its first part was put, and the rest is held until the block is full.
 #[derive(Drop)]
-pub(crate) struct Buffered {
+pub struct Buffered {
     held: Block,
     /// Whether the sink took all that was put.
     so_far: Result<(), SinkFault>,
@@ -20,7 +20,7 @@ pub(crate) struct Buffered {
 
 impl Buffered {
     /// A text without bytes.
-    pub(crate) fn new() -> Buffered
+    pub fn new() -> Buffered
         ensures held { result.held.items ≡ [] }
         ensures so_far { IsOk result.so_far }
     {
@@ -41,7 +41,7 @@ impl Buffered {
     }
 
     /// Adds bytes to the text. Those that no block has room for are put at once.
-    pub(crate) fn add<O: Sink>(&mut self, out: &mut O, bytes: &[u8])
+    pub fn add<O: Sink>(&mut self, out: &mut O, bytes: &[u8])
         ensures { Buffers self.old self.new (O.taken out.old) (O.taken out.new) (O.faults out.old) (O.faults out.new)
             bytes.now }
     {
@@ -55,7 +55,7 @@ impl Buffered {
     }
 
     /// Puts what is held, and answers whether the sink took the whole text.
-    pub(crate) fn finish<O: Sink>(self, out: &mut O) -> Result<(), SinkFault>
+    pub fn finish<O: Sink>(self, out: &mut O) -> Result<(), SinkFault>
         ensures { PrintsMore self.so_far (O.taken out.old) (O.taken out.new) (O.faults out.old) (O.faults out.new)
             self.held.items result }
     {

@@ -46,7 +46,7 @@ fn memory_line(address: u32, row: &[u8]) -> Line
 }
 
 /// Writes bytes in rows of 32.
-pub(crate) fn write_dump<O: Sink>(text: &mut Buffered, out: &mut O, bytes: &[u8])
+pub fn write_dump<O: Sink>(text: &mut Buffered, out: &mut O, bytes: &[u8])
     ensures { Buffers text.old text.new (O.taken out.old) (O.taken out.new) (O.faults out.old) (O.faults out.new)
         (all_rows dump_line 32 bytes.now) }
 {
@@ -73,7 +73,7 @@ fn write_memory_row<O: Sink>(text: &mut Buffered, out: &mut O, address: u32, row
 }
 
 /// Writes the rows of 16 bytes of a memory that are not all zero.
-pub(crate) fn write_memory<O: Sink>(text: &mut Buffered, out: &mut O, ram: &[u8])
+pub fn write_memory<O: Sink>(text: &mut Buffered, out: &mut O, ram: &[u8])
     requires { length ram.now ≤ 2 ^ 32 }
     ensures { Buffers text.old text.new (O.taken out.old) (O.taken out.new) (O.faults out.old) (O.faults out.new)
         (memory_text ram.now) }

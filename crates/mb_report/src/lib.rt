@@ -10,6 +10,8 @@ mod digits;
 mod dump;
 mod outcome;
 
+pub use buffered::Buffered;
 pub use comparison::same;
 pub use digits::{hex2, hex8, push_digits};
-pub use outcome::{state_word, write_outcome};
+pub use dump::{write_dump, write_memory};
+pub use outcome::{state_word, write_outcome, write_word};

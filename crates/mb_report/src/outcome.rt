@@ -17,7 +17,7 @@ use mb_model::{Outcome, RunState};
 use mb_outside::{Sink, SinkFault};
 
 /// Writes a name, a space and a word.
-fn write_word<O: Sink>(text: &mut Buffered, out: &mut O, name: &[u8], word: &[u8])
+pub fn write_word<O: Sink>(text: &mut Buffered, out: &mut O, name: &[u8], word: &[u8])
     ensures { Buffers text.old text.new (O.taken out.old) (O.taken out.new) (O.faults out.old) (O.faults out.new)
         (word_line name.now word.now) }
 {

@@ -6,3 +6,4 @@ pub mod Names
 pub mod Entries
 pub mod Rams
 pub mod Enough
+pub mod Disks

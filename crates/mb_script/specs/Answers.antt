@@ -14,11 +14,12 @@ use Rattle.mb_script.specs.declared.input.Input.TheVariants as input
 use Rattle.mb_script.specs.declared.script_line.Parts.{Parts}
 use Rattle.mb_script.specs.declared.script_line.Written.{Written}
 use Rattle.mb_script.specs.declared.script_line.Written.TheVariants as written
+use Rattle.mb_script.specs.declared.plan.DiskPlan.{DiskPlan}
 use Rattle.mb_script.specs.declared.plan.GuestPlan.{GuestPlan}
 use Rattle.mb_script.specs.declared.plan.SessionPlan.{SessionPlan}
 use Rattle.mb_script.specs.declared.session_line.Fields.{Fields}
 use Rattle.mb_script.specs.Faults.{Fault}
-use Rattle.mb_script.specs.Plan.{Guest, Plan}
+use Rattle.mb_script.specs.Plan.{Disk, Guest, Plan}
 use Rattle.mb_script.specs.Scripts as scripts
 use Rattle.mb_script.specs.Sessions as sessions
 
@@ -48,6 +49,9 @@ fault_at number (refusal.Why why) = Line number why
 
 abbrev pub cut_said : Bor (List ℕ) × Bor (List ℕ) → List ℕ × List ℕ
 cut_said (first, behind) = (first.now, behind.now)
+
+abbrev pub three_said : Bor (List ℕ) × Bor (List ℕ) × Bor (List ℕ) → List ℕ × List ℕ × List ℕ
+three_said (first, second, third) = (first.now, second.now, third.now)
 
 abbrev pub written_said : Written → scripts.Written
 written_said (written.Hex digits) = scripts.Hex digits.now
@@ -84,12 +88,20 @@ fields_said fields = record {
   script = fields.script.now;
 }
 
+abbrev pub disk_said : DiskPlan → Disk
+disk_said disk = record { blocks = disk.blocks; contents = option_map string_bytes disk.contents }
+
+-- a disk with the number of its guest
+abbrev pub disk_given : ℕ × DiskPlan → ℕ × Disk
+disk_given (guest, disk) = (guest, disk_said disk)
+
 abbrev pub guest_said : GuestPlan → Guest
 guest_said guest = record {
   ram = guest.ram;
   steps = guest.steps;
   image = string_bytes guest.image;
   script = option_map string_bytes guest.script;
+  disk = option_map disk_said guest.disk;
 }
 
 abbrev pub plan_said : SessionPlan → Plan

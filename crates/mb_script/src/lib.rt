@@ -24,9 +24,11 @@ mod turn;
 pub use entry::Entry;
 pub use fault::{LineFault, LineWhy};
 pub use input::Input;
-pub use plan::{GuestPlan, SessionPlan};
+pub use plan::{DiskPlan, GuestPlan, SessionPlan};
 pub use script::Script;
 pub use script_reading::read_script;
 pub use session_reading::read_session;
-pub use sizes::{LEAST_BOARD, LEAST_RAM, MOST_BOARD, MOST_GUESTS, MOST_RAM, SIZE_UNIT};
+pub use sizes::{
+    LEAST_BOARD, LEAST_RAM, MOST_BLOCKS, MOST_BOARD, MOST_GUESTS, MOST_RAM, SIZE_UNIT,
+};
 pub use turn::Turn;

@@ -2,13 +2,21 @@
 
 use crate::turn::Turn;
 
-/// A guest: the size of its RAM, a bound on its steps, and the names of its files.
+/// A disk: how many blocks it has, and the name of the file with its contents.
+#[derive(Debug, Drop)]
+pub struct DiskPlan {
+    blocks: u32,
+    contents: Option<String>,
+}
+
+/// A guest: the size of its RAM, a bound on its steps, the names of its files, and its disk, where it has one.
 #[derive(Debug, Drop)]
 pub struct GuestPlan {
     ram: u32,
     steps: u32,
     image: String,
     script: Option<String>,
+    disk: Option<DiskPlan>,
 }
 
 /// A board, the guests that share it, and the turns that come before all rounds.
@@ -20,22 +28,59 @@ pub struct SessionPlan {
     order: Vec<Turn>,
 }
 
+impl DiskPlan {
+    ghost use Rattle.std.specs.Prelude.{◌≡◌, option_map, string_bytes};
+    ghost use Rattle.mb_script.specs.Answers.{bytes_said, disk_said};
+
+    pub fn new(blocks: u32, contents: Option<String>) -> DiskPlan
+        ensures blocks { (disk_said result).blocks ≡ blocks }
+        ensures contents { (disk_said result).contents ≡ option_map string_bytes contents }
+    {
+        DiskPlan { blocks, contents }
+    }
+
+    /// How many blocks of 512 bytes; of a session that was read, 1 to 32,768.
+    pub fn blocks(&self) -> u32
+        ensures { result ≡ (disk_said self.now).blocks }
+    {
+        self.blocks
+    }
+
+    /// The name of the file with its contents, if it has any.
+    pub fn contents(&self) -> Option<&str>
+        ensures { option_map bytes_said result ≡ (disk_said self.now).contents }
+    {
+        match &self.contents {
+            None => None,
+            Some(name) => Some(name.as_str()),
+        }
+    }
+}
+
 impl GuestPlan {
     ghost use Rattle.std.specs.Prelude.{◌≡◌, option_map, string_bytes};
-    ghost use Rattle.mb_script.specs.Answers.{bytes_said, guest_said};
+    ghost use Rattle.mb_script.specs.Answers.{bytes_said, disk_said, guest_said};
 
     /// `ram` is in KiB.
-    pub fn new(ram: u32, steps: u32, image: String, script: Option<String>) -> GuestPlan
+    pub fn new(
+        ram: u32,
+        steps: u32,
+        image: String,
+        script: Option<String>,
+        disk: Option<DiskPlan>,
+    ) -> GuestPlan
         ensures ram { (guest_said result).ram ≡ ram }
         ensures steps { (guest_said result).steps ≡ steps }
         ensures image { (guest_said result).image ≡ string_bytes image }
         ensures script { (guest_said result).script ≡ option_map string_bytes script }
+        ensures disk { (guest_said result).disk ≡ option_map disk_said disk }
     {
         GuestPlan {
             ram,
             steps,
             image,
             script,
+            disk,
         }
     }
 
@@ -68,6 +113,20 @@ impl GuestPlan {
             None => None,
             Some(name) => Some(name.as_str()),
         }
+    }
+
+    /// Its disk, if it has one.
+    pub fn disk(&self) -> Option<&DiskPlan>
+        ensures { option_map (λ disk. disk_said disk.now) result ≡ (guest_said self.now).disk }
+    {
+        self.disk.as_ref()
+    }
+
+    /// Gives it a disk.
+    pub(crate) fn set_disk(&mut self, disk: DiskPlan)
+        ensures { guest_said self.new ≡ record (guest_said self.old) { disk = Some (disk_said disk) } }
+    {
+        self.disk = Some(disk);
     }
 }
 

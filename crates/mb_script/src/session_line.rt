@@ -1,15 +1,19 @@
 //! What one line of a session file says by itself.
 
 ghost use Rattle.std.specs.Prelude.{◌≡◌, ◌≢◌, ◌≤◌, IfOk, IfSome, IsTrue, OnOk, map, option_map, string_bytes, take};
-ghost use Rattle.mb_script.specs.Plan.{IsBoard, IsRam, IsTurnOf};
+ghost use Rattle.mb_script.specs.Plan.{HasDisk, IsBlocks, IsBoard, IsRam, IsTurnOf};
 ghost use Rattle.mb_script.specs.Sessions.{argument_in, argument_of, board_line, board_of, fields_of, guest_line, guest_of, is_blank, is_graphic, is_name, ram_of, script_named, session_line, slice_line, version_of, words_of};
-ghost use Rattle.mb_script.specs.Sessions.{begins_turn, ends_guests, guest_number_of, turn_line, turn_of, turn_words_of};
-ghost use Rattle.mb_script.specs.Answers.{GivesAlone, bytes_said, cut_said, fields_said, guest_said};
+ghost use Rattle.mb_script.specs.Sessions.{begins_disk, begins_turn, blocks_of, disk_of, disk_words_of, ends_guests};
+ghost use Rattle.mb_script.specs.Sessions.{guest_number_of, turn_line, turn_of, turn_words_of};
+ghost use Rattle.mb_script.specs.Answers.{GivesAlone, bytes_said, cut_said, disk_given, disk_said, fields_said, guest_said};
+ghost use Rattle.mb_script.specs.Answers.{three_said};
 
 use crate::fault::{LineWhy, Refusal};
 use crate::number::{number_of, positive_of};
-use crate::plan::GuestPlan;
-use crate::sizes::{LEAST_BOARD, LEAST_RAM, MOST_BOARD, MOST_GUESTS, MOST_RAM, SIZE_UNIT};
+use crate::plan::{DiskPlan, GuestPlan};
+use crate::sizes::{
+    LEAST_BOARD, LEAST_RAM, MOST_BLOCKS, MOST_BOARD, MOST_GUESTS, MOST_RAM, SIZE_UNIT,
+};
 use crate::turn::Turn;
 use std::alloc::{AllocError, Global};
 
@@ -56,6 +60,7 @@ pub(crate) fn slice(alloc: Global, line: &[u8]) -> Result<u32, Refusal>
 pub(crate) fn guest(alloc: Global, count: usize, line: &[u8]) -> Result<GuestPlan, Refusal>
     ensures given { GivesAlone guest_said result (guest_line count line.now) }
     ensures ram { IfOk result (λ guest. IsRam (guest_said guest).ram) }
+    ensures disk { IfOk result (λ guest. HasDisk (guest_said guest)) }
     ensures few { OnOk result (count ≢ MOST_GUESTS) }
 {
     let words = first_words(alloc, line)?;
@@ -66,8 +71,8 @@ pub(crate) fn guest(alloc: Global, count: usize, line: &[u8]) -> Result<GuestPla
     Ok(guest)
 }
 
-/// Whether a line is that of a turn, before which the guests end; version 1 has none.
-#[tactic(auto, using(crate::proofs::Enough::begins_by_six))]
+/// Whether a line is that of a disk or of a turn, before which the guests end; version 1 has none.
+#[tactic(auto, using(crate::proofs::Enough::begins_by_six, crate::proofs::Enough::disk_begins_by_six))]
 pub(crate) fn ends_guests(alloc: Global, version: u32, line: &[u8]) -> Result<bool, AllocError>
     ensures { IfOk result (λ ends. ends ≡ ends_guests version line.now) }
 {
@@ -75,7 +80,27 @@ pub(crate) fn ends_guests(alloc: Global, version: u32, line: &[u8]) -> Result<bo
         return Ok(false);
     }
     let words = first_words(alloc, line)?;
-    Ok(begins_turn(&words))
+    Ok(begins_disk(&words) || begins_turn(&words))
+}
+
+/// Whether a line is that of a disk.
+#[tactic(auto, using(crate::proofs::Enough::disk_begins_by_six))]
+pub(crate) fn is_disk(alloc: Global, line: &[u8]) -> Result<bool, AllocError>
+    ensures { IfOk result (λ is. is ≡ begins_disk (words_of line.now)) }
+{
+    let words = first_words(alloc, line)?;
+    Ok(begins_disk(&words))
+}
+
+/// The disk in a line, and which of so many guests has it.
+#[tactic(auto, using(crate::proofs::Enough::disk_by_six))]
+pub(crate) fn disk(alloc: Global, count: u8, line: &[u8]) -> Result<(u8, DiskPlan), Refusal>
+    ensures given { GivesAlone disk_given result (disk_of count (words_of line.now)) }
+    ensures number { IfOk result (λ (guest, _). (1 ≤ guest) × (guest ≤ count)) }
+    ensures blocks { IfOk result (λ (_, disk). IsBlocks (disk_said disk).blocks) }
+{
+    let words = first_words(alloc, line)?;
+    disk_of(alloc, count, &words)
 }
 
 /// The turn in a line, of one of so many guests.
@@ -221,6 +246,7 @@ fn fields_of<'a>(words: &[&'a [u8]]) -> Option<Fields<'a>>
 fn guest_of(alloc: Global, words: &[&[u8]]) -> Result<GuestPlan, Refusal>
     ensures given { GivesAlone guest_said result (guest_of (map bytes_said words.now)) }
     ensures ram { IfOk result (λ guest. IsRam (guest_said guest).ram) }
+    ensures disk { IfOk result (λ guest. HasDisk (guest_said guest)) }
 {
     let Some(fields) = fields_of(words) else {
         return Err(Refusal::Why(LineWhy::Word));
@@ -233,7 +259,61 @@ fn guest_of(alloc: Global, words: &[&[u8]]) -> Result<GuestPlan, Refusal>
     };
     let image = text_of(alloc, fields.image)?;
     let script = script_named(alloc, fields.script)?;
-    Ok(GuestPlan::new(ram, steps, image, script))
+    Ok(GuestPlan::new(ram, steps, image, script, None))
+}
+
+/// Whether the first word is `disk`.
+fn begins_disk(words: &[&[u8]]) -> bool
+    ensures { result ≡ begins_disk (map bytes_said words.now) }
+{
+    match words {
+        [first, ..] => *first == b"disk".as_slice(),
+        [] => false,
+    }
+}
+
+/// `disk I BLOCKS NAME`.
+fn disk_words_of<'a>(words: &[&'a [u8]]) -> Option<(&'a [u8], &'a [u8], &'a [u8])>
+    ensures given { option_map three_said result ≡ disk_words_of (map bytes_said words.now) }
+    ensures name { IfSome result (λ (_, _, name). IsTrue (is_name name.now)) }
+{
+    match words {
+        [first, guest, blocks, name] if *first == b"disk".as_slice() && is_name(name) => {
+            Some((*guest, *blocks, *name))
+        }
+        _ => None,
+    }
+}
+
+/// 1 to 32,768.
+fn blocks_of(word: &[u8]) -> Option<u32>
+    ensures given { result ≡ blocks_of word.now }
+    ensures in_range { IfSome result IsBlocks }
+{
+    let blocks = number_of(word)?;
+    if blocks < 1 || blocks > MOST_BLOCKS {
+        return None;
+    }
+    Some(blocks)
+}
+
+/// The disk that a line's words name, and which of so many guests has it.
+fn disk_of(alloc: Global, count: u8, words: &[&[u8]]) -> Result<(u8, DiskPlan), Refusal>
+    ensures given { GivesAlone disk_given result (disk_of count (map bytes_said words.now)) }
+    ensures number { IfOk result (λ (guest, _). (1 ≤ guest) × (guest ≤ count)) }
+    ensures blocks { IfOk result (λ (_, disk). IsBlocks (disk_said disk).blocks) }
+{
+    let Some((guest, blocks, name)) = disk_words_of(words) else {
+        return Err(Refusal::Why(LineWhy::Word));
+    };
+    let Some(guest) = guest_number_of(count, guest) else {
+        return Err(Refusal::Why(LineWhy::Number));
+    };
+    let Some(blocks) = blocks_of(blocks) else {
+        return Err(Refusal::Why(LineWhy::Number));
+    };
+    let contents = script_named(alloc, name)?;
+    Ok((guest, DiskPlan::new(blocks, contents)))
 }
 
 /// Whether the first word is `turn`.

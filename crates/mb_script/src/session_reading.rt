@@ -1,17 +1,18 @@
 //! A text as the plan of a session.
 
-ghost use Rattle.std.specs.Prelude.{◌≡◌, ◌≢◌, ◌<◌, ◌≤◌, ◌^◌, All, IfErr, IfOk, Ok, OnOk, length, map, option_map};
+ghost use Rattle.std.specs.Prelude.{◌≡◌, ◌≢◌, ◌<◌, ◌≤◌, ◌^◌, All, IfErr, IfOk, Ok, OnOk, length, map, option_map, MatchResult};
 ghost use Rattle.mb_lines.specs.Lines.{left, past};
 ghost use Rattle.mb_lines.specs.Answers.{line_said};
 ghost use Rattle.mb_script.specs.Lines.{ahead, read_by, statements};
 ghost use Rattle.mb_script.specs.declared.sizes.TheConstants.{MOST_GUESTS};
-ghost use Rattle.mb_script.specs.Plan.{AreRams, IsBoard, IsInRange, IsRam, IsTurnOf};
-ghost use Rattle.mb_script.specs.Sessions.{guest_line, guests_of, plan_of, session_of, turn_line, turns_of};
+ghost use Rattle.mb_script.specs.Plan.{AreRams, HasDisk, IsBlocks, IsBoard, IsInRange, IsRam, IsTurnOf};
+ghost use Rattle.mb_script.specs.Sessions.{disk_line, disks_of, equipped, guest_line, guests_of, plan_of, session_of};
+ghost use Rattle.mb_script.specs.Sessions.{turn_line, turns_of};
 ghost use Rattle.mb_script.specs.Sessions.{board_line, due, session_line, slice_line};
-ghost use Rattle.mb_script.specs.Answers.{Faults, Gives, guest_said, plan_said};
+ghost use Rattle.mb_script.specs.Answers.{Faults, Gives, disk_said, guest_said, plan_said};
 
-use crate::fault::LineFault;
-use crate::plan::{GuestPlan, SessionPlan};
+use crate::fault::{LineFault, LineWhy};
+use crate::plan::{DiskPlan, GuestPlan, SessionPlan};
 use crate::session_line;
 use crate::statement::{due_statement, next_statement};
 use crate::turn::Turn;
@@ -20,7 +21,7 @@ use std::alloc::Global;
 
 /// Reads a session file: the lines `session 1` or `session 2`, `board KIB`, `slice N` and then one to sixteen
 /// `guest RAM STEPS IMAGE SCRIPT`, with words that are parted by spaces and tabs; behind them, in version 2, lines
-/// `turn I N`.
+/// `disk I BLOCKS NAME`, and behind these lines `turn I N`.
 ///
 /// KIB and RAM are sizes in KiB, N of a slice is its steps, STEPS a bound on a guest's steps. IMAGE and
 /// SCRIPT are names of files, of the bytes from $21 to $7E; the script `-` is none. A turn is one of guest I, numbered
@@ -45,7 +46,8 @@ fn plan_of(alloc: Global, lines: &mut Lines) -> Result<SessionPlan, LineFault>
     let version = version(alloc, lines)?;
     let board = board(alloc, lines)?;
     let slice = slice(alloc, lines)?;
-    let (guests, first_turn) = guests(alloc, version, lines)?;
+    let (mut guests, behind) = guests(alloc, version, lines)?;
+    let first_turn = disks(alloc, &mut guests, behind, lines)?;
     let order = order(alloc, guests.len() as u8, first_turn, lines)?;
     Ok(SessionPlan::new(board, slice, guests, order))
 }
@@ -82,7 +84,7 @@ fn slice(alloc: Global, lines: &mut Lines) -> Result<u32, LineFault>
     slice.map_err(|refusal| refusal.at(line.number))
 }
 
-/// One guest or more, and the line of the first turn, if there is one.
+/// One guest or more, and the line of the first disk or turn, if there is one.
 fn guests<'a>(
     alloc: Global,
     version: u32,
@@ -96,6 +98,7 @@ fn guests<'a>(
     ensures some { IfOk result (λ (guests, _). 1 ≤ length guests.items) }
     ensures few { IfOk result (λ (guests, _). length guests.items ≤ MOST_GUESTS) }
     ensures rams { IfOk result (λ (guests, _). AreRams (map guest_said guests.items)) }
+    ensures disks { IfOk result (λ (guests, _). All HasDisk (map guest_said guests.items)) }
 {
     let mut guests = Vec::new(alloc);
     let first = due_statement(lines)?;
@@ -114,10 +117,84 @@ fn guests<'a>(
 fn guest_in(alloc: Global, count: usize, line: Line) -> Result<GuestPlan, LineFault>
     ensures given { Gives guest_said result (read_by (guest_line count) (line_said line.entry)) }
     ensures ram { IfOk result (λ guest. IsRam (guest_said guest).ram) }
+    ensures disk { IfOk result (λ guest. HasDisk (guest_said guest)) }
     ensures few { OnOk result (count ≢ MOST_GUESTS) }
 {
     let guest = session_line::guest(alloc, count, line.characters);
     guest.map_err(|refusal| refusal.at(line.number))
+}
+
+/// The disks of the guests, and the line of the first turn, if there is one; the line of the first disk or turn was
+/// read.
+fn disks<'a>(
+    alloc: Global,
+    guests: &mut Vec<GuestPlan>,
+    first: Option<Line<'a>>,
+    lines: &mut Lines<'a>,
+) -> Result<Option<Line<'a>>, LineFault>
+    requires few { length guests.old.items ≤ MOST_GUESTS }
+    requires rams { AreRams (map guest_said guests.old.items) }
+    requires disks { All HasDisk (map guest_said guests.old.items) }
+    ensures given { Gives (λ turn. (
+      map guest_said guests.new.items,
+      ahead (option_map line_said turn) (statements (left lines.new)),
+    )) result
+        (disks_of (map guest_said guests.old.items)
+        (ahead (option_map line_said first.entry) (statements (left lines.old)))) }
+    ensures count { length guests.new.items ≡ length guests.old.items }
+    ensures rams { AreRams (map guest_said guests.new.items) }
+    ensures disks { All HasDisk (map guest_said guests.new.items) }
+{
+    let mut next = first;
+    while let Some(line) = next {
+        if !session_line::is_disk(alloc, line.characters)? {
+            return Ok(Some(line));
+        }
+        disk_in(alloc, guests, line)?;
+        next = next_statement(lines);
+    }
+    Ok(None)
+}
+
+/// Gives a disk to the guest at a place, which has none.
+fn equip(guests: &mut [GuestPlan], place: usize, disk: DiskPlan) -> Result<(), LineWhy>
+    requires place { place < length guests.old }
+    requires blocks { IsBlocks (disk_said disk).blocks }
+    requires rams { AreRams (map guest_said guests.old) }
+    requires disks { All HasDisk (map guest_said guests.old) }
+    ensures given { MatchResult result
+        (λ _. equipped place (disk_said disk) (map guest_said guests.old) ≡ Ok (map guest_said guests.new))
+        (λ why. equipped place (disk_said disk) (map guest_said guests.old) ≡ Err why) }
+    ensures count { length guests.new ≡ length guests.old }
+    ensures rams { AreRams (map guest_said guests.new) }
+    ensures disks { All HasDisk (map guest_said guests.new) }
+{
+    if guests[place].disk().is_some() {
+        return Err(LineWhy::Many);
+    }
+    guests[place].set_disk(disk);
+    Ok(())
+}
+
+/// Gives the disk in a line to its guest.
+fn disk_in(alloc: Global, guests: &mut [GuestPlan], line: Line) -> Result<(), LineFault>
+    requires few { length guests.old ≤ MOST_GUESTS }
+    requires rams { AreRams (map guest_said guests.old) }
+    requires disks { All HasDisk (map guest_said guests.old) }
+    ensures given { Gives (λ _. map guest_said guests.new) result
+        (read_by (disk_line (map guest_said guests.old)) (line_said line.entry)) }
+    ensures count { length guests.new ≡ length guests.old }
+    ensures rams { AreRams (map guest_said guests.new) }
+    ensures disks { All HasDisk (map guest_said guests.new) }
+{
+    let number = line.number;
+    match session_line::disk(alloc, guests.len() as u8, line.characters) {
+        Ok((guest, disk)) => match equip(guests, guest as usize - 1, disk) {
+            Ok(()) => Ok(()),
+            Err(why) => Err(LineFault::Line { number, why }),
+        },
+        Err(refusal) => Err(refusal.at(number)),
+    }
 }
 
 /// The turns in all lines that are left, each of one of so many guests; the line of the first one was read.

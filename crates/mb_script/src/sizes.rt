@@ -15,5 +15,8 @@ pub const MOST_BOARD: u32 = 65_536;
 /// Each size is a multiple of this.
 pub const SIZE_UNIT: u32 = 64;
 
+/// The most blocks of a disk.
+pub const MOST_BLOCKS: u32 = 32_768;
+
 /// The most guests of a board.
 pub const MOST_GUESTS: usize = 16;

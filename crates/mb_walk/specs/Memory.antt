@@ -1,5 +1,5 @@
 -- Memory as a list of bytes, and big-endian numbers in it.
-use Rattle.std.specs.Prelude.{ℕ, ◌+◌, ◌^◌, ◌<◌, List, ◌++◌, length, take, drop}
+use Rattle.std.specs.Prelude.{ℕ, ◌+◌, ◌^◌, ◌<◌, List, [], ◌∷◌, ◌++◌, length, take, drop}
 use Rattle.std.specs.List.{All}
 use Rattle.byteorder.specs.Endian.{big_number, big_bytes}
 
@@ -14,6 +14,15 @@ overwritten ram at bytes = take at ram ++ bytes ++ drop (at + length bytes) ram
 -- memory with a number of so many bytes from a place on
 abbrev pub with_number : List ℕ → ℕ → ℕ → ℕ → List ℕ
 with_number ram at len value = overwritten ram at (big_bytes len value)
+
+-- data at addresses: each with the bytes that stand from there on
+abbrev pub Contents : Type 0
+Contents = List (ℕ × List ℕ)
+
+-- memory with such data, later ones over earlier ones
+abbrev pub with_contents : List ℕ → Contents → List ℕ
+with_contents ram [] = ram
+with_contents ram ((at, bytes) ∷ chunks) = with_contents (overwritten ram at bytes) chunks
 
 -- each element is a byte
 abbrev pub AreBytes : List ℕ → Type 0

@@ -3,7 +3,7 @@ use Rattle.std.specs.Prelude.{◌≤◌, ◌+◌, ◌-◌, ◌*◌, ◌%◌, ◌
 use Rattle.std.specs.Prelude.{if◌then◌else◌}
 use Rattle.std.specs.Prelude.{List, [], ◌∷◌, length, Option, Some, None, option_and_then, option_map}
 use denote.Ref.{Bor}
-use Rattle.mb_script.specs.declared.sizes.TheConstants.{LEAST_RAM, MOST_GUESTS, MOST_RAM, SIZE_UNIT}
+use Rattle.mb_script.specs.declared.sizes.TheConstants.{LEAST_RAM, MOST_BLOCKS, MOST_GUESTS, MOST_RAM, SIZE_UNIT}
 use Rattle.mb_script.specs.Words.{digits_after, is_digit, tested}
 use Rattle.mb_forms.specs.Forms.{Text, Use, value_in}
 use Rattle.mb_forms.specs.Said.{text_said}
@@ -53,6 +53,10 @@ word_address_of text = option_and_then (tested (λ at. at % 2 == 0)) (hex_of tex
 -- the RAM of a machine in KiB: 64 to 16,384, a multiple of 64
 abbrev pub ram_of : Text → Option ℕ
 ram_of text = option_and_then (tested (λ kib. kib % SIZE_UNIT == 0)) (ranged LEAST_RAM MOST_RAM text)
+
+-- how many blocks a disk has: 1 to 32,768
+abbrev pub blocks_of : Text → Option ℕ
+blocks_of text = ranged 1 MOST_BLOCKS text
 
 -- the seed of a session that is made: up to 2^32 - 1
 abbrev pub seed_of : Text → Option ℕ

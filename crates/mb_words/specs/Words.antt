@@ -5,22 +5,29 @@ use Rattle.std.specs.Str.{bytes_eq}
 pub use Rattle.mb_forms.specs.Forms.{Text}
 use Rattle.mb_forms.specs.Forms.{Form, Use, read}
 use Rattle.mb_words.specs.Values.{file_said, said_by, said_if_given, name_of, ram_of, ranged, word_address_of}
-use Rattle.mb_words.specs.Values.{guests_of, seed_of}
+use Rattle.mb_words.specs.Values.{blocks_of, guests_of, seed_of}
 use Rattle.mb_words.specs.declared.asm.Asm.{Asm}
 use Rattle.mb_words.specs.declared.bare.Bare.{Bare}
+use Rattle.mb_words.specs.declared.bare.BareDisk.{BareDisk}
 use Rattle.mb_words.specs.declared.dis.Dis.{Dis}
 use Rattle.mb_words.specs.declared.generate.Generate.{Generate}
 use Rattle.mb_words.specs.declared.session.SessionFile.{SessionFile}
 use Rattle.mb_words.specs.declared.command.Command.{Command}
 use Rattle.mb_words.specs.declared.command.Command.TheVariants as command
 
--- a run of a machine: the name of its image's file, its RAM in KiB, its steps, and the name of its script's
--- file, where it has one
+-- a disk of a machine: how many blocks it has, and the name of the file with its contents, where it has any
+pub record RunDisk : Type 0 where
+  pub blocks : ℕ
+  pub contents : Option Text
+
+-- a run of a machine: the name of its image's file, its RAM in KiB, its steps, the name of its script's file, where it
+-- has one, and its disk, where it has one
 pub record Run : Type 0 where
   pub image : Text
   pub ram : ℕ
   pub steps : ℕ
   pub script : Option Text
+  pub disk : Option RunDisk
 
 -- an excerpt of a machine's opening memory: the name of its image's file, its RAM in KiB, the address of the first
 -- line, and how many lines
@@ -46,8 +53,17 @@ pub data Asked : Type 0 where
   comparison : Text → Asked
   generation : Workload → Asked
 
+abbrev pub disk_said : BareDisk → RunDisk
+disk_said d = record { blocks = d.blocks; contents = file_said d.contents }
+
 abbrev pub run_said : Bare → Run
-run_said b = record { image = b.image.now; ram = b.ram; steps = b.steps; script = file_said b.script }
+run_said b = record {
+  image = b.image.now;
+  ram = b.ram;
+  steps = b.steps;
+  script = file_said b.script;
+  disk = option_map disk_said b.disk;
+}
 
 abbrev pub source_said : Asm → Text
 source_said a = a.source.now
@@ -69,7 +85,7 @@ asked_of (command.Host s) = hosting (session_said s)
 asked_of (command.Compare s) = comparison (session_said s)
 asked_of (command.Gen g) = generation (workload_said g)
 
--- `bare IMAGE --ram KIB --steps N [--script FILE]`
+-- `bare IMAGE --ram KIB --steps N [--script FILE] [--disk BLOCKS [--contents FILE]]`
 abbrev pub bare_form : Form
 bare_form = record {
   name = codes "bare";
@@ -78,14 +94,27 @@ bare_form = record {
       record { name = codes "ram"; required = true }
       ∷ record { name = codes "steps"; required = true }
       ∷ record { name = codes "script"; required = false }
+      ∷ record { name = codes "disk"; required = false }
+      ∷ record { name = codes "contents"; required = false }
       ∷ [];
 }
 
+-- a disk, where its values say something: contents are those of a disk alone
+abbrev pub disk_with : Option (Option ℕ) → Option (Option Text) → Option (Option RunDisk)
+disk_with (Some (Some blocks)) (Some contents) = Some (Some (record { blocks = blocks; contents = contents }))
+disk_with (Some None) (Some None) = Some None
+disk_with _ _ = None
+
+abbrev pub bare_disk : List Use → Option (Option RunDisk)
+bare_disk uses = disk_with
+    (said_if_given blocks_of (codes "disk") uses)
+    (said_if_given name_of (codes "contents") uses)
+
 -- a run, where each of its values says something
-abbrev pub run_with : Option Text → Option ℕ → Option ℕ → Option (Option Text) → Option Run
-run_with (Some image) (Some ram) (Some steps) (Some script) =
-    Some (record { image = image; ram = ram; steps = steps; script = script })
-run_with _ _ _ _ = None
+abbrev pub run_with : Option Text → Option ℕ → Option ℕ → Option (Option Text) → Option (Option RunDisk) → Option Run
+run_with (Some image) (Some ram) (Some steps) (Some script) (Some disk) =
+    Some (record { image = image; ram = ram; steps = steps; script = script; disk = disk })
+run_with _ _ _ _ _ = None
 
 -- the run that the values of `bare` ask for
 abbrev pub bare_run : List Use → Option Run
@@ -94,6 +123,7 @@ bare_run uses = run_with
     (said_by ram_of (codes "ram") uses)
     (said_by (ranged 0 4294967295) (codes "steps") uses)
     (said_if_given name_of (codes "script") uses)
+    (bare_disk uses)
 
 -- `asm SOURCE`
 abbrev pub asm_form : Form

@@ -1,6 +1,16 @@
 //! The command `bare`.
 
-ghost use Rattle.mb_script.specs.Plan.{IsRam};
+ghost use Rattle.mb_script.specs.Plan.{IsBlocks, IsRam};
+
+/// A disk of a machine: how many blocks it has, and its contents.
+#[derive(Clone, Copy, Debug, Drop)]
+pub struct BareDisk<'a> {
+    /// 1 to 32,768.
+    pub blocks: u32,
+    /// The name of the file with its contents, where there is one. It is not empty.
+    pub contents: Option<&'a str>,
+    pub ghost in_range: { IsBlocks blocks },
+}
 
 /// `bare`: a machine by its image, its RAM, its steps and its terminal's input.
 #[derive(Clone, Copy, Debug, Drop)]
@@ -12,5 +22,6 @@ pub struct Bare<'a> {
     pub steps: u32,
     /// The name of the script's file, where there is one. It is not empty.
     pub script: Option<&'a str>,
+    pub disk: Option<BareDisk<'a>>,
     pub ghost in_range: { IsRam ram },
 }

@@ -20,7 +20,7 @@ mod session_words;
 mod values;
 
 pub use asm::Asm;
-pub use bare::Bare;
+pub use bare::{Bare, BareDisk};
 pub use command::Command;
 pub use dis::Dis;
 pub use generate::Generate;

@@ -1,12 +1,12 @@
 //! What a value of the command line says by itself.
 
 ghost use Rattle.std.specs.Prelude.{◌≡◌, ◌*◌, ◌%◌, ◌<◌, IfSome, option_map};
-ghost use Rattle.mb_script.specs.Plan.{IsRam};
+ghost use Rattle.mb_script.specs.Plan.{IsBlocks, IsRam};
 ghost use Rattle.mb_forms.specs.Said.{text_said};
 ghost use Rattle.mb_words.specs.Values.{IsGuestCount, digit_of, file_said, guests_of, hex_of, if_given, name_of};
-ghost use Rattle.mb_words.specs.Values.{number_of, ram_of, ranged, word_address_of};
+ghost use Rattle.mb_words.specs.Values.{blocks_of, number_of, ram_of, ranged, word_address_of};
 
-use mb_script::{LEAST_RAM, MOST_GUESTS, MOST_RAM, SIZE_UNIT};
+use mb_script::{LEAST_RAM, MOST_BLOCKS, MOST_GUESTS, MOST_RAM, SIZE_UNIT};
 
 /// A file's name, which is not empty.
 pub(crate) fn name(text: &str) -> Option<&str>
@@ -107,6 +107,17 @@ pub(crate) fn ram(text: &str) -> Option<u32>
         return None;
     }
     Some(kib)
+}
+
+/// How many blocks a disk has: 1 to 32,768; none where they may be left out and are.
+pub(crate) fn blocks_if_given(text: Option<&str>) -> Option<Option<u32>>
+    ensures given { result ≡ if_given blocks_of (file_said text.entry) }
+    ensures in_range { IfSome result (λ blocks. IfSome blocks IsBlocks) }
+{
+    match text {
+        None => Some(None),
+        Some(text) => Some(Some(ranged(1, MOST_BLOCKS, text)?)),
+    }
 }
 
 /// How many guests a session has: 1 to 16.

@@ -2,6 +2,8 @@
 
 use mb_devices::Devices;
 use mb_port::Place;
+use mb_srec::Image;
+use vm_disk::Disk;
 
 const BASE: u32 = 0xfff0_0000;
 
@@ -95,35 +97,56 @@ fn each_operation_leaves(rt: HostRuntime) {
     }
 }
 
-#[test]
-fn a_register_has_one_size(rt: HostRuntime) {
-    let mut devices = Devices::new(rt.alloc(), 0x1_0000).expect(&rt, "ample memory");
-    devices.receive(0x41);
-    let there = [
-        (0x00, 1),
-        (0x01, 1),
-        (0x02, 1),
-        (0x10, 4),
-        (0x14, 4),
-        (0x18, 4),
-        (0x20, 4),
-        (0x24, 4),
-    ];
-    for offset in 0..0x30 {
+/// The places of the registers, each with its size: first those of all devices, then those of a disk.
+static REGISTERS: [(u32, u8); 12] = [
+    (0x00, 1),
+    (0x01, 1),
+    (0x02, 1),
+    (0x10, 4),
+    (0x14, 4),
+    (0x18, 4),
+    (0x20, 4),
+    (0x24, 4),
+    (0x30, 4),
+    (0x34, 4),
+    (0x38, 4),
+    (0x3c, 4),
+];
+
+/// Whether these are all registers that there are.
+fn are_all_registers(devices: &mut Devices, there: &[(u32, u8)]) -> bool {
+    for offset in 0..0x50 {
         for len in [1u8, 2, 4] {
             let has = there.contains(&(offset, len));
-            assert!(rt; devices.has(place(offset, len)) == has, "{offset} {len}");
-            if !has {
-                assert!(rt; devices.read(place(offset, len)) == None, "{offset} {len}");
-                assert!(rt;
-                    devices.write(place(offset, len), 1) == None,
-                    "{offset} {len}"
-                );
+            let place = place(offset, len);
+            if devices.has(place) != has || devices.read(place).is_some() != has {
+                return false;
+            }
+            if !has && devices.write(place, 1).is_some() {
+                return false;
             }
         }
     }
+    true
+}
+
+#[test]
+fn a_register_has_one_size(rt: HostRuntime) {
+    let mut devices = Devices::new(rt.alloc(), 0x1_0000).expect(&rt, "ample memory");
+    assert!(rt; are_all_registers(&mut devices, &REGISTERS[..8]));
     assert!(rt; !devices.has(Place { at: 0x24, len: 4 }));
-    assert!(rt; left(&devices) == [3, 0, 0, 0, 0, 0, 0, 0]);
+    assert!(rt; left(&devices) == [2, 0, 0, 0, 0, 0, 0, 0]);
+    assert!(rt; devices.disk().is_none());
+    let contents = Image::new(Vec::new(rt.alloc()));
+    let disk = Disk::new(rt.alloc(), 3, &contents).expect(&rt, "ample memory");
+    devices.attach(disk);
+    assert!(rt; are_all_registers(&mut devices, &REGISTERS));
+    assert!(rt; devices.read(place(0x30, 4)) == Some(3));
+    devices.write(place(0x34, 4), 2);
+    devices.reset();
+    assert!(rt; devices.read(place(0x34, 4)) == Some(0));
+    devices.restart();
+    assert!(rt; devices.disk().is_some_and(|disk| disk.blocks() == 3));
 }
 
 #[test]

@@ -1,9 +1,11 @@
-//! Tests of machines and their parts: searches through tables, kept translations, shadow tables, devices, boards,
-//! guests on boards, hosts, and generated sessions.
+//! Tests of machines and their parts: searches through tables, kept translations, shadow tables, devices, disks,
+//! boards, guests on boards, hosts, and generated sessions.
 #![tactic(auto)]
 
 #[cfg(test)]
 mod devices;
+#[cfg(test)]
+mod disks;
 #[cfg(test)]
 mod generated;
 #[cfg(test)]

@@ -35,20 +35,20 @@ use Rattle.vm_guest.proofs.Stops.{stopped_by}
 use Rattle.vm_guest.proofs.Takings.{assisted_takes, idle_takes}
 
 -- of the guest in the middle of its step
-pub record Found (b : Seat) (ram : List ℕ) (size : ℕ) (native : NativeState) (n : ℕ) : Type 0 where
+pub record Found (b : Seat) (ram : List ℕ) (devices : DeviceState) (native : NativeState) (n : ℕ) : Type 0 where
   pub tried : assisted (level_on b) b.cpu ≡ None
   pub none : NoneDue b.script b.steps n
   pub due : IsNotDue n b.devices
   pub seven : length b.cpu.regs.a ≡ 7
   pub bytes : AreBytes ram
   pub small : length ram ≤ 2 ^ 32
-  pub fit : FitsAlong (suc n) (guest_start b ram size native)
+  pub fit : FitsAlong (suc n) (guest_start b ram devices native)
 
-pub may_run : (g : Seat) (ram : List ℕ) (size : ℕ) (native : NativeState) (n : ℕ) → IsSeated g ram → IsGoing g → takes_steps g.state ≡ true
-    → Found (begun_seat g) ram size native n → MayRun g ram size native n
-may_run g ram size native n seated going takes h = record {
+pub may_run : (g : Seat) (ram : List ℕ) (devices : DeviceState) (native : NativeState) (n : ℕ) → IsSeated g ram → IsGoing g → takes_steps g.state ≡ true
+    → Found (begun_seat g) ram devices native n → MayRun g ram devices native n
+may_run g ram devices native n seated going takes h = record {
   seated = seated;
-  set = reset_is_set g ram size;
+  set = reset_is_set g ram devices;
   bytes = h.bytes;
   small = h.small;
   running = is_running g going takes (none_assisted (level_on (begun_seat g)) g.cpu h.tried).awake;
@@ -65,23 +65,23 @@ pub asked_is : (b w : Seat) (level : ℕ) → w ≡ b → level ≡ level_on b �
 asked_is b w level view is =
     ap (λ (k : ℕ). assisted k b.cpu) (sym is) ∙ sym (ap (λ (x : Seat). assisted level x.cpu) view)
 
-pub found_by : (b w : Seat) (ram : List ℕ) (size : ℕ) (native : NativeState) (n level : ℕ) → w ≡ b → level ≡ level_on b
+pub found_by : (b w : Seat) (ram : List ℕ) (devices : DeviceState) (native : NativeState) (n level : ℕ) → w ≡ b → level ≡ level_on b
     → assisted level w.cpu ≡ None → NoneDue w.script w.steps n → IsNotDue n w.devices → length b.cpu.regs.a ≡ 7 → AreBytes ram
-    → length ram ≤ 2 ^ 32 → FitsAlong (n + 1) (guest_start b ram size native) → Found b ram size native n
-found_by b w ram size native n level view is tried none due seven bytes small fit = record {
+    → length ram ≤ 2 ^ 32 → FitsAlong (n + 1) (guest_start b ram devices native) → Found b ram devices native n
+found_by b w ram devices native n level view is tried none due seven bytes small fit = record {
   tried = asked_is b w level view is ∙ tried;
   none = subst (λ (x : Seat). NoneDue x.script x.steps n) view none;
   due = subst (λ (x : Seat). IsNotDue n x.devices) view due;
   seven = seven;
   bytes = bytes;
   small = small;
-  fit = subst (λ (k : ℕ). FitsAlong k (guest_start b ram size native)) (let e : n + 1 ≡ suc n = omega arith in e) fit;
+  fit = subst (λ (k : ℕ). FitsAlong k (guest_start b ram devices native)) (let e : n + 1 ≡ suc n = omega arith in e) fit;
 }
 
-pub may_by : (g b : Seat) (ram : List ℕ) (size : ℕ) (native : NativeState) (n : ℕ) → b ≡ begun_seat g → IsSeated g ram → IsGoing g
-    → takes_steps g.state ≡ true → Found b ram size native n → MayRun g ram size native n
-may_by g b ram size native n is seated going takes found =
-    may_run g ram size native n seated going takes (subst (λ (s : Seat). Found s ram size native n) is found)
+pub may_by : (g b : Seat) (ram : List ℕ) (devices : DeviceState) (native : NativeState) (n : ℕ) → b ≡ begun_seat g → IsSeated g ram → IsGoing g
+    → takes_steps g.state ≡ true → Found b ram devices native n → MayRun g ram devices native n
+may_by g b ram devices native n is seated going takes found =
+    may_run g ram devices native n seated going takes (subst (λ (s : Seat). Found s ram devices native n) is found)
 
 -- it stands as before
 pub stands : (g b : Seat) (ram : List ℕ) → b ≡ begun_seat g → IsSeated g ram → IsSeated b ram
@@ -130,13 +130,13 @@ idle_by g b h ram native n is seated going takes idles goes =
 
 -- ---- steps that the board has carried out
 
-pub counted_by : (g b h : Seat) (ram : List ℕ) (size : ℕ) (native : NativeState) (n : ℕ) (u : Ran) (p : Plain) → b ≡ begun_seat g
-    → MayRun g ram size native n → u ≡ guest_run b ram size native (suc n) → u.end ≡ Counted → length u.machine.cpu.regs.a ≡ 7
+pub counted_by : (g b h : Seat) (ram : List ℕ) (devices : DeviceState) (native : NativeState) (n : ℕ) (u : Ran) (p : Plain) → b ≡ begun_seat g
+    → MayRun g ram devices native n → u ≡ guest_run b ram devices native (suc n) → u.end ≡ Counted → length u.machine.cpu.regs.a ≡ 7
     → p ≡ plain_of u.machine.cpu.regs → h ≡ gone_on b n (suc n) p → Takes (suc n) (scene g ram native) (scene h u.machine.world.ram u.native)
-counted_by g b h ram size native n u p is may ran end wide plain goes =
+counted_by g b h ram devices native n u p is may ran end wide plain goes =
     subst (λ (s : Seat). Takes (suc n) (scene g ram native) (scene s u.machine.world.ram u.native))
     (sym (goes ∙ ap (λ (s : Seat). gone_on s n (suc n) p) is))
-    (counted_takes g (reset_for g ram size) native n may u (ran ∙ ap (λ (s : Seat). guest_run s ram size native (suc n)) is) end wide p plain)
+    (counted_takes g (reset_for g ram devices) native n may u (ran ∙ ap (λ (s : Seat). guest_run s ram devices native (suc n)) is) end wide p plain)
 
 -- ---- it goes on
 
@@ -170,11 +170,12 @@ goes_idle g b h n is going takes goes = subst IsGoing (sym (goes ∙ ap (idled_o
 
 -- ---- what boards count
 
-pub counted_native_by : (g b : Seat) (ram : List ℕ) (size : ℕ) (native : NativeState) (n : ℕ) (u : Ran) → b ≡ begun_seat g → MayRun g ram size native n
-    → u ≡ guest_run b ram size native (suc n) → u.end ≡ Counted
+pub counted_native_by : (g b : Seat) (ram : List ℕ) (devices : DeviceState) (native : NativeState) (n : ℕ) (u : Ran)
+    → b ≡ begun_seat g → MayRun g ram devices native n
+    → u ≡ guest_run b ram devices native (suc n) → u.end ≡ Counted
     → (u.native.retired ≡ native.retired + suc n) × (u.native.exceptions ≡ native.exceptions)
-counted_native_by g b ram size native n u is may ran end =
-    counted_native g (reset_for g ram size) native n may u (ran ∙ ap (λ (s : Seat). guest_run s ram size native (suc n)) is) end
+counted_native_by g b ram devices native n u is may ran end =
+    counted_native g (reset_for g ram devices) native n may u (ran ∙ ap (λ (s : Seat). guest_run s ram devices native (suc n)) is) end
 
 -- ---- a step that the board left
 
@@ -185,17 +186,19 @@ pub record Leaving (native : NativeState) (n : ℕ) (after : BoardState) (counts
   pub exceptions : counts.exceptions ≡ native.exceptions + 1
   pub frame : HasFrame after
 
-left_by_run : (g b : Seat) (ram : List ℕ) (size : ℕ) (native : NativeState) (n : ℕ) (e : RunEnd) (after : BoardState) (counts : NativeState) (v : ℕ)
-    → b ≡ begun_seat g → MayRun g ram size native n → ran_to e after counts ≡ guest_run b ram size native (suc n) → e ≡ Exit v
+left_by_run : (g b : Seat) (ram : List ℕ) (devices : DeviceState) (native : NativeState) (n : ℕ) (e : RunEnd) (after : BoardState)
+    (counts : NativeState) (v : ℕ) → b ≡ begun_seat g → MayRun g ram devices native n
+    → ran_to e after counts ≡ guest_run b ram devices native (suc n) → e ≡ Exit v
     → length after.cpu.regs.a ≡ 7 → IsLeft g ram native (suc n) (ran_to e after counts)
-left_by_run g b ram size native n e after counts v is may ran end wide =
-    is_left g (reset_for g ram size) native n may (ran_to e after counts) v (ran ∙ ap (λ (s : Seat). guest_run s ram size native (suc n)) is) end wide
+left_by_run g b ram devices native n e after counts v is may ran end wide =
+    is_left g (reset_for g ram devices) native n may (ran_to e after counts) v (ran ∙ ap (λ (s : Seat). guest_run s ram devices native (suc n)) is) end wide
 
-pub leaving : (g b : Seat) (ram : List ℕ) (size : ℕ) (native : NativeState) (n : ℕ) (e : RunEnd) (after : BoardState) (counts : NativeState) (v r : ℕ)
-    → b ≡ begun_seat g → MayRun g ram size native n → ran_to e after counts ≡ guest_run b ram size native (suc n) → e ≡ Exit v
+pub leaving : (g b : Seat) (ram : List ℕ) (devices : DeviceState) (native : NativeState) (n : ℕ) (e : RunEnd) (after : BoardState)
+    (counts : NativeState) (v r : ℕ) → b ≡ begun_seat g → MayRun g ram devices native n
+    → ran_to e after counts ≡ guest_run b ram devices native (suc n) → e ≡ Exit v
     → length after.cpu.regs.a ≡ 7 → r ≡ counts.retired - native.retired → Leaving native n after counts r
-leaving g b ram size native n e after counts v r is may ran end wide fewer =
-    let left = left_by_run g b ram size native n e after counts v is may ran end wide in
+leaving g b ram devices native n e after counts v r is may ran end wide fewer =
+    let left = left_by_run g b ram devices native n e after counts v is may ran end wide in
     let few = left.few in
     let count = left.counts in
     record {
@@ -206,37 +209,39 @@ leaving g b ram size native n e after counts v r is may ran end wide fewer =
     }
 
 -- the guest in the middle of that step
-stops_begun : (g : Seat) (ram : List ℕ) (size : ℕ) (native : NativeState) (n : ℕ) (may : MayRun g ram size native n) (e : RunEnd) (after : BoardState)
-    (counts : NativeState) (v : ℕ) (left : IsLeft g ram native (suc n) (ran_to e after counts)) → e ≡ Exit v
+stops_begun : (g : Seat) (ram : List ℕ) (devices : DeviceState) (native : NativeState) (n : ℕ) (may : MayRun g ram devices native n)
+    (e : RunEnd) (after : BoardState) (counts : NativeState) (v : ℕ) (left : IsLeft g ram native (suc n) (ran_to e after counts)) → e ≡ Exit v
     → IsStopped g ram native left.retired 0 (gone_on (begun_seat g) left.retired left.retired after.before) after counts v
-stops_begun g ram size native n may e after counts v left ends =
+stops_begun g ram devices native n may e after counts v left ends =
     let r = left.retired in
     let few : r ≤ n = (let less = left.few in omega arith) in
     let began = arrived (g.steps + 1) g.script g.devices in
     let s = gone_on (begun_seat g) r r after.before in
     let of : DeviceState → ℕ → Seat = λ d i. record s { devices = d; steps = i } in
-    let devices = left_is g (reset_for g ram size) native n may (ran_to e after counts) left in
+    let begins = left_is g (reset_for g ram devices) native n may (ran_to e after counts) left in
     let steps : g.steps + r ≡ g.steps + 1 + r - 1 = omega arith in
     stopped_by g ram native (suc n) e after counts v left ends s (record {
       begun = (let z : 0 < g.steps + 1 + r = omega arith in z);
       running = may.running;
       on = on_behind g r ∙ may.on;
       due = due_behind n r (begun_seat g).devices few may.due;
-    }) (ap (λ (d : DeviceState). of d (g.steps + r)) devices ∙ ap (λ (i : ℕ). of s.devices i) steps)
+    }) (ap (λ (d : DeviceState). of d (g.steps + r)) begins ∙ ap (λ (i : ℕ). of s.devices i) steps)
 
-pub stops : (g b s : Seat) (ram : List ℕ) (size : ℕ) (native : NativeState) (n : ℕ) (e : RunEnd) (after : BoardState) (counts : NativeState) (v r : ℕ)
-    → b ≡ begun_seat g → MayRun g ram size native n → ran_to e after counts ≡ guest_run b ram size native (suc n) → e ≡ Exit v
+pub stops : (g b s : Seat) (ram : List ℕ) (devices : DeviceState) (native : NativeState) (n : ℕ) (e : RunEnd) (after : BoardState)
+    (counts : NativeState) (v r : ℕ) → b ≡ begun_seat g → MayRun g ram devices native n
+    → ran_to e after counts ≡ guest_run b ram devices native (suc n) → e ≡ Exit v
     → length after.cpu.regs.a ≡ 7 → r ≡ counts.retired - native.retired → s ≡ gone_on b r r after.before
     → IsStopped g ram native r 0 s after counts v
-stops g b s ram size native n e after counts v r is may ran end wide fewer goes =
-    let left = left_by_run g b ram size native n e after counts v is may ran end wide in
+stops g b s ram devices native n e after counts v r is may ran end wide fewer goes =
+    let left = left_by_run g b ram devices native n e after counts v is may ran end wide in
     let same : left.retired ≡ r = (let c = left.counts in omega arith) in
     let seat : gone_on (begun_seat g) r r after.before ≡ s = ap (λ (x : Seat). gone_on x r r after.before) (sym is) ∙ sym goes in
     subst (λ (x : Seat). IsStopped g ram native r 0 x after counts v) seat
     (subst (λ (k : ℕ). IsStopped g ram native k 0 (gone_on (begun_seat g) k k after.before) after counts v) same
-    (stops_begun g ram size native n may e after counts v left end))
+    (stops_begun g ram devices native n may e after counts v left end))
 
-pub never_gone_by : (g b : Seat) (ram : List ℕ) (size : ℕ) (native : NativeState) (n : ℕ) (u : Ran) → b ≡ begun_seat g → MayRun g ram size native n
-    → u ≡ guest_run b ram size native (suc n) → u.end ≡ Gone → ⊥
-never_gone_by g b ram size native n u is may ran gone =
-    never_gone g (reset_for g ram size) native n may u (ran ∙ ap (λ (s : Seat). guest_run s ram size native (suc n)) is) gone
+pub never_gone_by : (g b : Seat) (ram : List ℕ) (devices : DeviceState) (native : NativeState) (n : ℕ) (u : Ran)
+    → b ≡ begun_seat g → MayRun g ram devices native n
+    → u ≡ guest_run b ram devices native (suc n) → u.end ≡ Gone → ⊥
+never_gone_by g b ram devices native n u is may ran gone =
+    never_gone g (reset_for g ram devices) native n may u (ran ∙ ap (λ (s : Seat). guest_run s ram devices native (suc n)) is) gone

@@ -1,3 +1,4 @@
+pub mod Adopted
 pub mod Free
 pub mod Loads
 pub mod Prepared

@@ -5,10 +5,9 @@ use Rattle.std.proofs.lemmas.List.{length-replicate, take-replicate, drop-replic
 use Rattle.std.proofs.lemmas.List.Elements.{All-head, All-tail, All-map}
 use Rattle.mb_srec.specs.declared.image.Chunk.{Chunk}
 use Rattle.mb_srec.specs.Image.{content_of, all_contents, LiesBelow}
-use Rattle.mb_walk.specs.Memory.{overwritten, part}
+use Rattle.mb_walk.specs.Memory.{Contents, overwritten, part, with_contents}
 use Rattle.mb_walk.proofs.MemoryLemmas.{length-overwritten, overwritten-nothing}
 use Rattle.mb_walk.proofs.Parts.{length-part, part-over, drop-over, take-over, over-split}
-use Rattle.mb_machine.specs.Machine.{Contents, with_contents}
 use Rattle.vm_guest.specs.Memory.{OnlyBetween, chunk_from, contents_from}
 
 -- ---- zeros

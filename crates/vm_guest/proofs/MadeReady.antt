@@ -8,7 +8,7 @@ use Rattle.mb_instr.specs.declared.registers.Plain.{Plain}
 use Rattle.mb_model.specs.declared.processor.Cpu.{Cpu}
 use Rattle.mb_model.specs.declared.outcome.RunState.TheVariants.{Running}
 use Rattle.mb_model.specs.Keeping.{rule_a, nothing_kept}
-use Rattle.mb_devices.specs.Devices.{idle}
+use Rattle.mb_devices.specs.Devices.{DeviceState, restarted}
 use Rattle.mb_processor.specs.SystemEnds.{with_registers}
 use Rattle.mb_machine.specs.World.{World}
 use Rattle.mb_machine.specs.Bus.{after_set_mmu}
@@ -24,15 +24,15 @@ root_kept : (root : ℕ) → root % 512 ≡ 0 → root < 2 ^ 32 → bit_and root
 root_kept root whole small = and_high_mask 32 9 (omega arith) root small ∙ (let e : root / 2 ^ 9 * 2 ^ 9 ≡ root = omega arith in e)
 
 -- the three registers that are not 0
-written : (root size : ℕ) (ram : List ℕ) → root % 512 ≡ 0 → root < 2 ^ 32
-    → after_set_mmu rule_a Urp root (after_set_mmu rule_a Dtt0 0x00FFA000 (after_set_mmu rule_a Tc 0x8000 (reset_with rule_a size ram).world))
-    ≡ record { ram = ram; mmu = native_mmu root; devices = idle size; kept = nothing_kept rule_a }
+written : (root : ℕ) (devices : DeviceState) (ram : List ℕ) → root % 512 ≡ 0 → root < 2 ^ 32
+    → after_set_mmu rule_a Urp root (after_set_mmu rule_a Dtt0 0x00FFA000 (after_set_mmu rule_a Tc 0x8000 (reset_with rule_a (restarted devices) ram).world))
+    ≡ record { ram = ram; mmu = native_mmu root; devices = restarted devices; kept = nothing_kept rule_a }
 unfolding reset_with
-written root size ram whole small =
+written root devices ram whole small =
     ap (λ (urp : ℕ). (let w : World = record {
       ram = ram;
       mmu = record (native_mmu root) { urp = urp };
-      devices = idle size;
+      devices = restarted devices;
       kept = nothing_kept rule_a;
     } in w)) (root_kept root whole small)
 
@@ -45,18 +45,18 @@ with_state : (b : BoardState) (w : World) (c : Cpu) → c.stopped ≡ false → 
     → with_machine b (with_cpu (machine_in b) c) ≡ board_at_reset (record { cpu = c; world = w; steps = 0; state = Running })
 with_state b w c awake world steps state before = rw world (rw steps (rw state (rw before (rw awake refl))))
 
-pub is_ready : (root size : ℕ) (ram : List ℕ) (plain : Plain) (a b c d e : BoardState) → root % 512 ≡ 0 → root < 2 ^ 32
-    → a ≡ board_at_reset (reset_with rule_a size ram)
+pub is_ready : (root : ℕ) (devices : DeviceState) (ram : List ℕ) (plain : Plain) (a b c d e : BoardState) → root % 512 ≡ 0 → root < 2 ^ 32
+    → a ≡ board_at_reset (reset_with rule_a (restarted devices) ram)
     → Sets a b (after_set_mmu rule_a Tc 0x8000 a.world) → Sets b c (after_set_mmu rule_a Dtt0 0x00FFA000 b.world)
     → Sets c d (after_set_mmu rule_a Urp root c.world)
     → e ≡ with_machine d (with_cpu (machine_in d) (with_registers plain native_cpu))
-    → e ≡ board_at_reset (ready root size ram plain)
+    → e ≡ board_at_reset (ready root devices ram plain)
 unfolding reset_with
-is_ready root size ram plain a b c d e whole small reset one two three set =
+is_ready root devices ram plain a b c d e whole small reset one two three set =
     let first = ap (λ (s : BoardState). s.world) reset in
-    let world : d.world ≡ record { ram = ram; mmu = native_mmu root; devices = idle size; kept = nothing_kept rule_a } =
+    let world : d.world ≡ record { ram = ram; mmu = native_mmu root; devices = restarted devices; kept = nothing_kept rule_a } =
     three.world ∙ ap (after_set_mmu rule_a Urp root) (two.world ∙ ap (after_set_mmu rule_a Dtt0 0x00FFA000)
-    (one.world ∙ ap (after_set_mmu rule_a Tc 0x8000) first)) ∙ written root size ram whole small in
+    (one.world ∙ ap (after_set_mmu rule_a Tc 0x8000) first)) ∙ written root devices ram whole small in
     let rest : beside d ≡ beside a = three.rest ∙ two.rest ∙ one.rest in
     let steps : d.steps ≡ 0 = ap (λ (x : Beside). x.steps) rest ∙ ap (λ (s : BoardState). s.steps) reset in
     let state : d.state ≡ Running = ap (λ (x : Beside). x.state) rest ∙ ap (λ (s : BoardState). s.state) reset in

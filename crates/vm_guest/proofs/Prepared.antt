@@ -7,11 +7,11 @@ use Rattle.mb_model.specs.declared.processor.Cpu.{Cpu}
 use Rattle.mb_model.specs.declared.outcome.RunState.TheVariants.{Running}
 use Rattle.mb_model.specs.Reset.{at_reset, mmu_at_reset}
 use Rattle.mb_srec.specs.Image.{LiesBelow}
-use Rattle.mb_walk.specs.Memory.{number_at, overwritten, part}
+use Rattle.mb_walk.specs.Memory.{Contents, number_at, overwritten, part, with_contents}
 use Rattle.mb_walk.proofs.MemoryLemmas.{length-overwritten}
 use Rattle.mb_walk.proofs.Parts.{number-part}
 use Rattle.mb_devices.specs.Devices.{DeviceState, idle}
-use Rattle.mb_machine.specs.Machine.{Contents, Entries, going, reset_with, with_contents}
+use Rattle.mb_machine.specs.Machine.{Entries, diskless, going, reset_with}
 use Rattle.vm_shadow.specs.Slots.{Slots}
 use Rattle.vm_shadow.specs.Shadows.{Shadowed, nothing}
 use Rattle.vm_shadow.specs.Mapped.{shadowed}
@@ -32,7 +32,7 @@ pub record Laid (base size : ℕ) (contents : Contents) (ram after : List ℕ) :
   pub within : OnlyBetween base (base + size + AREA_BYTES) ram after
   pub ram_is : part after base size ≡ with_contents (zeros size) contents
 
-wider : (from to more : ℕ) (a b : List ℕ) → to ≤ more → OnlyBetween from to a b → OnlyBetween from more a b
+pub wider : (from to more : ℕ) (a b : List ℕ) → to ≤ more → OnlyBetween from to a b → OnlyBetween from more a b
 wider from to more a b h w = record {
   count = w.count;
   below = w.below;
@@ -104,7 +104,7 @@ pub starts : (base size : ℕ) (contents : Contents) (after : List ℕ) (cpu : C
     → 8 ≤ size → part after base size ≡ with_contents (zeros size) contents
     → cpu ≡ at_reset (number_at after base 4) (number_at after (base + 4) 4) → devices ≡ idle size → kept ≡ []
     → shadowed slots after ≡ nothing → tally ≡ no_steps
-    → turned_on (new_seat cpu devices kept slots script tally base size) after [] ≡ prepared contents size
+    → turned_on (new_seat cpu devices kept slots script tally base size) after [] ≡ prepared (diskless contents) size
 unfolding reset_with
 starts base size contents after cpu devices kept slots script tally big ram_is reset still free none uncounted =
     let first : number_at (part after base size) 0 4 ≡ number_at after base 4 =

@@ -5,7 +5,7 @@ use Rattle.mb_instr.specs.Registers.{plain_of}
 use Rattle.mb_model.specs.declared.outcome.RunState.{RunState}
 use Rattle.mb_model.specs.declared.outcome.RunState.TheVariants.{Running}
 use Rattle.mb_walk.specs.Memory.{AreBytes}
-use Rattle.mb_devices.specs.Devices.{DeviceState, idle, ticked, ticks, passed, IsNotDue}
+use Rattle.mb_devices.specs.Devices.{DeviceState, restarted, ticked, ticks, passed, IsNotDue}
 use Rattle.mb_devices.proofs.Passing.{ticks_pass}
 use Rattle.mb_processor.specs.SystemEnds.{with_registers}
 use Rattle.mb_machine.specs.Machine.{takes_steps}
@@ -34,13 +34,13 @@ use Rattle.vm_guest.specs.Turns.{begun_seat, scene, level_on}
 use Rattle.vm_guest.proofs.Along.{wanted_along}
 use Rattle.vm_guest.proofs.Assisted.{tried_begun}
 
--- devices at a reset are on
-idle_on : (size : ℕ) → (idle size).off ≡ false
-idle_on size = refl
+-- devices that are begun again are on
+restarted_on : (d : DeviceState) → (restarted d).off ≡ false
+restarted_on d = refl
 
 -- so a board that is reset stands for it
-pub reset_is_set : (g : Seat) (ram : List ℕ) (size : ℕ) → IsSetFor (site_of g) (reset_for g ram size).world
-reset_is_set g ram size = flushed_is_set (site_of g) ram (idle size) (idle_on size)
+pub reset_is_set : (g : Seat) (ram : List ℕ) (devices : DeviceState) → IsSetFor (site_of g) (reset_for g ram devices).world
+reset_is_set g ram devices = flushed_is_set (site_of g) ram (restarted devices) (restarted_on devices)
 
 -- the monitor's processor
 is_native : (g : Seat) → MONITOR_BYTES ≤ g.base → IsNativeCpu (site_of g) native_cpu
@@ -61,8 +61,8 @@ pub record MayRunOn (g : Seat) (board : BoardState) (native : NativeState) (n : 
   pub fit : FitsAlong (suc n) (start_on g board native)
 
 -- of a board that is made ready for it
-abbrev pub MayRun : Seat → List ℕ → (size : ℕ) → NativeState → ℕ → Type 0
-MayRun g ram size native n = MayRunOn g (reset_for g ram size) native n
+abbrev pub MayRun : Seat → List ℕ → (devices : DeviceState) → NativeState → ℕ → Type 0
+MayRun g ram devices native n = MayRunOn g (reset_for g ram devices) native n
 
 -- one tick more, at either end
 ticked_behind : (n : ℕ) (d : DeviceState) → ticked (ticks n d) ≡ ticks (suc n) d

@@ -1,6 +1,6 @@
 -- A board's memory, of which a guest's part is changed.
 use Rattle.std.specs.Prelude.{◌≡◌, ℕ, ◌+◌, List, length, map, take, drop}
-use Rattle.mb_machine.specs.Machine.{Contents}
+use Rattle.mb_walk.specs.Memory.{Contents}
 
 -- Nothing changes but bytes from one place up to another.
 pub record OnlyBetween (from to : ℕ) (before after : List ℕ) : Type 0 where

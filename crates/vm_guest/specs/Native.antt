@@ -7,7 +7,7 @@ use Rattle.mb_frames.specs.Reading.{frame_in}
 use Rattle.mb_model.specs.declared.processor.Cpu.{Cpu}
 use Rattle.mb_model.specs.declared.outcome.RunState.TheVariants.{Running}
 use Rattle.mb_model.specs.Keeping.{rule_a, nothing_kept}
-use Rattle.mb_devices.specs.Devices.{idle, level_of, passed}
+use Rattle.mb_devices.specs.Devices.{DeviceState, level_of, passed, restarted}
 use Rattle.mb_processor.specs.SystemEnds.{with_registers}
 use Rattle.mb_machine.specs.Machine.{Machine}
 use Rattle.mb_board.specs.State.{BoardState, no_registers}
@@ -45,11 +45,12 @@ native_cpu = record {
   stopped = false;
 }
 
--- The board with these registers, and with the tables of this root, as it is after a reset else.
-abbrev pub ready : (root size : ℕ) → List ℕ → Plain → Machine
-ready root size ram plain = record {
+-- The board with these registers, and with the tables of this root, as it is after a reset else, with such devices
+-- before it.
+abbrev pub ready : (root : ℕ) → DeviceState → List ℕ → Plain → Machine
+ready root devices ram plain = record {
   cpu = with_registers plain native_cpu;
-  world = record { ram = ram; mmu = native_mmu root; devices = idle size; kept = nothing_kept rule_a };
+  world = record { ram = ram; mmu = native_mmu root; devices = restarted devices; kept = nothing_kept rule_a };
   steps = 0;
   state = Running;
 }
@@ -63,22 +64,22 @@ start_on g b native =
 abbrev pub run_on : Seat → BoardState → NativeState → ℕ → Ran
 run_on g b native k = user_run k (start_on g b native)
 
--- the board for a guest as after a reset, which shows so many bytes
-abbrev pub reset_for : Seat → List ℕ → (size : ℕ) → BoardState
-reset_for g ram size = record {
+-- the board for a guest as after a reset, with such devices before it
+abbrev pub reset_for : Seat → List ℕ → DeviceState → BoardState
+reset_for g ram devices = record {
   cpu = native_cpu;
-  world = flushed (site_of g) ram (idle size);
+  world = flushed (site_of g) ram (restarted devices);
   steps = 0;
   state = Running;
   before = no_registers;
 }
 
 -- made ready so, and its run
-abbrev pub guest_start : Seat → List ℕ → (size : ℕ) → NativeState → Ran
-guest_start g ram size native = start_on g (reset_for g ram size) native
+abbrev pub guest_start : Seat → List ℕ → DeviceState → NativeState → Ran
+guest_start g ram devices native = start_on g (reset_for g ram devices) native
 
-abbrev pub guest_run : Seat → List ℕ → (size : ℕ) → NativeState → ℕ → Ran
-guest_run g ram size native k = run_on g (reset_for g ram size) native k
+abbrev pub guest_run : Seat → List ℕ → DeviceState → NativeState → ℕ → Ran
+guest_run g ram devices native k = run_on g (reset_for g ram devices) native k
 
 -- A guest as the board has carried it out: with these registers, behind so many more steps, and so many more that are
 -- retired.

@@ -1,14 +1,14 @@
 -- A session: a board, the steps of a turn, and what its guests begin with.
 use Rattle.std.specs.Prelude.{◌≡◌, ℕ, ◌*◌, ◌%◌, ◌≤◌, List, length, All}
 use Rattle.mb_srec.specs.Image.{LiesBelow}
-use Rattle.mb_machine.specs.Machine.{Contents, Entries}
+use Rattle.mb_machine.specs.Machine.{Entries, Opening}
 use Rattle.mb_board.specs.declared.bus.TheConstants.{MOST_BOARD_BYTES}
 use Rattle.mb_script.specs.declared.sizes.TheConstants.{LEAST_BOARD, LEAST_RAM, MOST_GUESTS, MOST_RAM, SIZE_UNIT}
 
--- what a guest begins with: its image, what is to arrive at its terminal, the bytes of its RAM, and how many steps it
--- takes at most
+-- what a guest begins with: its image and its disk, what is to arrive at its terminal, the bytes of its RAM, and how
+-- many steps it takes at most
 pub record GuestAtStart : Type 0 where
-  pub image : Contents
+  pub opening : Opening
   pub script : Entries
   pub ram : ℕ
   pub steps : ℕ
@@ -32,7 +32,7 @@ IsBoardBytes bytes = (1024 * LEAST_BOARD ≤ bytes) × (bytes ≤ MOST_BOARD_BYT
 -- its image lies in its RAM
 pub record IsGuest (guest : GuestAtStart) : Type 0 where
   pub ram : IsRamBytes guest.ram
-  pub image : All (LiesBelow guest.ram) guest.image
+  pub image : All (LiesBelow guest.ram) guest.opening.image
 
 -- The sizes and numbers are in their ranges, and there are one to sixteen guests.
 pub record IsSession (session : SessionAtStart) : Type 0 where

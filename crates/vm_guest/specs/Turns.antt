@@ -8,7 +8,7 @@ use Rattle.mb_devices.specs.Devices.{DeviceState, ticked, passed}
 use Rattle.mb_processor.specs.declared.StepEnd.{StepEnd}
 use Rattle.mb_processor.specs.declared.StepEnd.TheVariants as step
 use Rattle.mb_processor.specs.Raise.{Stepped}
-use Rattle.mb_machine.specs.Machine.{Contents, Entries, Machine, arrived, going, run_of, start, asked}
+use Rattle.mb_machine.specs.Machine.{Opening, Entries, Machine, arrived, going, run_of, start, asked}
 use Rattle.mb_machine.specs.Machine.{state_after, takes_steps}
 use Rattle.vm_meaning.specs.Free.{rule_free, FreeRun, Within}
 use Rattle.vm_meaning.specs.Native.{NativeState}
@@ -76,13 +76,13 @@ scene g ram native = record { guest = g; ram = ram; native = native }
 
 -- Some free run of so many steps from an image's start comes to this machine, but for what is kept, and each entry that
 -- the machine keeps stands in that run's.
-abbrev pub ComesFreely : Contents → Entries → (size n : ℕ) → Machine → Type 0
-ComesFreely contents script size n m =
-    (end : Machine) × FreeRun script n (start rule_free contents size) end × Within m end
+abbrev pub ComesFreely : Opening → Entries → (size n : ℕ) → Machine → Type 0
+ComesFreely opening script size n m =
+    (end : Machine) × FreeRun script n (start rule_free opening size) end × Within m end
 
 -- Whatever image, RAM and number of steps lead to the machine before a turn, by the rule of guests, a free run of that
 -- image, of those steps and the turn's, leads to the machine after it.
 abbrev pub GoesOnFreely : Entries → (limit : ℕ) → (before after : Machine) → Type 0
-GoesOnFreely script limit before after = (contents : Contents) (size n : ℕ)
-    → before ≡ run_of rule_k script n (start rule_k contents size)
-    → ComesFreely contents script size (n + limit) after
+GoesOnFreely script limit before after = (opening : Opening) (size n : ℕ)
+    → before ≡ run_of rule_k script n (start rule_k opening size)
+    → ComesFreely opening script size (n + limit) after

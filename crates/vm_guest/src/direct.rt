@@ -87,9 +87,9 @@ impl Guest {
         requires seated { IsSeated self.now board.old.world.ram }
         requires native { (native.old.retired < 2 ^ 63) × (native.old.exceptions < 2 ^ 63) }
         ensures means { ran_to result board.new native.new
-            ≡ guest_run self.now board.old.world.ram board.old.world.devices.ram native.old steps }
+            ≡ guest_run self.now board.old.world.ram board.old.world.devices native.old steps }
         ensures fit { FitsAlong steps
-            (guest_start self.now board.old.world.ram board.old.world.devices.ram native.old) }
+            (guest_start self.now board.old.world.ram board.old.world.devices native.old) }
         ensures seven { length self.now.cpu.regs.a ≡ 7 }
         ensures wide { length board.new.cpu.regs.a ≡ 7 }
         ensures bytes { AreBytes board.old.world.ram × (length board.old.world.ram ≤ 2 ^ 32) }

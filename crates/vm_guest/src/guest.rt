@@ -3,7 +3,7 @@
 ghost use Rattle.std.specs.Prelude.{◌≡◌, ◌+◌, ◌%◌, ◌≤◌, [], length, IfOk, IfErr, All};
 ghost use Rattle.mb_srec.specs.Image.{contents_of, LiesBelow};
 ghost use Rattle.mb_model.specs.Seen.{seen_of};
-ghost use Rattle.mb_machine.specs.Machine.{seen_machine};
+ghost use Rattle.mb_machine.specs.Machine.{diskless, seen_machine};
 ghost use Rattle.mb_board.specs.Beside.{but_ram};
 ghost use Rattle.vm_shadow.specs.declared.area.TheConstants.{AREA_BYTES};
 ghost use Rattle.vm_machine.specs.Turns.{prepared};
@@ -53,7 +53,7 @@ pub struct Guest {
 }
 
 impl Model for Guest {
-    ghost use Rattle.std.specs.Prelude.{◌≤◌};
+    ghost use Rattle.std.specs.Prelude.{◌≡◌, ◌≤◌, []};
     ghost use Rattle.vm_machine.specs.Turns.{steps_in};
     ghost use Rattle.vm_machine.specs.Seats.{Seat};
     ghost use Rattle.mb_board.specs.Arrivals.{IsNext};
@@ -76,13 +76,14 @@ impl Model for Guest {
     } };
 
     ghost invariant = { λ g. IsNext g.script g.steps g.next × (steps_in (tally_in g.counts) ≤ g.steps)
-        × ((tally_in g.counts).refilled ≤ (tally_in g.counts).retired) };
+        × ((tally_in g.counts).refilled ≤ (tally_in g.counts).retired)
+        × (g.steps ≡ 0 → g.shadow.tables ≡ []) };
 }
 
 impl Guest {
-    /// A guest with an image in its RAM, after reset, with what is to arrive at its terminal: `ram` bytes of RAM stand
-    /// on the board from `base` on, and 65,536 bytes for its tables behind them. It takes all the memory that it will
-    /// need, and where that runs out, the board stays as it is.
+    /// A guest with an image in its RAM and no disk, after reset, with what is to arrive at its terminal: `ram` bytes
+    /// of RAM stand on the board from `base` on, and 65,536 bytes for its tables behind them. It takes all the memory
+    /// that it will need, and where that runs out, the board stays as it is.
     pub fn prepare(
         alloc: Global,
         image: Image,
@@ -96,7 +97,7 @@ impl Guest {
         requires base { (MONITOR_BYTES ≤ base) × (base % AREA_BYTES ≡ 0) }
         requires inside { base + ram + AREA_BYTES ≤ length board.old.world.ram }
         ensures start { IfOk result (λ guest.
-            turned_on guest board.new.world.ram [] ≡ prepared (contents_of image) ram) }
+            turned_on guest board.new.world.ram [] ≡ prepared (diskless (contents_of image)) ram) }
         ensures script { IfOk result (λ guest. guest.script ≡ script) }
         ensures place { IfOk result (λ guest. (guest.base ≡ base) × (guest.size ≡ ram)) }
         ensures seated { IfOk result (λ guest. IsSeated guest board.new.world.ram) }
@@ -160,6 +161,13 @@ impl Guest {
         ensures { tally_in result ≡ self.now.tally }
     {
         self.counts
+    }
+
+    /// What arrives at the guest's terminal.
+    pub fn script(&self) -> &Script
+        ensures { result.now ≡ self.now.script }
+    {
+        &self.script
     }
 
     /// The guest's devices.

@@ -6,6 +6,7 @@
 //! retired; what it leaves, and what it has no part in, the monitor carries out, over the guest's bus of `vm_port`.
 #![tactic(auto)]
 
+mod adopting;
 mod classes;
 mod counts;
 mod direct;
@@ -22,5 +23,5 @@ mod turns;
 
 pub use counts::Counts;
 pub use guest::Guest;
-pub use session::{Session, SessionGuest};
+pub use session::{Session, SessionDisk, SessionGuest};
 pub use turn_end::TurnEnd;

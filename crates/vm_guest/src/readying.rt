@@ -55,7 +55,7 @@ pub(crate) fn make_ready(board: &mut Board, root: u32, plain: &Plain)
     requires room { 8 ≤ length board.old.world.ram }
     requires root { root % 512 ≡ 0 }
     ensures { board.new
-        ≡ board_at_reset (ready root board.old.world.devices.ram board.old.world.ram plain.now) }
+        ≡ board_at_reset (ready root board.old.world.devices board.old.world.ram plain.now) }
 {
     board.reset();
     board.set_mmu(MmuReg::Tc, 0x8000);

@@ -1,6 +1,6 @@
 //! Reads that the board was refused, and the instruction that it begins again once they are filled.
 
-ghost use Rattle.std.specs.Prelude.{◌≡◌, Some, None, false, if◌then◌else◌};
+ghost use Rattle.std.specs.Prelude.{◌≡◌, ◌<◌, Some, None, false, if◌then◌else◌};
 ghost use Rattle.mb_model.specs.Status.{space_of};
 ghost use Rattle.vm_machine.specs.Refills.{refilled_at};
 ghost use Rattle.vm_machine.specs.Seats.{end_of, guested_on, IsSeated};
@@ -44,6 +44,7 @@ impl Guest {
     /// Fills and puts the read that the board was refused, where its instruction begins again then. Answers whether it
     /// does.
     pub(crate) fn refill<R: Ram>(&mut self, ram: &mut R, frame: &Frame) -> bool
+        requires begun { 0 < self.old.steps }
         requires seated { IsSeated self.old (R.bytes ram.old) }
         ensures reads { refilled_at (world_of (guested_on self.old (R.bytes ram.old)))
             (read_by_frame (space_of self.old.cpu) frame.now)

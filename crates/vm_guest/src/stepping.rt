@@ -63,6 +63,7 @@ impl Guest {
     /// What is left of the processor's part of a step, over the guest's bus.
     fn process<R: Ram>(&mut self, ram: &mut R, rest: &Rest, level: u8) -> StepEnd
         requires level { level < 8 }
+        requires begun { 0 < self.old.steps }
         requires lawful { IsLawfulRest rest.now }
         requires seated { IsSeated self.old (R.bytes ram.old) }
         ensures means { by_its_end (run guest_bus (rest_in rest.now level self.old.cpu)

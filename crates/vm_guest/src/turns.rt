@@ -3,6 +3,7 @@
 ghost use Rattle.std.specs.Prelude.{◌≡◌, ◌+◌, ◌*◌, ◌^◌, ◌<◌, ◌≤◌, [], true, false};
 ghost use Rattle.mb_model.specs.Keeping.{rule_k};
 ghost use Rattle.mb_machine.specs.Machine.{run_of, takes_steps};
+ghost use Rattle.vm_meaning.specs.Free.{IsFreeRun};
 ghost use Rattle.vm_machine.specs.Seats.{machine_on, IsSeated, Takes};
 ghost use Rattle.vm_guest.specs.Turns.{end_by, scene, GoesOnFreely, IsGoing};
 
@@ -52,6 +53,8 @@ impl Guest {
         ensures machine { machine_on self.new board.new.world.ram
             ≡ run_of rule_k self.old.script limit (machine_on self.old board.old.world.ram) }
         ensures free { GoesOnFreely self.old.script limit
+            (machine_on self.old board.old.world.ram) (machine_on self.new board.new.world.ram) }
+        ensures free_on { IsFreeRun self.old.script limit
             (machine_on self.old board.old.world.ram) (machine_on self.new board.new.world.ram) }
         ensures end { result ≡ end_by self.new.state }
         ensures counted { result ≡ TurnEnd.Counted → self.new.steps ≡ self.old.steps + limit }

@@ -69,7 +69,7 @@ line_written w p line h = rw h refl
 
 pub checked_is : (w : World) (p len : ℕ) → in_ram (length w.ram) p len ≡ true → checked (place_at p len) w ≡ (Some (place_at p len), w)
 checked_is w p len h =
-    ap (λ (b : Bool). (let q : Option Place × World = (cond b (Some (place_at p len)) None, w) in q)) (takes_memory (length w.ram) (place_at p len) h)
+    ap (λ (b : Bool). (let q : Option Place × World = (cond b (Some (place_at p len)) None, w) in q)) (takes_memory w (place_at p len) h)
 
 fits_by : (at len : ℕ) → 0 < len → len ≤ 4 → len ≢ 3 → (2 ≤ len → at % 2 ≡ 0) → (4 ≤ len → at % 4 ≡ 0) → at % 4096 + len ≤ 4096
 fits_by at len a b c d e = elim (cases_lt len 2) [

@@ -53,4 +53,4 @@ turns_by_rule script (suc n) t = elim (cases_Bool (takes_steps t.guest.machine.s
 ]
 
 pub guests_run_alone : GuestsRunAlone
-guests_run_alone contents script size n = turns_by_rule script n (prepared contents size)
+guests_run_alone opening script size n = turns_by_rule script n (prepared opening size)

@@ -100,7 +100,7 @@ turn_doubles script (suc n) t = elim (cases_Bool (takes_steps t.guest.machine.st
 
 pub counts_are_steps : CountsAreSteps
 unfolding reset_with
-counts_are_steps contents script size n = let e = turn_counts script n (prepared contents size) in omega arith
+counts_are_steps opening script size n = let e = turn_counts script n (prepared opening size) in omega arith
 
 -- behind no step the marks are those of the run
 marks_from_start : (script : Entries) (n : ℕ) (t : Turned) → t.marks ≡ []
@@ -111,8 +111,8 @@ marks_from_start script n t e =
     ∙ ap (λ (marks : List Plain). turn_of script n (record t { marks = marks })) (sym e)
 
 pub marks_are_of_retired : MarksAreOfRetired
-marks_are_of_retired contents script size n =
-    let p = prepared contents size in
+marks_are_of_retired opening script size n =
+    let p = prepared opening size in
     let e = turn_doubles script n p in
     let f = ap (λ (u : Turned). length u.marks) (marks_from_start script n p refl) in omega arith
 
@@ -123,8 +123,8 @@ marks_behind script n t =
     ∙ ap (λ (u : Turned). u.marks) (turn_front script n t.marks (without_marks t))
 
 pub marks_append : MarksAppend
-marks_append contents script size k n few =
-    let p = prepared contents size in
+marks_append opening script size k n few =
+    let p = prepared opening size in
     let at = turn_of script k p in
     ap (λ (u : Turned). u.marks) (marks_from_start script n p refl)
     ∙ ap (λ (m : ℕ). (turn_of script m p).marks) (let e : n ≡ k + (n - k) = omega arith in e)

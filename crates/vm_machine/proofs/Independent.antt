@@ -88,11 +88,11 @@ turns_are_independent (turn ∷ turns) s t all (u, taken, rest) j less =
     (later.0, reached_on turn.0 turn.1 s u t all taken j (steps_for j turns) less later.1)
 
 pub prepared_guests_run_alone : PreparedGuestsRunAlone
-prepared_guests_run_alone turns s t all taken j less contents size is =
+prepared_guests_run_alone turns s t all taken j less opening size is =
     let n = steps_for j turns in
     let script = (s.guests j).script in
     let own = (turns_are_independent turns s t all taken j less).1 in
     let whole = own.1 ∙ ap (turn_of script n) is in record {
-      machine = ap (λ (u : Turned). u.guest.machine) whole ∙ guests_run_alone contents script size n;
+      machine = ap (λ (u : Turned). u.guest.machine) whole ∙ guests_run_alone opening script size n;
       tally = ap (λ (u : Turned). u.tally) whole;
     }

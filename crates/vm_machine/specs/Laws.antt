@@ -13,7 +13,7 @@ use Rattle.mb_meaning.specs.Attempt.{attempt_of}
 use Rattle.mb_machine.specs.declared.reference.Reference.{Reference}
 use Rattle.mb_machine.specs.Access.{translated}
 use Rattle.mb_machine.specs.Bus.{bus_of}
-use Rattle.mb_machine.specs.Machine.{Contents, Entries, start, stepped, takes_steps, run_of}
+use Rattle.mb_machine.specs.Machine.{Opening, Entries, start, stepped, takes_steps, run_of}
 use Rattle.vm_meaning.specs.Marks.{trail}
 use Rattle.vm_machine.specs.Guests.{Guest, IsReference, Truthful, allows, may}
 use Rattle.vm_machine.specs.Bus.{accessed, guest_bus}
@@ -42,8 +42,8 @@ TurnsAreByRule = (script : Entries) (n : ℕ) (t : Turned)
 
 -- and from its start the guest's machine is the run of its own image, script and RAM.
 abbrev pub GuestsRunAlone : Type 0
-GuestsRunAlone = (contents : Contents) (script : Entries) (size n : ℕ)
-    → (turn_of script n (prepared contents size)).guest.machine ≡ run_of rule_k script n (start rule_k contents size)
+GuestsRunAlone = (opening : Opening) (script : Entries) (size n : ℕ)
+    → (turn_of script n (prepared opening size)).guest.machine ≡ run_of rule_k script n (start rule_k opening size)
 
 -- ---- accesses and classes
 
@@ -89,19 +89,19 @@ MarksStayBefore = (script : Entries) (n : ℕ) (marks : List Plain) (t : Turned)
 
 -- Each step is of one class: the counts add up to the machine's steps,
 abbrev pub CountsAreSteps : Type 0
-CountsAreSteps = (contents : Contents) (script : Entries) (size n : ℕ)
-    → steps_in (tally_of contents script size n) ≡ (turn_of script n (prepared contents size)).guest.machine.steps
+CountsAreSteps = (opening : Opening) (script : Entries) (size n : ℕ)
+    → steps_in (tally_of opening script size n) ≡ (turn_of script n (prepared opening size)).guest.machine.steps
 
 -- and each retired one has two marks.
 abbrev pub MarksAreOfRetired : Type 0
-MarksAreOfRetired = (contents : Contents) (script : Entries) (size n : ℕ)
-    → length (marks_between contents script size 0 n) ≡ 2 * (tally_of contents script size n).retired
+MarksAreOfRetired = (opening : Opening) (script : Entries) (size n : ℕ)
+    → length (marks_between opening script size 0 n) ≡ 2 * (tally_of opening script size n).retired
 
 -- The marks of a run are those of its first steps and then those of the others.
 abbrev pub MarksAppend : Type 0
-MarksAppend = (contents : Contents) (script : Entries) (size k n : ℕ) → k ≤ n
-    → marks_between contents script size 0 n
-    ≡ marks_between contents script size 0 k ++ marks_between contents script size k n
+MarksAppend = (opening : Opening) (script : Entries) (size k n : ℕ) → k ≤ n
+    → marks_between opening script size 0 n
+    ≡ marks_between opening script size 0 k ++ marks_between opening script size k n
 
 -- The trail goes on where it was.
 abbrev pub TrailsAppend : Type 0
@@ -125,14 +125,14 @@ TurnsAreIndependent = (turns : Turns) (s t : Stage) → AllSeated s → TakeTurn
 
 -- So a guest that is prepared on the board comes to the machine of its own image, script, RAM and steps, with the
 -- counts of that run, whatever turns the others take.
-pub record RunsAlone (contents : Contents) (script : Entries) (size n : ℕ) (guest : Seat) (ram : List ℕ) : Type 0 where
-  pub machine : machine_on guest ram ≡ run_of rule_k script n (start rule_k contents size)
-  pub tally : guest.tally ≡ tally_of contents script size n
+pub record RunsAlone (opening : Opening) (script : Entries) (size n : ℕ) (guest : Seat) (ram : List ℕ) : Type 0 where
+  pub machine : machine_on guest ram ≡ run_of rule_k script n (start rule_k opening size)
+  pub tally : guest.tally ≡ tally_of opening script size n
 
 abbrev pub PreparedGuestsRunAlone : Type 0
 PreparedGuestsRunAlone = (turns : Turns) (s t : Stage) → AllSeated s → TakeTurns turns s t → (j : ℕ) → j < s.count
-    → (contents : Contents) (size : ℕ) → turned_on (s.guests j) s.ram [] ≡ prepared contents size
-    → RunsAlone contents (s.guests j).script size (steps_for j turns) (t.guests j) t.ram
+    → (opening : Opening) (size : ℕ) → turned_on (s.guests j) s.ram [] ≡ prepared opening size
+    → RunsAlone opening (s.guests j).script size (steps_for j turns) (t.guests j) t.ram
 
 -- What boards have counted is what the turns of all guests counted.
 abbrev pub CountersRiseByTurns : Type 0

@@ -7,7 +7,7 @@ use Rattle.mb_model.specs.declared.processor.Cpu.{Cpu}
 use Rattle.mb_model.specs.Keeping.{rule_k}
 use Rattle.mb_processor.specs.Raise.{Stepped}
 use Rattle.mb_processor.specs.Step.{step_of}
-use Rattle.mb_machine.specs.Machine.{Machine, Contents, Entries, start, begun, one_later, takes_steps, asked_of}
+use Rattle.mb_machine.specs.Machine.{Machine, Opening, Entries, start, begun, one_later, takes_steps, asked_of}
 use Rattle.vm_shadow.specs.Shadows.{Shadowed, nothing}
 use Rattle.vm_machine.specs.declared.class.Class.{Class}
 use Rattle.vm_machine.specs.declared.class.Class.TheVariants.{Entered, Idle, Traced, Privileged, Denied, Trapped}
@@ -146,19 +146,19 @@ turn_of script (suc n) t = if takes_steps t.guest.machine.state then turn_of scr
 -- ---- a guest's run
 
 -- the start of a guest: its machine with an image, an empty shadow, nothing counted
-abbrev pub prepared : Contents → (size : ℕ) → Turned
-prepared contents size =
-    record { guest = record { machine = start rule_k contents size; shadow = nothing }; tally = no_steps; marks = [] }
+abbrev pub prepared : Opening → (size : ℕ) → Turned
+prepared opening size =
+    record { guest = record { machine = start rule_k opening size; shadow = nothing }; tally = no_steps; marks = [] }
 
 -- The count of each class over the first n steps.
-abbrev pub tally_of : Contents → Entries → (size n : ℕ) → Tally
-tally_of contents script size n = (turn_of script n (prepared contents size)).tally
+abbrev pub tally_of : Opening → Entries → (size n : ℕ) → Tally
+tally_of opening script size n = (turn_of script n (prepared opening size)).tally
 
 -- before a turn whose marks are asked for alone
 abbrev pub without_marks : Turned → Turned
 without_marks t = record t { marks = [] }
 
 -- The marks of the steps k + 1 to n.
-abbrev pub marks_between : Contents → Entries → (size k n : ℕ) → List Plain
-marks_between contents script size k n =
-    (turn_of script (n - k) (without_marks (turn_of script k (prepared contents size)))).marks
+abbrev pub marks_between : Opening → Entries → (size k n : ℕ) → List Plain
+marks_between opening script size k n =
+    (turn_of script (n - k) (without_marks (turn_of script k (prepared opening size)))).marks

@@ -24,7 +24,7 @@ taken_at_blind (register r) place w kept = refl
 taken_at_blind nowhere place w kept = refl
 
 pub taken-blind : (place : Place) → IsBlind (taken place)
-taken-blind place w kept = taken_at_blind (stand_of (length w.ram) place) place w kept
+taken-blind place w kept = taken_at_blind (stand_of w place) place w kept
 
 pub taken_line-blind : (place : Place) → IsBlind (taken_line place)
 taken_line-blind place w kept = refl
@@ -52,7 +52,7 @@ stored_at_blind (register r) place value w kept = refl
 stored_at_blind nowhere place value w kept = refl
 
 pub stored-blind : (place : Place) (value : ℕ) → IsBlindStore (stored place value)
-stored-blind place value w kept = stored_at_blind (stand_of (length w.ram) place) place value w kept
+stored-blind place value w kept = stored_at_blind (stand_of w place) place value w kept
 
 if_keeping : (b : Bool) (w : World) (kept : KeptLists) → (if b then Some (record w { kept = kept }) else None) ≡ keeping kept (if b then Some w else None)
 if_keeping true w kept = refl

@@ -4,6 +4,7 @@ use Rattle.std.proofs.lemmas.Bool.{cases_Bool}
 use Rattle.mb_port.specs.Routine.{run}
 use Rattle.mb_model.specs.declared.processor.Cpu.{Cpu}
 use Rattle.mb_model.specs.Keeping.{Rule, KeptLists}
+use Rattle.mb_devices.specs.Devices.{DeviceState}
 use Rattle.mb_processor.specs.declared.Finish.{Finish}
 use Rattle.mb_processor.specs.Step.{step_of}
 use Rattle.mb_laws.proofs.Related.{runs_may_follow, along}
@@ -58,16 +59,16 @@ run-is_free rule script (suc n) m free h =
     ]
 
 -- nothing is kept at reset
-reset_within : (rule : Rule) (size : ℕ) (ram : List ℕ) → Within (reset_with rule size ram) (reset_with rule_free size ram)
+reset_within : (rule : Rule) (devices : DeviceState) (ram : List ℕ) → Within (reset_with rule devices ram) (reset_with rule_free devices ram)
 unfolding reset_with
-reset_within rule size ram = record { same = refl; kept = λ k h. absurd (none-kept rule.classes k h) }
+reset_within rule devices ram = record { same = refl; kept = λ k h. absurd (none-kept rule.classes k h) }
 
-pub run-from_reset : (rule : Rule) (script : Entries) (n size : ℕ) (ram : List ℕ)
-    → (after : Machine) × FreeRun script n (reset_with rule_free size ram) after
-    × Within (run_of rule script n (reset_with rule size ram)) after
+pub run-from_reset : (rule : Rule) (script : Entries) (n : ℕ) (devices : DeviceState) (ram : List ℕ)
+    → (after : Machine) × FreeRun script n (reset_with rule_free devices ram) after
+    × Within (run_of rule script n (reset_with rule devices ram)) after
 unfolding IsFreeRun
-run-from_reset rule script n size ram =
-    run-is_free rule script n (reset_with rule size ram) (reset_with rule_free size ram) (reset_within rule size ram)
+run-from_reset rule script n devices ram =
+    run-is_free rule script n (reset_with rule devices ram) (reset_with rule_free devices ram) (reset_within rule devices ram)
 
 -- a machine that is where a run by a rule comes to
 pub ended-is_free : (rule : Rule) (script : Entries) (n : ℕ) (m after : Machine) → after ≡ run_of rule script n m → IsFreeRun script n m after

@@ -4,6 +4,7 @@ use Rattle.mb_port.specs.Routine.{Call, Answer, FlushKept, Test}
 use Rattle.mb_model.specs.declared.kept.Kept.{Kept}
 use Rattle.mb_model.specs.Keeping.{Rule, covers, is_of, is_half_of}
 use Rattle.mb_walk.specs.declared.found.Found.TheVariants.{Entry}
+use Rattle.mb_devices.specs.Devices.{DeviceState}
 use Rattle.mb_laws.specs.Relations.{MayFollow}
 use Rattle.mb_laws.specs.Refusal.{any_call}
 use Rattle.mb_machine.specs.declared.reference.Reference.{Reference}
@@ -26,11 +27,11 @@ abbrev pub RunsAreFree : Type 0
 RunsAreFree = (rule : Rule) (script : Entries) (n : ℕ) (m : Machine) → IsFreeRun script n m (run_of rule script n m)
 
 -- So the machine after a run from reset is, but for what is kept, that of a free run from reset with the same memory,
--- script and steps, and each of its kept entries stands in that run's.
+-- devices, script and steps, and each of its kept entries stands in that run's.
 abbrev pub RunsFromResetAreFree : Type 0
-RunsFromResetAreFree = (rule : Rule) (script : Entries) (n size : ℕ) (ram : List ℕ)
-    → (end : Machine) × FreeRun script n (reset_with rule_free size ram) end
-    × Within (run_of rule script n (reset_with rule size ram)) end
+RunsFromResetAreFree = (rule : Rule) (script : Entries) (n : ℕ) (devices : DeviceState) (ram : List ℕ)
+    → (end : Machine) × FreeRun script n (reset_with rule_free devices ram) end
+    × Within (run_of rule script n (reset_with rule devices ram)) end
 
 -- ---- an access
 

@@ -11,7 +11,7 @@ use Rattle.mb_machine.specs.declared.reference.Reference.{Reference}
 use Rattle.mb_machine.specs.World.{World}
 use Rattle.mb_machine.specs.Access.{untranslated, marks, search_for, searched, translated}
 use Rattle.mb_machine.specs.Bus.{bus_of, reference_of}
-use Rattle.mb_machine.specs.Machine.{Machine, Contents, Entries, begun, one_later, takes_steps, start, asked_of}
+use Rattle.mb_machine.specs.Machine.{Machine, Opening, Entries, begun, one_later, takes_steps, start, asked_of}
 use Rattle.vm_meaning.specs.Free.{IsKept, rule_free, with_class_entry}
 use Rattle.vm_meaning.specs.Laws.{drops, IsFound}
 
@@ -74,9 +74,9 @@ IsTidyRun script zero m = Unit {0}
 IsTidyRun script (suc n) m =
     takes_steps m.state ≡ true → IsTidyStep script m × IsTidyRun script n (searching_step script m)
 
--- An image is tidy with a script, so much RAM and so many steps.
-abbrev pub Tidy : Contents → Entries → (size n : ℕ) → Type 0
-Tidy contents script size n = IsTidyRun script n (start rule_free contents size)
+-- An opening is tidy with a script, so much RAM and so many steps.
+abbrev pub Tidy : Opening → Entries → (size n : ℕ) → Type 0
+Tidy opening script size n = IsTidyRun script n (start rule_free opening size)
 
 -- ---- what has been searched out
 

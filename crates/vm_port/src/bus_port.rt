@@ -23,7 +23,7 @@ impl<R: Ram> Port for GuestPort<'_, R> {
 
     ghost bus = { guest_bus };
 
-    ghost exists = { λ rest place. HasPiece rest.size place };
+    ghost exists = { λ rest place. HasPiece place };
 
     fn fetch(&mut self, space: Space, at: u32) -> Result<u16, Fault> {
         let r = Reference::fetching(space, at);

@@ -87,7 +87,7 @@ impl<R: Ram> GuestPort<'_, R> {
     /// Whether RAM or a register takes a write.
     #[tactic(auto, using(mb_machine::proofs::BusLemmas::takes))]
     pub(crate) fn takes_writes(&self, place: Place) -> bool
-        ensures { result ≡ takes_writes (length (world_of self.now).ram) place }
+        ensures { result ≡ takes_writes (world_of self.now) place }
     {
         self.in_ram(place) || self.devices.has(place)
     }

@@ -1,3 +1,5 @@
+pub mod Adopted
+pub mod Attached
 pub mod Fits
 pub mod Lent
 pub mod Orders

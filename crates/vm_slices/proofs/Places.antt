@@ -1,4 +1,4 @@
--- Guests that stand one after the other: a turn of one, and a further one behind them.
+-- Guests that stand one after the other: one that changes, its turn, and a further one behind them.
 use Rattle.std.proofs.Common.{◌≡◌, ◌≢◌, ◌∙◌, ℕ, zero, suc, ◌+◌, ◌*◌, ◌≤◌, ◌<◌, List, [], ◌∷◌, ◌++◌, length, get_or, set, drop, map}
 use Rattle.std.proofs.Common.{true, refl, ap, sym, subst, inl, inr, arith, Some}
 use Rattle.std.specs.Prelude.{slice_get, ◌&&◌, All}
@@ -16,7 +16,7 @@ use Rattle.vm_slices.specs.declared.host_guest.HostGuest.{HostGuest}
 use Rattle.vm_machine.proofs.Trails.{trail_append}
 use Rattle.vm_slices.specs.Counting.{AreCounted, HasRoom}
 use Rattle.vm_slices.specs.Members.{after_turn, IsReady}
-use Rattle.vm_slices.specs.Places.{member_of, members_of, StandFrom, with_turn, marks_at}
+use Rattle.vm_slices.specs.Places.{member_of, members_of, StandFrom, with_member, with_turn, marks_at}
 
 -- ---- one of them
 
@@ -55,7 +55,7 @@ none_behind [] ram (suc i) more = refl
 none_behind (k ∷ ks) ram zero more = absurd (omega arith)
 none_behind (k ∷ ks) ram (suc i) more = none_behind ks ram i (omega arith)
 
--- ---- a turn of one
+-- ---- one that changes
 
 same_member : (g : HostGuest) (x y : List ℕ) → Alone g.guest x y → member_of y g ≡ member_of x g
 same_member g x y a =
@@ -72,18 +72,18 @@ behind_stay from (k ∷ ks) g x y all before behind within =
     let rest = behind_stay (end_of k.guest) ks g x y all.2 (omega arith) behind within in
     ((first, a.seated, rest.0), ap (λ (m : Member). m ∷ members_of ks y) (same_member k x y a) ∙ ap (λ (ms : List Member). member_of x k ∷ ms) rest.1)
 
--- what is known of a guest after its turn
-pub record HasTurned (slice : ℕ) (g h : HostGuest) (x y : List ℕ) : Type 0 where
-  pub turn : member_of y h ≡ after_turn slice (member_of x g)
+-- what is known of a guest that changes on its own part of the board
+pub record HasChanged (change : Member → Member) (g h : HostGuest) (x y : List ℕ) : Type 0 where
+  pub member : member_of y h ≡ change (member_of x g)
   pub same : IsSame g.guest h.guest
   pub seated : IsSeated h.guest y
   pub within : OnlyWithin g.guest x y
 
-pub turned_one : (from slice : ℕ) (gs : List HostGuest) (i : ℕ) (g h : HostGuest) (x y : List ℕ) → StandFrom from gs x → i < length gs
-    → g ≡ get_or gs i g → MONITOR_BYTES ≤ from → HasTurned slice g h x y
-    → StandFrom from (set gs i h) y × (members_of (set gs i h) y ≡ with_turn slice i (members_of gs x))
-turned_one from slice [] i g h x y all less is behind t = absurd (omega arith)
-turned_one from slice (k ∷ ks) zero g h x y all less is behind t =
+changed_one : (from : ℕ) (change : Member → Member) (gs : List HostGuest) (i : ℕ) (g h : HostGuest) (x y : List ℕ) → StandFrom from gs x
+    → i < length gs → g ≡ get_or gs i g → MONITOR_BYTES ≤ from → HasChanged change g h x y
+    → StandFrom from (set gs i h) y × (members_of (set gs i h) y ≡ with_member i change (members_of gs x))
+changed_one from change [] i g h x y all less is behind t = absurd (omega arith)
+changed_one from change (k ∷ ks) zero g h x y all less is behind t =
     let base = t.same.base in
     let size = t.same.size in
     let e : g ≡ k = is in
@@ -92,25 +92,25 @@ turned_one from slice (k ∷ ks) zero g h x y all less is behind t =
     let rest = behind_stay (end_of g.guest) ks g x y after (omega arith) (omega arith) t.within in
     let end : end_of g.guest ≡ end_of h.guest = omega arith in (
       (omega arith, t.seated, subst (λ (n : ℕ). StandFrom n ks y) end rest.0),
-      ap (λ (m : Member). m ∷ members_of ks y) (t.turn ∙ ap (λ (a : HostGuest). after_turn slice (member_of x a)) e)
-          ∙ ap (λ (ms : List Member). after_turn slice (member_of x k) ∷ ms) rest.1,
+      ap (λ (m : Member). m ∷ members_of ks y) (t.member ∙ ap (λ (a : HostGuest). change (member_of x a)) e)
+          ∙ ap (λ (ms : List Member). change (member_of x k) ∷ ms) rest.1,
     )
-turned_one from slice (k ∷ ks) (suc i) g h x y all less is behind t =
+changed_one from change (k ∷ ks) (suc i) g h x y all less is behind t =
     let first = all.0 in
     let after = base_behind (end_of k.guest) ks x i g all.2 (omega arith) is in
     let a = alone g.guest k.guest x y t.within (inr after) (omega arith) all.1 in
-    let rest = turned_one (end_of k.guest) slice ks i g h x y all.2 (omega arith) is (omega arith) t in (
+    let rest = changed_one (end_of k.guest) change ks i g h x y all.2 (omega arith) is (omega arith) t in (
       (first, a.seated, rest.0),
       ap (λ (m : Member). m ∷ members_of (set ks i h) y) (same_member k x y a)
           ∙ ap (λ (ms : List Member). member_of x k ∷ ms) rest.1,
     )
 
 -- the guest at a place
-pub turned_at : (slice : ℕ) (gs : List HostGuest) (i : ℕ) (r h : HostGuest) (x y : List ℕ) → StandFrom MONITOR_BYTES gs x → i < length gs
-    → r ≡ get_or gs i r → HasTurned slice (get_or gs i r) h x y
-    → StandFrom MONITOR_BYTES (set gs i h) y × (members_of (set gs i h) y ≡ with_turn slice i (members_of gs x))
-turned_at slice gs i r h x y all less is t =
-    turned_one MONITOR_BYTES slice gs i (get_or gs i r) h x y all less (ap (λ (g : HostGuest). get_or gs i g) is) (omega arith) t
+pub changed_at : (change : Member → Member) (gs : List HostGuest) (i : ℕ) (r h : HostGuest) (x y : List ℕ) → StandFrom MONITOR_BYTES gs x
+    → i < length gs → r ≡ get_or gs i r → HasChanged change (get_or gs i r) h x y
+    → StandFrom MONITOR_BYTES (set gs i h) y × (members_of (set gs i h) y ≡ with_member i change (members_of gs x))
+changed_at change gs i r h x y all less is t =
+    changed_one MONITOR_BYTES change gs i (get_or gs i r) h x y all less (ap (λ (g : HostGuest). get_or gs i g) is) (omega arith) t
 
 -- every other member is as it was
 pub other_stays : (slice place other : ℕ) (ms : List Member) → other ≢ place → slice_get (with_turn slice place ms) other ≡ slice_get ms other
@@ -237,6 +237,17 @@ member_room gs x i g native less is room =
 pub ready_behind : (ms : List Member) (m : Member) → All IsReady ms → IsReady m → All IsReady (ms ++ m ∷ [])
 ready_behind [] m all own = with_first m [] own all
 ready_behind (k ∷ ks) m all own = with_first k (ks ++ m ∷ []) (all zero k (omega arith)) (ready_behind ks m (all_behind k ks all) own)
+
+-- all are, where the one that changes is
+pub ready_with : (change : Member → Member) (gs : List HostGuest) (i : ℕ) (g : HostGuest) (x : List ℕ) → i < length gs → g ≡ get_or gs i g
+    → All IsReady (members_of gs x) → IsReady (change (member_of x g)) → All IsReady (with_member i change (members_of gs x))
+ready_with change [] i g x less is ready own = absurd (omega arith)
+ready_with change (k ∷ ks) zero g x less is ready own =
+    with_first (change (member_of x k)) (members_of ks x) (subst (λ (a : HostGuest). IsReady (change (member_of x a))) is own)
+    (all_behind (member_of x k) (members_of ks x) ready)
+ready_with change (k ∷ ks) (suc i) g x less is ready own =
+    with_first (member_of x k) (with_member i change (members_of ks x)) (ready zero (member_of x k) (omega arith))
+    (ready_with change ks i g x (omega arith) is (all_behind (member_of x k) (members_of ks x) ready) own)
 
 pub turn_of_one : (slice i : ℕ) (gs : List HostGuest) (g : HostGuest) (x : List ℕ) (old new : NativeState) → i < length gs → g ≡ get_or gs i g
     → All IsReady (members_of gs x) → Own slice (member_of x g) old new → Turn slice i (members_of gs x) old new

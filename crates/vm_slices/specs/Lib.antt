@@ -1,3 +1,4 @@
+pub mod Adopting
 pub mod Counting
 pub mod Fit
 pub mod Lending

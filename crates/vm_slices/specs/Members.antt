@@ -1,21 +1,27 @@
 -- The guests of a session, as contracts see them, and what becomes of them.
 use Rattle.std.specs.Prelude.{◌≡◌, ℕ, ◌-◌, ◌^◌, ◌<◌, true, List, [], map, slice_get, Option}
+use Rattle.vm_disk.specs.Disk.{DiskState}
 use Rattle.mb_devices.specs.Devices.{DeviceState}
 use Rattle.mb_model.specs.Keeping.{rule_k}
 use Rattle.mb_model.specs.Seen.{Seen}
-use Rattle.mb_machine.specs.Machine.{Machine, going, run_of, seen_machine, takes_steps}
+use Rattle.mb_machine.specs.Machine.{Machine, Outcome, going, outcome_of, run_of, seen_machine, takes_steps}
 use Rattle.vm_machine.specs.Turns.{Tally, no_steps, prepared}
+use Rattle.vm_machine.specs.Seats.{Seat}
 use Rattle.vm_machine.specs.Rounds.{Member, Hosted, left, closed_by, turn_in, host_run, whole_turn}
 use Rattle.vm_guest.specs.Session.{GuestAtStart}
 
 -- ---- one guest
 
--- a guest at its start: its image in its RAM, and an empty shadow
+-- a guest on a board with this disk, or with none
+abbrev pub with_disk : Option DiskState → Seat → Seat
+with_disk disk g = record g { devices = record g.devices { disk = disk } }
+
+-- a guest at its start: its image in its RAM, its disk, and an empty shadow
 abbrev pub member_at_start : GuestAtStart → Member
 member_at_start g = record {
   script = g.script;
   bound = g.steps;
-  guest = (prepared g.image g.ram).guest;
+  guest = (prepared g.opening g.ram).guest;
   tally = no_steps;
 }
 
@@ -43,7 +49,7 @@ pub record IsReady (m : Member) : Type 0 where
 abbrev pub after_rounds : ℕ → List Member → Hosted
 after_rounds slice members = host_run slice (record { members = members; marks = [] })
 
--- their machines, what is counted of their steps, their devices, and what they show
+-- their machines, what is counted of their steps, their devices, what they show, and their outcomes
 abbrev pub machines_of : List Member → List Machine
 machines_of members = map (λ (m : Member). m.guest.machine) members
 
@@ -55,6 +61,9 @@ devices_of members = map (λ (m : Member). m.guest.machine.world.devices) member
 
 abbrev pub shown_of : List Member → List Seen
 shown_of members = map (λ (m : Member). seen_machine m.guest.machine) members
+
+abbrev pub outcomes_of : List Member → List Outcome
+outcomes_of members = map (λ (m : Member). outcome_of m.guest.machine) members
 
 -- that of a guest, whose number counts from 1
 abbrev pub numbered : {A : Type 0} → ℕ → List A → Option A

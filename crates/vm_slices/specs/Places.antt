@@ -47,8 +47,12 @@ marks_at slice place [] = []
 marks_at slice zero (m ∷ members) = (turn_in slice m).marks
 marks_at slice (suc place) (m ∷ members) = marks_at slice place members
 
+-- members of which the one at a place is another
+abbrev pub with_member : (place : ℕ) → (Member → Member) → List Member → List Member
+with_member place change [] = []
+with_member zero change (m ∷ members) = change m ∷ members
+with_member (suc place) change (m ∷ members) = m ∷ with_member place change members
+
 -- members of which the one at a place has taken its turn of a round
 abbrev pub with_turn : (slice place : ℕ) → List Member → List Member
-with_turn slice place [] = []
-with_turn slice zero (m ∷ members) = after_turn slice m ∷ members
-with_turn slice (suc place) (m ∷ members) = m ∷ with_turn slice place members
+with_turn slice place members = with_member place (after_turn slice) members

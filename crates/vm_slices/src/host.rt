@@ -10,6 +10,7 @@ ghost use Rattle.vm_slices.specs.Fit.{need_of, Fits};
 ghost use Rattle.vm_guest.specs.Counting.{tally_in};
 ghost use Rattle.mb_script.specs.Plan.{IsTurnOf};
 ghost use Rattle.mb_script.specs.declared.sizes.TheConstants.{MOST_GUESTS};
+ghost use Rattle.vm_slices.specs.Adopting.{kept_at, scripts_of};
 ghost use Rattle.vm_slices.specs.Counting.{AreCounted, HasRoom, RisesBy};
 ghost use Rattle.vm_slices.specs.Members.{member_at_start, machine_at_end, tally_at_end, after_rounds, IsReady};
 ghost use Rattle.vm_slices.specs.Members.{machines_of, tallies_of, devices_of, shown_of, numbered};
@@ -22,9 +23,9 @@ use crate::open_fault::OpenFault;
 use crate::rounds::{are_done, take_round, take_turn};
 use mb_board::{Board, Native};
 use mb_devices::Devices;
-use mb_model::Outcome;
+use mb_model::{Kept, Outcome};
 use mb_outside::Memory;
-use mb_script::Turn;
+use mb_script::{Script, Turn};
 use mb_walk::Ram;
 use std::alloc::Global;
 use std::marker::Model;
@@ -214,6 +215,24 @@ impl Host {
         let _ = self.board.size();
         let host_guest = &self.guests[guest as usize - 1];
         host_guest.guest.outcome(&self.board)
+    }
+
+    /// What arrives at a guest's terminal.
+    pub fn script(&self, guest: u8) -> &Script
+        requires { (1 ≤ guest) × (guest ≤ length (members_in self.now)) }
+        ensures { numbered guest (scripts_of (members_in self.now)) ≡ Some result.now }
+    {
+        let host_guest = &self.guests[guest as usize - 1];
+        host_guest.guest.script()
+    }
+
+    /// What a guest keeps at a place, from the oldest on. `None` exactly where the place is not below the count.
+    pub fn kept(&self, guest: u8, place: u32) -> Option<Kept>
+        requires { (1 ≤ guest) × (guest ≤ length (members_in self.now)) }
+        ensures { numbered guest (kept_at place (members_in self.now)) ≡ Some result }
+    {
+        let host_guest = &self.guests[guest as usize - 1];
+        host_guest.guest.kept(place)
     }
 
     /// A guest's devices.

@@ -1,6 +1,6 @@
 //! One guest of a session on its board.
 
-ghost use Rattle.std.specs.Prelude.{◌≡◌, ◌+◌, ◌*◌, ◌%◌, ◌^◌, ◌<◌, ◌≤◌, [], ◌∷◌, length, IfOk};
+ghost use Rattle.std.specs.Prelude.{◌≡◌, ◌+◌, ◌*◌, ◌%◌, ◌^◌, ◌<◌, ◌≤◌, [], ◌∷◌, length, IfOk, None, OnOk};
 ghost use Rattle.vm_shadow.specs.declared.area.TheConstants.{AREA_BYTES};
 ghost use Rattle.vm_machine.specs.Seats.{IsSame, IsSeated, OnlyWithin};
 ghost use Rattle.vm_machine.specs.declared.limits.TheConstants.{MONITOR_BYTES};
@@ -8,19 +8,31 @@ ghost use Rattle.vm_machine.specs.Rounds.{left, is_done, turn_in};
 ghost use Rattle.vm_guest.specs.Memory.{OnlyBetween};
 ghost use Rattle.vm_guest.specs.Session.{IsGuest};
 ghost use Rattle.vm_slices.specs.Counting.{AreCounted, HasRoom};
-ghost use Rattle.vm_slices.specs.Members.{after_turn, member_at_start, IsReady};
+ghost use Rattle.vm_slices.specs.Members.{after_turn, member_at_start, with_disk, IsReady};
 ghost use Rattle.vm_slices.specs.Places.{member_of};
 
 use mb_board::{Board, Native, takes_steps};
 use mb_outside::Memory;
 use std::alloc::Global;
-use vm_guest::{Guest, SessionGuest};
+use vm_guest::{Guest, SessionDisk, SessionGuest};
 
 /// A guest, and how many steps it takes at most.
 #[derive(Drop)]
 pub(crate) struct HostGuest {
     pub(crate) guest: Guest,
     pub(crate) bound: u32,
+}
+
+/// Attaches the disk, where there is one, to a guest that has none.
+fn attach_disk(alloc: Global, guest: &mut Guest, disk: Option<SessionDisk>) -> Result<(), Memory>
+    requires { guest.old.devices.disk ≡ None }
+    ensures { OnOk result (guest.new ≡ with_disk disk guest.old) }
+{
+    if let Some(disk) = disk {
+        let disk = disk.open(alloc)?;
+        guest.devices_mut().attach(disk);
+    }
+    Ok(())
 }
 
 impl HostGuest {
@@ -42,8 +54,9 @@ impl HostGuest {
     {
         let ram = guest.ram();
         let bound = guest.steps();
-        let (image, script) = guest.into_parts();
-        let guest = Guest::prepare(alloc, image, script, ram, base, board)?;
+        let (image, script, disk) = guest.into_parts();
+        let mut guest = Guest::prepare(alloc, image, script, ram, base, board)?;
+        attach_disk(alloc, &mut guest, disk)?;
         Ok(HostGuest { guest, bound })
     }
 

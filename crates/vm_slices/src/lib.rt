@@ -5,6 +5,7 @@
 //! not of the board or the places on it. Rounds of turns are those that are defined there.
 #![tactic(auto)]
 
+mod adopting;
 mod fit;
 mod host;
 mod host_guest;
@@ -14,4 +15,4 @@ mod rounds;
 
 pub use host::Host;
 pub use open_fault::OpenFault;
-pub use vm_guest::{Session, SessionGuest};
+pub use vm_guest::{Session, SessionDisk, SessionGuest};

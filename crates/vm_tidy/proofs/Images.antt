@@ -3,7 +3,7 @@ use Rattle.std.proofs.Common.{◌≡◌, ℕ, true, false, [], refl, sym, ◌∙
 use Rattle.std.specs.Prelude.{slice_index_or}
 use Rattle.std.proofs.lemmas.Bool.{true≢false}
 use Rattle.mb_model.specs.Keeping.{rule_a, rule_k}
-use Rattle.mb_model.specs.Seen.{Seen}
+use Rattle.mb_machine.specs.Machine.{Outcome}
 use Rattle.vm_tidy.specs.Deciding.{is_tidy}
 use Rattle.vm_tidy.specs.Images.{sending_image, flushing_image, stale_image, word_read}
 use Rattle.vm_tidy.specs.Images.{SendingIsTidy, FlushingIsTidy, StaleIsUntidy, StaleDiffers}
@@ -48,5 +48,5 @@ stale-differs = record {
   guest = stale_guest;
   differ = λ h.
       apart (word_read rule_a stale_image) (word_read rule_k stale_image) stale_board stale_guest
-      (ap (λ (s : Seen). slice_index_or s.cpu.regs.d 3 0) h);
+      (ap (λ (o : Outcome). slice_index_or o.seen.cpu.regs.d 3 0) h);
 }

@@ -111,4 +111,4 @@ off-runs_are_tidy script (suc n) m off h = λ going.
 
 pub off-is_tidy : OffIsTidy
 unfolding reset_with
-off-is_tidy contents script size n h = off-runs_are_tidy script n (start rule_free contents size) refl h
+off-is_tidy opening script size n h = off-runs_are_tidy script n (start rule_free opening size) refl h

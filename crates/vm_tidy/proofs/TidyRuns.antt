@@ -10,7 +10,8 @@ use Rattle.mb_processor.specs.Step.{step_of}
 use Rattle.mb_laws.specs.Relations.{Admits}
 use Rattle.mb_laws.proofs.Related.{runs_agree, runs_of_run}
 use Rattle.mb_machine.specs.World.{World}
-use Rattle.mb_machine.specs.Machine.{Entries, Machine, Contents, begun, one_later, takes_steps, run_of, start, seen_machine, with_contents, asked_of}
+use Rattle.mb_machine.specs.Machine.{Entries, Machine, Opening, begun, one_later, opening_devices, takes_steps, run_of, start, outcome_of, asked_of}
+use Rattle.mb_walk.specs.Memory.{with_contents}
 use Rattle.vm_meaning.specs.Free.{StandIn, rule_free, FreeStep, FreeCall, FreeRun, WorldWithin, Within}
 use Rattle.vm_meaning.proofs.Runs.{run-from_reset}
 use Rattle.vm_meaning.specs.Tidy.{searching_bus, searching_step, searching_run, Tidy}
@@ -87,33 +88,33 @@ searching-is_free script (suc n) m = elim (cases_Bool (takes_steps m.state)) [
 
 -- ---- what is seen
 
-seen_within : (m free : Machine) → Within m free → seen_machine free ≡ seen_machine m
-seen_within m free h = ap seen_machine h.same
+seen_within : (m free : Machine) → Within m free → outcome_of free ≡ outcome_of m
+seen_within m free h = ap outcome_of h.same
 
 itself : (m : Machine) → Within m m
 itself m = record { same = refl; kept = λ k h. h }
 
-seen_searching : (contents : Contents) (script : Entries) (size n : ℕ) (end : Machine) → Tidy contents script size n
-    → FreeRun script n (start rule_free contents size) end
-    → seen_machine (searching_run script n (start rule_free contents size)) ≡ seen_machine end
-seen_searching contents script size n end tidy free =
-    let m = start rule_free contents size in
+seen_searching : (opening : Opening) (script : Entries) (size n : ℕ) (end : Machine) → Tidy opening script size n
+    → FreeRun script n (start rule_free opening size) end
+    → outcome_of (searching_run script n (start rule_free opening size)) ≡ outcome_of end
+seen_searching opening script size n end tidy free =
+    let m = start rule_free opening size in
     seen_within end (searching_run script n m) (tidy_runs-search script n m m end (itself m) tidy free)
 
 pub tidy_runs-are_one : TidyRunsAreOne
-tidy_runs-are_one contents script size n a b tidy one two =
-    sym (seen_searching contents script size n a tidy one) ∙ seen_searching contents script size n b tidy two
+tidy_runs-are_one opening script size n a b tidy one two =
+    sym (seen_searching opening script size n a tidy one) ∙ seen_searching opening script size n b tidy two
 
-seen_by_rule : (rule : Rule) (contents : Contents) (script : Entries) (size n : ℕ) → Tidy contents script size n
-    → seen_machine (searching_run script n (start rule_free contents size)) ≡ seen_machine (run_of rule script n (start rule contents size))
-seen_by_rule rule contents script size n tidy =
-    let f = run-from_reset rule script n size (with_contents (replicate size 0) contents) in
-    seen_searching contents script size n f.0 tidy f.1
-    ∙ seen_within (run_of rule script n (start rule contents size)) f.0 f.2
+seen_by_rule : (rule : Rule) (opening : Opening) (script : Entries) (size n : ℕ) → Tidy opening script size n
+    → outcome_of (searching_run script n (start rule_free opening size)) ≡ outcome_of (run_of rule script n (start rule opening size))
+seen_by_rule rule opening script size n tidy =
+    let f = run-from_reset rule script n (opening_devices size opening.disk) (with_contents (replicate size 0) opening.image) in
+    seen_searching opening script size n f.0 tidy f.1
+    ∙ seen_within (run_of rule script n (start rule opening size)) f.0 f.2
 
 pub rules-show_the_same : RulesShowTheSame
-rules-show_the_same rule other contents script size n tidy =
-    sym (seen_by_rule rule contents script size n tidy) ∙ seen_by_rule other contents script size n tidy
+rules-show_the_same rule other opening script size n tidy =
+    sym (seen_by_rule rule opening script size n tidy) ∙ seen_by_rule other opening script size n tidy
 
 pub tidy-is_told_same : TidyIsToldSame
-tidy-is_told_same contents script size n told tells tidy = tells.1 (rules-show_the_same rule_a rule_k contents script size n tidy)
+tidy-is_told_same opening script size n told tells tidy = tells.1 (rules-show_the_same rule_a rule_k opening script size n tidy)

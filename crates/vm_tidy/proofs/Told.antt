@@ -182,4 +182,4 @@ pub tidy_runs-are_told : TidyRunsAreTold
 tidy_runs-are_told script n m = (run_so script n m, so_run script n m)
 
 pub tidy-is_told : TidyIsTold
-tidy-is_told contents script size n = tidy_runs-are_told script n (start rule_free contents size)
+tidy-is_told opening script size n = tidy_runs-are_told script n (start rule_free opening size)

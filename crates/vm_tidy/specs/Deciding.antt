@@ -14,7 +14,7 @@ use Rattle.mb_machine.specs.declared.reference.Reference.{Reference}
 use Rattle.mb_machine.specs.World.{World}
 use Rattle.mb_machine.specs.Access.{untranslated, marks, search_for}
 use Rattle.mb_machine.specs.Bus.{reference_of}
-use Rattle.mb_machine.specs.Machine.{Machine, Contents, Entries, begun, takes_steps, start, asked_of}
+use Rattle.mb_machine.specs.Machine.{Machine, Opening, Entries, begun, takes_steps, start, asked_of}
 use Rattle.vm_meaning.specs.Free.{rule_free}
 use Rattle.vm_meaning.specs.Tidy.{searching_bus, searching_step, IsTidyRun, Tidy}
 
@@ -65,15 +65,15 @@ is_tidy_run script zero m = true
 is_tidy_run script (suc n) m =
     if takes_steps m.state then is_tidy_step script m && is_tidy_run script n (searching_step script m) else true
 
-abbrev pub is_tidy : Contents → Entries → (size n : ℕ) → Bool
-is_tidy contents script size n = is_tidy_run script n (start rule_free contents size)
+abbrev pub is_tidy : Opening → Entries → (size n : ℕ) → Bool
+is_tidy opening script size n = is_tidy_run script n (start rule_free opening size)
 
 -- ---- laws
 
--- The test passes just where the run is tidy, and the image.
+-- The test passes just where the run is tidy, and just where the opening is.
 abbrev pub TidyRunsAreTold : Type 0
 TidyRunsAreTold = (script : Entries) (n : ℕ) (m : Machine) → (is_tidy_run script n m ≡ true) ↔ IsTidyRun script n m
 
 abbrev pub TidyIsTold : Type 0
-TidyIsTold = (contents : Contents) (script : Entries) (size n : ℕ)
-    → (is_tidy contents script size n ≡ true) ↔ Tidy contents script size n
+TidyIsTold = (opening : Opening) (script : Entries) (size n : ℕ)
+    → (is_tidy opening script size n ≡ true) ↔ Tidy opening script size n

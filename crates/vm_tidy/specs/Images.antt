@@ -1,8 +1,9 @@
--- Images that are tidy, and one that is not. Each has 64 KiB of RAM and no script.
+-- Images that are tidy, and one that is not. Each has 64 KiB of RAM, no disk and no script.
 use Rattle.std.specs.Prelude.{◌≡◌, ℕ, zero, suc, ◌+◌, ◌*◌, List, [], ◌∷◌, ◌++◌, slice_index_or}
 use Rattle.byteorder.specs.Endian.{big_bytes}
 use Rattle.mb_model.specs.Keeping.{Rule, rule_a, rule_k}
-use Rattle.mb_machine.specs.Machine.{Contents}
+use Rattle.mb_machine.specs.Machine.{Opening, diskless}
+use Rattle.mb_walk.specs.Memory.{Contents}
 use Rattle.vm_meaning.specs.Tidy.{Tidy}
 use Rattle.vm_tidy.specs.Laws.{outcome_by}
 
@@ -13,13 +14,13 @@ words [] = []
 words (word ∷ rest) = big_bytes 2 word ++ words rest
 
 -- code at 400 and what else there is, with ISP 10000 at reset
-abbrev pub image_of : (code : List ℕ) → (others : Contents) → Contents
-image_of code others = (0, big_bytes 4 0x10000 ++ big_bytes 4 0x400) ∷ (0x400, words code) ∷ others
+abbrev pub image_of : (code : List ℕ) → (others : Contents) → Opening
+image_of code others = diskless ((0, big_bytes 4 0x10000 ++ big_bytes 4 0x400) ∷ (0x400, words code) ∷ others)
 
 -- ---- an image that translates nothing
 
 -- It sends an A and switches off: MOVEQ #$41,D0, MOVE.B D0,$FFF00000.L and MOVE.L #$1,$FFF00020.L.
-abbrev pub sending_image : Contents
+abbrev pub sending_image : Opening
 sending_image =
     image_of (0x7041 ∷ 0x13C0 ∷ 0xFFF0 ∷ 0x0000 ∷ 0x23FC ∷ 0x0000 ∷ 0x0001 ∷ 0xFFF0 ∷ 0x0020 ∷ []) []
 
@@ -53,15 +54,15 @@ abbrev pub reading_again : List ℕ
 reading_again = 0x3638 ∷ 0x3000 ∷ []
 
 -- It turns translation on, reads a word, and changes its page. Then comes something else, and it reads the word again.
-abbrev pub changing_image : (between : List ℕ) → Contents
+abbrev pub changing_image : (between : List ℕ) → Opening
 changing_image between = image_of (turning_on ++ changing ++ between ++ reading_again) tables
 
 -- MOVEC A0,SRP: what was searched out is not flushed
-abbrev pub stale_image : Contents
+abbrev pub stale_image : Opening
 stale_image = changing_image (0x4E7B ∷ 0x8807 ∷ [])
 
 -- PFLUSHA
-abbrev pub flushing_image : Contents
+abbrev pub flushing_image : Opening
 flushing_image = changing_image (0xF518 ∷ [])
 
 abbrev pub FlushingIsTidy : Type 0
@@ -71,8 +72,8 @@ abbrev pub StaleIsUntidy : Type 0
 StaleIsUntidy = Tidy stale_image [] 65536 8 → ⊥
 
 -- D3 of an image's outcome by a rule, after 8 steps
-abbrev pub word_read : Rule → Contents → ℕ
-word_read rule contents = slice_index_or (outcome_by rule contents [] 65536 8).cpu.regs.d 3 0
+abbrev pub word_read : Rule → Opening → ℕ
+word_read rule image = slice_index_or (outcome_by rule image [] 65536 8).seen.cpu.regs.d 3 0
 
 -- It reads the old word by the board's rule and the new one by the guests'; so the outcomes differ.
 pub record StaleDiffers : Type 0 where

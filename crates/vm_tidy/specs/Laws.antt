@@ -1,9 +1,8 @@
 -- What tidy runs have in common.
 use Rattle.std.specs.Prelude.{◌≡◌, ℕ}
 use Rattle.mb_model.specs.Keeping.{Rule}
-use Rattle.mb_model.specs.Seen.{Seen}
 use Rattle.mb_laws.specs.Relations.{NoChoice}
-use Rattle.mb_machine.specs.Machine.{Contents, Entries, Machine, start, run_of, seen_machine}
+use Rattle.mb_machine.specs.Machine.{Opening, Entries, Machine, start, run_of, Outcome, outcome_of}
 use Rattle.vm_meaning.specs.Free.{rule_free, FreeCall, FreeRun, WorldWithin, Within}
 use Rattle.vm_meaning.specs.Tidy.{searching_bus, searching_run, IsTidyCall, IsTidyRun, Tidy}
 
@@ -25,19 +24,19 @@ TidyRunsSearch = (script : Entries) (n : ℕ) (m free end : Machine) → Within 
 abbrev pub SearchingIsFree : Type 0
 SearchingIsFree = (script : Entries) (n : ℕ) (m : Machine) → FreeRun script n m (searching_run script n m)
 
--- ---- an image
+-- ---- an opening
 
--- All free runs of a tidy image show one outcome.
+-- All free runs of a tidy opening show one outcome.
 abbrev pub TidyRunsAreOne : Type 0
-TidyRunsAreOne = (contents : Contents) (script : Entries) (size n : ℕ) (a b : Machine) → Tidy contents script size n
-    → FreeRun script n (start rule_free contents size) a → FreeRun script n (start rule_free contents size) b
-    → seen_machine a ≡ seen_machine b
+TidyRunsAreOne = (opening : Opening) (script : Entries) (size n : ℕ) (a b : Machine) → Tidy opening script size n
+    → FreeRun script n (start rule_free opening size) a → FreeRun script n (start rule_free opening size) b
+    → outcome_of a ≡ outcome_of b
 
--- the outcome of an image's run by a rule
-abbrev pub outcome_by : Rule → Contents → Entries → (size n : ℕ) → Seen
-outcome_by rule contents script size n = seen_machine (run_of rule script n (start rule contents size))
+-- the outcome of an opening's run by a rule
+abbrev pub outcome_by : Rule → Opening → Entries → (size n : ℕ) → Outcome
+outcome_by rule opening script size n = outcome_of (run_of rule script n (start rule opening size))
 
--- And so do its runs by any two rules of keeping.
+-- Its runs by any two rules of keeping show the same.
 abbrev pub RulesShowTheSame : Type 0
-RulesShowTheSame = (rule other : Rule) (contents : Contents) (script : Entries) (size n : ℕ)
-    → Tidy contents script size n → outcome_by rule contents script size n ≡ outcome_by other contents script size n
+RulesShowTheSame = (rule other : Rule) (opening : Opening) (script : Entries) (size n : ℕ)
+    → Tidy opening script size n → outcome_by rule opening script size n ≡ outcome_by other opening script size n

@@ -4,7 +4,7 @@ use Rattle.mb_port.specs.Routine.{Call, SetMmu}
 use Rattle.mb_port.specs.declared.types.MmuReg.{MmuReg}
 use Rattle.mb_port.specs.declared.types.MmuReg.TheVariants.{Tc}
 use Rattle.mb_machine.specs.Access.{is_translating}
-use Rattle.mb_machine.specs.Machine.{Contents, Entries, Machine, start}
+use Rattle.mb_machine.specs.Machine.{Opening, Entries, Machine, start}
 use Rattle.vm_meaning.specs.Free.{rule_free}
 use Rattle.vm_meaning.specs.Tidy.{IsTidyRun, Tidy}
 use Rattle.vm_tidy.specs.Runs.{AlongRun}
@@ -27,7 +27,7 @@ abbrev pub OffRunsAreTidy : Type 0
 OffRunsAreTidy = (script : Entries) (n : ℕ) (m : Machine) → is_translating m.world.mmu ≡ false → NeverSetsTc script n m
     → IsTidyRun script n m
 
--- It is off at the start, so an image that never sets TC is tidy.
+-- It is off at the start, so an opening whose run never sets TC is tidy.
 abbrev pub OffIsTidy : Type 0
-OffIsTidy = (contents : Contents) (script : Entries) (size n : ℕ)
-    → NeverSetsTc script n (start rule_free contents size) → Tidy contents script size n
+OffIsTidy = (opening : Opening) (script : Entries) (size n : ℕ)
+    → NeverSetsTc script n (start rule_free opening size) → Tidy opening script size n

@@ -6,9 +6,9 @@ use super::{Failing, HELLO, HELLO_WORDS, ROOMY, Ran, SCRIPT_WORDS, file, split_w
 use mb_program::run_unfailing;
 use std::alloc::Global;
 
-/// A session of two guests, with a script.
-const SESSION: &[u8] =
-    b"session 1\nboard 320\nslice 9\nguest 64 10 hello.s19 typed.txt\nguest 64 9 zeros.s19 -\n";
+/// A session of two guests, with a script and the contents of a disk.
+const SESSION: &[u8] = b"session 2\nboard 320\nslice 9\nguest 64 10 hello.s19 typed.txt\n\
+guest 64 9 zeros.s19 -\ndisk 1 2 disk.s19\n";
 
 /// Words, and the files that they read, in their order.
 struct Command<'a> {
@@ -19,13 +19,13 @@ struct Command<'a> {
 #[rattlefmt::skip]
 static COMMANDS: [Command; 6] = [
     Command {
-        words: "mbx bare hello.s19 --ram 64 --steps 10 --script typed.txt",
-        files: &["hello.s19", "typed.txt"],
+        words: "mbx bare hello.s19 --ram 64 --steps 10 --disk 2 --contents disk.s19 --script typed.txt",
+        files: &["hello.s19", "typed.txt", "disk.s19"],
     },
     Command { words: "mbx asm hello.s", files: &["hello.s"] },
     Command { words: "mbx dis hello.s19 --ram 64 --at 400 --count 3", files: &["hello.s19"] },
-    Command { words: "mbx host s.txt", files: &["s.txt", "hello.s19", "typed.txt", "zeros.s19"] },
-    Command { words: "mbx compare s.txt", files: &["s.txt", "hello.s19", "typed.txt", "zeros.s19"] },
+    Command { words: "mbx host s.txt", files: &["s.txt", "hello.s19", "typed.txt", "disk.s19", "zeros.s19"] },
+    Command { words: "mbx compare s.txt", files: &["s.txt", "hello.s19", "typed.txt", "disk.s19", "zeros.s19"] },
     Command { words: "mbx gen --seed 1 --guests 1", files: &[] },
 ];
 

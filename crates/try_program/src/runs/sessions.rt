@@ -1,6 +1,9 @@
 //! Sessions of several guests.
 
 use super::commands::SOURCE;
+use super::disks::{
+    BEYOND, COMMANDS, CONTENTS, COPY, ENDS, LOADS, MAPPED, NARROW, RESETS, STORE, WRAPS,
+};
 use super::{
     Failing, HELLO, HELLO_TEXT, NOTHING, ROOMY, Ran, contains, file, run_over, split_words,
 };
@@ -44,19 +47,19 @@ pub(super) const SESSION_OF_ONE: &[u8] =
 
 /// A run on these files, and what is to come of it.
 #[derive(Drop)]
-struct Row<'a> {
-    what: &'a str,
-    words: &'a [&'a str],
-    session: &'a [u8],
-    status: u8,
+pub(super) struct Row<'a> {
+    pub(super) what: &'a str,
+    pub(super) words: &'a [&'a str],
+    pub(super) session: &'a [u8],
+    pub(super) status: u8,
     /// Parts of what out takes.
-    parts: &'a [&'a [u8]],
-    diag: &'a [u8],
+    pub(super) parts: &'a [&'a [u8]],
+    pub(super) diag: &'a [u8],
 }
 
-/// A shelf with all images, a script that types a line, a source, and a session.
+/// A shelf with all images, the contents of a disk, a script that types a line, a source, and a session.
 fn shelf(alloc: Global, session: &[u8], fails: u64) -> Option<MemShelf> {
-    let known: [(&str, &[u8]); 10] = [
+    let known: [(&str, &[u8]); 21] = [
         ("s.txt", session),
         ("hello.s19", HELLO),
         ("loop.s19", LOOP),
@@ -65,6 +68,17 @@ fn shelf(alloc: Global, session: &[u8], fails: u64) -> Option<MemShelf> {
         ("zeros.s19", ZEROS),
         ("stale.s19", STALE),
         ("bad.s19", b"S9030000FB\n"),
+        ("store.s19", STORE),
+        ("beyond.s19", BEYOND),
+        ("copy.s19", COPY),
+        ("commands.s19", COMMANDS),
+        ("resets.s19", RESETS),
+        ("ends.s19", ENDS),
+        ("wraps.s19", WRAPS),
+        ("narrow.s19", NARROW),
+        ("mapped.s19", MAPPED),
+        ("loads.s19", LOADS),
+        ("disk.s19", CONTENTS),
         ("typed.txt", b"at 1 text A\n"),
         ("hello.s", SOURCE),
     ];
@@ -88,7 +102,7 @@ pub(super) fn run_session(
 }
 
 /// Each of the words gives what the row says.
-fn check_row(rt: &impl Abort, alloc: Global, row: &Row) {
+pub(super) fn check_row(rt: &impl Abort, alloc: Global, row: &Row) {
     for words in row.words {
         let ran = run_session(alloc, words, row.session, ROOMY).expect(rt, "ample memory");
         assert!(rt; ran.status == row.status, "{}: {words}", row.what);

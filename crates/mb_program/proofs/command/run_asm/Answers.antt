@@ -1,6 +1,6 @@
 use Rattle.std.proofs.Common.{refl}
 use Rattle.mb_srec.specs.Image.{contents_of}
-use Rattle.mb_machine.specs.Machine.{Contents}
+use Rattle.mb_walk.specs.Memory.{Contents}
 use Rattle.mb_words.specs.Words.{source_said}
 use Rattle.mb_program.specs.Answers.{asm_answer, ends, source_in}
 use Rattle.mb_program.specs.Ends.{Around, around_of}

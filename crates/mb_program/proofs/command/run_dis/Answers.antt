@@ -1,7 +1,7 @@
 use Rattle.std.proofs.Common.{refl}
 use Rattle.std.specs.Prelude.{◌*◌}
 use Rattle.mb_srec.specs.Image.{contents_of}
-use Rattle.mb_machine.specs.Machine.{Contents}
+use Rattle.mb_walk.specs.Memory.{Contents}
 use Rattle.mb_words.specs.Words.{excerpt_said}
 use Rattle.mb_program.specs.Answers.{dis_answer, ends, image_in}
 use Rattle.mb_program.specs.Ends.{Around, around_of}

@@ -1,10 +1,12 @@
 use Rattle.std.proofs.Common.{◌≡◌, ℕ, sym, subst}
+use Rattle.mb_model.specs.Keeping.{rule_k}
 use Rattle.vm_slices.specs.Members.{shown_of}
 use Rattle.vm_slices.specs.Places.{members_in}
 use Rattle.mb_gen.specs.Sessions.{generated}
 use Rattle.mb_words.specs.Words.{workload_said}
-use Rattle.mb_program.specs.Answers.{gen_answer}
+use Rattle.mb_program.specs.Answers.{gen_answer, outcome_by}
 use Rattle.mb_program.specs.Ends.{GivesAnswer, sink_seen}
+use Rattle.mb_program.proofs.OutcomeLemmas.{seen_so}
 use Rattle.mb_program.proofs.SummaryLemmas.{not_hosted, summary_cut, summary_done}
 use Rattle.mb_program.specs.declared.end.End.{End}
 use Rattle.mb_program.proofs.generated.show_generated.Goals as goal
@@ -22,7 +24,8 @@ returns-in-Ok-write_summary g c =
     let made = subst (λ (seed : ℕ). c.in-Ok.session ≡ generated seed workload.guests) c.from.ensures c.in-Ok.ensures.generated in
     summary_done workload c.in-Ok.session (shown_of (members_in c.in-Ok-run_session.host))
     (sink_seen g.O.Sink c.args.out.now) (sink_seen g.O.Sink c.write_summary.new.out)
-    _ _ made c.in-Ok-run_session.ensures.runs.1 c.in-Ok-run_session.ensures.counted c.in-Ok-write_summary.ensures
+    _ _ made (seen_so (members_in c.in-Ok-run_session.host) c.in-Ok.session.guests (outcome_by rule_k) c.in-Ok-run_session.ensures.runs.1)
+    c.in-Ok-run_session.ensures.counted c.in-Ok-write_summary.ensures
 
 pub returns : goal.returns
 returns g c =
@@ -30,4 +33,5 @@ returns g c =
     let made = subst (λ (seed : ℕ). c.in-Ok.session ≡ generated seed workload.guests) c.from.ensures c.in-Ok.ensures.generated in
     summary_cut workload c.in-Ok.session (shown_of (members_in c.in-Ok-run_session.host))
     (sink_seen g.O.Sink c.args.out.now) (sink_seen g.O.Sink c.write_summary.new.out)
-    _ _ made c.in-Ok-run_session.ensures.runs.1 c.in-Ok-run_session.ensures.counted c.in-Err-write_summary.ensures
+    _ _ made (seen_so (members_in c.in-Ok-run_session.host) c.in-Ok.session.guests (outcome_by rule_k) c.in-Ok-run_session.ensures.runs.1)
+    c.in-Ok-run_session.ensures.counted c.in-Err-write_summary.ensures

@@ -1,28 +1,33 @@
 use Rattle.std.proofs.Common.{◌≡◌, ◌∙◌, ◌<◌, ℕ, [], List, length, map, get_or, drop, refl, sym, ap, subst, rules}
-use Rattle.std.specs.Prelude.{Vec}
+use Rattle.std.specs.Prelude.{All, Vec}
 use Rattle.std.specs.declared.alloc.Global.{Global}
 use Rattle.std.proofs.lemmas.List.{drop_all, get_or-map, length-map}
 use Rattle.std.proofs.lemmas.List.Elements.{All-nil, All-push}
 use Rattle.std.proofs.lemmas.Result.{err_from_is_err_and}
 use Rattle.mb_script.specs.Answers.{guest_said}
-use Rattle.mb_script.specs.Plan.{AreRams, Guest, IsRam}
+use Rattle.mb_script.specs.Plan.{Guest, HasDisk, IsRam}
 use Rattle.vm_guest.specs.Session.{GuestAtStart, IsGuest}
 use Rattle.mb_words.specs.Words.{run_said}
 use Rattle.mb_program.specs.Answers.{reads_guests}
 use Rattle.mb_program.proofs.GuestLemmas.{all_read, memory_ends, next_ends, next_read, none_so_far}
 use Rattle.mb_program.proofs.guest_reading.read_guests.Goals as goal
 
--- the RAM of a plan at a place is in its range, since all are
-ram_at : {X : Type 0} (f : X → Guest) (plans : List X) (i : ℕ) (plan : X) → AreRams (map f plans) → i < length plans → plan ≡ get_or plans i plan
-    → IsRam (f plan).ram
-ram_at f plans i plan rams within is =
-    let here : IsRam (get_or (map f plans) i (f plan)).ram = rams i (f plan) (rw length-map within) in
+-- what holds of all plans holds of the one at a place
+plan_at : {X : Type 0} (P : Guest → Type 0) (f : X → Guest) (plans : List X) (i : ℕ) (plan : X) → All P (map f plans) → i < length plans
+    → plan ≡ get_or plans i plan → P (f plan)
+plan_at P f plans i plan all within is =
+    let here : P (get_or (map f plans) i (f plan)) = all i (f plan) (rw length-map within) in
     let same : get_or (map f plans) i (f plan) ≡ f plan = get_or-map f plans i plan (f plan) within ∙ ap f (sym is) in
-    subst (λ (g : Guest). IsRam g.ram) same here
+    subst P same here
 
-pub run_of-requires : goal.run_of-requires
-run_of-requires g c =
-    ram_at guest_said c.args.plans.now c.loop-plan.plan-index c.plan-item.result c.requires c.loop-plan-test.true c.plan-item.is
+pub run_of-requires-clause-ram : goal.run_of-requires-clause-ram
+run_of-requires-clause-ram g c =
+    plan_at (λ guest. IsRam guest.ram) guest_said c.args.plans.now c.loop-plan.plan-index c.plan-item.result c.requires.rams
+    c.loop-plan-test.true c.plan-item.is
+
+pub run_of-requires-clause-disk : goal.run_of-requires-clause-disk
+run_of-requires-clause-disk g c =
+    plan_at HasDisk guest_said c.args.plans.now c.loop-plan.plan-index c.plan-item.result c.requires.disks c.loop-plan-test.true c.plan-item.is
 
 pub loop-plan-init : goal.loop-plan-init
 loop-plan-init g c = record {

@@ -6,7 +6,7 @@ use Rattle.mb_script.specs.Plan.{IsTurnOf}
 use Rattle.vm_machine.specs.Rounds.{Member}
 use Rattle.vm_slices.specs.Places.{members_in}
 use Rattle.vm_slices.specs.Members.{member_at_start}
-use Rattle.mb_program.proofs.RunLemmas.{carried_so, fits_so, not_prepared, shown_so, tallied_so}
+use Rattle.mb_program.proofs.RunLemmas.{carried_so, fits_so, not_prepared, outcomes_so, tallied_so}
 use Rattle.mb_program.proofs.hosted.run_session.Goals as goal
 
 -- there are as many members as guests
@@ -29,7 +29,7 @@ returns-in_err-host-clause-counted c =
 pub returns-clause-runs : goal.returns-clause-runs
 returns-clause-runs c = (
   fits_so c.args.session (Ok c.in_ok-host.host) c.in_ok-host.host _ refl c.in_ok-host.ensures.oversize,
-  shown_so c.args.session.guests (members_in c.in_ok-host.host) (members_in c.run.new.self) c.in_ok-host.ensures.members
+  outcomes_so c.args.session.guests (members_in c.in_ok-host.host) (members_in c.run.new.self) c.in_ok-host.ensures.members
       (c.run.ensures.machines ∙ c.run_order.ensures.machine_ends),
   tallied_so c.args.session.guests (members_in c.in_ok-host.host) (members_in c.run.new.self) c.in_ok-host.ensures.members
       (c.run.ensures.tallies ∙ c.run_order.ensures.tally_ends),

@@ -1,7 +1,7 @@
 -- What the chunks that are left do to memory is what all do to it as it was.
 use Rattle.std.proofs.Common.{◌≡◌, drop, length}
 use Rattle.mb_srec.specs.Image.{all_contents}
-use Rattle.mb_machine.specs.Machine.{with_contents}
+use Rattle.mb_walk.specs.Memory.{with_contents}
 use Rattle.mb_program.proofs.opening.put_chunks.Given as goal
 
 abbrev pub invariant-loop-chunk : goal.invariant-loop-chunk

@@ -3,7 +3,8 @@ use Rattle.std.proofs.Common.{◌≡◌, ◌≤◌, length, map}
 use Rattle.mb_lines.specs.Lines.{left, past}
 use Rattle.mb_script.specs.Answers.{guest_said}
 use Rattle.mb_script.specs.Lines.{statements}
-use Rattle.mb_script.specs.Plan.{AreRams}
+use Rattle.std.specs.Prelude.{All}
+use Rattle.mb_script.specs.Plan.{AreRams, HasDisk}
 use Rattle.mb_script.specs.Sessions.{guests_after, guests_of}
 use Rattle.mb_script.proofs.Entries.{with_guests}
 use Rattle.mb_script.proofs.session_reading.guests.Given as goal
@@ -16,6 +17,7 @@ invariant-loop-line l = record {
   some : 1 ≤ length l.guests.items;
   few : length l.guests.items ≤ 16;
   rams : AreRams (map guest_said l.guests.items);
+  disks : All HasDisk (map guest_said l.guests.items);
 }
 
 abbrev pub decreases-loop-line : goal.decreases-loop-line

@@ -8,7 +8,7 @@ use Rattle.vm_guest.proofs.readying.make_ready.Goals as goal
 pub returns : goal.returns
 returns c =
     let last = c.set_mmu-3.new.self in
-    is_ready c.args.root c.args.board.now.world.devices.ram c.args.board.now.world.ram c.args.plain.now
+    is_ready c.args.root c.args.board.now.world.devices c.args.board.now.world.ram c.args.plain.now
     c.reset.new.self c.set_mmu.new.self c.set_mmu-2.new.self last c.set_cpu.new.self c.requires.root c.ranges.root.fits c.reset.ensures.after
     (record { world = sym (ap (λ r. r.1) c.set_mmu.ensures.means); rest = c.set_mmu.ensures.rest })
     (record { world = sym (ap (λ r. r.1) c.set_mmu-2.ensures.means); rest = c.set_mmu-2.ensures.rest })

@@ -5,9 +5,9 @@ use Rattle.vm_machine.specs.declared.limits.TheConstants.{MONITOR_BYTES}
 use Rattle.vm_machine.specs.Rounds.{Member, left, left_of_all}
 use Rattle.vm_slices.specs.declared.host_guest.HostGuest.{HostGuest}
 use Rattle.vm_slices.specs.Counting.{AreCounted, HasRoom, RisesBy}
-use Rattle.vm_slices.specs.Members.{IsReady}
+use Rattle.vm_slices.specs.Members.{after_turn, IsReady}
 use Rattle.vm_slices.specs.Places.{member_of, members_of, marks_at, with_turn, StandFrom}
-use Rattle.vm_slices.proofs.Places.{Turn, own_by, seated_at, member_ready, member_room, turn_of_one, turned_at, other_stays}
+use Rattle.vm_slices.proofs.Places.{Turn, own_by, seated_at, member_ready, member_room, changed_at, turn_of_one, other_stays}
 use Rattle.vm_slices.proofs.rounds.take_turn.Goals as goal
 
 pub take_turn-requires-clause-seated : goal.take_turn-requires-clause-seated
@@ -49,9 +49,9 @@ stands : (c : goal.After-take_turn) → StandFrom MONITOR_BYTES (set c.args.gues
     ≡ with_turn c.args.slice c.args.place (members_of c.args.guests.now c.args.board.now.world.ram))
 stands c =
     let e = c.take_turn.ensures in
-    turned_at c.args.slice c.args.guests.now c.args.place c.index-guests-place.result c.take_turn.new.self c.args.board.now.world.ram
+    changed_at (after_turn c.args.slice) c.args.guests.now c.args.place c.index-guests-place.result c.take_turn.new.self c.args.board.now.world.ram
     c.take_turn.new.board.world.ram c.requires.stand c.requires.place c.index-guests-place.is
-    (record { turn = e.turn; same = e.same; seated = e.seated; within = e.within })
+    (record { member = e.turn; same = e.same; seated = e.seated; within = e.within })
 
 pub returns-clause-turn : goal.returns-clause-turn
 returns-clause-turn c = (stands c).1

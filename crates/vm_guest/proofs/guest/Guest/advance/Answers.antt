@@ -66,30 +66,30 @@ returns-in-Idle-clause-going c =
 pub run_board-requires-clause-seated : goal.run_board-requires-clause-seated
 run_board-requires-clause-seated c = stands c.args.self.now c.begin-level.new.self c.args.board.now.world.ram c.begin-level.ensures.begun c.requires.seated
 
-may : (c : After-run_board) → MayRun c.args.self.now c.args.board.now.world.ram c.args.board.now.world.devices.ram c.args.native.now c.more_steps-more.result
+may : (c : After-run_board) → MayRun c.args.self.now c.args.board.now.world.ram c.args.board.now.world.devices c.args.native.now c.more_steps-more.result
 may c =
     let b = c.begin-level.new.self in
     let ram = c.args.board.now.world.ram in
-    let size = c.args.board.now.world.devices.ram in
+    let devices = c.args.board.now.world.devices in
     let native = c.args.native.now in
     let n = c.more_steps-more.result in
     let ran = c.run_board.ensures in
-    may_by c.args.self.now b ram size native n c.begin-level.ensures.begun c.requires.seated c.requires.going c.requires.takes
-    (found_by b (the_view c.self.inside) ram size native n c.begin-level.result c.self.view_is c.begin-level.ensures.level
+    may_by c.args.self.now b ram devices native n c.begin-level.ensures.begun c.requires.seated c.requires.going c.requires.takes
+    (found_by b (the_view c.self.inside) ram devices native n c.begin-level.result c.self.view_is c.begin-level.ensures.level
     (sym c.assisted.ensures ∙ c.in_default.is) c.more_steps-more.ensures.none c.more_steps-more.ensures.due ran.seven ran.bytes.0 ran.bytes.1 ran.fit)
 
 ran : (c : After-run_board) → ran_to c.run_board.result c.run_board.new.board c.run_board.new.native
-    ≡ guest_run c.begin-level.new.self c.args.board.now.world.ram c.args.board.now.world.devices.ram c.args.native.now (suc c.more_steps-more.result)
+    ≡ guest_run c.begin-level.new.self c.args.board.now.world.ram c.args.board.now.world.devices c.args.native.now (suc c.more_steps-more.result)
 ran c =
     let n = c.more_steps-more.result in
     c.run_board.ensures.means
-    ∙ ap (λ (k : ℕ). guest_run c.begin-level.new.self c.args.board.now.world.ram c.args.board.now.world.devices.ram c.args.native.now k)
+    ∙ ap (λ (k : ℕ). guest_run c.begin-level.new.self c.args.board.now.world.ram c.args.board.now.world.devices c.args.native.now k)
     (let e : n + 1 ≡ suc n = omega arith in e)
 
 pub unreachable-requires : goal.unreachable-requires
 unreachable-requires c =
     let r = (goal.at.unreachable-requires c).After-run_board in
-    never_gone_by c.args.self.now c.begin-level.new.self c.args.board.now.world.ram c.args.board.now.world.devices.ram c.args.native.now
+    never_gone_by c.args.self.now c.begin-level.new.self c.args.board.now.world.ram c.args.board.now.world.devices c.args.native.now
     c.more_steps-more.result (ran_to c.run_board.result c.run_board.new.board c.run_board.new.native) c.begin-level.ensures.begun (may r) (ran r)
     c.in-Gone.is
 
@@ -97,9 +97,9 @@ unreachable-requires c =
 
 -- the guest that it hands back
 handed_back : (c : After-go_on)
-    → MayRun c.args.self.now c.args.board.now.world.ram c.args.board.now.world.devices.ram c.args.native.now c.more_steps-more.result
+    → MayRun c.args.self.now c.args.board.now.world.ram c.args.board.now.world.devices c.args.native.now c.more_steps-more.result
     → ran_to c.run_board.result c.run_board.new.board c.run_board.new.native
-    ≡ guest_run c.begin-level.new.self c.args.board.now.world.ram c.args.board.now.world.devices.ram c.args.native.now (suc c.more_steps-more.result)
+    ≡ guest_run c.begin-level.new.self c.args.board.now.world.ram c.args.board.now.world.devices c.args.native.now (suc c.more_steps-more.result)
     → Takes (c.more_steps-more.result + 1) (scene c.args.self.now c.args.board.now.world.ram c.args.native.now)
     (scene c.go_on.new.self c.run_board.new.board.world.ram c.run_board.new.native)
 handed_back c may ran =
@@ -108,7 +108,7 @@ handed_back c may ran =
     let b = c.begin-level.new.self in
     subst (λ (k : ℕ). Takes k (scene c.args.self.now c.args.board.now.world.ram c.args.native.now)
     (scene c.go_on.new.self c.run_board.new.board.world.ram c.run_board.new.native)) (sym more)
-    (counted_by c.args.self.now b c.go_on.new.self c.args.board.now.world.ram c.args.board.now.world.devices.ram c.args.native.now n
+    (counted_by c.args.self.now b c.go_on.new.self c.args.board.now.world.ram c.args.board.now.world.devices c.args.native.now n
     (ran_to c.run_board.result c.run_board.new.board c.run_board.new.native) c.plain.result c.begin-level.ensures.begun may ran c.in-Counted.is
     c.run_board.ensures.wide (c.plain.ensures.means ∙ ap (λ (p : Cpu). plain_of p.regs) c.cpu.ensures)
     (c.go_on.ensures ∙ ap (λ (k : ℕ). gone_on b n k c.plain.result) more))
@@ -123,14 +123,14 @@ returns-in-Counted-clause-going c =
     let r = (goal.at.returns-in-Counted-clause-going c).After-run_board in
     let n = c.more_steps-more.result in
     goes_by_board c.args.self.now c.begin-level.new.self c.go_on.new.self
-    (reset_for c.args.self.now c.args.board.now.world.ram c.args.board.now.world.devices.ram) c.args.native.now n n (n + 1)
+    (reset_for c.args.self.now c.args.board.now.world.ram c.args.board.now.world.devices) c.args.native.now n n (n + 1)
     c.plain.result c.begin-level.ensures.begun (may r) c.go_on.ensures
 
 pub returns-in-Counted-clause-native : goal.returns-in-Counted-clause-native
 returns-in-Counted-clause-native c =
     let r = (goal.at.returns-in-Counted-clause-native c).After-run_board in
     let n = c.more_steps-more.result in
-    let counts = counted_native_by c.args.self.now c.begin-level.new.self c.args.board.now.world.ram c.args.board.now.world.devices.ram c.args.native.now n
+    let counts = counted_native_by c.args.self.now c.begin-level.new.self c.args.board.now.world.ram c.args.board.now.world.devices c.args.native.now n
     (ran_to c.run_board.result c.run_board.new.board c.run_board.new.native) c.begin-level.ensures.begun (may r) (ran r) c.in-Counted.is in
     let retired : c.run_board.new.native.retired ≡ c.args.native.now.retired + suc n = counts.0 in
     let exceptions : c.run_board.new.native.exceptions ≡ c.args.native.now.exceptions = counts.1 in
@@ -138,12 +138,12 @@ returns-in-Counted-clause-native c =
 
 -- ---- left
 
-left : (c : After-retired) → MayRun c.args.self.now c.args.board.now.world.ram c.args.board.now.world.devices.ram c.args.native.now c.more_steps-more.result
+left : (c : After-retired) → MayRun c.args.self.now c.args.board.now.world.ram c.args.board.now.world.devices c.args.native.now c.more_steps-more.result
     → ran_to c.run_board.result c.run_board.new.board c.run_board.new.native
-    ≡ guest_run c.begin-level.new.self c.args.board.now.world.ram c.args.board.now.world.devices.ram c.args.native.now (suc c.more_steps-more.result)
+    ≡ guest_run c.begin-level.new.self c.args.board.now.world.ram c.args.board.now.world.devices c.args.native.now (suc c.more_steps-more.result)
     → Leaving c.args.native.now c.more_steps-more.result c.run_board.new.board c.run_board.new.native (c.retired.result - c.retired-before.result)
 left c may ran =
-    leaving c.args.self.now c.begin-level.new.self c.args.board.now.world.ram c.args.board.now.world.devices.ram c.args.native.now c.more_steps-more.result
+    leaving c.args.self.now c.begin-level.new.self c.args.board.now.world.ram c.args.board.now.world.devices c.args.native.now c.more_steps-more.result
     c.run_board.result c.run_board.new.board c.run_board.new.native c.in-Exit.vector (c.retired.result - c.retired-before.result)
     c.begin-level.ensures.begun may ran c.in-Exit.is c.run_board.ensures.wide
     (ap (λ (k : ℕ). k - c.retired-before.result) c.retired.ensures ∙ ap (λ (k : ℕ). c.run_board.new.native.retired - k) c.retired-before.ensures)
@@ -191,14 +191,14 @@ go_on-requires-in-Exit-clause-due c =
 
 -- the guest in the middle of that step
 stopped : (c : After-go_on-in-Exit)
-    → MayRun c.args.self.now c.args.board.now.world.ram c.args.board.now.world.devices.ram c.args.native.now c.more_steps-more.result
+    → MayRun c.args.self.now c.args.board.now.world.ram c.args.board.now.world.devices c.args.native.now c.more_steps-more.result
     → ran_to c.run_board.result c.run_board.new.board c.run_board.new.native
-    ≡ guest_run c.begin-level.new.self c.args.board.now.world.ram c.args.board.now.world.devices.ram c.args.native.now (suc c.more_steps-more.result)
+    ≡ guest_run c.begin-level.new.self c.args.board.now.world.ram c.args.board.now.world.devices c.args.native.now (suc c.more_steps-more.result)
     → IsStopped c.args.self.now c.args.board.now.world.ram c.args.native.now (c.retired.result - c.retired-before.result) 0 c.go_on-in-Exit.new.self
     c.run_board.new.board c.run_board.new.native c.in-Exit.vector
 stopped c could went =
     let n = c.retired.result - c.retired-before.result in
-    stops c.args.self.now c.begin-level.new.self c.go_on-in-Exit.new.self c.args.board.now.world.ram c.args.board.now.world.devices.ram c.args.native.now
+    stops c.args.self.now c.begin-level.new.self c.go_on-in-Exit.new.self c.args.board.now.world.ram c.args.board.now.world.devices c.args.native.now
     c.more_steps-more.result c.run_board.result c.run_board.new.board c.run_board.new.native c.in-Exit.vector n c.begin-level.ensures.begun could went
     c.in-Exit.is c.run_board.ensures.wide
     (ap (λ (k : ℕ). k - c.retired-before.result) c.retired.ensures ∙ ap (λ (k : ℕ). c.run_board.new.native.retired - k) c.retired-before.ensures)

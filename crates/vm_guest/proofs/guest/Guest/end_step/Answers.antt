@@ -26,7 +26,12 @@ loop-refills-init c = record {
 }
 
 pub refill-requires : goal.refill-requires
-refill-requires c = record { seated = (c.loop-refills.invariant.stopped c.requires.stopped).seated }
+refill-requires c =
+    let same = c.loop-refills.invariant.steps in
+    let counted = c.requires.counted in record {
+      begun = omega (arith, same, counted);
+      seated = (c.loop-refills.invariant.stopped c.requires.stopped).seated;
+    }
 
 -- ---- once more
 

@@ -1,9 +1,8 @@
 use Rattle.std.proofs.Common.{◌≡◌, ◌∙◌, ℕ, List, length, ap, sym, subst, arith}
 use Rattle.std.specs.Prelude.{All}
 use Rattle.mb_srec.specs.Image.{contents_of, LiesBelow}
-use Rattle.mb_walk.specs.Memory.{overwritten, number_at}
+use Rattle.mb_walk.specs.Memory.{Contents, number_at, overwritten, with_contents}
 use Rattle.mb_model.specs.Reset.{at_reset}
-use Rattle.mb_machine.specs.Machine.{Contents, with_contents}
 use Rattle.mb_board.specs.State.{BoardState}
 use Rattle.vm_guest.specs.Memory.{contents_from}
 use Rattle.vm_guest.specs.Counting.{tally_in}

@@ -1,0 +1,31 @@
+-- A guest on a board that began with a machine.
+use Rattle.std.proofs.Common.{◌∙◌, refl, ap}
+use Rattle.mb_model.specs.Keeping.{rule_k}
+use Rattle.vm_meaning.proofs.Runs.{ended-is_free}
+use Rattle.vm_machine.specs.Turns.{Turned, turn_of}
+use Rattle.vm_machine.specs.Seats.{machine_on}
+use Rattle.vm_machine.specs.Stages.{steps_for}
+use Rattle.vm_machine.proofs.ByRule.{turns_by_rule}
+use Rattle.vm_machine.proofs.Independent.{turns_are_independent}
+use Rattle.vm_saved.specs.Begins.{beginning, StartsBegin, StartsCount, StartsMark, BegunGuestsRunAlone}
+
+pub starts_begin : StartsBegin
+starts_begin opening size = refl
+
+pub starts_count : StartsCount
+starts_count opening script size n = refl
+
+pub starts_mark : StartsMark
+starts_mark opening script size k n = refl
+
+pub begun_guests_run_alone : BegunGuestsRunAlone
+begun_guests_run_alone turns s t all taken j less m is =
+    let n = steps_for j turns in
+    let script = (s.guests j).script in
+    let own = (turns_are_independent turns s t all taken j less).1 in
+    let whole = own.1 ∙ ap (turn_of script n) is in
+    let machine = ap (λ (u : Turned). u.guest.machine) whole ∙ turns_by_rule script n (beginning m) in record {
+      machine = machine;
+      tally = ap (λ (u : Turned). u.tally) whole;
+      free = ended-is_free rule_k script n m (machine_on (t.guests j) t.ram) machine;
+    }

@@ -1,0 +1,9 @@
+pub mod Runs
+pub mod Counted
+pub mod Begun
+pub mod Cut
+pub mod GivenBack
+pub mod Resuming
+pub mod StatusBits
+pub mod CpuBits
+pub mod RunBits

@@ -1,0 +1,5 @@
+pub mod Saved
+pub mod Begins
+pub mod Cuts
+pub mod Resumes
+pub mod Bits

@@ -1,0 +1,45 @@
+-- A guest that has become a saved one, and one that takes as many steps as it is told.
+use Rattle.std.proofs.Common.{◌≡◌, ◌∙◌, ℕ, zero, suc, ◌+◌, ◌<◌, List, [], ◌∷◌, length, get_or, set, refl, ap, sym, subst, arith}
+use Rattle.std.specs.Prelude.{slice_get, IfSome}
+use Rattle.mb_saved.specs.Saved.{Saved}
+use Rattle.mb_machine.specs.Machine.{Entries}
+use Rattle.vm_machine.specs.Rounds.{Member, closed_by}
+use Rattle.vm_machine.specs.Seats.{Seat, end_of, guested_on, turned_on, IsSame, IsSeated, OnlyWithin}
+use Rattle.vm_machine.specs.Turns.{Turned}
+use Rattle.vm_saved.specs.Begins.{beginning}
+use Rattle.vm_saved.specs.Saved.{machine_of}
+use Rattle.vm_guest.specs.Memory.{OnlyBetween}
+use Rattle.vm_guest.proofs.Prepared.{wider}
+use Rattle.vm_guest.proofs.Seated.{only_within}
+use Rattle.vm_slices.specs.declared.host_guest.HostGuest.{HostGuest}
+use Rattle.vm_slices.specs.Adopting.{begun, bounded}
+use Rattle.vm_slices.specs.Places.{member_of, members_of, with_member, StandFrom}
+
+pub member_begun : (saved : Saved) (g : HostGuest) (h : Seat) (x y : List ℕ)
+    → turned_on h y [] ≡ beginning (machine_of g.guest.devices.disk saved) → IsSame g.guest h
+    → member_of y (record { guest = h; bound = g.bound }) ≡ begun saved (member_of x g)
+member_begun saved g h x y begins same =
+    ap (λ (s : Entries). (let k : Member = record { script = s; bound = g.bound; guest = guested_on h y; tally = h.tally } in k)) same.script
+    ∙ ap (λ (t : Turned). closed_by t (member_of x g)) begins
+
+-- what changes its RAM alone changes its own part of the board alone
+pub within_own : (g : Seat) (x y : List ℕ) → IsSeated g x → OnlyBetween g.base (g.base + g.size) x y → OnlyWithin g x y
+within_own g x y s w = only_within g x y s.behind (wider g.base (g.base + g.size) (end_of g) x y (omega arith) w)
+
+-- what holds of the member at a place
+pub holds_at : (P : Member → Type 0) (gs : List HostGuest) (ram : List ℕ) (i : ℕ) (g : HostGuest) → i < length gs → g ≡ get_or gs i g
+    → IfSome (slice_get (members_of gs ram) i) P → P (member_of ram g)
+holds_at P [] ram i g less is some = absurd (omega arith)
+holds_at P (k ∷ ks) ram zero g less is some = subst (λ (a : HostGuest). P (member_of ram a)) (sym is) some
+holds_at P (k ∷ ks) ram (suc i) g less is some = holds_at P ks ram i g (omega arith) is some
+
+-- ---- a bound that changes
+
+pub with_bound : (steps from : ℕ) (gs : List HostGuest) (i : ℕ) (r : HostGuest) (x : List ℕ) → StandFrom from gs x → i < length gs
+    → StandFrom from (set gs i (record { guest = (get_or gs i r).guest; bound = steps })) x
+    × (members_of (set gs i (record { guest = (get_or gs i r).guest; bound = steps })) x ≡ with_member i (bounded steps) (members_of gs x))
+with_bound steps from [] i r x all less = absurd (omega arith)
+with_bound steps from (k ∷ ks) zero r x all less = (all, refl)
+with_bound steps from (k ∷ ks) (suc i) r x all less =
+    let rest = with_bound steps (end_of k.guest) ks i r x all.2 (omega arith) in
+    ((all.0, all.1, rest.0), ap (λ (ms : List Member). member_of x k ∷ ms) rest.1)

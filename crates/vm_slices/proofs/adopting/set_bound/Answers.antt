@@ -1,0 +1,34 @@
+use Rattle.std.proofs.Common.{get_or, ap, sym, subst, List}
+use Rattle.std.specs.Prelude.{All}
+use Rattle.vm_machine.specs.declared.limits.TheConstants.{MONITOR_BYTES}
+use Rattle.vm_machine.specs.Rounds.{Member}
+use Rattle.vm_slices.specs.declared.host_guest.HostGuest.{HostGuest}
+use Rattle.vm_slices.specs.Adopting.{bounded}
+use Rattle.vm_slices.specs.Members.{IsReady}
+use Rattle.vm_slices.specs.Places.{member_of}
+use Rattle.vm_slices.proofs.Adopted.{with_bound}
+use Rattle.vm_slices.proofs.Places.{member_ready, ready_with}
+use Rattle.vm_slices.proofs.adopting.set_bound.Goals as goal
+
+pub returns-clause-bound : goal.returns-clause-bound
+returns-clause-bound c =
+    (with_bound c.args.steps MONITOR_BYTES c.args.guests.now c.args.place c.index-guests-place.result c.args.board.now.world.ram
+    c.requires.stand c.requires.place).1
+
+pub returns-clause-stand : goal.returns-clause-stand
+returns-clause-stand c =
+    (with_bound c.args.steps MONITOR_BYTES c.args.guests.now c.args.place c.index-guests-place.result c.args.board.now.world.ram
+    c.requires.stand c.requires.place).0
+
+pub returns-clause-ready : goal.returns-clause-ready
+returns-clause-ready c ready =
+    let gs = c.args.guests.now in
+    let x = c.args.board.now.world.ram in
+    let r = c.index-guests-place.result in
+    let g = get_or gs c.args.place r in
+    let own : IsReady (member_of x g) = subst (λ (a : HostGuest). IsReady (member_of x a)) c.index-guests-place.is
+    (member_ready gs x c.args.place r c.requires.place c.index-guests-place.is ready) in
+    subst (λ (ks : List Member). All IsReady ks) (sym (returns-clause-bound c))
+    (ready_with (bounded c.args.steps) gs c.args.place g x c.requires.place
+    (ap (λ (a : HostGuest). get_or gs c.args.place a) c.index-guests-place.is) ready
+    (record { going = own.going; bound = c.ranges.steps.fits }))
