@@ -1,3 +1,4 @@
 pub mod BufferLemmas
 pub mod FlatMapLemmas
+pub mod LineLemmas
 pub mod SameLemmas

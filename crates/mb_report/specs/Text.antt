@@ -57,16 +57,21 @@ line_text (name, word w) = word_line name w
 line_text (name, bytes shown) = bytes_text name shown
 line_text (name, long value) = word_line name (hex8 value)
 
--- the lines before those of memory, in their order: each one's name, and its value as it is shown
-abbrev pub lines_of : ℕ → Seen → List (List ℕ × Shown)
-lines_of guest seen =
+-- A line is its name, and its value as it is shown. First what the machine did, and its terminal.
+abbrev pub head_lines : ℕ → Seen → List (List ℕ × Shown)
+head_lines guest seen =
     (codes "guest", number guest)
     ∷ (codes "state", word (state_word seen.state))
     ∷ (codes "steps", number seen.steps)
     ∷ (codes "console", bytes seen.console)
     ∷ (codes "lost", number seen.lost)
     ∷ (codes "queue", bytes seen.queue)
-    ∷ (codes "D0", long (slice_index seen.cpu.regs.d 0))
+    ∷ []
+
+-- the processor's registers, and those of translation
+abbrev pub register_lines : Seen → List (List ℕ × Shown)
+register_lines seen =
+    (codes "D0", long (slice_index seen.cpu.regs.d 0))
     ∷ (codes "D1", long (slice_index seen.cpu.regs.d 1))
     ∷ (codes "D2", long (slice_index seen.cpu.regs.d 2))
     ∷ (codes "D3", long (slice_index seen.cpu.regs.d 3))
@@ -98,19 +103,32 @@ lines_of guest seen =
     ∷ (codes "MMUSR", long seen.mmu.mmusr)
     ∷ (codes "URP", long seen.mmu.urp)
     ∷ (codes "SRP", long seen.mmu.srp)
-    ∷ (codes "CTRL", long seen.ctrl)
+    ∷ []
+
+-- the devices
+abbrev pub device_lines : Seen → List (List ℕ × Shown)
+device_lines seen =
+    (codes "CTRL", long seen.ctrl)
     ∷ (codes "STATUS", long seen.status)
     ∷ (codes "PERIOD", long seen.period)
     ∷ (codes "COUNT", long seen.count)
     ∷ (codes "PENDING", long seen.pending)
     ∷ []
 
+-- the lines before those of memory, in their order
+abbrev pub lines_of : ℕ → Seen → List (List ℕ × Shown)
+lines_of guest seen = head_lines guest seen ++ register_lines seen ++ device_lines seen
+
 abbrev pub is_zero : List ℕ → Bool
 is_zero row = list_all (λ byte. byte == 0) row
 
--- a row of memory with its address, or nothing where it is all zero
+-- a row of memory with its address
+abbrev pub row_line : ℕ → List ℕ → List ℕ
+row_line at row = word_line (hex8 at) (digits row)
+
+-- the same, or nothing where it is all zero
 abbrev pub memory_line : ℕ → List ℕ → List ℕ
-memory_line at row = if is_zero row then [] else word_line (hex8 at) (digits row)
+memory_line at row = if is_zero row then [] else row_line at row
 
 abbrev pub memory_text : List ℕ → List ℕ
 memory_text ram = all_rows memory_line 16 ram

@@ -6,7 +6,7 @@ ghost use Rattle.mb_report.specs.Digits.{digits, hex_digit, hex2, hex8};
 
 use arrayvec::ArrayVec;
 
-fn hex_digit(d: u8) -> u8
+pub(crate) fn hex_digit(d: u8) -> u8
     requires { d < 16 }
     ensures { result ≡ hex_digit d }
 {

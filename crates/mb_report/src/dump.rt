@@ -2,8 +2,8 @@
 
 ghost use Rattle.std.specs.Prelude.{◌≡◌, ◌+◌, ◌*◌, ◌<◌, ◌≤◌, ◌^◌, length, take, drop};
 ghost use Rattle.mb_report.specs.Buffered.{Buffers};
-ghost use Rattle.mb_report.specs.Digits.{digits, hex8};
-ghost use Rattle.mb_report.specs.Text.{word_line, is_zero, dump_line, memory_line, memory_text, all_rows};
+ghost use Rattle.mb_report.specs.Digits.{digits};
+ghost use Rattle.mb_report.specs.Text.{is_zero, dump_line, row_line, memory_line, memory_text, all_rows};
 
 use crate::buffered::Buffered;
 use crate::digits::push_digits;
@@ -33,9 +33,9 @@ fn dump_line(row: &[u8]) -> Line
 }
 
 #[tactic(auto, unfolding(crate::specs::Digits::hex8))]
-fn memory_line(address: u32, row: &[u8]) -> Line
+fn row_line(address: u32, row: &[u8]) -> Line
     requires { length row.now ≤ 16 }
-    ensures { result.items ≡ word_line (hex8 address) (digits row.now) }
+    ensures { result.items ≡ row_line address row.now }
 {
     let mut line = Line::new();
     push_digits(&mut line, &address.to_be_bytes());
@@ -61,6 +61,15 @@ fn is_zero(row: &[u8]) -> bool
     row.iter().all(|byte| *byte == 0)
 }
 
+/// Writes a row of memory with its address, in eight digits, also where it is all zero.
+pub fn write_row<O: Sink>(text: &mut Buffered, out: &mut O, address: u32, row: &[u8])
+    requires { length row.now ≤ 16 }
+    ensures { Buffers text.old text.new (O.taken out.old) (O.taken out.new) (O.faults out.old) (O.faults out.new)
+        (row_line address row.now) }
+{
+    text.add(out, &row_line(address, row));
+}
+
 /// Writes a row of memory with its address, or nothing where it is all zero.
 fn write_memory_row<O: Sink>(text: &mut Buffered, out: &mut O, address: u32, row: &[u8])
     requires { length row.now ≤ 16 }
@@ -68,7 +77,7 @@ fn write_memory_row<O: Sink>(text: &mut Buffered, out: &mut O, address: u32, row
         (memory_line address row.now) }
 {
     if !is_zero(row) {
-        text.add(out, &memory_line(address, row));
+        write_row(text, out, address, row);
     }
 }
 

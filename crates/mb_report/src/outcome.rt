@@ -5,7 +5,7 @@ ghost use Rattle.mb_outside.specs.Prints.{Prints};
 ghost use Rattle.mb_model.specs.Seen.{seen_of};
 ghost use Rattle.mb_report.specs.Buffered.{Buffers};
 ghost use Rattle.mb_report.specs.Text.{word_line, count_line, state_word, bytes_text};
-ghost use Rattle.mb_report.specs.Text.{lines_of, line_text, outcome_text};
+ghost use Rattle.mb_report.specs.Text.{head_lines, register_lines, device_lines, line_text, outcome_text};
 ghost use Rattle.mb_report.specs.Lines.{line_of};
 ghost use Rattle.std.specs.List.{flat_map};
 
@@ -77,12 +77,11 @@ struct Line<'a> {
     shown: Shown<'a>,
 }
 
-/// The lines before those of memory, in their order.
+/// The lines of what the machine did and of its terminal.
 #[rattlefmt::skip]
-fn lines<'a>(guest: u8, o: &'a Outcome<'a>) -> [Line<'a>; 43]
-    ensures { map line_of result ≡ lines_of guest (seen_of o.now) }
+fn head_lines<'a>(guest: u8, o: &'a Outcome<'a>) -> [Line<'a>; 6]
+    ensures { map line_of result ≡ head_lines guest (seen_of o.now) }
 {
-    let regs = &o.cpu.regs;
     [
         Line { name: b"guest", shown: Shown::Number(u64::from(guest)) },
         Line { name: b"state", shown: Shown::Word(state_word(o.state)) },
@@ -90,6 +89,16 @@ fn lines<'a>(guest: u8, o: &'a Outcome<'a>) -> [Line<'a>; 43]
         Line { name: b"console", shown: Shown::Bytes(o.console) },
         Line { name: b"lost", shown: Shown::Number(o.lost) },
         Line { name: b"queue", shown: Shown::Bytes(o.queue.as_slice()) },
+    ]
+}
+
+/// The lines of the processor's registers and of those of translation.
+#[rattlefmt::skip]
+fn register_lines<'a>(o: &'a Outcome<'a>) -> [Line<'a>; 32]
+    ensures { map line_of result ≡ register_lines (seen_of o.now) }
+{
+    let regs = &o.cpu.regs;
+    [
         Line { name: b"D0", shown: Shown::Long(regs.d[0]) },
         Line { name: b"D1", shown: Shown::Long(regs.d[1]) },
         Line { name: b"D2", shown: Shown::Long(regs.d[2]) },
@@ -122,6 +131,15 @@ fn lines<'a>(guest: u8, o: &'a Outcome<'a>) -> [Line<'a>; 43]
         Line { name: b"MMUSR", shown: Shown::Long(o.mmu.mmusr) },
         Line { name: b"URP", shown: Shown::Long(o.mmu.urp) },
         Line { name: b"SRP", shown: Shown::Long(o.mmu.srp) },
+    ]
+}
+
+/// The lines of the devices.
+#[rattlefmt::skip]
+fn device_lines<'a>(o: &'a Outcome<'a>) -> [Line<'a>; 5]
+    ensures { map line_of result ≡ device_lines (seen_of o.now) }
+{
+    [
         Line { name: b"CTRL", shown: Shown::Long(o.ctrl) },
         Line { name: b"STATUS", shown: Shown::Long(o.status) },
         Line { name: b"PERIOD", shown: Shown::Long(o.period) },
@@ -153,6 +171,30 @@ fn write_lines<O: Sink>(text: &mut Buffered, out: &mut O, lines: &[Line])
     }
 }
 
+/// Writes the lines of what the machine did and of its terminal.
+fn write_head<O: Sink>(text: &mut Buffered, out: &mut O, guest: u8, o: &Outcome)
+    ensures { Buffers text.old text.new (O.taken out.old) (O.taken out.new) (O.faults out.old) (O.faults out.new)
+        (flat_map line_text (head_lines guest (seen_of o.now))) }
+{
+    write_lines(text, out, &head_lines(guest, o));
+}
+
+/// Writes the lines of the processor's registers and of those of translation, D0 to SRP.
+pub fn write_registers<O: Sink>(text: &mut Buffered, out: &mut O, o: &Outcome)
+    ensures { Buffers text.old text.new (O.taken out.old) (O.taken out.new) (O.faults out.old) (O.faults out.new)
+        (flat_map line_text (register_lines (seen_of o.now))) }
+{
+    write_lines(text, out, &register_lines(o));
+}
+
+/// Writes the lines of the devices.
+fn write_devices<O: Sink>(text: &mut Buffered, out: &mut O, o: &Outcome)
+    ensures { Buffers text.old text.new (O.taken out.old) (O.taken out.new) (O.faults out.old) (O.faults out.new)
+        (flat_map line_text (device_lines (seen_of o.now))) }
+{
+    write_lines(text, out, &device_lines(o));
+}
+
 /// Writes the outcome text of the guest of this number, from its first line to `end`.
 ///
 /// RAM is at most 2^32 bytes, so that each address has eight digits.
@@ -162,7 +204,9 @@ pub fn write_outcome<O: Sink>(guest: u8, o: &Outcome, out: &mut O) -> Result<(),
         (outcome_text guest (seen_of o.now)) result }
 {
     let mut text = Buffered::new();
-    write_lines(&mut text, out, &lines(guest, o));
+    write_head(&mut text, out, guest, o);
+    write_registers(&mut text, out, o);
+    write_devices(&mut text, out, o);
     write_memory(&mut text, out, o.ram);
     text.add(out, b"end\n");
     text.finish(out)
