@@ -273,12 +273,12 @@ def read_disk(lines, number):
 
 
 def read_guest(lines):
-    number = int(lines.word("guest", "[0-9]+"))
+    number = int(lines.word("guest", "[0-9]{1,2}"))
     state = lines.word("state", "[a-z]+")
-    steps = int(lines.word("steps", "[0-9]+"))
-    console = lines.dump(int(lines.word("console", "[0-9]+")))
-    lost = int(lines.word("lost", "[0-9]+"))
-    queue = lines.dump(int(lines.word("queue", "[0-9]+")))
+    steps = int(lines.word("steps", "[0-9]{1,10}"))
+    console = lines.dump(int(lines.word("console", "[0-9]{1,5}")))
+    lost = int(lines.word("lost", "[0-9]{1,20}"))
+    queue = lines.dump(int(lines.word("queue", "[0-9]{1,2}")))
     registers = {name: lines.word(name, "[0-9A-F]{8}") for name in REGISTERS}
     memory = lines.memory()
     return Guest(number, state, steps, console, lost, queue, registers, memory, read_disk(lines, number))
