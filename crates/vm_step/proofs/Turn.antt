@@ -22,14 +22,13 @@ use Rattle.vm_mirror.specs.Ready.{native_mmu}
 use Rattle.vm_mirror.proofs.Ready.{starts_flushed}
 use Rattle.vm_held.proofs.Truths.{calls_keep_truth}
 use Rattle.vm_machine.specs.declared.class.Class.{Class}
-use Rattle.vm_machine.specs.Turns.{Turned, world_of, guest_begun, guest_processed, guest_later, class_of_step}
-use Rattle.vm_machine.specs.Turns.{refills_of_step, by_class, turn_of}
+use Rattle.vm_machine.specs.Turns.{world_of, guest_begun, guest_processed, guest_later, class_of_step}
+use Rattle.vm_machine.specs.Turns.{refills_of_step, by_class}
 use Rattle.vm_step.proofs.Refill.{none_is_refilled}
 use Rattle.vm_machine.specs.Exits.{class_of_vector, handed_by, frame_access, rest_by_frame}
 use Rattle.vm_step.specs.Exit.{left_guest}
-use Rattle.vm_step.specs.Turn.{FlushedIsSet, MoreStaysSet, BoardsAreReady, ExitsAdvance, done, stepping, running, still, CoursesAreTurns}
+use Rattle.vm_step.specs.Turn.{FlushedIsSet, MoreStaysSet, BoardsAreReady, ExitsAdvance}
 use Rattle.vm_step.proofs.Registers.{same_word, seven, plain_again, same_user, same_mask, stays_plain, is_set, IsTidy}
-use Rattle.vm_machine.proofs.TurnLaws.{halted_turn, going_turn, nothing_turned, turns_add}
 use Rattle.mb_laws.specs.Relations.{Along}
 use Rattle.vm_held.specs.Truth.{HasAddress, Fine}
 
@@ -125,11 +124,3 @@ exits_advance x script u v m after l wide last =
     ap (λ (r : Stepped × Guest). by_class (class_of_step script u.guest) (refills_of_step script u.guest) (guest_later b.machine r) u) rest
     ∙ ap (λ (n : ℕ). by_class (class_of_step script u.guest) n (guest_later b.machine (of v)) u) none
     ∙ ap (λ (c : Class). by_class c 0 (guest_later b.machine (of v)) u) (class ∙ sym (ap class_of_vector is ∙ l.class))
-
-pub courses_are_turns : CoursesAreTurns
-courses_are_turns script n t u done = sym (nothing_turned script t)
-courses_are_turns script n t v (stepping {n = m} {u = u} goes e rest) =
-    courses_are_turns script m u v rest ∙ ap (λ (w : Turned). turn_of script m w) e ∙ sym (going_turn script m t goes)
-courses_are_turns script n t v (running {n = m} {u = u} k e rest) =
-    courses_are_turns script m u v rest ∙ ap (λ (w : Turned). turn_of script m w) e ∙ sym (turns_add script k m t)
-courses_are_turns script n t v (still h) = sym (halted_turn script n t h)

@@ -1,5 +1,5 @@
 -- A turn of a guest by parts: steps over its own bus, runs of the board, and what the board left.
-use Rattle.std.specs.Prelude.{◌≡◌, ℕ, suc, ◌+◌, ◌%◌, ◌^◌, ◌≤◌, Bool, false, true, List, length, Some, None}
+use Rattle.std.specs.Prelude.{◌≡◌, ℕ, ◌+◌, ◌%◌, ◌^◌, ◌≤◌, Bool, false, List, length, Some, None}
 use Rattle.mb_port.specs.Routine.{run}
 use Rattle.mb_instr.specs.Registers.{plain_of}
 use Rattle.mb_model.specs.declared.processor.Cpu.{Cpu}
@@ -11,7 +11,7 @@ use Rattle.mb_devices.specs.Devices.{DeviceState}
 use Rattle.mb_processor.specs.declared.Finish.TheVariants as finish
 use Rattle.mb_processor.specs.SystemEnds.{with_registers}
 use Rattle.mb_machine.specs.World.{World}
-use Rattle.mb_machine.specs.Machine.{Machine, Entries, takes_steps, asked_of}
+use Rattle.mb_machine.specs.Machine.{Machine, Entries, asked_of}
 use Rattle.vm_shadow.specs.Mapped.{root_of, shadowed}
 use Rattle.vm_shadow.specs.Area.{Maps}
 use Rattle.vm_machine.specs.Guests.{Guest, Truthful}
@@ -20,7 +20,7 @@ use Rattle.vm_machine.specs.Refills.{begun_again}
 use Rattle.vm_mirror.specs.Related.{Site, AllAgree, mapping}
 use Rattle.vm_machine.specs.Seats.{on_board}
 use Rattle.vm_mirror.specs.Ready.{native_mmu}
-use Rattle.vm_machine.specs.Turns.{Guested, Turned, world_of, guest_begun, guest_later, by_class, advanced, turn_of}
+use Rattle.vm_machine.specs.Turns.{Guested, Turned, world_of, guest_begun, guest_later, by_class, advanced}
 use Rattle.vm_step.specs.Retire.{Boarded}
 use Rattle.vm_step.specs.Exit.{Furnished, left_guest, Leaves}
 use Rattle.vm_machine.specs.Exits.{class_of_vector, handed_by, frame_access, rest_by_frame}
@@ -103,16 +103,3 @@ ExitsAdvance = (x : Site) (script : Entries) (u : Turned) (v : ℕ) (m after : M
     (run guest_bus (rest_by_frame v (frame_access l.frame) (asked_of script b.machine) b.machine.cpu
     (handed_by after.cpu.regs l.frame))
     (left_guest x after.world.ram (world_of b)))) u
-
--- A turn's parts: a step by itself (over the guest's own bus, or by its rest), or so many steps of a run of the board.
-pub data Course (script : Entries) : ℕ → Turned → Turned → Type 0 where
-  done : {t : Turned} → Course script 0 t t
-  stepping : {n : ℕ} {t u v : Turned} → takes_steps t.guest.machine.state ≡ true → u ≡ advanced script t
-      → Course script n u v
-      → Course script (suc n) t v
-  running : {n : ℕ} {t u v : Turned} (k : ℕ) → u ≡ turn_of script k t → Course script n u v → Course script (k + n) t v
-  -- halted or off
-  still : {n : ℕ} {t : Turned} → takes_steps t.guest.machine.state ≡ false → Course script n t t
-
-abbrev pub CoursesAreTurns : Type 0
-CoursesAreTurns = (script : Entries) (n : ℕ) (t u : Turned) → Course script n t u → u ≡ turn_of script n t

@@ -16,7 +16,7 @@ ghost use Rattle.vm_step.specs.Refill.{AgainComesToTheSame, AgainAdvances};
 ghost use Rattle.vm_step.specs.Batch.{RunsAreBatches};
 ghost use Rattle.vm_step.specs.Quiet.{QuietStepsAreTried, RetiredStepsTick, RetiredStepsKeepTruth, RetiredStepsLeave};
 ghost use Rattle.vm_step.specs.Idle.{QuietStepsAreIdle, IdleStepsTake};
-ghost use Rattle.vm_step.specs.Turn.{FlushedIsSet, MoreStaysSet, BoardsAreReady, ExitsAdvance, CoursesAreTurns};
+ghost use Rattle.vm_step.specs.Turn.{FlushedIsSet, MoreStaysSet, BoardsAreReady, ExitsAdvance};
 ghost use Rattle.vm_step.specs.Taking.{BatchesTake, ExitsTake};
 ghost use Rattle.vm_step.specs.Again.{MidwayAgain, MidwayAhead, MidwayEnds, MidwayBegins, MidwayTakes, MidwayWithin};
 
@@ -61,13 +61,12 @@ pub fn idle_stretches()
     ensures take { IdleStepsTake }
 {}
 
-/// A turn by its parts.
+/// What of a board stands for a run of a guest, and a step of the turn that the board left.
 pub fn turns_have_parts()
     ensures flushed { FlushedIsSet }
     ensures more { MoreStaysSet }
     ensures ready { BoardsAreReady }
     ensures advance { ExitsAdvance }
-    ensures courses { CoursesAreTurns }
 {}
 
 /// What a run of the board has taken of a seated guest's turn.
