@@ -3,7 +3,6 @@
 
 ghost use Rattle.std.specs.Prelude.{◌≡◌, ◌<◌, ◌^◌, length, IfSome};
 ghost use Rattle.vm_machine.specs.Seats.{IsSeated};
-ghost use Rattle.vm_guest.specs.Turns.{IsGoing};
 
 mod big_pages;
 mod timed;
@@ -639,7 +638,6 @@ fn guest_on(alloc: Global, bare: &Board, script: &[u8], host: &mut Board) -> Opt
     requires script { length script.now < 2 ^ 31 }
     requires host { length host.old.world.ram ≡ HOST }
     ensures seated { IfSome result (λ guest. IsSeated guest host.new.world.ram) }
-    ensures going { IfSome result IsGoing }
 {
     let image = image_of(alloc, bare)?;
     let script = read_script(alloc, script).ok()?;
@@ -656,7 +654,6 @@ struct Pair {
     native: Native,
     ghost bytes: { length bare.world.ram ≡ 0x10000 },
     ghost seated: { IsSeated guest host.world.ram },
-    ghost going: { IsGoing guest },
 }
 
 impl Pair {
@@ -664,7 +661,6 @@ impl Pair {
     fn of(bare: Board, script: Script, host: Board, guest: Guest) -> Pair
         requires bytes { length bare.world.ram ≡ SIZE }
         requires seated { IsSeated guest host.world.ram }
-        requires going { IsGoing guest }
     {
         Pair {
             bare,

@@ -1,7 +1,7 @@
 -- What a guest adopts.
-use Rattle.std.proofs.Common.{◌≡◌, ◌∙◌, ℕ, zero, suc, ◌+◌, ◌<◌, ◌≤◌, Bool, List, [], ◌∷◌, ◌++◌, length, take, drop, get_or, refl, ap, sym, subst, true, false, inl, inr, arith}
-use Rattle.std.specs.Prelude.{All, Option, Some, None, is_some, nat_le, ◌||◌, if◌then◌else◌}
-use Rattle.std.specs.List.{filter, find, list_any}
+use Rattle.std.proofs.Common.{◌≡◌, ◌∙◌, ℕ, zero, suc, ◌+◌, ◌<◌, ◌≤◌, Bool, List, [], ◌∷◌, length, take, drop, get_or, refl, ap, sym, subst, false, inl, inr, arith}
+use Rattle.std.specs.Prelude.{All, Option, Some, None, is_some, nat_le, ◌||◌}
+use Rattle.std.specs.List.{list_any}
 use Rattle.std.proofs.lemmas.Bool.{cases_Bool}
 use Rattle.std.proofs.lemmas.Bool.Decides.{nat_tests}
 use Rattle.std.proofs.lemmas.List.{get_or-map, length-map, length-take-le, take_more}
@@ -11,14 +11,12 @@ use Rattle.mb_port.specs.declared.types.Flush.TheVariants as dropped
 use Rattle.mb_model.specs.declared.kept.Kept.{Kept}
 use Rattle.mb_model.specs.declared.processor.Cpu.{Cpu}
 use Rattle.mb_model.specs.declared.outcome.RunState.{RunState}
-use Rattle.mb_model.specs.declared.outcome.RunState.TheVariants.{Running, Stopped, Halted, Off}
 use Rattle.mb_model.specs.Keeping.{rule_k, Apart, entry_in, filled_in, flushed_in, is_of}
 use Rattle.mb_model.proofs.ApartLemmas.{is_of-sym}
 use Rattle.mb_srec.specs.Image.{LiesBelow}
 use Rattle.mb_saved.specs.declared.line.RamLine.{RamLine}
-use Rattle.mb_saved.specs.Saved.{Saved, IsLawful, IsLine, is_off, is_stopped}
+use Rattle.mb_saved.specs.Saved.{Saved, IsLine}
 use Rattle.mb_devices.specs.Devices.{DeviceState}
-use Rattle.mb_machine.specs.Machine.{Machine, going, takes_steps}
 use Rattle.vm_disk.specs.Disk.{DiskState}
 use Rattle.mb_devices.specs.Adopted.{devices_of}
 use Rattle.vm_saved.specs.Saved.{content_of, contents_of, machine_of, ram_by}
@@ -241,15 +239,3 @@ adopted_begins g x y disk saved cpu mmu devices kept steps state tally are sized
     ∙ ap (λ (q : RunState). with_parts saved.cpu to saved.mmu d saved.kept saved.steps q tables tally) are.state_is
     ∙ ap (λ (z : Shadowed). with_parts saved.cpu to saved.mmu d saved.kept saved.steps saved.state z tally) empty
     ∙ ap (λ (t : Tally). with_parts saved.cpu to saved.mmu d saved.kept saved.steps saved.state nothing t) are.uncounted
-
--- where a saved machine takes steps, its state says what processor and devices say
-goes_by : (state : RunState) (stopped : Bool) → stopped ≡ is_stopped state → takes_steps state ≡ true
-    → state ≡ (if is_off state then Off else if stopped then Stopped else Running)
-goes_by Running stopped e h = rw e refl
-goes_by Stopped stopped e h = rw e refl
-goes_by Halted stopped e h = absurd (cc h)
-goes_by Off stopped e h = absurd (cc h)
-
-pub adopted_goes : (disk : Option DiskState) (saved : Saved) → IsLawful saved → takes_steps saved.state ≡ true
-    → saved.state ≡ going saved.cpu (devices_of disk saved)
-adopted_goes disk saved lawful h = goes_by saved.state saved.cpu.stopped lawful.stopped h

@@ -1,11 +1,12 @@
 -- What the monitor knows of a guest whose step has begun, where the board is to carry it out.
-use Rattle.std.proofs.Common.{◌≡◌, ◌∙◌, ℕ, suc, ◌+◌, ◌-◌, ◌^◌, ◌<◌, ◌≤◌, Bool, true, cond, List, length, Some, None, ap, sym, subst, arith}
+use Rattle.std.proofs.Common.{◌≡◌, ◌∙◌, ℕ, zero, suc, ◌+◌, ◌-◌, ◌^◌, ◌<◌, ◌≤◌, true, false, List, [], length, Some, None, refl, ap, sym, subst, arith}
 use Rattle.mb_port.specs.Routine.{run}
 use Rattle.mb_instr.specs.declared.registers.Plain.{Plain}
 use Rattle.mb_instr.specs.Registers.{plain_of}
-use Rattle.mb_model.specs.declared.outcome.RunState.TheVariants.{Running, Stopped, Off}
+use Rattle.mb_model.specs.declared.outcome.RunState.{RunState}
+use Rattle.mb_model.specs.declared.outcome.RunState.TheVariants.{Running}
 use Rattle.mb_walk.specs.Memory.{AreBytes}
-use Rattle.mb_devices.specs.Devices.{DeviceState, ticked, passed, IsNotDue}
+use Rattle.mb_devices.specs.Devices.{DeviceState, IsNotDue}
 use Rattle.mb_machine.specs.Machine.{arrived, takes_steps}
 use Rattle.mb_board.specs.Fits.{FitsAlong}
 use Rattle.mb_board.specs.State.{BoardState, ran_to}
@@ -16,8 +17,9 @@ use Rattle.vm_machine.specs.declared.class.Class.{Class}
 use Rattle.vm_machine.specs.declared.class.Class.TheVariants as class
 use Rattle.vm_machine.specs.Bus.{guest_bus}
 use Rattle.vm_machine.specs.Turns.{tallied, world_of}
-use Rattle.vm_machine.specs.Seats.{Seat, end_of, guested_on, IsSame, IsSeated, Takes}
-use Rattle.vm_step.specs.Taking.{IsLeft}
+use Rattle.vm_machine.specs.Seats.{Seat, end_of, guested_on, turned_on, IsSame, IsSeated, Scene, Takes}
+use Rattle.vm_machine.proofs.TurnLaws.{going_turn}
+use Rattle.vm_step.specs.Taking.{IsLeft, settled}
 use Rattle.vm_step.proofs.Retire.{off_arrived, off_ticked}
 use Rattle.vm_guest.specs.Memory.{OnlyBetween}
 use Rattle.vm_guest.specs.Counting.{assisted, NoneDue}
@@ -25,34 +27,70 @@ use Rattle.vm_guest.specs.declared.rest.Rest.TheVariants.{Whole}
 use Rattle.vm_guest.specs.Rests.{rest_in}
 use Rattle.vm_guest.specs.Native.{gone_on, guest_run, guest_start, reset_for, HasFrame}
 use Rattle.vm_guest.specs.Stops.{IsStopped}
-use Rattle.vm_guest.specs.Turns.{begun_seat, ended_at, idled_on, scene, IsGoing, level_on}
-use Rattle.vm_guest.proofs.Assisted.{is_on, is_running, none_assisted}
-use Rattle.vm_guest.proofs.Devices.{due_behind, off_passed}
-use Rattle.vm_guest.proofs.Runs.{MayRun, MayRunOn, counted_native, counted_takes, is_left, left_is, never_gone, reset_is_set}
+use Rattle.vm_guest.specs.Turns.{begun_seat, ended_at, idled_on, scene, level_on}
+use Rattle.vm_guest.proofs.Devices.{due_behind}
+use Rattle.vm_guest.proofs.Runs.{MayRun, counted_native, counted_takes, is_left, left_is, never_gone, reset_is_set}
 use Rattle.vm_guest.proofs.Seated.{begun_seated}
 use Rattle.vm_guest.proofs.Stretches.{nothing_arrives}
 use Rattle.vm_guest.proofs.Stops.{stopped_by}
 use Rattle.vm_guest.proofs.Takings.{assisted_takes, idle_takes}
+
+-- ---- a guest that begins a step
+
+-- It runs: what it was before, of those that take steps, has no part in its next step.
+abbrev pub awake : Seat → Seat
+awake g = record g { state = Running }
+
+pub awake_seated : (g : Seat) (ram : List ℕ) → IsSeated g ram → IsSeated (awake g) ram
+awake_seated g ram s = record {
+  aligned = s.aligned;
+  whole = s.whole;
+  behind = s.behind;
+  inside = s.inside;
+  area = s.area;
+  maps = s.maps;
+  tables = s.tables;
+  truthful = record { reads = s.truthful.reads; writes = s.truthful.writes; inside = s.truthful.inside };
+}
+
+pub awake_takes : (g : Seat) (ram : List ℕ) (native : NativeState) (k : ℕ) (t : Scene) → 0 < k → takes_steps g.state ≡ true
+    → Takes k (scene (awake g) ram native) t → Takes k (scene g ram native) t
+awake_takes g ram native zero t some goes takes = absurd (let z : ⊥ = omega arith in z)
+awake_takes g ram native (suc n) t some goes takes = record {
+  marks = takes.marks;
+  turned = takes.turned ∙ going_turn g.script n (turned_on (awake g) ram []) refl ∙ sym (going_turn g.script n (turned_on g ram []) goes);
+  same = record { script = takes.same.script; base = takes.same.base; size = takes.same.size; area = takes.same.area };
+  seated = takes.seated;
+  within = record { count = takes.within.count; below = takes.within.below; above = takes.within.above };
+  retired = takes.retired;
+  trail = takes.trail;
+  exceptions = takes.exceptions;
+}
+
+-- its beginning switches nothing off
+off_begun : (g : Seat) → (begun_seat g).devices.off ≡ g.devices.off
+off_begun g = off_ticked (arrived (g.steps + 1) g.script g.devices) ∙ off_arrived (g.steps + 1) g.script g.devices
 
 -- of the guest in the middle of its step
 pub record Found (b : Seat) (ram : List ℕ) (devices : DeviceState) (native : NativeState) (n : ℕ) : Type 0 where
   pub tried : assisted (level_on b) b.cpu ≡ None
   pub none : NoneDue b.script b.steps n
   pub due : IsNotDue n b.devices
+  pub on : 0 < n → b.devices.off ≡ false
   pub seven : length b.cpu.regs.a ≡ 7
   pub bytes : AreBytes ram
   pub small : length ram ≤ 2 ^ 32
   pub fit : FitsAlong (suc n) (guest_start b ram devices native)
 
-pub may_run : (g : Seat) (ram : List ℕ) (devices : DeviceState) (native : NativeState) (n : ℕ) → IsSeated g ram → IsGoing g → takes_steps g.state ≡ true
+pub may_run : (g : Seat) (ram : List ℕ) (devices : DeviceState) (native : NativeState) (n : ℕ) → IsSeated g ram → g.state ≡ Running
     → Found (begun_seat g) ram devices native n → MayRun g ram devices native n
-may_run g ram devices native n seated going takes h = record {
+may_run g ram devices native n seated running h = record {
   seated = seated;
   set = reset_is_set g ram devices;
   bytes = h.bytes;
   small = h.small;
-  running = is_running g going takes (none_assisted (level_on (begun_seat g)) g.cpu h.tried).awake;
-  on = is_on g going takes;
+  running = running;
+  on = λ some. sym (off_begun g) ∙ h.on some;
   seven = h.seven;
   tried = h.tried;
   arrives = nothing_arrives g.script (g.steps + 1) n h.none;
@@ -66,27 +104,30 @@ asked_is b w level view is =
     ap (λ (k : ℕ). assisted k b.cpu) (sym is) ∙ sym (ap (λ (x : Seat). assisted level x.cpu) view)
 
 pub found_by : (b w : Seat) (ram : List ℕ) (devices : DeviceState) (native : NativeState) (n level : ℕ) → w ≡ b → level ≡ level_on b
-    → assisted level w.cpu ≡ None → NoneDue w.script w.steps n → IsNotDue n w.devices → length b.cpu.regs.a ≡ 7 → AreBytes ram
+    → assisted level w.cpu ≡ None → NoneDue w.script w.steps n → IsNotDue n w.devices → (0 < n → w.devices.off ≡ false)
+    → length b.cpu.regs.a ≡ 7 → AreBytes ram
     → length ram ≤ 2 ^ 32 → FitsAlong (n + 1) (guest_start b ram devices native) → Found b ram devices native n
-found_by b w ram devices native n level view is tried none due seven bytes small fit = record {
+found_by b w ram devices native n level view is tried none due on seven bytes small fit = record {
   tried = asked_is b w level view is ∙ tried;
   none = subst (λ (x : Seat). NoneDue x.script x.steps n) view none;
   due = subst (λ (x : Seat). IsNotDue n x.devices) view due;
+  on = λ some. sym (ap (λ (x : Seat). x.devices.off) view) ∙ on some;
   seven = seven;
   bytes = bytes;
   small = small;
   fit = subst (λ (k : ℕ). FitsAlong k (guest_start b ram devices native)) (let e : n + 1 ≡ suc n = omega arith in e) fit;
 }
 
-pub may_by : (g b : Seat) (ram : List ℕ) (devices : DeviceState) (native : NativeState) (n : ℕ) → b ≡ begun_seat g → IsSeated g ram → IsGoing g
-    → takes_steps g.state ≡ true → Found b ram devices native n → MayRun g ram devices native n
-may_by g b ram devices native n is seated going takes found =
-    may_run g ram devices native n seated going takes (subst (λ (s : Seat). Found s ram devices native n) is found)
+pub may_by : (g b : Seat) (ram : List ℕ) (devices : DeviceState) (native : NativeState) (n : ℕ) → b ≡ begun_seat g → IsSeated g ram
+    → g.state ≡ Running → Found b ram devices native n → MayRun g ram devices native n
+may_by g b ram devices native n is seated running found =
+    may_run g ram devices native n seated running (subst (λ (s : Seat). Found s ram devices native n) is found)
 
 -- it stands as before
 pub stands : (g b : Seat) (ram : List ℕ) → b ≡ begun_seat g → IsSeated g ram → IsSeated b ram
 stands g b ram is seated =
-    subst (λ (s : Seat). IsSeated s ram) (sym is) (begun_seated g ram (begun_seat g).devices (begun_seat g).steps seated)
+    let begun : Seat = record g { devices = (begun_seat g).devices; steps = g.steps + 1 } in
+    subst (λ (s : Seat). IsSeated s ram) (sym is) (awake_seated begun ram (begun_seated g ram begun.devices begun.steps seated))
 
 -- ---- a step in which the board has no part
 
@@ -112,61 +153,33 @@ pub record Idles (b : Seat) (n : ℕ) : Type 0 where
   pub tried : assisted (level_on b) b.cpu ≡ Some class.Idle
   pub none : NoneDue b.script b.steps n
   pub due : IsNotDue n b.devices
+  pub on : 0 < n → b.devices.off ≡ false
 
 pub idles_by : (b w : Seat) (n level : ℕ) → w ≡ b → level ≡ level_on b → assisted level w.cpu ≡ Some class.Idle
-    → NoneDue w.script w.steps n → IsNotDue n w.devices → Idles b n
-idles_by b w n level view is tried none due = record {
+    → NoneDue w.script w.steps n → IsNotDue n w.devices → (0 < n → w.devices.off ≡ false) → Idles b n
+idles_by b w n level view is tried none due on = record {
   tried = asked_is b w level view is ∙ tried;
   none = subst (λ (x : Seat). NoneDue x.script x.steps n) view none;
   due = subst (λ (x : Seat). IsNotDue n x.devices) view due;
+  on = λ some. sym (ap (λ (x : Seat). x.devices.off) view) ∙ on some;
 }
 
-pub idle_by : (g b h : Seat) (ram : List ℕ) (native : NativeState) (n : ℕ) → b ≡ begun_seat g → IsSeated g ram → IsGoing g
+pub idle_by : (g b h : Seat) (ram : List ℕ) (native : NativeState) (n : ℕ) → b ≡ begun_seat g → IsSeated g ram
     → takes_steps g.state ≡ true → Idles b n → h ≡ idled_on n b → Takes (n + 1) (scene g ram native) (scene h ram native)
-idle_by g b h ram native n is seated going takes idles goes =
+idle_by g b h ram native n is seated takes idles goes =
     let d = subst (λ (s : Seat). Idles s n) is idles in
     subst (λ (s : Seat). Takes (n + 1) (scene g ram native) (scene s ram native)) (sym (goes ∙ ap (idled_on n) is))
-    (idle_takes g ram native n seated going takes d.tried (nothing_arrives g.script (g.steps + 1) n d.none) d.due)
+    (idle_takes g ram native n seated takes (λ some. sym (off_begun g) ∙ d.on some) d.tried (nothing_arrives g.script (g.steps + 1) n d.none) d.due)
 
 -- ---- steps that the board has carried out
 
 pub counted_by : (g b h : Seat) (ram : List ℕ) (devices : DeviceState) (native : NativeState) (n : ℕ) (u : Ran) (p : Plain) → b ≡ begun_seat g
     → MayRun g ram devices native n → u ≡ guest_run b ram devices native (suc n) → u.end ≡ Counted → length u.machine.cpu.regs.a ≡ 7
-    → p ≡ plain_of u.machine.cpu.regs → h ≡ gone_on b n (suc n) p → Takes (suc n) (scene g ram native) (scene h u.machine.world.ram u.native)
+    → p ≡ plain_of u.machine.cpu.regs → h ≡ settled (gone_on b n (suc n) p) → Takes (suc n) (scene g ram native) (scene h u.machine.world.ram u.native)
 counted_by g b h ram devices native n u p is may ran end wide plain goes =
     subst (λ (s : Seat). Takes (suc n) (scene g ram native) (scene s u.machine.world.ram u.native))
-    (sym (goes ∙ ap (λ (s : Seat). gone_on s n (suc n) p) is))
+    (sym (goes ∙ ap (λ (s : Seat). settled (gone_on s n (suc n) p)) is))
     (counted_takes g (reset_for g ram devices) native n may u (ran ∙ ap (λ (s : Seat). guest_run s ram devices native (suc n)) is) end wide p plain)
-
--- ---- it goes on
-
--- a step's beginning and what passes behind it switch nothing off
-on_behind : (g : Seat) (n : ℕ) → (passed n (begun_seat g).devices).off ≡ g.devices.off
-on_behind g n =
-    let began = arrived (g.steps + 1) g.script g.devices in
-    off_passed n (ticked began) ∙ off_ticked began ∙ off_arrived (g.steps + 1) g.script g.devices
-
--- behind retired steps
-goes_behind : (g : Seat) (board : BoardState) (native : NativeState) (n more retired : ℕ) (p : Plain) → MayRunOn g board native n
-    → IsGoing (gone_on (begun_seat g) more retired p)
-goes_behind g board native n more retired p may takes =
-    let on = on_behind g more ∙ may.on in
-    let awake = (none_assisted (level_on (begun_seat g)) g.cpu may.tried).awake in
-    may.running
-    ∙ sym (ap (λ (b : Bool). cond b Off (cond g.cpu.stopped Stopped Running)) on ∙ ap (λ (b : Bool). cond b Stopped Running) awake)
-
-pub goes_by_board : (g b h : Seat) (board : BoardState) (native : NativeState) (n more retired : ℕ) (p : Plain) → b ≡ begun_seat g
-    → MayRunOn g board native n → h ≡ gone_on b more retired p → IsGoing h
-goes_by_board g b h board native n more retired p is may goes =
-    subst IsGoing (sym (goes ∙ ap (λ (s : Seat). gone_on s more retired p) is)) (goes_behind g board native n more retired p may)
-
--- behind idle ones
-idles_behind : (g : Seat) (n : ℕ) → IsGoing g → takes_steps g.state ≡ true → IsGoing (idled_on n (begun_seat g))
-idles_behind g n is goes takes =
-    is goes ∙ sym (ap (λ (b : Bool). cond b Off (cond g.cpu.stopped Stopped Running)) (on_behind g n))
-
-pub goes_idle : (g b h : Seat) (n : ℕ) → b ≡ begun_seat g → IsGoing g → takes_steps g.state ≡ true → h ≡ idled_on n b → IsGoing h
-goes_idle g b h n is going takes goes = subst IsGoing (sym (goes ∙ ap (idled_on n) is)) (idles_behind g n going takes)
 
 -- ---- what boards count
 
@@ -222,10 +235,10 @@ stops_begun g ram devices native n may e after counts v left ends =
     let steps : g.steps + r ≡ g.steps + 1 + r - 1 = omega arith in
     stopped_by g ram native (suc n) e after counts v left ends s (record {
       begun = (let z : 0 < g.steps + 1 + r = omega arith in z);
-      running = may.running;
-      on = on_behind g r ∙ may.on;
+      running = refl;
       due = due_behind n r (begun_seat g).devices few may.due;
-    }) (ap (λ (d : DeviceState). of d (g.steps + r)) begins ∙ ap (λ (i : ℕ). of s.devices i) steps)
+    }) (ap (λ (x : RunState). (let o : Seat = record s { devices = left.begun; steps = g.steps + r; state = x } in o)) may.running
+    ∙ ap (λ (d : DeviceState). of d (g.steps + r)) begins ∙ ap (λ (i : ℕ). of s.devices i) steps)
 
 pub stops : (g b s : Seat) (ram : List ℕ) (devices : DeviceState) (native : NativeState) (n : ℕ) (e : RunEnd) (after : BoardState)
     (counts : NativeState) (v r : ℕ) → b ≡ begun_seat g → MayRun g ram devices native n

@@ -1,19 +1,15 @@
 -- What the laws on runs of the board want of a guest, by the registers that a board has along its run.
-use Rattle.std.proofs.Common.{◌≡◌, ◌∙◌, ℕ, zero, suc, Bool, true, false, cond, [], ◌∷◌, length, refl, ap, subst, arith}
+use Rattle.std.proofs.Common.{◌≡◌, ◌∙◌, ℕ, zero, suc, Bool, true, cond, [], ◌∷◌, length, ap, subst, arith}
 use Rattle.std.proofs.lemmas.List.{length-append}
 use Rattle.mb_instr.specs.declared.registers.Plain.{Plain}
 use Rattle.mb_instr.specs.declared.registers.Regs.{Regs}
 use Rattle.mb_instr.specs.Registers.{active_stack, plain_of}
-use Rattle.mb_model.specs.declared.processor.Cpu.{Cpu}
-use Rattle.mb_model.specs.declared.outcome.RunState.TheVariants.{Running, Stopped, Off}
-use Rattle.mb_devices.specs.Devices.{DeviceState}
 use Rattle.mb_processor.specs.declared.Finish.{Finish}
-use Rattle.mb_processor.specs.declared.Finish.TheVariants as finish
-use Rattle.mb_machine.specs.Machine.{Machine, Entries, state_after}
+use Rattle.mb_machine.specs.Machine.{Machine, Entries}
 use Rattle.vm_meaning.specs.declared.RunEnd.TheVariants.{Gone}
 use Rattle.vm_meaning.specs.Native.{Ran, user_step, ran_by, goes_on, end_of}
 use Rattle.vm_mirror.specs.Related.{Site}
-use Rattle.vm_machine.specs.Turns.{Guested, guest_begun, guest_processed, guest_stepped}
+use Rattle.vm_machine.specs.Turns.{Guested, guest_stepped}
 use Rattle.vm_step.specs.Retire.{Boarded, HasRegisters, Retires}
 use Rattle.vm_step.specs.Batch.{Wanted}
 use Rattle.vm_step.specs.Quiet.{AreWanted}
@@ -26,25 +22,10 @@ seven_of r h = let e = length-append r.a (active_stack r ∷ []) in omega arith
 fits_of : (p : Plain) → IsFit p → HasRegisters p
 fits_of p f = record { longs = f.longs; counter = f.counter }
 
-pub wanted_of : (x : Site) (m : Machine) (g : Guested) → Boarded x m g → g.machine.world.devices.off ≡ false → IsFit (plain_of m.cpu.regs) → Wanted g
-wanted_of x m g b on fit =
+pub wanted_of : (x : Site) (m : Machine) (g : Guested) → Boarded x m g → IsFit (plain_of m.cpu.regs) → Wanted g
+wanted_of x m g b fit =
     let own : IsFit (plain_of g.machine.cpu.regs) = subst IsFit b.plain fit in
-    record { registers = fits_of (plain_of g.machine.cpu.regs) own; seven = seven_of g.machine.cpu.regs own.eight; on = on }
-
-going_on : (off stopped : Bool) → cond off Off (cond stopped Stopped Running) ≡ Running → off ≡ false
-going_on true stopped h = absurd (let z : ⊥ = cc in z)
-going_on false stopped h = refl
-
--- what runs behind a step is on
-running_on : (f : Finish) (cpu : Cpu) (d : DeviceState) → state_after f cpu d ≡ Running → d.off ≡ false
-running_on finish.Halted cpu d h = absurd (let z : ⊥ = cc in z)
-running_on finish.Went cpu d h = going_on d.off cpu.stopped h
-running_on finish.Idle cpu d h = going_on d.off cpu.stopped h
-running_on (finish.Entered v) cpu d h = going_on d.off cpu.stopped h
-
-stepped_on : (script : Entries) (g : Guested) → (guest_stepped script g).machine.state ≡ Running → (guest_stepped script g).machine.world.devices.off ≡ false
-stepped_on script g h =
-    let r = guest_processed script (guest_begun script g) in running_on r.0.0 r.0.1 r.1.world.devices h
+    record { registers = fits_of (plain_of g.machine.cpu.regs) own; seven = seven_of g.machine.cpu.regs own.eight }
 
 -- a retired step lets the board's run go on
 retired_goes : (x : Site) (script : Entries) (r : Ran) (g : Guested) → Retires x script r.machine g (user_step r.machine) (guest_stepped script g)
@@ -54,14 +35,13 @@ retired_goes x script r g h =
     ap (λ (b : Bool). goes_on (cond b (end_of s.0) Gone)) h.running ∙ ap (λ (f : Finish). goes_on (end_of f)) h.step
 
 -- So do all of a run whose steps begin with registers that fit.
-pub wanted_along : (x : Site) (script : Entries) (n : ℕ) (r : Ran) (g : Guested) → Boarded x r.machine g → g.machine.world.devices.off ≡ false
-    → FitsAlong n r → AreWanted script n g
-wanted_along x script zero r g b on fits = tt
-wanted_along x script (suc n) r g b on (fit, later) =
-    let want = wanted_of x r.machine g b on fit in (
+pub wanted_along : (x : Site) (script : Entries) (n : ℕ) (r : Ran) (g : Guested) → Boarded x r.machine g → FitsAlong n r → AreWanted script n g
+wanted_along x script zero r g b fits = tt
+wanted_along x script (suc n) r g b (fit, later) =
+    let want = wanted_of x r.machine g b fit in (
       want,
       λ retired.
-          let h = retired_steps x script r.machine g b want.registers retired on in
-          wanted_along x script n (ran_by (user_step r.machine) r) (guest_stepped script g) h.boarded (stepped_on script g h.state)
+          let h = retired_steps x script r.machine g b want.registers retired in
+          wanted_along x script n (ran_by (user_step r.machine) r) (guest_stepped script g) h.boarded
           (later (retired_goes x script r g h)),
     )

@@ -1,9 +1,7 @@
 -- Classes of steps in which the board has no part, and of all others.
-use Rattle.std.proofs.Common.{◌≡◌, ◌∙◌, ℕ, ◌≤◌, List, Bool, true, false, cond, nat_lt, Option, Some, None, refl, ap, sym}
+use Rattle.std.proofs.Common.{◌≡◌, ℕ, ◌≤◌, List, Bool, true, false, cond, nat_lt, Option, Some, None, refl}
 use Rattle.mb_model.specs.declared.processor.Cpu.{Cpu}
-use Rattle.mb_model.specs.declared.outcome.RunState.TheVariants.{Running, Stopped, Off}
 use Rattle.mb_processor.specs.Step.{interrupt_mask, rank}
-use Rattle.mb_machine.specs.Machine.{takes_steps}
 use Rattle.vm_machine.specs.declared.class.Class.{Class}
 use Rattle.vm_machine.specs.declared.class.Class.TheVariants.{Entered, Idle, Traced}
 use Rattle.vm_machine.specs.Guests.{Guest}
@@ -15,7 +13,7 @@ use Rattle.vm_step.specs.Batch.{IsTried}
 use Rattle.vm_step.proofs.Retire.{not_above, not_less}
 use Rattle.vm_step.proofs.Quiet.{tried_class}
 use Rattle.vm_guest.specs.Counting.{assisted}
-use Rattle.vm_guest.specs.Turns.{begun_seat, IsGoing, level_on}
+use Rattle.vm_guest.specs.Turns.{begun_seat, level_on}
 
 pub inner : (b c : Class) → (let o : Option Class = Some b in o) ≡ Some c → b ≡ c
 inner b c h = cc
@@ -83,25 +81,3 @@ pub tried_begun : (g : Seat) (ram : List ℕ) → assisted (level_on (begun_seat
 tried_begun g ram h =
     let a = none_assisted (level_on (begun_seat g)) g.cpu h in
     tried_class (level_on (begun_seat g)) g.cpu _ a.masked a.awake a.untraced
-
--- ---- a guest that takes steps
-
-going_off : (off stopped : Bool) → takes_steps (cond off Off (cond stopped Stopped Running)) ≡ true → off ≡ false
-going_off true stopped h = absurd (let z : ⊥ = cc in z)
-going_off false stopped h = refl
-
--- it is on,
-pub is_on : (g : Seat) → IsGoing g → takes_steps g.state ≡ true → g.devices.off ≡ false
-is_on g is takes = going_off g.devices.off g.cpu.stopped (sym (ap takes_steps (is takes)) ∙ takes)
-
--- and runs where STOP does not hold its processor
-pub is_running : (g : Seat) → IsGoing g → takes_steps g.state ≡ true → g.cpu.stopped ≡ false → g.state ≡ Running
-is_running g is takes awake =
-    is takes ∙ ap (λ (b : Bool). cond b Off (cond g.cpu.stopped Stopped Running)) (is_on g is takes)
-    ∙ ap (λ (b : Bool). cond b Stopped Running) awake
-
--- and is stopped where it does
-pub is_stopped : (g : Seat) → IsGoing g → takes_steps g.state ≡ true → g.cpu.stopped ≡ true → g.state ≡ Stopped
-is_stopped g is takes stopped =
-    is takes ∙ ap (λ (b : Bool). cond b Off (cond g.cpu.stopped Stopped Running)) (is_on g is takes)
-    ∙ ap (λ (b : Bool). cond b Stopped Running) stopped

@@ -1,5 +1,5 @@
 -- A guest's start on a board.
-use Rattle.std.proofs.Common.{◌≡◌, ◌∙◌, refl, ℕ, ◌+◌, ◌-◌, ◌%◌, ◌≤◌, List, [], ◌∷◌, length, take, drop, ap, sym, subst, arith}
+use Rattle.std.proofs.Common.{◌≡◌, ◌∙◌, ℕ, ◌+◌, ◌-◌, ◌%◌, ◌≤◌, List, [], ◌∷◌, length, take, drop, ap, sym, subst, arith}
 use Rattle.std.proofs.lemmas.List.{drop-drop}
 use Rattle.std.specs.Prelude.{All}
 use Rattle.mb_model.specs.declared.kept.Kept.{Kept}
@@ -11,7 +11,7 @@ use Rattle.mb_walk.specs.Memory.{Contents, number_at, overwritten, part, with_co
 use Rattle.mb_walk.proofs.MemoryLemmas.{length-overwritten}
 use Rattle.mb_walk.proofs.Parts.{number-part}
 use Rattle.mb_devices.specs.Devices.{DeviceState, idle}
-use Rattle.mb_machine.specs.Machine.{Entries, diskless, going, reset_with}
+use Rattle.mb_machine.specs.Machine.{Entries, diskless, reset_with}
 use Rattle.vm_shadow.specs.Slots.{Slots}
 use Rattle.vm_shadow.specs.Shadows.{Shadowed, nothing}
 use Rattle.vm_shadow.specs.Mapped.{shadowed}
@@ -125,14 +125,6 @@ starts base size contents after cpu devices kept slots script tally big ram_is r
     ∙ ap (λ (s : Shadowed). with_parts fresh (idle size) [] s bytes tally) (own_nothing base)
     ∙ ap (λ (m : List ℕ). with_parts fresh (idle size) [] nothing m tally) ram_is
     ∙ ap (λ (t : Tally). with_parts fresh (idle size) [] nothing ram t) uncounted
-
--- it is running
-runs_at_reset : (isp pc size : ℕ) → Running ≡ going (at_reset isp pc) (idle size)
-runs_at_reset isp pc size = refl
-
-pub goes : (cpu : Cpu) (devices : DeviceState) (isp pc size : ℕ) → cpu ≡ at_reset isp pc → devices ≡ idle size → Running ≡ going cpu devices
-goes cpu devices isp pc size reset still =
-    runs_at_reset isp pc size ∙ ap (λ (c : Cpu). going c (idle size)) (sym reset) ∙ ap (λ (d : DeviceState). going cpu d) (sym still)
 
 -- with empty tables it is seated
 pub seated : (base size : ℕ) (after : List ℕ) (cpu : Cpu) (devices : DeviceState) (kept : List Kept) (slots : Slots) (script : Entries)

@@ -1,14 +1,13 @@
 -- What a run of the board has taken of a guest's turn.
-use Rattle.std.proofs.Common.{◌≡◌, ◌∙◌, ℕ, zero, suc, ◌+◌, ◌^◌, ◌≤◌, false, true, List, [], length, None, refl, ap, sym, subst, arith, inl, inr}
+use Rattle.std.proofs.Common.{◌≡◌, ◌∙◌, ℕ, zero, suc, ◌+◌, ◌^◌, ◌<◌, ◌≤◌, false, List, [], length, None, refl, ap, sym, subst, arith, inl, inr}
 use Rattle.mb_instr.specs.declared.registers.Plain.{Plain}
 use Rattle.mb_instr.specs.Registers.{plain_of}
-use Rattle.mb_model.specs.declared.outcome.RunState.{RunState}
 use Rattle.mb_model.specs.declared.outcome.RunState.TheVariants.{Running}
 use Rattle.mb_walk.specs.Memory.{AreBytes}
 use Rattle.mb_devices.specs.Devices.{DeviceState, restarted, ticked, ticks, passed, IsNotDue}
 use Rattle.mb_devices.proofs.Passing.{ticks_pass}
 use Rattle.mb_processor.specs.SystemEnds.{with_registers}
-use Rattle.mb_machine.specs.Machine.{takes_steps}
+use Rattle.mb_machine.specs.Machine.{going}
 use Rattle.mb_board.specs.Fits.{FitsAlong}
 use Rattle.mb_board.specs.State.{BoardState}
 use Rattle.vm_meaning.specs.declared.RunEnd.TheVariants.{Counted, Exit, Gone}
@@ -18,11 +17,11 @@ use Rattle.vm_machine.specs.declared.class.Class.TheVariants.{Retired}
 use Rattle.vm_machine.specs.Turns.{guest_begun, step_class_at_first, refills_of_step}
 use Rattle.vm_machine.specs.Seats.{Seat, guested_on, turned_on, IsSeated, Takes}
 use Rattle.vm_machine.specs.declared.limits.TheConstants.{MONITOR_BYTES}
-use Rattle.vm_step.specs.Batch.{AllRetired, IsStretch, stepped_by}
+use Rattle.vm_step.specs.Batch.{AllRetired, Batch, IsStretch, stepped_by}
 use Rattle.vm_step.specs.Retire.{Boarded}
 use Rattle.vm_step.specs.Exit.{Furnished}
 use Rattle.vm_step.specs.Turn.{IsNativeCpu, IsSetFor}
-use Rattle.vm_step.specs.Taking.{IsLeft, retired_seat, site_of}
+use Rattle.vm_step.specs.Taking.{IsLeft, retired_seat, settled, site_of}
 use Rattle.vm_step.proofs.Batch.{runs_are_batches}
 use Rattle.vm_step.proofs.Refill.{first_is_last}
 use Rattle.vm_step.proofs.Quiet.{only_ticks, quiet_steps_are_tried, retired_steps_tick}
@@ -53,7 +52,7 @@ pub record MayRunOn (g : Seat) (board : BoardState) (native : NativeState) (n : 
   pub bytes : AreBytes board.world.ram
   pub small : length board.world.ram ≤ 2 ^ 32
   pub running : g.state ≡ Running
-  pub on : g.devices.off ≡ false
+  pub on : 0 < n → g.devices.off ≡ false
   pub seven : length g.cpu.regs.a ≡ 7
   pub tried : assisted (level_on (begun_seat g)) g.cpu ≡ None
   pub arrives : NothingArrives g.script (g.steps + 1) n
@@ -86,12 +85,14 @@ module _ (g : Seat) (board : BoardState) (native : NativeState) (n : ℕ) (may :
   stretch : IsStretch g.script (suc n) (guested_on g board.world.ram)
   stretch =
       quiet_steps_are_tried (site_of g) g.script n (start_on g board native).machine (guested_on g board.world.ram) ready.0
-      (wanted_along (site_of g) g.script (suc n) (start_on g board native) (guested_on g board.world.ram) ready.0 may.on may.fit)
+      (wanted_along (site_of g) g.script (suc n) (start_on g board native) (guested_on g board.world.ram) ready.0 may.fit)
       (tried_begun g board.world.ram may.tried)
       may.arrives may.due
 
-  goes : takes_steps g.state ≡ true
-  goes = ap (λ (s : RunState). takes_steps s) may.running
+  -- its run
+  batch : Batch (site_of g) g.script (suc n) (start_on g board native) (turned_on g board.world.ram []) (user_run (suc n) (start_on g board native))
+  batch = runs_are_batches (site_of g) g.script (suc n) (start_on g board native) (turned_on g board.world.ram []) refl ready.0 ready.1
+      (λ some. may.running) (λ more. may.on (omega arith)) stretch
 
   -- the devices behind retired steps
   devices_behind : (j : ℕ) → j ≤ n → AllRetired g.script (suc j) (guested_on g board.world.ram)
@@ -105,14 +106,13 @@ module _ (g : Seat) (board : BoardState) (native : NativeState) (n : ℕ) (may :
   counted_batch : (user_run (suc n) (start_on g board native)).end ≡ Counted → AllRetired g.script (suc n) (guested_on g board.world.ram)
   counted_batch counted =
       let r = start_on g board native in
-      let t = turned_on g board.world.ram [] in
-      let b = runs_are_batches (site_of g) g.script (suc n) r t refl ready.0 ready.1 goes stretch in
-      subst (λ (k : ℕ). AllRetired g.script k (guested_on g board.world.ram)) (is_counted (site_of g) (suc n) r (user_run (suc n) r) t g counted b).0 b.all
+      subst (λ (k : ℕ). AllRetired g.script k (guested_on g board.world.ram))
+      (is_counted (site_of g) (suc n) r (user_run (suc n) r) (turned_on g board.world.ram []) g counted batch).0 batch.all
 
   -- the guest as the board hands it back
   pub counted_takes : (u : Ran) → u ≡ run_on g board native (suc n) → u.end ≡ Counted → length u.machine.cpu.regs.a ≡ 7
       → (p : Plain) → p ≡ plain_of u.machine.cpu.regs
-      → Takes (suc n) (scene g board.world.ram native) (scene (gone_on (begun_seat g) n (suc n) p) u.machine.world.ram u.native)
+      → Takes (suc n) (scene g board.world.ram native) (scene (settled (gone_on (begun_seat g) n (suc n) p)) u.machine.world.ram u.native)
   counted_takes u is counted wide p plain =
       let r = start_on g board native in
       let after = user_run (suc n) r in
@@ -125,17 +125,18 @@ module _ (g : Seat) (board : BoardState) (native : NativeState) (n : ℕ) (may :
         cpu = with_registers q g.cpu;
         devices = o;
         steps = k;
+        state = going (with_registers q g.cpu) o;
         tally = record g.tally { retired = g.tally.retired + suc n };
       } in
-      let same : gone_on (begun_seat g) n (suc n) p ≡ retired_seat g (suc n) (plain_of u.machine.cpu.regs) d =
+      let same : settled (gone_on (begun_seat g) n (suc n) p) ≡ settled (retired_seat g (suc n) (plain_of u.machine.cpu.regs) d) =
       ap (λ (q : Plain). of q (passed n (begun_seat g).devices) (g.steps + 1 + n)) plain
       ∙ ap (λ (o : DeviceState). of (plain_of u.machine.cpu.regs) o (g.steps + 1 + n)) devices
       ∙ ap (λ (k : ℕ). of (plain_of u.machine.cpu.regs) d k) steps in
-      let takes = batches_take g native_cpu board.world board.steps Running native board.before (suc n) may.seated may.bytes may.small may.running may.seven
+      let takes = batches_take g native_cpu board.world board.steps Running native board.before n may.seated may.bytes may.small may.running may.on may.seven
       (is_native g may.seated.behind) may.set stretch ends (subst (λ (x : Ran). length x.machine.cpu.regs.a ≡ 7) is wide) in
       subst (λ (s : Seat). Takes (suc n) (scene g board.world.ram native) (scene s u.machine.world.ram u.native)) (sym same)
       (subst (λ (x : Ran). Takes (suc n) (scene g board.world.ram native)
-      (scene (retired_seat g (suc n) (plain_of x.machine.cpu.regs) d) x.machine.world.ram x.native)) (sym is) takes)
+      (scene (settled (retired_seat g (suc n) (plain_of x.machine.cpu.regs) d)) x.machine.world.ram x.native)) (sym is) takes)
 
   -- its first step is retired, and has not begun again
   pub counted_first : (u : Ran) → u ≡ run_on g board native (suc n) → u.end ≡ Counted
@@ -150,20 +151,17 @@ module _ (g : Seat) (board : BoardState) (native : NativeState) (n : ℕ) (may :
   counted_native u is counted =
       let r = start_on g board native in
       let after = user_run (suc n) r in
-      let t = turned_on g board.world.ram [] in
-      let b = runs_are_batches (site_of g) g.script (suc n) r t refl ready.0 ready.1 goes stretch in
-      let (all, done) = is_counted (site_of g) (suc n) r after t g (sym (ap (λ (x : Ran). x.end) is) ∙ counted) b in (
-        ap (λ (x : Ran). x.native.retired) is ∙ b.counted ∙ ap (λ (k : ℕ). native.retired + k) all,
+      let (all, done) =
+      is_counted (site_of g) (suc n) r after (turned_on g board.world.ram []) g (sym (ap (λ (x : Ran). x.end) is) ∙ counted) batch in (
+        ap (λ (x : Ran). x.native.retired) is ∙ batch.counted ∙ ap (λ (k : ℕ). native.retired + k) all,
         ap (λ (x : Ran). x.native.exceptions) is ∙ done.exceptions,
       )
 
   -- it is counted or left
   pub never_gone : (u : Ran) → u ≡ run_on g board native (suc n) → u.end ≡ Gone → ⊥
   never_gone u is gone =
-      let r = start_on g board native in
-      let b = runs_are_batches (site_of g) g.script (suc n) r (turned_on g board.world.ram []) refl ready.0 ready.1 goes stretch in
-      let end : (user_run (suc n) r).end ≡ Gone = sym (ap (λ (x : Ran). x.end) is) ∙ gone in
-      elim b.end [
+      let end : (user_run (suc n) (start_on g board native)).end ≡ Gone = sym (ap (λ (x : Ran). x.end) is) ∙ gone in
+      elim batch.end [
         | inl (all, h) ↦ (let e : Counted ≡ Gone = sym h.end ∙ end in let z : ⊥ = cc in z)
         | inr (few, h) ↦ (let e : Exit h.vector ≡ Gone = sym h.end ∙ end in let z : ⊥ = cc in z)
       ]
@@ -175,7 +173,8 @@ module _ (g : Seat) (board : BoardState) (native : NativeState) (n : ℕ) (may :
   is_left u v is left wide =
       let after = user_run (suc n) (start_on g board native) in
       subst (λ (x : Ran). IsLeft g board.world.ram native (suc n) x) (sym is)
-      (exits_take g native_cpu board.world board.steps Running native board.before (suc n) v may.seated may.bytes may.small may.running may.seven
+      (exits_take g native_cpu board.world board.steps Running native board.before (suc n) v may.seated may.bytes may.small may.running
+      (λ more. may.on (omega arith)) may.seven
       (is_native g may.seated.behind) (let z : MONITOR_BYTES ≤ MONITOR_BYTES = omega arith in z) may.set stretch
       (sym (ap (λ (x : Ran). x.end) is) ∙ left)
       (subst (λ (x : Ran). length x.machine.cpu.regs.a ≡ 7) is wide))

@@ -7,6 +7,8 @@ use Rattle.mb_instr.specs.declared.vectors.TheConstants.{ACCESS_ERROR}
 use Rattle.mb_instr.specs.Registers.{plain_of}
 use Rattle.mb_frames.specs.declared.frame.Frame.{Frame}
 use Rattle.mb_model.specs.declared.processor.Cpu.{Cpu}
+use Rattle.mb_model.specs.declared.outcome.RunState.{RunState}
+use Rattle.mb_model.specs.declared.outcome.RunState.TheVariants.{Running}
 use Rattle.mb_model.specs.Status.{space_of}
 use Rattle.mb_walk.specs.Memory.{AreBytes}
 use Rattle.mb_devices.specs.Devices.{DeviceState, level_of, ticked, IsNotDue}
@@ -42,10 +44,9 @@ use Rattle.vm_step.specs.Lawful.{LeavesLawful}
 use Rattle.vm_step.specs.Reads.{read_by_frame}
 use Rattle.vm_step.specs.Batch.{stepped_by}
 use Rattle.vm_step.specs.Turn.{IsSetFor}
-use Rattle.vm_step.specs.Taking.{IsLeft, left_seat, site_of}
+use Rattle.vm_step.specs.Taking.{IsLeft, retired_seat, settled, site_of}
 use Rattle.vm_step.specs.Again.{Midway, unbegun, refilled_seat}
 use Rattle.vm_step.proofs.Refill.{again_comes_to_the_same}
-use Rattle.vm_step.proofs.Retire.{off_arrived, off_ticked}
 use Rattle.vm_step.proofs.Turn.{more_stays_set}
 use Rattle.vm_step.proofs.Taking.{some_read}
 use Rattle.vm_step.proofs.Again.{midway_again, midway_ahead, midway_begins, midway_ends, midway_level, midway_takes, midway_within}
@@ -101,7 +102,7 @@ TurnAs g ram native k m b counts v f = (seat : Seat) (next : List ℕ)
 
 pub stopped_by : (g : Seat) (ram : List ℕ) (native : NativeState) (k : ℕ) (e : RunEnd) (after : BoardState) (counts : NativeState) (v : ℕ)
     (left : IsLeft g ram native k (ran_to e after counts)) → e ≡ Exit v → (s : Seat) → IsUnderway s
-    → left_seat g left.retired after.before left.begun ≡ uncounted s → IsStopped g ram native left.retired 0 s after counts v
+    → retired_seat g left.retired after.before left.begun ≡ uncounted s → IsStopped g ram native left.retired 0 s after counts v
 stopped_by g ram native k e after counts v left ends s underway is =
     let now = after.world.ram in
     let vector : left.vector ≡ v = same_vector left.vector v (sym left.end ∙ ends) in
@@ -190,8 +191,9 @@ module _ (g s : Seat) (ram : List ℕ) (board : BoardState) (native counts : Nat
   begun_is =
       let devices : ticked (arrived (s.steps - 1 + 1) s.script from.devices) ≡ s.devices = ap (λ (q : Guested). q.machine.world.devices) begins in
       let steps : s.steps - 1 + 1 ≡ s.steps = (let some = underway.begun in omega arith) in
-      ap (λ (d : DeviceState). (let o : Seat = record s { devices = d; steps = s.steps - 1 + 1 } in o)) devices
-      ∙ ap (λ (i : ℕ). (let o : Seat = record s { steps = i } in o)) steps
+      ap (λ (d : DeviceState). (let o : Seat = record s { devices = d; steps = s.steps - 1 + 1; state = Running } in o)) devices
+      ∙ ap (λ (i : ℕ). (let o : Seat = record s { steps = i; state = Running } in o)) steps
+      ∙ ap (λ (x : RunState). (let o : Seat = record s { state = x } in o)) (sym underway.running)
 
   attempts : Attempts (level_of s.devices) s.cpu
   attempts =
@@ -224,8 +226,7 @@ module _ (g s : Seat) (ram : List ℕ) (board : BoardState) (native counts : Nat
         bytes = bytes;
         small = small;
         running = underway.running;
-        on = sym (off_ticked (arrived (from.steps + 1) from.script from.devices) ∙ off_arrived (from.steps + 1) from.script from.devices)
-            ∙ ap (λ (x : Seat). x.devices.off) begun_is ∙ underway.on;
+        on = λ some. absurd (let z : ⊥ = omega arith in z);
         seven = seven;
         tried = ap (λ (l : ℕ). assisted l s.cpu) level ∙ attempts_none (level_of s.devices) s.cpu attempts;
         arrives = λ j more less. absurd (let z : ⊥ = omega arith in z);
@@ -239,11 +240,12 @@ module _ (g s : Seat) (ram : List ℕ) (board : BoardState) (native counts : Nat
     pub again_takes : (h : Seat) (u : Ran) (p : Plain) (j : ℕ) → n ≡ suc j → u ≡ run_on s board counts 1 → u.end ≡ Counted
         → length u.machine.cpu.regs.a ≡ 7 → p ≡ plain_of u.machine.cpu.regs → h ≡ gone_on s 0 1 p
         → Takes (k + 1) (scene g ram native)
-        (scene (record h { tally = record h.tally { refilled = h.tally.refilled + 1 } }) u.machine.world.ram u.native)
+        (scene (settled (record h { tally = record h.tally { refilled = h.tally.refilled + 1 } })) u.machine.world.ram u.native)
     again_takes h u p j again ran end wide plain goes =
         let w = world_of (guested_on mid board.world.ram) in
-        let behind : gone_on (begun_seat from) 0 1 p ≡ h = ap (λ (x : Seat). gone_on x 0 1 p) begun_is ∙ sym goes in
-        let one : Takes 1 (scene from board.world.ram counts) (scene h u.machine.world.ram u.native) =
+        let behind : settled (gone_on (begun_seat from) 0 1 p) ≡ settled h =
+        ap (λ (x : Seat). settled (gone_on x 0 1 p)) begun_is ∙ ap settled (sym goes) in
+        let one : Takes 1 (scene from board.world.ram counts) (scene (settled h) u.machine.world.ram u.native) =
         subst (λ (x : Seat). Takes 1 (scene from board.world.ram counts) (scene x u.machine.world.ram u.native)) behind
         (counted_takes from board counts 0 may u ran end wide p plain) in
         let (first, refills) = counted_first from board counts 0 may u ran end in
@@ -252,9 +254,10 @@ module _ (g s : Seat) (ram : List ℕ) (board : BoardState) (native counts : Nat
         ∙ sym (class_begins s.script (guested_on from board.world.ram) (guested_on mid board.world.ram) begins) ∙ first in
         let none : begun_again mid.cpu w ≡ None =
         ap (λ (q : Guested). begun_again q.machine.cpu (world_of q)) (sym begins) ∙ never_again s.script (guested_on from board.world.ram) refills in
-        let taken = midway_takes g ram native k n mid board.world.ram counts m none h u.machine.world.ram u.native one in
-        let by_class = subst (λ (c : Class). Takes (k + 1) (scene g ram native) (scene (refilled_seat c n h) u.machine.world.ram u.native)) class_is taken in
-        subst (λ (i : ℕ). Takes (k + 1) (scene g ram native) (scene (refilled_seat class.Retired i h) u.machine.world.ram u.native)) again by_class
+        let taken = midway_takes g ram native k n mid board.world.ram counts m none (settled h) u.machine.world.ram u.native one in
+        let by_class =
+        subst (λ (c : Class). Takes (k + 1) (scene g ram native) (scene (refilled_seat c n (settled h)) u.machine.world.ram u.native)) class_is taken in
+        subst (λ (i : ℕ). Takes (k + 1) (scene g ram native) (scene (refilled_seat class.Retired i (settled h)) u.machine.world.ram u.native)) again by_class
 
     -- ---- left once more
 
@@ -275,10 +278,10 @@ module _ (g s : Seat) (ram : List ℕ) (board : BoardState) (native counts : Nat
       there : guest_begun s.script (stepped_by s.script left.retired (guested_on from board.world.ram)) ≡ guested_on mid board.world.ram
       there = ap (guest_begun s.script) stays ∙ begins
 
-      cpu_is : (left_seat from left.retired after.before left.begun).cpu ≡ s.cpu
+      cpu_is : (retired_seat from left.retired after.before left.begun).cpu ≡ s.cpu
       cpu_is = left.cpu ∙ ap (λ (q : Guested). q.machine.cpu) stays
 
-      seat_is : left_seat from left.retired after.before left.begun ≡ uncounted s
+      seat_is : retired_seat from left.retired after.before left.begun ≡ uncounted s
       seat_is =
           let of : Cpu → DeviceState → ℕ → ℕ → Seat =
           λ c d i r. record s { cpu = c; devices = d; steps = i; tally = record s.tally { retired = r } } in
@@ -414,7 +417,6 @@ refilled_midway g s y ram native k n b counts v f next stopped few reads fine so
       record {
         begun = stopped.underway.begun;
         running = stopped.underway.running;
-        on = ap (λ (d : DeviceState). d.off) devices ∙ stopped.underway.on;
         due = subst (λ (d : DeviceState). IsNotDue 0 d) (sym devices) stopped.underway.due;
       },
       more,

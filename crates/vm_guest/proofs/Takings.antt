@@ -1,11 +1,11 @@
 -- What each way in which a guest goes on has taken of its turn.
-use Rattle.std.proofs.Common.{◌≡◌, ◌∙◌, ℕ, suc, ◌+◌, Bool, true, false, cond, nat_lt, List, [], Some, None, refl, ap, sym, subst, arith}
+use Rattle.std.proofs.Common.{◌≡◌, ◌∙◌, ℕ, suc, ◌+◌, ◌<◌, Bool, true, false, cond, nat_lt, List, [], Some, None, refl, ap, sym, subst, arith}
 use Rattle.mb_port.specs.Routine.{run}
 use Rattle.mb_instr.specs.declared.registers.Plain.{Plain}
 use Rattle.mb_model.specs.declared.processor.Cpu.{Cpu}
 use Rattle.mb_devices.specs.Devices.{passed, IsNotDue}
 use Rattle.mb_processor.specs.Step.{interrupt_mask, step_of, rank}
-use Rattle.mb_machine.specs.Machine.{Entries, takes_steps}
+use Rattle.mb_machine.specs.Machine.{Entries, going, takes_steps}
 use Rattle.vm_meaning.specs.Batches.{NothingArrives}
 use Rattle.vm_meaning.specs.Marks.{trail}
 use Rattle.vm_meaning.specs.Native.{NativeState}
@@ -21,8 +21,8 @@ use Rattle.vm_step.specs.Idle.{IsIdle, idle_seat}
 use Rattle.vm_step.proofs.Idle.{idle_steps_take}
 use Rattle.vm_guest.specs.Memory.{OnlyBetween}
 use Rattle.vm_guest.specs.Counting.{assisted}
-use Rattle.vm_guest.specs.Turns.{begun_seat, ended_at, idled_on, scene, IsGoing, level_on}
-use Rattle.vm_guest.proofs.Assisted.{inner, class_begun, idle_assisted, is_on, is_stopped}
+use Rattle.vm_guest.specs.Turns.{begun_seat, ended_at, idled_on, scene, level_on}
+use Rattle.vm_guest.proofs.Assisted.{inner, class_begun, idle_assisted}
 use Rattle.vm_guest.proofs.Seated.{only_within}
 
 -- ---- a step in which the board has no part
@@ -88,22 +88,18 @@ assisted_takes g h ram next native c goes class means tally same seated after wi
 
 -- ---- idle steps
 
-pub idle_takes : (g : Seat) (ram : List ℕ) (native : NativeState) (n : ℕ) → IsSeated g ram → IsGoing g → takes_steps g.state ≡ true
+pub idle_takes : (g : Seat) (ram : List ℕ) (native : NativeState) (n : ℕ) → IsSeated g ram → takes_steps g.state ≡ true → (0 < n → g.devices.off ≡ false)
     → assisted (level_on (begun_seat g)) g.cpu ≡ Some Idle → NothingArrives g.script (g.steps + 1) n → IsNotDue n (begun_seat g).devices
     → Takes (n + 1) (scene g ram native) (scene (idled_on n (begun_seat g)) ram native)
-idle_takes g ram native n seated going takes tried quiet due =
+idle_takes g ram native n seated takes on tried quiet due =
     let is = idle_assisted (level_on (begun_seat g)) g.cpu tried in
     let d = passed n (begun_seat g).devices in
-    let idle : IsIdle g.script (guested_on g ram) = record {
-      state = is_stopped g going takes is.stopped;
-      stopped = is.stopped;
-      on = is_on g going takes;
-      masked = is.masked;
-    } in
-    let of : (steps idle : ℕ) → Seat = λ k i. record g { devices = d; steps = k; tally = record g.tally { idle = i } } in
+    let idle : IsIdle g.script (guested_on g ram) = record { goes = takes; stopped = is.stopped; masked = is.masked } in
+    let of : (steps idle : ℕ) → Seat =
+    λ k i. record g { devices = d; steps = k; state = going g.cpu d; tally = record g.tally { idle = i } } in
     let steps : g.steps + suc n ≡ g.steps + 1 + n = omega arith in
     let tallied : g.tally.idle + suc n ≡ g.tally.idle + (n + 1) = omega arith in
     let same : idle_seat g (suc n) d ≡ idled_on n (begun_seat g) =
     ap (λ (k : ℕ). of k (g.tally.idle + suc n)) steps ∙ ap (of (g.steps + 1 + n)) tallied in
     subst (λ (k : ℕ). Takes k (scene g ram native) (scene (idled_on n (begun_seat g)) ram native)) (let e : suc n ≡ n + 1 = omega arith in e)
-    (subst (λ (s : Seat). Takes (suc n) (scene g ram native) (scene s ram native)) same (idle_steps_take g ram native n seated idle quiet due))
+    (subst (λ (s : Seat). Takes (suc n) (scene g ram native) (scene s ram native)) same (idle_steps_take g ram native n seated idle on quiet due))

@@ -9,7 +9,7 @@ use Rattle.vm_machine.proofs.Seated.{takes_add, nothing_is_taken}
 use Rattle.vm_machine.proofs.TurnLaws.{halted_turn, nothing_turned}
 
 -- what is halted or off has taken all further steps
-stays_taken : (m : ℕ) (t : Scene) → takes_steps t.guest.state ≡ false → IsSeated t.guest t.ram → Takes m t t
+pub stays_taken : (m : ℕ) (t : Scene) → takes_steps t.guest.state ≡ false → IsSeated t.guest t.ram → Takes m t t
 stays_taken m t still seated =
     let none = nothing_is_taken t seated in
     record {

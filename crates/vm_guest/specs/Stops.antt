@@ -1,5 +1,5 @@
 -- A guest's step that the board left, and that may begin again.
-use Rattle.std.specs.Prelude.{◌≡◌, ◌⊎◌, ℕ, suc, ◌+◌, ◌-◌, ◌<◌, false, true, List, Some, None}
+use Rattle.std.specs.Prelude.{◌≡◌, ◌⊎◌, ℕ, suc, ◌+◌, ◌-◌, ◌<◌, true, List, Some, None}
 use Rattle.mb_port.specs.Routine.{run}
 use Rattle.mb_model.specs.declared.outcome.RunState.TheVariants.{Running}
 use Rattle.mb_model.specs.Status.{space_of}
@@ -43,7 +43,6 @@ pub record IsReady (s : Seat) (b : BoardState) : Type 0 where
 pub record IsUnderway (s : Seat) : Type 0 where
   pub begun : 0 < s.steps
   pub running : s.state ≡ Running
-  pub on : s.devices.off ≡ false
   pub due : IsNotDue 0 s.devices
 
 -- Of a guest's turn so many steps are taken, the next has begun again so often, and the board has left it by this

@@ -1,15 +1,16 @@
 -- A guest's steps and turns in code.
-use Rattle.std.specs.Prelude.{◌≡◌, ℕ, ◌+◌, true, List}
-use Rattle.mb_model.specs.Keeping.{rule_k}
+use Rattle.std.specs.Prelude.{◌≡◌, ℕ, ◌+◌, ◌*◌, ◌≤◌, List}
+use Rattle.mb_model.specs.Keeping.{rule_a, rule_k}
 use Rattle.mb_model.specs.declared.outcome.RunState.{RunState}
 use Rattle.mb_model.specs.declared.outcome.RunState.TheVariants as state
 use Rattle.mb_model.specs.declared.processor.Cpu.{Cpu}
-use Rattle.mb_devices.specs.Devices.{DeviceState, ticked, passed}
+use Rattle.mb_devices.specs.Devices.{DeviceState, ticked, passed, restarted}
 use Rattle.mb_processor.specs.declared.StepEnd.{StepEnd}
 use Rattle.mb_processor.specs.declared.StepEnd.TheVariants as step
 use Rattle.mb_processor.specs.Raise.{Stepped}
-use Rattle.mb_machine.specs.Machine.{Opening, Entries, Machine, arrived, going, run_of, start, asked}
-use Rattle.mb_machine.specs.Machine.{state_after, takes_steps}
+use Rattle.mb_machine.specs.Machine.{Opening, Entries, Machine, arrived, going, reset_with, run_of, start, asked}
+use Rattle.mb_machine.specs.Machine.{state_after}
+use Rattle.mb_board.specs.State.{BoardState, board_at_reset}
 use Rattle.vm_meaning.specs.Free.{rule_free, FreeRun, Within}
 use Rattle.vm_meaning.specs.Native.{NativeState}
 use Rattle.vm_machine.specs.Guests.{Guest}
@@ -26,13 +27,13 @@ end_by state.Stopped = Counted
 end_by state.Halted = Halted
 end_by state.Off = Off
 
--- A guest that takes steps is on, and is stopped exactly where STOP holds its processor.
-abbrev pub IsGoing : Seat → Type 0
-IsGoing g = takes_steps g.state ≡ true → g.state ≡ going g.cpu g.devices
-
--- A guest whose step has begun.
+-- A guest whose step has begun: what it was before, of those that take steps, has no part in it.
 abbrev pub begun_seat : Seat → Seat
-begun_seat g = record g { devices = ticked (arrived (g.steps + 1) g.script g.devices); steps = g.steps + 1 }
+begun_seat g = record g {
+  devices = ticked (arrived (g.steps + 1) g.script g.devices);
+  steps = g.steps + 1;
+  state = state.Running;
+}
 
 -- The interrupt level that a step is asked for that has begun so.
 abbrev pub level_on : Seat → ℕ
@@ -43,6 +44,7 @@ abbrev pub idled_on : (more : ℕ) → Seat → Seat
 idled_on more g = record g {
   devices = passed more g.devices;
   steps = g.steps + more;
+  state = going g.cpu (passed more g.devices);
   tally = with_idle (more + 1) g.tally;
 }
 
@@ -71,6 +73,17 @@ state_by _ cpu d = going cpu d
 -- a guest, a board's memory, and what boards have counted
 abbrev pub scene : Seat → List ℕ → NativeState → Scene
 scene g ram native = record { guest = g; ram = ram; native = native }
+
+-- ---- what a turn counts and leaves
+
+-- Counted is no more than one retired step, and no more than 32 exceptions, for each step from the first count on.
+abbrev pub RisesByAtMost : (steps_before steps : ℕ) → NativeState → NativeState → Type 0
+RisesByAtMost steps_before steps old new = (new.retired + steps_before ≤ old.retired + steps)
+    × (new.exceptions + 32 * steps_before ≤ old.exceptions + 32 * steps)
+
+-- a board as it is after a reset, whatever it was before
+abbrev pub IsReset : BoardState → Type 0
+IsReset b = (before : DeviceState) × (b ≡ board_at_reset (reset_with rule_a (restarted before) b.world.ram))
 
 -- ---- turns as free runs
 

@@ -12,7 +12,6 @@ ghost use Rattle.vm_machine.specs.Seats.{turned_on, IsSame, IsSeated};
 ghost use Rattle.vm_saved.specs.Saved.{content_of, contents_of, machine_of};
 ghost use Rattle.vm_saved.specs.Begins.{beginning};
 ghost use Rattle.vm_guest.specs.Memory.{chunk_from, contents_from, OnlyBetween};
-ghost use Rattle.vm_guest.specs.Turns.{IsGoing};
 
 use crate::counts::Counts;
 use crate::guest::Guest;
@@ -75,7 +74,6 @@ impl Guest {
             ≡ beginning (machine_of self.old.devices.disk saved.now) }
         ensures same { IsSame self.old self.new }
         ensures seated { IsSeated self.new board.new.world.ram }
-        ensures going { IsGoing self.new }
         ensures within { OnlyBetween self.old.base (self.old.base + self.old.size)
             board.old.world.ram board.new.world.ram }
         ensures others { but_ram board.new ≡ but_ram board.old }

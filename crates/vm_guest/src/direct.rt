@@ -1,6 +1,6 @@
 //! Steps of a guest: as many at once as its board runs, or as STOP holds it for.
 
-ghost use Rattle.std.specs.Prelude.{◌≡◌, ◌+◌, ◌*◌, ◌<◌, ◌≤◌, ◌^◌, suc, true, length, None, IfSome};
+ghost use Rattle.std.specs.Prelude.{◌≡◌, ◌+◌, ◌*◌, ◌<◌, ◌≤◌, ◌^◌, suc, false, true, length, None, IfSome};
 ghost use Rattle.mb_instr.specs.Registers.{plain_of};
 ghost use Rattle.mb_walk.specs.Memory.{AreBytes};
 ghost use Rattle.mb_devices.specs.Devices.{IsNotDue};
@@ -18,16 +18,18 @@ ghost use Rattle.vm_guest.specs.Counting.{NoneDue};
 ghost use Rattle.vm_guest.specs.Native.{gone_on, guest_run, guest_start, left_by, run_on, start_on};
 ghost use Rattle.vm_guest.specs.Native.{HasFrame, IsFrameOf};
 ghost use Rattle.vm_guest.specs.Stops.{BeginsAgain, IsReady, IsStopped, Stopped};
-ghost use Rattle.vm_guest.specs.Turns.{idled_on, scene, IsGoing};
+ghost use Rattle.vm_guest.specs.Turns.{idled_on, scene};
 
 use crate::classes::{assisted, class_of_vector};
 use crate::guest::Guest;
 use crate::readying::{make_ready, set_registers};
 use crate::rest::Rest;
+use crate::stepping::state_by;
 use mb_board::{Board, Native, RunEnd};
 use mb_devices::Devices;
 use mb_frames::{Frame, LONGEST, from_bytes};
 use mb_instr::{Plain, Regs};
+use mb_processor::StepEnd;
 use mb_script::Script;
 use mb_walk::Ram;
 use vm_machine::{Class, MOST_REFILLS};
@@ -42,6 +44,15 @@ fn frame_on(board: &Board) -> Frame
         unreachable!()
     };
     frame
+}
+
+/// How many steps of so many are behind the one that has begun: none where it is the last since the devices are off.
+fn steps_behind(devices: &Devices, limit: u32) -> u32
+    requires { 0 < limit }
+    ensures on { 0 < result → devices.now.off ≡ false }
+    ensures within { result < limit }
+{
+    if devices.is_off() { 0 } else { limit - 1 }
 }
 
 /// How many steps behind one that has begun may be taken together with it, at most `limit`: nothing arrives at them,
@@ -145,7 +156,6 @@ impl Guest {
             ≡ left_by vector frame.now board.old self.old }
         ensures tally { self.new.tally ≡ tallied (class_of vector) self.old.tally }
         ensures steps { self.new.steps ≡ self.old.steps }
-        ensures going { IsGoing self.new }
         ensures same { IsSame self.old self.new }
         ensures seated { IsSeated self.new board.new.world.ram }
         ensures within { OnlyBetween self.old.base (end_of self.old) board.old.world.ram board.new.world.ram }
@@ -178,7 +188,6 @@ impl Guest {
             → IsStopped w.guest w.ram w.native w.taken (suc w.refills) self.new board.new native.new vector) }
         ensures still { IfSome result (λ vector. self.new ≡ self.old) }
         ensures steps { self.new.steps ≡ self.old.steps }
-        ensures going { result ≡ None → IsGoing self.new }
         ensures native { (native.new.retired ≤ native.old.retired + 1)
             × (native.new.exceptions ≤ native.old.exceptions + 1) }
         ensures retired { IfSome result (λ vector. native.new.retired ≡ native.old.retired) }
@@ -187,6 +196,7 @@ impl Guest {
             RunEnd::Counted => {
                 self.go_on(&plain(&board.cpu().regs), 0, 1);
                 self.count_refilled();
+                self.settle();
                 None
             }
             RunEnd::Exit(vector) => Some(vector),
@@ -205,7 +215,6 @@ impl Guest {
         ensures takes { (w : Stopped self.old board.old native.old first)
             → Takes (w.taken + 1) (scene w.guest w.ram w.native) (scene self.new board.new.world.ram native.new) }
         ensures steps { self.new.steps ≡ self.old.steps }
-        ensures going { IsGoing self.new }
         ensures native { (native.new.retired ≤ native.old.retired + 1)
             × (native.new.exceptions ≤ native.old.exceptions + 31) }
     {
@@ -235,6 +244,7 @@ impl Guest {
         self.devices.pass(more);
         self.steps += more;
         self.counts.add_idle(more + 1);
+        self.state = state_by(StepEnd::Idle, &self.cpu, &self.devices);
     }
 
     /// Takes the next step, and as many behind it as the board may carry out together with it, or as are idle with it,
@@ -243,14 +253,12 @@ impl Guest {
         requires limit { 0 < limit }
         requires room { self.old.steps + limit < 2 ^ 32 }
         requires seated { IsSeated self.old board.old.world.ram }
-        requires going { IsGoing self.old }
         requires takes { takes_steps self.old.state ≡ true }
         requires native { (native.old.retired + limit < 2 ^ 63) × (native.old.exceptions + 32 * limit < 2 ^ 63) }
         ensures some { (0 < result) × (result ≤ limit) }
         ensures takes { Takes result (scene self.old board.old.world.ram native.old)
             (scene self.new board.new.world.ram native.new) }
         ensures steps { self.new.steps ≡ self.old.steps + result }
-        ensures going { IsGoing self.new }
         ensures native { (native.new.retired ≤ native.old.retired + result)
             × (native.new.exceptions ≤ native.old.exceptions + 32 * result) }
     {
@@ -260,7 +268,7 @@ impl Guest {
             self.next,
             self.steps,
             &self.devices,
-            limit - 1,
+            steps_behind(&self.devices, limit),
         );
         if let Some(class) = assisted(level, &self.cpu) {
             if let Class::Idle = class {
@@ -274,6 +282,7 @@ impl Guest {
         match self.run_board(board, more + 1, native) {
             RunEnd::Counted => {
                 self.go_on(&plain(&board.cpu().regs), more, more + 1);
+                self.settle();
                 more + 1
             }
             RunEnd::Exit(vector) => {

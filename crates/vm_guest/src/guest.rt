@@ -11,7 +11,6 @@ ghost use Rattle.vm_machine.specs.Seats.{machine_on, turned_on, IsSeated};
 ghost use Rattle.vm_machine.specs.declared.limits.TheConstants.{MONITOR_BYTES};
 ghost use Rattle.vm_guest.specs.Memory.{OnlyBetween};
 ghost use Rattle.vm_guest.specs.Counting.{tally_in};
-ghost use Rattle.vm_guest.specs.Turns.{IsGoing};
 
 use crate::counts::Counts;
 use crate::loading::{clear, load};
@@ -101,7 +100,6 @@ impl Guest {
         ensures script { IfOk result (λ guest. guest.script ≡ script) }
         ensures place { IfOk result (λ guest. (guest.base ≡ base) × (guest.size ≡ ram)) }
         ensures seated { IfOk result (λ guest. IsSeated guest board.new.world.ram) }
-        ensures going { IfOk result IsGoing }
         ensures within { OnlyBetween base (base + ram + AREA_BYTES) board.old.world.ram board.new.world.ram }
         ensures others { but_ram board.new ≡ but_ram board.old }
         ensures refused { IfErr result (λ memory. board.new ≡ board.old) }

@@ -9,7 +9,8 @@ ghost use Rattle.vm_machine.specs.Turns.{tallied, steps_in, world_of};
 ghost use Rattle.vm_machine.specs.Seats.{end_of, guested_on, IsSame, IsSeated};
 ghost use Rattle.vm_guest.specs.Memory.{OnlyBetween};
 ghost use Rattle.vm_guest.specs.Rests.{rest_in, IsLawfulRest};
-ghost use Rattle.vm_guest.specs.Turns.{begun_seat, ended_at, level_on, processed, state_by, IsGoing};
+ghost use Rattle.vm_step.specs.Taking.{settled};
+ghost use Rattle.vm_guest.specs.Turns.{begun_seat, ended_at, level_on, processed, state_by};
 
 use crate::guest::Guest;
 use crate::rest::Rest;
@@ -22,7 +23,7 @@ use vm_machine::Class;
 use vm_port::GuestPort;
 
 /// The state of a guest after a step that ended so, with the processor and the devices that it left.
-fn state_by(end: StepEnd, cpu: &Cpu, devices: &Devices) -> RunState
+pub(crate) fn state_by(end: StepEnd, cpu: &Cpu, devices: &Devices) -> RunState
     ensures { result ≡ state_by end cpu.now devices.now }
 {
     match end {
@@ -52,12 +53,20 @@ impl Guest {
         let arrival = receive(&mut self.devices, &self.script, self.steps, self.next);
         self.next = arrival.next;
         self.steps += 1;
+        self.state = RunState::Running;
         self.devices.tick();
         if arrival.aborted {
             NON_MASKABLE
         } else {
             self.devices.level()
         }
+    }
+
+    /// A step that entered nothing has ended: the guest is off, stopped or running.
+    pub(crate) fn settle(&mut self)
+        ensures { self.new ≡ settled self.old }
+    {
+        self.state = state_by(StepEnd::Went, &self.cpu, &self.devices);
     }
 
     /// What is left of the processor's part of a step, over the guest's bus.
@@ -98,7 +107,6 @@ impl Guest {
             (world_of (guested_on self.old board.old.world.ram))) }
         ensures tally { self.new.tally ≡ tallied class self.old.tally }
         ensures steps { self.new.steps ≡ self.old.steps }
-        ensures going { IsGoing self.new }
         ensures same { IsSame self.old self.new }
         ensures seated { IsSeated self.new board.new.world.ram }
         ensures within { OnlyBetween self.old.base (end_of self.old) board.old.world.ram board.new.world.ram }

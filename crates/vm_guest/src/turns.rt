@@ -1,32 +1,27 @@
 //! A guest's turns.
 
-ghost use Rattle.std.specs.Prelude.{◌≡◌, ◌+◌, ◌*◌, ◌^◌, ◌<◌, ◌≤◌, [], true, false};
+ghost use Rattle.std.specs.Prelude.{◌≡◌, ◌+◌, ◌^◌, ◌<◌, ◌≤◌, [], true, false};
 ghost use Rattle.mb_model.specs.Keeping.{rule_k};
 ghost use Rattle.mb_machine.specs.Machine.{run_of, takes_steps};
 ghost use Rattle.vm_meaning.specs.Free.{IsFreeRun};
 ghost use Rattle.vm_machine.specs.Seats.{machine_on, IsSeated, Takes};
-ghost use Rattle.vm_guest.specs.Turns.{end_by, scene, GoesOnFreely, IsGoing};
+ghost use Rattle.vm_guest.specs.Turns.{end_by, scene, GoesOnFreely, IsReset, RisesByAtMost};
 
 use crate::guest::Guest;
 use crate::turn_end::TurnEnd;
 use mb_board::{Board, Native, takes_steps};
-use mb_model::RunState;
 
 impl Guest {
     /// Takes so many steps, or fewer where the guest is halted or off.
     fn take_steps(&mut self, board: &mut Board, limit: u32, native: &mut Native)
         requires room { self.old.steps + limit < 2 ^ 32 }
         requires seated { IsSeated self.old board.old.world.ram }
-        requires going { IsGoing self.old }
         requires native { (native.old.retired < 2 ^ 62) × (native.old.exceptions < 2 ^ 62) }
         ensures takes { Takes limit (scene self.old board.old.world.ram native.old)
             (scene self.new board.new.world.ram native.new) }
         ensures steps { takes_steps self.new.state ≡ true → self.new.steps ≡ self.old.steps + limit }
-        ensures going { IsGoing self.new }
-        ensures native { (native.new.retired ≤ native.old.retired + limit)
-            × (native.new.exceptions ≤ native.old.exceptions + 32 * limit) }
-        ensures stays { takes_steps self.old.state ≡ false → (self.new ≡ self.old)
-            × (board.new.world.ram ≡ board.old.world.ram) × (native.new ≡ native.old) }
+        ensures few { self.new.steps ≤ self.old.steps + limit }
+        ensures native { RisesByAtMost self.old.steps self.new.steps native.old native.new }
     {
         let mut left = limit;
         while left > 0 {
@@ -41,12 +36,11 @@ impl Guest {
     ///
     /// Nothing of the board counts but the guest's RAM and area, which are as `prepare` or the guest's last turn left
     /// them. It changes no byte outside the guest's RAM and area and the board's first 65,536 bytes, and takes no
-    /// memory. The board carries out the guest's retired steps, and `native` counts them. It is left as it is after a
-    /// reset, but for its memory.
+    /// memory. The board carries out the guest's retired steps, and `native` counts them. The board is left as it is
+    /// after a reset, but for its memory; where the guest was halted or off before, it stays as it was.
     pub fn turn(&mut self, board: &mut Board, limit: u32, native: &mut Native) -> TurnEnd
         requires room { self.old.steps + limit < 2 ^ 32 }
         requires seated { IsSeated self.old board.old.world.ram }
-        requires going { IsGoing self.old }
         requires native { (native.old.retired < 2 ^ 62) × (native.old.exceptions < 2 ^ 62) }
         ensures takes { Takes limit (scene self.old board.old.world.ram native.old)
             (scene self.new board.new.world.ram native.new) }
@@ -58,13 +52,15 @@ impl Guest {
             (machine_on self.old board.old.world.ram) (machine_on self.new board.new.world.ram) }
         ensures end { result ≡ end_by self.new.state }
         ensures counted { result ≡ TurnEnd.Counted → self.new.steps ≡ self.old.steps + limit }
-        ensures native { (native.new.retired ≤ native.old.retired + limit)
-            × (native.new.exceptions ≤ native.old.exceptions + 32 * limit) }
+        ensures few { self.new.steps ≤ self.old.steps + limit }
+        ensures native { RisesByAtMost self.old.steps self.new.steps native.old native.new }
         ensures stays { takes_steps self.old.state ≡ false → (self.new ≡ self.old)
-            × (board.new.world.ram ≡ board.old.world.ram) × (native.new ≡ native.old) }
-        ensures going { IsGoing self.new }
-        ensures board { board.new.state ≡ RunState.Running }
+            × (board.new ≡ board.old) × (native.new ≡ native.old) }
+        ensures board { takes_steps self.old.state ≡ true → IsReset board.new }
     {
+        if !takes_steps(self.state) {
+            return TurnEnd::by(self.state);
+        }
         self.take_steps(board, limit, native);
         board.reset();
         TurnEnd::by(self.state)

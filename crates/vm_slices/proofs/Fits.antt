@@ -13,9 +13,9 @@ use Rattle.vm_guest.specs.Session.{GuestAtStart, IsGuest}
 use Rattle.vm_guest.proofs.Seated.{only_within}
 use Rattle.vm_slices.specs.declared.host_guest.HostGuest.{HostGuest}
 use Rattle.vm_slices.specs.Fit.{share_of, need_of}
-use Rattle.vm_slices.specs.Members.{member_at_start, IsReady}
+use Rattle.vm_slices.specs.Members.{member_at_start, IsBounded}
 use Rattle.vm_slices.specs.Places.{member_of, members_of, StandFrom}
-use Rattle.vm_slices.proofs.Places.{further, ready_behind, end_of_all}
+use Rattle.vm_slices.proofs.Places.{further, bounded_behind, end_of_all}
 
 -- ---- numbers
 
@@ -55,18 +55,18 @@ pub record Stands (all rest : List GuestAtStart) (hosts : List HostGuest) (base 
   pub guests : All IsGuest rest
   pub members : members_of hosts ram ++ map member_at_start rest ≡ map member_at_start all
   pub stand : StandFrom MONITOR_BYTES hosts ram
-  pub ready : All IsReady (members_of hosts ram)
+  pub bounds : All IsBounded (members_of hosts ram)
   pub end : end_of_all MONITOR_BYTES hosts ≡ base
   pub aligned : base % 65536 ≡ 0
   pub behind : MONITOR_BYTES ≤ base
   pub room : base + sum_by share_of rest ≤ length ram
 
-none_ready : All IsReady []
-none_ready k d less = absurd (omega arith)
+none_bounded : All IsBounded []
+none_bounded k d less = absurd (omega arith)
 
 pub first_stands : (all : List GuestAtStart) (ram : List ℕ) → All IsGuest all → need_of all ≤ length ram → Stands all all [] MONITOR_BYTES ram
 first_stands all ram guests room =
-    record { guests = guests; members = refl; stand = tt; ready = none_ready; end = refl; aligned = refl; behind = omega arith; room = room }
+    record { guests = guests; members = refl; stand = tt; bounds = none_bounded; end = refl; aligned = refl; behind = omega arith; room = room }
 
 -- the next one has room
 pub next_guest : (all rest : List GuestAtStart) (g : GuestAtStart) (hosts : List HostGuest) (base : ℕ) (ram : List ℕ)
@@ -77,9 +77,9 @@ next_guest all rest g hosts base ram s =
 -- and is prepared
 pub next_stands : (all rest : List GuestAtStart) (g : GuestAtStart) (hosts : List HostGuest) (h : HostGuest) (base : ℕ) (x y : List ℕ)
     → Stands all (g ∷ rest) hosts base x → member_of y h ≡ member_at_start g → h.guest.base ≡ base → h.guest.size ≡ g.ram
-    → IsSeated h.guest y → IsReady (member_of y h) → OnlyBetween base (base + g.ram + AREA_BYTES) x y
+    → IsSeated h.guest y → h.bound < 2 ^ 32 → OnlyBetween base (base + g.ram + AREA_BYTES) x y
     → Stands all rest (hosts ++ h ∷ []) (base + g.ram + AREA_BYTES) y
-next_stands all rest g hosts h base x y s start at size seated ready between =
+next_stands all rest g hosts h base x y s start at size seated bound between =
     let end : base + g.ram + AREA_BYTES ≡ end_of h.guest = omega arith in
     let last = s.end in
     let behind = s.behind in
@@ -100,7 +100,7 @@ next_stands all rest g hosts h base x y s start at size seated ready between =
           ∙ ap (λ (m : Member). members_of hosts x ++ m ∷ map member_at_start rest) start
           ∙ s.members;
       stand = f.stand;
-      ready = subst (λ (ms : List Member). All IsReady ms) (sym f.members) (ready_behind (members_of hosts x) (member_of y h) s.ready ready);
+      bounds = subst (λ (ms : List Member). All IsBounded ms) (sym f.members) (bounded_behind (members_of hosts x) (member_of y h) s.bounds bound);
       end = f.end ∙ sym end;
       aligned = omega arith;
       behind = omega arith;

@@ -1,5 +1,5 @@
 -- Guests that stand one after the other: one that changes, its turn, and a further one behind them.
-use Rattle.std.proofs.Common.{◌≡◌, ◌≢◌, ◌∙◌, ℕ, zero, suc, ◌+◌, ◌*◌, ◌≤◌, ◌<◌, List, [], ◌∷◌, ◌++◌, length, get_or, set, drop, map}
+use Rattle.std.proofs.Common.{◌≡◌, ◌≢◌, ◌∙◌, ℕ, zero, suc, ◌+◌, ◌≤◌, ◌<◌, List, [], ◌∷◌, ◌++◌, length, get_or, set, drop, map}
 use Rattle.std.proofs.Common.{true, refl, ap, sym, subst, inl, inr, arith, Some}
 use Rattle.std.specs.Prelude.{slice_get, ◌&&◌, All}
 use Rattle.std.proofs.Common.{append_assoc}
@@ -14,8 +14,8 @@ use Rattle.vm_machine.specs.Rounds.{Member, left, is_done, all_done, left_of_all
 use Rattle.vm_machine.proofs.Seated.{Alone, alone, turned_alone}
 use Rattle.vm_slices.specs.declared.host_guest.HostGuest.{HostGuest}
 use Rattle.vm_machine.proofs.Trails.{trail_append}
-use Rattle.vm_slices.specs.Counting.{AreCounted, HasRoom}
-use Rattle.vm_slices.specs.Members.{after_turn, IsReady}
+use Rattle.vm_slices.specs.Counting.{AreCounted, HasRoom, RisesBy}
+use Rattle.vm_slices.specs.Members.{after_turn, IsBounded}
 use Rattle.vm_slices.specs.Places.{member_of, members_of, StandFrom, with_member, with_turn, marks_at}
 
 -- ---- one of them
@@ -167,7 +167,7 @@ all_marks slice (m ∷ ms) = ap (λ (marks : List Plain). (turn_in slice m).mark
 
 pub nothing_counted : (ms : List Member) (native : NativeState) → AreCounted ms ms [] native native
 unfolding trail
-nothing_counted ms native = record { retired = refl; trail = refl; exceptions = omega arith }
+nothing_counted ms native = record { retired = refl; trail = refl; exceptions = omega arith; most = omega arith }
 
 pub counted_on : (a b c : List Member) (first more : List Plain) (o p q : NativeState) → AreCounted a b first o p → AreCounted b c more p q
     → AreCounted a c (first ++ more) o q
@@ -176,48 +176,46 @@ counted_on a b c first more o p q x y =
     let s = y.retired in
     let e = x.exceptions in
     let f = y.exceptions in
+    let l = x.most in
+    let m = y.most in
     record {
       retired = omega arith;
       trail = y.trail ∙ ap (λ (t : ℕ). trail t more) x.trail ∙ sym (trail_append o.trail first more);
       exceptions = omega arith;
+      most = omega arith;
     }
 
 -- of a turn of one of the members
 pub record Turn (slice place : ℕ) (ms : List Member) (old new : NativeState) : Type 0 where
   pub counts : AreCounted ms (with_turn slice place ms) (marks_at slice place ms) old new
-  pub ready : All IsReady (with_turn slice place ms)
-  pub retired : new.retired + left_of_all (with_turn slice place ms) ≤ old.retired + left_of_all ms
-  pub exceptions : new.exceptions + 32 * left_of_all (with_turn slice place ms) ≤ old.exceptions + 32 * left_of_all ms
+  pub bounds : All IsBounded (with_turn slice place ms)
+  pub rises : RisesBy (left_of_all ms) (left_of_all (with_turn slice place ms)) old new
 
 -- what is known of the one that takes it
 pub record Own (slice : ℕ) (m : Member) (old new : NativeState) : Type 0 where
   pub counts : AreCounted (m ∷ []) (after_turn slice m ∷ []) (turn_in slice m).marks old new
-  pub ready : IsReady (after_turn slice m)
-  pub retired : new.retired + left (after_turn slice m) ≤ old.retired + left m
-  pub exceptions : new.exceptions + 32 * left (after_turn slice m) ≤ old.exceptions + 32 * left m
+  pub rises : RisesBy (left m) (left (after_turn slice m)) old new
 
 pub own_by : (slice : ℕ) (m k : Member) (old new : NativeState) → k ≡ after_turn slice m → AreCounted (m ∷ []) (k ∷ []) (turn_in slice m).marks old new
-    → IsReady k → (new.retired + left k ≤ old.retired + left m) × (new.exceptions + 32 * left k ≤ old.exceptions + 32 * left m) → Own slice m old new
-own_by slice m k old new is counts ready room = record {
+    → RisesBy (left m) (left k) old new → Own slice m old new
+own_by slice m k old new is counts rises = record {
   counts = subst (λ (a : Member). AreCounted (m ∷ []) (a ∷ []) (turn_in slice m).marks old new) is counts;
-  ready = subst IsReady is ready;
-  retired = subst (λ (a : Member). new.retired + left a ≤ old.retired + left m) is room.0;
-  exceptions = subst (λ (a : Member). new.exceptions + 32 * left a ≤ old.exceptions + 32 * left m) is room.1;
+  rises = subst (λ (a : Member). RisesBy (left m) (left a) old new) is rises;
 }
 
-all_behind : (m : Member) (ms : List Member) → All IsReady (m ∷ ms) → All IsReady ms
+pub all_behind : (m : Member) (ms : List Member) → All IsBounded (m ∷ ms) → All IsBounded ms
 all_behind m ms all k d less = all (suc k) d (omega arith)
 
-with_first : (m : Member) (ms : List Member) → IsReady m → All IsReady ms → All IsReady (m ∷ ms)
+pub with_first : (m : Member) (ms : List Member) → IsBounded m → All IsBounded ms → All IsBounded (m ∷ ms)
 with_first m ms first all zero d less = first
 with_first m ms first all (suc k) d less = all k d (omega arith)
 
-pub member_ready : (gs : List HostGuest) (x : List ℕ) (i : ℕ) (g : HostGuest) → i < length gs → g ≡ get_or gs i g → All IsReady (members_of gs x)
-    → IsReady (member_of x g)
-member_ready [] x i g less is all = absurd (omega arith)
-member_ready (k ∷ ks) x zero g less is all = subst (λ (a : HostGuest). IsReady (member_of x a)) (sym is) (all zero (member_of x k) (omega arith))
-member_ready (k ∷ ks) x (suc i) g less is all =
-    member_ready ks x i g (omega arith) is (all_behind (member_of x k) (members_of ks x) all)
+pub member_bounded : (gs : List HostGuest) (x : List ℕ) (i : ℕ) (g : HostGuest) → i < length gs → g ≡ get_or gs i g → All IsBounded (members_of gs x)
+    → IsBounded (member_of x g)
+member_bounded [] x i g less is all = absurd (omega arith)
+member_bounded (k ∷ ks) x zero g less is all = subst (λ (a : HostGuest). IsBounded (member_of x a)) (sym is) (all zero (member_of x k) (omega arith))
+member_bounded (k ∷ ks) x (suc i) g less is all =
+    member_bounded ks x i g (omega arith) is (all_behind (member_of x k) (members_of ks x) all)
 
 member_left : (gs : List HostGuest) (x : List ℕ) (i : ℕ) (g : HostGuest) → i < length gs → g ≡ get_or gs i g
     → left (member_of x g) ≤ left_of_all (members_of gs x)
@@ -234,47 +232,48 @@ member_room gs x i g native less is room =
     let b = room.1 in
     (omega arith, omega arith)
 
-pub ready_behind : (ms : List Member) (m : Member) → All IsReady ms → IsReady m → All IsReady (ms ++ m ∷ [])
-ready_behind [] m all own = with_first m [] own all
-ready_behind (k ∷ ks) m all own = with_first k (ks ++ m ∷ []) (all zero k (omega arith)) (ready_behind ks m (all_behind k ks all) own)
+pub bounded_behind : (ms : List Member) (m : Member) → All IsBounded ms → IsBounded m → All IsBounded (ms ++ m ∷ [])
+bounded_behind [] m all own = with_first m [] own all
+bounded_behind (k ∷ ks) m all own = with_first k (ks ++ m ∷ []) (all zero k (omega arith)) (bounded_behind ks m (all_behind k ks all) own)
 
 -- all are, where the one that changes is
-pub ready_with : (change : Member → Member) (gs : List HostGuest) (i : ℕ) (g : HostGuest) (x : List ℕ) → i < length gs → g ≡ get_or gs i g
-    → All IsReady (members_of gs x) → IsReady (change (member_of x g)) → All IsReady (with_member i change (members_of gs x))
-ready_with change [] i g x less is ready own = absurd (omega arith)
-ready_with change (k ∷ ks) zero g x less is ready own =
-    with_first (change (member_of x k)) (members_of ks x) (subst (λ (a : HostGuest). IsReady (change (member_of x a))) is own)
-    (all_behind (member_of x k) (members_of ks x) ready)
-ready_with change (k ∷ ks) (suc i) g x less is ready own =
-    with_first (member_of x k) (with_member i change (members_of ks x)) (ready zero (member_of x k) (omega arith))
-    (ready_with change ks i g x (omega arith) is (all_behind (member_of x k) (members_of ks x) ready) own)
+pub bounded_with : (change : Member → Member) (gs : List HostGuest) (i : ℕ) (g : HostGuest) (x : List ℕ) → i < length gs → g ≡ get_or gs i g
+    → All IsBounded (members_of gs x) → IsBounded (change (member_of x g)) → All IsBounded (with_member i change (members_of gs x))
+bounded_with change [] i g x less is bounds own = absurd (omega arith)
+bounded_with change (k ∷ ks) zero g x less is bounds own =
+    with_first (change (member_of x k)) (members_of ks x) (subst (λ (a : HostGuest). IsBounded (change (member_of x a))) is own)
+    (all_behind (member_of x k) (members_of ks x) bounds)
+bounded_with change (k ∷ ks) (suc i) g x less is bounds own =
+    with_first (member_of x k) (with_member i change (members_of ks x)) (bounds zero (member_of x k) (omega arith))
+    (bounded_with change ks i g x (omega arith) is (all_behind (member_of x k) (members_of ks x) bounds) own)
 
 pub turn_of_one : (slice i : ℕ) (gs : List HostGuest) (g : HostGuest) (x : List ℕ) (old new : NativeState) → i < length gs → g ≡ get_or gs i g
-    → All IsReady (members_of gs x) → Own slice (member_of x g) old new → Turn slice i (members_of gs x) old new
-turn_of_one slice i [] g x old new less is ready own = absurd (omega arith)
-turn_of_one slice zero (k ∷ ks) g x old new less is ready own =
+    → All IsBounded (members_of gs x) → Own slice (member_of x g) old new → Turn slice i (members_of gs x) old new
+turn_of_one slice i [] g x old new less is bounds own = absurd (omega arith)
+turn_of_one slice zero (k ∷ ks) g x old new less is bounds own =
     let own : Own slice (member_of x k) old new = subst (λ (a : HostGuest). Own slice (member_of x a) old new) is own in
     let r = own.counts.retired in
     let e = own.counts.exceptions in
-    let s = own.retired in
-    let f = own.exceptions in
+    let m = own.counts.most in
+    let s = own.rises.0 in
+    let f = own.rises.1 in
     record {
-      counts = record { retired = omega arith; trail = own.counts.trail; exceptions = omega arith };
-      ready = with_first (after_turn slice (member_of x k)) (members_of ks x) own.ready (all_behind (member_of x k) (members_of ks x) ready);
-      retired = omega arith;
-      exceptions = omega arith;
+      counts = record { retired = omega arith; trail = own.counts.trail; exceptions = omega arith; most = omega arith };
+      bounds = with_first (after_turn slice (member_of x k)) (members_of ks x) (bounds zero (member_of x k) (omega arith))
+          (all_behind (member_of x k) (members_of ks x) bounds);
+      rises = (omega arith, omega arith);
     }
-turn_of_one slice (suc i) (k ∷ ks) g x old new less is ready own =
-    let rest = turn_of_one slice i ks g x old new (omega arith) is (all_behind (member_of x k) (members_of ks x) ready) own in
+turn_of_one slice (suc i) (k ∷ ks) g x old new less is bounds own =
+    let rest = turn_of_one slice i ks g x old new (omega arith) is (all_behind (member_of x k) (members_of ks x) bounds) own in
     let r = rest.counts.retired in
     let e = rest.counts.exceptions in
-    let s = rest.retired in
-    let f = rest.exceptions in
+    let m = rest.counts.most in
+    let s = rest.rises.0 in
+    let f = rest.rises.1 in
     record {
-      counts = record { retired = omega arith; trail = rest.counts.trail; exceptions = omega arith };
-      ready = with_first (member_of x k) (with_turn slice i (members_of ks x)) (ready zero (member_of x k) (omega arith)) rest.ready;
-      retired = omega arith;
-      exceptions = omega arith;
+      counts = record { retired = omega arith; trail = rest.counts.trail; exceptions = omega arith; most = omega arith };
+      bounds = with_first (member_of x k) (with_turn slice i (members_of ks x)) (bounds zero (member_of x k) (omega arith)) rest.bounds;
+      rises = (omega arith, omega arith);
     }
 
 -- ---- a further guest

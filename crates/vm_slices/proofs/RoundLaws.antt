@@ -1,5 +1,6 @@
 -- Rounds of a session.
-use Rattle.std.proofs.Common.{◌≡◌, ◌∙◌, ℕ, zero, suc, ◌*◌, ◌≤◌, ◌<◌, List, [], ◌∷◌, ◌++◌, length, map, refl, ap, sym, subst, true, false, inl, inr, arith}
+use Rattle.std.proofs.Common.{◌≡◌, ◌∙◌, ℕ, zero, suc, ◌+◌, ◌*◌, ◌^◌, ◌≤◌, ◌<◌, List, [], ◌∷◌, ◌++◌, length, map}
+use Rattle.std.proofs.Common.{refl, ap, sym, subst, true, false, inl, inr, arith}
 use Rattle.std.specs.Prelude.{nat_le, All}
 use Rattle.std.proofs.lemmas.Bool.{cases_Bool, cases_lt}
 use Rattle.std.proofs.lemmas.Bool.Decides.{nat_tests}
@@ -11,8 +12,8 @@ use Rattle.vm_machine.specs.Rounds.{Member, left, is_done, opened, Hosted, membe
 use Rattle.vm_machine.specs.Rounds.{rounds, host_run, WholeTurns}
 use Rattle.vm_machine.proofs.ByRule.{turns_by_rule}
 use Rattle.vm_machine.proofs.Rounds.{rounds_end_all}
-use Rattle.vm_slices.specs.Counting.{AreCounted}
-use Rattle.vm_slices.specs.Members.{machine_at_end, tally_at_end, after_rounds, machines_of, tallies_of, IsReady}
+use Rattle.vm_slices.specs.Counting.{AreCounted, HasRoom, RisesBy}
+use Rattle.vm_slices.specs.Members.{machine_at_end, tally_at_end, after_rounds, machines_of, tallies_of, IsBounded}
 use Rattle.vm_slices.proofs.Places.{counted_on, nothing_counted}
 use Rattle.vm_slices.proofs.Turns.{turn_left}
 
@@ -61,10 +62,10 @@ left_few m = elim (cases_Bool (takes_steps m.guest.machine.state)) [
   | inr still ↦ rw still (omega arith)
 ]
 
-pub all_left_few : (ms : List Member) → All IsReady ms → left_of_all ms ≤ 4294967296 * length ms
+pub all_left_few : (ms : List Member) → All IsBounded ms → left_of_all ms ≤ 4294967296 * length ms
 all_left_few [] all = omega arith
 all_left_few (m ∷ ms) all =
-    let own = (all zero m (omega arith)).bound in
+    let own = all zero m (omega arith) in
     let few = left_few m in
     let rest = all_left_few ms (λ k d less. all (suc k) d (omega arith)) in omega arith
 
@@ -113,19 +114,23 @@ pub record SoFar (slice : ℕ) (first now : List Member) (old new : NativeState)
   pub marks : List Plain
   pub run : host_run slice (record { members = now; marks = marks }) ≡ after_rounds slice first
   pub counts : AreCounted first now marks old new
+  pub rises : RisesBy (left_of_all first) (left_of_all now) old new
 
 pub none_so_far : (slice : ℕ) (ms : List Member) (native : NativeState) → SoFar slice ms ms native native
-none_so_far slice ms native = record { marks = []; run = refl; counts = nothing_counted ms native }
+none_so_far slice ms native = record { marks = []; run = refl; counts = nothing_counted ms native; rises = (omega arith, omega arith) }
 
 pub one_round : (slice : ℕ) (first now next : List Member) (o p q : NativeState) → 1 ≤ slice → all_done now ≡ false
-    → next ≡ members_after slice now → SoFar slice first now o p → AreCounted now next (marks_after slice now) p q → SoFar slice first next o q
-one_round slice first now next o p q some more is far counts =
+    → next ≡ members_after slice now → SoFar slice first now o p → AreCounted now next (marks_after slice now) p q
+    → RisesBy (left_of_all now) (left_of_all next) p q → SoFar slice first next o q
+one_round slice first now next o p q some more is far counts rises =
     let marks = far.marks ++ marks_after slice now in
+    let a = far.rises.0 in let b = rises.0 in let c = far.rises.1 in let d = rises.1 in
     record {
       marks = marks;
       run = ap (λ (ms : List Member). host_run slice (record { members = ms; marks = marks })) is
           ∙ go_on slice (record { members = now; marks = far.marks }) some more ∙ far.run;
       counts = counted_on first now next far.marks (marks_after slice now) o p q far.counts counts;
+      rises = (omega arith, omega arith);
     }
 
 pub run_ends : (slice : ℕ) (first now : List Member) (o p : NativeState) → all_done now ≡ true → SoFar slice first now o p
@@ -136,6 +141,24 @@ run_ends slice first now o p done far =
       ap (λ (x : Hosted). x.members) same,
       subst (λ (marks : List Plain). AreCounted first now marks o p) (ap (λ (x : Hosted). x.marks) same) far.counts,
     )
+
+-- ---- room for what is left
+
+-- for all of it at first
+pub first_room : (ms : List Member) (native : NativeState) → All IsBounded ms → length ms ≤ 16 → native.retired < 2 ^ 61 → native.exceptions < 2 ^ 61
+    → HasRoom (left_of_all ms) native
+first_room ms native bounds few retired exceptions = let left = all_left_few ms bounds in (omega arith, omega arith)
+
+-- and for the rest
+pub room_after : (left more : ℕ) (old new : NativeState) → HasRoom left old → RisesBy left more old new → HasRoom more new
+room_after left more old new room rises =
+    let a = room.0 in let b = room.1 in let c = rises.0 in let d = rises.1 in (omega arith, omega arith)
+
+-- No more can be counted of them all than of sixteen that take all steps.
+pub rises_few : (ms : List Member) (left : ℕ) (old new : NativeState) → All IsBounded ms → length ms ≤ 16 → RisesBy (left_of_all ms) left old new
+    → (new.retired ≤ old.retired + 2 ^ 36) × (new.exceptions ≤ old.exceptions + 2 ^ 41)
+rises_few ms left old new bounds few rises =
+    let all = all_left_few ms bounds in let a = rises.0 in let b = rises.1 in (omega arith, omega arith)
 
 -- ---- what comes of each guest
 

@@ -8,7 +8,7 @@ use Rattle.vm_machine.specs.Turns.{Turned, advanced, turn_of}
 use Rattle.vm_machine.specs.Seats.{Seat, turned_on, Takes}
 use Rattle.vm_machine.specs.Rounds.{Member, left, opened, closed_by, turn_in}
 use Rattle.vm_machine.proofs.TurnLaws.{halted_turn, going_turn, nothing_turned}
-use Rattle.vm_guest.specs.Turns.{scene}
+use Rattle.vm_guest.specs.Turns.{scene, RisesByAtMost}
 use Rattle.vm_slices.specs.declared.host_guest.HostGuest.{HostGuest}
 use Rattle.vm_slices.specs.Counting.{AreCounted}
 use Rattle.vm_slices.specs.Members.{after_turn}
@@ -23,14 +23,15 @@ turned_in : (slice steps : ℕ) (m : Member) (t : Turned) → steps ≡ min slic
 turned_in slice steps m t is turned = turned ∙ ap (λ (n : ℕ). turn_of m.script n (opened m)) is
 
 pub member_taken : (slice steps : ℕ) (g : HostGuest) (h : Seat) (x y : List ℕ) (old new : NativeState) → steps ≡ min slice (left (member_of x g))
-    → Takes steps (scene g.guest x old) (scene h y new)
+    → Takes steps (scene g.guest x old) (scene h y new) → RisesByAtMost g.guest.steps h.steps old new
     → HasTaken slice (member_of x g) (member_of y (record { guest = h; bound = g.bound })) old new
-member_taken slice steps g h x y old new is takes =
+member_taken slice steps g h x y old new is takes rises =
     let m = member_of x g in
     let after = turned_on h y takes.marks in
     let same : after ≡ turn_in slice m = turned_in slice steps m after is takes.turned in
     let retired = takes.retired in
     let exceptions = takes.exceptions in
+    let most = rises.1 in
     record {
       turn = ap (λ (s : Entries). (let k : Member = record { script = s; bound = g.bound; guest = after.guest; tally = after.tally } in k)) takes.same.script
           ∙ ap (λ (t : Turned). closed_by t m) same;
@@ -38,6 +39,7 @@ member_taken slice steps g h x y old new is takes =
         retired = omega arith;
         trail = takes.trail ∙ ap (λ (t : Turned). trail old.trail t.marks) same;
         exceptions = omega arith;
+        most = omega arith;
       };
     }
 

@@ -16,6 +16,11 @@ abbrev pub exits_by : List Member → ℕ
 exits_by [] = 0
 exits_by (m ∷ members) = exits m.tally + exits_by members
 
+-- and all of their steps
+abbrev pub steps_by : List Member → ℕ
+steps_by [] = 0
+steps_by (m ∷ members) = m.guest.machine.steps + steps_by members
+
 -- From some guests to them after some turns, whose retired steps have these marks.
 pub record AreCounted (before after : List Member) (marks : List Plain) (old new : NativeState) : Type 0 where
   -- boards have carried out the retired steps
@@ -23,6 +28,8 @@ pub record AreCounted (before after : List Member) (marks : List Plain) (old new
   pub trail : new.trail ≡ trail old.trail marks
   -- and left the privileged, trapped and denied ones, each by one exception or more
   pub exceptions : old.exceptions + exits_by after ≤ new.exceptions + exits_by before
+  -- and by no more than 32 for each step that was taken
+  pub most : new.exceptions + 32 * steps_by before ≤ old.exceptions + 32 * steps_by after
 
 -- So many steps more can be counted, each with as many exceptions as it may begin again by, and one more.
 abbrev pub HasRoom : ℕ → NativeState → Type 0

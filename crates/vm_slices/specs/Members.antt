@@ -1,10 +1,10 @@
 -- The guests of a session, as contracts see them, and what becomes of them.
-use Rattle.std.specs.Prelude.{◌≡◌, ℕ, ◌-◌, ◌^◌, ◌<◌, true, List, [], map, slice_get, Option}
+use Rattle.std.specs.Prelude.{ℕ, ◌-◌, ◌^◌, ◌<◌, List, [], map, slice_get, Option}
 use Rattle.vm_disk.specs.Disk.{DiskState}
 use Rattle.mb_devices.specs.Devices.{DeviceState}
 use Rattle.mb_model.specs.Keeping.{rule_k}
 use Rattle.mb_model.specs.Seen.{Seen}
-use Rattle.mb_machine.specs.Machine.{Machine, Outcome, going, outcome_of, run_of, seen_machine, takes_steps}
+use Rattle.mb_machine.specs.Machine.{Machine, Outcome, outcome_of, run_of, seen_machine}
 use Rattle.vm_machine.specs.Turns.{Tally, no_steps, prepared}
 use Rattle.vm_machine.specs.Seats.{Seat}
 use Rattle.vm_machine.specs.Rounds.{Member, Hosted, left, closed_by, turn_in, host_run, whole_turn}
@@ -37,11 +37,9 @@ machine_at_end m = run_of rule_k m.script (left m) m.guest.machine
 abbrev pub tally_at_end : Member → Tally
 tally_at_end m = (whole_turn m).tally
 
--- One that can take turns: where it takes steps it is on, and is stopped exactly where STOP holds its processor.
-pub record IsReady (m : Member) : Type 0 where
-  pub going : takes_steps m.guest.machine.state ≡ true
-      → m.guest.machine.state ≡ going m.guest.machine.cpu m.guest.machine.world.devices
-  pub bound : m.bound < 2 ^ 32
+-- a count of steps is a number of 32 bits
+abbrev pub IsBounded : Member → Type 0
+IsBounded m = m.bound < 2 ^ 32
 
 -- ---- all guests
 

@@ -1,12 +1,12 @@
 -- Guests of a session on a board.
-use Rattle.std.specs.Prelude.{ℕ, ◌≤◌, List, [], ◌∷◌, length, map, zero, suc}
+use Rattle.std.specs.Prelude.{ℕ, ◌≤◌, List, [], ◌∷◌, length, map, zero, suc, All}
 use Rattle.mb_instr.specs.declared.registers.Plain.{Plain}
 use Rattle.vm_machine.specs.Seats.{guested_on, end_of, IsSeated}
 use Rattle.vm_machine.specs.declared.limits.TheConstants.{MONITOR_BYTES}
 use Rattle.mb_script.specs.declared.sizes.TheConstants.{MOST_GUESTS}
 use Rattle.vm_machine.specs.Rounds.{Member, turn_in}
 use Rattle.vm_slices.specs.declared.host_guest.HostGuest.{HostGuest}
-use Rattle.vm_slices.specs.Members.{after_turn}
+use Rattle.vm_slices.specs.Members.{after_turn, IsBounded}
 
 -- a guest with the board's memory as one of a session
 abbrev pub member_of : List ℕ → HostGuest → Member
@@ -35,11 +35,12 @@ abbrev pub StandFrom : ℕ → List HostGuest → List ℕ → Type 0
 StandFrom from [] ram = Unit {0}
 StandFrom from (g ∷ guests) ram = (from ≤ g.guest.base) × IsSeated g.guest ram × StandFrom (end_of g.guest) guests ram
 
--- what holds of a host: turns have steps, and all guests stand behind the monitor's bytes
+-- what holds of a host: turns have steps, all guests stand behind the monitor's bytes, and each takes a number of steps
 pub record IsHost (slice : ℕ) (guests : List HostGuest) (ram : List ℕ) : Type 0 where
   pub some : 1 ≤ slice
   pub few : length guests ≤ MOST_GUESTS
   pub stand : StandFrom MONITOR_BYTES guests ram
+  pub bounds : All IsBounded (members_of guests ram)
 
 -- the marks of the turn of a round of the member at a place
 abbrev pub marks_at : (slice place : ℕ) → List Member → List Plain

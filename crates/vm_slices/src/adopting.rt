@@ -5,7 +5,7 @@ ghost use Rattle.mb_saved.specs.Saved.{IsLawful};
 ghost use Rattle.vm_machine.specs.Seats.{IsSame, IsSeated, OnlyWithin};
 ghost use Rattle.vm_machine.specs.declared.limits.TheConstants.{MONITOR_BYTES};
 ghost use Rattle.vm_slices.specs.Adopting.{begun, bounded, CanAdopt};
-ghost use Rattle.vm_slices.specs.Members.{numbered, IsReady};
+ghost use Rattle.vm_slices.specs.Members.{numbered, IsBounded};
 ghost use Rattle.vm_slices.specs.Places.{member_of, members_in, members_of, with_member, StandFrom};
 
 use crate::host::Host;
@@ -21,8 +21,6 @@ impl HostGuest {
         requires lawful { IsLawful saved.now }
         ensures member { member_of board.new.world.ram self.new
             ≡ begun saved.now (member_of board.old.world.ram self.old) }
-        ensures ready { IsReady (member_of board.old.world.ram self.old)
-            → IsReady (member_of board.new.world.ram self.new) }
         ensures same { IsSame self.old.guest self.new.guest }
         ensures seated { IsSeated self.new.guest board.new.world.ram }
         ensures within { OnlyWithin self.old.guest board.old.world.ram board.new.world.ram }
@@ -35,13 +33,13 @@ impl HostGuest {
 fn adopt(board: &mut Board, guests: &mut [HostGuest], place: usize, saved: &SavedGuest)
     requires place { place < length guests.old }
     requires stand { StandFrom MONITOR_BYTES guests.old board.old.world.ram }
+    requires bounds { All IsBounded (members_of guests.old board.old.world.ram) }
     requires can { IfSome (slice_get (members_of guests.old board.old.world.ram) place) (CanAdopt saved.now) }
     requires lawful { IsLawful saved.now }
     ensures adopted { members_of guests.new board.new.world.ram
         ≡ with_member place (begun saved.now) (members_of guests.old board.old.world.ram) }
     ensures stand { StandFrom MONITOR_BYTES guests.new board.new.world.ram }
-    ensures ready { All IsReady (members_of guests.old board.old.world.ram)
-        → All IsReady (members_of guests.new board.new.world.ram) }
+    ensures bounds { All IsBounded (members_of guests.new board.new.world.ram) }
 {
     guests[place].adopt(board, saved);
 }
@@ -50,11 +48,11 @@ fn adopt(board: &mut Board, guests: &mut [HostGuest], place: usize, saved: &Save
 fn set_bound(board: &Board, guests: &mut [HostGuest], place: usize, steps: u32)
     requires place { place < length guests.old }
     requires stand { StandFrom MONITOR_BYTES guests.old board.now.world.ram }
+    requires bounds { All IsBounded (members_of guests.old board.now.world.ram) }
     ensures bound { members_of guests.new board.now.world.ram
         ≡ with_member place (bounded steps) (members_of guests.old board.now.world.ram) }
     ensures stand { StandFrom MONITOR_BYTES guests.new board.now.world.ram }
-    ensures ready { All IsReady (members_of guests.old board.now.world.ram)
-        → All IsReady (members_of guests.new board.now.world.ram) }
+    ensures bounds { All IsBounded (members_of guests.new board.now.world.ram) }
 {
     guests[place].bound = steps;
 }
@@ -69,7 +67,6 @@ impl Host {
         requires lawful { IsLawful saved.now }
         ensures adopted { members_in self.new ≡ with_member (guest - 1) (begun saved.now) (members_in self.old) }
         ensures slice { self.new.slice ≡ self.old.slice }
-        ensures ready { All IsReady (members_in self.old) → All IsReady (members_in self.new) }
     {
         let place = guest as usize - 1;
         adopt(&mut self.board, &mut self.guests, place, saved);
@@ -80,7 +77,6 @@ impl Host {
         requires number { (1 ≤ guest) × (guest ≤ length (members_in self.old)) }
         ensures bound { members_in self.new ≡ with_member (guest - 1) (bounded steps) (members_in self.old) }
         ensures slice { self.new.slice ≡ self.old.slice }
-        ensures ready { All IsReady (members_in self.old) → All IsReady (members_in self.new) }
     {
         let place = guest as usize - 1;
         set_bound(&self.board, &mut self.guests, place, steps);

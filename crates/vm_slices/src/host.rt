@@ -12,7 +12,7 @@ ghost use Rattle.mb_script.specs.Plan.{IsTurnOf};
 ghost use Rattle.mb_script.specs.declared.sizes.TheConstants.{MOST_GUESTS};
 ghost use Rattle.vm_slices.specs.Adopting.{kept_at, scripts_of};
 ghost use Rattle.vm_slices.specs.Counting.{AreCounted, HasRoom, RisesBy};
-ghost use Rattle.vm_slices.specs.Members.{member_at_start, machine_at_end, tally_at_end, after_rounds, IsReady};
+ghost use Rattle.vm_slices.specs.Members.{member_at_start, machine_at_end, tally_at_end, after_rounds, IsBounded};
 ghost use Rattle.vm_slices.specs.Members.{machines_of, tallies_of, devices_of, shown_of, numbered};
 ghost use Rattle.vm_slices.specs.Orders.{after_order, each_given, machines_given};
 ghost use Rattle.vm_slices.specs.Places.{marks_at, members_in, members_of, with_turn, StandFrom};
@@ -64,7 +64,7 @@ fn prepare_guests(
     ensures members { IfOk result (λ hosts. members_of hosts.items board.new.world.ram
         ≡ map member_at_start guests.items) }
     ensures stand { IfOk result (λ hosts. StandFrom MONITOR_BYTES hosts.items board.new.world.ram) }
-    ensures ready { IfOk result (λ hosts. All IsReady (members_of hosts.items board.new.world.ram)) }
+    ensures bounds { IfOk result (λ hosts. All IsBounded (members_of hosts.items board.new.world.ram)) }
 {
     let mut prepared = Vec::with_capacity(alloc, guests.len())?;
     let mut base = MONITOR_BYTES;
@@ -84,7 +84,6 @@ impl Host {
         requires { IsSession session }
         ensures members { IfOk result (λ host. members_in host ≡ map member_at_start session.guests) }
         ensures slice { IfOk result (λ host. host.slice ≡ session.slice) }
-        ensures ready { IfOk result (λ host. All IsReady (members_in host)) }
         ensures fits { Fits session → IfErr result (λ fault. fault ≡ open_fault.Memory) }
         ensures oversize { session.board < need_of session.guests
             → result ≡ Err (open_fault.Oversize (need_of session.guests) session.board) }
@@ -108,6 +107,7 @@ impl Host {
     pub fn guest_count(&self) -> u8
         ensures count { result ≡ length (members_in self.now) }
         ensures few { result ≤ MOST_GUESTS }
+        ensures bounds { All IsBounded (members_in self.now) }
     {
         self.guests.len() as u8
     }
@@ -120,14 +120,13 @@ impl Host {
     }
 
     fn take_round(&mut self, native: &mut Native)
-        requires ready { All IsReady (members_in self.old) }
         requires room { HasRoom (left_of_all (members_in self.old)) native.old }
         ensures members { members_in self.new ≡ members_after self.old.slice (members_in self.old) }
         ensures counts { AreCounted (members_in self.old) (members_in self.new)
             (marks_after self.old.slice (members_in self.old)) native.old native.new }
         ensures slice { self.new.slice ≡ self.old.slice }
-        ensures ready { All IsReady (members_in self.new) }
-        ensures room { HasRoom (left_of_all (members_in self.new)) native.new }
+        ensures rises { RisesBy (left_of_all (members_in self.old)) (left_of_all (members_in self.new))
+            native.old native.new }
     {
         take_round(&mut self.board, &mut self.guests, self.slice, native);
     }
@@ -135,14 +134,11 @@ impl Host {
     /// The turn of one guest, of no more steps than it has left.
     fn take_turn(&mut self, turn: Turn, native: &mut Native)
         requires number { IsTurnOf (length (members_in self.old)) turn }
-        requires ready { All IsReady (members_in self.old) }
         requires room { HasRoom (left_of_all (members_in self.old)) native.old }
         ensures turn { members_in self.new ≡ with_turn turn.steps (turn.guest - 1) (members_in self.old) }
         ensures counts { AreCounted (members_in self.old) (members_in self.new)
             (marks_at turn.steps (turn.guest - 1) (members_in self.old)) native.old native.new }
         ensures slice { self.new.slice ≡ self.old.slice }
-        ensures ready { All IsReady (members_in self.new) }
-        ensures room { HasRoom (left_of_all (members_in self.new)) native.new }
         ensures rises { RisesBy (left_of_all (members_in self.old)) (left_of_all (members_in self.new))
             native.old native.new }
     {
@@ -154,7 +150,6 @@ impl Host {
     /// nothing and takes no memory. The board carries out the retired steps, and `native` counts them.
     pub fn run_order(&mut self, turns: &[Turn], native: &mut Native)
         requires turns { All (IsTurnOf (length (members_in self.old))) turns.now }
-        requires ready { All IsReady (members_in self.old) }
         requires native { (native.old.retired < 2 ^ 61) × (native.old.exceptions < 2 ^ 61) }
         ensures order { members_in self.new ≡ (after_order turns.now (members_in self.old)).members }
         ensures slice { self.new.slice ≡ self.old.slice }
@@ -162,11 +157,8 @@ impl Host {
         ensures machines { machines_of (members_in self.new) ≡ machines_given turns.now 1 (members_in self.old) }
         ensures counts { AreCounted (members_in self.old) (members_in self.new)
             (after_order turns.now (members_in self.old)).marks native.old native.new }
-        ensures ready { All IsReady (members_in self.new) }
         ensures machine_ends { map machine_at_end (members_in self.new) ≡ map machine_at_end (members_in self.old) }
         ensures tally_ends { map tally_at_end (members_in self.new) ≡ map tally_at_end (members_in self.old) }
-        ensures rises { RisesBy (left_of_all (members_in self.old)) (left_of_all (members_in self.new))
-            native.old native.new }
         ensures few { (native.new.retired ≤ native.old.retired + 2 ^ 36)
             × (native.new.exceptions ≤ native.old.exceptions + 2 ^ 41) }
     {
@@ -179,7 +171,6 @@ impl Host {
     /// Rounds, in each of which every guest in turn takes up to a slice of steps, until each has done its steps or is
     /// halted or off. The board carries out their retired steps, and `native` counts them.
     pub fn run(&mut self, native: &mut Native)
-        requires ready { All IsReady (members_in self.old) }
         requires native { (native.old.retired < 2 ^ 61) × (native.old.exceptions < 2 ^ 61) }
         ensures rounds { members_in self.new ≡ (after_rounds self.old.slice (members_in self.old)).members }
         ensures slice { self.new.slice ≡ self.old.slice }
@@ -187,7 +178,8 @@ impl Host {
         ensures tallies { tallies_of (members_in self.new) ≡ map tally_at_end (members_in self.old) }
         ensures counts { AreCounted (members_in self.old) (members_in self.new)
             (after_rounds self.old.slice (members_in self.old)).marks native.old native.new }
-        ensures ready { All IsReady (members_in self.new) }
+        ensures few { (native.new.retired ≤ native.old.retired + 2 ^ 36)
+            × (native.new.exceptions ≤ native.old.exceptions + 2 ^ 41) }
         ensures done { all_done (members_in self.new) ≡ true }
         ensures again { all_done (members_in self.old) ≡ true → (self.new ≡ self.old) × (native.new ≡ native.old) }
     {

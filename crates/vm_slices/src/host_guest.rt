@@ -1,14 +1,14 @@
 //! One guest of a session on its board.
 
-ghost use Rattle.std.specs.Prelude.{◌≡◌, ◌+◌, ◌*◌, ◌%◌, ◌^◌, ◌<◌, ◌≤◌, [], ◌∷◌, length, IfOk, None, OnOk};
+ghost use Rattle.std.specs.Prelude.{◌≡◌, ◌+◌, ◌%◌, ◌^◌, ◌<◌, ◌≤◌, [], ◌∷◌, length, IfOk, None, OnOk};
 ghost use Rattle.vm_shadow.specs.declared.area.TheConstants.{AREA_BYTES};
 ghost use Rattle.vm_machine.specs.Seats.{IsSame, IsSeated, OnlyWithin};
 ghost use Rattle.vm_machine.specs.declared.limits.TheConstants.{MONITOR_BYTES};
 ghost use Rattle.vm_machine.specs.Rounds.{left, is_done, turn_in};
 ghost use Rattle.vm_guest.specs.Memory.{OnlyBetween};
 ghost use Rattle.vm_guest.specs.Session.{IsGuest};
-ghost use Rattle.vm_slices.specs.Counting.{AreCounted, HasRoom};
-ghost use Rattle.vm_slices.specs.Members.{after_turn, member_at_start, with_disk, IsReady};
+ghost use Rattle.vm_slices.specs.Counting.{AreCounted, HasRoom, RisesBy};
+ghost use Rattle.vm_slices.specs.Members.{after_turn, member_at_start, with_disk};
 ghost use Rattle.vm_slices.specs.Places.{member_of};
 
 use mb_board::{Board, Native, takes_steps};
@@ -49,7 +49,7 @@ impl HostGuest {
         ensures start { IfOk result (λ host. member_of board.new.world.ram host ≡ member_at_start guest) }
         ensures place { IfOk result (λ host. (host.guest.base ≡ base) × (host.guest.size ≡ guest.ram)) }
         ensures seated { IfOk result (λ host. IsSeated host.guest board.new.world.ram) }
-        ensures ready { IfOk result (λ host. IsReady (member_of board.new.world.ram host)) }
+        ensures bound { IfOk result (λ host. host.bound < 2 ^ 32) }
         ensures within { OnlyBetween base (base + guest.ram + AREA_BYTES) board.old.world.ram board.new.world.ram }
     {
         let ram = guest.ram();
@@ -85,18 +85,14 @@ impl HostGuest {
     /// Its turn of a round: up to a slice of steps, as many as it has left.
     pub(crate) fn take_turn(&mut self, board: &mut Board, slice: u32, native: &mut Native)
         requires seated { IsSeated self.old.guest board.old.world.ram }
-        requires ready { IsReady (member_of board.old.world.ram self.old) }
         requires room { HasRoom (left (member_of board.old.world.ram self.old)) native.old }
         ensures turn { member_of board.new.world.ram self.new
             ≡ after_turn slice (member_of board.old.world.ram self.old) }
         ensures counts { AreCounted (member_of board.old.world.ram self.old ∷ [])
             (member_of board.new.world.ram self.new ∷ [])
             (turn_in slice (member_of board.old.world.ram self.old)).marks native.old native.new }
-        ensures ready { IsReady (member_of board.new.world.ram self.new) }
-        ensures room { (native.new.retired + left (member_of board.new.world.ram self.new)
-            ≤ native.old.retired + left (member_of board.old.world.ram self.old))
-            × (native.new.exceptions + 32 * left (member_of board.new.world.ram self.new)
-            ≤ native.old.exceptions + 32 * left (member_of board.old.world.ram self.old)) }
+        ensures rises { RisesBy (left (member_of board.old.world.ram self.old))
+            (left (member_of board.new.world.ram self.new)) native.old native.new }
         ensures same { IsSame self.old.guest self.new.guest }
         ensures seated { IsSeated self.new.guest board.new.world.ram }
         ensures within { OnlyWithin self.old.guest board.old.world.ram board.new.world.ram }

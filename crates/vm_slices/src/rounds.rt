@@ -4,7 +4,7 @@ ghost use Rattle.std.specs.Prelude.{◌≡◌, ◌≢◌, ℕ, ◌<◌, length, 
 ghost use Rattle.vm_machine.specs.declared.limits.TheConstants.{MONITOR_BYTES};
 ghost use Rattle.vm_machine.specs.Rounds.{all_done, left_of_all, members_after, marks_after};
 ghost use Rattle.vm_slices.specs.Counting.{AreCounted, HasRoom, RisesBy};
-ghost use Rattle.vm_slices.specs.Members.{IsReady};
+ghost use Rattle.vm_slices.specs.Members.{IsBounded};
 ghost use Rattle.vm_slices.specs.Places.{members_of, with_turn, marks_at, StandFrom};
 
 use crate::host_guest::HostGuest;
@@ -20,7 +20,7 @@ pub(crate) fn take_turn(
 )
     requires place { place < length guests.old }
     requires stand { StandFrom MONITOR_BYTES guests.old board.old.world.ram }
-    requires ready { All IsReady (members_of guests.old board.old.world.ram) }
+    requires bounds { All IsBounded (members_of guests.old board.old.world.ram) }
     requires room { HasRoom (left_of_all (members_of guests.old board.old.world.ram)) native.old }
     ensures turn { members_of guests.new board.new.world.ram
         ≡ with_turn slice place (members_of guests.old board.old.world.ram) }
@@ -29,8 +29,7 @@ pub(crate) fn take_turn(
     ensures counts { AreCounted (members_of guests.old board.old.world.ram) (members_of guests.new board.new.world.ram)
         (marks_at slice place (members_of guests.old board.old.world.ram)) native.old native.new }
     ensures stand { StandFrom MONITOR_BYTES guests.new board.new.world.ram }
-    ensures ready { All IsReady (members_of guests.new board.new.world.ram) }
-    ensures room { HasRoom (left_of_all (members_of guests.new board.new.world.ram)) native.new }
+    ensures bounds { All IsBounded (members_of guests.new board.new.world.ram) }
     ensures rises { RisesBy (left_of_all (members_of guests.old board.old.world.ram))
         (left_of_all (members_of guests.new board.new.world.ram)) native.old native.new }
 {
@@ -45,15 +44,16 @@ pub(crate) fn take_round(
     native: &mut Native,
 )
     requires stand { StandFrom MONITOR_BYTES guests.old board.old.world.ram }
-    requires ready { All IsReady (members_of guests.old board.old.world.ram) }
+    requires bounds { All IsBounded (members_of guests.old board.old.world.ram) }
     requires room { HasRoom (left_of_all (members_of guests.old board.old.world.ram)) native.old }
     ensures members { members_of guests.new board.new.world.ram
         ≡ members_after slice (members_of guests.old board.old.world.ram) }
     ensures counts { AreCounted (members_of guests.old board.old.world.ram) (members_of guests.new board.new.world.ram)
         (marks_after slice (members_of guests.old board.old.world.ram)) native.old native.new }
     ensures stand { StandFrom MONITOR_BYTES guests.new board.new.world.ram }
-    ensures ready { All IsReady (members_of guests.new board.new.world.ram) }
-    ensures room { HasRoom (left_of_all (members_of guests.new board.new.world.ram)) native.new }
+    ensures bounds { All IsBounded (members_of guests.new board.new.world.ram) }
+    ensures rises { RisesBy (left_of_all (members_of guests.old board.old.world.ram))
+        (left_of_all (members_of guests.new board.new.world.ram)) native.old native.new }
 {
     for place in 0..guests.len() {
         take_turn(board, guests, place, slice, native);

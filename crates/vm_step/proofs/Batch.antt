@@ -2,6 +2,7 @@
 use Rattle.std.proofs.Common.{◌≡◌, ◌⊎◌, ◌∙◌, ℕ, zero, suc, ◌+◌, ◌^◌, ◌<◌, ◌≤◌, Bool, true, cond, List, [], ◌∷◌, ◌++◌, arith, refl, ap, sym, subst, inl, inr}
 use Rattle.mb_instr.specs.declared.registers.Plain.{Plain}
 use Rattle.mb_instr.specs.Registers.{plain_of}
+use Rattle.mb_model.specs.declared.outcome.RunState.TheVariants.{Running}
 use Rattle.mb_machine.specs.Machine.{Machine, Entries, takes_steps}
 use Rattle.vm_mirror.specs.Related.{Site}
 use Rattle.vm_machine.specs.declared.class.Class.{Class}
@@ -17,7 +18,7 @@ use Rattle.vm_step.specs.Retire.{Retires}
 use Rattle.vm_step.specs.Exit.{Furnished, Leaves, IsLeft}
 use Rattle.vm_step.proofs.Registers.{same_word}
 use Rattle.vm_step.specs.Batch.{Wanted, IsTried, stepped_by, AllRetired, IsInside, IsCounted, IsExit, Batch, RunsAreBatches}
-use Rattle.vm_step.proofs.Retire.{retired_steps}
+use Rattle.vm_step.proofs.Retire.{retired_steps, runs_behind, stays_on}
 use Rattle.vm_step.proofs.Exit.{left_steps}
 use Rattle.vm_step.proofs.Refill.{first_is_last}
 use Rattle.vm_machine.proofs.Trails.{trail_append}
@@ -113,10 +114,10 @@ trail_two : (t : ℕ) (p q : Plain) (more : List Plain) → trail (trail t (p �
 trail_two t p q more = sym (trail_append t (p ∷ q ∷ []) more)
 
 -- nothing yet
-none_yet : (x : Site) (script : Entries) (n : ℕ) (r after : Ran) (t : Turned) → takes_steps t.guest.machine.state ≡ true
+none_yet : (x : Site) (script : Entries) (n : ℕ) (r after : Ran) (t : Turned) → (0 < n → t.guest.machine.state ≡ Running)
     → after.native.retired ≡ r.native.retired → after.native.trail ≡ r.native.trail
     → (((zero ≡ n) × IsCounted x t r after) ⊎ ((0 < n) × IsExit x script t r after)) → Batch x script n r t after
-none_yet x script n r after t on same sum end =
+none_yet x script n r after t running same sum end =
     let e = turn_none script t in
     record {
       retired = 0;
@@ -128,7 +129,7 @@ none_yet x script n r after t on same sum end =
       sum = sum ∙ trail_none r.native.trail;
       all = tt;
       guest = ap (λ (u : Turned). u.guest) e;
-      goes = subst (λ (u : Turned). takes_steps u.guest.machine.state ≡ true) (sym e) on;
+      running = λ some. subst (λ (u : Turned). u.guest.machine.state ≡ Running) (sym e) (running some);
       end = subst (λ (u : Turned). ((zero ≡ n) × IsCounted x u r after) ⊎ ((0 < n) × IsExit x script u r after)) (sym e) end;
     }
 
@@ -160,7 +161,7 @@ one_more x script n r one after t u on is p q tally marks want retired here insi
       sum = b.sum ∙ ap (λ (v : NativeState). trail v.trail b.marks) native ∙ trail_two r.native.trail p q b.marks;
       all = (want, retired, subst (λ (g : Guested). AllRetired script k g) here b.all);
       guest = ap (λ (v : Turned). v.guest) e ∙ b.guest ∙ ap (λ (g : Guested). stepped_by script k g) here;
-      goes = subst (λ (v : Turned). takes_steps v.guest.machine.state ≡ true) (sym e) b.goes;
+      running = λ less. subst (λ (v : Turned). v.guest.machine.state ≡ Running) (sym e) (b.running (omega arith));
       end = subst (λ (v : Turned). ((suc k ≡ suc n) × IsCounted x v r after) ⊎ ((suc k < suc n) × IsExit x script v r after)) (sym e)
           (elim b.end [
             | inl (all, c) ↦
@@ -196,33 +197,35 @@ one_more x script n r one after t u on is p q tally marks want retired here insi
     }
 
 pub runs_are_batches : RunsAreBatches
-runs_are_batches x script zero r t end b f on stretch =
-    subst (Batch x script zero r t) (sym (run_none r)) (none_yet x script zero r r t on refl refl
+runs_are_batches x script zero r t end b f running on stretch =
+    subst (Batch x script zero r t) (sym (run_none r)) (none_yet x script zero r r t running refl refl
     (inl (refl, record { end = end; boarded = b; furnished = f; inside = record { count = refl; below = refl; above = refl }; exceptions = refl })))
-runs_are_batches x script (suc n) r t end b f on (want, tried, more) =
+runs_are_batches x script (suc n) r t end b f running on (want, tried, more) =
     let g = t.guest in
     let s = user_step r.machine in
     let one = ran_by s r in
     elim (left_or (step_class_at_first script g) tried) [
       | inl retired ↦
-          let h = retired_steps x script r.machine g b want.registers retired want.on in
+          let h = retired_steps x script r.machine g b want.registers retired in
           let goes : one.end ≡ Counted = ends s.0 s.1 h.running ∙ ap end_of h.step in
           let u = retiring t (guest_stepped script g) in
+          let going : takes_steps t.guest.machine.state ≡ true = ap takes_steps (running (omega arith)) in
           let native : one.native ≡ with_retired (plain_of g.machine.cpu.regs) (plain_of (guest_stepped script g).machine.cpu.regs) r.native =
           counts_none s.0 (plain_of r.machine.cpu.regs) s.1 r.native h.step
           ∙ ap (λ (p : Plain). with_retired p (plain_of s.1.cpu.regs) r.native) b.plain
           ∙ ap (λ (p : Plain). with_retired (plain_of g.machine.cpu.regs) p r.native) h.boarded.plain in
           subst (Batch x script (suc n) r t) (sym (run_on n r goes))
-          (one_more x script n r one (user_run n one) t u on (advanced_is script t (first_is_last x script r.machine g b want.registers retired))
+          (one_more x script n r one (user_run n one) t u going (advanced_is script t (first_is_last x script r.machine g b want.registers retired))
           (plain_of g.machine.cpu.regs) (plain_of (guest_stepped script g).machine.cpu.regs) refl refl want retired refl
           (inside_by x script r.machine g s (guest_stepped script g) h) h.from.isp native
-          (runs_are_batches x script n one u goes h.boarded (stays_furnished x script r.machine g s (guest_stepped script g) h f) h.alone (more retired)))
+          (runs_are_batches x script n one u goes h.boarded (stays_furnished x script r.machine g s (guest_stepped script g) h f)
+          (λ some. runs_behind x script r.machine g h (on (omega arith))) (λ some. stays_on x script r.machine g h (on (omega arith))) (more retired)))
       | inr left ↦
           let h = left_steps x script r.machine g b f want.registers want.seven left in
           let exits : one.end ≡ Exit h.vector = ends s.0 s.1 h.running ∙ ap end_of h.entered in
           let native : one.native ≡ with_exception r.native = counts_some s.0 h.vector (plain_of r.machine.cpu.regs) s.1 r.native h.entered h.running in
           subst (Batch x script (suc n) r t) (sym (run_off n h.vector r exits))
-          (none_yet x script (suc n) r one t on (ap (λ (v : NativeState). v.retired) native) (ap (λ (v : NativeState). v.trail) native) (inr (
+          (none_yet x script (suc n) r one t running (ap (λ (v : NativeState). v.retired) native) (ap (λ (v : NativeState). v.trail) native) (inr (
             omega arith,
             record {
               vector = h.vector;

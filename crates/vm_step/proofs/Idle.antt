@@ -1,17 +1,16 @@
 -- Idle steps of a guest, one and many.
-use Rattle.std.proofs.Common.{◌≡◌, ◌∙◌, ℕ, zero, suc, ◌+◌, ◌≤◌, Bool, true, false, cond, nat_lt, List, [], refl, ap, sym, subst, arith}
+use Rattle.std.proofs.Common.{◌≡◌, ◌∙◌, ℕ, zero, suc, ◌+◌, ◌<◌, ◌≤◌, Bool, true, false, cond, nat_lt, List, [], refl, ap, sym, subst, arith}
 use Rattle.std.proofs.lemmas.List.{append-nil}
 use Rattle.mb_port.specs.Routine.{Routine, Return, choose, run}
 use Rattle.mb_instr.specs.declared.registers.Plain.{Plain}
 use Rattle.mb_model.specs.declared.processor.Cpu.{Cpu}
-use Rattle.mb_model.specs.declared.outcome.RunState.{RunState}
 use Rattle.mb_model.specs.declared.outcome.RunState.TheVariants.{Running, Stopped, Off}
 use Rattle.mb_devices.specs.Devices.{DeviceState, ticked, ticks, level_of, IsNotDue}
 use Rattle.mb_devices.proofs.Passing.{ticks_pass}
 use Rattle.mb_processor.specs.declared.Finish.TheVariants as finish
 use Rattle.mb_processor.specs.Raise.{Stepped, interrupt_of}
 use Rattle.mb_processor.specs.Step.{interrupt_mask, execute_next_of, step_of, rank}
-use Rattle.mb_machine.specs.Machine.{Entries, arrived, state_after, takes_steps, asked, asked_of}
+use Rattle.mb_machine.specs.Machine.{Entries, arrived, going, takes_steps, asked, asked_of}
 use Rattle.mb_machine.proofs.Asked.{asked_devices, asked_masked}
 use Rattle.vm_meaning.specs.Batches.{NothingArrives}
 use Rattle.vm_meaning.specs.Marks.{trail}
@@ -51,7 +50,7 @@ idles level cpu masked stopped =
     chosen (nat_lt (interrupt_mask cpu) (rank level)) cpu.stopped (interrupt_of level cpu) (Return (finish.Idle, cpu)) (execute_next_of cpu)
     (not_above (interrupt_mask cpu) (rank level) masked) stopped
 
-stays_stopped : (cpu : Cpu) (d : DeviceState) → d.off ≡ false → cpu.stopped ≡ true → state_after finish.Idle cpu d ≡ Stopped
+stays_stopped : (cpu : Cpu) (d : DeviceState) → d.off ≡ false → cpu.stopped ≡ true → going cpu d ≡ Stopped
 stays_stopped cpu d on stopped = second d.off cpu.stopped Off Stopped Running on stopped
 
 -- a step that begins switches nothing off
@@ -69,14 +68,8 @@ stepped_is : (script : Entries) (g : Guested) → IsIdle script g
     → guest_stepped script g ≡ idle_guest 1 (guest_begun script g).machine.world.devices g
 stepped_is script g idle =
     let b = guest_begun script g in
-    let d = b.machine.world.devices in
-    let of : RunState → Guested = λ s. record {
-      machine = record { cpu = g.machine.cpu; world = b.machine.world; steps = g.machine.steps + 1; state = s };
-      shadow = g.shadow;
-    } in
     ap (λ (m : Routine Stepped). guest_later b.machine (run guest_bus m (world_of b)))
     (idles (asked_of script b.machine) g.machine.cpu idle.masked idle.stopped)
-    ∙ ap of (stays_stopped g.machine.cpu d (begins_on script g idle.on) idle.stopped ∙ sym idle.state)
 
 advanced_is : (script : Entries) (t : Turned) → IsIdle script t.guest
     → advanced script t ≡ idle_turned 1 (guest_begun script t.guest).machine.world.devices t
@@ -104,8 +97,9 @@ begins_next script n t quiet =
 
 -- that is idle too
 idle_next : (script : Entries) (n : ℕ) (t : Turned) → IsIdle script t.guest → NothingArrives script (t.guest.machine.steps + 1) (suc n)
+    → t.guest.machine.world.devices.off ≡ false
     → let d = (guest_begun script t.guest).machine.world.devices in IsNotDue (suc n) d → IsIdle script (idle_guest 1 d t.guest)
-idle_next script n t idle quiet due =
+idle_next script n t idle quiet on due =
     let d = (guest_begun script t.guest).machine.world.devices in
     let u = idle_guest 1 d t.guest in
     let once = ticks_pass 1 d (one_of n d due) in
@@ -116,35 +110,42 @@ idle_next script n t idle quiet due =
     ∙ ap level_of (begins_next script n t quiet) ∙ ap level_of once.at_once ∙ once.level
     ∙ sym (asked_masked script (s + 1) d t.guest.machine.cpu idle.masked) in
     record {
-      state = idle.state;
+      goes = ap takes_steps (stays_stopped t.guest.machine.cpu d (begins_on script t.guest on) idle.stopped);
       stopped = idle.stopped;
-      on = begins_on script t.guest idle.on;
       masked = subst (λ (k : ℕ). rank k ≤ interrupt_mask t.guest.machine.cpu) (sym level) idle.masked;
     }
 
-idle_ticks : (script : Entries) (n : ℕ) (t : Turned) → IsIdle script t.guest → NothingArrives script (t.guest.machine.steps + 1) n
+idle_ticks : (script : Entries) (n : ℕ) (t : Turned) → IsIdle script t.guest → (0 < n → t.guest.machine.world.devices.off ≡ false)
+    → NothingArrives script (t.guest.machine.steps + 1) n
     → let d = (guest_begun script t.guest).machine.world.devices in IsNotDue n d → turn_of script (suc n) t ≡ idle_turned (suc n) (ticks n d) t
-idle_ticks script zero t idle quiet due =
-    going_turn script 0 t (ap takes_steps idle.state) ∙ nothing_turned script (advanced script t) ∙ advanced_is script t idle
-idle_ticks script (suc n) t idle quiet due =
+idle_ticks script zero t idle on quiet due =
+    going_turn script 0 t idle.goes ∙ nothing_turned script (advanced script t) ∙ advanced_is script t idle
+idle_ticks script (suc n) t idle on quiet due =
     let d = (guest_begun script t.guest).machine.world.devices in
     let s = t.guest.machine.steps in
     let u = idle_turned 1 d t in
     let next = begins_next script n t quiet in
     let of : (steps idle : ℕ) → Turned = λ k i. record t {
-      guest = record t.guest { machine = record t.guest.machine { world = record t.guest.machine.world { devices = ticks (suc n) d }; steps = k } };
+      guest = record t.guest {
+        machine = record t.guest.machine {
+          world = record t.guest.machine.world { devices = ticks (suc n) d };
+          steps = k;
+          state = going t.guest.machine.cpu (ticks (suc n) d);
+        };
+      };
       tally = record t.tally { idle = i };
     } in
     let more : (k : ℕ) → k + 1 + suc n ≡ k + suc (suc n) = λ k. omega arith in
-    going_turn script (suc n) t (ap takes_steps idle.state) ∙ ap (turn_of script (suc n)) (advanced_is script t idle)
-    ∙ idle_ticks script n u (idle_next script n t idle quiet due) (rest_of script (s + 1) n quiet)
+    going_turn script (suc n) t idle.goes ∙ ap (turn_of script (suc n)) (advanced_is script t idle)
+    ∙ idle_ticks script n u (idle_next script n t idle quiet (on (omega arith)) due) (λ some. begins_on script t.guest (on (omega arith)))
+    (rest_of script (s + 1) n quiet)
     (subst (λ (o : DeviceState). IsNotDue n o) (sym next) (one_tick d n due))
     ∙ ap (λ (o : DeviceState). idle_turned (suc n) (ticks n o) u) next
     ∙ ap (λ (k : ℕ). of k (t.tally.idle + 1 + suc n)) (more s) ∙ ap (of (s + suc (suc n))) (more t.tally.idle)
 
 pub quiet_steps_are_idle : QuietStepsAreIdle
-quiet_steps_are_idle script n t idle quiet due =
-    idle_ticks script n t idle quiet due
+quiet_steps_are_idle script n t idle on quiet due =
+    idle_ticks script n t idle on quiet due
     ∙ ap (λ (o : DeviceState). idle_turned (suc n) o t) (ticks_pass n (guest_begun script t.guest).machine.world.devices due).at_once
 
 -- ---- of a seated guest
@@ -163,9 +164,9 @@ seated_still g ram k d s = record {
 
 pub idle_steps_take : IdleStepsTake
 unfolding trail
-idle_steps_take g ram native n seated idle quiet due = record {
+idle_steps_take g ram native n seated idle on quiet due = record {
   marks = [];
-  turned = sym (quiet_steps_are_idle g.script n (turned_on g ram []) idle quiet due);
+  turned = sym (quiet_steps_are_idle g.script n (turned_on g ram []) idle on quiet due);
   same = record { script = refl; base = refl; size = refl; area = refl };
   seated = seated_still g ram (suc n) _ seated;
   within = record { count = refl; below = refl; above = refl };

@@ -1,5 +1,5 @@
 -- Stretches in which nothing arrives and nothing falls due.
-use Rattle.std.proofs.Common.{◌≡◌, ◌∙◌, ℕ, zero, suc, ◌+◌, Bool, false, cond, nat_lt, [], ◌∷◌, ◌||◌, Ok, Err, arith, refl, ap, sym, subst, inl, inr, ◌≤◌}
+use Rattle.std.proofs.Common.{◌≡◌, ◌∙◌, ℕ, zero, suc, ◌+◌, Bool, false, cond, nat_lt, [], ◌∷◌, ◌||◌, Ok, Err, arith, refl, ap, sym, subst, inl, inr, ◌<◌, ◌≤◌}
 use Rattle.mb_instr.specs.Registers.{plain_of}
 use Rattle.mb_model.specs.declared.processor.Cpu.{Cpu}
 use Rattle.mb_devices.specs.Devices.{DeviceState, ticked, level_of, ticks, IsNotDue}
@@ -10,7 +10,7 @@ use Rattle.mb_writes.specs.declared.ends.Ended.{Ended as End}
 use Rattle.mb_writes.specs.declared.ends.Ended.TheVariants as ended
 use Rattle.mb_laws.specs.Until as until
 use Rattle.mb_laws.specs.Until.{Until}
-use Rattle.mb_machine.specs.Machine.{Machine, Entries, arrived, asked}
+use Rattle.mb_machine.specs.Machine.{Machine, Entries, arrived, asked, going}
 use Rattle.mb_model.specs.Keeping.{KeptLists, Apart, list_of}
 use Rattle.mb_instr.specs.declared.registers.Regs.{Regs}
 use Rattle.mb_processor.specs.SystemEnds.{with_registers}
@@ -56,10 +56,10 @@ rest_of script taken n h k low high = h k (omega arith) (omega arith)
 
 pub retired_steps_tick : RetiredStepsTick
 retired_steps_tick x script zero m g b (want, retired, more) quiet =
-    let h = retired_steps x script m g b want.registers retired want.on in
+    let h = retired_steps x script m g b want.registers retired in
     (kept_devices x script m g h, h.steps)
 retired_steps_tick x script (suc n) m g b (want, retired, more) quiet =
-    let h = retired_steps x script m g b want.registers retired want.on in
+    let h = retired_steps x script m g b want.registers retired in
     let t = guest_stepped script g in
     let quiet' : NothingArrives script t.machine.steps (suc n) = subst (λ (k : ℕ). NothingArrives script k (suc n)) (sym h.steps) quiet in
     let next = retired_steps_tick x script n (user_step m).1 t h.boarded more (rest_of script t.machine.steps n quiet') in
@@ -136,7 +136,7 @@ quiet_steps_are_tried x script (suc n) m g b wanted tried quiet due = (
   wanted.0,
   tried,
   λ retired.
-      let h = retired_steps x script m g b wanted.0.registers retired wanted.0.on in
+      let h = retired_steps x script m g b wanted.0.registers retired in
       let t = guest_stepped script g in
       let d = (guest_begun script g).machine.world.devices in
       let quiet' : NothingArrives script t.machine.steps (suc n) = subst (λ (k : ℕ). NothingArrives script k (suc n)) (sym h.steps) quiet in
@@ -159,6 +159,12 @@ retired_steps_keep_truth x script m g h fine =
 
 -- ---- what they leave
 
+-- its state, behind one of them or more
+state_behind : (script : Entries) (n : ℕ) (t : Guested) → t.machine.state ≡ going t.machine.cpu t.machine.world.devices → let u = stepped_by script n t in
+    (0 < n → u.machine.state ≡ going u.machine.cpu u.machine.world.devices) → u.machine.state ≡ going u.machine.cpu u.machine.world.devices
+state_behind script zero t first later = first
+state_behind script (suc n) t first later = later (omega arith)
+
 pub retired_steps_leave : RetiredStepsLeave
 retired_steps_leave x script zero m g b all = record {
   cpu = λ has. ap (λ (r : Regs). (let c : Cpu = record g.machine.cpu { regs = r } in c)) (plain_same g.machine.cpu.regs has);
@@ -166,10 +172,10 @@ retired_steps_leave x script zero m g b all = record {
   mmu = refl;
   kept = refl;
   shadow = refl;
-  state = λ h. h;
+  state = λ some. absurd (omega arith);
 }
 retired_steps_leave x script (suc n) m g b (want, retired, more) =
-    let h = retired_steps x script m g b want.registers retired want.on in
+    let h = retired_steps x script m g b want.registers retired in
     let t = guest_stepped script g in
     let u = stepped_by script n t in
     let next = retired_steps_leave x script n (user_step m).1 t h.boarded more in
@@ -180,5 +186,5 @@ retired_steps_leave x script (suc n) m g b (want, retired, more) =
       mmu = next.mmu ∙ ap (λ (q : Guest). q.world.mmu) h.only;
       kept = next.kept ∙ ap (λ (q : Guest). q.world.kept) h.only;
       shadow = next.shadow ∙ ap (λ (q : Guest). q.shadow) h.only;
-      state = λ z. next.state h.state;
+      state = λ some. state_behind script n t h.state next.state;
     }

@@ -25,7 +25,7 @@ use Rattle.mb_attempts.specs.Attempts.{IsUntraced}
 use Rattle.mb_script.specs.declared.input.Input.{Input}
 use Rattle.mb_script.specs.declared.input.Input.TheVariants.{Byte, Abort}
 use Rattle.mb_machine.specs.World.{World}
-use Rattle.mb_machine.specs.Machine.{Machine, Entries, begun, arrived, processed, one_later, takes_steps, state_after, asked, taken_in}
+use Rattle.mb_machine.specs.Machine.{Machine, Entries, begun, arrived, going, processed, one_later, takes_steps, state_after, asked, taken_in}
 use Rattle.vm_meaning.specs.Native.{user_step}
 use Rattle.vm_machine.specs.declared.class.Class.{Class}
 use Rattle.vm_machine.specs.declared.class.Class.TheVariants as class
@@ -173,11 +173,11 @@ off_arrived n (entry ∷ script) d = off_arrived n script (cond (entry.step == n
     off_if false = refl
 
 -- on and awake, it goes on
+running_after : (cpu : Cpu) (d : DeviceState) → d.off ≡ false → cpu.stopped ≡ false → going cpu d ≡ Running
+running_after cpu d h k = rw h (rw k refl)
+
 pub goes_after : (cpu : Cpu) (d : DeviceState) → d.off ≡ false → cpu.stopped ≡ false → takes_steps (state_after finish.Went cpu d) ≡ true
 goes_after cpu d h k = rw h (rw k refl)
-
-running_after : (cpu : Cpu) (d : DeviceState) → d.off ≡ false → cpu.stopped ≡ false → state_after finish.Went cpu d ≡ Running
-running_after cpu d h k = rw h (rw k refl)
 
 -- the board one step later, with what the processor's part left
 abbrev pub user_later : Machine → Stepped × World → Finish × Machine
@@ -187,7 +187,7 @@ pub user_step_is : (m : Machine) → user_step m ≡ user_later m (processed rul
 user_step_is m = refl
 
 pub retired_steps : RetiredSteps
-retired_steps x script m g b regs c on =
+retired_steps x script m g b regs c =
     let d = ticked m.world.devices in
     let e = ticked (arrived (g.machine.steps + 1) script g.machine.world.devices) in
     let w = record m.world { devices = d } in
@@ -204,8 +204,6 @@ retired_steps x script m g b regs c on =
     let own : Stepped × Guest = run guest_bus (step_of own_level guest) h in
     let stays = both.2 in
     let off : native.1.devices.off ≡ false = ap (λ (d : DeviceState). d.off) stays.outside.devices ∙ off_ticked m.world.devices ∙ b.on in
-    let off_alone : own.1.world.devices.off ≡ false = ap (λ (q : Guest). q.world.devices.off) stays.only
-    ∙ off_ticked (arrived (g.machine.steps + 1) script g.machine.world.devices) ∙ off_arrived (g.machine.steps + 1) script g.machine.world.devices ∙ on in
     let s : Finish × Machine = user_later m ((finish.Went, with_registers p m.cpu), native.1) in
     let t : Guested = guest_later (guest_begun script g).machine ((finish.Went, with_registers p guest), own.1) in
     let is_s : user_step m ≡ s = user_step_is m ∙ ap (λ (r : Stepped). user_later m (r, native.1)) both.0 in
@@ -214,7 +212,6 @@ retired_steps x script m g b regs c on =
     (subst (λ (v : Guested). Retires x script m g s v) (sym is_t) (record {
       step = refl;
       running = goes_after (with_registers p m.cpu) native.1.devices off b.goes.going;
-      alone = goes_after (with_registers p guest) own.1.world.devices off_alone attempt.plain.going;
       boarded = record {
         on = off;
         user = same_user p m.cpu ∙ b.user;
@@ -228,9 +225,23 @@ retired_steps x script m g b regs c on =
       goes = stays_plain p guest attempt.plain;
       mask = same_mask p guest;
       steps = refl;
-      state = running_after (with_registers p guest) own.1.world.devices off_alone attempt.plain.going;
+      state = refl;
       registers = p;
       set = refl;
       only = stays.only;
       outside = stays.outside;
     }))
+
+-- a guest that is on stays so in such a step, and runs behind it
+pub stays_on : (x : Site) (script : Entries) (m : Machine) (g : Guested) → Retires x script m g (user_step m) (guest_stepped script g)
+    → g.machine.world.devices.off ≡ false → (guest_stepped script g).machine.world.devices.off ≡ false
+stays_on x script m g h on =
+    let d = g.machine.world.devices in
+    ap (λ (q : Guest). q.world.devices.off) h.only ∙ off_ticked (arrived (g.machine.steps + 1) script d)
+    ∙ off_arrived (g.machine.steps + 1) script d ∙ on
+
+pub runs_behind : (x : Site) (script : Entries) (m : Machine) (g : Guested) → Retires x script m g (user_step m) (guest_stepped script g)
+    → g.machine.world.devices.off ≡ false → (guest_stepped script g).machine.state ≡ Running
+runs_behind x script m g h on =
+    let t = guest_stepped script g in
+    h.state ∙ running_after t.machine.cpu t.machine.world.devices (stays_on x script m g h on) h.goes.going

@@ -1,5 +1,5 @@
 -- A turn of a seated guest.
-use Rattle.std.proofs.Common.{◌≡◌, ◌∙◌, ℕ, ◌+◌, ◌^◌, ◌<◌, ◌≤◌, List, [], ◌∷◌, ◌++◌, length, Bool, cond, ◌==◌, true, false, arith, refl, ap, sym}
+use Rattle.std.proofs.Common.{◌≡◌, ◌∙◌, ℕ, suc, ◌+◌, ◌^◌, ◌<◌, ◌≤◌, List, [], ◌∷◌, ◌++◌, length, Bool, cond, ◌==◌, true, false, arith, refl, ap, sym}
 use Rattle.std.proofs.Common.{subst, inl, inr, Option, Some, None}
 use Rattle.std.proofs.lemmas.List.{length-append}
 use Rattle.mb_port.specs.declared.types.Space.{Space}
@@ -16,7 +16,7 @@ use Rattle.mb_model.specs.declared.outcome.RunState.TheVariants.{Running}
 use Rattle.mb_walk.specs.Memory.{AreBytes, part}
 use Rattle.mb_devices.specs.Devices.{DeviceState, level_of}
 use Rattle.mb_processor.specs.SystemEnds.{with_registers}
-use Rattle.mb_machine.specs.Machine.{begun, takes_steps, asked_of}
+use Rattle.mb_machine.specs.Machine.{begun, going, takes_steps, asked_of}
 use Rattle.mb_port.specs.Routine.{run}
 use Rattle.mb_processor.specs.Return.{low}
 use Rattle.vm_machine.specs.Seats.{end_of, on_board, Seat, own, shadow_on, machine_on, guested_on, turned_on, IsSeated, OnlyWithin}
@@ -47,7 +47,7 @@ use Rattle.vm_meaning.specs.Native.{Ran, about_to_run, user_run}
 use Rattle.vm_step.specs.Batch.{stepped_by, IsInside, IsCounted, IsExit, Batch}
 use Rattle.vm_step.specs.Quiet.{IsAfter}
 use Rattle.vm_step.specs.Turn.{ready_for, Stands}
-use Rattle.vm_step.specs.Taking.{site_of, retired_seat, left_seat, BatchesTake, ExitsTake}
+use Rattle.vm_step.specs.Taking.{site_of, retired_seat, settled, BatchesTake, ExitsTake}
 use Rattle.vm_machine.specs.Exits.{is_refusal, class_of_vector, frame_access, handed_by, rest_by_frame}
 use Rattle.vm_step.specs.Exit.{left_guest}
 use Rattle.vm_step.specs.Reads.{read_by_frame}
@@ -59,9 +59,6 @@ use Rattle.vm_step.proofs.Lists.{between, beyond}
 use Rattle.vm_step.proofs.Batch.{runs_are_batches}
 use Rattle.vm_step.proofs.Quiet.{retired_steps_leave}
 use Rattle.vm_step.proofs.Turn.{boards_are_ready, exits_advance}
-
-goes : (s : RunState) → s ≡ Running → takes_steps s ≡ true
-goes s h = ap takes_steps h
 
 same_turned : (a b : Turned) → a.guest ≡ b.guest → a.tally ≡ b.tally → a.marks ≡ b.marks → a ≡ b
 same_turned a b g t m =
@@ -126,22 +123,23 @@ is_counted x k r after t g e b = elim b.end [
 ]
 
 pub batches_take : BatchesTake
-batches_take g c world steps state native before k s bytes small running seven cpu set stretch tallied has =
+batches_take g c world steps state native before n s bytes small running on seven cpu set stretch tallied has =
     let ram = world.ram in
+    let k = suc n in
     let x = site_of g in
     let guest = guested_on g ram in
     let r = about_to_run (ready_for c world steps state guest) native before in
     let after = user_run k r in
     let t = turned_on g ram [] in
     let ready = boards_are_ready x c world steps state guest cpu set refl seven (stands_of g ram s bytes small) in
-    let b = runs_are_batches x g.script k r t refl ready.0 ready.1 (goes g.state running) stretch in
+    let b = runs_are_batches x g.script k r t refl ready.0 ready.1 (λ some. running) (λ more. on (omega arith)) stretch in
     let (all, done) = is_counted x k r after t g tallied b in
     let u = turn_of g.script b.retired t in
     let v = stepped_by g.script b.retired guest in
     let is_v : u.guest ≡ v = b.guest in
     let left : IsAfter b.retired guest v = retired_steps_leave x g.script b.retired r.machine guest ready.0 b.all in
     let related = done.boarded.related in
-    let seat = retired_seat g k (plain_of after.machine.cpu.regs) (stepped_by g.script k guest).machine.world.devices in
+    let seat = settled (retired_seat g k (plain_of after.machine.cpu.regs) (stepped_by g.script k guest).machine.world.devices) in
     let ram' = after.machine.world.ram in
     let plain : plain_of after.machine.cpu.regs ≡ plain_of v.machine.cpu.regs = done.boarded.plain ∙ ap (λ (q : Guested). plain_of q.machine.cpu.regs) is_v in
     let cpu_is : seat.cpu ≡ v.machine.cpu =
@@ -154,7 +152,8 @@ batches_take g c world steps state native before k s bytes small running seven c
     (ap (λ (n : ℕ). (stepped_by g.script n guest).machine.world.devices) (sym all))
     (sym left.kept)
     (ap (λ (n : ℕ). g.steps + n) (sym all) ∙ sym left.steps)
-    (running ∙ sym (left.state running))
+    (ap (λ (c : Cpu). going c seat.devices) cpu_is
+    ∙ ap (λ (n : ℕ). going v.machine.cpu (stepped_by g.script n guest).machine.world.devices) (sym all) ∙ sym (left.state (omega (arith, all))))
     (ap (λ (h : Shadowed). own g.base h) tables ∙ sym left.shadow)
     ∙ sym is_v in
     let tally_is : seat.tally ≡ u.tally = ap (λ (n : ℕ). (let o : Tally = record g.tally { retired = g.tally.retired + n } in o)) (sym all) ∙ sym b.tally in
@@ -251,7 +250,7 @@ first_is : (script : Entries) (g : Guested) → let b = guest_begun script g in
 first_is script g = refl
 
 pub exits_take : ExitsTake
-exits_take g c world steps state native before k v s bytes small running seven cpu low set stretch exits_at wide =
+exits_take g c world steps state native before k v s bytes small running on seven cpu low set stretch exits_at wide =
     let ram = world.ram in
     let x = site_of g in
     let guest = guested_on g ram in
@@ -259,15 +258,17 @@ exits_take g c world steps state native before k v s bytes small running seven c
     let after = user_run k r in
     let t = turned_on g ram [] in
     let ready = boards_are_ready x c world steps state guest cpu set refl seven (stands_of g ram s bytes small) in
-    let b = runs_are_batches x g.script k r t refl ready.0 ready.1 (goes g.state running) stretch in
+    let b = runs_are_batches x g.script k r t refl ready.0 ready.1 (λ some. running) on stretch in
     let (few, h) = is_exit x k v r after t g exits_at b in
     let j = b.retired in
     let u = turn_of g.script j t in
     let w = stepped_by g.script j guest in
     let is_w : u.guest ≡ w = b.guest in
+    let running_there : u.guest.machine.state ≡ Running = b.running few in
+    let goes_there : takes_steps u.guest.machine.state ≡ true = ap takes_steps running_there in
     let left : IsAfter j guest w = retired_steps_leave x g.script j r.machine guest ready.0 b.all in
     let begun = (guest_begun g.script w).machine.world.devices in
-    let mid = left_seat g j after.before begun in
+    let mid = retired_seat g j after.before begun in
     let ram' = after.machine.world.ram in
     let related = h.left.related in
     let seven_w : length w.machine.cpu.regs.a ≡ 7 = subst (λ (q : Guested). length q.machine.cpu.regs.a ≡ 7) is_w h.seven in
@@ -284,7 +285,7 @@ exits_take g c world steps state native before k v s bytes small running seven c
       shadow = w.shadow;
     } in
     let same : guested_on mid ram' ≡ opened = same_guest (guested_on mid ram') opened cpu_is refl (sym left.mmu) refl (sym left.kept) (sym left.steps)
-    (running ∙ sym (left.state running)) (ap (λ (q : Shadowed). own g.base q) tables ∙ sym left.shadow) in
+    (running ∙ sym running_there ∙ ap (λ (q : Guested). q.machine.state) is_w) (ap (λ (q : Shadowed). own g.base q) tables ∙ sym left.shadow) in
     let of : Guested → Guest = λ q. left_guest x ram' (world_of (guest_begun g.script q)) in
     let world_is : world_of (guested_on mid ram') ≡ of u.guest = ap world_of same ∙ ap of (sym is_w) in
     let top : h.last.cpu.regs.isp ≤ MONITOR_BYTES =
@@ -303,7 +304,7 @@ exits_take g c world steps state native before k v s bytes small running seven c
     let later : Turned = by_class (class_of_vector h.vector) 0 (rest_at u.guest) u in
     let o = guest_begun g.script u.guest in
     let turn_is : begun_again o.machine.cpu (world_of o) ≡ None → turn_of g.script (j + 1) t ≡ later = λ last.
-    turns_add g.script j 1 t ∙ going_turn g.script 0 u b.goes ∙ nothing_turned g.script (advanced g.script u)
+    turns_add g.script j 1 t ∙ going_turn g.script 0 u goes_there ∙ nothing_turned g.script (advanced g.script u)
     ∙ exits_advance x g.script u h.vector h.last after.machine h.left wide last in
     let present : space_of mid.cpu ≡ x.space =
     ap space_of (cpu_is ∙ ap (λ (q : Guested). q.machine.cpu) (sym is_w)) ∙ h.boarded.present in
@@ -367,7 +368,7 @@ exits_take g c world steps state native before k v s bytes small running seven c
             record {
               turn = u;
               taken = refl;
-              goes = b.goes;
+              goes = goes_there;
               masked = attempt.masked;
               untraced = attempt.plain;
               registers = h.fit;

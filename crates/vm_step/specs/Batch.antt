@@ -1,8 +1,9 @@
 -- A run of the board, beside the guest's steps: so many are retired, and then it was counted to its end, or left.
-use Rattle.std.specs.Prelude.{◌≡◌, ◌⊎◌, ℕ, zero, suc, ◌+◌, ◌<◌, false, true, List, ◌++◌, length, take, drop}
+use Rattle.std.specs.Prelude.{◌≡◌, ◌⊎◌, ℕ, zero, suc, ◌+◌, ◌<◌, false, List, ◌++◌, length, take, drop}
 use Rattle.mb_instr.specs.declared.registers.Plain.{Plain}
 use Rattle.mb_instr.specs.Registers.{plain_of}
-use Rattle.mb_machine.specs.Machine.{Machine, Entries, takes_steps}
+use Rattle.mb_model.specs.declared.outcome.RunState.TheVariants.{Running}
+use Rattle.mb_machine.specs.Machine.{Machine, Entries}
 use Rattle.mb_processor.specs.declared.Finish.TheVariants as finish
 use Rattle.vm_mirror.specs.Related.{Site}
 use Rattle.vm_machine.specs.declared.class.Class.{Class}
@@ -18,7 +19,6 @@ use Rattle.vm_step.specs.Exit.{Furnished, Leaves}
 pub record Wanted (g : Guested) : Type 0 where
   pub registers : HasRegisters (plain_of g.machine.cpu.regs)
   pub seven : length g.machine.cpu.regs.a ≡ 7
-  pub on : g.machine.world.devices.off ≡ false
 
 -- a step that the board attempts
 abbrev pub IsTried : Class → Type 0
@@ -86,12 +86,13 @@ pub record Batch (x : Site) (script : Entries) (n : ℕ) (r : Ran) (t : Turned) 
   pub sum : after.native.trail ≡ trail r.native.trail marks
   pub all : AllRetired script retired t.guest
   pub guest : (turn_of script retired t).guest ≡ stepped_by script retired t.guest
-  pub goes : takes_steps (turn_of script retired t).guest.machine.state ≡ true
+  pub running : retired < n → (turn_of script retired t).guest.machine.state ≡ Running
   pub end : ((retired ≡ n) × IsCounted x (turn_of script retired t) r after)
       ⊎ ((retired < n) × IsExit x script (turn_of script retired t) r after)
 
+-- A guest that is switched off takes one step at most.
 abbrev pub RunsAreBatches : Type 0
 RunsAreBatches = (x : Site) (script : Entries) (n : ℕ) (r : Ran) (t : Turned) → r.end ≡ Counted
-    → Boarded x r.machine t.guest
-    → Furnished x r.machine → takes_steps t.guest.machine.state ≡ true → IsStretch script n t.guest
+    → Boarded x r.machine t.guest → Furnished x r.machine → (0 < n → t.guest.machine.state ≡ Running)
+    → (1 < n → t.guest.machine.world.devices.off ≡ false) → IsStretch script n t.guest
     → Batch x script n r t (user_run n r)

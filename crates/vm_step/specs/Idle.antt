@@ -1,20 +1,18 @@
 -- Steps at which STOP holds a guest's processor: nothing happens at them but the ticks of the timer, so as many as are
 -- quiet may be taken at once.
-use Rattle.std.specs.Prelude.{◌≡◌, ℕ, suc, ◌+◌, ◌≤◌, false, true, List}
-use Rattle.mb_model.specs.declared.outcome.RunState.TheVariants.{Stopped}
+use Rattle.std.specs.Prelude.{◌≡◌, ℕ, suc, ◌+◌, ◌<◌, ◌≤◌, false, true, List}
 use Rattle.mb_devices.specs.Devices.{DeviceState, passed, IsNotDue}
 use Rattle.mb_processor.specs.Step.{interrupt_mask, rank}
-use Rattle.mb_machine.specs.Machine.{Entries, asked_of}
+use Rattle.mb_machine.specs.Machine.{Entries, asked_of, going, takes_steps}
 use Rattle.vm_meaning.specs.Batches.{NothingArrives}
 use Rattle.vm_meaning.specs.Native.{NativeState}
 use Rattle.vm_machine.specs.Turns.{Guested, Turned, guest_begun, turn_of}
 use Rattle.vm_machine.specs.Seats.{Seat, guested_on, IsSeated, Takes}
 
--- STOP holds the guest, which is on, and once its next step has begun no interrupt above its mask is asked for.
+-- STOP holds the guest, which takes steps, and once its next step has begun no interrupt above its mask is asked for.
 pub record IsIdle (script : Entries) (g : Guested) : Type 0 where
-  pub state : g.machine.state ≡ Stopped
+  pub goes : takes_steps g.machine.state ≡ true
   pub stopped : g.machine.cpu.stopped ≡ true
-  pub on : g.machine.world.devices.off ≡ false
   pub masked : rank (asked_of script (guest_begun script g).machine) ≤ interrupt_mask g.machine.cpu
 
 -- ---- of a guest by itself
@@ -22,7 +20,11 @@ pub record IsIdle (script : Entries) (g : Guested) : Type 0 where
 -- a guest behind so many idle steps, with its devices then
 abbrev pub idle_guest : ℕ → DeviceState → Guested → Guested
 idle_guest k d g = record g {
-  machine = record g.machine { world = record g.machine.world { devices = d }; steps = g.machine.steps + k };
+  machine = record g.machine {
+    world = record g.machine.world { devices = d };
+    steps = g.machine.steps + k;
+    state = going g.machine.cpu d;
+  };
 }
 
 -- and what was counted
@@ -33,23 +35,27 @@ idle_turned k d t = record t {
 }
 
 -- Where a guest's next step is idle, and behind its beginning so many steps are quiet, they are all idle, and the timer
--- has counted them.
+-- has counted them. One that is switched off takes none behind it.
 abbrev pub QuietStepsAreIdle : Type 0
 QuietStepsAreIdle = (script : Entries) (n : ℕ) (t : Turned) → IsIdle script t.guest
-    → NothingArrives script (t.guest.machine.steps + 1) n
+    → (0 < n → t.guest.machine.world.devices.off ≡ false) → NothingArrives script (t.guest.machine.steps + 1) n
     → let d = (guest_begun script t.guest).machine.world.devices in IsNotDue n d
     → turn_of script (suc n) t ≡ idle_turned (suc n) (passed n d) t
 
 -- ---- of a seated guest
 
 abbrev pub idle_seat : Seat → ℕ → DeviceState → Seat
-idle_seat g k d =
-    record g { devices = d; steps = g.steps + k; tally = record g.tally { idle = g.tally.idle + k } }
+idle_seat g k d = record g {
+  devices = d;
+  steps = g.steps + k;
+  state = going g.cpu d;
+  tally = record g.tally { idle = g.tally.idle + k };
+}
 
 -- So the monitor takes them at once, and no board has a part in them.
 abbrev pub IdleStepsTake : Type 0
 IdleStepsTake = (g : Seat) (ram : List ℕ) (native : NativeState) (n : ℕ) → IsSeated g ram
-    → IsIdle g.script (guested_on g ram) → NothingArrives g.script (g.steps + 1) n
+    → IsIdle g.script (guested_on g ram) → (0 < n → g.devices.off ≡ false) → NothingArrives g.script (g.steps + 1) n
     → let d = (guest_begun g.script (guested_on g ram)).machine.world.devices in IsNotDue n d
     → Takes (suc n) (record { guest = g; ram = ram; native = native })
     (record { guest = idle_seat g (suc n) (passed n d); ram = ram; native = native })

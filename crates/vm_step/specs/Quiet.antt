@@ -1,9 +1,8 @@
 -- A stretch in which nothing arrives and the timer does not come to 0: the board may carry it out in one run.
-use Rattle.std.specs.Prelude.{◌≡◌, ℕ, zero, suc, ◌+◌, length}
+use Rattle.std.specs.Prelude.{◌≡◌, ℕ, zero, suc, ◌+◌, ◌<◌, length}
 use Rattle.mb_instr.specs.Registers.{plain_of}
-use Rattle.mb_model.specs.declared.outcome.RunState.TheVariants.{Running}
 use Rattle.mb_processor.specs.SystemEnds.{with_registers}
-use Rattle.mb_machine.specs.Machine.{Machine, Entries}
+use Rattle.mb_machine.specs.Machine.{Machine, Entries, going}
 use Rattle.mb_devices.specs.Devices.{ticks, IsNotDue}
 use Rattle.vm_meaning.specs.Batches.{NothingArrives}
 use Rattle.vm_mirror.specs.Related.{Site}
@@ -51,7 +50,7 @@ pub record IsAfter (n : ℕ) (g u : Guested) : Type 0 where
   pub mmu : u.machine.world.mmu ≡ g.machine.world.mmu
   pub kept : u.machine.world.kept ≡ g.machine.world.kept
   pub shadow : u.shadow ≡ g.shadow
-  pub state : g.machine.state ≡ Running → u.machine.state ≡ Running
+  pub state : 0 < n → u.machine.state ≡ going u.machine.cpu u.machine.world.devices
 
 abbrev pub RetiredStepsLeave : Type 0
 RetiredStepsLeave = (x : Site) (script : Entries) (n : ℕ) (m : Machine) (g : Guested) → Boarded x m g

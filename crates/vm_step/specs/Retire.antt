@@ -10,9 +10,8 @@ use Rattle.mb_processor.specs.SystemEnds.{with_registers}
 use Rattle.mb_meaning.specs.Attempt.{attempt_of}
 use Rattle.mb_processor.specs.Step.{interrupt_mask}
 use Rattle.mb_tells.specs.Laws.{HasLongs}
-use Rattle.mb_machine.specs.Machine.{Machine, Entries, begun, takes_steps}
+use Rattle.mb_machine.specs.Machine.{Machine, Entries, begun, going, takes_steps}
 use Rattle.mb_laws.specs.Until.{run_until}
-use Rattle.mb_model.specs.declared.outcome.RunState.TheVariants.{Running}
 use Rattle.mb_attempts.specs.Attempts.{IsUntraced}
 use Rattle.vm_held.specs.Denied.{held_end}
 use Rattle.vm_machine.specs.Guests.{Guest, may}
@@ -54,7 +53,6 @@ pub record RetiresTo (x : Site) (script : Entries) (m : Machine) (g : Guested) (
     (t : Guested) : Type 0 where
   pub step : ended ≡ finish.Went
   pub running : takes_steps after.state ≡ true
-  pub alone : takes_steps t.machine.state ≡ true
   pub boarded : Boarded x after t
   pub from : IsFrom m.cpu after.cpu
   pub only : OnlyRam (world_of (guest_begun script g)) (world_of t)
@@ -62,7 +60,7 @@ pub record RetiresTo (x : Site) (script : Entries) (m : Machine) (g : Guested) (
   pub goes : IsUntraced t.machine.cpu
   pub mask : interrupt_mask t.machine.cpu ≡ interrupt_mask g.machine.cpu
   pub steps : t.machine.steps ≡ g.machine.steps + 1
-  pub state : t.machine.state ≡ Running
+  pub state : t.machine.state ≡ going t.machine.cpu t.machine.world.devices
   pub registers : Plain
   pub set : t.machine.cpu ≡ with_registers registers g.machine.cpu
 
@@ -73,5 +71,4 @@ Retires x script m g (ended, after) t = RetiresTo x script m g ended after t
 abbrev pub RetiredSteps : Type 0
 RetiredSteps = (x : Site) (script : Entries) (m : Machine) (g : Guested) → Boarded x m g
     → HasRegisters (plain_of g.machine.cpu.regs) → step_class_at_first script g ≡ Retired
-    → g.machine.world.devices.off ≡ false
     → Retires x script m g (user_step m) (guest_stepped script g)

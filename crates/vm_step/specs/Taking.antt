@@ -1,5 +1,6 @@
 -- A turn of a guest that is seated on a board, by a run of the board.
-use Rattle.std.specs.Prelude.{◌≡◌, ℕ, ◌+◌, ◌^◌, ◌<◌, ◌≤◌, true, Some, None, List, length, drop, slice_range}
+use Rattle.std.specs.Prelude.{◌≡◌, ℕ, suc, ◌+◌, ◌^◌, ◌<◌, ◌≤◌, false, true, Some, None, List, length, drop}
+use Rattle.std.specs.Prelude.{slice_range}
 use Rattle.mb_instr.specs.declared.registers.Plain.{Plain}
 use Rattle.mb_instr.specs.Registers.{plain_of}
 use Rattle.mb_model.specs.declared.processor.Cpu.{Cpu}
@@ -9,7 +10,7 @@ use Rattle.mb_model.specs.Status.{space_of}
 use Rattle.mb_walk.specs.Memory.{AreBytes}
 use Rattle.mb_devices.specs.Devices.{DeviceState, level_of}
 use Rattle.mb_machine.specs.World.{World}
-use Rattle.mb_machine.specs.Machine.{takes_steps}
+use Rattle.mb_machine.specs.Machine.{going, takes_steps}
 use Rattle.mb_processor.specs.SystemEnds.{with_registers}
 use Rattle.mb_processor.specs.Step.{step_of}
 use Rattle.mb_port.specs.Routine.{run}
@@ -39,7 +40,8 @@ use Rattle.mb_frames.specs.declared.places.TheConstants.{LONGEST}
 abbrev pub site_of : Seat → Site
 site_of g = record { base = g.base; size = g.size; slots = g.slots; space = space_of g.cpu }
 
--- the guest after so many retired steps, with the board's registers
+-- The guest behind so many retired steps, with the board's registers. These devices are those that it has then, or
+-- those that its next step begins with.
 abbrev pub retired_seat : Seat → ℕ → Plain → DeviceState → Seat
 retired_seat g k p d = record g {
   cpu = with_registers p g.cpu;
@@ -48,33 +50,33 @@ retired_seat g k p d = record g {
   tally = record g.tally { retired = g.tally.retired + k };
 }
 
+-- its state where its last step has not halted it
+abbrev pub settled : Seat → Seat
+settled g = record g { state = going g.cpu g.devices }
+
 -- the run of the board that is made ready for it
 abbrev pub run_for : Seat → Cpu → World → ℕ → RunState → NativeState → Plain → ℕ → Ran
 run_for g c world steps state native before k =
     user_run k (about_to_run (ready_for c world steps state (guested_on g world.ram)) native before)
 
--- What the monitor has then is a turn of so many steps.
+-- What the monitor has then is a turn of so many steps: one or more, and one where the guest is switched off.
 abbrev pub BatchesTake : Type 0
 BatchesTake = (g : Seat) (c : Cpu) (world : World) (steps : ℕ) (state : RunState) (native : NativeState)
-    (before : Plain) (k : ℕ) → let ram = world.ram in
-    IsSeated g ram → AreBytes ram → length ram ≤ 2 ^ 32 → g.state ≡ Running → length g.cpu.regs.a ≡ 7
+    (before : Plain) (n : ℕ) → let ram = world.ram in let k = suc n in
+    IsSeated g ram → AreBytes ram → length ram ≤ 2 ^ 32 → g.state ≡ Running → (0 < n → g.devices.off ≡ false)
+    → length g.cpu.regs.a ≡ 7
     → IsNativeCpu (site_of g) c → IsSetFor (site_of g) world → IsStretch g.script k (guested_on g ram)
     → let after = run_for g c world steps state native before k in after.end ≡ Counted
     → length after.machine.cpu.regs.a ≡ 7
     → Takes k (record { guest = g; ram = ram; native = native })
     (record {
-      guest = retired_seat g k (plain_of after.machine.cpu.regs)
-          (stepped_by g.script k (guested_on g ram)).machine.world.devices;
+      guest = settled (retired_seat g k (plain_of after.machine.cpu.regs)
+          (stepped_by g.script k (guested_on g ram)).machine.world.devices);
       ram = after.machine.world.ram;
       native = after.native;
     })
 
 -- ---- a run that the board left
-
--- the guest at the beginning of the step that was left: behind so many retired ones, with the registers that the board
--- had then, and the devices as this step began with them
-abbrev pub left_seat : Seat → ℕ → Plain → DeviceState → Seat
-left_seat g k p d = retired_seat g k p d
 
 -- What the monitor has when the board left the guest's step behind `retired` others: a seated guest in the middle of
 -- its step, and what is to be carried out of it. Where no read is refilled, that is a turn once it is done over the
@@ -100,33 +102,34 @@ pub record IsLeft (g : Seat) (ram : List ℕ) (native : NativeState) (k : ℕ) (
   pub counts : after.native.retired ≡ native.retired + retired
   pub exceptions : after.native.exceptions ≡ native.exceptions + 1
   -- its registers, and the class of its first attempt
-  pub cpu : (left_seat g retired after.before begun).cpu ≡ (stepped_by g.script retired (guested_on g ram)).machine.cpu
+  pub cpu : (retired_seat g retired after.before begun).cpu
+      ≡ (stepped_by g.script retired (guested_on g ram)).machine.cpu
   pub class : class_of_vector vector ≡ step_class_at_first g.script (stepped_by g.script retired (guested_on g ram))
   -- the read that is refilled, where there is one, is that of this attempt
-  pub read : let mid = left_seat g retired after.before begun in
+  pub read : let mid = retired_seat g retired after.before begun in
       let b = guest_begun g.script (stepped_by g.script retired (guested_on g ram)) in
       refilled_at (world_of (guested_on mid after.machine.world.ram)) (read_by_frame (space_of mid.cpu) frame)
       ≡ begun_again b.machine.cpu (world_of b)
   -- where the frame tells a read, nothing of the guest has changed
-  pub still : let mid = left_seat g retired after.before begun in (r : Reference)
+  pub still : let mid = retired_seat g retired after.before begun in (r : Reference)
       → read_by_frame (space_of mid.cpu) frame ≡ Some r
       → world_of (guested_on mid after.machine.world.ram)
       ≡ world_of (guest_begun g.script (stepped_by g.script retired (guested_on g ram)))
-  pub seated : IsSeated (left_seat g retired after.before begun) after.machine.world.ram
+  pub seated : IsSeated (retired_seat g retired after.before begun) after.machine.world.ram
   pub within : OnlyWithin g ram after.machine.world.ram
   -- the board stands for a run of it
   pub goes : takes_steps after.machine.state ≡ true
-  pub set : IsSetFor (site_of (left_seat g retired after.before begun)) after.machine.world
+  pub set : IsSetFor (site_of (retired_seat g retired after.before begun)) after.machine.world
   -- where the read that it was denied is refilled, that is the middle of a step that begins again; else what the frame
   -- leaves is the whole step once more
-  pub again : let mid = left_seat g retired after.before begun in
+  pub again : let mid = retired_seat g retired after.before begun in
       let w = world_of (guested_on mid after.machine.world.ram) in
       Fine g.size w → (h : Guest) → refilled_at w (read_by_frame (space_of mid.cpu) frame) ≡ Some h
       → Midway g ram native retired 0 mid after.machine.world.ram after.native × (begun_again mid.cpu w ≡ Some h)
       × (class_of_vector vector ≡ class_at_first (level_of begun) mid.cpu w)
       × (run guest_bus (rest_by_frame vector (frame_access frame) (level_of begun) mid.cpu
       (handed_by after.machine.cpu.regs frame)) w ≡ run guest_bus (step_of (level_of begun) mid.cpu) w)
-  pub turn : (seat : Seat) (next : List ℕ) → let mid = left_seat g retired after.before begun in
+  pub turn : (seat : Seat) (next : List ℕ) → let mid = retired_seat g retired after.before begun in
       let b = guested_on mid after.machine.world.ram in
       refilled_at (world_of b) (read_by_frame (space_of mid.cpu) frame) ≡ None
       → guested_on seat next ≡ guest_later b.machine
@@ -140,7 +143,8 @@ pub record IsLeft (g : Seat) (ram : List ℕ) (native : NativeState) (k : ℕ) (
 abbrev pub ExitsTake : Type 0
 ExitsTake = (g : Seat) (c : Cpu) (world : World) (steps : ℕ) (state : RunState) (native : NativeState) (before : Plain)
     (k v : ℕ) → let ram = world.ram in
-    IsSeated g ram → AreBytes ram → length ram ≤ 2 ^ 32 → g.state ≡ Running → length g.cpu.regs.a ≡ 7
+    IsSeated g ram → AreBytes ram → length ram ≤ 2 ^ 32 → g.state ≡ Running → (1 < k → g.devices.off ≡ false)
+    → length g.cpu.regs.a ≡ 7
     → IsNativeCpu (site_of g) c → c.regs.isp ≤ MONITOR_BYTES → IsSetFor (site_of g) world
     → IsStretch g.script k (guested_on g ram)
     → let after = run_for g c world steps state native before k in after.end ≡ Exit v

@@ -5,10 +5,10 @@ use Rattle.vm_machine.specs.declared.limits.TheConstants.{MONITOR_BYTES}
 use Rattle.vm_machine.specs.Rounds.{Member}
 use Rattle.vm_slices.specs.declared.host_guest.HostGuest.{HostGuest}
 use Rattle.vm_slices.specs.Adopting.{begun, CanAdopt}
-use Rattle.vm_slices.specs.Members.{IsReady}
+use Rattle.vm_slices.specs.Members.{IsBounded}
 use Rattle.vm_slices.specs.Places.{member_of, members_of, with_member, StandFrom}
 use Rattle.vm_slices.proofs.Adopted.{holds_at}
-use Rattle.vm_slices.proofs.Places.{changed_at, member_ready, ready_with, seated_at}
+use Rattle.vm_slices.proofs.Places.{bounded_with, changed_at, member_bounded, seated_at}
 use Rattle.vm_slices.proofs.adopting.adopt.Goals as goal
 
 pub adopt-requires-clause-seated : goal.adopt-requires-clause-seated
@@ -40,15 +40,12 @@ returns-clause-adopted c = (changed c).1
 pub returns-clause-stand : goal.returns-clause-stand
 returns-clause-stand c = (changed c).0
 
-pub returns-clause-ready : goal.returns-clause-ready
-returns-clause-ready c ready =
+pub returns-clause-bounds : goal.returns-clause-bounds
+returns-clause-bounds c =
     let gs = c.args.guests.now in
     let x = c.args.board.now.world.ram in
-    let r = c.index-guests-place.result in
-    let g = get_or gs c.args.place r in
-    let own : IsReady (member_of x g) = subst (λ (a : HostGuest). IsReady (member_of x a)) c.index-guests-place.is
-    (member_ready gs x c.args.place r c.requires.place c.index-guests-place.is ready) in
-    subst (λ (ks : List Member). All IsReady ks) (sym (changed c).1)
-    (ready_with (begun c.args.saved.now) gs c.args.place g x c.requires.place
-    (ap (λ (a : HostGuest). get_or gs c.args.place a) c.index-guests-place.is) ready
-    (subst IsReady c.adopt.ensures.member (c.adopt.ensures.ready own)))
+    let g = get_or gs c.args.place c.index-guests-place.result in
+    let is : g ≡ get_or gs c.args.place g = ap (λ (a : HostGuest). get_or gs c.args.place a) c.index-guests-place.is in
+    subst (λ (ks : List Member). All IsBounded ks) (sym (changed c).1)
+    (bounded_with (begun c.args.saved.now) gs c.args.place g x c.requires.place is c.requires.bounds
+    (member_bounded gs x c.args.place g c.requires.place is c.requires.bounds))

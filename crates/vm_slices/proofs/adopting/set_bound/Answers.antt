@@ -4,10 +4,9 @@ use Rattle.vm_machine.specs.declared.limits.TheConstants.{MONITOR_BYTES}
 use Rattle.vm_machine.specs.Rounds.{Member}
 use Rattle.vm_slices.specs.declared.host_guest.HostGuest.{HostGuest}
 use Rattle.vm_slices.specs.Adopting.{bounded}
-use Rattle.vm_slices.specs.Members.{IsReady}
-use Rattle.vm_slices.specs.Places.{member_of}
+use Rattle.vm_slices.specs.Members.{IsBounded}
 use Rattle.vm_slices.proofs.Adopted.{with_bound}
-use Rattle.vm_slices.proofs.Places.{member_ready, ready_with}
+use Rattle.vm_slices.proofs.Places.{bounded_with}
 use Rattle.vm_slices.proofs.adopting.set_bound.Goals as goal
 
 pub returns-clause-bound : goal.returns-clause-bound
@@ -20,15 +19,11 @@ returns-clause-stand c =
     (with_bound c.args.steps MONITOR_BYTES c.args.guests.now c.args.place c.index-guests-place.result c.args.board.now.world.ram
     c.requires.stand c.requires.place).0
 
-pub returns-clause-ready : goal.returns-clause-ready
-returns-clause-ready c ready =
+pub returns-clause-bounds : goal.returns-clause-bounds
+returns-clause-bounds c =
     let gs = c.args.guests.now in
     let x = c.args.board.now.world.ram in
-    let r = c.index-guests-place.result in
-    let g = get_or gs c.args.place r in
-    let own : IsReady (member_of x g) = subst (λ (a : HostGuest). IsReady (member_of x a)) c.index-guests-place.is
-    (member_ready gs x c.args.place r c.requires.place c.index-guests-place.is ready) in
-    subst (λ (ks : List Member). All IsReady ks) (sym (returns-clause-bound c))
-    (ready_with (bounded c.args.steps) gs c.args.place g x c.requires.place
-    (ap (λ (a : HostGuest). get_or gs c.args.place a) c.index-guests-place.is) ready
-    (record { going = own.going; bound = c.ranges.steps.fits }))
+    let g = get_or gs c.args.place c.index-guests-place.result in
+    subst (λ (ks : List Member). All IsBounded ks) (sym (returns-clause-bound c))
+    (bounded_with (bounded c.args.steps) gs c.args.place g x c.requires.place
+    (ap (λ (a : HostGuest). get_or gs c.args.place a) c.index-guests-place.is) c.requires.bounds c.ranges.steps.fits)

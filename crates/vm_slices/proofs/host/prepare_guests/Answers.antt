@@ -41,7 +41,7 @@ loop-guest-preserved c =
     let after = c.prepare.new.board.world.ram in
     let now = subst (λ (gs : List GuestAtStart). Stands all gs hosts base ram) c.in-Some.ensures.steps.0 c.loop-guest.invariant.stands in
     let next = next_stands all rest g hosts h base ram after now c.in_ok-host_guest.ensures.start c.in_ok-host_guest.ensures.place.0
-    c.in_ok-host_guest.ensures.place.1 c.in_ok-host_guest.ensures.seated c.in_ok-host_guest.ensures.ready c.prepare.ensures.within in
+    c.in_ok-host_guest.ensures.place.1 c.in_ok-host_guest.ensures.seated c.in_ok-host_guest.ensures.bound c.prepare.ensures.within in
     let size = c.ram.ensures in
     let behind : base + g.ram + AREA_BYTES ≡ base + c.ram.result + 65536 = omega arith in
     record {

@@ -1,10 +1,11 @@
 use Rattle.std.proofs.Common.{◌≡◌, ◌∙◌, ℕ, suc, ◌+◌, List, ◌++◌, length, ap, sym, subst, arith, rules}
 use Rattle.std.proofs.lemmas.List.{length-map}
 use Rattle.mb_instr.specs.declared.registers.Plain.{Plain}
-use Rattle.vm_machine.specs.Rounds.{Member}
+use Rattle.vm_machine.specs.Rounds.{Member, left_of_all}
 use Rattle.vm_slices.specs.Counting.{AreCounted}
 use Rattle.vm_slices.specs.Places.{member_of, members_of, marks_at, with_turn}
 use Rattle.vm_slices.proofs.Places.{first_turned, first_marks, none_turned, one_more, all_turned, no_marks, more_marks, all_marks, counted_on, nothing_counted}
+use Rattle.vm_slices.proofs.RoundLaws.{room_after}
 use Rattle.vm_slices.proofs.rounds.take_round.Goals as goal
 
 pub loop-place-init : goal.loop-place-init
@@ -13,8 +14,8 @@ loop-place-init c =
       turned = sym (none_turned c.args.slice all);
       counts = subst (λ (marks : List Plain). AreCounted all all marks c.args.native.now c.args.native.now) (sym (no_marks c.args.slice all))
           (nothing_counted all c.args.native.now);
-      ready = search rules;
-      room = search rules;
+      bounds = search rules;
+      rises = (omega arith, omega arith);
       stand = search rules;
     }
 
@@ -34,10 +35,18 @@ loop-place-preserved c =
       counts = subst (λ (ks : List Plain). AreCounted all next ks c.args.native.now c.take_turn.new.native) marks
           (counted_on all now next (first_marks slice place all) (marks_at slice place now) c.args.native.now c.loop-place.native c.take_turn.new.native
           c.loop-place.invariant.counts c.take_turn.ensures.counts);
-      ready = search rules;
-      room = search rules;
+      bounds = search rules;
+      rises =
+          let a = c.loop-place.invariant.rises.0 in let b = c.take_turn.ensures.rises.0 in
+          let d = c.loop-place.invariant.rises.1 in let e = c.take_turn.ensures.rises.1 in (omega arith, omega arith);
       stand = search rules;
     }
+
+-- there is room for what is left
+pub take_turn-requires-clause-room : goal.take_turn-requires-clause-room
+take_turn-requires-clause-room c =
+    room_after (left_of_all (members_of c.args.guests.now c.args.board.now.world.ram)) _ c.args.native.now c.loop-place.native c.requires.room
+    c.loop-place.invariant.rises
 
 pub returns-clause-members : goal.returns-clause-members
 returns-clause-members c =

@@ -2,8 +2,8 @@ use Rattle.std.proofs.Common.{◌≡◌}
 use Rattle.std.specs.Prelude.{All}
 use Rattle.vm_machine.specs.declared.limits.TheConstants.{MONITOR_BYTES}
 use Rattle.vm_machine.specs.Rounds.{left_of_all}
-use Rattle.vm_slices.specs.Counting.{AreCounted, HasRoom}
-use Rattle.vm_slices.specs.Members.{IsReady}
+use Rattle.vm_slices.specs.Counting.{AreCounted, RisesBy}
+use Rattle.vm_slices.specs.Members.{IsBounded}
 use Rattle.vm_slices.specs.Places.{members_of, StandFrom}
 use Rattle.vm_slices.proofs.Places.{first_turned, first_marks}
 use Rattle.vm_slices.proofs.rounds.take_round.Given as goal
@@ -13,7 +13,8 @@ invariant-loop-place l = record {
   turned : members_of l.guests l.board.world.ram ≡ first_turned l.slice l.place (members_of l.initial.guests l.initial.board.world.ram);
   counts : AreCounted (members_of l.initial.guests l.initial.board.world.ram) (members_of l.guests l.board.world.ram)
       (first_marks l.slice l.place (members_of l.initial.guests l.initial.board.world.ram)) l.initial.native l.native;
-  ready : All IsReady (members_of l.guests l.board.world.ram);
-  room : HasRoom (left_of_all (members_of l.guests l.board.world.ram)) l.native;
+  bounds : All IsBounded (members_of l.guests l.board.world.ram);
+  rises : RisesBy (left_of_all (members_of l.initial.guests l.initial.board.world.ram)) (left_of_all (members_of l.guests l.board.world.ram))
+      l.initial.native l.native;
   stand : StandFrom MONITOR_BYTES l.guests l.board.world.ram;
 }

@@ -1,13 +1,13 @@
-use Rattle.std.proofs.Common.{◌≡◌, ◌∙◌, List, get_or, set, ap, sym, subst, arith}
+use Rattle.std.proofs.Common.{◌≡◌, ◌∙◌, List, get_or, set, ap, sym, subst}
 use Rattle.std.specs.Prelude.{slice_get, All}
 use Rattle.vm_machine.specs.Seats.{IsSeated}
 use Rattle.vm_machine.specs.declared.limits.TheConstants.{MONITOR_BYTES}
 use Rattle.vm_machine.specs.Rounds.{Member, left, left_of_all}
 use Rattle.vm_slices.specs.declared.host_guest.HostGuest.{HostGuest}
 use Rattle.vm_slices.specs.Counting.{AreCounted, HasRoom, RisesBy}
-use Rattle.vm_slices.specs.Members.{after_turn, IsReady}
+use Rattle.vm_slices.specs.Members.{after_turn, IsBounded}
 use Rattle.vm_slices.specs.Places.{member_of, members_of, marks_at, with_turn, StandFrom}
-use Rattle.vm_slices.proofs.Places.{Turn, own_by, seated_at, member_ready, member_room, changed_at, turn_of_one, other_stays}
+use Rattle.vm_slices.proofs.Places.{Turn, own_by, seated_at, member_room, changed_at, turn_of_one, other_stays}
 use Rattle.vm_slices.proofs.rounds.take_turn.Goals as goal
 
 pub take_turn-requires-clause-seated : goal.take_turn-requires-clause-seated
@@ -16,13 +16,6 @@ take_turn-requires-clause-seated c =
     let ram = c.args.board.now.world.ram in
     subst (λ (g : HostGuest). IsSeated g.guest ram) c.index-guests-place.is
     (seated_at MONITOR_BYTES c.args.guests.now ram c.args.place r c.requires.stand c.requires.place c.index-guests-place.is)
-
-pub take_turn-requires-clause-ready : goal.take_turn-requires-clause-ready
-take_turn-requires-clause-ready c =
-    let r = c.index-guests-place.result in
-    let ram = c.args.board.now.world.ram in
-    subst (λ (g : HostGuest). IsReady (member_of ram g)) c.index-guests-place.is
-    (member_ready c.args.guests.now ram c.args.place r c.requires.place c.index-guests-place.is c.requires.ready)
 
 pub take_turn-requires-clause-room : goal.take_turn-requires-clause-room
 take_turn-requires-clause-room c =
@@ -40,9 +33,9 @@ turned c =
     let g = get_or gs c.args.place c.index-guests-place.result in
     let e = c.take_turn.ensures in
     turn_of_one c.args.slice c.args.place gs g x c.args.native.now c.take_turn.new.native c.requires.place
-    (ap (λ (a : HostGuest). get_or gs c.args.place a) c.index-guests-place.is) c.requires.ready
+    (ap (λ (a : HostGuest). get_or gs c.args.place a) c.index-guests-place.is) c.requires.bounds
     (own_by c.args.slice (member_of x g) (member_of c.take_turn.new.board.world.ram c.take_turn.new.self) c.args.native.now c.take_turn.new.native
-    e.turn e.counts e.ready e.room)
+    e.turn e.counts e.rises)
 
 stands : (c : goal.After-take_turn) → StandFrom MONITOR_BYTES (set c.args.guests.now c.args.place c.take_turn.new.self) c.take_turn.new.board.world.ram
     × (members_of (set c.args.guests.now c.args.place c.take_turn.new.self) c.take_turn.new.board.world.ram
@@ -70,19 +63,10 @@ returns-clause-counts c =
     subst (λ (ks : List Member). AreCounted ms ks (marks_at c.args.slice c.args.place ms) c.args.native.now c.take_turn.new.native)
     (sym (stands c).1) (turned c).counts
 
-pub returns-clause-ready : goal.returns-clause-ready
-returns-clause-ready c = subst (λ (ks : List Member). All IsReady ks) (sym (stands c).1) (turned c).ready
-
-pub returns-clause-room : goal.returns-clause-room
-returns-clause-room c =
-    let retired = (turned c).retired in
-    let exceptions = (turned c).exceptions in
-    let a = c.requires.room.0 in
-    let b = c.requires.room.1 in
-    subst (λ (ks : List Member). HasRoom (left_of_all ks) c.take_turn.new.native) (sym (stands c).1) (omega arith, omega arith)
+pub returns-clause-bounds : goal.returns-clause-bounds
+returns-clause-bounds c = subst (λ (ks : List Member). All IsBounded ks) (sym (stands c).1) (turned c).bounds
 
 pub returns-clause-rises : goal.returns-clause-rises
 returns-clause-rises c =
     let ms = members_of c.args.guests.now c.args.board.now.world.ram in
-    subst (λ (ks : List Member). RisesBy (left_of_all ms) (left_of_all ks) c.args.native.now c.take_turn.new.native) (sym (stands c).1)
-    ((turned c).retired, (turned c).exceptions)
+    subst (λ (ks : List Member). RisesBy (left_of_all ms) (left_of_all ks) c.args.native.now c.take_turn.new.native) (sym (stands c).1) (turned c).rises

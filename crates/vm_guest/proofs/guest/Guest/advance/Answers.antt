@@ -1,4 +1,4 @@
-use Rattle.std.proofs.Common.{◌≡◌, ◌∙◌, ◌+◌, ◌-◌, ℕ, suc, Some, ap, sym, subst, arith}
+use Rattle.std.proofs.Common.{◌≡◌, ◌∙◌, ◌+◌, ◌-◌, ℕ, suc, Some, refl, ap, sym, subst, arith}
 use Rattle.mb_port.specs.Routine.{run}
 use Rattle.mb_instr.specs.declared.registers.Plain.{Plain}
 use Rattle.mb_instr.specs.Registers.{plain_of}
@@ -10,7 +10,8 @@ use Rattle.vm_machine.specs.Bus.{guest_bus}
 use Rattle.vm_machine.specs.Seats.{Seat, Takes, guested_on}
 use Rattle.vm_machine.specs.Turns.{world_of}
 use Rattle.vm_guest.specs.Counting.{NoneDue}
-use Rattle.vm_guest.specs.Native.{gone_on, guest_run, reset_for}
+use Rattle.vm_step.specs.Taking.{settled}
+use Rattle.vm_guest.specs.Native.{gone_on, guest_run}
 use Rattle.vm_guest.specs.declared.rest.Rest.TheVariants.{Whole}
 use Rattle.vm_guest.specs.Rests.{rest_in}
 use Rattle.vm_guest.specs.Stops.{IsStopped}
@@ -18,10 +19,11 @@ use Rattle.vm_guest.specs.Turns.{ended_at, scene}
 use Rattle.vm_guest.specs.contracts.guest.Guest.{the_view}
 use Rattle.vm_guest.proofs.Runs.{MayRun, fewer}
 use Rattle.vm_guest.proofs.Stretches.{fewer_due}
-use Rattle.vm_guest.proofs.Advances.{Leaving, asked_is, assisted_by, counted_by, counted_native_by, found_by, goes_by_board, goes_idle, idle_by, idles_by}
+use Rattle.vm_guest.proofs.Advances.{Leaving, asked_is, assisted_by, awake, awake_seated, awake_takes, counted_by, counted_native_by}
+use Rattle.vm_guest.proofs.Advances.{found_by, idle_by, idles_by}
 use Rattle.vm_guest.proofs.Advances.{leaving, may_by, never_gone_by, stands, stops}
 use Rattle.vm_guest.proofs.guest.Guest.advance.Goals as goal
-use Rattle.vm_guest.proofs.guest.Guest.advance.Goals.{After-run_board, After-retired, After-go_on, After-go_on-in-Exit}
+use Rattle.vm_guest.proofs.guest.Guest.advance.Goals.{After-run_board, After-retired, After-settle, After-go_on-in-Exit}
 
 -- ---- a step in which the board has no part
 
@@ -50,15 +52,12 @@ pub returns-in-Idle-clause-takes : goal.returns-in-Idle-clause-takes
 returns-in-Idle-clause-takes c =
     let b = c.begin-level.new.self in
     let n = c.more_steps-more.result in
-    idle_by c.args.self.now b c.idle_on.new.self c.args.board.now.world.ram c.args.native.now n c.begin-level.ensures.begun c.requires.seated c.requires.going
+    let within = c.more_steps-more.ensures.within in
+    idle_by c.args.self.now b c.idle_on.new.self c.args.board.now.world.ram c.args.native.now n c.begin-level.ensures.begun c.requires.seated
     c.requires.takes
     (idles_by b (the_view c.self.inside) n c.begin-level.result c.self.view_is c.begin-level.ensures.level
-    (sym c.assisted.ensures ∙ c.in-Some.is ∙ ap (λ (k : Class). Some k) c.in-Idle.is) c.more_steps-more.ensures.none c.more_steps-more.ensures.due)
-    c.idle_on.ensures
-
-pub returns-in-Idle-clause-going : goal.returns-in-Idle-clause-going
-returns-in-Idle-clause-going c =
-    goes_idle c.args.self.now c.begin-level.new.self c.idle_on.new.self c.more_steps-more.result c.begin-level.ensures.begun c.requires.going c.requires.takes
+    (sym c.assisted.ensures ∙ c.in-Some.is ∙ ap (λ (k : Class). Some k) c.in-Idle.is) c.more_steps-more.ensures.none c.more_steps-more.ensures.due
+    (λ some. c.steps_behind.ensures.on (omega (arith, some, within))))
     c.idle_on.ensures
 
 -- ---- the board's run
@@ -66,7 +65,8 @@ returns-in-Idle-clause-going c =
 pub run_board-requires-clause-seated : goal.run_board-requires-clause-seated
 run_board-requires-clause-seated c = stands c.args.self.now c.begin-level.new.self c.args.board.now.world.ram c.begin-level.ensures.begun c.requires.seated
 
-may : (c : After-run_board) → MayRun c.args.self.now c.args.board.now.world.ram c.args.board.now.world.devices c.args.native.now c.more_steps-more.result
+may : (c : After-run_board)
+    → MayRun (awake c.args.self.now) c.args.board.now.world.ram c.args.board.now.world.devices c.args.native.now c.more_steps-more.result
 may c =
     let b = c.begin-level.new.self in
     let ram = c.args.board.now.world.ram in
@@ -74,9 +74,11 @@ may c =
     let native = c.args.native.now in
     let n = c.more_steps-more.result in
     let ran = c.run_board.ensures in
-    may_by c.args.self.now b ram devices native n c.begin-level.ensures.begun c.requires.seated c.requires.going c.requires.takes
+    let within = c.more_steps-more.ensures.within in
+    may_by (awake c.args.self.now) b ram devices native n c.begin-level.ensures.begun (awake_seated c.args.self.now ram c.requires.seated) refl
     (found_by b (the_view c.self.inside) ram devices native n c.begin-level.result c.self.view_is c.begin-level.ensures.level
-    (sym c.assisted.ensures ∙ c.in_default.is) c.more_steps-more.ensures.none c.more_steps-more.ensures.due ran.seven ran.bytes.0 ran.bytes.1 ran.fit)
+    (sym c.assisted.ensures ∙ c.in_default.is) c.more_steps-more.ensures.none c.more_steps-more.ensures.due
+    (λ some. c.steps_behind.ensures.on (omega (arith, some, within))) ran.seven ran.bytes.0 ran.bytes.1 ran.fit)
 
 ran : (c : After-run_board) → ran_to c.run_board.result c.run_board.new.board c.run_board.new.native
     ≡ guest_run c.begin-level.new.self c.args.board.now.world.ram c.args.board.now.world.devices c.args.native.now (suc c.more_steps-more.result)
@@ -89,48 +91,42 @@ ran c =
 pub unreachable-requires : goal.unreachable-requires
 unreachable-requires c =
     let r = (goal.at.unreachable-requires c).After-run_board in
-    never_gone_by c.args.self.now c.begin-level.new.self c.args.board.now.world.ram c.args.board.now.world.devices c.args.native.now
+    never_gone_by (awake c.args.self.now) c.begin-level.new.self c.args.board.now.world.ram c.args.board.now.world.devices c.args.native.now
     c.more_steps-more.result (ran_to c.run_board.result c.run_board.new.board c.run_board.new.native) c.begin-level.ensures.begun (may r) (ran r)
     c.in-Gone.is
 
 -- ---- counted to its end
 
 -- the guest that it hands back
-handed_back : (c : After-go_on)
-    → MayRun c.args.self.now c.args.board.now.world.ram c.args.board.now.world.devices c.args.native.now c.more_steps-more.result
+handed_back : (c : After-settle)
+    → MayRun (awake c.args.self.now) c.args.board.now.world.ram c.args.board.now.world.devices c.args.native.now c.more_steps-more.result
     → ran_to c.run_board.result c.run_board.new.board c.run_board.new.native
     ≡ guest_run c.begin-level.new.self c.args.board.now.world.ram c.args.board.now.world.devices c.args.native.now (suc c.more_steps-more.result)
     → Takes (c.more_steps-more.result + 1) (scene c.args.self.now c.args.board.now.world.ram c.args.native.now)
-    (scene c.go_on.new.self c.run_board.new.board.world.ram c.run_board.new.native)
+    (scene c.settle.new.self c.run_board.new.board.world.ram c.run_board.new.native)
 handed_back c may ran =
     let n = c.more_steps-more.result in
     let more : n + 1 ≡ suc n = omega arith in
     let b = c.begin-level.new.self in
-    subst (λ (k : ℕ). Takes k (scene c.args.self.now c.args.board.now.world.ram c.args.native.now)
-    (scene c.go_on.new.self c.run_board.new.board.world.ram c.run_board.new.native)) (sym more)
-    (counted_by c.args.self.now b c.go_on.new.self c.args.board.now.world.ram c.args.board.now.world.devices c.args.native.now n
+    awake_takes c.args.self.now c.args.board.now.world.ram c.args.native.now (n + 1)
+    (scene c.settle.new.self c.run_board.new.board.world.ram c.run_board.new.native) (omega arith) c.requires.takes
+    (subst (λ (k : ℕ). Takes k (scene (awake c.args.self.now) c.args.board.now.world.ram c.args.native.now)
+    (scene c.settle.new.self c.run_board.new.board.world.ram c.run_board.new.native)) (sym more)
+    (counted_by (awake c.args.self.now) b c.settle.new.self c.args.board.now.world.ram c.args.board.now.world.devices c.args.native.now n
     (ran_to c.run_board.result c.run_board.new.board c.run_board.new.native) c.plain.result c.begin-level.ensures.begun may ran c.in-Counted.is
     c.run_board.ensures.wide (c.plain.ensures.means ∙ ap (λ (p : Cpu). plain_of p.regs) c.cpu.ensures)
-    (c.go_on.ensures ∙ ap (λ (k : ℕ). gone_on b n k c.plain.result) more))
+    (c.settle.ensures ∙ ap settled (c.go_on.ensures ∙ ap (λ (k : ℕ). gone_on b n k c.plain.result) more))))
 
 pub returns-in-Counted-clause-takes : goal.returns-in-Counted-clause-takes
 returns-in-Counted-clause-takes c =
     let r = (goal.at.returns-in-Counted-clause-takes c).After-run_board in
     handed_back c (may r) (ran r)
 
-pub returns-in-Counted-clause-going : goal.returns-in-Counted-clause-going
-returns-in-Counted-clause-going c =
-    let r = (goal.at.returns-in-Counted-clause-going c).After-run_board in
-    let n = c.more_steps-more.result in
-    goes_by_board c.args.self.now c.begin-level.new.self c.go_on.new.self
-    (reset_for c.args.self.now c.args.board.now.world.ram c.args.board.now.world.devices) c.args.native.now n n (n + 1)
-    c.plain.result c.begin-level.ensures.begun (may r) c.go_on.ensures
-
 pub returns-in-Counted-clause-native : goal.returns-in-Counted-clause-native
 returns-in-Counted-clause-native c =
     let r = (goal.at.returns-in-Counted-clause-native c).After-run_board in
     let n = c.more_steps-more.result in
-    let counts = counted_native_by c.args.self.now c.begin-level.new.self c.args.board.now.world.ram c.args.board.now.world.devices c.args.native.now n
+    let counts = counted_native_by (awake c.args.self.now) c.begin-level.new.self c.args.board.now.world.ram c.args.board.now.world.devices c.args.native.now n
     (ran_to c.run_board.result c.run_board.new.board c.run_board.new.native) c.begin-level.ensures.begun (may r) (ran r) c.in-Counted.is in
     let retired : c.run_board.new.native.retired ≡ c.args.native.now.retired + suc n = counts.0 in
     let exceptions : c.run_board.new.native.exceptions ≡ c.args.native.now.exceptions = counts.1 in
@@ -138,12 +134,12 @@ returns-in-Counted-clause-native c =
 
 -- ---- left
 
-left : (c : After-retired) → MayRun c.args.self.now c.args.board.now.world.ram c.args.board.now.world.devices c.args.native.now c.more_steps-more.result
+left : (c : After-retired) → MayRun (awake c.args.self.now) c.args.board.now.world.ram c.args.board.now.world.devices c.args.native.now c.more_steps-more.result
     → ran_to c.run_board.result c.run_board.new.board c.run_board.new.native
     ≡ guest_run c.begin-level.new.self c.args.board.now.world.ram c.args.board.now.world.devices c.args.native.now (suc c.more_steps-more.result)
     → Leaving c.args.native.now c.more_steps-more.result c.run_board.new.board c.run_board.new.native (c.retired.result - c.retired-before.result)
 left c may ran =
-    leaving c.args.self.now c.begin-level.new.self c.args.board.now.world.ram c.args.board.now.world.devices c.args.native.now c.more_steps-more.result
+    leaving (awake c.args.self.now) c.begin-level.new.self c.args.board.now.world.ram c.args.board.now.world.devices c.args.native.now c.more_steps-more.result
     c.run_board.result c.run_board.new.board c.run_board.new.native c.in-Exit.vector (c.retired.result - c.retired-before.result)
     c.begin-level.ensures.begun may ran c.in-Exit.is c.run_board.ensures.wide
     (ap (λ (k : ℕ). k - c.retired-before.result) c.retired.ensures ∙ ap (λ (k : ℕ). c.run_board.new.native.retired - k) c.retired-before.ensures)
@@ -168,10 +164,11 @@ go_on-requires-in-Exit-clause-room c =
     let r = goal.at.go_on-requires-in-Exit-clause-room c in
     let few = (left r.After-retired (may r.After-run_board) (ran r.After-run_board)).few in
     let within = c.more_steps-more.ensures.within in
+    let behind = c.steps_behind.ensures.within in
     let steps = ap (λ (s : Seat). s.steps) c.begin-level.ensures.begun in
     let some = c.requires.limit in
     let room = c.requires.room in
-    omega (arith, few, within, steps, some, room)
+    omega (arith, few, within, behind, steps, some, room)
 
 pub go_on-requires-in-Exit-clause-none : goal.go_on-requires-in-Exit-clause-none
 go_on-requires-in-Exit-clause-none c =
@@ -191,14 +188,14 @@ go_on-requires-in-Exit-clause-due c =
 
 -- the guest in the middle of that step
 stopped : (c : After-go_on-in-Exit)
-    → MayRun c.args.self.now c.args.board.now.world.ram c.args.board.now.world.devices c.args.native.now c.more_steps-more.result
+    → MayRun (awake c.args.self.now) c.args.board.now.world.ram c.args.board.now.world.devices c.args.native.now c.more_steps-more.result
     → ran_to c.run_board.result c.run_board.new.board c.run_board.new.native
     ≡ guest_run c.begin-level.new.self c.args.board.now.world.ram c.args.board.now.world.devices c.args.native.now (suc c.more_steps-more.result)
-    → IsStopped c.args.self.now c.args.board.now.world.ram c.args.native.now (c.retired.result - c.retired-before.result) 0 c.go_on-in-Exit.new.self
+    → IsStopped (awake c.args.self.now) c.args.board.now.world.ram c.args.native.now (c.retired.result - c.retired-before.result) 0 c.go_on-in-Exit.new.self
     c.run_board.new.board c.run_board.new.native c.in-Exit.vector
 stopped c could went =
     let n = c.retired.result - c.retired-before.result in
-    stops c.args.self.now c.begin-level.new.self c.go_on-in-Exit.new.self c.args.board.now.world.ram c.args.board.now.world.devices c.args.native.now
+    stops (awake c.args.self.now) c.begin-level.new.self c.go_on-in-Exit.new.self c.args.board.now.world.ram c.args.board.now.world.devices c.args.native.now
     c.more_steps-more.result c.run_board.result c.run_board.new.board c.run_board.new.native c.in-Exit.vector n c.begin-level.ensures.begun could went
     c.in-Exit.is c.run_board.ensures.wide
     (ap (λ (k : ℕ). k - c.retired-before.result) c.retired.ensures ∙ ap (λ (k : ℕ). c.run_board.new.native.retired - k) c.retired-before.ensures)
@@ -208,7 +205,7 @@ pub end_step-requires-clause-stopped : goal.end_step-requires-clause-stopped
 end_step-requires-clause-stopped c =
     let r = goal.at.end_step-requires-clause-stopped c in
     record {
-      guest = c.args.self.now;
+      guest = awake c.args.self.now;
       ram = c.args.board.now.world.ram;
       native = c.args.native.now;
       taken = c.retired.result - c.retired-before.result;
@@ -220,11 +217,12 @@ end_step-requires-clause-room c =
     let r = goal.at.end_step-requires-clause-room c in
     let few = (left r.After-retired (may r.After-run_board) (ran r.After-run_board)).few in
     let within = c.more_steps-more.ensures.within in
+    let behind = c.steps_behind.ensures.within in
     let steps = ap (λ (s : Seat). s.steps) c.begin-level.ensures.begun in
     let on = ap (λ (s : Seat). s.steps) c.go_on-in-Exit.ensures in
     let some = c.requires.limit in
     let room = c.requires.room in
-    omega (arith, few, within, steps, on, some, room)
+    omega (arith, few, within, behind, steps, on, some, room)
 
 pub end_step-requires-clause-native : goal.end_step-requires-clause-native
 end_step-requires-clause-native c =
@@ -232,40 +230,46 @@ end_step-requires-clause-native c =
     let gone = left r.After-retired (may r.After-run_board) (ran r.After-run_board) in
     let few = gone.few in
     let within = c.more_steps-more.ensures.within in
+    let behind = c.steps_behind.ensures.within in
     let some = c.requires.limit in
     let retired = gone.retired in
     let exceptions = gone.exceptions in
     let count = c.requires.native.0 in
     let left = c.requires.native.1 in
-    (omega (arith, few, within, some, retired, count), omega (arith, some, exceptions, left))
+    (omega (arith, few, within, behind, some, retired, count), omega (arith, some, exceptions, left))
 
 pub overflow_add-result-in-Exit : goal.overflow_add-result-in-Exit
 overflow_add-result-in-Exit c =
     let r = goal.at.overflow_add-result-in-Exit c in
     let few = (left r.After-retired (may r.After-run_board) (ran r.After-run_board)).few in
     let within = c.more_steps-more.ensures.within in
+    let behind = c.steps_behind.ensures.within in
     let some = c.requires.limit in
     let fits = c.ranges.limit.fits in
-    omega (arith, few, within, some, fits)
+    omega (arith, few, within, behind, some, fits)
 
 pub returns-in-Exit-clause-some : goal.returns-in-Exit-clause-some
 returns-in-Exit-clause-some c =
     let r = goal.at.returns-in-Exit-clause-some c in
     let few = (left r.After-retired (may r.After-run_board) (ran r.After-run_board)).few in
     let within = c.more_steps-more.ensures.within in
+    let behind = c.steps_behind.ensures.within in
     let some = c.requires.limit in
-    (omega arith, omega (arith, few, within, some))
+    (omega arith, omega (arith, few, within, behind, some))
 
 pub returns-in-Exit-clause-takes : goal.returns-in-Exit-clause-takes
 returns-in-Exit-clause-takes c =
     let r = goal.at.returns-in-Exit-clause-takes c in
-    c.end_step.ensures.takes (record {
-      guest = c.args.self.now;
+    let n = c.retired.result - c.retired-before.result in
+    awake_takes c.args.self.now c.args.board.now.world.ram c.args.native.now (n + 1)
+    (scene c.end_step.new.self c.end_step.new.board.world.ram c.end_step.new.native) (omega arith) c.requires.takes
+    (c.end_step.ensures.takes (record {
+      guest = awake c.args.self.now;
       ram = c.args.board.now.world.ram;
       native = c.args.native.now;
-      taken = c.retired.result - c.retired-before.result;
+      taken = n;
       is = stopped r.After-go_on-in-Exit (may r.After-run_board) (ran r.After-run_board);
-    })
+    }))
 
 pub returns-in-Exit-clause-native : goal.returns-in-Exit-clause-native
 returns-in-Exit-clause-native c =

@@ -7,7 +7,7 @@ use Rattle.mb_board.specs.State.{BoardState}
 use Rattle.vm_guest.specs.Memory.{contents_from}
 use Rattle.vm_guest.specs.Counting.{tally_in}
 use Rattle.vm_guest.proofs.Loads.{zeros, lie_inside}
-use Rattle.vm_guest.proofs.Prepared.{Laid, laid, cleared_count, goes, starts, seated}
+use Rattle.vm_guest.proofs.Prepared.{Laid, laid, cleared_count, starts, seated}
 use Rattle.vm_guest.proofs.guest.Guest.prepare.Goals as goal
 
 pub load-requires-clause-lie : goal.load-requires-clause-lie
@@ -54,10 +54,6 @@ returns-clause-seated c =
     (tally_in c.none.result) c.requires.base.0 c.requires.base.1 c.requires.ram.1 (omega (arith, inside, count))
     (c.clear-2.ensures.area ∙ c.in_ok-shadow.ensures.0)
     c.clear-2.ensures.tables c.clear-2.ensures.shadow
-
-pub returns-clause-going : goal.returns-clause-going
-returns-clause-going c = λ takes.
-    goes c.at_reset.result c.in_ok-devices.devices c.long.result c.long-2.result c.args.ram c.at_reset.ensures c.in_ok-devices.ensures
 
 pub returns-clause-within : goal.returns-clause-within
 returns-clause-within c = (is_laid c).within

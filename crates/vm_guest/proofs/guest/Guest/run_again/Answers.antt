@@ -5,11 +5,11 @@ use Rattle.mb_board.specs.State.{ran_to}
 use Rattle.vm_meaning.specs.declared.RunEnd.TheVariants.{Exit}
 use Rattle.vm_meaning.specs.Native.{Ran}
 use Rattle.vm_machine.specs.Seats.{Seat, Takes}
+use Rattle.vm_step.specs.Taking.{settled}
 use Rattle.vm_guest.specs.Stops.{BeginsAgain}
-use Rattle.vm_guest.specs.Turns.{scene, IsGoing}
+use Rattle.vm_guest.specs.Turns.{scene}
 use Rattle.vm_guest.proofs.Runs.{MayRunOn, counted_native, never_gone}
-use Rattle.vm_guest.proofs.Stops.{from, begun_is, resumes, again_takes, again_stopped, left_counts}
-use Rattle.vm_guest.proofs.Advances.{goes_by_board}
+use Rattle.vm_guest.proofs.Stops.{from, resumes, again_takes, again_stopped, left_counts}
 use Rattle.vm_guest.proofs.guest.Guest.run_again.Goals.{After-resume_board}
 use Rattle.vm_guest.proofs.guest.Guest.run_again.Goals as goal
 
@@ -44,19 +44,10 @@ pub returns-in-Counted-clause-takes : goal.returns-in-Counted-clause-takes
 returns-in-Counted-clause-takes c = λ none w.
     let r = (goal.at.returns-in-Counted-clause-takes c).After-resume_board in
     subst (λ (s : Seat). Takes (w.taken + 1) (scene w.guest w.ram w.native) (scene s c.resume_board.new.board.world.ram c.resume_board.new.native))
-    (sym c.count_refilled.ensures)
+    (sym (c.settle.ensures ∙ ap settled c.count_refilled.ensures))
     (again_takes w.guest c.args.self.now w.ram c.args.board.now w.native c.args.native.now w.taken (suc w.refills) w.underway w.midway
     (may r w) c.go_on.new.self (ended r) c.plain.result w.refills refl c.resume_board.ensures.means c.in-Counted.is
     c.resume_board.ensures.wide (c.plain.ensures.means ∙ ap (λ (p : Cpu). plain_of p.regs) c.cpu.ensures) c.go_on.ensures)
-
-pub returns-in-Counted-clause-going : goal.returns-in-Counted-clause-going
-returns-in-Counted-clause-going c = λ none.
-    let r = (goal.at.returns-in-Counted-clause-going c).After-resume_board in
-    let w = c.requires.again in
-    let is = begun_is w.guest c.args.self.now w.ram c.args.board.now w.native c.args.native.now w.taken (suc w.refills) w.underway w.midway in
-    subst IsGoing (sym c.count_refilled.ensures)
-    (goes_by_board (start r w) c.args.self.now c.go_on.new.self c.args.board.now c.args.native.now 0 0 1
-    c.plain.result (sym is) (may r w) c.go_on.ensures)
 
 pub returns-in-Counted-clause-native : goal.returns-in-Counted-clause-native
 returns-in-Counted-clause-native c =

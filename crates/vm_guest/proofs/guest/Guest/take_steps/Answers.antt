@@ -1,4 +1,4 @@
-use Rattle.std.proofs.Common.{◌≡◌, ◌∙◌, ◌-◌, ℕ, true, false, refl, ap, sym, subst, inl, inr, arith}
+use Rattle.std.proofs.Common.{◌≡◌, ◌∙◌, ◌-◌, ℕ, false, ap, sym, subst, inl, inr, arith}
 use Rattle.mb_machine.specs.Machine.{takes_steps}
 use Rattle.vm_machine.specs.Seats.{Seat, Takes}
 use Rattle.vm_machine.proofs.Seated.{nothing_is_taken}
@@ -14,10 +14,8 @@ loop-left-init c =
       few = omega arith;
       takes = subst (λ (k : ℕ). Takes k s s) none (nothing_is_taken s c.requires.seated);
       steps = omega arith;
-      going = c.requires.going;
       retired = omega arith;
       exceptions = omega arith;
-      stays = λ still. (refl, refl, refl);
     }
 
 pub returns-then-not-takes_steps-clause-takes : goal.returns-then-not-takes_steps-clause-takes
@@ -29,8 +27,6 @@ returns-then-not-takes_steps-clause-takes c =
 
 pub loop-left-preserved : goal.loop-left-preserved
 loop-left-preserved c =
-    let going : takes_steps c.loop-left.self.state ≡ true =
-    ap (λ (g : Seat). takes_steps g.state) (sym c.self.view_is) ∙ sym c.takes_steps.ensures ∙ c.if-not-takes_steps.false in
     let now = c.loop-left.invariant in
     let few = now.few in
     let steps = now.steps in
@@ -47,11 +43,8 @@ loop-left-preserved c =
           (scene c.loop-left.self c.loop-left.board.world.ram c.loop-left.native)
           (scene c.advance-left.new.self c.advance-left.new.board.world.ram c.advance-left.new.native) few more now.takes after.takes;
       steps = omega arith;
-      going = after.going;
       retired = omega arith;
       exceptions = omega arith;
-      stays = λ still. absurd (let same = ap (λ (g : Seat). takes_steps g.state) (now.stays still).0 in
-          let e : false ≡ true = sym still ∙ sym same ∙ going in grind arith);
     }
 
 pub returns-clause-takes : goal.returns-clause-takes
@@ -59,3 +52,21 @@ returns-clause-takes c =
     let none : c.loop-left.left ≡ 0 = omega arith in
     taken_all c.args.limit c.loop-left.left (scene c.args.self.now c.args.board.now.world.ram c.args.native.now)
     (scene c.loop-left.self c.loop-left.board.world.ram c.loop-left.native) c.loop-left.invariant.few (inl none) c.loop-left.invariant.takes
+
+pub returns-clause-native : goal.returns-clause-native
+returns-clause-native c =
+    let now = c.loop-left.invariant in
+    let few = now.few in
+    let steps = now.steps in
+    let retired = now.retired in
+    let exceptions = now.exceptions in
+    (omega arith, omega arith)
+
+pub returns-then-not-takes_steps-clause-native : goal.returns-then-not-takes_steps-clause-native
+returns-then-not-takes_steps-clause-native c =
+    let now = c.loop-left.invariant in
+    let few = now.few in
+    let steps = now.steps in
+    let retired = now.retired in
+    let exceptions = now.exceptions in
+    (omega arith, omega arith)

@@ -1,13 +1,14 @@
-use Rattle.std.proofs.Common.{◌∙◌, List, ℕ, ap, sym, subst, arith}
-use Rattle.mb_machine.specs.Machine.{reset_with}
-use Rattle.mb_board.specs.State.{BoardState}
-use Rattle.vm_machine.specs.Seats.{Takes}
+use Rattle.std.proofs.Common.{◌≡◌, ◌∙◌, List, ℕ, true, false, ap, sym, subst, arith}
+use Rattle.mb_devices.specs.Devices.{restarted}
+use Rattle.mb_machine.specs.Machine.{reset_with, takes_steps}
+use Rattle.mb_board.specs.State.{board_at_reset}
+use Rattle.vm_machine.specs.Seats.{Seat, Takes}
 use Rattle.vm_guest.specs.Turns.{scene}
-use Rattle.mb_model.specs.Keeping.{rule_k}
+use Rattle.mb_model.specs.Keeping.{rule_a, rule_k}
 use Rattle.vm_machine.specs.Seats.{machine_on}
 use Rattle.vm_meaning.proofs.Runs.{ended-is_free}
 use Rattle.vm_guest.proofs.Free.{goes_on_freely}
-use Rattle.vm_guest.proofs.Turning.{takes_machine}
+use Rattle.vm_guest.proofs.Turning.{stays_taken, takes_machine}
 use Rattle.vm_guest.proofs.guest.Guest.turn.Goals as goal
 
 pub reset-requires : goal.reset-requires
@@ -36,9 +37,44 @@ returns-clause-free_on c =
     ended-is_free rule_k c.args.self.now.script c.args.limit (machine_on c.args.self.now c.args.board.now.world.ram)
     (machine_on c.take_steps.new.self c.reset.new.self.world.ram) (returns-clause-machine c)
 
-pub returns-clause-stays : goal.returns-clause-stays
-returns-clause-stays c = λ still. let same = c.take_steps.ensures.stays still in (same.0, c.reset.ensures.ram ∙ same.1, same.2)
-
 pub returns-clause-board : goal.returns-clause-board
-unfolding reset_with
-returns-clause-board c = ap (λ (b : BoardState). b.state) c.reset.ensures.after
+returns-clause-board c = λ goes. (
+  c.take_steps.new.board.world.devices,
+  c.reset.ensures.after
+      ∙ ap (λ (ram : List ℕ). board_at_reset (reset_with rule_a (restarted c.take_steps.new.board.world.devices) ram)) (sym c.reset.ensures.ram),
+)
+
+pub returns-clause-stays : goal.returns-clause-stays
+returns-clause-stays c = λ still. absurd (
+    let goes : takes_steps c.args.self.now.state ≡ true =
+    ap (λ (g : Seat). takes_steps g.state) (sym c.self.view_is) ∙ sym c.takes_steps.ensures ∙ c.if-not-takes_steps.false in
+    let e : false ≡ true = sym still ∙ goes in cc e
+    )
+
+-- ---- a guest that takes no steps
+
+pub returns-then-not-takes_steps-clause-takes : goal.returns-then-not-takes_steps-clause-takes
+returns-then-not-takes_steps-clause-takes c =
+    let still : takes_steps c.args.self.now.state ≡ false =
+    ap (λ (g : Seat). takes_steps g.state) (sym c.self.view_is) ∙ sym c.takes_steps.ensures ∙ c.if-not-takes_steps.true in
+    stays_taken c.args.limit (scene c.args.self.now c.args.board.now.world.ram c.args.native.now) still c.requires.seated
+
+pub returns-then-not-takes_steps-clause-machine : goal.returns-then-not-takes_steps-clause-machine
+returns-then-not-takes_steps-clause-machine c =
+    let s = scene c.args.self.now c.args.board.now.world.ram c.args.native.now in
+    takes_machine c.args.limit s s (returns-then-not-takes_steps-clause-takes c)
+
+pub returns-then-not-takes_steps-clause-free : goal.returns-then-not-takes_steps-clause-free
+returns-then-not-takes_steps-clause-free c = goes_on_freely _ _ _ _ (returns-then-not-takes_steps-clause-machine c)
+
+pub returns-then-not-takes_steps-clause-free_on : goal.returns-then-not-takes_steps-clause-free_on
+returns-then-not-takes_steps-clause-free_on c =
+    let m = machine_on c.args.self.now c.args.board.now.world.ram in
+    ended-is_free rule_k c.args.self.now.script c.args.limit m m (returns-then-not-takes_steps-clause-machine c)
+
+pub returns-then-not-takes_steps-clause-board : goal.returns-then-not-takes_steps-clause-board
+returns-then-not-takes_steps-clause-board c = λ goes. absurd (
+    let still : takes_steps c.args.self.now.state ≡ false =
+    ap (λ (g : Seat). takes_steps g.state) (sym c.self.view_is) ∙ sym c.takes_steps.ensures ∙ c.if-not-takes_steps.true in
+    let e : false ≡ true = sym still ∙ goes in cc e
+    )

@@ -1,7 +1,5 @@
-use Rattle.std.proofs.Common.{◌≡◌, ◌∙◌, ◌-◌, length, ap, sym, subst, arith}
-use Rattle.std.specs.Prelude.{slice_get, IfSome}
+use Rattle.std.proofs.Common.{◌≡◌, ◌∙◌, ◌-◌, length, ap, sym, arith}
 use Rattle.std.proofs.lemmas.List.{length-map}
-use Rattle.vm_slices.specs.Adopting.{CanAdopt}
 use Rattle.vm_slices.specs.Places.{HostState, member_of, members_in}
 use Rattle.vm_slices.proofs.host.Host.adopt.Goals as goal
 

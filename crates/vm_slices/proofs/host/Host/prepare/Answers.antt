@@ -19,6 +19,7 @@ invariant_of-result c =
           let count = as_many c.args.session.guests c.in_ok-guests.guests.items c.prepare_guests.new.board.world.ram members in
           let few = c.requires.few in omega arith;
       stand = c.in_ok-guests.ensures.stand;
+      bounds = c.in_ok-guests.ensures.bounds;
     }
 
 pub returns-clause-members : goal.returns-clause-members

@@ -3,7 +3,7 @@ use Rattle.vm_machine.specs.Rounds.{Member, all_done, left_of_all, marks_after, 
 use Rattle.vm_slices.specs.Counting.{AreCounted}
 use Rattle.vm_slices.specs.Places.{HostState, members_in}
 use Rattle.vm_slices.specs.Members.{machines_of, tallies_of}
-use Rattle.vm_slices.proofs.RoundLaws.{all_left_few, machines_end, none_so_far, one_round, round_left, run_ends, tallies_end}
+use Rattle.vm_slices.proofs.RoundLaws.{first_room, machines_end, none_so_far, one_round, rises_few, room_after, round_left, run_ends, tallies_end}
 use Rattle.vm_slices.proofs.host.Host.run.Goals as goal
 
 pub loop-self-smaller : goal.loop-self-smaller
@@ -14,19 +14,22 @@ loop-self-smaller c =
     (round_left s.slice (members_in s) c.is_done.ensures.slice more)
 
 pub loop-self-init : goal.loop-self-init
-loop-self-init c =
+loop-self-init c = record {
+  far = none_so_far c.args.self.now.slice (members_in c.args.self.now) c.args.native.now;
+  slice = refl;
+  again = λ done. (refl, refl);
+}
+
+-- there is room for what is left
+pub take_round-requires : goal.take_round-requires
+take_round-requires c =
     let ms = members_in c.args.self.now in
-    let left = all_left_few ms c.requires.ready in
     let count = c.guest_count.ensures.count in
     let few = c.guest_count.ensures.few in
-    let retired = c.requires.native.0 in
-    let exceptions = c.requires.native.1 in
     record {
-      far = none_so_far c.args.self.now.slice ms c.args.native.now;
-      ready = c.requires.ready;
-      room = (omega (arith, left, count, few, retired), omega (arith, left, count, few, exceptions));
-      slice = refl;
-      again = λ done. (refl, refl);
+      room = room_after (left_of_all ms) (left_of_all (members_in c.loop-self.self)) c.args.native.now c.loop-self.native
+          (first_room ms c.args.native.now c.guest_count.ensures.bounds (omega (arith, count, few)) c.requires.native.0 c.requires.native.1)
+          c.loop-self.invariant.far.rises;
     }
 
 pub loop-self-preserved : goal.loop-self-preserved
@@ -42,9 +45,7 @@ loop-self-preserved c =
           c.take_round.new.native (omega (arith, slice, some)) more
           (after.members ∙ ap (λ (n : ℕ). members_after n (members_in s)) slice) c.loop-self.invariant.far
           (subst (λ (n : ℕ). AreCounted (members_in s) (members_in c.take_round.new.self) (marks_after n (members_in s)) c.loop-self.native
-          c.take_round.new.native) slice after.counts);
-      ready = after.ready;
-      room = after.room;
+          c.take_round.new.native) slice after.counts) after.rises;
       slice = after.slice ∙ slice;
       again = λ done. absurd (
           let same = ap (λ (h : HostState). all_done (members_in h)) (c.loop-self.invariant.again done).0 in
@@ -77,3 +78,10 @@ returns-clause-tallies c =
     let slice = c.is_done.ensures.slice in
     let same = c.loop-self.invariant.slice in
     ap tallies_of (returns-clause-rounds c) ∙ tallies_end first.slice (members_in first) (omega (arith, slice, same))
+
+pub returns-clause-few : goal.returns-clause-few
+returns-clause-few c =
+    let count = c.guest_count.ensures.count in
+    let few = c.guest_count.ensures.few in
+    rises_few (members_in c.args.self.now) (left_of_all (members_in c.loop-self.self)) c.args.native.now c.loop-self.native
+    c.guest_count.ensures.bounds (omega (arith, count, few)) c.loop-self.invariant.far.rises

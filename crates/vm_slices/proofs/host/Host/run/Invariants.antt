@@ -1,8 +1,5 @@
 use Rattle.std.proofs.Common.{◌≡◌, true}
-use Rattle.std.specs.Prelude.{All}
 use Rattle.vm_machine.specs.Rounds.{all_done, left_of_all}
-use Rattle.vm_slices.specs.Counting.{HasRoom}
-use Rattle.vm_slices.specs.Members.{IsReady}
 use Rattle.vm_slices.specs.Places.{members_in}
 use Rattle.vm_slices.proofs.RoundLaws.{SoFar}
 use Rattle.vm_slices.proofs.host.Host.run.Given as goal
@@ -10,8 +7,6 @@ use Rattle.vm_slices.proofs.host.Host.run.Given as goal
 abbrev pub invariant-loop-self : goal.invariant-loop-self
 invariant-loop-self l = record {
   far : SoFar l.initial.self.slice (members_in l.initial.self) (members_in l.self) l.initial.native l.native;
-  ready : All IsReady (members_in l.self);
-  room : HasRoom (left_of_all (members_in l.self)) l.native;
   slice : l.self.slice ≡ l.initial.self.slice;
   again : all_done (members_in l.initial.self) ≡ true → (l.self ≡ l.initial.self) × (l.native ≡ l.initial.native);
 }

@@ -1,29 +1,30 @@
 use Rattle.std.proofs.Common.{◌≡◌, ◌∙◌, [], List, drop, length, map, refl, ap, subst, arith}
 use Rattle.std.proofs.lemmas.List.{drop_all}
 use Rattle.mb_script.specs.declared.turn.Turn.{Turn}
-use Rattle.vm_machine.specs.Rounds.{Member}
+use Rattle.vm_machine.specs.Rounds.{Member, left_of_all}
 use Rattle.vm_slices.specs.Members.{machine_at_end, machines_of, tally_at_end}
 use Rattle.vm_slices.specs.Orders.{each_given}
 use Rattle.vm_slices.specs.Places.{members_in}
 use Rattle.vm_slices.proofs.Orders.{SoFar, as_many, machines_end, machines_so, next_turn, none_so_far, order_ends, order_given, tallies_end}
-use Rattle.vm_slices.proofs.RoundLaws.{all_left_few}
+use Rattle.vm_slices.proofs.RoundLaws.{first_room, rises_few, room_after}
 use Rattle.vm_slices.proofs.host.Host.run_order.Goals as goal
 
 pub loop-turn-init : goal.loop-turn-init
-loop-turn-init c =
+loop-turn-init c = record {
+  far = none_so_far c.args.turns.now (members_in c.args.self.now) c.args.native.now;
+  slice = refl;
+  count = refl;
+}
+
+-- there is room for what is left
+pub take_turn-requires-clause-room : goal.take_turn-requires-clause-room
+take_turn-requires-clause-room c =
     let ms = members_in c.args.self.now in
-    let left = all_left_few ms c.requires.ready in
     let count = c.guest_count.ensures.count in
     let few = c.guest_count.ensures.few in
-    let retired = c.requires.native.0 in
-    let exceptions = c.requires.native.1 in
-    record {
-      far = none_so_far c.args.turns.now ms c.args.native.now;
-      ready = c.requires.ready;
-      room = (omega (arith, left, count, few, retired), omega (arith, left, count, few, exceptions));
-      slice = refl;
-      count = refl;
-    }
+    room_after (left_of_all ms) (left_of_all (members_in c.loop-turn.self)) c.args.native.now c.loop-turn.native
+    (first_room ms c.args.native.now c.guest_count.ensures.bounds (omega (arith, count, few)) c.requires.native.0 c.requires.native.1)
+    c.loop-turn.invariant.far.rises
 
 pub loop-turn-preserved : goal.loop-turn-preserved
 loop-turn-preserved c =
@@ -32,8 +33,6 @@ loop-turn-preserved c =
     record {
       far = next_turn c.args.turns.now c.loop-turn.turn-index _ (members_in c.args.self.now) now (members_in c.take_turn.new.self) c.args.native.now
           c.loop-turn.native c.take_turn.new.native c.loop-turn-test.true c.loop-turn.invariant.far after.turn after.counts after.rises;
-      ready = after.ready;
-      room = after.room;
       slice = after.slice ∙ c.loop-turn.invariant.slice;
       count = ap (λ (ms : List Member). length ms) after.turn ∙ as_many _ _ now ∙ c.loop-turn.invariant.count;
     }
@@ -74,14 +73,9 @@ pub returns-clause-tally_ends : goal.returns-clause-tally_ends
 returns-clause-tally_ends c =
     ap (λ (ms : List Member). map tally_at_end ms) (ended c) ∙ tallies_end c.args.turns.now 1 (members_in c.args.self.now)
 
-pub returns-clause-rises : goal.returns-clause-rises
-returns-clause-rises c = (far c).rises
-
 pub returns-clause-few : goal.returns-clause-few
 returns-clause-few c =
-    let left = all_left_few (members_in c.args.self.now) c.requires.ready in
     let count = c.guest_count.ensures.count in
     let few = c.guest_count.ensures.few in
-    let retired = (far c).rises.0 in
-    let exceptions = (far c).rises.1 in
-    (omega (arith, left, count, few, retired), omega (arith, left, count, few, exceptions))
+    rises_few (members_in c.args.self.now) (left_of_all (members_in c.loop-turn.self)) c.args.native.now c.loop-turn.native
+    c.guest_count.ensures.bounds (omega (arith, count, few)) (far c).rises

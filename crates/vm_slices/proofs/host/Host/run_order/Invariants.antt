@@ -1,9 +1,5 @@
 -- The turns so far, with those that are left, are all turns.
 use Rattle.std.proofs.Common.{◌≡◌, drop, length}
-use Rattle.std.specs.Prelude.{All}
-use Rattle.vm_machine.specs.Rounds.{left_of_all}
-use Rattle.vm_slices.specs.Counting.{HasRoom}
-use Rattle.vm_slices.specs.Members.{IsReady}
 use Rattle.vm_slices.specs.Places.{members_in}
 use Rattle.vm_slices.proofs.Orders.{SoFar}
 use Rattle.vm_slices.proofs.host.Host.run_order.Given as goal
@@ -11,8 +7,6 @@ use Rattle.vm_slices.proofs.host.Host.run_order.Given as goal
 abbrev pub invariant-loop-turn : goal.invariant-loop-turn
 invariant-loop-turn l = record {
   far : SoFar l.turns (drop l.turn-index l.turns) (members_in l.initial.self) (members_in l.self) l.initial.native l.native;
-  ready : All IsReady (members_in l.self);
-  room : HasRoom (left_of_all (members_in l.self)) l.native;
   slice : l.self.slice ≡ l.initial.self.slice;
   count : length (members_in l.self) ≡ length (members_in l.initial.self);
 }

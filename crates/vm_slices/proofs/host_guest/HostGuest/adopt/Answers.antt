@@ -14,9 +14,6 @@ returns-clause-member c =
     member_begun c.args.saved.now c.args.self.now c.adopt.new.self c.args.board.now.world.ram c.adopt.new.board.world.ram
     c.adopt.ensures.begins c.adopt.ensures.same
 
-pub returns-clause-ready : goal.returns-clause-ready
-returns-clause-ready c ready = record { going = c.adopt.ensures.going; bound = ready.bound }
-
 pub returns-clause-within : goal.returns-clause-within
 returns-clause-within c =
     within_own c.args.self.now.guest c.args.board.now.world.ram c.adopt.new.board.world.ram c.requires.seated c.adopt.ensures.within

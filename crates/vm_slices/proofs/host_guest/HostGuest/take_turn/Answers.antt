@@ -13,6 +13,7 @@ taken c =
     let least = c.min-steps.ensures in
     let steps : c.min-steps.result ≡ min c.args.slice (left (member_of x g)) = omega arith in
     member_taken c.args.slice c.min-steps.result g c.turn.new.self x c.turn.new.board.world.ram c.args.native.now c.turn.new.native steps c.turn.ensures.takes
+    c.turn.ensures.native
 
 pub returns-clause-turn : goal.returns-clause-turn
 returns-clause-turn c = (taken c).turn
@@ -20,8 +21,8 @@ returns-clause-turn c = (taken c).turn
 pub returns-clause-counts : goal.returns-clause-counts
 returns-clause-counts c = (taken c).counts
 
-pub returns-clause-room : goal.returns-clause-room
-returns-clause-room c =
+pub returns-clause-rises : goal.returns-clause-rises
+returns-clause-rises c =
     let g = c.args.self.now in
     let m = member_of c.args.board.now.world.ram g in
     let k = member_of c.turn.new.board.world.ram (record { guest = c.turn.new.self; bound = g.bound }) in
@@ -29,9 +30,7 @@ returns-clause-room c =
     subst (λ (a : Member). left a + min c.args.slice (left m) ≤ left m) (sym (taken c).turn) (turn_left c.args.slice m) in
     let own = c.left.ensures.left in
     let least = c.min-steps.ensures in
+    let taken = c.turn.ensures.few in
     let retired = c.turn.ensures.native.0 in
     let exceptions = c.turn.ensures.native.1 in
     (omega arith, omega arith)
-
-pub returns-clause-ready : goal.returns-clause-ready
-returns-clause-ready c = record { going = c.turn.ensures.going; bound = c.requires.ready.bound }
