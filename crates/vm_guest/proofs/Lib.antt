@@ -3,6 +3,7 @@ pub mod Free
 pub mod Loads
 pub mod Prepared
 pub mod Seated
+pub mod Joining
 pub mod Lefts
 pub mod MadeReady
 pub mod Ended

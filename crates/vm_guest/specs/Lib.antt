@@ -1,4 +1,5 @@
 pub mod Memory
+pub mod Joining
 pub mod Session
 pub mod Turns
 pub mod Counting

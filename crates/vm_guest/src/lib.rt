@@ -21,7 +21,14 @@ mod stepping;
 mod turn_end;
 mod turns;
 
+ghost use Rattle.vm_guest.specs.Joining.{GuestsJoin};
+
 pub use counts::Counts;
 pub use guest::Guest;
 pub use session::{Session, SessionDisk, SessionGuest};
 pub use turn_end::TurnEnd;
+
+/// A guest that is prepared apart from all others leaves them seated and as they were.
+pub fn guests_join()
+    ensures { GuestsJoin }
+{}
