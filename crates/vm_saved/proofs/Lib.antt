@@ -7,3 +7,4 @@ pub mod Resuming
 pub mod StatusBits
 pub mod CpuBits
 pub mod RunBits
+pub mod Saving

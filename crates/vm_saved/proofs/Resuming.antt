@@ -3,7 +3,7 @@ use Rattle.std.proofs.Common.{◌≡◌, ◌∙◌, ℕ, ◌+◌, ◌-◌, ◌�
 use Rattle.std.specs.Prelude.{min}
 use Rattle.std.proofs.lemmas.Bool.{cases_Bool}
 use Rattle.mb_model.specs.Keeping.{rule_k}
-use Rattle.mb_machine.specs.Machine.{Entries, Machine, run_of, seen_machine, takes_steps}
+use Rattle.mb_machine.specs.Machine.{Entries, Machine, run_of, seen_machine, start, takes_steps}
 use Rattle.mb_report.specs.Text.{outcome_text}
 use Rattle.vm_machine.specs.Turns.{Turned}
 use Rattle.vm_machine.specs.Rounds.{left}
@@ -11,10 +11,11 @@ use Rattle.vm_machine.proofs.TurnLaws.{halted_turn, nothing_turned}
 use Rattle.vm_saved.specs.Saved.{CanBeSaved, as_told, machine_of, saved_of}
 use Rattle.vm_saved.specs.Begins.{beginning, tally_from}
 use Rattle.vm_saved.specs.Cuts.{above}
-use Rattle.vm_saved.specs.Resumes.{bound_after, most_steps, resumed, GoesOn, ResumedRunsGoOn}
+use Rattle.vm_saved.specs.Resumes.{bound_after, most_steps, resumed, GoesOn, ResumedRunsGoOn, SavedRunsGoOn, StartedRunsGoOn}
 use Rattle.vm_saved.proofs.Runs.{halted_run, nothing_run, runs_add}
 use Rattle.vm_saved.proofs.Cut.{cut_runs, cut_turns}
 use Rattle.vm_saved.proofs.GivenBack.{saved_is_given_back, going_is_given_back}
+use Rattle.vm_saved.proofs.Saving.{runs_can_be_saved, saved_can_be_saved, starts_can_be_saved}
 
 -- the text shows neither of the two that are not saved
 text_told : (number : ℕ) (m : Machine) → outcome_text number (seen_machine (as_told m)) ≡ outcome_text number (seen_machine m)
@@ -94,3 +95,13 @@ resumed_runs_go_on script m n first c few = elim (cases_Bool (takes_steps (run_o
   | inl going ↦ goes_on_going script m n first c few going
   | inr still ↦ goes_on_still script m n first c still
 ]
+
+pub started_runs_go_on : StartedRunsGoOn
+started_runs_go_on opening size script m n whole lie keeps few =
+    let first = start rule_k opening size in
+    resumed_runs_go_on script m n first (runs_can_be_saved rule_k script m first (starts_can_be_saved opening size whole lie) keeps) few
+
+pub saved_runs_go_on : SavedRunsGoOn
+saved_runs_go_on disk s script m n lawful keeps few =
+    let first = machine_of disk s in
+    resumed_runs_go_on script m n first (runs_can_be_saved rule_k script m first (saved_can_be_saved disk s lawful) keeps) few

@@ -3,3 +3,4 @@ pub mod Begins
 pub mod Cuts
 pub mod Resumes
 pub mod Bits
+pub mod Saving

@@ -1,14 +1,16 @@
 -- A run that is saved in its middle and goes on from what was saved.
-use Rattle.std.specs.Prelude.{◌≡◌, ℕ, ◌+◌, ◌-◌, ◌^◌, ◌≤◌, min, true, Option}
+use Rattle.std.specs.Prelude.{◌≡◌, ℕ, ◌+◌, ◌-◌, ◌%◌, ◌^◌, ◌≤◌, min, true, All, Option}
 use Rattle.vm_disk.specs.Disk.{DiskState}
+use Rattle.mb_srec.specs.Image.{LiesBelow}
 use Rattle.mb_model.specs.Keeping.{rule_k}
-use Rattle.mb_machine.specs.Machine.{Entries, Machine, run_of, seen_machine, takes_steps}
+use Rattle.mb_machine.specs.Machine.{Entries, Machine, Opening, run_of, seen_machine, start, takes_steps}
 use Rattle.mb_report.specs.Text.{outcome_text}
 use Rattle.vm_machine.specs.Turns.{no_steps}
 use Rattle.vm_machine.specs.Rounds.{Member, left}
-use Rattle.mb_saved.specs.Saved.{Saved}
+use Rattle.mb_saved.specs.Saved.{IsLawful, Saved}
 use Rattle.vm_saved.specs.Saved.{CanBeSaved, machine_of, saved_of}
 use Rattle.vm_saved.specs.Begins.{beginning, tally_from}
+use Rattle.vm_saved.specs.Saving.{KeepsRam}
 use Rattle.vm_saved.specs.Cuts.{above}
 
 -- the most steps that a machine counts
@@ -57,3 +59,15 @@ abbrev pub ResumedRunsGoOn : Type 0
 ResumedRunsGoOn = (script : Entries) (m n : ℕ) (first : Machine)
     → CanBeSaved (run_of rule_k script m first) → (run_of rule_k script m first).steps ≤ most_steps
     → GoesOn script m n first
+
+-- Where RAM keeps its size, that holds of a guest's run from its start,
+abbrev pub StartedRunsGoOn : Type 0
+StartedRunsGoOn = (opening : Opening) (size : ℕ) (script : Entries) (m n : ℕ)
+    → size % 16 ≡ 0 → All (LiesBelow size) opening.image → let first = start rule_k opening size in
+    KeepsRam rule_k script m first → (run_of rule_k script m first).steps ≤ most_steps → GoesOn script m n first
+
+-- and from a lawful machine that was saved.
+abbrev pub SavedRunsGoOn : Type 0
+SavedRunsGoOn = (disk : Option DiskState) (s : Saved) (script : Entries) (m n : ℕ)
+    → IsLawful s → let first = machine_of disk s in
+    KeepsRam rule_k script m first → (run_of rule_k script m first).steps ≤ most_steps → GoesOn script m n first

@@ -1,8 +1,9 @@
 //! Guests that go on from a saved machine: laws of the definitions of `vm_machine`.
 //!
 //! [`specs/Saved`] has what a snapshot tells of a machine and the machine that it is; [`specs/Begins`] the runs, counts
-//! and marks of a guest that begins with any machine; [`specs/Bits`] what bits registers have; [`specs/Cuts`] scripts
-//! without what has arrived already; [`specs/Resumes`] a run that is saved in its middle.
+//! and marks of a guest that begins with any machine; [`specs/Bits`] what bits registers have; [`specs/Saving`] which
+//! machines can be saved; [`specs/Cuts`] scripts without what has arrived already; [`specs/Resumes`] a run that is saved
+//! in its middle.
 #![tactic(auto)]
 
 ghost use Rattle.vm_saved.specs.Saved.{SavedIsGivenBack, GoingIsGivenBack};
@@ -11,9 +12,10 @@ ghost use Rattle.vm_saved.specs.Begins.{RunsAdd, HaltedRunsStay, GoingRunsCount,
 ghost use Rattle.vm_saved.specs.Begins.{CountsAreStepsSince, MarksAreOfRetiredSince, MarksAppendSince};
 ghost use Rattle.vm_saved.specs.Begins.{BegunGuestsRunAlone};
 ghost use Rattle.vm_saved.specs.Bits.{RunsKeepBits, StartsHaveBits};
+ghost use Rattle.vm_saved.specs.Saving.{StartsCanBeSaved, SavedCanBeSaved, RunsKeepLists, RunsCanBeSaved};
 ghost use Rattle.vm_saved.specs.Cuts.{LaterArrivalsStay, LaterAbortsStay, CutRunsAreWhole, CutTurnsAreWhole};
 ghost use Rattle.vm_saved.specs.Cuts.{CutsAreScripts, CutsJoin};
-ghost use Rattle.vm_saved.specs.Resumes.{ResumedRunsGoOn};
+ghost use Rattle.vm_saved.specs.Resumes.{ResumedRunsGoOn, StartedRunsGoOn, SavedRunsGoOn};
 
 /// What is saved of a machine is that machine, but for what counts no more where it takes no steps.
 pub fn saved_machines_are_given_back()
@@ -56,6 +58,14 @@ pub fn runs_keep_bits()
     ensures runs { RunsKeepBits }
 {}
 
+/// A guest's machine can be saved at its start, as it was saved, and wherever its run comes with RAM of the same size.
+pub fn guests_can_be_saved()
+    ensures starts { StartsCanBeSaved }
+    ensures saved { SavedCanBeSaved }
+    ensures lists { RunsKeepLists }
+    ensures runs { RunsCanBeSaved }
+{}
+
 /// A script without what has arrived already is as the whole.
 pub fn cut_scripts_are_whole()
     ensures arrivals { LaterArrivalsStay }
@@ -68,5 +78,7 @@ pub fn cut_scripts_are_whole()
 
 /// A run that is saved in its middle goes on to where the whole run comes.
 pub fn resumed_runs_go_on()
-    ensures { ResumedRunsGoOn }
+    ensures resumed { ResumedRunsGoOn }
+    ensures started { StartedRunsGoOn }
+    ensures saved { SavedRunsGoOn }
 {}
