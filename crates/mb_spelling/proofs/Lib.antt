@@ -1,0 +1,15 @@
+pub mod Combined
+pub mod Places
+pub mod Hex
+pub mod Decimals
+pub mod Lists
+pub mod Ranges
+pub mod WordSteps
+pub mod Goings
+pub mod Ends
+pub mod Chains
+pub mod NumberSteps
+pub mod Pasts
+pub mod DigitSteps
+pub mod Steps
+pub mod Loops
