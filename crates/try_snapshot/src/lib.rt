@@ -1,0 +1,5 @@
+//! Tests of a guest's lines of a snapshot.
+#![tactic(auto)]
+
+#[cfg(test)]
+mod written;

@@ -1,0 +1,13 @@
+pub mod Inputs
+pub mod Memory
+pub mod Pages
+pub mod Guests
+pub mod Runs
+pub mod Dumps
+pub mod Scripts
+pub mod Memories
+pub mod Outcomes
+pub mod Fronts
+pub mod Laws
+pub mod Texts
+pub mod Writing
