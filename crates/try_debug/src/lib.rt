@@ -1,0 +1,5 @@
+//! Tests of a debugger's commands.
+#![tactic(auto)]
+
+#[cfg(test)]
+mod commands;
