@@ -1,16 +1,18 @@
 -- The guests of a session after their rounds have the outcomes of their own runs.
-use Rattle.std.proofs.Common.{◌≡◌, ◌∙◌, ◌<◌, ℕ, ◌+◌, inl, inr, List, [], ◌∷◌, ◌++◌, map, refl, sym, ap, subst, arith, Result, Ok, Err, sum_by}
+use Rattle.std.proofs.Common.{◌≡◌, ◌∙◌, ◌<◌, ℕ, ◌+◌, ◌*◌, inl, inr, List, [], ◌∷◌, ◌++◌, map, refl, sym, ap, subst, arith, Result, Ok, Err, sum_by}
 use Rattle.std.specs.Prelude.{◌-◌}
 use Rattle.std.proofs.lemmas.List.Sums.{sum_by-cons}
 use Rattle.std.proofs.lemmas.Bool.Decides.{leb_tells}
 use Rattle.mb_model.specs.Keeping.{rule_k}
-use Rattle.mb_machine.specs.Machine.{outcome_of, reset_with, run_of, start}
+use Rattle.mb_machine.specs.Machine.{Machine, outcome_of, reset_with, run_of, start}
 use Rattle.vm_meaning.specs.Marks.{trail}
 use Rattle.vm_meaning.specs.Native.{NativeState}
 use Rattle.vm_machine.specs.Rounds.{Member, left}
-use Rattle.vm_machine.specs.Turns.{Tally, exits, prepared, turn_of}
+use Rattle.vm_machine.specs.Turns.{Tally, exits, prepared, steps_in, turn_of}
+use Rattle.vm_machine.proofs.Counts.{counts_are_steps}
+use Rattle.vm_machine.proofs.ByRule.{guests_run_alone}
 use Rattle.vm_guest.specs.Session.{GuestAtStart, SessionAtStart}
-use Rattle.vm_slices.specs.Counting.{AreCounted, exits_by, retired_by}
+use Rattle.vm_slices.specs.Counting.{AreCounted, exits_by, retired_by, steps_by}
 use Rattle.vm_slices.specs.Fit.{Fits, need_of}
 use Rattle.vm_slices.specs.Places.{HostState}
 use Rattle.vm_slices.proofs.Places.{counted_on}
@@ -81,6 +83,33 @@ exits_sum : (members : List Member) → exits_by members ≡ sum_by exits (talli
 exits_sum [] = refl
 exits_sum (m ∷ members) = ap (λ (n : ℕ). exits m.tally + n) (exits_sum members) ∙ sym (sum_by-cons exits m.tally (tallies_of members))
 
+none_taken : (guests : List GuestAtStart) → steps_by (map member_at_start guests) ≡ 0
+unfolding reset_with
+none_taken [] = refl
+none_taken (g ∷ guests) = omega (arith, none_taken guests)
+
+steps_sum : (members : List Member) → steps_by members ≡ sum_by (λ (m : Machine). m.steps) (machines_of members)
+steps_sum [] = refl
+steps_sum (m ∷ members) =
+    ap (λ (n : ℕ). m.guest.machine.steps + n) (steps_sum members)
+    ∙ sym (sum_by-cons (λ (m : Machine). m.steps) m.guest.machine (machines_of members))
+
+-- a guest's run has as many steps as are counted of it
+run_counted : (g : GuestAtStart) → (machine_at_end (member_at_start g)).steps ≡ steps_in (tally_by g)
+run_counted g =
+    ap (λ n. (run_of rule_k g.script n (start rule_k g.opening g.ram)).steps) (all_left g)
+    ∙ sym (ap (λ (m : Machine). m.steps) (guests_run_alone g.opening g.script g.ram g.steps))
+    ∙ sym (counts_are_steps g.opening g.script g.ram g.steps)
+
+runs_counted : (guests : List GuestAtStart)
+    → sum_by (λ (m : Machine). m.steps) (map machine_at_end (map member_at_start guests)) ≡ sum_by steps_in (tallies_by guests)
+runs_counted [] = refl
+runs_counted (g ∷ guests) =
+    sum_by-cons (λ (m : Machine). m.steps) (machine_at_end (member_at_start g)) (map machine_at_end (map member_at_start guests))
+    ∙ ap (λ (n : ℕ). n + sum_by (λ (m : Machine). m.steps) (map machine_at_end (map member_at_start guests))) (run_counted g)
+    ∙ ap (λ (n : ℕ). steps_in (tally_by g) + n) (runs_counted guests)
+    ∙ sym (sum_by-cons steps_in (tally_by g) (tallies_by guests))
+
 -- the turns that are named, and then the rounds
 marked_so : (s : Ordered) (slice : ℕ) (before turned : List Member) → before ≡ map member_at_start s.session.guests → slice ≡ s.session.slice
     → turned ≡ (after_order s.order before).members → (after_order s.order before).marks ++ (after_rounds slice turned).marks ≡ (hosted_by s).marks
@@ -92,9 +121,9 @@ marked_so s slice before turned begun same is =
 -- from the start of all guests to their end
 pub carried_so : (s : Ordered) (slice : ℕ) (before turned after : List Member) (native native_turned native_after : NativeState)
     → before ≡ map member_at_start s.session.guests → slice ≡ s.session.slice → tallies_of after ≡ map tally_at_end before
-    → turned ≡ (after_order s.order before).members → AreCounted before turned (after_order s.order before).marks native native_turned
+    → machines_of after ≡ map machine_at_end before → turned ≡ (after_order s.order before).members → AreCounted before turned (after_order s.order before).marks native native_turned
     → AreCounted turned after (after_rounds slice turned).marks native_turned native_after → CarriedOut s native native_after
-carried_so s slice before turned after native native_turned native_after begun same ended is first counted =
+carried_so s slice before turned after native native_turned native_after begun same ended run is first counted =
     let guests = s.session.guests in
     let both = counted_on before turned after _ _ native native_turned native_after first counted in
     let tallies = tallied_so guests before after begun ended in
@@ -103,12 +132,17 @@ carried_so s slice before turned after native native_turned native_after begun s
     let sum : retired_by after ≡ sum_by (λ (t : Tally). t.retired) (tallies_by guests) =
     retired_sum after ∙ ap (λ ts. sum_by (λ (t : Tally). t.retired) ts) tallies in
     let left : exits_by after ≡ sum_by exits (tallies_by guests) = exits_sum after ∙ ap (λ ts. sum_by exits ts) tallies in
+    let still : steps_by before ≡ 0 = ap (λ ms. steps_by ms) begun ∙ none_taken guests in
+    let taken : steps_by after ≡ sum_by steps_in (tallies_by guests) =
+    steps_sum after ∙ ap (λ ms. sum_by (λ (m : Machine). m.steps) ms) (run ∙ ap (λ ms. map machine_at_end ms) begun) ∙ runs_counted guests in
     let steps = both.retired in
     let faults = both.exceptions in
+    let most = both.most in
     record {
       retired = omega (arith, steps, none, sum);
       trail = both.trail ∙ ap (λ marks. trail native.trail marks) (marked_so s slice before turned begun same is);
       exceptions = omega (arith, faults, stayed, left);
+      most = omega (arith, most, still, taken);
     }
 
 -- the turns that were handed on are the session's
@@ -124,8 +158,8 @@ pub fits_so : (s : SessionAtStart) (r : Result HostState OpenFault) (host : Host
     → (s.board < need_of s.guests → r ≡ Err fault) → Fits s
 fits_so s r host fault ok big = elim (leb_tells (need_of s.guests) s.board) [ inl less ↦ less.1 | inr more ↦ absurd (cc (big more.1)) ]
 
-pub not_prepared : (s : SessionAtStart) (fault : OpenFault) → (Fits s → fault ≡ open_fault.Memory)
-    → (s.board < need_of s.guests → ◌≡◌ {A = Result HostState OpenFault} (Err fault) (Err (open_fault.Oversize (need_of s.guests) s.board)))
+pub not_prepared : {T : Type 0} (s : SessionAtStart) (fault : OpenFault) → (Fits s → fault ≡ open_fault.Memory)
+    → (s.board < need_of s.guests → ◌≡◌ {A = Result T OpenFault} (Err fault) (Err (open_fault.Oversize (need_of s.guests) s.board)))
     → Runs s (Err fault)
 not_prepared s open_fault.Memory fits big = tt
 not_prepared s (open_fault.Oversize need have) fits big = elim (leb_tells (need_of s.guests) s.board)

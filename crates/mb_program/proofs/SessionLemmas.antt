@@ -1,7 +1,7 @@
 -- What is promised of a session follows from the answer at the end of its course.
 use Rattle.std.proofs.Common.{◌≡◌, ◌∙◌, ◌⊎◌, ℕ, ◌*◌, ◌++◌, List, [], ◌∷◌, inl, inr, length, refl, sym, ap, subst, append_assoc, Bool, true, false, Option, Some, None, Result, cond}
 use Rattle.std.specs.List.{list_all}
-use Rattle.std.specs.Prelude.{option_map}
+use Rattle.std.specs.Prelude.{option_map, replicate, slice_index_or}
 use Rattle.std.proofs.lemmas.Bool.{le-ltb}
 use Rattle.std.proofs.lemmas.List.{append-nil}
 use Rattle.mb_script.specs.Plan as plan
@@ -9,15 +9,19 @@ use Rattle.mb_script.specs.Plan.{Guest}
 use Rattle.mb_script.specs.declared.turn.Turn.{Turn}
 use Rattle.vm_disk.specs.Disk.{DiskState, opened}
 use Rattle.vm_disk.specs.declared.disk.TheConstants.{BLOCK_BYTES}
+use Rattle.mb_model.specs.Keeping.{rule_k}
+use Rattle.mb_walk.specs.Memory.{with_contents}
+use Rattle.mb_machine.specs.Machine.{opening_devices, outcome_of}
 use Rattle.mb_gen.specs.Sessions.{generated}
+use Rattle.vm_meaning.proofs.Runs.{run-from_reset}
 use Rattle.mb_words.specs.Words.{Text, Workload, Asked, hosting, comparison, generation}
 use Rattle.vm_guest.specs.Session.{GuestAtStart, SessionAtStart}
 use Rattle.vm_slices.specs.Fit.{Fits, need_of}
 use Rattle.mb_program.specs.declared.files.TheConstants.{MOST_BYTES}
-use Rattle.mb_program.specs.Answers.{Answer, shows, Shown, Told, Course, ends, answer_at, course_of, reads_as, reads_if_named, reads_disk, reads_guest, reads_guests, reads_session, guest_by, run_of_disk, run_of_guest, session_by, script_in, image_in, session_in, if_it_fits, host_answer, host_shown, compare_answer, compare_shown, is_same, gen_shown}
+use Rattle.mb_program.specs.Answers.{Answer, shows, Shown, Told, Course, ends, answer_at, course_of, reads_as, reads_if_named, reads_disk, reads_guest, reads_guests, reads_session, guest_by, run_of_disk, run_of_guest, session_by, script_in, image_in, session_in, if_it_fits, host_answer, host_shown, compare_answer, compare_shown, is_same, gen_shown, outcome_by}
 use Rattle.mb_program.specs.Direct.{Ordered}
 use Rattle.mb_program.specs.Ends.{Around, FailsNowhere, IsSaid, IsShown, Said}
-use Rattle.mb_program.specs.Sessions.{Tells, TellsIfNamed, TellsDisk, TellsGuest, TellsGuests, TellsSession, IsHosted, IsCompared, IsGenerated}
+use Rattle.mb_program.specs.Sessions.{Tells, TellsIfNamed, TellsDisk, TellsGuest, TellsGuests, TellsSession, IsHosted, IsCompared, IsGenerated, MayShow}
 use Rattle.mb_program.specs.Causes.{AsksFor, IsComplete, LeadsTo, SaysShown}
 use Rattle.mb_program.specs.declared.end.FileWhy.{FileWhy}
 
@@ -98,6 +102,13 @@ compare_known told name s t fits = at_session told name s (λ r. ends (compare_a
 
 -- ---- host
 
+-- a guest's own run by the rule of guests shows what a free one does
+shows_freely : (guest : GuestAtStart) → MayShow guest (outcome_by rule_k guest)
+shows_freely guest =
+    let free = run-from_reset rule_k guest.script guest.steps (opening_devices guest.ram guest.opening.disk)
+    (with_contents (replicate guest.ram 0) guest.opening.image) in
+    (free.0, free.1, ap outcome_of free.2.same)
+
 pub asked_so : (asked : Option Asked) (command : Asked) (a : Around) (answer : Answer) (P : Answer → Type 0) → asked ≡ Some command
     → answer_at a.shelf.told (course_of command) ≡ Some answer → AsksFor asked a P → P answer
 asked_so asked command a answer P is known h = rw known at (rw is at h)
@@ -122,6 +133,7 @@ hosts asked a said status done says complete name s is tells fits =
     let zeros = λ (zero : status ≡ 0). asked_so asked (hosting name) a (shows shown) (IsShown a 0) is known (done zero) in
     record {
       printed = λ zero. (zeros zero).0.grows;
+      free = λ k d there. shows_freely (slice_index_or s.session.guests k d);
       ended = λ fine. elim (led_so asked (hosting name) a (shows shown) status is known complete fine)
           [ inl written ↦ inl written.0 | inr gone ↦ inr gone.0 ];
       tallied = λ zero. lines_so asked (hosting name) a said shown is known (says zero);

@@ -1,10 +1,10 @@
 -- What is counted of the guests of a session: their steps by class, and what the board carries out of them.
-use Rattle.std.specs.Prelude.{◌≡◌, ℕ, ◌+◌, ◌^◌, ◌<◌, ◌≤◌, List, [], ◌++◌, map, Option, Some, None, sum_by, codes, decimal}
+use Rattle.std.specs.Prelude.{◌≡◌, ℕ, ◌+◌, ◌*◌, ◌^◌, ◌<◌, ◌≤◌, List, [], ◌++◌, map, Option, Some, None, sum_by, codes, decimal}
 use Rattle.mb_script.specs.declared.turn.Turn.{Turn}
 use Rattle.mb_words.specs.Words.{Text}
 use Rattle.vm_meaning.specs.Marks.{trail}
 use Rattle.vm_meaning.specs.Native.{NativeState}
-use Rattle.vm_machine.specs.Turns.{Tally, exits, tally_of}
+use Rattle.vm_machine.specs.Turns.{Tally, exits, steps_in, tally_of}
 use Rattle.vm_machine.specs.Rounds.{Hosted}
 use Rattle.vm_guest.specs.Session.{GuestAtStart, SessionAtStart}
 use Rattle.vm_slices.specs.Members.{member_at_start}
@@ -59,6 +59,8 @@ pub record CarriedOut (s : Ordered) (native native_after : NativeState) : Type 0
   pub trail : native_after.trail ≡ trail native.trail (hosted_by s).marks
   -- and has left each that is privileged, trapped or denied by one exception or more.
   pub exceptions : native.exceptions + sum_by exits (tallies_by s.session.guests) ≤ native_after.exceptions
+  -- Of exceptions there are no more than 32 for each step.
+  pub most : native_after.exceptions ≤ native.exceptions + 32 * sum_by steps_in (tallies_by s.session.guests)
 
 -- The guests of a session have run, where there is one; else nothing is counted.
 abbrev pub IsCounted : Option Ordered → NativeState → NativeState → Type 0

@@ -1,6 +1,6 @@
 -- What is promised of a session whose files are told, and of one that a number makes.
 use Rattle.std.specs.Prelude.{◌≡◌, ◌⊎◌, ⊤, ℕ, ◌*◌, ◌≤◌, true, false, List, [], ◌∷◌, length, map}
-use Rattle.std.specs.Prelude.{Option, Some, None, Result, Ok}
+use Rattle.std.specs.Prelude.{All, Option, Some, None, Result, Ok}
 use Rattle.std.specs.List.{list_all}
 use Rattle.mb_script.specs.Plan as plan
 use Rattle.mb_script.specs.Plan.{Guest, Plan}
@@ -8,9 +8,11 @@ use Rattle.vm_disk.specs.Disk.{DiskState, opened}
 use Rattle.vm_disk.specs.declared.disk.TheConstants.{BLOCK_BYTES}
 use Rattle.mb_model.specs.Keeping.{rule_k}
 use Rattle.mb_walk.specs.Memory.{Contents}
+use Rattle.mb_machine.specs.Machine.{Machine, Outcome, outcome_of, start}
 use Rattle.mb_outside.specs.Sink.{Grows}
 use Rattle.mb_gen.specs.Sessions.{generated}
 use Rattle.mb_words.specs.Words.{Text, Workload, Asked, hosting, comparison, generation}
+use Rattle.vm_meaning.specs.Free.{FreeRun, rule_free}
 use Rattle.vm_guest.specs.Session.{GuestAtStart, SessionAtStart}
 use Rattle.vm_slices.specs.Fit.{Fits}
 use Rattle.mb_program.specs.Direct.{CarriedOut, Ordered, counts_line, tallies_by, unordered}
@@ -70,12 +72,21 @@ pub record TellsSession (told : Told) (name : Text) (s : Ordered) : Type 0 where
 
 -- ---- host
 
+-- A board that may use any translation kept since the last flush that covers it, alone with the guest, can show this: a
+-- free run of the guest's own image, disk, script, RAM and steps comes to a machine with this outcome.
+abbrev pub MayShow : GuestAtStart → Outcome → Type 0
+MayShow guest outcome = (end : Machine)
+    × FreeRun guest.script guest.steps (start rule_free guest.opening guest.ram) end
+    × (outcome_of end ≡ outcome)
+
 -- Out gains exactly the outcomes of the guests in their order, each with its disk: of each guest that of its own run by
 -- the rule of guests, of its own image, disk, script, RAM and steps, and of nothing else. Where nothing fails, this is
 -- done, unless memory runs out.
 pub record Hosts (a : Around) (said : Said) (s : Ordered) (status : ℕ) : Type 0 where
   pub printed : status ≡ 0
       → Grows a.out.taken a.out_after.taken (texts_from machine_text 1 (map (outcome_by rule_k) s.session.guests))
+  -- Each outcome is that of a free run too: no other use of translations that are kept shows.
+  pub free : All (λ (guest : GuestAtStart). MayShow guest (outcome_by rule_k guest)) s.session.guests
   pub ended : FailsNowhere a → (status ≡ 0) ⊎ (status ≡ 7)
   -- Diag gains a line for each guest with the counts of its own steps, or a first part where diag fails.
   pub tallied : status ≡ 0 → IsSaid said (texts_from counts_line 1 (tallies_by s.session.guests))

@@ -22,7 +22,7 @@ use itoa::Buffer;
 use mb_board::Native;
 use mb_outside::{Memory, Sink, SinkFault, put_all, put_more};
 use std::alloc::Global;
-use vm_slices::{Host, SessionGuest};
+use vm_slices::{Host, SessionGuest, judge_fit};
 
 /// The guests of a session, each by itself.
 fn bare_machines(alloc: Global, guests: &[SessionGuest]) -> Result<Vec<BareMachine>, Memory>
@@ -77,8 +77,8 @@ fn write_comparison<O: Sink>(
     Ok(all_same)
 }
 
-/// Runs each guest of a session by itself and all under the monitor, and writes of each whether it shows the same. All
-/// memory is taken before the first line is written.
+/// Runs each guest of a session by itself and all under the monitor, and writes of each whether it shows the same. No
+/// machine is made where they do not fit on their board, and all memory is taken before the first line is written.
 pub(crate) fn show_compared<O: Sink>(
     alloc: Global,
     ordered: OrderedSession,
@@ -91,6 +91,9 @@ pub(crate) fn show_compared<O: Sink>(
     ensures { GivesAnswer (compare_answer (ordered_said ordered))
         (sink_seen O.Sink out.old) (sink_seen O.Sink out.new) native.old native.new result }
 {
+    if let Err(fault) = judge_fit(&ordered.session) {
+        return End::from(fault);
+    }
     let Ok(machines) = bare_machines(alloc, ordered.session.guests()) else {
         return End::Memory;
     };

@@ -93,7 +93,8 @@ impl Guest {
 
     /// What the guest keeps, from the oldest on. `None` exactly where the place is not below the count.
     pub fn kept(&self, place: u32) -> Option<Kept>
-        ensures { result ≡ slice_get self.now.kept place }
+        ensures entry { result ≡ slice_get self.now.kept place }
+        ensures few { length self.now.kept ≤ rule_k.capacity }
     {
         self.tlb.entry(place)
     }

@@ -17,7 +17,7 @@ ghost use Rattle.vm_slices.specs.Members.{machines_of, tallies_of, devices_of, s
 ghost use Rattle.vm_slices.specs.Orders.{after_order, each_given, machines_given};
 ghost use Rattle.vm_slices.specs.Places.{marks_at, members_in, members_of, with_turn, StandFrom};
 
-use crate::fit::bytes_needed;
+use crate::fit::judge_fit;
 use crate::host_guest::HostGuest;
 use crate::open_fault::OpenFault;
 use crate::rounds::{are_done, take_round, take_turn};
@@ -88,13 +88,9 @@ impl Host {
         ensures oversize { session.board < need_of session.guests
             → result ≡ Err (open_fault.Oversize (need_of session.guests) session.board) }
     {
-        let need = bytes_needed(session.guests());
-        let have = session.board();
-        if need > have {
-            return Err(OpenFault::Oversize { need, have });
-        }
+        judge_fit(&session)?;
         let slice = session.slice();
-        let mut board = Board::new(alloc, have)?;
+        let mut board = Board::new(alloc, session.board())?;
         let guests = prepare_guests(alloc, session.into_guests(), &mut board)?;
         Ok(Host {
             board,

@@ -13,6 +13,7 @@ mod lending;
 mod open_fault;
 mod rounds;
 
+pub use fit::judge_fit;
 pub use host::Host;
 pub use open_fault::OpenFault;
 pub use vm_guest::{Session, SessionDisk, SessionGuest};

@@ -1,13 +1,23 @@
-use Rattle.std.proofs.Common.{◌∙◌, List, map, ap, sym, arith}
+use Rattle.std.proofs.Common.{◌∙◌, List, map, ap, refl, subst, sym, arith}
 use Rattle.mb_model.specs.Keeping.{rule_a}
 use Rattle.vm_guest.specs.Session.{GuestAtStart}
-use Rattle.mb_program.specs.Answers.{outcome_by}
+use Rattle.mb_program.specs.Answers.{compare_answer, compare_shown, outcome_by}
 use Rattle.mb_program.specs.Compares.{found_of}
-use Rattle.mb_program.specs.Ends.{sink_seen}
+use Rattle.mb_program.specs.Ends.{GivesAnswer, sink_seen}
 use Rattle.mb_program.specs.Said.{ordered_said}
 use Rattle.mb_program.proofs.CompareLemmas.{compared_cut, compared_other, compared_same, found_so, machine_for_each, member_for_each}
-use Rattle.mb_program.proofs.RunLemmas.{ordered_so}
+use Rattle.mb_program.proofs.RunLemmas.{not_prepared, ordered_so}
+use Rattle.mb_program.proofs.ShowLemmas.{not_opened}
+use Rattle.mb_program.specs.declared.end.End.{End}
 use Rattle.mb_program.proofs.compared.show_compared.Goals as goal
+
+pub returns-in-Err : goal.returns-in-Err
+returns-in-Err g c =
+    let out = sink_seen g.O.Sink c.args.out.now in
+    let s = ordered_said c.args.ordered in
+    subst (λ (end : End). GivesAnswer (compare_answer s) out out c.args.native.now c.args.native.now end) (sym c.from.ensures)
+    (not_opened s.session (compare_shown s) out _ _ c.in-Err.fault
+    (not_prepared s.session c.in-Err.fault (λ fits. let no = c.in-Err.ensures.fits fits in absurd cc) c.in-Err.ensures.oversize) refl)
 
 pub write_comparison-requires-clause-count : goal.write_comparison-requires-clause-count
 write_comparison-requires-clause-count g c =

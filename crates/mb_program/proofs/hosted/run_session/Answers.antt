@@ -40,4 +40,5 @@ returns-clause-counted c =
     carried_so (record { session = c.args.session; order = c.args.order.now }) c.run_order.new.self.slice
     (members_in c.in_ok-host.host) (members_in c.run_order.new.self) (members_in c.run.new.self) _ _ _
     c.in_ok-host.ensures.members (c.run_order.ensures.slice ∙ c.in_ok-host.ensures.slice)
-    (c.run.ensures.tallies ∙ c.run_order.ensures.tally_ends) c.run_order.ensures.order c.run_order.ensures.counts c.run.ensures.counts
+    (c.run.ensures.tallies ∙ c.run_order.ensures.tally_ends) (c.run.ensures.machines ∙ c.run_order.ensures.machine_ends)
+    c.run_order.ensures.order c.run_order.ensures.counts c.run.ensures.counts

@@ -21,4 +21,4 @@ returns c =
     ap (λ (h : HostState). numbered c.args.guest (kept_at c.args.place (members_in h))) (sym c.self.view_is)
     ∙ member_at (λ (m : Member). slice_get (list_of 0 m.guest.machine.world.kept) c.args.place) gs ram (c.args.guest - 1) c.index-host_guest.result.now less
     c.index-host_guest.ensures
-    ∙ ap Some (sym c.kept.ensures)
+    ∙ ap Some (sym c.kept.ensures.entry)

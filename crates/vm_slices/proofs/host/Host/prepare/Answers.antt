@@ -1,14 +1,7 @@
-use Rattle.std.proofs.Common.{◌∙◌, ◌^◌, ◌<◌, List, map, ap, sym, subst, arith}
-use Rattle.vm_guest.specs.Session.{GuestAtStart}
-use Rattle.vm_slices.specs.Fit.{need_of}
+use Rattle.std.proofs.Common.{◌∙◌, map, ap, arith}
 use Rattle.vm_slices.specs.Members.{member_at_start}
-use Rattle.vm_slices.proofs.Fits.{need_fits, as_many}
+use Rattle.vm_slices.proofs.Fits.{as_many}
 use Rattle.vm_slices.proofs.host.Host.prepare.Goals as goal
-
-pub bytes_needed-need-requires : goal.bytes_needed-need-requires
-bytes_needed-need-requires c =
-    subst (λ (gs : List GuestAtStart). need_of gs < 2 ^ 32) (sym c.guests.ensures)
-    (need_fits c.args.session.guests c.requires.guests c.requires.few)
 
 pub invariant_of-result : goal.invariant_of-result
 invariant_of-result c =
