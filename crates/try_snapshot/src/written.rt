@@ -83,45 +83,40 @@ fn outcome<'a>(cpu: &'a Cpu, ram: &'a [u8]) -> Outcome<'a>
     }
 }
 
+/// A guest's lines in a sink with this room.
+fn written(alloc: Global, room: usize) -> Option<(Result<(), SinkFault>, MemSink)> {
+    let mut ram = vec![in alloc; 0u8; 0x1_0000].ok()?;
+    let text = SCRIPT.as_bytes();
+    if ram.len() != 0x1_0000 || text.len() >= 1000 {
+        return None;
+    }
+    ram[0x1f] = 1;
+    let script = read_script(alloc, text).ok()?;
+    let cpu = Cpu::at_reset(0x1_0000, 0x408);
+    let mut out = MemSink::new(alloc, room, Vec::new(alloc)).ok()?;
+    let answer = write_guest(
+        2,
+        0x1_0000,
+        &KEPT,
+        &script,
+        &outcome(&cpu, &ram),
+        None,
+        &mut out,
+    );
+    Some((answer, out))
+}
+
 /// Each form of a line before the outcome's; entries at steps that were taken are left out, and a sink that fails has
 /// taken a first part.
 #[test]
 fn writes_a_guest(rt: HostRuntime) {
     let alloc: Global = rt.alloc();
-    let mut ram = vec![in alloc; 0u8; 0x1_0000].expect(&rt, "ample memory");
-    assert!(rt; ram.len() == 0x1_0000);
-    ram[0x1f] = 1;
-    let script_text = SCRIPT.as_bytes();
-    assert!(rt; script_text.len() < 1000);
-    let script = read_script(alloc, script_text).expect(&rt, "a script");
-    let cpu = Cpu::at_reset(0x1_0000, 0x408);
     let front = FRONT.as_bytes();
-    let text = OUTCOME.as_bytes();
-    assert!(rt; front.len() < 1000 && text.len() < 1000);
-    let whole = front.len() + text.len();
-    for (room, want) in [
-        (0, Err(SinkFault)),
-        (front.len(), Err(SinkFault)),
-        (whole, Ok(())),
-    ] {
-        let mut out = MemSink::new(alloc, room, Vec::new(alloc)).expect(&rt, "ample memory");
-        let answer = write_guest(
-            2,
-            0x1_0000,
-            &KEPT,
-            &script,
-            &outcome(&cpu, &ram),
-            None,
-            &mut out,
-        );
-        assert!(rt; answer == want, "room {room}");
-        let (first, rest) = (
-            &front[..room.min(front.len())],
-            &text[..room - room.min(front.len())],
-        );
-        assert!(rt;
-            out.bytes().strip_prefix(first) == Some(rest),
-            "room {room}"
-        );
-    }
+    let (answer, out) = written(alloc, 0).expect(&rt, "ample memory");
+    assert!(rt; answer == Err(SinkFault) && out.bytes().is_empty());
+    let (answer, out) = written(alloc, front.len()).expect(&rt, "ample memory");
+    assert!(rt; answer == Err(SinkFault) && out.bytes() == front);
+    let (answer, out) = written(alloc, 10_000).expect(&rt, "ample memory");
+    assert!(rt; answer == Ok(()));
+    assert!(rt; out.bytes().strip_prefix(front) == Some(OUTCOME.as_bytes()));
 }
