@@ -1,6 +1,6 @@
 //! All decimal digits by decimal arithmetic, and worked values.
 
-ghost use Rattle.std.specs.Prelude.{◌<◌};
+ghost use Rattle.std.specs.Prelude.{◌<◌, ◌≤◌, ◌^◌, IsTrue};
 
 use mb_alu::Flagged;
 use mb_fields::{abcd, field_first, field_get, field_put, nbcd, pack, sbcd, unpk};
@@ -206,11 +206,30 @@ static FIRST_ONES: [(u32, u8, u8); 22] = [
     (0x2AAA_AAAA, 31, 1),
 ];
 
+/// Whether a number has so many bits, which is one of the widths that stand in the tables.
+fn has_bits(number: u64, bits: u8) -> bool
+    ensures some { IsTrue result → 1 ≤ bits }
+    ensures few { IsTrue result → bits ≤ 40 }
+    ensures number { IsTrue result → number < 2 ^ bits }
+{
+    match bits {
+        1 => number < 2,
+        5 => number < 0x20,
+        8 => number < 0x100,
+        16 => number < 0x1_0000,
+        24 => number < 0x100_0000,
+        31 => number < 0x8000_0000,
+        32 => number < 0x1_0000_0000,
+        40 => number < 0x100_0000_0000,
+        _ => false,
+    }
+}
+
 #[test]
 fn bit_fields(rt: HostRuntime) {
     for &(word, bits, offset, width, value, field, after) in &FIELDS {
-        assert!(rt; bits <= 40 && word < 1 << bits && 1 <= width && width <= 32);
-        assert!(rt; offset <= bits && width <= bits - offset);
+        assert!(rt; has_bits(word, bits));
+        assert!(rt; 1 <= width && width <= 32 && offset <= bits && width <= bits - offset);
         assert!(rt;
             field_get(word, bits, offset, width) == field,
             "{word:x} at {offset}"
@@ -221,7 +240,7 @@ fn bit_fields(rt: HostRuntime) {
         );
     }
     for &(field, width, zeros) in &FIRST_ONES {
-        assert!(rt; 1 <= width && width <= 32 && u64::from(field) < 1 << width);
+        assert!(rt; has_bits(u64::from(field), width) && width <= 32);
         assert!(rt; field_first(field, width) == zeros, "{field:x} of {width}");
     }
 }

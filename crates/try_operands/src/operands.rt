@@ -5,20 +5,16 @@ ghost use Rattle.mb_instr.specs.Operands.{IsEa};
 
 use mb_ea::{ReadFault, Target, find_target, read_operand, read_value, resolve};
 use mb_instr::{Ea, Ext, Plain, Size};
-use mb_port::{Piece, Port, Space};
+use mb_port::Space;
 use mb_vector::VectorPort;
+use mb_writes::write_operand;
 use std::alloc::{AllocError, Global};
 use std::process::Abort;
 
 /// Sixty-four KiB of zeros, but for a long.
 fn memory(alloc: Global, at: u32, long: u32) -> Result<VectorPort, AllocError> {
     let mut port = VectorPort::new(alloc, 0x4000, u32::MAX)?;
-    let mut next = at;
-    for byte in long.to_be_bytes() {
-        let piece = Piece { at: next, len: 1 };
-        let _written = port.write(Space::User, piece, u32::from(byte));
-        next = next.wrapping_add(1);
-    }
+    let _written = write_operand(Space::User, at, 4, u64::from(long), &mut port);
     Ok(port)
 }
 
@@ -40,14 +36,15 @@ fn registers(ea: &Ea, base: u32, index: u32) -> Plain {
 }
 
 /// Whether the operand's register is one.
-fn is_operand(ea: Ea) -> bool
-    ensures { IsTrue result → IsEa Size.Long ea }
+fn is_operand(size: Size, ea: Ea) -> bool
+    ensures { IsTrue result → IsEa size ea }
 {
     match ea {
         Ea::Dn(n) | Ea::An(n) | Ea::Ind(n) | Ea::Post(n) | Ea::Pre(n) => n < 8,
         Ea::Disp(n, _) => n < 8,
         Ea::Index(n, _) => n < 8,
-        Ea::AbsW(_) | Ea::AbsL(_) | Ea::PcDisp(_) | Ea::PcIndex(_) | Ea::Imm(_) => true,
+        Ea::AbsW(_) | Ea::AbsL(_) | Ea::PcDisp(_) | Ea::PcIndex(_) => true,
+        Ea::Imm(value) => matches!(size, Size::Long) || value < 0x1_0000,
     }
 }
 
@@ -73,7 +70,7 @@ fn found(case: &Case, alloc: Global) -> Result<Result<Target, ReadFault>, AllocE
     let (ea, word_at, base, index, (at, long), _) = *case;
     let mut port = memory(alloc, at, long)?;
     let mut plain = registers(&ea, base, index);
-    if is_operand(ea) {
+    if is_operand(Size::Long, ea) {
         Ok(resolve(&ea, Size::Long, &mut plain, word_at, Space::User, &mut port))
     } else {
         Ok(Ok(Target::Value(0)))
@@ -255,38 +252,39 @@ fn addresses_from_outside(rt: HostRuntime) -> Result<(), AllocError> {
     check_cases(&rt, rt.alloc(), &PC_FULL_WORDS)
 }
 
-#[test]
+/// An operand, its size, the address register before, the target, and the register afterwards: from outside where the
+/// register steps, by hand where it stays.
 #[rattlefmt::skip]
+static STEPS: [(Ea, Size, u32, Target, u32); 16] = [
+    (Ea::Post(2), Size::Byte, 0xD778, Target::Memory(0xD778), 0xD779),
+    (Ea::Post(7), Size::Byte, 0x5BF0, Target::Memory(0x5BF0), 0x5BF2),
+    (Ea::Post(6), Size::Word, 0xB313, Target::Memory(0xB313), 0xB315),
+    (Ea::Post(7), Size::Word, 0xC952, Target::Memory(0xC952), 0xC954),
+    (Ea::Post(5), Size::Long, 0x8B49, Target::Memory(0x8B49), 0x8B4D),
+    (Ea::Post(7), Size::Long, 0xD38F, Target::Memory(0xD38F), 0xD393),
+    (Ea::Pre(0), Size::Byte, 0x4C00, Target::Memory(0x4BFF), 0x4BFF),
+    (Ea::Pre(7), Size::Byte, 0x4630, Target::Memory(0x462E), 0x462E),
+    (Ea::Pre(3), Size::Word, 0x316F, Target::Memory(0x316D), 0x316D),
+    (Ea::Pre(7), Size::Word, 0xC300, Target::Memory(0xC2FE), 0xC2FE),
+    (Ea::Pre(0), Size::Long, 0xAE12, Target::Memory(0xAE0E), 0xAE0E),
+    (Ea::Pre(7), Size::Long, 0x53B3, Target::Memory(0x53AF), 0x53AF),
+    (Ea::Ind(3), Size::Long, 0x1000, Target::Memory(0x1000), 0x1000),
+    (Ea::Dn(3), Size::Long, 0x1000, Target::Reg(3), 0x1000),
+    (Ea::An(3), Size::Long, 0x1000, Target::Reg(11), 0x1000),
+    (Ea::Imm(0x1234), Size::Byte, 0x1000, Target::Value(0x34), 0x1000),
+];
+
+#[test]
 fn registers_that_step(rt: HostRuntime) -> Result<(), AllocError> {
-    // An operand, its size, the address register before, the target, and the register afterwards: from outside where
-    // the register steps, by hand where it stays.
-    let steps = [
-        (Ea::Post(2), Size::Byte, 0xD778, Target::Memory(0xD778), 0xD779),
-        (Ea::Post(7), Size::Byte, 0x5BF0, Target::Memory(0x5BF0), 0x5BF2),
-        (Ea::Post(6), Size::Word, 0xB313, Target::Memory(0xB313), 0xB315),
-        (Ea::Post(7), Size::Word, 0xC952, Target::Memory(0xC952), 0xC954),
-        (Ea::Post(5), Size::Long, 0x8B49, Target::Memory(0x8B49), 0x8B4D),
-        (Ea::Post(7), Size::Long, 0xD38F, Target::Memory(0xD38F), 0xD393),
-        (Ea::Pre(0), Size::Byte, 0x4C00, Target::Memory(0x4BFF), 0x4BFF),
-        (Ea::Pre(7), Size::Byte, 0x4630, Target::Memory(0x462E), 0x462E),
-        (Ea::Pre(3), Size::Word, 0x316F, Target::Memory(0x316D), 0x316D),
-        (Ea::Pre(7), Size::Word, 0xC300, Target::Memory(0xC2FE), 0xC2FE),
-        (Ea::Pre(0), Size::Long, 0xAE12, Target::Memory(0xAE0E), 0xAE0E),
-        (Ea::Pre(7), Size::Long, 0x53B3, Target::Memory(0x53AF), 0x53AF),
-        (Ea::Ind(3), Size::Long, 0x1000, Target::Memory(0x1000), 0x1000),
-        (Ea::Dn(3), Size::Long, 0x1000, Target::Reg(3), 0x1000),
-        (Ea::An(3), Size::Long, 0x1000, Target::Reg(11), 0x1000),
-        (Ea::Imm(0x1234), Size::Byte, 0x1000, Target::Value(0x34), 0x1000),
-    ];
     let mut port = memory(rt.alloc(), 0, 0)?;
-    for (ea, size, before, target, after) in steps {
+    for &(ea, size, before, target, after) in &STEPS {
         let mut plain = Plain {
             d: [0; 8],
             a: [before; 8],
             pc: 0,
             ccr: 0,
         };
-        assert!(rt; is_operand(ea));
+        assert!(rt; is_operand(size, ea));
         let found = find_target(&ea, size, &plain, 0, Space::User, &mut port);
         assert!(rt; found == Ok(target), "{ea:?}");
         let found = resolve(&ea, size, &mut plain, 0, Space::User, &mut port);

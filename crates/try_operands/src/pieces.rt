@@ -31,16 +31,18 @@ static CUTS: [(u32, u8, &[(u32, u8)]); 24] = [
     (11, 5, &[(11, 1), (12, 4)]),
 ];
 
+/// An address, how many bytes are left, and how many the piece has.
+static FIRST_PIECES: [(u32, u8, u8); 5] = [
+    (0x7FC4, 60, 4),
+    (0x7FC6, 60, 2),
+    (0x7FC5, 60, 1),
+    (8, 3, 2),
+    (8, 1, 1),
+];
+
 #[test]
 fn cuts_by_hand(rt: HostRuntime) {
-    // An address, how many bytes are left, and how many the piece has.
-    for (at, left, len) in [
-        (0x7FC4, 60, 4),
-        (0x7FC6, 60, 2),
-        (0x7FC5, 60, 1),
-        (8, 3, 2),
-        (8, 1, 1),
-    ] {
+    for &(at, left, len) in &FIRST_PIECES {
         assert!(rt; 1 <= left);
         assert!(rt; first_piece(at, left) == Piece { at, len });
     }

@@ -4,24 +4,30 @@ use mb_port::{Fault, Mmu, MmuReg, Piece, Port, Space};
 use mb_vector::VectorPort;
 use std::alloc::{AllocError, Global};
 
-/// Four longs, with a hole in the last.
-fn port_of(alloc: Global) -> Result<VectorPort, AllocError> {
+/// The registers of translation after reset.
+pub(crate) const NO_MMU: Mmu = Mmu {
+    tc: 0,
+    itt0: 0,
+    itt1: 0,
+    dtt0: 0,
+    dtt1: 0,
+    mmusr: 0,
+    urp: 0,
+    srp: 0,
+};
+
+/// A memory of these longs that refuses one byte.
+pub(crate) fn port_of(alloc: Global, longs: &[u32], hole: u32) -> Result<VectorPort, AllocError> {
     Ok(VectorPort {
-        longs: vec![in alloc; 0x0011_2233, 0x4455_6677, 0x8899_AABB, 0xCCDD_EEFF]?,
-        hole: 13,
-        mmu: Mmu {
-            tc: 0,
-            itt0: 0,
-            itt1: 0,
-            dtt0: 0,
-            dtt1: 0,
-            mmusr: 0,
-            urp: 0,
-            srp: 0,
-        },
+        longs: longs.to_vec(alloc)?,
+        hole,
+        mmu: NO_MMU,
         is_quick: false,
     })
 }
+
+/// Four longs.
+const LONGS: [u32; 4] = [0x0011_2233, 0x4455_6677, 0x8899_AABB, 0xCCDD_EEFF];
 
 /// Adds one to a byte, and answers what it was: generic code, which knows the port by its bound.
 fn bump<P: Port>(port: &mut P, at: u32) -> Result<u32, Fault> {
@@ -33,7 +39,8 @@ fn bump<P: Port>(port: &mut P, at: u32) -> Result<u32, Fault> {
 
 #[test]
 fn calls_by_hand(rt: HostRuntime) -> Result<(), AllocError> {
-    let mut port = port_of(rt.alloc())?;
+    // With a hole in the last.
+    let mut port = port_of(rt.alloc(), &LONGS, 13)?;
     assert!(rt; port.fetch(Space::User, 6) == Ok(0x6677));
     assert!(rt; bump(&mut port, 5) == Ok(0x55));
     assert!(rt; port.read(Space::User, Piece { at: 4, len: 4 }) == Ok(0x4456_6677));

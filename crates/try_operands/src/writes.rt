@@ -5,6 +5,7 @@ ghost use Rattle.mb_port.specs.Pieces.{IsPiece};
 ghost use Rattle.mb_frames.specs.AccessFields.{piece_of};
 ghost use Rattle.mb_writes.specs.Writing.{ArePending};
 
+use crate::vector::port_of;
 use Write::{Apart, Operand};
 use mb_frames::Pend;
 use mb_instr::{Plain, Size};
@@ -165,12 +166,6 @@ const A3: u32 = 0x3333_8333;
 /// Memory before a transfer.
 const LONGS: [u32; 4] = [0x0A0B_0C0D, 0x8001_7002, 0x9003_6004, 0xA005_5006];
 
-fn memory(alloc: Global, hole: u32) -> Result<VectorPort, AllocError> {
-    let mut port = VectorPort::new(alloc, 0, hole)?;
-    port.longs = LONGS.to_vec(alloc)?;
-    Ok(port)
-}
-
 /// Registers with D1, A2 and A3.
 fn registers([d1, a2, a3]: [u32; 3]) -> Plain {
     let mut plain = Plain {
@@ -318,7 +313,7 @@ fn check_refusals(rt: &impl Abort, alloc: Global, row: &Transfer) -> Result<(), 
     let movem = Movem::of(words);
     for refusal in row.refusals {
         let (hole, done) = (refusal.hole, refusal.done);
-        let mut port = memory(alloc, hole)?;
+        let mut port = port_of(alloc, &LONGS, hole)?;
         let mut plain = registers([D1, row.base, A3]);
         let refused = transfer(&movem, ea, 0, &mut plain, Space::User, &mut port);
         let refused = refused
@@ -343,7 +338,7 @@ fn check_refusals(rt: &impl Abort, alloc: Global, row: &Transfer) -> Result<(), 
 #[test]
 fn transfers(rt: HostRuntime) -> Result<(), AllocError> {
     for row in &TRANSFERS {
-        let mut port = memory(rt.alloc(), u32::MAX)?;
+        let mut port = port_of(rt.alloc(), &LONGS, u32::MAX)?;
         let mut plain = registers([D1, row.base, A3]);
         let movem = Movem::of(row.words);
         let moved = transfer(&movem, row.ea, 0, &mut plain, Space::User, &mut port);
