@@ -1,11 +1,9 @@
 -- The devices keep their build, whatever a machine does and whatever arrives.
-use Rattle.std.proofs.Common.{◌≡◌, ◌∙◌, ◌==◌, ℕ, zero, suc, Bool, true, false, List, [], ◌∷◌, ◌+◌, length, refl, ap, nat_lt}
+use Rattle.std.proofs.Common.{◌≡◌, ◌∙◌, ◌==◌, ℕ, Bool, true, false, List, [], ◌∷◌, ◌+◌, length, refl, ap, nat_lt}
 use Rattle.std.specs.Prelude.{Option, Some, None, if◌then◌else◌, unwrap_or, option_map, is_some, ◌-◌}
 use Rattle.mb_port.specs.declared.types.Place.{Place}
 use Rattle.mb_port.specs.declared.types.Space.{Space}
 use Rattle.mb_port.specs.Routine.{Fetch, Read, Write, ReadLine, WriteLine, Probe, Get, Put, ReadMmu, SetMmu, FlushKept, Test, ResetDevices}
-use Rattle.mb_laws.specs.Keeps.{LeavesAlone}
-use Rattle.mb_laws.proofs.Kept.{run_leaves}
 use Rattle.mb_model.specs.Keeping.{Rule}
 use Rattle.mb_devices.specs.declared.register.Register.{Register}
 use Rattle.mb_devices.specs.declared.register.Register.TheVariants.{Data, Status, Ctrl, Period, Count, Ack, Power, Size, Disk}
@@ -14,17 +12,17 @@ use Rattle.vm_disk.specs.Disk.{DiskState, rested}
 use Rattle.vm_disk.specs.Registers.{disk_row}
 use Rattle.mb_devices.specs.declared.devices.TheConstants.{QUEUE_ROOM, CONSOLE_ROOM}
 use Rattle.mb_devices.specs.Registers.{powered, register_row}
-use Rattle.mb_processor.specs.Step.{step_of}
 use Rattle.mb_machine.specs.declared.reference.Reference.{Reference}
 use Rattle.mb_machine.specs.World.{World}
 use Rattle.mb_machine.specs.Places.{Stand, memory, register, nowhere, taken, taken_at, stored, stored_at, checked, taken_line, stored_line}
 use Rattle.mb_machine.specs.Access.{translated}
-use Rattle.mb_machine.specs.Bus.{bus_of, read_at, read_by, written_at, written_by, wrote, tested, tested_by}
+use Rattle.mb_machine.specs.Bus.{read_at, read_by, written_at, written_by, wrote, tested, tested_by}
 use Rattle.mb_machine.proofs.Refusals.{translated-beside}
+use Rattle.mb_machine.proofs.RunsLeave.{runs_leave}
 use Rattle.mb_machine.specs.Laws.{StartsHaveTheBuild, CallsLeaveTheBuild, RunsLeaveTheBuild}
 use Rattle.mb_script.specs.declared.input.Input.{Input}
 use Rattle.mb_script.specs.declared.input.Input.TheVariants.{Byte, Abort}
-use Rattle.mb_machine.specs.Machine.{Entries, Machine, arrived, begun, reset_with, run_of, stepped, takes_steps, asked_of, taken_in}
+use Rattle.mb_machine.specs.Machine.{Entries, Machine, arrived, begun, reset_with, taken_in}
 
 abbrev build_of : World → ℕ × Bool
 build_of w = built w.devices
@@ -172,9 +170,6 @@ built-bus rule ResetDevices w = built-reset w.devices
 
 -- ---- steps and runs
 
-leaves : (rule : Rule) → LeavesAlone build_of (bus_of rule)
-leaves rule = record { call = built-bus rule }
-
 built-received : (byte : ℕ) (d : DeviceState) → built (received byte d) ≡ built d
 built-received byte d = built-either (nat_lt (length d.queue) QUEUE_ROOM) _ _ (built d) refl refl
 
@@ -190,22 +185,8 @@ built-arrived step (entry ∷ script) d =
 built-begun : (script : Entries) (m : Machine) → build_of (begun script m).world ≡ build_of m.world
 built-begun script m = built-ticked _ ∙ built-arrived (m.steps + 1) script m.world.devices
 
-built-stepped : (rule : Rule) (script : Entries) (m : Machine) → build_of (stepped rule script m).world ≡ build_of m.world
-built-stepped rule script m =
-    let b = begun script m in
-    run_leaves (leaves rule) (step_of (asked_of script b) b.cpu) b.world ∙ built-begun script m
-
-either_machine : (b : Bool) (s t : Machine) (n : ℕ × Bool) → build_of s.world ≡ n → build_of t.world ≡ n
-    → build_of (if b then s else t).world ≡ n
-either_machine true s t n h g = h
-either_machine false s t n h g = g
-
 pub built-run : RunsLeaveTheBuild
-unfolding run_of
-built-run rule script zero m = refl
-built-run rule script (suc n) m =
-    either_machine (takes_steps m.state) _ m (build_of m.world)
-    (built-run rule script n (stepped rule script m) ∙ built-stepped rule script m) refl
+built-run rule = runs_leave build_of rule (built-bus rule) built-begun
 
 pub built-start : StartsHaveTheBuild
 unfolding reset_with

@@ -162,7 +162,7 @@ if-bytes false w h = tt
 
 stored_line-bytes : (place : Place) (line : List ℕ) (w : World) → HasBytes w → IfBytes (stored_line place line w)
 stored_line-bytes place line w h =
-    if-bytes _ (record w { ram = with_longs w.ram place.at line }) (record { bytes = bytes-with_longs w.ram place.at line h.bytes })
+    if-bytes _ (record w { ram = with_longs w.ram place.at (take 4 line) }) (record { bytes = bytes-with_longs w.ram place.at (take 4 line) h.bytes })
 
 -- ---- the calls
 

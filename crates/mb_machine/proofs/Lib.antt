@@ -1,6 +1,7 @@
 pub mod BusLemmas
 pub mod Bytes
 pub mod Refusals
+pub mod RunsLeave
 pub mod Beneath
 pub mod Pieces
 pub mod Enters

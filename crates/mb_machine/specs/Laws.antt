@@ -1,5 +1,5 @@
--- What holds of every call of the bus, by every rule: memory stays bytes, of the same size, what a refused access tells
--- and leaves, and what an access keeps; and of every call and run, that the devices keep their build.
+-- What holds of every call of the bus, by every rule: memory stays bytes, what a refused access tells and leaves, and
+-- what an access keeps; and of every call and run, that memory keeps its size, and the devices their build.
 use Rattle.std.specs.Prelude.{◌≡◌, ℕ, is_none, is_some, length, IfSome}
 use Rattle.mb_port.specs.Routine.{Call, Fetch, Read, Write, ReadLine, WriteLine, Probe, Get, Put, ReadMmu, SetMmu}
 use Rattle.mb_port.specs.Routine.{FlushKept, Test, ResetDevices}
@@ -70,15 +70,15 @@ PlacesStandBeneath = (rule : Rule) (place : Place) (value : ℕ) (w : World)
     → let (_, after_get) = bus_of rule (Get place) w in let (_, after_put) = bus_of rule (Put place value) w in
     IsBeneath w after_get × IsBeneath w after_put
 
--- a line is four longs
-abbrev pub IsWhole : Call → Type 0
-IsWhole (WriteLine space at line) = length line ≡ 4
-IsWhole other = Unit {0}
-
--- No call changes the size of RAM.
-abbrev pub SizesStay : Type 0
-SizesStay = (rule : Rule) (c : Call) (w : World) → HasBytes w → IsWhole c
+-- No call changes the size of RAM,
+abbrev pub CallsLeaveTheSize : Type 0
+CallsLeaveTheSize = (rule : Rule) (c : Call) (w : World)
     → let (_, after) = bus_of rule c w in length after.ram ≡ length w.ram
+
+-- nor does a run.
+abbrev pub RunsLeaveTheSize : Type 0
+RunsLeaveTheSize = (rule : Rule) (script : Entries) (steps : ℕ) (m : Machine)
+    → length (run_of rule script steps m).world.ram ≡ length m.world.ram
 
 -- The devices of a machine at its start show its size, and a disk is attached where it opens with one;
 abbrev pub StartsHaveTheBuild : Type 0

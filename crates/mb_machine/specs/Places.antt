@@ -1,6 +1,6 @@
 -- Physical places: RAM from address 0 on, and the registers of the devices.
 use Rattle.std.specs.Prelude.{ℕ, ◌+◌, ◌≡◌, Bool, true, false, List, [], ◌∷◌, length, nat_le}
-use Rattle.std.specs.Prelude.{Option, Some, None, if◌then◌else◌}
+use Rattle.std.specs.Prelude.{Option, Some, None, if◌then◌else◌, take}
 use Rattle.mb_port.specs.declared.types.Place.{Place}
 use Rattle.mb_devices.specs.declared.register.Register.{Register}
 use Rattle.mb_devices.specs.Registers.{register_row, register_at}
@@ -78,6 +78,8 @@ with_longs ram at (value ∷ values) = with_longs (with_number ram at 4 value) (
 abbrev pub taken_line : Place → World → Option (List ℕ) × World
 taken_line place w = ((if in_ram (length w.ram) place.at place.len then Some (line_at w.ram place.at) else None), w)
 
+-- a line has no more than its four longs
 abbrev pub stored_line : Place → List ℕ → World → Option World
 stored_line place line w =
-    if in_ram (length w.ram) place.at place.len then Some (record w { ram = with_longs w.ram place.at line }) else None
+    if in_ram (length w.ram) place.at place.len
+    then Some (record w { ram = with_longs w.ram place.at (take 4 line) }) else None

@@ -1,8 +1,8 @@
 //! Laws of the bus and of runs.
 
-ghost use Rattle.mb_machine.specs.Laws.{BytesStay, SizesStay, FaultsTell, TranslationsStayBeside};
+ghost use Rattle.mb_machine.specs.Laws.{BytesStay, FaultsTell, TranslationsStayBeside};
 ghost use Rattle.mb_machine.specs.Enters.{EntersStacked};
-ghost use Rattle.mb_machine.specs.Laws.{CallsStandBeneath, PlacesStandBeneath};
+ghost use Rattle.mb_machine.specs.Laws.{CallsLeaveTheSize, CallsStandBeneath, PlacesStandBeneath, RunsLeaveTheSize};
 ghost use Rattle.mb_machine.specs.Laws.{StartsHaveTheBuild, CallsLeaveTheBuild, RunsLeaveTheBuild};
 
 /// Whatever is called, a memory of bytes stays one, by every rule of keeping.
@@ -10,9 +10,10 @@ pub fn memory_stays_bytes()
     ensures { BytesStay }
 {}
 
-/// Whatever is called, memory keeps its size.
+/// Memory keeps its size, whatever is called, and however many steps a machine takes.
 pub fn memory_keeps_its_size()
-    ensures { SizesStay }
+    ensures calls { CallsLeaveTheSize }
+    ensures runs { RunsLeaveTheSize }
 {}
 
 /// What is read or written leaves the registers of translation, and what is kept.

@@ -1,5 +1,5 @@
 -- What is never denied ends with no fault.
-use Rattle.std.proofs.Common.{Bool, ◌≡◌, ℕ, ◌+◌, true, false, refl, ap, sym, ◌∙◌, subst, arith, Result, Ok, Err, ◌^◌, ◌<◌}
+use Rattle.std.proofs.Common.{Bool, ◌≡◌, ℕ, ◌+◌, true, false, refl, ap, sym, ◌∙◌, subst, arith, Result, Ok, Err, take, ◌^◌, ◌<◌}
 use Rattle.mb_port.specs.Routine.{Call, Fetch, Read, Write, ReadLine, WriteLine, Probe, Get, Put, ReadMmu, SetMmu, FlushKept, Test, ResetDevices}
 use Rattle.mb_port.specs.declared.types.Space.{Space}
 use Rattle.mb_port.specs.declared.types.Place.{Place}
@@ -87,7 +87,7 @@ answers free space size (WriteLine of at line) g s e l may =
     subst (λ (t : Space). allows_call (WriteLine t at line) g.shadow ≡ true
     → Results Equal (SameFault (faultless free space)) ((held_bus (WriteLine space at line) g).0) ((held_bus (WriteLine t at line) g).0)) (sym e)
     (λ may. answers_ok (SameFault (faultless free space)) ((held_bus (WriteLine space at line) g).0) tt (ap (λ (q : Result (Unit {0}) Fault × Guest). q.0)
-    (write_held size g space at 16 (λ place. stored_line place line) s.truthful l.1 (line_fits at l.2) (λ at. (line_guest g at line).world)
+    (write_held size g space at 16 (λ place. stored_line place line) s.truthful l.1 (line_fits at l.2) (λ at. (line_guest g at (take 4 line)).world)
     (line_writes size g line s) may))) may
 answers free space size (Probe of p) g s e l may =
     subst (λ (t : Space). allows_call (Probe t p) g.shadow ≡ true

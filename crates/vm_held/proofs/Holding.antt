@@ -1,6 +1,6 @@
 -- The held guest's calls.
 use Rattle.std.proofs.Common.{◌≡◌, ℕ, ◌+◌, ◌*◌, ◌%◌, ◌^◌, ◌≤◌, ◌<◌, Bool, true, false, nat_le, List, [], ◌∷◌, length, refl, ap, sym, ◌∙◌, subst, arith, inl}
-use Rattle.std.proofs.Common.{inr, Option, Some, None, Result, Ok}
+use Rattle.std.proofs.Common.{inr, Option, Some, None, Result, Ok, take, length-take}
 use Rattle.std.specs.Prelude.{unwrap_or}
 use Rattle.std.proofs.lemmas.Bool.{cases_Bool}
 use Rattle.std.proofs.lemmas.Bool.Decides.{nat_tests}
@@ -171,7 +171,7 @@ pub stored_writes : (size : ℕ) (g : Guest) (len value : ℕ) → Sound size g 
 stored_writes size g len value s p h = stored_memory g.world (place_at p len) value (holds size g p len s h)
 
 pub line_writes : (size : ℕ) (g : Guest) (line : List ℕ) → Sound size g → (p : ℕ) → p + 16 ≤ size
-    → stored_line (place_at p 16) line g.world ≡ Some (line_guest g p line).world
+    → stored_line (place_at p 16) line g.world ≡ Some (line_guest g p (take 4 line)).world
 line_writes size g line s p h = line_written g.world p line (holds size g p 16 s h)
 
 -- ---- every lawful call
@@ -185,8 +185,9 @@ held_sound size space (Write of p value) g s l =
     (λ at h. wrote_sound size g at p.len value s h)
 held_sound size space (ReadLine of at) g s l = subst (Sound size) (sym (held_leaves size space (ReadLine of at) g s l tt)) s
 held_sound size space (WriteLine of at line) g s l =
-    write_sound size g of at 16 (λ place. stored_line place line) s l.1 (line_fits at l.2) (λ at. (line_guest g at line).world) (line_writes size g line s)
-    (λ at h. let four : length line ≡ 4 = l.3 in line_sound size g at line s (omega arith))
+    write_sound size g of at 16 (λ place. stored_line place line) s l.1 (line_fits at l.2) (λ at. (line_guest g at (take 4 line)).world)
+    (line_writes size g line s)
+    (λ at h. line_sound size g at (take 4 line) s (omega (arith, length-take 4 line)))
 held_sound size space (Probe of p) g s l = subst (Sound size) (sym (held_leaves size space (Probe of p) g s l tt)) s
 held_sound size space (Get place) g s l =
     subst (λ (q : Option ℕ × World). Sound size (record g { world = q.1 }))

@@ -1,6 +1,6 @@
 -- What a held guest's call changes.
 use Rattle.std.proofs.Common.{◌≡◌, ℕ, ◌+◌, ◌%◌, ◌^◌, ◌≤◌, ◌<◌, true, false, refl, sym, subst, arith, inl, inr, Option, Some, Result}
-use Rattle.std.specs.Prelude.{unwrap_or}
+use Rattle.std.specs.Prelude.{unwrap_or, take}
 use Rattle.std.proofs.lemmas.Bool.{cases_Bool}
 use Rattle.mb_port.specs.Routine.{Fetch, Read, Write, ReadLine, WriteLine, Probe, Get, Put, ReadMmu, SetMmu, FlushKept, Test, ResetDevices}
 use Rattle.mb_port.specs.declared.types.Space.{Space}
@@ -41,8 +41,8 @@ held_keeps space size (Write of p value) g s l =
     (stored_writes size g p.len value s) (λ at. refl)
 held_keeps space size (ReadLine of at) g s l = only_same g _ (held_leaves size space (ReadLine of at) g s l tt)
 held_keeps space size (WriteLine of at line) g s l =
-    write_only size g of at 16 (λ place. stored_line place line) s l.1 (line_fits at l.2) (λ at. (line_guest g at line).world) (line_writes size g line s)
-    (λ at. refl)
+    write_only size g of at 16 (λ place. stored_line place line) s l.1 (line_fits at l.2) (λ at. (line_guest g at (take 4 line)).world)
+    (line_writes size g line s) (λ at. refl)
 held_keeps space size (Probe of p) g s l = only_same g _ (held_leaves size space (Probe of p) g s l tt)
 held_keeps space size (Get place) g s l =
     subst (λ (q : Option ℕ × World). OnlyRam g (record g { world = q.1 }))

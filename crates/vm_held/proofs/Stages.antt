@@ -1,6 +1,6 @@
 -- What the stages of an access come to, by any rule.
 use Rattle.std.proofs.Common.{◌≡◌, ℕ, ◌+◌, ◌*◌, ◌<◌, ◌%◌, Bool, true, false, refl, ap, ◌∙◌, arith, inl, inr, Option, Some, None, ◌≢◌, ◌≤◌, ◌/◌, cond, List}
-use Rattle.std.proofs.Common.{length, Ok, Err}
+use Rattle.std.proofs.Common.{length, take, Ok, Err}
 use Rattle.std.proofs.lemmas.Bool.{cases_lt}
 use Rattle.mb_port.specs.declared.types.Mmu.{Mmu}
 use Rattle.mb_model.specs.declared.kept.Kept.{Kept}
@@ -64,7 +64,7 @@ pub line_read : (w : World) (p : ℕ) → in_ram (length w.ram) p 16 ≡ true �
 line_read w p h = rw h refl
 
 pub line_written : (w : World) (p : ℕ) (line : List ℕ) → in_ram (length w.ram) p 16 ≡ true
-    → stored_line (place_at p 16) line w ≡ Some (record w { ram = with_longs w.ram p line })
+    → stored_line (place_at p 16) line w ≡ Some (record w { ram = with_longs w.ram p (take 4 line) })
 line_written w p line h = rw h refl
 
 pub checked_is : (w : World) (p len : ℕ) → in_ram (length w.ram) p len ≡ true → checked (place_at p len) w ≡ (Some (place_at p len), w)

@@ -6,9 +6,9 @@ use Rattle.mb_walk.specs.Memory.{AreBytes}
 use Rattle.mb_machine.specs.World.{World, HasBytes}
 use Rattle.mb_machine.specs.Access.{translated, matched, or_off, untranslated, by_match, settled, root_of}
 use Rattle.mb_machine.specs.Bus.{bus_of, fetching_of, reading_of, writing_of, after_set_mmu, tested_by}
-use Rattle.mb_machine.specs.Laws.{IsBeneath, IsWhole}
+use Rattle.mb_machine.specs.Laws.{IsBeneath}
 use Rattle.mb_machine.proofs.Bytes.{bus-bytes}
-use Rattle.mb_machine.proofs.Beneath.{calls_stand_beneath, places_stand_beneath, sizes_stay}
+use Rattle.mb_machine.proofs.Beneath.{calls_leave_the_size, calls_stand_beneath, places_stand_beneath}
 use Rattle.mb_port.specs.declared.types.Flush.{Flush}
 use Rattle.mb_port.specs.declared.types.Space.{Space}
 use Rattle.mb_port.specs.declared.types.Mmu.{Mmu}
@@ -124,22 +124,22 @@ module _ (size : ℕ) (c : Call) (g : Guest) (fine : Fine size g) where
   abbrev after : World
   after = (bus_of rule_k c g.world).1
 
-  count_after : IsWhole c → length after.ram ≡ size
-  count_after whole = sizes_stay rule_k c g.world has_bytes whole ∙ fine.sound.count
+  count_after : length after.ram ≡ size
+  count_after = calls_leave_the_size rule_k c g.world ∙ fine.sound.count
 
   bytes_after : AreBytes after.ram
   bytes_after = (bus-bytes rule_k c g.world has_bytes).bytes
 
   -- of a reference that the call makes
-  pub fine_access : (r : Reference) → IsReference r → IsWhole c → IsBeneath (translated rule_k r g.world).1 (bus_of rule_k c g.world).1
+  pub fine_access : (r : Reference) → IsReference r → IsBeneath (translated rule_k r g.world).1 (bus_of rule_k c g.world).1
       → Fine size (record { world = (bus_of rule_k c g.world).1; shadow = accessed r g.world g.shadow })
-  fine_access r is whole b =
+  fine_access r is b =
       fine_behind size (translated rule_k r g.world).1 (bus_of rule_k c g.world).1 (accessed r g.world g.shadow) (accesses_keep_truth size r g is fine) b
-      (count_after whole) bytes_after
+      count_after bytes_after
 
   -- of none
-  pub fine_place : IsWhole c → IsBeneath g.world (bus_of rule_k c g.world).1 → Fine size (record { world = (bus_of rule_k c g.world).1; shadow = g.shadow })
-  fine_place whole b = fine_behind size g.world (bus_of rule_k c g.world).1 g.shadow fine b (count_after whole) bytes_after
+  pub fine_place : IsBeneath g.world (bus_of rule_k c g.world).1 → Fine size (record { world = (bus_of rule_k c g.world).1; shadow = g.shadow })
+  fine_place b = fine_behind size g.world (bus_of rule_k c g.world).1 g.shadow fine b count_after bytes_after
 
 -- ---- every call
 
@@ -209,19 +209,19 @@ reset_fine size g fine = fine_behind size g.world (bus_of rule_k ResetDevices g.
 
 pub calls_keep_truth : CallsKeepTruth
 calls_keep_truth size (Fetch space at) g l fine =
-    let c = Fetch space at in fine_access size c g fine (fetching_of space at) (is_reading true space at l) tt (calls_stand_beneath rule_k c g.world)
+    let c = Fetch space at in fine_access size c g fine (fetching_of space at) (is_reading true space at l) (calls_stand_beneath rule_k c g.world)
 calls_keep_truth size (Read space p) g l fine =
-    let c = Read space p in fine_access size c g fine (reading_of space p.at) (is_reading false space p.at l) tt (calls_stand_beneath rule_k c g.world)
+    let c = Read space p in fine_access size c g fine (reading_of space p.at) (is_reading false space p.at l) (calls_stand_beneath rule_k c g.world)
 calls_keep_truth size (Write space p value) g l fine =
-    let c = Write space p value in fine_access size c g fine (writing_of space p.at) (is_writing space p.at l) tt (calls_stand_beneath rule_k c g.world)
+    let c = Write space p value in fine_access size c g fine (writing_of space p.at) (is_writing space p.at l) (calls_stand_beneath rule_k c g.world)
 calls_keep_truth size (ReadLine space at) g l fine =
-    let c = ReadLine space at in fine_access size c g fine (reading_of space at) (is_reading false space at l) tt (calls_stand_beneath rule_k c g.world)
+    let c = ReadLine space at in fine_access size c g fine (reading_of space at) (is_reading false space at l) (calls_stand_beneath rule_k c g.world)
 calls_keep_truth size (WriteLine space at line) g l fine =
-    let c = WriteLine space at line in fine_access size c g fine (writing_of space at) (is_writing space at l.0) l.1 (calls_stand_beneath rule_k c g.world)
+    let c = WriteLine space at line in fine_access size c g fine (writing_of space at) (is_writing space at l.0) (calls_stand_beneath rule_k c g.world)
 calls_keep_truth size (Probe space p) g l fine =
-    let c = Probe space p in fine_access size c g fine (writing_of space p.at) (is_writing space p.at l) tt (calls_stand_beneath rule_k c g.world)
-calls_keep_truth size (Get place) g l fine = fine_place size (Get place) g fine tt (places_stand_beneath rule_k place 0 g.world).0
-calls_keep_truth size (Put place value) g l fine = fine_place size (Put place value) g fine tt (places_stand_beneath rule_k place value g.world).1
+    let c = Probe space p in fine_access size c g fine (writing_of space p.at) (is_writing space p.at l) (calls_stand_beneath rule_k c g.world)
+calls_keep_truth size (Get place) g l fine = fine_place size (Get place) g fine (places_stand_beneath rule_k place 0 g.world).0
+calls_keep_truth size (Put place value) g l fine = fine_place size (Put place value) g fine (places_stand_beneath rule_k place value g.world).1
 calls_keep_truth size ReadMmu g l fine = unchanged_fine size g fine
 calls_keep_truth size (SetMmu which value) g l fine = set_fine size g which value fine
 calls_keep_truth size (FlushKept what) g l fine = flushed_fine size g what fine

@@ -1,6 +1,6 @@
 -- What neither reads nor changes what is kept.
 use Rattle.std.proofs.Common.{◌≡◌, ℕ, Bool, true, false, List, length, refl, ◌∙◌, ap}
-use Rattle.std.specs.Prelude.{Option, Some, None, unwrap_or, if◌then◌else◌}
+use Rattle.std.specs.Prelude.{Option, Some, None, unwrap_or, if◌then◌else◌, take}
 use Rattle.mb_port.specs.declared.types.Place.{Place}
 use Rattle.mb_model.specs.Keeping.{KeptLists}
 use Rattle.mb_machine.specs.declared.reference.Reference.{Reference}
@@ -60,7 +60,7 @@ if_keeping false w kept = refl
 
 pub stored_line-blind : (place : Place) (line : List ℕ) → IsBlindStore (stored_line place line)
 stored_line-blind place line w kept =
-    if_keeping (in_ram (length w.ram) place.at place.len) (record w { ram = with_longs w.ram place.at line }) kept
+    if_keeping (in_ram (length w.ram) place.at place.len) (record w { ram = with_longs w.ram place.at (take 4 line) }) kept
 
 wrote_blind : (w : World) (o : Option World) (fault : _) (kept : KeptLists)
     → wrote (record w { kept = kept }) (keeping kept o) fault ≡ ((wrote w o fault).0, record (wrote w o fault).1 { kept = kept })

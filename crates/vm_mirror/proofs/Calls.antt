@@ -1,6 +1,6 @@
 -- Each call on the board and at the held guest.
 use Rattle.std.proofs.Common.{◌≡◌, ℕ, ◌+◌, ◌*◌, ◌≤◌, ◌<◌, ◌%◌, ◌^◌, Bool, true, false, List, [], ◌∷◌, length, refl, ap, sym, ◌∙◌, subst, arith, inl, inr}
-use Rattle.std.proofs.Common.{Option, Some, None, Result, Ok, Err}
+use Rattle.std.proofs.Common.{Option, Some, None, Result, Ok, Err, take, length-take}
 use Rattle.std.specs.Prelude.{unwrap_or}
 use Rattle.std.proofs.lemmas.Bool.{cases_Bool}
 use Rattle.mb_port.specs.Routine.{Fetch, Read, Write, ReadLine, WriteLine, Probe, Get, Put, ReadMmu, SetMmu, FlushKept, Test, ResetDevices}
@@ -103,14 +103,14 @@ store_both x g len value w p r h = (
   written x w g p len value r h,
 )
 
-pub line_store_both : (x : Site) (g : Guest) (line : List ℕ) → length line ≡ 4 → (w : World) (p : ℕ) → Related x w g → p + 16 ≤ x.size
+pub line_store_both : (x : Site) (g : Guest) (line : List ℕ) (w : World) (p : ℕ) → Related x w g → p + 16 ≤ x.size
     → StoresBoth x 16 (λ place. stored_line place line) g w p
-line_store_both x g line four w p r h = (
-  line_board x w p line,
-  (line_guest g p line).world,
+line_store_both x g line w p r h = (
+  line_board x w p (take 4 line),
+  (line_guest g p (take 4 line)).world,
   line_written w (x.base + p) line (board_in_ram x w g p 16 r h),
   line_written g.world p line (guest_in_ram x w g p 16 r h),
-  written_line x w g p line r (omega arith),
+  written_line x w g p (take 4 line) r (omega (arith, length-take 4 line)),
 )
 
 -- ---- both sides
@@ -203,7 +203,7 @@ mirrors_calls x (Write space p value) b g r s (u, l, is) =
 mirrors_calls x (ReadLine space at) b g r s (u, l, is) =
     read_mirrored x b g false at 16 false Equal taken_line taken_line (line_both x g) r space s l (λ z. refl) (line_fits at is)
 mirrors_calls x (WriteLine space at line) b g r s (u, l, is, four) =
-    write_mirrored x b g at 16 (λ place. stored_line place line) (line_store_both x g line four) r space s l (line_fits at is)
+    write_mirrored x b g at 16 (λ place. stored_line place line) (line_store_both x g line) r space s l (line_fits at is)
 mirrors_calls x (Probe space p) b g r s (u, l, is) = read_mirrored x b g false p.at p.len true (IsRaised (setting x)) checked checked (check_both x g p.len) r
     space s l (λ z. refl) (piece_fits p is)
 mirrors_calls x (Get place) b g r s (low, high) =

@@ -1,6 +1,6 @@
 -- A call in user mode touches nothing outside the guest's RAM.
 use Rattle.std.proofs.Common.{◌≡◌, ℕ, ◌+◌, ◌*◌, ◌%◌, ◌^◌, ◌≤◌, ◌<◌, Bool, true, false, List, [], ◌∷◌, length, take, refl, sym, ◌∙◌, subst, arith, inl, inr}
-use Rattle.std.proofs.Common.{Option, Some, None, Result}
+use Rattle.std.proofs.Common.{Option, Some, None, Result, length-take}
 use Rattle.std.specs.Prelude.{unwrap_or}
 use Rattle.std.proofs.lemmas.Bool.{cases_Bool}
 use Rattle.byteorder.specs.Endian.{big_bytes}
@@ -103,11 +103,14 @@ store_inside x b g len value r w p at_w o h =
       outside_number x b w p len value (room x b g r) o h,
     )
 
-line_inside : (x : Site) (b : World) (g : Guest) (line : List ℕ) → length line ≡ 4 → Related x b g → (w : World) (p : ℕ) → Related x w g → Outside x b w
+line_inside : (x : Site) (b : World) (g : Guest) (line : List ℕ) → Related x b g → (w : World) (p : ℕ) → Related x w g → Outside x b w
     → p + 16 ≤ x.size
     → (u : World) × (stored_line (place_at (x.base + p) 16) line w ≡ Some u) × Outside x b u
-line_inside x b g line four r w p at_w o h =
-    (line_board x w p line, line_written w (x.base + p) line (board_in_ram x w g p 16 at_w h), outside_line x b w p line (room x b g r) o (omega arith))
+line_inside x b g line r w p at_w o h = (
+  line_board x w p (take 4 line),
+  line_written w (x.base + p) line (board_in_ram x w g p 16 at_w h),
+  outside_line x b w p (take 4 line) (room x b g r) o (omega (arith, length-take 4 line)),
+)
 
 inside_call : (x : Site) (d : Call) (b : World) (g : Guest) → Related x b g → IsThere (setting x) d → lawful x (call_here (setting x) d) b
     → Outside x b (board_bus (call_here (setting x) d) b).1
@@ -117,7 +120,7 @@ inside_call x (Write space p value) b g r s l = write_inside x b g p.at p.len (�
     (piece_fits p l.2)
 inside_call x (ReadLine space at) b g r s l = read_inside x b g false at 16 false Equal taken_line taken_line (line_both x g) r l.1 (λ z. refl)
     (line_fits at l.2)
-inside_call x (WriteLine space at line) b g r s l = write_inside x b g at 16 (λ place. stored_line place line) (line_inside x b g line l.3 r) r l.1
+inside_call x (WriteLine space at line) b g r s l = write_inside x b g at 16 (λ place. stored_line place line) (line_inside x b g line r) r l.1
     (line_fits at l.2)
 inside_call x (Probe space p) b g r s l = read_inside x b g false p.at p.len true (IsRaised (setting x)) checked checked (check_both x g p.len) r l.1
     (λ z. refl) (piece_fits p l.2)

@@ -97,11 +97,11 @@ resumed_runs_go_on script m n first c few = elim (cases_Bool (takes_steps (run_o
 ]
 
 pub started_runs_go_on : StartedRunsGoOn
-started_runs_go_on opening size script m n whole lie keeps few =
+started_runs_go_on opening size script m n whole lie few =
     let first = start rule_k opening size in
-    resumed_runs_go_on script m n first (runs_can_be_saved rule_k script m first (starts_can_be_saved opening size whole lie) keeps) few
+    resumed_runs_go_on script m n first (runs_can_be_saved rule_k script m first (starts_can_be_saved opening size whole lie)) few
 
 pub saved_runs_go_on : SavedRunsGoOn
-saved_runs_go_on disk s script m n lawful keeps few =
+saved_runs_go_on disk s script m n lawful few =
     let first = machine_of disk s in
-    resumed_runs_go_on script m n first (runs_can_be_saved rule_k script m first (saved_can_be_saved disk s lawful) keeps) few
+    resumed_runs_go_on script m n first (runs_can_be_saved rule_k script m first (saved_can_be_saved disk s lawful)) few

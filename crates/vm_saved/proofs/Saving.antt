@@ -1,15 +1,12 @@
 -- Which machines can be saved.
-use Rattle.std.proofs.Common.{◌≡◌, ◌∙◌, ℕ, zero, suc, ◌%◌, Bool, true, false, List, [], ◌∷◌, length, replicate, refl, ap, sym, subst, inl, inr, arith}
+use Rattle.std.proofs.Common.{◌≡◌, ◌∙◌, ℕ, ◌%◌, Bool, true, false, List, [], ◌∷◌, length, replicate, refl, ap, sym, subst, arith}
 use Rattle.std.specs.Prelude.{All, Option, Some, None, if◌then◌else◌}
-use Rattle.std.proofs.lemmas.Bool.{cases_Bool}
 use Rattle.std.proofs.lemmas.List.{length-map, length-replicate, length-set}
 use Rattle.std.proofs.lemmas.List.Elements.{All-head, All-map, All-tail, All-weaker}
 use Rattle.mb_port.specs.Routine.{Call, Fetch, Read, Write, ReadLine, WriteLine, Probe, Get, Put, ReadMmu, SetMmu, FlushKept, Test, ResetDevices}
 use Rattle.mb_port.specs.declared.types.Flush.{Flush}
 use Rattle.mb_port.specs.declared.types.Flush.TheVariants as flush
 use Rattle.mb_port.specs.declared.types.Space.{Space}
-use Rattle.mb_laws.specs.Keeps.{LeavesAlone}
-use Rattle.mb_laws.proofs.Kept.{run_leaves}
 use Rattle.mb_srec.specs.Image.{LiesBelow}
 use Rattle.mb_model.specs.declared.outcome.RunState.{RunState}
 use Rattle.mb_model.specs.declared.outcome.RunState.TheVariants.{Running, Stopped, Halted, Off}
@@ -19,21 +16,21 @@ use Rattle.mb_walk.specs.declared.found.Found.{Found}
 use Rattle.mb_walk.specs.declared.found.Found.TheVariants as found
 use Rattle.mb_walk.specs.Memory.{Contents, overwritten, with_contents}
 use Rattle.mb_walk.proofs.MemoryLemmas.{length-overwritten, overwritten-nothing}
-use Rattle.mb_processor.specs.Step.{step_of}
 use Rattle.mb_machine.specs.declared.reference.Reference.{Reference}
 use Rattle.mb_machine.specs.declared.reference.Settled.{Settled}
 use Rattle.mb_machine.specs.declared.reference.Settled.TheVariants.{To, Refused, Unsettled}
 use Rattle.mb_machine.specs.World.{World}
 use Rattle.mb_machine.specs.Access.{by_found, by_settled, matched, search_for, settled, translated}
 use Rattle.mb_machine.specs.Bus.{bus_of, fetching_of, reading_of, tested_by, writing_of}
-use Rattle.mb_machine.specs.Machine.{Entries, Machine, asked_of, begun, reset_with, run_of, stepped, takes_steps}
-use Rattle.mb_machine.proofs.Beneath.{calls_stand_beneath, places_stand_beneath}
+use Rattle.mb_machine.specs.Machine.{reset_with, run_of, takes_steps}
+use Rattle.mb_machine.proofs.Beneath.{calls_stand_beneath, places_stand_beneath, runs_leave_the_size}
 use Rattle.mb_machine.proofs.Builds.{built-run}
+use Rattle.mb_machine.proofs.RunsLeave.{runs_leave}
 use Rattle.mb_saved.specs.declared.line.RamLine.{RamLine}
 use Rattle.mb_saved.specs.Saved.{IsLine, is_off, is_stopped}
 use Rattle.vm_saved.specs.Saved.{content_of, contents_of, ram_by}
 use Rattle.vm_saved.specs.Saving.{RunsCanBeSaved, RunsKeepLists, SavedCanBeSaved, StartsCanBeSaved}
-use Rattle.vm_saved.proofs.Runs.{going_run, halted_run, nothing_run, runs_are_going}
+use Rattle.vm_saved.proofs.Runs.{runs_are_going}
 
 -- ---- memory with data that lies in it
 
@@ -147,20 +144,8 @@ bus_lists rule (FlushKept what) w = flushed_lists what w.kept
 bus_lists rule (Test space at write) w = tested_lists w space (page_of at) write (matched false w.mmu space (page_of at))
 bus_lists rule ResetDevices w = refl
 
-leaves : (rule : Rule) → LeavesAlone lists (bus_of rule)
-leaves rule = record { call = bus_lists rule }
-
-stepped_lists : (rule : Rule) (script : Entries) (m : Machine) → lists (stepped rule script m).world ≡ lists m.world
-stepped_lists rule script m = let b = begun script m in run_leaves (leaves rule) (step_of (asked_of script b) b.cpu) b.world
-
 pub runs_keep_lists : RunsKeepLists
-runs_keep_lists rule script zero m = ap (λ (x : Machine). lists x.world) (nothing_run rule script m)
-runs_keep_lists rule script (suc n) m = elim (cases_Bool (takes_steps m.state)) [
-  | inl going ↦
-      ap (λ (x : Machine). lists x.world) (going_run rule script n m going)
-      ∙ runs_keep_lists rule script n (stepped rule script m) ∙ stepped_lists rule script m
-  | inr still ↦ ap (λ (x : Machine). lists x.world) (halted_run rule script (suc n) m still)
-]
+runs_keep_lists rule = runs_leave lists rule (bus_lists rule) (λ script m. refl)
 
 -- ---- where a run comes
 
@@ -170,7 +155,8 @@ one_by_count (list ∷ []) h = refl
 one_by_count (list ∷ other ∷ more) h = absurd (omega arith)
 
 pub runs_can_be_saved : RunsCanBeSaved
-runs_can_be_saved rule script n m c size =
+runs_can_be_saved rule script n m c =
+    let size = runs_leave_the_size rule script n m in
     let count : length m.world.kept ≡ 1 = same_lists _ _ c.one_list in record {
       one_list = one_by_count (run_of rule script n m).world.kept (runs_keep_lists rule script n m ∙ count);
       whole = ap (λ (k : ℕ). k % 16) size ∙ c.whole;

@@ -10,7 +10,6 @@ use Rattle.vm_machine.specs.Rounds.{Member, left}
 use Rattle.mb_saved.specs.Saved.{IsLawful, Saved}
 use Rattle.vm_saved.specs.Saved.{CanBeSaved, machine_of, saved_of}
 use Rattle.vm_saved.specs.Begins.{beginning, tally_from}
-use Rattle.vm_saved.specs.Saving.{KeepsRam}
 use Rattle.vm_saved.specs.Cuts.{above}
 
 -- the most steps that a machine counts
@@ -60,14 +59,14 @@ ResumedRunsGoOn = (script : Entries) (m n : ℕ) (first : Machine)
     → CanBeSaved (run_of rule_k script m first) → (run_of rule_k script m first).steps ≤ most_steps
     → GoesOn script m n first
 
--- Where RAM keeps its size, that holds of a guest's run from its start,
+-- That holds of a guest's run from its start,
 abbrev pub StartedRunsGoOn : Type 0
 StartedRunsGoOn = (opening : Opening) (size : ℕ) (script : Entries) (m n : ℕ)
     → size % 16 ≡ 0 → All (LiesBelow size) opening.image → let first = start rule_k opening size in
-    KeepsRam rule_k script m first → (run_of rule_k script m first).steps ≤ most_steps → GoesOn script m n first
+    (run_of rule_k script m first).steps ≤ most_steps → GoesOn script m n first
 
 -- and from a lawful machine that was saved.
 abbrev pub SavedRunsGoOn : Type 0
 SavedRunsGoOn = (disk : Option DiskState) (s : Saved) (script : Entries) (m n : ℕ)
     → IsLawful s → let first = machine_of disk s in
-    KeepsRam rule_k script m first → (run_of rule_k script m first).steps ≤ most_steps → GoesOn script m n first
+    (run_of rule_k script m first).steps ≤ most_steps → GoesOn script m n first

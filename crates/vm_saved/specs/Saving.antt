@@ -21,11 +21,7 @@ abbrev pub RunsKeepLists : Type 0
 RunsKeepLists = (rule : Rule) (script : Entries) (n : ℕ) (m : Machine)
     → length (run_of rule script n m).world.kept ≡ length m.world.kept
 
--- RAM has the same size after so many steps.
-abbrev pub KeepsRam : Rule → Entries → ℕ → Machine → Type 0
-KeepsRam rule script n m = length (run_of rule script n m).world.ram ≡ length m.world.ram
-
--- Where it has, a machine that can be saved comes to one that can be saved.
+-- A machine that can be saved comes to one that can be saved.
 abbrev pub RunsCanBeSaved : Type 0
-RunsCanBeSaved = (rule : Rule) (script : Entries) (n : ℕ) (m : Machine) → CanBeSaved m → KeepsRam rule script n m
+RunsCanBeSaved = (rule : Rule) (script : Entries) (n : ℕ) (m : Machine) → CanBeSaved m
     → CanBeSaved (run_of rule script n m)

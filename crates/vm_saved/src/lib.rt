@@ -58,7 +58,7 @@ pub fn runs_keep_bits()
     ensures runs { RunsKeepBits }
 {}
 
-/// A guest's machine can be saved at its start, as it was saved, and wherever its run comes with RAM of the same size.
+/// A guest's machine can be saved at its start, as it was saved, and wherever its run comes.
 pub fn guests_can_be_saved()
     ensures starts { StartsCanBeSaved }
     ensures saved { SavedCanBeSaved }
