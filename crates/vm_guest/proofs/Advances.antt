@@ -22,7 +22,8 @@ use Rattle.vm_machine.proofs.TurnLaws.{going_turn}
 use Rattle.vm_step.specs.Taking.{IsLeft, settled}
 use Rattle.vm_step.proofs.Retire.{off_arrived, off_ticked}
 use Rattle.vm_guest.specs.Memory.{OnlyBetween}
-use Rattle.vm_guest.specs.Counting.{assisted, NoneDue}
+use Rattle.vm_machine.specs.Classes.{assisted}
+use Rattle.vm_guest.specs.Counting.{NoneDue}
 use Rattle.vm_guest.specs.declared.rest.Rest.TheVariants.{Whole}
 use Rattle.vm_guest.specs.Rests.{rest_in}
 use Rattle.vm_guest.specs.Native.{gone_on, guest_run, guest_start, reset_for, HasFrame}

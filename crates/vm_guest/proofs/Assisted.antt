@@ -1,33 +1,25 @@
 -- Classes of steps in which the board has no part, and of all others.
-use Rattle.std.proofs.Common.{◌≡◌, ℕ, ◌≤◌, List, Bool, true, false, cond, nat_lt, Option, Some, None, refl}
+use Rattle.std.proofs.Common.{◌≡◌, ℕ, ◌≤◌, List, Bool, true, false, cond, nat_lt, Option, Some, None, refl, ap}
+use Rattle.std.specs.Prelude.{unwrap_or}
 use Rattle.mb_model.specs.declared.processor.Cpu.{Cpu}
 use Rattle.mb_processor.specs.Step.{interrupt_mask, rank}
 use Rattle.vm_machine.specs.declared.class.Class.{Class}
 use Rattle.vm_machine.specs.declared.class.Class.TheVariants.{Entered, Idle, Traced}
 use Rattle.vm_machine.specs.Guests.{Guest}
 use Rattle.vm_machine.specs.Refills.{refilled}
-use Rattle.vm_machine.specs.Classes.{class_of, class_of_attempt, is_traced}
+use Rattle.vm_machine.specs.Classes.{assisted, class_of, class_of_attempt, is_traced}
 use Rattle.vm_machine.specs.Turns.{class_of_step, step_class_at_first}
 use Rattle.vm_machine.specs.Seats.{Seat, guested_on}
 use Rattle.vm_step.specs.Batch.{IsTried}
 use Rattle.vm_step.proofs.Retire.{not_above, not_less}
 use Rattle.vm_step.proofs.Quiet.{tried_class}
-use Rattle.vm_guest.specs.Counting.{assisted}
 use Rattle.vm_guest.specs.Turns.{begun_seat, level_on}
 
 pub inner : (b c : Class) → (let o : Option Class = Some b in o) ≡ Some c → b ≡ c
 inner b c h = cc
 
-by_tests : (a b t : Bool) (r c : Class) → cond a (Some Entered) (cond b (Some Idle) (cond t (Some Traced) None)) ≡ Some c
-    → cond a Entered (cond b Idle (cond t Traced r)) ≡ c
-by_tests true b t r c h = inner Entered c h
-by_tests false true t r c h = inner Idle c h
-by_tests false false true r c h = inner Traced c h
-by_tests false false false r c h = absurd (let z : ⊥ = cc in z)
-
 pub assisted_class : (level : ℕ) (cpu : Cpu) (g : Guest) (c : Class) → assisted level cpu ≡ Some c → class_of level cpu g ≡ c
-assisted_class level cpu g c h =
-    by_tests (nat_lt (interrupt_mask cpu) (rank level)) cpu.stopped (is_traced cpu) (class_of_attempt cpu (refilled cpu g).guest) c h
+assisted_class level cpu g c h = ap (λ (o : Option Class). unwrap_or o (class_of_attempt cpu (refilled cpu g).guest)) h
 
 -- what holds of a step that the board attempts
 pub record Attempts (level : ℕ) (cpu : Cpu) : Type 0 where

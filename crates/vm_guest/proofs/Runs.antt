@@ -27,7 +27,7 @@ use Rattle.vm_step.proofs.Refill.{first_is_last}
 use Rattle.vm_step.proofs.Quiet.{only_ticks, quiet_steps_are_tried, retired_steps_tick}
 use Rattle.vm_step.proofs.Turn.{boards_are_ready, flushed_is_set}
 use Rattle.vm_step.proofs.Taking.{batches_take, exits_take, is_counted, stands_of}
-use Rattle.vm_guest.specs.Counting.{assisted}
+use Rattle.vm_machine.specs.Classes.{assisted}
 use Rattle.vm_guest.specs.Native.{native_cpu, gone_on, reset_for, run_on, start_on}
 use Rattle.vm_guest.specs.Turns.{begun_seat, scene, level_on}
 use Rattle.vm_guest.proofs.Along.{wanted_along}

@@ -51,7 +51,7 @@ use Rattle.vm_step.proofs.Turn.{more_stays_set}
 use Rattle.vm_step.proofs.Taking.{some_read}
 use Rattle.vm_step.proofs.Again.{midway_again, midway_ahead, midway_begins, midway_ends, midway_level, midway_takes, midway_within}
 use Rattle.vm_guest.specs.Memory.{OnlyBetween}
-use Rattle.vm_guest.specs.Counting.{assisted}
+use Rattle.vm_machine.specs.Classes.{assisted}
 use Rattle.vm_guest.specs.Native.{gone_on, left_by, run_on, start_on, HasFrame, IsFrameOf}
 use Rattle.vm_guest.specs.Turns.{begun_seat, ended_at, scene, level_on}
 use Rattle.vm_guest.specs.Stops.{filled, uncounted, BeginsAgain, IsReady, IsStopped, IsUnderway}

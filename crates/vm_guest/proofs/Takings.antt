@@ -20,7 +20,7 @@ use Rattle.vm_machine.proofs.TurnLaws.{going_turn, nothing_turned}
 use Rattle.vm_step.specs.Idle.{IsIdle, idle_seat}
 use Rattle.vm_step.proofs.Idle.{idle_steps_take}
 use Rattle.vm_guest.specs.Memory.{OnlyBetween}
-use Rattle.vm_guest.specs.Counting.{assisted}
+use Rattle.vm_machine.specs.Classes.{assisted}
 use Rattle.vm_guest.specs.Turns.{begun_seat, ended_at, idled_on, scene, level_on}
 use Rattle.vm_guest.proofs.Assisted.{inner, class_begun, idle_assisted}
 use Rattle.vm_guest.proofs.Seated.{only_within}

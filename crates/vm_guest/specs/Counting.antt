@@ -1,12 +1,7 @@
 -- Steps of a guest, and how they are counted.
-use Rattle.std.specs.Prelude.{ℕ, ◌+◌, ◌<◌, ◌≤◌, ◌⊎◌, nat_lt, if◌then◌else◌, length, Option, Some, None}
-use Rattle.mb_model.specs.declared.processor.Cpu.{Cpu}
-use Rattle.mb_processor.specs.Step.{interrupt_mask, rank}
+use Rattle.std.specs.Prelude.{ℕ, ◌+◌, ◌<◌, ◌≤◌, ◌⊎◌, length}
 use Rattle.mb_machine.specs.Machine.{Entries}
 use Rattle.mb_board.specs.Arrivals.{due_at}
-use Rattle.vm_machine.specs.declared.class.Class.{Class}
-use Rattle.vm_machine.specs.declared.class.Class.TheVariants.{Entered, Idle, Traced}
-use Rattle.vm_machine.specs.Classes.{is_traced}
 use Rattle.vm_machine.specs.Turns.{Tally}
 use Rattle.vm_guest.specs.declared.counts.Counts.{Counts}
 
@@ -35,11 +30,3 @@ with_retired n t = record t { retired = t.retired + n }
 -- with so many more idle steps
 abbrev pub with_idle : ℕ → Tally → Tally
 with_idle n t = record t { idle = t.idle + n }
-
--- The class of a step that has begun in which the board has no part: an interrupt of this level is entered, STOP holds
--- the processor, or a trace bit is set.
-abbrev pub assisted : (level : ℕ) → Cpu → Option Class
-assisted level cpu =
-    if nat_lt (interrupt_mask cpu) (rank level) then Some Entered else
-    if cpu.stopped then Some Idle else
-    if is_traced cpu then Some Traced else None

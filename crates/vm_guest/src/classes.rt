@@ -2,7 +2,7 @@
 
 ghost use Rattle.std.specs.Prelude.{◌≡◌, ◌<◌};
 ghost use Rattle.vm_machine.specs.Exits.{class_of_vector, is_refusal};
-ghost use Rattle.vm_guest.specs.Counting.{assisted};
+ghost use Rattle.vm_machine.specs.Classes.{assisted};
 
 use mb_instr::vectors::{ACCESS_ERROR, ILLEGAL, LINE_A, LINE_F, ODD_COUNTER, PRIVILEGED};
 use mb_model::Cpu;

@@ -5,8 +5,6 @@ pub mod Trails
 pub mod Counts
 pub mod Seated
 pub mod Independent
-pub mod Counters
 pub mod Rounds
-pub mod Hosts
 pub mod Rests
 pub mod Exits

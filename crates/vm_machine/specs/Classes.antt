@@ -1,5 +1,5 @@
 -- Why a step is carried out as it is: its class, by the accesses of its attempt in their order.
-use Rattle.std.specs.Prelude.{ℕ, ◌||◌, nat_lt, Bool, true, false, if◌then◌else◌, Ok, Err}
+use Rattle.std.specs.Prelude.{ℕ, ◌||◌, nat_lt, Bool, true, false, if◌then◌else◌, Ok, Err, Option, Some, None, unwrap_or}
 use Rattle.mb_laws.specs.Until.{Until, run_until}
 use Rattle.mb_laws.specs.Until as until
 use Rattle.mb_instr.specs.Registers.{plain_of}
@@ -52,20 +52,22 @@ class_of_attempt cpu g =
 abbrev pub is_traced : Cpu → Bool
 is_traced cpu = traces_all cpu.regs.sr || traces_flow cpu.regs.sr
 
--- the first that holds, with an interrupt of this level asked for; else the class of its attempt
-abbrev pub unless_aside : ℕ → Cpu → Class → Class
-unless_aside level cpu attempted =
-    if nat_lt (interrupt_mask cpu) (rank level) then Entered else
-    if cpu.stopped then Idle else
-    if is_traced cpu then Traced else attempted
+-- The class of a step that has begun in which the board has no part, the first that holds: an interrupt of this level is
+-- entered, STOP holds the processor, or a trace bit is set.
+abbrev pub assisted : (level : ℕ) → Cpu → Option Class
+assisted level cpu =
+    if nat_lt (interrupt_mask cpu) (rank level) then Some Entered else
+    if cpu.stopped then Some Idle else
+    if is_traced cpu then Some Traced else None
 
--- The class of a step that has begun. Its attempt is judged once each read that is refilled has been.
-abbrev pub class_of : ℕ → Cpu → Guest → Class
-class_of level cpu g = unless_aside level cpu (class_of_attempt cpu (refilled cpu g).guest)
+-- The class of a step that has begun: that, or else the class of its attempt, which is judged once each read that is
+-- refilled has been.
+abbrev pub class_of : (level : ℕ) → Cpu → Guest → Class
+class_of level cpu g = unwrap_or (assisted level cpu) (class_of_attempt cpu (refilled cpu g).guest)
 
 -- by its first attempt alone, as the board meets it
-abbrev pub class_at_first : ℕ → Cpu → Guest → Class
-class_at_first level cpu g = unless_aside level cpu (class_of_attempt cpu g)
+abbrev pub class_at_first : (level : ℕ) → Cpu → Guest → Class
+class_at_first level cpu g = unwrap_or (assisted level cpu) (class_of_attempt cpu g)
 
 -- does a board in user mode leave such an attempt by an exception
 abbrev pub is_exit : Class → Bool

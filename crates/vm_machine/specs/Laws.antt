@@ -20,7 +20,7 @@ use Rattle.vm_machine.specs.Bus.{accessed, guest_bus}
 use Rattle.vm_machine.specs.Classes.{class_at, class_of_attempt}
 use Rattle.vm_machine.specs.Turns.{Guested, Turned, guest_stepped, turn_of, steps_in, prepared, tally_of, marks_between}
 use Rattle.vm_machine.specs.Seats.{Seat, machine_on, turned_on, IsSeated, Scene, Takes}
-use Rattle.vm_machine.specs.Stages.{Stage, AllSeated, Turns, TakeTurns, steps_for, HasTaken, CountersRise}
+use Rattle.vm_machine.specs.Stages.{Stage, AllSeated, Turns, TakeTurns, steps_for, HasTaken}
 use Rattle.vm_machine.specs.Rounds.{Hosted, Ends}
 
 -- ---- a guest's machine is by the rule of guests
@@ -133,10 +133,6 @@ abbrev pub PreparedGuestsRunAlone : Type 0
 PreparedGuestsRunAlone = (turns : Turns) (s t : Stage) → AllSeated s → TakeTurns turns s t → (j : ℕ) → j < s.count
     → (opening : Opening) (size : ℕ) → turned_on (s.guests j) s.ram [] ≡ prepared opening size
     → RunsAlone opening (s.guests j).script size (steps_for j turns) (t.guests j) t.ram
-
--- What boards have counted is what the turns of all guests counted.
-abbrev pub CountersRiseByTurns : Type 0
-CountersRiseByTurns = (turns : Turns) (s t : Stage) (taken : TakeTurns turns s t) → CountersRise turns s t taken
 
 -- Rounds end, each guest has then taken its bound, and a second run changes nothing.
 abbrev pub RoundsEnd : Type 0

@@ -7,7 +7,6 @@ pub mod Turns
 pub mod Seats
 pub mod Stages
 pub mod Rounds
-pub mod Hosts
 pub mod Rests
 pub mod Exits
 pub mod Laws

@@ -1,9 +1,8 @@
 -- Many guests on one board, and turns of theirs in any order.
-use Rattle.std.specs.Prelude.{◌≡◌, ◌≢◌, ◌⊎◌, ℕ, zero, suc, ◌+◌, ◌<◌, ◌≤◌, ◌==◌, if◌then◌else◌, List, [], ◌∷◌, ◌++◌}
+use Rattle.std.specs.Prelude.{◌≡◌, ◌≢◌, ◌⊎◌, ℕ, ◌+◌, ◌<◌, ◌≤◌, ◌==◌, if◌then◌else◌, List, [], ◌∷◌}
 use Rattle.mb_instr.specs.declared.registers.Plain.{Plain}
-use Rattle.vm_meaning.specs.Marks.{trail}
 use Rattle.vm_meaning.specs.Native.{NativeState}
-use Rattle.vm_machine.specs.Turns.{Tally, exits, turn_of}
+use Rattle.vm_machine.specs.Turns.{turn_of}
 use Rattle.vm_machine.specs.Seats.{Seat, end_of, turned_on, IsSeated, Scene, Takes}
 
 -- No byte is in the areas of both.
@@ -53,23 +52,3 @@ steps_for j ((i, n) ∷ turns) = (if i == j then n else 0) + steps_for j turns
 abbrev pub HasTaken : ℕ → ℕ → Stage → Stage → Type 0
 HasTaken j steps s t = (marks : List Plain)
     × (turned_on (t.guests j) t.ram marks ≡ turn_of (s.guests j).script steps (turned_on (s.guests j) s.ram []))
-
--- ---- what all turns count
-
--- the marks of these turns, one turn after the other
-abbrev pub marks_of_turns : (turns : Turns) (s t : Stage) → TakeTurns turns s t → List Plain
-marks_of_turns [] s t same = []
-marks_of_turns (turn ∷ turns) s t (u, taken, rest) = taken.turn.marks ++ marks_of_turns turns u t rest
-
--- a count of each of so many guests, in all
-abbrev pub in_all : (Tally → ℕ) → (count : ℕ) → (ℕ → Seat) → ℕ
-in_all of zero guests = 0
-in_all of (suc n) guests = of (guests n).tally + in_all of n guests
-
--- What boards have counted rises by what the guests' counts rise by, and the trail goes on by the marks of all turns.
-pub record CountersRise (turns : Turns) (s t : Stage) (taken : TakeTurns turns s t) : Type 0 where
-  pub retired : t.native.retired + in_all (λ c. c.retired) s.count s.guests
-      ≡ s.native.retired + in_all (λ c. c.retired) s.count t.guests
-  pub exceptions : s.native.exceptions + in_all exits s.count t.guests
-      ≤ t.native.exceptions + in_all exits s.count s.guests
-  pub trail_is : t.native.trail ≡ trail s.native.trail (marks_of_turns turns s t taken)

@@ -4,7 +4,7 @@
 //! Stands above `vm_shadow` and `vm_meaning`. [`specs/Guests`] and [`specs/Bus`] have a guest's world and its bus: what
 //! each call answers, and what it makes of the shadow. [`specs/Held`] has the same bus where the shadow is a bound.
 //! [`specs/Classes`] and [`specs/Turns`] say why a step is carried out as it is, and count. [`specs/Seats`] has a guest
-//! on a board, [`specs/Stages`] many guests, [`specs/Rounds`] and [`specs/Hosts`] their rounds. [`specs/Rests`] and
+//! on a board, [`specs/Stages`] many guests, [`specs/Rounds`] the rounds of a session. [`specs/Rests`] and
 //! [`specs/Exits`] have the rest of a step that the board left. The code has the laws.
 #![tactic(auto)]
 
@@ -16,8 +16,7 @@ ghost use Rattle.vm_machine.specs.Laws.{AllowedAccessesAreStill, AttemptsAreJudg
 ghost use Rattle.vm_machine.specs.Laws.{HaltedTurnsStay, TurnsAdd, MarksStayBefore};
 ghost use Rattle.vm_machine.specs.Laws.{CountsAreSteps, MarksAreOfRetired, MarksAppend, TrailsAppend};
 ghost use Rattle.vm_machine.specs.Laws.{NothingIsTaken, TakesAdd};
-ghost use Rattle.vm_machine.specs.Laws.{TurnsAreIndependent, PreparedGuestsRunAlone, CountersRiseByTurns, RoundsEnd};
-ghost use Rattle.vm_machine.specs.Hosts.{RoundsAreTurns};
+ghost use Rattle.vm_machine.specs.Laws.{TurnsAreIndependent, PreparedGuestsRunAlone, RoundsEnd};
 ghost use Rattle.vm_machine.specs.Rests.{TrapsAreFinished, DeniedWritesGoOn, DeniedLinesGoOn, DeniedTransfersGoOn};
 ghost use Rattle.vm_machine.specs.Exits.{ExitsTell};
 
@@ -63,17 +62,15 @@ pub fn seated_turns_add()
     ensures add { TakesAdd }
 {}
 
-/// Turns of one guest on a board are nothing to any other, in whatever order, and boards count what all turns count.
+/// Turns of one guest on a board are nothing to any other, in whatever order.
 pub fn turns_are_independent()
     ensures independent { TurnsAreIndependent }
     ensures alone { PreparedGuestsRunAlone }
-    ensures counters { CountersRiseByTurns }
 {}
 
-/// Rounds of slices end, and give each guest its steps; and the turns of all guests on a board are a round.
+/// Rounds of slices end, and give each guest its steps.
 pub fn rounds_end()
-    ensures end { RoundsEnd }
-    ensures turns { RoundsAreTurns }
+    ensures { RoundsEnd }
 {}
 
 /// A step that was left in the middle goes on as its finish, over every bus.

@@ -6,8 +6,8 @@
 //! may hold whatever was searched out since the last flush that covers it: the free bus, its steps and its runs, over
 //! the same routine of a step. A run by any rule of keeping is one of them. [`specs/Native`] has the run of a board in
 //! user mode, and [`specs/Marks`] the trail of its steps; [`specs/Finishes`] has the rest of a begun step, and
-//! [`specs/Frames`] what a frame says of it. [`specs/Batches`] has stretches of steps at which nothing happens but
-//! ticks, and [`specs/Tidy`] the runs in which no translation is used stale. The code has the laws.
+//! [`specs/Frames`] what a frame says of it. [`specs/Batches`] has steps at which nothing arrives, and [`specs/Tidy`] the
+//! runs in which no translation is used stale. The code has the laws.
 #![tactic(auto)]
 
 mod left;
@@ -16,7 +16,6 @@ ghost use Rattle.vm_meaning.specs.Laws.{CallsAreFree, RunsAreFree, RunsFromReset
 ghost use Rattle.vm_meaning.specs.Laws.{AccessesUseOrSearch, FreeBoardsKeep, FreeBoardsFill};
 ghost use Rattle.vm_meaning.specs.Marks.{TrailsBySpelling};
 ghost use Rattle.vm_meaning.specs.Native.{RunsEndByCause};
-ghost use Rattle.vm_meaning.specs.Batches.{QuietStretches, BatchesAreQuiet};
 ghost use Rattle.vm_meaning.specs.Tidy.{EachAccessSearches, PastIsWhatWasSearchedOut};
 ghost use Rattle.vm_meaning.specs.Telling.{RefusalsTell, TrapsTell, FramesTell};
 
@@ -60,13 +59,6 @@ pub fn frames_tell()
     ensures refusals { RefusalsTell }
     ensures traps { TrapsTell }
     ensures left { FramesTell }
-{}
-
-/// A stretch in which nothing arrives and the timer does not come to 0 stays one behind each of its steps, and how long
-/// it is.
-pub fn stretches_are_quiet()
-    ensures stays { QuietStretches }
-    ensures more { BatchesAreQuiet }
 {}
 
 /// The run that searches at each access has searched out just what no flush or PTEST has covered since.

@@ -1,5 +1,6 @@
 -- Idle steps of a guest, one and many.
 use Rattle.std.proofs.Common.{◌≡◌, ◌∙◌, ℕ, zero, suc, ◌+◌, ◌<◌, ◌≤◌, Bool, true, false, cond, nat_lt, List, [], refl, ap, sym, subst, arith}
+use Rattle.std.specs.Prelude.{Option, Some, None, unwrap_or}
 use Rattle.std.proofs.lemmas.List.{append-nil}
 use Rattle.mb_port.specs.Routine.{Routine, Return, choose, run}
 use Rattle.mb_instr.specs.declared.registers.Plain.{Plain}
@@ -40,9 +41,9 @@ chosen a b x y z e f = rw e (rw f refl)
 
 is_idle : (level : ℕ) (cpu : Cpu) (g : Guest) → rank level ≤ interrupt_mask cpu → cpu.stopped ≡ true → class_of level cpu g ≡ class.Idle
 is_idle level cpu g masked stopped =
-    second (nat_lt (interrupt_mask cpu) (rank level)) cpu.stopped class.Entered class.Idle
-    (cond (is_traced cpu) class.Traced (class_of_attempt cpu (refilled cpu g).guest))
-    (not_above (interrupt_mask cpu) (rank level) masked) stopped
+    ap (λ (o : Option Class). unwrap_or o (class_of_attempt cpu (refilled cpu g).guest))
+    (second (nat_lt (interrupt_mask cpu) (rank level)) cpu.stopped (Some class.Entered) (Some class.Idle) (cond (is_traced cpu) (Some class.Traced) None)
+    (not_above (interrupt_mask cpu) (rank level) masked) stopped)
 
 -- the processor has nothing to do
 idles : (level : ℕ) (cpu : Cpu) → rank level ≤ interrupt_mask cpu → cpu.stopped ≡ true → step_of level cpu ≡ Return (finish.Idle, cpu)

@@ -1,5 +1,6 @@
 -- Stretches in which nothing arrives and nothing falls due.
 use Rattle.std.proofs.Common.{◌≡◌, ◌∙◌, ℕ, zero, suc, ◌+◌, Bool, false, cond, nat_lt, [], ◌∷◌, ◌||◌, Ok, Err, arith, refl, ap, sym, subst, inl, inr, ◌<◌, ◌≤◌}
+use Rattle.std.specs.Prelude.{Some, None, unwrap_or}
 use Rattle.mb_instr.specs.Registers.{plain_of}
 use Rattle.mb_model.specs.declared.processor.Cpu.{Cpu}
 use Rattle.mb_devices.specs.Devices.{DeviceState, ticked, level_of, ticks, IsNotDue}
@@ -73,7 +74,7 @@ retired_steps_tick x script (suc n) m g b (want, retired, more) quiet =
 
 -- what is neither masked out, nor idle, nor traced, is attempted
 by_tests : (a b t : Bool) (c : Class) → a ≡ false → b ≡ false → t ≡ false → IsTried c
-    → IsTried (cond a class.Entered (cond b class.Idle (cond t class.Traced c)))
+    → IsTried (unwrap_or (cond a (Some class.Entered) (cond b (Some class.Idle) (cond t (Some class.Traced) None))) c)
 by_tests a b t c e f g h = rw e (rw f (rw g h))
 
 tried_end : (e : End) → IsTried (class_of_end e)

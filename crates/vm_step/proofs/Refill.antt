@@ -1,5 +1,6 @@
 -- A step that begins again.
 use Rattle.std.proofs.Common.{◌≡◌, ◌∙◌, ℕ, zero, suc, ◌+◌, ◌-◌, ◌≤◌, refl, ap, sym, subst, arith, inl, inr, Some, None, Ok, Err, Bool, true, false, nat_lt}
+use Rattle.std.specs.Prelude.{unwrap_or}
 use Rattle.mb_port.specs.Routine.{Bus, Routine, Return, run, choose, either}
 use Rattle.mb_instr.specs.declared.instruction.Instr.{Instr}
 use Rattle.mb_instr.specs.declared.instruction.Instr.TheVariants as instr
@@ -25,7 +26,7 @@ use Rattle.vm_machine.specs.Guests.{Guest}
 use Rattle.vm_machine.specs.Bus.{guest_bus}
 use Rattle.vm_machine.specs.Refills.{denied_read, refilled_at, begun_again, Refilled, once_more, going_on, refilled_by}
 use Rattle.vm_machine.specs.declared.limits.TheConstants.{MOST_REFILLS}
-use Rattle.vm_machine.specs.Classes.{class_of_attempt, unless_aside}
+use Rattle.vm_machine.specs.Classes.{assisted, class_of_attempt}
 use Rattle.vm_machine.specs.Turns.{world_of, guest_begun, guest_processed, guest_later}
 use Rattle.vm_machine.specs.Turns.{by_class}
 use Rattle.vm_held.specs.Denied.{by_held}
@@ -83,7 +84,7 @@ none_is_refilled script g none =
     let b = guest_begun script g in
     let cpu = b.machine.cpu in
     let last = none_again MOST_REFILLS cpu (world_of b) none in (
-      ap (λ (r : Refilled). unless_aside (asked_of script b.machine) cpu (class_of_attempt cpu r.guest)) last,
+      ap (λ (r : Refilled). unwrap_or (assisted (asked_of script b.machine) cpu) (class_of_attempt cpu r.guest)) last,
       ap (λ (r : Refilled). r.refills) last,
     )
 
@@ -185,6 +186,6 @@ again_advances script t n h begun few end comes =
     let cpu = b.machine.cpu in
     let level = asked_of script b.machine in
     let last = last_is_judged cpu n (world_of b) h begun few end in
-    let class_by : Refilled → Class = λ r. unless_aside level cpu (class_of_attempt cpu r.guest) in
+    let class_by : Refilled → Class = λ r. unwrap_or (assisted level cpu) (class_of_attempt cpu r.guest) in
     ap (λ (r : Refilled). by_class (class_by r) r.refills (guest_later b.machine (guest_processed script b)) t) last
     ∙ ap (λ (q : Stepped × Guest). by_class (class_by (record { guest = h; refills = n })) n (guest_later b.machine q) t) (sym comes)

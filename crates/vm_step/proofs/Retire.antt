@@ -1,5 +1,6 @@
 -- A step of a guest that is retired, on the board and alone.
 use Rattle.std.proofs.Common.{◌≡◌, ◌∙◌, ℕ, ◌+◌, ◌-◌, ◌≤◌, ◌==◌, ◌||◌, ◌&&◌, Bool, true, false, cond, nat_lt, [], ◌∷◌, ◌++◌, length, arith, refl, ap, sym}
+use Rattle.std.specs.Prelude.{Some, None, unwrap_or}
 use Rattle.std.proofs.Common.{subst}
 use Rattle.std.proofs.lemmas.Bool.Decides.{nat_tests}
 use Rattle.mb_port.specs.Routine.{run}
@@ -74,8 +75,8 @@ pub record IsAttemptOf (level : ℕ) (cpu : Cpu) (g : Guest) (c : Class) : Type 
   pub plain : IsUntraced cpu
   pub of : class_of_attempt cpu g ≡ c
 
-by_tests : (a b t : Bool) (c d : Class) → cond a class.Entered (cond b class.Idle (cond t class.Traced c)) ≡ d → IsTried d
-    → (a ≡ false) × (b ≡ false) × (t ≡ false) × (c ≡ d)
+by_tests : (a b t : Bool) (c d : Class) → unwrap_or (cond a (Some class.Entered) (cond b (Some class.Idle) (cond t (Some class.Traced) None))) c ≡ d
+    → IsTried d → (a ≡ false) × (b ≡ false) × (t ≡ false) × (c ≡ d)
 by_tests true b t c d e h = absurd (subst IsTried (sym e) h)
 by_tests false true t c d e h = absurd (subst IsTried (sym e) h)
 by_tests false false true c d e h = absurd (subst IsTried (sym e) h)

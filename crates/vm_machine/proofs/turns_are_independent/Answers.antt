@@ -1,5 +1,4 @@
 use Rattle.vm_machine.proofs.Independent.{turns_are_independent, prepared_guests_run_alone}
-use Rattle.vm_machine.proofs.Counters.{counters_rise_by_turns}
 use Rattle.vm_machine.proofs.turns_are_independent.Goals as goal
 
 pub returns-clause-independent : goal.returns-clause-independent
@@ -7,6 +6,3 @@ returns-clause-independent c = turns_are_independent
 
 pub returns-clause-alone : goal.returns-clause-alone
 returns-clause-alone c = prepared_guests_run_alone
-
-pub returns-clause-counters : goal.returns-clause-counters
-returns-clause-counters c = counters_rise_by_turns
