@@ -4,9 +4,7 @@ ghost use Rattle.std.specs.Prelude.{◌≡◌, ◌%◌, ◌<◌, ◌^◌};
 ghost use Rattle.mb_port.specs.Flushes.{NamesPage};
 ghost use Rattle.vm_shadow.specs.Area.{Maps};
 ghost use Rattle.vm_shadow.specs.Mapped.{shadowed};
-ghost use Rattle.vm_machine.specs.Seats.{own};
 ghost use Rattle.vm_port.specs.Own.{IsPlaced};
-ghost use Rattle.vm_port.specs.Stands.{IsTruthful};
 
 use crate::memory::Bytes;
 use Space::{Super, User};
@@ -58,7 +56,6 @@ struct Guest {
     ghost area: { shadow.area ≡ 0x20000 },
     ghost maps: { Maps shadow ram.memory.items },
     ghost placed: { IsPlaced 0x10000 (shadowed shadow ram.memory.items) },
-    ghost truthful: { IsTruthful 0x10000 mmu tlb (own 0x10000 (shadowed shadow ram.memory.items)) },
 }
 
 impl Guest {

@@ -36,7 +36,7 @@ use Rattle.vm_machine.specs.Guests.{Truthful}
 use Rattle.vm_machine.specs.Turns.{Tally, Turned, no_steps}
 use Rattle.vm_machine.specs.Seats.{Seat, on_board, own, shadow_on, turned_on, IsSeated}
 use Rattle.vm_saved.specs.Begins.{beginning}
-use Rattle.vm_port.proofs.Truth.{nothing_is_truthful}
+use Rattle.vm_held.proofs.Flushes.{nothing_truthful}
 use Rattle.vm_guest.specs.Memory.{OnlyBetween, chunk_from, contents_from}
 use Rattle.vm_guest.proofs.Loads.{length-zeros, loads_all, only_both, only_over, part_zeros, zeros}
 use Rattle.vm_guest.proofs.Prepared.{cleared_count}
@@ -164,7 +164,7 @@ adopted_seated g x y cpu mmu devices kept steps state tally s none w =
             shadow = z;
           }))
           (sym (ap (own g.base) stay.1 ∙ none))
-          (nothing_is_truthful g.size mmu kept (part y g.base g.size) devices);
+          (nothing_truthful g.size (record { ram = part y g.base g.size; mmu = mmu; devices = devices; kept = kept ∷ [] }));
     }
 
 -- where no table stands nothing is in the shadow

@@ -23,7 +23,7 @@ use Rattle.vm_machine.specs.Seats.{Seat, on_board, own, turned_on, IsSeated}
 use Rattle.vm_machine.specs.declared.limits.TheConstants.{MONITOR_BYTES}
 use Rattle.vm_port.proofs.Frames.{around}
 use Rattle.vm_port.proofs.Owns.{own_nothing, placed_nothing}
-use Rattle.vm_port.proofs.Truth.{nothing_is_truthful}
+use Rattle.vm_held.proofs.Flushes.{nothing_truthful}
 use Rattle.vm_guest.specs.Memory.{OnlyBetween, contents_from}
 use Rattle.vm_guest.proofs.Loads.{loads_all, only_over, only_both, part_zeros, length-zeros, zeros}
 
@@ -145,5 +145,5 @@ seated base size after cpu devices kept slots script tally behind aligned whole 
         shadow = s;
       }))
       (sym (ap (own base) none ∙ own_nothing base))
-      (nothing_is_truthful size mmu_at_reset kept (part after base size) devices);
+      (nothing_truthful size (record { ram = part after base size; mmu = mmu_at_reset; devices = devices; kept = kept ∷ [] }));
 }

@@ -83,6 +83,8 @@ impl Guest {
         ensures within { OnlyBetween self.old.base (end_of self.old) (R.bytes ram.old) (R.bytes ram.new) }
         ensures rest { R.rest ram.new ≡ R.rest ram.old }
     {
+        let _ = ram.size();
+        let _ = self.tlb.entry(0);
         let mut port = GuestPort::new(
             ram,
             self.base,

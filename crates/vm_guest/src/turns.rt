@@ -1,6 +1,6 @@
 //! A guest's turns.
 
-ghost use Rattle.std.specs.Prelude.{◌≡◌, ◌+◌, ◌^◌, ◌<◌, ◌≤◌, [], true, false};
+ghost use Rattle.std.specs.Prelude.{◌≡◌, ◌+◌, ◌^◌, ◌<◌, ◌≤◌, true, false};
 ghost use Rattle.mb_model.specs.Keeping.{rule_k};
 ghost use Rattle.mb_machine.specs.Machine.{run_of, takes_steps};
 ghost use Rattle.vm_meaning.specs.Free.{IsFreeRun};

@@ -1,5 +1,5 @@
 -- Each access keeps the shadow truthful.
-use Rattle.std.proofs.Common.{if◌then◌else◌, ◌≡◌, ◌⊎◌, ℕ, ◌+◌, ◌*◌, ◌/◌, ◌%◌, ◌^◌, ◌<◌, ◌&&◌, not, Bool, true, false, cond, List, [], ◌∷◌, length, refl, ap}
+use Rattle.std.proofs.Common.{if◌then◌else◌, ◌≡◌, ◌⊎◌, ℕ, ◌+◌, ◌*◌, ◌/◌, ◌%◌, ◌&&◌, not, Bool, true, false, cond, List, [], ◌∷◌, length, refl, ap}
 use Rattle.std.proofs.Common.{sym, ◌∙◌, subst}
 use Rattle.std.proofs.Common.{arith, inl, inr, Option, Some, None, is_some}
 use Rattle.std.proofs.lemmas.Bool.{cases_Bool}
@@ -24,7 +24,7 @@ use Rattle.mb_walk.specs.Search.{OnEntry}
 use Rattle.mb_model.proofs.Found.{filled_other, displaced_same}
 use Rattle.vm_meaning.proofs.KeptLemmas.{found as found_there}
 use Rattle.vm_shadow.specs.Shadows.{Shadowed}
-use Rattle.vm_machine.specs.Guests.{Guest, Truthful, ref, placed_at, IsReference}
+use Rattle.vm_machine.specs.Guests.{Guest, Truthful, ref, placed_at}
 use Rattle.vm_machine.specs.Bus.{gone_found, without_kept, differ, is_split, is_to, is_writable}
 use Rattle.vm_held.specs.Truth.{Fine}
 use Rattle.vm_held.proofs.Stages.{entry_used, entry_marked, no_entry}
@@ -62,14 +62,14 @@ pub truthful_less : (size : ℕ) (g h : Guest) → h.world.mmu ≡ g.world.mmu
     → (g.shadow.entries space page ≡ Some (frame, writable)) × (entry_at_page h.world.kept space page ≡ entry_at_page g.world.kept space page))
     → Truthful size g → Truthful size h
 truthful_less size g h m less t = record {
-  reads = λ code space at frame writable l e. let (old, same) = less space (page_of at) frame writable e in
+  reads = λ code space at frame writable e. let (old, same) = less space (page_of at) frame writable e in
       ap (λ (m : Mmu). settled rule_k m h.world.kept (ref code space at false)) m
       ∙ settled_same g.world.mmu g.world.kept h.world.kept (ref code space at false) same
-      ∙ t.reads code space at frame writable l old;
-  writes = λ space at frame l e. let (old, same) = less space (page_of at) frame true e in
+      ∙ t.reads code space at frame writable old;
+  writes = λ space at frame e. let (old, same) = less space (page_of at) frame true e in
       ap (λ (m : Mmu). settled rule_k m h.world.kept (ref false space at true)) m
       ∙ settled_same g.world.mmu g.world.kept h.world.kept (ref false space at true) same
-      ∙ t.writes space at frame l old;
+      ∙ t.writes space at frame old;
   inside = λ space page frame writable e. t.inside space page frame writable (less space page frame writable e).0;
 }
 
@@ -104,22 +104,22 @@ unread : (mmu : Mmu) (r : Reference) → untranslated mmu r ≡ None → untrans
 unread mmu r h = h
 
 -- after a search that found an entry, the page of the search has no shadow entry
-left_by : (size : ℕ) (g : Guest) (r : Reference) (k : Kept) → r.at < 2 ^ 32 → Truthful size g → k.space ≡ r.space → k.page ≡ page_of r.at
+left_by : (size : ℕ) (g : Guest) (r : Reference) (k : Kept) → Truthful size g → k.space ≡ r.space → k.page ≡ page_of r.at
     → settled rule_k g.world.mmu g.world.kept r ≡ Unsettled → (o : Option Kept) → entry_at_page g.world.kept r.space (page_of r.at) ≡ o
     → (frame : ℕ) (writable : Bool) → (without_kept (displaced 256 k (list_of 0 g.world.kept)) g.shadow).entries r.space (page_of r.at)
     ≡ Some (frame, writable) → ⊥
-left_by size g r k l t s p n (Some old) found frame writable e =
+left_by size g r k t s p n (Some old) found frame writable e =
     let there : entry_at_page g.world.kept k.space k.page ≡ Some old =
     ap (λ (a : Space). entry_at_page g.world.kept a k.page) s ∙ ap (entry_at_page g.world.kept r.space) p ∙ found in
     let e' : (without_kept (Some old) g.shadow).entries r.space (page_of r.at) ≡ Some (frame, writable) =
     ap (λ (o : Option Kept). (without_kept o g.shadow).entries r.space (page_of r.at)) (sym (displaced_same 256 k old (list_of 0 g.world.kept) there)) ∙ e in
     let (entry, other) = left_less (Some old) g.shadow r.space (page_of r.at) (frame, writable) e' in
     contradicts (is_of r.space (page_of r.at) old) ((found_there (is_of r.space (page_of r.at)) (list_of 0 g.world.kept) old found).1) other
-left_by size g r k l t s p n None found frame writable e =
+left_by size g r k t s p n None found frame writable e =
     let (entry, other) = left_less (displaced 256 k (list_of 0 g.world.kept)) g.shadow r.space (page_of r.at) (frame, writable) e in
     let u = search_needed g.world.mmu g.world.kept r n in
     let read : settled rule_k g.world.mmu g.world.kept (ref r.code r.space r.at false) ≡ To (placed_at frame r.at) =
-    t.reads r.code r.space r.at frame writable l entry in
+    t.reads r.code r.space r.at frame writable entry in
     let none : settled rule_k g.world.mmu g.world.kept (ref r.code r.space r.at false) ≡ Unsettled =
     settled_at g.world.mmu g.world.kept (ref r.code r.space r.at false) None None (unread g.world.mmu r u) found ∙ no_entry (ref r.code r.space r.at false) in
     let z : To (placed_at frame r.at) ≡ Unsettled = sym read ∙ none in let y : ⊥ = cc in y
@@ -138,10 +138,10 @@ after_found g r ram f = record {
   shadow = without_kept (gone_found g.world f) g.shadow;
 }
 
-pub found_fine : (size : ℕ) (g : Guest) (r : Reference) (ram : List ℕ) (f : Found) → IsReference r → Fine size g
+pub found_fine : (size : ℕ) (g : Guest) (r : Reference) (ram : List ℕ) (f : Found) → Fine size g
     → settled rule_k g.world.mmu g.world.kept r ≡ Unsettled
     → OnEntry f (λ k. (k.space ≡ r.space) × (k.page ≡ page_of r.at)) → length ram ≡ length g.world.ram → AreBytes ram → Fine size (after_found g r ram f)
-found_fine size g r ram (Entry k status) is fine n (s, p) count bytes =
+found_fine size g r ram (Entry k status) fine n (s, p) count bytes =
     let kept = list_of 0 g.world.kept in
     let one = one_filled r.code k g.world.kept fine.one in
     let list : list_of 0 (kept_after rule_k r.code k g.world.kept) ≡ filled_in 256 k kept = ap (λ (l : KeptLists). list_of 0 l) one in
@@ -152,7 +152,7 @@ found_fine size g r ram (Entry k status) is fine n (s, p) count bytes =
             let (old, other) = left_less (displaced 256 k kept) g.shadow space page (frame, writable) e in
             let apart : is_of space page k ≡ false = elim (cases_Bool (is_of space page k)) [
               | inl so ↦ absurd (let (c, d) = is_of-same space page k so in
-                  left_by size g r k is.at fine.sound.truthful s p n (entry_at_page g.world.kept r.space (page_of r.at)) refl frame writable
+                  left_by size g r k fine.sound.truthful s p n (entry_at_page g.world.kept r.space (page_of r.at)) refl frame writable
                   (subst (λ (t : Space). (without_kept (displaced 256 k kept) g.shadow).entries t (page_of r.at) ≡ Some (frame, writable)) (sym c ∙ s)
                   (subst (λ (q : ℕ). (without_kept (displaced 256 k kept) g.shadow).entries space q ≡ Some (frame, writable)) (sym d ∙ p) e)))
               | inr not_so ↦ not_so
@@ -165,7 +165,7 @@ found_fine size g r ram (Entry k status) is fine n (s, p) count bytes =
       one = one ∙ ap (λ (l : List Kept). l ∷ []) (sym list);
       apart = subst Apart (sym list) (filled_in-apart 256 k kept fine.apart);
     }
-found_fine size g r ram Invalid is fine n names count bytes = record {
+found_fine size g r ram Invalid fine n names count bytes = record {
   sound = record {
     truthful = record { reads = fine.sound.truthful.reads; writes = fine.sound.truthful.writes; inside = fine.sound.truthful.inside };
     count = count ∙ fine.sound.count;
@@ -174,7 +174,7 @@ found_fine size g r ram Invalid is fine n names count bytes = record {
   one = fine.one;
   apart = fine.apart;
 }
-found_fine size g r ram BusError is fine n names count bytes = record {
+found_fine size g r ram BusError fine n names count bytes = record {
   sound = record {
     truthful = record { reads = fine.sound.truthful.reads; writes = fine.sound.truthful.writes; inside = fine.sound.truthful.inside };
     count = count ∙ fine.sound.count;

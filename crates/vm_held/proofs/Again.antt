@@ -71,7 +71,7 @@ answered : {A : Type 0} (size : ℕ) (g : Guest) (code : Bool) (space : Space) (
     → ((p : ℕ) → p + len ≤ size → (a : A) × (take (place_at p len) g.world ≡ (Some a, g.world)) × Holds a)
     → (a : A) → (held_read g (ref code space at write) len take).0 ≡ Ok a → allows g.shadow (ref code space at write) ≡ true → Holds a
 answered {A} size g code space at len write take Holds t l on_data fits side a e may =
-    let here : Led size g code space at write = led size g code space at write t l on_data may in
+    let here : Led size g code space at write = led size g code space at write t on_data may in
     let r = ref code space at write in
     let (c, is_c, holds_c) = side (placed_at here.frame at) (led_room here.frame at len size here.inside fits) in
     let whole : held_read g r len take ≡ (Ok c, g) = held_is (allows g.shadow r) (of_guest g (read_by rule_k r len take g.world)) r len g may
@@ -119,7 +119,7 @@ pub write_to : (size : ℕ) (g : Guest) (space : Space) (p : Piece) (value frame
     → g.shadow.entries space (page_of p.at) ≡ Some (frame, true) → held_bus (Write space p value) g ≡ (Ok tt, wrote_guest g (placed_at frame p.at) p.len value)
 write_to size g space p value frame s l e =
     let may : allows g.shadow (ref false space p.at true) ≡ true = ap (λ (o : Option (ℕ × Bool)). lets o true) e in
-    let here : Led size g false space p.at true = led size g false space p.at true s.truthful l.1 (λ z. refl) may in
+    let here : Led size g false space p.at true = led size g false space p.at true s.truthful (λ z. refl) may in
     write_held size g space p.at p.len (λ place. stored place value) s.truthful l.1 (piece_fits p l.2) (λ at. (wrote_guest g at p.len value).world)
     (stored_writes size g p.len value s) may
     ∙ ap (λ (n : ℕ). (let q : Result (Unit {0}) Fault × Guest = (Ok tt, wrote_guest g (placed_at n p.at) p.len value) in q))

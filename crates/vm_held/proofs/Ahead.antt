@@ -64,10 +64,10 @@ module _ (size : ℕ) (kept : KeptLists) (shadow : Shadowed) where
   access_moved {A} s code space at write len f blind sound there more l side may =
       let r = ref code space at write in
       let t = moved kept shadow s in
-      let here : Led size s code space at write = led size s code space at write sound.truthful l side may in
+      let here : Led size s code space at write = led size s code space at write sound.truthful side may in
       let entry : shadow.entries space (page_of at) ≡ Some (here.frame, here.writable) = more space (page_of at) (here.frame, here.writable) here.entry in
       let leads : translated rule_k r t.world ≡ (Some (placed_at here.frame at), t.world) =
-      guest_access size t code space at write here.frame here.writable there.truthful l side entry here.lets_it in
+      guest_access size t code space at write here.frame here.writable there.truthful side entry here.lets_it in
       let may_there : allows shadow r ≡ true = ap (λ (o : Option (ℕ × Bool)). lets o write) entry ∙ here.lets_it in
       let by : Option ℕ × World → Result A Fault × World = λ p. f p.0 p.1 in
       held_is (allows shadow r) (of_guest t (by (translated rule_k r t.world))) r len t may_there

@@ -24,15 +24,15 @@ pub writable_is : (frame : ℕ) (writable : Bool) → lets (Some (frame, writabl
 writable_is frame true h = refl
 writable_is frame false h = cc
 
-pub guest_access : (size : ℕ) (g : Guest) (code : Bool) (space : Space) (at : ℕ) (write : Bool) (frame : ℕ) (writable : Bool) → Truthful size g → at < 2 ^ 32
+pub guest_access : (size : ℕ) (g : Guest) (code : Bool) (space : Space) (at : ℕ) (write : Bool) (frame : ℕ) (writable : Bool) → Truthful size g
     → (write ≡ true → code ≡ false) → g.shadow.entries space (page_of at) ≡ Some (frame, writable) → lets (Some (frame, writable)) write ≡ true
     → translated rule_k (ref code space at write) g.world ≡ (Some (placed_at frame at), g.world)
-guest_access size g code space at true frame writable t l side s h =
+guest_access size g code space at true frame writable t side s h =
     let e : g.shadow.entries space (page_of at) ≡ Some (frame, true) = s
     ∙ ap (λ (w : Bool). (let p : Option (ℕ × Bool) = Some (frame, w) in p)) (writable_is frame writable h) in
-    rw (side refl) (translated_by rule_k g.world (ref false space at true) (To (placed_at frame at)) (t.writes space at frame l e))
-guest_access size g code space at false frame writable t l side s h =
-    translated_by rule_k g.world (ref code space at false) (To (placed_at frame at)) (t.reads code space at frame writable l s)
+    rw (side refl) (translated_by rule_k g.world (ref false space at true) (To (placed_at frame at)) (t.writes space at frame e))
+guest_access size g code space at false frame writable t side s h =
+    translated_by rule_k g.world (ref code space at false) (To (placed_at frame at)) (t.reads code space at frame writable s)
 
 abbrev pub wrote_guest : Guest → ℕ → ℕ → ℕ → Guest
 wrote_guest g p len v = record g { world = record g.world { ram = with_number g.world.ram p len v } }

@@ -41,8 +41,8 @@ flushed_kept what kept k =
 -- a shadow without entries is truthful, whatever is kept
 pub nothing_truthful : (size : ℕ) (w : World) → Truthful size (record { world = w; shadow = nothing })
 nothing_truthful size w = record {
-  reads = λ code space at frame writable l e. absurd (let y : ⊥ = cc in y);
-  writes = λ space at frame l e. absurd (let y : ⊥ = cc in y);
+  reads = λ code space at frame writable e. absurd (let y : ⊥ = cc in y);
+  writes = λ space at frame e. absurd (let y : ⊥ = cc in y);
   inside = λ space page frame writable e. absurd (let y : ⊥ = cc in y);
 }
 

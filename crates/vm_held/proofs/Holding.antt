@@ -36,21 +36,21 @@ pub record Led (size : ℕ) (g : Guest) (code : Bool) (space : Space) (at : ℕ)
   pub inside : 4096 * frame + 4096 ≤ size
   pub leads : translated rule_k (ref code space at write) g.world ≡ (Some (placed_at frame at), g.world)
 
-led_by : (size : ℕ) (g : Guest) (code : Bool) (space : Space) (at : ℕ) (write : Bool) → Truthful size g → at < 2 ^ 32 → (write ≡ true → code ≡ false)
+led_by : (size : ℕ) (g : Guest) (code : Bool) (space : Space) (at : ℕ) (write : Bool) → Truthful size g → (write ≡ true → code ≡ false)
     → (o : Option (ℕ × Bool)) → g.shadow.entries space (page_of at) ≡ o → lets o write ≡ true → Led size g code space at write
-led_by size g code space at write t l side None s h = absurd (let z : ⊥ = cc in z)
-led_by size g code space at write t l side (Some (frame, writable)) s h = record {
+led_by size g code space at write t side None s h = absurd (let z : ⊥ = cc in z)
+led_by size g code space at write t side (Some (frame, writable)) s h = record {
   frame = frame;
   writable = writable;
   entry = s;
   lets_it = h;
   inside = t.inside space (page_of at) frame writable s;
-  leads = guest_access size g code space at write frame writable t l side s h;
+  leads = guest_access size g code space at write frame writable t side s h;
 }
 
-pub led : (size : ℕ) (g : Guest) (code : Bool) (space : Space) (at : ℕ) (write : Bool) → Truthful size g → at < 2 ^ 32 → (write ≡ true → code ≡ false)
+pub led : (size : ℕ) (g : Guest) (code : Bool) (space : Space) (at : ℕ) (write : Bool) → Truthful size g → (write ≡ true → code ≡ false)
     → allows g.shadow (ref code space at write) ≡ true → Led size g code space at write
-led size g code space at write t l side h = led_by size g code space at write t l side (g.shadow.entries space (page_of at)) refl h
+led size g code space at write t side h = led_by size g code space at write t side (g.shadow.entries space (page_of at)) refl h
 
 pub led_room : (frame at len size : ℕ) → 4096 * frame + 4096 ≤ size → at % 4096 + len ≤ 4096 → placed_at frame at + len ≤ size
 led_room frame at len size h k = omega arith
@@ -76,7 +76,7 @@ pub read_held : {A : Type 0} (size : ℕ) (g : Guest) (code : Bool) (space : Spa
     → (a : A) × (held_read g (ref code space at write) len take ≡ (Ok a, g))
 read_held size g code space at len write take t l on_data fits side may =
     let r = ref code space at write in
-    let here : Led size g code space at write = led size g code space at write t l on_data may in
+    let here : Led size g code space at write = led size g code space at write t on_data may in
     let (a, is) = side (placed_at here.frame at) (led_room here.frame at len size here.inside fits) in (
       a,
       held_is (allows g.shadow r) (of_guest g (read_by rule_k r len take g.world)) r len g may
@@ -143,10 +143,10 @@ pub write_held : (size : ℕ) (g : Guest) (space : Space) (at len : ℕ) (store 
     → (after : ℕ → World) → ((p : ℕ) → p + len ≤ size → store (place_at p len) g.world ≡ Some (after p))
     → (may : allows g.shadow (ref false space at true) ≡ true)
     → held_write g (ref false space at true) len store ≡
-    (Ok tt, record g { world = after (placed_at (led size g false space at true t l (λ z. refl) may).frame at) })
+    (Ok tt, record g { world = after (placed_at (led size g false space at true t (λ z. refl) may).frame at) })
 write_held size g space at len store t l fits after side may =
     let r = ref false space at true in
-    let here : Led size g false space at true = led size g false space at true t l (λ z. refl) may in
+    let here : Led size g false space at true = led size g false space at true t (λ z. refl) may in
     held_is (allows g.shadow r) (of_guest g (written_by rule_k r len store g.world)) r len g may
     ∙ ap (of_guest g) (writes_found rule_k r len store g.world g.world (after (placed_at here.frame at)) (placed_at here.frame at) here.leads
     (side (placed_at here.frame at) (led_room here.frame at len size here.inside fits)))
@@ -158,7 +158,7 @@ write_sound size g space at len store s l fits after side sound =
     let r = ref false space at true in
     elim (cases_Bool (allows g.shadow r)) [
       | inl may ↦
-          let here : Led size g false space at true = led size g false space at true s.truthful l (λ z. refl) may in
+          let here : Led size g false space at true = led size g false space at true s.truthful (λ z. refl) may in
           subst (λ (q : Result (Unit {0}) Fault × Guest). Sound size q.1) (sym (write_held size g space at len store s.truthful l fits after side may))
           (sound (placed_at here.frame at) (led_room here.frame at len size here.inside fits))
       | inr may_not ↦

@@ -27,7 +27,7 @@ write_only size g space at len store s l fits after side only =
     elim (cases_Bool (allows g.shadow r)) [
       | inl may ↦
           subst (λ (q : Result (Unit {0}) Fault × Guest). OnlyRam g q.1) (sym (write_held size g space at len store s.truthful l fits after side may))
-          (only (placed_at (led size g false space at true s.truthful l (λ z. refl) may).frame at))
+          (only (placed_at (led size g false space at true s.truthful (λ z. refl) may).frame at))
       | inr may_not ↦
           subst (λ (q : Result (Unit {0}) Fault × Guest). OnlyRam g q.1)
           (sym (held_not (allows g.shadow r) (of_guest g (written_by rule_k r len store g.world)) r len g may_not)) refl

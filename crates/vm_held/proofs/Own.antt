@@ -1,5 +1,5 @@
 -- The guest's own bus, where the shadow allows a call.
-use Rattle.std.proofs.Common.{◌≡◌, ℕ, ◌^◌, ◌<◌, Bool, true, false, refl, ap, sym, ◌∙◌}
+use Rattle.std.proofs.Common.{◌≡◌, ℕ, Bool, true, false, refl, ap, sym, ◌∙◌}
 use Rattle.mb_port.specs.Routine.{Call, Answer, Routine, Bus, run, Fetch, Read, Write, ReadLine, WriteLine, Probe, Get, Put, ReadMmu, SetMmu, FlushKept, Test}
 use Rattle.mb_port.specs.Routine.{ResetDevices}
 use Rattle.mb_port.specs.declared.types.Space.{Space}
@@ -22,10 +22,10 @@ use Rattle.vm_held.proofs.Holding.{held_sound}
 
 -- ---- an allowed access leaves the shadow
 
-shadow_same : (size : ℕ) (g : Guest) (code : Bool) (space : Space) (at : ℕ) (write : Bool) → Truthful size g → at < 2 ^ 32 → (write ≡ true → code ≡ false)
+shadow_same : (size : ℕ) (g : Guest) (code : Bool) (space : Space) (at : ℕ) (write : Bool) → Truthful size g → (write ≡ true → code ≡ false)
     → allows g.shadow (ref code space at write) ≡ true → accessed (ref code space at write) g.world g.shadow ≡ g.shadow
-shadow_same size g code space at write t l side allowed =
-    (allowed_accesses_are_still size g (ref code space at write) t (record { at = l; on_data = side }) allowed).shadow
+shadow_same size g code space at write t side allowed =
+    (allowed_accesses_are_still size g (ref code space at write) t side allowed).shadow
 
 -- the guest's bus where the shadow stays
 left_alone : (c : Call) (g : Guest) → shadow_after c g.world g.shadow ≡ g.shadow → guest_bus c g ≡ plain_bus c g
@@ -34,22 +34,22 @@ left_alone c g e =
 
 pub guest_is_held : GuestIsHeld
 guest_is_held space size (Fetch of at) g s l may =
-    left_alone (Fetch of at) g (shadow_same size g true of at false s.truthful l.1 (λ z. cc) may)
+    left_alone (Fetch of at) g (shadow_same size g true of at false s.truthful (λ z. cc) may)
     ∙ sym (held_is (allows g.shadow (fetching_of of at)) (plain_bus (Fetch of at) g) (fetching_of of at) 2 g may)
 guest_is_held space size (Read of p) g s l may =
-    left_alone (Read of p) g (shadow_same size g false of p.at false s.truthful l.1 (λ z. refl) may)
+    left_alone (Read of p) g (shadow_same size g false of p.at false s.truthful (λ z. refl) may)
     ∙ sym (held_is (allows g.shadow (reading_of of p.at)) (plain_bus (Read of p) g) (reading_of of p.at) p.len g may)
 guest_is_held space size (Write of p value) g s l may =
-    left_alone (Write of p value) g (shadow_same size g false of p.at true s.truthful l.1 (λ z. refl) may)
+    left_alone (Write of p value) g (shadow_same size g false of p.at true s.truthful (λ z. refl) may)
     ∙ sym (held_is (allows g.shadow (writing_of of p.at)) (plain_bus (Write of p value) g) (writing_of of p.at) p.len g may)
 guest_is_held space size (ReadLine of at) g s l may =
-    left_alone (ReadLine of at) g (shadow_same size g false of at false s.truthful l.1 (λ z. refl) may)
+    left_alone (ReadLine of at) g (shadow_same size g false of at false s.truthful (λ z. refl) may)
     ∙ sym (held_is (allows g.shadow (reading_of of at)) (plain_bus (ReadLine of at) g) (reading_of of at) 16 g may)
 guest_is_held space size (WriteLine of at line) g s l may =
-    left_alone (WriteLine of at line) g (shadow_same size g false of at true s.truthful l.1 (λ z. refl) may)
+    left_alone (WriteLine of at line) g (shadow_same size g false of at true s.truthful (λ z. refl) may)
     ∙ sym (held_is (allows g.shadow (writing_of of at)) (plain_bus (WriteLine of at line) g) (writing_of of at) 16 g may)
 guest_is_held space size (Probe of p) g s l may =
-    left_alone (Probe of p) g (shadow_same size g false of p.at true s.truthful l.1 (λ z. refl) may)
+    left_alone (Probe of p) g (shadow_same size g false of p.at true s.truthful (λ z. refl) may)
     ∙ sym (held_is (allows g.shadow (writing_of of p.at)) (plain_bus (Probe of p) g) (writing_of of p.at) p.len g may)
 guest_is_held space size (Get place) g s l may = refl
 guest_is_held space size (Put place value) g s l may = refl

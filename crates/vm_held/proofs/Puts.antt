@@ -22,7 +22,7 @@ use Rattle.mb_walk.proofs.Named.{search_names}
 use Rattle.mb_model.proofs.Found.{filled_same}
 use Rattle.vm_shadow.specs.Shadows.{Shadowed, is_at, nothing, room_for, filled}
 use Rattle.vm_shadow.specs.Slots.{is_full_for}
-use Rattle.vm_machine.specs.Guests.{Guest, ref, allows, placed_at, IsReference}
+use Rattle.vm_machine.specs.Guests.{Guest, ref, allows, placed_at}
 use Rattle.vm_machine.specs.Bus.{gone_settled, without_kept, is_split, is_in_ram, is_writable, put_entry_of}
 use Rattle.vm_held.specs.Truth.{Fine, AccessesKeepTruth}
 use Rattle.vm_held.proofs.Keys.{number_is, is_not}
@@ -62,19 +62,19 @@ put_fine size g r p fine c whole room =
     record {
       sound = record {
         truthful = record {
-          reads = λ code space at frame writable l e. elim (filled_cases r.space (page_of r.at) (p / 4096) w g.shadow space (page_of at) (frame, writable) e) [
+          reads = λ code space at frame writable e. elim (filled_cases r.space (page_of r.at) (p / 4096) w g.shadow space (page_of at) (frame, writable) e) [
             | inl (s, q, same) ↦
                 subst (λ (new : ℕ × Bool). settled rule_k g.world.mmu g.world.kept (ref code space at false) ≡ To (placed_at new.0 at)) same
                 (subst (λ (s : Space). settled rule_k g.world.mmu g.world.kept (ref code s at false) ≡ To (placed_at (p / 4096) at)) s
                 (reads_settled g.world r p c whole code at (sym q)))
-            | inr old ↦ t.reads code space at frame writable l old
+            | inr old ↦ t.reads code space at frame writable old
           ];
-          writes = λ space at frame l e. elim (filled_cases r.space (page_of r.at) (p / 4096) w g.shadow space (page_of at) (frame, true) e) [
+          writes = λ space at frame e. elim (filled_cases r.space (page_of r.at) (p / 4096) w g.shadow space (page_of at) (frame, true) e) [
             | inl (s, q, same) ↦
                 subst (λ (new : ℕ × Bool). settled rule_k g.world.mmu g.world.kept (ref false space at true) ≡ To (placed_at new.0 at)) same
                 (subst (λ (s : Space). settled rule_k g.world.mmu g.world.kept (ref false s at true) ≡ To (placed_at (p / 4096) at)) s
                 (writes_settled g.world r p c whole (ap (λ (new : ℕ × Bool). new.1) same) at (sym q)))
-            | inr old ↦ t.writes space at frame l old
+            | inr old ↦ t.writes space at frame old
           ];
           inside = λ space page frame writable e. elim (filled_cases r.space (page_of r.at) (p / 4096) w g.shadow space page (frame, writable) e) [
             | inl (s, q, same) ↦ subst (λ (new : ℕ × Bool). 4096 * new.0 + 4096 ≤ size) same room
@@ -131,24 +131,24 @@ searched_carried size g r ram (Entry k status) fine n (s, q) p e =
 searched_carried size g r ram Invalid fine n names p e = absurd (let z : None ≡ Some p = e in let y : ⊥ = cc in y)
 searched_carried size g r ram BusError fine n names p e = absurd (let z : None ≡ Some p = e in let y : ⊥ = cc in y)
 
-by_search_fine : (size : ℕ) (g : Guest) (r : Reference) → IsReference r → Fine size g → settled rule_k g.world.mmu g.world.kept r ≡ Unsettled
+by_search_fine : (size : ℕ) (g : Guest) (r : Reference) → Fine size g → settled rule_k g.world.mmu g.world.kept r ≡ Unsettled
     → Whole size r g Unsettled (searched rule_k g.world r)
-by_search_fine size g r is fine n =
+by_search_fine size g r fine n =
     let s = search_for g.world r in
     let big = has_big_pages g.world.mmu in
     let names = search_names r.space (page_of r.at) g.world.ram (root_of g.world.mmu r.space) r.write big in
     let only = searches_mark g.world.ram (root_of g.world.mmu r.space) r.space (page_of r.at) r.write big fine.sound.bytes in
     putting_fine size (after_found g r s.ram s.found) r ((by_found rule_k (record g.world { ram = s.ram }) r s.found).0)
-    (found_fine size g r s.ram s.found is fine n names only.size only.bytes) (searched_carried size g r s.ram s.found fine n names)
+    (found_fine size g r s.ram s.found fine n names only.size only.bytes) (searched_carried size g r s.ram s.found fine n names)
 
-by_settled_fine : (size : ℕ) (g : Guest) (r : Reference) → IsReference r → Fine size g → (s : Settled) → settled rule_k g.world.mmu g.world.kept r ≡ s
+by_settled_fine : (size : ℕ) (g : Guest) (r : Reference) → Fine size g → (s : Settled) → settled rule_k g.world.mmu g.world.kept r ≡ s
     → Whole size r g s (by_settled rule_k g.world r s)
-by_settled_fine size g r is fine (To p) e =
+by_settled_fine size g r fine (To p) e =
     putting_fine size g r (Some p) fine (λ q h. subst (Carried g.world r) (same_Some p q h)
     (carried_by g.world r p (untranslated g.world.mmu r) (entry_at_page g.world.kept r.space (page_of r.at)) refl refl
     (sym (settled_at g.world.mmu g.world.kept r (untranslated g.world.mmu r) (entry_at_page g.world.kept r.space (page_of r.at)) refl refl) ∙ e)))
-by_settled_fine size g r is fine Refused e = putting_fine size g r None fine (λ q h. absurd (let y : ⊥ = cc in y))
-by_settled_fine size g r is fine Unsettled e = by_search_fine size g r is fine e
+by_settled_fine size g r fine Refused e = putting_fine size g r None fine (λ q h. absurd (let y : ⊥ = cc in y))
+by_settled_fine size g r fine Unsettled e = by_search_fine size g r fine e
 
 -- how an access came to its place
 pub access_carried : (size : ℕ) (g : Guest) (r : Reference) → Fine size g → (s : Settled) → settled rule_k g.world.mmu g.world.kept r ≡ s
@@ -164,6 +164,6 @@ access_carried size g r fine Unsettled e p h =
     searched_carried size g r s.ram s.found fine e names p h
 
 pub accesses_keep_truth : AccessesKeepTruth
-accesses_keep_truth size r g is fine =
+accesses_keep_truth size r g fine =
     let s = settled rule_k g.world.mmu g.world.kept r in
-    subst (Whole size r g s) (sym (translated_by rule_k g.world r s refl)) (by_settled_fine size g r is fine s refl)
+    subst (Whole size r g s) (sym (translated_by rule_k g.world r s refl)) (by_settled_fine size g r fine s refl)

@@ -222,7 +222,7 @@ module _ (size : ℕ) (g : Guest) (r : Reference) (is : IsReference r) (fine : F
 
   pub is_ahead : IsAhead size g h
   is_ahead = record {
-    fine = accesses_keep_truth size r g is fine;
+    fine = accesses_keep_truth size r g fine;
     world = access_only g.world r ∙ ap (λ (ram : List ℕ). record g.world { ram = ram; kept = after.kept }) can.still;
     more = more;
   }
@@ -248,7 +248,7 @@ module _ (size : ℕ) (g : Guest) (r : Reference) (is : IsReference r) (fine : F
 
   leads_again : translated rule_k r after ≡ translated rule_k r g.world
   leads_again =
-      let there : Led size h r.code r.space r.at r.write = led size h r.code r.space r.at r.write is_ahead.fine.sound.truthful is.at is.on_data allowed_there in
+      let there : Led size h r.code r.space r.at r.write = led size h r.code r.space r.at r.write is_ahead.fine.sound.truthful is allowed_there in
       let frame : there.frame ≡ page_of can.place =
       let a : ℕ × Bool = (there.frame, there.writable) in let b : ℕ × Bool = (page_of can.place, writable) in
       ap (λ (p : ℕ × Bool). p.0) (same_Some a b (sym there.entry ∙ entry_is)) in
@@ -299,21 +299,20 @@ call_again size (FlushKept what) g r e = absurd (let z : ⊥ = cc in z)
 call_again size (Test of at write) g r e = absurd (let z : ⊥ = cc in z)
 call_again size ResetDevices g r e = absurd (let z : ⊥ = cc in z)
 
-is_reference : (space : Space) (size : ℕ) (c : Call) (r : Reference) → IsLawful space 0 size c → reference_of c ≡ Some r → IsReference r
-is_reference space size (Fetch of at) r l e =
-    subst IsReference (same_Some (fetching_of of at) r e) (record { at = l.1; on_data = λ w. absurd (let z : ⊥ = cc in z) })
-is_reference space size (Read of p) r l e = subst IsReference (same_Some (reading_of of p.at) r e) (record { at = l.1; on_data = λ w. refl })
-is_reference space size (Write of p value) r l e = subst IsReference (same_Some (writing_of of p.at) r e) (record { at = l.1; on_data = λ w. refl })
-is_reference space size (ReadLine of at) r l e = subst IsReference (same_Some (reading_of of at) r e) (record { at = l.1; on_data = λ w. refl })
-is_reference space size (WriteLine of at line) r l e = subst IsReference (same_Some (writing_of of at) r e) (record { at = l.1; on_data = λ w. refl })
-is_reference space size (Probe of p) r l e = subst IsReference (same_Some (writing_of of p.at) r e) (record { at = l.1; on_data = λ w. refl })
-is_reference space size (Get place) r l e = absurd (let z : ⊥ = cc in z)
-is_reference space size (Put place value) r l e = absurd (let z : ⊥ = cc in z)
-is_reference space size ReadMmu r l e = absurd l
-is_reference space size (SetMmu which value) r l e = absurd l
-is_reference space size (FlushKept what) r l e = absurd l
-is_reference space size (Test of at write) r l e = absurd l
-is_reference space size ResetDevices r l e = absurd l
+is_reference : (c : Call) (r : Reference) → reference_of c ≡ Some r → IsReference r
+is_reference (Fetch of at) r e = subst IsReference (same_Some (fetching_of of at) r e) (λ w. absurd (let z : ⊥ = cc in z))
+is_reference (Read of p) r e = subst IsReference (same_Some (reading_of of p.at) r e) (λ w. refl)
+is_reference (Write of p value) r e = subst IsReference (same_Some (writing_of of p.at) r e) (λ w. refl)
+is_reference (ReadLine of at) r e = subst IsReference (same_Some (reading_of of at) r e) (λ w. refl)
+is_reference (WriteLine of at line) r e = subst IsReference (same_Some (writing_of of at) r e) (λ w. refl)
+is_reference (Probe of p) r e = subst IsReference (same_Some (writing_of of p.at) r e) (λ w. refl)
+is_reference (Get place) r e = absurd (let z : ⊥ = cc in z)
+is_reference (Put place value) r e = absurd (let z : ⊥ = cc in z)
+is_reference ReadMmu r e = absurd (let z : ⊥ = cc in z)
+is_reference (SetMmu which value) r e = absurd (let z : ⊥ = cc in z)
+is_reference (FlushKept what) r e = absurd (let z : ⊥ = cc in z)
+is_reference (Test of at write) r e = absurd (let z : ⊥ = cc in z)
+is_reference ResetDevices r e = absurd (let z : ⊥ = cc in z)
 
 -- whether a call is allowed is whether its reference is
 denied_reference : (c : Call) (shadow : Shadowed) (r : Reference) → reference_of c ≡ Some r → allows_call c shadow ≡ false → allows shadow r ≡ false
@@ -584,7 +583,7 @@ module _ (space : Space) (size : ℕ) (p : Plain) (g : Guest) (longs : HasLongs 
         | inl clean ↦ absurd (unclean ((run held_bus fetch g).0) f e clean)
         | inr d ↦
             let (reference, begun) = told d in
-            let is = is_reference space size d.call r d.lawful reference in
+            let is = is_reference d.call r reference in
             let denied : allows g.shadow r ≡ false =
             denied_reference d.call g.shadow r reference (ap (λ (x : Guest). allows_call d.call x.shadow) (sym begun) ∙ d.refused) in
             elim (meant space size g fetch (FoundLeft (held_guard space size g)) _ (SameFetch space) r is fine denied refill tells told) [
@@ -623,7 +622,7 @@ module _ (space : Space) (size : ℕ) (p : Plain) (g : Guest) (longs : HasLongs 
           | inl clean ↦ absurd (unclean clean)
           | inr d ↦
               let (reference, begun) = told d in
-              let is = is_reference space size d.call r d.lawful reference in
+              let is = is_reference d.call r reference in
               let denied : allows g.shadow r ≡ false =
               denied_reference d.call g.shadow r reference (ap (λ (x : Guest). allows_call d.call x.shadow) (sym begun) ∙ d.refused) in
               let ahead = is_ahead size g r is fine denied refill in

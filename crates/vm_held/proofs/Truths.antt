@@ -1,6 +1,6 @@
 -- Each call of the guest keeps its shadow truthful.
-use Rattle.std.proofs.Common.{length, subst, sym, ◌≡◌, ℕ, ◌^◌, ◌<◌, Bool, true, false, [], ◌∷◌, refl, ap, ◌∙◌, Option, Some, None}
-use Rattle.mb_port.specs.Routine.{Call, Fetch, Read, Write, ReadLine, WriteLine, Probe, Get, Put, ReadMmu, FlushKept, Test, ResetDevices, SetMmu}
+use Rattle.std.proofs.Common.{length, subst, sym, ◌≡◌, ℕ, Bool, true, false, [], ◌∷◌, refl, ap, ◌∙◌, Option, Some, None}
+use Rattle.mb_port.specs.Routine.{Return, Ask, Then, Routine, run, Call, Fetch, Read, Write, ReadLine, WriteLine, Probe, Get, Put, ReadMmu, FlushKept, Test, ResetDevices, SetMmu}
 use Rattle.mb_model.specs.Keeping.{list_of, Apart, KeptLists, rule_k, flushed, after_ptest}
 use Rattle.mb_walk.specs.Memory.{AreBytes}
 use Rattle.mb_machine.specs.World.{World, HasBytes}
@@ -19,11 +19,11 @@ use Rattle.mb_walk.proofs.Again.{searches_mark}
 use Rattle.mb_machine.specs.declared.reference.Reference.{Reference}
 use Rattle.mb_model.specs.Pages.{page_of, has_big_pages, other_half}
 use Rattle.vm_shadow.specs.Shadows.{Shadowed, nothing}
-use Rattle.vm_machine.specs.Bus.{accessed, shadow_after_flush, shadow_after_drop, shadow_after_test, shadow_after}
+use Rattle.vm_machine.specs.Bus.{accessed, guest_bus, shadow_after_flush, shadow_after_drop, shadow_after_test, shadow_after}
 use Rattle.vm_held.specs.Truth.{CallsKeepTruth, Fine}
 use Rattle.vm_held.proofs.Puts.{accesses_keep_truth}
 use Rattle.vm_held.proofs.Flushes.{flush_truthful, IsOneList, flushed_kept, nothing_truthful}
-use Rattle.vm_machine.specs.Guests.{Guest, ref, IsReference}
+use Rattle.vm_machine.specs.Guests.{Guest, ref}
 
 -- ---- registers and tests
 
@@ -69,9 +69,9 @@ unseen size g value fine =
     record {
       sound = record {
         truthful = record {
-          reads = λ code space at frame writable l e. unseen_settled g.world.mmu value g.world.kept (ref code space at false)
-              ∙ t.reads code space at frame writable l e;
-          writes = λ space at frame l e. unseen_settled g.world.mmu value g.world.kept (ref false space at true) ∙ t.writes space at frame l e;
+          reads = λ code space at frame writable e. unseen_settled g.world.mmu value g.world.kept (ref code space at false)
+              ∙ t.reads code space at frame writable e;
+          writes = λ space at frame e. unseen_settled g.world.mmu value g.world.kept (ref false space at true) ∙ t.writes space at frame e;
           inside = t.inside;
         };
         count = fine.sound.count;
@@ -106,8 +106,8 @@ fine_behind size w u shadow fine b count bytes =
     record {
       sound = record {
         truthful = record {
-          reads = λ code space at frame writable l e. same (ref code space at false) ∙ t.reads code space at frame writable l e;
-          writes = λ space at frame l e. same (ref false space at true) ∙ t.writes space at frame l e;
+          reads = λ code space at frame writable e. same (ref code space at false) ∙ t.reads code space at frame writable e;
+          writes = λ space at frame e. same (ref false space at true) ∙ t.writes space at frame e;
           inside = t.inside;
         };
         count = count;
@@ -131,10 +131,10 @@ module _ (size : ℕ) (c : Call) (g : Guest) (fine : Fine size g) where
   bytes_after = (bus-bytes rule_k c g.world has_bytes).bytes
 
   -- of a reference that the call makes
-  pub fine_access : (r : Reference) → IsReference r → IsBeneath (translated rule_k r g.world).1 (bus_of rule_k c g.world).1
+  pub fine_access : (r : Reference) → IsBeneath (translated rule_k r g.world).1 (bus_of rule_k c g.world).1
       → Fine size (record { world = (bus_of rule_k c g.world).1; shadow = accessed r g.world g.shadow })
-  fine_access r is b =
-      fine_behind size (translated rule_k r g.world).1 (bus_of rule_k c g.world).1 (accessed r g.world g.shadow) (accesses_keep_truth size r g is fine) b
+  fine_access r b =
+      fine_behind size (translated rule_k r g.world).1 (bus_of rule_k c g.world).1 (accessed r g.world g.shadow) (accesses_keep_truth size r g fine) b
       count_after bytes_after
 
   -- of none
@@ -142,12 +142,6 @@ module _ (size : ℕ) (c : Call) (g : Guest) (fine : Fine size g) where
   fine_place b = fine_behind size g.world (bus_of rule_k c g.world).1 g.shadow fine b count_after bytes_after
 
 -- ---- every call
-
-is_reading : (code : Bool) (space : Space) (at : ℕ) → at < 2 ^ 32 → IsReference (ref code space at false)
-is_reading code space at l = record { at = l; on_data = λ h. absurd (let y : ⊥ = cc in y) }
-
-is_writing : (space : Space) (at : ℕ) → at < 2 ^ 32 → IsReference (ref false space at true)
-is_writing space at l = record { at = l; on_data = λ h. refl }
 
 -- the calls that translate nothing
 unchanged_fine : (size : ℕ) (g : Guest) → Fine size g → Fine size (record { world = (bus_of rule_k ReadMmu g.world).1; shadow = g.shadow })
@@ -208,22 +202,27 @@ reset_fine size g fine = fine_behind size g.world (bus_of rule_k ResetDevices g.
     fine.sound.bytes
 
 pub calls_keep_truth : CallsKeepTruth
-calls_keep_truth size (Fetch space at) g l fine =
-    let c = Fetch space at in fine_access size c g fine (fetching_of space at) (is_reading true space at l) (calls_stand_beneath rule_k c g.world)
-calls_keep_truth size (Read space p) g l fine =
-    let c = Read space p in fine_access size c g fine (reading_of space p.at) (is_reading false space p.at l) (calls_stand_beneath rule_k c g.world)
-calls_keep_truth size (Write space p value) g l fine =
-    let c = Write space p value in fine_access size c g fine (writing_of space p.at) (is_writing space p.at l) (calls_stand_beneath rule_k c g.world)
-calls_keep_truth size (ReadLine space at) g l fine =
-    let c = ReadLine space at in fine_access size c g fine (reading_of space at) (is_reading false space at l) (calls_stand_beneath rule_k c g.world)
-calls_keep_truth size (WriteLine space at line) g l fine =
-    let c = WriteLine space at line in fine_access size c g fine (writing_of space at) (is_writing space at l.0) (calls_stand_beneath rule_k c g.world)
-calls_keep_truth size (Probe space p) g l fine =
-    let c = Probe space p in fine_access size c g fine (writing_of space p.at) (is_writing space p.at l) (calls_stand_beneath rule_k c g.world)
-calls_keep_truth size (Get place) g l fine = fine_place size (Get place) g fine (places_stand_beneath rule_k place 0 g.world).0
-calls_keep_truth size (Put place value) g l fine = fine_place size (Put place value) g fine (places_stand_beneath rule_k place value g.world).1
-calls_keep_truth size ReadMmu g l fine = unchanged_fine size g fine
-calls_keep_truth size (SetMmu which value) g l fine = set_fine size g which value fine
-calls_keep_truth size (FlushKept what) g l fine = flushed_fine size g what fine
-calls_keep_truth size (Test space at write) g l fine = tested_fine size g space at write fine
-calls_keep_truth size ResetDevices g l fine = reset_fine size g fine
+calls_keep_truth size (Fetch space at) g fine =
+    let c = Fetch space at in fine_access size c g fine (fetching_of space at) (calls_stand_beneath rule_k c g.world)
+calls_keep_truth size (Read space p) g fine =
+    let c = Read space p in fine_access size c g fine (reading_of space p.at) (calls_stand_beneath rule_k c g.world)
+calls_keep_truth size (Write space p value) g fine =
+    let c = Write space p value in fine_access size c g fine (writing_of space p.at) (calls_stand_beneath rule_k c g.world)
+calls_keep_truth size (ReadLine space at) g fine =
+    let c = ReadLine space at in fine_access size c g fine (reading_of space at) (calls_stand_beneath rule_k c g.world)
+calls_keep_truth size (WriteLine space at line) g fine =
+    let c = WriteLine space at line in fine_access size c g fine (writing_of space at) (calls_stand_beneath rule_k c g.world)
+calls_keep_truth size (Probe space p) g fine =
+    let c = Probe space p in fine_access size c g fine (writing_of space p.at) (calls_stand_beneath rule_k c g.world)
+calls_keep_truth size (Get place) g fine = fine_place size (Get place) g fine (places_stand_beneath rule_k place 0 g.world).0
+calls_keep_truth size (Put place value) g fine = fine_place size (Put place value) g fine (places_stand_beneath rule_k place value g.world).1
+calls_keep_truth size ReadMmu g fine = unchanged_fine size g fine
+calls_keep_truth size (SetMmu which value) g fine = set_fine size g which value fine
+calls_keep_truth size (FlushKept what) g fine = flushed_fine size g what fine
+calls_keep_truth size (Test space at write) g fine = tested_fine size g space at write fine
+calls_keep_truth size ResetDevices g fine = reset_fine size g fine
+
+pub runs_keep_truth : {A : Type 0} (size : ℕ) (m : Routine A) (g : Guest) → Fine size g → Fine size (run guest_bus m g).1
+runs_keep_truth size (Return a) g fine = fine
+runs_keep_truth size (Ask c) g fine = calls_keep_truth size c g fine
+runs_keep_truth size (Then m f) g fine = runs_keep_truth size (f (run guest_bus m g).0) (run guest_bus m g).1 (runs_keep_truth size m g fine)

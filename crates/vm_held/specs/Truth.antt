@@ -1,9 +1,10 @@
 -- What keeps a guest's shadow truthful.
-use Rattle.std.specs.Prelude.{◌≡◌, ℕ, ◌^◌, ◌<◌, [], ◌∷◌, length}
-use Rattle.mb_port.specs.Routine.{Call, Fetch, Read, Write, ReadLine, WriteLine, Probe}
+use Rattle.std.specs.Prelude.{◌≡◌, ℕ, [], ◌∷◌}
+use Rattle.mb_port.specs.Routine.{Call, run}
+use Rattle.mb_laws.specs.Tree.{Tree, routine_of}
 use Rattle.mb_model.specs.Keeping.{Apart, list_of}
 use Rattle.mb_machine.specs.declared.reference.Reference.{Reference}
-use Rattle.vm_machine.specs.Guests.{Guest, IsReference}
+use Rattle.vm_machine.specs.Guests.{Guest}
 use Rattle.vm_machine.specs.Bus.{guest_bus}
 use Rattle.vm_machine.specs.Refills.{after_access}
 use Rattle.vm_held.specs.Sound.{Sound}
@@ -16,18 +17,13 @@ pub record Fine (size : ℕ) (g : Guest) : Type 0 where
 
 -- Each access keeps it, whatever is searched, filled, dropped and put.
 abbrev pub AccessesKeepTruth : Type 0
-AccessesKeepTruth = (size : ℕ) (r : Reference) (g : Guest) → IsReference r → Fine size g → Fine size (after_access r g)
+AccessesKeepTruth = (size : ℕ) (r : Reference) (g : Guest) → Fine size g → Fine size (after_access r g)
 
-abbrev pub HasAddress : Call → Type 0
-HasAddress (Fetch space at) = at < 2 ^ 32
-HasAddress (Read space p) = p.at < 2 ^ 32
-HasAddress (Write space p value) = p.at < 2 ^ 32
-HasAddress (ReadLine space at) = at < 2 ^ 32
-HasAddress (WriteLine space at line) = (at < 2 ^ 32) × (length line ≡ 4)
-HasAddress (Probe space p) = p.at < 2 ^ 32
-HasAddress _ = Unit {0}
-
--- And so does each call of the guest.
+-- So does each call of the guest,
 abbrev pub CallsKeepTruth : Type 0
-CallsKeepTruth = (size : ℕ) (c : Call) (g : Guest) → HasAddress c → Fine size g
-    → let (_, after) = guest_bus c g in Fine size after
+CallsKeepTruth = (size : ℕ) (c : Call) (g : Guest) → Fine size g → let (_, after) = guest_bus c g in Fine size after
+
+-- and so does a run of whatever it calls.
+abbrev pub RunsKeepTruth : Type 0 → Type 0
+RunsKeepTruth A = (size : ℕ) (m : Tree A) (g : Guest) → Fine size g
+    → let (_, after) = run guest_bus (routine_of m) g in Fine size after

@@ -7,7 +7,7 @@
 //! instruction of which the held guest was denied an access. The code has the laws.
 #![tactic(auto)]
 
-ghost use Rattle.vm_held.specs.Truth.{AccessesKeepTruth, CallsKeepTruth};
+ghost use Rattle.vm_held.specs.Truth.{AccessesKeepTruth, CallsKeepTruth, RunsKeepTruth};
 ghost use Rattle.vm_held.specs.Sound.{HeldGuards, HeldKeeps, GuestIsHeld};
 ghost use Rattle.vm_held.specs.Denied.{FetchesGoOn, RowsGoOn, AttemptsGoOn};
 ghost use Rattle.vm_held.specs.Refills.{AttemptsBeginAgain};
@@ -18,6 +18,11 @@ ghost use Rattle.vm_held.specs.Names.{WordsName};
 pub fn shadow_stays_truthful()
     ensures accesses { AccessesKeepTruth }
     ensures calls { CallsKeepTruth }
+{}
+
+/// And so does a run over its bus.
+pub fn runs_stay_truthful<A>()
+    ensures { RunsKeepTruth A }
 {}
 
 /// The held bus refuses calls as instructions want it, and changes memory alone. What the shadow allows, the guest's

@@ -176,7 +176,7 @@ line_held : (size : ℕ) (space : Space) (at : ℕ) (g : Guest) → Sound size g
     → IsAnswer AreLongs FaultFits (held_read g (reading_of space at) 16 taken_line).0
 line_held size space at g s is may =
     let r = reading_of space at in
-    let here : Led size g false space at false = led size g false space at false s.truthful is.1 (λ z. refl) may in
+    let here : Led size g false space at false = led size g false space at false s.truthful (λ z. refl) may in
     let p = placed_at here.frame at in
     let room = led_room here.frame at 16 size here.inside (line_fits at is.0) in
     let whole : held_read g r 16 taken_line ≡ (Ok (line_at g.world.ram p), g) =

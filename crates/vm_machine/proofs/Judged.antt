@@ -1,5 +1,5 @@
 -- What the shadow allows leaves it as it is, and how far an attempt is judged.
-use Rattle.std.proofs.Common.{◌≡◌, ◌∙◌, ℕ, ◌^◌, ◌<◌, Bool, true, false, cond, refl, ap}
+use Rattle.std.proofs.Common.{◌≡◌, ◌∙◌, ℕ, Bool, true, false, cond, refl, ap}
 use Rattle.std.specs.Prelude.{Option, Some, None, not, ◌&&◌, ◌||◌, length}
 use Rattle.mb_port.specs.declared.types.Space.{Space}
 use Rattle.mb_laws.proofs.Finished.{finish_until, stops_at_refused}
@@ -25,16 +25,16 @@ lets_writes true h = refl
 lets_writes false h = absurd (cc h)
 
 -- it is known where it leads
-settled_by : (size : ℕ) (g : Guest) (code : Bool) (space : Space) (at : ℕ) (write : Bool) → Truthful size g → at < 2 ^ 32 → (write ≡ true → code ≡ false)
+settled_by : (size : ℕ) (g : Guest) (code : Bool) (space : Space) (at : ℕ) (write : Bool) → Truthful size g → (write ≡ true → code ≡ false)
     → (entry : Option (ℕ × Bool)) → g.shadow.entries space (page_of at) ≡ entry → lets entry write ≡ true
     → (place : ℕ) × (settled rule_k g.world.mmu g.world.kept (ref code space at write) ≡ To place)
-settled_by size g code space at write t less side None e h = absurd (let z : ⊥ = cc h in z)
-settled_by size g code space at false t less side (Some (frame, writable)) e h = (placed_at frame at, t.reads code space at frame writable less e)
-settled_by size g code space at true t less side (Some (frame, writable)) e h =
+settled_by size g code space at write t side None e h = absurd (let z : ⊥ = cc h in z)
+settled_by size g code space at false t side (Some (frame, writable)) e h = (placed_at frame at, t.reads code space at frame writable e)
+settled_by size g code space at true t side (Some (frame, writable)) e h =
     let same : g.shadow.entries space (page_of at) ≡ Some (frame, true) =
     e ∙ ap (λ (w : Bool). (let entry : Option (ℕ × Bool) = Some (frame, w) in entry)) (lets_writes writable h) in (
       placed_at frame at,
-      ap (λ (side : Bool). settled rule_k g.world.mmu g.world.kept (ref side space at true)) (side refl) ∙ t.writes space at frame less same,
+      ap (λ (side : Bool). settled rule_k g.world.mmu g.world.kept (ref side space at true)) (side refl) ∙ t.writes space at frame same,
     )
 
 last_not : (a b c : Bool) → c ≡ true → (a && (b && not c)) ≡ false
@@ -52,7 +52,7 @@ pub allowed_accesses_are_still : AllowedAccessesAreStill
 unfolding translated
 allowed_accesses_are_still size g r truthful is allowed =
     let entry = g.shadow.entries r.space (page_of r.at) in
-    let (place, known) = settled_by size g r.code r.space r.at r.write truthful is.at is.on_data entry refl allowed in record {
+    let (place, known) = settled_by size g r.code r.space r.at r.write truthful is entry refl allowed in record {
       shadow =
           ap (λ (s : Settled). (let t = by_settled rule_k g.world r s in put_entry_of t.1 r (without_kept (gone_settled g.world r s) g.shadow) t.0)) known
           ∙ puts_nothing g.world r place g.shadow allowed;

@@ -1,5 +1,5 @@
 -- A guest: its machine's world by the rule of guests, beside its shadow; and what the shadow allows.
-use Rattle.std.specs.Prelude.{◌≡◌, ℕ, ◌+◌, ◌*◌, ◌^◌, ◌<◌, ◌≤◌, ◌||◌, not, Bool, true, false, Option, Some, None}
+use Rattle.std.specs.Prelude.{◌≡◌, ℕ, ◌+◌, ◌*◌, ◌≤◌, ◌||◌, not, Bool, true, false, Option, Some, None}
 use Rattle.mb_port.specs.Routine.{Call}
 use Rattle.mb_port.specs.declared.types.Space.{Space}
 use Rattle.mb_model.specs.Keeping.{rule_k}
@@ -49,9 +49,8 @@ abbrev pub ref : Bool → Space → ℕ → Bool → Reference
 ref code space at write = record { code = code; space = space; at = at; write = write }
 
 -- a reference that a call may make: what writes is an operand
-pub record IsReference (r : Reference) : Type 0 where
-  pub at : r.at < 2 ^ 32
-  pub on_data : r.write ≡ true → r.code ≡ false
+abbrev pub IsReference : Reference → Type 0
+IsReference r = r.write ≡ true → r.code ≡ false
 
 -- where an address of a page with this frame leads
 abbrev pub placed_at : ℕ → ℕ → ℕ
@@ -60,10 +59,10 @@ placed_at frame at = PAGE_SIZE * frame + offset_of at
 -- The shadow says what the guest's translation does now, without a search and for both sides, and names pages of RAM
 -- alone.
 pub record Truthful (size : ℕ) (g : Guest) : Type 0 where
-  pub reads : (code : Bool) (space : Space) (at frame : ℕ) (writable : Bool) → at < 2 ^ 32
+  pub reads : (code : Bool) (space : Space) (at frame : ℕ) (writable : Bool)
       → g.shadow.entries space (page_of at) ≡ Some (frame, writable)
       → settled rule_k g.world.mmu g.world.kept (ref code space at false) ≡ To (placed_at frame at)
-  pub writes : (space : Space) (at frame : ℕ) → at < 2 ^ 32 → g.shadow.entries space (page_of at) ≡ Some (frame, true)
+  pub writes : (space : Space) (at frame : ℕ) → g.shadow.entries space (page_of at) ≡ Some (frame, true)
       → settled rule_k g.world.mmu g.world.kept (ref false space at true) ≡ To (placed_at frame at)
   pub inside : (space : Space) (page frame : ℕ) (writable : Bool) → g.shadow.entries space page ≡ Some (frame, writable)
       → PAGE_SIZE * frame + PAGE_SIZE ≤ size

@@ -80,7 +80,7 @@ allowed_by x b g code at write r l side (Some (frame, writable)) s h =
           ∙ ap (λ (v : Bool). cond v (Some (placed_at (x.base / 4096 + frame) at)) None) h
           ∙ ap (λ (p : ℕ). Some p) (place_moved x.base frame at whole);
       after = related_after x b (translated rule_a (ref code User at write) b).1 g r a.quiet;
-      guest = guest_access x.size g code x.space at write frame writable r.truthful l side s h;
+      guest = guest_access x.size g code x.space at write frame writable r.truthful side s h;
     }
 
 pub allowed_access : (x : Site) (b : World) (g : Guest) (code : Bool) (at : ℕ) (write : Bool) → Related x b g → at < 2 ^ 32 → (write ≡ true → code ≡ false)

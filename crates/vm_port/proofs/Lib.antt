@@ -1,5 +1,4 @@
 pub mod Frames
 pub mod Owns
-pub mod Truth
 pub mod Covered
 pub mod SeenReads

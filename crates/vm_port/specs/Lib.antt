@@ -1,5 +1,4 @@
 pub mod Own
-pub mod Stands
 pub mod Around
 pub mod Places
 pub mod Parts

@@ -64,7 +64,6 @@ impl<R: Ram> GuestPort<'_, R> {
         ensures shadow { tables_of self.new ≡ shadow_after_flush what (world_of self.old).kept (tables_of self.old) }
         ensures beyond { beyond_of self.new ≡ beyond_of self.old }
     {
-        let _ = self.size();
         self.leave(what);
         self.tlb.flush(what);
     }
@@ -109,7 +108,6 @@ impl<R: Ram> GuestPort<'_, R> {
         ensures shadow { tables_of self.new ≡ (if rule_k.forgets which then nothing else tables_of self.old) }
         ensures beyond { beyond_of self.new ≡ beyond_of self.old }
     {
-        let _ = self.size();
         self.forget(which);
         self.registers
             .set(which, value & ControlRegister::Mmu(which).kept_bits());

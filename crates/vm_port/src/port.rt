@@ -4,10 +4,7 @@ ghost use Rattle.std.specs.Prelude.{◌≡◌, ◌+◌, ◌%◌, ◌≤◌, ◌<
 ghost use Rattle.vm_shadow.specs.Mapped.{shadowed};
 ghost use Rattle.vm_shadow.specs.declared.area.TheConstants.{AREA_BYTES};
 ghost use Rattle.vm_shadow.specs.Area.{Maps};
-ghost use Rattle.vm_machine.specs.Seats.{own};
-ghost use Rattle.vm_machine.specs.Guests.{Truthful};
-ghost use Rattle.vm_port.specs.Own.{guest_in, IsPlaced};
-ghost use Rattle.vm_port.specs.Stands.{IsTruthful, AreApart};
+ghost use Rattle.vm_port.specs.Own.{IsPlaced};
 
 use mb_devices::Devices;
 use mb_port::Mmu;
@@ -17,8 +14,8 @@ use vm_tlb::Tlb;
 
 /// A guest's bus, by the rule of guests: its RAM with its tables behind it, its devices and its translation.
 ///
-/// Between any two calls the tables map the guest's shadow, each entry to its frame in the guest's RAM, the shadow says
-/// what the guest's translation does without a search, and at most one translation is kept of a page.
+/// Between any two calls the tables map the guest's shadow, each entry to its frame in the guest's RAM. Whether the
+/// shadow says what the guest's translation does is nothing to the bus: `vm_held` has the law that its runs keep that.
 #[derive(Drop)]
 pub struct GuestPort<'a, R: Ram> {
     /// The board's memory.
@@ -38,14 +35,11 @@ pub struct GuestPort<'a, R: Ram> {
     ghost area: { shadow.now.area ≡ base + size },
     ghost maps: { Maps shadow.now (R.bytes ram.now) },
     ghost placed: { IsPlaced base (shadowed shadow.now (R.bytes ram.now)) },
-    ghost apart: { AreApart tlb.now },
-    ghost truthful: { IsTruthful size registers.now tlb.now (own base (shadowed shadow.now (R.bytes ram.now))) },
 }
 
 impl<'a, R: Ram> GuestPort<'a, R> {
     /// The bus of a guest whose RAM is `size` bytes of `ram` from `base` on, with the area of its tables behind it.
     /// Both are multiples of 65,536.
-    #[tactic(auto, using(crate::proofs::Truth::apart))]
     pub fn new(
         ram: &'a mut R,
         base: u32,
@@ -60,8 +54,6 @@ impl<'a, R: Ram> GuestPort<'a, R> {
         requires area { shadow.old.area ≡ base + size }
         requires maps { Maps shadow.old (R.bytes ram.old) }
         requires placed { IsPlaced base (shadowed shadow.old (R.bytes ram.old)) }
-        requires truthful { Truthful size
-            (guest_in base size (R.bytes ram.old) shadow.old registers.old devices.old tlb.old) }
         ensures ram { (result.ram.ghost_name ≡ ram.entry.ghost_name) × (result.ram.now ≡ ram.old) }
         ensures shadow { (result.shadow.ghost_name ≡ shadow.entry.ghost_name)
             × (result.shadow.now ≡ shadow.old) }
@@ -73,7 +65,6 @@ impl<'a, R: Ram> GuestPort<'a, R> {
         ensures place { (result.base ≡ base) × (result.size ≡ size) }
     {
         let _ = ram.size();
-        let _ = tlb.entry(0);
         GuestPort {
             ram,
             shadow,

@@ -1,7 +1,6 @@
 //! Reads that the shadow denied, filled and put before their instruction begins again.
 
-ghost use Rattle.std.specs.Prelude.{◌≡◌, ◌<◌, ◌^◌, Some, true, false, if◌then◌else◌};
-ghost use Rattle.vm_machine.specs.Guests.{IsReference};
+ghost use Rattle.std.specs.Prelude.{◌≡◌, Some, true, false, if◌then◌else◌};
 ghost use Rattle.vm_machine.specs.Refills.{after_access, can_refill};
 ghost use Rattle.vm_port.specs.Quiet.{seen, refills_seen};
 
@@ -34,7 +33,6 @@ impl<R: Ram> GuestPort<'_, R> {
 
     /// Whether such a read is of a page of RAM that is not split, for whose entry the slots suffice.
     fn refills(&self, r: Reference, at: u32) -> bool
-        requires { r.at < 2 ^ 32 }
         ensures { result ≡ refills_seen (guest_of self.now) r (Some at) }
     {
         self.is_in_ram(at)
@@ -45,7 +43,6 @@ impl<R: Ram> GuestPort<'_, R> {
     /// Whether a read that the shadow denies is filled and put before its instruction begins again: on a page of RAM
     /// that is not split, where nothing shows that it was.
     fn can_refill(&self, r: Reference) -> bool
-        requires { IsReference r }
         ensures { result ≡ can_refill (guest_of self.now) r }
     {
         if r.write {
@@ -61,7 +58,6 @@ impl<R: Ram> GuestPort<'_, R> {
 
     /// Fills and puts such a read. Answers whether it did; else nothing has changed.
     pub fn refill(&mut self, r: Reference) -> bool
-        requires { IsReference r }
         ensures can { result ≡ can_refill (guest_of self.old) r }
         ensures means { guest_of self.new
             ≡ if result then after_access r (guest_of self.old) else guest_of self.old }

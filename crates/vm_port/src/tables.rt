@@ -2,16 +2,13 @@
 
 ghost use Rattle.std.specs.Prelude.{◌≡◌, ◌+◌, ◌*◌, ◌≤◌, ◌<◌, ◌^◌};
 ghost use Rattle.mb_model.specs.Keeping.{rule_k, displaced, filled as kept_after, NamesPages};
-ghost use Rattle.mb_model.specs.Pages.{page_of as page_number};
 ghost use Rattle.mb_model.specs.declared.pages.TheConstants.{PAGE_SIZE};
-ghost use Rattle.mb_machine.specs.Access.{settled};
 ghost use Rattle.vm_shadow.specs.Shadows.{nothing, filled, dropped};
-ghost use Rattle.vm_machine.specs.Guests.{allows, IsReference};
+ghost use Rattle.vm_machine.specs.Guests.{allows};
 ghost use Rattle.vm_machine.specs.Bus.{without_kept};
-ghost use Rattle.vm_port.specs.Stands.{IsTruthful};
 
 use crate::port::GuestPort;
-use mb_machine::{Reference, Settled};
+use mb_machine::Reference;
 use mb_model::{Kept, page_of};
 use mb_port::Space;
 use mb_walk::Ram;
@@ -34,8 +31,6 @@ impl<R: Ram> GuestPort<'_, R> {
     pub(crate) fn put_page(&mut self, space: Space, page: u32, frame: u32, writable: bool)
         requires page { page < 2 ^ 20 }
         requires frame { PAGE_SIZE * frame + PAGE_SIZE ≤ self.old.size }
-        requires truthful { IsTruthful self.old.size self.old.registers.now self.old.tlb.now
-            (filled space page frame writable (tables_of self.old)) }
         ensures shadow { tables_of self.new ≡ filled space page frame writable (tables_of self.old) }
         ensures world { world_of self.new ≡ world_of self.old }
         ensures beyond { beyond_of self.new ≡ beyond_of self.old }
@@ -64,16 +59,13 @@ impl<R: Ram> GuestPort<'_, R> {
 
     /// Keeps what the search for a reference found. The shadow loses the entry of the translation that goes for it.
     pub(crate) fn keep(&mut self, r: Reference, k: Kept)
-        requires reference { IsReference r }
-        requires needed { settled rule_k (world_of self.old).mmu (world_of self.old).kept r ≡ Settled.Unsettled }
-        requires found { (k.space ≡ r.space) × (k.page ≡ page_number r.at) × NamesPages k }
+        requires { NamesPages k }
         ensures world { world_of self.new
             ≡ record (world_of self.old) { kept = kept_after rule_k r.code k (world_of self.old).kept } }
         ensures shadow { tables_of self.new
             ≡ without_kept (displaced rule_k.capacity k self.old.tlb.now) (tables_of self.old) }
         ensures beyond { beyond_of self.new ≡ beyond_of self.old }
     {
-        let _ = self.size();
         if let Some(gone) = self.tlb.fill(k) {
             self.shadow.drop_page(self.ram, gone.space, gone.page);
         }

@@ -4,10 +4,8 @@ ghost use Rattle.std.specs.Prelude.{◌≡◌, ◌*◌, ◌<◌, ◌^◌, length
 ghost use Rattle.mb_model.specs.Keeping.{rule_k, entry_for};
 ghost use Rattle.mb_model.specs.Pages.{page_of as page_number, offset_of};
 ghost use Rattle.mb_machine.specs.Access.{by_entry as by_kept_entry, searched, settled, translated, LeadsTo};
-ghost use Rattle.vm_machine.specs.Guests.{IsReference};
 ghost use Rattle.vm_machine.specs.Bus.{gone_settled, without_kept, gone, put_entry_of, accessed};
 ghost use Rattle.vm_machine.specs.Bus.{is_in_ram, is_split, is_writable};
-ghost use Rattle.vm_port.specs.Stands.{IsTruthful};
 
 use crate::port::GuestPort;
 use mb_machine::{Reference, Settled, by_entry, root, through, untranslated};
@@ -44,8 +42,7 @@ impl<R: Ram> GuestPort<'_, R> {
     /// Points 4 and 5: the tables are searched, and what is found is kept; the shadow loses the entry of what goes for
     /// it.
     fn searched(&mut self, r: Reference) -> Option<u32>
-        requires reference { IsReference r }
-        requires needed { settled rule_k (world_of self.old).mmu (world_of self.old).kept r ≡ Settled.Unsettled }
+        requires { settled rule_k (world_of self.old).mmu (world_of self.old).kept r ≡ Settled.Unsettled }
         ensures means { (result, world_of self.new) ≡ searched rule_k (world_of self.old) r }
         ensures shadow { tables_of self.new
             ≡ without_kept (gone_settled (world_of self.old) r Settled.Unsettled) (tables_of self.old) }
@@ -67,7 +64,6 @@ impl<R: Ram> GuestPort<'_, R> {
     #[inline(always)]
     #[tactic(auto, unfolding(mb_machine::specs::Access::translated))]
     fn translated(&mut self, r: Reference) -> Option<u32>
-        requires { IsReference r }
         ensures means { (result, world_of self.new) ≡ translated rule_k r (world_of self.old) }
         ensures shadow { tables_of self.new ≡ without_kept (gone (world_of self.old) r) (tables_of self.old) }
         ensures beyond { beyond_of self.new ≡ beyond_of self.old }
@@ -111,8 +107,6 @@ impl<R: Ram> GuestPort<'_, R> {
     /// Puts an entry for an access that led to a place, where its page is one of RAM and not split, and the shadow does
     /// not allow it.
     fn put_entry(&mut self, r: Reference, place: Option<u32>)
-        requires truthful { IsTruthful self.old.size self.old.registers.now self.old.tlb.now
-            (put_entry_of (world_of self.old) r (tables_of self.old) place) }
         ensures shadow { tables_of self.new ≡ put_entry_of (world_of self.old) r (tables_of self.old) place }
         ensures world { world_of self.new ≡ world_of self.old }
         ensures beyond { beyond_of self.new ≡ beyond_of self.old }
@@ -128,13 +122,11 @@ impl<R: Ram> GuestPort<'_, R> {
 
     /// The physical address that an access leads to, and what it makes of the shadow.
     pub(crate) fn accessed(&mut self, r: Reference) -> Option<u32>
-        requires { IsReference r }
         ensures means { (result, world_of self.new) ≡ translated rule_k r (world_of self.old) }
         ensures shadow { tables_of self.new ≡ accessed r (world_of self.old) (tables_of self.old) }
         ensures beyond { beyond_of self.new ≡ beyond_of self.old }
         ensures offset { IfSome result (λ at. offset_of at ≡ offset_of r.at) }
     {
-        let _ = self.size();
         let place = self.translated(r);
         self.put_entry(r, place);
         place

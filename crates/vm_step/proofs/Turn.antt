@@ -1,7 +1,7 @@
 -- A turn by its parts.
 use Rattle.std.proofs.Common.{◌≡◌, ◌∙◌, ℕ, ◌/◌, ◌%◌, ◌^◌, ◌<◌, ◌≤◌, not, false, List, [], ◌∷◌, ◌++◌, length, arith, refl, ap, sym, subst}
 use Rattle.std.specs.Prelude.{slice_index}
-use Rattle.mb_port.specs.Routine.{Return, Ask, Then, run, Routine}
+use Rattle.mb_port.specs.Routine.{run}
 use Rattle.mb_instr.specs.declared.registers.Plain.{Plain}
 use Rattle.mb_instr.specs.declared.registers.Regs.{Regs}
 use Rattle.mb_instr.specs.Registers.{is_supervisor, is_master, active_stack, plain_of}
@@ -20,7 +20,6 @@ use Rattle.vm_machine.specs.Guests.{Guest, ref}
 use Rattle.vm_machine.specs.Bus.{guest_bus}
 use Rattle.vm_mirror.specs.Ready.{native_mmu}
 use Rattle.vm_mirror.proofs.Ready.{starts_flushed}
-use Rattle.vm_held.proofs.Truths.{calls_keep_truth}
 use Rattle.vm_machine.specs.declared.class.Class.{Class}
 use Rattle.vm_machine.specs.Turns.{world_of, guest_begun, guest_processed, guest_later, class_of_step}
 use Rattle.vm_machine.specs.Turns.{refills_of_step, by_class}
@@ -29,8 +28,6 @@ use Rattle.vm_machine.specs.Exits.{class_of_vector, handed_by, frame_access, res
 use Rattle.vm_step.specs.Exit.{left_guest}
 use Rattle.vm_step.specs.Turn.{FlushedIsSet, MoreStaysSet, BoardsAreReady, ExitsAdvance}
 use Rattle.vm_step.proofs.Registers.{same_word, seven, plain_again, same_user, same_mask, stays_plain, is_set, IsTidy}
-use Rattle.mb_laws.specs.Relations.{Along}
-use Rattle.vm_held.specs.Truth.{HasAddress, Fine}
 
 -- ---- ready again
 
@@ -93,19 +90,6 @@ boards_are_ready x c world steps state g n set present has s =
         small = s.small;
       },
     )
-
--- ---- the guest's own bus keeps the shadow's truth
-
-abbrev pub RunsKeepTruth : Type 0 → Type 1
-RunsKeepTruth A = (size : ℕ) (m : Routine A) (g : Guest) → Along (λ c (h : Guest). HasAddress c) guest_bus m g
-    → Fine size g
-    → Fine size (run guest_bus m g).1
-
-pub runs_keep_truth : (A : Type 0) → RunsKeepTruth A
-runs_keep_truth A size (Return a) g along fine = fine
-runs_keep_truth A size (Ask c) g along fine = calls_keep_truth size c g along fine
-runs_keep_truth A size (Then {A = B} m f) g along fine =
-    runs_keep_truth A size (f (run guest_bus m g).0) (run guest_bus m g).1 along.1 (runs_keep_truth B size m g along.0 fine)
 
 -- ---- a turn
 

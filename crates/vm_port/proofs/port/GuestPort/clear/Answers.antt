@@ -4,7 +4,6 @@ use Rattle.vm_machine.specs.Seats.{own}
 use Rattle.vm_port.specs.Own.{IsPlaced}
 use Rattle.vm_port.proofs.Frames.{around}
 use Rattle.vm_port.proofs.Owns.{placed_nothing, own_nothing}
-use Rattle.vm_port.proofs.Truth.{same_truth, nothing_is_truthful}
 use Rattle.vm_port.proofs.port.GuestPort.clear.Goals as goal
 
 pub invariant_of-self : goal.invariant_of-self
@@ -21,9 +20,6 @@ invariant_of-self g c =
       area = e.area ∙ m.area;
       maps = e.tables;
       placed = subst (IsPlaced m.base) (sym is) (placed_nothing m.base);
-      apart = m.apart;
-      truthful = same_truth refl refl refl (ap (own m.base) is ∙ own_nothing m.base)
-          (nothing_is_truthful m.size m.registers.now m.tlb.now);
     }
 
 pub returns-clause-shadow : goal.returns-clause-shadow

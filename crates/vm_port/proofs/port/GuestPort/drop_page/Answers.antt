@@ -2,10 +2,8 @@ use Rattle.std.proofs.Common.{◌∙◌, ap, sym, subst, refl}
 use Rattle.vm_shadow.specs.Mapped.{shadowed}
 use Rattle.vm_machine.specs.Seats.{own}
 use Rattle.vm_port.specs.Own.{IsPlaced}
-use Rattle.vm_port.specs.Parts.{tables_of}
 use Rattle.vm_port.proofs.Frames.{around}
 use Rattle.vm_port.proofs.Owns.{placed_dropped, own_dropped}
-use Rattle.vm_port.proofs.Truth.{same_truth, dropped_truthful}
 use Rattle.vm_port.proofs.port.GuestPort.drop_page.Goals as goal
 
 pub invariant_of-self : goal.invariant_of-self
@@ -22,9 +20,6 @@ invariant_of-self g c =
       area = e.area ∙ m.area;
       maps = e.tables;
       placed = subst (IsPlaced m.base) (sym is) (placed_dropped m.base before c.args.space c.args.page m.placed);
-      apart = m.apart;
-      truthful = same_truth refl refl refl (ap (own m.base) is ∙ own_dropped m.base before c.args.space c.args.page)
-          (dropped_truthful m.size m.registers.now m.tlb.now (tables_of m) c.args.space c.args.page m.truthful);
     }
 
 pub returns-clause-shadow : goal.returns-clause-shadow

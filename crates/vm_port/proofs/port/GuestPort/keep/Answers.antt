@@ -1,6 +1,4 @@
-use Rattle.std.proofs.Common.{◌∙◌, ap, sym, subst, refl, arith}
-use Rattle.mb_walk.specs.Memory.{part}
-use Rattle.mb_walk.proofs.Parts.{length-part}
+use Rattle.std.proofs.Common.{◌∙◌, ap, sym, subst, refl}
 use Rattle.vm_shadow.specs.Mapped.{shadowed}
 use Rattle.vm_machine.specs.Seats.{own}
 use Rattle.vm_machine.specs.Bus.{without_kept}
@@ -8,18 +6,15 @@ use Rattle.vm_port.specs.Own.{IsPlaced}
 use Rattle.vm_port.specs.Parts.{tables_of}
 use Rattle.vm_port.proofs.Frames.{around}
 use Rattle.vm_port.proofs.Owns.{placed_dropped, own_dropped}
-use Rattle.vm_port.proofs.Truth.{are_apart_of, found_truthful, same_truth}
 use Rattle.vm_port.proofs.port.GuestPort.keep.Goals as goal
 
 pub invariant_of-self : goal.invariant_of-self
 invariant_of-self g c =
     let m = c.args.self.now in
     let ram = g.R.Ram.bytes m.ram.now in
-    let k = c.args.k in
     let gone = c.in-Some.gone in
     let e = c.drop_page.ensures in
     let before = shadowed m.shadow.now ram in
-    let is = ap (own m.base) e.shadow ∙ own_dropped m.base before gone.space gone.page ∙ ap (λ o. without_kept o (tables_of m)) c.in-Some.ensures.gone in
     record {
       aligned = m.aligned;
       whole = m.whole;
@@ -28,31 +23,6 @@ invariant_of-self g c =
       area = e.area ∙ m.area;
       maps = e.tables;
       placed = subst (IsPlaced m.base) (sym e.shadow) (placed_dropped m.base before gone.space gone.page m.placed);
-      apart = are_apart_of c.fill.new.self c.fill.ensures.apart;
-      truthful = same_truth refl refl c.fill.ensures.entries is
-          (found_truthful m.size (part ram m.base m.size) m.registers.now m.devices.now m.tlb.now (tables_of m) m.truthful m.apart
-          (length-part ram m.base m.size (omega (arith, m.inside))) c.size.ensures.bytes c.args.r k c.requires.reference c.requires.needed
-          (c.requires.found.0, c.requires.found.1));
-    }
-
-pub invariant_of-self-in_default : goal.invariant_of-self-in_default
-invariant_of-self-in_default g c =
-    let m = c.args.self.now in
-    let ram = g.R.Ram.bytes m.ram.now in
-    let k = c.args.k in
-    record {
-      aligned = m.aligned;
-      whole = m.whole;
-      small = m.small;
-      inside = m.inside;
-      area = m.area;
-      maps = m.maps;
-      placed = m.placed;
-      apart = are_apart_of c.fill.new.self c.fill.ensures.apart;
-      truthful = same_truth refl refl c.fill.ensures.entries (ap (λ o. without_kept o (tables_of m)) c.in_default.ensures.gone)
-          (found_truthful m.size (part ram m.base m.size) m.registers.now m.devices.now m.tlb.now (tables_of m) m.truthful m.apart
-          (length-part ram m.base m.size (omega (arith, m.inside))) c.size.ensures.bytes c.args.r k c.requires.reference c.requires.needed
-          (c.requires.found.0, c.requires.found.1));
     }
 
 pub returns-in-Some-clause-shadow : goal.returns-in-Some-clause-shadow

@@ -6,7 +6,6 @@ use Rattle.vm_machine.specs.Seats.{own}
 use Rattle.vm_port.specs.Own.{IsPlaced}
 use Rattle.vm_port.proofs.Frames.{around}
 use Rattle.vm_port.proofs.Owns.{placed_filled, own_filled}
-use Rattle.vm_port.proofs.Truth.{same_truth}
 use Rattle.vm_port.proofs.port.GuestPort.put_page.Goals as goal
 
 pub invariant_of-self : goal.invariant_of-self
@@ -29,9 +28,6 @@ invariant_of-self g c =
       area = e.area ∙ m.area;
       maps = e.tables;
       placed = subst (IsPlaced m.base) (sym is) (placed_filled m.base before space page frame writable m.placed);
-      apart = m.apart;
-      truthful = same_truth refl refl refl (ap (own m.base) is ∙ own_filled m.base before space page frame writable)
-          c.requires.truthful;
     }
 
 pub returns-clause-shadow : goal.returns-clause-shadow

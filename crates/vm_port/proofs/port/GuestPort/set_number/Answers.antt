@@ -6,7 +6,6 @@ use Rattle.vm_shadow.specs.Mapped.{shadowed}
 use Rattle.vm_shadow.specs.declared.area.TheConstants.{AREA_BYTES}
 use Rattle.vm_machine.specs.Seats.{own}
 use Rattle.vm_port.specs.Own.{IsPlaced}
-use Rattle.vm_port.specs.Stands.{IsTruthful}
 use Rattle.vm_port.proofs.Frames.{maps_stay, shadow_stays}
 use Rattle.vm_port.proofs.port.GuestPort.set_number.Goals as goal
 
@@ -31,8 +30,6 @@ invariant_of-self g c =
       area = m.area;
       maps = rw e (maps_stay s ram (m.base + p.at) p.len c.args.value m.maps fits);
       placed = subst (IsPlaced m.base) (sym shadow) m.placed;
-      apart = m.apart;
-      truthful = subst (IsTruthful m.size m.registers.now m.tlb.now) (sym (ap (own m.base) shadow)) m.truthful;
     }
 
 pub returns-clause-world : goal.returns-clause-world
