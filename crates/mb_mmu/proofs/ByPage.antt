@@ -12,8 +12,9 @@ use Rattle.mb_machine.specs.declared.reference.Settled.{Settled}
 use Rattle.mb_machine.specs.declared.reference.Settled.TheVariants.{To, Refused, Unsettled}
 use Rattle.mb_machine.specs.Access.{matched, or_off, untranslated, admits, marks, in_frame, known, by_entry, by_match, settled, LeadsTo}
 use Rattle.mb_mmu.specs.State.{Translation, settled_by}
-use Rattle.mb_mmu.specs.MicroTlb.{entry_to}
-use Rattle.mb_mmu.specs.Sound.{LeadsIntoRam, IsTrueOf}
+use Rattle.mb_mmu.specs.declared.micro_tlb.Entry.{Entry}
+use Rattle.mb_mmu.specs.MicroTlb.{entry_to, place_by}
+use Rattle.mb_mmu.specs.Sound.{LeadsIntoRam}
 
 -- the reference at another address
 abbrev pub moved : Reference → ℕ → Reference
@@ -103,8 +104,12 @@ leads_by t r at b true led less same =
     beside_leads t r at b _ led (same refl) (by_distance at r.at b led.there led.here less (same refl) (same_offset t r at led.leads))
 leads_by t r at b false led less same = tt
 
+-- By an entry each address of its page, in an access like this one, leads there.
+pub record IsTrueFor (t : Translation) (r : Reference) (e : Entry) : Type 0 where
+  pub leads : (at : ℕ) → at < 2 ^ 32 → IfSome (place_by e at) (LeadsIntoRam t (moved r at))
+
 pub page_true : (t : Translation) (r : Reference) (at : ℕ) → at < 2 ^ 32 → r.at < 2 ^ 32 → settled_by t r ≡ To at → page_of at < t.ram / PAGE_SIZE
-    → IsTrueOf t r.code r.write r.space (entry_to r.at at)
+    → IsTrueFor t r (entry_to r.at at)
 page_true t r at there here leads inside =
     let led : Led t r at = record { there = there; here = here; leads = leads; inside = inside } in
     record { leads = λ b less. leads_by t r at b (page_of b == page_of r.at) led less (is_page (page_of b) (page_of r.at)) }

@@ -1,90 +1,199 @@
--- A micro-TLB whose entries are true.
-use Rattle.std.proofs.Common.{◌≡◌, ℕ, ◌%◌, ◌^◌, ◌<◌, ◌≤◌, Bool, true, false, List, length, get_or, sym, subst, arith, inl, inr, ◌⊎◌}
-use Rattle.std.specs.Prelude.{All, IfSome, ◌&&◌, ◌==◌}
-use Rattle.std.proofs.lemmas.List.{get_or_past}
-use Rattle.std.proofs.lemmas.List.Elements.{All-replicate, All-get_or, All-set}
+-- A micro-TLB by whose entries accesses lead.
+use Rattle.std.proofs.Common.{◌≡◌, ◌≢◌, ◌∙◌, ap, sym, refl, subst, ℕ, zero, suc, ◌%◌, ◌^◌, ◌<◌, ◌⊎◌, inl, inr, arith}
+use Rattle.std.proofs.Common.{Bool, true, false, List, [], ◌∷◌, get_or, set}
+use Rattle.std.specs.Prelude.{Option, Some, None, IfSome, replicate, ◌&&◌, ◌==◌}
+use Rattle.std.proofs.lemmas.List.{get_or-set_other}
 use Rattle.std.proofs.lemmas.Bool.Decides.{nat_tests}
 use Rattle.mb_port.specs.declared.types.Space.{Space}
 use Rattle.mb_port.specs.declared.types.Space.TheVariants.{User, Super}
+use Rattle.mb_model.specs.declared.kept.Kept.{Kept}
+use Rattle.mb_model.specs.Keeping.{KeptLists, entry_for as kept_for, entry_in as kept_in, filled, filled_in, list_of, rule_a}
 use Rattle.mb_model.specs.Pages.{page_of}
 use Rattle.mb_machine.specs.declared.reference.Reference.{Reference}
+use Rattle.mb_machine.specs.Access.{by_entry, by_match, untranslated}
 use Rattle.mb_mmu.specs.declared.micro_tlb.Entry.{Entry}
 use Rattle.mb_mmu.specs.declared.micro_tlb.Entries.{Entries}
 use Rattle.mb_mmu.specs.declared.micro_tlb.MicroTlb.{MicroTlb}
-use Rattle.mb_mmu.specs.State.{Translation}
+use Rattle.mb_mmu.specs.State.{Translation, settled_by}
 use Rattle.mb_mmu.specs.MicroTlb.{place_by, empty, none, nothing, entry_in, entries_for, entry_for, with_in, with_entries, with_entry}
-use Rattle.mb_mmu.specs.Sound.{LeadsIntoRam, IsAccess, IsTrueOf, AreTrueOf, IsSound}
+use Rattle.mb_mmu.specs.MicroTlb.{without_page, without_page_in}
+use Rattle.mb_mmu.specs.Sound.{LeadsIntoRam, IsAccess, IsSound}
+use Rattle.mb_mmu.proofs.ByPage.{IsTrueFor}
+
+-- ---- what stands in lists
+
+-- an element of a list in which one was replaced
+set_keeps : (P : Entry → Type 0) (xs : List Entry) (i j : ℕ) (e d : Entry) → P e → P (get_or xs j d) → P (get_or (set xs i e) j d)
+set_keeps P [] i j e d new old = old
+set_keeps P (x ∷ xs) zero zero e d new old = new
+set_keeps P (x ∷ xs) zero (suc j) e d new old = old
+set_keeps P (x ∷ xs) (suc i) zero e d new old = old
+set_keeps P (x ∷ xs) (suc i) (suc j) e d new old = set_keeps P xs i j e d new old
+
+is_cleared : (xs : List Entry) (i : ℕ) (d : Entry) → get_or (set xs i d) i d ≡ d
+is_cleared [] i d = refl
+is_cleared (x ∷ xs) zero d = refl
+is_cleared (x ∷ xs) (suc i) d = is_cleared xs i d
+
+of_copies : (n i : ℕ) (d : Entry) → get_or (replicate n d) i d ≡ d
+of_copies zero i d = refl
+of_copies (suc n) zero d = refl
+of_copies (suc n) (suc i) d = of_copies n i d
 
 -- ---- no entry
 
 no_page : (at : ℕ) → at < 2 ^ 32 → (page_of at == 2 ^ 20) ≡ false
 no_page at less = grind (arith, nat_tests)
 
-empty_true : (t : Translation) (code write : Bool) (space : Space) → IsTrueOf t code write space empty
-empty_true t code write space = record { leads = λ at less. rw (no_page at less) tt }
+-- an access by an entry
+abbrev pub Leads : Translation → Reference → Entry → Type 0
+Leads t r e = IfSome (place_by e r.at) (LeadsIntoRam t r)
 
-none_true : (t : Translation) (code write : Bool) → AreTrueOf t code write none
-none_true t code write = record {
-  user = All-replicate (IsTrueOf t code write User) 16 empty (empty_true t code write User);
-  supervisor = All-replicate (IsTrueOf t code write Super) 16 empty (empty_true t code write Super);
-}
+empty_leads : (t : Translation) (r : Reference) (e : Entry) → r.at < 2 ^ 32 → e ≡ empty → Leads t r e
+empty_leads t r e less is = subst (Leads t r) (sym is) (rw (no_page r.at less) tt)
+
+none_found : (space : Space) (at : ℕ) → entry_in none space at ≡ empty
+none_found User at = of_copies 16 (page_of at % 16) empty
+none_found Super at = of_copies 16 (page_of at % 16) empty
+
+nothing_found : (code write : Bool) (space : Space) (at : ℕ) → entry_in (entries_for code write nothing) space at ≡ empty
+nothing_found true write space at = none_found space at
+nothing_found false true space at = none_found space at
+nothing_found false false space at = none_found space at
 
 pub nothing_sound : (t : Translation) → IsSound t nothing
-nothing_sound t = record { fetches = none_true t true false; reads = none_true t false false; writes = none_true t false true }
-
--- ---- what is found
-
-within_or_past : (i n : ℕ) → (i < n) ⊎ (n ≤ i)
-within_or_past i n = grind arith
-
-at_index : (P : Entry → Type 0) (xs : List Entry) (i : ℕ) → P empty → All P xs → P (get_or xs i empty)
-at_index P xs i default all = elim (within_or_past i (length xs)) [
-  | inl within ↦ All-get_or P xs i empty within all
-  | inr past ↦ subst P (sym (get_or_past xs i empty past)) default
-]
-
-in_space : (t : Translation) (code write : Bool) (e : Entries) (space : Space) (at : ℕ) → AreTrueOf t code write e
-    → IsTrueOf t code write space (entry_in e space at)
-in_space t code write e User at are = at_index (IsTrueOf t code write User) e.user (page_of at % 16) (empty_true t code write User) are.user
-in_space t code write e Super at are =
-    at_index (IsTrueOf t code write Super) e.supervisor (page_of at % 16) (empty_true t code write Super) are.supervisor
-
-of_kind : (t : Translation) (m : MicroTlb) (code write : Bool) → (code && write) ≡ false → IsSound t m → AreTrueOf t code write (entries_for code write m)
-of_kind t m true true h sound = absurd (cc)
-of_kind t m true false h sound = sound.fetches
-of_kind t m false true h sound = sound.writes
-of_kind t m false false h sound = sound.reads
-
--- what it finds is so
-pub found_leads : (t : Translation) (m : MicroTlb) (r : Reference) → IsSound t m → IsAccess r → r.at < 2 ^ 32
-    → IfSome (place_by (entry_for m r) r.at) (LeadsIntoRam t r)
-found_leads t m r sound access less =
-    (in_space t r.code r.write (entries_for r.code r.write m) r.space r.at (of_kind t m r.code r.write access sound)).leads r.at less
+nothing_sound t = record { leads = λ r access less. empty_leads t r (entry_for nothing r) less (nothing_found r.code r.write r.space r.at) }
 
 -- ---- one more
 
-space_keeps : (t : Translation) (code write : Bool) (e : Entries) (space : Space) (entry : Entry) → AreTrueOf t code write e
-    → IsTrueOf t code write space entry → AreTrueOf t code write (with_in e space entry)
-space_keeps t code write e User entry are is = record {
-  user = All-set (IsTrueOf t code write User) e.user (entry.page % 16) entry is are.user;
-  supervisor = are.supervisor;
-}
-space_keeps t code write e Super entry are is = record {
-  user = are.user;
-  supervisor = All-set (IsTrueOf t code write Super) e.supervisor (entry.page % 16) entry is are.supervisor;
-}
+-- what is so of an entry that is set in a space, and of the one that stood there, is so of what is found
+in_space : (P : Entry → Type 0) (e : Entries) (space s : Space) (entry : Entry) (at : ℕ) → (space ≡ s → P entry) → P (entry_in e s at)
+    → P (entry_in (with_in e space entry) s at)
+in_space P e User User entry at new old = set_keeps P e.user (entry.page % 16) (page_of at % 16) entry empty (new refl) old
+in_space P e User Super entry at new old = old
+in_space P e Super User entry at new old = old
+in_space P e Super Super entry at new old = set_keeps P e.supervisor (entry.page % 16) (page_of at % 16) entry empty (new refl) old
+
+abbrev pub an_access : (code write : Bool) → Space → ℕ → Reference
+an_access code write space at = record { code = code; space = space; at = at; write = write }
+
+-- an access of a kind, where an entry for accesses of the kind to a space is true
+abbrev pub Found : Translation → MicroTlb → (code write : Bool) → Space → ℕ → Type 0
+Found t m code write space at = Leads t (an_access code write space at) (entry_in (entries_for code write m) space at)
+
+of_kind : (t : Translation) (code write : Bool) (e : Entries) (space s : Space) (entry : Entry) (at : ℕ) → at < 2 ^ 32
+    → IsTrueFor t (an_access code write space 0) entry → Leads t (an_access code write s at) (entry_in e s at)
+    → Leads t (an_access code write s at) (entry_in (with_in e space entry) s at)
+of_kind t code write e space s entry at less is old =
+    let new : space ≡ s → Leads t (an_access code write s at) entry =
+    λ same. subst (λ (x : Space). Leads t (an_access code write x at) entry) same (is.leads at less) in
+    in_space (Leads t (an_access code write s at)) e space s entry at new old
 
 kind_keeps : (t : Translation) (m : MicroTlb) (code write : Bool) (space : Space) (entry : Entry) → (code && write) ≡ false → IsSound t m
-    → IsTrueOf t code write space entry → IsSound t (with_entries code write space entry m)
-kind_keeps t m true true space entry h sound is = absurd (cc)
-kind_keeps t m true false space entry h sound is =
-    record { fetches = space_keeps t true false m.fetches space entry sound.fetches is; reads = sound.reads; writes = sound.writes }
-kind_keeps t m false true space entry h sound is =
-    record { fetches = sound.fetches; reads = sound.reads; writes = space_keeps t false true m.writes space entry sound.writes is }
-kind_keeps t m false false space entry h sound is =
-    record { fetches = sound.fetches; reads = space_keeps t false false m.reads space entry sound.reads is; writes = sound.writes }
+    → IsTrueFor t (an_access code write space 0) entry → (c w : Bool) (s : Space) (at : ℕ) → (c && w) ≡ false → at < 2 ^ 32
+    → Found t (with_entries code write space entry m) c w s at
+kind_keeps t m true true space entry h sound is c w s at access less = absurd (cc)
+kind_keeps t m true false space entry h sound is true true s at access less = absurd (cc)
+kind_keeps t m true false space entry h sound is true false s at access less =
+    of_kind t true false m.fetches space s entry at less is (sound.leads (an_access true false s at) refl less)
+kind_keeps t m true false space entry h sound is false true s at access less = sound.leads (an_access false true s at) refl less
+kind_keeps t m true false space entry h sound is false false s at access less = sound.leads (an_access false false s at) refl less
+kind_keeps t m false true space entry h sound is true true s at access less = absurd (cc)
+kind_keeps t m false true space entry h sound is true false s at access less = sound.leads (an_access true false s at) refl less
+kind_keeps t m false true space entry h sound is false true s at access less =
+    of_kind t false true m.writes space s entry at less is (sound.leads (an_access false true s at) refl less)
+kind_keeps t m false true space entry h sound is false false s at access less = sound.leads (an_access false false s at) refl less
+kind_keeps t m false false space entry h sound is true true s at access less = absurd (cc)
+kind_keeps t m false false space entry h sound is true false s at access less = sound.leads (an_access true false s at) refl less
+kind_keeps t m false false space entry h sound is false true s at access less = sound.leads (an_access false true s at) refl less
+kind_keeps t m false false space entry h sound is false false s at access less =
+    of_kind t false false m.reads space s entry at less is (sound.leads (an_access false false s at) refl less)
 
 -- with a true entry more it is sound
-pub with_entry-sound : (t : Translation) (m : MicroTlb) (r : Reference) (entry : Entry) → IsSound t m → IsAccess r
-    → IsTrueOf t r.code r.write r.space entry → IsSound t (with_entry m r entry)
-with_entry-sound t m r entry sound access is = kind_keeps t m r.code r.write r.space entry access sound is
+pub with_entry-sound : (t : Translation) (m : MicroTlb) (r : Reference) (entry : Entry) → IsSound t m → IsAccess r → IsTrueFor t r entry
+    → IsSound t (with_entry m r entry)
+with_entry-sound t m r entry sound access is =
+    let true_for : IsTrueFor t (an_access r.code r.write r.space 0) entry = record { leads = is.leads } in
+    record { leads = λ q other less. kind_keeps t m r.code r.write r.space entry access sound true_for q.code q.write q.space q.at other less }
+
+-- ---- a fill
+
+-- once a side has kept an entry more
+abbrev pub after_fill : Translation → Bool → Kept → Translation
+after_fill t code k = record t { kept = filled rule_a code k t.kept }
+
+abbrev pub class_for : Reference → ℕ
+class_for r = rule_a.class_of r.code (page_of r.at)
+
+match_same : (kept after : KeptLists) (r : Reference) (o : Option Bool)
+    → kept_for rule_a r.code r.space (page_of r.at) after ≡ kept_for rule_a r.code r.space (page_of r.at) kept
+    → by_match rule_a after r o ≡ by_match rule_a kept r o
+match_same kept after r (Some protected) e = refl
+match_same kept after r None e = ap (λ (k : Option Kept). by_entry r k) e
+
+-- what is known of an access of another class stays
+elsewhere : (t : Translation) (r : Reference) (code : Bool) (k : Kept) → class_for r ≢ rule_a.class_of code k.page
+    → settled_by (after_fill t code k) r ≡ settled_by t r
+elsewhere t r code k other =
+    let class = rule_a.class_of code k.page in
+    match_same t.kept (filled rule_a code k t.kept) r (untranslated t.mmu r)
+    (ap (λ (l : List Kept). kept_in r.space (page_of r.at) l)
+    (get_or-set_other t.kept class (class_for r) (filled_in rule_a.capacity k (list_of class t.kept)) [] other))
+
+still_leads : (t after : Translation) (r : Reference) (o : Option ℕ) → settled_by after r ≡ settled_by t r → after.ram ≡ t.ram
+    → IfSome o (LeadsIntoRam t r) → IfSome o (LeadsIntoRam after r)
+still_leads t after r None e size h = tt
+still_leads t after r (Some place) e size h =
+    record { settled = e ∙ h.settled; offset = h.offset; inside = (let inside = h.inside in rw size inside) }
+
+stays : (t : Translation) (m : MicroTlb) (code : Bool) (k : Kept) (r : Reference) (e : Entry) → IsSound t m → IsAccess r → r.at < 2 ^ 32
+    → class_for r ≢ rule_a.class_of code k.page → e ≡ entry_for m r → Leads (after_fill t code k) r e
+stays t m code k r e sound access less other is =
+    subst (Leads (after_fill t code k) r) (sym is)
+    (still_leads t (after_fill t code k) r (place_by (entry_for m r) r.at) (elsewhere t r code k other) refl (sound.leads r access less))
+
+-- where the page's entries would stand there is none, and all others stand as they did
+cleared_at : (e : Entries) (page : ℕ) (space : Space) (at : ℕ) → page_of at % 16 ≡ page % 16 → entry_in (without_page_in e page) space at ≡ empty
+cleared_at e page User at same =
+    ap (λ (j : ℕ). get_or (set e.user (page % 16) empty) j empty) same ∙ is_cleared e.user (page % 16) empty
+cleared_at e page Super at same =
+    ap (λ (j : ℕ). get_or (set e.supervisor (page % 16) empty) j empty) same ∙ is_cleared e.supervisor (page % 16) empty
+
+others_at : (e : Entries) (page : ℕ) (space : Space) (at : ℕ) → page_of at % 16 ≢ page % 16
+    → entry_in (without_page_in e page) space at ≡ entry_in e space at
+others_at e page User at other = get_or-set_other e.user (page % 16) (page_of at % 16) empty empty other
+others_at e page Super at other = get_or-set_other e.supervisor (page % 16) (page_of at % 16) empty empty other
+
+same_or_other : (i j : ℕ) → (i ≡ j) ⊎ (i ≢ j)
+same_or_other i j = grind arith
+
+-- an access of the side
+on_side : (t : Translation) (m : MicroTlb) (code write : Bool) (k : Kept) (space : Space) (at : ℕ) → IsSound t m
+    → IsAccess (an_access code write space at) → at < 2 ^ 32
+    → Leads (after_fill t code k) (an_access code write space at) (entry_in (without_page_in (entries_for code write m) k.page) space at)
+on_side t m code write k space at sound access less = elim (same_or_other (page_of at % 16) (k.page % 16)) [
+  | inl same ↦ empty_leads (after_fill t code k) (an_access code write space at) _ less
+      (cleared_at (entries_for code write m) k.page space at same)
+  | inr other ↦ stays t m code k (an_access code write space at) _ sound access less
+      (λ e. other (omega (arith, e))) (others_at (entries_for code write m) k.page space at other)
+]
+
+side_keeps : (t : Translation) (m : MicroTlb) (code : Bool) (k : Kept) → IsSound t m → (c w : Bool) (s : Space) (at : ℕ) → (c && w) ≡ false
+    → at < 2 ^ 32 → Found (after_fill t code k) (without_page code k.page m) c w s at
+side_keeps t m true k sound true true s at access less = absurd (cc)
+side_keeps t m true k sound true false s at access less = on_side t m true false k s at sound access less
+side_keeps t m true k sound false true s at access less =
+    stays t m true k (an_access false true s at) _ sound access less (λ e. let z : ⊥ = omega (arith, e) in z) refl
+side_keeps t m true k sound false false s at access less =
+    stays t m true k (an_access false false s at) _ sound access less (λ e. let z : ⊥ = omega (arith, e) in z) refl
+side_keeps t m false k sound true true s at access less = absurd (cc)
+side_keeps t m false k sound true false s at access less =
+    stays t m false k (an_access true false s at) _ sound access less (λ e. let z : ⊥ = omega (arith, e) in z) refl
+side_keeps t m false k sound false true s at access less = on_side t m false true k s at sound access less
+side_keeps t m false k sound false false s at access less = on_side t m false false k s at sound access less
+
+-- without what stands where the entry's page would, it is sound once that is kept
+pub without_page-sound : (t : Translation) (m : MicroTlb) (code : Bool) (k : Kept) → IsSound t m
+    → IsSound (after_fill t code k) (without_page code k.page m)
+without_page-sound t m code k sound =
+    record { leads = λ q access less. side_keeps t m code k sound q.code q.write q.space q.at access less }

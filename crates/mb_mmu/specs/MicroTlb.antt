@@ -57,3 +57,15 @@ with_entries false false space entry m = record m { reads = with_in m.reads spac
 -- with an entry for the kind and space of a reference
 abbrev pub with_entry : MicroTlb → Reference → Entry → MicroTlb
 with_entry m r entry = with_entries r.code r.write r.space entry m
+
+-- without what stands where a page's entries would
+abbrev pub without_page_in : Entries → ℕ → Entries
+without_page_in e page = record {
+  user = slice_set e.user (page % ENTRIES) empty;
+  supervisor = slice_set e.supervisor (page % ENTRIES) empty;
+}
+
+abbrev pub without_page : (code : Bool) → (page : ℕ) → MicroTlb → MicroTlb
+without_page true page m = record m { fetches = without_page_in m.fetches page }
+without_page false page m =
+    record m { reads = without_page_in m.reads page; writes = without_page_in m.writes page }

@@ -2,6 +2,7 @@
 
 ghost use Rattle.std.specs.Prelude.{◌≡◌};
 ghost use Rattle.mb_mmu.specs.MicroTlb.{entries_for, entry_for, entry_in, entry_to, none, nothing, place_by, with_entry, with_in};
+ghost use Rattle.mb_mmu.specs.MicroTlb.{without_page, without_page_in};
 
 use mb_machine::Reference;
 use mb_model::page_of;
@@ -89,6 +90,15 @@ impl Entries {
             Space::Super => self.supervisor[index] = entry,
         }
     }
+
+    /// Drops what stands where a page's entries would.
+    fn drop_page(&mut self, page: u32)
+        ensures { self.new ≡ without_page_in self.old page }
+    {
+        let index = page as usize % ENTRIES;
+        self.user[index] = EMPTY;
+        self.supervisor[index] = EMPTY;
+    }
 }
 
 /// The pages that fetches, reads and writes led to last.
@@ -144,6 +154,18 @@ impl MicroTlb {
             self.writes.set(r.space, entry);
         } else {
             self.reads.set(r.space, entry);
+        }
+    }
+
+    /// Drops what stands where a page's entries would, of a side: that of instruction words or that of data.
+    pub fn drop_page(&mut self, code: bool, page: u32)
+        ensures { self.new ≡ without_page code page self.old }
+    {
+        if code {
+            self.fetches.drop_page(page);
+        } else {
+            self.reads.drop_page(page);
+            self.writes.drop_page(page);
         }
     }
 }

@@ -29,8 +29,8 @@ pub struct Translator {
     /// What the registers come to, so that an access need not look at each.
     mode: Mode,
     kept: Atc,
-    /// Where accesses led to last, so that most need not look at what is kept. Whatever changes a register or what is
-    /// kept empties it.
+    /// Where accesses led to last, so that most need not look at what is kept. A register that is written and a flush
+    /// empty it, and a fill takes from it what stands where its class does.
     recent: MicroTlb,
     /// The bytes of RAM.
     ram: u32,
@@ -98,7 +98,7 @@ impl Translator {
         ensures { self.new ≡ record self.old { kept = filled rule_a code k self.old.kept } }
     {
         self.kept.fill(code, k);
-        self.recent = MicroTlb::new();
+        self.recent.drop_page(code, k.page);
     }
 
     /// Drops entries of both sides.
