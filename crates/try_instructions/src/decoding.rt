@@ -2,6 +2,7 @@
 
 use mb_decode::{Decoded, decode, spellings};
 use mb_encode::encode;
+use mb_instr::{family_of, is_privileged};
 use mb_round::read_back;
 use mb_table::FirstWords;
 use std::test::Fail;
@@ -211,7 +212,8 @@ f620 1000: LineF
 f620 8001: LineF
 ";
 
-/// What is read is written again, and what a first word alone begins with stands in the table of first words.
+/// What is read is written again, it is of the family that it prints, and what a first word alone begins with stands in
+/// the table of first words.
 #[test]
 fn words_decode(rt: HostRuntime) -> Result<(), Fail> {
     let mut table = FirstWords::new(rt.alloc())?;
@@ -231,6 +233,10 @@ fn words_decode(rt: HostRuntime) -> Result<(), Fail> {
                 "at {spelled}"
             );
             assert!(rt; read_back(&instruction) == Ok(decoded), "at {spelled}");
+            let family = format!(in rt.alloc(); "Whole({:?}(", family_of(&instruction))?;
+            assert!(rt; expected.starts_with(family.as_str()), "at {spelled}");
+            let is_system = expected.starts_with("Whole(System(");
+            assert!(rt; is_privileged(&instruction) == is_system, "at {spelled}");
         }
         if let [first] = words.as_slice() {
             assert!(rt; *table.of(*first) == decoded, "at {spelled}");
