@@ -1,1 +1,4 @@
 pub mod Commands
+pub mod Debugs
+pub mod Laws
+pub mod Boards
