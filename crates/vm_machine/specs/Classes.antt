@@ -52,8 +52,8 @@ class_of_attempt cpu g =
 abbrev pub is_traced : Cpu → Bool
 is_traced cpu = traces_all cpu.regs.sr || traces_flow cpu.regs.sr
 
--- The class of a step that has begun in which the board has no part, the first that holds: an interrupt of this level is
--- entered, STOP holds the processor, or a trace bit is set.
+-- The class of a step that has begun in which the board has no part, the first that holds: an interrupt of this level
+-- is entered, STOP holds the processor, or a trace bit is set.
 abbrev pub assisted : (level : ℕ) → Cpu → Option Class
 assisted level cpu =
     if nat_lt (interrupt_mask cpu) (rank level) then Some Entered else

@@ -6,8 +6,8 @@
 //! may hold whatever was searched out since the last flush that covers it: the free bus, its steps and its runs, over
 //! the same routine of a step. A run by any rule of keeping is one of them. [`specs/Native`] has the run of a board in
 //! user mode, and [`specs/Marks`] the trail of its steps; [`specs/Finishes`] has the rest of a begun step, and
-//! [`specs/Frames`] what a frame says of it. [`specs/Batches`] has steps at which nothing arrives, and [`specs/Tidy`] the
-//! runs in which no translation is used stale. The code has the laws.
+//! [`specs/Frames`] what a frame says of it. [`specs/Batches`] has steps at which nothing arrives, and [`specs/Tidy`]
+//! the runs in which no translation is used stale. The code has the laws.
 #![tactic(auto)]
 
 mod left;

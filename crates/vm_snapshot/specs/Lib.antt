@@ -11,3 +11,6 @@ pub mod Fronts
 pub mod Laws
 pub mod Texts
 pub mod Writing
+pub mod Views
+pub mod Plans
+pub mod Parts

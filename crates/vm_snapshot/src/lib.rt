@@ -10,10 +10,27 @@ ghost use Rattle.vm_snapshot.specs.Memories.{LinesAreMemory};
 ghost use Rattle.vm_snapshot.specs.Outcomes.{OutcomesAreWritten};
 
 mod counts;
+mod device_reading;
+mod disk_reading;
+mod dump_reading;
+mod free_pages;
+mod guest_reading;
 mod guest_writing;
+mod input_reading;
 mod input_writing;
+mod kept_reading;
+mod line;
+mod memory_reading;
+mod plan;
+mod progress_reading;
+mod reading;
+mod refusal;
+mod register_reading;
+mod told;
 
 pub use guest_writing::write_guest;
+pub use plan::{SnapFault, SnapGuest, SnapPlan};
+pub use reading::read_snapshot;
 
 /// A snapshot's text is read back, and of every other text the first line is told up to which it begins none.
 pub fn snapshots_are_read()

@@ -1,0 +1,4 @@
+use Rattle.vm_snapshot.proofs.device_reading.read_status.Goals as goal
+
+pub returns-clause-reads : goal.returns-clause-reads
+returns-clause-reads c = rw c.status.ensures at c.long.ensures.reads
