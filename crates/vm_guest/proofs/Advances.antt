@@ -6,7 +6,7 @@ use Rattle.mb_instr.specs.Registers.{plain_of}
 use Rattle.mb_model.specs.declared.outcome.RunState.{RunState}
 use Rattle.mb_model.specs.declared.outcome.RunState.TheVariants.{Running}
 use Rattle.mb_walk.specs.Memory.{AreBytes}
-use Rattle.mb_devices.specs.Devices.{DeviceState, IsNotDue}
+use Rattle.mb_devices.specs.Devices.{DeviceState, IsNotDue, passed}
 use Rattle.mb_machine.specs.Machine.{arrived, takes_steps}
 use Rattle.mb_board.specs.Fits.{FitsAlong}
 use Rattle.mb_board.specs.State.{BoardState, ran_to}
@@ -19,16 +19,17 @@ use Rattle.vm_machine.specs.Bus.{guest_bus}
 use Rattle.vm_machine.specs.Turns.{tallied, world_of}
 use Rattle.vm_machine.specs.Seats.{Seat, end_of, guested_on, turned_on, IsSame, IsSeated, Scene, Takes}
 use Rattle.vm_machine.proofs.TurnLaws.{going_turn}
-use Rattle.vm_step.specs.Taking.{IsLeft, settled}
+use Rattle.vm_step.specs.Idle.{idle_seat}
+use Rattle.vm_step.specs.Taking.{IsLeft, retired_seat, settled}
 use Rattle.vm_step.proofs.Retire.{off_arrived, off_ticked}
 use Rattle.vm_guest.specs.Memory.{OnlyBetween}
 use Rattle.vm_machine.specs.Classes.{assisted}
 use Rattle.vm_guest.specs.Counting.{NoneDue}
 use Rattle.vm_guest.specs.declared.rest.Rest.TheVariants.{Whole}
 use Rattle.vm_guest.specs.Rests.{rest_in}
-use Rattle.vm_guest.specs.Native.{gone_on, guest_run, guest_start, reset_for, HasFrame}
+use Rattle.vm_guest.specs.Native.{guest_run, guest_start, reset_for, HasFrame}
 use Rattle.vm_guest.specs.Stops.{IsStopped}
-use Rattle.vm_guest.specs.Turns.{begun_seat, ended_at, idled_on, scene, level_on}
+use Rattle.vm_guest.specs.Turns.{begun_seat, ended_at, scene, level_on}
 use Rattle.vm_guest.proofs.Devices.{due_behind}
 use Rattle.vm_guest.proofs.Runs.{MayRun, counted_native, counted_takes, is_left, left_is, never_gone, reset_is_set}
 use Rattle.vm_guest.proofs.Seated.{begun_seated}
@@ -166,20 +167,22 @@ idles_by b w n level view is tried none due on = record {
 }
 
 pub idle_by : (g b h : Seat) (ram : List ℕ) (native : NativeState) (n : ℕ) → b ≡ begun_seat g → IsSeated g ram
-    → takes_steps g.state ≡ true → Idles b n → h ≡ idled_on n b → Takes (n + 1) (scene g ram native) (scene h ram native)
+    → takes_steps g.state ≡ true → Idles b n → h ≡ idle_seat b n (n + 1) (passed n b.devices) → Takes (n + 1) (scene g ram native) (scene h ram native)
 idle_by g b h ram native n is seated takes idles goes =
     let d = subst (λ (s : Seat). Idles s n) is idles in
-    subst (λ (s : Seat). Takes (n + 1) (scene g ram native) (scene s ram native)) (sym (goes ∙ ap (idled_on n) is))
+    subst (λ (s : Seat). Takes (n + 1) (scene g ram native) (scene s ram native))
+    (sym (goes ∙ ap (λ (s : Seat). idle_seat s n (n + 1) (passed n s.devices)) is))
     (idle_takes g ram native n seated takes (λ some. sym (off_begun g) ∙ d.on some) d.tried (nothing_arrives g.script (g.steps + 1) n d.none) d.due)
 
 -- ---- steps that the board has carried out
 
 pub counted_by : (g b h : Seat) (ram : List ℕ) (devices : DeviceState) (native : NativeState) (n : ℕ) (u : Ran) (p : Plain) → b ≡ begun_seat g
     → MayRun g ram devices native n → u ≡ guest_run b ram devices native (suc n) → u.end ≡ Counted → length u.machine.cpu.regs.a ≡ 7
-    → p ≡ plain_of u.machine.cpu.regs → h ≡ settled (gone_on b n (suc n) p) → Takes (suc n) (scene g ram native) (scene h u.machine.world.ram u.native)
+    → p ≡ plain_of u.machine.cpu.regs → h ≡ settled (retired_seat b n (suc n) p (passed n b.devices))
+    → Takes (suc n) (scene g ram native) (scene h u.machine.world.ram u.native)
 counted_by g b h ram devices native n u p is may ran end wide plain goes =
     subst (λ (s : Seat). Takes (suc n) (scene g ram native) (scene s u.machine.world.ram u.native))
-    (sym (goes ∙ ap (λ (s : Seat). settled (gone_on s n (suc n) p)) is))
+    (sym (goes ∙ ap (λ (s : Seat). settled (retired_seat s n (suc n) p (passed n s.devices))) is))
     (counted_takes g (reset_for g ram devices) native n may u (ran ∙ ap (λ (s : Seat). guest_run s ram devices native (suc n)) is) end wide p plain)
 
 -- ---- what boards count
@@ -225,12 +228,13 @@ leaving g b ram devices native n e after counts v r is may ran end wide fewer =
 -- the guest in the middle of that step
 stops_begun : (g : Seat) (ram : List ℕ) (devices : DeviceState) (native : NativeState) (n : ℕ) (may : MayRun g ram devices native n)
     (e : RunEnd) (after : BoardState) (counts : NativeState) (v : ℕ) (left : IsLeft g ram native (suc n) (ran_to e after counts)) → e ≡ Exit v
-    → IsStopped g ram native left.retired 0 (gone_on (begun_seat g) left.retired left.retired after.before) after counts v
+    → let b = begun_seat g in
+    IsStopped g ram native left.retired 0 (retired_seat b left.retired left.retired after.before (passed left.retired b.devices)) after counts v
 stops_begun g ram devices native n may e after counts v left ends =
     let r = left.retired in
     let few : r ≤ n = (let less = left.few in omega arith) in
     let began = arrived (g.steps + 1) g.script g.devices in
-    let s = gone_on (begun_seat g) r r after.before in
+    let s = retired_seat (begun_seat g) r r after.before (passed r (begun_seat g).devices) in
     let of : DeviceState → ℕ → Seat = λ d i. record s { devices = d; steps = i } in
     let begins = left_is g (reset_for g ram devices) native n may (ran_to e after counts) left in
     let steps : g.steps + r ≡ g.steps + 1 + r - 1 = omega arith in
@@ -244,14 +248,15 @@ stops_begun g ram devices native n may e after counts v left ends =
 pub stops : (g b s : Seat) (ram : List ℕ) (devices : DeviceState) (native : NativeState) (n : ℕ) (e : RunEnd) (after : BoardState)
     (counts : NativeState) (v r : ℕ) → b ≡ begun_seat g → MayRun g ram devices native n
     → ran_to e after counts ≡ guest_run b ram devices native (suc n) → e ≡ Exit v
-    → length after.cpu.regs.a ≡ 7 → r ≡ counts.retired - native.retired → s ≡ gone_on b r r after.before
+    → length after.cpu.regs.a ≡ 7 → r ≡ counts.retired - native.retired → s ≡ retired_seat b r r after.before (passed r b.devices)
     → IsStopped g ram native r 0 s after counts v
 stops g b s ram devices native n e after counts v r is may ran end wide fewer goes =
     let left = left_by_run g b ram devices native n e after counts v is may ran end wide in
     let same : left.retired ≡ r = (let c = left.counts in omega arith) in
-    let seat : gone_on (begun_seat g) r r after.before ≡ s = ap (λ (x : Seat). gone_on x r r after.before) (sym is) ∙ sym goes in
+    let seat : retired_seat (begun_seat g) r r after.before (passed r (begun_seat g).devices) ≡ s =
+    ap (λ (x : Seat). retired_seat x r r after.before (passed r x.devices)) (sym is) ∙ sym goes in
     subst (λ (x : Seat). IsStopped g ram native r 0 x after counts v) seat
-    (subst (λ (k : ℕ). IsStopped g ram native k 0 (gone_on (begun_seat g) k k after.before) after counts v) same
+    (subst (λ (k : ℕ). IsStopped g ram native k 0 (retired_seat (begun_seat g) k k after.before (passed k (begun_seat g).devices)) after counts v) same
     (stops_begun g ram devices native n may e after counts v left end))
 
 pub never_gone_by : (g b : Seat) (ram : List ℕ) (devices : DeviceState) (native : NativeState) (n : ℕ) (u : Ran)

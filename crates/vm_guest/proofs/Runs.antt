@@ -28,7 +28,7 @@ use Rattle.vm_step.proofs.Quiet.{only_ticks, quiet_steps_are_tried, retired_step
 use Rattle.vm_step.proofs.Turn.{boards_are_ready, flushed_is_set}
 use Rattle.vm_step.proofs.Taking.{batches_take, exits_take, is_counted, stands_of}
 use Rattle.vm_machine.specs.Classes.{assisted}
-use Rattle.vm_guest.specs.Native.{native_cpu, gone_on, reset_for, run_on, start_on}
+use Rattle.vm_guest.specs.Native.{native_cpu, reset_for, run_on, start_on}
 use Rattle.vm_guest.specs.Turns.{begun_seat, scene, level_on}
 use Rattle.vm_guest.proofs.Along.{wanted_along}
 use Rattle.vm_guest.proofs.Assisted.{tried_begun}
@@ -112,7 +112,8 @@ module _ (g : Seat) (board : BoardState) (native : NativeState) (n : ℕ) (may :
   -- the guest as the board hands it back
   pub counted_takes : (u : Ran) → u ≡ run_on g board native (suc n) → u.end ≡ Counted → length u.machine.cpu.regs.a ≡ 7
       → (p : Plain) → p ≡ plain_of u.machine.cpu.regs
-      → Takes (suc n) (scene g board.world.ram native) (scene (settled (gone_on (begun_seat g) n (suc n) p)) u.machine.world.ram u.native)
+      → Takes (suc n) (scene g board.world.ram native)
+      (scene (settled (retired_seat (begun_seat g) n (suc n) p (passed n (begun_seat g).devices))) u.machine.world.ram u.native)
   counted_takes u is counted wide p plain =
       let r = start_on g board native in
       let after = user_run (suc n) r in
@@ -128,7 +129,8 @@ module _ (g : Seat) (board : BoardState) (native : NativeState) (n : ℕ) (may :
         state = going (with_registers q g.cpu) o;
         tally = record g.tally { retired = g.tally.retired + suc n };
       } in
-      let same : settled (gone_on (begun_seat g) n (suc n) p) ≡ settled (retired_seat g (suc n) (plain_of u.machine.cpu.regs) d) =
+      let same : settled (retired_seat (begun_seat g) n (suc n) p (passed n (begun_seat g).devices))
+      ≡ settled (retired_seat g (suc n) (suc n) (plain_of u.machine.cpu.regs) d) =
       ap (λ (q : Plain). of q (passed n (begun_seat g).devices) (g.steps + 1 + n)) plain
       ∙ ap (λ (o : DeviceState). of (plain_of u.machine.cpu.regs) o (g.steps + 1 + n)) devices
       ∙ ap (λ (k : ℕ). of (plain_of u.machine.cpu.regs) d k) steps in
@@ -136,7 +138,7 @@ module _ (g : Seat) (board : BoardState) (native : NativeState) (n : ℕ) (may :
       (is_native g may.seated.behind) may.set stretch ends (subst (λ (x : Ran). length x.machine.cpu.regs.a ≡ 7) is wide) in
       subst (λ (s : Seat). Takes (suc n) (scene g board.world.ram native) (scene s u.machine.world.ram u.native)) (sym same)
       (subst (λ (x : Ran). Takes (suc n) (scene g board.world.ram native)
-      (scene (settled (retired_seat g (suc n) (plain_of x.machine.cpu.regs) d)) x.machine.world.ram x.native)) (sym is) takes)
+      (scene (settled (retired_seat g (suc n) (suc n) (plain_of x.machine.cpu.regs) d)) x.machine.world.ram x.native)) (sym is) takes)
 
   -- its first step is retired, and has not begun again
   pub counted_first : (u : Ran) → u ≡ run_on g board native (suc n) → u.end ≡ Counted

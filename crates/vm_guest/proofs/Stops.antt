@@ -11,7 +11,7 @@ use Rattle.mb_model.specs.declared.outcome.RunState.{RunState}
 use Rattle.mb_model.specs.declared.outcome.RunState.TheVariants.{Running}
 use Rattle.mb_model.specs.Status.{space_of}
 use Rattle.mb_walk.specs.Memory.{AreBytes}
-use Rattle.mb_devices.specs.Devices.{DeviceState, level_of, ticked, IsNotDue}
+use Rattle.mb_devices.specs.Devices.{DeviceState, level_of, ticked, IsNotDue, passed}
 use Rattle.mb_processor.specs.Raise.{Stepped}
 use Rattle.mb_processor.specs.Step.{interrupt_mask, rank, step_of}
 use Rattle.mb_machine.specs.Machine.{Entries, Machine, arrived, begun, takes_steps, asked, asked_of}
@@ -52,7 +52,7 @@ use Rattle.vm_step.proofs.Taking.{some_read}
 use Rattle.vm_step.proofs.Again.{midway_again, midway_ahead, midway_begins, midway_ends, midway_level, midway_takes, midway_within}
 use Rattle.vm_guest.specs.Memory.{OnlyBetween}
 use Rattle.vm_machine.specs.Classes.{assisted}
-use Rattle.vm_guest.specs.Native.{gone_on, left_by, run_on, start_on, HasFrame, IsFrameOf}
+use Rattle.vm_guest.specs.Native.{left_by, run_on, start_on, HasFrame, IsFrameOf}
 use Rattle.vm_guest.specs.Turns.{begun_seat, ended_at, scene, level_on}
 use Rattle.vm_guest.specs.Stops.{filled, uncounted, BeginsAgain, IsReady, IsStopped, IsUnderway}
 use Rattle.vm_guest.proofs.Assisted.{Attempts, attempts_none}
@@ -102,7 +102,7 @@ TurnAs g ram native k m b counts v f = (seat : Seat) (next : List ℕ)
 
 pub stopped_by : (g : Seat) (ram : List ℕ) (native : NativeState) (k : ℕ) (e : RunEnd) (after : BoardState) (counts : NativeState) (v : ℕ)
     (left : IsLeft g ram native k (ran_to e after counts)) → e ≡ Exit v → (s : Seat) → IsUnderway s
-    → retired_seat g left.retired after.before left.begun ≡ uncounted s → IsStopped g ram native left.retired 0 s after counts v
+    → retired_seat g left.retired left.retired after.before left.begun ≡ uncounted s → IsStopped g ram native left.retired 0 s after counts v
 stopped_by g ram native k e after counts v left ends s underway is =
     let now = after.world.ram in
     let vector : left.vector ≡ v = same_vector left.vector v (sym left.end ∙ ends) in
@@ -238,13 +238,13 @@ module _ (g s : Seat) (ram : List ℕ) (board : BoardState) (native counts : Nat
 
   module _ (may : MayRunOn from board counts 0) where
     pub again_takes : (h : Seat) (u : Ran) (p : Plain) (j : ℕ) → n ≡ suc j → u ≡ run_on s board counts 1 → u.end ≡ Counted
-        → length u.machine.cpu.regs.a ≡ 7 → p ≡ plain_of u.machine.cpu.regs → h ≡ gone_on s 0 1 p
+        → length u.machine.cpu.regs.a ≡ 7 → p ≡ plain_of u.machine.cpu.regs → h ≡ retired_seat s 0 1 p (passed 0 s.devices)
         → Takes (k + 1) (scene g ram native)
         (scene (settled (record h { tally = record h.tally { refilled = h.tally.refilled + 1 } })) u.machine.world.ram u.native)
     again_takes h u p j again ran end wide plain goes =
         let w = world_of (guested_on mid board.world.ram) in
-        let behind : settled (gone_on (begun_seat from) 0 1 p) ≡ settled h =
-        ap (λ (x : Seat). settled (gone_on x 0 1 p)) begun_is ∙ ap settled (sym goes) in
+        let behind : settled (retired_seat (begun_seat from) 0 1 p (passed 0 (begun_seat from).devices)) ≡ settled h =
+        ap (λ (x : Seat). settled (retired_seat x 0 1 p (passed 0 x.devices))) begun_is ∙ ap settled (sym goes) in
         let one : Takes 1 (scene from board.world.ram counts) (scene (settled h) u.machine.world.ram u.native) =
         subst (λ (x : Seat). Takes 1 (scene from board.world.ram counts) (scene x u.machine.world.ram u.native)) behind
         (counted_takes from board counts 0 may u ran end wide p plain) in
@@ -278,10 +278,10 @@ module _ (g s : Seat) (ram : List ℕ) (board : BoardState) (native counts : Nat
       there : guest_begun s.script (stepped_by s.script left.retired (guested_on from board.world.ram)) ≡ guested_on mid board.world.ram
       there = ap (guest_begun s.script) stays ∙ begins
 
-      cpu_is : (retired_seat from left.retired after.before left.begun).cpu ≡ s.cpu
+      cpu_is : (retired_seat from left.retired left.retired after.before left.begun).cpu ≡ s.cpu
       cpu_is = left.cpu ∙ ap (λ (q : Guested). q.machine.cpu) stays
 
-      seat_is : retired_seat from left.retired after.before left.begun ≡ uncounted s
+      seat_is : retired_seat from left.retired left.retired after.before left.begun ≡ uncounted s
       seat_is =
           let of : Cpu → DeviceState → ℕ → ℕ → Seat =
           λ c d i r. record s { cpu = c; devices = d; steps = i; tally = record s.tally { retired = r } } in

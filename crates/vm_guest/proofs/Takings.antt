@@ -21,7 +21,7 @@ use Rattle.vm_step.specs.Idle.{IsIdle, idle_seat}
 use Rattle.vm_step.proofs.Idle.{idle_steps_take}
 use Rattle.vm_guest.specs.Memory.{OnlyBetween}
 use Rattle.vm_machine.specs.Classes.{assisted}
-use Rattle.vm_guest.specs.Turns.{begun_seat, ended_at, idled_on, scene, level_on}
+use Rattle.vm_guest.specs.Turns.{begun_seat, ended_at, scene, level_on}
 use Rattle.vm_guest.proofs.Assisted.{inner, class_begun, idle_assisted}
 use Rattle.vm_guest.proofs.Seated.{only_within}
 
@@ -90,7 +90,7 @@ assisted_takes g h ram next native c goes class means tally same seated after wi
 
 pub idle_takes : (g : Seat) (ram : List ℕ) (native : NativeState) (n : ℕ) → IsSeated g ram → takes_steps g.state ≡ true → (0 < n → g.devices.off ≡ false)
     → assisted (level_on (begun_seat g)) g.cpu ≡ Some Idle → NothingArrives g.script (g.steps + 1) n → IsNotDue n (begun_seat g).devices
-    → Takes (n + 1) (scene g ram native) (scene (idled_on n (begun_seat g)) ram native)
+    → Takes (n + 1) (scene g ram native) (scene (idle_seat (begun_seat g) n (n + 1) (passed n (begun_seat g).devices)) ram native)
 idle_takes g ram native n seated takes on tried quiet due =
     let is = idle_assisted (level_on (begun_seat g)) g.cpu tried in
     let d = passed n (begun_seat g).devices in
@@ -99,7 +99,7 @@ idle_takes g ram native n seated takes on tried quiet due =
     λ k i. record g { devices = d; steps = k; state = going g.cpu d; tally = record g.tally { idle = i } } in
     let steps : g.steps + suc n ≡ g.steps + 1 + n = omega arith in
     let tallied : g.tally.idle + suc n ≡ g.tally.idle + (n + 1) = omega arith in
-    let same : idle_seat g (suc n) d ≡ idled_on n (begun_seat g) =
+    let same : idle_seat g (suc n) (suc n) d ≡ idle_seat (begun_seat g) n (n + 1) d =
     ap (λ (k : ℕ). of k (g.tally.idle + suc n)) steps ∙ ap (of (g.steps + 1 + n)) tallied in
-    subst (λ (k : ℕ). Takes k (scene g ram native) (scene (idled_on n (begun_seat g)) ram native)) (let e : suc n ≡ n + 1 = omega arith in e)
+    subst (λ (k : ℕ). Takes k (scene g ram native) (scene (idle_seat (begun_seat g) n (n + 1) d) ram native)) (let e : suc n ≡ n + 1 = omega arith in e)
     (subst (λ (s : Seat). Takes (suc n) (scene g ram native) (scene s ram native)) same (idle_steps_take g ram native n seated idle on quiet due))

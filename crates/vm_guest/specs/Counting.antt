@@ -22,11 +22,3 @@ tally_in c = record {
 abbrev pub NoneDue : Entries → (taken n : ℕ) → Type 0
 NoneDue script taken n =
     (place : ℕ) → place < length script → (due_at script place ≤ taken) ⊎ (taken + n < due_at script place)
-
--- with so many more retired steps
-abbrev pub with_retired : ℕ → Tally → Tally
-with_retired n t = record t { retired = t.retired + n }
-
--- with so many more idle steps
-abbrev pub with_idle : ℕ → Tally → Tally
-with_idle n t = record t { idle = t.idle + n }

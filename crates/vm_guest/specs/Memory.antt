@@ -1,12 +1,7 @@
 -- A board's memory, of which a guest's part is changed.
-use Rattle.std.specs.Prelude.{◌≡◌, ℕ, ◌+◌, List, length, map, take, drop}
+use Rattle.std.specs.Prelude.{ℕ, ◌+◌, List, map}
 use Rattle.mb_walk.specs.Memory.{Contents}
-
--- Nothing changes but bytes from one place up to another.
-pub record OnlyBetween (from to : ℕ) (before after : List ℕ) : Type 0 where
-  pub count : length after ≡ length before
-  pub below : take from after ≡ take from before
-  pub above : drop to after ≡ drop to before
+pub use Rattle.vm_step.specs.Within.{OnlyBetween}
 
 -- a chunk of an image, and an image, whose addresses are counted from a place on
 abbrev pub chunk_from : ℕ → ℕ × List ℕ → ℕ × List ℕ

@@ -7,7 +7,7 @@ use Rattle.mb_frames.specs.Reading.{frame_in}
 use Rattle.mb_model.specs.declared.processor.Cpu.{Cpu}
 use Rattle.mb_model.specs.declared.outcome.RunState.TheVariants.{Running}
 use Rattle.mb_model.specs.Keeping.{rule_a, nothing_kept}
-use Rattle.mb_devices.specs.Devices.{DeviceState, level_of, passed, restarted}
+use Rattle.mb_devices.specs.Devices.{DeviceState, level_of, restarted}
 use Rattle.mb_processor.specs.SystemEnds.{with_registers}
 use Rattle.mb_machine.specs.Machine.{Machine}
 use Rattle.mb_board.specs.State.{BoardState, no_registers}
@@ -21,7 +21,6 @@ use Rattle.vm_machine.specs.declared.limits.TheConstants.{MONITOR_BYTES}
 use Rattle.vm_step.specs.Lawful.{LeavesLawful}
 use Rattle.vm_step.specs.Turn.{flushed, ready_for}
 use Rattle.vm_step.specs.Taking.{site_of}
-use Rattle.vm_guest.specs.Counting.{with_retired}
 use Rattle.vm_guest.specs.Turns.{ended_at}
 use Rattle.mb_frames.specs.declared.places.TheConstants.{LONGEST}
 
@@ -80,16 +79,6 @@ guest_start g ram devices native = start_on g (reset_for g ram devices) native
 
 abbrev pub guest_run : Seat → List ℕ → DeviceState → NativeState → ℕ → Ran
 guest_run g ram devices native k = run_on g (reset_for g ram devices) native k
-
--- A guest as the board has carried it out: with these registers, behind so many more steps, and so many more that are
--- retired.
-abbrev pub gone_on : Seat → (more retired : ℕ) → Plain → Seat
-gone_on g more retired plain = record g {
-  cpu = with_registers plain g.cpu;
-  devices = passed more g.devices;
-  steps = g.steps + more;
-  tally = with_retired retired g.tally;
-}
 
 -- ---- what the board left
 

@@ -4,7 +4,7 @@ use Rattle.mb_model.specs.Keeping.{rule_a, rule_k}
 use Rattle.mb_model.specs.declared.outcome.RunState.{RunState}
 use Rattle.mb_model.specs.declared.outcome.RunState.TheVariants as state
 use Rattle.mb_model.specs.declared.processor.Cpu.{Cpu}
-use Rattle.mb_devices.specs.Devices.{DeviceState, ticked, passed, restarted}
+use Rattle.mb_devices.specs.Devices.{DeviceState, ticked, restarted}
 use Rattle.mb_processor.specs.declared.StepEnd.{StepEnd}
 use Rattle.mb_processor.specs.declared.StepEnd.TheVariants as step
 use Rattle.mb_processor.specs.Raise.{Stepped}
@@ -16,7 +16,6 @@ use Rattle.vm_meaning.specs.Native.{NativeState}
 use Rattle.vm_machine.specs.Guests.{Guest}
 use Rattle.vm_machine.specs.Turns.{Guested}
 use Rattle.vm_machine.specs.Seats.{Seat, Scene}
-use Rattle.vm_guest.specs.Counting.{with_idle}
 use Rattle.vm_guest.specs.declared.turn_end.TurnEnd.{TurnEnd}
 use Rattle.vm_guest.specs.declared.turn_end.TurnEnd.TheVariants.{Counted, Halted, Off}
 
@@ -38,15 +37,6 @@ begun_seat g = record g {
 -- The interrupt level that a step is asked for that has begun so.
 abbrev pub level_on : Seat → ℕ
 level_on b = asked b.script b.steps b.devices
-
--- A guest whose step has begun, behind that and so many more that are idle.
-abbrev pub idled_on : (more : ℕ) → Seat → Seat
-idled_on more g = record g {
-  devices = passed more g.devices;
-  steps = g.steps + more;
-  state = going g.cpu (passed more g.devices);
-  tally = with_idle (more + 1) g.tally;
-}
 
 -- A guest with what the processor's part of a step changes: its processor, and what its bus has.
 abbrev pub processed : Seat → Seat → Seat

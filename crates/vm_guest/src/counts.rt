@@ -2,7 +2,7 @@
 
 ghost use Rattle.std.specs.Prelude.{◌≡◌, ◌+◌, ◌<◌, ◌^◌};
 ghost use Rattle.vm_machine.specs.Turns.{tallied, no_steps, steps_in};
-ghost use Rattle.vm_guest.specs.Counting.{tally_in, with_idle, with_retired};
+ghost use Rattle.vm_guest.specs.Counting.{tally_in};
 
 use vm_machine::Class;
 
@@ -66,7 +66,8 @@ impl Counts {
     /// So many more retired ones.
     pub(crate) fn retire(&mut self, steps: u32)
         requires { steps_in (tally_in self.old) + steps < 2 ^ 64 }
-        ensures { tally_in self.new ≡ with_retired steps (tally_in self.old) }
+        ensures { tally_in self.new
+            ≡ record (tally_in self.old) { retired = (tally_in self.old).retired + steps } }
     {
         self.retired += u64::from(steps);
     }
@@ -74,7 +75,7 @@ impl Counts {
     /// So many more idle ones.
     pub(crate) fn add_idle(&mut self, steps: u32)
         requires { steps_in (tally_in self.old) + steps < 2 ^ 64 }
-        ensures { tally_in self.new ≡ with_idle steps (tally_in self.old) }
+        ensures { tally_in self.new ≡ record (tally_in self.old) { idle = (tally_in self.old).idle + steps } }
     {
         self.idle += u64::from(steps);
     }

@@ -3,7 +3,7 @@
 ghost use Rattle.std.specs.Prelude.{◌≡◌, ◌+◌, ◌*◌, ◌<◌, ◌≤◌, ◌^◌, suc, false, true, length, None, IfSome};
 ghost use Rattle.mb_instr.specs.Registers.{plain_of};
 ghost use Rattle.mb_walk.specs.Memory.{AreBytes};
-ghost use Rattle.mb_devices.specs.Devices.{IsNotDue};
+ghost use Rattle.mb_devices.specs.Devices.{passed, IsNotDue};
 ghost use Rattle.mb_machine.specs.Machine.{takes_steps};
 ghost use Rattle.mb_board.specs.Arrivals.{IsNext};
 ghost use Rattle.mb_board.specs.Beside.{but_ram};
@@ -12,13 +12,15 @@ ghost use Rattle.mb_board.specs.State.{ran_to};
 ghost use Rattle.vm_machine.specs.Exits.{class_of_vector as class_of, frame_access};
 ghost use Rattle.vm_machine.specs.Turns.{tallied, steps_in};
 ghost use Rattle.vm_machine.specs.Seats.{end_of, guested_on, IsSame, IsSeated, Takes};
+ghost use Rattle.vm_step.specs.Idle.{idle_seat};
 ghost use Rattle.vm_step.specs.Lawful.{LeavesLawful};
+ghost use Rattle.vm_step.specs.Taking.{retired_seat};
 ghost use Rattle.vm_guest.specs.Memory.{OnlyBetween};
 ghost use Rattle.vm_guest.specs.Counting.{NoneDue};
-ghost use Rattle.vm_guest.specs.Native.{gone_on, guest_run, guest_start, left_by, run_on, start_on};
+ghost use Rattle.vm_guest.specs.Native.{guest_run, guest_start, left_by, run_on, start_on};
 ghost use Rattle.vm_guest.specs.Native.{HasFrame, IsFrameOf};
 ghost use Rattle.vm_guest.specs.Stops.{BeginsAgain, IsReady, IsStopped, Stopped};
-ghost use Rattle.vm_guest.specs.Turns.{idled_on, scene};
+ghost use Rattle.vm_guest.specs.Turns.{scene};
 
 use crate::classes::{assisted, class_of_vector};
 use crate::guest::Guest;
@@ -139,7 +141,7 @@ impl Guest {
         requires counted { steps_in self.old.tally + retired ≤ self.old.steps + more }
         requires none { NoneDue self.old.script self.old.steps more }
         requires due { IsNotDue more self.old.devices }
-        ensures { self.new ≡ gone_on self.old more retired plain.now }
+        ensures { self.new ≡ retired_seat self.old more retired plain.now (passed more self.old.devices) }
     {
         self.cpu.regs.set_plain(plain);
         self.devices.pass(more);
@@ -239,7 +241,7 @@ impl Guest {
         requires counted { steps_in self.old.tally < self.old.steps }
         requires none { NoneDue self.old.script self.old.steps more }
         requires due { IsNotDue more self.old.devices }
-        ensures { self.new ≡ idled_on more self.old }
+        ensures { self.new ≡ idle_seat self.old more (more + 1) (passed more self.old.devices) }
     {
         self.devices.pass(more);
         self.steps += more;

@@ -1,8 +1,9 @@
 -- Turns that are given in an order, each of at most so many steps and of no more than its guest has left.
-use Rattle.std.specs.Prelude.{ℕ, suc, ◌+◌, ◌-◌, ◌==◌, min, if◌then◌else◌, List, [], ◌∷◌, ◌++◌}
+use Rattle.std.specs.Prelude.{ℕ, suc, ◌-◌, min, List, [], ◌∷◌, ◌++◌, map}
 use Rattle.mb_script.specs.declared.turn.Turn.{Turn}
 use Rattle.mb_model.specs.Keeping.{rule_k}
 use Rattle.mb_machine.specs.Machine.{Machine, run_of}
+use Rattle.vm_machine.specs.Stages.{Turns, steps_for}
 use Rattle.vm_machine.specs.Rounds.{Member, Hosted, left}
 use Rattle.vm_slices.specs.Members.{after_rounds, after_turn}
 use Rattle.vm_slices.specs.Places.{marks_at, with_turn}
@@ -32,10 +33,13 @@ after_session turns slice members =
 
 -- ---- what comes of them
 
+-- turns as those of any guests on one board
+abbrev pub as_turns : List Turn → Turns
+as_turns turns = map (λ (turn : Turn). (turn.guest, turn.steps)) turns
+
 -- the steps that turns give the guest of a number
 abbrev pub steps_given : (number : ℕ) → List Turn → ℕ
-steps_given number [] = 0
-steps_given number (turn ∷ turns) = (if turn.guest == number then turn.steps else 0) + steps_given number turns
+steps_given number turns = steps_for number (as_turns turns)
 
 -- Guests of which the first has a number, each after one turn of all the steps that turns give it, as many as it has
 -- left.

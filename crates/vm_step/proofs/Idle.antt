@@ -151,7 +151,7 @@ quiet_steps_are_idle script n t idle on quiet due =
 
 -- ---- of a seated guest
 
-seated_still : (g : Seat) (ram : List ℕ) (k : ℕ) (d : DeviceState) → IsSeated g ram → IsSeated (idle_seat g k d) ram
+seated_still : (g : Seat) (ram : List ℕ) (k : ℕ) (d : DeviceState) → IsSeated g ram → IsSeated (idle_seat g k k d) ram
 seated_still g ram k d s = record {
   aligned = s.aligned;
   whole = s.whole;

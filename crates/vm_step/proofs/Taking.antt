@@ -139,7 +139,7 @@ batches_take g c world steps state native before n s bytes small running on seve
     let is_v : u.guest ≡ v = b.guest in
     let left : IsAfter b.retired guest v = retired_steps_leave x g.script b.retired r.machine guest ready.0 b.all in
     let related = done.boarded.related in
-    let seat = settled (retired_seat g k (plain_of after.machine.cpu.regs) (stepped_by g.script k guest).machine.world.devices) in
+    let seat = settled (retired_seat g k k (plain_of after.machine.cpu.regs) (stepped_by g.script k guest).machine.world.devices) in
     let ram' = after.machine.world.ram in
     let plain : plain_of after.machine.cpu.regs ≡ plain_of v.machine.cpu.regs = done.boarded.plain ∙ ap (λ (q : Guested). plain_of q.machine.cpu.regs) is_v in
     let cpu_is : seat.cpu ≡ v.machine.cpu =
@@ -268,7 +268,7 @@ exits_take g c world steps state native before k v s bytes small running on seve
     let goes_there : takes_steps u.guest.machine.state ≡ true = ap takes_steps running_there in
     let left : IsAfter j guest w = retired_steps_leave x g.script j r.machine guest ready.0 b.all in
     let begun = (guest_begun g.script w).machine.world.devices in
-    let mid = retired_seat g j after.before begun in
+    let mid = retired_seat g j j after.before begun in
     let ram' = after.machine.world.ram in
     let related = h.left.related in
     let seven_w : length w.machine.cpu.regs.a ≡ 7 = subst (λ (q : Guested). length q.machine.cpu.regs.a ≡ 7) is_w h.seven in

@@ -1,5 +1,5 @@
 -- A run of the board, beside the guest's steps: so many are retired, and then it was counted to its end, or left.
-use Rattle.std.specs.Prelude.{◌≡◌, ◌⊎◌, ℕ, zero, suc, ◌+◌, ◌<◌, false, List, ◌++◌, length, take, drop}
+use Rattle.std.specs.Prelude.{◌≡◌, ◌⊎◌, ℕ, zero, suc, ◌+◌, ◌<◌, false, List, ◌++◌, length}
 use Rattle.mb_instr.specs.declared.registers.Plain.{Plain}
 use Rattle.mb_instr.specs.Registers.{plain_of}
 use Rattle.mb_model.specs.declared.outcome.RunState.TheVariants.{Running}
@@ -14,6 +14,7 @@ use Rattle.vm_meaning.specs.Marks.{trail}
 use Rattle.vm_meaning.specs.Native.{Ran, user_run}
 use Rattle.vm_step.specs.Retire.{Boarded, HasRegisters}
 use Rattle.vm_step.specs.Exit.{Furnished, Leaves}
+use Rattle.vm_step.specs.Within.{OnlyBetween}
 
 -- What the law on one step wants of the guest.
 pub record Wanted (g : Guested) : Type 0 where
@@ -46,10 +47,8 @@ AllRetired script (suc n) g = Wanted g × (step_class_at_first script g ≡ Reti
     × AllRetired script n (guest_stepped script g)
 
 -- Of the board's memory nothing has changed outside the guest's RAM.
-pub record IsInside (x : Site) (ram after : List ℕ) : Type 0 where
-  pub count : length after ≡ length ram
-  pub below : take x.base after ≡ take x.base ram
-  pub above : drop (x.base + x.size) after ≡ drop (x.base + x.size) ram
+abbrev pub IsInside : Site → (ram after : List ℕ) → Type 0
+IsInside x ram after = OnlyBetween x.base (x.base + x.size) ram after
 
 -- It was counted to its end, and the board is ready for the guest's next step.
 pub record IsCounted (x : Site) (u : Turned) (r after : Ran) : Type 0 where

@@ -44,10 +44,11 @@ QuietStepsAreIdle = (script : Entries) (n : ℕ) (t : Turned) → IsIdle script 
 
 -- ---- of a seated guest
 
-abbrev pub idle_seat : Seat → ℕ → DeviceState → Seat
-idle_seat g k d = record g {
+-- a guest behind so many more steps, and so many more that are idle, with its devices then
+abbrev pub idle_seat : Seat → (more idle : ℕ) → DeviceState → Seat
+idle_seat g more k d = record g {
   devices = d;
-  steps = g.steps + k;
+  steps = g.steps + more;
   state = going g.cpu d;
   tally = record g.tally { idle = g.tally.idle + k };
 }
@@ -58,4 +59,4 @@ IdleStepsTake = (g : Seat) (ram : List ℕ) (native : NativeState) (n : ℕ) →
     → IsIdle g.script (guested_on g ram) → (0 < n → g.devices.off ≡ false) → NothingArrives g.script (g.steps + 1) n
     → let d = (guest_begun g.script (guested_on g ram)).machine.world.devices in IsNotDue n d
     → Takes (suc n) (record { guest = g; ram = ram; native = native })
-    (record { guest = idle_seat g (suc n) (passed n d); ram = ram; native = native })
+    (record { guest = idle_seat g (suc n) (suc n) (passed n d); ram = ram; native = native })

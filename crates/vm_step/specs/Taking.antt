@@ -40,13 +40,13 @@ use Rattle.mb_frames.specs.declared.places.TheConstants.{LONGEST}
 abbrev pub site_of : Seat → Site
 site_of g = record { base = g.base; size = g.size; slots = g.slots; space = space_of g.cpu }
 
--- The guest behind so many retired steps, with the board's registers. These devices are those that it has then, or
--- those that its next step begins with.
-abbrev pub retired_seat : Seat → ℕ → Plain → DeviceState → Seat
-retired_seat g k p d = record g {
+-- The guest behind so many more steps, and so many more that are retired, with the board's registers. These devices are
+-- those that it has then, or those that its next step begins with.
+abbrev pub retired_seat : Seat → (more retired : ℕ) → Plain → DeviceState → Seat
+retired_seat g more k p d = record g {
   cpu = with_registers p g.cpu;
   devices = d;
-  steps = g.steps + k;
+  steps = g.steps + more;
   tally = record g.tally { retired = g.tally.retired + k };
 }
 
@@ -70,7 +70,7 @@ BatchesTake = (g : Seat) (c : Cpu) (world : World) (steps : ℕ) (state : RunSta
     → length after.machine.cpu.regs.a ≡ 7
     → Takes k (record { guest = g; ram = ram; native = native })
     (record {
-      guest = settled (retired_seat g k (plain_of after.machine.cpu.regs)
+      guest = settled (retired_seat g k k (plain_of after.machine.cpu.regs)
           (stepped_by g.script k (guested_on g ram)).machine.world.devices);
       ram = after.machine.world.ram;
       native = after.native;
@@ -102,34 +102,34 @@ pub record IsLeft (g : Seat) (ram : List ℕ) (native : NativeState) (k : ℕ) (
   pub counts : after.native.retired ≡ native.retired + retired
   pub exceptions : after.native.exceptions ≡ native.exceptions + 1
   -- its registers, and the class of its first attempt
-  pub cpu : (retired_seat g retired after.before begun).cpu
+  pub cpu : (retired_seat g retired retired after.before begun).cpu
       ≡ (stepped_by g.script retired (guested_on g ram)).machine.cpu
   pub class : class_of_vector vector ≡ step_class_at_first g.script (stepped_by g.script retired (guested_on g ram))
   -- the read that is refilled, where there is one, is that of this attempt
-  pub read : let mid = retired_seat g retired after.before begun in
+  pub read : let mid = retired_seat g retired retired after.before begun in
       let b = guest_begun g.script (stepped_by g.script retired (guested_on g ram)) in
       refilled_at (world_of (guested_on mid after.machine.world.ram)) (read_by_frame (space_of mid.cpu) frame)
       ≡ begun_again b.machine.cpu (world_of b)
   -- where the frame tells a read, nothing of the guest has changed
-  pub still : let mid = retired_seat g retired after.before begun in (r : Reference)
+  pub still : let mid = retired_seat g retired retired after.before begun in (r : Reference)
       → read_by_frame (space_of mid.cpu) frame ≡ Some r
       → world_of (guested_on mid after.machine.world.ram)
       ≡ world_of (guest_begun g.script (stepped_by g.script retired (guested_on g ram)))
-  pub seated : IsSeated (retired_seat g retired after.before begun) after.machine.world.ram
+  pub seated : IsSeated (retired_seat g retired retired after.before begun) after.machine.world.ram
   pub within : OnlyWithin g ram after.machine.world.ram
   -- the board stands for a run of it
   pub goes : takes_steps after.machine.state ≡ true
-  pub set : IsSetFor (site_of (retired_seat g retired after.before begun)) after.machine.world
+  pub set : IsSetFor (site_of (retired_seat g retired retired after.before begun)) after.machine.world
   -- where the read that it was denied is refilled, that is the middle of a step that begins again; else what the frame
   -- leaves is the whole step once more
-  pub again : let mid = retired_seat g retired after.before begun in
+  pub again : let mid = retired_seat g retired retired after.before begun in
       let w = world_of (guested_on mid after.machine.world.ram) in
       Fine g.size w → (h : Guest) → refilled_at w (read_by_frame (space_of mid.cpu) frame) ≡ Some h
       → Midway g ram native retired 0 mid after.machine.world.ram after.native × (begun_again mid.cpu w ≡ Some h)
       × (class_of_vector vector ≡ class_at_first (level_of begun) mid.cpu w)
       × (run guest_bus (rest_by_frame vector (frame_access frame) (level_of begun) mid.cpu
       (handed_by after.machine.cpu.regs frame)) w ≡ run guest_bus (step_of (level_of begun) mid.cpu) w)
-  pub turn : (seat : Seat) (next : List ℕ) → let mid = retired_seat g retired after.before begun in
+  pub turn : (seat : Seat) (next : List ℕ) → let mid = retired_seat g retired retired after.before begun in
       let b = guested_on mid after.machine.world.ram in
       refilled_at (world_of b) (read_by_frame (space_of mid.cpu) frame) ≡ None
       → guested_on seat next ≡ guest_later b.machine

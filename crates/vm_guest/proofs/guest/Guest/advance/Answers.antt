@@ -3,15 +3,15 @@ use Rattle.mb_port.specs.Routine.{run}
 use Rattle.mb_instr.specs.declared.registers.Plain.{Plain}
 use Rattle.mb_instr.specs.Registers.{plain_of}
 use Rattle.mb_model.specs.declared.processor.Cpu.{Cpu}
-use Rattle.mb_devices.specs.Devices.{IsNotDue}
+use Rattle.mb_devices.specs.Devices.{passed, IsNotDue}
 use Rattle.mb_board.specs.State.{ran_to}
 use Rattle.vm_machine.specs.declared.class.Class.{Class}
 use Rattle.vm_machine.specs.Bus.{guest_bus}
 use Rattle.vm_machine.specs.Seats.{Seat, Takes, guested_on}
 use Rattle.vm_machine.specs.Turns.{world_of}
 use Rattle.vm_guest.specs.Counting.{NoneDue}
-use Rattle.vm_step.specs.Taking.{settled}
-use Rattle.vm_guest.specs.Native.{gone_on, guest_run}
+use Rattle.vm_step.specs.Taking.{retired_seat, settled}
+use Rattle.vm_guest.specs.Native.{guest_run}
 use Rattle.vm_guest.specs.declared.rest.Rest.TheVariants.{Whole}
 use Rattle.vm_guest.specs.Rests.{rest_in}
 use Rattle.vm_guest.specs.Stops.{IsStopped}
@@ -115,7 +115,7 @@ handed_back c may ran =
     (counted_by (awake c.args.self.now) b c.settle.new.self c.args.board.now.world.ram c.args.board.now.world.devices c.args.native.now n
     (ran_to c.run_board.result c.run_board.new.board c.run_board.new.native) c.plain.result c.begin-level.ensures.begun may ran c.in-Counted.is
     c.run_board.ensures.wide (c.plain.ensures.means ∙ ap (λ (p : Cpu). plain_of p.regs) c.cpu.ensures)
-    (c.settle.ensures ∙ ap settled (c.go_on.ensures ∙ ap (λ (k : ℕ). gone_on b n k c.plain.result) more))))
+    (c.settle.ensures ∙ ap settled (c.go_on.ensures ∙ ap (λ (k : ℕ). retired_seat b n k c.plain.result (passed n b.devices)) more))))
 
 pub returns-in-Counted-clause-takes : goal.returns-in-Counted-clause-takes
 returns-in-Counted-clause-takes c =
@@ -199,7 +199,7 @@ stopped c could went =
     c.more_steps-more.result c.run_board.result c.run_board.new.board c.run_board.new.native c.in-Exit.vector n c.begin-level.ensures.begun could went
     c.in-Exit.is c.run_board.ensures.wide
     (ap (λ (k : ℕ). k - c.retired-before.result) c.retired.ensures ∙ ap (λ (k : ℕ). c.run_board.new.native.retired - k) c.retired-before.ensures)
-    (c.go_on-in-Exit.ensures ∙ ap (λ (p : Plain). gone_on c.begin-level.new.self n n p) c.before-in-Exit.ensures)
+    (c.go_on-in-Exit.ensures ∙ ap (λ (p : Plain). retired_seat c.begin-level.new.self n n p (passed n c.begin-level.new.self.devices)) c.before-in-Exit.ensures)
 
 pub end_step-requires-clause-stopped : goal.end_step-requires-clause-stopped
 end_step-requires-clause-stopped c =
