@@ -113,10 +113,13 @@ static REGISTERS: [(u32, u8); 12] = [
     (0x3c, 4),
 ];
 
+/// The lengths of accesses.
+static LENGTHS: [u8; 3] = [1, 2, 4];
+
 /// Whether these are all registers that there are.
 fn are_all_registers(devices: &mut Devices, there: &[(u32, u8)]) -> bool {
     for offset in 0..0x50 {
-        for len in [1u8, 2, 4] {
+        for &len in &LENGTHS {
             let has = there.contains(&(offset, len));
             let place = place(offset, len);
             if devices.has(place) != has || devices.read(place).is_some() != has {
@@ -149,6 +152,12 @@ fn a_register_has_one_size(rt: HostRuntime) {
     assert!(rt; devices.disk().is_some_and(|disk| disk.blocks() == 3));
 }
 
+/// The bytes of a full queue.
+static QUEUED: [u8; 16] = [0, 1, 2, 3, 4, 5, 6, 7, 8, 9, 10, 11, 12, 13, 14, 15];
+
+/// COUNT after each tick of a timer whose period is 3.
+static COUNTS: [u32; 9] = [2, 1, 3, 2, 1, 3, 2, 1, 3];
+
 #[test]
 fn each_limit_once(rt: HostRuntime) {
     // the seventeenth byte is dropped
@@ -156,20 +165,18 @@ fn each_limit_once(rt: HostRuntime) {
     for byte in 0..=16 {
         devices.receive(byte);
     }
-    let kept: [u8; 16] = [0, 1, 2, 3, 4, 5, 6, 7, 8, 9, 10, 11, 12, 13, 14, 15];
-    assert!(rt; devices.queue().as_slice() == &kept[..]);
+    assert!(rt; devices.queue().as_slice() == &QUEUED[..]);
     assert!(rt; devices.status() == 7);
     assert!(rt; devices.write(place(0x01, 1), 0) == Some(()));
     assert!(rt; devices.status() == 3);
-    for byte in kept {
+    for &byte in &QUEUED {
         assert!(rt; devices.read(place(0x00, 1)) == Some(u32::from(byte)));
     }
     assert!(rt; devices.status() == 2);
     // the timer asks each period
     let mut devices = Devices::new(rt.alloc(), 0x1_0000).expect(&rt, "ample memory");
     assert!(rt; devices.write(place(0x10, 4), 3) == Some(()));
-    let counts = [2, 1, 3, 2, 1, 3, 2, 1, 3];
-    for count in counts {
+    for &count in &COUNTS {
         devices.tick();
         assert!(rt; devices.count() == count);
         assert!(rt; devices.pending() == u32::from(count == 3));

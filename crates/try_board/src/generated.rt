@@ -48,7 +48,7 @@ static PROGRAMS: [Program; 7] = [
 ];
 
 /// `LEA $8000,A5`.
-const ENTER: [u8; 6] = [0x4B, 0xF9, 0, 0, 0x80, 0];
+static ENTER: [u8; 6] = [0x4B, 0xF9, 0, 0, 0x80, 0];
 
 /// Each byte weighs 31 times the next one.
 fn sum_of(bytes: &[u8]) -> u32 {
@@ -78,6 +78,9 @@ fn runs(session: &Session, program: &Program) -> bool {
     }
 }
 
+/// How many guests there are, and the bytes of their board.
+static BOARDS: [(u8, u32); 3] = [(1, 196_608), (2, 327_680), (16, 2_162_688)];
+
 /// Programs of three seeds, and all else: it is the same in each guest of each session. The first program is the same
 /// in sessions of any size.
 #[test]
@@ -92,7 +95,7 @@ fn what_stands_in_a_session(rt: HostRuntime) {
         );
     }
     let one = make_session(rt.alloc(), 1, 1).expect(&rt, "ample memory");
-    for (count, board) in [(1u8, 196_608), (2, 327_680), (16, 2_162_688)] {
+    for &(count, board) in &BOARDS {
         assert!(rt; 1 <= count && count <= 16);
         let session = make_session(rt.alloc(), 1, count).expect(&rt, "ample memory");
         assert!(rt; session.board() == board, "{count} guests");
@@ -118,6 +121,9 @@ fn what_stands_in_a_session(rt: HostRuntime) {
     }
 }
 
+/// Further steps, and how many bytes the console has then.
+static LAPS: [(u32, usize); 4] = [(2_001, 0), (1, 1), (2_002, 1), (1, 2)];
+
 /// LEA, the picked instructions, and then the byte; the next one comes 2,003 steps later.
 #[test]
 fn a_lap_sends_a_byte(rt: HostRuntime) {
@@ -129,7 +135,7 @@ fn a_lap_sends_a_byte(rt: HostRuntime) {
     ];
     let mut board = board_with(rt.alloc(), &chunks).expect(&rt, "ample memory");
     let script = script_of(rt.alloc(), b"").expect(&rt, "ample memory");
-    for (steps, sent) in [(2_001, 0), (1, 1), (2_002, 1), (1, 2)] {
+    for &(steps, sent) in &LAPS {
         run(&mut board, &script, steps);
         assert!(rt; board.outcome().console.len() == sent);
         assert!(rt; board.outcome().state == RunState::Running);

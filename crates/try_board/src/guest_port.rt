@@ -1,6 +1,6 @@
 //! A guest's bus over plain memory, worked by hand.
 
-ghost use Rattle.std.specs.Prelude.{◌≡◌, ◌%◌, ◌<◌, ◌^◌};
+ghost use Rattle.std.specs.Prelude.{◌≡◌, ◌%◌, ◌<◌, ◌^◌, IsTrue};
 ghost use Rattle.mb_port.specs.Flushes.{NamesPage};
 ghost use Rattle.vm_shadow.specs.Area.{Maps};
 ghost use Rattle.vm_shadow.specs.Mapped.{shadowed};
@@ -210,19 +210,43 @@ fn a_split_page_is_never_put(rt: HostRuntime) {
     assert!(rt; guest.find(Super, 5) == Some((21, true)));
 }
 
+/// What is flushed, and which of the four entries it leaves: page 5 in user and supervisor space, and page 6, which is
+/// global.
+static FLUSHES: [(Flush, [bool; 4]); 6] = [
+    (Flush::All, [false, false, false, false]),
+    (Flush::AllLocal, [false, false, true, true]),
+    (Flush::Page(User, 5), [false, true, true, true]),
+    (Flush::Page(Super, 6), [true, true, true, false]),
+    (Flush::PageLocal(Super, 5), [true, false, true, true]),
+    (Flush::PageLocal(User, 6), [true, true, true, true]),
+];
+
+/// Whether a flush names a page, where it names one.
+fn names_page(what: Flush) -> bool
+    ensures { IsTrue result → NamesPage what }
+{
+    match what {
+        Flush::All | Flush::AllLocal => true,
+        Flush::Page(_, page) | Flush::PageLocal(_, page) => page < 0x10_0000,
+    }
+}
+
+/// Each register that forgets, with the value that it has already; MMUSR does not.
+static REGISTERS: [(MmuReg, u32, Option<(u32, bool)>); 8] = [
+    (MmuReg::Tc, 0x8000, None),
+    (MmuReg::Itt0, 0, None),
+    (MmuReg::Itt1, 0, None),
+    (MmuReg::Dtt0, 0, None),
+    (MmuReg::Dtt1, 0, None),
+    (MmuReg::Urp, ROOT, None),
+    (MmuReg::Srp, ROOT, None),
+    (MmuReg::Mmusr, 0xFFFF_FFFF, Some((21, false))),
+];
+
 #[test]
 fn flushes_and_written_registers_drop_pages(rt: HostRuntime) {
-    // What is flushed, and which of the four entries it leaves: page 5 in user and supervisor space, and page 6, which
-    // is global.
-    let flushes = [
-        (Flush::All, [false, false, false, false]),
-        (Flush::AllLocal, [false, false, true, true]),
-        (Flush::Page(User, 5), [false, true, true, true]),
-        (Flush::Page(Super, 6), [true, true, true, false]),
-        (Flush::PageLocal(Super, 5), [true, false, true, true]),
-        (Flush::PageLocal(User, 6), [true, true, true, true]),
-    ];
-    for (what, left) in flushes {
+    for &(what, left) in &FLUSHES {
+        assert!(rt; names_page(what));
         let mut guest = Guest::translated(rt.alloc()).expect(&rt, "memory");
         guest.set(PAGES + 24, 0x6401);
         for space in [User, Super] {
@@ -238,18 +262,7 @@ fn flushes_and_written_registers_drop_pages(rt: HostRuntime) {
         ];
         assert!(rt; found == left, "{what:?}");
     }
-    // Each register that forgets, with the value that it has already; MMUSR does not.
-    let registers = [
-        (MmuReg::Tc, 0x8000, None),
-        (MmuReg::Itt0, 0, None),
-        (MmuReg::Itt1, 0, None),
-        (MmuReg::Dtt0, 0, None),
-        (MmuReg::Dtt1, 0, None),
-        (MmuReg::Urp, ROOT, None),
-        (MmuReg::Srp, ROOT, None),
-        (MmuReg::Mmusr, 0xFFFF_FFFF, Some((21, false))),
-    ];
-    for (which, value, left) in registers {
+    for &(which, value, left) in &REGISTERS {
         let mut guest = Guest::translated(rt.alloc()).expect(&rt, "memory");
         for space in [User, Super] {
             assert!(rt; guest.read(space, 0x5000) == Some(0));

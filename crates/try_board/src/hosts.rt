@@ -29,7 +29,7 @@ struct Begins {
 }
 
 /// `MOVE.B #1,CTRL`, and `MOVE.B DATA,DATA` in a loop: what arrives shows on the console.
-static ECHO: Begins = Begins {
+const ECHO: Begins = Begins {
     chunks: &[
         RESET,
         (
@@ -46,7 +46,7 @@ static ECHO: Begins = Begins {
 };
 
 /// `LEA $1000,A0`, and `MOVE.L A0,(A0)+` in a loop: it fills its RAM.
-static FILL: Begins = Begins {
+const FILL: Begins = Begins {
     chunks: &[
         RESET,
         (0x400, &[0x41, 0xF8, 0x10, 0, 0x20, 0xC8, 0x60, 0xFC]),
@@ -57,7 +57,7 @@ static FILL: Begins = Begins {
 };
 
 /// No image: after 16,384 steps a fetch past RAM faults, and no frame can be stacked below a stack at 0.
-static HALTS: Begins = Begins {
+const HALTS: Begins = Begins {
     chunks: &[],
     script: b"",
     steps: 20_000,
@@ -65,7 +65,7 @@ static HALTS: Begins = Begins {
 };
 
 /// `MOVEQ #$41,D0`, `MOVE.B D0,DATA`, `MOVE.L #1,POWER`.
-static SWITCHES_OFF: Begins = Begins {
+const SWITCHES_OFF: Begins = Begins {
     chunks: &[
         RESET,
         (
@@ -90,7 +90,7 @@ fn guest_of(alloc: Global, begins: &Begins) -> Option<SessionGuest>
 }
 
 /// A session of these guests.
-fn session_of(alloc: Global, board: u32, slice: u32, guests: &[&Begins]) -> Option<Session>
+fn session_of(alloc: Global, board: u32, slice: u32, guests: &[Begins]) -> Option<Session>
     requires { IsBoardBytes board }
     ensures { IfSome result IsSession }
 {
@@ -119,7 +119,7 @@ fn stands(host: &Host, number: u8) -> Option<(RunState, u32)> {
 }
 
 /// Whether each guest is done, and shows what a bare board with its image and script shows after its steps.
-fn are_as_bare(alloc: Global, host: &Host, guests: &[&Begins]) -> Option<bool> {
+fn are_as_bare(alloc: Global, host: &Host, guests: &[Begins]) -> Option<bool> {
     let mut number = 0u8;
     for begins in guests {
         number = number.wrapping_add(1);
@@ -134,18 +134,26 @@ fn are_as_bare(alloc: Global, host: &Host, guests: &[&Begins]) -> Option<bool> {
     Some(number == host.guest_count())
 }
 
+/// Three guests.
+static THREE: [Begins; 3] = [ECHO, HALTS, FILL];
+
+/// Three guests, for which the smaller board has no room.
+static TOO_MANY: [Begins; 3] = [FILL, ECHO, SWITCHES_OFF];
+
+/// The slice and the guests of sessions.
+static SESSIONS: [(u32, &[Begins]); 5] = [
+    (1, &[ECHO, HALTS, FILL]),
+    (7, &[ECHO, HALTS, FILL]),
+    (1000, &[ECHO, HALTS, FILL]),
+    (1000, &[HALTS, SWITCHES_OFF]),
+    (1, &[FILL, ECHO, SWITCHES_OFF]),
+];
+
 /// Sessions in turns of 1, of 7 and of 1,000 steps, and a second run of each. The board has 64 KiB for the monitor, and
 /// 128 KiB for each of three guests.
 #[test]
 fn each_guest_shows_what_its_own_board_shows(rt: HostRuntime) {
-    let sessions: [(u32, &[&Begins]); 5] = [
-        (1, &[&ECHO, &HALTS, &FILL]),
-        (7, &[&ECHO, &HALTS, &FILL]),
-        (1000, &[&ECHO, &HALTS, &FILL]),
-        (1000, &[&HALTS, &SWITCHES_OFF]),
-        (1, &[&FILL, &ECHO, &SWITCHES_OFF]),
-    ];
-    for (number, (slice, guests)) in sessions.into_iter().enumerate() {
+    for (number, &(slice, guests)) in SESSIONS.iter().enumerate() {
         let session = session_of(rt.alloc(), FITS, slice, guests).expect(&rt, "ample memory");
         let mut host = Host::prepare(rt.alloc(), session).expect(&rt, "it fits");
         host.run(&mut Native::new());
@@ -159,8 +167,7 @@ fn each_guest_shows_what_its_own_board_shows(rt: HostRuntime) {
             "session {number}"
         );
     }
-    let guests = [&FILL, &ECHO, &SWITCHES_OFF];
-    let session = session_of(rt.alloc(), TOO_SMALL, 1, &guests).expect(&rt, "ample memory");
+    let session = session_of(rt.alloc(), TOO_SMALL, 1, &TOO_MANY).expect(&rt, "ample memory");
     let refused = OpenFault::Oversize {
         need: FITS,
         have: TOO_SMALL,
@@ -168,27 +175,27 @@ fn each_guest_shows_what_its_own_board_shows(rt: HostRuntime) {
     assert!(rt; Host::prepare(rt.alloc(), session).err() == Some(refused));
 }
 
+#[rattlefmt::skip]
+static ORDER: [Turn; 7] = [
+    Turn { guest: 2, steps: 7 },
+    Turn { guest: 1, steps: 98 },
+    Turn { guest: 3, steps: 0 },
+    Turn { guest: 2, steps: 100 },
+    Turn { guest: 1, steps: 100 },
+    Turn { guest: 1, steps: 100 },
+    Turn { guest: 2, steps: 4_294_967_295 },
+];
+
 /// Turns of any guest in any order, and then rounds: none goes past what its guest has left.
 #[test]
 fn turns_come_before_rounds(rt: HostRuntime) {
-    let guests = [&ECHO, &HALTS, &FILL];
-    let session = session_of(rt.alloc(), FITS, 1000, &guests).expect(&rt, "ample memory");
+    let session = session_of(rt.alloc(), FITS, 1000, &THREE).expect(&rt, "ample memory");
     let mut host = Host::prepare(rt.alloc(), session).expect(&rt, "it fits");
-    let order = [
-        (2, 7),
-        (1, 98),
-        (3, 0),
-        (2, 100),
-        (1, 100),
-        (1, 100),
-        (2, 4_294_967_295),
-    ];
-    let order = order.map(|(guest, steps)| Turn { guest, steps });
     assert!(rt; host.guest_count() == 3);
-    host.run_order(&order, &mut Native::new());
+    host.run_order(&ORDER, &mut Native::new());
     assert!(rt; stands(&host, 1) == Some((RunState::Running, 99)));
     assert!(rt; stands(&host, 2) == Some((RunState::Halted, 16_385)));
     assert!(rt; stands(&host, 3) == Some((RunState::Running, 0)));
     host.run(&mut Native::new());
-    assert!(rt; are_as_bare(rt.alloc(), &host, &guests) == Some(true));
+    assert!(rt; are_as_bare(rt.alloc(), &host, &THREE) == Some(true));
 }

@@ -121,39 +121,41 @@ fn slots_are_taken_and_freed(rt: HostRuntime) {
     }
 }
 
+/// The space, the page, the frame, and whether it takes writes.
+static ENTRIES: [(Space, u32, u32, bool); 4] = [
+    (User, 0, 0x123, true),
+    (Super, 0, 0x124, false),
+    (Super, 0xF_FFFF, 0xF_FFFF, true),
+    (User, 0x2043, 0, false),
+];
+
+/// The root's entries and those of the tables below, in the order in which they came to stand: each is resident and
+/// used, a page's is modified, and it is write-protected where the page takes no writes.
+static LONGS: [(u32, u32); 6] = [
+    (AREA, 0x0001_040A),
+    (AREA + 0x400, 0x0001_060A),
+    (AREA + 0x600, 0x0012_3019),
+    (AREA + 0x200, 0x0001_080A),
+    (AREA + 0x800, 0x0001_0A0A),
+    (AREA + 0xA00, 0x0012_401D),
+];
+
 #[test]
 fn a_search_finds_the_entries(rt: HostRuntime) {
     let mut guest = Guest::new(rt.alloc()).expect(&rt, "memory");
     assert!(rt; (guest.shadow.root(User), guest.shadow.root(Super)) == (AREA, AREA + 512));
-    // The space, the page, the frame, and whether it takes writes.
-    let entries = [
-        (User, 0, 0x123, true),
-        (Super, 0, 0x124, false),
-        (Super, 0xF_FFFF, 0xF_FFFF, true),
-        (User, 0x2043, 0, false),
-    ];
     assert!(rt; !guest.fill(User, 0, 9, false));
-    for (space, page, frame, writable) in entries {
+    for &(space, page, frame, writable) in &ENTRIES {
         assert!(rt; page < 0x10_0000 && frame < 0x10_0000);
         assert!(rt; !guest.fill(space, page, frame, writable));
         assert!(rt; guest.find(space, page) == Some((frame, writable)));
     }
     let Guest { mut ram, shadow } = guest;
-    // The root's entries and those of the tables below, in the order in which they came to stand: each is resident and
-    // used, a page's is modified, and it is write-protected where the page takes no writes.
-    let longs = [
-        (AREA, 0x0001_040A),
-        (AREA + 0x400, 0x0001_060A),
-        (AREA + 0x600, 0x0012_3019),
-        (AREA + 0x200, 0x0001_080A),
-        (AREA + 0x800, 0x0001_0A0A),
-        (AREA + 0xA00, 0x0012_401D),
-    ];
-    for (at, long) in longs {
+    for &(at, long) in &LONGS {
         assert!(rt; at % 4 == 0 && at <= SIZE - 4);
         assert!(rt; ram.long(at) == long);
     }
-    for (space, page, frame, writable) in entries {
+    for &(space, page, frame, writable) in &ENTRIES {
         assert!(rt; page < 0x10_0000);
         let kept = match search(
             &mut ram,

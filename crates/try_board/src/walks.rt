@@ -27,78 +27,85 @@ fn set(bytes: &mut Bytes, longs: &[(u32, u32)]) {
 const AT: u32 = 0x0204_3ABC;
 
 /// The tables' descriptors on the way, at $8004 and $8204, with the page table at $8400.
-const TABLES: [(u32, u32); 2] = [(0x8004, 0x0000_8202), (0x8204, 0x0000_8403)];
+static TABLES: [(u32, u32); 2] = [(0x8004, 0x0000_8202), (0x8204, 0x0000_8403)];
 
 /// The place of the page's entry.
 const ENTRY: u32 = 0x840C;
 
-/// What is kept of frame $123, and MMUSR.
-fn entry(space: Space, flags: [bool; 4], status: u32) -> Found {
-    let [w, s, g, m] = flags;
-    Found::Entry(
-        Kept {
-            space,
-            page: 0x2043,
-            frame: 0x123,
-            w,
-            s,
-            g,
-            m,
-        },
-        status,
-    )
-}
+/// What is kept of frame $123 in user space.
+const KEPT: Kept = Kept {
+    space: User,
+    page: 0x2043,
+    frame: 0x123,
+    w: false,
+    s: false,
+    g: false,
+    m: false,
+};
+
+/// A search: the space, a write, the longs that stand beside or in place of the tables' and those that hold something
+/// else afterwards, and what is found.
+type Walk = (
+    Space,
+    bool,
+    &'static [(u32, u32)],
+    &'static [(u32, u32)],
+    Found,
+);
+
+#[rattlefmt::skip]
+static WALKS: [Walk; 20] = [
+    (User, false, &[(ENTRY, 0x0012_3001)], &[(ENTRY, 0x0012_3009)], Found::Entry(KEPT, 0x0012_3001)),
+    (User, true, &[(ENTRY, 0x0012_3001)], &[(ENTRY, 0x0012_3019)],
+     Found::Entry(Kept { m: true, ..KEPT }, 0x0012_3011)),
+    // PDT 3, with G, U1, U0 and CM
+    (Super, false, &[(ENTRY, 0x0012_3763)], &[(ENTRY, 0x0012_376B)],
+     Found::Entry(Kept { space: Super, g: true, ..KEPT }, 0x0012_3761)),
+    // used and modified before
+    (User, false, &[(ENTRY, 0x0012_3019)], &[], Found::Entry(Kept { m: true, ..KEPT }, 0x0012_3011)),
+    // W of the page, of the pointer table and of the page table; M stays as it was
+    (User, true, &[(ENTRY, 0x0012_3005)], &[(ENTRY, 0x0012_300D)],
+     Found::Entry(Kept { w: true, ..KEPT }, 0x0012_3005)),
+    (User, true, &[(ENTRY, 0x0012_3015)], &[(ENTRY, 0x0012_301D)],
+     Found::Entry(Kept { w: true, m: true, ..KEPT }, 0x0012_3015)),
+    (User, true, &[(0x8004, 0x0000_8206), (ENTRY, 0x0012_3001)], &[(0x8004, 0x0000_820E), (ENTRY, 0x0012_3009)],
+     Found::Entry(Kept { w: true, ..KEPT }, 0x0012_3005)),
+    (User, true, &[(0x8204, 0x0000_8407), (ENTRY, 0x0012_3001)], &[(0x8204, 0x0000_840F), (ENTRY, 0x0012_3009)],
+     Found::Entry(Kept { w: true, ..KEPT }, 0x0012_3005)),
+    // S, from each space
+    (User, true, &[(ENTRY, 0x0012_3081)], &[(ENTRY, 0x0012_3089)],
+     Found::Entry(Kept { s: true, ..KEPT }, 0x0012_3081)),
+    (Super, true, &[(ENTRY, 0x0012_3081)], &[(ENTRY, 0x0012_3099)],
+     Found::Entry(Kept { space: Super, s: true, m: true, ..KEPT }, 0x0012_3091)),
+    // bits 7 to 4 of a table's descriptor say nothing
+    (User, true, &[(0x8204, 0x0000_84F3), (ENTRY, 0x0012_3001)], &[(0x8204, 0x0000_84FB), (ENTRY, 0x0012_3019)],
+     Found::Entry(Kept { m: true, ..KEPT }, 0x0012_3011)),
+    // indirect, once and twice, and outside memory
+    (User, true, &[(ENTRY, 0x0000_8502), (0x8500, 0x0012_3001)], &[(0x8500, 0x0012_3019)],
+     Found::Entry(Kept { m: true, ..KEPT }, 0x0012_3011)),
+    (User, true, &[(ENTRY, 0x0000_8502), (0x8500, 0x0000_8602), (0x8600, 0x0012_3001)], &[], Found::Invalid),
+    (User, true, &[(ENTRY, 0x0003_0002)], &[], Found::BusError),
+    (User, true, &[(ENTRY, 0xFFFF_FFFE)], &[], Found::BusError),
+    // invalid at each level
+    (User, true, &[(ENTRY, 0x0012_3000)], &[], Found::Invalid),
+    (User, true, &[(0x8204, 0x0000_8401)], &[(0x8204, 0x0000_8401)], Found::Invalid),
+    (User, true, &[(0x8004, 0x0000_8201)], &[(0x8004, 0x0000_8201), (0x8204, 0x0000_8403)], Found::Invalid),
+    // a table outside memory
+    (User, true, &[(0x8004, 0x0003_0002)], &[(0x8004, 0x0003_000A), (0x8204, 0x0000_8403)], Found::BusError),
+    (User, true, &[(0x8204, 0xFFFF_FF03)], &[(0x8204, 0xFFFF_FF0B)], Found::BusError),
+];
+
+/// The tables' descriptors afterwards: each is used.
+static USED_TABLES: [(u32, u32); 2] = [(0x8004, 0x0000_820A), (0x8204, 0x0000_840B)];
 
 #[test]
-#[rattlefmt::skip]
 fn walks_by_hand(rt: HostRuntime) {
-    let [none, w, s, m]: [[bool; 4]; 4] =
-        [[false; 4], [true, false, false, false], [false, true, false, false], [false, false, false, true]];
-    // The space, a write, the longs that stand beside or in place of the tables' and those that hold something else
-    // afterwards, and what is found.
-    let walks: [(Space, bool, &[(u32, u32)], &[(u32, u32)], Found); 20] = [
-        (User, false, &[(ENTRY, 0x0012_3001)], &[(ENTRY, 0x0012_3009)], entry(User, none, 0x0012_3001)),
-        (User, true, &[(ENTRY, 0x0012_3001)], &[(ENTRY, 0x0012_3019)], entry(User, m, 0x0012_3011)),
-        // PDT 3, with G, U1, U0 and CM
-        (Super, false, &[(ENTRY, 0x0012_3763)], &[(ENTRY, 0x0012_376B)],
-         entry(Super, [false, false, true, false], 0x0012_3761)),
-        // used and modified before
-        (User, false, &[(ENTRY, 0x0012_3019)], &[], entry(User, m, 0x0012_3011)),
-        // W of the page, of the pointer table and of the page table; M stays as it was
-        (User, true, &[(ENTRY, 0x0012_3005)], &[(ENTRY, 0x0012_300D)], entry(User, w, 0x0012_3005)),
-        (User, true, &[(ENTRY, 0x0012_3015)], &[(ENTRY, 0x0012_301D)],
-         entry(User, [true, false, false, true], 0x0012_3015)),
-        (User, true, &[(0x8004, 0x0000_8206), (ENTRY, 0x0012_3001)], &[(0x8004, 0x0000_820E), (ENTRY, 0x0012_3009)],
-         entry(User, w, 0x0012_3005)),
-        (User, true, &[(0x8204, 0x0000_8407), (ENTRY, 0x0012_3001)], &[(0x8204, 0x0000_840F), (ENTRY, 0x0012_3009)],
-         entry(User, w, 0x0012_3005)),
-        // S, from each space
-        (User, true, &[(ENTRY, 0x0012_3081)], &[(ENTRY, 0x0012_3089)], entry(User, s, 0x0012_3081)),
-        (Super, true, &[(ENTRY, 0x0012_3081)], &[(ENTRY, 0x0012_3099)],
-         entry(Super, [false, true, false, true], 0x0012_3091)),
-        // bits 7 to 4 of a table's descriptor say nothing
-        (User, true, &[(0x8204, 0x0000_84F3), (ENTRY, 0x0012_3001)], &[(0x8204, 0x0000_84FB), (ENTRY, 0x0012_3019)],
-         entry(User, m, 0x0012_3011)),
-        // indirect, once and twice, and outside memory
-        (User, true, &[(ENTRY, 0x0000_8502), (0x8500, 0x0012_3001)], &[(0x8500, 0x0012_3019)],
-         entry(User, m, 0x0012_3011)),
-        (User, true, &[(ENTRY, 0x0000_8502), (0x8500, 0x0000_8602), (0x8600, 0x0012_3001)], &[], Found::Invalid),
-        (User, true, &[(ENTRY, 0x0003_0002)], &[], Found::BusError),
-        (User, true, &[(ENTRY, 0xFFFF_FFFE)], &[], Found::BusError),
-        // invalid at each level
-        (User, true, &[(ENTRY, 0x0012_3000)], &[], Found::Invalid),
-        (User, true, &[(0x8204, 0x0000_8401)], &[(0x8204, 0x0000_8401)], Found::Invalid),
-        (User, true, &[(0x8004, 0x0000_8201)], &[(0x8004, 0x0000_8201), (0x8204, 0x0000_8403)], Found::Invalid),
-        // a table outside memory
-        (User, true, &[(0x8004, 0x0003_0002)], &[(0x8004, 0x0003_000A), (0x8204, 0x0000_8403)], Found::BusError),
-        (User, true, &[(0x8204, 0xFFFF_FF03)], &[(0x8204, 0xFFFF_FF0B)], Found::BusError),
-    ];
-    for (space, write, longs, left, wanted) in walks {
+    for &(space, write, longs, left, wanted) in &WALKS {
         let mut bytes = memory(rt.alloc(), &TABLES).expect(&rt, "memory");
         set(&mut bytes, longs);
         let mut after = memory(rt.alloc(), &TABLES).expect(&rt, "memory");
         set(&mut after, longs);
-        set(&mut after, &[(0x8004, 0x0000_820A), (0x8204, 0x0000_840B)]);
+        set(&mut after, &USED_TABLES);
         set(&mut after, left);
         assert!(rt; search(&mut bytes, 0x8000, space, AT, write, false) == wanted);
         assert!(rt; bytes.memory == after.memory, "after {wanted:?}");
@@ -111,20 +118,22 @@ fn walks_by_hand(rt: HostRuntime) {
     assert!(rt; search(&mut bytes, 0x10_0000, Super, 0, false, false) == Found::BusError);
 }
 
+/// An address, whether pages have 8 KiB, the page's descriptor, the page, its frame and MMUSR, where one is found, and
+/// the descriptor afterwards.
+#[rattlefmt::skip]
+static BIG_WALKS: [(u32, bool, u32, Option<(u32, u32, u32)>, u32); 5] = [
+    (0x3456, true, 0x0000_A001, Some((3, 0xB, 0x0000_A001)), 0x0000_A009),
+    (0x2456, true, 0x0000_A001, Some((2, 0xA, 0x0000_A001)), 0x0000_A009),
+    // bit 12 of the descriptor is none of the frame's, and MMUSR's is 0
+    (0x2FFC, true, 0x0000_B001, Some((2, 0xA, 0x0000_A001)), 0x0000_B009),
+    (0x3456, false, 0x0000_A001, None, 0x0000_A001),
+    (0x1456, false, 0x0000_A001, Some((1, 0xA, 0x0000_A001)), 0x0000_A009),
+];
+
 #[test]
 #[rattlefmt::skip]
 fn walks_through_pages_of_8_kib(rt: HostRuntime) {
-    // An address, whether pages have 8 KiB, the page's descriptor, the page, its frame and MMUSR, where one is found,
-    // and the descriptor afterwards.
-    let walks: [(u32, bool, u32, Option<(u32, u32, u32)>, u32); 5] = [
-        (0x3456, true, 0x0000_A001, Some((3, 0xB, 0x0000_A001)), 0x0000_A009),
-        (0x2456, true, 0x0000_A001, Some((2, 0xA, 0x0000_A001)), 0x0000_A009),
-        // bit 12 of the descriptor is none of the frame's, and MMUSR's is 0
-        (0x2FFC, true, 0x0000_B001, Some((2, 0xA, 0x0000_A001)), 0x0000_B009),
-        (0x3456, false, 0x0000_A001, None, 0x0000_A001),
-        (0x1456, false, 0x0000_A001, Some((1, 0xA, 0x0000_A001)), 0x0000_A009),
-    ];
-    for (at, big, long, found, left) in walks {
+    for &(at, big, long, found, left) in &BIG_WALKS {
         let tables = [(0x8000, 0x0000_8202), (0x8200, 0x0000_8402)];
         let mut bytes = memory(rt.alloc(), &tables).expect(&rt, "memory");
         set(&mut bytes, &[(0x8404, long)]);
@@ -176,6 +185,6 @@ fn registers_descriptors_and_results_by_hand(rt: HostRuntime) {
         (page.modified, page.supervisor, page.global, page.frame) == (true, true, true, 0x123)
     );
     assert!(rt; PageDescriptor::of(0x0000_8502).indirect);
-    assert!(rt; entry(User, [false; 4], 0x0012_3001).status() == 0x0012_3001);
+    assert!(rt; Found::Entry(KEPT, 0x0012_3001).status() == 0x0012_3001);
     assert!(rt; (Found::Invalid.status(), Found::BusError.status()) == (0, 0x800));
 }

@@ -95,7 +95,7 @@ pub seated_behind : (g : Seat) (ram : List ℕ) {h : Seat} {next : List ℕ} (m 
 seated_behind g ram {h} {next} m end cpu s bytes apart t means =
     again g h ram next s t
     (subst (Fine g.size) (ap (λ (x : (StepEnd × Cpu) × Guest). x.1) means)
-        (runs_keep_truth g.size m (world_of (guested_on g ram)) (fine_of g ram s bytes apart)))
+    (runs_keep_truth g.size m (world_of (guested_on g ram)) (fine_of g ram s bytes apart)))
 
 -- and where an access was made, or none.
 pub seated_refilled : (g : Seat) (ram : List ℕ) {h : Seat} {next : List ℕ} (r : Reference) (b : Bool) → IsSeated g ram → AreBytes ram → Apart g.kept

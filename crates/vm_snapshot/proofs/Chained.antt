@@ -11,7 +11,7 @@ use Rattle.vm_snapshot.specs.Parts.{perhaps, read_perhaps}
 
 mapped_cons : {A B : Type 0} (f : A → B) (a : A) (r : Reading (List A))
     → mapped (λ (v : B × List B). v.0 ∷ v.1) (mapped (λ b. (f a, b)) (mapped (map f) r)) ≡ mapped (map f)
-        (mapped (λ (v : A × List A). v.0 ∷ v.1) (mapped (λ b. (a, b)) r))
+    (mapped (λ (v : A × List A). v.0 ∷ v.1) (mapped (λ b. (a, b)) r))
 mapped_cons f a (Read later rest) = refl
 mapped_cons f a Short = refl
 mapped_cons f a (Wrong rest) = refl
@@ -85,7 +85,7 @@ module _ {A D S : Type 0} (g : Chain A D S) (empty : (s : S) → (g.item s).read
   -- an item before others
   joined_some : (a : A) (d : D) (l : List (A × Option D)) (r : Reading (Unit {0}))
       → mapped item_before (mapped (λ b. (a, b)) (mapped First
-          (mapped (λ later. (d, later)) (mapped (λ (v : List (A × Option D) × Unit {0}). v.0) (mapped (λ b. (l, b)) r)))))
+      (mapped (λ later. (d, later)) (mapped (λ (v : List (A × Option D) × Unit {0}). v.0) (mapped (λ b. (l, b)) r)))))
       ≡ mapped (λ (v : List (A × Option D) × Unit {0}). v.0) (mapped (λ b. ((a, Some d) ∷ l, b)) r)
   joined_some a d l (Read v rest) = refl
   joined_some a d l Short = refl

@@ -70,5 +70,5 @@ pub lines_fit : (rows : ℕ) (text left : List ℕ) (lines : List RamLine) → r
     → All (λ (line : RamLine). line.at + 16 ≤ 16 * rows) lines
 lines_fit rows text left lines few e =
     let said : Says (memory rows) text (Read lines left) = subst (λ (r : Reading (List RamLine)). Says (memory rows) text r) e
-        ((memory_spells rows few).says text) in
+    ((memory_spells rows few).says text) in
     until_fit rows rows 0 lines said.0

@@ -28,7 +28,7 @@ more_on {start} {here} new {before} {items} later {most} {more} b m some apart r
   all = pushed ∙ (ap (λ (l : List ℕ). l ++ b ∷ []) m.all ∙ append_assoc before m.values (b ∷ []));
   going =
       until_on pairs 10 start here new most tt more (more - 1) tt m.values (m.values ++ b ∷ []) b pair_marked m.going (one_less more some) refl apart read
-          passed
+      passed
       refl;
 }
 

@@ -21,14 +21,24 @@ returns-in_err-lines-clause-reads c =
     c.in_err-lines.ensures.reads
     (record {
       short = λ e.
-          rw
-          (c.in_ok-blocks.ensures.reads, c.in_ok-block.ensures.reads, c.in_ok-outcome.ensures.reads, c.in_ok-position.ensures.reads,
-              c.in_ok-buffer.ensures.reads, e)
+          rw (
+            c.in_ok-blocks.ensures.reads,
+            c.in_ok-block.ensures.reads,
+            c.in_ok-outcome.ensures.reads,
+            c.in_ok-position.ensures.reads,
+            c.in_ok-buffer.ensures.reads,
+            e,
+          )
           refl;
       wrong = λ rest e.
-          rw
-          (c.in_ok-blocks.ensures.reads, c.in_ok-block.ensures.reads, c.in_ok-outcome.ensures.reads, c.in_ok-position.ensures.reads,
-              c.in_ok-buffer.ensures.reads, e)
+          rw (
+            c.in_ok-blocks.ensures.reads,
+            c.in_ok-block.ensures.reads,
+            c.in_ok-outcome.ensures.reads,
+            c.in_ok-position.ensures.reads,
+            c.in_ok-buffer.ensures.reads,
+            e,
+          )
           refl;
     })
 

@@ -7,8 +7,12 @@ use Rattle.vm_snapshot.proofs.dump_reading.dump.Goals as goal
 
 pub loop-left-init : goal.loop-left-init
 loop-left-init c =
-    record { going = times_begun dump_byte next_column _ _ _ _ _ refl c.new-bytes.ensures.items; small = omega arith; all = rw c.new-bytes.ensures.items
-        (omega arith) }
+    record {
+      going = times_begun dump_byte next_column _ _ _ _ _ refl c.new-bytes.ensures.items;
+      small = omega arith;
+      all = rw c.new-bytes.ensures.items
+          (omega arith);
+    }
 
 pub loop-left-preserved : goal.loop-left-preserved
 loop-left-preserved c =

@@ -21,7 +21,7 @@ returns-in_err-disk-clause-reads c =
     let whole : mapped guest_of ((guest_and_disk c.args.guest).read c.args.reader.now.left) ≡ mapped guest_of (mapped (λ d. (g, d)) r) =
     rw (c.in_ok-front.ensures.reads, c.in_ok-told.ensures.reads) refl in
     passed_on _ (λ (d : Option DiskState). d) c.from_residual-in_err-disk.result c.in_err-disk.field-0.0 _ (mapped (option_map state_of) r) _
-        c.from_residual-in_err-disk.ensures.0 c.from_residual-in_err-disk.ensures.1 c.in_err-disk.ensures.reads
+    c.from_residual-in_err-disk.ensures.0 c.from_residual-in_err-disk.ensures.1 c.in_err-disk.ensures.reads
     (stops_as whole (disk_stops g r))
 
 pub returns-clause-reads : goal.returns-clause-reads

@@ -13,7 +13,7 @@ use Rattle.vm_snapshot.proofs.reading.all_guests.Goals as goal
 pub returns-in_err-count-clause-reads : goal.returns-in_err-count-clause-reads
 returns-in_err-count-clause-reads c =
     handed_on _ (λ (n : ℕ). n) c.from_residual.result c.in_err-count.field-0.0 _
-        ((behind (codes "guests ") (ranged (from_to 1 16) 10)).read c.args.reader.now.left) _
+    ((behind (codes "guests ") (ranged (from_to 1 16) 10)).read c.args.reader.now.left) _
     c.from_residual.ensures.0 c.from_residual.ensures.1 c.in_err-count.ensures.reads (counted_stops c.args.reader.now.left)
 
 pub returns-in_err-guests-clause-reads : goal.returns-in_err-guests-clause-reads
@@ -22,7 +22,7 @@ returns-in_err-guests-clause-reads c =
     let n = c.in_ok-count.count in
     let r = read_times guest_at guest_after n 1 left in
     passed_on _ (λ (list : List SnapGuest). list) c.from_residual-in_err-guests.result c.in_err-guests.field-0.0 _ r _
-        c.from_residual-in_err-guests.ensures.0 c.from_residual-in_err-guests.ensures.1 c.in_err-guests.ensures.reads
+    c.from_residual-in_err-guests.ensures.0 c.from_residual-in_err-guests.ensures.1 c.in_err-guests.ensures.reads
     (stops_as (counted_then c.args.reader.now.left left n c.in_ok-count.ensures.least c.in_ok-count.ensures.reads) (ended_stops r))
 
 pub returns-in_err-finish-clause-reads : goal.returns-in_err-finish-clause-reads

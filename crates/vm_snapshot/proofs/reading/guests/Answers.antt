@@ -23,7 +23,7 @@ pub returns-in_err-next-clause-reads : goal.returns-in_err-next-clause-reads
 returns-in_err-next-clause-reads c =
     let l = c.loop-left in
     passed_on _ (λ (g : SnapGuest). g) c.from_residual.result c.in_err-next.field-0.0 _ ((guest_at (l.left - 1) l.number).read l.reader.left) _
-        c.from_residual.ensures.0 c.from_residual.ensures.1 c.in_err-next.ensures.reads
+    c.from_residual.ensures.0 c.from_residual.ensures.1 c.in_err-next.ensures.reads
     (times_stops guest_at guest_after _ _ _ _ _ _ _ _ l.invariant.going (one_less l.left c.loop-left-test.true))
 
 pub returns-clause-reads : goal.returns-clause-reads

@@ -16,7 +16,7 @@ returns-in_err-guests-clause-reads c =
     ≡ mapped plan_of (mapped snapshot_said (mapped (λ v. (c.in_ok-board.board, v)) (mapped (λ v. (c.in_ok-slice.slice, v)) r))) =
     rw (c.in_ok-board.ensures.reads, c.in_ok-slice.ensures.reads) refl in
     passed_on _ (λ (list : List SnapGuest). list) c.from_residual-in_err-guests.result c.in_err-guests.field-0.0 _ (mapped (λ v. map guest_of (v.1)) r) _
-        c.from_residual-in_err-guests.ensures.0 c.from_residual-in_err-guests.ensures.1 c.in_err-guests.ensures.reads
+    c.from_residual-in_err-guests.ensures.0 c.from_residual-in_err-guests.ensures.1 c.in_err-guests.ensures.reads
     (stops_as whole (plan_stops c.in_ok-board.board c.in_ok-slice.slice r))
 
 pub returns-clause-reads : goal.returns-clause-reads
