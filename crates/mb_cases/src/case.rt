@@ -2,6 +2,7 @@
 
 use crate::chunk::{Chunk, UnsaidBits};
 use crate::registers::Registers;
+use std::fmt;
 
 /// A machine before one instruction or a few, and the machine after them as another machine had it.
 #[derive(Drop)]
@@ -27,6 +28,12 @@ pub struct Case {
     pub changes: Vec<Chunk>,
     /// The bits of RAM that may be either.
     pub unsaid_bits: Vec<UnsaidBits>,
+}
+
+impl fmt::Display for Case {
+    fn fmt<W: fmt::Write>(&self, f: &mut fmt::Formatter<W>) -> fmt::Result {
+        write!(f, "{} {} {}", self.number, self.kind, self.words)
+    }
 }
 
 /// The period of the timer where it asks for an interrupt.

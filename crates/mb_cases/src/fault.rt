@@ -1,6 +1,7 @@
 //! Lines that are no case.
 
 use std::alloc::AllocError;
+use std::num::ParseIntError;
 use thiserror::Error;
 
 /// Why a line is no case.
@@ -15,7 +16,7 @@ pub enum CaseFault {
     #[error("a part has a word too many")]
     Further,
     #[error("a number is none, or out of its range")]
-    Number,
+    Number(#[from] ParseIntError),
     #[error("bytes are none")]
     Bytes,
     #[error("no register has the name")]

@@ -11,7 +11,7 @@ pub fn next_word<'a>(words: &mut SplitWhitespace<'a>) -> Result<&'a str, CaseFau
 
 /// A long.
 pub fn read_long(digits: &str) -> Result<u32, CaseFault> {
-    u32::from_str_radix(digits, 16).map_err(|_| CaseFault::Number)
+    Ok(u32::from_str_radix(digits, 16)?)
 }
 
 /// The next word as a long.
@@ -21,7 +21,7 @@ pub fn next_long(words: &mut SplitWhitespace<'_>) -> Result<u32, CaseFault> {
 
 /// The next word as a status register.
 pub fn next_status(words: &mut SplitWhitespace<'_>) -> Result<u32, CaseFault> {
-    let status = u16::from_str_radix(next_word(words)?, 16).map_err(|_| CaseFault::Number)?;
+    let status = u16::from_str_radix(next_word(words)?, 16)?;
     Ok(u32::from(status))
 }
 

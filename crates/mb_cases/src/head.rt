@@ -38,8 +38,8 @@ pub struct Head<'a> {
 
 /// `both` where two machines agree in all that is compared, `one` where one of them is followed.
 fn read_followed(word: &str) -> Result<(), CaseFault> {
-    match word {
-        "both" | "one" => Ok(()),
+    match word.as_bytes() {
+        b"both" | b"one" => Ok(()),
         _ => Err(CaseFault::Missing),
     }
 }
@@ -48,7 +48,7 @@ fn read_followed(word: &str) -> Result<(), CaseFault> {
 pub fn read_head(part: &str, form: Form) -> Result<Head<'_>, CaseFault> {
     let mut fields = part.split_whitespace();
     let number = next_word(&mut fields)?;
-    let number = number.parse().map_err(|_| CaseFault::Number)?;
+    let number: u32 = number.parse()?;
     let kind = next_word(&mut fields)?;
     read_followed(next_word(&mut fields)?)?;
     let words = next_word(&mut fields)?;

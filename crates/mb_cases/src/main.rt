@@ -35,10 +35,7 @@ use std::{fs, io};
 
 /// Tells a case that does not pass.
 fn tell(rt: &impl Print, file: &str, case: &Case, found: Difference) -> io::Result<()> {
-    println!(rt;
-        "{file} {} {} {}: {found}",
-        case.number, case.kind, case.words
-    )
+    println!(rt; "{file} {case}: {found}")
 }
 
 /// Runs cases one after the other, and tells those that do not pass: how many pass.

@@ -19,7 +19,7 @@ struct After {
 fn read_change(after: &mut After, word: &str) -> Result<(), CaseFault> {
     let (name, rest) = word.split_once('=').ok_or(CaseFault::Missing)?;
     let (digits, mask) = split_mask(rest);
-    if name == "MASK" {
+    if matches!(name.as_bytes(), b"MASK") {
         after.unsaid[SR] = read_long(digits)?;
         return Ok(());
     }

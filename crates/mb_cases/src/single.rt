@@ -26,7 +26,7 @@ pub struct Single {
 /// `VECTOR:HANDLER`, the vector's number in decimal.
 fn read_vector(word: &str) -> Result<(u32, u32), CaseFault> {
     let (number, handler) = word.split_once(':').ok_or(CaseFault::Missing)?;
-    let number: u8 = number.parse().map_err(|_| CaseFault::Number)?;
+    let number: u8 = number.parse()?;
     Ok((4 * u32::from(number), read_long(handler)?))
 }
 

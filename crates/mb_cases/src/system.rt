@@ -130,7 +130,7 @@ impl System {
         before: &mut Registers,
     ) -> Result<System, CaseFault> {
         let steps = next_word(words)?;
-        let steps = steps.parse().map_err(|_| CaseFault::Number)?;
+        let steps: u8 = steps.parse()?;
         let start = next_long(words)?;
         let frame = next_long(words)?;
         before[PC] = next_long(words)?;
@@ -143,7 +143,7 @@ impl System {
         next_longs(words, &mut before[A0..USP])?;
         let interrupted = match words.next() {
             None => false,
-            Some("IRQ") => true,
+            Some(word) if matches!(word.as_bytes(), b"IRQ") => true,
             Some(_) => return Err(CaseFault::Further),
         };
         Ok(System {
