@@ -1,9 +1,8 @@
 pub mod Lines
-pub mod CutSteps
-pub mod Digits
-pub mod LineCuts
-pub mod NumberWords
+pub mod Numbers
+pub mod NoDirectives
 pub mod Sources
 pub mod Placed
 pub mod DataLines
+pub mod Instructions
 pub mod Gives

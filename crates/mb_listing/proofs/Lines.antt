@@ -53,7 +53,7 @@ module _ {ram : List ℕ} {at lines place : ℕ} {words : List ℕ} {line : Line
   text_first : (more : ℕ) → listing ram place (suc more) ≡ line_text line ++ listing ram (behind place line) more
   text_first more = line_first ram more place words line (sym h.read) h.some h.said
 
-  one_more : listing ram at (lines + 1) ≡ listing ram at lines ++ line_text line
+  pub one_more : listing ram at (lines + 1) ≡ listing ram at lines ++ line_text line
   one_more =
       h.goes_on 1
       ∙ ap (λ (text : List ℕ). listing ram at lines ++ text) (text_first 0)

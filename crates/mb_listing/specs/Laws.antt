@@ -1,7 +1,12 @@
 -- What the lines of a listing are.
-use Rattle.std.specs.Prelude.{◌≡◌, ◌≤◌, ◌<◌, ◌^◌, length, ℕ, List, [], ◌∷◌, All, Ok}
+use Rattle.std.specs.Prelude.{◌≡◌, ◌≤◌, ◌<◌, ◌^◌, ◌++◌, length, ℕ, List, [], ◌∷◌, All, Ok, codes}
 use Rattle.mb_asm.specs.Texts.{assembled}
-use Rattle.mb_listing.specs.Listing.{Line, bytes_of, lines_of, source_at}
+use Rattle.mb_statement.specs.Numbers.{number}
+use Rattle.mb_listing.specs.Listing.{Line, bytes_of, lines_of}
+
+-- the source of a text at an address: ` ORG ` and the address, and on the next line a blank and the text
+abbrev pub source_at : ℕ → List ℕ → List ℕ
+source_at at text = codes " ORG " ++ number at ++ 10 ∷ 32 ∷ text ++ 10 ∷ []
 
 -- Assembled at its address, the text gives just the words.
 abbrev pub GivesItsWords : Line → Type 0

@@ -6,34 +6,31 @@ use Rattle.std.specs.Str.{bytes_eq}
 use Rattle.mb_decode.specs.declared.front.Decoded.{Decoded}
 use Rattle.mb_decode.specs.declared.front.Decoded.TheVariants.{Whole}
 use Rattle.mb_decode.specs.Decodes.{decode_of}
-use Rattle.mb_asm.specs.Texts.{Fault, assembled}
+use Rattle.mb_instr.specs.declared.instruction.Instr.{Instr}
+use Rattle.mb_instr.specs.Codes.{words_of}
+use Rattle.mb_instr.specs.Rows.{row}
+use Rattle.mb_mnemonics.specs.declared.fault.MeansFault.{MeansFault}
+use Rattle.mb_mnemonics.specs.Means.{meaning}
 use Rattle.mb_report.specs.Digits.{digits, hex8}
 use Rattle.mb_statement.specs.Numbers.{number}
-use Rattle.mb_statement.specs.Statements.{statement_of}
+use Rattle.mb_statement.specs.Statements.{Statement, statement_of}
 use Rattle.mb_statement.specs.Texts.{statement_text}
+use Rattle.mb_statement.specs.Written.{is_written}
 
--- ---- whether a text gives the words
+-- ---- whether a statement says the words
 
 -- the bytes of words, the high one first
 abbrev pub bytes_of : List ℕ → List ℕ
 bytes_of words = flat_map (λ word. word / 256 ∷ word % 256 ∷ []) words
 
--- the source of a text at an address: ` ORG $` and the address, and on the next line a blank and the text
-abbrev pub source_at : ℕ → List ℕ → List ℕ
-source_at at text = codes " ORG $" ++ hex8 at ++ 10 ∷ 32 ∷ text ++ 10 ∷ []
+-- these words spell the instruction that is meant
+abbrev pub is_spelled : List ℕ → Result Instr MeansFault → Bool
+is_spelled words (Ok i) = bytes_eq (words_of (row i)) words
+is_spelled words (Err fault) = false
 
--- one chunk, at the address, of just these bytes
-abbrev pub is_one_chunk : ℕ → List ℕ → List (ℕ × List ℕ) → Bool
-is_one_chunk at bytes ((start, content) ∷ []) = (start == at) && bytes_eq content bytes
-is_one_chunk at bytes _ = false
-
-abbrev pub is_image_of : ℕ → List ℕ → Result (List (ℕ × List ℕ)) Fault → Bool
-is_image_of at bytes (Ok contents) = is_one_chunk at bytes contents
-is_image_of at bytes (Err fault) = false
-
--- Assembled at the address, the text gives just these words.
-abbrev pub gives : ℕ → List ℕ → List ℕ → Bool
-gives at words text = is_image_of at (bytes_of words) (assembled (source_at at text))
+-- A statement at an even address is what its text is read as, and means the instruction that these words spell.
+abbrev pub says : ℕ → List ℕ → Statement → Bool
+says at words s = (at % 2 == 0) && is_written s && is_spelled words (meaning s.name s.size s.operands at)
 
 -- ---- lines
 
@@ -47,13 +44,13 @@ pub record Line : Type 0 where
 abbrev pub data_line : ℕ → ℕ → Line
 data_line at word = record { at = at; words = word ∷ []; text = codes "DC.W " ++ number word }
 
--- The text of the words' statement, where it gives just these words; else the first word alone.
-abbrev pub line_by : ℕ → ℕ → List ℕ → List ℕ → Line
-line_by at first words text =
-    if gives at words text then record { at = at; words = words; text = text } else data_line at first
+-- The text of the words' statement, where it says just these words; else the first word alone.
+abbrev pub line_by : ℕ → ℕ → List ℕ → Statement → Line
+line_by at first words s =
+    if says at words s then record { at = at; words = words; text = statement_text s } else data_line at first
 
 abbrev pub line_read : ℕ → ℕ → List ℕ → Decoded → Line
-line_read at first words (Whole i n) = line_by at first (take n words) (statement_text (statement_of at i))
+line_read at first words (Whole i n) = line_by at first (take n words) (statement_of at i)
 line_read at first words _ = data_line at first
 
 -- The line at an address by the words that begin there, as far as memory has them; there is one at least.

@@ -1,21 +1,40 @@
 //! Lines of the listing.
 
-ghost use Rattle.std.specs.Prelude.{◌≡◌, ◌+◌, ◌<◌, ◌≤◌, ◌++◌, IfOk, codes, length, slice_index, take};
+ghost use Rattle.std.specs.Prelude.{◌≡◌, ◌+◌, ◌*◌, ◌<◌, ◌≤◌, ◌++◌, codes, length, slice_index, take};
 ghost use Rattle.arrayvec.specs.ArrayVec.{array_vec_len};
+ghost use Rattle.mb_mnemonics.specs.Means.{meaning};
 ghost use Rattle.mb_statement.specs.Numbers.{number};
-ghost use Rattle.mb_statement.specs.Statements.{statement_of};
 ghost use Rattle.mb_statement.specs.Texts.{statement_text};
+ghost use Rattle.mb_statement.specs.Answers.{statement_said};
 ghost use Rattle.mb_listing.specs.Answers.{line_said};
-ghost use Rattle.mb_listing.specs.Listing.{data_line, line_at, line_text};
+ghost use Rattle.mb_listing.specs.Listing.{bytes_of, data_line, is_spelled, line_at, line_text, says};
 ghost use Rattle.mb_instr.specs.declared.counts.TheConstants.{MOST_WORDS};
 
-use crate::source::{bytes_of, gives};
+use arrayvec::ArrayVec;
 use mb_decode::{Decoded, decode};
-use mb_instr::Instr;
-use mb_outside::Memory;
+use mb_encode::encode;
+use mb_mnemonics::instruction_of;
 use mb_report::{hex8, push_digits};
-use mb_statement::{LineText, push_bytes, push_number, push_statement, statement_of};
-use std::alloc::Global;
+use mb_statement::{
+    LineText, Statement, is_written, push_bytes, push_number, push_statement, statement_of,
+};
+
+/// The bytes of as many words as the longest instruction has.
+type Bytes = ArrayVec<u8, 22>;
+
+/// The bytes of words, the high one first.
+fn bytes_of(words: &[u16]) -> Bytes
+    requires { length words.now ≤ MOST_WORDS }
+    ensures bytes { result.items ≡ bytes_of words.now }
+    ensures len { array_vec_len result ≡ 2 * length words.now }
+{
+    let mut bytes = Bytes::new();
+    for word in words {
+        bytes.push((*word >> 8) as u8);
+        bytes.push((*word & 0xff) as u8);
+    }
+    bytes
+}
 
 /// An address, words that stand there, and their text.
 #[derive(Drop)]
@@ -33,12 +52,13 @@ fn front_of(words: &[u16], count: usize) -> &[u16]
     &words[..words.len().min(count)]
 }
 
-fn statement_text(at: u32, instruction: &Instr) -> LineText
-    ensures text { result.items ≡ statement_text (statement_of at instruction.now) }
+fn statement_text(statement: &Statement) -> LineText
+    requires { length statement.now.name.now ≤ 8 }
+    ensures text { result.items ≡ statement_text (statement_said statement.now) }
     ensures short { array_vec_len result ≤ 301 }
 {
     let mut text = LineText::new();
-    push_statement(&mut text, &statement_of(at, instruction));
+    push_statement(&mut text, statement);
     text
 }
 
@@ -66,27 +86,49 @@ fn data_line(at: u32, words: &[u16]) -> Line<'_>
     }
 }
 
+/// Whether a statement means the instruction that the words spell.
+fn is_meant(at: u32, words: &[u16], statement: &Statement) -> bool
+    ensures { result ≡ is_spelled words.now (meaning (statement_said statement.now).name statement.now.size
+        (statement_said statement.now).operands at) }
+{
+    let operands = statement.operands.as_slice();
+    match instruction_of(statement.name, statement.size, operands, at) {
+        Ok(instruction) => match encode(&instruction) {
+            Ok(spelled) => spelled.as_slice() == words,
+            Err(_) => false,
+        },
+        Err(_) => false,
+    }
+}
+
+/// Whether a statement at an even address is what its text is read as, and says just these words.
+fn says(at: u32, words: &[u16], statement: &Statement) -> bool
+    ensures { result ≡ says at words.now (statement_said statement.now) }
+{
+    at % 2 == 0 && is_written(statement) && is_meant(at, words, statement)
+}
+
 /// The line at an address by the words that begin there, as far as memory has them.
-pub(crate) fn line_at(alloc: Global, at: u32, words: &[u16]) -> Result<Line<'_>, Memory>
+pub(crate) fn line_at(at: u32, words: &[u16]) -> Line<'_>
     requires some { 0 < length words.now }
     requires few { length words.now ≤ MOST_WORDS }
-    ensures line { IfOk result (λ line. line_said line ≡ line_at at words.now) }
-    ensures few { IfOk result (λ line. length line.words.now ≤ length words.now) }
-    ensures short { IfOk result (λ line. array_vec_len line.text ≤ 301) }
+    ensures line { line_said result ≡ line_at at words.now }
+    ensures few { length result.words.now ≤ length words.now }
+    ensures short { array_vec_len result.text ≤ 301 }
 {
     let Decoded::Whole(instruction, count) = decode(words) else {
-        return Ok(data_line(at, words));
+        return data_line(at, words);
     };
     let front = front_of(words, count as usize);
-    let text = statement_text(at, &instruction);
-    if gives(alloc, at, front, text.as_slice())? {
-        Ok(Line {
+    let statement = statement_of(at, &instruction);
+    if says(at, front, &statement) {
+        Line {
             at,
             words: front,
-            text,
-        })
+            text: statement_text(&statement),
+        }
     } else {
-        Ok(data_line(at, words))
+        data_line(at, words)
     }
 }
 

@@ -1,16 +1,16 @@
 //! The listing of a memory.
 
-ghost use Rattle.std.specs.Prelude.{◌≡◌, ◌+◌, ◌*◌, ◌%◌, ◌<◌, ◌≤◌, ◌++◌, ◌^◌, length, IfOk, IsErrOf, OnOk};
+ghost use Rattle.std.specs.Prelude.{◌≡◌, ◌+◌, ◌*◌, ◌<◌, ◌≤◌, ◌++◌, ◌^◌, length};
 ghost use Rattle.arrayvec.specs.ArrayVec.{array_vec_len};
-ghost use Rattle.mb_outside.specs.Prints.{Printed, PrintedPart};
+ghost use Rattle.mb_outside.specs.Prints.{Prints};
+ghost use Rattle.mb_report.specs.Buffered.{Buffers};
 ghost use Rattle.mb_listing.specs.Listing.{words_in, words_at, listing};
 
-use crate::fault::ListFault;
 use crate::line::{line_at, line_text};
 use arrayvec::ArrayVec;
 use mb_instr::MOST_WORDS;
-use mb_outside::{Memory, Sink, put_all};
-use std::alloc::Global;
+use mb_outside::{Sink, SinkFault};
+use mb_report::Buffered;
 
 /// As many words as the longest instruction has.
 type Words = ArrayVec<u16, MOST_WORDS>;
@@ -41,46 +41,33 @@ fn words_at(ram: &[u8], at: usize) -> Words
     words
 }
 
-/// The text of so many lines of a memory, from an address on.
-fn listing_text(alloc: Global, ram: &[u8], at: u32, count: u32) -> Result<Vec<u8>, Memory>
+/// Writes the lines of a memory, so many from an address on, behind what is held.
+fn write_lines<O: Sink>(text: &mut Buffered, out: &mut O, ram: &[u8], at: u32, count: u32)
     requires { length ram.now ≤ 2 ^ 32 }
-    ensures text { IfOk result (λ text. text.items ≡ listing ram.now at count) }
+    ensures { Buffers text.old text.new (O.taken out.old) (O.taken out.new) (O.faults out.old) (O.faults out.new)
+        (listing ram.now at count) }
 {
-    let mut text = Vec::new(alloc);
     let mut place = at as usize;
     for _line in 0..count {
         let words = words_at(ram, place);
         if words.is_empty() {
             break;
         }
-        let line = line_at(alloc, place as u32, words.as_slice())?;
-        text.extend_from_slice(line_text(&line).as_slice())?;
+        let line = line_at(place as u32, words.as_slice());
+        text.add(out, line_text(&line).as_slice());
         place += 2 * line.words.len();
     }
-    Ok(text)
 }
 
 /// Writes the listing of so many lines of a memory, from an address on: each line the address, words and the text of
-/// the assembler that gives just these words there, else the first word as a number. A line whose first word is outside
-/// the memory ends the listing. The whole listing is made before a byte of it is put.
-pub fn list_memory<O: Sink>(
-    alloc: Global,
-    ram: &[u8],
-    at: u32,
-    count: u32,
-    out: &mut O,
-) -> Result<(), ListFault>
-    requires size { length ram.now ≤ 2 ^ 32 }
-    requires even { at % 2 ≡ 0 }
-    ensures printed { OnOk result (Printed (O.taken out.old) (O.taken out.new) (O.faults out.old) (O.faults out.new)
-        (listing ram.now at count)) }
-    ensures cut { IsErrOf result ListFault.Sink
-        → PrintedPart (O.taken out.old) (O.taken out.new) (O.faults out.old) (O.faults out.new)
-        (listing ram.now at count) }
-    ensures kept { IsErrOf result ListFault.Memory
-        → (O.taken out.new ≡ O.taken out.old) × (O.faults out.new ≡ O.faults out.old) }
+/// the assembler that says just these words there, else the first word as a number. A line whose first word is outside
+/// the memory ends the listing.
+pub fn list_memory<O: Sink>(ram: &[u8], at: u32, count: u32, out: &mut O) -> Result<(), SinkFault>
+    requires { length ram.now ≤ 2 ^ 32 }
+    ensures { Prints (O.taken out.old) (O.taken out.new) (O.faults out.old) (O.faults out.new)
+        (listing ram.now at count) result }
 {
-    let text = listing_text(alloc, ram, at, count)?;
-    put_all(out, &text)?;
-    Ok(())
+    let mut text = Buffered::new();
+    write_lines(&mut text, out, ram, at, count);
+    text.finish(out)
 }

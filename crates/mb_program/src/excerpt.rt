@@ -8,7 +8,7 @@ ghost use Rattle.mb_program.specs.Ends.{GivesUncounted, sink_seen};
 
 use crate::end::End;
 use crate::opening::opening_ram;
-use mb_listing::{ListFault, list_memory};
+use mb_listing::list_memory;
 use mb_outside::Sink;
 use mb_srec::Image;
 use mb_words::Dis;
@@ -23,9 +23,8 @@ pub(crate) fn show_excerpt<O: Sink>(alloc: Global, dis: &Dis, image: &Image, out
     let Ok(ram) = opening_ram(alloc, image, 1024 * dis.ram) else {
         return End::Memory;
     };
-    match list_memory(alloc, &ram, dis.at, dis.count, out) {
+    match list_memory(&ram, dis.at, dis.count, out) {
         Ok(()) => End::Done,
-        Err(ListFault::Memory) => End::Memory,
-        Err(ListFault::Sink) => End::Output,
+        Err(_) => End::Output,
     }
 }

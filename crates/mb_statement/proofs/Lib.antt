@@ -1,0 +1,11 @@
+pub mod Digits
+pub mod Lexemes
+pub mod Spelled
+pub mod PartsRead
+pub mod ModesRead
+pub mod ListsRead
+pub mod OperandsRead
+pub mod Fits
+pub mod Said
+pub mod StatementsSaid
+pub mod StatementsRead

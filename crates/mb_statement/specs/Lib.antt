@@ -4,4 +4,6 @@ pub mod Names
 pub mod Statements
 pub mod Groups
 pub mod Texts
+pub mod Written
+pub mod Read
 pub mod Answers

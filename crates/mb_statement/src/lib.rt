@@ -5,6 +5,7 @@
 //! who lists it tests what it means.
 #![tactic(auto)]
 
+pub mod laws;
 mod modes;
 mod names;
 mod numbers;
@@ -12,8 +13,10 @@ mod operands;
 mod statement;
 mod table;
 mod text;
+mod written;
 
 pub use numbers::{LineText, push_number};
 pub use statement::{Operands, Statement};
 pub use table::statement_of;
 pub use text::{asks_full, push_bytes, push_statement};
+pub use written::is_written;

@@ -8,7 +8,7 @@ use mb_instr::Size;
 use mb_syntax::{Operand, SizeLetter};
 
 /// At most three operands.
-#[derive(Debug, Drop)]
+#[derive(Drop)]
 pub enum Operands {
     Nothing,
     One([Operand<i64>; 1]),
@@ -31,7 +31,7 @@ impl Operands {
 }
 
 /// The name of an operation, its size where one is written, and its operands.
-#[derive(Debug, Drop)]
+#[derive(Drop)]
 pub struct Statement {
     pub name: &'static [u8],
     pub size: Option<SizeLetter>,

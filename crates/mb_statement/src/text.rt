@@ -198,7 +198,7 @@ pub fn asks_full(form: &FullForm<i64>) -> bool
 }
 
 /// An index that the form has anyway is left out, where something else asks for the full form.
-fn is_left_out(form: &FullForm<i64>) -> bool
+pub(crate) fn is_left_out(form: &FullForm<i64>) -> bool
     ensures { result ≡ is_left_out form.now }
 {
     is_no_index(form.index) && asks_full(form)

@@ -2,8 +2,8 @@
 //! another disassembler.
 
 use mb_asm::assemble;
-use mb_listing::{ListFault, list_memory};
-use mb_outside::MemSink;
+use mb_listing::list_memory;
+use mb_outside::{MemSink, SinkFault};
 use std::alloc::Global;
 use std::process::Abort;
 use std::test::Fail;
@@ -437,21 +437,15 @@ fn put(ram: &mut [u8], at: u32, bytes: &[u8]) {
 }
 
 /// Puts the listing of so many lines, from an even address on.
-fn list(
-    alloc: Global,
-    ram: &[u8],
-    at: u32,
-    count: u32,
-    out: &mut MemSink,
-) -> Result<(), ListFault> {
+fn list(ram: &[u8], at: u32, count: u32, out: &mut MemSink) -> Result<(), SinkFault> {
     let ram = &ram[..ram.len().min(SIZE as usize)];
-    list_memory(alloc, ram, at & 0xffff_fffe, count, out)
+    list_memory(ram, at & 0xffff_fffe, count, out)
 }
 
 /// The text of that listing.
 fn listed(alloc: Global, ram: &[u8], at: u32, count: u32) -> Result<Vec<u8>, Fail> {
     let mut out = MemSink::new(alloc, 0x1000, Vec::new(alloc))?;
-    list(alloc, ram, at, count, &mut out)?;
+    list(ram, at, count, &mut out)?;
     Ok(Vec::from_slice(alloc, out.bytes())?)
 }
 
@@ -516,9 +510,7 @@ fn listings(rt: HostRuntime) -> Result<(), Fail> {
     let mut ram = vec![in rt.alloc(); 0u8; SIZE as usize]?;
     put(&mut ram, program.place, program.bytes);
     let mut out = MemSink::new(rt.alloc(), 30, Vec::new(rt.alloc()))?;
-    assert!(rt;
-        list(rt.alloc(), &ram, program.at, program.count, &mut out) == Err(ListFault::Sink)
-    );
+    assert!(rt; list(&ram, program.at, program.count, &mut out) == Err(SinkFault));
     assert!(rt; Some(out.bytes()) == program.text.get(..30));
     Ok(())
 }

@@ -1,6 +1,6 @@
 use Rattle.std.proofs.Common.{◌≡◌, ◌*◌, take, length}
 use Rattle.mb_listing.specs.Listing.{bytes_of}
-use Rattle.mb_listing.proofs.source.bytes_of.Given as goal
+use Rattle.mb_listing.proofs.line.bytes_of.Given as goal
 
 abbrev pub invariant-loop-word : goal.invariant-loop-word
 invariant-loop-word l = record {

@@ -1,5 +1,6 @@
 -- The digits of a number spell the number.
-use Rattle.std.proofs.Common.{◌≡◌, ℕ, zero, suc, ◌+◌, ◌-◌, ◌*◌, ◌/◌, ◌%◌, ◌^◌, ◌<◌, Bool, true, false, cond, List, [], ◌∷◌, ◌++◌, length, refl, ◌∙◌, arith, pow-suc}
+use Rattle.std.proofs.Common.{◌≡◌, ℕ, zero, suc, ◌+◌, ◌-◌, ◌*◌, ◌/◌, ◌%◌, ◌^◌, ◌<◌, Bool}
+use Rattle.std.proofs.Common.{true, false, cond, List, [], ◌∷◌, ◌++◌, length, refl, ◌∙◌, arith, pow-suc}
 use Rattle.std.specs.Prelude.{nat_lt}
 use Rattle.std.specs.List.{list_all}
 use Rattle.std.proofs.lemmas.Bool.{ltb-true}
@@ -8,8 +9,8 @@ use Rattle.std.proofs.lemmas.List.{length-append}
 use Rattle.std.proofs.lemmas.List.Folds.{list_all-append}
 use Rattle.mb_asm_text.specs.Kinds.{is_hexadecimal_digit}
 use Rattle.mb_syntax.specs.Words.{digit_value, digits_behind}
-use Rattle.mb_report.specs.Digits.{hex_digit, hex2, hex8}
-use Rattle.mb_statement.specs.Numbers.{last_digits, number}
+use Rattle.mb_report.specs.Digits.{hex_digit}
+use Rattle.mb_statement.specs.Numbers.{last_digits}
 
 -- some digits that spell the value
 pub record Spells (digits : List ℕ) (value : ℕ) : Type 0 where
@@ -36,37 +37,6 @@ pub digits_append : (base n : ℕ) (digits : List ℕ) (digit : ℕ)
     → digits_behind base n (digits ++ digit ∷ []) ≡ base * digits_behind base n digits + digit_value digit
 digits_append base n [] digit = refl
 digits_append base n (first ∷ digits) digit = digits_append base (base * n + digit_value first) digits digit
-
--- the digits of a byte
-pub byte_digits : (n byte : ℕ) (rest : List ℕ) → byte < 256 → digits_behind 16 n (hex2 byte ++ rest) ≡ digits_behind 16 (256 * n + byte) rest
-byte_digits n byte rest h =
-    let high : byte / 16 < 16 = omega arith in
-    let low : byte % 16 < 16 = omega arith in
-    let whole : 16 * (16 * n + byte / 16) + byte % 16 ≡ 256 * n + byte = omega arith in
-    rw (hex_digit_value (byte / 16) high, hex_digit_value (byte % 16) low, whole) refl
-
-byte_all : (byte : ℕ) (rest : List ℕ) → byte < 256 → list_all is_hexadecimal_digit rest ≡ true → list_all is_hexadecimal_digit (hex2 byte ++ rest) ≡ true
-byte_all byte rest h all =
-    let high : byte / 16 < 16 = omega arith in
-    let low : byte % 16 < 16 = omega arith in
-    rw (hex_digit_is (byte / 16) high, hex_digit_is (byte % 16) low, all) refl
-
--- the eight digits of a long
-pub hex8_spells : (value : ℕ) → value < 2 ^ 32 → Spells (hex8 value) value
-unfolding hex8
-hex8_spells value h =
-    let whole : 256 * (256 * (256 * (256 * 0 + value / 16777216 % 256) + value / 65536 % 256) + value / 256 % 256) + value % 256 ≡ value = omega arith in
-    record {
-      some = omega arith;
-      all = byte_all (value / 16777216 % 256) (hex2 (value / 65536 % 256) ++ (hex2 (value / 256 % 256) ++ hex2 (value % 256))) (omega arith)
-          (byte_all (value / 65536 % 256) (hex2 (value / 256 % 256) ++ hex2 (value % 256)) (omega arith)
-          (byte_all (value / 256 % 256) (hex2 (value % 256)) (omega arith) (byte_all (value % 256) [] (omega arith) refl)));
-      spelled = byte_digits 0 (value / 16777216 % 256) (hex2 (value / 65536 % 256) ++ (hex2 (value / 256 % 256) ++ hex2 (value % 256))) (omega arith)
-          ∙ byte_digits (256 * 0 + value / 16777216 % 256) (value / 65536 % 256) (hex2 (value / 256 % 256) ++ hex2 (value % 256)) (omega arith)
-          ∙ byte_digits (256 * (256 * 0 + value / 16777216 % 256) + value / 65536 % 256) (value / 256 % 256) (hex2 (value % 256)) (omega arith)
-          ∙ byte_digits (256 * (256 * (256 * 0 + value / 16777216 % 256) + value / 65536 % 256) + value / 256 % 256) (value % 256) [] (omega arith)
-          ∙ whole;
-    }
 
 last_by : (most n : ℕ) (b : Bool) → nat_lt n 16 ≡ b → n < 16 ^ suc most
     → (n / 16 < 16 ^ most → digits_behind 16 0 (last_digits most (n / 16)) ≡ n / 16)
@@ -110,7 +80,3 @@ last_some most n = last_some_by most n (nat_lt n 16)
 -- a number of at most so many digits
 pub last_spells : (most n : ℕ) → n < 16 ^ suc most → Spells (last_digits (suc most) n) n
 last_spells most n h = record { some = last_some most n; all = last_all (suc most) n; spelled = last_spelled (suc most) n h }
-
--- a number is `$` and digits that spell it
-pub number_spells : (n : ℕ) → n < 2 ^ 64 → (number n ≡ 36 ∷ last_digits 16 n) × Spells (last_digits 16 n) n
-number_spells n h = (refl, last_spells 15 n h)

@@ -1,0 +1,18 @@
+use Rattle.std.proofs.Common.{◌≡◌, Bool, true, List, refl, sym}
+use Rattle.std.specs.Prelude.{ℤ}
+use Rattle.std.specs.List.{list_all}
+use Rattle.mb_syntax.specs.declared.operand.Operand.{Operand}
+use Rattle.mb_syntax.specs.Statements.{takes_caches}
+use Rattle.mb_statement.specs.Statements.{Statement}
+use Rattle.mb_statement.specs.Answers.{statement_said}
+use Rattle.mb_statement.specs.Written.{is_name, is_operand, is_written}
+use Rattle.mb_statement.proofs.written.is_written.Goals as goal
+
+written_by : (s : Statement) (caches r : Bool) (os : List (Operand ℤ)) → is_name s.name ≡ true → caches ≡ takes_caches s.name → os ≡ s.operands
+    → r ≡ list_all (is_operand caches) os → r ≡ is_written s
+unfolding is_written
+written_by s caches r os n k o e = rw (e, o, k, n) refl
+
+pub returns-then-is_name : goal.returns-then-is_name
+returns-then-is_name c =
+    written_by (statement_said c.args.statement.now) _ _ _ (sym c.if-is_name.ensures) c.takes_caches.ensures c.as_slice.ensures.operands c.are_operands.ensures
