@@ -14,7 +14,7 @@ use Rattle.vm_snapshot.specs.Guests.{bit}
 use Rattle.vm_snapshot.specs.Memory.{IsRow, memory, row_lines}
 use Rattle.vm_snapshot.proofs.Memory.{memory_spells}
 
-masked_is : (mask n : ℕ) → masked mask 0 n ≡ true → bit_and n mask ≡ n
+pub masked_is : (mask n : ℕ) → masked mask 0 n ≡ true → bit_and n mask ≡ n
 masked_is mask n e =
     let whole : mask / 16 ^ 0 ≡ mask = omega arith in
     ap (bit_and n) (sym whole) ∙ eqb-true _ _ e
@@ -56,7 +56,7 @@ bit_held (Err why) h = tt
 
 -- ---- lines lie in their memory
 
-row_fits : (rows from : ℕ) (line : RamLine) → IsRow rows from line → line.at + 16 ≤ 16 * rows
+pub row_fits : (rows from : ℕ) (line : RamLine) → IsRow rows from line → line.at + 16 ≤ 16 * rows
 row_fits rows from line is = let aligned = is.aligned in let inside = is.inside in omega (arith, aligned, inside)
 
 until_fit : (rows most from : ℕ) (lines : List RamLine) → LawfulUntil (row_lines rows) most from lines

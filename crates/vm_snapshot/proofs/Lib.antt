@@ -25,6 +25,7 @@ pub mod Counted
 pub mod Held
 pub mod Answered
 pub mod LineCounts
+pub mod Lawful
 pub mod KeptSteps
 pub mod GuestSteps
 pub mod DiskSteps

@@ -1,6 +1,7 @@
 //! A text as a snapshot.
 
-ghost use Rattle.std.specs.Prelude.{◌≡◌, ◌<◌, ◌≤◌, ◌^◌, codes, length, map};
+ghost use Rattle.std.specs.Prelude.{◌≡◌, ◌<◌, ◌≤◌, ◌^◌, codes, length, map, All, IfOk};
+ghost use Rattle.mb_saved.specs.Saved.{IsLawful};
 ghost use Rattle.mb_spelling.specs.Places.{line_count as count_of};
 ghost use Rattle.mb_spelling.specs.Lists.{read_times};
 ghost use Rattle.mb_spelling.specs.Reads.{Reads, lines_to};
@@ -102,7 +103,8 @@ fn line_count(text: &[u8]) -> u32
 /// up to which it begins no snapshot; where it only ends too early, the line after its last.
 pub fn read_snapshot(alloc: Global, text: &[u8]) -> Result<SnapPlan, SnapFault>
     requires { length text.now < 2 ^ 31 }
-    ensures { IsAnswer text.now result }
+    ensures answer { IsAnswer text.now result }
+    ensures lawful { IfOk result (λ plan. All (λ g. IsLawful g.saved) plan.guests.items) }
 {
     let mut reader = Reader::new(text);
     match plan(alloc, &mut reader) {
