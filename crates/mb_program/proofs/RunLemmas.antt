@@ -1,17 +1,19 @@
--- The guests of a session after their rounds have the outcomes of their own runs.
-use Rattle.std.proofs.Common.{◌≡◌, ◌∙◌, ◌<◌, ℕ, ◌+◌, ◌*◌, inl, inr, List, [], ◌∷◌, ◌++◌, map, refl, sym, ap, subst, arith, Result, Ok, Err, sum_by}
+-- The guests of a session after their rounds are as after their own runs.
+use Rattle.std.proofs.Common.{◌≡◌, ◌∙◌, ◌<◌, ℕ, zero, suc, ◌+◌, inl, inr, List, [], ◌∷◌, ◌++◌, map, refl, sym, ap, arith, Result, Ok, Err, sum_by}
 use Rattle.std.specs.Prelude.{◌-◌}
+use Rattle.std.proofs.lemmas.Bool.{cases_Bool}
 use Rattle.std.proofs.lemmas.List.Sums.{sum_by-cons}
 use Rattle.std.proofs.lemmas.Bool.Decides.{leb_tells}
 use Rattle.mb_model.specs.Keeping.{rule_k}
-use Rattle.mb_machine.specs.Machine.{Machine, outcome_of, reset_with, run_of, start}
+use Rattle.mb_machine.specs.Machine.{Machine, reset_with, run_of, start}
 use Rattle.vm_meaning.specs.Marks.{trail}
 use Rattle.vm_meaning.specs.Native.{NativeState}
-use Rattle.vm_machine.specs.Rounds.{Member, left}
+use Rattle.vm_machine.specs.Rounds.{Hosted, Member, all_done, left, left_of_all, members_after, round, rounds}
 use Rattle.vm_machine.specs.Turns.{Tally, exits, prepared, steps_in, turn_of}
 use Rattle.vm_machine.proofs.Counts.{counts_are_steps}
 use Rattle.vm_machine.proofs.ByRule.{guests_run_alone}
 use Rattle.vm_guest.specs.Session.{GuestAtStart, SessionAtStart}
+use Rattle.vm_slices.specs.Adopting.{scripts_of}
 use Rattle.vm_slices.specs.Counting.{AreCounted, exits_by, retired_by, steps_by}
 use Rattle.vm_slices.specs.Fit.{Fits, need_of}
 use Rattle.vm_slices.specs.Places.{HostState}
@@ -19,11 +21,12 @@ use Rattle.vm_slices.proofs.Places.{counted_on}
 use Rattle.mb_script.specs.declared.turn.Turn.{Turn}
 use Rattle.vm_slices.specs.declared.open_fault.OpenFault.{OpenFault}
 use Rattle.vm_slices.specs.declared.open_fault.OpenFault.TheVariants as open_fault
-use Rattle.mb_program.specs.Runs.{Runs}
-use Rattle.vm_slices.specs.Members.{after_rounds, machine_at_end, machines_of, member_at_start, outcomes_of, tallies_of, tally_at_end}
-use Rattle.mb_program.specs.Answers.{outcome_by}
-use Rattle.mb_program.specs.Direct.{CarriedOut, Ordered, hosted_by, tallies_by, tally_by}
-use Rattle.vm_slices.specs.Orders.{after_order}
+use Rattle.vm_slices.specs.Members.{after_rounds, machine_at_end, machines_of, member_at_start, tallies_of, tally_at_end}
+use Rattle.vm_slices.specs.Orders.{after_order, each_given}
+use Rattle.mb_program.specs.Files.{Ordered}
+use Rattle.mb_program.specs.Headline.{alone}
+use Rattle.mb_program.specs.Direct.{CarriedOut, hosted_by, tallies_by, tally_by}
+use Rattle.mb_program.specs.Runs.{IsUnopened}
 
 -- a guest has all its steps left at its start
 all_left : (g : GuestAtStart) → left (member_at_start g) ≡ g.steps
@@ -32,24 +35,48 @@ all_left g =
     let none : g.steps - 0 ≡ g.steps = omega arith in
     none
 
-ended_so : (g : GuestAtStart) → outcome_of (machine_at_end (member_at_start g)) ≡ outcome_by rule_k g
-ended_so g = ap (λ n. outcome_of (run_of rule_k g.script n (start rule_k g.opening g.ram))) (all_left g)
+ended_so : (g : GuestAtStart) → machine_at_end (member_at_start g) ≡ alone rule_k g
+ended_so g = ap (λ n. run_of rule_k g.script n (start rule_k g.opening g.ram)) (all_left g)
 
-all_ended : (guests : List GuestAtStart) → map outcome_of (map machine_at_end (map member_at_start guests)) ≡ map (outcome_by rule_k) guests
+all_ended : (guests : List GuestAtStart) → map machine_at_end (map member_at_start guests) ≡ map (alone rule_k) guests
 all_ended [] = refl
 all_ended (g ∷ guests) =
-    ap (λ s. s ∷ map outcome_of (map machine_at_end (map member_at_start guests))) (ended_so g) ∙ ap (λ ss. outcome_by rule_k g ∷ ss) (all_ended guests)
-
-outcomes_machines : (members : List Member) → outcomes_of members ≡ map outcome_of (machines_of members)
-outcomes_machines [] = refl
-outcomes_machines (m ∷ members) = ap (λ ss. outcome_of m.guest.machine ∷ ss) (outcomes_machines members)
+    ap (λ m. m ∷ map machine_at_end (map member_at_start guests)) (ended_so g) ∙ ap (λ ms. alone rule_k g ∷ ms) (all_ended guests)
 
 -- after the rounds that are promised of a host
-pub outcomes_so : (guests : List GuestAtStart) (before after : List Member) → before ≡ map member_at_start guests
-    → machines_of after ≡ map machine_at_end before
-    → outcomes_of after ≡ map (outcome_by rule_k) guests
-outcomes_so guests before after begun ended =
-    outcomes_machines after ∙ ap (λ ms. map outcome_of ms) (ended ∙ ap (λ ms. map machine_at_end ms) begun) ∙ all_ended guests
+pub machines_so : (guests : List GuestAtStart) (before after : List Member) → before ≡ map member_at_start guests
+    → machines_of after ≡ map machine_at_end before → machines_of after ≡ map (alone rule_k) guests
+machines_so guests before after begun ended = ended ∙ ap (λ ms. map machine_at_end ms) begun ∙ all_ended guests
+
+-- ---- scripts stay
+
+scripts_given : (turns : List Turn) (number : ℕ) (members : List Member) → scripts_of (each_given turns number members) ≡ scripts_of members
+scripts_given turns number [] = refl
+scripts_given turns number (m ∷ members) = ap (λ scripts. m.script ∷ scripts) (scripts_given turns (suc number) members)
+
+scripts_after : (slice : ℕ) (members : List Member) → scripts_of (members_after slice members) ≡ scripts_of members
+scripts_after slice [] = refl
+scripts_after slice (m ∷ members) = ap (λ scripts. m.script ∷ scripts) (scripts_after slice members)
+
+scripts_rounds : (slice n : ℕ) (h : Hosted) → scripts_of (rounds slice n h).members ≡ scripts_of h.members
+unfolding rounds
+scripts_rounds slice zero h = refl
+scripts_rounds slice (suc n) h = elim (cases_Bool (all_done h.members)) [
+  | inl done ↦ rw done refl
+  | inr more ↦ rw more (scripts_rounds slice n (round slice h) ∙ scripts_after slice h.members)
+]
+
+scripts_begun : (guests : List GuestAtStart) → scripts_of (map member_at_start guests) ≡ map (λ (g : GuestAtStart). g.script) guests
+scripts_begun [] = refl
+scripts_begun (g ∷ guests) = ap (λ scripts. g.script ∷ scripts) (scripts_begun guests)
+
+-- each guest has its own after turns and rounds
+pub scripts_so : (guests : List GuestAtStart) (turns : List Turn) (slice : ℕ) (before turned after : List Member) → before ≡ map member_at_start guests
+    → turned ≡ each_given turns 1 before → after ≡ (after_rounds slice turned).members
+    → scripts_of after ≡ map (λ (g : GuestAtStart). g.script) guests
+scripts_so guests turns slice before turned after begun given is =
+    ap scripts_of is ∙ scripts_rounds slice (left_of_all turned) (record { members = turned; marks = [] }) ∙ ap scripts_of given
+    ∙ scripts_given turns 1 before ∙ ap scripts_of begun ∙ scripts_begun guests
 
 -- ---- what is counted
 
@@ -121,7 +148,8 @@ marked_so s slice before turned begun same is =
 -- from the start of all guests to their end
 pub carried_so : (s : Ordered) (slice : ℕ) (before turned after : List Member) (native native_turned native_after : NativeState)
     → before ≡ map member_at_start s.session.guests → slice ≡ s.session.slice → tallies_of after ≡ map tally_at_end before
-    → machines_of after ≡ map machine_at_end before → turned ≡ (after_order s.order before).members → AreCounted before turned (after_order s.order before).marks native native_turned
+    → machines_of after ≡ map machine_at_end before → turned ≡ (after_order s.order before).members → AreCounted before turned
+    (after_order s.order before).marks native native_turned
     → AreCounted turned after (after_rounds slice turned).marks native_turned native_after → CarriedOut s native native_after
 carried_so s slice before turned after native native_turned native_after begun same ended run is first counted =
     let guests = s.session.guests in
@@ -145,12 +173,6 @@ carried_so s slice before turned after native native_turned native_after begun s
       most = omega (arith, most, still, taken);
     }
 
--- the turns that were handed on are the session's
-pub ordered_so : (s : Ordered) (order : List Turn) (native native_after : NativeState) → order ≡ s.order
-    → CarriedOut (record { session = s.session; order = order }) native native_after → CarriedOut s native native_after
-ordered_so s order native native_after same counted =
-    subst (λ (turns : List Turn). CarriedOut (record { session = s.session; order = turns }) native native_after) same counted
-
 -- ---- what preparing a session tells of its size
 
 -- there is a host only of a session that fits
@@ -160,7 +182,7 @@ fits_so s r host fault ok big = elim (leb_tells (need_of s.guests) s.board) [ in
 
 pub not_prepared : {T : Type 0} (s : SessionAtStart) (fault : OpenFault) → (Fits s → fault ≡ open_fault.Memory)
     → (s.board < need_of s.guests → ◌≡◌ {A = Result T OpenFault} (Err fault) (Err (open_fault.Oversize (need_of s.guests) s.board)))
-    → Runs s (Err fault)
+    → IsUnopened s fault
 not_prepared s open_fault.Memory fits big = tt
 not_prepared s (open_fault.Oversize need have) fits big = elim (leb_tells (need_of s.guests) s.board)
     [ inl less ↦ absurd (cc (fits less.1)) | inr more ↦ (more.1, cc (big more.1), cc (big more.1)) ]

@@ -1,17 +1,24 @@
 -- Texts for each of a list, one after the other.
-use Rattle.std.proofs.Common.{◌≡◌, ◌∙◌, ℕ, zero, suc, ◌+◌, ◌-◌, ◌++◌, List, [], ◌∷◌, length, take, drop, sym, ap, append_assoc, arith, Option, Some, Result, Ok, Err}
+use Rattle.std.proofs.Common.{◌≡◌, ◌∙◌, ℕ, zero, suc, ◌+◌, ◌-◌, ◌++◌, List, [], ◌∷◌, length, take, drop, sym, ap, subst, append_assoc, arith, Option, Some, Result, Ok, Err}
 use Rattle.std.specs.Prelude.{slice_get}
 use Rattle.std.proofs.lemmas.List.{append-nil, take-append-drop}
 use Rattle.mb_outside.specs.Prints.{Printed, PrintedPart, Prints}
 use Rattle.mb_outside.proofs.PrintLemmas.{part_more, part_then, printed_then}
 use Rattle.mb_words.specs.Words.{Text}
-use Rattle.mb_program.specs.Answers.{texts_from}
+use Rattle.mb_program.specs.Headline.{texts_from}
 
 -- a text behind one that was printed
 pub printed_before : {E T : Type 0} (r : Result T E) (a b c : Option Text) (s t u : ℕ) (x y : Text) → Printed a b s t x → Prints b c t u y r
     → Prints a c s u (x ++ y) r
 printed_before (Ok done) a b c s t u x y p q = printed_then p q
 printed_before (Err e) a b c s t u x y p q = part_then p q
+
+-- a text that is another's
+pub printed_as : {a b : Option Text} {s t : ℕ} {x y : Text} → x ≡ y → Printed a b s t x → Printed a b s t y
+printed_as {a} {b} {s} {t} same p = subst (λ (text : Text). Printed a b s t text) same p
+
+pub cut_as : {a b : Option Text} {s t : ℕ} {x y : Text} → x ≡ y → PrintedPart a b s t x → PrintedPart a b s t y
+cut_as {a} {b} {s} {t} same p = subst (λ (text : Text). PrintedPart a b s t text) same p
 
 -- the text of one more
 one_more : {A : Type 0} (f : ℕ → A → Text) (i k : ℕ) (xs : List A) (x : A) → slice_get xs k ≡ Some x

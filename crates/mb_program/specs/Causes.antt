@@ -1,111 +1,109 @@
--- What each status says of its cause.
-use Rattle.std.specs.Prelude.{◌≡◌, ◌⊎◌, ◌<◌, ⊤, ℕ, ◌==◌, true, [], codes, if◌then◌else◌}
-use Rattle.std.specs.Prelude.{Option, Some, None, IfSome, is_some, MatchBool}
+-- What each command promises, and what each status says of its cause.
+use Rattle.std.specs.Prelude.{◌≡◌, ◌⊎◌, ◌<◌, ◌*◌, ⊤, ℕ, true, codes, Option, Some, None, IfSome, is_some}
+use Rattle.std.specs.Prelude.{Result, Ok, Err}
 use Rattle.mb_outside.specs.Counts.{Rose}
 use Rattle.mb_outside.specs.Sink.{Grows}
-use Rattle.mb_words.specs.Words.{Text, Asked, bare, assembly, disassembly}
-use Rattle.mb_program.specs.Answers.{Shown, Answer, shows, refuses, oversizes, course_of, answer_of}
-use Rattle.mb_program.specs.Ends.{Around, Said, IsSaid, IsShown, IsCut, IsRefused, IsOversize, IsFileOn, IsMissing}
-use Rattle.mb_program.specs.Ends.{AnswerIs, FailsNowhere, SaysBeside}
-use Rattle.mb_program.specs.Sessions.{IsHosted, IsCompared, IsGenerated}
-use Rattle.mb_program.specs.Tidy.{IsTidyTold}
+use Rattle.mb_walk.specs.Memory.{Contents}
+use Rattle.vm_slices.specs.Fit.{Fits}
+use Rattle.mb_words.specs.Words.{Text, Asked, Run, Excerpt, Workload}
+use Rattle.mb_words.specs.Words.{bare, assembly, disassembly, hosting, comparison, generation}
+use Rattle.mb_machine.specs.Machine.{Entries, Opening}
+use Rattle.mb_files.specs.Reading.{Told, Reading, end_of, file, images}
+use Rattle.mb_files.specs.Comes.{Comes, Names}
+use Rattle.mb_files.specs.Sources.{sources}
+use Rattle.mb_files.specs.Shelves.{IsMissing}
+use Rattle.mb_files.specs.declared.fault.FileWhy.{FileWhy}
+use Rattle.mb_program.specs.Files.{Ordered, machine_files, session_files}
+use Rattle.mb_program.specs.Answers.{Answer, Shown, shows, oversizes, answer_to}
+use Rattle.mb_program.specs.Answers.{bare_shown, asm_shown, dis_shown, host_shown, compare_shown, gen_shown}
+use Rattle.mb_program.specs.Around.{Around, Diag, Gains, GainsPart, IsPut}
+use Rattle.mb_program.specs.Direct.{IsCounted}
 use Rattle.mb_program.specs.Lines.{named, oversize_line, why_text}
-use Rattle.mb_program.specs.declared.end.FileWhy.{FileWhy}
+use Rattle.mb_program.specs.Tidy.{TidyAreSame}
+
+-- ---- commands
+
+-- the text of a command was written: all was done, or some guest differs
+abbrev pub IsDone : ℕ → Type 0
+IsDone status = (status ≡ 0) ⊎ (status ≡ 1)
+
+-- What a command promises that shows this.
+pub record Gives (a : Around) (diag : Diag) (shown : Shown) (status : ℕ) : Type 0 where
+  -- Once it is done, out has gained exactly its text, and diag its lines, or a first part where diag fails;
+  pub printed : IsDone status → Grows a.out.taken a.out_after.taken shown.text
+  pub said : IsDone status → IsPut diag shown.lines
+  -- and where its guests have run under the monitor, the board has carried out each retired step, from the guest's own
+  -- registers to the guest's own registers, and no other.
+  pub counted : IsDone status → IsCounted shown.session a.native a.native_after
+  -- It is done, with this status, unless the shelf failed, out failed, or memory ran out.
+  pub ended : (status ≡ shown.status) ⊎ (status ≡ 5) ⊎ (status ≡ 6) ⊎ (status ≡ 7)
+
+-- The shelf tells the files of a reading, which gives this.
+abbrev pub Gets : {A : Type 0} → Around → Reading A → A → Type 0
+Gets a reading x = end_of a.shelf.told reading ≡ Some (Ok x)
+
+-- ---- statuses
 
 -- the words ask for a command, for which this holds
 abbrev pub Asks : Option Asked → (Asked → Type 0) → Type 0
 Asks None P = ⊥
 Asks (Some asked) P = P asked
 
--- the words ask for a command, and where the answer is known, it is so
-abbrev pub AsksFor : Option Asked → Around → (Answer → Type 0) → Type 0
-AsksFor asked a P = Asks asked (λ command. AnswerIs (course_of command) a P)
+-- the words ask for a command, which by bytes that its files may have comes to this end
+abbrev pub AsksFor : Option Asked → Around → Result Answer (Text × FileWhy) → Type 0
+AsksFor asked a end = Asks asked (λ command. Comes a.shelf.told (answer_to command) end)
 
--- the words ask for a command whose answer is known, and it is so
-abbrev pub IsKnown : Option Asked → Around → (Answer → Type 0) → Type 0
-IsKnown asked a P =
-    Asks asked (λ command. (answer : Answer) × (answer_of command a.shelf.told ≡ Some answer) × P answer)
+-- the words ask for a command whose files are told, and by which a file is refused, or the guests do not fit
+abbrev pub IsRefused : Option Asked → Around → Type 0
+IsRefused asked a = Asks asked (λ command. (name : Text) × (why : FileWhy)
+    × (end_of a.shelf.told (answer_to command) ≡ Some (Err (name, why))))
 
--- a file is refused
-abbrev pub IsRefusal : Answer → Type 0
-IsRefusal (refuses name why) = ⊤
-IsRefusal _ = ⊥
-
--- the guests of a session do not fit
-abbrev pub DoNotFit : Answer → Type 0
-DoNotFit (oversizes need have) = ⊤
-DoNotFit _ = ⊥
+abbrev pub IsOversize : Option Asked → Around → Type 0
+IsOversize asked a = Asks asked (λ command. (need : ℕ) × (have : ℕ) × Gets a (answer_to command) (oversizes need have))
 
 -- the shelf is whole and tells every file of the command
 abbrev pub IsAllTold : Option Asked → Around → Type 0
 IsAllTold asked a =
-    (a.shelf.whole ≡ true) × Asks asked (λ command. is_some (answer_of command a.shelf.told) ≡ true)
+    (a.shelf.whole ≡ true) × Asks asked (λ command. is_some (end_of a.shelf.told (answer_to command)) ≡ true)
 
--- the status is that of what is shown, and out has gained exactly its text; or memory ran out and out is as before
-abbrev pub IsWritten : Around → ℕ → Shown → Type 0
-IsWritten a status shown =
-    ((status ≡ shown.status) × Grows a.out.taken a.out_after.taken shown.text)
-    ⊎ ((status ≡ 7) × (a.out_after.taken ≡ a.out.taken))
+-- What was written, with this status.
+pub record Written (asked : Option Asked) (a : Around) (diag : Diag) (status : ℕ) : Type 0 where
+  pub shown : Shown
+  pub comes : AsksFor asked a (Ok (shows shown))
+  pub status_is : shown.status ≡ status
+  pub gained : Gains a.out a.out_after shown.text
+  pub counted : IsCounted shown.session a.native a.native_after
+  pub line : IsPut diag shown.lines
 
--- what an answer leads to where nothing fails
-abbrev pub LeadsTo : Around → ℕ → Answer → Type 0
-LeadsTo a status (shows shown) = IsWritten a status shown
-LeadsTo a status (refuses name why) = (status ≡ 3) ⊎ (status ≡ 7)
-LeadsTo a status (oversizes need have) = (status ≡ 4) ⊎ (status ≡ 7)
+-- The file that was refused.
+pub record FileRefused (asked : Option Asked) (a : Around) (diag : Diag) : Type 0 where
+  pub name : Text
+  pub why : FileWhy
+  pub comes : AsksFor asked a (Err (name, why))
+  pub line : IsPut diag (named name (why_text why))
 
--- Words that ask for nothing are refused. Where they ask for something whose answer is known, and nothing
--- fails, that answer is given. Either way memory may have run out.
-abbrev pub IsComplete : Option Asked → Around → ℕ → Type 0
-IsComplete None a status = (status ≡ 2) ⊎ (status ≡ 7)
-IsComplete (Some asked) a status = FailsNowhere a → AnswerIs (course_of asked) a (LeadsTo a status)
+-- The numbers of bytes that the guests need and their board has.
+pub record NotFit (asked : Option Asked) (a : Around) (diag : Diag) : Type 0 where
+  pub need : ℕ
+  pub have : ℕ
+  pub comes : AsksFor asked a (Ok (oversizes need have))
+  pub line : IsPut diag (oversize_line need have)
 
--- the line of a status that names no file and has no counts
-abbrev pub line_for : ℕ → Text
-line_for status =
-    if status == 2 then codes "mbx: words refused\n"
-    else if status == 6 then codes "mbx: output failed\n"
-    else if status == 7 then codes "mbx: no memory\n"
-    else []
+-- The file that could not be read: one of the command's, and none that a whole shelf tells.
+pub record FileUnread (asked : Option Asked) (a : Around) (diag : Diag) : Type 0 where
+  pub rose : Rose a.shelf.faults a.shelf_after.faults
+  pub name : Text
+  pub names : Asks asked (λ command. Names a.shelf.told (answer_to command) name)
+  pub missing : IsMissing a.shelf name
+  pub line : IsPut diag (named name (codes " cannot be read\n"))
 
--- the lines of the answer were put
-abbrev pub SaysShown : Option Asked → Around → Said → Type 0
-SaysShown asked a s = Asks asked (λ command. (lines : Text)
-    × SaysBeside (course_of command) a lines
-    × IsSaid s lines)
-
--- the line that refuses a file of the command, with the reason that the answer has, was put
-abbrev pub SaysRefused : Option Asked → Around → Said → Type 0
-SaysRefused asked a s = Asks asked (λ command. (name : Text) × (why : FileWhy)
-    × IsFileOn (course_of command) a name
-    × AnswerIs (course_of command) a (IsRefused name why)
-    × IsSaid s (named name (why_text why)))
-
--- the line with both numbers that the answer has was put
-abbrev pub SaysOversize : Option Asked → Around → Said → Type 0
-SaysOversize asked a s = Asks asked (λ command. (need : ℕ) × (have : ℕ)
-    × AnswerIs (course_of command) a (IsOversize need have)
-    × IsSaid s (oversize_line need have))
-
--- the line that names a file of the command as one that cannot be read was put; a whole shelf does not tell it
-abbrev pub SaysUnread : Option Asked → Around → Said → Type 0
-SaysUnread asked a s = Asks asked (λ command. (name : Text)
-    × IsFileOn (course_of command) a name
-    × IsMissing a.shelf name
-    × IsSaid s (named name (codes " cannot be read\n")))
-
--- the statuses
-abbrev pub IsStatus : ℕ → Type 0
-IsStatus status =
-    (status ≡ 0) ⊎ (status ≡ 1) ⊎ (status ≡ 2) ⊎ (status ≡ 3) ⊎ (status ≡ 4) ⊎ (status ≡ 5) ⊎ (status ≡ 6)
-    ⊎ (status ≡ 7)
-
--- what belongs to the status was put, or a first part of it before diag failed, and nothing more
-abbrev pub Says : Option Asked → Around → Said → ℕ → Type 0
-Says asked a s status =
-    MatchBool (status == 0) (SaysShown asked a s)
-    (MatchBool (status == 3) (SaysRefused asked a s)
-    (MatchBool (status == 4) (SaysOversize asked a s)
-    (MatchBool (status == 5) (SaysUnread asked a s) (IsSaid s (line_for status)))))
+-- What was cut: out took a first part of it.
+pub record Cut (asked : Option Asked) (a : Around) (diag : Diag) : Type 0 where
+  pub rose : Rose a.out.faults a.out_after.faults
+  pub shown : Shown
+  pub comes : AsksFor asked a (Ok (shows shown))
+  pub part : GainsPart a.out a.out_after shown.text
+  pub line : IsPut diag (codes "mbx: output failed\n")
 
 -- the words ask for nothing, or for a command without guests
 abbrev pub HostsNothing : Option Asked → Type 0
@@ -115,63 +113,80 @@ HostsNothing (Some (assembly name)) = ⊤
 HostsNothing (Some (disassembly excerpt)) = ⊤
 HostsNothing (Some _) = ⊥
 
+-- the statuses
+abbrev pub IsStatus : ℕ → Type 0
+IsStatus status =
+    (status ≡ 0) ⊎ (status ≡ 1) ⊎ (status ≡ 2) ⊎ (status ≡ 3) ⊎ (status ≡ 4) ⊎ (status ≡ 5) ⊎ (status ≡ 6)
+    ⊎ (status ≡ 7)
+
 -- What stands after a run of the program.
-pub record Causes (asked : Option Asked) (a : Around) (said : Said) (status : ℕ) : Type 0 where
-  -- There are no other statuses.
+pub record Causes (asked : Option Asked) (a : Around) (diag : Diag) (status : ℕ) : Type 0 where
+  -- Commands, whose files are told. A machine alone on the board:
+  pub ran : (run : Run) (opening : Opening) (script : Entries) → asked ≡ Some (bare run)
+      → Gets a (machine_files run.image run.ram run.script run.disk) (opening, script)
+      → Gives a diag (bare_shown run opening script) status
+  pub assembled : (name : Text) (image : Contents) → asked ≡ Some (assembly name)
+      → Gets a (file sources name) image → Gives a diag (asm_shown image) status
+  pub listed : (excerpt : Excerpt) (image : Contents) → asked ≡ Some (disassembly excerpt)
+      → Gets a (file (images (1024 * excerpt.ram)) excerpt.image) image → Gives a diag (dis_shown excerpt image) status
+  -- The guests of a session that fits: each as if it were alone, with its own disk;
+  pub hosted : (name : Text) (s : Ordered) → asked ≡ Some (hosting name)
+      → Gets a (session_files name) s → Fits s.session → Gives a diag (host_shown s) status
+  -- each of them by both rules of keeping, with status 1 where some differ;
+  pub compared : (name : Text) (s : Ordered) → asked ≡ Some (comparison name)
+      → Gets a (session_files name) s → Fits s.session → Gives a diag (compare_shown s) status
+  -- and of one that flushes what it changes, this says that it shows the same.
+  pub tidy : (name : Text) (s : Ordered) → asked ≡ Some (comparison name)
+      → Gets a (session_files name) s → Fits s.session → TidyAreSame a s.session.guests status
+  -- The guests of a session that a number makes, in short.
+  pub generated : (workload : Workload) → asked ≡ Some (generation workload) → Gives a diag (gen_shown workload) status
+  -- Whatever the command, an answer that is known to be shown is given.
+  pub complete : (command : Asked) (shown : Shown) → asked ≡ Some command
+      → Gets a (answer_to command) (shows shown) → Gives a diag shown status
+  -- Statuses. There are no others.
   pub known : IsStatus status
-  -- Words are refused only where they ask for nothing, and always, unless memory runs out.
-  pub words_only : status ≡ 2 → asked ≡ None
+  -- 0 and 1: what was written, with its status, its lines on diag, and what is counted of its guests.
+  pub done_only : status ≡ 0 → Written asked a diag 0
+  pub differs_only : status ≡ 1 → Written asked a diag 1
+  -- 2: words are refused only where they ask for nothing, and always, unless memory runs out.
+  pub words_only : status ≡ 2 → (asked ≡ None) × IsPut diag (codes "mbx: words refused\n")
   pub words_always : asked ≡ None → (status ≡ 2) ⊎ (status ≡ 7)
-  -- A file, also one with the contents of a disk, is refused only where the answer is that, and always, unless the
-  -- shelf fails or memory runs out.
-  pub refused_only : status ≡ 3 → AsksFor asked a IsRefusal
-  pub refused_always : IsKnown asked a IsRefusal → (status ≡ 3) ⊎ ((status ≡ 5) ⊎ (status ≡ 7))
-  -- A session is refused for its size only where the answer is that, and always, unless the shelf fails or memory runs
+  -- 3: a file, also one with the contents of a disk, is refused only for what it may hold, and always, unless the shelf
+  -- fails or memory runs out.
+  pub refused_only : status ≡ 3 → FileRefused asked a diag
+  pub refused_always : IsRefused asked a → (status ≡ 3) ⊎ (status ≡ 5) ⊎ (status ≡ 7)
+  -- 4: a session is refused for its size only where it may be so, and always, unless the shelf fails or memory runs
   -- out.
-  pub oversize_only : status ≡ 4 → AsksFor asked a DoNotFit
-  pub oversize_always : IsKnown asked a DoNotFit → (status ≡ 4) ⊎ ((status ≡ 5) ⊎ (status ≡ 7))
-  -- A fault of reading comes only, and always, where the shelf has failed, and never where it is whole and tells
-  -- every file of the command.
-  pub unread_only : status ≡ 5 → Rose a.shelf.faults a.shelf_after.faults
+  pub oversize_only : status ≡ 4 → NotFit asked a diag
+  pub oversize_always : IsOversize asked a → (status ≡ 4) ⊎ (status ≡ 5) ⊎ (status ≡ 7)
+  -- 5: only, and always, where the shelf has failed, and never where it is whole and tells every file of the command.
+  pub unread_only : status ≡ 5 → FileUnread asked a diag
   pub unread_always : a.shelf.faults < a.shelf_after.faults → status ≡ 5
   pub unread_never : IsAllTold asked a → status ≡ 5 → ⊥
-  -- A fault of output comes only, and always, where out has failed, and what out took is a first part of the text.
-  pub output_only : status ≡ 6 → Rose a.out.faults a.out_after.faults
+  -- 6: only, and always, where out has failed, and what it took is a first part of the text.
+  pub output_only : status ≡ 6 → Cut asked a diag
   pub output_always : a.out.faults < a.out_after.faults → status ≡ 6
-  pub output_part : status ≡ 6 → AsksFor asked a (IsCut a)
-  -- All was done only where out has gained exactly the text, the board has carried out just the retired steps of the
-  -- guests under the monitor, and no guest differs; where some do, the status is 1.
-  pub done_only : status ≡ 0 → AsksFor asked a (IsShown a 0)
-  pub differs_only : status ≡ 1 → AsksFor asked a (IsShown a 1)
+  -- 7: memory ran out.
+  pub memory_line : status ≡ 7 → IsPut diag (codes "mbx: no memory\n")
   -- Nothing goes to out, but at the end of a run or where out fails.
-  pub silent : (status ≡ 0 → ⊥) → (status ≡ 1 → ⊥) → (status ≡ 6 → ⊥) → a.out_after.taken ≡ a.out.taken
+  pub silent : (status ≡ 0 → ⊥) → (status ≡ 1 → ⊥) → (status ≡ 6 → ⊥) → a.out_after ≡ a.out
   -- Nothing is counted there, and never for a command without guests.
   pub unrun : (status ≡ 0 → ⊥) → (status ≡ 1 → ⊥) → (status ≡ 6 → ⊥) → a.native_after ≡ a.native
   pub unhosted : HostsNothing asked → a.native_after ≡ a.native
-  -- Where the answer is known and nothing fails, it is given, unless memory runs out.
-  pub complete : IsComplete asked a status
-  -- Each guest of a session runs as if it were alone, with its own disk: out gains exactly the outcomes of their own
-  -- runs and their disks, diag the counts of their own steps, and the board carries out each retired one.
-  pub hosted : IsHosted asked a said status
-  -- The runs of each guest on the board and under the monitor are compared, and the disks that they leave.
-  pub compared : IsCompared asked a status
-  -- Of a guest that flushes what it changes, a comparison says that it shows the same.
-  pub tidy : IsTidyTold asked a status
-  -- The guests of a session that a number makes run so too, and out gains their summary.
-  pub generated : IsGenerated asked a status
-  -- Diag gains exactly the line of the status, at 0 those of the answer, or a first part where diag fails.
-  pub says : Says asked a said status
-  -- What the shelf tells, and whether it is whole, are as before.
+  -- What the shelf tells, and whether it is whole, are as before, and so is its count, but at status 5.
   pub same_told : a.shelf_after.told ≡ a.shelf.told
   pub same_whole : a.shelf_after.whole ≡ a.shelf.whole
+  pub read_well : (status ≡ 5 → ⊥) → a.shelf_after ≡ a.shelf
+
+-- ---- where nothing can fail
 
 -- what an answer leads to over files and sinks that cannot fail
-abbrev pub LeadsUnfailingTo : ℕ → Answer → Type 0
-LeadsUnfailingTo status (shows shown) = (status ≡ shown.status) ⊎ (status ≡ 7)
-LeadsUnfailingTo status (refuses name why) = (status ≡ 3) ⊎ (status ≡ 7)
-LeadsUnfailingTo status (oversizes need have) = (status ≡ 4) ⊎ (status ≡ 7)
+abbrev pub LeadsUnfailingTo : ℕ → Result Answer (Text × FileWhy) → Type 0
+LeadsUnfailingTo status (Ok (shows shown)) = (status ≡ shown.status) ⊎ (status ≡ 7)
+LeadsUnfailingTo status (Ok (oversizes need have)) = (status ≡ 4) ⊎ (status ≡ 7)
+LeadsUnfailingTo status (Err (name, why)) = (status ≡ 3) ⊎ (status ≡ 7)
 
 -- the words are refused, or the answer to them is given; either way memory may have run out
-abbrev pub IsUnfailing : Option Asked → (Text → Option Text) → ℕ → Type 0
+abbrev pub IsUnfailing : Option Asked → Told → ℕ → Type 0
 IsUnfailing None told status = (status ≡ 2) ⊎ (status ≡ 7)
-IsUnfailing (Some asked) told status = IfSome (answer_of asked told) (LeadsUnfailingTo status)
+IsUnfailing (Some asked) told status = IfSome (end_of told (answer_to asked)) (LeadsUnfailingTo status)

@@ -1,22 +1,34 @@
 -- Guests on boards of their own beside the same guests under the monitor.
-use Rattle.std.specs.Prelude.{Bool, List, [], ◌∷◌, map}
+use Rattle.std.specs.Prelude.{ℕ, Bool, List, [], ◌∷◌}
 use Rattle.mb_model.specs.Keeping.{rule_a}
-use Rattle.mb_machine.specs.Machine.{Outcome, outcome_of, run_of}
+use Rattle.mb_machine.specs.Machine.{Entries, Machine, run_of, start}
 use Rattle.mb_board.specs.State.{machine_in}
-use Rattle.vm_slices.specs.Members.{outcomes_of}
-use Rattle.vm_slices.specs.Places.{HostState, members_in}
-use Rattle.mb_program.specs.Answers.{same_outcome}
+use Rattle.vm_machine.specs.Rounds.{Member}
+use Rattle.vm_guest.specs.Session.{GuestAtStart}
+use Rattle.mb_program.specs.Answers.{shows_same}
 use Rattle.mb_program.specs.declared.bare_machine.BareMachine.{BareMachine}
 
--- what a machine will show after its steps
-abbrev pub outcome_ahead : BareMachine → Outcome
-outcome_ahead m = outcome_of (run_of rule_a m.script m.steps (machine_in m.board))
+-- a machine, and how many steps it is to take
+pub record Ahead : Type 0 where
+  pub machine : Machine
+  pub steps : ℕ
 
--- of each pair of outcomes, in their order, whether they are the same
-abbrev pub same_each : List Outcome → List Outcome → List Bool
-same_each (x ∷ xs) (y ∷ ys) = same_outcome x y ∷ same_each xs ys
+abbrev pub ahead_of : BareMachine → Ahead
+ahead_of m = record { machine = machine_in m.board; steps = m.steps }
+
+-- a guest on a board of its own, at its start
+abbrev pub at_start : GuestAtStart → Ahead
+at_start guest = record { machine = start rule_a guest.opening guest.ram; steps = guest.steps }
+
+-- the machine after these steps, with such a script
+abbrev pub reached : Entries → Ahead → Machine
+reached script m = run_of rule_a script m.steps m.machine
+
+-- whether it will show the same as a guest under the monitor, with that one's script
+abbrev pub will_show_same : Ahead → Member → Bool
+will_show_same m member = shows_same (reached member.script m) member.guest.machine
+
+-- the same of each pair, in their order
+abbrev pub same_each : List Ahead → List Member → List Bool
+same_each (m ∷ ms) (member ∷ members) = will_show_same m member ∷ same_each ms members
 same_each _ _ = []
-
--- of each machine, in their order, whether it will show the same as the guest of its number
-abbrev pub found_of : List BareMachine → HostState → List Bool
-found_of machines host = same_each (map outcome_ahead machines) (outcomes_of (members_in host))

@@ -1,23 +1,14 @@
 -- What is counted of the guests of a session: their steps by class, and what the board carries out of them.
-use Rattle.std.specs.Prelude.{◌≡◌, ℕ, ◌+◌, ◌*◌, ◌^◌, ◌<◌, ◌≤◌, List, [], ◌++◌, map, Option, Some, None, sum_by, codes, decimal}
-use Rattle.mb_script.specs.declared.turn.Turn.{Turn}
+use Rattle.std.specs.Prelude.{◌≡◌, ℕ, ◌+◌, ◌*◌, ◌^◌, ◌<◌, ◌≤◌, List, ◌++◌, map, Option, Some, None, sum_by, codes, decimal}
 use Rattle.mb_words.specs.Words.{Text}
 use Rattle.vm_meaning.specs.Marks.{trail}
 use Rattle.vm_meaning.specs.Native.{NativeState}
 use Rattle.vm_machine.specs.Turns.{Tally, exits, steps_in, tally_of}
 use Rattle.vm_machine.specs.Rounds.{Hosted}
-use Rattle.vm_guest.specs.Session.{GuestAtStart, SessionAtStart}
+use Rattle.vm_guest.specs.Session.{GuestAtStart}
 use Rattle.vm_slices.specs.Members.{member_at_start}
 use Rattle.vm_slices.specs.Orders.{after_session}
-
--- A session, and the turns that come before its rounds.
-pub record Ordered : Type 0 where
-  pub session : SessionAtStart
-  pub order : List Turn
-
--- a session without such turns
-abbrev pub unordered : SessionAtStart → Ordered
-unordered session = record { session = session; order = [] }
+use Rattle.mb_program.specs.Files.{Ordered}
 
 -- ---- the steps of a guest
 

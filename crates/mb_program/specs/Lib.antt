@@ -1,12 +1,13 @@
+pub mod Files
+pub mod Headline
 pub mod Direct
-pub mod Said
 pub mod Answers
+pub mod Around
 pub mod Lines
 pub mod Ends
-pub mod Sessions
 pub mod Tidy
 pub mod Causes
-pub mod Reads
 pub mod Runs
 pub mod Compares
+pub mod Said
 pub mod Disks

@@ -10,14 +10,14 @@ use Rattle.mb_report.specs.Digits.{hex8}
 use Rattle.mb_words.specs.Words.{Text}
 use Rattle.vm_slices.specs.Members.{tallies_of}
 use Rattle.vm_slices.specs.Places.{HostState, members_in}
-use Rattle.mb_program.specs.Answers.{texts_from}
+use Rattle.mb_program.specs.Headline.{texts_from}
 use Rattle.mb_program.specs.Direct.{counts_line}
-use Rattle.mb_program.specs.declared.end.FileWhy.{FileWhy}
-use Rattle.mb_program.specs.declared.end.FileWhy.TheVariants.{TooLong, Line, Outside, NoEnd}
-use Rattle.mb_program.specs.declared.end.Reason.{Reason}
-use Rattle.mb_program.specs.declared.end.Reason.TheVariants as reason
+use Rattle.mb_files.specs.declared.fault.FileWhy.{FileWhy}
+use Rattle.mb_files.specs.declared.fault.FileWhy.TheVariants.{TooLong, Line, Outside, NoEnd}
+use Rattle.mb_files.specs.declared.fault.Reason.{Reason}
+use Rattle.mb_files.specs.declared.fault.Reason.TheVariants as reason
 use Rattle.mb_program.specs.declared.end.End.{End}
-use Rattle.mb_program.specs.declared.end.End.TheVariants.{Done, Hosted, Differs, Words, Refused, Oversize}
+use Rattle.mb_program.specs.declared.end.End.TheVariants.{Done, Counts, Differs, Words, Refused, Oversize}
 use Rattle.mb_program.specs.declared.end.End.TheVariants.{Unread, Output, Memory}
 
 -- the beginning of a line that names a file
@@ -74,7 +74,7 @@ counts_lines host = texts_from counts_line 1 (tallies_of (members_in host))
 
 abbrev pub line_of : End → Text
 line_of Done = []
-line_of (Hosted host) = counts_lines host
+line_of (Counts host) = counts_lines host
 line_of Differs = []
 line_of Words = codes "mbx: words refused\n"
 line_of (Refused name why) = named (string_bytes name) (why_text why)
@@ -85,7 +85,7 @@ line_of Memory = codes "mbx: no memory\n"
 
 abbrev pub status_of : End → ℕ
 status_of Done = 0
-status_of (Hosted host) = 0
+status_of (Counts host) = 0
 status_of Differs = 1
 status_of Words = 2
 status_of (Refused name why) = 3

@@ -2,30 +2,37 @@
 use Rattle.std.specs.Prelude.{◌≡◌, ⊤, ◌<◌, map, Result, Ok, Err}
 use Rattle.mb_model.specs.Keeping.{rule_k}
 use Rattle.vm_meaning.specs.Native.{NativeState}
-use Rattle.vm_guest.specs.Session.{SessionAtStart}
+use Rattle.vm_guest.specs.Session.{GuestAtStart, SessionAtStart}
+use Rattle.vm_slices.specs.Adopting.{scripts_of}
 use Rattle.vm_slices.specs.Fit.{Fits, need_of}
 use Rattle.vm_slices.specs.Places.{HostState, members_in}
-use Rattle.vm_slices.specs.Members.{outcomes_of, tallies_of}
+use Rattle.vm_slices.specs.Members.{machines_of, tallies_of}
 use Rattle.vm_slices.specs.declared.open_fault.OpenFault.{OpenFault}
 use Rattle.vm_slices.specs.declared.open_fault.OpenFault.TheVariants as open_fault
-use Rattle.mb_program.specs.Answers.{outcome_by}
-use Rattle.mb_program.specs.Direct.{CarriedOut, Ordered, tallies_by}
+use Rattle.mb_program.specs.Files.{Ordered}
+use Rattle.mb_program.specs.Headline.{alone}
+use Rattle.mb_program.specs.Direct.{CarriedOut, tallies_by}
 use Rattle.mb_program.specs.declared.end.End.{End}
 use Rattle.mb_program.specs.declared.end.End.TheVariants.{Oversize, Memory}
 
--- Each guest has the outcome of its own run, and what is counted of its steps is that run's; or the session does not
--- fit, with both numbers; or memory ran out.
-abbrev pub Runs : SessionAtStart → Result HostState OpenFault → Type 0
-Runs s (Ok host) = Fits s × (outcomes_of (members_in host) ≡ map (outcome_by rule_k) s.guests)
-    × (tallies_of (members_in host) ≡ tallies_by s.guests)
-Runs s (Err (open_fault.Oversize need have)) =
-    (s.board < need_of s.guests) × (need ≡ need_of s.guests) × (have ≡ s.board)
-Runs s (Err open_fault.Memory) = ⊤
+-- The guests of a session that fits have run: each has the machine of its own run, what is counted of its steps is that
+-- run's, and its script is its own.
+pub record HaveRun (s : SessionAtStart) (host : HostState) : Type 0 where
+  pub fits : Fits s
+  pub machines : machines_of (members_in host) ≡ map (alone rule_k) s.guests
+  pub tallies : tallies_of (members_in host) ≡ tallies_by s.guests
+  pub scripts : scripts_of (members_in host) ≡ map (λ (guest : GuestAtStart). guest.script) s.guests
 
--- The board has carried out the guests' retired steps; without a host nothing is counted.
-abbrev pub IsCarriedOut : Ordered → NativeState → NativeState → Result HostState OpenFault → Type 0
-IsCarriedOut s native native_after (Ok host) = CarriedOut s native native_after
-IsCarriedOut s native native_after (Err fault) = native_after ≡ native
+-- There is no host: the session does not fit, with both numbers; or memory ran out.
+abbrev pub IsUnopened : SessionAtStart → OpenFault → Type 0
+IsUnopened s (open_fault.Oversize need have) =
+    (s.board < need_of s.guests) × (need ≡ need_of s.guests) × (have ≡ s.board)
+IsUnopened s open_fault.Memory = ⊤
+
+-- The guests have run, and the board has carried out their retired steps; or there is no host, and nothing is counted.
+abbrev pub Runs : Ordered → NativeState → NativeState → Result HostState OpenFault → Type 0
+Runs s native native_after (Ok host) = HaveRun s.session host × CarriedOut s native native_after
+Runs s native native_after (Err fault) = IsUnopened s.session fault × (native_after ≡ native)
 
 -- how the program ends without a host
 abbrev pub unopened : OpenFault → End

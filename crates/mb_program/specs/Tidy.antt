@@ -1,14 +1,12 @@
 -- What is promised of tidy guests: those that flush what they change.
-use Rattle.std.specs.Prelude.{◌≡◌, ◌⊎◌, ℕ, ◌+◌, true, List, ◌∷◌, ◌++◌, All, length, map, Option, Some}
+use Rattle.std.specs.Prelude.{◌≡◌, ◌⊎◌, ℕ, ◌+◌, true, List, ◌∷◌, ◌++◌, All, length, map}
 use Rattle.mb_outside.specs.Sink.{Grows}
-use Rattle.mb_words.specs.Words.{Text, Asked, comparison}
+use Rattle.mb_words.specs.Words.{Text}
 use Rattle.vm_meaning.specs.Tidy.{Tidy}
 use Rattle.vm_guest.specs.Session.{GuestAtStart}
-use Rattle.vm_slices.specs.Fit.{Fits}
-use Rattle.mb_program.specs.Answers.{compared_text, is_same, texts_from}
-use Rattle.mb_program.specs.Direct.{Ordered}
-use Rattle.mb_program.specs.Ends.{Around}
-use Rattle.mb_program.specs.Sessions.{TellsSession}
+use Rattle.mb_program.specs.Headline.{texts_from}
+use Rattle.mb_program.specs.Answers.{compared_text, is_same}
+use Rattle.mb_program.specs.Around.{Around}
 
 -- A guest is tidy where, from its start and over all its steps, no translation that it kept is ever used stale.
 abbrev pub IsTidyGuest : GuestAtStart → Type 0
@@ -20,14 +18,9 @@ lines_from i guests = texts_from compared_text i (map is_same guests)
 
 -- Of a tidy guest it is said that it shows the same: with its number, between the lines of those before it and those
 -- behind it, whoever they are. Where all are tidy, none differs.
-pub record TidyAreToldSame (a : Around) (guests : List GuestAtStart) (status : ℕ) : Type 0 where
+pub record TidyAreSame (a : Around) (guests : List GuestAtStart) (status : ℕ) : Type 0 where
   pub line : (before behind : List GuestAtStart) (guest : GuestAtStart) → guests ≡ before ++ guest ∷ behind
       → IsTidyGuest guest → (status ≡ 0) ⊎ (status ≡ 1)
       → Grows a.out.taken a.out_after.taken
       (lines_from 1 before ++ compared_text (length before + 1) true ++ lines_from (length before + 2) behind)
   pub none_differs : All IsTidyGuest guests → status ≡ 1 → ⊥
-
--- So it is where the words ask to compare the guests of a session that is told and fits.
-abbrev pub IsTidyTold : Option Asked → Around → ℕ → Type 0
-IsTidyTold asked a status = (name : Text) (s : Ordered) → asked ≡ Some (comparison name)
-    → TellsSession a.shelf.told name s → Fits s.session → TidyAreToldSame a s.session.guests status

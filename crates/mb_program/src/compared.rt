@@ -3,13 +3,14 @@
 ghost use Rattle.std.specs.Prelude.{◌≡◌, ◌≤◌, All, IfOk, codes, if◌then◌else◌, length, map};
 ghost use Rattle.std.specs.List.{list_all};
 ghost use Rattle.mb_outside.specs.Prints.{Prints};
-ghost use Rattle.mb_model.specs.Keeping.{rule_a};
 ghost use Rattle.vm_guest.specs.Session.{IsGuest, IsSession};
 ghost use Rattle.vm_slices.specs.Places.{members_in};
-ghost use Rattle.mb_program.specs.Answers.{compare_answer, compared_text, outcome_by, texts_from};
+ghost use Rattle.mb_program.specs.Answers.{compare_shown, compared_text, if_it_fits};
+ghost use Rattle.mb_program.specs.Headline.{texts_from};
 ghost use Rattle.mb_program.specs.Direct.{HasRoomToRun};
-ghost use Rattle.mb_program.specs.Ends.{GivesAnswer, sink_seen};
-ghost use Rattle.mb_program.specs.Compares.{found_of, outcome_ahead};
+ghost use Rattle.mb_program.specs.Around.{sink_seen};
+ghost use Rattle.mb_program.specs.Ends.{IsGiven};
+ghost use Rattle.mb_program.specs.Compares.{ahead_of, at_start, same_each};
 ghost use Rattle.mb_program.specs.Said.{ordered_said};
 ghost use Rattle.mb_script.specs.Plan.{IsTurnOf};
 ghost use Rattle.mb_script.specs.declared.sizes.TheConstants.{MOST_GUESTS};
@@ -27,7 +28,7 @@ use vm_slices::{Host, SessionGuest, judge_fit};
 /// The guests of a session, each by itself.
 fn bare_machines(alloc: Global, guests: &[SessionGuest]) -> Result<Vec<BareMachine>, Memory>
     requires { All IsGuest guests.now }
-    ensures { IfOk result (λ machines. map outcome_ahead machines.items ≡ map (outcome_by rule_a) guests.now) }
+    ensures { IfOk result (λ machines. map ahead_of machines.items ≡ map at_start guests.now) }
 {
     let mut machines = Vec::new(alloc);
     for guest in guests {
@@ -63,8 +64,9 @@ fn write_comparison<O: Sink>(
     requires count { length machines.items ≡ length (members_in host.now) }
     requires few { length machines.items ≤ MOST_GUESTS }
     ensures printed { Prints (O.taken out.old) (O.taken out.new) (O.faults out.old) (O.faults out.new)
-        (texts_from compared_text 1 (found_of machines.items host.now)) result }
-    ensures all { IfOk result (λ all. all ≡ list_all (λ same. same) (found_of machines.items host.now)) }
+        (texts_from compared_text 1 (same_each (map ahead_of machines.items) (members_in host.now))) result }
+    ensures all { IfOk result (λ all. all ≡ list_all (λ same. same)
+        (same_each (map ahead_of machines.items) (members_in host.now))) }
 {
     let mut all_same = true;
     let mut number = 0;
@@ -88,7 +90,7 @@ pub(crate) fn show_compared<O: Sink>(
     requires session { IsSession ordered.session }
     requires turns { All (IsTurnOf (length ordered.session.guests)) ordered.order.items }
     requires room { HasRoomToRun native.old }
-    ensures { GivesAnswer (compare_answer (ordered_said ordered))
+    ensures { IsGiven (if_it_fits ordered.session (compare_shown (ordered_said ordered)))
         (sink_seen O.Sink out.old) (sink_seen O.Sink out.new) native.old native.new result }
 {
     if let Err(fault) = judge_fit(&ordered.session) {

@@ -7,9 +7,10 @@ ghost use Rattle.mb_program.specs.Direct.{class_count, counts_line};
 ghost use Rattle.mb_program.specs.Lines.{counts_lines, line_of, named, named_file, oversize_line, why_text, status_of};
 ghost use Rattle.mb_program.specs.Lines.{line_reason, reason_of, record_reason, source_reason};
 
-use crate::end::{End, FileWhy, Reason};
+use crate::end::End;
 use itoa::Buffer;
 use mb_asm::AsmKind;
+use mb_files::{FileWhy, Reason};
 use mb_outside::{Sink, SinkFault, put_all, put_more};
 use mb_report::hex8;
 use mb_script::LineWhy;
@@ -208,7 +209,7 @@ pub fn tell<E: Sink>(diag: &mut E, end: &End) -> Result<(), SinkFault>
 {
     match end {
         End::Done | End::Differs => put_all(diag, b""),
-        End::Hosted(host) => say_counts(diag, host),
+        End::Counts(host) => say_counts(diag, host),
         End::Words => put_all(diag, b"mbx: words refused\n"),
         End::Refused(name, why) => say_refused(diag, name.as_str(), *why),
         End::Oversize { need, have } => say_oversize(diag, *need, *have),
@@ -223,7 +224,7 @@ pub fn status(end: &End) -> u8
     ensures { result ≡ status_of end.now }
 {
     match end {
-        End::Done | End::Hosted(_) => 0,
+        End::Done | End::Counts(_) => 0,
         End::Differs => 1,
         End::Words => 2,
         End::Refused(_, _) => 3,

@@ -1,33 +1,10 @@
 //! How a run ends.
 
-use mb_asm::AsmKind;
-use mb_script::LineWhy;
-use mb_srec::RecordWhy;
+ghost use Rattle.std.specs.Prelude.{◌≡◌};
+ghost use Rattle.mb_program.specs.Ends.{end_by};
+
+use mb_files::{FileFault, FileWhy};
 use vm_slices::Host;
-
-/// Why a line of a file does not stand.
-#[derive(Clone, Copy, Debug, PartialEq, Eq)]
-pub enum Reason {
-    /// It is no record of an image, or stands where it may not.
-    Record(RecordWhy),
-    /// It is no line of a script or of a session file.
-    Words(LineWhy),
-    /// It is no line of a source, or what it says cannot be assembled.
-    Source(AsmKind),
-}
-
-/// Why a file is refused, whatever it is read as.
-#[derive(Clone, Copy, Debug, PartialEq, Eq)]
-pub enum FileWhy {
-    /// It has more than 67,108,864 bytes.
-    TooLong,
-    /// The line of this number, counted from 1, does not stand.
-    Line { number: u32, why: Reason },
-    /// A byte of data has this address, which is not in RAM, or not on the disk.
-    Outside { at: u32 },
-    /// No record ends the image.
-    NoEnd,
-}
 
 /// How a run ended, each way with its status and its line for diag.
 #[derive(Drop)]
@@ -35,7 +12,7 @@ pub enum End {
     /// The text was written.
     Done,
     /// The outcomes of all guests were written; how many steps of each class each of them took is still to be said.
-    Hosted(Host),
+    Counts(Host),
     /// The text was written, and it says that some guest differs.
     Differs,
     /// The words ask for nothing.
@@ -50,4 +27,16 @@ pub enum End {
     Output,
     /// Memory ran out before the text was begun.
     Memory,
+}
+
+impl From<FileFault> for End {
+    ghost from_gives = { λ given end. end ≡ end_by given };
+
+    fn from(fault: FileFault) -> End {
+        match fault {
+            FileFault::Refused(name, why) => End::Refused(name, why),
+            FileFault::Unread(name) => End::Unread(name),
+            FileFault::Memory => End::Memory,
+        }
+    }
 }

@@ -3,8 +3,9 @@
 ghost use Rattle.std.specs.Prelude.{◌*◌, All};
 ghost use Rattle.mb_srec.specs.Image.{LiesBelow, contents_of};
 ghost use Rattle.mb_words.specs.Words.{excerpt_said};
-ghost use Rattle.mb_program.specs.Answers.{dis_answer};
-ghost use Rattle.mb_program.specs.Ends.{GivesUncounted, sink_seen};
+ghost use Rattle.mb_program.specs.Answers.{dis_shown, shows};
+ghost use Rattle.mb_program.specs.Around.{sink_seen};
+ghost use Rattle.mb_program.specs.Ends.{IsGivenUncounted};
 
 use crate::end::End;
 use crate::opening::opening_ram;
@@ -17,7 +18,7 @@ use std::alloc::Global;
 /// Writes the listing of an excerpt.
 pub(crate) fn show_excerpt<O: Sink>(alloc: Global, dis: &Dis, image: &Image, out: &mut O) -> End
     requires { All (LiesBelow (1024 * dis.now.ram)) (contents_of image.now) }
-    ensures { GivesUncounted (dis_answer (excerpt_said dis.now) (contents_of image.now))
+    ensures { IsGivenUncounted (shows (dis_shown (excerpt_said dis.now) (contents_of image.now)))
         (sink_seen O.Sink out.old) (sink_seen O.Sink out.new) result }
 {
     let Ok(ram) = opening_ram(alloc, image, 1024 * dis.ram) else {

@@ -5,9 +5,11 @@ ghost use Rattle.mb_outside.specs.Prints.{Prints};
 ghost use Rattle.mb_words.specs.Words.{workload_said};
 ghost use Rattle.vm_slices.specs.Places.{members_in};
 ghost use Rattle.vm_slices.specs.Members.{shown_of};
-ghost use Rattle.mb_program.specs.Answers.{gen_answer, summary_line, summary_text, texts_from};
+ghost use Rattle.mb_program.specs.Answers.{gen_shown, shows, summary_line, summary_text};
+ghost use Rattle.mb_program.specs.Headline.{texts_from};
 ghost use Rattle.mb_program.specs.Direct.{HasRoomToRun};
-ghost use Rattle.mb_program.specs.Ends.{GivesAnswer, sink_seen};
+ghost use Rattle.mb_program.specs.Around.{sink_seen};
+ghost use Rattle.mb_program.specs.Ends.{IsGiven};
 
 use crate::end::End;
 use crate::hosted::run_session;
@@ -71,7 +73,7 @@ pub(crate) fn show_generated<O: Sink>(
     native: &mut Native,
 ) -> End
     requires room { HasRoomToRun native.old }
-    ensures { GivesAnswer (gen_answer (workload_said workload.now))
+    ensures { IsGiven (shows (gen_shown (workload_said workload.now)))
         (sink_seen O.Sink out.old) (sink_seen O.Sink out.new) native.old native.new result }
 {
     let Ok(session) = make_session(alloc, u64::from(workload.seed), workload.guests) else {

@@ -5,11 +5,13 @@ ghost use Rattle.mb_script.specs.Plan.{IsTurnOf};
 ghost use Rattle.mb_outside.specs.Prints.{Prints};
 ghost use Rattle.vm_guest.specs.Session.{IsSession};
 ghost use Rattle.vm_slices.specs.Places.{members_in};
-ghost use Rattle.vm_slices.specs.Members.{outcomes_of};
-ghost use Rattle.mb_program.specs.Answers.{host_answer, machine_text, texts_from};
+ghost use Rattle.vm_slices.specs.Members.{machines_of};
+ghost use Rattle.mb_program.specs.Answers.{host_shown, if_it_fits};
+ghost use Rattle.mb_program.specs.Headline.{machine_text, texts_from};
 ghost use Rattle.mb_program.specs.Direct.{HasRoomToRun};
-ghost use Rattle.mb_program.specs.Ends.{GivesAnswer, sink_seen};
-ghost use Rattle.mb_program.specs.Runs.{IsCarriedOut, Runs, unopened};
+ghost use Rattle.mb_program.specs.Around.{sink_seen};
+ghost use Rattle.mb_program.specs.Ends.{IsGiven};
+ghost use Rattle.mb_program.specs.Runs.{Runs, unopened};
 ghost use Rattle.mb_program.specs.Said.{ordered_said};
 
 use crate::end::End;
@@ -43,8 +45,7 @@ pub(crate) fn run_session(
     requires session { IsSession session }
     requires turns { All (IsTurnOf (length session.guests)) order.now }
     requires room { HasRoomToRun native.old }
-    ensures runs { Runs session result }
-    ensures counted { IsCarriedOut (record { session = session; order = order.now }) native.old native.new result }
+    ensures { Runs (record { session = session; order = order.now }) native.old native.new result }
 {
     let mut host = Host::prepare(alloc, session)?;
     host.run_order(order, native);
@@ -55,7 +56,7 @@ pub(crate) fn run_session(
 /// Writes the outcomes of all guests in their order.
 fn write_outcomes<O: Sink>(host: &Host, out: &mut O) -> Result<(), SinkFault>
     ensures { Prints (O.taken out.old) (O.taken out.new) (O.faults out.old) (O.faults out.new)
-        (texts_from machine_text 1 (outcomes_of (members_in host.now))) result }
+        (texts_from machine_text 1 (machines_of (members_in host.now))) result }
 {
     for index in 0..host.guest_count() {
         let guest = index + 1;
@@ -74,7 +75,7 @@ pub(crate) fn show_hosted<O: Sink>(
     requires session { IsSession ordered.session }
     requires turns { All (IsTurnOf (length ordered.session.guests)) ordered.order.items }
     requires room { HasRoomToRun native.old }
-    ensures { GivesAnswer (host_answer (ordered_said ordered))
+    ensures { IsGiven (if_it_fits ordered.session (host_shown (ordered_said ordered)))
         (sink_seen O.Sink out.old) (sink_seen O.Sink out.new) native.old native.new result }
 {
     let host = match run_session(alloc, ordered.session, &ordered.order, native) {
@@ -82,7 +83,7 @@ pub(crate) fn show_hosted<O: Sink>(
         Err(fault) => return End::from(fault),
     };
     match write_outcomes(&host, out) {
-        Ok(()) => End::Hosted(host),
+        Ok(()) => End::Counts(host),
         Err(_) => End::Output,
     }
 }

@@ -1,8 +1,8 @@
 //! All that the program does, over any shelf and any sinks: the top call.
 //!
-//! [`run_program`] reads the words, runs their command and says how it ended. Its contract says of
-//! each end what caused it; `specs/Ends` has the relation and `specs/Causes` the facts, one a field;
-//! `specs/Answers` has what a command comes to by what its files hold.
+//! [`run_program`] reads the words, runs their command and says how it ended. Its contract has what `host` promises
+//! (`specs/Headline`), and what each command promises and each status says of its cause (`specs/Causes`, a fact a
+//! field); `specs/Answers` has a command's files and its answer by what they hold.
 #![tactic(auto)]
 
 mod bare_machine;
@@ -11,17 +11,17 @@ mod compared;
 mod diagnosis;
 mod end;
 mod excerpt;
-mod files;
 mod generated;
 mod guest_reading;
 mod hosted;
 mod machine;
+mod machine_files;
+mod named;
 mod opening;
 mod ordered;
 mod records;
 mod top;
 mod unfailing;
 
-pub use end::{End, FileWhy, Reason};
 pub use top::run_program;
 pub use unfailing::run_unfailing;

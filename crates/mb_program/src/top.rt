@@ -2,8 +2,9 @@
 
 ghost use Rattle.std.specs.Prelude.{map, string_bytes};
 ghost use Rattle.mb_words.specs.Words.{asked_by};
+ghost use Rattle.mb_program.specs.Around.{around_of, diag_of};
 ghost use Rattle.mb_program.specs.Direct.{HasRoomToRun};
-ghost use Rattle.mb_program.specs.Ends.{EndsWith, around_of, said_of};
+ghost use Rattle.mb_program.specs.Headline.{Headline};
 ghost use Rattle.mb_program.specs.Causes.{Causes};
 
 use crate::command::run_words;
@@ -21,8 +22,8 @@ use std::alloc::Global;
 ///   and under the monitor, or the summary of guests that were made.
 /// - 1: the same was written, and some guest differs.
 /// - 2: the words ask for nothing.
-/// - 3: a file has more than 67,108,864 bytes, or is no image for this RAM, no contents for this disk, no script, no
-///   source or no session; the line on diag says which, and why.
+/// - 3: a file has more bytes than one of its kind may have (67,108,864), or is no image for this RAM, no contents for
+///   this disk, no script, no source or no session; the line on diag says which, and why.
 /// - 4: the guests of a session do not fit on its board; the line on diag says how many bytes they need, and have.
 /// - 5: the shelf failed.
 /// - 6: out failed, and has a first part of the text.
@@ -36,14 +37,13 @@ pub fn run_program<F: Shelf, O: Sink, E: Sink>(
     native: &mut Native,
 ) -> u8
     requires room { HasRoomToRun native.old }
-    // The run has an end, with its cause; its status is the result, and its line is put on diag.
-    ensures ends { EndsWith (asked_by (map string_bytes words.entry.now))
-        (around_of F.Shelf O.Sink shelf.old shelf.new out.old out.new native.old native.new)
-        (said_of E.Sink diag.old diag.new) result }
-    // What each status says of its cause, a fact a field.
+    // What `host` promises, of the words, what the shelf tells, out before and after, and the status alone.
+    ensures headline { Headline (map string_bytes words.entry.now) (F.told shelf.old)
+        (O.taken out.old) (O.taken out.new) result }
+    // What each command promises, and what each status says of its cause, a fact a field.
     ensures causes { Causes (asked_by (map string_bytes words.entry.now))
         (around_of F.Shelf O.Sink shelf.old shelf.new out.old out.new native.old native.new)
-        (said_of E.Sink diag.old diag.new) result }
+        (diag_of E.Sink diag.old diag.new) result }
 {
     let end = run_words(alloc, words, shelf, out, native);
     let _ = tell(diag, &end);

@@ -4,6 +4,7 @@ use Rattle.std.specs.Prelude.{List, [], ◌∷◌, codes, Option, Some, None, op
 use Rattle.std.specs.Str.{bytes_eq}
 pub use Rattle.mb_forms.specs.Forms.{Text}
 use Rattle.mb_forms.specs.Forms.{Form, Use, read}
+use Rattle.mb_script.specs.Plan.{Disk}
 use Rattle.mb_words.specs.Values.{file_said, said_by, said_if_given, name_of, ram_of, ranged, word_address_of}
 use Rattle.mb_words.specs.Values.{blocks_of, guests_of, seed_of}
 use Rattle.mb_words.specs.declared.asm.Asm.{Asm}
@@ -15,11 +16,6 @@ use Rattle.mb_words.specs.declared.session.SessionFile.{SessionFile}
 use Rattle.mb_words.specs.declared.command.Command.{Command}
 use Rattle.mb_words.specs.declared.command.Command.TheVariants as command
 
--- a disk of a machine: how many blocks it has, and the name of the file with its contents, where it has any
-pub record RunDisk : Type 0 where
-  pub blocks : ℕ
-  pub contents : Option Text
-
 -- a run of a machine: the name of its image's file, its RAM in KiB, its steps, the name of its script's file, where it
 -- has one, and its disk, where it has one
 pub record Run : Type 0 where
@@ -27,7 +23,7 @@ pub record Run : Type 0 where
   pub ram : ℕ
   pub steps : ℕ
   pub script : Option Text
-  pub disk : Option RunDisk
+  pub disk : Option Disk
 
 -- an excerpt of a machine's opening memory: the name of its image's file, its RAM in KiB, the address of the first
 -- line, and how many lines
@@ -53,7 +49,7 @@ pub data Asked : Type 0 where
   comparison : Text → Asked
   generation : Workload → Asked
 
-abbrev pub disk_said : BareDisk → RunDisk
+abbrev pub disk_said : BareDisk → Disk
 disk_said d = record { blocks = d.blocks; contents = file_said d.contents }
 
 abbrev pub run_said : Bare → Run
@@ -77,13 +73,13 @@ session_said s = s.name.now
 abbrev pub workload_said : Generate → Workload
 workload_said g = record { seed = g.seed; guests = g.guests }
 
-abbrev pub asked_of : Command → Asked
-asked_of (command.Bare b) = bare (run_said b)
-asked_of (command.Asm a) = assembly (source_said a)
-asked_of (command.Dis d) = disassembly (excerpt_said d)
-asked_of (command.Host s) = hosting (session_said s)
-asked_of (command.Compare s) = comparison (session_said s)
-asked_of (command.Gen g) = generation (workload_said g)
+abbrev pub command_said : Command → Asked
+command_said (command.Bare b) = bare (run_said b)
+command_said (command.Asm a) = assembly (source_said a)
+command_said (command.Dis d) = disassembly (excerpt_said d)
+command_said (command.Host s) = hosting (session_said s)
+command_said (command.Compare s) = comparison (session_said s)
+command_said (command.Gen g) = generation (workload_said g)
 
 -- `bare IMAGE --ram KIB --steps N [--script FILE] [--disk BLOCKS [--contents FILE]]`
 abbrev pub bare_form : Form
@@ -100,18 +96,18 @@ bare_form = record {
 }
 
 -- a disk, where its values say something: contents are those of a disk alone
-abbrev pub disk_with : Option (Option ℕ) → Option (Option Text) → Option (Option RunDisk)
+abbrev pub disk_with : Option (Option ℕ) → Option (Option Text) → Option (Option Disk)
 disk_with (Some (Some blocks)) (Some contents) = Some (Some (record { blocks = blocks; contents = contents }))
 disk_with (Some None) (Some None) = Some None
 disk_with _ _ = None
 
-abbrev pub bare_disk : List Use → Option (Option RunDisk)
+abbrev pub bare_disk : List Use → Option (Option Disk)
 bare_disk uses = disk_with
     (said_if_given blocks_of (codes "disk") uses)
     (said_if_given name_of (codes "contents") uses)
 
 -- a run, where each of its values says something
-abbrev pub run_with : Option Text → Option ℕ → Option ℕ → Option (Option Text) → Option (Option RunDisk) → Option Run
+abbrev pub run_with : Option Text → Option ℕ → Option ℕ → Option (Option Text) → Option (Option Disk) → Option Run
 run_with (Some image) (Some ram) (Some steps) (Some script) (Some disk) =
     Some (record { image = image; ram = ram; steps = steps; script = script; disk = disk })
 run_with _ _ _ _ _ = None

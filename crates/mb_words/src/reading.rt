@@ -2,7 +2,7 @@
 
 ghost use Rattle.std.specs.Prelude.{map, string_bytes};
 ghost use Rattle.mb_forms.specs.Said.{ReadsAs};
-ghost use Rattle.mb_words.specs.Words.{asked_of, asked_by};
+ghost use Rattle.mb_words.specs.Words.{command_said, asked_by};
 
 use crate::asm_words::read_asm;
 use crate::bare_words::read_bare;
@@ -17,7 +17,7 @@ use std::alloc::Global;
 /// where they ask for nothing; `Memory` can come whatever they ask for.
 #[tactic(auto, unfolding(crate::specs::Words::asked_by))]
 pub fn read_words<'a>(alloc: Global, words: &'a [String]) -> Result<Command<'a>, WordsFault>
-    ensures { ReadsAs asked_of (asked_by (map string_bytes words.entry.now)) result }
+    ensures { ReadsAs command_said (asked_by (map string_bytes words.entry.now)) result }
 {
     let [_program, name, rest @ ..] = words else {
         return Err(WordsFault::Refused);

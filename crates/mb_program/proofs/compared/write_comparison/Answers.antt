@@ -1,11 +1,13 @@
-use Rattle.std.proofs.Common.{◌≡◌, ◌∙◌, List, ◌∷◌, length, ap, sym, subst, arith}
+use Rattle.std.proofs.Common.{◌≡◌, ◌∙◌, List, ◌∷◌, length, map, ap, sym, subst, arith}
 use Rattle.std.specs.Prelude.{◌&&◌, Bool}
 use Rattle.std.specs.List.{list_all}
 use Rattle.std.specs.Vec.Iter.{into_iter_items, into_iter_len}
 use Rattle.std.proofs.lemmas.Result.{err_from_is_err_and}
 use Rattle.mb_outside.specs.Prints.{Printed}
-use Rattle.mb_program.specs.Answers.{compared_text, texts_from}
-use Rattle.mb_program.specs.Compares.{found_of}
+use Rattle.vm_slices.specs.Places.{members_in}
+use Rattle.mb_program.specs.Headline.{texts_from}
+use Rattle.mb_program.specs.Answers.{compared_text}
+use Rattle.mb_program.specs.Compares.{ahead_of, same_each}
 use Rattle.mb_program.specs.declared.bare_machine.BareMachine.{BareMachine}
 use Rattle.mb_program.proofs.CompareLemmas.{all_found, left_behind, next_found, still_all}
 use Rattle.mb_program.proofs.TextLemmas.{cut_more, printed_more}
@@ -20,7 +22,8 @@ returns-in_err-write_compared-clause-printed g c =
     let left = c.loop-machine.invariant.left ∙ c.in-Some.ensures.steps.0 in
     let here = next_found machines host k c.in-Some.machine (into_iter_items c.next.new.self) same left c.requires.count c.is_same_as-is_same.ensures in
     let p = err_from_is_err_and c.from_residual.result c.from_residual.ensures.1 in
-    rw p.1 (cut_more compared_text k (found_of machines host) same here c.loop-machine.invariant.printed c.in_err-write_compared.ensures)
+    rw p.1 (cut_more compared_text k (same_each (map ahead_of machines) (members_in host)) same here c.loop-machine.invariant.printed
+    c.in_err-write_compared.ensures)
 
 pub loop-machine-preserved-then-all_same : goal.loop-machine-preserved-then-all_same
 loop-machine-preserved-then-all_same g c =
@@ -38,9 +41,10 @@ loop-machine-preserved-then-all_same g c =
           c.loop-machine.invariant.rest ∙ ap (λ (ms : List BareMachine). length ms) c.in-Some.ensures.steps.0 in
           let one = c.in-Some.ensures.steps.1 in omega arith;
       left = left_behind machines k m rest left;
-      printed = printed_more compared_text k (found_of machines host) same here c.loop-machine.invariant.printed c.in_ok-write_compared.ensures;
+      printed = printed_more compared_text k (same_each (map ahead_of machines) (members_in host)) same here c.loop-machine.invariant.printed
+          c.in_ok-write_compared.ensures;
       all = sym (ap (λ (b : Bool). b && same) c.if-all_same.true)
-          ∙ still_all (found_of machines host) k c.loop-machine.all_same same here c.loop-machine.invariant.all;
+          ∙ still_all (same_each (map ahead_of machines) (members_in host)) k c.loop-machine.all_same same here c.loop-machine.invariant.all;
     }
 
 pub loop-machine-preserved : goal.loop-machine-preserved
@@ -59,9 +63,10 @@ loop-machine-preserved g c =
           c.loop-machine.invariant.rest ∙ ap (λ (ms : List BareMachine). length ms) c.in-Some.ensures.steps.0 in
           let one = c.in-Some.ensures.steps.1 in omega arith;
       left = left_behind machines k m rest left;
-      printed = printed_more compared_text k (found_of machines host) same here c.loop-machine.invariant.printed c.in_ok-write_compared.ensures;
+      printed = printed_more compared_text k (same_each (map ahead_of machines) (members_in host)) same here c.loop-machine.invariant.printed
+          c.in_ok-write_compared.ensures;
       all = c.if-all_same.false ∙ sym (ap (λ (b : Bool). b && same) c.if-all_same.false)
-          ∙ still_all (found_of machines host) k c.loop-machine.all_same same here c.loop-machine.invariant.all;
+          ∙ still_all (same_each (map ahead_of machines) (members_in host)) k c.loop-machine.all_same same here c.loop-machine.invariant.all;
     }
 
 pub returns-clause-printed : goal.returns-clause-printed

@@ -2,7 +2,7 @@ use Rattle.std.proofs.Common.{take}
 use Rattle.mb_outside.specs.Prints.{Printed}
 use Rattle.vm_slices.specs.Places.{members_in}
 use Rattle.vm_slices.specs.Members.{tallies_of}
-use Rattle.mb_program.specs.Answers.{texts_from}
+use Rattle.mb_program.specs.Headline.{texts_from}
 use Rattle.mb_program.specs.Direct.{counts_line}
 use Rattle.mb_program.proofs.diagnosis.say_counts.Given as goal
 

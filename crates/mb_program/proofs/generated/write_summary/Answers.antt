@@ -2,7 +2,8 @@ use Rattle.std.specs.Prelude.{codes}
 use Rattle.mb_outside.proofs.PrintLemmas.{prints_more}
 use Rattle.vm_slices.specs.Members.{shown_of}
 use Rattle.vm_slices.specs.Places.{members_in}
-use Rattle.mb_program.specs.Answers.{summary_line, texts_from}
+use Rattle.mb_program.specs.Answers.{summary_line}
+use Rattle.mb_program.specs.Headline.{texts_from}
 use Rattle.mb_program.proofs.generated.write_summary.Goals as goal
 
 pub returns : goal.returns

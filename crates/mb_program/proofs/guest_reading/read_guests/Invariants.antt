@@ -2,7 +2,7 @@ use Rattle.std.proofs.Common.{◌≡◌, drop, length, map}
 use Rattle.std.specs.Prelude.{All}
 use Rattle.mb_script.specs.Answers.{guest_said}
 use Rattle.vm_guest.specs.Session.{IsGuest}
-use Rattle.mb_program.specs.Ends.{shelf_seen}
+use Rattle.mb_files.specs.Shelves.{shelf_seen}
 use Rattle.mb_program.proofs.GuestLemmas.{ReadSoFar}
 use Rattle.mb_program.proofs.guest_reading.read_guests.Given as goal
 
@@ -13,6 +13,4 @@ invariant-loop-plan g l = record {
       (shelf_seen g.F.Shelf l.shelf);
   in_range : All IsGuest l.guests.items;
   count : length l.guests.items ≡ l.plan-index;
-  told : g.F.Shelf.told l.shelf ≡ g.F.Shelf.told l.initial.shelf;
-  whole : g.F.Shelf.whole l.shelf ≡ g.F.Shelf.whole l.initial.shelf;
 }

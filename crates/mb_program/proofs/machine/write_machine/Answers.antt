@@ -1,5 +1,6 @@
-use Rattle.std.proofs.Common.{Option}
+use Rattle.std.proofs.Common.{[], Option}
 use Rattle.std.specs.Prelude.{option_map}
+use Rattle.std.specs.Option.{option_map_or}
 use Rattle.std.proofs.lemmas.List.{append-nil}
 use Rattle.std.proofs.lemmas.Result.{err_from_is_err_and}
 use Rattle.mb_outside.proofs.PrintLemmas.{part_more}
@@ -7,7 +8,6 @@ use Rattle.mb_model.specs.Seen.{seen_of}
 use Rattle.mb_report.specs.Text.{outcome_text}
 use Rattle.vm_disk.specs.Disk.{DiskState}
 use Rattle.vm_disk.specs.Text.{disk_text}
-use Rattle.mb_program.specs.Answers.{text_of_disk}
 use Rattle.mb_program.proofs.TextLemmas.{printed_before}
 use Rattle.mb_program.proofs.machine.write_machine.Goals as goal
 
@@ -15,7 +15,7 @@ pub returns-in_err-write_outcome : goal.returns-in_err-write_outcome
 returns-in_err-write_outcome g c =
     let disk : Option DiskState = option_map (λ d. d.now) c.args.disk in
     let p = err_from_is_err_and c.from_residual.result c.from_residual.ensures.1 in
-    rw p.1 (part_more (text_of_disk c.args.guest disk) c.in_err-write_outcome.ensures)
+    rw p.1 (part_more (option_map_or (disk_text c.args.guest) disk []) c.in_err-write_outcome.ensures)
 
 pub returns-in-Some : goal.returns-in-Some
 returns-in-Some g c =

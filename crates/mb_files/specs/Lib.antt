@@ -1,0 +1,7 @@
+pub mod Reading
+pub mod Comes
+pub mod Whys
+pub mod Sources
+pub mod Shelves
+pub mod Reads
+pub mod Laws
