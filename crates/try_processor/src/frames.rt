@@ -88,27 +88,15 @@ fn frames_have_their_bytes(rt: HostRuntime) {
     }
 }
 
+/// The bytes of a frame of each format, where there is one.
+#[rattlefmt::skip]
+static LEAST: [Option<usize>; 16] = [
+    Some(8), Some(8), Some(12), None, None, None, None, Some(60), None, None, None, None, None, None, None, None,
+];
+
 #[test]
 fn each_format_has_its_length(rt: HostRuntime) {
-    let least = [
-        Some(8),
-        Some(8),
-        Some(12),
-        None,
-        None,
-        None,
-        None,
-        Some(60),
-        None,
-        None,
-        None,
-        None,
-        None,
-        None,
-        None,
-        None,
-    ];
-    for (format, least) in least.iter().enumerate() {
+    for (format, least) in LEAST.iter().enumerate() {
         let mut bytes = [0u8; 60];
         bytes[6] = format as u8 * 16;
         for len in 0..=60usize {

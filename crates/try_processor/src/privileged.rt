@@ -268,22 +268,23 @@ fn control_registers_by_hand(rt: HostRuntime) -> Result<(), AllocError> {
     Ok(())
 }
 
-#[test]
+/// Words, SFC and DFC, whether a write is refused, its space, and A2 after.
 #[rattlefmt::skip]
+static REFUSED: [(&[u16], [u8; 2], bool, Space, u32); 9] = [
+    (&[0x0E52, 0x1000], [1, 5], false, Space::User, 0x3000),
+    (&[0x0E52, 0x1000], [5, 1], false, Space::Super, 0x3000),
+    (&[0x0E5A, 0x1000], [3, 7], false, Space::User, 0x3000),
+    (&[0x0E52, 0x1800], [1, 5], true, Space::Super, 0x3000),
+    (&[0x0E5A, 0x1800], [5, 1], true, Space::User, 0x3002),
+    (&[0x0E72, 0x1000, 0x0151], [1, 1], false, Space::Super, 0x3000),
+    (&[0x46D2], [1, 1], false, Space::Super, 0x3000),
+    (&[0x46DA], [1, 1], false, Space::Super, 0x3000),
+    (&[0x40DA], [1, 1], true, Space::Super, 0x3002),
+];
+
+#[test]
 fn refused_in_their_spaces(rt: HostRuntime) -> Result<(), AllocError> {
-    // Words, SFC and DFC, whether a write is refused, its space, and A2 after.
-    let cases: [(&[u16], [u8; 2], bool, Space, u32); 9] = [
-        (&[0x0E52, 0x1000], [1, 5], false, Space::User, 0x3000),
-        (&[0x0E52, 0x1000], [5, 1], false, Space::Super, 0x3000),
-        (&[0x0E5A, 0x1000], [3, 7], false, Space::User, 0x3000),
-        (&[0x0E52, 0x1800], [1, 5], true, Space::Super, 0x3000),
-        (&[0x0E5A, 0x1800], [5, 1], true, Space::User, 0x3002),
-        (&[0x0E72, 0x1000, 0x0151], [1, 1], false, Space::Super, 0x3000),
-        (&[0x46D2], [1, 1], false, Space::Super, 0x3000),
-        (&[0x46DA], [1, 1], false, Space::Super, 0x3000),
-        (&[0x40DA], [1, 1], true, Space::Super, 0x3002),
-    ];
-    for (words, [sfc, dfc], write, space, a2) in cases {
+    for &(words, [sfc, dfc], write, space, a2) in &REFUSED {
         let mut port = memory(rt.alloc())?;
         let mut cpu = supervisor();
         cpu.sfc = sfc;

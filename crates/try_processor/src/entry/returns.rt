@@ -16,12 +16,15 @@ const WENT: Ended = Ended::Done { flow: true };
 
 const FORMAT_ERROR: Ended = Ended::Refused(14);
 
+/// Status registers.
+static STATUS: [u16; 6] = [0x2700, 0x3000, 0x0000, 0x901F, 0x6015, 0x8000];
+
 /// Enters and returns with each of these status registers, which leaves the processor as it was; of an access error the
 /// return holds the fields and PC, and of other frames nothing.
 fn go_and_come(rt: &impl Abort, cause: &Cause, port: &mut VectorPort)
     requires { cause.now.level < 8 }
 {
-    for sr in [0x2700, 0x3000, 0x0000, 0x901F, 0x6015, 0x8000] {
+    for &sr in &STATUS {
         let before = processor(sr);
         let mut cpu = before;
         assert!(rt; enter(&mut cpu, port, cause) == Entered::Done);
@@ -38,21 +41,28 @@ fn go_and_come(rt: &impl Abort, cause: &Cause, port: &mut VectorPort)
     }
 }
 
-#[test]
-fn each_frame_there_and_back(rt: HostRuntime) -> Result<(), AllocError> {
-    let zero_divide = Cause {
+/// A cause of each frame, a zero divide and a trap among them.
+static CAUSES: [Cause; 5] = [
+    ILLEGAL,
+    Cause {
         vector: 5,
         address: 0x3FC,
         ..ILLEGAL
-    };
-    let trap = Cause {
+    },
+    Cause {
         vector: 32,
         ..ILLEGAL
-    };
+    },
+    TIMER,
+    ACCESS_ERROR,
+];
+
+#[test]
+fn each_frame_there_and_back(rt: HostRuntime) -> Result<(), AllocError> {
     let mut port = VectorPort::new(rt.alloc(), LONGS, NO_HOLE)?;
-    for cause in [ILLEGAL, zero_divide, trap, TIMER, ACCESS_ERROR] {
+    for cause in &CAUSES {
         assert!(rt; cause.level < 8);
-        go_and_come(&rt, &cause, &mut port);
+        go_and_come(&rt, cause, &mut port);
     }
     Ok(())
 }
@@ -117,16 +127,18 @@ fn short_and_throwaway_frames(rt: HostRuntime) -> Result<(), AllocError> {
     Ok(())
 }
 
+/// The hole, and the first byte of the operand that it is in.
+static HOLES: [(u32, u32); 5] = [
+    (0x8001, 0x8000),
+    (0x8002, 0x8002),
+    (0x8005, 0x8002),
+    (0x8007, 0x8006),
+    (0x803B, 0x8038),
+];
+
 #[test]
 fn a_refused_read_leaves_all_registers(rt: HostRuntime) -> Result<(), AllocError> {
-    // The hole, and the first byte of the operand that it is in.
-    for (hole, first) in [
-        (0x8001, 0x8000),
-        (0x8002, 0x8002),
-        (0x8005, 0x8002),
-        (0x8007, 0x8006),
-        (0x803B, 0x8038),
-    ] {
+    for &(hole, first) in &HOLES {
         let mut port = VectorPort::new(rt.alloc(), LONGS, NO_HOLE)?;
         put_longs(&mut port, 0x8000, &[0x2000_0000, 0x0500_7008]);
         port.hole = hole;

@@ -9,6 +9,12 @@ use vm_inject::finish_movem;
 /// MOVEM.L (A0)+,D4/D5.
 const LOAD: u32 = 0x4CD8_0030;
 
+/// The frame of the second transfer.
+#[rattlefmt::skip]
+static FRAME: [u32; 15] = [
+    0x0015_0000, 0x0400_7008, 0x1000, 0x1101_0000, 0, 0x1004, 0, 0, 0, 0, 0, 0, 0x0404, LOAD, 1,
+];
+
 #[test]
 fn transfers_to_registers(rt: HostRuntime) -> Result<(), AllocError> {
     // The second transfer is refused: the first stays, and A0 is as it was.
@@ -18,24 +24,7 @@ fn transfers_to_registers(rt: HostRuntime) -> Result<(), AllocError> {
     assert!(rt; finish_movem(LOAD, 0x1000, 0, 0x404, &mut cpu, &mut port) == Went);
     assert!(rt; (cpu.regs.sr, cpu.regs.pc, cpu.regs.isp) == (0x2015, 0x500, 0x7FC4));
     assert!(rt; (cpu.regs.d[4], cpu.regs.d[5], cpu.regs.a[0]) == (0xAAAA_0001, 5, 0x1000));
-    let frame = [
-        0x0015_0000,
-        0x0400_7008,
-        0x1000,
-        0x1101_0000,
-        0,
-        0x1004,
-        0,
-        0,
-        0,
-        0,
-        0,
-        0,
-        0x0404,
-        LOAD,
-        1,
-    ];
-    assert!(rt; stands(&port, 0x7FC4, &frame));
+    assert!(rt; stands(&port, 0x7FC4, &FRAME));
     // It goes on with that one.
     port.hole = NO_HOLE;
     put(&mut port, 0x1000, 4, 0);

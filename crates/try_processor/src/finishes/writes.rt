@@ -17,7 +17,7 @@ enum Left {
 
 /// $11223344 of a long at $2001.
 #[rattlefmt::skip]
-const PIECES: [Pend; 3] = [
+static PIECES: [Pend; 3] = [
     Pend { at: 0x2001, len: 1, value: 0x11 },
     Pend { at: 0x2002, len: 2, value: 0x2233 },
     Pend { at: 0x2004, len: 1, value: 0x44 },

@@ -10,7 +10,7 @@ use std::alloc::{AllocError, Global};
 const HOLE: u32 = 0x1109;
 
 /// Instructions of one word that have a short form, a few of each kind.
-const ALONE: [u16; 66] = [
+static ALONE: [u16; 66] = [
     0x70F9, // MOVEQ #-7,D0
     0x2401, // MOVE.L D1,D2
     0xD481, // ADD.L D1,D2
@@ -80,7 +80,7 @@ const ALONE: [u16; 66] = [
 ];
 
 /// First words that have a short form with any second one.
-const WITH_ANOTHER: [u16; 17] = [
+static WITH_ANOTHER: [u16; 17] = [
     0x2429, // MOVE.L (d16,A1),D2
     0x2342, // MOVE.L D2,(d16,A1)
     0x6600, // BNE.W
@@ -101,7 +101,7 @@ const WITH_ANOTHER: [u16; 17] = [
 ];
 
 /// Instructions of three words, each once and once more with another third word.
-const OF_THREE_WORDS: [[u16; 3]; 10] = [
+static OF_THREE_WORDS: [[u16; 3]; 10] = [
     [0x0682, 0x0000, 0x1001], // ADDI.L #$1001,D2
     [0x0682, 0x0000, 0x1002],
     [0x0C82, 0x8000, 0x0000], // CMPI.L #$80000000,D2
@@ -206,13 +206,16 @@ fn in_short_as_in_general(rt: HostRuntime) -> Result<(), AllocError> {
     Ok(())
 }
 
+/// Third words, one step after the other.
+static THIRDS: [u16; 5] = [0x1001, 0x1001, 0x1002, 0x1002, 0x1001];
+
 /// An instruction of three words is found again where its words came before, and never in place of another one.
 #[test]
 fn three_words_are_found_by_all(rt: HostRuntime) -> Result<(), AllocError> {
     let setting = SETTINGS[0];
     let mut decoder = Decoder::new(rt.alloc())?;
     let mut memory = operands(rt.alloc(), setting)?;
-    for third in [0x1001, 0x1001, 0x1002, 0x1002, 0x1001] {
+    for &third in &THIRDS {
         // MOVE.L #third,D2
         let stepped = take_step(setting, [0x243C, 0, third], &mut decoder, &mut memory);
         assert!(rt; stepped.cpu.regs.d[2] == u32::from(third));

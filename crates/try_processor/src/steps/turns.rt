@@ -5,7 +5,11 @@ use mb_step::{Decoder, StepEnd, step};
 use std::alloc::AllocError;
 
 /// STOP #$2500.
-const STOP: [u16; 2] = [0x4E72, 0x2500];
+static STOP: [u16; 2] = [0x4E72, 0x2500];
+
+/// The frame of an access error where the interrupt stack refuses a frame, up to its third writeback.
+#[rattlefmt::skip]
+static FRAME: [u32; 8] = [0x3000_0000, 0x0400_7008, 0x7FFC, 0x0005_0000, 0, 0x7FFC, 0, 0];
 
 #[test]
 fn interrupts(rt: HostRuntime) -> Result<(), AllocError> {
@@ -28,20 +32,13 @@ fn interrupts(rt: HostRuntime) -> Result<(), AllocError> {
     assert!(rt; step(&mut decoder, &mut cpu, &mut port, 6) == StepEnd::Went);
     assert!(rt; (cpu.regs.sr, cpu.regs.pc, cpu.stopped) == (0x3000, 0x500, false));
     assert!(rt; (cpu.regs.msp, cpu.regs.isp) == (0x8FC4, 0x8000));
-    let frame = [
-        0x3000_0000,
-        0x0400_7008,
-        0x7FFC,
-        0x0005_0000,
-        0,
-        0x7FFC,
-        0,
-        0,
-    ];
-    assert!(rt; stands(&port, 0x8FC4, &frame));
+    assert!(rt; stands(&port, 0x8FC4, &FRAME));
     assert!(rt; stands(&port, 0x7FF8, &[0, 0]));
     Ok(())
 }
+
+/// Status registers with a trace bit.
+static TRACED: [u16; 2] = [0xA700, 0x6700];
 
 #[test]
 fn stopping(rt: HostRuntime) -> Result<(), AllocError> {
@@ -57,7 +54,7 @@ fn stopping(rt: HostRuntime) -> Result<(), AllocError> {
     assert!(rt; (cpu.regs.sr, cpu.regs.pc, cpu.stopped) == (0x2600, 0x700, false));
     assert!(rt; stands(&port, 0x7FF8, &[0x2500_0000, 0x0404_0078]));
     // Where a trace is due it does not stop.
-    for sr in [0xA700, 0x6700] {
+    for &sr in &TRACED {
         let mut port = memory(rt.alloc(), NO_HOLE, &STOP)?;
         let mut cpu = processor(sr);
         assert!(rt; steps(&mut decoder, 1, &mut cpu, &mut port) == StepEnd::Went);
