@@ -51,7 +51,7 @@ use Rattle.mb_mnemonics.specs.Values.{valued, valued_displacement, valued_field,
 use Rattle.mb_mnemonics.proofs.ModeWords.{chained, mapped}
 use Rattle.mb_mnemonics.proofs.SameForm.{form_of_same, operand_words_same}
 use Rattle.mb_asm.specs.Bytes.{is_out}
-use Rattle.mb_asm.specs.Values.{Scope, value_or_one, filled, filled_base, filled_mode, target}
+use Rattle.mb_asm.specs.Values.{Scope, value_or_one, with_all_known, filled_base, filled_mode, target}
 
 -- ---- numbers
 
@@ -616,12 +616,12 @@ number_filled : (scope : Scope) (n : FieldNumber Sum) → valued_number (value_o
 number_filled scope (field_number.Data n) = refl
 number_filled scope (field_number.Number e) = refl
 
-operand_filled : (scope : Scope) (o : Operand Sum) → filled scope o ≡ valued (fill scope) (marked o)
+operand_filled : (scope : Scope) (o : Operand Sum) → with_all_known scope o ≡ valued (fill scope) (marked o)
 operand_filled scope (operand.Mode m) = rw (mode_filled scope m) refl
 operand_filled scope (operand.Field m t) = rw (mode_filled scope m, number_filled scope t.offset, number_filled scope t.width) refl
 operand_filled scope _ = refl
 
-pub all_filled : (scope : Scope) (os : List (Operand Sum)) → map (filled scope) os ≡ map (valued (fill scope)) (map marked os)
+pub all_filled : (scope : Scope) (os : List (Operand Sum)) → map (with_all_known scope) os ≡ map (valued (fill scope)) (map marked os)
 all_filled scope [] = refl
 all_filled scope (o ∷ os) = rw (operand_filled scope o, all_filled scope os) refl
 

@@ -27,7 +27,7 @@ use Rattle.mb_asm.specs.declared.directive.Directive.{Directive}
 use Rattle.mb_asm.specs.declared.directive.Directive.TheVariants as directive
 use Rattle.mb_asm.specs.Kinds.{meant}
 use Rattle.mb_asm.specs.Results.{refuse}
-use Rattle.mb_asm.specs.Values.{Scope, filled, have_flaw, values_of}
+use Rattle.mb_asm.specs.Values.{Scope, with_all_known, have_flaw, values_of}
 use Rattle.mb_asm.specs.Directives.{plain_of, unit_of}
 use Rattle.mb_asm.specs.Extents.{directive_in, narrow_value, ranged}
 
@@ -92,7 +92,7 @@ is_out _ = false
 -- a number of an operation that is known is out of its range, whatever those are that are not
 abbrev pub has_out : Scope → Operation → Bool
 has_out scope operation =
-    is_out (meaning (bytes_at scope.line operation.name) operation.size (map (filled scope) operation.operands)
+    is_out (meaning (bytes_at scope.line operation.name) operation.size (map (with_all_known scope) operation.operands)
     (unwrap_or scope.at 0 % 2 ^ 32))
 
 -- Of an instruction that rests on what is not known, the numbers that are known are judged.

@@ -97,10 +97,11 @@ filled_mode scope (mode.Full form) = mode.Full (filled_form scope form)
 filled_mode scope m = valued_mode (value_or_one scope) m
 
 -- an operand with numbers in range in the place of those that are not known
-abbrev pub filled : Scope → Operand Sum → Operand ℤ
-filled scope (operand.Mode m) = operand.Mode (filled_mode scope m)
-filled scope (operand.Field m field) = operand.Field (filled_mode scope m) (valued_field (value_or_one scope) field)
-filled scope o = valued (value_or_one scope) o
+abbrev pub with_all_known : Scope → Operand Sum → Operand ℤ
+with_all_known scope (operand.Mode m) = operand.Mode (filled_mode scope m)
+with_all_known scope (operand.Field m field) =
+    operand.Field (filled_mode scope m) (valued_field (value_or_one scope) field)
+with_all_known scope o = valued (value_or_one scope) o
 
 -- Flaws of expressions.
 

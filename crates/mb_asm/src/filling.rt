@@ -3,7 +3,7 @@
 ghost use Rattle.std.specs.Prelude.{◌≡◌, IfOk, map, option_map};
 ghost use Rattle.mb_mnemonics.specs.Values.{valued_displacement};
 ghost use Rattle.mb_asm.specs.Scopes.{scope_said};
-ghost use Rattle.mb_asm.specs.Values.{filled, filled_base, filled_form, filled_mode, near, target};
+ghost use Rattle.mb_asm.specs.Values.{with_all_known, filled_base, filled_form, filled_mode, near, target};
 
 use crate::evaluation::{displacement_value, field_value, mode_value, operand_value, value_of};
 use crate::value::Scope;
@@ -95,7 +95,7 @@ fn filled_mode(scope: &Scope, mode: &Mode<Expression>) -> Mode<i64>
 }
 
 fn filled(scope: &Scope, operand: &Operand<Expression>) -> Operand<i64>
-    ensures { result ≡ filled (scope_said scope.now) operand.now }
+    ensures { result ≡ with_all_known (scope_said scope.now) operand.now }
 {
     match operand {
         Operand::Mode(mode) => Operand::Mode(filled_mode(scope, mode)),
@@ -113,7 +113,7 @@ pub(crate) fn all_filled(
     scope: &Scope,
     operands: &[Operand<Expression>],
 ) -> Result<Vec<Operand<i64>>, AllocError>
-    ensures { IfOk result (λ values. values.items ≡ map (filled (scope_said scope.now)) operands.now) }
+    ensures { IfOk result (λ values. values.items ≡ map (with_all_known (scope_said scope.now)) operands.now) }
 {
     let mut values = Vec::new(alloc);
     for operand in operands {

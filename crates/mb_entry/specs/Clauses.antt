@@ -56,10 +56,10 @@ abbrev pub IsDoubleFault : {S : Type 0} → Bus S → Cause → Cpu → Regs →
 IsDoubleFault bus c old new s t = IsUnplaced bus c old.regs new s t ⊎ HasNoHandler bus c old new s t
 
 -- Where the vector was read PC alone is another, else nothing is.
-abbrev pub GoesOn : Entered → Cpu → Cpu → Type 0
-GoesOn entered.Done old new = new ≡ record old { regs = record old.regs { pc = new.regs.pc } }
-GoesOn (entered.Faulted fault) old new = ⊥
-GoesOn entered.DoubleFault old new = new ≡ old
+abbrev pub LeavesCpu : Entered → Cpu → Cpu → Type 0
+LeavesCpu entered.Done old new = new ≡ record old { regs = record old.regs { pc = new.regs.pc } }
+LeavesCpu (entered.Faulted fault) old new = ⊥
+LeavesCpu entered.DoubleFault old new = new ≡ old
 
 -- the fact, where a check was refused
 abbrev pub IfFaulted : Entered → (Fault → Type 0) → Type 0

@@ -3,7 +3,7 @@
 ghost use Rattle.std.specs.Prelude.{◌≡◌, ◌<◌, false, IsSome};
 ghost use Rattle.mb_port.specs.Routine.{run};
 ghost use Rattle.mb_processor.specs.Entry.{frames_of, check_frames_of, go_to_handler_of, unstacked, enter_of};
-ghost use Rattle.mb_entry.specs.Clauses.{RegsAfter, GoesOn, IfFaulted, IfHalted, IsUnread, IsDoubleFault};
+ghost use Rattle.mb_entry.specs.Clauses.{RegsAfter, LeavesCpu, IfFaulted, IfHalted, IsUnread, IsDoubleFault};
 
 use crate::places::{check_frames, put_frames};
 use crate::stacking::{frames_for, offset, set_handler_regs};
@@ -32,7 +32,7 @@ fn unstacked(fault: Fault, cause: &Cause, cpu: &mut Cpu) -> Entered
 fn go_to_handler<P: Port>(cause: &Cause, cpu: &mut Cpu, port: &mut P) -> Entered
     ensures means { run P.bus (go_to_handler_of cause.now cpu.old) (P.world port.old)
         ≡ ((result, cpu.new), P.world port.new) }
-    ensures went { GoesOn result cpu.old cpu.new }
+    ensures went { LeavesCpu result cpu.old cpu.new }
     ensures unread { IfHalted result
         (IsUnread P.bus cause.now.vector cpu.old.vbr (P.world port.old) (P.world port.new)) }
     ensures rest { P.rest port.new ≡ P.rest port.old }

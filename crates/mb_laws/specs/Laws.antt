@@ -25,8 +25,8 @@ Passes p s = IsTrue (p s)
 abbrev pub Related : {S T : Type 0} → (S → T → Bool) → S → T → Type 0
 Related r s t = IsTrue (r s t)
 
-abbrev pub IsLawful : {S : Type 0} → (Call → S → Bool) → Call → S → Type 0
-IsLawful p c s = IsTrue (p c s)
+abbrev pub PassesCall : {S : Type 0} → (Call → S → Bool) → Call → S → Type 0
+PassesCall p c s = IsTrue (p c s)
 
 abbrev pub May : {S : Type 0} → ((c : Call) → S → Answer c → S → Bool) → Steps S
 May step c s a t = IsTrue (step c s a t)
@@ -52,8 +52,8 @@ RoutinesKeep S A = (p : S → Bool) (bus : Bus S) → Keeps (Passes p) bus
 -- allowed.
 abbrev pub RoutinesKeepUntil : Type 0 → Type 0 → Type 0
 RoutinesKeepUntil S A = (p : S → Bool) (lawful allowed : Call → S → Bool) (bus : Bus S)
-    → KeepsAllowed (Passes p) (IsLawful lawful) allowed bus → (m : Tree A) (s : S) → Passes p s
-    → AlongUntil (IsLawful lawful) allowed bus (routine_of m) s
+    → KeepsAllowed (Passes p) (PassesCall lawful) allowed bus → (m : Tree A) (s : S) → Passes p s
+    → AlongUntil (PassesCall lawful) allowed bus (routine_of m) s
     → Passes p (state_of (run_until allowed bus (routine_of m) s))
 
 -- What each call leaves alone, a routine leaves alone.
@@ -80,8 +80,8 @@ StopsAtRefused S A = (allowed : Call → S → Bool) (bus : Bus S) (m : Tree A) 
 -- Two buses that are alike run a routine alike, until the same refused call.
 abbrev pub AlikeRunsMeet : Type 0 → Type 0 → Type 0 → Type 0
 AlikeRunsMeet S T A = (r : S → T → Bool) (lawful allowed : Call → S → Bool) (permitted : Call → T → Bool)
-    (bus : Bus S) (peer : Bus T) → Alike (Related r) (IsLawful lawful) allowed permitted bus peer
-    → (m : Tree A) (s : S) (t : T) → Related r s t → AlongUntil (IsLawful lawful) allowed bus (routine_of m) s
+    (bus : Bus S) (peer : Bus T) → Alike (Related r) (PassesCall lawful) allowed permitted bus peer
+    → (m : Tree A) (s : S) (t : T) → Related r s t → AlongUntil (PassesCall lawful) allowed bus (routine_of m) s
     → Meets (Related r) (run_until allowed bus (routine_of m) s) (run_until permitted peer (routine_of m) t)
 
 -- The same where every call is lawful.
@@ -94,8 +94,8 @@ AlikeRunsMeetEverywhere S T A = (r : S → T → Bool) (allowed : Call → S →
 -- Two buses that answer alike at every lawful call run a routine alike to its end.
 abbrev pub MirroredRunsMeet : Type 0 → Type 0 → Type 0 → Type 0
 MirroredRunsMeet S T A = (r : S → T → Bool) (lawful : Call → S → Bool) (bus : Bus S) (peer : Bus T)
-    → Mirrors (Related r) (IsLawful lawful) bus peer
-    → (m : Tree A) (s : S) (t : T) → Related r s t → Along (IsLawful lawful) bus (routine_of m) s
+    → Mirrors (Related r) (PassesCall lawful) bus peer
+    → (m : Tree A) (s : S) (t : T) → Related r s t → Along (PassesCall lawful) bus (routine_of m) s
     → (answer_in (run bus (routine_of m) s) ≡ answer_in (run peer (routine_of m) t))
     × Related r (state_in (run bus (routine_of m) s)) (state_in (run peer (routine_of m) t))
 
@@ -108,16 +108,16 @@ RunsAreAdmitted S A = (step : (c : Call) → S → Answer c → S → Bool) (bus
 -- A choosing bus that may follow each call may follow a routine.
 abbrev pub RunsMayFollow : Type 0 → Type 0 → Type 0 → Type 0
 RunsMayFollow S T A = (r : S → T → Bool) (lawful : Call → S → Bool) (bus : Bus S)
-    (step : (c : Call) → T → Answer c → T → Bool) → MayFollow (Related r) (IsLawful lawful) bus (May step)
-    → (m : Tree A) (s : S) (t : T) → Related r s t → Along (IsLawful lawful) bus (routine_of m) s
+    (step : (c : Call) → T → Answer c → T → Bool) → MayFollow (Related r) (PassesCall lawful) bus (May step)
+    → (m : Tree A) (s : S) (t : T) → Related r s t → Along (PassesCall lawful) bus (routine_of m) s
     → (u : T) × Runs (May step) (routine_of m) t (answer_in (run bus (routine_of m) s)) u
     × Related r (state_in (run bus (routine_of m) s)) u
 
 -- Where a choosing bus has no choice along a run, each of its runs is that run.
 abbrev pub RunsHaveNoChoice : Type 0 → Type 0 → Type 0 → Type 0
 RunsHaveNoChoice S T A = (r : S → T → Bool) (p : Call → S → Bool) (bus : Bus S)
-    (step : (c : Call) → T → Answer c → T → Bool) → NoChoice (Related r) (IsLawful p) bus (May step)
-    → (m : Tree A) (s : S) (t : T) (a : A) (u : T) → Related r s t → Along (IsLawful p) bus (routine_of m) s
+    (step : (c : Call) → T → Answer c → T → Bool) → NoChoice (Related r) (PassesCall p) bus (May step)
+    → (m : Tree A) (s : S) (t : T) (a : A) (u : T) → Related r s t → Along (PassesCall p) bus (routine_of m) s
     → Runs (May step) (routine_of m) t a u
     → (answer_in (run bus (routine_of m) s) ≡ a) × Related r (state_in (run bus (routine_of m) s)) u
 
@@ -134,21 +134,21 @@ pub record RefusingBus (S : Type 0) : Type 0 where
   pub bus : Bus S
 
 abbrev pub IsRefusing : {S : Type 0} → RefusingBus S → Type 0
-IsRefusing x = Refuses (Related x.same) (IsLawful x.lawful) x.allowed x.bus
+IsRefusing x = Refuses (Related x.same) (PassesCall x.lawful) x.allowed x.bus
 
 abbrev pub Telling : {S A E : Type 0}
     → RefusingBus S → (S → Bool) → Routine (Result A E) → (S → E → Bool) → (A → S → Bool) → Type 0
 Telling x before m p after =
-    Tells (Related x.same) (IsLawful x.lawful) x.allowed x.bus (Passes before) m (Says p) (After after)
+    Tells (Related x.same) (PassesCall x.lawful) x.allowed x.bus (Passes before) m (Says p) (After after)
 
 abbrev pub Ending : {S A : Type 0} → RefusingBus S → (S → Bool) → Routine A → (A → S → Bool) → Type 0
-Ending x before m after = Ends (IsLawful x.lawful) x.allowed x.bus (Passes before) m (After after)
+Ending x before m after = Ends (PassesCall x.lawful) x.allowed x.bus (Passes before) m (After after)
 
 -- what is known of a single call that can fault: it is this routine, and the bus gives it this answer
 abbrev pub Calling : {S A : Type 0} → RefusingBus S → (S → Bool) → Call → (S → Result A Fault × S)
     → Routine (Result A Fault) → (S → Fault → Bool) → (A → S → Bool) → Type 0
 Calling x before c answer m p after =
-    Faulting (Related x.same) (IsLawful x.lawful c) (x.allowed c) answer (Passes before) m (Says p) (After after)
+    Faulting (Related x.same) (PassesCall x.lawful c) (x.allowed c) answer (Passes before) m (Says p) (After after)
 
 -- Over a bus that refuses what is not allowed, a single call tells, and one that has no fault ends.
 pub record CallsTell {S : Type 0} (x : RefusingBus S) (before : S → Bool) (p : S → Fault → Bool) : Type 0 where
@@ -171,7 +171,7 @@ pub record CallsTell {S : Type 0} (x : RefusingBus S) (before : S → Bool) (p :
       let c = Probe space piece in let m = probe space piece in
       Calling x before c (x.bus c) m p after → Telling x before m p after
   pub a_faultless_call_ends : (c : Call) (after : Answer c → S → Bool) → HasNoFault c
-      → Faultless (IsLawful x.lawful) x.bus c (Passes before) (After after) → Ending x before (Ask c) after
+      → Faultless (PassesCall x.lawful) x.bus c (Passes before) (After after) → Ending x before (Ask c) after
 
 abbrev pub RefusedCallsTell : Type 0 → Type 0
 RefusedCallsTell S = (x : RefusingBus S) (before : S → Bool) (p : S → Fault → Bool) → IsRefusing x
@@ -181,19 +181,19 @@ RefusedCallsTell S = (x : RefusingBus S) (before : S → Bool) (p : S → Fault 
 -- and put with no refusal.
 pub record OpenedCallsEnd {S : Type 0} (x : RefusingBus S) (inside : S → Bool) (p : S → Fault → Bool) : Type 0 where
   pub a_probe_opens : (space : Space) (piece : Piece) → let c = Probe space piece in
-      ((s : S) → Passes inside s → IsLawful x.lawful c s)
+      ((s : S) → Passes inside s → PassesCall x.lawful c s)
       → ((s u : S) (fault : Fault) → Passes inside s → x.allowed c s ≡ false → x.bus c s ≡ (Err fault, u)
       → Related x.same s u → IsTrue (p s fault))
-      → Tells (Related x.same) (IsLawful x.lawful) x.allowed x.bus (Passes inside) (probe space piece) (Says p)
-      (λ place s. Passes inside s × IsOpen (Passes inside) (IsLawful x.lawful) place × (place.len ≡ piece.len))
-  pub an_open_get_ends : (place : Place) → IsOpen (Passes inside) (IsLawful x.lawful) place
+      → Tells (Related x.same) (PassesCall x.lawful) x.allowed x.bus (Passes inside) (probe space piece) (Says p)
+      (λ place s. Passes inside s × IsOpen (Passes inside) (PassesCall x.lawful) place × (place.len ≡ piece.len))
+  pub an_open_get_ends : (place : Place) → IsOpen (Passes inside) (PassesCall x.lawful) place
       → Ending x inside (get place) (λ value s. inside s)
-  pub an_open_put_ends : (place : Place) (value : ℕ) → IsOpen (Passes inside) (IsLawful x.lawful) place
+  pub an_open_put_ends : (place : Place) (value : ℕ) → IsOpen (Passes inside) (PassesCall x.lawful) place
       → Ending x inside (put place value) (λ done s. inside s)
 
 abbrev pub ProbedPlacesAreOpen : Type 0 → Type 0
 ProbedPlacesAreOpen S = (x : RefusingBus S) (inside : S → Bool) (p : S → Fault → Bool) → IsRefusing x
-    → OpensProbed (Passes inside) (IsLawful x.lawful) x.bus → OpenedCallsEnd x inside p
+    → OpensProbed (Passes inside) (PassesCall x.lawful) x.bus → OpenedCallsEnd x inside p
 
 -- What is put together of routines that tell, tells; and of routines that are never refused a call, is never refused
 -- one.
@@ -249,7 +249,7 @@ RefusalsCompose S A B E F = (x : RefusingBus S) (before : S → Bool) (p : S →
 abbrev pub RefusalsAreFollowed : Type 0 → Type 0 → Type 0 → Type 0 → Type 0
 RefusalsAreFollowed S T A E = (r : S → T → Bool) (x : RefusingBus S) (permitted : Call → T → Bool) (peer : Bus T)
     (before : S → Bool) (p : S → E → Bool) (after : A → S → Bool)
-    → Alike (Related r) (IsLawful x.lawful) x.allowed permitted x.bus peer
+    → Alike (Related r) (PassesCall x.lawful) x.allowed permitted x.bus peer
     → (m : Tree (Result A E)) → Telling x before (routine_of m) p after
     → (s : S) (t : T) → Related r s t → Passes before s
     → ((answer_in (run x.bus (routine_of m) s) ≡ answer_in (run peer (routine_of m) t))
@@ -272,9 +272,9 @@ kin_of k = record { on = k.on; may_be = λ d. IsTrue (k.may_be d); like = λ d a
 abbrev pub TwinRunsMeet : Type 0 → Type 0 → Type 0 → Type 0 → Type 0
 TwinRunsMeet S T A B = (k : KinTests) (r : S → T → Bool) (lawful allowed : Call → S → Bool)
     (permitted : Call → T → Bool) (bus : Bus S) (peer : Bus T)
-    → AlikeOn (kin_of k) (Related r) (IsLawful lawful) allowed permitted bus peer
+    → AlikeOn (kin_of k) (Related r) (PassesCall lawful) allowed permitted bus peer
     → (same : A → B → Bool) (m : Tree A) (n : Tree B) → TwinTrees (kin_of k) (Related same) m n
-    → (s : S) (t : T) → Related r s t → AlongUntil (IsLawful lawful) allowed bus (routine_of m) s
+    → (s : S) (t : T) → Related r s t → AlongUntil (PassesCall lawful) allowed bus (routine_of m) s
     → MeetsOn (kin_of k) (Related r) (Related same) (run_until allowed bus (routine_of m) s)
     (run_until permitted peer (routine_of n) t)
 
@@ -284,7 +284,7 @@ TwinRunsMeet S T A B = (k : KinTests) (r : S → T → Bool) (lawful allowed : C
 abbrev pub RefusedTwinsAreFollowed : Type 0 → Type 0 → Type 0 → Type 0 → Type 0 → Type 0
 RefusedTwinsAreFollowed S T A B E = (k : KinTests) (r : S → T → Bool) (x : RefusingBus S) (permitted : Call → T → Bool)
     (peer : Bus T) (before : S → Bool) (p : S → E → Bool) (after : A → S → Bool)
-    → AlikeOn (kin_of k) (Related r) (IsLawful x.lawful) x.allowed permitted x.bus peer
+    → AlikeOn (kin_of k) (Related r) (PassesCall x.lawful) x.allowed permitted x.bus peer
     → (same : Result A E → B → Bool) (m : Tree (Result A E)) (n : Tree B)
     → TwinTrees (kin_of k) (Related same) m n → Telling x before (routine_of m) p after
     → (s : S) (t : T) → Related r s t → Passes before s

@@ -23,17 +23,17 @@ abbrev pub numbered : List ℕ → List Line
 numbered text = numbered_from 1 (lines_in text)
 
 -- The lines that are left of a text, and how many came before.
-pub record Rest : Type 0 where
+pub record LinesLeft : Type 0 where
   pub count : ℕ
   pub lines : List (List ℕ)
 
-abbrev pub left : Rest → List Line
+abbrev pub left : LinesLeft → List Line
 left rest = numbered_from (rest.count + 1) rest.lines
 
 -- the number of the line after the last
-abbrev pub past : Rest → ℕ
+abbrev pub past : LinesLeft → ℕ
 past rest = rest.count + length rest.lines + 1
 
 -- how many characters are left
-abbrev pub room : Rest → ℕ
+abbrev pub room : LinesLeft → ℕ
 room rest = sum_by length rest.lines

@@ -17,9 +17,9 @@ pub struct Lines<'a> {
 
 impl<'a> Model for Lines<'a> {
     ghost use Rattle.std.specs.Prelude.{◌+◌, ◌<◌, ◌^◌, length};
-    ghost use Rattle.mb_lines.specs.Lines.{Rest};
+    ghost use Rattle.mb_lines.specs.Lines.{LinesLeft};
 
-    ghost Value = { Rest };
+    ghost Value = { LinesLeft };
 
     ghost view = { λ s. record { count = s.count; lines = s.lines } };
 

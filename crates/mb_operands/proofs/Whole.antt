@@ -7,7 +7,7 @@ use Rattle.mb_instr.specs.declared.size.Size.{Size}
 use Rattle.mb_instr.specs.Sizes.{bytes_of, low_of}
 use Rattle.mb_ea.specs.Reading.{read_operand_of, refused_in}
 use Rattle.mb_ea.proofs.Single.{single_read}
-use Rattle.mb_writes.specs.Writing.{write_operand_of, write_pieces_of, left_by}
+use Rattle.mb_writes.specs.Writing.{write_operand_of, write_pieces_of, write_fault_at}
 use Rattle.mb_writes.proofs.Single.{one_pending}
 
 pub read_whole : {S : Type 0} (bus : Bus S) (space : Space) (at : ℕ) (size : Size) (value : ℕ) (s : S) (piece : Piece)
@@ -24,6 +24,6 @@ pub written_whole : {S : Type 0} (bus : Bus S) (space : Space) (at : ℕ) (size 
 unfolding write_operand_of
 written_whole bus space at size value low s t piece whole is_low aligned e =
     ap (λ pending. run bus (write_pieces_of space at pending) s) (one_pending size at value aligned)
-    ∙ ap (λ x. run bus (tried (other_fault (left_by at (record { at = at; len = bytes_of size; value = low_of size value } ∷ [])) x.0)
+    ∙ ap (λ x. run bus (tried (other_fault (write_fault_at at (record { at = at; len = bytes_of size; value = low_of size value } ∷ [])) x.0)
     (λ _. Return (Ok tt))) x.1)
     (ap (λ (p : Piece). bus (Call.Write space p (low_of size value)) s) (sym whole) ∙ ap (λ (n : ℕ). bus (Call.Write space piece n) s) (sym is_low) ∙ e)

@@ -18,7 +18,7 @@ use Rattle.mb_processor.specs.declared.entering.Cause.{Cause}
 use Rattle.mb_processor.specs.Entry.{has_address, is_interrupt, supervised, with_mask, frame_with, frame_of, throwaway_of, thrown_sr, stacked, with_second, frames_of, Frames}
 use Rattle.mb_processor.specs.Return.{Head, Taken, read_head_of, read_longs_of, access_of_longs, continues, can_continue, restore_of, drop_bytes_of, format_error, read_or_end, access_or_format_error, take_frame_of, take_second_of, take_throwaway_of, take_frames_of}
 use Rattle.mb_returns.specs.Keeping.{Placing, Viewing, Shows, Keeps}
-use Rattle.mb_returns.specs.Returns.{IsLawful, AreSeen, taken_back, CanReturn, FramesAreTaken}
+use Rattle.mb_returns.specs.Returns.{IsLawfulCause, AreSeen, taken_back, CanReturn, FramesAreTaken}
 use Rattle.mb_returns.proofs.Readings.{Gives, followed, at_once, shown_still, shown_behind}
 use Rattle.mb_returns.proofs.Longs.{longs_in, reads_longs, fields_among}
 use Rattle.mb_returns.proofs.Heads.{sr_of, pc_of, head_from, reads_head, fields_of_frame}
@@ -193,7 +193,7 @@ few_bytes : (f : Frame) → length (frame_bytes f) ≤ 60
 few_bytes f = let e = length-frame_bytes f in let h : frame_length (format_of f) ≤ 60 = grind arith in omega arith
 
 module _ (S : Type 0) (bus : Bus S) (place : Placing S) (view : Viewing S) (keeps : Keeps bus place view) (c : Cause) (cpu back : Cpu)
-    (lawful : IsLawful c cpu) (can : CanReturn c.access) where
+    (lawful : IsLawfulCause c cpu) (can : CanReturn c.access) where
   -- the frame on the active stack, with what is taken from there
   abbrev OnStack : S → Regs → Type 0
   OnStack s r = Shows (view s) (active_stack r) (length (frame_bytes (frame_of cpu.regs.sr c))) (frame_bytes (frame_of cpu.regs.sr c))

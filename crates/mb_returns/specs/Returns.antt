@@ -18,7 +18,7 @@ use Rattle.mb_returns.specs.Keeping.{Placing, Viewing, Keeps, Shows}
 
 -- The frames of the cause are as the code holds them, the processor has the ranges of its type, and SR has no other
 -- bits than its own.
-pub record IsLawful (c : Cause) (cpu : Cpu) : Type 0 where
+pub record IsLawfulCause (c : Cause) (cpu : Cpu) : Type 0 where
   pub frame : IsFrame (frame_of cpu.regs.sr c)
   pub thrown : IsFrame (throwaway_of cpu.regs.sr c)
   pub status : kept_status cpu.regs.sr ≡ cpu.regs.sr
@@ -92,7 +92,7 @@ IsPlain (Some access) = continues access ≡ false
 -- An exception is entered whose frames are apart: they stand in supervisor data.
 abbrev pub EntryIsSeen : Type 0 → Type 0
 EntryIsSeen S = (bus : Bus S) (place : Placing S) (view : Viewing S) (c : Cause) (cpu : Cpu) (s : S)
-    → Keeps bus place view → IsLawful c cpu → AreApart (frames_at c cpu).first (frames_at c cpu).second
+    → Keeps bus place view → IsLawfulCause c cpu → AreApart (frames_at c cpu).first (frames_at c cpu).second
     → let (entrance, after) = run bus (enter_of c cpu) s in let (end, _) = entrance in
     end ≡ entered.Done → AreSeen (view after) (frames_at c cpu)
 
@@ -100,7 +100,7 @@ EntryIsSeen S = (bus : Bus S) (place : Placing S) (view : Viewing S) (c : Cause)
 -- format: $0, $2, $7, or $0 below a throwaway frame.
 abbrev pub FramesAreTaken : Type 0 → Type 0
 FramesAreTaken S = (bus : Bus S) (place : Placing S) (view : Viewing S) (c : Cause) (cpu back : Cpu) (s : S)
-    → Keeps bus place view → IsLawful c cpu → AreSeen (view s) (frames_at c cpu)
+    → Keeps bus place view → IsLawfulCause c cpu → AreSeen (view s) (frames_at c cpu)
     → IsHandlers c cpu back → CanReturn c.access
     → let (taken, _) = run bus (take_frames_of back.regs) s in taken ≡ Ok (taken_back c cpu back)
 
@@ -108,7 +108,7 @@ FramesAreTaken S = (bus : Bus S) (place : Placing S) (view : Viewing S) (c : Cau
 -- were.
 abbrev pub EntryIsReturned : Type 0 → Type 0
 EntryIsReturned S = (bus : Bus S) (place : Placing S) (view : Viewing S) (c : Cause) (cpu back : Cpu) (s t : S)
-    → Keeps bus place view → IsLawful c cpu → AreApart (frames_at c cpu).first (frames_at c cpu).second
+    → Keeps bus place view → IsLawfulCause c cpu → AreApart (frames_at c cpu).first (frames_at c cpu).second
     → let (entrance, after) = run bus (enter_of c cpu) s in let (end, _) = entrance in
     end ≡ entered.Done → (AreSeen (view after) (frames_at c cpu) → AreSeen (view t) (frames_at c cpu))
     → IsHandlers c cpu back → IsPlain c.access

@@ -20,7 +20,7 @@ use Rattle.mb_ea.specs.Reading.{read_operand_of}
 use Rattle.mb_ea.specs.Resolve.{indirect_of, full_of, parts_of, indexed_of, in_memory, Resolved, resolve_of}
 use Rattle.mb_writes.specs.declared.ends.WriteFault.{WriteFault}
 use Rattle.mb_writes.specs.declared.transfers.Movem.{Movem}
-use Rattle.mb_writes.specs.Writing.{left_by, write_pieces_of, write_operand_of}
+use Rattle.mb_writes.specs.Writing.{write_fault_at, write_pieces_of, write_operand_of}
 use Rattle.mb_frames.specs.declared.pend.Pend.{Pend}
 use Rattle.mb_frames.specs.AccessFields.{piece_of}
 use Rattle.mb_meaning.specs.Ends.{Carried}
@@ -150,8 +150,8 @@ module _ {S : Type 0} (x : Guarded S) (space : Space) (g : Guards x space) where
   pub list_tells : (first : ℕ) (ps : List Pend) → AreOwn ps → length ps ≤ 3 → Writes x space tt (write_pieces_of space first ps)
   list_tells first [] own few = tells_ok tt (λ s q. q)
   list_tells first (p ∷ ps) own few =
-      tells_bind (failing (left_by first (p ∷ ps)) (write space (piece_of p) p.value)) (λ done. write_pieces_of space first ps)
-      (tells_failing (left_by first (p ∷ ps)) (write space (piece_of p) p.value)
+      tells_bind (failing (write_fault_at first (p ∷ ps)) (write space (piece_of p) p.value)) (λ done. write_pieces_of space first ps)
+      (tells_failing (write_fault_at first (p ∷ ps)) (write space (piece_of p) p.value)
       (tells_write g.refuses space (piece_of p) p.value (record {
         lawfully = λ s q. g.writes (piece_of p) p.value s q own.0.placed;
         well = λ s done q yes e. g.opens.call (Write space (piece_of p) p.value) s q (g.writes (piece_of p) p.value s q own.0.placed);

@@ -19,7 +19,7 @@ use Rattle.mb_ea.specs.Reading.{read_pieces_of, refused_in}
 use Rattle.mb_writes.specs.declared.ends.WriteFault.{WriteFault}
 use Rattle.mb_writes.specs.declared.ends.Ended.TheVariants as ended
 use Rattle.mb_writes.specs.declared.transfers.Movem.{Movem}
-use Rattle.mb_writes.specs.Writing.{part_of, parts_of, left_by, write_pieces_of, apart, write_apart_of}
+use Rattle.mb_writes.specs.Writing.{part_of, parts_of, write_fault_at, write_pieces_of, apart, write_apart_of}
 use Rattle.mb_meaning.specs.Ends.{Carried, Stop, restored, restoring, carried, writing}
 use Rattle.mb_meaning.specs.Peripheral.{read_apart_of, load_peripheral_of, store_peripheral_of, movep_of}
 use Rattle.mb_tells.specs.Guarded.{Guarded, Guards, quiet}
@@ -71,9 +71,9 @@ module _ {S : Type 0} (x : Guarded S) (space : Space) (g : Guards x space) where
   put_apart_tells at Long value h =
       let byte : Piece = record { at = at; len = 1 } in
       let next : (at + 2) % 2 ^ 32 < 2 ^ 32 = omega arith in
-      tells_bind (failing (left_by at []) (write space byte (part_of value 4 1)))
+      tells_bind (failing (write_fault_at at []) (write space byte (part_of value 4 1)))
       (λ done. write_pieces_of space at (parts_of (apart ((at + 2) % 2 ^ 32) 3) 3 value))
-      (tells_failing (left_by at []) (write space byte (part_of value 4 1))
+      (tells_failing (write_fault_at at []) (write space byte (part_of value 4 1))
       (tells_write g.refuses space byte (part_of value 4 1) (record {
         lawfully = λ s q. g.writes byte (part_of value 4 1) s q.0 (byte_placed at h);
         well = λ s done q yes e.

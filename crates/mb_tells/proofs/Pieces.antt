@@ -13,7 +13,7 @@ use Rattle.mb_ea.specs.Reading.{read_pieces_of, refused_in, read_cut_of, read_op
 use Rattle.mb_frames.specs.declared.pend.Pend.{Pend}
 use Rattle.mb_frames.specs.AccessFields.{piece_of}
 use Rattle.mb_writes.specs.declared.ends.WriteFault.{WriteFault}
-use Rattle.mb_writes.specs.Writing.{pending_of, left_by, write_pieces_of, write_operand_of}
+use Rattle.mb_writes.specs.Writing.{pending_of, write_fault_at, write_pieces_of, write_operand_of}
 use Rattle.mb_tells.specs.Guarded.{Guarded, Guards, Goes, IsReading, quiet}
 use Rattle.mb_tells.specs.Left.{Answered, AreOwn, IsRest, SameCalls, Resumes, here, later, Telling}
 use Rattle.mb_tells.proofs.Resumed.{resumes_then}
@@ -119,8 +119,8 @@ unfolding KeptBy
 all_tell x space g K first [] are few spread keep = tells_ok tt (λ s q. q)
 all_tell {S} x space g K first (p ∷ ps) are few spread keep =
     tells_bind {mid = λ done s. x.serving s × K s × x.stands (Write space (piece_of p) p.value) (Ok tt) s}
-    (failing (left_by first (p ∷ ps)) (write space (piece_of p) p.value)) (λ done. write_pieces_of space first ps)
-    (tells_failing (left_by first (p ∷ ps)) (write space (piece_of p) p.value)
+    (failing (write_fault_at first (p ∷ ps)) (write space (piece_of p) p.value)) (λ done. write_pieces_of space first ps)
+    (tells_failing (write_fault_at first (p ∷ ps)) (write space (piece_of p) p.value)
     (tells_write g.refuses space (piece_of p) p.value (record {
       lawfully = λ s q. g.writes (piece_of p) p.value s q.0 are.0.placed;
       well = λ s done q yes e.

@@ -5,7 +5,7 @@ use Rattle.mb_port.specs.declared.types.Space.{Space}
 use Rattle.mb_port.specs.declared.types.Fault.{Fault}
 use Rattle.mb_frames.specs.declared.pend.Pend.{Pend}
 use Rattle.mb_frames.specs.AccessFields.{piece_of}
-use Rattle.mb_writes.specs.Writing.{pending_of, left_by, write_pieces_of, write_operand_of, complete_of}
+use Rattle.mb_writes.specs.Writing.{pending_of, write_fault_at, write_pieces_of, write_operand_of, complete_of}
 use Rattle.mb_writes.specs.Laws.{with_back}
 
 pub put_is_complete : {S : Type 0} (bus : Bus S) (space : Space) (at len value : ℕ) (s : S) → 1 ≤ len →
@@ -19,9 +19,9 @@ behind : {S : Type 0} (bus : Bus S) (space : Space) (first : ℕ) (p : Pend) (ps
     ((t : S) → run bus (write_pieces_of space first (ps ++ back)) t
     ≡ run bus (failing (with_back back) (write_pieces_of space first ps) >> write_pieces_of space first back) t) →
     (r : Result (Unit {0}) Fault) (t : S) →
-    run bus (tried (other_fault (left_by first ((p ∷ ps) ++ back)) r) (λ _. write_pieces_of space first (ps ++ back))) t
+    run bus (tried (other_fault (write_fault_at first ((p ∷ ps) ++ back)) r) (λ _. write_pieces_of space first (ps ++ back))) t
     ≡ run bus (failing (with_back back)
-    (tried (other_fault (left_by first (p ∷ ps)) r) (λ _. write_pieces_of space first ps)) >> write_pieces_of space first back) t
+    (tried (other_fault (write_fault_at first (p ∷ ps)) r) (λ _. write_pieces_of space first ps)) >> write_pieces_of space first back) t
 behind bus space first p ps back more (Ok done) t = more t
 behind bus space first p ps back more (Err fault) t = refl
 

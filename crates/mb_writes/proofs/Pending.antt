@@ -4,7 +4,7 @@ use Rattle.std.proofs.lemmas.List.{take_rest}
 use Rattle.mb_port.specs.declared.types.Piece.{Piece}
 use Rattle.mb_port.specs.Pieces.{ArePieces}
 use Rattle.mb_frames.specs.declared.pend.Pend.{Pend}
-use Rattle.mb_writes.specs.Writing.{parts_of, ArePending, IsLeft}
+use Rattle.mb_writes.specs.Writing.{parts_of, ArePending, IsLeftOf}
 
 are_pending : (pieces : List Piece) (before_end value : ℕ) → ArePieces pieces → ArePending (parts_of pieces before_end value)
 are_pending [] before_end value h = tt
@@ -15,7 +15,7 @@ pub parts_are : (pieces : List Piece) (before_end value : ℕ) (parts : List Pen
 parts_are pieces before_end value parts h e = subst ArePending (sym e) (are_pending pieces before_end value h)
 
 -- what is left from a place on
-pub left_from : (i : ℕ) (rest pending : List Pend) → i < length pending → rest ≡ take (length pending - i) (drop i pending) → IsLeft rest pending
+pub left_from : (i : ℕ) (rest pending : List Pend) → i < length pending → rest ≡ take (length pending - i) (drop i pending) → IsLeftOf rest pending
 left_from i rest pending h e =
     let all = e ∙ take_rest pending i in record {
       done = take i pending;

@@ -32,14 +32,14 @@ ArePending [] = Unit {0}
 ArePending (p ∷ ps) = IsPiece (piece_of p) × ArePending ps
 
 -- the fault, with the pieces that are left
-abbrev pub left_by : ℕ → List Pend → Fault → WriteFault
-left_by first rest fault = record { fault = fault; first = first; rest = record { items = rest } }
+abbrev pub write_fault_at : ℕ → List Pend → Fault → WriteFault
+write_fault_at first rest fault = record { fault = fault; first = first; rest = record { items = rest } }
 
 -- Pieces are written in their order. A refused one is left, and so are all that come after it.
 abbrev pub write_pieces_of : Space → ℕ → List Pend → Routine (Result (Unit {0}) WriteFault)
 write_pieces_of space first [] = Return (Ok tt)
 write_pieces_of space first (p ∷ ps) = do
-  failing (left_by first (p ∷ ps)) (write space (piece_of p) p.value)
+  failing (write_fault_at first (p ∷ ps)) (write space (piece_of p) p.value)
   write_pieces_of space first ps
 
 -- an operand of one to five bytes
@@ -57,7 +57,7 @@ abbrev pub write_apart_of : Space → ℕ → Size → ℕ → Routine (Result (
 write_apart_of space at Byte value = write_pieces_of space at (parts_of (apart at 1) 1 value)
 write_apart_of space at Word value = write_pieces_of space at (parts_of (apart at 2) 2 value)
 write_apart_of space at Long value = do
-  failing (left_by at []) (write space (record { at = at; len = 1 }) (part_of value 4 1))
+  failing (write_fault_at at []) (write space (record { at = at; len = 1 }) (part_of value 4 1))
   write_pieces_of space at (parts_of (apart ((at + 2) % 2 ^ 32) 3) 3 value)
 
 -- where the first of them is
@@ -70,7 +70,7 @@ abbrev pub complete_of : Space → List Pend → Routine (Result (Unit {0}) Writ
 complete_of space pending = write_pieces_of space (first_address pending) pending
 
 -- The list is the end of the other, and not empty.
-pub record IsLeft (rest pending : List Pend) : Type 0 where
+pub record IsLeftOf (rest pending : List Pend) : Type 0 where
   pub done : List Pend
   pub last : done ++ rest ≡ pending
   pub some : 1 ≤ length rest

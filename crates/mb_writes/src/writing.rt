@@ -5,8 +5,8 @@ ghost use Rattle.mb_port.specs.Routine.{run};
 ghost use Rattle.mb_port.specs.Pieces.{ArePieces, IsPiece};
 ghost use Rattle.mb_frames.specs.AccessFields.{piece_of};
 ghost use Rattle.mb_instr.specs.Sizes.{bytes_of};
-ghost use Rattle.mb_writes.specs.Writing.{part_of, parts_of, pending_of, ArePending, IsLeft};
-ghost use Rattle.mb_writes.specs.Writing.{left_by, write_pieces_of, write_operand_of, write_apart_of, complete_of};
+ghost use Rattle.mb_writes.specs.Writing.{part_of, parts_of, pending_of, ArePending, IsLeftOf};
+ghost use Rattle.mb_writes.specs.Writing.{write_fault_at, write_pieces_of, write_operand_of, write_apart_of, complete_of};
 
 use crate::ends::WriteFault;
 use arrayvec::ArrayVec;
@@ -46,7 +46,7 @@ fn parts(pieces: &[Piece], len: u8, value: u64) -> ArrayVec<Pend, 3>
 /// What a refused write leaves.
 fn left(fault: Fault, first: u32, rest: &[Pend]) -> WriteFault
     requires { length rest.now ≤ 3 }
-    ensures { result ≡ left_by first rest.now fault }
+    ensures { result ≡ write_fault_at first rest.now fault }
 {
     let mut left = ArrayVec::new();
     for pend in rest {
@@ -72,7 +72,7 @@ pub fn write_pieces<P: Port>(
     requires pieces { ArePending pending.now }
     ensures means { run P.bus (write_pieces_of space first pending.now) (P.world port.old)
         ≡ (result, P.world port.new) }
-    ensures left { IfErr result (λ refused. IsLeft refused.rest.items pending.now) }
+    ensures left { IfErr result (λ refused. IsLeftOf refused.rest.items pending.now) }
     ensures rest { P.rest port.new ≡ P.rest port.old }
 {
     for (i, pend) in pending.iter().enumerate() {
@@ -95,7 +95,7 @@ pub fn complete<P: Port>(pending: &[Pend], space: Space, port: &mut P) -> Result
     requires few { length pending.now ≤ 3 }
     requires pieces { ArePending pending.now }
     ensures means { run P.bus (complete_of space pending.now) (P.world port.old) ≡ (result, P.world port.new) }
-    ensures left { IfErr result (λ refused. IsLeft refused.rest.items pending.now) }
+    ensures left { IfErr result (λ refused. IsLeftOf refused.rest.items pending.now) }
     ensures rest { P.rest port.new ≡ P.rest port.old }
 {
     let first = match pending {
@@ -119,7 +119,7 @@ fn put_parts<P: Port>(
     requires short { len ≤ 5 }
     ensures means { run P.bus (write_pieces_of space first (parts_of pieces.now len value)) (P.world port.old)
         ≡ (result, P.world port.new) }
-    ensures left { IfErr result (λ refused. IsLeft refused.rest.items (parts_of pieces.now len value)) }
+    ensures left { IfErr result (λ refused. IsLeftOf refused.rest.items (parts_of pieces.now len value)) }
     ensures rest { P.rest port.new ≡ P.rest port.old }
 {
     let pending = parts(pieces, len, value);
@@ -137,7 +137,7 @@ pub fn write_operand<P: Port>(
 ) -> Result<(), WriteFault>
     requires { (1 ≤ len) × (len ≤ 5) }
     ensures means { run P.bus (write_operand_of space at len value) (P.world port.old) ≡ (result, P.world port.new) }
-    ensures left { IfErr result (λ refused. IsLeft refused.rest.items (pending_of at len value)) }
+    ensures left { IfErr result (λ refused. IsLeftOf refused.rest.items (pending_of at len value)) }
     ensures rest { P.rest port.new ≡ P.rest port.old }
 {
     let pieces = split(at, len);
@@ -150,7 +150,7 @@ fn write_alone<P: Port>(pend: Pend, space: Space, port: &mut P) -> Result<(), Wr
     requires { IsPiece (piece_of pend) }
     ensures means { run P.bus (write_pieces_of space pend.at (pend ∷ [])) (P.world port.old)
         ≡ (result, P.world port.new) }
-    ensures left { IfErr result (λ refused. IsLeft refused.rest.items (pend ∷ [])) }
+    ensures left { IfErr result (λ refused. IsLeftOf refused.rest.items (pend ∷ [])) }
     ensures rest { P.rest port.new ≡ P.rest port.old }
 {
     let piece = Piece {
@@ -174,7 +174,7 @@ pub fn write_value<P: Port>(
 ) -> Result<(), WriteFault>
     ensures means { run P.bus (write_operand_of space at (bytes_of size) value) (P.world port.old)
         ≡ (result, P.world port.new) }
-    ensures left { IfErr result (λ refused. IsLeft refused.rest.items (pending_of at (bytes_of size) value)) }
+    ensures left { IfErr result (λ refused. IsLeftOf refused.rest.items (pending_of at (bytes_of size) value)) }
     ensures rest { P.rest port.new ≡ P.rest port.old }
 {
     let len = size.bytes();

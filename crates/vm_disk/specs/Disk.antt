@@ -54,8 +54,8 @@ abbrev pub advanced : DiskState → DiskState
 advanced d = record d { position = (d.position + 4) % BLOCK_BYTES }
 
 -- a long is stored at POSITION, which then rises
-abbrev pub filled : ℕ → DiskState → DiskState
-filled value d = advanced (record d { buffer = with_number d.buffer d.position 4 value })
+abbrev pub with_next_long : ℕ → DiskState → DiskState
+with_next_long value d = advanced (record d { buffer = with_number d.buffer d.position 4 value })
 
 -- ---- commands
 

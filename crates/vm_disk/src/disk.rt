@@ -4,7 +4,7 @@ ghost use Rattle.std.specs.Prelude.{◌≡◌, ◌*◌, ◌%◌, ◌<◌, ◌≤
 ghost use Rattle.std.specs.Int.{from_bool};
 ghost use Rattle.mb_srec.specs.Image.{contents_of, LiesBelow};
 ghost use Rattle.mb_walk.specs.Memory.{number_at};
-ghost use Rattle.vm_disk.specs.Disk.{advanced, blocks_in, commanded, filled, loaded, opened, refusing, rested, stored, IsDisk};
+ghost use Rattle.vm_disk.specs.Disk.{advanced, blocks_in, commanded, with_next_long, loaded, opened, refusing, rested, stored, IsDisk};
 ghost use Rattle.vm_disk.specs.Registers.{read_of, write_of};
 
 use crate::bytes::{clear, part_at, put_chunks, zeros};
@@ -132,7 +132,7 @@ impl Disk {
 
     /// Stores a long at POSITION, which then rises.
     fn put_long(&mut self, value: u32)
-        ensures { self.new ≡ filled value self.old }
+        ensures { self.new ≡ with_next_long value self.old }
     {
         set_long_at(&mut self.buffer, self.position as usize, value);
         self.advance();

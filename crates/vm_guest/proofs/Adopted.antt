@@ -24,7 +24,7 @@ use Rattle.mb_port.specs.declared.types.Mmu.{Mmu}
 use Rattle.mb_walk.specs.Memory.{Contents, overwritten, part, with_contents}
 use Rattle.vm_shadow.specs.Area.{Maps}
 use Rattle.vm_shadow.specs.Mapped.{shadowed}
-use Rattle.vm_shadow.specs.Shadows.{AreNeeded, Entries, Shadowed, nothing}
+use Rattle.vm_shadow.specs.Shadows.{AreNeeded, EntryMap, Shadowed, nothing}
 use Rattle.vm_shadow.specs.declared.area.TheConstants.{AREA_BYTES}
 use Rattle.vm_shadow.specs.declared.table.Table.{Table}
 use Rattle.vm_shadow.specs.Slots.{Has, pointers_of}
@@ -186,7 +186,7 @@ pub empty_on : (g : Seat) (x : List ℕ) → IsSeated g x → g.slots.tables ≡
 empty_on g x s none =
     let shadow = shadowed g.slots x in
     let needs = tables_are_needed g.slots x s.maps in
-    ap (λ (entries : Entries). own g.base (record { entries = entries; tables = g.slots.tables }))
+    ap (λ (entries : EntryMap). own g.base (record { entries = entries; tables = g.slots.tables }))
     (fun_ext (λ space. fun_ext (λ page. entry_gone shadow needs none space page)))
     ∙ ap (λ (tables : List Table). own g.base (record { entries = λ space page. None; tables = tables })) none
     ∙ own_nothing g.base

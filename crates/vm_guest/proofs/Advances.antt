@@ -16,7 +16,7 @@ use Rattle.vm_meaning.specs.Native.{NativeState, Ran}
 use Rattle.vm_machine.specs.declared.class.Class.{Class}
 use Rattle.vm_machine.specs.declared.class.Class.TheVariants as class
 use Rattle.vm_machine.specs.Bus.{guest_bus}
-use Rattle.vm_machine.specs.Turns.{tallied, world_of}
+use Rattle.vm_machine.specs.Turns.{tallied, bus_side}
 use Rattle.vm_machine.specs.Seats.{Seat, end_of, guested_on, turned_on, IsSame, IsSeated, Scene, Takes}
 use Rattle.vm_machine.proofs.TurnLaws.{going_turn}
 use Rattle.vm_step.specs.Idle.{idle_seat}
@@ -136,7 +136,7 @@ stands g b ram is seated =
 -- what the monitor has done of it
 pub record Assists (b h : Seat) (ram next : List ℕ) (c : Class) : Type 0 where
   pub class : assisted (level_on b) b.cpu ≡ Some c
-  pub means : guested_on h next ≡ ended_at b.steps (run guest_bus (rest_in Whole (level_on b) b.cpu) (world_of (guested_on b ram)))
+  pub means : guested_on h next ≡ ended_at b.steps (run guest_bus (rest_in Whole (level_on b) b.cpu) (bus_side (guested_on b ram)))
   pub tally : h.tally ≡ tallied c b.tally
   pub same : IsSame b h
   pub within : OnlyBetween b.base (end_of b) ram next

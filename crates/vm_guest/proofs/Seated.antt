@@ -16,7 +16,7 @@ use Rattle.vm_shadow.specs.Area.{Maps}
 use Rattle.vm_machine.specs.Guests.{Guest}
 use Rattle.vm_machine.specs.Bus.{guest_bus}
 use Rattle.vm_machine.specs.Refills.{after_access}
-use Rattle.vm_machine.specs.Turns.{world_of}
+use Rattle.vm_machine.specs.Turns.{bus_side}
 use Rattle.vm_machine.specs.Seats.{Seat, end_of, guested_on, on_board, shadow_on, IsSeated, OnlyWithin}
 use Rattle.vm_held.specs.Truth.{Fine}
 use Rattle.vm_held.proofs.Puts.{accesses_keep_truth}
@@ -56,7 +56,7 @@ only_within g before after behind w = record {
 -- ---- its shadow stays truthful
 
 -- what the laws of a guest alone speak of
-fine_of : (g : Seat) (ram : List ℕ) → IsSeated g ram → AreBytes ram → Apart g.kept → Fine g.size (world_of (guested_on g ram))
+fine_of : (g : Seat) (ram : List ℕ) → IsSeated g ram → AreBytes ram → Apart g.kept → Fine g.size (bus_side (guested_on g ram))
 fine_of g ram s bytes apart = record {
   sound = record {
     truthful = s.truthful;
@@ -76,7 +76,7 @@ pub record Stands (g h : Seat) (next : List ℕ) : Type 0 where
   pub maps : Maps h.slots next
   pub tables : shadowed h.slots next ≡ on_board h.base (shadow_on h next)
 
-again : (g h : Seat) (ram next : List ℕ) → IsSeated g ram → Stands g h next → Fine g.size (world_of (guested_on h next)) → IsSeated h next
+again : (g h : Seat) (ram next : List ℕ) → IsSeated g ram → Stands g h next → Fine g.size (bus_side (guested_on h next)) → IsSeated h next
 again g h ram next s t fine = record {
   aligned = subst (λ (n : ℕ). n % AREA_BYTES ≡ 0) (sym t.base) s.aligned;
   whole = subst (λ (n : ℕ). n % AREA_BYTES ≡ 0) (sym t.size) s.whole;
@@ -85,25 +85,25 @@ again g h ram next s t fine = record {
   area = t.area;
   maps = t.maps;
   tables = t.tables;
-  truthful = (subst (λ (n : ℕ). Fine n (world_of (guested_on h next))) (sym t.size) fine).sound.truthful;
+  truthful = (subst (λ (n : ℕ). Fine n (bus_side (guested_on h next))) (sym t.size) fine).sound.truthful;
 }
 
 -- So it stays seated where its bus has run,
 pub seated_behind : (g : Seat) (ram : List ℕ) {h : Seat} {next : List ℕ} (m : Routine Stepped) (end : StepEnd) (cpu : Cpu) → IsSeated g ram → AreBytes ram
-    → Apart g.kept → Stands g h next → by_its_end (run guest_bus m (world_of (guested_on g ram))) ≡ ((end, cpu), world_of (guested_on h next))
+    → Apart g.kept → Stands g h next → by_its_end (run guest_bus m (bus_side (guested_on g ram))) ≡ ((end, cpu), bus_side (guested_on h next))
     → IsSeated h next
 seated_behind g ram {h} {next} m end cpu s bytes apart t means =
     again g h ram next s t
     (subst (Fine g.size) (ap (λ (x : (StepEnd × Cpu) × Guest). x.1) means)
-    (runs_keep_truth g.size m (world_of (guested_on g ram)) (fine_of g ram s bytes apart)))
+    (runs_keep_truth g.size m (bus_side (guested_on g ram)) (fine_of g ram s bytes apart)))
 
 -- and where an access was made, or none.
 pub seated_refilled : (g : Seat) (ram : List ℕ) {h : Seat} {next : List ℕ} (r : Reference) (b : Bool) → IsSeated g ram → AreBytes ram → Apart g.kept
     → Stands g h next
-    → world_of (guested_on h next) ≡ cond b (after_access r (world_of (guested_on g ram))) (world_of (guested_on g ram)) → IsSeated h next
+    → bus_side (guested_on h next) ≡ cond b (after_access r (bus_side (guested_on g ram))) (bus_side (guested_on g ram)) → IsSeated h next
 seated_refilled g ram {h} {next} r b s bytes apart t means =
     again g h ram next s t (subst (Fine g.size) (sym means) (either b))
   where
-    either : (b : Bool) → Fine g.size (cond b (after_access r (world_of (guested_on g ram))) (world_of (guested_on g ram)))
-    either true = accesses_keep_truth g.size r (world_of (guested_on g ram)) (fine_of g ram s bytes apart)
+    either : (b : Bool) → Fine g.size (cond b (after_access r (bus_side (guested_on g ram))) (bus_side (guested_on g ram)))
+    either true = accesses_keep_truth g.size r (bus_side (guested_on g ram)) (fine_of g ram s bytes apart)
     either false = fine_of g ram s bytes apart

@@ -33,7 +33,7 @@ use Rattle.vm_machine.specs.Refills.{refilled_at, begun_again, going_on, refille
 use Rattle.vm_machine.specs.declared.limits.TheConstants.{MOST_REFILLS}
 use Rattle.vm_machine.specs.Classes.{class_at_first}
 use Rattle.vm_machine.specs.Exits.{is_refusal, class_of_vector, frame_access, handed_by, rest_by_frame}
-use Rattle.vm_machine.specs.Turns.{Guested, Tally, Turned, world_of, guest_begun, guest_later, step_class_at_first, refills_of_step}
+use Rattle.vm_machine.specs.Turns.{Guested, Tally, Turned, bus_side, guest_begun, guest_later, step_class_at_first, refills_of_step}
 use Rattle.vm_machine.specs.Turns.{tallied, with_refills, exits}
 use Rattle.vm_machine.specs.Turns.{marks_of, turn_of}
 use Rattle.vm_machine.specs.Seats.{Seat, end_of, machine_on, board_entry, shadow_on, guested_on, turned_on, IsSame, IsSeated, OnlyWithin, Takes}
@@ -52,9 +52,9 @@ use Rattle.vm_step.proofs.Taking.{some_read}
 use Rattle.vm_step.proofs.Again.{midway_again, midway_ahead, midway_begins, midway_ends, midway_level, midway_takes, midway_within}
 use Rattle.vm_guest.specs.Memory.{OnlyBetween}
 use Rattle.vm_machine.specs.Classes.{assisted}
-use Rattle.vm_guest.specs.Native.{left_by, run_on, start_on, HasFrame, IsFrameOf}
+use Rattle.vm_guest.specs.Native.{finished_by_frame, run_on, start_on, HasFrame, IsFrameOf}
 use Rattle.vm_guest.specs.Turns.{begun_seat, ended_at, scene, level_on}
-use Rattle.vm_guest.specs.Stops.{filled, uncounted, BeginsAgain, IsReady, IsStopped, IsUnderway}
+use Rattle.vm_guest.specs.Stops.{with_bus_of, uncounted, BeginsAgain, IsReady, IsStopped, IsUnderway}
 use Rattle.vm_guest.proofs.Assisted.{Attempts, attempts_none}
 use Rattle.vm_guest.proofs.Runs.{MayRunOn, counted_first, counted_takes, is_left}
 use Rattle.vm_guest.proofs.Seated.{begun_seated, only_within}
@@ -87,14 +87,14 @@ same_frame f h e = cc
 -- what such a run says, by the seat that the monitor has then
 abbrev AgainAs : (g : Seat) (ram : List ℕ) (native : NativeState) (k : ℕ) (m : Seat) (b : BoardState) (counts : NativeState) (v : ℕ) (f : Frame) → Type 0
 AgainAs g ram native k m b counts v f =
-    let w = world_of (guested_on m b.world.ram) in
+    let w = bus_side (guested_on m b.world.ram) in
     let level = level_of m.devices in Fine m.size w → (h : Guest) → refilled_at w (read_by_frame (space_of m.cpu) f) ≡ Some h
     → Midway g ram native k 0 m b.world.ram counts × (begun_again m.cpu w ≡ Some h) × (class_of_vector v ≡ class_at_first level m.cpu w)
     × (run guest_bus (rest_by_frame v (frame_access f) level m.cpu (handed_by b.cpu.regs f)) w ≡ run guest_bus (step_of level m.cpu) w)
 
 abbrev TurnAs : (g : Seat) (ram : List ℕ) (native : NativeState) (k : ℕ) (m : Seat) (b : BoardState) (counts : NativeState) (v : ℕ) (f : Frame) → Type 0
 TurnAs g ram native k m b counts v f = (seat : Seat) (next : List ℕ)
-    → let w = world_of (guested_on m b.world.ram) in refilled_at w (read_by_frame (space_of m.cpu) f) ≡ None
+    → let w = bus_side (guested_on m b.world.ram) in refilled_at w (read_by_frame (space_of m.cpu) f) ≡ None
     → guested_on seat next ≡ guest_later (machine_on m b.world.ram)
     (run guest_bus (rest_by_frame v (frame_access f) (level_of m.devices) m.cpu (handed_by b.cpu.regs f)) w)
     → seat.tally ≡ tallied (class_of_vector v) m.tally → IsSame m seat → IsSeated seat next → OnlyWithin m b.world.ram next
@@ -120,9 +120,9 @@ stopped_by g ram native k e after counts v left ends s underway is =
       turn = λ f reads end seat next means tally same seated within.
           let goes = subst (λ (n : ℕ). TurnAs g ram native left.retired (uncounted s) after counts n f) vector
           (subst (λ (h : Frame). TurnAs g ram native left.retired (uncounted s) after counts left.vector h) (frame_is f reads) turn) in
-          let rest = run guest_bus (rest_by_frame v (frame_access f) (level_of s.devices) s.cpu (handed_by after.cpu.regs f)) (world_of (guested_on s now)) in
+          let rest = run guest_bus (rest_by_frame v (frame_access f) (level_of s.devices) s.cpu (handed_by after.cpu.regs f)) (bus_side (guested_on s now)) in
           let steps : s.steps ≡ s.steps - 1 + 1 = (let some = underway.begun in omega arith) in
-          let none : refilled_at (world_of (guested_on s now)) (read_by_frame (space_of s.cpu) f) ≡ None = elim end [
+          let none : refilled_at (bus_side (guested_on s now)) (read_by_frame (space_of s.cpu) f) ≡ None = elim end [
             | inl full ↦ absurd (let z : ⊥ = omega arith in z)
             | inr last ↦ last
           ] in
@@ -143,12 +143,12 @@ unfolding refilled_by
 none_again n cpu g e = none_by n cpu g (begun_again cpu g) e
 
 never_again : (script : Entries) (g : Guested) → refills_of_step script g ≡ 0 → let b = guest_begun script g in
-    begun_again b.machine.cpu (world_of b) ≡ None
-never_again script g e = let b = guest_begun script g in none_again 30 b.machine.cpu (world_of b) e
+    begun_again b.machine.cpu (bus_side b) ≡ None
+never_again script g e = let b = guest_begun script g in none_again 30 b.machine.cpu (bus_side b) e
 
 class_begins : (script : Entries) (start q : Guested) → guest_begun script start ≡ q
-    → step_class_at_first script start ≡ class_at_first (asked_of script q.machine) q.machine.cpu (world_of q)
-class_begins script start q e = ap (λ (p : Guested). class_at_first (asked_of script p.machine) p.machine.cpu (world_of p)) e
+    → step_class_at_first script start ≡ class_at_first (asked_of script q.machine) q.machine.cpu (bus_side q)
+class_begins script start q e = ap (λ (p : Guested). class_at_first (asked_of script p.machine) p.machine.cpu (bus_side p)) e
 
 untraced : (a b : Bool) → a ≡ false → b ≡ false → (a || b) ≡ false
 untraced a b h k = rw h (rw k refl)
@@ -162,17 +162,17 @@ devices_there : (g : Seat) (ram : List ℕ) (native : NativeState) (k n : ℕ) (
     (m : Midway g ram native k n mid now counts) → mid.devices ≡ (guest_begun g.script m.turn.guest).machine.world.devices
 devices_there g ram native k n mid now counts m =
     let b = guest_begun g.script m.turn.guest in
-    let (fine, world, comes) = again_comes_to_the_same g.size (asked_of g.script b.machine) b.machine.cpu n (world_of b) (world_of (guested_on mid now))
+    let (fine, world, comes) = again_comes_to_the_same g.size (asked_of g.script b.machine) b.machine.cpu n (bus_side b) (bus_side (guested_on mid now))
     m.masked m.untraced m.registers m.fine m.begun in
     ap (λ (x : World). x.devices) world
 
 fine_there : (g : Seat) (ram : List ℕ) (native : NativeState) (k n : ℕ) (mid : Seat) (now : List ℕ) (counts : NativeState)
-    (m : Midway g ram native k n mid now counts) → Fine mid.size (world_of (guested_on mid now))
+    (m : Midway g ram native k n mid now counts) → Fine mid.size (bus_side (guested_on mid now))
 fine_there g ram native k n mid now counts m =
     let b = guest_begun g.script m.turn.guest in
-    let (fine, world, comes) = again_comes_to_the_same g.size (asked_of g.script b.machine) b.machine.cpu n (world_of b) (world_of (guested_on mid now))
+    let (fine, world, comes) = again_comes_to_the_same g.size (asked_of g.script b.machine) b.machine.cpu n (bus_side b) (bus_side (guested_on mid now))
     m.masked m.untraced m.registers m.fine m.begun in
-    subst (λ (size : ℕ). Fine size (world_of (guested_on mid now))) (sym m.same.size) fine
+    subst (λ (size : ℕ). Fine size (bus_side (guested_on mid now))) (sym m.same.size) fine
 
 module _ (g s : Seat) (ram : List ℕ) (board : BoardState) (native counts : NativeState) (k n : ℕ) (underway : IsUnderway s)
     (m : Midway g ram native k n (uncounted s) board.world.ram counts) where
@@ -242,7 +242,7 @@ module _ (g s : Seat) (ram : List ℕ) (board : BoardState) (native counts : Nat
         → Takes (k + 1) (scene g ram native)
         (scene (settled (record h { tally = record h.tally { refilled = h.tally.refilled + 1 } })) u.machine.world.ram u.native)
     again_takes h u p j again ran end wide plain goes =
-        let w = world_of (guested_on mid board.world.ram) in
+        let w = bus_side (guested_on mid board.world.ram) in
         let behind : settled (retired_seat (begun_seat from) 0 1 p (passed 0 (begun_seat from).devices)) ≡ settled h =
         ap (λ (x : Seat). settled (retired_seat x 0 1 p (passed 0 x.devices))) begun_is ∙ ap settled (sym goes) in
         let one : Takes 1 (scene from board.world.ram counts) (scene (settled h) u.machine.world.ram u.native) =
@@ -253,7 +253,7 @@ module _ (g s : Seat) (ram : List ℕ) (board : BoardState) (native counts : Nat
         sym (ap (λ (l : ℕ). class_at_first l mid.cpu w) asked_level)
         ∙ sym (class_begins s.script (guested_on from board.world.ram) (guested_on mid board.world.ram) begins) ∙ first in
         let none : begun_again mid.cpu w ≡ None =
-        ap (λ (q : Guested). begun_again q.machine.cpu (world_of q)) (sym begins) ∙ never_again s.script (guested_on from board.world.ram) refills in
+        ap (λ (q : Guested). begun_again q.machine.cpu (bus_side q)) (sym begins) ∙ never_again s.script (guested_on from board.world.ram) refills in
         let taken = midway_takes g ram native k n mid board.world.ram counts m none (settled h) u.machine.world.ram u.native one in
         let by_class =
         subst (λ (c : Class). Takes (k + 1) (scene g ram native) (scene (refilled_seat c n (settled h)) u.machine.world.ram u.native)) class_is taken in
@@ -302,36 +302,36 @@ module _ (g s : Seat) (ram : List ℕ) (board : BoardState) (native counts : Nat
 
       -- where it was denied a read, nothing has changed
       world_is : (f : Frame) → IsFrameOf after f → (h : Guest)
-          → refilled_at (world_of (guested_on mid after.world.ram)) (read_by_frame (space_of s.cpu) f) ≡ Some h
-          → world_of (guested_on mid after.world.ram) ≡ world_of (guested_on mid board.world.ram)
+          → refilled_at (bus_side (guested_on mid after.world.ram)) (read_by_frame (space_of s.cpu) f) ≡ Some h
+          → bus_side (guested_on mid after.world.ram) ≡ bus_side (guested_on mid board.world.ram)
       world_is f reads h some =
-          let (read, told) = some_read (world_of (guested_on mid after.world.ram)) h (read_by_frame (space_of s.cpu) f) some in
-          ap (λ (x : Seat). world_of (guested_on x after.world.ram)) (sym seat_is)
+          let (read, told) = some_read (bus_side (guested_on mid after.world.ram)) h (read_by_frame (space_of s.cpu) f) some in
+          ap (λ (x : Seat). bus_side (guested_on x after.world.ram)) (sym seat_is)
           ∙ left.still read (ap (λ (c : Cpu). read_by_frame (space_of c) left.frame) cpu_is ∙ ap (read_by_frame (space_of s.cpu)) (frame_is f reads) ∙ told)
-          ∙ ap world_of there
+          ∙ ap bus_side there
 
       within_both : (next : List ℕ) → OnlyBetween s.base (end_of s) after.world.ram next → OnlyWithin mid board.world.ram next
       within_both next within =
           let o = only_within mid after.world.ram next base.seated.behind within in
           record { count = o.count ∙ left.within.count; below = o.below ∙ left.within.below; above = o.above ∙ left.within.above }
 
-      module _ (f : Frame) (reads : IsFrameOf after f) (seat : Seat) (next : List ℕ) (means : guested_on seat next ≡ left_by v f after s)
+      module _ (f : Frame) (reads : IsFrameOf after f) (seat : Seat) (next : List ℕ) (means : guested_on seat next ≡ finished_by_frame v f after s)
           (tally : seat.tally ≡ tallied (class_of_vector v) s.tally) (same : IsSame s seat) (seated : IsSeated seat next)
           (within : OnlyBetween s.base (end_of s) after.world.ram next) where
         same_mid : IsSame mid seat
         same_mid = record { script = same.script; base = same.base; size = same.size; area = same.area }
 
         -- no read is refilled
-        last_takes : refilled_at (world_of (guested_on s after.world.ram)) (read_by_frame (space_of s.cpu) f) ≡ None
+        last_takes : refilled_at (bus_side (guested_on s after.world.ram)) (read_by_frame (space_of s.cpu) f) ≡ None
             → Takes (k + 1) (scene g ram native) (scene seat next later)
         last_takes none =
-            let w = world_of (guested_on mid board.world.ram) in
+            let w = bus_side (guested_on mid board.world.ram) in
             let one = subst (λ (j : ℕ). Takes (j + 1) (scene from board.world.ram counts) (scene seat next later)) none_retired
             (base.turn f reads (inr none) seat next means tally same seated within) in
             let last : begun_again mid.cpu w ≡ None =
-            ap (λ (q : Guested). begun_again q.machine.cpu (world_of q)) (sym there) ∙ sym left.read
-            ∙ ap (λ (x : Seat). refilled_at (world_of (guested_on x after.world.ram)) (read_by_frame (space_of x.cpu) left.frame)) seat_is
-            ∙ ap (λ (x : Frame). refilled_at (world_of (guested_on mid after.world.ram)) (read_by_frame (space_of s.cpu) x)) (frame_is f reads) ∙ none in
+            ap (λ (q : Guested). begun_again q.machine.cpu (bus_side q)) (sym there) ∙ sym left.read
+            ∙ ap (λ (x : Seat). refilled_at (bus_side (guested_on x after.world.ram)) (read_by_frame (space_of x.cpu) left.frame)) seat_is
+            ∙ ap (λ (x : Frame). refilled_at (bus_side (guested_on mid after.world.ram)) (read_by_frame (space_of s.cpu) x)) (frame_is f reads) ∙ none in
             let class_is : class_of_vector v ≡ class_at_first (level_of mid.devices) mid.cpu w =
             ap class_of_vector (sym (same_vector left.vector v (sym left.end ∙ ends))) ∙ left.class
             ∙ ap (λ (q : Guested). step_class_at_first s.script q) stays
@@ -344,10 +344,10 @@ module _ (g s : Seat) (ram : List ℕ) (board : BoardState) (native counts : Nat
 
         -- it has begun again as often as it may
         full_takes : n ≡ MOST_REFILLS → (h : Guest)
-            → refilled_at (world_of (guested_on s after.world.ram)) (read_by_frame (space_of s.cpu) f) ≡ Some h
+            → refilled_at (bus_side (guested_on s after.world.ram)) (read_by_frame (space_of s.cpu) f) ≡ Some h
             → Takes (k + 1) (scene g ram native) (scene seat next later)
         full_takes full h some =
-            let w = world_of (guested_on mid board.world.ram) in
+            let w = bus_side (guested_on mid board.world.ram) in
             let world = world_is f reads h some in
             let level = level_of s.devices in
             let fine = subst (λ (x : Guest). Fine s.size x) (sym world) (fine_there g ram native k n mid board.world.ram counts m) in
@@ -359,7 +359,7 @@ module _ (g s : Seat) (ram : List ℕ) (board : BoardState) (native counts : Nat
             (i.taken ∙ ap (λ (j : ℕ). turn_of s.script j (turned_on from board.world.ram [])) none_retired
             ∙ nothing_turned s.script (turned_on from board.world.ram [])) in
             let steps : s.steps ≡ s.steps - 1 + 1 = (let some = underway.begun in omega arith) in
-            let rest = run guest_bus (rest_by_frame v (frame_access f) level s.cpu (handed_by after.cpu.regs f)) (world_of (guested_on s after.world.ram)) in
+            let rest = run guest_bus (rest_by_frame v (frame_access f) level s.cpu (handed_by after.cpu.regs f)) (bus_side (guested_on s after.world.ram)) in
             let none = none_retired in
             midway_ends g ram native k n mid board.world.ram counts m (inl full) seat next later
             (means ∙ ap (λ (x : ℕ). ended_at x rest) steps
@@ -385,7 +385,7 @@ module _ (g s : Seat) (ram : List ℕ) (board : BoardState) (native counts : Nat
               whole,
             );
         turn = λ f reads end seat next means tally same seated within. elim end [
-          | inl full ↦ elim (cases (refilled_at (world_of (guested_on s after.world.ram)) (read_by_frame (space_of s.cpu) f))) [
+          | inl full ↦ elim (cases (refilled_at (bus_side (guested_on s after.world.ram)) (read_by_frame (space_of s.cpu) f))) [
             | inl none ↦ last_takes f reads seat next means tally same seated within none
             | inr (h, some) ↦ full_takes f reads seat next means tally same seated within full h some
           ]
@@ -397,13 +397,13 @@ module _ (g s : Seat) (ram : List ℕ) (board : BoardState) (native counts : Nat
 
 pub refilled_midway : (g s y : Seat) (ram : List ℕ) (native : NativeState) (k n : ℕ) (b : BoardState) (counts : NativeState) (v : ℕ) (f : Frame)
     (next : List ℕ) → IsStopped g ram native k n s b counts v → suc n ≤ MOST_REFILLS → IsFrameOf b f
-    → Fine s.size (world_of (guested_on s b.world.ram))
-    → refilled_at (world_of (guested_on s b.world.ram)) (read_by_frame (space_of s.cpu) f) ≡ Some (world_of (guested_on (filled s y) next))
-    → IsSeated (filled s y) next → OnlyBetween s.base (end_of s) b.world.ram next
-    → IsUnderway (filled s y) × Midway g ram native k (suc n) (uncounted (filled s y)) next counts
+    → Fine s.size (bus_side (guested_on s b.world.ram))
+    → refilled_at (bus_side (guested_on s b.world.ram)) (read_by_frame (space_of s.cpu) f) ≡ Some (bus_side (guested_on (with_bus_of s y) next))
+    → IsSeated (with_bus_of s y) next → OnlyBetween s.base (end_of s) b.world.ram next
+    → IsUnderway (with_bus_of s y) × Midway g ram native k (suc n) (uncounted (with_bus_of s y)) next counts
 refilled_midway g s y ram native k n b counts v f next stopped few reads fine some seated within =
-    let seat = filled s y in
-    let h = world_of (guested_on seat next) in
+    let seat = with_bus_of s y in
+    let h = bus_side (guested_on seat next) in
     let (m, again, class_by, whole) = stopped.again f reads fine h some in
     let before = stopped.seated in
     let mid = begun_seated seat next seat.devices (seat.steps - 1) seated in
@@ -424,14 +424,14 @@ refilled_midway g s y ram native k n b counts v f next stopped few reads fine so
 
 pub refilled_begins : (g s x : Seat) (ram : List ℕ) (native : NativeState) (k n : ℕ) (b : BoardState) (counts : NativeState) (v : ℕ) (f : Frame)
     (next : List ℕ) → IsStopped g ram native k n s b counts v → suc n ≤ MOST_REFILLS → IsFrameOf b f
-    → Fine s.size (world_of (guested_on s b.world.ram))
-    → refilled_at (world_of (guested_on s b.world.ram)) (read_by_frame (space_of s.cpu) f) ≡ Some (world_of (guested_on x next))
-    → x ≡ filled s x → IsSeated x next → OnlyBetween s.base (end_of s) b.world.ram next
+    → Fine s.size (bus_side (guested_on s b.world.ram))
+    → refilled_at (bus_side (guested_on s b.world.ram)) (read_by_frame (space_of s.cpu) f) ≡ Some (bus_side (guested_on x next))
+    → x ≡ with_bus_of s x → IsSeated x next → OnlyBetween s.base (end_of s) b.world.ram next
     → IsUnderway x × Midway g ram native k (suc n) (uncounted x) next counts
 refilled_begins g s x ram native k n b counts v f next stopped few reads fine some is seated within =
     subst (λ (y : Seat). IsUnderway y × Midway g ram native k (suc n) (uncounted y) next counts) (sym is)
     (refilled_midway g s x ram native k n b counts v f next stopped few reads fine
-    (some ∙ ap (λ (y : Seat). (let o : Option Guest = Some (world_of (guested_on y next)) in o)) is)
+    (some ∙ ap (λ (y : Seat). (let o : Option Guest = Some (bus_side (guested_on y next)) in o)) is)
     (subst (λ (y : Seat). IsSeated y next) is seated) within)
 
 -- the board still stands for it: each entry that it had is there
@@ -441,17 +441,17 @@ moved_more base None p more entry e = absurd (let z : ⊥ = cc in z)
 moved_more base (Some own) p more entry e = ap (board_entry base) (more own refl) ∙ e
 
 pub refilled_ready : (g s y : Seat) (ram : List ℕ) (native : NativeState) (k n : ℕ) (b : BoardState) (counts : NativeState) (v : ℕ) (f : Frame)
-    (later : BoardState) → IsStopped g ram native k n s b counts v → IsFrameOf b f → Fine s.size (world_of (guested_on s b.world.ram))
-    → refilled_at (world_of (guested_on s b.world.ram)) (read_by_frame (space_of s.cpu) f)
-    ≡ Some (world_of (guested_on (filled s y) later.world.ram))
-    → IsSeated (filled s y) later.world.ram → but_ram later ≡ but_ram b → IsReady (filled s y) later
+    (later : BoardState) → IsStopped g ram native k n s b counts v → IsFrameOf b f → Fine s.size (bus_side (guested_on s b.world.ram))
+    → refilled_at (bus_side (guested_on s b.world.ram)) (read_by_frame (space_of s.cpu) f)
+    ≡ Some (bus_side (guested_on (with_bus_of s y) later.world.ram))
+    → IsSeated (with_bus_of s y) later.world.ram → but_ram later ≡ but_ram b → IsReady (with_bus_of s y) later
 refilled_ready g s y ram native k n b counts v f later stopped reads fine some seated rest =
-    let seat = filled s y in
+    let seat = with_bus_of s y in
     let next = later.world.ram in
     let before = stopped.seated in
     let space = space_of s.cpu in
-    let (m, again, class_by, whole) = stopped.again f reads fine (world_of (guested_on seat next)) some in
-    let ahead = midway_ahead g ram native k n (uncounted s) b.world.ram counts m (world_of (guested_on seat next)) again in
+    let (m, again, class_by, whole) = stopped.again f reads fine (bus_side (guested_on seat next)) some in
+    let ahead = midway_ahead g ram native k n (uncounted s) b.world.ram counts m (bus_side (guested_on seat next)) again in
     let entry_of : Shadowed → ℕ → Option (ℕ × Bool) = λ h page. h.entries space page in
     let more : (page : ℕ) (entry : ℕ × Bool) → mapping (site_of s) b.world.ram page ≡ Some entry → mapping (site_of seat) next page ≡ Some entry =
     λ page entry e. ap (λ (h : Shadowed). entry_of h page) seated.tables
@@ -467,16 +467,16 @@ refilled_ready g s y ram native k n b counts v f later stopped reads fine some s
 -- the turn in which it begins again then
 abbrev pub again_of : (g s x : Seat) (ram : List ℕ) (native : NativeState) (k n : ℕ) (b : BoardState) (counts : NativeState) (v : ℕ) (f : Frame)
     (later : BoardState) → IsStopped g ram native k n s b counts v → suc n ≤ MOST_REFILLS → IsFrameOf b f
-    → Fine s.size (world_of (guested_on s b.world.ram))
-    → refilled_at (world_of (guested_on s b.world.ram)) (read_by_frame (space_of s.cpu) f) ≡ Some (world_of (guested_on x later.world.ram))
-    → x ≡ filled s x → IsSeated x later.world.ram → OnlyBetween s.base (end_of s) b.world.ram later.world.ram → but_ram later ≡ but_ram b
+    → Fine s.size (bus_side (guested_on s b.world.ram))
+    → refilled_at (bus_side (guested_on s b.world.ram)) (read_by_frame (space_of s.cpu) f) ≡ Some (bus_side (guested_on x later.world.ram))
+    → x ≡ with_bus_of s x → IsSeated x later.world.ram → OnlyBetween s.base (end_of s) b.world.ram later.world.ram → but_ram later ≡ but_ram b
     → BeginsAgain x later counts
 again_of g s x ram native k n b counts v f later stopped few reads fine some is seated within rest =
     let next = later.world.ram in
     let both = refilled_begins g s x ram native k n b counts v f next stopped few reads fine some is seated within in
     let ready = subst (λ (y : Seat). IsReady y later) (sym is)
     (refilled_ready g s x ram native k n b counts v f later stopped reads fine
-    (some ∙ ap (λ (y : Seat). (let o : Option Guest = Some (world_of (guested_on y next)) in o)) is)
+    (some ∙ ap (λ (y : Seat). (let o : Option Guest = Some (bus_side (guested_on y next)) in o)) is)
     (subst (λ (y : Seat). IsSeated y next) is seated) rest) in
     record { guest = g; ram = ram; native = native; taken = k; refills = n; underway = both.0; seated = seated; ready = ready; midway = both.1 }
 

@@ -13,7 +13,7 @@ use Rattle.vm_machine.specs.declared.class.Class.{Class}
 use Rattle.vm_machine.specs.declared.class.Class.TheVariants.{Entered, Idle, Traced}
 use Rattle.vm_machine.specs.Bus.{guest_bus}
 use Rattle.vm_machine.specs.Classes.{is_traced}
-use Rattle.vm_machine.specs.Turns.{Guested, Tally, Turned, world_of, guest_stepped, refills_of_step, tallied, with_refills, exits, marks_of, by_class, advanced}
+use Rattle.vm_machine.specs.Turns.{Guested, Tally, Turned, bus_side, guest_stepped, refills_of_step, tallied, with_refills, exits, marks_of, by_class, advanced}
 use Rattle.vm_machine.specs.Turns.{turn_of}
 use Rattle.vm_machine.specs.Seats.{Seat, end_of, guested_on, turned_on, IsSame, IsSeated, Takes}
 use Rattle.vm_machine.proofs.TurnLaws.{going_turn, nothing_turned}
@@ -44,7 +44,7 @@ aside : (level : ℕ) (cpu : Cpu) (c : Class) → assisted level cpu ≡ Some c 
 aside level cpu c h = aside_by (nat_lt (interrupt_mask cpu) (rank level)) cpu.stopped (is_traced cpu) c h
 
 stepped_is : (g : Seat) (ram : List ℕ) → let b = begun_seat g in
-    ended_at b.steps (run guest_bus (step_of (level_on b) b.cpu) (world_of (guested_on b ram))) ≡ guest_stepped g.script (guested_on g ram)
+    ended_at b.steps (run guest_bus (step_of (level_on b) b.cpu) (bus_side (guested_on b ram))) ≡ guest_stepped g.script (guested_on g ram)
 stepped_is g ram = refl
 
 one_step : (script : Entries) (t : Turned) (c : Class) (n : ℕ) (after : Guested) → takes_steps t.guest.machine.state ≡ true
@@ -59,7 +59,7 @@ advanced_is g ram c h =
 
 pub assisted_takes : (g h : Seat) (ram next : List ℕ) (native : NativeState) (c : Class) → takes_steps g.state ≡ true → let b = begun_seat g in
     assisted (level_on b) g.cpu ≡ Some c
-    → guested_on h next ≡ ended_at b.steps (run guest_bus (step_of (level_on b) b.cpu) (world_of (guested_on b ram)))
+    → guested_on h next ≡ ended_at b.steps (run guest_bus (step_of (level_on b) b.cpu) (bus_side (guested_on b ram)))
     → h.tally ≡ tallied c g.tally → IsSame g h → IsSeated g ram → IsSeated h next → OnlyBetween g.base (end_of g) ram next
     → Takes 1 (scene g ram native) (scene h next native)
 unfolding trail

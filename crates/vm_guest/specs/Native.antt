@@ -15,7 +15,7 @@ use Rattle.vm_meaning.specs.Native.{NativeState, Ran, about_to_run, user_run}
 use Rattle.vm_mirror.specs.Ready.{native_mmu}
 use Rattle.vm_machine.specs.Bus.{guest_bus}
 use Rattle.vm_machine.specs.Exits.{frame_access, handed_by, rest_by_frame}
-use Rattle.vm_machine.specs.Turns.{Guested, world_of}
+use Rattle.vm_machine.specs.Turns.{Guested, bus_side}
 use Rattle.vm_machine.specs.Seats.{Seat, guested_on}
 use Rattle.vm_machine.specs.declared.limits.TheConstants.{MONITOR_BYTES}
 use Rattle.vm_step.specs.Lawful.{LeavesLawful}
@@ -94,7 +94,7 @@ pub record HasFrame (b : BoardState) : Type 0 where
   pub lawful : LeavesLawful (frame_access frame)
 
 -- What is left of a guest's step is carried out over its own bus, by the vector and the frame.
-abbrev pub left_by : (vector : ℕ) → Frame → BoardState → Seat → Guested
-left_by vector frame b g = ended_at g.steps
+abbrev pub finished_by_frame : (vector : ℕ) → Frame → BoardState → Seat → Guested
+finished_by_frame vector frame b g = ended_at g.steps
     (run guest_bus (rest_by_frame vector (frame_access frame) (level_of g.devices) g.cpu (handed_by b.cpu.regs frame))
-    (world_of (guested_on g b.world.ram)))
+    (bus_side (guested_on g b.world.ram)))

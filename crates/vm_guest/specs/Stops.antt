@@ -15,7 +15,7 @@ use Rattle.vm_machine.specs.Refills.{refilled_at, begun_again}
 use Rattle.vm_machine.specs.declared.limits.TheConstants.{MOST_REFILLS}
 use Rattle.vm_machine.specs.Classes.{class_at_first}
 use Rattle.vm_machine.specs.Exits.{class_of_vector, frame_access, handed_by, rest_by_frame}
-use Rattle.vm_machine.specs.Turns.{tallied, world_of}
+use Rattle.vm_machine.specs.Turns.{tallied, bus_side}
 use Rattle.vm_machine.specs.Seats.{Seat, end_of, guested_on, IsSame, IsSeated, Takes}
 use Rattle.vm_held.specs.Truth.{Fine}
 use Rattle.vm_step.specs.Reads.{read_by_frame}
@@ -23,12 +23,12 @@ use Rattle.vm_step.specs.Turn.{IsSetFor}
 use Rattle.vm_step.specs.Taking.{site_of}
 use Rattle.vm_step.specs.Again.{Midway}
 use Rattle.vm_guest.specs.Memory.{OnlyBetween}
-use Rattle.vm_guest.specs.Native.{left_by, HasFrame, IsFrameOf}
+use Rattle.vm_guest.specs.Native.{finished_by_frame, HasFrame, IsFrameOf}
 use Rattle.vm_guest.specs.Turns.{scene}
 
 -- a guest once a read is filled and put
-abbrev pub filled : Seat → Seat → Seat
-filled g h = record g { mmu = h.mmu; devices = h.devices; kept = h.kept; slots = h.slots }
+abbrev pub with_bus_of : Seat → Seat → Seat
+with_bus_of g h = record g { mmu = h.mmu; devices = h.devices; kept = h.kept; slots = h.slots }
 
 -- a guest whose step has begun, before that step is counted
 abbrev pub uncounted : Seat → Seat
@@ -55,16 +55,16 @@ pub record IsStopped (g : Seat) (ram : List ℕ) (native : NativeState) (k n : �
   pub frame : HasFrame b
   pub seated : IsSeated s b.world.ram
   pub ready : IsReady s b
-  pub again : (f : Frame) → IsFrameOf b f → let w = world_of (guested_on s b.world.ram) in
+  pub again : (f : Frame) → IsFrameOf b f → let w = bus_side (guested_on s b.world.ram) in
       let level = level_of s.devices in
       Fine s.size w → (h : Guest) → refilled_at w (read_by_frame (space_of s.cpu) f) ≡ Some h
       → Midway g ram native k n (uncounted s) b.world.ram counts × (begun_again s.cpu w ≡ Some h)
       × (class_of_vector vector ≡ class_at_first level s.cpu w)
       × (run guest_bus (rest_by_frame vector (frame_access f) level s.cpu (handed_by b.cpu.regs f)) w
       ≡ run guest_bus (step_of level s.cpu) w)
-  pub turn : (f : Frame) → IsFrameOf b f → let w = world_of (guested_on s b.world.ram) in
+  pub turn : (f : Frame) → IsFrameOf b f → let w = bus_side (guested_on s b.world.ram) in
       (n ≡ MOST_REFILLS) ⊎ (refilled_at w (read_by_frame (space_of s.cpu) f) ≡ None) → (seat : Seat) (next : List ℕ)
-      → guested_on seat next ≡ left_by vector f b s → seat.tally ≡ tallied (class_of_vector vector) s.tally
+      → guested_on seat next ≡ finished_by_frame vector f b s → seat.tally ≡ tallied (class_of_vector vector) s.tally
       → IsSame s seat → IsSeated seat next → OnlyBetween s.base (end_of s) b.world.ram next
       → Takes (k + 1) (scene g ram native) (scene seat next counts)
 

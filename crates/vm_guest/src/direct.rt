@@ -17,7 +17,7 @@ ghost use Rattle.vm_step.specs.Lawful.{LeavesLawful};
 ghost use Rattle.vm_step.specs.Taking.{retired_seat};
 ghost use Rattle.vm_guest.specs.Memory.{OnlyBetween};
 ghost use Rattle.vm_guest.specs.Counting.{NoneDue};
-ghost use Rattle.vm_guest.specs.Native.{guest_run, guest_start, left_by, run_on, start_on};
+ghost use Rattle.vm_guest.specs.Native.{guest_run, guest_start, finished_by_frame, run_on, start_on};
 ghost use Rattle.vm_guest.specs.Native.{HasFrame, IsFrameOf};
 ghost use Rattle.vm_guest.specs.Stops.{BeginsAgain, IsReady, IsStopped, Stopped};
 ghost use Rattle.vm_guest.specs.Turns.{scene};
@@ -155,7 +155,7 @@ impl Guest {
         requires lawful { LeavesLawful (frame_access frame.now) }
         requires seated { IsSeated self.old board.old.world.ram }
         ensures means { guested_on self.new board.new.world.ram
-            ≡ left_by vector frame.now board.old self.old }
+            ≡ finished_by_frame vector frame.now board.old self.old }
         ensures tally { self.new.tally ≡ tallied (class_of vector) self.old.tally }
         ensures steps { self.new.steps ≡ self.old.steps }
         ensures same { IsSame self.old self.new }

@@ -4,11 +4,11 @@ ghost use Rattle.std.specs.Prelude.{◌≡◌, ◌<◌, Some, None, false, if◌
 ghost use Rattle.mb_model.specs.Status.{space_of};
 ghost use Rattle.vm_machine.specs.Refills.{refilled_at};
 ghost use Rattle.vm_machine.specs.Seats.{end_of, guested_on, IsSeated};
-ghost use Rattle.vm_machine.specs.Turns.{world_of};
+ghost use Rattle.vm_machine.specs.Turns.{bus_side};
 ghost use Rattle.vm_held.specs.Truth.{Fine};
 ghost use Rattle.vm_step.specs.Reads.{is_read, read_by_frame};
 ghost use Rattle.vm_guest.specs.Memory.{OnlyBetween};
-ghost use Rattle.vm_guest.specs.Stops.{filled};
+ghost use Rattle.vm_guest.specs.Stops.{with_bus_of};
 
 use crate::guest::Guest;
 use mb_entry::continues;
@@ -46,11 +46,11 @@ impl Guest {
     pub(crate) fn refill<R: Ram>(&mut self, ram: &mut R, frame: &Frame) -> bool
         requires begun { 0 < self.old.steps }
         requires seated { IsSeated self.old (R.bytes ram.old) }
-        ensures reads { refilled_at (world_of (guested_on self.old (R.bytes ram.old)))
+        ensures reads { refilled_at (bus_side (guested_on self.old (R.bytes ram.old)))
             (read_by_frame (space_of self.old.cpu) frame.now)
-            ≡ if result then Some (world_of (guested_on self.new (R.bytes ram.new))) else None }
-        ensures fine { Fine self.old.size (world_of (guested_on self.old (R.bytes ram.old))) }
-        ensures guest { self.new ≡ filled self.old self.new }
+            ≡ if result then Some (bus_side (guested_on self.new (R.bytes ram.new))) else None }
+        ensures fine { Fine self.old.size (bus_side (guested_on self.old (R.bytes ram.old))) }
+        ensures guest { self.new ≡ with_bus_of self.old self.new }
         ensures still { result ≡ false → (self.new ≡ self.old) × (ram.new ≡ ram.old) }
         ensures seated { IsSeated self.new (R.bytes ram.new) }
         ensures within { OnlyBetween self.old.base (end_of self.old) (R.bytes ram.old) (R.bytes ram.new) }

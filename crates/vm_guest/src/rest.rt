@@ -8,7 +8,7 @@ ghost use Rattle.vm_machine.specs.Exits.{handed_by};
 ghost use Rattle.vm_machine.specs.Guests.{Guest};
 ghost use Rattle.vm_machine.specs.Rests.{rest_by, SameOver};
 ghost use Rattle.vm_machine.specs.Exits.{frame_access, rest_by_frame};
-ghost use Rattle.vm_step.specs.Lawful.{IsLawful, LeavesLawful};
+ghost use Rattle.vm_step.specs.Lawful.{IsLawfulLeftOver, LeavesLawful};
 ghost use Rattle.vm_guest.specs.Rests.{rest_in, IsLawfulRest};
 
 use crate::classes::is_refusal;
@@ -77,7 +77,7 @@ fn handed(regs: &Regs, frame: &Frame) -> Plain
 impl Rest {
     /// What an access error left.
     fn of_access(left: LeftOver, after: Plain) -> Rest
-        requires lawful { IsLawful left }
+        requires lawful { IsLawfulLeftOver left }
         ensures means { (level : ℕ) (cpu : CpuValue)
             → SameOver Guest (rest_in result level cpu) (rest_by left level cpu after) }
         ensures lawful { IsLawfulRest result }

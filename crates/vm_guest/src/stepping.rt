@@ -5,7 +5,7 @@ ghost use Rattle.mb_port.specs.Routine.{run};
 ghost use Rattle.mb_processor.specs.Raise.{by_its_end};
 ghost use Rattle.mb_board.specs.Beside.{but_ram};
 ghost use Rattle.vm_machine.specs.Bus.{guest_bus};
-ghost use Rattle.vm_machine.specs.Turns.{tallied, steps_in, world_of};
+ghost use Rattle.vm_machine.specs.Turns.{tallied, steps_in, bus_side};
 ghost use Rattle.vm_machine.specs.Seats.{end_of, guested_on, IsSame, IsSeated};
 ghost use Rattle.vm_guest.specs.Memory.{OnlyBetween};
 ghost use Rattle.vm_guest.specs.Rests.{rest_in, IsLawfulRest};
@@ -76,8 +76,8 @@ impl Guest {
         requires lawful { IsLawfulRest rest.now }
         requires seated { IsSeated self.old (R.bytes ram.old) }
         ensures means { by_its_end (run guest_bus (rest_in rest.now level self.old.cpu)
-            (world_of (guested_on self.old (R.bytes ram.old))))
-            ≡ ((result, self.new.cpu), world_of (guested_on self.new (R.bytes ram.new))) }
+            (bus_side (guested_on self.old (R.bytes ram.old))))
+            ≡ ((result, self.new.cpu), bus_side (guested_on self.new (R.bytes ram.new))) }
         ensures guest { self.new ≡ processed self.old self.new }
         ensures seated { IsSeated self.new (R.bytes ram.new) }
         ensures within { OnlyBetween self.old.base (end_of self.old) (R.bytes ram.old) (R.bytes ram.new) }
@@ -106,7 +106,7 @@ impl Guest {
         requires seated { IsSeated self.old board.old.world.ram }
         ensures means { guested_on self.new board.new.world.ram ≡ ended_at self.old.steps
             (run guest_bus (rest_in rest.now level self.old.cpu)
-            (world_of (guested_on self.old board.old.world.ram))) }
+            (bus_side (guested_on self.old board.old.world.ram))) }
         ensures tally { self.new.tally ≡ tallied class self.old.tally }
         ensures steps { self.new.steps ≡ self.old.steps }
         ensures same { IsSame self.old self.new }

@@ -24,7 +24,7 @@ use Rattle.mb_walk.proofs.Parts.{over-again, over-stands}
 use Rattle.mb_machine.proofs.BusLemmas.{taken_memory}
 use Rattle.vm_machine.specs.Guests.{Guest, Truthful, ref, lets, allows, allows_call, placed_at}
 use Rattle.vm_machine.specs.Held.{plain_bus, or_refused, held_bus}
-use Rattle.vm_held.specs.Lawful.{IsLawful}
+use Rattle.vm_held.specs.Lawful.{IsAttemptCall}
 use Rattle.vm_held.specs.Sound.{Sound, HeldGuards}
 use Rattle.vm_held.proofs.Allowed.{wrote_guest, writable_is, held_is, held_not, of_guest, word_small}
 use Rattle.vm_held.proofs.Stages.{piece_fits, word_fits, line_fits, reads_found, checked_is, line_read}
@@ -46,7 +46,7 @@ refused {A} b q r len g h = (
 true_not_false : true ≡ false → ⊥
 true_not_false h = cc
 
-call_refused : (space : Space) (size : ℕ) (c : Call) (g : Guest) → IsLawful space 0 size c → allows_call c g.shadow ≡ false → Refused c g
+call_refused : (space : Space) (size : ℕ) (c : Call) (g : Guest) → IsAttemptCall space 0 size c → allows_call c g.shadow ≡ false → Refused c g
 call_refused space size (Fetch of at) g l h = refused (allows g.shadow (fetching_of of at)) (plain_bus (Fetch of at) g) (fetching_of of at) 2 g h
 call_refused space size (Read of p) g l h = refused (allows g.shadow (reading_of of p.at)) (plain_bus (Read of p) g) (reading_of of p.at) p.len g h
 call_refused space size (Write of p value) g l h =
@@ -80,7 +80,7 @@ answered {A} size g code space at len write take Holds t l on_data fits side a e
     let same : c ≡ a = cc in
     subst Holds same holds_c
 
-probe_inside : (space : Space) (size : ℕ) (p : Piece) (g : Guest) (place : Place) → Sound size g → IsLawful space 0 size (Probe space p)
+probe_inside : (space : Space) (size : ℕ) (p : Piece) (g : Guest) (place : Place) → Sound size g → IsAttemptCall space 0 size (Probe space p)
     → allows_call (Probe space p) g.shadow ≡ true
     → (held_bus (Probe space p) g).0 ≡ Ok place → (0 ≤ place.at) × (place.at + place.len ≤ 0 + size) × (place.len ≡ p.len)
 probe_inside space size p g place s l may e =
@@ -88,14 +88,14 @@ probe_inside space size p g place s l may e =
     × (q.len ≡ p.len)) s.truthful l.1 (λ z. refl) (piece_fits p l.2)
     (λ k h. (place_at k p.len, checked_is g.world k p.len (holds size g k p.len s h), (omega arith, omega arith, refl))) place e may
 
-pub fetched_small : (space : Space) (size at word : ℕ) (g : Guest) → Sound size g → IsLawful space 0 size (Fetch space at)
+pub fetched_small : (space : Space) (size at word : ℕ) (g : Guest) → Sound size g → IsAttemptCall space 0 size (Fetch space at)
     → allows_call (Fetch space at) g.shadow ≡ true
     → (held_bus (Fetch space at) g).0 ≡ Ok word → word < 2 ^ 16
 fetched_small space size at word g s l may e =
     answered size g true space at 2 false taken (λ (n : ℕ). n < 2 ^ 16) s.truthful l.1 (λ z. cc) (word_fits at l.2)
     (λ k h. (number_at g.world.ram k 2, taken_memory g.world (place_at k 2) (holds size g k 2 s h), word_small g.world.ram k s.bytes)) word e may
 
-four_read : (space : Space) (size at : ℕ) (line : List ℕ) (g : Guest) → Sound size g → IsLawful space 0 size (ReadLine space at)
+four_read : (space : Space) (size at : ℕ) (line : List ℕ) (g : Guest) → Sound size g → IsAttemptCall space 0 size (ReadLine space at)
     → allows_call (ReadLine space at) g.shadow ≡ true
     → (held_bus (ReadLine space at) g).0 ≡ Ok line → length line ≡ 4
 four_read space size at line g s l may e =
@@ -115,7 +115,7 @@ same_frame : (frame other : ℕ) (w v : Bool) → (let a : Option (ℕ × Bool) 
     → frame ≡ other
 same_frame frame other w v h = let a : ℕ × Bool = (frame, w) in let b : ℕ × Bool = (other, v) in ap (λ (p : ℕ × Bool). p.0) (same_Some a b h)
 
-pub write_to : (size : ℕ) (g : Guest) (space : Space) (p : Piece) (value frame : ℕ) → Sound size g → IsLawful space 0 size (Write space p value)
+pub write_to : (size : ℕ) (g : Guest) (space : Space) (p : Piece) (value frame : ℕ) → Sound size g → IsAttemptCall space 0 size (Write space p value)
     → g.shadow.entries space (page_of p.at) ≡ Some (frame, true) → held_bus (Write space p value) g ≡ (Ok tt, wrote_guest g (placed_at frame p.at) p.len value)
 write_to size g space p value frame s l e =
     let may : allows g.shadow (ref false space p.at true) ≡ true = ap (λ (o : Option (ℕ × Bool)). lets o true) e in
@@ -140,10 +140,10 @@ written_twice g at len value h =
     ap (λ (m : List ℕ). record g { world = record g.world { ram = m } }) (over-again g.world.ram (big_bytes len value) at (omega arith))
 
 abbrev pub Stands : Space → ℕ → Piece → ℕ → Guest → Type 0
-Stands space size p value g = IsLawful space 0 size (Write space p value) × (allows_call (Write space p value) g.shadow ≡ true)
+Stands space size p value g = IsAttemptCall space 0 size (Write space p value) × (allows_call (Write space p value) g.shadow ≡ true)
     × (held_bus (Write space p value) g ≡ (Ok tt, g))
 
-pub stands_again : (space : Space) (size : ℕ) (p : Piece) (value : ℕ) (g : Guest) → Sound size g → IsLawful space 0 size (Write space p value)
+pub stands_again : (space : Space) (size : ℕ) (p : Piece) (value : ℕ) (g : Guest) → Sound size g → IsAttemptCall space 0 size (Write space p value)
     → allows_call (Write space p value) g.shadow ≡ true → Stands space size p value (held_bus (Write space p value) g).1
 stands_again space size p value g s l may =
     let (frame, e) = writable_entry g space p.at (g.shadow.entries space (page_of p.at)) refl may in
@@ -169,7 +169,8 @@ swapped p q (inr h) = inl h
 ram_same : (g h : Guest) (u v : Result (Unit {0}) Fault) → (let a : Result (Unit {0}) Fault × Guest = (u, g) in a) ≡ (v, h) → g.world.ram ≡ h.world.ram
 ram_same g h u v e = ap (λ (q : Result (Unit {0}) Fault × Guest). q.1.world.ram) e
 
-stands_beside : (space : Space) (size : ℕ) (p q : Piece) (value more : ℕ) (g : Guest) → Apart p q → Sound size g → IsLawful space 0 size (Write space q more)
+stands_beside : (space : Space) (size : ℕ) (p q : Piece) (value more : ℕ) (g : Guest) → Apart p q → Sound size g
+    → IsAttemptCall space 0 size (Write space q more)
     → allows_call (Write space q more) g.shadow ≡ true → Stands space size p value g → Stands space size p value (held_bus (Write space q more) g).1
 stands_beside space size p q value more g apart s l may (lp, may_p, is) =
     let (f, e) = writable_entry g space p.at (g.shadow.entries space (page_of p.at)) refl may_p in
@@ -200,12 +201,12 @@ paired_by : {A : Type 0} (q : Result A Fault × Guest) (a : Result A Fault) (g :
 paired_by {A} q a g e h = ap (λ (o : Result A Fault). (let p : Result A Fault × Guest = (o, q.1) in p)) e
     ∙ ap (λ (k : Guest). (let p : Result A Fault × Guest = (a, k) in p)) h
 
-opens : (space : Space) (size : ℕ) (begun : Guest) → OpensProbed (Sound size) (λ c (g : Guest). IsLawful space 0 size c) held_bus
+opens : (space : Space) (size : ℕ) (begun : Guest) → OpensProbed (Sound size) (λ c (g : Guest). IsAttemptCall space 0 size c) held_bus
 opens space size begun = record {
   call = λ c g s l. held_sound size space c g s l;
   probed = λ of p g place s l e.
       let here : of ≡ space = l.0 in
-      let l' : IsLawful space 0 size (Probe space p) = (refl, l.1, l.2) in
+      let l' : IsAttemptCall space 0 size (Probe space p) = (refl, l.1, l.2) in
       let f : (held_bus (Probe space p) g).0 ≡ Ok place = subst (λ (of : Space). (held_bus (Probe of p) g).0 ≡ Ok place) here e in
       elim (cases_Bool (allows_call (Probe space p) g.shadow)) [
         | inl may ↦ let (low, high, long) = probe_inside space size p g place s l' may f in ((λ u q. ((low, high), λ value. (low, high))), long)
@@ -238,12 +239,12 @@ held_guards space size begun = record {
   line_faults = λ at line s fault denied e. line_fault space at line s fault denied.2 e;
   still = λ c s r go u. held_leaves size space c s go.0 go.1 r ∙ u;
   reads_keep = λ c s d answer r go k.
-      subst (λ (g : Guest). IsLawful space 0 size d × (allows_call d g.shadow ≡ true)
+      subst (λ (g : Guest). IsAttemptCall space 0 size d × (allows_call d g.shadow ≡ true)
       × (held_bus d g ≡ (answer, g))) (sym (held_leaves size space c s go.0 go.1 r)) k;
   writes_keep = λ p q value more s apart go k. stands_beside space size p q value more s apart go.0 go.1 go.2 k;
   read_again = λ piece value s go e.
       let same = held_leaves size space (Read space piece) s go.0 go.1 tt in
-      subst (λ (g : Guest). IsLawful space 0 size (Read space piece) × (allows_call (Read space piece) g.shadow ≡ true)
+      subst (λ (g : Guest). IsAttemptCall space 0 size (Read space piece) × (allows_call (Read space piece) g.shadow ≡ true)
       × (held_bus (Read space piece) g ≡ (Ok value, g))) (sym same)
       (go.1, go.2, paired_by (held_bus (Read space piece) s) (Ok value) s e same);
   written_again = λ piece value s go e. stands_again space size piece value s go.0 go.1 go.2;

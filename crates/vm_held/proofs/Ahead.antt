@@ -20,7 +20,7 @@ use Rattle.vm_shadow.specs.Shadows.{Shadowed}
 use Rattle.vm_machine.specs.Guests.{Guest, ref, lets, allows, allows_any, allows_call, placed_at}
 use Rattle.vm_machine.specs.Bus.{guest_bus}
 use Rattle.vm_machine.specs.Held.{or_refused, held_bus}
-use Rattle.vm_held.specs.Lawful.{IsLawful}
+use Rattle.vm_held.specs.Lawful.{IsAttemptCall}
 use Rattle.vm_held.specs.Sound.{Sound}
 use Rattle.vm_held.proofs.Allowed.{guest_access, of_guest, held_is}
 use Rattle.vm_held.proofs.Holding.{Led, led, held_sound}
@@ -78,7 +78,7 @@ module _ (size : ℕ) (kept : KeptLists) (shadow : Shadowed) where
       ∙ ap (λ (p : Option ℕ × World). of_guest s (by p)) here.leads))
 
   -- what the shadow allows does the same, whatever else is kept and allowed
-  held_moved : (space : Space) (c : Call) (s : Guest) → Sound size s → Sound size (moved kept shadow s) → More s.shadow shadow → IsLawful space 0 size c
+  held_moved : (space : Space) (c : Call) (s : Guest) → Sound size s → Sound size (moved kept shadow s) → More s.shadow shadow → IsAttemptCall space 0 size c
       → allows_call c s.shadow ≡ true → held_bus c (moved kept shadow s) ≡ answer_moved kept shadow (held_bus c s)
   held_moved space (Fetch of at) s sound there more l may =
       access_moved s true of at false 2 (read_at (fetching_of of at) 2 taken) (read-blind (fetching_of of at) 2 taken taken-blind) sound there more l.1
@@ -128,15 +128,15 @@ module _ (size : ℕ) (kept : KeptLists) (shadow : Shadowed) where
       by_entry (Some entry) e h = ap (λ (o : Option (ℕ × Bool)). lets o r.write) (more r.space (page_of r.at) entry e) ∙ h
 
   -- the guest's own bus there
-  guest_moved : (space : Space) (c : Call) (s : Guest) → Sound size s → Sound size (moved kept shadow s) → More s.shadow shadow → IsLawful space 0 size c
+  guest_moved : (space : Space) (c : Call) (s : Guest) → Sound size s → Sound size (moved kept shadow s) → More s.shadow shadow → IsAttemptCall space 0 size c
       → allows_call c s.shadow ≡ true → guest_bus c (moved kept shadow s) ≡ answer_moved kept shadow (held_bus c s)
   guest_moved space c s sound there more l may =
       guest_is_held space size c (moved kept shadow s) there l (any_more s (reference_of c) more may) ∙ held_moved space c s sound there more l may
 
-  shadow_stays : (space : Space) (c : Call) (s : Guest) → Sound size s → IsLawful space 0 size c → (held_bus c s).1.shadow ≡ s.shadow
+  shadow_stays : (space : Space) (c : Call) (s : Guest) → Sound size s → IsAttemptCall space 0 size c → (held_bus c s).1.shadow ≡ s.shadow
   shadow_stays space c s sound l = ap (λ (h : Guest). h.shadow) (held_keeps space size c s sound l)
 
-  ahead_kept : (begun : Shadowed) → More begun shadow → (space : Space) (c : Call) (s t : Guest) → Ahead begun s t → IsLawful space 0 size c
+  ahead_kept : (begun : Shadowed) → More begun shadow → (space : Space) (c : Call) (s t : Guest) → Ahead begun s t → IsAttemptCall space 0 size c
       → allows_call c s.shadow ≡ true → Ahead begun (held_bus c s).1 (guest_bus c t).1
   ahead_kept begun more space c s t a l may =
       let more_here : More s.shadow shadow = subst (λ (b : Shadowed). More b shadow) (sym a.same) more in
@@ -151,7 +151,7 @@ module _ (size : ℕ) (kept : KeptLists) (shadow : Shadowed) where
 
   -- up to the first call that the first shadow does not allow, both do the same
   pub ahead_alike : (begun : Shadowed) → More begun shadow → (space : Space)
-      → Alike (Ahead begun) (λ c (g : Guest). IsLawful space 0 size c) (λ c (g : Guest). allows_call c g.shadow) (λ c (g : Guest). allows_call c begun)
+      → Alike (Ahead begun) (λ c (g : Guest). IsAttemptCall space 0 size c) (λ c (g : Guest). allows_call c g.shadow) (λ c (g : Guest). allows_call c begun)
       held_bus guest_bus
   ahead_alike begun more space = record {
     leave = λ c s t a l. ap (λ (b : Shadowed). allows_call c b) a.same;

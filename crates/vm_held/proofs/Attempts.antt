@@ -18,13 +18,13 @@ use Rattle.vm_machine.specs.Guests.{Guest}
 use Rattle.vm_machine.specs.Bus.{guest_bus}
 use Rattle.vm_machine.specs.Held.{held_bus}
 use Rattle.vm_held.specs.Sound.{Sound}
-use Rattle.vm_held.specs.Denied.{GoesOn, IsAllowed, IsDenied, IsFound, by_held, by_guest, AttemptsGoOn}
+use Rattle.vm_held.specs.Denied.{AttemptGoesOn, IsAllowed, IsDenied, IsFound, by_held, by_guest, AttemptsGoOn}
 use Rattle.vm_held.proofs.Rows.{fetches_go_on, rows_go_on}
 
 -- it may be said of more MOVEMs
 goes_on_by : (space : Space) (these those : Movem → Type 0) → ((m : Movem) → these m → those m)
     → (begun now : Guest) (end : Ended) (after : Plain) (whole : Performed × Guest)
-    → GoesOn space these begun now end after whole → GoesOn space those begun now end after whole
+    → AttemptGoesOn space these begun now end after whole → AttemptGoesOn space those begun now end after whole
 goes_on_by space these those f begun now (ended.ReadFault refused) after whole h = h
 goes_on_by space these those f begun now (ended.WriteFault refused) after whole h = h
 goes_on_by space these those f begun now (ended.LineFault fault line) after whole h = h

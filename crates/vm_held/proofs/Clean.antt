@@ -12,7 +12,7 @@ use Rattle.mb_meaning.specs.Ends.{Performed}
 use Rattle.mb_twins.specs.Twins.{SamePerformed, SameEnd}
 use Rattle.mb_machine.specs.Places.{taken, checked, taken_line, stored, stored_line}
 use Rattle.vm_machine.specs.Guests.{Guest, allows_call}
-use Rattle.vm_held.specs.Lawful.{IsLawful}
+use Rattle.vm_held.specs.Lawful.{IsAttemptCall}
 use Rattle.vm_machine.specs.Held.{held_bus}
 use Rattle.vm_held.specs.Sound.{Sound}
 use Rattle.vm_held.specs.Denied.{IsFaultless, HasNone}
@@ -59,7 +59,7 @@ same_call free space ResetDevices e = absurd e
 
 -- an allowed call answers no fault
 answers : (free : Bool) (space : Space) (size : ℕ) (d : Call) (g : Guest) → Sound size g → IsThere (faultless free space) d
-    → IsLawful space 0 size (call_here (faultless free space) d)
+    → IsAttemptCall space 0 size (call_here (faultless free space) d)
     → allows_call d g.shadow ≡ true → like (faultless free space) d ((held_bus (call_here (faultless free space) d) g).0) ((held_bus d g).0)
 answers free space size (Fetch of at) g s e l may =
     subst (λ (t : Space). allows_call (Fetch t at) g.shadow ≡ true
@@ -103,7 +103,7 @@ answers free space size (FlushKept what) g s e l may = absurd e
 answers free space size (Test of at write) g s e l may = absurd e
 answers free space size ResetDevices g s e l may = absurd e
 
-pub held_itself : (free : Bool) (space : Space) (size : ℕ) → AlikeOn (between (faultless free space)) (R size) (λ c (g : Guest). IsLawful space 0 size c)
+pub held_itself : (free : Bool) (space : Space) (size : ℕ) → AlikeOn (between (faultless free space)) (R size) (λ c (g : Guest). IsAttemptCall space 0 size c)
     (λ c (g : Guest). allows_call c g.shadow) (λ c (g : Guest). allows_call c g.shadow) held_bus held_bus
 held_itself free space size = record {
   leave = λ d g h r e l. ap (λ (c : Call). allows_call c g.shadow) (same_call free space d e) ∙ ap (λ (k : Guest). allows_call d k.shadow) r.0;

@@ -20,7 +20,7 @@ use Rattle.mb_machine.proofs.Bytes.{bytes-with_number}
 use Rattle.mb_machine.proofs.BusLemmas.{taken_memory, stored_memory}
 use Rattle.mb_tells.specs.Guarded.{IsReading}
 use Rattle.vm_machine.specs.Guests.{Guest, Truthful, ref, lets, allows, placed_at}
-use Rattle.vm_held.specs.Lawful.{IsLawful}
+use Rattle.vm_held.specs.Lawful.{IsAttemptCall}
 use Rattle.vm_machine.specs.Held.{or_refused, held_bus}
 use Rattle.vm_held.specs.Sound.{Sound}
 use Rattle.vm_held.proofs.Allowed.{guest_access, wrote_guest, of_guest, line_guest, held_is, held_not}
@@ -102,7 +102,7 @@ line_reads size g s p h = (line_at g.world.ram p, line_read g.world p (holds siz
 pub checked_reads : (size : ℕ) (g : Guest) (len : ℕ) → Sound size g → ReadsAt size g len checked
 checked_reads size g len s p h = (place_at p len, checked_is g.world p len (holds size g p len s h))
 
-pub held_leaves : (size : ℕ) (space : Space) (c : Call) (g : Guest) → Sound size g → IsLawful space 0 size c → IsReading c → (held_bus c g).1 ≡ g
+pub held_leaves : (size : ℕ) (space : Space) (c : Call) (g : Guest) → Sound size g → IsAttemptCall space 0 size c → IsReading c → (held_bus c g).1 ≡ g
 held_leaves size space (Fetch of at) g s l r = read_leaves size g true of at 2 false taken s.truthful l.1 (λ z. cc) (word_fits at l.2) (taken_reads size g 2 s)
 held_leaves size space (Read of p) g s l r = read_leaves size g false of p.at p.len false taken s.truthful l.1 (λ z. refl) (piece_fits p l.2)
     (taken_reads size g p.len s)
@@ -176,7 +176,7 @@ line_writes size g line s p h = line_written g.world p line (holds size g p 16 s
 
 -- ---- every lawful call
 
-pub held_sound : (size : ℕ) (space : Space) (c : Call) (g : Guest) → Sound size g → IsLawful space 0 size c → Sound size (held_bus c g).1
+pub held_sound : (size : ℕ) (space : Space) (c : Call) (g : Guest) → Sound size g → IsAttemptCall space 0 size c → Sound size (held_bus c g).1
 held_sound size space (Fetch of at) g s l = subst (Sound size) (sym (held_leaves size space (Fetch of at) g s l tt)) s
 held_sound size space (Read of p) g s l = subst (Sound size) (sym (held_leaves size space (Read of p) g s l tt)) s
 held_sound size space (Write of p value) g s l =

@@ -13,7 +13,7 @@ use Rattle.mb_tells.proofs.Over.{resumed_over}
 use Rattle.vm_shadow.specs.Shadows.{Shadowed}
 use Rattle.vm_machine.specs.Guests.{Guest, Truthful, ref, allows, allows_call}
 use Rattle.vm_machine.specs.Held.{plain_bus, held_bus}
-use Rattle.vm_held.specs.Lawful.{IsLawful}
+use Rattle.vm_held.specs.Lawful.{IsAttemptCall}
 use Rattle.vm_machine.specs.Bus.{accessed, shadow_after, guest_bus}
 use Rattle.vm_machine.proofs.Judged.{allowed_accesses_are_still}
 use Rattle.vm_held.specs.Sound.{Sound, held_guard, GuestIsHeld}
@@ -64,7 +64,7 @@ guest_is_held space size ResetDevices g s l may = absurd l
 abbrev pub Beside : ℕ → Guest → Guest → Type 0
 Beside size g h = (g ≡ h) × Sound size g
 
-pub held_alike : (space : Space) (size : ℕ) → Alike (Beside size) (λ c (g : Guest). IsLawful space 0 size c) (λ c (g : Guest). allows_call c g.shadow)
+pub held_alike : (space : Space) (size : ℕ) → Alike (Beside size) (λ c (g : Guest). IsAttemptCall space 0 size c) (λ c (g : Guest). allows_call c g.shadow)
     (λ c (g : Guest). allows_call c g.shadow) held_bus guest_bus
 held_alike space size = record {
   leave = λ c g h r l. ap (λ (k : Guest). allows_call c k.shadow) r.0;

@@ -20,7 +20,7 @@ use Rattle.mb_machine.specs.Access.{untranslated, settled, root_of, search_for, 
 use Rattle.mb_model.proofs.ApartLemmas.{both, same_space-is}
 use Rattle.mb_walk.proofs.Named.{search_names}
 use Rattle.mb_model.proofs.Found.{filled_same}
-use Rattle.vm_shadow.specs.Shadows.{Shadowed, is_at, nothing, room_for, filled}
+use Rattle.vm_shadow.specs.Shadows.{Shadowed, is_at, nothing, room_for, with_page_put}
 use Rattle.vm_shadow.specs.Slots.{is_full_for}
 use Rattle.vm_machine.specs.Guests.{Guest, ref, allows, placed_at}
 use Rattle.vm_machine.specs.Bus.{gone_settled, without_kept, is_split, is_in_ram, is_writable, put_entry_of}
@@ -41,7 +41,7 @@ abbrev IsNew : Space → ℕ → ℕ × Bool → Space → ℕ → ℕ × Bool �
 IsNew space page new of number e = (space ≡ of) × (page ≡ number) × (new ≡ e)
 
 filled_cases : (space : Space) (page frame : ℕ) (w : Bool) (shadow : Shadowed) (of : Space) (number : ℕ) (e : ℕ × Bool)
-    → (filled space page frame w shadow).entries of number ≡ Some e
+    → (with_page_put space page frame w shadow).entries of number ≡ Some e
     → IsNew space page (frame, w) of number e ⊎ (shadow.entries of number ≡ Some e)
 filled_cases space page frame w shadow of number e h =
     let new : ℕ × Bool = (frame, w) in
@@ -55,7 +55,7 @@ filled_cases space page frame w shadow of number e h =
 
 put_fine : (size : ℕ) (g : Guest) (r : Reference) (p : ℕ) → Fine size g → Carried g.world r p → is_split g.world.mmu r.space (page_of r.at) ≡ false
     → 4096 * (p / 4096) + 4096 ≤ size
-    → Fine size (record g { shadow = filled r.space (page_of r.at) (p / 4096) (is_writable g.world r.space (page_of r.at)) g.shadow })
+    → Fine size (record g { shadow = with_page_put r.space (page_of r.at) (p / 4096) (is_writable g.world r.space (page_of r.at)) g.shadow })
 put_fine size g r p fine c whole room =
     let w = is_writable g.world r.space (page_of r.at) in
     let t = fine.sound.truthful in

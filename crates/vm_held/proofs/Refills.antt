@@ -46,7 +46,7 @@ use Rattle.mb_machine.specs.World.{World}
 use Rattle.mb_machine.specs.Places.{taken, taken_line}
 use Rattle.mb_machine.specs.Access.{search_for, settled, by_found, by_settled, translated}
 use Rattle.mb_machine.specs.Bus.{fetching_of, reading_of, writing_of, reference_of, fault_of, read_at}
-use Rattle.vm_shadow.specs.Shadows.{Shadowed, is_at, nothing, room_for, filled}
+use Rattle.vm_shadow.specs.Shadows.{Shadowed, is_at, nothing, room_for, with_page_put}
 use Rattle.vm_shadow.specs.Slots.{is_full_for}
 use Rattle.vm_shadow.proofs.Held.{at_is, at_self}
 use Rattle.vm_machine.specs.Guests.{Guest, lets, allows, allows_any, allows_call, placed_at, IsReference}
@@ -54,7 +54,7 @@ use Rattle.vm_machine.specs.Bus.{gone, without_kept, is_split, is_in_ram, is_wri
 use Rattle.vm_machine.specs.Held.{plain_bus, or_refused, held_bus}
 use Rattle.vm_machine.specs.Refills.{told_by, read_in, denied_read, shows_nothing, can_refill, after_access, refilled_at}
 use Rattle.vm_machine.proofs.Judged.{allowed_accesses_are_still}
-use Rattle.vm_held.specs.Lawful.{IsLawful}
+use Rattle.vm_held.specs.Lawful.{IsAttemptCall}
 use Rattle.vm_held.specs.Sound.{Sound, held_guard}
 use Rattle.vm_held.specs.Denied.{HasNone, IsFaultless, IsFound, by_held, by_guest}
 use Rattle.vm_held.specs.Truth.{Fine}
@@ -83,7 +83,7 @@ some_reference : (r s : Reference) → s ≡ r → (let o : Option Reference = S
 some_reference r s e = ap (λ (x : Reference). (let o : Option Reference = Some x in o)) (sym e)
 
 -- the fault of a call that is not allowed tells its reference
-pub call_told : (space : Space) (size : ℕ) (c : Call) (g : Guest) (f : Fault) → IsLawful space 0 size c → allows_call c g.shadow ≡ false
+pub call_told : (space : Space) (size : ℕ) (c : Call) (g : Guest) (f : Fault) → IsAttemptCall space 0 size c → allows_call c g.shadow ≡ false
     → IsFault c ((held_bus c g).0) f → reference_of c ≡ Some (told_by f)
 call_told space size (Fetch of at) g f l h e =
     some_reference (fetching_of of at) (told_by f) (same_fault (allows g.shadow (fetching_of of at)) (plain_bus (Fetch of at) g) (fetching_of of at) 2 g f h e)
@@ -188,7 +188,7 @@ module _ (size : ℕ) (g : Guest) (r : Reference) (is : IsReference r) (fine : F
   writable = is_writable after r.space page
 
   abbrev new : Shadowed
-  new = filled r.space page (page_of can.place) writable g.shadow
+  new = with_page_put r.space page (page_of can.place) writable g.shadow
 
   put_there : puts_entry after r g.shadow can.place ≡ true
   put_there = rw (can.in_ram, can.whole, denied) refl
@@ -324,7 +324,7 @@ abbrev Allowed : Call → Guest → Bool
 Allowed c g = allows_call c g.shadow
 
 abbrev Calls : Space → ℕ → Call → Guest → Type 0
-Calls space size c g = IsLawful space 0 size c
+Calls space size c g = IsAttemptCall space 0 size c
 
 -- the fault value that it ended with, of which the fact holds, and the call
 pub record Denied {A E : Type 0} (space : Space) (size : ℕ) (fact : Fact Guest A E) (held : Result A E) : Type 1 where
@@ -335,7 +335,7 @@ pub record Denied {A E : Type 0} (space : Space) (size : ℕ) (fact : Fact Guest
   pub told : fact rest now value
   pub call : Call
   pub first : first_call rest ≡ Some call
-  pub lawful : IsLawful space 0 size call
+  pub lawful : IsAttemptCall space 0 size call
   pub refused : allows_call call now.shadow ≡ false
 
 -- a routine that tells, from this guest on
@@ -357,7 +357,7 @@ module _ {A E : Type 0} (space : Space) (size : ℕ) (g : Guest) (m : Routine (R
   -- what is known of how far the held one came
   abbrev Known : Until Guest (Result A E) → Type 0
   Known u = Told (λ (a : Guest) b. b ≡ a) held_bus fact after u × Alone Rel u × AtRefused Allowed u
-      × AtStop u (λ (rest : Routine (Result A E)) (t : Guest). (c : Call) → first_call rest ≡ Some c → IsLawful space 0 size c)
+      × AtStop u (λ (rest : Routine (Result A E)) (t : Guest). (c : Call) → first_call rest ≡ Some c → IsAttemptCall space 0 size c)
       × (finish held_bus u ≡ Held)
 
   abbrev denial : (rest : Routine (Result A E)) (t : Guest) → Known (Stopped rest t) → Denial
@@ -452,7 +452,7 @@ module _ {A E : Type 0} (space : Space) (size : ℕ) (g : Guest) (m : Routine (R
 
 -- the fault is of the call that was refused
 answered_told : {A : Type 0} (space : Space) (size : ℕ) (g now : Guest) (rest : Routine A) (c : Call) (f : Fault) → first_call rest ≡ Some c
-    → IsLawful space 0 size c → allows_call c now.shadow ≡ false → Answered (held_guard space size g) rest now f → reference_of c ≡ Some (told_by f)
+    → IsAttemptCall space 0 size c → allows_call c now.shadow ≡ false → Answered (held_guard space size g) rest now f → reference_of c ≡ Some (told_by f)
 answered_told space size g now rest c f first l refused (d, other, is) =
     let same : d ≡ c = same_Some d c (sym other ∙ first) in
     call_told space size c now f l refused (subst (λ (x : Call). IsFault x ((held_bus x now).0) f) same is)
@@ -483,7 +483,7 @@ faultless_reads_none (Err stop) r h e = faultless_end stop.ended r h e
 
 -- the fault of a refused read, by what is left
 left_read : (space : Space) (size : ℕ) (g now : Guest) (before after : Plain) (moves : Movem → Type 0) (rest : Routine Performed) (end : End) (r : Reference)
-    (c : Call) → first_call rest ≡ Some c → IsLawful space 0 size c → allows_call c now.shadow ≡ false
+    (c : Call) → first_call rest ≡ Some c → IsAttemptCall space 0 size c → allows_call c now.shadow ≡ false
     → LeftBy (held_guard space size g) space before moves rest now end after → read_in end ≡ Some r → (reference_of c ≡ Some r) × (now ≡ g)
 left_read space size g now before after moves rest (ended.ReadFault refused) r c first l no_leave (answered, again) e =
     (answered_told space size g now rest c refused.fault first l no_leave answered ∙ e, again.0)
@@ -497,7 +497,7 @@ left_read space size g now before after moves rest (ended.Movem refused) r c fir
 -- ---- a fetch
 
 found_left : (space : Space) (size : ℕ) (g now : Guest) (rest : Routine FoundInstr) (y : Unfound) (f : ReadFault) (c : Call) → y ≡ Unfetched f
-    → first_call rest ≡ Some c → IsLawful space 0 size c → allows_call c now.shadow ≡ false → FoundLeft (held_guard space size g) rest now y
+    → first_call rest ≡ Some c → IsAttemptCall space 0 size c → allows_call c now.shadow ≡ false → FoundLeft (held_guard space size g) rest now y
     → (reference_of c ≡ Some (told_by f.fault)) × (now ≡ g)
 found_left space size g now rest (NoInstruction vector) f c e first l no_leave told = absurd told
 found_left space size g now rest (Unfetched y) f c e first l no_leave (answered, unwritten) =

@@ -35,11 +35,11 @@ use Rattle.mb_decode.specs.Decodes.{decode_of}
 use Rattle.mb_ea.specs.Reading.{refused_in}
 use Rattle.mb_port.specs.declared.types.Fault.{Fault}
 use Rattle.vm_machine.specs.Guests.{Guest, allows_call}
-use Rattle.vm_held.specs.Lawful.{IsLawful}
+use Rattle.vm_held.specs.Lawful.{IsAttemptCall}
 use Rattle.vm_machine.specs.Held.{held_bus}
 use Rattle.vm_machine.specs.Bus.{guest_bus}
 use Rattle.vm_held.specs.Sound.{Sound, held_guard}
-use Rattle.vm_held.specs.Denied.{IsFound, FetchesGoOn, GoesOn, IsAllowed, IsDenied, IfRefused, LeavesRefused, RowsGoOn}
+use Rattle.vm_held.specs.Denied.{IsFound, FetchesGoOn, AttemptGoesOn, IsAllowed, IsDenied, IfRefused, LeavesRefused, RowsGoOn}
 use Rattle.vm_held.proofs.Again.{held_guards}
 use Rattle.vm_held.proofs.Clean.{faultless, R, held_itself, performed_clean}
 use Rattle.vm_held.proofs.Holding.{held_leaves}
@@ -53,7 +53,7 @@ abbrev Allowed : Call → Guest → Bool
 Allowed c g = allows_call c g.shadow
 
 abbrev Calls : Space → ℕ → Call → Guest → Type 0
-Calls space size c g = IsLawful space 0 size c
+Calls space size c g = IsAttemptCall space 0 size c
 
 abbrev pub Alone : {A : Type 0} → (A → A → Type 0) → Until Guest A → Type 0
 Alone Rel (Ended a s) = Rel a a
@@ -200,7 +200,7 @@ fetches_go_on space size pc g lt s =
 row_goes_on : (space : Space) (size : ℕ) (i : Instr) (p : Plain) (begun now : Guest) (rest : Routine Performed) (end : End) (after : Plain) (whole : Performed
     × Guest)
     → Sound size now → whole ≡ run guest_bus rest now → LeftBy (held_guard space size begun) space p (moves i) rest now end after
-    → GoesOn space (moves i) begun now end after whole
+    → AttemptGoesOn space (moves i) begun now end after whole
 row_goes_on space size i p begun now rest (ended.ReadFault f) after whole s e (answer, again) = again.0
 row_goes_on space size i p begun now rest (ended.WriteFault f) after whole s e (answer, inl (again, none)) = inl (again.0, none)
 row_goes_on space size i p begun now rest (ended.WriteFault f) after whole s e (answer, inr (some, done, plain, same)) =
@@ -250,7 +250,7 @@ rows_by space size i at p g may is longs s =
         inr (
           stop,
           ap (λ (q : Performed × Guest). q.0) done,
-          subst (λ (h : Guest). GoesOn space (moves i) g h stop.ended stop.plain own) (sym (ap (λ (q : Performed × Guest). q.1) done))
+          subst (λ (h : Guest). AttemptGoesOn space (moves i) g h stop.ended stop.plain own) (sym (ap (λ (q : Performed × Guest). q.1) done))
               (row_goes_on space size i p g now rest stop.ended stop.plain own sound goes told),
         ),
         subst (Sound size) (sym (ap (λ (q : Performed × Guest). q.1) done)) sound,

@@ -51,20 +51,20 @@ LeavesRefused (Err stop) begun now = IfRefused stop.ended (now ≡ begun)
 -- what the guest's own comes to. After a read nothing has changed, so that it begins again. After a write or a transfer
 -- it goes on from the state in which the held guest is now: by the pieces that are named, by the line, or by the MOVEM
 -- from the transfer. `moves` says which MOVEM it is.
-abbrev pub GoesOn : Space → (Movem → Type 0) → Guest → Guest → Ended → Plain → Performed × Guest → Type 0
-GoesOn space moves begun now (ended.ReadFault refused) after whole = now ≡ begun
-GoesOn space moves begun now (ended.WriteFault refused) after whole =
+abbrev pub AttemptGoesOn : Space → (Movem → Type 0) → Guest → Guest → Ended → Plain → Performed × Guest → Type 0
+AttemptGoesOn space moves begun now (ended.ReadFault refused) after whole = now ≡ begun
+AttemptGoesOn space moves begun now (ended.WriteFault refused) after whole =
     ((now ≡ begun) × (refused.rest.items ≡ []))
     ⊎ (IsRest refused.rest.items × (done : Carried) × (done.plain ≡ after)
     × (whole ≡ run guest_bus (completing_writes space refused.first refused.rest.items done) now))
-GoesOn space moves begun now (ended.LineFault fault line) after whole =
+AttemptGoesOn space moves begun now (ended.LineFault fault line) after whole =
     (length line ≡ 4) × (done : Carried) × (done.plain ≡ after)
     × (whole ≡ run guest_bus (completing_line space fault.at line done) now)
-GoesOn space moves begun now (ended.Movem refused) after whole =
+AttemptGoesOn space moves begun now (ended.Movem refused) after whole =
     (m : Movem) × moves m × (whole ≡ run guest_bus (completing_transfers m refused.first refused.done space after) now)
-GoesOn space moves begun now (ended.Done flow) after whole = ⊥
-GoesOn space moves begun now (ended.Trap vector) after whole = ⊥
-GoesOn space moves begun now (ended.Refused vector) after whole = ⊥
+AttemptGoesOn space moves begun now (ended.Done flow) after whole = ⊥
+AttemptGoesOn space moves begun now (ended.Trap vector) after whole = ⊥
+AttemptGoesOn space moves begun now (ended.Refused vector) after whole = ⊥
 
 -- The guest's own is what the held one came to, and tells no fault.
 abbrev pub IsAllowed : Guest → Performed × Guest → Performed × Guest → Type 0
@@ -74,7 +74,7 @@ IsAllowed begun (performed, now) own =
 -- Or the held one was denied a call, and its end says how the guest's own goes on.
 abbrev pub IsDenied : Space → (Movem → Type 0) → Guest → Performed × Guest → Performed × Guest → Type 0
 IsDenied space moves begun (performed, now) own = (stop : OtherEnd) × (performed ≡ Err stop)
-    × GoesOn space moves begun now stop.ended stop.plain own
+    × AttemptGoesOn space moves begun now stop.ended stop.plain own
 
 -- ---- an instruction
 

@@ -5,7 +5,7 @@ use Rattle.mb_walk.specs.Memory.{AreBytes}
 use Rattle.mb_tells.specs.Guarded.{Guarded, Guards}
 use Rattle.mb_port.specs.Routine.{Call}
 use Rattle.vm_machine.specs.Guests.{Guest, Truthful, allows_call, may}
-use Rattle.vm_held.specs.Lawful.{IsLawful}
+use Rattle.vm_held.specs.Lawful.{IsAttemptCall}
 use Rattle.vm_machine.specs.Held.{held_bus}
 use Rattle.vm_machine.specs.Bus.{guest_bus}
 
@@ -19,12 +19,12 @@ pub record Sound (size : ℕ) (g : Guest) : Type 0 where
 abbrev pub held_guard : Space → ℕ → Guest → Guarded Guest
 held_guard space size begun = record {
   same = λ g h. h ≡ g;
-  lawful = λ c g. IsLawful space 0 size c;
+  lawful = λ c g. IsAttemptCall space 0 size c;
   allowed = may;
   bus = held_bus;
   serving = Sound size;
   unwritten = λ g. g ≡ begun;
-  stands = λ c answer g. IsLawful space 0 size c × (allows_call c g.shadow ≡ true) × (held_bus c g ≡ (answer, g));
+  stands = λ c answer g. IsAttemptCall space 0 size c × (allows_call c g.shadow ≡ true) × (held_bus c g ≡ (answer, g));
 }
 
 abbrev pub HeldGuards : Type 0
@@ -35,10 +35,10 @@ abbrev pub OnlyRam : Guest → Guest → Type 0
 OnlyRam g h = h ≡ record g { world = record g.world { ram = h.world.ram } }
 
 abbrev pub HeldKeeps : Type 0
-HeldKeeps = (space : Space) (size : ℕ) (c : Call) (g : Guest) → Sound size g → IsLawful space 0 size c
+HeldKeeps = (space : Space) (size : ℕ) (c : Call) (g : Guest) → Sound size g → IsAttemptCall space 0 size c
     → let (_, after) = held_bus c g in OnlyRam g after
 
 -- What the shadow allows, the guest's own bus does as the held one.
 abbrev pub GuestIsHeld : Type 0
-GuestIsHeld = (space : Space) (size : ℕ) (c : Call) (g : Guest) → Sound size g → IsLawful space 0 size c
+GuestIsHeld = (space : Space) (size : ℕ) (c : Call) (g : Guest) → Sound size g → IsAttemptCall space 0 size c
     → allows_call c g.shadow ≡ true → guest_bus c g ≡ held_bus c g

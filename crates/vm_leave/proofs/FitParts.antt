@@ -25,7 +25,7 @@ use Rattle.mb_ea.specs.Resolve.{parts_of, indirect_of, full_of, indexed_of, Reso
 use Rattle.mb_writes.specs.declared.ends.WriteFault.{WriteFault}
 use Rattle.mb_writes.specs.declared.ends.Ended.TheVariants as ended
 use Rattle.mb_writes.specs.Writing as writes
-use Rattle.mb_writes.specs.Writing.{part_of, pending_of, left_by, write_pieces_of, write_operand_of, apart, write_apart_of}
+use Rattle.mb_writes.specs.Writing.{part_of, pending_of, write_fault_at, write_pieces_of, write_operand_of, apart, write_apart_of}
 use Rattle.mb_meaning.specs.Ends.{Carried, OtherEnd, Cut, Unread, Stop, Rowed, reading, writing}
 use Rattle.mb_meaning.specs.Operands.{load_of, store_of, Fetched, fetch_operand_of, find_address_of, finish_with_of, push_of}
 use Rattle.mb_writes.specs.Checked.{probe_pieces_of, probe_operand_of}
@@ -130,7 +130,7 @@ module _ (space : Space) where
   pub all_fit : (first : ℕ) (ps : List Pend) → IsLong first → HaveAddresses ps → Writes (write_pieces_of space first ps)
   all_fit first [] h are = answers_ok tt tt
   all_fit first (p ∷ ps) h are =
-      answers_then (answers_failing (left_by first (p ∷ ps)) (writing_fits space (piece_of p) p.value are.0) (λ f k. (k, h, are)))
+      answers_then (answers_failing (write_fault_at first (p ∷ ps)) (writing_fits space (piece_of p) p.value are.0) (λ f k. (k, h, are)))
       (λ done u. all_fit first ps h are.1)
 
   pub put_fits : (at len value : ℕ) → IsLong at → Writes (write_operand_of space at len value)
@@ -141,7 +141,7 @@ module _ (space : Space) where
   put_apart_fits at Byte value h = all_fit at (writes.parts_of (apart at 1) 1 value) h (pending_at (apart at 1) 1 value (apart_at at 1 h))
   put_apart_fits at Word value h = all_fit at (writes.parts_of (apart at 2) 2 value) h (pending_at (apart at 2) 2 value (apart_at at 2 h))
   put_apart_fits at Long value h =
-      answers_then (answers_failing (left_by at []) (writing_fits space (record { at = at; len = 1 }) (part_of value 4 1) h) (λ f k. (k, h, tt)))
+      answers_then (answers_failing (write_fault_at at []) (writing_fits space (record { at = at; len = 1 }) (part_of value 4 1) h) (λ f k. (k, h, tt)))
       (λ done u.
       let later = apart ((at + 2) % 2 ^ 32) 3 in
       all_fit at (writes.parts_of later 3 value) h (pending_at later 3 value (apart_at ((at + 2) % 2 ^ 32) 3 (omega arith))))

@@ -27,7 +27,7 @@ use Rattle.mb_machine.specs.World.{World}
 use Rattle.vm_machine.specs.Guests.{Guest}
 use Rattle.vm_machine.specs.Bus.{guest_bus}
 use Rattle.vm_machine.specs.Held.{held_bus}
-use Rattle.vm_held.specs.Denied.{GoesOn, by_held, by_guest}
+use Rattle.vm_held.specs.Denied.{AttemptGoesOn, by_held, by_guest}
 use Rattle.vm_held.proofs.Attempts.{attempts_go_on}
 use Rattle.vm_mirror.specs.Related.{Site, setting, Related}
 use Rattle.vm_mirror.specs.Laws.{board_bus}
@@ -178,7 +178,7 @@ module _ (x : Site) (board guest : Cpu) (b : World) (g : Guest) (m : Mirrored x 
       ∙ elim (attempts_go_on x.space x.size p g m.longs m.counter (sound_of x b g r)).0 [
         | inl allowed ↦ allowed.0
         | inr (stop, is, goes) ↦
-            absurd (subst (λ (e : Ended). GoesOn x.space (moves_fetched held_bus x.space p.pc g) g held.1 e stop.plain (by_guest x.space p g))
+            absurd (subst (λ (e : Ended). AttemptGoesOn x.space (moves_fetched held_bus x.space p.pc g) g held.1 e stop.plain (by_guest x.space p g))
             (sym (ap (λ (q : Performed). (closed q).0) is) ∙ done) goes)
       ]
 

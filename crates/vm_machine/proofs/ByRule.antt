@@ -15,7 +15,7 @@ use Rattle.mb_machine.specs.Bus.{bus_of}
 use Rattle.mb_machine.specs.Machine.{Machine, one_later, takes_steps, run_of, asked_of}
 use Rattle.vm_machine.specs.Guests.{Guest}
 use Rattle.vm_machine.specs.Bus.{guest_bus}
-use Rattle.vm_machine.specs.Turns.{world_of, guest_begun, advanced, turn_of, prepared}
+use Rattle.vm_machine.specs.Turns.{bus_side, guest_begun, advanced, turn_of, prepared}
 use Rattle.vm_machine.specs.Laws.{RunsAreByRule, StepsAreByRule, TurnsAreByRule, GuestsRunAlone}
 
 -- a guest's world, and a machine's
@@ -41,7 +41,7 @@ later_machine b r q v w e f = ap (λ (x : Stepped). one_later b x.0 x.1 v) e ∙
 pub steps_by_rule : StepsAreByRule
 steps_by_rule script g =
     let b = guest_begun script g in
-    let r = runs_by_rule (step_of (asked_of script b.machine) b.machine.cpu) (world_of b) in
+    let r = runs_by_rule (step_of (asked_of script b.machine) b.machine.cpu) (bus_side b) in
     later_machine b.machine _ _ _ _ r.0 r.1
 
 pub turns_by_rule : TurnsAreByRule

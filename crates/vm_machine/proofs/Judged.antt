@@ -13,7 +13,7 @@ use Rattle.mb_machine.specs.declared.reference.Settled.{Settled}
 use Rattle.mb_machine.specs.declared.reference.Settled.TheVariants.{To}
 use Rattle.mb_machine.specs.World.{World}
 use Rattle.mb_machine.specs.Access.{settled, by_settled, translated}
-use Rattle.vm_shadow.specs.Shadows.{Shadowed, filled}
+use Rattle.vm_shadow.specs.Shadows.{Shadowed, with_page_put}
 use Rattle.vm_machine.specs.Guests.{Guest, Truthful, ref, lets, allows, may, placed_at}
 use Rattle.vm_machine.specs.Bus.{gone_settled, without_kept, is_split, is_in_ram, is_writable, put_entry_of, guest_bus}
 use Rattle.vm_machine.specs.Laws.{AllowedAccessesAreStill, AttemptsAreJudged}
@@ -45,7 +45,7 @@ last_not false b c h = refl
 -- nothing is put where the shadow allows
 puts_nothing : (w : World) (r : Reference) (at : ℕ) (shadow : Shadowed) → allows shadow r ≡ true → put_entry_of w r shadow (Some at) ≡ shadow
 puts_nothing w r at shadow h =
-    ap (λ (b : Bool). cond b (filled r.space (page_of r.at) (page_of at) (is_writable w r.space (page_of r.at)) shadow) shadow)
+    ap (λ (b : Bool). cond b (with_page_put r.space (page_of r.at) (page_of at) (is_writable w r.space (page_of r.at)) shadow) shadow)
     (last_not (is_in_ram (length w.ram) at) (not (is_split w.mmu r.space (page_of r.at))) (allows shadow r) h)
 
 pub allowed_accesses_are_still : AllowedAccessesAreStill

@@ -16,7 +16,7 @@ use Rattle.mb_writes.specs.declared.ends.WriteFault.{WriteFault}
 use Rattle.mb_writes.specs.declared.ends.Ended.TheVariants as ended
 use Rattle.mb_writes.specs.Transfers.{movem_in, refused_transfer}
 use Rattle.mb_writes.specs.Moving.{Halfway, transfer_of}
-use Rattle.mb_writes.specs.Writing.{left_by, write_pieces_of}
+use Rattle.mb_writes.specs.Writing.{write_fault_at, write_pieces_of}
 use Rattle.mb_processor.specs.declared.Finish.{Finish}
 use Rattle.mb_processor.specs.declared.Finish.TheVariants as finish
 use Rattle.mb_meaning.specs.Ends.{Carried, OtherEnd, Performed}
@@ -72,7 +72,7 @@ HasLeft (Err refused) = (p : Pend) × (ps : List Pend) × (refused.rest.items �
 left_behind : {S : Type 0} (bus : Bus S) (space : Space) (first : ℕ) (p : Pend) (ps : List Pend)
     → ((t : S) → HasLeft (run bus (write_pieces_of space first ps) t).0)
     → (r : Result (Unit {0}) Fault) (t : S)
-    → HasLeft (run bus (tried (other_fault (left_by first (p ∷ ps)) r) (λ _. write_pieces_of space first ps)) t).0
+    → HasLeft (run bus (tried (other_fault (write_fault_at first (p ∷ ps)) r) (λ _. write_pieces_of space first ps)) t).0
 left_behind bus space first p ps more (Ok done) t = more t
 left_behind bus space first p ps more (Err fault) t = (p, ps, refl)
 

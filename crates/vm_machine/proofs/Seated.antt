@@ -10,7 +10,7 @@ use Rattle.vm_shadow.specs.declared.area.TheConstants.{AREA_BYTES}
 use Rattle.vm_shadow.proofs.Alone.{tables_are_of_the_area}
 use Rattle.vm_meaning.specs.Marks.{trail}
 use Rattle.vm_machine.specs.Guests.{Truthful}
-use Rattle.vm_machine.specs.Turns.{Turned, world_of, turn_of}
+use Rattle.vm_machine.specs.Turns.{Turned, bus_side, turn_of}
 use Rattle.vm_machine.specs.Seats.{on_board, own, Seat, end_of, machine_on, turned_on, IsSeated, OnlyWithin}
 use Rattle.vm_machine.specs.declared.limits.TheConstants.{MONITOR_BYTES}
 use Rattle.vm_machine.specs.Stages.{LieApart}
@@ -91,7 +91,7 @@ alone g h x y w apart behind s =
         area = s.area;
         maps = maps.0;
         tables = maps.1 ∙ s.tables ∙ ap (λ (z : Shadowed). on_board h.base (own h.base z)) (sym maps.1);
-        truthful = subst (λ (t : Turned). Truthful h.size (world_of t.guest)) (sym (turned_alone h x y [] machine maps.1)) s.truthful;
+        truthful = subst (λ (t : Turned). Truthful h.size (bus_side t.guest)) (sym (turned_alone h x y [] machine maps.1)) s.truthful;
       };
     }
 

@@ -18,7 +18,7 @@ use Rattle.mb_machine.specs.declared.reference.Settled.TheVariants.{To, Refused,
 use Rattle.mb_machine.specs.World.{World}
 use Rattle.mb_machine.specs.Access.{matched, search_for, settled, translated}
 use Rattle.mb_machine.specs.Bus.{bus_of, reference_of, writing_of}
-use Rattle.vm_shadow.specs.Shadows.{Shadowed, nothing, filled, dropped}
+use Rattle.vm_shadow.specs.Shadows.{Shadowed, nothing, with_page_put, dropped}
 use Rattle.vm_machine.specs.Guests.{Guest, allows}
 
 -- ---- Leaving: the shadow loses the entry of each kept entry that goes
@@ -104,7 +104,7 @@ abbrev pub put_entry_of : World → Reference → Shadowed → Option ℕ → Sh
 put_entry_of w r shadow None = shadow
 put_entry_of w r shadow (Some at) =
     if puts_entry w r shadow at
-    then filled r.space (page_of r.at) (page_of at) (is_writable w r.space (page_of r.at)) shadow else shadow
+    then with_page_put r.space (page_of r.at) (page_of at) (is_writable w r.space (page_of r.at)) shadow else shadow
 
 -- ---- the bus
 

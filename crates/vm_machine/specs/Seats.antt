@@ -17,7 +17,7 @@ use Rattle.vm_shadow.specs.Mapped.{shadowed}
 use Rattle.vm_shadow.specs.declared.area.TheConstants.{AREA_BYTES}
 use Rattle.vm_shadow.specs.Area.{Maps}
 use Rattle.vm_machine.specs.Guests.{Truthful}
-use Rattle.vm_machine.specs.Turns.{Guested, Tally, Turned, world_of, exits, turn_of}
+use Rattle.vm_machine.specs.Turns.{Guested, Tally, Turned, bus_side, exits, turn_of}
 use Rattle.vm_machine.specs.declared.limits.TheConstants.{MONITOR_BYTES}
 
 -- ---- frames of the guest and of the board
@@ -99,7 +99,7 @@ pub record IsSeated (g : Seat) (ram : List ℕ) : Type 0 where
   -- for each root exactly the shadow's entries, each to its frame in the guest's RAM
   pub tables : shadowed g.slots ram ≡ on_board g.base (shadow_on g ram)
   -- and that says what its translation does now
-  pub truthful : Truthful g.size (world_of (guested_on g ram))
+  pub truthful : Truthful g.size (bus_side (guested_on g ram))
 
 -- Of a board's memory nothing changes but the guest's RAM and area, and the monitor's bytes.
 pub record OnlyWithin (g : Seat) (before after : List ℕ) : Type 0 where

@@ -17,8 +17,8 @@ pub record Stage : Type 0 where
   pub native : NativeState
 
 -- one of them with the board
-abbrev pub scene : ℕ → Stage → Scene
-scene i s = record { guest = s.guests i; ram = s.ram; native = s.native }
+abbrev pub scene_at : ℕ → Stage → Scene
+scene_at i s = record { guest = s.guests i; ram = s.ram; native = s.native }
 
 -- All guests stand on the board, each apart from every other.
 pub record AllSeated (s : Stage) : Type 0 where
@@ -31,7 +31,7 @@ pub record AllSeated (s : Stage) : Type 0 where
 pub record TakesTurn (i n : ℕ) (s t : Stage) : Type 0 where
   pub number : i < s.count
   pub count : t.count ≡ s.count
-  pub turn : Takes n (scene i s) (scene i t)
+  pub turn : Takes n (scene_at i s) (scene_at i t)
   pub others : (j : ℕ) → j ≢ i → t.guests j ≡ s.guests j
 
 -- turns in their order: of each its guest and its steps

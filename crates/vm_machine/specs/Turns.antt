@@ -25,8 +25,8 @@ pub record Guested : Type 0 where
   pub shadow : Shadowed
 
 -- what its bus reads and changes
-abbrev pub world_of : Guested → Guest
-world_of g = record { world = g.machine.world; shadow = g.shadow }
+abbrev pub bus_side : Guested → Guest
+bus_side g = record { world = g.machine.world; shadow = g.shadow }
 
 -- ---- a step
 
@@ -36,7 +36,7 @@ guest_begun script g = record g { machine = begun script g.machine }
 
 -- the processor's part of it, over the guest's bus
 abbrev pub guest_processed : Entries → Guested → Stepped × Guest
-guest_processed script b = run guest_bus (step_of (asked_of script b.machine) b.machine.cpu) (world_of b)
+guest_processed script b = run guest_bus (step_of (asked_of script b.machine) b.machine.cpu) (bus_side b)
 
 -- one step later, with what that part left
 abbrev pub guest_later : Machine → Stepped × Guest → Guested
@@ -50,17 +50,17 @@ guest_stepped script g =
 -- The class of that step, judged once it has begun.
 abbrev pub class_of_step : Entries → Guested → Class
 class_of_step script g =
-    let b = guest_begun script g in class_of (asked_of script b.machine) b.machine.cpu (world_of b)
+    let b = guest_begun script g in class_of (asked_of script b.machine) b.machine.cpu (bus_side b)
 
 -- by its first attempt alone
 abbrev pub step_class_at_first : Entries → Guested → Class
 step_class_at_first script g =
-    let b = guest_begun script g in class_at_first (asked_of script b.machine) b.machine.cpu (world_of b)
+    let b = guest_begun script g in class_at_first (asked_of script b.machine) b.machine.cpu (bus_side b)
 
 -- How often its attempt is begun again, if it makes one.
 abbrev pub refills_of_step : Entries → Guested → ℕ
 refills_of_step script g =
-    let b = guest_begun script g in (refilled b.machine.cpu (world_of b)).refills
+    let b = guest_begun script g in (refilled b.machine.cpu (bus_side b)).refills
 
 -- ---- counts and marks
 

@@ -21,7 +21,7 @@ use Rattle.vm_mirror.specs.Laws.{board_bus, lawful, always, Outside}
 use Rattle.vm_mirror.proofs.Guard.{is_alike, never_refusing, board_guards}
 use Rattle.vm_held.specs.Sound.{OnlyRam}
 use Rattle.vm_mirror.proofs.Mirrors.{sound_of}
-use Rattle.vm_held.specs.Lawful.{IsLawful}
+use Rattle.vm_held.specs.Lawful.{IsAttemptCall}
 use Rattle.vm_mirror.proofs.Inside.{stays_inside}
 use Rattle.vm_mirror.specs.Attempts.{Stays, AttemptsStay, SameFound, FetchesStay, RowsStay}
 use Rattle.vm_held.proofs.Keeps.{held_keeps}
@@ -37,7 +37,7 @@ ends_always {S = S} bus (Then {A = A} m f) s =
 -- ---- along an attempt
 
 -- the guest's call is lawful where the board's is
-lawful_there : (x : Site) (d : Call) → IsThere (setting x) d → IsLawful User x.base x.size (call_here (setting x) d) → IsLawful x.space 0 x.size d
+lawful_there : (x : Site) (d : Call) → IsThere (setting x) d → IsAttemptCall User x.base x.size (call_here (setting x) d) → IsAttemptCall x.space 0 x.size d
 lawful_there x (Fetch of at) s l = (s, l.1, l.2)
 lawful_there x (Read of p) s l = (s, l.1, l.2)
 lawful_there x (Write of p value) s l = (s, l.1, l.2)

@@ -19,7 +19,7 @@ use Rattle.mb_machine.specs.Bus.{fault_of, place_at, Take, read_by}
 use Rattle.mb_tells.specs.Guarded.{Guarded, Guards}
 use Rattle.mb_machine.proofs.BusLemmas.{taken_memory}
 use Rattle.vm_machine.specs.Guests.{Guest, ref, allows}
-use Rattle.vm_held.specs.Lawful.{IsLawful}
+use Rattle.vm_held.specs.Lawful.{IsAttemptCall}
 use Rattle.vm_machine.specs.Held.{held_bus}
 use Rattle.vm_mirror.specs.Related.{Site, setting, Related, Serves}
 use Rattle.vm_mirror.specs.Laws.{board_bus, lawful, always, IsAlike}
@@ -43,7 +43,7 @@ OfGuest x c = (d : Call) × IsThere (setting x) d × (call_here (setting x) d �
 lowered : Site → Place → Place
 lowered x place = record place { at = place.at - x.base }
 
-pub of_guest_call : (x : Site) (c : Call) → IsLawful User x.base x.size c → OfGuest x c
+pub of_guest_call : (x : Site) (c : Call) → IsAttemptCall User x.base x.size c → OfGuest x c
 unfolding lowered
 of_guest_call x (Fetch of at) l = (Fetch x.space at, refl, ap (λ (s : Space). Fetch s at) (sym l.0))
 of_guest_call x (Read of p) l = (Read x.space p, refl, ap (λ (s : Space). Read s p) (sym l.0))
@@ -68,7 +68,7 @@ stays_serving x c b (g, r) l =
     let (d, there, e) = of_guest_call x c l in (
       (held_bus d g).1,
       subst (λ (c : Call). Related x (board_bus c b).1 (held_bus d g).1) e
-          (mirrors_calls x d b g r there (subst (λ (c : Call). IsLawful User x.base x.size c) (sym e) l)).1,
+          (mirrors_calls x d b g r there (subst (λ (c : Call). IsAttemptCall User x.base x.size c) (sym e) l)).1,
     )
 
 -- ---- what is answered

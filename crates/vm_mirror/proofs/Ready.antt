@@ -15,7 +15,7 @@ use Rattle.vm_shadow.specs.declared.table.Table.{Table}
 use Rattle.vm_shadow.specs.declared.table.Table.TheVariants.{Pointers, Pages}
 use Rattle.vm_meaning.specs.Free.{IsKept}
 use Rattle.vm_meaning.proofs.KeptLemmas.{none-kept}
-use Rattle.vm_shadow.specs.Shadows.{Shadowed, Entries, is_at, nothing, filled, dropped, room_for, has_entry, is_needed}
+use Rattle.vm_shadow.specs.Shadows.{Shadowed, EntryMap, is_at, nothing, with_page_put, dropped, room_for, has_entry, is_needed}
 use Rattle.vm_shadow.specs.Slots.{tables_for, is_full_for}
 use Rattle.vm_shadow.specs.Mapped.{root_of}
 use Rattle.vm_shadow.specs.declared.area.TheConstants.{AREA_BYTES}
@@ -91,7 +91,7 @@ moved_if : (base : ℕ) (b : Bool) (o q : Option (ℕ × Bool)) → board_entry 
 moved_if base true o q = refl
 moved_if base false o q = refl
 
-two_ext : (f h : Entries) → ((space : Space) (page : ℕ) → f space page ≡ h space page) → f ≡ h
+two_ext : (f h : EntryMap) → ((space : Space) (page : ℕ) → f space page ≡ h space page) → f ≡ h
 two_ext f h e = fun_ext (λ space. fun_ext (λ page. e space page))
 
 room_moved : (base : ℕ) (full : Bool) (shadow : Shadowed) (of : Space) (number : ℕ)
@@ -105,14 +105,14 @@ room_tables base false shadow = refl
 
 same_shadow : (f h : Shadowed) → ((space : Space) (page : ℕ) → f.entries space page ≡ h.entries space page) → f.tables ≡ h.tables → f ≡ h
 same_shadow f h e t =
-    ap (λ (n : Entries). (let a : Shadowed = record { entries = n; tables = f.tables } in a)) (two_ext f.entries h.entries e)
+    ap (λ (n : EntryMap). (let a : Shadowed = record { entries = n; tables = f.tables } in a)) (two_ext f.entries h.entries e)
     ∙ ap (λ (n : List Table). (let a : Shadowed = record { entries = h.entries; tables = n } in a)) t
 
 some_moved : (base : ℕ) (o : Option (ℕ × Bool)) → is_some (board_entry base o) ≡ is_some o
 some_moved base None = refl
 some_moved base (Some (frame, writable)) = refl
 
-has_moved : (base : ℕ) (f : Entries) (space : Space) (first n : ℕ)
+has_moved : (base : ℕ) (f : EntryMap) (space : Space) (first n : ℕ)
     → has_entry (λ space page. board_entry base (f space page)) space first n ≡ has_entry f space first n
 unfolding has_entry
 has_moved base f space first zero = refl
@@ -121,7 +121,7 @@ has_moved base f space first (suc n) =
     ∙ ap (λ (b : Bool). is_some (f space (first + n)) || b) (has_moved base f space first n)
 
 -- the board's entries need the tables that the guest's need
-needed_moved : (base : ℕ) (f : Entries) (table : Table) → is_needed (λ space page. board_entry base (f space page)) table ≡ is_needed f table
+needed_moved : (base : ℕ) (f : EntryMap) (table : Table) → is_needed (λ space page. board_entry base (f space page)) table ≡ is_needed f table
 needed_moved base f (Pointers space index) = has_moved base f space (2 ^ 13 * index) (2 ^ 13)
 needed_moved base f (Pages space index) = has_moved base f space (2 ^ 6 * index) (2 ^ 6)
 
@@ -133,14 +133,15 @@ board_drops base space page shadow =
     let both : (on_board base (dropped space page shadow)).entries ≡ (dropped space page (on_board base shadow)).entries =
     two_ext (on_board base (dropped space page shadow)).entries (dropped space page (on_board base shadow)).entries same in
     let needs : is_needed (dropped space page shadow).entries ≡ is_needed (dropped space page (on_board base shadow)).entries =
-    fun_ext (λ table. sym (needed_moved base (dropped space page shadow).entries table) ∙ ap (λ (f : Entries). is_needed f table) both) in
+    fun_ext (λ table. sym (needed_moved base (dropped space page shadow).entries table) ∙ ap (λ (f : EntryMap). is_needed f table) both) in
     same_shadow (on_board base (dropped space page shadow)) (dropped space page (on_board base shadow)) same
     (ap (λ (needed : Table → Bool). filter needed shadow.tables) needs)
 
 board_fills : (base : ℕ) (space : Space) (page frame : ℕ) (writable : Bool) (shadow : Shadowed)
-    → on_board base (filled space page frame writable shadow) ≡ filled space page (base / 4096 + frame) writable (on_board base shadow)
+    → on_board base (with_page_put space page frame writable shadow) ≡ with_page_put space page (base / 4096 + frame) writable (on_board base shadow)
 board_fills base space page frame writable shadow =
-    same_shadow (on_board base (filled space page frame writable shadow)) (filled space page (base / 4096 + frame) writable (on_board base shadow))
+    same_shadow (on_board base (with_page_put space page frame writable shadow))
+        (with_page_put space page (base / 4096 + frame) writable (on_board base shadow))
     (λ of number.
     moved_if base (is_at space page of number) (Some (frame, writable)) ((room_for space page shadow).entries of number)
     ∙ ap (cond (is_at space page of number) (Some (base / 4096 + frame, writable))) (room_moved base (is_full_for space page shadow.tables) shadow of number))

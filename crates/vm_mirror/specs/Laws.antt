@@ -8,7 +8,7 @@ use Rattle.mb_model.specs.Keeping.{rule_a}
 use Rattle.mb_machine.specs.World.{World}
 use Rattle.mb_machine.specs.Bus.{bus_of}
 use Rattle.vm_machine.specs.Guests.{Guest}
-use Rattle.vm_held.specs.Lawful.{IsLawful}
+use Rattle.vm_held.specs.Lawful.{IsAttemptCall}
 use Rattle.vm_machine.specs.Held.{held_bus}
 use Rattle.vm_mirror.specs.Related.{Site, setting, Related, Serves}
 
@@ -16,7 +16,7 @@ abbrev pub board_bus : Bus World
 board_bus = bus_of rule_a
 
 abbrev pub lawful : Site → Call → World → Type 0
-lawful x c b = IsLawful User x.base x.size c
+lawful x c b = IsAttemptCall User x.base x.size c
 
 -- One call: the board answers as the held guest, and both states are related again.
 abbrev pub MirrorsCalls : Type 0

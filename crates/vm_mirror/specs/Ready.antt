@@ -7,7 +7,7 @@ use Rattle.mb_model.specs.Keeping.{rule_a, nothing_kept}
 use Rattle.mb_walk.specs.Memory.{AreBytes, part}
 use Rattle.mb_machine.specs.World.{World}
 use Rattle.mb_machine.specs.Access.{untranslated, translated}
-use Rattle.vm_shadow.specs.Shadows.{Shadowed, nothing, filled, dropped}
+use Rattle.vm_shadow.specs.Shadows.{Shadowed, nothing, with_page_put, dropped}
 use Rattle.vm_shadow.specs.Mapped.{root_of, shadowed}
 use Rattle.vm_shadow.specs.declared.area.TheConstants.{AREA_BYTES}
 use Rattle.vm_shadow.specs.Area.{Maps}
@@ -58,7 +58,7 @@ StaysReady = (x : Site) (b after : World) (g : Guest) → Related x b g → AreB
 pub record OnBoard : Type 0 where
   pub empty : (base : ℕ) → on_board base nothing ≡ nothing
   pub fills : (base : ℕ) (space : Space) (page frame : ℕ) (writable : Bool) (shadow : Shadowed)
-      → on_board base (filled space page frame writable shadow)
-      ≡ filled space page (base / PAGE_SIZE + frame) writable (on_board base shadow)
+      → on_board base (with_page_put space page frame writable shadow)
+      ≡ with_page_put space page (base / PAGE_SIZE + frame) writable (on_board base shadow)
   pub drops : (base : ℕ) (space : Space) (page : ℕ) (shadow : Shadowed)
       → on_board base (dropped space page shadow) ≡ dropped space page (on_board base shadow)

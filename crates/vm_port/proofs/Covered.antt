@@ -9,7 +9,7 @@ use Rattle.mb_model.specs.Keeping.{covers}
 use Rattle.mb_model.specs.Pages.{page_of}
 use Rattle.mb_machine.specs.World.{World}
 use Rattle.mb_machine.specs.declared.reference.Reference.{Reference}
-use Rattle.vm_shadow.specs.Shadows.{Shadowed, filled, dropped}
+use Rattle.vm_shadow.specs.Shadows.{Shadowed, with_page_put, dropped}
 use Rattle.vm_machine.specs.Guests.{allows}
 use Rattle.vm_machine.specs.Bus.{dropped_all, is_in_ram, is_split, is_writable, put_entry_of}
 
@@ -41,12 +41,12 @@ so_put here split allowed h s a = rw (h, s, a) refl
 -- an access that puts an entry, as the code finds it
 pub put_is : (w : World) (r : Reference) (shadow : Shadowed) (place : Option ℕ) (at : ℕ) → place ≡ Some at → is_in_ram (length w.ram) at ≡ true
     → is_split w.mmu r.space (page_of r.at) ≡ false → allows shadow r ≡ false → {page frame : ℕ} → {writable : Bool} → page ≡ page_of r.at → frame ≡ page_of at
-    → writable ≡ is_writable w r.space (page_of r.at) → put_entry_of w r shadow place ≡ filled r.space page frame writable shadow
+    → writable ≡ is_writable w r.space (page_of r.at) → put_entry_of w r shadow place ≡ with_page_put r.space page frame writable shadow
 put_is w r shadow place at is here whole new {page = page} {frame = frame} p f b =
-    let new_one = filled r.space (page_of r.at) (page_of at) (is_writable w r.space (page_of r.at)) shadow in
+    let new_one = with_page_put r.space (page_of r.at) (page_of at) (is_writable w r.space (page_of r.at)) shadow in
     ap (put_entry_of w r shadow) is
     ∙ ap (λ (so : Bool). if so then new_one else shadow)
     (so_put (is_in_ram (length w.ram) at) (is_split w.mmu r.space (page_of r.at)) (allows shadow r) here whole new)
-    ∙ ap (λ (n : ℕ). filled r.space n (page_of at) (is_writable w r.space (page_of r.at)) shadow) (sym p)
-    ∙ ap (λ (n : ℕ). filled r.space page n (is_writable w r.space (page_of r.at)) shadow) (sym f)
-    ∙ ap (λ (w : Bool). filled r.space page frame w shadow) (sym b)
+    ∙ ap (λ (n : ℕ). with_page_put r.space n (page_of at) (is_writable w r.space (page_of r.at)) shadow) (sym p)
+    ∙ ap (λ (n : ℕ). with_page_put r.space page n (is_writable w r.space (page_of r.at)) shadow) (sym f)
+    ∙ ap (λ (w : Bool). with_page_put r.space page frame w shadow) (sym b)

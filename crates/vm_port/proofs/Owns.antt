@@ -6,7 +6,7 @@ use Rattle.mb_port.specs.declared.types.Space.{Space}
 use Rattle.vm_shadow.specs.declared.table.Table.{Table}
 use Rattle.vm_shadow.specs.declared.table.Table.TheVariants.{Pointers, Pages}
 use Rattle.vm_shadow.specs.Slots.{is_full_for, tables_for}
-use Rattle.vm_shadow.specs.Shadows.{Shadowed, Entries, nothing, is_at, room_for, filled, dropped, has_entry, is_needed}
+use Rattle.vm_shadow.specs.Shadows.{Shadowed, EntryMap, nothing, is_at, room_for, with_page_put, dropped, has_entry, is_needed}
 use Rattle.vm_machine.specs.Seats.{board_entry, on_board, own, own_entry}
 use Rattle.vm_machine.specs.Guests.{allows, lets}
 use Rattle.mb_machine.specs.declared.reference.Reference.{Reference}
@@ -22,12 +22,12 @@ Keeps f = (e : Option (ℕ × Bool)) → is_some (f e) ≡ is_some e
 abbrev each : (Option (ℕ × Bool) → Option (ℕ × Bool)) → Shadowed → Shadowed
 each f shadow = record { entries = λ space page. f (shadow.entries space page); tables = shadow.tables }
 
-two_ext : (f h : Entries) → ((space : Space) (page : ℕ) → f space page ≡ h space page) → f ≡ h
+two_ext : (f h : EntryMap) → ((space : Space) (page : ℕ) → f space page ≡ h space page) → f ≡ h
 two_ext f h e = fun_ext (λ space. fun_ext (λ page. e space page))
 
 same_shadow : (s t : Shadowed) → s.entries ≡ t.entries → s.tables ≡ t.tables → s ≡ t
 same_shadow s t e h =
-    ap (λ (n : Entries). (let a : Shadowed = record { entries = n; tables = s.tables } in a)) e
+    ap (λ (n : EntryMap). (let a : Shadowed = record { entries = n; tables = s.tables } in a)) e
     ∙ ap (λ (n : List Table). (let a : Shadowed = record { entries = t.entries; tables = n } in a)) h
 
 of_if : (f : Option (ℕ × Bool) → Option (ℕ × Bool)) (b : Bool) (e other : Option (ℕ × Bool)) → f (cond b e other) ≡ cond b (f e) (f other)
@@ -42,7 +42,7 @@ module _ (f : Option (ℕ × Bool) → Option (ℕ × Bool)) (keeps : Keeps f) w
       is_none None h = refl
       is_none (Some e) h = absurd (let z : ⊥ = cc in z)
 
-  has_same : (entries : Entries) (space : Space) (first n : ℕ)
+  has_same : (entries : EntryMap) (space : Space) (first n : ℕ)
       → has_entry (λ space page. f (entries space page)) space first n ≡ has_entry entries space first n
   unfolding has_entry
   has_same entries space first zero = refl
@@ -50,7 +50,7 @@ module _ (f : Option (ℕ × Bool) → Option (ℕ × Bool)) (keeps : Keeps f) w
       ap (λ (b : Bool). b || has_entry (λ space page. f (entries space page)) space first n) (keeps (entries space (first + n)))
       ∙ ap (λ (b : Bool). is_some (entries space (first + n)) || b) (has_same entries space first n)
 
-  needed_same : (entries : Entries) (table : Table) → is_needed (λ space page. f (entries space page)) table ≡ is_needed entries table
+  needed_same : (entries : EntryMap) (table : Table) → is_needed (λ space page. f (entries space page)) table ≡ is_needed entries table
   needed_same entries (Pointers space index) = has_same entries space (2 ^ 13 * index) (2 ^ 13)
   needed_same entries (Pages space index) = has_same entries space (2 ^ 6 * index) (2 ^ 6)
 
@@ -59,23 +59,23 @@ module _ (f : Option (ℕ × Bool) → Option (ℕ × Bool)) (keeps : Keeps f) w
 
   pub each_dropped : (space : Space) (page : ℕ) (shadow : Shadowed) → each f (dropped space page shadow) ≡ dropped space page (each f shadow)
   each_dropped space page shadow =
-      let without : Entries = λ of number. cond (is_at space page of number) None (shadow.entries of number) in
+      let without : EntryMap = λ of number. cond (is_at space page of number) None (shadow.entries of number) in
       let entries : (λ (of : Space) (number : ℕ). f (without of number)) ≡ (dropped space page (each f shadow)).entries =
       two_ext _ _ (λ of number. of_if f (is_at space page of number) None (shadow.entries of number)
       ∙ ap (λ (e : Option (ℕ × Bool)). cond (is_at space page of number) e (f (shadow.entries of number))) none) in
       same_shadow (each f (dropped space page shadow)) (dropped space page (each f shadow)) entries
       (ap (λ (n : Table → Bool). filter n shadow.tables)
-      (fun_ext (λ table. sym (needed_same without table) ∙ ap (λ (n : Entries). is_needed n table) entries)))
+      (fun_ext (λ table. sym (needed_same without table) ∙ ap (λ (n : EntryMap). is_needed n table) entries)))
 
   room_same : (full : Bool) (shadow : Shadowed) → each f (cond full nothing shadow) ≡ cond full nothing (each f shadow)
   room_same true shadow = each_nothing
   room_same false shadow = refl
 
   pub each_filled : (space : Space) (page frame own_frame : ℕ) (writable : Bool) (shadow : Shadowed) → f (Some (frame, writable)) ≡ Some (own_frame, writable)
-      → each f (filled space page frame writable shadow) ≡ filled space page own_frame writable (each f shadow)
+      → each f (with_page_put space page frame writable shadow) ≡ with_page_put space page own_frame writable (each f shadow)
   each_filled space page frame own_frame writable shadow e =
       let room = room_same (is_full_for space page shadow.tables) shadow in
-      same_shadow (each f (filled space page frame writable shadow)) (filled space page own_frame writable (each f shadow))
+      same_shadow (each f (with_page_put space page frame writable shadow)) (with_page_put space page own_frame writable (each f shadow))
       (two_ext _ _ (λ of number.
       of_if f (is_at space page of number) (Some (frame, writable)) ((room_for space page shadow).entries of number)
       ∙ ap (λ (o : Option (ℕ × Bool)). cond (is_at space page of number) o (f ((room_for space page shadow).entries of number))) e
@@ -99,7 +99,7 @@ pub own_nothing : (base : ℕ) → own base nothing ≡ nothing
 own_nothing base = each_nothing (own_entry base) (own_keeps base)
 
 pub own_filled : (base : ℕ) (shadow : Shadowed) (space : Space) (page frame : ℕ) (writable : Bool)
-    → own base (filled space page (page_of base + frame) writable shadow) ≡ filled space page frame writable (own base shadow)
+    → own base (with_page_put space page (page_of base + frame) writable shadow) ≡ with_page_put space page frame writable (own base shadow)
 own_filled base shadow space page frame writable =
     each_filled (own_entry base) (own_keeps base) space page (page_of base + frame) frame writable shadow (own_frame base frame writable)
 
@@ -124,10 +124,10 @@ pub placed_nothing : (base : ℕ) → IsPlaced base nothing
 placed_nothing base = placed_by base nothing nothing (sym (each_nothing (board_entry base) (moved_keeps base)))
 
 pub placed_filled : (base : ℕ) (shadow : Shadowed) (space : Space) (page frame : ℕ) (writable : Bool) → IsPlaced base shadow
-    → IsPlaced base (filled space page (page_of base + frame) writable shadow)
+    → IsPlaced base (with_page_put space page (page_of base + frame) writable shadow)
 placed_filled base shadow space page frame writable e =
-    placed_by base (filled space page (page_of base + frame) writable shadow) (filled space page frame writable (own base shadow))
-    (ap (filled space page (page_of base + frame) writable) e
+    placed_by base (with_page_put space page (page_of base + frame) writable shadow) (with_page_put space page frame writable (own base shadow))
+    (ap (with_page_put space page (page_of base + frame) writable) e
     ∙ sym (each_filled (board_entry base) (moved_keeps base) space page frame (page_of base + frame) writable (own base shadow) refl))
 
 pub placed_dropped : (base : ℕ) (shadow : Shadowed) (space : Space) (page : ℕ) → IsPlaced base shadow → IsPlaced base (dropped space page shadow)

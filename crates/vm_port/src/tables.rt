@@ -3,7 +3,7 @@
 ghost use Rattle.std.specs.Prelude.{◌≡◌, ◌+◌, ◌*◌, ◌≤◌, ◌<◌, ◌^◌};
 ghost use Rattle.mb_model.specs.Keeping.{rule_k, displaced, filled as kept_after, NamesPages};
 ghost use Rattle.mb_model.specs.declared.pages.TheConstants.{PAGE_SIZE};
-ghost use Rattle.vm_shadow.specs.Shadows.{nothing, filled, dropped};
+ghost use Rattle.vm_shadow.specs.Shadows.{nothing, with_page_put, dropped};
 ghost use Rattle.vm_machine.specs.Guests.{allows};
 ghost use Rattle.vm_machine.specs.Bus.{without_kept};
 
@@ -31,7 +31,7 @@ impl<R: Ram> GuestPort<'_, R> {
     pub(crate) fn put_page(&mut self, space: Space, page: u32, frame: u32, writable: bool)
         requires page { page < 2 ^ 20 }
         requires frame { PAGE_SIZE * frame + PAGE_SIZE ≤ self.old.size }
-        ensures shadow { tables_of self.new ≡ filled space page frame writable (tables_of self.old) }
+        ensures shadow { tables_of self.new ≡ with_page_put space page frame writable (tables_of self.old) }
         ensures world { world_of self.new ≡ world_of self.old }
         ensures beyond { beyond_of self.new ≡ beyond_of self.old }
     {

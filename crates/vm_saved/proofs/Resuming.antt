@@ -11,7 +11,7 @@ use Rattle.vm_machine.proofs.TurnLaws.{halted_turn, nothing_turned}
 use Rattle.vm_saved.specs.Saved.{CanBeSaved, as_told, machine_of, saved_of}
 use Rattle.vm_saved.specs.Begins.{beginning, tally_from}
 use Rattle.vm_saved.specs.Cuts.{above}
-use Rattle.vm_saved.specs.Resumes.{bound_after, most_steps, resumed, GoesOn, ResumedRunsGoOn, SavedRunsGoOn, StartedRunsGoOn}
+use Rattle.vm_saved.specs.Resumes.{bound_after, most_steps, resumed, AddsUp, ResumedRunsGoOn, SavedRunsGoOn, StartedRunsGoOn}
 use Rattle.vm_saved.proofs.Runs.{halted_run, nothing_run, runs_add}
 use Rattle.vm_saved.proofs.Cut.{cut_runs, cut_turns}
 use Rattle.vm_saved.proofs.GivenBack.{saved_is_given_back, going_is_given_back}
@@ -36,7 +36,7 @@ abbrev on_by : Entries → ℕ → Machine → Machine
 on_by script n m = run_of rule_k script n m
 
 goes_on_going : (script : Entries) (m n : ℕ) (first : Machine) → let at = run_of rule_k script m first in
-    CanBeSaved at → at.steps ≤ most_steps → takes_steps at.state ≡ true → GoesOn script m n first
+    CanBeSaved at → at.steps ≤ most_steps → takes_steps at.state ≡ true → AddsUp script m n first
 goes_on_going script m n first c few going =
     let at = run_of rule_k script m first in
     let cut = above at.steps script in
@@ -63,7 +63,7 @@ goes_on_going script m n first c few going =
     }
 
 goes_on_still : (script : Entries) (m n : ℕ) (first : Machine) → let at = run_of rule_k script m first in
-    CanBeSaved at → takes_steps at.state ≡ false → GoesOn script m n first
+    CanBeSaved at → takes_steps at.state ≡ false → AddsUp script m n first
 goes_on_still script m n first c still =
     let at = run_of rule_k script m first in
     let cut = above at.steps script in

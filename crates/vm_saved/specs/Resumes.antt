@@ -37,7 +37,7 @@ resumed script more m =
 -- From the first machine m steps are taken, and what comes of that is saved: its text and its disk, after n steps
 -- more, are those of m + n steps, n being cut where the count ends; the counts are those of these n steps, from what
 -- was saved and with an empty shadow.
-pub record GoesOn (script : Entries) (m n : ℕ) (first : Machine) : Type 0 where
+pub record AddsUp (script : Entries) (m n : ℕ) (first : Machine) : Type 0 where
   pub text : (number : ℕ) → let at = run_of rule_k script m first in
       let member = resumed script n at in
       outcome_text number (seen_machine (run_of rule_k member.script (left member) member.guest.machine))
@@ -57,16 +57,16 @@ pub record GoesOn (script : Entries) (m n : ℕ) (first : Machine) : Type 0 wher
 abbrev pub ResumedRunsGoOn : Type 0
 ResumedRunsGoOn = (script : Entries) (m n : ℕ) (first : Machine)
     → CanBeSaved (run_of rule_k script m first) → (run_of rule_k script m first).steps ≤ most_steps
-    → GoesOn script m n first
+    → AddsUp script m n first
 
 -- That holds of a guest's run from its start,
 abbrev pub StartedRunsGoOn : Type 0
 StartedRunsGoOn = (opening : Opening) (size : ℕ) (script : Entries) (m n : ℕ)
     → size % 16 ≡ 0 → All (LiesBelow size) opening.image → let first = start rule_k opening size in
-    (run_of rule_k script m first).steps ≤ most_steps → GoesOn script m n first
+    (run_of rule_k script m first).steps ≤ most_steps → AddsUp script m n first
 
 -- and from a lawful machine that was saved.
 abbrev pub SavedRunsGoOn : Type 0
 SavedRunsGoOn = (disk : Option DiskState) (s : Saved) (script : Entries) (m n : ℕ)
     → IsLawful s → let first = machine_of disk s in
-    (run_of rule_k script m first).steps ≤ most_steps → GoesOn script m n first
+    (run_of rule_k script m first).steps ≤ most_steps → AddsUp script m n first

@@ -7,7 +7,7 @@ use Rattle.mb_walk.proofs.LongLemmas.{same_from}
 use Rattle.vm_shadow.specs.declared.table.Table.{Table}
 use Rattle.vm_shadow.specs.declared.table.Table.TheVariants.{Pointers, Pages}
 use Rattle.vm_shadow.specs.Slots.{placed, number_of, pages_of}
-use Rattle.vm_shadow.specs.Shadows.{Entries}
+use Rattle.vm_shadow.specs.Shadows.{EntryMap}
 use Rattle.vm_shadow.specs.Area.{longs, in_root, in_slot, entry_of, IsPageLong, AreTables, Maps}
 use Rattle.vm_shadow.specs.Laws.{TablesAreOfTheArea, TablesStand}
 use Rattle.vm_shadow.proofs.Changes.{root_low, held, held_yes, held_no}
@@ -75,7 +75,7 @@ tables_are_of_the_area s ram after m room e =
       full = λ a has. used_stays t u (p.slot a) (p.slot a) (λ i k. stay (p.slot a) i (m.tables.inside a has) k) (m.full a has);
     } in (
       maps,
-      ap (λ (f : Entries). record { entries = f; tables = s.tables }) (
+      ap (λ (f : EntryMap). record { entries = f; tables = s.tables }) (
           entries_stay p p ram after (laid p ram m) (laid p after maps) refl (held_stays s.area s.tables p.slot t u m.tables same)
           ),
     )

@@ -7,7 +7,7 @@ use Rattle.mb_model.specs.declared.pages.TheConstants.{PAGE_SIZE}
 use Rattle.mb_port.specs.declared.types.Space.{Space}
 use Rattle.vm_shadow.specs.declared.table.Table.{Table}
 use Rattle.vm_shadow.specs.Slots.{number_of, with_table, pointers_of, pages_of}
-use Rattle.vm_shadow.specs.Shadows.{Entries, Shadowed, with_entry, with_page, with_tables, room_for, filled}
+use Rattle.vm_shadow.specs.Shadows.{EntryMap, Shadowed, with_entry, with_page, with_tables, room_for, with_page_put}
 use Rattle.vm_shadow.specs.Area.{page_long}
 use Rattle.vm_shadow.proofs.Positions.{pushed_length}
 use Rattle.vm_shadow.proofs.Maps.{with_old, with_new}
@@ -22,17 +22,17 @@ pub long_some : (frame : ℕ) (writable : Bool) → page_long frame writable ≢
 long_some frame true = λ e. let f : PAGE_SIZE * frame + 25 ≡ 0 = e in absurd (omega (arith, f))
 long_some frame false = λ e. let f : PAGE_SIZE * frame + 29 ≡ 0 = e in absurd (omega (arith, f))
 
-abbrev pub shadow_of : Entries → List Table → Shadowed
+abbrev pub shadow_of : EntryMap → List Table → Shadowed
 shadow_of entries tables = record { entries = entries; tables = tables }
 
 -- entries and tables, step by step
-pub shadow_filled : (space : Space) (page frame : ℕ) (writable : Bool) (old : Shadowed) (e0 e1 e2 e3 : Entries) (t0 t1 t2 t3 : List Table)
+pub shadow_filled : (space : Space) (page frame : ℕ) (writable : Bool) (old : Shadowed) (e0 e1 e2 e3 : EntryMap) (t0 t1 t2 t3 : List Table)
     → shadow_of e0 t0 ≡ room_for space page old
     → e1 ≡ e0 → t1 ≡ with_table (pointers_of space page) t0 → e2 ≡ e1 → t2 ≡ with_table (pages_of space page) t1
     → e3 ≡ with_entry space page (Some (frame, writable)) e2 → t3 ≡ t2
-    → shadow_of e3 t3 ≡ filled space page frame writable old
+    → shadow_of e3 t3 ≡ with_page_put space page frame writable old
 shadow_filled space page frame writable old e0 e1 e2 e3 t0 t1 t2 t3 room p1 q1 p2 q2 p3 q3 =
-    ap (λ (f : Entries). shadow_of f t3)
+    ap (λ (f : EntryMap). shadow_of f t3)
     (p3 ∙ ap (with_entry space page (Some (frame, writable))) (p2 ∙ p1))
     ∙ ap (shadow_of (with_entry space page (Some (frame, writable)) e0))
     (q3 ∙ q2 ∙ ap (with_table (pages_of space page)) q1)

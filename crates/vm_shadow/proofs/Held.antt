@@ -10,7 +10,7 @@ use Rattle.mb_port.specs.declared.types.Space.TheVariants.{User, Super}
 use Rattle.vm_shadow.specs.declared.table.Table.{Table}
 use Rattle.vm_shadow.specs.declared.table.Table.TheVariants.{Pages}
 use Rattle.vm_shadow.specs.Slots.{Placed, number_of, pages_of, Has}
-use Rattle.vm_shadow.specs.Shadows.{Entries, is_at, with_entry}
+use Rattle.vm_shadow.specs.Shadows.{EntryMap, is_at, with_entry}
 use Rattle.vm_shadow.specs.Mapped.{mapped, root_of, entries_in}
 use Rattle.vm_shadow.specs.Area.{longs, updated, in_root, in_slot, entry_of, AreTables, Laid}
 use Rattle.vm_shadow.proofs.Longs.{updated_same, updated_other}
@@ -72,11 +72,11 @@ entries_stay s s' ram ram' m m' a same = fun_ext (λ space. fun_ext (λ page.
     ∙ sym (entries_held s ram m space page)))
 
 -- ---- an entry of a slot is written
-pub is_yes : (space : Space) (page : ℕ) (of : Space) (number : ℕ) (e : Option (ℕ × Bool)) (entries : Entries)
+pub is_yes : (space : Space) (page : ℕ) (of : Space) (number : ℕ) (e : Option (ℕ × Bool)) (entries : EntryMap)
     → is_at space page of number ≡ true → with_entry space page e entries of number ≡ e
 is_yes space page of number e entries h = ap (λ (b : Bool). cond b e (entries of number)) h
 
-pub is_no : (space : Space) (page : ℕ) (of : Space) (number : ℕ) (e : Option (ℕ × Bool)) (entries : Entries)
+pub is_no : (space : Space) (page : ℕ) (of : Space) (number : ℕ) (e : Option (ℕ × Bool)) (entries : EntryMap)
     → is_at space page of number ≡ false → with_entry space page e entries of number ≡ entries of number
 is_no space page of number e entries h = ap (λ (b : Bool). cond b e (entries of number)) h
 

@@ -7,7 +7,7 @@ use Rattle.std.proofs.lemmas.Bool.Decides.{nat_tests}
 use Rattle.mb_port.specs.declared.types.Space.{Space}
 use Rattle.mb_port.specs.declared.types.Space.TheVariants.{User, Super}
 use Rattle.vm_shadow.specs.Slots.{placed, is_full_for}
-use Rattle.vm_shadow.specs.Shadows.{Entries, Shadowed, is_at, with_entry, nothing, room_for}
+use Rattle.vm_shadow.specs.Shadows.{EntryMap, Shadowed, is_at, with_entry, nothing, room_for}
 use Rattle.vm_shadow.specs.Mapped.{shadowed}
 use Rattle.vm_shadow.specs.Listed.{ShadowEntry, listed, AtMostOne, Lists, fronted, list_below, unlisted, relisted}
 use Rattle.vm_shadow.specs.Listed.{EntriesAreListed, NothingIsListed, FillsAreListed, DropsAreListed}
@@ -71,7 +71,7 @@ unlisted_apart space page (e ∷ list) a = elim (cases_Bool (is_at space page e.
       (unlisted_other space page e.space e.page h list ∙ a.0, unlisted_apart space page list a.1)
 ]
 
-dropped_listed : (list : List ShadowEntry) (entries : Entries) (space : Space) (page : ℕ) → Lists list entries
+dropped_listed : (list : List ShadowEntry) (entries : EntryMap) (space : Space) (page : ℕ) → Lists list entries
     → Lists (unlisted space page list) (with_entry space page None entries)
 dropped_listed list entries space page l = record {
   apart = unlisted_apart space page list l.apart;
@@ -84,7 +84,7 @@ dropped_listed list entries space page l = record {
   ];
 }
 
-put_listed : (list : List ShadowEntry) (entries : Entries) (e : ShadowEntry) → Lists list entries
+put_listed : (list : List ShadowEntry) (entries : EntryMap) (e : ShadowEntry) → Lists list entries
     → Lists (relisted e list) (with_entry e.space e.page (Some (e.frame, e.writable)) entries)
 put_listed list entries e l =
     let rest = unlisted e.space e.page list in
@@ -138,7 +138,7 @@ fronted_apart : (space : Space) (page : ℕ) (o : Option (ℕ × Bool)) (list : 
 fronted_apart space page None list h a = a
 fronted_apart space page (Some (frame, writable)) list h a = (h, a)
 
-module _ (entries : Entries) where
+module _ (entries : EntryMap) where
   below_more : (n : ℕ) → list_below (suc n) entries ≡ fronted User n (entries User n) (fronted Super n (entries Super n) (list_below n entries))
   unfolding list_below
   below_more n = refl

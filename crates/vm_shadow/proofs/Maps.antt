@@ -8,7 +8,7 @@ use Rattle.mb_port.specs.declared.types.Space.{Space}
 use Rattle.vm_shadow.specs.declared.table.Table.{Table}
 use Rattle.vm_shadow.specs.declared.table.Table.TheVariants.{Pointers, Pages}
 use Rattle.vm_shadow.specs.Slots.{Placed, number_of, with_table, pages_of, Has}
-use Rattle.vm_shadow.specs.Shadows.{Entries, Shadowed, with_entry, nothing}
+use Rattle.vm_shadow.specs.Shadows.{EntryMap, Shadowed, with_entry, nothing}
 use Rattle.vm_shadow.specs.Mapped.{entries_in}
 use Rattle.vm_shadow.specs.Area.{longs, updated, in_root, in_slot, link, entry_of, one, used, IsPageLong, IsUsed}
 use Rattle.vm_shadow.specs.Area.{Counted, Laid, MapsPlaced, UsedBut, Pushed, Removed}
@@ -398,7 +398,7 @@ held_by s ram = record { entries = entries_in ram s.area; tables = s.tables }
 
 pub shadow_empty : (s : Placed) (ram : List ℕ) → Laid s ram → s.tables ≡ [] → held_by s ram ≡ nothing
 shadow_empty s ram m e =
-    ap (λ (f : Entries). let r : Shadowed = record { entries = f; tables = s.tables } in r) (entries_empty s ram m e)
+    ap (λ (f : EntryMap). let r : Shadowed = record { entries = f; tables = s.tables } in r) (entries_empty s ram m e)
     ∙ ap (λ (tables : List Table). let r : Shadowed = record { entries = λ space page. None; tables = tables } in r) e
 
 pub maps_empty : (s s' : Placed) (ram : List ℕ) → s.area % 65536 ≡ 0 → s.area + 65536 ≤ length ram → s'.area ≡ s.area → s'.tables ≡ []

@@ -7,7 +7,7 @@ use Rattle.mb_port.specs.declared.types.Space.{Space}
 use Rattle.vm_shadow.specs.declared.table.Table.{Table}
 use Rattle.vm_shadow.specs.declared.table.Table.TheVariants.{Pointers, Pages}
 use Rattle.vm_shadow.specs.Slots.{Placed, placed, number_of, pages_of, pointers_of, Has}
-use Rattle.vm_shadow.specs.Shadows.{Entries, Shadowed, has_entry, is_needed, with_entry, dropped, Needs}
+use Rattle.vm_shadow.specs.Shadows.{EntryMap, Shadowed, has_entry, is_needed, with_entry, dropped, Needs}
 use Rattle.vm_shadow.specs.Mapped.{entries_in}
 use Rattle.vm_shadow.specs.Area.{longs, in_slot, entry_of, IsTable, MapsPlaced, OnlyGo}
 use Rattle.vm_shadow.specs.Laws.{TablesAreNeeded}
@@ -21,7 +21,7 @@ use Rattle.vm_shadow.proofs.Held.{find_is, entries_past}
 use Rattle.vm_shadow.proofs.Maps.{laid, held_by}
 
 -- ---- entries among pages
-pub entry_among : (entries : Entries) (space : Space) (first n k : ℕ) → k < n → is_some (entries space (first + k)) ≡ true
+pub entry_among : (entries : EntryMap) (space : Space) (first n k : ℕ) → k < n → is_some (entries space (first + k)) ≡ true
     → has_entry entries space first n ≡ true
 unfolding has_entry
 entry_among entries space first zero k h e = absurd (omega (arith, h))
@@ -34,7 +34,7 @@ entry_among entries space first (suc n) k h e = elim (cases_lt k n) [
     or_true true = refl
     or_true false = refl
 
-pub none_among : (entries : Entries) (space : Space) (first n : ℕ) → ((k : ℕ) → k < n → entries space (first + k) ≡ None)
+pub none_among : (entries : EntryMap) (space : Space) (first n : ℕ) → ((k : ℕ) → k < n → entries space (first + k) ≡ None)
     → has_entry entries space first n ≡ false
 unfolding has_entry
 none_among entries space first zero z = refl
@@ -51,7 +51,7 @@ module _ (s : Placed) (ram : List ℕ) (m : MapsPlaced s ram) where
   abbrev t : ℕ → ℕ
   t = longs ram s.area
 
-  abbrev entries : Entries
+  abbrev entries : EntryMap
   entries = entries_in ram s.area
 
   -- the entry of a page
@@ -188,4 +188,4 @@ shadow_dropped s s' ram ram' space page m m' go e =
     let kept : s'.tables ≡ filter (is_needed e') s.tables =
     gone_is s.tables s'.tables go (is_needed e') (λ a h. needed_is s' ram' m' a (m.tables.named a h)) in
     ap (λ (ts : List Table). let r : Shadowed = record { entries = e'; tables = ts } in r) kept
-    ∙ ap (λ (f : Entries). let r : Shadowed = record { entries = f; tables = filter (is_needed f) s.tables } in r) e
+    ∙ ap (λ (f : EntryMap). let r : Shadowed = record { entries = f; tables = filter (is_needed f) s.tables } in r) e

@@ -3,7 +3,7 @@ use Rattle.std.specs.Prelude.{◌≡◌, ℕ, zero, suc, ◌^◌, Bool, if◌the
 use Rattle.mb_port.specs.declared.types.Space.{Space}
 use Rattle.mb_port.specs.declared.types.Space.TheVariants.{User, Super}
 use Rattle.vm_shadow.specs.Slots.{Slots, is_full_for}
-use Rattle.vm_shadow.specs.Shadows.{Entries, Shadowed, is_at, nothing, filled, dropped}
+use Rattle.vm_shadow.specs.Shadows.{EntryMap, Shadowed, is_at, nothing, with_page_put, dropped}
 use Rattle.vm_shadow.specs.Mapped.{shadowed}
 
 pub record ShadowEntry : Type 0 where
@@ -13,7 +13,7 @@ pub record ShadowEntry : Type 0 where
   pub writable : Bool
 
 -- the entry of a page of a space
-abbrev pub listed : List ShadowEntry → Entries
+abbrev pub listed : List ShadowEntry → EntryMap
 listed [] space page = None
 listed (e ∷ list) space page =
     if is_at e.space e.page space page then Some (e.frame, e.writable) else listed list space page
@@ -24,7 +24,7 @@ AtMostOne [] = Unit {0}
 AtMostOne (e ∷ list) = (listed list e.space e.page ≡ None) × AtMostOne list
 
 -- A list has exactly these entries.
-pub record Lists (list : List ShadowEntry) (entries : Entries) : Type 0 where
+pub record Lists (list : List ShadowEntry) (entries : EntryMap) : Type 0 where
   pub apart : AtMostOne list
   pub same : (space : Space) (page : ℕ) → listed list space page ≡ entries space page
 
@@ -34,7 +34,7 @@ fronted space page None list = list
 fronted space page (Some (frame, writable)) list =
     record { space = space; page = page; frame = frame; writable = writable } ∷ list
 
-unfoldable pub list_below : ℕ → Entries → List ShadowEntry
+unfoldable pub list_below : ℕ → EntryMap → List ShadowEntry
 list_below zero entries = []
 list_below (suc n) entries =
     fronted User n (entries User n) (fronted Super n (entries Super n) (list_below n entries))
@@ -62,7 +62,7 @@ NothingIsListed = Lists [] nothing.entries
 abbrev pub FillsAreListed : Type 0
 FillsAreListed = (shadow : Shadowed) (list : List ShadowEntry) (e : ShadowEntry) → Lists list shadow.entries
     → Lists (relisted e (if is_full_for e.space e.page shadow.tables then [] else list))
-    (filled e.space e.page e.frame e.writable shadow).entries
+    (with_page_put e.space e.page e.frame e.writable shadow).entries
 
 abbrev pub DropsAreListed : Type 0
 DropsAreListed = (shadow : Shadowed) (list : List ShadowEntry) (space : Space) (page : ℕ) → Lists list shadow.entries

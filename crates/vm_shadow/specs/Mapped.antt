@@ -8,7 +8,7 @@ use Rattle.mb_walk.specs.Descriptors.{table_descriptor, page_descriptor, entry_a
 use Rattle.mb_walk.specs.declared.searching.TheConstants.{TABLE_BYTES}
 use Rattle.mb_walk.specs.Descriptors.{root_index, pointer_index, page_index}
 use Rattle.vm_shadow.specs.Slots.{Slots}
-use Rattle.vm_shadow.specs.Shadows.{Entries, Shadowed}
+use Rattle.vm_shadow.specs.Shadows.{EntryMap, Shadowed}
 use Rattle.vm_shadow.specs.declared.area.TheConstants.{AREA_BYTES}
 
 -- the descriptors that a search for a page meets below a root: of its pointer table, of its page table, its own
@@ -41,7 +41,7 @@ root_of area User = area
 root_of area Super = area + TABLE_BYTES
 
 -- what the tables in an area map, for pages of 20 bits
-abbrev pub entries_in : List ℕ → ℕ → Entries
+abbrev pub entries_in : List ℕ → ℕ → EntryMap
 entries_in ram area space page = if nat_lt page (2 ^ 20) then mapped ram (root_of area space) page else None
 
 -- what a shadow holds, as its tables in memory have it
@@ -49,19 +49,19 @@ abbrev pub shadowed : Slots → List ℕ → Shadowed
 shadowed s ram = record { entries = entries_in ram s.area; tables = s.tables }
 
 -- a search for a page goes on to its pointer table, and from there to its page table
-abbrev pub GoesOn : List ℕ → ℕ → ℕ → Type 0
-GoesOn ram root page = (table_descriptor (first ram root page)).resident ≡ true
+abbrev pub HasPointers : List ℕ → ℕ → ℕ → Type 0
+HasPointers ram root page = (table_descriptor (first ram root page)).resident ≡ true
 
-abbrev pub GoesFurther : List ℕ → ℕ → ℕ → Type 0
-GoesFurther ram root page = (table_descriptor (second ram root page)).resident ≡ true
+abbrev pub HasPages : List ℕ → ℕ → ℕ → Type 0
+HasPages ram root page = (table_descriptor (second ram root page)).resident ≡ true
 
 -- What a search for a page meets lies in the area. Its descriptor is not indirect, and its frame is for both spaces.
 pub record Path (ram : List ℕ) (area root page : ℕ) : Type 0 where
-  pub pointers : GoesOn ram root page → first ram root page / AREA_BYTES ≡ area / AREA_BYTES
-  pub pages : GoesOn ram root page → GoesFurther ram root page → second ram root page / AREA_BYTES ≡ area / AREA_BYTES
-  pub direct : GoesOn ram root page → GoesFurther ram root page
+  pub pointers : HasPointers ram root page → first ram root page / AREA_BYTES ≡ area / AREA_BYTES
+  pub pages : HasPointers ram root page → HasPages ram root page → second ram root page / AREA_BYTES ≡ area / AREA_BYTES
+  pub direct : HasPointers ram root page → HasPages ram root page
       → (page_descriptor (third ram root page)).indirect ≡ false
-  pub for_both : GoesOn ram root page → GoesFurther ram root page
+  pub for_both : HasPointers ram root page → HasPages ram root page
       → (page_descriptor (third ram root page)).supervisor ≡ false
 
 -- A root and every table that it reaches lie in an area.

@@ -4,7 +4,7 @@ ghost use Rattle.std.specs.Prelude.{◌≡◌, ℕ, ◌+◌, ◌*◌, ◌/◌, �
 ghost use Rattle.std.specs.Prelude.{IfOk, MatchOption, None, Some};
 ghost use Rattle.vm_shadow.specs.Slots.{placed, number_of, with_table, tables_for, Has, Once};
 ghost use Rattle.vm_shadow.specs.Slots.{is_full_for as full_for, pages_of};
-ghost use Rattle.vm_shadow.specs.Shadows.{nothing, room_for, filled, dropped, with_entry};
+ghost use Rattle.vm_shadow.specs.Shadows.{nothing, room_for, with_page_put, dropped, with_entry};
 ghost use Rattle.vm_shadow.specs.Mapped.{mapped, root_of, shadowed, BothStand};
 ghost use Rattle.vm_shadow.specs.Area.{OutsideStays, longs, updated, in_root as root_place, in_slot as slot_place, entry_of};
 ghost use Rattle.vm_shadow.specs.Area.{Counted, IsPageLong, Laid, Maps, OnlyGo, Pushed, Removed, UsedBut};
@@ -423,7 +423,7 @@ impl Shadow {
         ensures full { result ≡ full_for space page self.old.tables }
         ensures tables { Maps self.new (R.bytes ram.new) }
         ensures shadow { shadowed self.new (R.bytes ram.new)
-            ≡ filled space page frame writable (shadowed self.old (R.bytes ram.old)) }
+            ≡ with_page_put space page frame writable (shadowed self.old (R.bytes ram.old)) }
         ensures area { self.new.area ≡ self.old.area }
         ensures stands { BothStand (R.bytes ram.new) self.new.area }
         ensures outside { OutsideStays self.old.area (R.bytes ram.old) (R.bytes ram.new) }

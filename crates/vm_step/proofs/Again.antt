@@ -16,7 +16,7 @@ use Rattle.vm_machine.specs.Guests.{Guest}
 use Rattle.vm_machine.specs.Bus.{guest_bus}
 use Rattle.vm_machine.specs.Refills.{begun_again}
 use Rattle.vm_machine.specs.Classes.{class_at_first}
-use Rattle.vm_machine.specs.Turns.{Guested, Turned, Tally, world_of, guest_begun, guest_later, tallied, with_refills, exits, by_class, marks_of, advanced}
+use Rattle.vm_machine.specs.Turns.{Guested, Turned, Tally, bus_side, guest_begun, guest_later, tallied, with_refills, exits, by_class, marks_of, advanced}
 use Rattle.vm_machine.specs.Turns.{guest_processed, guest_stepped, class_of_step, step_class_at_first, refills_of_step, turn_of}
 use Rattle.vm_machine.specs.declared.class.Class.TheVariants as class
 use Rattle.vm_machine.proofs.Counts.{refills_aside}
@@ -50,8 +50,8 @@ pub midway_again : MidwayAgain
 midway_again g ram native k n mid now counts m few h again seat next later machine world tally same seated within retired trail_same exceptions =
     let b = guest_begun g.script m.turn.guest in
     let cpu : mid.cpu ≡ b.machine.cpu = ap (λ (x : Machine). x.cpu) m.opened in
-    let last : begun_again b.machine.cpu (world_of (guested_on mid now)) ≡ Some (world_of (guested_on seat next)) =
-    ap (λ (c : Cpu). begun_again c (world_of (guested_on mid now))) (sym cpu) ∙ again
+    let last : begun_again b.machine.cpu (bus_side (guested_on mid now)) ≡ Some (bus_side (guested_on seat next)) =
+    ap (λ (c : Cpu). begun_again c (bus_side (guested_on mid now))) (sym cpu) ∙ again
     ∙ ap (λ (x : Guest). Some x) (sym world) in
     record {
       turn = m.turn;
@@ -63,7 +63,7 @@ midway_again g ram native k n mid now counts m few h again seat next later machi
       fine = m.fine;
       opened = machine ∙ ap (λ (x : Machine). record x { world = h.world }) m.opened
           ∙ ap (λ (x : Guest). record b.machine { world = x.world }) (sym world);
-      begun = (world_of (guested_on mid now), m.begun, last);
+      begun = (bus_side (guested_on mid now), m.begun, last);
       few = few;
       tally = tally ∙ m.tally;
       same = same_both g mid seat m.same same;
@@ -77,10 +77,10 @@ midway_again g ram native k n mid now counts m few h again seat next later machi
 pub midway_ahead : MidwayAhead
 midway_ahead g ram native k n mid now counts m h again =
     let b = guest_begun g.script m.turn.guest in
-    let w = world_of (guested_on mid now) in
+    let w = bus_side (guested_on mid now) in
     let level = asked_of g.script b.machine in
     let cpu : mid.cpu ≡ b.machine.cpu = ap (λ (x : Machine). x.cpu) m.opened in
-    let (fine, world, comes) = again_comes_to_the_same g.size level b.machine.cpu n (world_of b) w m.masked m.untraced m.registers m.fine m.begun in
+    let (fine, world, comes) = again_comes_to_the_same g.size level b.machine.cpu n (bus_side b) w m.masked m.untraced m.registers m.fine m.begun in
     (steps_begin_again g.size level b.machine.cpu w h m.masked m.untraced m.registers fine (ap (λ (c : Cpu). begun_again c w) (sym cpu) ∙ again)).0
 
 same_turn : (a b : Turned) → a.guest ≡ b.guest → a.tally ≡ b.tally → a.marks ≡ b.marks → a ≡ b
@@ -91,10 +91,10 @@ same_turn a b g t m =
 
 pub midway_ends : MidwayEnds
 midway_ends g ram native k n mid now counts m end seat next later means tally same seated within retired trail_goes exceptions =
-    let w = world_of (guested_on mid now) in
+    let w = bus_side (guested_on mid now) in
     let b = guest_begun g.script m.turn.guest in
     let cpu : mid.cpu ≡ b.machine.cpu = ap (λ (x : Machine). x.cpu) m.opened in
-    let (fine, world, comes) = again_comes_to_the_same g.size (asked_of g.script b.machine) b.machine.cpu n (world_of b) w m.masked m.untraced
+    let (fine, world, comes) = again_comes_to_the_same g.size (asked_of g.script b.machine) b.machine.cpu n (bus_side b) w m.masked m.untraced
     m.registers m.fine m.begun in
     let level : level_of mid.devices ≡ asked_of g.script b.machine = ap (λ (x : World). level_of x.devices) world
     ∙ sym (asked_masked g.script (b.machine.steps + 1) b.machine.world.devices b.machine.cpu m.masked) in
@@ -148,8 +148,8 @@ no_refills class.Denied t = refl
 no_refills class.Trapped t = refl
 
 class_begins : (script : Entries) (start q : Guested) → guest_begun script start ≡ q
-    → step_class_at_first script start ≡ class_at_first (asked_of script q.machine) q.machine.cpu (world_of q)
-class_begins script start q e = ap (λ (p : Guested). class_at_first (asked_of script p.machine) p.machine.cpu (world_of p)) e
+    → step_class_at_first script start ≡ class_at_first (asked_of script q.machine) q.machine.cpu (bus_side q)
+class_begins script start q e = ap (λ (p : Guested). class_at_first (asked_of script p.machine) p.machine.cpu (bus_side p)) e
 
 same_guested : (p q : Guested) → p.machine ≡ q.machine → p.shadow ≡ q.shadow → p ≡ q
 same_guested p q e f =
@@ -159,8 +159,8 @@ same_guested p q e f =
 pub midway_begins : MidwayBegins
 midway_begins g ram native k n mid now counts m =
     let b = guest_begun g.script m.turn.guest in
-    let w = world_of (guested_on mid now) in
-    let (fine, world, comes) = again_comes_to_the_same g.size (asked_of g.script b.machine) b.machine.cpu n (world_of b) w m.masked m.untraced
+    let w = bus_side (guested_on mid now) in
+    let (fine, world, comes) = again_comes_to_the_same g.size (asked_of g.script b.machine) b.machine.cpu n (bus_side b) w m.masked m.untraced
     m.registers m.fine m.begun in
     let steps : mid.steps ≡ m.turn.guest.machine.steps = ap (λ (x : Machine). x.steps) m.opened in
     let devices : (machine_on mid now).world.devices ≡ b.machine.world.devices = ap (λ (x : World). x.devices) world in
@@ -193,7 +193,7 @@ midway_level g ram native k n mid now counts m =
 
 pub midway_takes : MidwayTakes
 midway_takes g ram native k n mid now counts m none seat next later takes =
-    let w = world_of (guested_on mid now) in
+    let w = bus_side (guested_on mid now) in
     let from = unbegun mid m.turn in
     let t = turned_on from now [] in
     let start = guested_on from now in
@@ -202,8 +202,8 @@ midway_takes g ram native k n mid now counts m none seat next later takes =
     let class = class_at_first (level_of mid.devices) mid.cpu w in
     let state : mid.state ≡ m.turn.guest.machine.state = ap (λ (x : Machine). x.state) m.opened in
     let goes : takes_steps mid.state ≡ true = ap takes_steps state ∙ m.goes in
-    let none_there : begun_again (guest_begun g.script start).machine.cpu (world_of (guest_begun g.script start)) ≡ None =
-    ap (λ (q : Guested). begun_again q.machine.cpu (world_of q)) begins ∙ none in
+    let none_there : begun_again (guest_begun g.script start).machine.cpu (bus_side (guest_begun g.script start)) ≡ None =
+    ap (λ (q : Guested). begun_again q.machine.cpu (bus_side q)) begins ∙ none in
     let (first, refills) = none_is_refilled g.script start none_there in
     let class_is : class_of_step g.script start ≡ class = first ∙ class_begins g.script start (guested_on mid now) begins
     ∙ ap (λ (l : ℕ). class_at_first l mid.cpu w) level in
@@ -244,7 +244,7 @@ midway_within g ram native k n mid now counts m seat next later i =
     let begins : guest_begun from.script i.turn.guest ≡ guested_on mid now =
     ap (λ (script : Entries). guest_begun script i.turn.guest) m.same.script ∙ ap (λ (t : Turned). guest_begun g.script t.guest) turn
     ∙ midway_begins g ram native k n mid now counts m in
-    let world : world_of (guested_on seat next) ≡ world_of (guested_on mid now) = i.begun ∙ ap world_of begins in
+    let world : bus_side (guested_on seat next) ≡ bus_side (guested_on mid now) = i.begun ∙ ap bus_side begins in
     let tally : seat.tally ≡ mid.tally = i.tally ∙ ap (λ (t : Turned). t.tally) turn in
     let same : IsSame mid seat = record { script = i.same.script; base = i.same.base; size = i.same.size; area = i.same.area } in
     let within : OnlyWithin mid now next = record { count = i.within.count; below = i.within.below; above = i.within.above } in
@@ -258,7 +258,7 @@ midway_within g ram native k n mid now counts m seat next later i =
       fine = m.fine;
       opened = i.opened ∙ ap (λ (q : Guested). record q.machine { world = (machine_on seat next).world }) begins
           ∙ ap (λ (x : Machine). record x { world = (machine_on seat next).world }) m.opened;
-      begun = subst (λ (h : Guest). HasBegunAgain b.machine.cpu n (world_of b) h) (sym world) m.begun;
+      begun = subst (λ (h : Guest). HasBegunAgain b.machine.cpu n (bus_side b) h) (sym world) m.begun;
       few = m.few;
       tally = tally ∙ m.tally;
       same = same_both g mid seat m.same same;

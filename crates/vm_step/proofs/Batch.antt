@@ -15,7 +15,7 @@ use Rattle.vm_machine.specs.Turns.{Guested, Turned, Tally, guest_stepped, class_
 use Rattle.vm_meaning.specs.Marks.{trail}
 use Rattle.vm_meaning.specs.Native.{end_of, with_exception, NativeState, Ran, user_step, user_run, ran_by, ended_by, with_step, with_retired}
 use Rattle.vm_step.specs.Retire.{Retires}
-use Rattle.vm_step.specs.Exit.{Furnished, Leaves, IsLeft}
+use Rattle.vm_step.specs.Exit.{Furnished, Leaves, IsExitClass}
 use Rattle.vm_step.proofs.Registers.{same_word}
 use Rattle.vm_step.specs.Batch.{Wanted, IsTried, stepped_by, AllRetired, IsInside, IsCounted, IsExit, Batch, RunsAreBatches}
 use Rattle.vm_step.proofs.Retire.{retired_steps, runs_behind, stays_on}
@@ -89,7 +89,7 @@ stays_furnished x script m g s t h f = record {
 
 -- ---- the run
 
-left_or : (c : Class) → IsTried c → (c ≡ Retired) ⊎ IsLeft c
+left_or : (c : Class) → IsTried c → (c ≡ Retired) ⊎ IsExitClass c
 left_or class.Retired h = inl refl
 left_or class.Privileged h = inr tt
 left_or class.Trapped h = inr tt

@@ -47,7 +47,7 @@ use Rattle.vm_machine.specs.Bus.{guest_bus}
 use Rattle.vm_mirror.specs.Related.{Site, Related}
 use Rattle.vm_mirror.specs.Laws.{board_bus}
 use Rattle.vm_mirror.specs.Ready.{native_mmu}
-use Rattle.vm_held.specs.Denied.{HasNone, IsFaultless, GoesOn, IsAllowed, IsDenied, by_held, by_guest}
+use Rattle.vm_held.specs.Denied.{HasNone, IsFaultless, AttemptGoesOn, IsAllowed, IsDenied, by_held, by_guest}
 use Rattle.vm_machine.specs.Refills.{read_in, denied_read, can_refill, after_access, refilled_at}
 use Rattle.vm_step.specs.Reads.{read_of_access}
 use Rattle.vm_step.proofs.ToldReads.{unlocked}
@@ -58,12 +58,12 @@ use Rattle.vm_machine.specs.declared.class.Class.{Class}
 use Rattle.vm_machine.specs.declared.class.Class.TheVariants as class
 use Rattle.vm_machine.specs.declared.class.Class.TheVariants.{Retired}
 use Rattle.vm_machine.specs.Classes.{class_of_end}
-use Rattle.vm_machine.specs.Turns.{step_class_at_first, world_of}
+use Rattle.vm_machine.specs.Turns.{step_class_at_first, bus_side}
 use Rattle.vm_meaning.specs.Native.{user_step}
 use Rattle.vm_step.specs.Retire.{HasRegisters}
 use Rattle.vm_machine.specs.Rests.{rest_of}
 use Rattle.vm_machine.specs.Exits.{frame_sr, frame_access, handed_by, rest_by_frame}
-use Rattle.vm_step.specs.Exit.{left_guest, Leaves, IsLeft, LeftSteps}
+use Rattle.vm_step.specs.Exit.{left_guest, Leaves, IsExitClass, LeftSteps}
 use Rattle.vm_step.proofs.Lists.{between}
 use Rattle.vm_step.proofs.Rest.{steps_go_on}
 use Rattle.vm_step.proofs.Room.{by_format, OnStack, on_stack, has_room}
@@ -225,7 +225,7 @@ entered_after : (vector : ℕ) (cpu : Cpu) (d : DeviceState) → d.off ≡ false
     → takes_steps (state_after (finish.Entered vector) cpu d) ≡ true
 entered_after vector cpu d h k = rw h (rw k refl)
 
-is_tried : (c : Class) → IsLeft c → IsTried c
+is_tried : (c : Class) → IsExitClass c → IsTried c
 is_tried class.Privileged h = tt
 is_tried class.Trapped h = tt
 is_tried class.Denied h = tt
@@ -264,7 +264,7 @@ refilled_there g now (Some r) same = ap (λ (h : Guest). refilled_at h (Some r))
 
 -- where a read was denied, nothing has changed
 still_by : (space : Space) (moves : Movem → Type 0) (g now : Guest) (end : Ended) (after : Plain) (whole : Performed × Guest) (r : Reference)
-    → GoesOn space moves g now end after whole → read_in end ≡ Some r → now ≡ g
+    → AttemptGoesOn space moves g now end after whole → read_in end ≡ Some r → now ≡ g
 still_by space moves g now (ended.ReadFault refused) after whole r goes e = goes
 still_by space moves g now (ended.Done flow) after whole r goes e = absurd goes
 still_by space moves g now (ended.Trap vector) after whole r goes e = absurd goes
@@ -303,7 +303,7 @@ left_steps x script m g b fur regs seven is_left =
     let w = record m.world { devices = d } in
     let guest = g.machine.cpu in
     let h : Guest = record { world = record g.machine.world { devices = ticked dev }; shadow = g.shadow } in
-    let related = related_devices x m.world (world_of g) d (ticked dev) b.related in
+    let related = related_devices x m.world (bus_side g) d (ticked dev) b.related in
     let sound = sound_of x w h related in
     let k = by_held x.space (plain_of guest.regs) h in
     let goes = (attempts_go_on x.space x.size (plain_of guest.regs) h regs.longs regs.counter sound).0 in
@@ -313,7 +313,7 @@ left_steps x script m g b fur regs seven is_left =
     let c = step_class_at_first script g in
     let attempt = is_attempt level guest h c refl (is_tried c is_left) in
     let held : class_of_end (closed k.0).0 ≡ c = class_held x guest h c b.present regs sound attempt.of in
-    let never : class_of_end (closed k.0).0 ≡ Retired → ⊥ = λ z. subst IsLeft (sym held ∙ z) is_left in
+    let never : class_of_end (closed k.0).0 ≡ Retired → ⊥ = λ z. subst IsExitClass (sym held ∙ z) is_left in
     let bl = board_left x (root_of x.slots.area x.space) (level_of d) level i m.cpu w guest h (mirrored_by x m g b regs attempt.plain) related
     fur.mmu fur.status fur.master fur.vectors fur.stack fur.below fur.table fur.small (masked_by m.cpu d b.mask) (in_it found) never in
     let e = bl.e in

@@ -22,7 +22,7 @@ use Rattle.vm_machine.specs.Guests.{Guest}
 use Rattle.vm_machine.specs.Bus.{guest_bus}
 use Rattle.vm_machine.specs.Classes.{class_of, class_of_attempt, is_traced}
 use Rattle.vm_machine.specs.Refills.{refilled}
-use Rattle.vm_machine.specs.Turns.{Guested, Turned, world_of, guest_begun, guest_later, guest_stepped, class_of_step, refills_of_step}
+use Rattle.vm_machine.specs.Turns.{Guested, Turned, bus_side, guest_begun, guest_later, guest_stepped, class_of_step, refills_of_step}
 use Rattle.vm_machine.specs.Turns.{by_class, advanced, turn_of}
 use Rattle.vm_machine.specs.Seats.{Seat, turned_on, IsSeated}
 use Rattle.vm_machine.proofs.TurnLaws.{going_turn, nothing_turned}
@@ -63,13 +63,13 @@ begins_on script g on =
 class_is : (script : Entries) (g : Guested) → IsIdle script g → class_of_step script g ≡ class.Idle
 class_is script g idle =
     let b = guest_begun script g in
-    is_idle (asked_of script b.machine) g.machine.cpu (world_of b) idle.masked idle.stopped
+    is_idle (asked_of script b.machine) g.machine.cpu (bus_side b) idle.masked idle.stopped
 
 stepped_is : (script : Entries) (g : Guested) → IsIdle script g
     → guest_stepped script g ≡ idle_guest 1 (guest_begun script g).machine.world.devices g
 stepped_is script g idle =
     let b = guest_begun script g in
-    ap (λ (m : Routine Stepped). guest_later b.machine (run guest_bus m (world_of b)))
+    ap (λ (m : Routine Stepped). guest_later b.machine (run guest_bus m (bus_side b)))
     (idles (asked_of script b.machine) g.machine.cpu idle.masked idle.stopped)
 
 advanced_is : (script : Entries) (t : Turned) → IsIdle script t.guest

@@ -26,7 +26,7 @@ use Rattle.vm_meaning.proofs.Writebacks.{frames_tell}
 use Rattle.vm_mirror.specs.Related.{Site, setting}
 use Rattle.vm_leave.specs.Exits.{Exit, IsEnd, writing_exit, exit_of}
 use Rattle.vm_leave.specs.Fits.{EndFits}
-use Rattle.vm_step.specs.Lawful.{IsLawful, LeavesLawful}
+use Rattle.vm_step.specs.Lawful.{IsLawfulLeftOver, LeavesLawful}
 use Rattle.vm_step.proofs.Usual.{IsUsual}
 use Rattle.vm_step.proofs.ExitIs.{no_trace, never_due}
 
@@ -35,8 +35,8 @@ pieces_pend : (ps : List Pend) → AreOwn ps → ArePending ps
 pieces_pend [] own = tt
 pieces_pend (p ∷ ps) own = (own.0.piece, pieces_pend ps own.1)
 
-told : (l : LeftOver) (a : Access) → left_in a ≡ l → IsLawful l → IsLawful (left_in a)
-told l a e h = subst IsLawful (sym e) h
+told : (l : LeftOver) (a : Access) → left_in a ≡ l → IsLawfulLeftOver l → IsLawfulLeftOver (left_in a)
+told l a e h = subst IsLawfulLeftOver (sym e) h
 
 -- the frame of an exit
 abbrev IsLawfulExit : Exit → Type 0

@@ -26,7 +26,7 @@ use Rattle.vm_machine.specs.declared.class.Class.{Class}
 use Rattle.vm_machine.specs.declared.class.Class.TheVariants as class
 use Rattle.vm_machine.specs.declared.class.Class.TheVariants.{Retired}
 use Rattle.vm_machine.specs.Classes.{class_at_first, class_of_attempt, class_at, class_by, class_of_end, is_traced}
-use Rattle.vm_machine.specs.Turns.{Guested, world_of, guest_begun, guest_stepped, step_class_at_first}
+use Rattle.vm_machine.specs.Turns.{Guested, bus_side, guest_begun, guest_stepped, step_class_at_first}
 use Rattle.vm_meaning.specs.Native.{user_step}
 use Rattle.vm_step.specs.Retire.{Retires}
 use Rattle.vm_step.specs.Batch.{IsTried, stepped_by}
@@ -117,7 +117,7 @@ next_tried : (x : Site) (script : Entries) (n : ℕ) (m : Machine) (g : Guested)
 next_tried x script n m g h retired quiet due =
     let t = guest_stepped script g in
     let d = (guest_begun script g).machine.world.devices in
-    let was = is_attempt (asked script (g.machine.steps + 1) d) g.machine.cpu (world_of (guest_begun script g)) Retired retired tt in
+    let was = is_attempt (asked script (g.machine.steps + 1) d) g.machine.cpu (bus_side (guest_begun script g)) Retired retired tt in
     let quiet' : NothingArrives script t.machine.steps (suc n) = subst (λ (k : ℕ). NothingArrives script k (suc n)) (sym h.steps) quiet in
     let same : (guest_begun script t).machine.world.devices ≡ ticked d = only_ticks script t (first_of script t.machine.steps n quiet').devices
     ∙ ap ticked (kept_devices x script m g h) in
@@ -126,7 +126,7 @@ next_tried x script n m g h retired quiet due =
     asked_devices script (t.machine.steps + 1) next (first_of script t.machine.steps n quiet').unaborted
     ∙ ap level_of same ∙ ap level_of (ticks_pass 1 d (one_of n d due)).at_once ∙ (ticks_pass 1 d (one_of n d due)).level
     ∙ sym (asked_masked script (g.machine.steps + 1) d g.machine.cpu was.masked) in
-    tried_class (asked script (t.machine.steps + 1) next) t.machine.cpu (world_of (guest_begun script t))
+    tried_class (asked script (t.machine.steps + 1) next) t.machine.cpu (bus_side (guest_begun script t))
     (subst (λ (k : ℕ). rank k ≤ interrupt_mask t.machine.cpu) (sym level)
     (subst (λ (k : ℕ). rank (asked script (g.machine.steps + 1) d) ≤ k) (sym h.mask) was.masked))
     h.goes.going (untraced (traces_all t.machine.cpu.regs.sr) (traces_flow t.machine.cpu.regs.sr) h.goes.all h.goes.flow)
@@ -151,7 +151,7 @@ quiet_steps_are_tried x script (suc n) m g b wanted tried quiet due = (
 
 pub retired_steps_keep_truth : RetiredStepsKeepTruth
 retired_steps_keep_truth x script m g h fine =
-    let t = world_of (guest_stepped script g) in
+    let t = bus_side (guest_stepped script g) in
     record {
       sound = sound_of x (user_step m).1.world t h.boarded.related;
       one = subst (λ (k : KeptLists). k ≡ list_of 0 k ∷ []) (sym (ap (λ (q : Guest). q.world.kept) h.only)) fine.one;

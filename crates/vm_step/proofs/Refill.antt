@@ -27,7 +27,7 @@ use Rattle.vm_machine.specs.Bus.{guest_bus}
 use Rattle.vm_machine.specs.Refills.{denied_read, refilled_at, begun_again, Refilled, once_more, going_on, refilled_by}
 use Rattle.vm_machine.specs.declared.limits.TheConstants.{MOST_REFILLS}
 use Rattle.vm_machine.specs.Classes.{assisted, class_of_attempt}
-use Rattle.vm_machine.specs.Turns.{world_of, guest_begun, guest_processed, guest_later}
+use Rattle.vm_machine.specs.Turns.{bus_side, guest_begun, guest_processed, guest_later}
 use Rattle.vm_machine.specs.Turns.{by_class}
 use Rattle.vm_held.specs.Denied.{by_held}
 use Rattle.vm_held.specs.Truth.{Fine}
@@ -83,7 +83,7 @@ pub none_is_refilled : NoneIsRefilled
 none_is_refilled script g none =
     let b = guest_begun script g in
     let cpu = b.machine.cpu in
-    let last = none_again MOST_REFILLS cpu (world_of b) none in (
+    let last = none_again MOST_REFILLS cpu (bus_side b) none in (
       ap (λ (r : Refilled). unwrap_or (assisted (asked_of script b.machine) cpu) (class_of_attempt cpu r.guest)) last,
       ap (λ (r : Refilled). r.refills) last,
     )
@@ -105,9 +105,9 @@ done_reads_none (Err stop) f e = by_end stop.ended e
 pub first_is_last : FirstIsLast
 first_is_last x script m g b regs first =
     let o = guest_begun script g in
-    let h = world_of o in
+    let h = bus_side o in
     let cpu = o.machine.cpu in
-    let related = related_devices x m.world (world_of g) m.world.devices h.world.devices b.related in
+    let related = related_devices x m.world (bus_side g) m.world.devices h.world.devices b.related in
     let sound = sound_of x (record m.world { devices = m.world.devices }) h related in
     let attempt = is_attempt (asked_of script o.machine) cpu h Retired first tt in
     let held = class_held x cpu h Retired b.present regs sound attempt.of in
@@ -185,7 +185,7 @@ again_advances script t n h begun few end comes =
     let b = guest_begun script t.guest in
     let cpu = b.machine.cpu in
     let level = asked_of script b.machine in
-    let last = last_is_judged cpu n (world_of b) h begun few end in
+    let last = last_is_judged cpu n (bus_side b) h begun few end in
     let class_by : Refilled → Class = λ r. unwrap_or (assisted level cpu) (class_of_attempt cpu r.guest) in
     ap (λ (r : Refilled). by_class (class_by r) r.refills (guest_later b.machine (guest_processed script b)) t) last
     ∙ ap (λ (q : Stepped × Guest). by_class (class_by (record { guest = h; refills = n })) n (guest_later b.machine q) t) (sym comes)

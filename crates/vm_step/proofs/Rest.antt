@@ -34,7 +34,7 @@ use Rattle.vm_machine.specs.Classes.{class_of_end}
 use Rattle.vm_machine.specs.Rests.{left_pieces, rest_by, rest_of, Begins}
 use Rattle.vm_machine.proofs.Rests.{traps_are_finished, denied_writes_go_on, denied_lines_go_on, denied_transfers_go_on}
 use Rattle.vm_held.specs.Sound.{Sound}
-use Rattle.vm_held.specs.Denied.{HasNone, IfRefused, GoesOn, IsAllowed, IsDenied, IsFound, by_held, by_guest}
+use Rattle.vm_held.specs.Denied.{HasNone, IfRefused, AttemptGoesOn, IsAllowed, IsDenied, IsFound, by_held, by_guest}
 use Rattle.vm_held.proofs.Rows.{fetches_go_on}
 use Rattle.vm_held.proofs.Attempts.{attempts_go_on}
 use Rattle.vm_held.proofs.Names.{words_name}
@@ -203,7 +203,7 @@ module _ (size level : ℕ) (guest : Cpu) (g : Guest) (i : Instr) (plain : IsUnt
 
   denied_end : (end : Ended) (after : Plain) (now : Guest) → (IsBegun end → Begins guest_bus level guest g i)
       → ((m : Movem) → moves_fetched held_bus space p.pc g m → IsTidy after)
-      → GoesOn space (moves_fetched held_bus space p.pc g) g now end after (by_guest space p g) → Rest end after now
+      → AttemptGoesOn space (moves_fetched held_bus space p.pc g) g now end after (by_guest space p g) → Rest end after now
   denied_end (ended.Done f) after now b t goes = absurd goes
   denied_end (ended.Trap v) after now b t goes = absurd goes
   denied_end (ended.Refused v) after now b t goes = absurd goes
@@ -222,7 +222,8 @@ module _ (size level : ℕ) (guest : Cpu) (g : Guest) (i : Instr) (plain : IsUnt
   denied (Ok done, now) b eight d never = absurd (never refl)
   denied (Err stop, now) b eight (other, is, goes) never =
       denied_end stop.ended stop.plain now b (λ m fetched. eight_tidy stop.plain (eight m fetched))
-      (subst (λ (s : OtherEnd). GoesOn space (moves_fetched held_bus space p.pc g) g now s.ended s.plain (by_guest space p g)) (same_stop stop other is) goes)
+      (subst (λ (s : OtherEnd). AttemptGoesOn space (moves_fetched held_bus space p.pc g) g now s.ended s.plain (by_guest space p g))
+          (same_stop stop other is) goes)
     where
       same_stop : (a b : OtherEnd) → (let x : Performed = Err a in let y : Performed = Err b in x ≡ y) → b ≡ a
       same_stop a b e = cc

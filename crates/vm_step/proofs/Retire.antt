@@ -34,7 +34,7 @@ use Rattle.vm_machine.specs.declared.class.Class.TheVariants.{Retired}
 use Rattle.vm_machine.specs.Guests.{Guest, may}
 use Rattle.vm_machine.specs.Bus.{guest_bus}
 use Rattle.vm_machine.specs.Classes.{class_of_end, class_at, class_of_attempt, class_at_first, is_traced}
-use Rattle.vm_machine.specs.Turns.{Guested, world_of, guest_begun, guest_later, guest_stepped}
+use Rattle.vm_machine.specs.Turns.{Guested, bus_side, guest_begun, guest_later, guest_stepped}
 use Rattle.vm_held.specs.Sound.{Sound}
 use Rattle.vm_held.specs.Denied.{held_end}
 use Rattle.vm_mirror.specs.Related.{Site, Related}
@@ -194,7 +194,7 @@ retired_steps x script m g b regs c =
     let w = record m.world { devices = d } in
     let guest = g.machine.cpu in
     let h : Guest = record { world = record g.machine.world { devices = e }; shadow = g.shadow } in
-    let related = related_devices x m.world (world_of g) d e b.related in
+    let related = related_devices x m.world (bus_side g) d e b.related in
     let own_level = asked script (g.machine.steps + 1) e in
     let attempt = is_attempt own_level guest h Retired c tt in
     let (flow, done) = retired_end (end_of_held x guest h).0 (class_held x guest h Retired b.present regs (sound_of x w h related) attempt.of) in

@@ -28,7 +28,7 @@ use Rattle.vm_machine.specs.Guests.{Guest, Truthful}
 use Rattle.vm_mirror.specs.Related.{Site, AllAgree, mapping}
 use Rattle.vm_mirror.specs.Ready.{native_mmu}
 use Rattle.vm_meaning.specs.declared.RunEnd.TheVariants.{Counted, Exit}
-use Rattle.vm_machine.specs.Turns.{Guested, Turned, Tally, world_of, guest_begun, guest_later, tallied, with_refills, exits, marks_of, by_class, advanced}
+use Rattle.vm_machine.specs.Turns.{Guested, Turned, Tally, bus_side, guest_begun, guest_later, tallied, with_refills, exits, marks_of, by_class, advanced}
 use Rattle.vm_machine.specs.Turns.{turn_of, step_class_at_first}
 use Rattle.mb_machine.specs.declared.reference.Reference.{Reference}
 use Rattle.mb_machine.specs.World.{World}
@@ -91,7 +91,7 @@ same_count r q e h =
     let same = ap (λ (p : Plain). length p.a) e in
     omega arith
 
-pub stands_of : (g : Seat) (ram : List ℕ) → IsSeated g ram → AreBytes ram → length ram ≤ 2 ^ 32 → Stands (site_of g) ram (world_of (guested_on g ram))
+pub stands_of : (g : Seat) (ram : List ℕ) → IsSeated g ram → AreBytes ram → length ram ≤ 2 ^ 32 → Stands (site_of g) ram (bus_side (guested_on g ram))
 stands_of g ram s bytes small = record {
   bytes = bytes;
   maps = s.maps;
@@ -169,7 +169,7 @@ batches_take g c world steps state native before n s bytes small running on seve
         area = s.area;
         maps = related.maps;
         tables = related.shadow ∙ ap (λ (q : Guested). on_board g.base q.shadow) (sym same);
-        truthful = subst (λ (q : Guested). Truthful g.size (world_of q)) (sym same) related.truthful;
+        truthful = subst (λ (q : Guested). Truthful g.size (bus_side q)) (sym same) related.truthful;
       };
       within = only_within g ram ram' s done.inside;
       retired = (let e = b.counted in omega arith);
@@ -229,9 +229,9 @@ some_read g h (Some r) e = (r, refl)
 
 -- the first attempt of a step that the board left
 attempted : (script : Entries) (g : Guested) (v : ℕ) → class_of_vector v ≡ step_class_at_first script g → let b = guest_begun script g in
-    IsAttemptOf (asked_of script b.machine) b.machine.cpu (world_of b) (class_of_vector v)
+    IsAttemptOf (asked_of script b.machine) b.machine.cpu (bus_side b) (class_of_vector v)
 attempted script g v e = let b = guest_begun script g in
-    is_attempt (asked_of script b.machine) b.machine.cpu (world_of b) (class_of_vector v) (sym e) (left_tried v)
+    is_attempt (asked_of script b.machine) b.machine.cpu (bus_side b) (class_of_vector v) (sym e) (left_tried v)
 
 no_refills : (c : Class) (t : Tally) → with_refills c 0 t ≡ t
 no_refills class.Retired t = refl
@@ -246,7 +246,7 @@ same_vector : (v n : ℕ) → finish.Entered v ≡ finish.Entered n → v ≡ n
 same_vector v n e = cc
 
 first_is : (script : Entries) (g : Guested) → let b = guest_begun script g in
-    step_class_at_first script g ≡ class_at_first (asked_of script b.machine) b.machine.cpu (world_of b)
+    step_class_at_first script g ≡ class_at_first (asked_of script b.machine) b.machine.cpu (bus_side b)
 first_is script g = refl
 
 pub exits_take : ExitsTake
@@ -286,8 +286,8 @@ exits_take g c world steps state native before k v s bytes small running on seve
     } in
     let same : guested_on mid ram' ≡ opened = same_guest (guested_on mid ram') opened cpu_is refl (sym left.mmu) refl (sym left.kept) (sym left.steps)
     (running ∙ sym running_there ∙ ap (λ (q : Guested). q.machine.state) is_w) (ap (λ (q : Shadowed). own g.base q) tables ∙ sym left.shadow) in
-    let of : Guested → Guest = λ q. left_guest x ram' (world_of (guest_begun g.script q)) in
-    let world_is : world_of (guested_on mid ram') ≡ of u.guest = ap world_of same ∙ ap of (sym is_w) in
+    let of : Guested → Guest = λ q. left_guest x ram' (bus_side (guest_begun g.script q)) in
+    let world_is : bus_side (guested_on mid ram') ≡ of u.guest = ap bus_side same ∙ ap of (sym is_w) in
     let top : h.last.cpu.regs.isp ≤ MONITOR_BYTES =
     subst (λ (n : ℕ). n ≤ MONITOR_BYTES) (sym (h.isp ∙ (is_set (plain_of g.cpu.regs) c (ap is_supervisor cpu.status)).isp)) low in
     let within_left : OnlyWithin g ram ram' = record {
@@ -298,18 +298,18 @@ exits_take g c world steps state native before k v s bytes small running on seve
     let frame = h.left.frame in
     let handed = handed_by after.machine.cpu.regs frame in
     let with_rest : Guested → ℕ → Guested = λ q n. guest_later q.machine
-    (run guest_bus (rest_by_frame h.vector (frame_access frame) n q.machine.cpu handed) (world_of q)) in
+    (run guest_bus (rest_by_frame h.vector (frame_access frame) n q.machine.cpu handed) (bus_side q)) in
     let rest_at : Guested → Guested = λ q. let o = guest_begun g.script q in guest_later o.machine
     (run guest_bus (rest_by_frame h.vector (frame_access frame) (asked_of g.script o.machine) o.machine.cpu handed) (of q)) in
     let later : Turned = by_class (class_of_vector h.vector) 0 (rest_at u.guest) u in
     let o = guest_begun g.script u.guest in
-    let turn_is : begun_again o.machine.cpu (world_of o) ≡ None → turn_of g.script (j + 1) t ≡ later = λ last.
+    let turn_is : begun_again o.machine.cpu (bus_side o) ≡ None → turn_of g.script (j + 1) t ≡ later = λ last.
     turns_add g.script j 1 t ∙ going_turn g.script 0 u goes_there ∙ nothing_turned g.script (advanced g.script u)
     ∙ exits_advance x g.script u h.vector h.last after.machine h.left wide last in
     let present : space_of mid.cpu ≡ x.space =
     ap space_of (cpu_is ∙ ap (λ (q : Guested). q.machine.cpu) (sym is_w)) ∙ h.boarded.present in
-    let again_is : refilled_at (world_of (guested_on mid ram')) (read_by_frame (space_of mid.cpu) frame) ≡ begun_again o.machine.cpu (world_of o) =
-    ap (λ (s : Space). refilled_at (world_of (guested_on mid ram')) (read_by_frame s frame)) present
+    let again_is : refilled_at (bus_side (guested_on mid ram')) (read_by_frame (space_of mid.cpu) frame) ≡ begun_again o.machine.cpu (bus_side o) =
+    ap (λ (s : Space). refilled_at (bus_side (guested_on mid ram')) (read_by_frame s frame)) present
     ∙ ap (λ (q : Guest). refilled_at q (read_by_frame x.space frame)) world_is ∙ h.left.again in
     let seated : IsSeated mid ram' = record {
       aligned = s.aligned;
@@ -321,8 +321,8 @@ exits_take g c world steps state native before k v s bytes small running on seve
       tables = related.shadow ∙ ap (λ (q : Guest). on_board g.base q.shadow) (sym world_is);
       truthful = subst (λ (q : Guest). Truthful g.size q) (sym world_is) related.truthful;
     } in
-    let now = world_of (guested_on mid ram') in
-    let stays_by : (r : Reference) → read_by_frame (space_of mid.cpu) frame ≡ Some r → now ≡ world_of o = λ r told.
+    let now = bus_side (guested_on mid ram') in
+    let stays_by : (r : Reference) → read_by_frame (space_of mid.cpu) frame ≡ Some r → now ≡ bus_side o = λ r told.
     world_is ∙ h.left.still r (ap (λ (p : Space). read_by_frame p frame) (sym present) ∙ told) in
     let cpu_there : mid.cpu ≡ o.machine.cpu = cpu_is ∙ ap (λ (q : Guested). q.machine.cpu) (sym is_w) in
     let attempt = attempted g.script u.guest h.left.vector h.left.class in
@@ -349,8 +349,8 @@ exits_take g c world steps state native before k v s bytes small running on seve
       exceptions = h.exceptions;
       cpu = cpu_is;
       class = ap class_of_vector (same_vector h.vector h.left.vector h.left.entered) ∙ h.left.class ∙ ap (λ (q : Guested). step_class_at_first g.script q) is_w;
-      read = again_is ∙ ap (λ (q : Guested). (let p = guest_begun g.script q in begun_again p.machine.cpu (world_of p))) is_w;
-      still = λ r told. stays_by r told ∙ ap (λ (q : Guested). world_of (guest_begun g.script q)) is_w;
+      read = again_is ∙ ap (λ (q : Guested). (let p = guest_begun g.script q in begun_again p.machine.cpu (bus_side p))) is_w;
+      still = λ r told. stays_by r told ∙ ap (λ (q : Guested). bus_side (guest_begun g.script q)) is_w;
       seated = seated;
       within = within_left;
       goes = h.left.running;
@@ -361,7 +361,7 @@ exits_take g c world steps state native before k v s bytes small running on seve
       };
       again = λ fine q e.
           let (read, told) = some_read now q (read_by_frame (space_of mid.cpu) frame) e in
-          let stays : now ≡ world_of o = stays_by read told in
+          let stays : now ≡ bus_side o = stays_by read told in
           let vector_is : h.vector ≡ h.left.vector = same_vector h.vector h.left.vector h.left.entered in
           let rests = λ (l : ℕ) (c : Cpu) (p : Guest). run guest_bus (rest_by_frame h.vector (frame_access frame) l c handed) p in
           let steps_on = λ (l : ℕ) (c : Cpu) (p : Guest). run guest_bus (step_of l c) p in (
@@ -388,8 +388,8 @@ exits_take g c world steps state native before k v s bytes small running on seve
             },
             ap (λ (c : Cpu). begun_again c now) cpu_there ∙ ap (begun_again o.machine.cpu) stays ∙ sym again_is ∙ e,
             ap class_of_vector vector_is ∙ h.left.class ∙ first_is g.script u.guest
-                ∙ ap (λ (l : ℕ). class_at_first l o.machine.cpu (world_of o)) (sym level_there)
-                ∙ ap (λ (c : Cpu). class_at_first (level_of begun) c (world_of o)) (sym cpu_there)
+                ∙ ap (λ (l : ℕ). class_at_first l o.machine.cpu (bus_side o)) (sym level_there)
+                ∙ ap (λ (c : Cpu). class_at_first (level_of begun) c (bus_side o)) (sym cpu_there)
                 ∙ ap (class_at_first (level_of begun) mid.cpu) (sym stays),
             ap (λ (l : ℕ). rests l mid.cpu now) level_there ∙ ap (λ (c : Cpu). rests lo c now) cpu_there ∙ ap (rests lo o.machine.cpu) world_is
                 ∙ ap (λ (i : ℕ). run guest_bus (rest_by_frame i (frame_access frame) lo o.machine.cpu handed) (of u.guest)) vector_is

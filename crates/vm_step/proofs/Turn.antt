@@ -21,7 +21,7 @@ use Rattle.vm_machine.specs.Bus.{guest_bus}
 use Rattle.vm_mirror.specs.Ready.{native_mmu}
 use Rattle.vm_mirror.proofs.Ready.{starts_flushed}
 use Rattle.vm_machine.specs.declared.class.Class.{Class}
-use Rattle.vm_machine.specs.Turns.{world_of, guest_begun, guest_processed, guest_later, class_of_step}
+use Rattle.vm_machine.specs.Turns.{bus_side, guest_begun, guest_processed, guest_later, class_of_step}
 use Rattle.vm_machine.specs.Turns.{refills_of_step, by_class}
 use Rattle.vm_step.proofs.Refill.{none_is_refilled}
 use Rattle.vm_machine.specs.Exits.{class_of_vector, handed_by, frame_access, rest_by_frame}
@@ -57,7 +57,7 @@ boards_are_ready x c world steps state g n set present has s =
     let plain : IsUntraced c = record { going = n.awake; all = ap traces_all n.status; flow = ap traces_flow n.status } in
     let same = is_set p c user in
     let b = record world { kept = [] } in
-    let tables = starts_flushed x b (world_of g) s.bytes s.maps s.under s.whole s.ram_is s.shadow s.truthful in (
+    let tables = starts_flushed x b (bus_side g) s.bytes s.maps s.under s.whole s.ram_is s.shadow s.truthful in (
       record {
         on = set.on;
         user = same_user p c ∙ user;
@@ -99,7 +99,7 @@ same_number v n e = cc
 pub exits_advance : ExitsAdvance
 exits_advance x script u v m after l wide last =
     let b = guest_begun script u.guest in
-    let h = left_guest x after.world.ram (world_of b) in
+    let h = left_guest x after.world.ram (bus_side b) in
     let is : v ≡ l.vector = same_number v l.vector l.entered in
     let of : ℕ → Stepped × Guest =
     λ n. run guest_bus (rest_by_frame n (frame_access l.frame) (asked_of script b.machine) b.machine.cpu (handed_by after.cpu.regs l.frame)) h in

@@ -15,7 +15,7 @@ use Rattle.mb_instr.specs.Operands.{more}
 use Rattle.vm_meaning.specs.Telling.{AreOwn}
 use Rattle.vm_machine.specs.Guests.{Guest}
 use Rattle.vm_machine.specs.Exits.{is_refusal}
-use Rattle.vm_held.specs.Denied.{HasNone, GoesOn, IsAllowed, IsDenied}
+use Rattle.vm_held.specs.Denied.{HasNone, AttemptGoesOn, IsAllowed, IsDenied}
 use Rattle.vm_mirror.specs.Related.{Site, setting}
 
 -- the pieces that a refused write names, at most three, and the longs of a refused line
@@ -92,7 +92,7 @@ no_pieces items e = subst (λ (ps : List Pend). (length ps ≤ 3) × AreOwn ps) 
 
 -- by the same end on the board, and by what is left of it
 by_end : (x : Site) (space : Space) (moves : Movem → Type 0) (begun now : Guest) (there end : Ended) (after : Plain) (whole : Performed × Guest)
-    → SameEnd (setting x) there end → HasNone end ⊎ GoesOn space moves begun now end after whole → IsUsual end
+    → SameEnd (setting x) there end → HasNone end ⊎ AttemptGoesOn space moves begun now end after whole → IsUsual end
 by_end x space moves begun now there (ended.Done f) after whole same o = tt
 by_end x space moves begun now (ended.Trap v) (ended.Trap w) after whole same o = usual_trap w (subst IsTrap same.0 same.1)
 by_end x space moves begun now (ended.Refused v) (ended.Refused w) after whole same o = usual_refusal w (subst IsRefusal same.1 same.2)
@@ -112,7 +112,7 @@ usual_end x space moves g (Err stop, now) own there same (inl (is, none, left)) 
     by_end x space moves g now there stop.ended stop.plain own same (inl none)
 usual_end x space moves g (Err stop, now) own there same (inr (other, is, goes)) =
     by_end x space moves g now there stop.ended stop.plain own same
-    (inr (subst (λ (s : OtherEnd). GoesOn space moves g now s.ended s.plain own) (same_stop stop other is) goes))
+    (inr (subst (λ (s : OtherEnd). AttemptGoesOn space moves g now s.ended s.plain own) (same_stop stop other is) goes))
   where
     same_stop : (a b : OtherEnd) → (let x : Performed = Err a in let y : Performed = Err b in x ≡ y) → b ≡ a
     same_stop a b e = cc

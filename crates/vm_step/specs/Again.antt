@@ -14,7 +14,7 @@ use Rattle.vm_machine.specs.Bus.{guest_bus}
 use Rattle.vm_machine.specs.Refills.{begun_again}
 use Rattle.vm_machine.specs.declared.limits.TheConstants.{MOST_REFILLS}
 use Rattle.vm_machine.specs.Classes.{class_at_first}
-use Rattle.vm_machine.specs.Turns.{Turned, world_of, guest_begun, guest_later, tallied, with_refills, exits}
+use Rattle.vm_machine.specs.Turns.{Turned, bus_side, guest_begun, guest_later, tallied, with_refills, exits}
 use Rattle.vm_machine.specs.Turns.{marks_of, turn_of}
 use Rattle.vm_machine.specs.Seats.{Seat, machine_on, guested_on, turned_on, IsSeated, IsSame, OnlyWithin, Takes}
 use Rattle.vm_held.specs.Truth.{Fine}
@@ -35,12 +35,12 @@ pub record Midway (g : Seat) (ram : List ℕ) (native : NativeState) (k n : ℕ)
       rank (asked_of g.script b.machine) ≤ interrupt_mask b.machine.cpu
   pub untraced : IsUntraced (guest_begun g.script turn.guest).machine.cpu
   pub registers : HasRegisters (plain_of (guest_begun g.script turn.guest).machine.cpu.regs)
-  pub fine : Fine g.size (world_of (guest_begun g.script turn.guest))
+  pub fine : Fine g.size (bus_side (guest_begun g.script turn.guest))
   -- the guest as it has begun, and begun again
   pub opened : machine_on mid now
       ≡ record (guest_begun g.script turn.guest).machine { world = (machine_on mid now).world }
   pub begun : let b = guest_begun g.script turn.guest in
-      HasBegunAgain b.machine.cpu n (world_of b) (world_of (guested_on mid now))
+      HasBegunAgain b.machine.cpu n (bus_side b) (bus_side (guested_on mid now))
   pub few : n ≤ MOST_REFILLS
   pub tally : mid.tally ≡ turn.tally
   pub same : IsSame g mid
@@ -55,9 +55,9 @@ pub record Midway (g : Seat) (ram : List ℕ) (native : NativeState) (k n : ℕ)
 abbrev pub MidwayAgain : Type 0
 MidwayAgain = (g : Seat) (ram : List ℕ) (native : NativeState) (k n : ℕ) (mid : Seat) (now : List ℕ)
     (counts : NativeState) → Midway g ram native k n mid now counts → suc n ≤ MOST_REFILLS
-    → (h : Guest) → begun_again mid.cpu (world_of (guested_on mid now)) ≡ Some h
+    → (h : Guest) → begun_again mid.cpu (bus_side (guested_on mid now)) ≡ Some h
     → (seat : Seat) (next : List ℕ) (later : NativeState)
-    → machine_on seat next ≡ record (machine_on mid now) { world = h.world } → world_of (guested_on seat next) ≡ h
+    → machine_on seat next ≡ record (machine_on mid now) { world = h.world } → bus_side (guested_on seat next) ≡ h
     → seat.tally ≡ mid.tally → IsSame mid seat → IsSeated seat next → OnlyWithin mid now next
     → later.retired ≡ counts.retired → later.trail ≡ counts.trail → counts.exceptions ≤ later.exceptions
     → Midway g ram native k (suc n) seat next later
@@ -65,14 +65,14 @@ MidwayAgain = (g : Seat) (ram : List ℕ) (native : NativeState) (k n : ℕ) (mi
 -- Its shadow has each entry then that it had.
 abbrev pub MidwayAhead : Type 0
 MidwayAhead = (g : Seat) (ram : List ℕ) (native : NativeState) (k n : ℕ) (mid : Seat) (now : List ℕ)
-    (counts : NativeState) → Midway g ram native k n mid now counts → let w = world_of (guested_on mid now) in
+    (counts : NativeState) → Midway g ram native k n mid now counts → let w = bus_side (guested_on mid now) in
     (h : Guest) → begun_again mid.cpu w ≡ Some h → IsAhead g.size w h
 
 -- Else whoever carries out the step from there, over the guest's own bus, has taken it, by the class of that attempt.
 abbrev pub MidwayEnds : Type 0
 MidwayEnds = (g : Seat) (ram : List ℕ) (native : NativeState) (k n : ℕ) (mid : Seat) (now : List ℕ)
     (counts : NativeState) → Midway g ram native k n mid now counts
-    → let w = world_of (guested_on mid now) in let level = level_of mid.devices in
+    → let w = bus_side (guested_on mid now) in let level = level_of mid.devices in
     let class = class_at_first level mid.cpu w in
     (n ≡ MOST_REFILLS) ⊎ (begun_again mid.cpu w ≡ None)
     → (seat : Seat) (next : List ℕ) (later : NativeState)
@@ -103,7 +103,7 @@ refilled_seat class n seat = record seat { tally = with_refills class n seat.tal
 -- board takes it.
 abbrev pub MidwayTakes : Type 0
 MidwayTakes = (g : Seat) (ram : List ℕ) (native : NativeState) (k n : ℕ) (mid : Seat) (now : List ℕ)
-    (counts : NativeState) → (m : Midway g ram native k n mid now counts) → let w = world_of (guested_on mid now) in
+    (counts : NativeState) → (m : Midway g ram native k n mid now counts) → let w = bus_side (guested_on mid now) in
     begun_again mid.cpu w ≡ None → (seat : Seat) (next : List ℕ) (later : NativeState)
     → Takes 1 (record { guest = unbegun mid m.turn; ram = now; native = counts })
     (record { guest = seat; ram = next; native = later })

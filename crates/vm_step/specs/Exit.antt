@@ -19,7 +19,7 @@ use Rattle.vm_mirror.specs.Related.{Site, Related}
 use Rattle.vm_mirror.specs.Ready.{native_mmu}
 use Rattle.vm_machine.specs.declared.class.Class.{Class}
 use Rattle.vm_machine.specs.declared.class.Class.TheVariants.{Privileged, Denied, Trapped}
-use Rattle.vm_machine.specs.Turns.{Guested, world_of, guest_begun, guest_processed, step_class_at_first}
+use Rattle.vm_machine.specs.Turns.{Guested, bus_side, guest_begun, guest_processed, step_class_at_first}
 use Rattle.vm_meaning.specs.Native.{user_step}
 use Rattle.vm_step.specs.Retire.{Boarded, HasRegisters}
 use Rattle.vm_step.specs.Reads.{read_by_frame}
@@ -62,16 +62,16 @@ pub record LeavesAfter (x : Site) (script : Entries) (m : Machine) (g : Guested)
   pub lawful : LeavesLawful (frame_access frame)
   -- a processor has seven address registers beside its stacks
   pub rest : length after.cpu.regs.a ≡ 7 → let b = guest_begun script g in let h =
-      left_guest x after.world.ram (world_of b) in
+      left_guest x after.world.ram (bus_side b) in
       guest_processed script b ≡ run guest_bus (rest_by_frame vector (frame_access frame) (asked_of script b.machine)
       b.machine.cpu (handed_by after.cpu.regs frame)) h
   -- where the frame tells a read, nothing of the guest has changed, and it begins again where that read is refilled
   pub still : (r : Reference) → read_by_frame x.space frame ≡ Some r
-      → left_guest x after.world.ram (world_of (guest_begun script g)) ≡ world_of (guest_begun script g)
+      → left_guest x after.world.ram (bus_side (guest_begun script g)) ≡ bus_side (guest_begun script g)
   pub again : let b = guest_begun script g in
-      refilled_at (left_guest x after.world.ram (world_of b)) (read_by_frame x.space frame)
-      ≡ begun_again b.machine.cpu (world_of b)
-  pub related : Related x after.world (left_guest x after.world.ram (world_of (guest_begun script g)))
+      refilled_at (left_guest x after.world.ram (bus_side b)) (read_by_frame x.space frame)
+      ≡ begun_again b.machine.cpu (bus_side b)
+  pub related : Related x after.world (left_guest x after.world.ram (bus_side (guest_begun script g)))
   -- it translates as before, and its devices are on
   pub mmu : after.world.mmu ≡ m.world.mmu
   pub on : after.world.devices.off ≡ false
@@ -85,14 +85,14 @@ pub record LeavesAfter (x : Site) (script : Entries) (m : Machine) (g : Guested)
 abbrev pub Leaves : Site → Entries → Machine → Guested → Finish × Machine → Type 0
 Leaves x script m g (ended, after) = LeavesAfter x script m g ended after
 
-abbrev pub IsLeft : Class → Type 0
-IsLeft Privileged = Unit {0}
-IsLeft Trapped = Unit {0}
-IsLeft Denied = Unit {0}
-IsLeft _ = ⊥
+abbrev pub IsExitClass : Class → Type 0
+IsExitClass Privileged = Unit {0}
+IsExitClass Trapped = Unit {0}
+IsExitClass Denied = Unit {0}
+IsExitClass _ = ⊥
 
 -- Every step that the board attempts and does not carry out.
 abbrev pub LeftSteps : Type 0
 LeftSteps = (x : Site) (script : Entries) (m : Machine) (g : Guested) → Boarded x m g → Furnished x m
     → HasRegisters (plain_of g.machine.cpu.regs) → length g.machine.cpu.regs.a ≡ 7
-    → IsLeft (step_class_at_first script g) → Leaves x script m g (user_step m)
+    → IsExitClass (step_class_at_first script g) → Leaves x script m g (user_step m)

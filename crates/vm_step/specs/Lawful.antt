@@ -8,13 +8,13 @@ use Rattle.vm_meaning.specs.declared.left.LeftOver.TheVariants.{Again, Writes, L
 use Rattle.vm_meaning.specs.Frames.{left_in}
 
 -- pieces of memory, the line at a multiple of 16, or a MOVEM of which no more is done than its mask names
-abbrev pub IsLawful : LeftOver → Type 0
-IsLawful Again = Unit {0}
-IsLawful (Writes pending first) = ArePending pending.items
-IsLawful (Line at line) = at % 16 ≡ 0
-IsLawful (Movem words ea done next) = done ≤ count_of (mask_in words)
+abbrev pub IsLawfulLeftOver : LeftOver → Type 0
+IsLawfulLeftOver Again = Unit {0}
+IsLawfulLeftOver (Writes pending first) = ArePending pending.items
+IsLawfulLeftOver (Line at line) = at % 16 ≡ 0
+IsLawfulLeftOver (Movem words ea done next) = done ≤ count_of (mask_in words)
 
 -- of the fields of an access error, where there are any
 abbrev pub LeavesLawful : Option Access → Type 0
 LeavesLawful None = Unit {0}
-LeavesLawful (Some access) = IsLawful (left_in access)
+LeavesLawful (Some access) = IsLawfulLeftOver (left_in access)

@@ -8,7 +8,7 @@ use Rattle.vm_meaning.specs.Batches.{NothingArrives}
 use Rattle.vm_mirror.specs.Related.{Site}
 use Rattle.vm_held.specs.Truth.{Fine}
 use Rattle.vm_machine.specs.declared.class.Class.TheVariants.{Retired}
-use Rattle.vm_machine.specs.Turns.{Guested, world_of, guest_begun, guest_stepped, step_class_at_first}
+use Rattle.vm_machine.specs.Turns.{Guested, bus_side, guest_begun, guest_stepped, step_class_at_first}
 use Rattle.vm_step.specs.Retire.{Boarded, Retires}
 use Rattle.vm_meaning.specs.Native.{user_step}
 use Rattle.vm_step.specs.Batch.{Wanted, IsTried, IsStretch, stepped_by, AllRetired}
@@ -40,7 +40,7 @@ RetiredStepsTick = (x : Site) (script : Entries) (n : ℕ) (m : Machine) (g : Gu
 abbrev pub RetiredStepsKeepTruth : Type 0
 RetiredStepsKeepTruth = (x : Site) (script : Entries) (m : Machine) (g : Guested)
     → Retires x script m g (user_step m) (guest_stepped script g)
-    → Fine x.size (world_of g) → Fine x.size (world_of (guest_stepped script g))
+    → Fine x.size (bus_side g) → Fine x.size (bus_side (guest_stepped script g))
 
 -- What so many retired steps leave of a guest: its own registers change as the board's do, and of its world RAM and
 -- devices alone. So the monitor sets its registers once, from the board's.

@@ -12,7 +12,7 @@ use Rattle.vm_machine.specs.Bus.{guest_bus}
 use Rattle.vm_machine.specs.Refills.{Refilled, begun_again, refilled}
 use Rattle.vm_machine.specs.declared.limits.TheConstants.{MOST_REFILLS}
 use Rattle.vm_machine.specs.Classes.{class_at_first}
-use Rattle.vm_machine.specs.Turns.{Guested, Turned, world_of, guest_begun, guest_processed, guest_later, class_of_step}
+use Rattle.vm_machine.specs.Turns.{Guested, Turned, bus_side, guest_begun, guest_processed, guest_later, class_of_step}
 use Rattle.vm_machine.specs.Turns.{step_class_at_first, refills_of_step, by_class, advanced}
 use Rattle.vm_held.specs.Truth.{Fine}
 use Rattle.vm_held.specs.Refills.{IsAhead}
@@ -28,7 +28,7 @@ FirstIsLast = (x : Site) (script : Entries) (m : Machine) (g : Guested) → Boar
 -- Where no read of it is refilled, its class is that of its first attempt.
 abbrev pub NoneIsRefilled : Type 0
 NoneIsRefilled = (script : Entries) (g : Guested) → let b = guest_begun script g in
-    begun_again b.machine.cpu (world_of b) ≡ None
+    begun_again b.machine.cpu (bus_side b) ≡ None
     → (class_of_step script g ≡ step_class_at_first script g) × (refills_of_step script g ≡ 0)
 
 -- The guest's own step comes to the same from the guest that begins again, of which nothing else has changed.
@@ -61,7 +61,7 @@ AgainComesToTheSame = (size level : ℕ) (cpu : Cpu) (n : ℕ) (g h : Guest) →
 abbrev pub AgainAdvances : Type 0
 AgainAdvances = (script : Entries) (t : Turned) (n : ℕ) (h : Guest) → let b = guest_begun script t.guest in
     let cpu = b.machine.cpu in let level = asked_of script b.machine in
-    HasBegunAgain cpu n (world_of b) h → n ≤ MOST_REFILLS → (n ≡ MOST_REFILLS) ⊎ (begun_again cpu h ≡ None)
+    HasBegunAgain cpu n (bus_side b) h → n ≤ MOST_REFILLS → (n ≡ MOST_REFILLS) ⊎ (begun_again cpu h ≡ None)
     → run guest_bus (step_of level cpu) h ≡ guest_processed script b
     → advanced script t
     ≡ by_class (class_at_first level cpu h) n (guest_later b.machine (run guest_bus (step_of level cpu) h)) t

@@ -21,7 +21,7 @@ use Rattle.vm_mirror.specs.Laws.{Outside}
 use Rattle.vm_held.specs.Sound.{Sound, OnlyRam}
 use Rattle.vm_machine.specs.declared.class.Class.TheVariants.{Retired}
 use Rattle.vm_machine.specs.Classes.{class_of_end, class_at}
-use Rattle.vm_machine.specs.Turns.{Guested, world_of, guest_begun, guest_stepped, step_class_at_first}
+use Rattle.vm_machine.specs.Turns.{Guested, bus_side, guest_begun, guest_stepped, step_class_at_first}
 use Rattle.vm_meaning.specs.Native.{user_step}
 use Rattle.vm_step.specs.Registers.{IsFrom}
 
@@ -33,7 +33,7 @@ pub record Boarded (x : Site) (m : Machine) (g : Guested) : Type 0 where
   pub mask : interrupt_mask m.cpu ≡ 7
   pub plain : plain_of m.cpu.regs ≡ plain_of g.machine.cpu.regs
   pub present : space_of g.machine.cpu ≡ x.space
-  pub related : Related x m.world (world_of g)
+  pub related : Related x m.world (bus_side g)
 
 -- registers that fit
 pub record HasRegisters (p : Plain) : Type 0 where
@@ -55,7 +55,7 @@ pub record RetiresTo (x : Site) (script : Entries) (m : Machine) (g : Guested) (
   pub running : takes_steps after.state ≡ true
   pub boarded : Boarded x after t
   pub from : IsFrom m.cpu after.cpu
-  pub only : OnlyRam (world_of (guest_begun script g)) (world_of t)
+  pub only : OnlyRam (bus_side (guest_begun script g)) (bus_side t)
   pub outside : Outside x (begun [] m).world after.world
   pub goes : IsUntraced t.machine.cpu
   pub mask : interrupt_mask t.machine.cpu ≡ interrupt_mask g.machine.cpu

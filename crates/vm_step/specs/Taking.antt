@@ -24,7 +24,7 @@ use Rattle.vm_machine.specs.Refills.{refilled_at, begun_again}
 use Rattle.vm_held.specs.Truth.{Fine}
 use Rattle.vm_machine.specs.Classes.{class_at_first}
 use Rattle.vm_mirror.specs.Related.{Site}
-use Rattle.vm_machine.specs.Turns.{world_of, guest_begun, guest_later, tallied, step_class_at_first}
+use Rattle.vm_machine.specs.Turns.{bus_side, guest_begun, guest_later, tallied, step_class_at_first}
 use Rattle.vm_machine.specs.Exits.{class_of_vector, frame_access, handed_by, rest_by_frame}
 use Rattle.vm_meaning.specs.declared.RunEnd.TheVariants.{Counted, Exit}
 use Rattle.vm_meaning.specs.Native.{NativeState, Ran, about_to_run, user_run}
@@ -108,13 +108,13 @@ pub record IsLeft (g : Seat) (ram : List ℕ) (native : NativeState) (k : ℕ) (
   -- the read that is refilled, where there is one, is that of this attempt
   pub read : let mid = retired_seat g retired retired after.before begun in
       let b = guest_begun g.script (stepped_by g.script retired (guested_on g ram)) in
-      refilled_at (world_of (guested_on mid after.machine.world.ram)) (read_by_frame (space_of mid.cpu) frame)
-      ≡ begun_again b.machine.cpu (world_of b)
+      refilled_at (bus_side (guested_on mid after.machine.world.ram)) (read_by_frame (space_of mid.cpu) frame)
+      ≡ begun_again b.machine.cpu (bus_side b)
   -- where the frame tells a read, nothing of the guest has changed
   pub still : let mid = retired_seat g retired retired after.before begun in (r : Reference)
       → read_by_frame (space_of mid.cpu) frame ≡ Some r
-      → world_of (guested_on mid after.machine.world.ram)
-      ≡ world_of (guest_begun g.script (stepped_by g.script retired (guested_on g ram)))
+      → bus_side (guested_on mid after.machine.world.ram)
+      ≡ bus_side (guest_begun g.script (stepped_by g.script retired (guested_on g ram)))
   pub seated : IsSeated (retired_seat g retired retired after.before begun) after.machine.world.ram
   pub within : OnlyWithin g ram after.machine.world.ram
   -- the board stands for a run of it
@@ -123,7 +123,7 @@ pub record IsLeft (g : Seat) (ram : List ℕ) (native : NativeState) (k : ℕ) (
   -- where the read that it was denied is refilled, that is the middle of a step that begins again; else what the frame
   -- leaves is the whole step once more
   pub again : let mid = retired_seat g retired retired after.before begun in
-      let w = world_of (guested_on mid after.machine.world.ram) in
+      let w = bus_side (guested_on mid after.machine.world.ram) in
       Fine g.size w → (h : Guest) → refilled_at w (read_by_frame (space_of mid.cpu) frame) ≡ Some h
       → Midway g ram native retired 0 mid after.machine.world.ram after.native × (begun_again mid.cpu w ≡ Some h)
       × (class_of_vector vector ≡ class_at_first (level_of begun) mid.cpu w)
@@ -131,10 +131,10 @@ pub record IsLeft (g : Seat) (ram : List ℕ) (native : NativeState) (k : ℕ) (
       (handed_by after.machine.cpu.regs frame)) w ≡ run guest_bus (step_of (level_of begun) mid.cpu) w)
   pub turn : (seat : Seat) (next : List ℕ) → let mid = retired_seat g retired retired after.before begun in
       let b = guested_on mid after.machine.world.ram in
-      refilled_at (world_of b) (read_by_frame (space_of mid.cpu) frame) ≡ None
+      refilled_at (bus_side b) (read_by_frame (space_of mid.cpu) frame) ≡ None
       → guested_on seat next ≡ guest_later b.machine
       (run guest_bus (rest_by_frame vector (frame_access frame) (level_of begun) mid.cpu
-      (handed_by after.machine.cpu.regs frame)) (world_of b))
+      (handed_by after.machine.cpu.regs frame)) (bus_side b))
       → seat.tally ≡ tallied (class_of_vector vector) mid.tally → IsSame mid seat → IsSeated seat next
       → OnlyWithin mid after.machine.world.ram next
       → Takes (retired + 1) (record { guest = g; ram = ram; native = native })

@@ -20,7 +20,7 @@ use Rattle.vm_machine.specs.Refills.{begun_again}
 use Rattle.vm_mirror.specs.Related.{Site, AllAgree, mapping}
 use Rattle.vm_machine.specs.Seats.{on_board}
 use Rattle.vm_mirror.specs.Ready.{native_mmu}
-use Rattle.vm_machine.specs.Turns.{Guested, Turned, world_of, guest_begun, guest_later, by_class, advanced}
+use Rattle.vm_machine.specs.Turns.{Guested, Turned, bus_side, guest_begun, guest_later, by_class, advanced}
 use Rattle.vm_step.specs.Retire.{Boarded}
 use Rattle.vm_step.specs.Exit.{Furnished, left_guest, Leaves}
 use Rattle.vm_machine.specs.Exits.{class_of_vector, handed_by, frame_access, rest_by_frame}
@@ -87,7 +87,7 @@ pub record Stands (x : Site) (ram : List ℕ) (g : Guest) : Type 0 where
 abbrev pub BoardsAreReady : Type 0
 BoardsAreReady = (x : Site) (c : Cpu) (world : World) (steps : ℕ) (state : RunState) (g : Guested)
     → IsNativeCpu x c → IsSetFor x world → space_of g.machine.cpu ≡ x.space → length g.machine.cpu.regs.a ≡ 7
-    → Stands x world.ram (world_of g)
+    → Stands x world.ram (bus_side g)
     → Boarded x (ready_for c world steps state g) g × Furnished x (ready_for c world steps state g)
 
 -- ---- a turn
@@ -98,8 +98,8 @@ abbrev pub ExitsAdvance : Type 0
 ExitsAdvance = (x : Site) (script : Entries) (u : Turned) (v : ℕ) (m after : Machine)
     → (l : Leaves x script m u.guest (finish.Entered v, after))
     → length after.cpu.regs.a ≡ 7 → let b = guest_begun script u.guest in
-    begun_again b.machine.cpu (world_of b) ≡ None
+    begun_again b.machine.cpu (bus_side b) ≡ None
     → advanced script u ≡ by_class (class_of_vector v) 0 (guest_later b.machine
     (run guest_bus (rest_by_frame v (frame_access l.frame) (asked_of script b.machine) b.machine.cpu
     (handed_by after.cpu.regs l.frame))
-    (left_guest x after.world.ram (world_of b)))) u
+    (left_guest x after.world.ram (bus_side b)))) u

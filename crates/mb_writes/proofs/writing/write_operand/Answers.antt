@@ -1,7 +1,7 @@
 use Rattle.std.proofs.Common.{ap, sym, ◌∙◌, subst, List, IfErr}
 use Rattle.mb_port.specs.Routine.{run}
 use Rattle.mb_port.specs.declared.types.Piece.{Piece}
-use Rattle.mb_writes.specs.Writing.{parts_of, write_pieces_of, write_operand_of, IsLeft}
+use Rattle.mb_writes.specs.Writing.{parts_of, write_pieces_of, write_operand_of, IsLeftOf}
 use Rattle.mb_writes.proofs.writing.write_operand.Goals as goal
 
 pub returns-clause-means : goal.returns-clause-means
@@ -14,5 +14,5 @@ returns-clause-means g c =
 pub returns-clause-left : goal.returns-clause-left
 returns-clause-left g c =
     let e = c.as_slice.ensures.value ∙ c.split-pieces.ensures.pieces in
-    subst (λ (ps : List Piece). IfErr c.put_parts.result (λ refused. IsLeft refused.rest.items (parts_of ps c.args.len c.args.value))) e
+    subst (λ (ps : List Piece). IfErr c.put_parts.result (λ refused. IsLeftOf refused.rest.items (parts_of ps c.args.len c.args.value))) e
     c.put_parts.ensures.left

@@ -3,7 +3,7 @@ use Rattle.mb_port.specs.Routine.{run}
 use Rattle.mb_instr.specs.declared.size.Size.{Size}
 use Rattle.mb_instr.specs.Sizes.{bytes_of, low_of}
 use Rattle.mb_frames.specs.declared.pend.Pend.{Pend}
-use Rattle.mb_writes.specs.Writing.{write_pieces_of, write_operand_of, pending_of, IsLeft}
+use Rattle.mb_writes.specs.Writing.{write_pieces_of, write_operand_of, pending_of, IsLeftOf}
 use Rattle.mb_writes.proofs.Single.{one_pending}
 use Rattle.mb_writes.proofs.writing.write_value.Goals as goal
 
@@ -26,6 +26,6 @@ returns-then-at-from-eq0-clause-means g c =
 pub returns-then-at-from-eq0-clause-left : goal.returns-then-at-from-eq0-clause-left
 returns-then-at-from-eq0-clause-left g c =
     let aligned = ap (λ (n : ℕ). c.args.at % n) (sym c.from.ensures) ∙ c.if-at-from-eq0.true in
-    subst (λ (ps : List Pend). IfErr c.write_alone.result (λ refused. IsLeft refused.rest.items ps))
+    subst (λ (ps : List Pend). IfErr c.write_alone.result (λ refused. IsLeftOf refused.rest.items ps))
     (sym (alone c.args.size c.args.at c.args.value c.bytes-len.result c.low-value.result aligned c.bytes-len.ensures c.low-value.ensures.value))
     c.write_alone.ensures.left

@@ -8,7 +8,7 @@ use Rattle.mb_board.specs.State.{ran_to}
 use Rattle.vm_machine.specs.declared.class.Class.{Class}
 use Rattle.vm_machine.specs.Bus.{guest_bus}
 use Rattle.vm_machine.specs.Seats.{Seat, Takes, guested_on}
-use Rattle.vm_machine.specs.Turns.{world_of}
+use Rattle.vm_machine.specs.Turns.{bus_side}
 use Rattle.vm_guest.specs.Counting.{NoneDue}
 use Rattle.vm_step.specs.Taking.{retired_seat, settled}
 use Rattle.vm_guest.specs.Native.{guest_run}
@@ -33,7 +33,7 @@ assist-requires-clause-seated c = stands c.args.self.now c.begin-level.new.self 
 pub returns-in-Some-clause-takes : goal.returns-in-Some-clause-takes
 returns-in-Some-clause-takes c =
     let b = c.begin-level.new.self in
-    let w = world_of (guested_on b c.args.board.now.world.ram) in
+    let w = bus_side (guested_on b c.args.board.now.world.ram) in
     assisted_by c.args.self.now b c.assist.new.self c.args.board.now.world.ram c.assist.new.board.world.ram c.args.native.now c.in-Some.class
     c.begin-level.ensures.begun c.requires.takes
     (record {

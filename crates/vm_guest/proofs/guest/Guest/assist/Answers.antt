@@ -3,7 +3,7 @@ use Rattle.mb_port.specs.Routine.{run}
 use Rattle.mb_processor.specs.Raise.{Stepped}
 use Rattle.vm_machine.specs.Guests.{Guest}
 use Rattle.vm_machine.specs.Bus.{guest_bus}
-use Rattle.vm_machine.specs.Turns.{world_of}
+use Rattle.vm_machine.specs.Turns.{bus_side}
 use Rattle.vm_machine.specs.Seats.{Seat, guested_on}
 use Rattle.vm_guest.specs.Rests.{rest_in}
 use Rattle.vm_guest.specs.Turns.{ended_at}
@@ -17,8 +17,8 @@ returns-clause-means c =
     let n = c.args.self.now in
     let h = the_view c.self.inside in
     let same : c.process-end.new.self ≡ h = sym c.self.view_is in
-    let r : Stepped × Guest = run guest_bus (rest_in c.args.rest.now c.args.level n.cpu) (world_of (guested_on n c.args.board.now.world.ram)) in
+    let r : Stepped × Guest = run guest_bus (rest_in c.args.rest.now c.args.level n.cpu) (bus_side (guested_on n c.args.board.now.world.ram)) in
     let steps : h.steps ≡ n.steps = sym (ap (λ (x : Seat). x.steps) same) ∙ ap (λ (x : Seat). x.steps) c.process-end.ensures.guest in
-    ended h.steps r c.process-end.result h.cpu (world_of (guested_on h after)) c.state_by-self-inside.result
-    (c.process-end.ensures.means ∙ ap (λ (x : Seat). ((c.process-end.result, x.cpu), world_of (guested_on x after))) same) c.state_by-self-inside.ensures
+    ended h.steps r c.process-end.result h.cpu (bus_side (guested_on h after)) c.state_by-self-inside.result
+    (c.process-end.ensures.means ∙ ap (λ (x : Seat). ((c.process-end.result, x.cpu), bus_side (guested_on x after))) same) c.state_by-self-inside.ensures
     ∙ ap (λ (k : ℕ). ended_at k r) steps

@@ -4,7 +4,7 @@ use Rattle.mb_board.specs.State.{BoardState}
 use Rattle.vm_machine.specs.Guests.{Guest}
 use Rattle.vm_machine.specs.Refills.{refilled_at}
 use Rattle.vm_machine.specs.declared.limits.TheConstants.{MOST_REFILLS}
-use Rattle.vm_machine.specs.Turns.{Tally, steps_in, world_of}
+use Rattle.vm_machine.specs.Turns.{Tally, steps_in, bus_side}
 use Rattle.vm_machine.specs.Seats.{Seat, guested_on}
 use Rattle.vm_step.specs.Reads.{read_by_frame}
 use Rattle.vm_guest.specs.Native.{IsFrameOf}
@@ -48,7 +48,7 @@ run_again-requires-clause-again c =
     c.loop-refills.vector c.loop-refills.frame c.refill.new.ram (c.loop-refills.invariant.stopped w)
     (once_more c.loop-refills.refills c.loop-refills-test.true)
     c.loop-refills.invariant.reads c.refill.ensures.fine
-    (c.refill.ensures.reads ∙ ap (found (world_of (guested_on c.refill.new.self c.refill.new.ram.world.ram))) c.if-refill.true) c.refill.ensures.guest
+    (c.refill.ensures.reads ∙ ap (found (bus_side (guested_on c.refill.new.self c.refill.new.ram.world.ram))) c.if-refill.true) c.refill.ensures.guest
     c.refill.ensures.seated c.refill.ensures.within c.refill.ensures.rest
 
 pub run_again-requires-clause-counted : goal.run_again-requires-clause-counted
@@ -85,7 +85,7 @@ returns-in_default-clause-takes c = λ w.
     c.loop-refills.vector c.loop-refills.frame c.refill.new.ram (c.loop-refills.invariant.stopped w)
     (once_more c.loop-refills.refills c.loop-refills-test.true)
     c.loop-refills.invariant.reads c.refill.ensures.fine
-    (c.refill.ensures.reads ∙ ap (found (world_of (guested_on c.refill.new.self c.refill.new.ram.world.ram))) c.if-refill.true) c.refill.ensures.guest
+    (c.refill.ensures.reads ∙ ap (found (bus_side (guested_on c.refill.new.self c.refill.new.ram.world.ram))) c.if-refill.true) c.refill.ensures.guest
     c.refill.ensures.seated c.refill.ensures.within c.refill.ensures.rest)
 
 pub returns-in_default-clause-steps : goal.returns-in_default-clause-steps
@@ -126,7 +126,7 @@ stopped c w =
     c.loop-refills.vector c.loop-refills.frame c.refill.new.ram (c.loop-refills.invariant.stopped w)
     (once_more c.loop-refills.refills c.loop-refills-test.true)
     c.loop-refills.invariant.reads c.refill.ensures.fine
-    (c.refill.ensures.reads ∙ ap (found (world_of (guested_on c.refill.new.self c.refill.new.ram.world.ram))) c.if-refill.true) c.refill.ensures.guest
+    (c.refill.ensures.reads ∙ ap (found (bus_side (guested_on c.refill.new.self c.refill.new.ram.world.ram))) c.if-refill.true) c.refill.ensures.guest
     c.refill.ensures.seated c.refill.ensures.within c.refill.ensures.rest)
 
 pub frame_on-frame-requires-in-loop-refills : goal.frame_on-frame-requires-in-loop-refills
@@ -160,7 +160,7 @@ record Last (c : After-frame-2-1) (s : Seat) (b : BoardState) : Type 0 where
       → IsStopped w.guest w.ram w.native w.taken c.loop-refills.refills s b c.loop-refills.native c.loop-refills.vector
   pub reads : IsFrameOf b c.loop-refills.frame
   pub end : (c.loop-refills.refills ≡ MOST_REFILLS)
-      ⊎ (refilled_at (world_of (guested_on s b.world.ram)) (read_by_frame (space_of s.cpu) c.loop-refills.frame) ≡ None)
+      ⊎ (refilled_at (bus_side (guested_on s b.world.ram)) (read_by_frame (space_of s.cpu) c.loop-refills.frame) ≡ None)
   pub tally : s.tally ≡ c.args.self.now.tally
   pub steps : s.steps ≡ c.args.self.now.steps
 
@@ -168,7 +168,7 @@ last : (c : After-frame-2-1) → Last c c.loop-refills-test.self c.loop-refills-
 last c =
     let l = c.loop-refills in
     let of : (l.refills ≡ MOST_REFILLS)
-    ⊎ (refilled_at (world_of (guested_on l.self l.board.world.ram)) (read_by_frame (space_of l.self.cpu) l.frame) ≡ None) → Last c l.self l.board =
+    ⊎ (refilled_at (bus_side (guested_on l.self l.board.world.ram)) (read_by_frame (space_of l.self.cpu) l.frame) ≡ None) → Last c l.self l.board =
     λ end. record {
       stopped = l.invariant.stopped;
       reads = l.invariant.reads;
@@ -181,7 +181,7 @@ last c =
     λ self board x. subst (λ (s : Seat). Last c s c.loop-refills-test.board) self (subst (λ (b : BoardState). Last c l.self b) board x) in
     elim c.loop-refills-test.branch [
       | then-loop-refills-test+else-refill w ↦
-          let found : Bool → Option Guest = λ b. cond b (Some (world_of (guested_on w.refill.new.self w.refill.new.ram.world.ram))) None in
+          let found : Bool → Option Guest = λ b. cond b (Some (bus_side (guested_on w.refill.new.self w.refill.new.ram.world.ram))) None in
           let same = w.refill.ensures.still w.if-refill.false in
           to (sym (w.self-is ∙ same.0)) (sym (w.board-is ∙ same.1)) (of (inr (w.refill.ensures.reads ∙ ap found w.if-refill.false)))
       | else-loop-refills-test w ↦

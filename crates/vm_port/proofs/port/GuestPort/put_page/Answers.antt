@@ -1,6 +1,6 @@
 use Rattle.std.proofs.Common.{◌≡◌, ◌∙◌, ◌+◌, ap, sym, subst, refl}
 use Rattle.mb_model.specs.Pages.{page_of}
-use Rattle.vm_shadow.specs.Shadows.{filled}
+use Rattle.vm_shadow.specs.Shadows.{with_page_put}
 use Rattle.vm_shadow.specs.Mapped.{shadowed}
 use Rattle.vm_machine.specs.Seats.{own}
 use Rattle.vm_port.specs.Own.{IsPlaced}
@@ -18,7 +18,7 @@ invariant_of-self g c =
     let frame = c.args.frame in
     let writable = c.args.writable in
     let is :
-    shadowed c.fill.new.self (g.R.Ram.bytes c.fill.new.ram) ≡ filled space page (page_of m.base + frame) writable before =
+    shadowed c.fill.new.self (g.R.Ram.bytes c.fill.new.ram) ≡ with_page_put space page (page_of m.base + frame) writable before =
     rw (sym c.page_of.ensures.number) e.shadow in
     record {
       aligned = m.aligned;
@@ -40,7 +40,7 @@ returns-clause-shadow g c =
     let frame = c.args.frame in
     let writable = c.args.writable in
     let is :
-    shadowed c.fill.new.self (g.R.Ram.bytes c.fill.new.ram) ≡ filled space page (page_of m.base + frame) writable before =
+    shadowed c.fill.new.self (g.R.Ram.bytes c.fill.new.ram) ≡ with_page_put space page (page_of m.base + frame) writable before =
     rw (sym c.page_of.ensures.number) e.shadow in
     ap (own m.base) is ∙ own_filled m.base before space page frame writable
 
